@@ -1,0 +1,14 @@
+pub mod Orders
+pub mod Outcomes
+pub mod PowerTable
+pub mod Scales
+pub mod Rounds
+pub mod Cuts
+pub mod SignLaws
+pub mod Quotients
+pub mod Scans
+pub mod Scaled
+pub mod LiteralLaws
+pub mod Prints
+pub mod Sums
+pub mod Remainders

@@ -1,0 +1,10 @@
+use Rattle.std.proofs.Common.{arith, ap, sym, ◌∙◌, ◌≡◌, ◌*◌, ◌^◌, ◌+◌}
+use Rattle.std.proofs.Math.Nat.{mul_assoc}
+use Rattle.mspec.proofs.Powers.{ten_add}
+use Rattle.mnum.proofs.arithmetic.raised.Goals as goal
+
+pub loop-zeros-preserved : goal.loop-zeros-preserved
+loop-zeros-preserved c =
+    let more : c.loop-zeros.value * 10 ≡ c.args.digits * 10 ^ (c.loop-zeros.zeros + 1) =
+    ap (λ x. x * 10) c.loop-zeros.invariant.0 ∙ mul_assoc c.args.digits (10 ^ c.loop-zeros.zeros) 10 ∙ ap (λ x. c.args.digits * x) (sym (ten_add c.loop-zeros.zeros 1)) in
+    (more, omega arith, omega arith)

@@ -1,0 +1,10 @@
+use Rattle.mnum.proofs.PowerTable.{table_row}
+use Rattle.mspec.proofs.Powers.{ten_pos}
+use Rattle.std.proofs.Common.{subst, sym, ℕ, ◌<◌}
+use Rattle.mnum.proofs.powers.power.Goals as goal
+
+pub returns : goal.returns
+returns c = record {
+  value = table_row c.args.k c.requires;
+  some = subst (λ (x : ℕ). 0 < x) (sym (table_row c.args.k c.requires)) (ten_pos c.args.k);
+}

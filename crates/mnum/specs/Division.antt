@@ -1,0 +1,12 @@
+-- What a division gives.
+use Rattle.std.specs.Prelude.{◌≡◌, ◌<◌, ℤ, unsigned_abs, Option, Some, None, Result, Ok, Err}
+use Rattle.mnum.specs.Num.{units}
+use Rattle.mnum.specs.declared.num.Num.{Num}
+use Rattle.mnum.specs.declared.num.ArithFault.{ArithFault}
+use Rattle.mnum.specs.declared.num.ArithFault.TheVariants.{Zero, Over}
+
+-- Zero exactly for a zero divisor, else the rounded value, or Over exactly where it has none
+abbrev pub IsOutcome : ℤ → Option ℤ → Result Num ArithFault → Type 0
+IsOutcome divisor rounded (Ok n) = (0 < unsigned_abs divisor) × (rounded ≡ Some (units n))
+IsOutcome divisor rounded (Err Zero) = unsigned_abs divisor ≡ 0
+IsOutcome divisor rounded (Err Over) = (0 < unsigned_abs divisor) × (rounded ≡ None)

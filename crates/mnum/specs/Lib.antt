@@ -1,0 +1,5 @@
+pub mod Floor
+pub mod Size
+pub mod Num
+pub mod Division
+pub mod Head

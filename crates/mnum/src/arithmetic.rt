@@ -1,0 +1,305 @@
+// The operations on numbers.
+ghost use Rattle.std.specs.Prelude.{◌≡◌, ℕ, ◌*◌, ◌^◌, ◌<◌, ◌≤◌, ◌≢◌, ◌-◌, ◌+◌, ◌/◌, ◌⊎◌, ◌+ℤ◌, neg_ℤ, Some, None, MatchResult, pos, IfErr};
+ghost use Rattle.std.specs.Ordering.{int_cmp};
+ghost use Rattle.mnum.specs.Division.{IsOutcome};
+ghost use Rattle.mnum.specs.Floor.{floor_left};
+ghost use Rattle.mnum.specs.Num.{units};
+ghost use Rattle.mspec.specs.Number.{signed, sum_of, difference_of, product_of, quotient_of, whole_quotient_of, remainder_of};
+
+use crate::num::{ArithFault, Num, Over};
+use crate::numbered::{divided, numbered};
+use crate::powers::power;
+use crate::rounding::rounded;
+use std::cmp::Ordering;
+
+// 10 ^ 18: a number has fewer digits than this, counted in its own places.
+const DIGITS_END: u64 = 1_000_000_000_000_000_000;
+
+// `digits` with zeros after it: as many as are wanted, or until it has 38 digits.
+fn raised(digits: u64, want: u32) -> (u128, u32)
+    requires digits_below { digits < 10 ^ 18 }
+    requires want_at_most { want ≤ 37 }
+    ensures value { result.0 ≡ digits * 10 ^ result.1 }
+    ensures below { result.0 < 10 ^ 38 }
+    ensures at_most { result.1 ≤ want }
+    ensures reached { (result.1 ≡ want) ⊎ (10 ^ 37 ≤ result.0) }
+{
+    if want <= 20 {
+        return (digits as u128 * power(want), want);
+    }
+    let mut value = digits as u128 * power(20);
+    let mut zeros = 20;
+    while zeros < want && value < 10_000_000_000_000_000_000_000_000_000_000_000_000 {
+        value *= 10;
+        zeros += 1;
+    }
+    (value, zeros)
+}
+
+// The size of what a division with floor leaves, from what a division of the sizes leaves.
+fn floored(left: u128, divisor: u128, same_sign: bool) -> u128
+    requires { left < divisor }
+    ensures value { result ≡ floor_left same_sign left divisor }
+    ensures below { result < divisor }
+{
+    if left == 0 {
+        0
+    } else if same_sign {
+        left
+    } else {
+        divisor - left
+    }
+}
+
+// A sum of two numbers of one scale, as a sign and a size.
+fn signed_sum(a_negative: bool, a: u128, b_negative: bool, b: u128) -> (bool, u128)
+    requires a_below { a < 10 ^ 37 }
+    requires b_below { b < 10 ^ 37 }
+    ensures value { signed result.0 result.1 ≡ signed a_negative a +ℤ signed b_negative b }
+    ensures size { result.1 ≤ a + b }
+{
+    if a_negative == b_negative {
+        (a_negative, a + b)
+    } else if a < b {
+        (b_negative, b - a)
+    } else {
+        (a_negative, a - b)
+    }
+}
+
+// The digits with their sign, as a machine's number.
+fn signed_digits(n: Num) -> i64
+    ensures { result ≡ signed n.negative n.digits }
+{
+    let digits = n.digits as i64;
+    if n.negative { -digits } else { digits }
+}
+
+impl Num {
+    fn common_places(self, other: Num) -> u32
+        ensures first { self.places ≤ result }
+        ensures second { other.places ≤ result }
+        ensures at_most { result ≤ 18 }
+    {
+        if self.places < other.places {
+            other.places
+        } else {
+            self.places
+        }
+    }
+
+    // The digits where so many places are counted.
+    fn at_places(self, places: u32) -> u128
+        requires near { self.places ≤ places }
+        requires at_most { places ≤ 18 }
+        ensures value { result * 10 ^ (18 - places) ≡ self.digits * 10 ^ (18 - self.places) }
+        ensures below { result < 10 ^ 36 }
+        ensures some { 0 < self.digits → 0 < result }
+    {
+        self.digits as u128 * power(places - self.places)
+    }
+
+    /// The number in units of 10^-18, below 10^36 in size.
+    pub fn to_units(self) -> i128
+        ensures { result ≡ units self }
+    {
+        let size = (self.digits as u128 * power(18 - self.places)) as i128;
+        if self.negative { -size } else { size }
+    }
+
+    /// The order of two numbers by value.
+    pub fn cmp(self, other: Num) -> Ordering
+        ensures { result ≡ int_cmp (units self) (units other) }
+    {
+        if self.places == other.places {
+            signed_digits(self).cmp(&signed_digits(other))
+        } else {
+            self.to_units().cmp(&other.to_units())
+        }
+    }
+
+    // `add` at places that differ, or past the short way.
+    fn add_at_places(self, other: Num) -> Result<Num, Over>
+        ensures { MatchResult result (λ r. sum_of (units self) (units other) ≡ Some (units r)) (λ _. sum_of (units self) (units other) ≡ None) }
+    {
+        let places = self.common_places(other);
+        let (negative, sum) = signed_sum(
+            self.negative,
+            self.at_places(places),
+            other.negative,
+            other.at_places(places),
+        );
+        numbered(rounded(sum, places, 18), negative)
+    }
+
+    /// The sum, rounded once.
+    ///
+    /// # Errors
+    ///
+    /// `Over` exactly where it reaches 10^18 in size, before or after rounding.
+    pub fn add(self, other: Num) -> Result<Num, Over>
+        ensures { MatchResult result (λ r. sum_of (units self) (units other) ≡ Some (units r)) (λ _. sum_of (units self) (units other) ≡ None) }
+    {
+        if self.places == other.places {
+            let (negative, sum) = signed_sum(
+                self.negative,
+                self.digits as u128,
+                other.negative,
+                other.digits as u128,
+            );
+            if sum < DIGITS_END as u128 {
+                return Ok(Num {
+                    digits: sum as u64,
+                    places: self.places,
+                    negative,
+                });
+            }
+        }
+        self.add_at_places(other)
+    }
+
+    /// The difference, rounded once.
+    ///
+    /// # Errors
+    ///
+    /// `Over` exactly where it reaches 10^18 in size, before or after rounding.
+    pub fn sub(self, other: Num) -> Result<Num, Over>
+        ensures { MatchResult result (λ r. difference_of (units self) (units other) ≡ Some (units r)) (λ _. difference_of (units self) (units other) ≡ None) }
+    {
+        self.add(other.neg())
+    }
+
+    // `quot` at places that differ; the divisor is not zero.
+    fn quot_at_places(self, other: Num) -> Result<Num, ArithFault>
+        requires { 0 < other.digits }
+        ensures { IsOutcome (units other) (whole_quotient_of (units self) (units other)) result }
+    {
+        let places = self.common_places(other);
+        let quotient = self.at_places(places) / other.at_places(places);
+        divided(rounded(quotient, 0, 18), self.negative != other.negative)
+    }
+
+    /// The quotient without its fraction, the operator `\`, rounded once.
+    ///
+    /// # Errors
+    ///
+    /// `Zero` exactly for a zero divisor; else `Over` exactly where the quotient reaches 10^18 in size.
+    pub fn quot(self, other: Num) -> Result<Num, ArithFault>
+        ensures { IsOutcome (units other) (whole_quotient_of (units self) (units other)) result }
+    {
+        if other.digits == 0 {
+            return Err(ArithFault::Zero);
+        }
+        if self.places == other.places {
+            return Ok(Num {
+                digits: self.digits / other.digits,
+                places: 0,
+                negative: self.negative != other.negative,
+            });
+        }
+        self.quot_at_places(other)
+    }
+
+    // `rem` at places that differ; the divisor is not zero.
+    fn rem_at_places(self, other: Num) -> Result<Num, ArithFault>
+        requires { 0 < other.digits }
+        ensures value { IsOutcome (units other) (remainder_of (units self) (units other)) result }
+        ensures never_over { IfErr result (λ e. e ≡ ArithFault.Zero) }
+    {
+        let places = self.common_places(other);
+        let divisor = other.at_places(places);
+        let size = self.at_places(places) % divisor;
+        let left = floored(size, divisor, self.negative == other.negative);
+        divided(rounded(left, places, 18), other.negative)
+    }
+
+    /// What is left of a division with floor, the operator `#`, rounded once: it has the sign of the divisor, and where it
+    /// is rounded it can equal the divisor.
+    ///
+    /// # Errors
+    ///
+    /// `Zero` exactly for a zero divisor, and never `Over`.
+    pub fn rem(self, other: Num) -> Result<Num, ArithFault>
+        ensures value { IsOutcome (units other) (remainder_of (units self) (units other)) result }
+        ensures never_over { IfErr result (λ e. e ≡ ArithFault.Zero) }
+    {
+        if other.digits == 0 {
+            return Err(ArithFault::Zero);
+        }
+        if self.places == other.places {
+            let left = floored(
+                (self.digits % other.digits) as u128,
+                other.digits as u128,
+                self.negative == other.negative,
+            );
+            return Ok(Num {
+                digits: left as u64,
+                places: self.places,
+                negative: other.negative,
+            });
+        }
+        self.rem_at_places(other)
+    }
+
+    /// The number with its sign turned; zero stays zero.
+    pub fn neg(self) -> Num
+        ensures { units result ≡ neg_ℤ (units self) }
+    {
+        Num {
+            digits: self.digits,
+            places: self.places,
+            negative: !self.negative,
+        }
+    }
+
+    /// The product, rounded once.
+    ///
+    /// # Errors
+    ///
+    /// `Over` exactly where it reaches 10^18 in size, before or after rounding.
+    pub fn mul(self, other: Num) -> Result<Num, Over>
+        ensures { MatchResult result (λ r. product_of (units self) (units other) ≡ Some (units r)) (λ _. product_of (units self) (units other) ≡ None) }
+    {
+        let product = self.digits as u128 * other.digits as u128;
+        numbered(
+            rounded(product, self.places + other.places, 18),
+            self.negative != other.negative,
+        )
+    }
+
+    // `div` of digits that leave something; the divisor is not zero.
+    fn div_at_places(self, other: Num) -> Result<Num, ArithFault>
+        requires { 0 < other.digits }
+        ensures { IsOutcome (units other) (quotient_of (units self) (units other)) result }
+    {
+        let (numerator, zeros) = raised(self.digits, 19 + other.places - self.places);
+        let quotient = numerator / other.digits as u128;
+        if zeros + self.places < other.places {
+            return Err(ArithFault::Over);
+        }
+        let size = rounded(quotient, zeros + self.places - other.places, 18);
+        divided(size, self.negative != other.negative)
+    }
+
+    /// The quotient, the operator `/`, rounded once.
+    ///
+    /// # Errors
+    ///
+    /// `Zero` exactly for a zero divisor; else `Over` exactly where the quotient reaches 10^18 in size, before or after
+    /// rounding.
+    pub fn div(self, other: Num) -> Result<Num, ArithFault>
+        ensures { IsOutcome (units other) (quotient_of (units self) (units other)) result }
+    {
+        if other.digits == 0 {
+            return Err(ArithFault::Zero);
+        }
+        if self.places == other.places && self.digits % other.digits == 0 {
+            return Ok(Num {
+                digits: self.digits / other.digits,
+                places: 0,
+                negative: self.negative != other.negative,
+            });
+        }
+        self.div_at_places(other)
+    }
+}

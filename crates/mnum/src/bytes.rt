@@ -1,0 +1,60 @@
+// Texts of characters below 128.
+ghost use Rattle.std.specs.Prelude.{◌≡◌, ◌↔◌, ◌<◌, All, IsOk, IfOk, IfErr};
+
+use std::alloc::AllocError;
+use std::marker::Model;
+
+/// A text of ASCII characters: bytes that are each under 128. Contracts see it as its list of bytes.
+#[derive(Debug, Drop)]
+pub struct Bytes7 {
+    bytes: Vec<u8>,
+}
+
+impl Model for Bytes7 {
+    ghost use Rattle.std.specs.Prelude.{List, ℕ, ◌<◌, All};
+
+    ghost Value = { List ℕ };
+
+    ghost view = { λ text. text.bytes.items };
+
+    ghost invariant = { λ text. All (λ c. c < 128) text.bytes.items };
+}
+
+impl Bytes7 {
+    /// The text of these bytes. Takes no memory.
+    ///
+    /// # Errors
+    ///
+    /// Hands the bytes back, as they were, exactly where one of them is over 127.
+    pub fn new(bytes: Vec<u8>) -> Result<Bytes7, Vec<u8>>
+        ensures when { IsOk result ↔ All (λ c. c < 128) bytes.items }
+        ensures text { IfOk result (λ text. text ≡ bytes.items) }
+        ensures handed_back { IfErr result (λ same. same ≡ bytes) }
+    {
+        if bytes.as_slice().iter().all(|c| *c < 128) {
+            Ok(Bytes7 { bytes })
+        } else {
+            Err(bytes)
+        }
+    }
+
+    /// The bytes of the text, each under 128. Takes no memory.
+    pub fn as_bytes(&self) -> &[u8]
+        ensures bytes { result.now ≡ self.now }
+        ensures ascii { All (λ c. c < 128) result.now }
+    {
+        self.bytes.as_slice()
+    }
+
+    /// A second text of the same bytes, on this one's allocator.
+    ///
+    /// # Errors
+    ///
+    /// `AllocError` for want of memory.
+    pub fn copy(&self) -> Result<Bytes7, AllocError>
+        ensures { IfOk result (λ text. text ≡ self.now) }
+    {
+        let bytes = self.bytes.clone()?;
+        Ok(Bytes7 { bytes })
+    }
+}

@@ -1,0 +1,19 @@
+//! Numbers of eighteen significant digits, exact in their arithmetic and rounded once, and texts of seven-bit characters.
+//!
+//! A number is a whole count of units of 10^-18, below 10^18 in size. The definitions that the contracts cite stand in
+//! `mspec`: `Number` (rounding and the operators), `NumberText` (the value of a text, and the text of a number).
+#![tactic(auto)]
+
+mod arithmetic;
+mod bytes;
+mod num;
+mod numbered;
+mod powers;
+mod reading;
+mod rounding;
+mod size;
+mod writing;
+
+pub use bytes::Bytes7;
+pub use num::{ArithFault, Num, Over};
+pub use writing::{is_canonical, is_canonical_by};

@@ -1,0 +1,102 @@
+// Numbers written as texts.
+ghost use Rattle.std.specs.Prelude.{◌≡◌, ℕ, ◌+◌, ◌-◌, ◌*◌, ◌/◌, ◌%◌, ◌^◌, ◌<◌, ◌≤◌, ◌++◌, ◌↔◌, IsTrue, OnOk, OnErr, length};
+ghost use Rattle.arrayvec.specs.ArrayVec.{array_vec_len};
+ghost use Rattle.mnum.specs.Num.{units};
+ghost use Rattle.mspec.specs.Number.{significant_digits};
+ghost use Rattle.mspec.specs.NumberText.{fraction_text, whole_text, number_text, IsCanonical};
+
+use crate::num::Num;
+use crate::powers::power;
+use crate::reading::value_of;
+use arrayvec::ArrayVec;
+use itoa::Buffer;
+use std::alloc::AllocError;
+
+// Appends the digits of a fraction, up to the last that is not 0.
+fn push_fraction(out: &mut ArrayVec<u8, 40>, places: u32, fraction: u64)
+    requires below { fraction < 10 ^ places }
+    requires few { places ≤ 18 }
+    requires room { array_vec_len out.old + places ≤ 40 }
+    ensures items { out.new.items ≡ out.old.items ++ fraction_text places fraction }
+    ensures len { array_vec_len out.new ≤ array_vec_len out.old + places }
+{
+    let mut left = fraction;
+    let mut k = places;
+    while left > 0 {
+        k -= 1;
+        let unit = power(k) as u64;
+        out.push(b'0' + (left / unit) as u8);
+        left %= unit;
+    }
+}
+
+// Appends the digits of a whole number, none for 0.
+fn push_whole(out: &mut ArrayVec<u8, 40>, whole: u64)
+    requires below { whole < 10 ^ 18 }
+    requires room { array_vec_len out.old + 18 ≤ 40 }
+    ensures items { out.new.items ≡ out.old.items ++ whole_text whole }
+    ensures len { array_vec_len out.new ≤ array_vec_len out.old + 18 }
+{
+    if whole > 0 {
+        let mut buffer = Buffer::new();
+        for b in buffer.format(whole).as_bytes() {
+            out.push(*b);
+        }
+    }
+}
+
+impl Num {
+    // The canonical text.
+    fn text(self) -> ArrayVec<u8, 40>
+        ensures { result.items ≡ number_text (units self) }
+    {
+        let mut out = ArrayVec::new();
+        if self.digits == 0 {
+            out.push(b'0');
+            return out;
+        }
+        if self.negative {
+            out.push(b'-');
+        }
+        let unit = power(self.places) as u64;
+        push_whole(&mut out, self.digits / unit);
+        let fraction = self.digits % unit;
+        if fraction > 0 {
+            out.push(b'.');
+            push_fraction(&mut out, self.places, fraction);
+        }
+        out
+    }
+
+    /// Appends the canonical text of the number: no zero in front, none at the end of a fraction, no point without a digit
+    /// behind it, no `+`, and no sign at 0.
+    ///
+    /// # Errors
+    ///
+    /// `AllocError` for want of memory; `out` is then as it was.
+    pub fn write(self, out: &mut Vec<u8>) -> Result<(), AllocError>
+        ensures ok { OnOk result (out.new.items ≡ out.old.items ++ number_text (units self)) }
+        ensures err { OnErr result (out.new.items ≡ out.old.items) }
+    {
+        out.extend_from_slice(self.text().as_slice())
+    }
+}
+
+/// Whether the text is the canonical text of a number of at most `kept` significant digits. Takes no memory.
+pub fn is_canonical_by(text: &[u8], kept: u32) -> bool
+    requires some_kept { 0 < kept }
+    requires kept_at_most { kept ≤ 18 }
+    ensures { IsTrue result ↔ IsCanonical kept text.now }
+{
+    match value_of(text, kept) {
+        Ok(number) => number.text().as_slice() == text,
+        Err(_) => false,
+    }
+}
+
+/// Whether the text is the canonical text of a number of the language. Takes no memory.
+pub fn is_canonical(text: &[u8]) -> bool
+    ensures { IsTrue result ↔ IsCanonical significant_digits text.now }
+{
+    is_canonical_by(text, 18)
+}

@@ -1,0 +1,7 @@
+pub mod Powers
+pub mod Rounding
+pub mod NearestLaws
+pub mod DistanceLaws
+pub mod TextLaws
+pub mod LongestLiteral
+pub mod NumberExamples

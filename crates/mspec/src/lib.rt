@@ -1,0 +1,7 @@
+//! The definitions of mserve, written apart from the code: what its numbers and texts mean.
+//!
+//! They stand in `specs/` and compute. The functions here carry the laws on them: a law is the contract of a function with
+//! an empty body.
+#![tactic(auto)]
+
+pub mod number_laws;

@@ -1,0 +1,56 @@
+// The laws of numbers and of their texts. Each function's contract is the law, and its body is empty: the code never
+// calls them.
+ghost use Rattle.mspec.specs.NumberLaws.{RoundingIsNearest, EachHasDigits, NearestIsUnique, ZeroRoundsToZero, RoundedIsNumber, NumberRoundsToItself, ReadsLongestLiteral, TextHasValue, CanonicalIsText, CanonicalByMoreDigits};
+
+/// A fraction with d digits before its point is rounded to the multiple of 10^(d - kept), and of 10^-18 at the least, that
+/// is nearest, of two the one larger in size; there is no number exactly where the fraction or the multiple reaches 10^18.
+pub fn rounding_is_nearest()
+    ensures { RoundingIsNearest }
+{}
+
+/// Each fraction but 0 has such a d.
+pub fn each_has_digits()
+    ensures { EachHasDigits }
+{}
+
+/// There is one such multiple.
+pub fn nearest_is_unique()
+    ensures { NearestIsUnique }
+{}
+
+/// 0 is rounded to 0.
+pub fn zero_rounds_to_zero()
+    ensures { ZeroRoundsToZero }
+{}
+
+/// What is rounded to so many digits is a number of at most so many.
+pub fn rounded_is_number()
+    ensures { RoundedIsNumber }
+{}
+
+/// A number is rounded to itself.
+pub fn number_rounds_to_itself()
+    ensures { NumberRoundsToItself }
+{}
+
+/// A text without signs is read as the longest literal of the grammar that it begins with, or as 0 where it begins with
+/// none.
+pub fn reads_longest_literal()
+    ensures { ReadsLongestLiteral }
+{}
+
+/// The numeric value of the text of a number is that number.
+pub fn text_has_value()
+    ensures { TextHasValue }
+{}
+
+/// A canonical text is the text of its value, so each number has one.
+pub fn canonical_is_text()
+    ensures { CanonicalIsText }
+{}
+
+/// A text that is canonical by fewer digits is so by more, with the same value: keys of stores written by fifteen digits
+/// name the same nodes by eighteen.
+pub fn canonical_by_more_digits()
+    ensures { CanonicalByMoreDigits }
+{}

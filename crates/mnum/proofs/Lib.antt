@@ -1,3 +1,5 @@
+pub mod Starts
+pub mod Wholes
 pub mod Orders
 pub mod Outcomes
 pub mod PowerTable

@@ -1,5 +1,5 @@
 -- Texts of numbers.
-use Rattle.std.proofs.Common.{ℕ, zero, suc, ◌≡◌, ◌+◌, ◌*◌, ◌-◌, ◌/◌, ◌%◌, ◌^◌, ◌<◌, ◌≤◌, Bool, true, false, cond, eqb, List, [], ◌∷◌, ◌++◌, length, refl, sym, ◌∙◌, ap, subst, arith, append_assoc, decimal}
+use Rattle.std.proofs.Common.{ℕ, zero, suc, ◌≡◌, ◌+◌, ◌*◌, ◌-◌, ◌/◌, ◌%◌, ◌^◌, ◌<◌, ◌≤◌, Bool, true, false, not, cond, eqb, List, [], ◌∷◌, ◌++◌, length, refl, sym, ◌∙◌, ap, subst, arith, append_assoc, decimal}
 use Rattle.std.proofs.Math.Nat.{zero-mul, mul-div-mul_right, div-add-mod', mul-pos}
 use Rattle.std.proofs.lemmas.Nat.{mod_below}
 use Rattle.std.proofs.lemmas.Fmt.{length-decimal-le}
@@ -7,6 +7,7 @@ use Rattle.std.proofs.lemmas.Bool.Decides.{nat_tests}
 use Rattle.mspec.proofs.Powers.{ten_pos, ten_add}
 use Rattle.mspec.specs.Number.{signed}
 use Rattle.mspec.specs.NumberText.{fraction_text, whole_text, point_text, size_text, number_text}
+use Rattle.mspec.proofs.TextLaws.{text_of_whole}
 
 eqb_zero : (n : ℕ) → 0 < n → eqb n 0 ≡ false
 eqb_zero n h = grind (arith, nat_tests)
@@ -117,3 +118,8 @@ text_whole b d p unit first out is near some f o none =
 
 pub decimal_short : (n : ℕ) (bs : List ℕ) → n < 10 ^ 18 → bs ≡ decimal n → length bs ≤ 18
 decimal_short n bs h e = subst (λ (t : List ℕ). length t ≤ 18) (sym e) (length-decimal-le 18 n (omega arith) h (omega arith))
+
+-- the text of a whole number from 1 on
+pub text_of_digits : (b : Bool) (d p : ℕ) → not b ≡ true → p ≡ 0 → 0 < d → decimal d ≡ number_text (signed b (d * 10 ^ (18 - p)))
+text_of_digits true d p positive none some = cc
+text_of_digits false d p positive none some = sym (text_of_whole d some) ∙ ap (λ x. number_text (signed false (d * 10 ^ (18 - x)))) (sym none)

@@ -3,3 +3,4 @@ pub mod Size
 pub mod Num
 pub mod Division
 pub mod Head
+pub mod Start

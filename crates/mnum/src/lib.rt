@@ -17,3 +17,6 @@ mod writing;
 pub use bytes::Bytes7;
 pub use num::{ArithFault, Num, Over};
 pub use writing::{is_canonical, is_canonical_by};
+
+#[cfg(test)]
+mod tests;

@@ -1,5 +1,5 @@
 // Numbers read from texts.
-ghost use Rattle.std.specs.Prelude.{◌≡◌, ℕ, ◌+◌, ◌-◌, ◌*◌, ◌/◌, ◌^◌, ◌<◌, ◌≤◌, ◌⊎◌, length, take_while, option_map, cond, drop, Some, None, MatchResult};
+ghost use Rattle.std.specs.Prelude.{◌≡◌, ℕ, ◌+◌, ◌-◌, ◌*◌, ◌/◌, ◌^◌, ◌<◌, ◌≤◌, ◌⊎◌, length, take_while, option_map, cond, drop, Some, None, IfSome, MatchResult, All, true};
 ghost use Rattle.std.specs.List.{prefix_len};
 ghost use Rattle.mnum.specs.Head.{IsHead, IsCapped};
 ghost use Rattle.mnum.specs.Num.{units};
@@ -202,6 +202,23 @@ fn read_signs(text: &[u8]) -> (bool, usize)
     (negated, text.len())
 }
 
+// The number that the text writes, where it is at most eighteen digits and nothing else: the short way of small numbers.
+fn short_whole(text: &[u8]) -> Option<u64>
+    ensures { IfSome result (λ n. (n < 10 ^ 18) × (n ≡ digits_after 0 text.now) × All (λ c. is_digit c ≡ true) text.now) }
+{
+    if text.len() > 18 {
+        return None;
+    }
+    let mut number: u64 = 0;
+    for c in text {
+        if !is_decimal(*c) {
+            return None;
+        }
+        number = number * 10 + (*c - b'0') as u64;
+    }
+    Some(number)
+}
+
 // The numeric value of a text, rounded to `kept` digits.
 pub fn value_of(text: &[u8], kept: u32) -> Result<Num, Over>
     requires some_kept { 0 < kept }
@@ -222,6 +239,13 @@ impl Num {
     pub fn from_text(text: &[u8]) -> Result<Num, Over>
         ensures { MatchResult result (λ n. numeric_value significant_digits text.now ≡ Some (units n)) (λ _. numeric_value significant_digits text.now ≡ None) }
     {
-        value_of(text, 18)
+        match short_whole(text) {
+            Some(digits) => Ok(Num {
+                digits,
+                places: 0,
+                negative: false,
+            }),
+            None => value_of(text, 18),
+        }
     }
 }

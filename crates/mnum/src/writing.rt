@@ -2,6 +2,7 @@
 ghost use Rattle.std.specs.Prelude.{◌≡◌, ℕ, ◌+◌, ◌-◌, ◌*◌, ◌/◌, ◌%◌, ◌^◌, ◌<◌, ◌≤◌, ◌++◌, ◌↔◌, IsTrue, OnOk, OnErr, length};
 ghost use Rattle.arrayvec.specs.ArrayVec.{array_vec_len};
 ghost use Rattle.mnum.specs.Num.{units};
+ghost use Rattle.mnum.specs.Start.{starts_number};
 ghost use Rattle.mspec.specs.Number.{significant_digits};
 ghost use Rattle.mspec.specs.NumberText.{fraction_text, whole_text, number_text, IsCanonical};
 
@@ -78,7 +79,21 @@ impl Num {
         ensures ok { OnOk result (out.new.items ≡ out.old.items ++ number_text (units self)) }
         ensures err { OnErr result (out.new.items ≡ out.old.items) }
     {
+        if self.places == 0 && self.digits > 0 && !self.negative {
+            let mut buffer = Buffer::new();
+            return out.extend_from_slice(buffer.format(self.digits).as_bytes());
+        }
         out.extend_from_slice(self.text().as_slice())
+    }
+}
+
+// Whether a canonical text can begin as this one does.
+fn starts_canonical(text: &[u8]) -> bool
+    ensures { result ≡ starts_number text.now }
+{
+    match text {
+        [first, ..] => first.is_ascii_digit() || *first == b'-' || *first == b'.',
+        [] => false,
     }
 }
 
@@ -88,6 +103,10 @@ pub fn is_canonical_by(text: &[u8], kept: u32) -> bool
     requires kept_at_most { kept ≤ 18 }
     ensures { IsTrue result ↔ IsCanonical kept text.now }
 {
+    // most subscripts that are no numbers are told by their first byte
+    if !starts_canonical(text) {
+        return false;
+    }
     match value_of(text, kept) {
         Ok(number) => number.text().as_slice() == text,
         Err(_) => false,

@@ -3,5 +3,6 @@ pub mod Rounding
 pub mod NearestLaws
 pub mod DistanceLaws
 pub mod TextLaws
+pub mod CanonicalForm
 pub mod LongestLiteral
 pub mod NumberExamples

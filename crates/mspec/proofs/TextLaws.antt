@@ -20,7 +20,7 @@ use Rattle.mspec.proofs.Rounding.{round_is}
 use Rattle.mspec.proofs.NearestLaws.{exact_number, rounded_is_number}
 
 -- the byte is a digit
-abbrev Digit : ℕ → Type 0
+abbrev pub Digit : ℕ → Type 0
 Digit c = is_digit c ≡ true
 
 -- one digit of a number is a digit
@@ -87,7 +87,7 @@ size_of_pointed kept w f all_w all_f some =
     size_of_parts kept (w ++ (46 ∷ f)) w (46 ∷ f) f (run_front w (46 ∷ f) all_w refl) (run_after w (46 ∷ f) all_w refl) (point_digits f all_f) (point_after f all_f some)
 
 -- one more power of ten
-ten_more : (k : ℕ) → 10 ^ suc k ≡ 10 ^ k * 10
+pub ten_more : (k : ℕ) → 10 ^ suc k ≡ 10 ^ k * 10
 ten_more k = ap (λ x. 10 ^ x) (omega arith) ∙ ten_add k 1
 
 -- the first digit of n / 10 ^ (k + 1)
@@ -97,7 +97,7 @@ first_below k n below =
     div_below n (10 ^ k) 10 (ten_pos k) (omega arith)
 
 -- what `fraction_text` writes are digits
-fraction_all : (k n : ℕ) → n < 10 ^ k → All Digit (fraction_text k n)
+pub fraction_all : (k n : ℕ) → n < 10 ^ k → All Digit (fraction_text k n)
 fraction_all zero n below = All-nil Digit
 fraction_all (suc k) n below =
     elim (n == 0) as (λ b. All Digit (cond b [] ((48 + n / 10 ^ k) ∷ fraction_text k (n % 10 ^ k)))) [
@@ -106,19 +106,19 @@ fraction_all (suc k) n below =
     ]
 
 -- the first digit of a fraction that is not 0
-fraction_some : (k n : ℕ) → 0 < n → fraction_text (suc k) n ≡ (48 + n / 10 ^ k) ∷ fraction_text k (n % 10 ^ k)
+pub fraction_some : (k n : ℕ) → 0 < n → fraction_text (suc k) n ≡ (48 + n / 10 ^ k) ∷ fraction_text k (n % 10 ^ k)
 fraction_some k n some = cond-false _ _ _ (not_zero n some)
 
 -- the digits before the point of a number from 1 on
-whole_some : (n : ℕ) → 0 < n → whole_text n ≡ decimal n
+pub whole_some : (n : ℕ) → 0 < n → whole_text n ≡ decimal n
 whole_some n some = cond-false _ _ _ (not_zero n some)
 
 -- the point and the digits behind it, where they are not 0
-point_some : (n : ℕ) → 0 < n → point_text n ≡ 46 ∷ fraction_text 18 n
+pub point_some : (n : ℕ) → 0 < n → point_text n ≡ 46 ∷ fraction_text 18 n
 point_some n some = cond-false _ _ _ (not_zero n some)
 
 -- the text of a size that is not 0
-size_some : (n : ℕ) → 0 < n → size_text n ≡ whole_text (n / 10 ^ 18) ++ point_text (n % 10 ^ 18)
+pub size_some : (n : ℕ) → 0 < n → size_text n ≡ whole_text (n / 10 ^ 18) ++ point_text (n % 10 ^ 18)
 unfolding size_text
 size_some n some = cond-false _ _ _ (not_zero n some)
 
@@ -161,7 +161,7 @@ decimal_reads =
     push n ds e = fold_push with_digit 0 ds (48 + n % 10) ∙ ap (λ x. with_digit x (48 + n % 10)) e ∙ back n
 
 -- what `whole_text` writes are digits
-whole_all : (n : ℕ) → n < 2 ^ 64 → All Digit (whole_text n)
+pub whole_all : (n : ℕ) → n < 2 ^ 64 → All Digit (whole_text n)
 whole_all zero below = All-nil Digit
 whole_all (suc n) below = subst (All Digit) (sym (whole_some (suc n) (omega arith))) (decimal_reads (suc n) below).0
 
@@ -198,7 +198,7 @@ read_back kept n v k e number =
     none k = omega arith
 
 -- the parts of a size before and behind the point
-size_parts : (n : ℕ) → n < 10 ^ 36 → (n / 10 ^ 18 < 2 ^ 64) × (n % 10 ^ 18 < 10 ^ 18) × (n / 10 ^ 18 * 10 ^ 18 + n % 10 ^ 18 ≡ n)
+pub size_parts : (n : ℕ) → n < 10 ^ 36 → (n / 10 ^ 18 < 2 ^ 64) × (n % 10 ^ 18 < 10 ^ 18) × (n / 10 ^ 18 * 10 ^ 18 + n % 10 ^ 18 ≡ n)
 size_parts n below = (omega arith, omega arith, omega arith)
 
 -- the text of a number has its size
@@ -259,6 +259,27 @@ unsigned_value kept s h =
     ap (λ b. option_map (signed b) (literal_size kept (after_signs s))) h.positive
     ∙ ap (λ k. option_map (signed false) (literal_size kept (drop k s))) h.none
 
+-- what is read of a text of at most eighteen digits
+pub value_of_digits : (s : List ℕ) (n : ℕ) → All (λ c. is_digit c ≡ true) s → n ≡ digits_after 0 s → n < 10 ^ 18 → numeric_value 18 s ≡ Some (pos (n * 10 ^ 18))
+value_of_digits s n all is below =
+    let unsigned : IsUnsigned s = subst IsUnsigned (append-nil s) (digits_unsigned s [] all (record { positive = refl; none = refl })) in
+    let same : digits_after 0 (s ++ []) ≡ n = ap (digits_after 0) (append-nil s) ∙ sym is in
+    unsigned_value 18 s unsigned
+    ∙ ap (option_map (signed false))
+    (size_of_whole 18 s all
+    ∙ exact_number 18 (digits_after 0 (s ++ []) * 10 ^ 0) (10 ^ (0 + 0)) (n * 10 ^ 18) (ten_pos (0 + 0)) (omega arith)
+    (record { in_range = omega arith; few_digits = (n, 18, below, refl) }))
+
+-- the text of a whole number is its digits
+pub text_of_whole : (n : ℕ) → 0 < n → number_text (pos (n * 10 ^ 18)) ≡ decimal n
+text_of_whole n some =
+    let parts : (n * 10 ^ 18 / 10 ^ 18 ≡ n) × (n * 10 ^ 18 % 10 ^ 18 ≡ 0) = (omega arith, omega arith) in
+    size_some (n * 10 ^ 18) (omega arith)
+    ∙ ap (λ x. whole_text x ++ point_text (n * 10 ^ 18 % 10 ^ 18)) parts.0
+    ∙ ap (λ x. whole_text n ++ point_text x) parts.1
+    ∙ append-nil (whole_text n)
+    ∙ whole_some n some
+
 -- what is read behind one minus sign
 minus_value : (kept : ℕ) (s : List ℕ) → IsUnsigned s → numeric_value kept (45 ∷ s) ≡ option_map (signed true) (literal_size kept s)
 unfolding numeric_value
@@ -281,7 +302,7 @@ canonical_is_text kept u s canonical value =
     sym canonical.text ∙ ap number_text same
 
 -- what is read of a text is a number
-value_is_number : (kept : ℕ) (s : List ℕ) (u : ℤ) → 0 < kept → numeric_value kept s ≡ Some u → IsNumber kept u
+pub value_is_number : (kept : ℕ) (s : List ℕ) (u : ℤ) → 0 < kept → numeric_value kept s ≡ Some u → IsNumber kept u
 unfolding numeric_value literal_size
 value_is_number kept s u some e =
     rounded_size kept _ _ (is_negated s) u some (ten_pos _) e

@@ -91,7 +91,7 @@ HasCanonicalForm s =
 
 -- the text of a number has that form, and no two literals of that form have one value
 abbrev pub TextHasCanonicalForm : Type 0
-TextHasCanonicalForm = (u : ℤ) → HasCanonicalForm (number_text u)
+TextHasCanonicalForm = (kept : ℕ) (u : ℤ) → IsNumber kept u → HasCanonicalForm (number_text u)
 
 abbrev pub PlainLiteralIsUnique : Type 0
 PlainLiteralIsUnique =

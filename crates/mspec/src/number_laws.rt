@@ -1,6 +1,6 @@
 // The laws of numbers and of their texts. Each function's contract is the law, and its body is empty: the code never
 // calls them.
-ghost use Rattle.mspec.specs.NumberLaws.{RoundingIsNearest, EachHasDigits, NearestIsUnique, ZeroRoundsToZero, RoundedIsNumber, NumberRoundsToItself, ReadsLongestLiteral, TextHasValue, CanonicalIsText, CanonicalByMoreDigits};
+ghost use Rattle.mspec.specs.NumberLaws.{RoundingIsNearest, EachHasDigits, NearestIsUnique, ZeroRoundsToZero, RoundedIsNumber, NumberRoundsToItself, ReadsLongestLiteral, TextHasValue, CanonicalIsText, TextHasCanonicalForm, PlainLiteralIsUnique, CanonicalByMoreDigits};
 
 /// A fraction with d digits before its point is rounded to the multiple of 10^(d - kept), and of 10^-18 at the least, that
 /// is nearest, of two the one larger in size; there is no number exactly where the fraction or the multiple reaches 10^18.
@@ -47,6 +47,16 @@ pub fn text_has_value()
 /// A canonical text is the text of its value, so each number has one.
 pub fn canonical_is_text()
     ensures { CanonicalIsText }
+{}
+
+/// The text of a number has the canonical form: no zero in front, none at the end of a fraction, no exponent and no `+`.
+pub fn text_has_canonical_form()
+    ensures { TextHasCanonicalForm }
+{}
+
+/// No two literals of that form have one value, so the text of a number is the only one of that form with its value.
+pub fn plain_literal_is_unique()
+    ensures { PlainLiteralIsUnique }
 {}
 
 /// A text that is canonical by fewer digits is so by more, with the same value: keys of stores written by fifteen digits

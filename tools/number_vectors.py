@@ -122,4 +122,5 @@ def main():
         print("value", text, text_of(value(text)))
 
 
-main()
+if __name__ == "__main__":
+    main()

@@ -1,6 +1,7 @@
+pub mod ShortWholes
 pub mod Starts
 pub mod Wholes
-pub mod Orders
+pub mod MachineNumbers
 pub mod Outcomes
 pub mod PowerTable
 pub mod Scales

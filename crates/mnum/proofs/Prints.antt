@@ -7,7 +7,7 @@ use Rattle.std.proofs.lemmas.Bool.Decides.{nat_tests}
 use Rattle.mspec.proofs.Powers.{ten_pos, ten_add}
 use Rattle.mspec.specs.Number.{signed}
 use Rattle.mspec.specs.NumberText.{fraction_text, whole_text, point_text, size_text, number_text}
-use Rattle.mspec.proofs.TextLaws.{text_of_whole}
+use Rattle.mspec.proofs.WholeTexts.{text_of_whole}
 
 eqb_zero : (n : ℕ) → 0 < n → eqb n 0 ≡ false
 eqb_zero n h = grind (arith, nat_tests)

@@ -1,5 +1,5 @@
 // The operations on numbers.
-ghost use Rattle.std.specs.Prelude.{◌≡◌, ℕ, ◌*◌, ◌^◌, ◌<◌, ◌≤◌, ◌≢◌, ◌-◌, ◌+◌, ◌/◌, ◌⊎◌, ◌+ℤ◌, neg_ℤ, Some, None, MatchResult, pos, IfErr};
+ghost use Rattle.std.specs.Prelude.{◌≡◌, ℕ, ◌*◌, ◌^◌, ◌<◌, ◌≤◌, ◌≢◌, ◌-◌, ◌+◌, ◌/◌, ◌⊎◌, ◌+ℤ◌, neg_ℤ, Some, None, MatchResult, pos, unsigned_abs, IfErr};
 ghost use Rattle.std.specs.Ordering.{int_cmp};
 ghost use Rattle.mnum.specs.Division.{IsOutcome};
 ghost use Rattle.mnum.specs.Floor.{floor_left};
@@ -69,7 +69,8 @@ fn signed_sum(a_negative: bool, a: u128, b_negative: bool, b: u128) -> (bool, u1
 
 // The digits with their sign, as a machine's number.
 fn signed_digits(n: Num) -> i64
-    ensures { result ≡ signed n.negative n.digits }
+    ensures value { result ≡ signed n.negative n.digits }
+    ensures below { unsigned_abs result < 10 ^ 18 }
 {
     let digits = n.digits as i64;
     if n.negative { -digits } else { digits }
@@ -100,6 +101,7 @@ impl Num {
     }
 
     /// The number in units of 10^-18, below 10^36 in size.
+    #[inline]
     pub fn to_units(self) -> i128
         ensures { result ≡ units self }
     {
@@ -108,6 +110,7 @@ impl Num {
     }
 
     /// The order of two numbers by value.
+    #[inline]
     pub fn cmp(self, other: Num) -> Ordering
         ensures { result ≡ int_cmp (units self) (units other) }
     {
@@ -119,6 +122,7 @@ impl Num {
     }
 
     // `add` at places that differ, or past the short way.
+    #[inline(never)]
     fn add_at_places(self, other: Num) -> Result<Num, Over>
         ensures { MatchResult result (λ r. sum_of (units self) (units other) ≡ Some (units r)) (λ _. sum_of (units self) (units other) ≡ None) }
     {
@@ -137,21 +141,18 @@ impl Num {
     /// # Errors
     ///
     /// `Over` exactly where it reaches 10^18 in size, before or after rounding.
+    #[inline]
     pub fn add(self, other: Num) -> Result<Num, Over>
         ensures { MatchResult result (λ r. sum_of (units self) (units other) ≡ Some (units r)) (λ _. sum_of (units self) (units other) ≡ None) }
     {
         if self.places == other.places {
-            let (negative, sum) = signed_sum(
-                self.negative,
-                self.digits as u128,
-                other.negative,
-                other.digits as u128,
-            );
-            if sum < DIGITS_END as u128 {
+            let sum = signed_digits(self) + signed_digits(other);
+            let digits = sum.unsigned_abs();
+            if digits < DIGITS_END {
                 return Ok(Num {
-                    digits: sum as u64,
+                    digits,
                     places: self.places,
-                    negative,
+                    negative: sum < 0,
                 });
             }
         }
@@ -163,6 +164,7 @@ impl Num {
     /// # Errors
     ///
     /// `Over` exactly where it reaches 10^18 in size, before or after rounding.
+    #[inline]
     pub fn sub(self, other: Num) -> Result<Num, Over>
         ensures { MatchResult result (λ r. difference_of (units self) (units other) ≡ Some (units r)) (λ _. difference_of (units self) (units other) ≡ None) }
     {
@@ -170,6 +172,7 @@ impl Num {
     }
 
     // `quot` at places that differ; the divisor is not zero.
+    #[inline(never)]
     fn quot_at_places(self, other: Num) -> Result<Num, ArithFault>
         requires { 0 < other.digits }
         ensures { IsOutcome (units other) (whole_quotient_of (units self) (units other)) result }
@@ -184,6 +187,7 @@ impl Num {
     /// # Errors
     ///
     /// `Zero` exactly for a zero divisor; else `Over` exactly where the quotient reaches 10^18 in size.
+    #[inline]
     pub fn quot(self, other: Num) -> Result<Num, ArithFault>
         ensures { IsOutcome (units other) (whole_quotient_of (units self) (units other)) result }
     {
@@ -201,6 +205,7 @@ impl Num {
     }
 
     // `rem` at places that differ; the divisor is not zero.
+    #[inline(never)]
     fn rem_at_places(self, other: Num) -> Result<Num, ArithFault>
         requires { 0 < other.digits }
         ensures value { IsOutcome (units other) (remainder_of (units self) (units other)) result }
@@ -219,6 +224,7 @@ impl Num {
     /// # Errors
     ///
     /// `Zero` exactly for a zero divisor, and never `Over`.
+    #[inline]
     pub fn rem(self, other: Num) -> Result<Num, ArithFault>
         ensures value { IsOutcome (units other) (remainder_of (units self) (units other)) result }
         ensures never_over { IfErr result (λ e. e ≡ ArithFault.Zero) }
@@ -242,6 +248,7 @@ impl Num {
     }
 
     /// The number with its sign turned; zero stays zero.
+    #[inline]
     pub fn neg(self) -> Num
         ensures { units result ≡ neg_ℤ (units self) }
     {
@@ -257,6 +264,7 @@ impl Num {
     /// # Errors
     ///
     /// `Over` exactly where it reaches 10^18 in size, before or after rounding.
+    #[inline]
     pub fn mul(self, other: Num) -> Result<Num, Over>
         ensures { MatchResult result (λ r. product_of (units self) (units other) ≡ Some (units r)) (λ _. product_of (units self) (units other) ≡ None) }
     {
@@ -268,6 +276,7 @@ impl Num {
     }
 
     // `div` of digits that leave something; the divisor is not zero.
+    #[inline(never)]
     fn div_at_places(self, other: Num) -> Result<Num, ArithFault>
         requires { 0 < other.digits }
         ensures { IsOutcome (units other) (quotient_of (units self) (units other)) result }
@@ -287,6 +296,7 @@ impl Num {
     ///
     /// `Zero` exactly for a zero divisor; else `Over` exactly where the quotient reaches 10^18 in size, before or after
     /// rounding.
+    #[inline]
     pub fn div(self, other: Num) -> Result<Num, ArithFault>
         ensures { IsOutcome (units other) (quotient_of (units self) (units other)) result }
     {

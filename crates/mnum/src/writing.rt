@@ -1,8 +1,9 @@
 // Numbers written as texts.
-ghost use Rattle.std.specs.Prelude.{◌≡◌, ℕ, ◌+◌, ◌-◌, ◌*◌, ◌/◌, ◌%◌, ◌^◌, ◌<◌, ◌≤◌, ◌++◌, ◌↔◌, IsTrue, OnOk, OnErr, length};
+ghost use Rattle.std.specs.Prelude.{◌≡◌, ℕ, ◌+◌, ◌-◌, ◌*◌, ◌/◌, ◌%◌, ◌^◌, ◌<◌, ◌≤◌, ◌++◌, ◌↔◌, true, IsTrue, OnOk, OnErr, length, All};
 ghost use Rattle.arrayvec.specs.ArrayVec.{array_vec_len};
 ghost use Rattle.mnum.specs.Num.{units};
 ghost use Rattle.mnum.specs.Start.{starts_number};
+ghost use Rattle.mspec.specs.Literal.{is_digit};
 ghost use Rattle.mspec.specs.Number.{significant_digits};
 ghost use Rattle.mspec.specs.NumberText.{fraction_text, whole_text, number_text, IsCanonical};
 
@@ -113,9 +114,22 @@ pub fn is_canonical_by(text: &[u8], kept: u32) -> bool
     }
 }
 
+// Whether the text is one to eighteen digits and nothing else: the short way of small whole numbers.
+fn is_short_digits(text: &[u8]) -> bool
+    ensures some { IsTrue result → 0 < length text.now }
+    ensures short { IsTrue result → length text.now ≤ 18 }
+    ensures digits { IsTrue result → All (λ c. is_digit c ≡ true) text.now }
+{
+    !text.is_empty() && text.len() <= 18 && text.iter().all(|c| c.is_ascii_digit())
+}
+
 /// Whether the text is the canonical text of a number of the language. Takes no memory.
 pub fn is_canonical(text: &[u8]) -> bool
     ensures { IsTrue result ↔ IsCanonical significant_digits text.now }
 {
-    is_canonical_by(text, 18)
+    if is_short_digits(text) {
+        text[0] != b'0' || text.len() == 1
+    } else {
+        is_canonical_by(text, 18)
+    }
 }

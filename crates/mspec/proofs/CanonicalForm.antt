@@ -22,7 +22,7 @@ above_zero [] h = tt
 above_zero (x ∷ xs) h = λ e. absurd (omega arith)
 
 -- what `whole_text` writes begins with no 0
-whole_front : (n : ℕ) → n < 2 ^ 64 → NoZeroInFront (whole_text n)
+pub whole_front : (n : ℕ) → n < 2 ^ 64 → NoZeroInFront (whole_text n)
 whole_front zero below = tt
 whole_front (suc n) below =
     subst NoZeroInFront (sym (whole_some (suc n) (omega arith))) (above_zero (decimal (suc n)) (first_decimal (suc n) (omega arith) below))
@@ -90,7 +90,7 @@ digit_range : (c : ℕ) → Digit c → (48 ≤ c) × (c ≤ 57)
 digit_range c h = (grind (arith, nat_tests), grind (arith, nat_tests))
 
 -- digits write a number below a power of ten
-digits_below : (xs : List ℕ) → All Digit xs → digits_after 0 xs < 10 ^ length xs
+pub digits_below : (xs : List ℕ) → All Digit xs → digits_after 0 xs < 10 ^ length xs
 digits_below [] all = omega arith
 digits_below (x ∷ xs) all =
     let range = digit_range x (All-head Digit x xs all) in
@@ -120,7 +120,7 @@ same_digits (x ∷ xs) (y ∷ ys) all_xs all_ys long e =
     cc
 
 -- digits with no 0 in front write at least a power of ten
-digits_least : (x : ℕ) (xs : List ℕ) → Digit x → x ≢ 48 → 10 ^ length xs ≤ digits_after 0 (x ∷ xs)
+pub digits_least : (x : ℕ) (xs : List ℕ) → Digit x → x ≢ 48 → 10 ^ length xs ≤ digits_after 0 (x ∷ xs)
 digits_least x xs digit front =
     let range = digit_range x digit in
     let some : 1 ≤ x - 48 = omega arith in
@@ -138,7 +138,7 @@ no_longer (x ∷ xs) ys all_xs all_ys front e =
     (cases_lt (length xs) (length ys))
 
 -- digits with no 0 in front are determined by their number
-same_whole : (xs ys : List ℕ) → All Digit xs → All Digit ys → NoZeroInFront xs → NoZeroInFront ys → digits_after 0 xs ≡ digits_after 0 ys → xs ≡ ys
+pub same_whole : (xs ys : List ℕ) → All Digit xs → All Digit ys → NoZeroInFront xs → NoZeroInFront ys → digits_after 0 xs ≡ digits_after 0 ys → xs ≡ ys
 same_whole xs ys all_xs all_ys front_xs front_ys e =
     let most : length xs ≤ length ys = no_longer xs ys all_xs all_ys front_xs e in
     let least : length ys ≤ length xs = no_longer ys xs all_ys all_xs front_ys (sym e) in

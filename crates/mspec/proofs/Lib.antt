@@ -4,5 +4,6 @@ pub mod NearestLaws
 pub mod DistanceLaws
 pub mod TextLaws
 pub mod CanonicalForm
+pub mod WholeTexts
 pub mod LongestLiteral
 pub mod NumberExamples

@@ -50,7 +50,7 @@ all_after : (xs : List ℕ) → All Digit xs → after_digits xs ≡ []
 all_after xs all = ap after_digits (sym (append-nil xs)) ∙ run_after xs [] all refl
 
 -- a number above 0 fails the test for 0
-not_zero : (n : ℕ) → 0 < n → (n == 0) ≡ false
+pub not_zero : (n : ℕ) → 0 < n → (n == 0) ≡ false
 not_zero n h = grind (arith, nat_tests)
 
 -- behind a point, digits are the digits of a fraction
@@ -78,7 +78,7 @@ size_of_parts kept s w rest f whole after fraction nothing =
     size kept w f tail = round_size kept (digits_after 0 (w ++ f) * 10 ^ cond (front_exponent tail).0 0 (front_exponent tail).1) (10 ^ (length f + cond (front_exponent tail).0 (front_exponent tail).1 0))
 
 -- the size of a text of digits alone
-size_of_whole : (kept : ℕ) (w : List ℕ) → All Digit w → literal_size kept w ≡ round_size kept (digits_after 0 (w ++ []) * 10 ^ 0) (10 ^ (0 + 0))
+pub size_of_whole : (kept : ℕ) (w : List ℕ) → All Digit w → literal_size kept w ≡ round_size kept (digits_after 0 (w ++ []) * 10 ^ 0) (10 ^ (0 + 0))
 size_of_whole kept w all = size_of_parts kept w w [] [] (all_front w all) (all_after w all) refl refl
 
 -- the size of a text of digits, a point and digits
@@ -148,7 +148,7 @@ fraction_value (suc k) (suc n) a below =
         ∙ ap (λ x. (a * 10 ^ suc k + n) * x) (sym (ten_more (length f)))
 
 -- what `decimal` writes are digits, with the number as their value
-decimal_reads : (n : ℕ) → n < 2 ^ 64 → All Digit (decimal n) × (digits_after 0 (decimal n) ≡ n)
+pub decimal_reads : (n : ℕ) → n < 2 ^ 64 → All Digit (decimal n) × (digits_after 0 (decimal n) ≡ n)
 decimal_reads =
     decimal_by_steps (λ n ds. All Digit ds × (digits_after 0 ds ≡ n))
     (λ n below. (All-cons Digit (48 + n) [] (digit_of n below) (All-nil Digit), omega arith))
@@ -166,7 +166,7 @@ whole_all zero below = All-nil Digit
 whole_all (suc n) below = subst (All Digit) (sym (whole_some (suc n) (omega arith))) (decimal_reads (suc n) below).0
 
 -- with the number as their value
-whole_value : (n : ℕ) → n < 2 ^ 64 → digits_after 0 (whole_text n) ≡ n
+pub whole_value : (n : ℕ) → n < 2 ^ 64 → digits_after 0 (whole_text n) ≡ n
 whole_value zero below = refl
 whole_value (suc n) below = ap (digits_after 0) (whole_some (suc n) (omega arith)) ∙ (decimal_reads (suc n) below).1
 
@@ -221,7 +221,7 @@ pub record IsUnsigned (s : List ℕ) : Type 0 where
   pub none : prefix_len is_sign s ≡ 0
 
 -- digits are no signs
-digits_unsigned : (xs rest : List ℕ) → All Digit xs → IsUnsigned rest → IsUnsigned (xs ++ rest)
+pub digits_unsigned : (xs rest : List ℕ) → All Digit xs → IsUnsigned rest → IsUnsigned (xs ++ rest)
 digits_unsigned [] rest all unsigned = unsigned
 digits_unsigned (x ∷ xs) rest all unsigned =
     let digit : Digit x = All-head Digit x xs all in
@@ -253,32 +253,11 @@ size_unsigned (suc n) below = written (suc n) (omega arith) below
         (digits_unsigned (whole_text (n / 10 ^ 18)) (point_text (n % 10 ^ 18)) (whole_all (n / 10 ^ 18) (size_parts n below).0) (point_unsigned (n % 10 ^ 18)))
 
 -- what is read of a text without a sign
-unsigned_value : (kept : ℕ) (s : List ℕ) → IsUnsigned s → numeric_value kept s ≡ option_map (signed false) (literal_size kept s)
+pub unsigned_value : (kept : ℕ) (s : List ℕ) → IsUnsigned s → numeric_value kept s ≡ option_map (signed false) (literal_size kept s)
 unfolding numeric_value
 unsigned_value kept s h =
     ap (λ b. option_map (signed b) (literal_size kept (after_signs s))) h.positive
     ∙ ap (λ k. option_map (signed false) (literal_size kept (drop k s))) h.none
-
--- what is read of a text of at most eighteen digits
-pub value_of_digits : (s : List ℕ) (n : ℕ) → All (λ c. is_digit c ≡ true) s → n ≡ digits_after 0 s → n < 10 ^ 18 → numeric_value 18 s ≡ Some (pos (n * 10 ^ 18))
-value_of_digits s n all is below =
-    let unsigned : IsUnsigned s = subst IsUnsigned (append-nil s) (digits_unsigned s [] all (record { positive = refl; none = refl })) in
-    let same : digits_after 0 (s ++ []) ≡ n = ap (digits_after 0) (append-nil s) ∙ sym is in
-    unsigned_value 18 s unsigned
-    ∙ ap (option_map (signed false))
-    (size_of_whole 18 s all
-    ∙ exact_number 18 (digits_after 0 (s ++ []) * 10 ^ 0) (10 ^ (0 + 0)) (n * 10 ^ 18) (ten_pos (0 + 0)) (omega arith)
-    (record { in_range = omega arith; few_digits = (n, 18, below, refl) }))
-
--- the text of a whole number is its digits
-pub text_of_whole : (n : ℕ) → 0 < n → number_text (pos (n * 10 ^ 18)) ≡ decimal n
-text_of_whole n some =
-    let parts : (n * 10 ^ 18 / 10 ^ 18 ≡ n) × (n * 10 ^ 18 % 10 ^ 18 ≡ 0) = (omega arith, omega arith) in
-    size_some (n * 10 ^ 18) (omega arith)
-    ∙ ap (λ x. whole_text x ++ point_text (n * 10 ^ 18 % 10 ^ 18)) parts.0
-    ∙ ap (λ x. whole_text n ++ point_text x) parts.1
-    ∙ append-nil (whole_text n)
-    ∙ whole_some n some
 
 -- what is read behind one minus sign
 minus_value : (kept : ℕ) (s : List ℕ) → IsUnsigned s → numeric_value kept (45 ∷ s) ≡ option_map (signed true) (literal_size kept s)

@@ -1,4 +1,4 @@
-use Rattle.mspec.proofs.TextLaws.{value_of_digits}
+use Rattle.mspec.proofs.WholeTexts.{value_of_digits}
 use Rattle.mnum.proofs.num.Num.from_text.Goals as goal
 
 pub returns-in-Some : goal.returns-in-Some

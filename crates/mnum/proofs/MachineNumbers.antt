@@ -1,11 +1,12 @@
--- The order of two numbers in their own places.
-use Rattle.std.proofs.Common.{ℕ, ◌≡◌, ◌*◌, ◌-◌, ◌^◌, ◌<◌, ◌≤◌, Bool, true, false, cond, ◌∙◌, ap, arith, Less, Equal, Greater}
-use Rattle.std.specs.Prelude.{ℤ}
+-- The order and the sum of two numbers in their own places, in a machine's numbers.
+use Rattle.std.proofs.Common.{ℕ, ◌≡◌, ◌*◌, ◌-◌, ◌^◌, ◌<◌, ◌≤◌, Bool, true, false, cond, refl, ◌∙◌, ap, arith, Less, Equal, Greater}
+use Rattle.std.specs.Prelude.{ℤ, pos, negsuc, ◌+ℤ◌, unsigned_abs}
 use Rattle.std.specs.Int.{w64}
 use Rattle.std.specs.Ordering.{int_cmp}
 use Rattle.std.specs.declared.cmp.Ordering.{Ordering}
 use lib.Signed.{lt_z}
 use Rattle.std.proofs.Math.Nat.{mul-lt-mul_of_pos_right, mul-le-mul_right, mul-pos}
+use Rattle.std.proofs.lemmas.Bool.{le-ltb}
 use Rattle.std.proofs.lemmas.Bool.Decides.{nat_tests}
 use Rattle.mspec.proofs.Powers.{ten_pos}
 use mir.Val.{to_z, of_z}
@@ -16,6 +17,26 @@ use Rattle.mspec.specs.Number.{signed}
 fits_64 : (s : Bool) (n : ℕ) → n < 10 ^ 18 → to_z w64 (of_z w64 (signed s n)) ≡ signed s n
 fits_64 false n h = omega (arith, ints)
 fits_64 true n h = omega (arith, ints)
+
+-- a sum of two such numbers fits too
+sum_fits_64 : (x y : ℤ) → unsigned_abs x < 10 ^ 18 → unsigned_abs y < 10 ^ 18 → to_z w64 (of_z w64 (to_z w64 (of_z w64 x) +ℤ to_z w64 (of_z w64 y))) ≡ x +ℤ y
+sum_fits_64 (pos a) (pos b) few_x few_y = omega (arith, ints)
+sum_fits_64 (pos a) (negsuc b) few_x few_y = omega (arith, ints)
+sum_fits_64 (negsuc a) (pos b) few_x few_y = omega (arith, ints)
+sum_fits_64 (negsuc a) (negsuc b) few_x few_y = omega (arith, ints)
+
+-- a number from its sign and its size
+sign_and_size : (z : ℤ) → signed (lt_z z (pos 0)) (unsigned_abs z) ≡ z
+sign_and_size (pos n) = ap (λ b. signed b n) (le-ltb n 0 (omega arith))
+sign_and_size (negsuc n) = refl
+
+-- the sign and the size of a machine's sum
+pub sum_is_signed : (s t : Bool) (a b n : ℕ) (x y z : ℤ) → z ≡ to_z w64 (of_z w64 (to_z w64 (of_z w64 x) +ℤ to_z w64 (of_z w64 y))) →
+    unsigned_abs x < 10 ^ 18 → unsigned_abs y < 10 ^ 18 → x ≡ signed s a → y ≡ signed t b → n ≡ unsigned_abs z →
+    signed (lt_z z (pos 0)) n ≡ signed s a +ℤ signed t b
+sum_is_signed s t a b n x y z z_is few_x few_y x_is y_is n_is =
+    ap (signed (lt_z z (pos 0))) n_is ∙ sign_and_size z ∙ z_is ∙ sum_fits_64 x y few_x few_y
+    ∙ ap (λ k. k +ℤ y) x_is ∙ ap (λ k. signed s a +ℤ k) y_is
 
 -- numbers a and b and their multiples A and B are ordered alike
 record Alike (a b A B : ℕ) : Type 0 where

@@ -1,0 +1,39 @@
+#!/usr/bin/env python3
+"""Prints crates/number_bench/stdout: the checksums of the benchmark's thousand rounds, by Python's own fractions."""
+from number_vectors import OPERATORS, text_of, value
+
+PASSES = 5
+ROUNDS = 1000
+SETS = {
+    "small whole numbers": ["12", "-7", "250", "3"],
+    "prices": ["12.5", "-7.25", "19.99", ".1"],
+    "long numbers": ["123456789012.345678", "-.333333333333333333", "777777777777.777777", "98765.4321098765432"],
+}
+
+
+def units(number):
+    return 1 if number is None or number == "zero" else int(number * 10**18)
+
+
+def wrapped(total):
+    return (total + 2**127) % 2**128 - 2**127
+
+
+def summed(work):
+    return wrapped(PASSES * sum(work(i) for i in range(ROUNDS)))
+
+
+def main():
+    for title, words in SETS.items():
+        print(title)
+        xs = [value(word) for word in words]
+        for name, operator in OPERATORS.items():
+            print(f"  {name:<12} {summed(lambda i: units(operator(xs[i % 4], xs[i // 4 % 4])))}")
+        print(f"  {'cmp':<12} {summed(lambda i: int(xs[i % 4] < xs[i // 4 % 4]))}")
+        print(f"  {'from_text':<12} {summed(lambda i: units(xs[i % 4]))}")
+        print(f"  {'is_canonical':<12} {summed(lambda i: int(text_of(xs[i % 4]) == words[i % 4]))}")
+        print(f"  {'write':<12} {summed(lambda i: len(text_of(xs[i % 4])))}")
+
+
+if __name__ == "__main__":
+    main()

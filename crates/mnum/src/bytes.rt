@@ -1,7 +1,7 @@
 // Texts of characters below 128.
-ghost use Rattle.std.specs.Prelude.{◌≡◌, ◌↔◌, ◌<◌, All, IsOk, IfOk, IfErr};
+ghost use Rattle.std.specs.Prelude.{◌≡◌, ◌↔◌, ◌<◌, [], ◌∷◌, ◌++◌, All, IsOk, IfOk, IfErr, OnOk, OnErr};
 
-use std::alloc::AllocError;
+use std::alloc::{AllocError, Global};
 use std::marker::Model;
 
 /// A text of ASCII characters: bytes that are each under 128. Contracts see it as its list of bytes.
@@ -56,5 +56,54 @@ impl Bytes7 {
     {
         let bytes = self.bytes.clone()?;
         Ok(Bytes7 { bytes })
+    }
+
+    /// The empty text, which takes no memory.
+    pub fn empty(alloc: Global) -> Bytes7
+        ensures { result ≡ [] }
+    {
+        Bytes7 {
+            bytes: Vec::new(alloc),
+        }
+    }
+
+    /// The text of these bytes, each of which is under 128.
+    ///
+    /// # Errors
+    ///
+    /// `AllocError` for want of memory.
+    pub fn from_slice(alloc: Global, bytes: &[u8]) -> Result<Bytes7, AllocError>
+        requires { All (λ c. c < 128) bytes.now }
+        ensures { IfOk result (λ text. text ≡ bytes.now) }
+    {
+        let bytes = Vec::from_slice(alloc, bytes)?;
+        Ok(Bytes7 { bytes })
+    }
+
+    /// Adds a byte under 128 at the end.
+    ///
+    /// # Errors
+    ///
+    /// `AllocError` for want of memory; the text is then as it was.
+    pub fn push(&mut self, byte: u8) -> Result<(), AllocError>
+        requires { byte < 128 }
+        ensures ok { OnOk result (self.new ≡ self.old ++ byte ∷ []) }
+        ensures err { OnErr result (self.new ≡ self.old) }
+    {
+        self.bytes.push(byte)?;
+        Ok(())
+    }
+
+    /// Adds these bytes, each of which is under 128, at the end.
+    ///
+    /// # Errors
+    ///
+    /// `AllocError` for want of memory; the text is then as it was.
+    pub fn append(&mut self, bytes: &[u8]) -> Result<(), AllocError>
+        requires { All (λ c. c < 128) bytes.now }
+        ensures ok { OnOk result (self.new ≡ self.old ++ bytes.now) }
+        ensures err { OnErr result (self.new ≡ self.old) }
+    {
+        self.bytes.extend_from_slice(bytes)
     }
 }

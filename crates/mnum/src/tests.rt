@@ -206,6 +206,11 @@ fn texts_of_seven_bits(rt: HostRuntime) -> Result<(), Fail> {
     let text = Bytes7::new(ascii).map_err(|_| "refused")?;
     assert_eq!(rt; text.as_bytes().len(), 128);
     assert_eq!(rt; text.as_bytes(), text.copy()?.as_bytes());
+    let mut grown = Bytes7::empty(rt.alloc());
+    grown.push(b'a')?;
+    grown.append(b"bc")?;
+    assert_eq!(rt; grown.as_bytes(), b"abc".as_slice());
+    assert_eq!(rt; Bytes7::from_slice(rt.alloc(), b"abc")?.as_bytes(), b"abc".as_slice());
     let accented = b"caf\xc3\xa9".to_vec(rt.alloc())?;
     match Bytes7::new(accented) {
         Ok(_) => panic!(rt; "a byte over 127 was taken"),

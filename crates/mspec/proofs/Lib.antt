@@ -7,3 +7,9 @@ pub mod CanonicalForm
 pub mod WholeTexts
 pub mod LongestLiteral
 pub mod NumberExamples
+pub mod ReadingBasics
+pub mod ReadingLists
+pub mod ReadingExprs
+pub mod ReadingLines
+pub mod ReadingLoops
+pub mod GrammarExamples

@@ -8,3 +8,6 @@ mod run;
 
 pub use fault::ParseFault;
 pub use line::parse_line;
+
+#[cfg(test)]
+mod tests;

@@ -10,3 +10,6 @@ pub use tree::{
     Assignment, Binary, Command, Expr, Keyword, Line, Operand, Output, Primary, Sign, Spaced, Step,
 };
 pub use write::write_line;
+
+#[cfg(test)]
+mod tests;

@@ -210,7 +210,10 @@ fn texts_of_seven_bits(rt: HostRuntime) -> Result<(), Fail> {
     grown.push(b'a')?;
     grown.append(b"bc")?;
     assert_eq!(rt; grown.as_bytes(), b"abc".as_slice());
-    assert_eq!(rt; Bytes7::from_slice(rt.alloc(), b"abc")?.as_bytes(), b"abc".as_slice());
+    assert_eq!(rt;
+        Bytes7::from_slice(rt.alloc(), b"abc")?.as_bytes(),
+        b"abc".as_slice()
+    );
     let accented = b"caf\xc3\xa9".to_vec(rt.alloc())?;
     match Bytes7::new(accented) {
         Ok(_) => panic!(rt; "a byte over 127 was taken"),

@@ -13,3 +13,4 @@ pub mod ReadingExprs
 pub mod ReadingLines
 pub mod ReadingLoops
 pub mod GrammarExamples
+pub mod Plans

@@ -5,3 +5,6 @@ pub mod NumberLaws
 pub mod Grammar
 pub mod Reading
 pub mod GrammarLaws
+pub mod Code
+pub mod Plan
+pub mod Act

@@ -1,0 +1,2 @@
+pub mod MeaningExamples
+pub mod NamedCodes

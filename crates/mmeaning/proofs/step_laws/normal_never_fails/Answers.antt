@@ -1,0 +1,5 @@
+use Rattle.mmeaning.proofs.NamedCodes.{normal_never_fails}
+use Rattle.mmeaning.proofs.step_laws.normal_never_fails.Goals as goal
+
+pub returns : goal.returns
+returns c = normal_never_fails

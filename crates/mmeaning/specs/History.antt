@@ -1,0 +1,17 @@
+-- Histories: events with their replies, one step after another.
+use Rattle.std.specs.Prelude.{◌≡◌, List, [], ◌∷◌}
+use Rattle.std.specs.FinMap.{empty}
+use Rattle.mmeaning.specs.Step.{Settings, Server, World, Event, Reply, Step, normal}
+
+abbrev pub History : Settings → Server → List (Event × Reply) → Server → Type 0
+History settings server [] after = after ≡ server
+History settings server (e ∷ es) after = (between : Server) × Step settings e.0 e.1 server between × History settings between es after
+
+-- a server before its first line: no session is open
+abbrev pub opening : World → Server
+opening world = record { world = world; sessions = empty }
+
+-- the replies of normal steps
+abbrev pub replies : Settings → Server → List Event → List Reply
+replies settings server [] = []
+replies settings server (e ∷ es) = (normal settings e server).0 ∷ replies settings (normal settings e server).1 es

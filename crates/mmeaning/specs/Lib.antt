@@ -1,0 +1,5 @@
+pub mod Expression
+pub mod LineMeaning
+pub mod Step
+pub mod History
+pub mod StepLaws

@@ -1,0 +1,141 @@
+-- A step: one line of one terminal, run to its end.
+use Rattle.std.specs.Prelude.{◌≡◌, ℕ, Bool, true, false, nat_lt, [], length, Option, Some, None}
+use Rattle.std.specs.List.{list_all}
+use Rattle.std.specs.Ordering.{nat_cmp}
+use Rattle.std.specs.FinMap.{FinMap, get, insert, remove}
+use Rattle.mspec.specs.Code.{Code, Zterm, Zline, Zchar, Zsyntax, Zmem, Zstore}
+use Rattle.mspec.specs.Plan.{Ops, Plan, Done, perform, cut_short}
+use Rattle.mspec.specs.Act.{Text, Node, Locals, no_locals, State, Outcome, Gives, Fails}
+use Rattle.mspec.specs.Grammar.{LineTree, is_character}
+use Rattle.mspec.specs.Reading.{line_at}
+use Rattle.mmeaning.specs.LineMeaning.{Signal, run}
+
+-- an account, and the steps that each of its lines may use
+pub record Account : Type 0 where
+  pub name : Text
+  pub steps : ℕ
+
+-- the account of each terminal
+pub record Settings : Type 0 where
+  pub terminals : FinMap nat_cmp Account
+
+-- what a terminal keeps from line to line; a new one has no locals, no naked indicator, and 0 as $TEST
+pub record Session : Type 0 where
+  pub locals : Locals
+  pub naked : Option Node
+  pub test : Bool
+
+abbrev pub new_session : Session
+new_session = record { locals = no_locals; naked = None; test = false }
+
+abbrev pub session_or_new : Option Session → Session
+session_or_new None = new_session
+session_or_new (Some s) = s
+
+-- what the lines of all terminals share; globals and locks come with their operations
+abbrev pub World : Type 0
+World = Unit {0}
+
+abbrev pub act : Settings → ℕ → Ops World
+act settings terminal op w = elim op [ ]
+
+pub record Server : Type 0 where
+  pub world : World
+  pub sessions : FinMap nat_cmp Session
+
+pub record Event : Type 0 where
+  pub terminal : ℕ
+  pub text : Text
+
+pub data Ending : Type 0 where
+  Finished : Ending
+  Halted : Ending
+  Faulted : Code → Ending
+
+pub record Reply : Type 0 where
+  pub out : Text
+  pub ending : Ending
+
+-- the longest line
+abbrev pub line_limit : ℕ
+line_limit = 255
+
+abbrev pub begun : Account → Session → State
+begun account s = record { locals = s.locals; naked = s.naked; test = s.test; out = []; steps = account.steps }
+
+abbrev pub kept : State → Session
+kept s = record { locals = s.locals; naked = s.naked; test = s.test }
+
+-- the plan of a text; one that has no tree does nothing
+abbrev pub plan_of : Account → Session → Option LineTree → Plan (Outcome Signal)
+plan_of account s None = Done (Fails Zsyntax (begun account s))
+plan_of account s (Some tree) = run tree (begun account s)
+
+abbrev pub reply_of : Outcome Signal → Reply
+reply_of (Gives signal s) = record { out = s.out; ending = Finished }
+reply_of (Fails code s) = record { out = s.out; ending = Faulted code }
+
+abbrev pub state_of : Outcome Signal → State
+state_of (Gives signal s) = s
+state_of (Fails code s) = s
+
+-- effects before an error stand, and so does the session
+abbrev pub ended : ℕ → Server → Outcome Signal × World → Reply × Server
+ended terminal server r = (reply_of r.0, record { world = r.1; sessions = insert server.sessions terminal (kept (state_of r.0)) })
+
+abbrev pub refused : Code → Server → Reply × Server
+refused code server = (record { out = []; ending = Faulted code }, server)
+
+abbrev pub at_tree : Settings → Event → Server → Account → Option LineTree → Reply × Server
+at_tree settings e server account None = refused Zsyntax server
+at_tree settings e server account (Some tree) =
+    ended e.terminal server (perform (act settings e.terminal) (plan_of account (session_or_new (get server.sessions e.terminal)) (Some tree)) server.world)
+
+abbrev pub is_too_long : Text → Bool
+is_too_long text = nat_lt line_limit (length text)
+
+abbrev pub is_ascii : Text → Bool
+is_ascii text = list_all is_character text
+
+-- where the text is too long, or of ASCII
+abbrev pub checked : Bool → Bool → Settings → Event → Server → Account → Reply × Server
+checked true ascii settings e server account = refused Zline server
+checked false false settings e server account = refused Zchar server
+checked false true settings e server account = at_tree settings e server account (line_at e.text)
+
+abbrev pub at_account : Settings → Event → Server → Option Account → Reply × Server
+at_account settings e server None = refused Zterm server
+at_account settings e server (Some account) = checked (is_too_long e.text) (is_ascii e.text) settings e server account
+
+-- a step that memory and the store suffice for: the checks in their order, and then the run
+abbrev pub normal : Settings → Event → Server → Reply × Server
+normal settings e server = at_account settings e server (get settings.terminals e.terminal)
+
+-- A step that they do not suffice for. It comes behind the checks that take no memory; no output is replied, the terminal's
+-- session is gone, the shared world is that of the line cut short, and all else is unchanged.
+pub record FailedStep (settings : Settings) (e : Event) (server after : Server) : Type 0 where
+  pub account : Account
+  pub known : get settings.terminals e.terminal ≡ Some account
+  pub short : is_too_long e.text ≡ false
+  pub ascii : is_ascii e.text ≡ true
+  pub operations : ℕ
+  pub world : after.world ≡ cut_short (act settings e.terminal) operations (plan_of account (session_or_new (get server.sessions e.terminal)) (line_at e.text)) server.world
+  pub sessions : after.sessions ≡ remove server.sessions e.terminal
+
+abbrev pub is_failure : Ending → Bool
+is_failure Finished = false
+is_failure Halted = false
+is_failure (Faulted Zmem) = true
+is_failure (Faulted Zstore) = true
+is_failure (Faulted code) = false
+
+abbrev pub lost : Ending → Reply
+lost ending = record { out = []; ending = ending }
+
+-- a normal step, or a failed one where the reply says so
+abbrev pub StepBy : Bool → Settings → Event → Reply → Server → Server → Type 0
+StepBy false settings e reply server after = normal settings e server ≡ (reply, after)
+StepBy true settings e reply server after = (reply ≡ lost reply.ending) × FailedStep settings e server after
+
+abbrev pub Step : Settings → Event → Reply → Server → Server → Type 0
+Step settings e reply server after = StepBy (is_failure reply.ending) settings e reply server after

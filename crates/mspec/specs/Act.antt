@@ -1,0 +1,92 @@
+-- An act of a session: from the session's state to a plan that ends with a value or a code, and with the state after it.
+use Rattle.std.specs.Prelude.{ℕ, zero, suc, Bool, true, false, List, ◌++◌, Option, Some, None}
+use Rattle.std.specs.Ordering.{nat_cmp}
+use Rattle.std.specs.Cmp.Lexicographic.{slice_cmp}
+use Rattle.std.specs.FinMap.{FinMap, get, insert, empty}
+use Rattle.mspec.specs.Code.{Code, M6, Zsteps}
+use Rattle.mspec.specs.Plan.{Op, Answer, Plan, Done, Ask, then_plan}
+
+abbrev pub Text : Type 0
+Text = List ℕ
+
+-- a node of the globals: its account, its name and its subscripts
+pub record Node : Type 0 where
+  pub account : Text
+  pub name : Text
+  pub subscripts : List Text
+
+-- the locals, from names to texts
+abbrev pub Locals : Type 0
+Locals = FinMap (slice_cmp nat_cmp) Text
+
+abbrev pub no_locals : Locals
+no_locals = empty
+
+abbrev pub value_of : Locals → Text → Option Text
+value_of locals name = get locals name
+
+abbrev pub assigned_to : Locals → Text → Text → Locals
+assigned_to locals name x = insert locals name x
+
+-- the state of a session while a line runs: what it keeps (locals, naked indicator, $TEST), the output so far and the steps
+-- that are left
+pub record State : Type 0 where
+  pub locals : Locals
+  pub naked : Option Node
+  pub test : Bool
+  pub out : Text
+  pub steps : ℕ
+
+pub data Outcome (A : Type 0) : Type 0 where
+  Gives : A → State → Outcome A
+  Fails : Code → State → Outcome A
+
+abbrev pub Act : Type 0 → Type 0
+Act A = State → Plan (Outcome A)
+
+abbrev pub on_gives : {A B : Type 0} → (A → Act B) → Outcome A → Plan (Outcome B)
+on_gives f (Gives a s) = f a s
+on_gives f (Fails c s) = Done (Fails c s)
+
+infixl 1 ◌>>=◌
+infixl 1 ◌>>◌
+abbrev pub ◌>>=◌ : {A B : Type 0} → Act A → (A → Act B) → Act B
+m >>= f = λ s. then_plan (m s) (on_gives f)
+
+abbrev pub ◌>>◌ : {A B : Type 0} → Act A → Act B → Act B
+m >> n = λ s. then_plan (m s) (on_gives (λ _. n))
+
+abbrev pub give : {A : Type 0} → A → Act A
+give a s = Done (Gives a s)
+
+abbrev pub fail : {A : Type 0} → Code → Act A
+fail c s = Done (Fails c s)
+
+-- asks the world
+abbrev pub ask : (op : Op) → Act (Answer op)
+ask op s = Ask op (λ r. Done (Gives r s))
+
+abbrev pub charged : ℕ → State → Outcome (Unit {0})
+charged zero s = Fails Zsteps s
+charged (suc n) s = Gives tt (record s { steps = n })
+
+-- one step is charged: the last of the allowance succeeds, and the next fails
+abbrev pub charge : Act (Unit {0})
+charge s = Done (charged s.steps s)
+
+abbrev pub write : Text → Act (Unit {0})
+write t s = Done (Gives tt (record s { out = s.out ++ t }))
+
+abbrev pub give_some : {A : Type 0} → Code → Option A → Act A
+give_some c None = fail c
+give_some c (Some a) = give a
+
+abbrev pub unless : Code → Bool → Act (Unit {0})
+unless c true = give tt
+unless c false = fail c
+
+abbrev pub get_local : Text → Act Text
+get_local name s = give_some M6 (value_of s.locals name) s
+
+abbrev pub set_local : Text → Text → Act (Unit {0})
+set_local name x s = Done (Gives tt (record s { locals = assigned_to s.locals name x }))

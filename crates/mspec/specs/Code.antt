@@ -1,0 +1,56 @@
+-- The codes that end a line.
+--
+-- Those that begin with M are of the table of error codes of ISO/IEC 11756:1999; those that begin with Z are mserve's own,
+-- as the standard lets an implementation have.
+use Rattle.std.specs.Prelude.{ℕ, List, codes}
+
+pub data Code : Type 0 where
+  M1 : Code
+  M4 : Code
+  M6 : Code
+  M7 : Code
+  M9 : Code
+  M10 : Code
+  M13 : Code
+  M15 : Code
+  Zlong : Code
+  Zsyntax : Code
+  Zover : Code
+  Zarg : Code
+  Zsub : Code
+  Zgrant : Code
+  Zlocked : Code
+  Zsteps : Code
+  Zdepth : Code
+  Zlevel : Code
+  Zchar : Code
+  Zline : Code
+  Zterm : Code
+  Zmem : Code
+  Zstore : Code
+
+-- a code as a reply shows it
+abbrev pub code_text : Code → List ℕ
+code_text M1 = codes "M1"
+code_text M4 = codes "M4"
+code_text M6 = codes "M6"
+code_text M7 = codes "M7"
+code_text M9 = codes "M9"
+code_text M10 = codes "M10"
+code_text M13 = codes "M13"
+code_text M15 = codes "M15"
+code_text Zlong = codes "ZLONG"
+code_text Zsyntax = codes "ZSYNTAX"
+code_text Zover = codes "ZOVER"
+code_text Zarg = codes "ZARG"
+code_text Zsub = codes "ZSUB"
+code_text Zgrant = codes "ZGRANT"
+code_text Zlocked = codes "ZLOCKED"
+code_text Zsteps = codes "ZSTEPS"
+code_text Zdepth = codes "ZDEPTH"
+code_text Zlevel = codes "ZLEVEL"
+code_text Zchar = codes "ZCHAR"
+code_text Zline = codes "ZLINE"
+code_text Zterm = codes "ZTERM"
+code_text Zmem = codes "ZMEM"
+code_text Zstore = codes "ZSTORE"

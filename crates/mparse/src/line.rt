@@ -2,7 +2,7 @@
 ghost use Rattle.std.specs.Prelude.{◌≡◌, length, map, IfOk, Err, option_map};
 ghost use Rattle.std.specs.Str.{str_eq_ignore_ascii_case};
 ghost use Rattle.mspec.specs.Grammar.{LineTree, keyword_of, spell, well};
-ghost use Rattle.mspec.specs.Reading.{many, after_comma, list_at, assignment_at, output_at, command_at, at_end, spaced_at, comment_at, line_at};
+ghost use Rattle.mspec.specs.Reading.{with_front, many, after_comma, list_at, assignment_at, output_at, command_at, at_end, spaced_at, comment_at, line_at};
 ghost use Rattle.mtree.specs.Tree.{keyword_tree, assignment_tree, output_tree, command_tree, spaced_tree, line_tree};
 ghost use Rattle.mparse.specs.Gives.{Gives};
 
@@ -100,20 +100,14 @@ fn comment(alloc: Global, bytes: &[u8]) -> Result<Option<Bytes7>, ParseFault>
     Ok(Some(Bytes7::from_slice(alloc, text)?))
 }
 
-#[tactic(auto, unfolding(mspec::specs::Reading::list_at))]
-fn assignments(alloc: Global, bytes: &[u8]) -> Result<(Vec<Assignment>, &[u8]), ParseFault>
-    ensures { Gives (λ x. (map assignment_tree x.0.items, x.1.now)) result (list_at assignment_at bytes.now) }
+// Goes on with assignments, each behind a comma, and gives what follows them.
+fn more_assignments<'a>(
+    alloc: Global,
+    bytes: &'a [u8],
+    all: &mut Vec<Assignment>,
+) -> Result<&'a [u8], ParseFault>
+    ensures { Gives (λ rest. (map assignment_tree all.new.items, rest.now)) result (with_front (map assignment_tree all.old.items) (many (after_comma assignment_at) (length bytes.now) bytes.now)) }
 {
-    let (first, rest) = assignment(alloc, bytes)?;
-    let (mut all, rest) = more_assignments(alloc, rest)?;
-    all.insert(0, first)?;
-    Ok((all, rest))
-}
-
-fn more_assignments(alloc: Global, bytes: &[u8]) -> Result<(Vec<Assignment>, &[u8]), ParseFault>
-    ensures { Gives (λ x. (map assignment_tree x.0.items, x.1.now)) result (many (after_comma assignment_at) (length bytes.now) bytes.now) }
-{
-    let mut all = Vec::new(alloc);
     let mut rest = bytes;
     for _ in 0..bytes.len() {
         let Some((item, after)) = next_assignment(alloc, rest)? else {
@@ -122,23 +116,28 @@ fn more_assignments(alloc: Global, bytes: &[u8]) -> Result<(Vec<Assignment>, &[u
         all.push(item)?;
         rest = after;
     }
-    Ok((all, rest))
+    Ok(rest)
 }
 
 #[tactic(auto, unfolding(mspec::specs::Reading::list_at))]
-fn outputs(alloc: Global, bytes: &[u8]) -> Result<(Vec<Output>, &[u8]), ParseFault>
-    ensures { Gives (λ x. (map output_tree x.0.items, x.1.now)) result (list_at output_at bytes.now) }
+fn assignments(alloc: Global, bytes: &[u8]) -> Result<(Vec<Assignment>, &[u8]), ParseFault>
+    ensures { Gives (λ x. (map assignment_tree x.0.items, x.1.now)) result (list_at assignment_at bytes.now) }
 {
-    let (first, rest) = output(alloc, bytes)?;
-    let (mut all, rest) = more_outputs(alloc, rest)?;
-    all.insert(0, first)?;
+    let (first, rest) = assignment(alloc, bytes)?;
+    let mut all = Vec::new(alloc);
+    all.push(first)?;
+    let rest = more_assignments(alloc, rest, &mut all)?;
     Ok((all, rest))
 }
 
-fn more_outputs(alloc: Global, bytes: &[u8]) -> Result<(Vec<Output>, &[u8]), ParseFault>
-    ensures { Gives (λ x. (map output_tree x.0.items, x.1.now)) result (many (after_comma output_at) (length bytes.now) bytes.now) }
+// Goes on with outputs, each behind a comma, and gives what follows them.
+fn more_outputs<'a>(
+    alloc: Global,
+    bytes: &'a [u8],
+    all: &mut Vec<Output>,
+) -> Result<&'a [u8], ParseFault>
+    ensures { Gives (λ rest. (map output_tree all.new.items, rest.now)) result (with_front (map output_tree all.old.items) (many (after_comma output_at) (length bytes.now) bytes.now)) }
 {
-    let mut all = Vec::new(alloc);
     let mut rest = bytes;
     for _ in 0..bytes.len() {
         let Some((item, after)) = next_output(alloc, rest)? else {
@@ -147,6 +146,17 @@ fn more_outputs(alloc: Global, bytes: &[u8]) -> Result<(Vec<Output>, &[u8]), Par
         all.push(item)?;
         rest = after;
     }
+    Ok(rest)
+}
+
+#[tactic(auto, unfolding(mspec::specs::Reading::list_at))]
+fn outputs(alloc: Global, bytes: &[u8]) -> Result<(Vec<Output>, &[u8]), ParseFault>
+    ensures { Gives (λ x. (map output_tree x.0.items, x.1.now)) result (list_at output_at bytes.now) }
+{
+    let (first, rest) = output(alloc, bytes)?;
+    let mut all = Vec::new(alloc);
+    all.push(first)?;
+    let rest = more_outputs(alloc, rest, &mut all)?;
     Ok((all, rest))
 }
 

@@ -1,3 +1,4 @@
+pub mod Ranges
 pub mod ShortWholes
 pub mod Starts
 pub mod Wholes

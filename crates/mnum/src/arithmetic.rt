@@ -4,7 +4,7 @@ ghost use Rattle.std.specs.Ordering.{int_cmp};
 ghost use Rattle.mnum.specs.Division.{IsOutcome};
 ghost use Rattle.mnum.specs.Floor.{floor_left};
 ghost use Rattle.mnum.specs.Num.{units};
-ghost use Rattle.mspec.specs.Number.{signed, sum_of, difference_of, product_of, quotient_of, whole_quotient_of, remainder_of};
+ghost use Rattle.mspec.specs.Number.{significant_digits, IsNumber, signed, sum_of, difference_of, product_of, quotient_of, whole_quotient_of, remainder_of};
 
 use crate::num::{ArithFault, Num, Over};
 use crate::numbered::{divided, numbered};
@@ -100,10 +100,11 @@ impl Num {
         self.digits as u128 * power(places - self.places)
     }
 
-    /// The number in units of 10^-18, below 10^36 in size.
+    /// The number in units of 10^-18, below 10^36 in size and of at most eighteen significant digits.
     #[inline]
     pub fn to_units(self) -> i128
-        ensures { result ≡ units self }
+        ensures value { result ≡ units self }
+        ensures number { IsNumber significant_digits (units self) }
     {
         let size = (self.digits as u128 * power(18 - self.places)) as i128;
         if self.negative { -size } else { size }

@@ -1,0 +1,17 @@
+-- The range of a number.
+use Rattle.std.proofs.Common.{ℕ, ◌≡◌, ◌*◌, ◌-◌, ◌^◌, ◌<◌, ◌≤◌, refl, subst, sym, ◌∙◌, arith}
+use Rattle.std.specs.Prelude.{unsigned_abs}
+use Rattle.mspec.specs.Number.{IsNumber, signed}
+use Rattle.mnum.specs.Num.{units}
+use Rattle.mnum.specs.declared.num.Num.{Num}
+use Rattle.mnum.proofs.Quotients.{abs_signed}
+use Rattle.mnum.proofs.Sums.{places_below}
+
+-- each value is a number of the language
+pub units_number : (n : Num) → IsNumber 18 (units n)
+units_number n =
+    let size : unsigned_abs (units n) ≡ n.digits * 10 ^ (18 - n.places) = abs_signed n.negative (n.digits * 10 ^ (18 - n.places)) in
+    record {
+      in_range = subst (λ (x : ℕ). x < 10 ^ 36) (sym size) (places_below n.digits (18 - n.places) (10 ^ (18 - n.places)) n.digits_below (omega arith) refl);
+      few_digits = (n.digits, 18 - n.places, n.digits_below, size);
+    }

@@ -1,2 +1,3 @@
 pub mod MeaningExamples
 pub mod NamedCodes
+pub mod Histories

@@ -1,7 +1,7 @@
 -- Histories: events with their replies, one step after another.
-use Rattle.std.specs.Prelude.{◌≡◌, List, [], ◌∷◌}
+use Rattle.std.specs.Prelude.{◌≡◌, false, List, [], ◌∷◌}
 use Rattle.std.specs.FinMap.{empty}
-use Rattle.mmeaning.specs.Step.{Settings, Server, World, Event, Reply, Step, normal}
+use Rattle.mmeaning.specs.Step.{Settings, Server, World, Event, Reply, Step, normal, is_failure}
 
 abbrev pub History : Settings → Server → List (Event × Reply) → Server → Type 0
 History settings server [] after = after ≡ server
@@ -15,3 +15,18 @@ opening world = record { world = world; sessions = empty }
 abbrev pub replies : Settings → Server → List Event → List Reply
 replies settings server [] = []
 replies settings server (e ∷ es) = (normal settings e server).0 ∷ replies settings (normal settings e server).1 es
+
+-- the server after normal steps
+abbrev pub server_after : Settings → Server → List Event → Server
+server_after settings server [] = server
+server_after settings server (e ∷ es) = server_after settings (normal settings e server).1 es
+
+-- the events with the replies of normal steps
+abbrev pub answered : Settings → Server → List Event → List (Event × Reply)
+answered settings server [] = []
+answered settings server (e ∷ es) = (e, (normal settings e server).0) ∷ answered settings (normal settings e server).1 es
+
+-- no step failed
+abbrev pub NoneFailed : List (Event × Reply) → Type 0
+NoneFailed [] = Unit {0}
+NoneFailed (e ∷ es) = (is_failure e.1.ending ≡ false) × NoneFailed es

@@ -1,7 +1,20 @@
 -- The laws of steps, as statements. The functions of src/ named after them carry them.
-use Rattle.std.specs.Prelude.{◌≡◌, false}
-use Rattle.mmeaning.specs.Step.{Settings, Event, Server, normal, is_failure}
+use Rattle.std.specs.Prelude.{◌≡◌, false, List, map}
+use Rattle.mmeaning.specs.Step.{Settings, Event, Reply, Server, normal, is_failure}
+use Rattle.mmeaning.specs.History.{History, replies, server_after, answered, NoneFailed}
 
 -- a normal step is never answered as one that failed, so a reply says which of the two its step was
 abbrev pub NormalNeverFails : Type 0
 NormalNeverFails = (settings : Settings) (e : Event) (server : Server) → is_failure (normal settings e server).0.ending ≡ false
+
+-- normal steps, one after another, are a history of any events from any server
+abbrev pub NormalStepsAreHistory : Type 0
+NormalStepsAreHistory =
+    (settings : Settings) (server : Server) (events : List Event) →
+    History settings server (answered settings server events) (server_after settings server events)
+
+-- and where none of its steps failed, a history has their replies and leaves their server
+abbrev pub HistoryIsNormal : Type 0
+HistoryIsNormal =
+    (settings : Settings) (server after : Server) (es : List (Event × Reply)) → History settings server es after → NoneFailed es →
+    (map (λ e. e.1) es ≡ replies settings server (map (λ e. e.0) es)) × (after ≡ server_after settings server (map (λ e. e.0) es))

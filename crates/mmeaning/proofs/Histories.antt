@@ -1,0 +1,33 @@
+-- Histories and normal steps.
+use Rattle.std.proofs.Common.{◌≡◌, Bool, false, [], ◌∷◌, refl, sym, ap, ◌∙◌, subst}
+use Rattle.std.specs.Prelude.{map}
+use Rattle.mmeaning.specs.Step.{Settings, Server, Event, Reply, Step, StepBy, normal, is_failure}
+use Rattle.mmeaning.specs.History.{replies, server_after}
+use Rattle.mmeaning.specs.StepLaws.{NormalStepsAreHistory, HistoryIsNormal}
+use Rattle.mmeaning.proofs.NamedCodes.{normal_never_fails}
+
+-- a normal step is a step
+normal_step : (settings : Settings) (e : Event) (server : Server) → Step settings e (normal settings e server).0 server (normal settings e server).1
+normal_step settings e server =
+    subst (λ (b : Bool). StepBy b settings e (normal settings e server).0 server (normal settings e server).1) (sym (normal_never_fails settings e server)) refl
+
+pub normal_steps_are_history : NormalStepsAreHistory
+normal_steps_are_history settings server [] = refl
+normal_steps_are_history settings server (e ∷ es) =
+    ((normal settings e server).1, normal_step settings e server, normal_steps_are_history settings (normal settings e server).1 es)
+
+-- a step that did not fail is a normal one
+step_is : (settings : Settings) (e : Event) (r : Reply) (server after : Server) → Step settings e r server after → is_failure r.ending ≡ false → normal settings e server ≡ (r, after)
+step_is settings e r server after h ok = subst (λ (b : Bool). StepBy b settings e r server after) ok h
+
+pub history_is_normal : HistoryIsNormal
+history_is_normal settings server after [] h none = (refl, h)
+history_is_normal settings server after (e ∷ es) h none =
+    let here : normal settings e.0 server ≡ (e.1, h.0) = step_is settings e.0 e.1 server h.0 h.1 none.0 in
+    let rest = history_is_normal settings h.0 after es h.2 none.1 in
+    let first : e.1 ≡ (normal settings e.0 server).0 = sym (ap (λ r. r.0) here) in
+    let second : h.0 ≡ (normal settings e.0 server).1 = sym (ap (λ r. r.1) here) in (
+      ap (λ x. x ∷ map (λ y. y.1) es) first
+          ∙ ap (λ xs. (normal settings e.0 server).0 ∷ xs) (rest.0 ∙ ap (λ s. replies settings s (map (λ y. y.0) es)) second),
+      rest.1 ∙ ap (λ s. server_after settings s (map (λ y. y.0) es)) second,
+    )

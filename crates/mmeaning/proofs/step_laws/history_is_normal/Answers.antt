@@ -1,0 +1,5 @@
+use Rattle.mmeaning.proofs.Histories.{history_is_normal}
+use Rattle.mmeaning.proofs.step_laws.history_is_normal.Goals as goal
+
+pub returns : goal.returns
+returns c = history_is_normal

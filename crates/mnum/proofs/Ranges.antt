@@ -1,7 +1,7 @@
 -- The range of a number.
-use Rattle.std.proofs.Common.{ℕ, ◌≡◌, ◌*◌, ◌-◌, ◌^◌, ◌<◌, ◌≤◌, refl, subst, sym, ◌∙◌, arith}
+use Rattle.std.proofs.Common.{ℕ, ◌≡◌, ◌*◌, ◌-◌, ◌^◌, ◌<◌, refl, subst, sym, arith}
 use Rattle.std.specs.Prelude.{unsigned_abs}
-use Rattle.mspec.specs.Number.{IsNumber, signed}
+use Rattle.mspec.specs.Number.{IsNumber}
 use Rattle.mnum.specs.Num.{units}
 use Rattle.mnum.specs.declared.num.Num.{Num}
 use Rattle.mnum.proofs.Quotients.{abs_signed}

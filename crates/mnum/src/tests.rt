@@ -173,23 +173,24 @@ fn canonical_texts(rt: HostRuntime) {
 
 #[test]
 fn units_and_signs(rt: HostRuntime) -> Result<(), Fail> {
-    for (text, units) in [
-        ("1", 1_000_000_000_000_000_000),
-        (".5", 500_000_000_000_000_000),
-        ("-1", -1_000_000_000_000_000_000),
-        ("-.000000000000000001", -1),
+    for (text, units, negated) in [
+        ("1", 1_000_000_000_000_000_000, -1_000_000_000_000_000_000),
+        (".5", 500_000_000_000_000_000, -500_000_000_000_000_000),
+        ("-1", -1_000_000_000_000_000_000, 1_000_000_000_000_000_000),
+        ("-.000000000000000001", -1, 1),
         (
             "-999999999999999999",
             -999_999_999_999_999_999_000_000_000_000_000_000,
+            999_999_999_999_999_999_000_000_000_000_000_000,
         ),
-        ("-0", 0),
+        ("-0", 0, 0),
     ] {
         let read = Num::from_text(text.as_bytes()).map_err(|_| "over")?;
         assert_eq!(rt; read.to_units(), units, "at {text}");
-        assert_eq!(rt; read.neg().to_units(), -units, "negated at {text}");
+        assert_eq!(rt; read.neg().to_units(), negated, "negated at {text}");
         assert_eq!(rt;
             read.cmp(read.neg()),
-            units.cmp(&-units),
+            units.cmp(&negated),
             "against the negated at {text}"
         );
     }

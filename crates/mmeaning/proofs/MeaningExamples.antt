@@ -15,7 +15,7 @@ use Rattle.mmeaning.specs.Step.{Settings, Event, Reply, Finished, Faulted}
 use Rattle.mmeaning.specs.History.{opening, replies}
 
 -- terminal 1 of ALICE, with 2,000 steps a line
-abbrev alice : Settings
+abbrev pub alice : Settings
 alice = record { terminals = insert empty 1 (record { name = codes "ALICE"; steps = 2000 }) }
 
 abbrev event : ℕ × Text → Event

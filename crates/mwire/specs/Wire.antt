@@ -1,0 +1,101 @@
+-- The wire form: the lines of a byte stream, what becomes of each, and the bytes that answer them. It is mserve's own;
+-- ISO/IEC 11756:1999 leaves to an implementation how a line comes to it.
+use Rattle.std.specs.Prelude.{ℕ, ◌+◌, ◌/◌, ◌%◌, Bool, ◌==◌, ◌&&◌, ◌||◌, not, nat_lt, nat_le, List, [], ◌∷◌, ◌++◌, length, slice_index, if◌then◌else◌, codes}
+use Rattle.std.specs.List.{list_all, before_first, after_first, position_or_len, slice_split, flat_map}
+use Rattle.std.specs.Fmt.{decimal}
+use Rattle.std.specs.Str.Lines.{lines}
+use Rattle.mspec.specs.Act.{Text}
+use Rattle.mspec.specs.Code.{code_text}
+use Rattle.mspec.specs.Literal.{is_digit, digits_after}
+use Rattle.mmeaning.specs.LineMeaning.{line_end}
+use Rattle.mmeaning.specs.Step.{Settings, Server, Event, Ending, Finished, Halted, Faulted, Reply, normal}
+use Rattle.mmeaning.specs.History.{opening}
+
+-- what becomes of a line
+pub data Fate : Type 0 where
+  Ignored : Fate
+  TooLong : Fate
+  Unreadable : Fate
+  Runs : Event → Fate
+
+-- the most bytes of a line: four digits, a space and a text of 255 characters
+abbrev pub wire_limit : ℕ
+wire_limit = 260
+
+abbrev pub is_space : ℕ → Bool
+is_space b = b == 32
+
+-- 1 to 9999, without a leading zero
+abbrev pub is_terminal : Text → Bool
+is_terminal digits = list_all is_digit digits && nat_le 1 (length digits) && nat_le (length digits) 4 && not (slice_index digits 0 == 48)
+
+-- a terminal, a space and a text, which may be empty
+abbrev pub is_event : Text → Bool
+is_event line = nat_lt (position_or_len is_space line) (length line) && is_terminal (before_first is_space line)
+
+abbrev pub event_of : Text → Event
+event_of line = record { terminal = digits_after 0 (before_first is_space line); text = after_first is_space line }
+
+abbrev pub fate_of : Text → Fate
+fate_of line =
+    if length line == 0 then Ignored else
+    if nat_lt wire_limit (length line) then TooLong else
+    if is_event line then Runs (event_of line) else Unreadable
+
+abbrev pub hex_digit : ℕ → ℕ
+hex_digit n = if nat_lt n 10 then n + 48 else n + 55
+
+-- a control character, a delete and a backslash go out as a backslash and two upper-case hexadecimal digits
+abbrev pub is_escaped : ℕ → Bool
+is_escaped c = nat_lt c 32 || c == 127 || c == 92
+
+abbrev pub shown_character : ℕ → Text
+shown_character c = if is_escaped c then 92 ∷ hex_digit (c / 16) ∷ hex_digit (c % 16) ∷ [] else c ∷ []
+
+abbrev pub shown : Text → Text
+shown text = flat_map shown_character text
+
+-- the lines of an output, and the rest that no line end ends, of which an empty one is not shown
+abbrev pub output_text : Text → List Text → Text
+output_text terminal [] = []
+output_text terminal ([] ∷ []) = []
+output_text terminal ((c ∷ cs) ∷ []) = terminal ++ 45 ∷ shown (c ∷ cs) ++ 10 ∷ []
+output_text terminal (line ∷ next ∷ more) = terminal ++ 58 ∷ shown line ++ 10 ∷ output_text terminal (next ∷ more)
+
+abbrev pub ending_text : Ending → Text
+ending_text Finished = codes "."
+ending_text Halted = codes "."
+ending_text (Faulted code) = codes "!" ++ code_text code
+
+-- the bytes of a terminal's reply
+abbrev pub reply_text : ℕ → Reply → Text
+reply_text terminal reply =
+    output_text (decimal terminal) (slice_split (λ c. c == line_end) reply.out) ++ decimal terminal ++ ending_text reply.ending ++ 10 ∷ []
+
+-- the bytes that answer a line, and the server after it, by a normal step
+abbrev pub line_served : Settings → Server → Fate → Text × Server
+line_served settings server Ignored = ([], server)
+line_served settings server TooLong = (codes "?!ZLINE" ++ 10 ∷ [], server)
+line_served settings server Unreadable = (codes "?!ZWIRE" ++ 10 ∷ [], server)
+line_served settings server (Runs e) = (reply_text e.terminal (normal settings e server).0, (normal settings e server).1)
+
+abbrev pub lines_served : Settings → Server → List Text → Text
+lines_served settings server [] = []
+lines_served settings server (line ∷ more) =
+    (line_served settings server (fate_of line)).0 ++ lines_served settings (line_served settings server (fate_of line)).1 more
+
+-- The bytes that answer a stream, by normal steps. A line feed ends a line and takes a carriage return just before it with it;
+-- an unfinished last line counts, and keeps its carriage return.
+abbrev pub stream_served : Settings → Text → Text
+stream_served settings bytes = lines_served settings (opening tt) (lines bytes)
+
+abbrev pub before_events : Fate → List Event → List Event
+before_events Ignored events = events
+before_events TooLong events = events
+before_events Unreadable events = events
+before_events (Runs e) events = e ∷ events
+
+-- the events of a stream's lines
+abbrev pub events_of : List Text → List Event
+events_of [] = []
+events_of (line ∷ more) = before_events (fate_of line) (events_of more)

@@ -1,0 +1,2 @@
+//! The wire: a stream of bytes in, the replies out.
+#![tactic(auto)]

@@ -1,1 +1,2 @@
 pub mod WireExamples
+pub mod EventLines

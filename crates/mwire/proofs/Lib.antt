@@ -1,2 +1,3 @@
 pub mod WireExamples
 pub mod EventLines
+pub mod Spaces

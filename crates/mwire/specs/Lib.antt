@@ -1,2 +1,3 @@
 pub mod Wire
 pub mod WireLaws
+pub mod Fates

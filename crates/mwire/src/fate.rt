@@ -1,0 +1,68 @@
+//! What becomes of a line of the wire.
+ghost use Rattle.std.specs.Prelude.{◌≡◌};
+ghost use Rattle.mwire.specs.Wire.{fate_of};
+ghost use Rattle.mwire.specs.Fates.{space_read, terminal_read, fate_in};
+
+/// The most bytes that a line of the wire has.
+pub const WIRE_LIMIT: usize = 260;
+
+/// What becomes of a line.
+#[derive(Clone, Copy)]
+pub enum Fate<'a> {
+    /// It is empty, and nothing answers it.
+    Ignored,
+    /// It has more than 260 bytes, and is answered `?!ZLINE`.
+    TooLong,
+    /// It is not a terminal, a space and a text, and is answered `?!ZWIRE`.
+    Unreadable,
+    /// The terminal, 1 to 9999, and the text that is run for it, of any bytes, which may be empty.
+    Runs(u16, &'a [u8]),
+}
+
+/// What becomes of a line, which comes without its line feed and the carriage return before that.
+pub fn fate_of(line: &[u8]) -> Fate<'_>
+    ensures { fate_in result ≡ fate_of line.now }
+{
+    if line.is_empty() {
+        return Fate::Ignored;
+    }
+    if line.len() > WIRE_LIMIT {
+        return Fate::TooLong;
+    }
+    let Some(space) = first_space(line) else {
+        return Fate::Unreadable;
+    };
+    match terminal_of(&line[..space]) {
+        Some(terminal) => Fate::Runs(terminal, &line[space + 1..]),
+        None => Fate::Unreadable,
+    }
+}
+
+// Where the first space stands.
+fn first_space(line: &[u8]) -> Option<usize>
+    ensures { result ≡ space_read line.now }
+{
+    for (i, b) in line.iter().enumerate() {
+        if *b == b' ' {
+            return Some(i);
+        }
+    }
+    None
+}
+
+// The terminal that these bytes name, if they do.
+fn terminal_of(digits: &[u8]) -> Option<u16>
+    ensures { result ≡ terminal_read digits.now }
+{
+    if digits.is_empty() || digits.len() > 4 || digits[0] == b'0' {
+        return None;
+    }
+    let mut terminal = 0;
+    for c in digits {
+        if !c.is_ascii_digit() {
+            return None;
+        }
+        terminal = terminal * 10 + (*c - b'0') as u16;
+    }
+    Some(terminal)
+}

@@ -98,7 +98,8 @@ fn starts_canonical(text: &[u8]) -> bool
     }
 }
 
-/// Whether the text is the canonical text of a number of at most `kept` significant digits. Takes no memory.
+/// Whether the text is the canonical text of a number of at most `kept` significant digits, which are 1 to 18. Takes no
+/// memory.
 pub fn is_canonical_by(text: &[u8], kept: u32) -> bool
     requires some_kept { 0 < kept }
     requires kept_at_most { kept ≤ 18 }

@@ -4,7 +4,7 @@ ghost use Rattle.mparse.specs.declared.fault.ParseFault.TheVariants.{Memory};
 
 use std::alloc::{AllocError, AllocFailed};
 
-/// Why a text has no tree.
+/// Why a text was not parsed.
 #[derive(Clone, Copy, Debug, PartialEq, Eq)]
 pub enum ParseFault {
     /// No tree of the grammar has this text.

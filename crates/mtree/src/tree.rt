@@ -39,6 +39,7 @@ pub struct Operand {
     pub primary: Primary,
 }
 
+/// What an operand stands on: a number, a string or a variable.
 #[derive(Drop)]
 pub enum Primary {
     /// A number's digits as they are written.
@@ -85,6 +86,7 @@ pub struct Spaced {
     pub spaces: usize,
 }
 
+/// A line: its commands with the spaces around them, and its comment.
 #[derive(Drop)]
 pub struct Line {
     /// How many spaces the line begins with.

@@ -14,3 +14,4 @@ pub mod ReadingLines
 pub mod ReadingLoops
 pub mod GrammarExamples
 pub mod Plans
+pub mod Maps

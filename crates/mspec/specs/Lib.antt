@@ -8,3 +8,4 @@ pub mod GrammarLaws
 pub mod Code
 pub mod Plan
 pub mod Act
+pub mod Maps

@@ -1,0 +1,9 @@
+-- An ordered map of the code as a finite map.
+use Rattle.std.specs.Prelude.{List, map}
+use Rattle.std.specs.declared.cmp.Ordering.{Ordering}
+use Rattle.std.specs.BTreeMap.{BTreeMap}
+use Rattle.std.specs.FinMap.{FinMap, from_entries}
+
+-- its values are read by `view`
+abbrev pub map_of : {K X V : Type 0} {R : K → K → Ordering} → (X → V) → BTreeMap K X → FinMap R V
+map_of view m = from_entries (map (λ e. (e.0, view e.1)) m.entries)

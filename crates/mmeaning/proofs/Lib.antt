@@ -1,3 +1,4 @@
 pub mod MeaningExamples
 pub mod NamedCodes
 pub mod Histories
+pub mod Calls

@@ -11,7 +11,7 @@ use Rattle.mspec.specs.Grammar.{SignTree, plus, minus, BinaryTree, add, subtract
 use Rattle.mspec.specs.Reading.{line_at}
 use Rattle.mmeaning.specs.Expression.{text_limit, as_number, unary, unaries, arithmetic, binary, primary_value, operand_value, steps_value, value}
 use Rattle.mmeaning.specs.LineMeaning.{Signal, setting, settings, writing, writings, command, commands, run}
-use Rattle.mmeaning.specs.Step.{Settings, Event, Server, Account, Faulted, is_failure, is_too_long, is_ascii, begun, session_or_new, act, at_tree, checked, at_account, reply_of}
+use Rattle.mmeaning.specs.Step.{Settings, Event, Server, Account, Faulted, is_failure, is_too_long, is_ascii, text_run, plan_of, begun, session_or_new, act, at_tree, checked, at_account, reply_of}
 use Rattle.mmeaning.specs.StepLaws.{NormalNeverFails}
 
 -- the plan ends with a value, or with a code of the line's own
@@ -116,15 +116,18 @@ run_named tree s = commands_named (map (λ c. c.0) tree.commands) s
 
 -- ---- steps
 
-tree_named : (conf : Settings) (e : Event) (server : Server) (account : Account) (o : Option LineTree) → is_failure (at_tree conf e server account o).0.ending ≡ false
-tree_named conf e server account None = refl
-tree_named conf e server account (Some tree) =
-    let s : State = begun account (session_or_new (get server.sessions e.terminal)) in
-    performed (act conf e.terminal) (run tree s) server.world (run_named tree s)
+text_named : (tree : Option LineTree) (s : State) → Named (text_run tree s)
+text_named None s = refl
+text_named (Some tree) s = run_named tree s
+
+tree_named : (conf : Settings) (e : Event) (server : Server) (account : Account) → is_failure (at_tree conf e server account).0.ending ≡ false
+tree_named conf e server account =
+    let session = session_or_new (get server.sessions e.terminal) in
+    performed (act conf e.terminal) (plan_of account session (line_at e.text)) server.world (text_named (line_at e.text) (begun account session))
 
 checked_named : (conf : Settings) (e : Event) (server : Server) (account : Account) (long ascii : Bool) → is_failure (checked long ascii conf e server account).0.ending ≡ false
 checked_named conf e server account true ascii = refl
-checked_named conf e server account false true = tree_named conf e server account (line_at e.text)
+checked_named conf e server account false true = tree_named conf e server account
 checked_named conf e server account false false = refl
 
 account_named : (conf : Settings) (e : Event) (server : Server) (account : Option Account) → is_failure (at_account conf e server account).0.ending ≡ false

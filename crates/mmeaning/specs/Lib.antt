@@ -3,3 +3,4 @@ pub mod LineMeaning
 pub mod Step
 pub mod History
 pub mod StepLaws
+pub mod Calls

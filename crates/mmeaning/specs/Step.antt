@@ -4,8 +4,8 @@ use Rattle.std.specs.List.{list_all}
 use Rattle.std.specs.Ordering.{nat_cmp}
 use Rattle.std.specs.FinMap.{FinMap, get, insert, remove}
 use Rattle.mspec.specs.Code.{Code, Zterm, Zline, Zchar, Zsyntax, Zmem, Zstore}
-use Rattle.mspec.specs.Plan.{Ops, Plan, Done, perform, cut_short}
-use Rattle.mspec.specs.Act.{Text, Node, Locals, no_locals, State, Outcome, Gives, Fails}
+use Rattle.mspec.specs.Plan.{Ops, Plan, perform, cut_short}
+use Rattle.mspec.specs.Act.{Text, Node, Locals, no_locals, State, Outcome, Gives, Fails, Act, fail}
 use Rattle.mspec.specs.Grammar.{LineTree, is_character}
 use Rattle.mspec.specs.Reading.{line_at}
 use Rattle.mmeaning.specs.LineMeaning.{Signal, run}
@@ -66,10 +66,13 @@ begun account s = record { locals = s.locals; naked = s.naked; test = s.test; ou
 abbrev pub kept : State → Session
 kept s = record { locals = s.locals; naked = s.naked; test = s.test }
 
--- the plan of a text; one that has no tree does nothing
+-- what a text does; one that has no tree does nothing
+abbrev pub text_run : Option LineTree → Act Signal
+text_run None = fail Zsyntax
+text_run (Some tree) = run tree
+
 abbrev pub plan_of : Account → Session → Option LineTree → Plan (Outcome Signal)
-plan_of account s None = Done (Fails Zsyntax (begun account s))
-plan_of account s (Some tree) = run tree (begun account s)
+plan_of account s tree = text_run tree (begun account s)
 
 abbrev pub reply_of : Outcome Signal → Reply
 reply_of (Gives signal s) = record { out = s.out; ending = Finished }
@@ -86,10 +89,10 @@ ended terminal server r = (reply_of r.0, record { world = r.1; sessions = insert
 abbrev pub refused : Code → Server → Reply × Server
 refused code server = (record { out = []; ending = Faulted code }, server)
 
-abbrev pub at_tree : Settings → Event → Server → Account → Option LineTree → Reply × Server
-at_tree settings e server account None = refused Zsyntax server
-at_tree settings e server account (Some tree) =
-    ended e.terminal server (perform (act settings e.terminal) (plan_of account (session_or_new (get server.sessions e.terminal)) (Some tree)) server.world)
+-- the run of a line that passed the checks before it; a session that it opens for a text without a tree is as new, so as none
+abbrev pub at_tree : Settings → Event → Server → Account → Reply × Server
+at_tree settings e server account =
+    ended e.terminal server (perform (act settings e.terminal) (plan_of account (session_or_new (get server.sessions e.terminal)) (line_at e.text)) server.world)
 
 abbrev pub is_too_long : Text → Bool
 is_too_long text = nat_lt line_limit (length text)
@@ -101,7 +104,7 @@ is_ascii text = list_all is_character text
 abbrev pub checked : Bool → Bool → Settings → Event → Server → Account → Reply × Server
 checked true ascii settings e server account = refused Zline server
 checked false false settings e server account = refused Zchar server
-checked false true settings e server account = at_tree settings e server account (line_at e.text)
+checked false true settings e server account = at_tree settings e server account
 
 abbrev pub at_account : Settings → Event → Server → Option Account → Reply × Server
 at_account settings e server None = refused Zterm server
@@ -122,12 +125,16 @@ pub record FailedStep (settings : Settings) (e : Event) (server after : Server) 
   pub world : after.world ≡ cut_short (act settings e.terminal) operations (plan_of account (session_or_new (get server.sessions e.terminal)) (line_at e.text)) server.world
   pub sessions : after.sessions ≡ remove server.sessions e.terminal
 
+-- the codes of a step that memory or the store did not suffice for
+abbrev pub is_lost : Code → Bool
+is_lost Zmem = true
+is_lost Zstore = true
+is_lost code = false
+
 abbrev pub is_failure : Ending → Bool
 is_failure Finished = false
 is_failure Halted = false
-is_failure (Faulted Zmem) = true
-is_failure (Faulted Zstore) = true
-is_failure (Faulted code) = false
+is_failure (Faulted code) = is_lost code
 
 abbrev pub lost : Ending → Reply
 lost ending = record { out = []; ending = ending }

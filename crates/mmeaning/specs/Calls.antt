@@ -1,0 +1,54 @@
+-- What a call of the code says of an act: its result is the act's outcome, and it leaves the state and the world that the act
+-- leaves.
+--
+-- `E` is the code's type of codes and `code_of` what each stands for; `f` says what the call's value stands for.
+use Rattle.std.specs.Prelude.{◌≡◌, ℕ, Bool, true, false, Option, Result, Ok, Err}
+use Rattle.mspec.specs.Code.{Code}
+use Rattle.mspec.specs.Plan.{Ops, perform, cut_short}
+use Rattle.mspec.specs.Act.{Text, Node, Locals, State, Gives, Fails, Act}
+use Rattle.mmeaning.specs.Step.{Settings, World, act, is_lost}
+
+-- what stays the same while a line runs
+pub record Standing : Type 0 where
+  pub settings : Settings
+  pub terminal : ℕ
+
+abbrev pub ops_of : Standing → Ops World
+ops_of b = act b.settings b.terminal
+
+-- a session's state in a world
+abbrev pub Here : Type 0
+Here = State × World
+
+-- the same by its parts
+abbrev pub point : Locals → Option Node → Bool → Text → ℕ → World → Here
+point locals naked test out steps w = (record { locals = locals; naked = naked; test = test; out = out; steps = steps }, w)
+
+abbrev pub Gave : {A : Type 0} → Standing → Act A → Here → A → Here → Type 0
+Gave b p h a h' = perform (ops_of b) (p h.0) h.1 ≡ (Gives a h'.0, h'.1)
+
+-- where the code is of a step that memory or the store did not suffice for
+abbrev pub FailedAs : {A : Type 0} → Bool → Standing → Act A → Here → Code → Here → Type 0
+FailedAs true b p h c h' = (n : ℕ) × (cut_short (ops_of b) n (p h.0) h.1 ≡ h'.1)
+FailedAs false b p h c h' = perform (ops_of b) (p h.0) h.1 ≡ (Fails c h'.0, h'.1)
+
+-- the act fails so; or it was cut short, and its state is lost
+abbrev pub Failed : {A : Type 0} → Standing → Act A → Here → Code → Here → Type 0
+Failed b p h c h' = FailedAs (is_lost c) b p h c h'
+
+abbrev pub Ends : {A X E : Type 0} → Standing → (E → Code) → Act A → (X → A) → Here → Result X E → Here → Type 0
+Ends b code_of p f h (Ok x) h' = Gave b p h (f x) h'
+Ends b code_of p f h (Err e) h' = Failed b p h (code_of e) h'
+
+-- a call does an act
+pub record Did {A X E : Type 0} (b : Standing) (code_of : E → Code) (p : Act A) (f : X → A) (h : Here) (r : Result X E) (h' : Here) : Type 0 where
+  pub ends : Ends b code_of p f h r h'
+
+-- a call evaluates: wherever it stands, it does an act that changes nothing but the steps left
+pub record Evaluates {A X E : Type 0} (code_of : E → Code) (p : Act A) (f : X → A) (locals : Locals) (steps : ℕ) (r : Result X E) (steps' : ℕ) : Type 0 where
+  pub at : (b : Standing) (naked : Option Node) (test : Bool) (out : Text) (w : World) → Did b code_of p f (point locals naked test out steps w) r (point locals naked test out steps' w)
+
+-- q from the one place is what is left of p from the other
+pub record Follows {A : Type 0} (b : Standing) (p : Act A) (h : Here) (q : Act A) (h' : Here) : Type 0 where
+  pub whole : perform (ops_of b) (p h.0) h.1 ≡ perform (ops_of b) (q h'.0) h'.1
+  pub short : (k : ℕ) → (m : ℕ) × (cut_short (ops_of b) m (p h.0) h.1 ≡ cut_short (ops_of b) k (q h'.0) h'.1)

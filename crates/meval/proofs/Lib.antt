@@ -1,0 +1,5 @@
+pub mod Yielding
+pub mod Numbers
+pub mod Signs
+pub mod Steps
+pub mod AsciiNumbers

@@ -1,0 +1,13 @@
+//! Lines of M, carried out.
+#![tactic(auto)]
+
+mod commands;
+mod frames;
+mod parts;
+mod run;
+
+pub use parts::Parts;
+pub use run::{Ended, run_text};
+
+#[cfg(test)]
+mod tests;

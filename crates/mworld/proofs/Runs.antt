@@ -1,0 +1,72 @@
+-- A session's run, from the run of its parts.
+use Rattle.std.proofs.Common.{◌≡◌, ℕ, List, [], None, false, Ok, Vec, Global, refl, sym, ap, subst, ◌∙◌}
+use Rattle.std.specs.FinMap.{get, insert}
+use Rattle.mspec.specs.Plan.{perform}
+use Rattle.mspec.specs.Act.{Locals, Act, State, Gives, Fails}
+use Rattle.mspec.specs.Reading.{line_at}
+use Rattle.mmeaning.specs.LineMeaning.{Signal}
+use Rattle.mmeaning.specs.Step.{Session, Event, Server, Step, StepBy, normal, begun, kept, ended, session_or_new, text_run, is_failure}
+use Rattle.mmeaning.specs.Calls.{Standing, Here, FailedAs, ops_of, point}
+use Rattle.meval.specs.Codes.{code_of}
+use Rattle.meval.specs.declared.code.Code.{Code}
+use Rattle.mexec.specs.declared.parts.Parts.{Parts}
+use Rattle.mexec.specs.declared.run.Ended.{Ended}
+use Rattle.mexec.specs.declared.run.Ended.TheVariants.{Done, Halt, Fault}
+use Rattle.mexec.specs.Runs.{Runs, EndsBy}
+use Rattle.mworld.specs.declared.reply.Reply.{Reply}
+use Rattle.mworld.specs.Profile.{profile}
+use Rattle.mworld.specs.View.{ending_of, reply_of}
+use Rattle.mworld.specs.Admits.{Admits}
+use Rattle.mworld.specs.Ran.{Ran}
+use Rattle.mworld.proofs.Checks.{let_through}
+
+abbrev session : Locals → Session
+session locals = record { locals = locals; naked = None; test = false }
+
+-- the output began empty, and is the reply's
+pub ran : {old new : Parts} {text : List ℕ} {ended : Ended} {out : Vec ℕ Global} → Runs (line_at text) old ended new → old.out.now.items ≡ [] → out ≡ new.out.now
+    → Ran (session old.locals.now) old.steps text (record { out = out; ending = ended }) (session new.locals.now)
+ran {old = old} {new = new} {text = text} {ended = ended} {out = out} runs first last = record {
+  left = new.steps;
+  at = λ b w.
+      let begun = subst (λ o. EndsBy b (text_run (line_at text)) (point old.locals.now None false o old.steps w) ended (point new.locals.now None false new.out.now.items new.steps w)) first (runs.at b None false w) in
+      subst (λ o. EndsBy b (text_run (line_at text)) (point old.locals.now None false [] old.steps w) ended (point new.locals.now None false o.items new.steps w)) (sym last) begun;
+}
+
+-- a run that is not lost ends its step
+ended_by : (b : Standing) (terminal : ℕ) (server : Server) (p : Act Signal) (h : Here) (ending : Ended) (h' : Here) → EndsBy b p h ending h' → is_failure (ending_of ending) ≡ false
+    → ended terminal server (perform (ops_of b) (p h.0) h.1) ≡ (record { out = h'.0.out; ending = ending_of ending }, record { world = h'.1; sessions = insert server.sessions terminal (kept h'.0) })
+ended_by b terminal server p h Done h' d fine = let gave : perform (ops_of b) (p h.0) h.1 ≡ (Gives d.0 h'.0, h'.1) = d.1 in ap (ended terminal server) gave
+ended_by b terminal server p h Halt h' d fine = absurd d
+ended_by b terminal server p h (Fault c) h' d fine =
+    let failed : perform (ops_of b) (p h.0) h.1 ≡ (Fails (code_of c) h'.0, h'.1) = subst (λ l. FailedAs l b p h (code_of c) h') fine d in
+    ap (ended terminal server) failed
+
+-- a line that passed the checks, run to an end that is not lost
+pub ran_step : (e : Event) (steps : ℕ) (server after : Server) (old new : Session) (reply : Reply) → Admits e (Ok steps) → old ≡ session_or_new (get server.sessions e.terminal) → Ran old steps e.text reply new
+    → is_failure (ending_of reply.ending) ≡ false → after ≡ record { world = server.world; sessions = insert server.sessions e.terminal new } → Step profile e (reply_of reply) server after
+ran_step e steps server after old new reply admits same ran fine stored = subst (λ l. StepBy l profile e (reply_of reply) server after) (sym fine) normally
+  where
+    b : Standing
+    b = record { settings = profile; terminal = e.terminal }
+
+    begins : begun admits.0 (session_or_new (get server.sessions e.terminal)) ≡ record { locals = old.locals; naked = old.naked; test = old.test; out = []; steps = steps }
+    begins = λ i. record { locals = (sym same i).locals; naked = (sym same i).naked; test = (sym same i).test; out = []; steps = admits.2 i }
+
+    here : Here
+    here = point old.locals old.naked old.test [] steps server.world
+
+    ends : ended e.terminal server (perform (ops_of b) (text_run (line_at e.text) here.0) here.1) ≡ (reply_of reply, record { world = server.world; sessions = insert server.sessions e.terminal new })
+    ends = ended_by b e.terminal server (text_run (line_at e.text)) here reply.ending (point new.locals new.naked new.test reply.out.items ran.left server.world) (ran.at b server.world) fine
+
+    normally : normal profile e server ≡ (reply_of reply, after)
+    normally =
+        let_through e admits.0 server admits.1 admits.3 admits.4
+        ∙ ap (λ (s : State). ended e.terminal server (perform (ops_of b) (text_run (line_at e.text) s) server.world)) begins
+        ∙ ends ∙ ap (λ (s : Server). (reply_of reply, s)) (sym stored)
+
+-- an ending that is no code is not lost
+pub not_lost : (ending : Ended) → ((c : Code) → ending ≡ Fault c → ⊥) → is_failure (ending_of ending) ≡ false
+not_lost Done h = refl
+not_lost Halt h = refl
+not_lost (Fault c) h = absurd (h c refl)

@@ -1,0 +1,4 @@
+pub mod Profile
+pub mod View
+pub mod Admits
+pub mod Ran

@@ -1,0 +1,38 @@
+// Events and replies.
+ghost use Rattle.std.specs.Prelude.{◌≡◌, []};
+ghost use Rattle.mmeaning.specs.Step.{Faulted};
+ghost use Rattle.meval.specs.Codes.{code_of};
+ghost use Rattle.mworld.specs.View.{reply_of};
+
+use meval::Code;
+use mexec::Ended;
+use std::alloc::Global;
+
+/// A line of a terminal.
+#[derive(Drop)]
+pub struct Event {
+    pub terminal: u32,
+    /// The line's text, of any bytes.
+    pub text: Vec<u8>,
+}
+
+/// What a line is answered.
+#[derive(Drop)]
+pub struct Reply {
+    /// The line's output: ASCII, and the byte 255 for each end of a line.
+    pub out: Vec<u8>,
+    /// How the line ended.
+    pub ending: Ended,
+}
+
+impl Reply {
+    // The reply of a line that was not run, or whose run is lost.
+    pub(crate) fn refused(alloc: Global, code: Code) -> Reply
+        ensures { reply_of result ≡ record { out = []; ending = Faulted (code_of code) } }
+    {
+        Reply {
+            out: Vec::new(alloc),
+            ending: Ended::Fault(code),
+        }
+    }
+}

@@ -1,3 +1,12 @@
 pub mod WireExamples
 pub mod EventLines
 pub mod Spaces
+pub mod Fronts
+pub mod Cuts
+pub mod LineAnswers
+pub mod Progresses
+pub mod Ends
+pub mod Outputs
+pub mod Gathers
+pub mod Results
+pub mod ServedLines

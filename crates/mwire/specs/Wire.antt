@@ -1,9 +1,9 @@
 -- The wire form: the lines of a byte stream, what becomes of each, and the bytes that answer them. It is mserve's own;
 -- ISO/IEC 11756:1999 leaves to an implementation how a line comes to it.
-use Rattle.std.specs.Prelude.{ℕ, ◌+◌, ◌/◌, ◌%◌, Bool, ◌==◌, ◌&&◌, ◌||◌, not, nat_lt, nat_le, List, [], ◌∷◌, ◌++◌, length, slice_index, if◌then◌else◌, codes}
+use Rattle.std.specs.Prelude.{ℕ, ◌+◌, ◌/◌, ◌%◌, Bool, ◌==◌, ◌&&◌, ◌||◌, not, nat_lt, nat_le, List, [], ◌∷◌, ◌++◌, length, map, slice_index, if◌then◌else◌, codes}
 use Rattle.std.specs.List.{list_all, before_first, after_first, position_or_len, slice_split, flat_map}
 use Rattle.std.specs.Fmt.{decimal}
-use Rattle.std.specs.Str.Lines.{lines}
+use Rattle.std.specs.Str.Lines.{lines, strip_carriage_return}
 use Rattle.mspec.specs.Act.{Text}
 use Rattle.mspec.specs.Code.{code_text}
 use Rattle.mspec.specs.Literal.{is_digit, digits_after}
@@ -62,6 +62,9 @@ output_text terminal ([] ∷ []) = []
 output_text terminal ((c ∷ cs) ∷ []) = terminal ++ 45 ∷ shown (c ∷ cs) ++ 10 ∷ []
 output_text terminal (line ∷ next ∷ more) = terminal ++ 58 ∷ shown line ++ 10 ∷ output_text terminal (next ∷ more)
 
+abbrev pub is_line_end : ℕ → Bool
+is_line_end c = c == line_end
+
 abbrev pub ending_text : Ending → Text
 ending_text Finished = codes "."
 ending_text Halted = codes "."
@@ -70,13 +73,20 @@ ending_text (Faulted code) = codes "!" ++ code_text code
 -- the bytes of a terminal's reply
 abbrev pub reply_text : ℕ → Reply → Text
 reply_text terminal reply =
-    output_text (decimal terminal) (slice_split (λ c. c == line_end) reply.out) ++ decimal terminal ++ ending_text reply.ending ++ 10 ∷ []
+    output_text (decimal terminal) (slice_split is_line_end reply.out) ++ decimal terminal ++ ending_text reply.ending ++ 10 ∷ []
+
+-- the bytes that answer a line that is too long, and those that answer one that is not readable
+abbrev pub too_long_text : Text
+too_long_text = codes "?!ZLINE" ++ 10 ∷ []
+
+abbrev pub unreadable_text : Text
+unreadable_text = codes "?!ZWIRE" ++ 10 ∷ []
 
 -- the bytes that answer a line, and the server after it, by a normal step
 abbrev pub line_served : Settings → Server → Fate → Text × Server
 line_served settings server Ignored = ([], server)
-line_served settings server TooLong = (codes "?!ZLINE" ++ 10 ∷ [], server)
-line_served settings server Unreadable = (codes "?!ZWIRE" ++ 10 ∷ [], server)
+line_served settings server TooLong = (too_long_text, server)
+line_served settings server Unreadable = (unreadable_text, server)
 line_served settings server (Runs e) = (reply_text e.terminal (normal settings e server).0, (normal settings e server).1)
 
 abbrev pub lines_served : Settings → Server → List Text → Text
@@ -99,3 +109,16 @@ before_events (Runs e) events = e ∷ events
 abbrev pub events_of : List Text → List Event
 events_of [] = []
 events_of (line ∷ more) = before_events (fate_of line) (events_of more)
+
+-- the texts between the line feeds, of which no line feed ends the last
+abbrev pub parts_of : Text → List Text
+parts_of bytes = slice_split (λ b. b == 10) bytes
+
+abbrev pub but_last : List Text → List Text
+but_last [] = []
+but_last (part ∷ []) = []
+but_last (part ∷ next ∷ more) = part ∷ but_last (next ∷ more)
+
+-- the lines that a line feed ends
+abbrev pub finished_lines : Text → List Text
+finished_lines bytes = map strip_carriage_return (but_last (parts_of bytes))

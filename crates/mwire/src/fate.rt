@@ -16,7 +16,7 @@ pub enum Fate<'a> {
     /// It is not a terminal, a space and a text, and is answered `?!ZWIRE`.
     Unreadable,
     /// The terminal, 1 to 9999, and the text that is run for it, of any bytes, which may be empty.
-    Runs(u16, &'a [u8]),
+    Runs(u32, &'a [u8]),
 }
 
 /// What becomes of a line, which comes without its line feed and the carriage return before that.
@@ -51,7 +51,7 @@ fn first_space(line: &[u8]) -> Option<usize>
 }
 
 // The terminal that these bytes name, if they do.
-fn terminal_of(digits: &[u8]) -> Option<u16>
+fn terminal_of(digits: &[u8]) -> Option<u32>
     ensures { result ≡ terminal_read digits.now }
 {
     if digits.is_empty() || digits.len() > 4 || digits[0] == b'0' {
@@ -62,7 +62,7 @@ fn terminal_of(digits: &[u8]) -> Option<u16>
         if !c.is_ascii_digit() {
             return None;
         }
-        terminal = terminal * 10 + (*c - b'0') as u16;
+        terminal = terminal * 10 + u32::from(*c - b'0');
     }
     Some(terminal)
 }

@@ -1,7 +1,23 @@
 //! The wire: a stream of bytes in, the replies out.
+//!
+//! A line feed ends a line, and takes a carriage return just before it with it; an unfinished last line counts. A line is a
+//! terminal, 1 to 9999, a space and a text, which is run and answered before the next line is.
 #![tactic(auto)]
 
+mod ending;
+mod events;
 mod fate;
+mod fault;
+mod line_buffer;
+mod reply;
+mod serving;
 #[cfg(test)]
 mod tests;
+mod watched;
 pub mod wire_laws;
+
+pub use events::read_events;
+pub use fault::WireFault;
+pub use reply::push_reply;
+pub use serving::serve;
+pub use watched::Watched;

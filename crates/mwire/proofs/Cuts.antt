@@ -1,0 +1,132 @@
+-- The finished lines of a stream that comes byte by byte, and what is kept of its rest.
+use Rattle.std.proofs.Common.{◌≡◌, ◌++◌, ◌+◌, ◌-◌, ◌<◌, ◌≤◌, ◌==◌, List, [], ◌∷◌, ℕ, refl, sym, ◌∙◌, ap, Bool, true, false, append_assoc, append-nil, length, take, map, arith, inl, inr, if◌then◌else◌, slice_index}
+use Rattle.std.specs.List.{All, flat_map}
+use Rattle.std.specs.Str.Lines.{lines, lines_of_parts, strip_carriage_return}
+use Rattle.std.proofs.lemmas.List.{take_all, length-take-le}
+use Rattle.std.proofs.lemmas.List.Concat.{flat_map-append}
+use Rattle.std.proofs.lemmas.List.Elements.{All-push, All-nil}
+use Rattle.std.proofs.lemmas.List.Splits.{slice_split_at, slice_split_none, length-slice_split}
+use Rattle.std.proofs.lemmas.Bool.{lt-ltb, cases_lt}
+use Rattle.mwire.specs.Wire.{Fate, TooLong, fate_of, parts_of, but_last, finished_lines}
+use Rattle.mwire.specs.Progress.{IsOpen, AreOpen, IsCut}
+use Rattle.mwire.proofs.Fronts.{take-take_push}
+
+-- what is kept of a line decides what becomes of it
+
+length-strip : (l : List ℕ) → length l ≤ length (strip_carriage_return l) + 1
+length-strip l =
+    let n : length l - 1 ≤ length l = omega arith in
+    elim (slice_index l (length l - 1) == 13) as (λ b. length l ≤ length (if b then take (length l - 1) l else l) + 1) [
+      | true ↦ rw (length-take-le (length l - 1) l n) (omega arith)
+      | false ↦ omega arith
+    ]
+
+fate_of-long : (l : List ℕ) → 260 < length l → fate_of l ≡ TooLong
+fate_of-long l h =
+    let some : (length l == 0) ≡ false = grind arith in
+    let long = lt-ltb 260 (length l) h in
+    rw (some, long) refl
+
+pub fate_of-kept : (n : ℕ) (rest : List ℕ) → 261 < n → fate_of (strip_carriage_return (take n rest)) ≡ fate_of (strip_carriage_return rest)
+fate_of-kept n rest h =
+    elim (cases_lt n (length rest)) [
+      | inl long ↦
+          let front_long : length (take n rest) ≡ n = length-take-le n rest (omega arith) in
+          let a : 260 < length (strip_carriage_return (take n rest)) = omega (arith, length-strip (take n rest)) in
+          let b : 260 < length (strip_carriage_return rest) = omega (arith, length-strip rest) in
+          fate_of-long (strip_carriage_return (take n rest)) a ∙ sym (fate_of-long (strip_carriage_return rest) b)
+      | inr short ↦ ap (λ l. fate_of (strip_carriage_return l)) (take_all n rest short)
+    ]
+
+pub fate_of-kept_end : (n : ℕ) (rest : List ℕ) → 261 < n → fate_of (take n rest) ≡ fate_of rest
+fate_of-kept_end n rest h =
+    elim (cases_lt n (length rest)) [
+      | inl long ↦
+          let front_long : length (take n rest) ≡ n = length-take-le n rest (omega arith) in
+          let a : 260 < length (take n rest) = omega arith in
+          let b : 260 < length rest = omega arith in
+          fate_of-long (take n rest) a ∙ sym (fate_of-long rest b)
+      | inr short ↦ ap fate_of (take_all n rest short)
+    ]
+
+-- a further byte
+
+pub IsCut-nil : IsCut [] [] []
+IsCut-nil = record { rest = []; whole = refl; each = tt; open_rest = All-nil (λ x. (x == 10) ≡ false); kept_is = refl }
+
+pub IsCut-byte : (past : List ℕ) (finished : List (List ℕ)) (kept kept' : List ℕ) (b : ℕ)
+    → IsCut past finished kept → (b == 10) ≡ false → kept' ≡ take 262 (kept ++ b ∷ []) → IsCut (past ++ b ∷ []) finished kept'
+IsCut-byte past finished kept kept' b s e k = record {
+  rest = s.rest ++ b ∷ [];
+  whole = ap (λ l. l ++ b ∷ []) s.whole ∙ append_assoc (flat_map (λ x. x ++ 10 ∷ []) finished) s.rest (b ∷ []);
+  each = s.each;
+  open_rest = All-push (λ x. (x == 10) ≡ false) s.rest b s.open_rest e;
+  kept_is = k ∙ (ap (λ l. take 262 (l ++ b ∷ [])) s.kept_is ∙ take-take_push 262 s.rest b);
+}
+
+AreOpen-push : (xs : List (List ℕ)) (x : List ℕ) → AreOpen xs → IsOpen x → AreOpen (xs ++ x ∷ [])
+AreOpen-push [] x h o = (o, tt)
+AreOpen-push (y ∷ ys) x h o = (h.0, AreOpen-push ys x h.1 o)
+
+-- a line feed, which finishes the rest
+pub IsCut-line : (past : List ℕ) (finished : List (List ℕ)) (kept : List ℕ) → (s : IsCut past finished kept) → IsCut (past ++ 10 ∷ []) (finished ++ s.rest ∷ []) []
+IsCut-line past finished kept s = record {
+  rest = [];
+  whole = rw s.whole (simp (append-nil, flat_map-append, append_assoc));
+  each = AreOpen-push finished s.rest s.each s.open_rest;
+  open_rest = All-nil (λ x. (x == 10) ≡ false);
+  kept_is = refl;
+}
+
+-- the lines of a text that is cut
+
+regroup : (x f r : List ℕ) → ((x ++ 10 ∷ []) ++ f) ++ r ≡ x ++ 10 ∷ (f ++ r)
+regroup x f r = simp append_assoc
+
+parts_of-cut : (finished : List (List ℕ)) (rest : List ℕ) → AreOpen finished → IsOpen rest → parts_of (flat_map (λ x. x ++ 10 ∷ []) finished ++ rest) ≡ finished ++ rest ∷ []
+parts_of-cut [] rest each o = slice_split_none (λ b. b == 10) rest o
+parts_of-cut (x ∷ xs) rest each o =
+    rw (regroup x (flat_map (λ x. x ++ 10 ∷ []) xs) rest)
+    (slice_split_at (λ b. b == 10) x 10 (flat_map (λ x. x ++ 10 ∷ []) xs ++ rest) each.0 refl ∙ ap (λ ps. x ∷ ps) (parts_of-cut xs rest each.1 o))
+
+parts_of-cut_more : (finished : List (List ℕ)) (rest more : List ℕ) → AreOpen finished → IsOpen rest
+    → parts_of ((flat_map (λ x. x ++ 10 ∷ []) finished ++ rest) ++ 10 ∷ more) ≡ finished ++ rest ∷ parts_of more
+parts_of-cut_more [] rest more each o = slice_split_at (λ b. b == 10) rest 10 more o refl
+parts_of-cut_more (x ∷ xs) rest more each o =
+    rw (regroup x (flat_map (λ x. x ++ 10 ∷ []) xs) rest, append_assoc)
+    (slice_split_at (λ b. b == 10) x 10 ((flat_map (λ x. x ++ 10 ∷ []) xs ++ rest) ++ 10 ∷ more) each.0 refl ∙ ap (λ ps. x ∷ ps) (parts_of-cut_more xs rest more each.1 o))
+
+lines_of_parts-front : (xs : List (List ℕ)) (y : List ℕ) (ys : List (List ℕ)) → lines_of_parts (xs ++ y ∷ ys) ≡ map strip_carriage_return xs ++ lines_of_parts (y ∷ ys)
+lines_of_parts-front [] y ys = refl
+lines_of_parts-front (x ∷ []) y ys = refl
+lines_of_parts-front (x ∷ x' ∷ xs) y ys = ap (λ ls. strip_carriage_return x ∷ ls) (lines_of_parts-front (x' ∷ xs) y ys)
+
+lines_of_parts-cons : (x : List ℕ) (ps : List (List ℕ)) (n : ℕ) → length ps ≡ n + 1 → lines_of_parts (x ∷ ps) ≡ strip_carriage_return x ∷ lines_of_parts ps
+lines_of_parts-cons x [] n e = absurd (omega arith)
+lines_of_parts-cons x (y ∷ ys) n e = refl
+
+pub lines-cut : (bytes : List ℕ) (finished : List (List ℕ)) (kept : List ℕ) → (c : IsCut bytes finished kept) → lines bytes ≡ map strip_carriage_return finished ++ lines_of_parts (c.rest ∷ [])
+lines-cut bytes finished kept c =
+    ap lines c.whole ∙ (ap lines_of_parts (parts_of-cut finished c.rest c.each c.open_rest) ∙ lines_of_parts-front finished c.rest [])
+
+pub lines-cut_more : (bytes : List ℕ) (finished : List (List ℕ)) (kept more : List ℕ) → (c : IsCut bytes finished kept)
+    → lines ((bytes ++ 10 ∷ []) ++ more) ≡ map strip_carriage_return finished ++ strip_carriage_return c.rest ∷ lines more
+lines-cut_more bytes finished kept more c =
+    let joined : (bytes ++ 10 ∷ []) ++ more ≡ bytes ++ 10 ∷ more = append_assoc bytes (10 ∷ []) more in
+    ap lines joined ∙ (ap (λ b. lines (b ++ 10 ∷ more)) c.whole ∙ (ap lines_of_parts (parts_of-cut_more finished c.rest more c.each c.open_rest)
+    ∙ (lines_of_parts-front finished c.rest (parts_of more)
+    ∙ ap (λ ls. map strip_carriage_return finished ++ ls) (lines_of_parts-cons c.rest (parts_of more) _ (length-slice_split (λ b. b == 10) more)))))
+
+but_last-push : (xs : List (List ℕ)) (x : List ℕ) → but_last (xs ++ x ∷ []) ≡ xs
+but_last-push [] x = refl
+but_last-push (y ∷ []) x = refl
+but_last-push (y ∷ y' ∷ ys) x = ap (λ l. y ∷ l) (but_last-push (y' ∷ ys) x)
+
+pub finished_lines-cut : (bytes : List ℕ) (finished : List (List ℕ)) (kept : List ℕ) → IsCut bytes finished kept → finished_lines bytes ≡ map strip_carriage_return finished
+finished_lines-cut bytes finished kept c =
+    ap finished_lines c.whole ∙ (ap (λ ps. map strip_carriage_return (but_last ps)) (parts_of-cut finished c.rest c.each c.open_rest)
+    ∙ ap (map strip_carriage_return) (but_last-push finished c.rest))
+
+-- a rest that is not empty is the last line
+pub last_part : (x : ℕ) (xs : List ℕ) → lines_of_parts ((x ∷ xs) ∷ []) ≡ (x ∷ xs) ∷ []
+last_part x xs = let some : (length (x ∷ xs) == 0) ≡ false = grind arith in rw some refl

@@ -1,0 +1,71 @@
+-- The events of the lines of a stream, gathered as its bytes come.
+use Rattle.std.proofs.Common.{◌≡◌, ◌++◌, ◌+◌, ◌<◌, ◌≤◌, ◌==◌, List, [], ◌∷◌, ℕ, false, refl, sym, ◌∙◌, ap, subst, append_assoc, length, get_or, take, arith}
+use Rattle.std.specs.Prelude.{map}
+use Rattle.std.specs.Str.Lines.{lines, lines_of_parts, strip_carriage_return}
+use Rattle.std.proofs.lemmas.List.{map-append, take_all, take_more}
+use Rattle.mspec.specs.Act.{Text}
+use Rattle.mmeaning.specs.Step.{Event}
+use Rattle.mwire.specs.Wire.{Fate, Ignored, TooLong, Unreadable, Runs, fate_of, before_events, events_of}
+use Rattle.mwire.specs.Progress.{Gathered}
+use Rattle.mwire.proofs.Cuts.{fate_of-kept, fate_of-kept_end, IsCut-nil, IsCut-byte, IsCut-line, lines-cut, last_part}
+
+before_events-append : (fate : Fate) (xs ys : List Event) → before_events fate (xs ++ ys) ≡ before_events fate xs ++ ys
+before_events-append Ignored xs ys = refl
+before_events-append TooLong xs ys = refl
+before_events-append Unreadable xs ys = refl
+before_events-append (Runs e) xs ys = refl
+
+events_of-append : (ls ms : List Text) → events_of (ls ++ ms) ≡ events_of ls ++ events_of ms
+events_of-append [] ms = refl
+events_of-append (l ∷ ls) ms = ap (before_events (fate_of l)) (events_of-append ls ms) ∙ before_events-append (fate_of l) (events_of ls) (events_of ms)
+
+-- where the stream begins
+pub Gathered-start : Gathered [] [] []
+Gathered-start = record { finished = []; cut = IsCut-nil; events_are = refl }
+
+-- a byte that is no line feed
+pub Gathered-byte : (past kept kept' : Text) (byte : ℕ) (events : List Event) → (byte == 10) ≡ false → kept' ≡ take 262 (kept ++ byte ∷ [])
+    → Gathered past kept events → Gathered (past ++ byte ∷ []) kept' events
+Gathered-byte past kept kept' byte events e k s = record { finished = s.finished; cut = IsCut-byte past s.finished kept kept' byte s.cut e k; events_are = s.events_are }
+
+-- a line feed
+pub Gathered-line : (past kept kept' line : Text) (byte : ℕ) (events events' : List Event) → byte ≡ 10 → kept' ≡ [] → line ≡ strip_carriage_return kept
+    → events' ≡ events ++ events_of (line ∷ []) → Gathered past kept events → Gathered (past ++ byte ∷ []) kept' events'
+Gathered-line past kept kept' line byte events events' eb ek el added s =
+    let rest = s.cut.rest in
+    let fate : fate_of line ≡ fate_of (strip_carriage_return rest) =
+    ap fate_of el ∙ (ap (λ l. fate_of (strip_carriage_return l)) s.cut.kept_is ∙ fate_of-kept 262 rest (omega arith)) in
+    let events_are : events' ≡ events_of (map strip_carriage_return (s.finished ++ rest ∷ [])) =
+    added ∙ (ap (λ es. es ++ events_of (line ∷ [])) s.events_are
+    ∙ (ap (λ f. events_of (map strip_carriage_return s.finished) ++ before_events f []) fate
+    ∙ (sym (events_of-append (map strip_carriage_return s.finished) (strip_carriage_return rest ∷ []))
+    ∙ ap events_of (sym (map-append strip_carriage_return s.finished (rest ∷ [])))))) in
+    let cut = IsCut-line past s.finished kept s.cut in
+    rw (eb, ek) (record { finished = s.finished ++ rest ∷ []; cut = cut; events_are = events_are })
+
+-- one more byte of a piece, and the whole of it
+pub Gathered-more : (past piece kept : Text) (i : ℕ) (events : List Event) → i < length piece
+    → Gathered ((past ++ take i piece) ++ get_or piece i 0 ∷ []) kept events → Gathered (past ++ take (i + 1) piece) kept events
+Gathered-more past piece kept i events lt s =
+    let P : Text → Type 0 = λ bytes. Gathered bytes kept events in
+    subst P (append_assoc past (take i piece) (get_or piece i 0 ∷ []) ∙ ap (λ t. past ++ t) (sym (take_more piece i 0 lt))) s
+
+pub Gathered-all : (past piece kept : Text) (i : ℕ) (events : List Event) → length piece ≤ i
+    → Gathered (past ++ take i piece) kept events → Gathered (past ++ piece) kept events
+Gathered-all past piece kept i events end s =
+    let P : Text → Type 0 = λ bytes. Gathered bytes kept events in subst P (ap (λ t. past ++ t) (take_all i piece end)) s
+
+last_events : (rest : Text) → events_of (rest ∷ []) ≡ events_of (lines_of_parts (rest ∷ []))
+last_events [] = refl
+last_events (x ∷ xs) = ap events_of (sym (last_part x xs))
+
+-- the stream's end
+pub Gathered-end : (bytes kept : Text) (events events' : List Event) → events' ≡ events ++ events_of (kept ∷ []) → Gathered bytes kept events → events' ≡ events_of (lines bytes)
+Gathered-end bytes kept events events' added s =
+    let rest = s.cut.rest in
+    let fate : fate_of kept ≡ fate_of rest = ap fate_of s.cut.kept_is ∙ fate_of-kept_end 262 rest (omega arith) in
+    added ∙ (ap (λ es. es ++ events_of (kept ∷ [])) s.events_are
+    ∙ (ap (λ f. events_of (map strip_carriage_return s.finished) ++ before_events f []) fate
+    ∙ (ap (λ es. events_of (map strip_carriage_return s.finished) ++ es) (last_events rest)
+    ∙ (sym (events_of-append (map strip_carriage_return s.finished) (lines_of_parts (rest ∷ [])))
+    ∙ ap events_of (sym (lines-cut bytes s.finished kept s.cut))))))

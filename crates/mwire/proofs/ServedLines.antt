@@ -1,0 +1,52 @@
+-- The answers of a history of normal steps.
+use Rattle.std.proofs.Common.{◌≡◌, ◌++◌, List, [], ◌∷◌, refl, sym, ap, ◌∙◌}
+use Rattle.std.specs.Prelude.{map}
+use Rattle.std.specs.Str.Lines.{lines}
+use Rattle.mspec.specs.Act.{Text}
+use Rattle.mmeaning.specs.Step.{Settings, Server, Event, normal}
+use Rattle.mmeaning.specs.History.{replies, server_after, answered, opening}
+use Rattle.mmeaning.proofs.Histories.{normal_steps_are_history, history_is_normal}
+use Rattle.mwire.specs.Wire.{Fate, Ignored, TooLong, Unreadable, Runs, fate_of, before_events, events_of, line_served, lines_served, reply_text, too_long_text, unreadable_text}
+use Rattle.mwire.specs.Answers.{line_text, replies_behind, answer_text}
+use Rattle.mwire.specs.WireLaws.{NormalAnswersAreServed, NormalStreamsAreServed, LinesHaveAnswers}
+
+line_is_served : (settings : Settings) (server : Server) (more : List Text) (fate : Fate)
+    → ((s : Server) → answer_text more (replies settings s (events_of more)) ≡ lines_served settings s more)
+    → line_text fate (replies settings server (before_events fate (events_of more))) ++ answer_text more (replies_behind fate (replies settings server (before_events fate (events_of more))))
+    ≡ (line_served settings server fate).0 ++ lines_served settings (line_served settings server fate).1 more
+line_is_served settings server more Ignored rest = rest server
+line_is_served settings server more TooLong rest = ap (λ t. too_long_text ++ t) (rest server)
+line_is_served settings server more Unreadable rest = ap (λ t. unreadable_text ++ t) (rest server)
+line_is_served settings server more (Runs e) rest = ap (λ t. reply_text e.terminal (normal settings e server).0 ++ t) (rest (normal settings e server).1)
+
+-- the replies of normal steps make the bytes of the definitional interpreter
+lines_are_served : (settings : Settings) (server : Server) (all : List Text) → answer_text all (replies settings server (events_of all)) ≡ lines_served settings server all
+lines_are_served settings server [] = refl
+lines_are_served settings server (line ∷ more) = line_is_served settings server more (fate_of line) (λ s. lines_are_served settings s more)
+
+pub normal_answers_are_served : NormalAnswersAreServed
+normal_answers_are_served settings server after all bytes answers none =
+    let normal_history = history_is_normal settings server after answers.trace answers.history none in (
+      answers.text
+          ∙ (ap (answer_text all) (normal_history.0 ∙ ap (replies settings server) answers.events) ∙ lines_are_served settings server all),
+      normal_history.1 ∙ ap (server_after settings server) answers.events,
+    )
+
+pub normal_streams_are_served : NormalStreamsAreServed
+normal_streams_are_served settings after stream bytes answers none = (normal_answers_are_served settings (opening tt) after (lines stream) bytes answers none).0
+
+events_of_answered : (settings : Settings) (server : Server) (es : List Event) → map (λ e. e.0) (answered settings server es) ≡ es
+events_of_answered settings server [] = refl
+events_of_answered settings server (e ∷ es) = ap (λ xs. e ∷ xs) (events_of_answered settings (normal settings e server).1 es)
+
+replies_of_answered : (settings : Settings) (server : Server) (es : List Event) → map (λ e. e.1) (answered settings server es) ≡ replies settings server es
+replies_of_answered settings server [] = refl
+replies_of_answered settings server (e ∷ es) = ap (λ xs. (normal settings e server).0 ∷ xs) (replies_of_answered settings (normal settings e server).1 es)
+
+pub lines_have_answers : LinesHaveAnswers
+lines_have_answers settings server all = record {
+  trace = answered settings server (events_of all);
+  events = events_of_answered settings server (events_of all);
+  history = normal_steps_are_history settings server (events_of all);
+  text = sym (lines_are_served settings server all) ∙ ap (answer_text all) (sym (replies_of_answered settings server (events_of all)));
+}

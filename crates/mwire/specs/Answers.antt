@@ -1,0 +1,61 @@
+-- What answers the lines of a stream: the bytes, and a history of the lines' events.
+use Rattle.std.specs.Prelude.{◌≡◌, List, [], ◌∷◌, ◌++◌, map}
+use Rattle.mspec.specs.Act.{Text}
+use Rattle.mmeaning.specs.Step.{Settings, Server, Event, Reply, Step}
+use Rattle.mmeaning.specs.History.{History}
+use Rattle.mwire.specs.Wire.{Fate, Ignored, TooLong, Unreadable, Runs, fate_of, reply_text, too_long_text, unreadable_text, events_of}
+
+-- the bytes that answer a line of this fate, whose reply is the first of these where it is run
+abbrev pub line_text : Fate → List Reply → Text
+line_text Ignored replies = []
+line_text TooLong replies = too_long_text
+line_text Unreadable replies = unreadable_text
+line_text (Runs e) [] = []
+line_text (Runs e) (reply ∷ more) = reply_text e.terminal reply
+
+-- the replies of the lines behind it
+abbrev pub replies_behind : Fate → List Reply → List Reply
+replies_behind Ignored replies = replies
+replies_behind TooLong replies = replies
+replies_behind Unreadable replies = replies
+replies_behind (Runs e) [] = []
+replies_behind (Runs e) (reply ∷ more) = more
+
+-- the bytes that answer lines, in their order, given the replies of those that are run
+abbrev pub answer_text : List Text → List Reply → Text
+answer_text [] replies = []
+answer_text (line ∷ more) replies = line_text (fate_of line) replies ++ answer_text more (replies_behind (fate_of line) replies)
+
+-- the lines are answered by these bytes, which a history of their events gives
+pub record Answers (settings : Settings) (server : Server) (all : List Text) (bytes : Text) (after : Server) : Type 0 where
+  pub trace : List (Event × Reply)
+  pub events : map (λ e. e.0) trace ≡ events_of all
+  pub history : History settings server trace after
+  pub text : bytes ≡ answer_text all (map (λ e. e.1) trace)
+
+-- a line of this fate is answered by these bytes; where it is run, by a step
+abbrev pub FateAnswered : Settings → Server → Fate → Text → Server → Type 0
+FateAnswered settings server Ignored bytes after = (bytes ≡ []) × (after ≡ server)
+FateAnswered settings server TooLong bytes after = (bytes ≡ too_long_text) × (after ≡ server)
+FateAnswered settings server Unreadable bytes after = (bytes ≡ unreadable_text) × (after ≡ server)
+FateAnswered settings server (Runs e) bytes after = (reply : Reply) × Step settings e reply server after × (bytes ≡ reply_text e.terminal reply)
+
+pub record LineAnswered (settings : Settings) (server : Server) (line bytes : Text) (after : Server) : Type 0 where
+  pub by_fate : FateAnswered settings server (fate_of line) bytes after
+
+-- The lines are answered up to a last one. This one was answered too, but of its bytes only a front, perhaps the whole, went
+-- out; the others were not run.
+pub record Breaks (settings : Settings) (server : Server) (all : List Text) (bytes : Text) (after : Server) : Type 0 where
+  pub done : List Text
+  pub last : Text
+  pub others : List Text
+  pub of_all : all ≡ done ++ last ∷ others
+  pub whole : Text
+  pub between : Server
+  pub answered : Answers settings server done whole between
+  pub answer : Text
+  pub last_answered : LineAnswered settings between last answer after
+  pub part : Text
+  pub unsent : Text
+  pub of_answer : answer ≡ part ++ unsent
+  pub sent : bytes ≡ whole ++ part

@@ -1,0 +1,62 @@
+-- How far a stream has been taken, and answered.
+use Rattle.std.specs.Prelude.{◌≡◌, ◌==◌, ◌≢◌, ℕ, Bool, true, false, List, [], ◌∷◌, ◌++◌, take, map, OnOk, MatchResult, Result, Option}
+use Rattle.std.specs.List.{All, flat_map}
+use Rattle.std.specs.Io.KnownBytes.{Appends}
+use Rattle.std.specs.Str.Lines.{lines, strip_carriage_return}
+use Rattle.mspec.specs.Act.{Text}
+use Rattle.mmeaning.specs.Step.{Settings, Server, Event}
+use Rattle.mwire.specs.Wire.{events_of}
+use Rattle.mwire.specs.Answers.{LineAnswered, Breaks}
+
+-- no line feed is among the bytes
+abbrev pub IsOpen : Text → Type 0
+IsOpen bytes = All (λ b. (b == 10) ≡ false) bytes
+
+abbrev pub AreOpen : List Text → Type 0
+AreOpen [] = Unit {0}
+AreOpen (x ∷ xs) = IsOpen x × AreOpen xs
+
+-- The bytes are the finished texts, a line feed behind each, and then a rest without one. Of the rest a front is kept: what
+-- becomes of a line is told by its first 262 bytes, 260, a carriage return and one more.
+pub record IsCut (bytes : Text) (finished : List Text) (kept : Text) : Type 0 where
+  pub rest : Text
+  pub whole : bytes ≡ flat_map (λ x. x ++ 10 ∷ []) finished ++ rest
+  pub each : AreOpen finished
+  pub open_rest : IsOpen rest
+  pub kept_is : kept ≡ take 262 rest
+
+-- the lines are answered, one after another
+abbrev pub EachAnswered : Settings → Server → List Text → Text → Server → Type 0
+EachAnswered settings server [] bytes after = (bytes ≡ []) × (after ≡ server)
+EachAnswered settings server (line ∷ more) bytes after = (answer : Text) × (between : Server) × (rest : Text)
+    × LineAnswered settings server line answer between × EachAnswered settings between more rest after × (bytes ≡ answer ++ rest)
+
+-- the finished lines of the bytes so far are answered
+pub record Stands (settings : Settings) (first : Server) (bytes : Text) (now : Server) (kept sent : Text) : Type 0 where
+  pub finished : List Text
+  pub cut : IsCut bytes finished kept
+  pub answered : EachAnswered settings first (map strip_carriage_return finished) sent now
+
+-- what taking more bytes does, wherever the stream stands
+pub record Passes {E : Type 0} (settings : Settings) (old : Server) (kept bytes : Text) (new : Server) (kept' : Text) (before after : Option Text) (result : Result (Unit {0}) E) : Type 0 where
+  pub sent : Text
+  pub appended : Appends before after sent
+  pub outcome : (first : Server) (past text : Text) → Stands settings first past old kept text
+      → MatchResult result (λ _. Stands settings first (past ++ bytes) new kept' (text ++ sent))
+      (λ _. (more : Text) → Breaks settings first (lines ((past ++ bytes) ++ more)) (text ++ sent) new)
+
+-- a line was answered, and of its answer a front was sent, the whole where `whole` is true
+pub record LineSent (settings : Settings) (old : Server) (line : Text) (new : Server) (before after : Option Text) (whole : Bool) : Type 0 where
+  pub answer : Text
+  pub answered : LineAnswered settings old line answer new
+  pub part : Text
+  pub unsent : Text
+  pub of_answer : answer ≡ part ++ unsent
+  pub all_sent : whole ≡ true → unsent ≡ []
+  pub appended : Appends before after part
+
+-- the events are those of the finished lines of the bytes so far
+pub record Gathered (bytes kept : Text) (events : List Event) : Type 0 where
+  pub finished : List Text
+  pub cut : IsCut bytes finished kept
+  pub events_are : events ≡ events_of (map strip_carriage_return finished)

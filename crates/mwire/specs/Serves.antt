@@ -1,0 +1,32 @@
+-- What `serve` and `read_events` do with the bytes of a reader and of a writer.
+use Rattle.std.specs.Prelude.{◌≡◌, ◌≢◌, List, map, MatchResult, Result, Option}
+use Rattle.std.specs.Io.KnownBytes.{Appends, Consumes, IsAtEnd}
+use Rattle.std.specs.Str.Lines.{lines}
+use Rattle.mspec.specs.Act.{Text}
+use Rattle.mmeaning.specs.Step.{Settings, Server, Event}
+use Rattle.mwire.specs.Wire.{finished_lines, events_of}
+use Rattle.mwire.specs.Answers.{Answers, Breaks}
+use Rattle.mwire.specs.declared.fault.WireFault.{WireFault}
+use Rattle.mwire.specs.declared.fault.WireFault.TheVariants.{Read, Write, Memory}
+
+-- how far the bytes read are answered after a fault: after one of a read exactly the finished lines are, and after another
+-- one the answer of one line is cut off
+abbrev pub EndsBy : Settings → Server → Text → Text → Server → WireFault → Type 0
+EndsBy settings server read sent after Read = Answers settings server (finished_lines read) sent after
+EndsBy settings server read sent after Write = Breaks settings server (lines read) sent after
+EndsBy settings server read sent after Memory = Breaks settings server (lines read) sent after
+
+-- So many bytes were read, and so many were sent, where the reader tells what it has left and the writer what it holds. At
+-- the stream's end all its lines are answered.
+pub record Serves (settings : Settings) (server after : Server) (left left' held held' : Option Text) (result : Result (Unit {0}) WireFault) : Type 0 where
+  pub read : Text
+  pub consumed : Consumes left left' read
+  pub sent : Text
+  pub appended : Appends held held' sent
+  pub outcome : MatchResult result (λ _. IsAtEnd left' × Answers settings server (lines read) sent after) (EndsBy settings server read sent after)
+
+-- so many bytes were read, and at the stream's end the events are those of its lines
+pub record ReadsEvents {V : Type 0} (events : V → List Event) (left left' : Option Text) (result : Result V WireFault) : Type 0 where
+  pub read : Text
+  pub consumed : Consumes left left' read
+  pub outcome : MatchResult result (λ v. IsAtEnd left' × (events v ≡ events_of (lines read))) (λ fault. fault ≢ Write)

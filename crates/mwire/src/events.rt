@@ -1,0 +1,92 @@
+// The events of a stream.
+ghost use Rattle.std.specs.Prelude.{◌≡◌, ◌≢◌, ℕ, List, [], ◌∷◌, ◌++◌, false, OnOk, IfErr, Err, map};
+ghost use Rattle.mworld.specs.View.{event_of};
+ghost use Rattle.mwire.specs.Wire.{events_of};
+ghost use Rattle.mwire.specs.Watched.{inner_of, failed_of, ReadBroke};
+ghost use Rattle.mwire.specs.Serves.{ReadsEvents};
+ghost use Rattle.mwire.specs.Progress.{Gathered};
+
+use crate::fate::{Fate, fate_of};
+use crate::fault::WireFault;
+use crate::line_buffer::LineBuffer;
+use crate::watched::Watched;
+use mworld::Event;
+use std::alloc::{AllocError, Global};
+use std::io::Read;
+
+/// The events of a stream's lines, to its end. Lines that are empty, too long or not readable are left out.
+///
+/// It answers `Read` where a read failed or there were 1,000,000,000 reads, and `Memory` for want of memory.
+pub fn read_events<R: Read>(alloc: Global, reader: &mut Watched<R>) -> Result<Vec<Event>, WireFault>
+    requires { failed_of reader.old ≡ false }
+    ensures reads { ReadsEvents (λ events. map event_of events.items) (R.remaining (inner_of reader.old)) (R.remaining (inner_of reader.new)) result }
+    ensures read { result ≡ Err WireFault.Read → ReadBroke reader.old reader.new }
+    ensures reader_works { result ≢ Err WireFault.Read → failed_of reader.new ≡ false }
+{
+    let mut events = Vec::new(alloc);
+    let mut line = LineBuffer::new();
+    let mut piece = [0u8; 4096];
+    for _turn in 0..1_000_000_000u32 {
+        match reader.read(&mut piece) {
+            Err(_) => return Err(WireFault::Read),
+            Ok(0) => {
+                return match gather_line(alloc, &mut events, line.unfinished()) {
+                    Ok(()) => Ok(events),
+                    Err(_) => Err(WireFault::Memory),
+                };
+            }
+            Ok(n) => {
+                if gather_piece(alloc, &mut events, &mut line, &piece[..n]).is_err() {
+                    return Err(WireFault::Memory);
+                }
+            }
+        }
+    }
+    Err(WireFault::Read)
+}
+
+// Takes the next bytes of the stream.
+fn gather_piece(
+    alloc: Global,
+    events: &mut Vec<Event>,
+    line: &mut LineBuffer,
+    piece: &[u8],
+) -> Result<(), AllocError>
+    ensures { OnOk result ((past : List ℕ) → Gathered past line.old (map event_of events.old.items)
+        → Gathered (past ++ piece.now) line.new (map event_of events.new.items)) }
+{
+    for byte in piece {
+        gather_byte(alloc, events, line, *byte)?;
+    }
+    Ok(())
+}
+
+// Takes the next byte of the stream.
+fn gather_byte(
+    alloc: Global,
+    events: &mut Vec<Event>,
+    line: &mut LineBuffer,
+    byte: u8,
+) -> Result<(), AllocError>
+    ensures { OnOk result ((past : List ℕ) → Gathered past line.old (map event_of events.old.items)
+        → Gathered (past ++ byte ∷ []) line.new (map event_of events.new.items)) }
+{
+    if byte != b'\n' {
+        line.push(byte);
+        return Ok(());
+    }
+    gather_line(alloc, events, line.finished())?;
+    line.clear();
+    Ok(())
+}
+
+// Appends the event of a line, if it has one.
+fn gather_line(alloc: Global, events: &mut Vec<Event>, line: &[u8]) -> Result<(), AllocError>
+    ensures { OnOk result (map event_of events.new.items ≡ map event_of events.old.items ++ events_of (line.now ∷ [])) }
+{
+    if let Fate::Runs(terminal, text) = fate_of(line) {
+        let text = Vec::from_slice(alloc, text)?;
+        events.push(Event { terminal, text })?;
+    }
+    Ok(())
+}

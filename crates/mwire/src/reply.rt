@@ -1,0 +1,117 @@
+// The bytes that show a reply.
+ghost use Rattle.std.specs.Prelude.{◌≡◌, ◌+◌, ◌<◌, [], ◌∷◌, ◌++◌, length, drop, OnOk, OnErr, IfOk};
+ghost use Rattle.std.specs.List.{position_or_len, slice_split};
+ghost use Rattle.mworld.specs.View.{reply_of};
+ghost use Rattle.mwire.specs.Wire as wire;
+ghost use Rattle.mwire.specs.Wire.{is_escaped, shown_character, shown, output_text, is_line_end, reply_text};
+
+use crate::ending::push_ending;
+use itoa::Buffer;
+use mworld::Reply;
+use std::alloc::{AllocError, Global};
+
+// What stands in an output for each end of a line.
+const LINE_END: u8 = 255;
+
+/// Appends the bytes that show a terminal's reply: its output, line by line, and how it ended.
+///
+/// For want of memory it answers an error, and `out` is as before.
+pub fn push_reply(out: &mut Vec<u8>, terminal: u32, reply: &Reply) -> Result<(), AllocError>
+    ensures ok { OnOk result (out.new.items ≡ out.old.items ++ reply_text terminal (reply_of reply.now)) }
+    ensures err { OnErr result (out.new.items ≡ out.old.items) }
+{
+    let bytes = reply_bytes(*out.allocator(), terminal, reply)?;
+    out.extend_from_slice(&bytes)
+}
+
+/// The bytes that show a terminal's reply.
+pub fn reply_bytes(alloc: Global, terminal: u32, reply: &Reply) -> Result<Vec<u8>, AllocError>
+    ensures { IfOk result (λ bytes. bytes.items ≡ reply_text terminal (reply_of reply.now)) }
+{
+    let mut buffer = Buffer::new();
+    let digits = buffer.format(terminal).as_bytes();
+    let mut bytes = Vec::new(alloc);
+    push_output(&mut bytes, digits, &reply.out)?;
+    bytes.extend_from_slice(digits)?;
+    push_ending(&mut bytes, reply.ending)?;
+    bytes.push(b'\n')?;
+    Ok(bytes)
+}
+
+// Appends the lines of an output, and the rest that no line end ends, unless it is empty.
+fn push_output(out: &mut Vec<u8>, digits: &[u8], output: &[u8]) -> Result<(), AllocError>
+    ensures { OnOk result (out.new.items ≡ out.old.items ++ output_text digits.now (slice_split is_line_end output.now)) }
+{
+    let mut rest = output;
+    let mut end = line_length(rest);
+    while end < rest.len() {
+        push_line(out, digits, b':', &rest[..end])?;
+        rest = behind(rest, end);
+        end = line_length(rest);
+    }
+    if rest.is_empty() {
+        return Ok(());
+    }
+    push_line(out, digits, b'-', rest)
+}
+
+// What comes behind the end of a line.
+fn behind(output: &[u8], end: usize) -> &[u8]
+    requires { end < length output.now }
+    ensures { result.now ≡ drop (end + 1) output.now }
+{
+    &output[end + 1..]
+}
+
+// How many bytes come before the first end of a line.
+fn line_length(output: &[u8]) -> usize
+    ensures { result ≡ position_or_len is_line_end output.now }
+{
+    for (i, b) in output.iter().enumerate() {
+        if *b == LINE_END {
+            return i;
+        }
+    }
+    output.len()
+}
+
+// Appends a line of a reply: the terminal's digits, a mark and the text.
+fn push_line(out: &mut Vec<u8>, digits: &[u8], mark: u8, text: &[u8]) -> Result<(), AllocError>
+    ensures { OnOk result (out.new.items ≡ out.old.items ++ digits.now ++ mark ∷ shown text.now ++ 10 ∷ []) }
+{
+    out.extend_from_slice(digits)?;
+    out.push(mark)?;
+    push_shown(out, text)?;
+    out.push(b'\n')?;
+    Ok(())
+}
+
+fn push_shown(out: &mut Vec<u8>, text: &[u8]) -> Result<(), AllocError>
+    ensures { OnOk result (out.new.items ≡ out.old.items ++ shown text.now) }
+{
+    for c in text {
+        push_character(out, *c)?;
+    }
+    Ok(())
+}
+
+// Appends a character, or the backslash and the two digits that stand for it.
+fn push_character(out: &mut Vec<u8>, c: u8) -> Result<(), AllocError>
+    ensures { OnOk result (out.new.items ≡ out.old.items ++ shown_character c) }
+{
+    if c >= 32 && c != 127 && c != b'\\' {
+        out.push(c)?;
+        return Ok(());
+    }
+    out.push(b'\\')?;
+    out.push(hex_digit(c / 16))?;
+    out.push(hex_digit(c % 16))?;
+    Ok(())
+}
+
+fn hex_digit(n: u8) -> u8
+    requires { n < 16 }
+    ensures { result ≡ wire.hex_digit n }
+{
+    if n < 10 { b'0' + n } else { b'A' + (n - 10) }
+}

@@ -1,0 +1,156 @@
+// A stream, served: each line is run and answered before the next one.
+ghost use Rattle.std.specs.Prelude.{◌≡◌, ◌≢◌, ◌+◌, ℕ, List, [], ◌∷◌, ◌++◌, false, OnOk, IfOk, IfErr, is_ok, Ok, Err};
+ghost use Rattle.std.specs.Io.KnownBytes.{Appends};
+ghost use Rattle.mworld.specs.Profile.{profile};
+ghost use Rattle.mworld.specs.View.{server_of, reply_of};
+ghost use Rattle.mwire.specs.Wire.{reply_text};
+ghost use Rattle.mwire.specs.Watched.{inner_of, failed_of, ReadBroke, WriteBroke};
+ghost use Rattle.mwire.specs.Serves.{Serves};
+ghost use Rattle.mwire.specs.Progress.{Passes, LineSent};
+
+use crate::fate::{Fate, fate_of};
+use crate::fault::WireFault;
+use crate::line_buffer::LineBuffer;
+use crate::reply::reply_bytes;
+use crate::watched::Watched;
+use mworld::{Reply, World};
+use std::alloc::Global;
+use std::io::{Read, Write};
+
+/// Runs the lines of a stream, to its end, and writes their replies: each one whole before the next line is run.
+///
+/// The faults:
+/// - `Read`: a read failed, or there were 1,000,000,000 reads. The lines that a line feed ended are run and answered, and no other.
+/// - `Write`: a write failed, or took nothing.
+/// - `Memory`: want of memory for a reply's bytes.
+///
+/// After `Write` and `Memory` the lines up to some last one are run. The replies of all but the last are written whole, and
+/// of the last one's a front. After each fault the world stands after the lines that were run.
+pub fn serve<R: Read, W: Write>(
+    alloc: Global,
+    world: &mut World,
+    reader: &mut Watched<R>,
+    writer: &mut Watched<W>,
+) -> Result<(), WireFault>
+    requires reader_works { failed_of reader.old ≡ false }
+    requires writer_works { failed_of writer.old ≡ false }
+    ensures serves { Serves profile (server_of world.old) (server_of world.new)
+        (R.remaining (inner_of reader.old)) (R.remaining (inner_of reader.new))
+        (W.contents (inner_of writer.old)) (W.contents (inner_of writer.new)) result }
+
+    // A fault of a device is answered only where the device failed.
+    ensures read { result ≡ Err WireFault.Read → ReadBroke reader.old reader.new }
+    ensures write { result ≡ Err WireFault.Write → WriteBroke writer.new }
+    ensures reader_works { result ≢ Err WireFault.Read → failed_of reader.new ≡ false }
+    ensures writer_works { result ≢ Err WireFault.Write → failed_of writer.new ≡ false }
+{
+    let mut line = LineBuffer::new();
+    let mut piece = [0u8; 4096];
+    for _turn in 0..1_000_000_000u32 {
+        match reader.read(&mut piece) {
+            Err(_) => return Err(WireFault::Read),
+            Ok(0) => return answer_line(alloc, world, line.unfinished(), writer),
+            Ok(n) => {
+                if let Err(fault) = take_piece(alloc, world, &mut line, &piece[..n], writer) {
+                    return Err(fault);
+                }
+            }
+        }
+    }
+    Err(WireFault::Read)
+}
+
+// Takes the next bytes of the stream.
+fn take_piece<W: Write>(
+    alloc: Global,
+    world: &mut World,
+    line: &mut LineBuffer,
+    piece: &[u8],
+    writer: &mut Watched<W>,
+) -> Result<(), WireFault>
+    ensures passes { Passes profile (server_of world.old) line.old piece.now (server_of world.new) line.new
+        (W.contents (inner_of writer.old)) (W.contents (inner_of writer.new)) result }
+    ensures fault { IfErr result (λ e. (e ≢ WireFault.Read) × (e ≡ WireFault.Write → WriteBroke writer.new)) }
+    ensures works { result ≢ Err WireFault.Write → failed_of writer.new ≡ failed_of writer.old }
+{
+    for byte in piece {
+        take_byte(alloc, world, line, *byte, writer)?;
+    }
+    Ok(())
+}
+
+// Takes the next byte of the stream.
+fn take_byte<W: Write>(
+    alloc: Global,
+    world: &mut World,
+    line: &mut LineBuffer,
+    byte: u8,
+    writer: &mut Watched<W>,
+) -> Result<(), WireFault>
+    ensures passes { Passes profile (server_of world.old) line.old (byte ∷ []) (server_of world.new) line.new
+        (W.contents (inner_of writer.old)) (W.contents (inner_of writer.new)) result }
+    ensures fault { IfErr result (λ e. (e ≢ WireFault.Read) × (e ≡ WireFault.Write → WriteBroke writer.new)) }
+    ensures works { result ≢ Err WireFault.Write → failed_of writer.new ≡ failed_of writer.old }
+{
+    if byte != b'\n' {
+        line.push(byte);
+        return Ok(());
+    }
+    let result = answer_line(alloc, world, line.finished(), writer);
+    line.clear();
+    result
+}
+
+// Runs a line and writes its answer.
+fn answer_line<W: Write>(
+    alloc: Global,
+    world: &mut World,
+    line: &[u8],
+    writer: &mut Watched<W>,
+) -> Result<(), WireFault>
+    ensures sent { LineSent profile (server_of world.old) line.now (server_of world.new)
+        (W.contents (inner_of writer.old)) (W.contents (inner_of writer.new)) (is_ok result) }
+    ensures fault { IfErr result (λ e. (e ≢ WireFault.Read) × (e ≡ WireFault.Write → WriteBroke writer.new)) }
+    ensures works { result ≢ Err WireFault.Write → failed_of writer.new ≡ failed_of writer.old }
+    ensures idle { line.now ≡ [] → result ≡ Ok tt }
+{
+    match fate_of(line) {
+        Fate::Ignored => Ok(()),
+        Fate::TooLong => write_whole(writer, b"?!ZLINE\n"),
+        Fate::Unreadable => write_whole(writer, b"?!ZWIRE\n"),
+        Fate::Runs(terminal, text) => {
+            let reply = world.line(terminal, text);
+            let bytes = shown_reply(alloc, terminal, &reply)?;
+            write_whole(writer, &bytes)
+        }
+    }
+}
+
+fn shown_reply(alloc: Global, terminal: u32, reply: &Reply) -> Result<Vec<u8>, WireFault>
+    ensures ok { IfOk result (λ bytes. bytes.items ≡ reply_text terminal (reply_of reply.now)) }
+    ensures fault { IfErr result (λ e. e ≡ WireFault.Memory) }
+{
+    match reply_bytes(alloc, terminal, reply) {
+        Ok(bytes) => Ok(bytes),
+        Err(_) => Err(WireFault::Memory),
+    }
+}
+
+// Writes all of these bytes, or a front of them.
+fn write_whole<W: Write>(writer: &mut Watched<W>, bytes: &[u8]) -> Result<(), WireFault>
+    ensures sent { (sent rest : List ℕ) × (bytes.now ≡ sent ++ rest)
+        × Appends (W.contents (inner_of writer.old)) (W.contents (inner_of writer.new)) sent
+        × OnOk result (rest ≡ []) }
+    ensures fault { IfErr result (λ e. (e ≡ WireFault.Write) × WriteBroke writer.new) }
+    ensures ok { OnOk result (failed_of writer.new ≡ failed_of writer.old) }
+{
+    let mut rest = bytes;
+    while !rest.is_empty() {
+        match writer.write(rest) {
+            Ok(0) => return Err(WireFault::Write),
+            Ok(n) => rest = &rest[n..],
+            Err(_) => return Err(WireFault::Write),
+        }
+    }
+    Ok(())
+}

@@ -1,0 +1,88 @@
+// Readers and writers that remember whether a call failed.
+ghost use Rattle.std.specs.Prelude.{◌≡◌, ◌+◌, ◌-◌, ◌^◌, ◌||◌, min, false, is_err};
+ghost use Rattle.std.specs.Io.{ReadsAtMost, WritesAtMost};
+ghost use Rattle.std.specs.Io.KnownBytes.{Keeps, ReadConsumes, WriteAppends};
+ghost use Rattle.mwire.specs.Watched.{inner_of, failed_of, calls_of, stalled_of, is_stall};
+
+use std::io;
+use std::io::{Read, Write};
+
+/// A reader or a writer around another, which remembers whether a call of the inner one failed.
+#[derive(Drop)]
+pub struct Watched<T> {
+    inner: T,
+    failed: bool,
+    stalled: bool,
+    calls: u64,
+}
+
+impl<T> Watched<T> {
+    /// A reader or a writer around this one, of which no call has failed yet.
+    pub fn new(inner: T) -> Self
+        ensures inner { inner_of result ≡ inner }
+        ensures failed { failed_of result ≡ false }
+        ensures stalled { stalled_of result ≡ false }
+        ensures calls { calls_of result ≡ 0 }
+    {
+        Watched {
+            inner,
+            failed: false,
+            stalled: false,
+            calls: 0,
+        }
+    }
+
+    /// Whether a call of the inner one has answered an error.
+    pub fn failed(&self) -> bool
+        ensures { result ≡ failed_of self.now }
+    {
+        self.failed
+    }
+}
+
+impl<R: Read> Read for Watched<R> {
+    ghost remaining = { λ s. R.remaining (inner_of s) };
+
+    fn read(&mut self, buf: &mut [u8]) -> io::Result<usize>
+        ensures bound { ReadsAtMost result buf.new }
+        ensures bytes { ReadConsumes (R.remaining (inner_of self.old)) (R.remaining (inner_of self.new)) result buf.new }
+        ensures failed { failed_of self.new ≡ (failed_of self.old || is_err result) }
+        ensures calls { calls_of self.new ≡ min (calls_of self.old + 1) (2 ^ 64 - 1) }
+    {
+        self.calls = self.calls.saturating_add(1);
+        let result = self.inner.read(buf);
+        self.failed = self.failed || result.is_err();
+        result
+    }
+}
+
+impl<W: Write> Write for Watched<W> {
+    ghost contents = { λ s. W.contents (inner_of s) };
+
+    fn write(&mut self, buf: &[u8]) -> io::Result<usize>
+        ensures bound { WritesAtMost result buf.now }
+        ensures bytes { WriteAppends (W.contents (inner_of self.old)) (W.contents (inner_of self.new)) result buf.now }
+        ensures failed { failed_of self.new ≡ (failed_of self.old || is_err result) }
+        ensures stalled { stalled_of self.new ≡ is_stall result }
+    {
+        let result = self.inner.write(buf);
+        self.failed = self.failed || result.is_err();
+        self.stalled = is_empty_write(&result);
+        result
+    }
+
+    fn flush(&mut self) -> io::Result<()>
+        ensures bytes { Keeps (W.contents (inner_of self.old)) (W.contents (inner_of self.new)) }
+        ensures failed { failed_of self.new ≡ (failed_of self.old || is_err result) }
+    {
+        let result = self.inner.flush();
+        self.failed = self.failed || result.is_err();
+        result
+    }
+}
+
+fn is_empty_write(answer: &io::Result<usize>) -> bool
+    ensures { result ≡ is_stall answer.now }
+{
+    matches!(answer, Ok(0))
+}

@@ -1,0 +1,31 @@
+//! mserve, a shared M server.
+//!
+//! `mserve run` answers the lines of its standard input on its standard output.
+#![tactic(auto)]
+
+mod program;
+#[cfg(test)]
+mod tests;
+
+use crate::program::{program, short_of_memory};
+use std::process::ExitCode;
+use std::{env, io};
+
+// The words behind the program's name.
+fn words(rt: &HostRuntime) -> io::Result<Vec<String>> {
+    Ok(env::args(rt)?.skip(1).collect(rt.alloc())?)
+}
+
+fn main(rt: HostRuntime) -> ExitCode {
+    let status = match words(&rt) {
+        Ok(words) => program(
+            &rt,
+            words.as_slice(),
+            rt.stdin(),
+            rt.stdout(),
+            &mut rt.stderr(),
+        ),
+        Err(_) => short_of_memory(&mut rt.stderr()),
+    };
+    ExitCode::from(status)
+}

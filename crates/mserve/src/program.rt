@@ -1,0 +1,58 @@
+// The program, over any reader and two writers.
+ghost use Rattle.std.specs.Prelude.{◌≡◌, ◌↔◌, false, map, string_bytes};
+ghost use Rattle.mserve.specs.Statuses.{IsStatus, is_run};
+
+use mwire::{Watched, serve};
+use mworld::World;
+use std::io::{Read, Write};
+
+/// Runs the program with these words, which stand behind its name on the command line, and gives the exit status: 0 where
+/// the input was answered to its end, 2 for words that are refused, and 5 for a fault of the wire, of which `errors` is told.
+///
+/// The word `run` alone is taken. A fault in writing to `errors` is passed over.
+pub fn program<H: AllocGlobal, I: Read, O: Write, E: Write>(
+    rt: &H,
+    words: &[String],
+    input: I,
+    output: O,
+    errors: &mut E,
+) -> u8
+where
+    I: Drop,
+    O: Drop,
+    ensures status { IsStatus result }
+    ensures refused { (result ≡ 2) ↔ (is_run (map string_bytes words.now) ≡ false) }
+{
+    if !is_run(words) {
+        return 2;
+    }
+    let alloc = rt.alloc();
+    let mut world = World::new(alloc);
+    let mut reader = Watched::new(input);
+    let mut writer = Watched::new(output);
+    match serve(alloc, &mut world, &mut reader, &mut writer) {
+        Ok(()) => 0,
+        Err(fault) => {
+            let _ = writeln!(errors, "mserve: wire: {fault}");
+            5
+        }
+    }
+}
+
+// Whether the words are those of the one command that there is.
+fn is_run(words: &[String]) -> bool
+    ensures { result ≡ is_run (map string_bytes words.now) }
+{
+    match words {
+        [word] => word.as_str() == "run",
+        _ => false,
+    }
+}
+
+/// Tells `errors` that there was no memory for the command line, and gives the exit status.
+pub fn short_of_memory<E: Write>(errors: &mut E) -> u8
+    ensures { result ≡ 2 }
+{
+    let _ = writeln!(errors, "mserve: Memory");
+    2
+}

@@ -1,0 +1,3 @@
+// Tests that take the whole program.
+mod command_line;
+mod memory;

@@ -1,12 +1,12 @@
 -- How calls are put together.
-use Rattle.std.proofs.Common.{◌≡◌, ℕ, Bool, true, false, Option, Some, None, Result, Ok, Err, refl, sym, ap, ◌∙◌, subst}
+use Rattle.std.proofs.Common.{◌≡◌, ℕ, Bool, true, false, Result, Ok, Err, refl, sym, ap, ◌∙◌, subst}
 use Rattle.std.specs.Result.{IsErr, IsErrAnd}
 use Rattle.mspec.specs.Code.{Code}
-use Rattle.mspec.specs.Plan.{Op, Answer, Plan, Done, Ask, then_plan, perform, cut_short}
-use Rattle.mspec.specs.Act.{Text, Node, Locals, State, Outcome, Gives, Fails, Act, on_gives, ◌>>=◌, ◌>>◌, give}
+use Rattle.mspec.specs.Plan.{Plan, Done, Ask, then_plan, perform, cut_short}
+use Rattle.mspec.specs.Act.{Locals, Outcome, Gives, Fails, Act, on_gives, ◌>>=◌, give}
 use Rattle.mspec.proofs.Plans.{perform-then, cut_first, cut_second}
-use Rattle.mmeaning.specs.Step.{World, is_lost}
-use Rattle.mmeaning.specs.Calls.{Standing, Here, Gave, FailedAs, Ends, Did, Evaluates, Follows, ops_of, point}
+use Rattle.mmeaning.specs.Step.{is_lost}
+use Rattle.mmeaning.specs.Calls.{Standing, Here, Gave, FailedAs, Ends, Did, Evaluates, Follows, ops_of}
 
 -- after what an act gives, the rest is left
 pub then_follows : {A B : Type 0} (b : Standing) (p : Act A) (f : A → Act B) (h : Here) (a : A) (h' : Here) → Gave b p h a h' → Follows b (p >>= f) h (f a) h'

@@ -1,36 +1,68 @@
--- How `serve` and `read_events` end.
+-- How far `serve` comes, and how it ends.
 use Rattle.std.proofs.Common.{◌≡◌, ◌≢◌, ◌++◌, List, [], ◌∷◌, ℕ, refl, sym, ◌∙◌, ap, subst, Ok, Err, Result, Option, append-nil, take, IfErr, is_ok, arith}
 use Rattle.std.specs.Prelude.{map}
-use Rattle.std.proofs.KnownBytes.{Appends-trans, Consumes-trans}
+use Rattle.std.proofs.KnownBytes.{Appends-nil, Appends-trans, Consumes-nil, Consumes-trans, Consumes-kept}
 use Rattle.std.specs.Str.Lines.{lines, lines_of_parts, strip_carriage_return}
-use Rattle.std.specs.Io.KnownBytes.{Appends, Consumes, IsAtEnd}
+use Rattle.std.specs.Io.KnownBytes.{Keeps, Consumes, IsAtEnd}
 use Rattle.mspec.specs.Act.{Text}
 use Rattle.mmeaning.specs.Step.{Settings, Server}
 use Rattle.mwire.specs.Wire.{fate_of}
 use Rattle.mwire.specs.Answers.{Answers, LineAnswered, Breaks}
-use Rattle.mwire.specs.Progress.{EachAnswered, Stands, Passes, LineSent}
+use Rattle.mwire.specs.Progress.{EachAnswered, Passes, LineSent, HasServed}
 use Rattle.mwire.specs.Serves.{EndsBy, Serves}
 use Rattle.mwire.specs.declared.fault.WireFault.{WireFault}
 use Rattle.mwire.specs.declared.fault.WireFault.TheVariants.{Read, Write, Memory}
 use Rattle.mwire.proofs.Cuts.{fate_of-kept_end, lines-cut, finished_lines-cut, last_part}
 use Rattle.mwire.proofs.LineAnswers.{LineAnswered-same, EachAnswered-more, Answers-each}
+use Rattle.mwire.proofs.Progresses.{Stands-start}
 
 LineAnswered-kept_end : (settings : Settings) (old : Server) (kept rest answer : Text) (new : Server)
     → kept ≡ take 262 rest → LineAnswered settings old kept answer new → LineAnswered settings old rest answer new
 LineAnswered-kept_end settings old kept rest answer new e t =
     LineAnswered-same settings old kept rest answer new (ap fate_of e ∙ fate_of-kept_end 262 rest (omega arith)) t
 
+-- ---- how far `serve` has come
+
+pub HasServed-start : (settings : Settings) (first : Server) (left held : Option Text) → HasServed settings first first left left held held []
+HasServed-start settings first left held = record { read = []; sent = []; consumed = Consumes-nil left; appended = Appends-nil held; stands = Stands-start settings first }
+
+-- a read that failed
+pub HasServed-kept : (settings : Settings) (first now : Server) (left left' left'' held held' : Option Text) (kept : Text)
+    → HasServed settings first now left left' held held' kept → Keeps left' left'' → HasServed settings first now left left'' held held' kept
+HasServed-kept settings first now left left' left'' held held' kept h k = record {
+  read = h.read;
+  sent = h.sent;
+  consumed = Consumes-kept left left' left'' h.read h.consumed k;
+  appended = h.appended;
+  stands = h.stands;
+}
+
+-- a piece that was taken whole
+pub HasServed-more : {E : Type 0} (settings : Settings) (first now new : Server) (left left' left'' held held' held'' : Option Text) (kept kept' piece : Text) (u : Unit {0})
+    → HasServed settings first now left left' held held' kept → Consumes left' left'' piece → Passes {E = E} settings now kept piece new kept' held' held'' (Ok u)
+    → HasServed settings first new left left'' held held'' kept'
+HasServed-more settings first now new left left' left'' held held' held'' kept kept' piece u h c p = record {
+  read = h.read ++ piece;
+  sent = h.sent ++ p.sent;
+  consumed = Consumes-trans left left' left'' h.read piece h.consumed c;
+  appended = Appends-trans held held' held'' h.sent p.sent h.appended p.appended;
+  stands = p.outcome first h.read h.sent h.stands;
+}
+
+-- ---- how it ends
+
 -- no more is read
-pub Serves-read : (settings : Settings) (first : Server) (read : Text) (now : Server) (kept text : Text) (left left' held held' : Option Text)
-    → Consumes left left' read → Appends held held' text → Stands settings first read now kept text → Serves settings first now left left' held held' (Err Read)
-Serves-read settings first read now kept text left left' held held' c a s = record {
-  read = read;
-  consumed = c;
-  sent = text;
-  appended = a;
+pub Serves-read : (settings : Settings) (first now : Server) (left left' held held' : Option Text) (kept : Text)
+    → HasServed settings first now left left' held held' kept → Serves settings first now left left' held held' (Err Read)
+Serves-read settings first now left left' held held' kept h = record {
+  read = h.read;
+  consumed = h.consumed;
+  sent = h.sent;
+  appended = h.appended;
   outcome =
-      let P : List Text → Type 0 = λ ls. Answers settings first ls text now in
-      subst P (sym (finished_lines-cut read s.finished kept s.cut)) (Answers-each settings first (map strip_carriage_return s.finished) text now s.answered);
+      let s = h.stands in
+      let P : List Text → Type 0 = λ ls. Answers settings first ls h.sent now in
+      subst P (sym (finished_lines-cut h.read s.finished kept s.cut)) (Answers-each settings first (map strip_carriage_return s.finished) h.sent now s.answered);
 }
 
 EachAnswered-end : (settings : Settings) (first : Server) (done : List Text) (rest : Text) (now : Server) (text : Text) (new : Server) (answer : Text)
@@ -66,50 +98,60 @@ EndsBy-break settings old read sent new Read ne b = absurd (ne refl)
 EndsBy-break settings old read sent new Write ne b = b
 EndsBy-break settings old read sent new Memory ne b = b
 
--- the stream is at its end, and the unfinished last line is answered, if there is one
-pub Serves-end : (X : WireFault → Type 0) (settings : Settings) (first : Server) (read : Text) (now : Server) (kept text : Text) (new : Server) (left left' held held' held'' : Option Text) (result : Result (Unit {0}) WireFault)
-    → Consumes left left' read → IsAtEnd left' → Appends held held' text → Stands settings first read now kept text
-    → LineSent settings now kept new held' held'' (is_ok result) → (kept ≡ [] → result ≡ Ok tt) → IfErr result (λ e. (e ≢ Read) × X e)
-    → Serves settings first new left left' held held'' result
-Serves-end X settings first read now kept text new left left' held held' held'' (Ok u) c z a s p idle f = record {
-  read = read;
-  consumed = c;
-  sent = text ++ p.part;
-  appended = Appends-trans held held' held'' text p.part a p.appended;
-  outcome =
-      let whole : p.answer ≡ p.part = p.of_answer ∙ (ap (λ x. p.part ++ x) (p.all_sent refl) ∙ append-nil p.part) in
-      let taken = LineAnswered-kept_end settings now kept s.cut.rest p.answer new s.cut.kept_is p.answered in
-      let each = EachAnswered-end settings first (map strip_carriage_return s.finished) s.cut.rest now text new p.answer s.answered taken in
-      (z, rw (lines-cut read s.finished kept s.cut, ← whole) (Answers-each settings first _ _ new each));
-}
-Serves-end X settings first read now kept text new left left' held held' held'' (Err e) c z a s p idle f = record {
-  read = read;
-  consumed = c;
-  sent = text ++ p.part;
-  appended = Appends-trans held held' held'' text p.part a p.appended;
-  outcome =
-      let taken = LineAnswered-kept_end settings now kept s.cut.rest p.answer new s.cut.kept_is p.answered in
-      let some : s.cut.rest ≡ [] → ⊥ = λ empty. let bad = idle (s.cut.kept_is ∙ ap (take 262) empty) in cc in
-      EndsBy-break settings first read (text ++ p.part) new e f.0
-      (rw (lines-cut read s.finished kept s.cut) (Breaks-end settings first (map strip_carriage_return s.finished) s.cut.rest now text new p.answer p.part p.unsent some s.answered taken p.of_answer));
-}
-
--- a line of a piece broke
-pub Serves-piece : (settings : Settings) (first : Server) (read : Text) (now : Server) (kept text piece : Text) (new : Server) (kept' : Text) (left left' left'' held held' held'' : Option Text) (e : WireFault)
-    → Consumes left left' read → Consumes left' left'' piece → Appends held held' text → Stands settings first read now kept text
-    → Passes settings now kept piece new kept' held' held'' (Err e) → e ≢ Read
-    → Serves settings first new left left'' held held'' (Err e)
-Serves-piece settings first read now kept text piece new kept' left left' left'' held held' held'' e c c' a s p f = record {
-  read = read ++ piece;
-  consumed = Consumes-trans left left' left'' read piece c c';
-  sent = text ++ p.sent;
-  appended = Appends-trans held held' held'' text p.sent a p.appended;
-  outcome = EndsBy-break settings first (read ++ piece) (text ++ p.sent) new e f (simp append-nil at (p.outcome first read text s []));
-}
-
 -- a read of no bytes
 pub Consumes-none : (a b c : Option Text) (bs buf : Text) (n : ℕ) → n ≡ 0 → Consumes a b bs → Consumes b c (take n buf) → Consumes a c bs
 Consumes-none a b c bs buf n e p q =
     let P : Text → Type 0 = λ l. Consumes a c l in
     let none : bs ++ take n buf ≡ bs = rw (e, append-nil) refl in
     subst P none (Consumes-trans a b c bs (take n buf) p q)
+
+-- the stream is at its end, and the unfinished last line is answered, if there is one
+serves_end : (X : WireFault → Type 0) (settings : Settings) (first now new : Server) (left left' held held' held'' : Option Text) (kept : Text) (result : Result (Unit {0}) WireFault)
+    → HasServed settings first now left left' held held' kept → IsAtEnd left'
+    → LineSent settings now kept new held' held'' (is_ok result) → (kept ≡ [] → result ≡ Ok tt) → IfErr result (λ e. (e ≢ Read) × X e)
+    → Serves settings first new left left' held held'' result
+serves_end X settings first now new left left' held held' held'' kept (Ok u) h z p idle f = record {
+  read = h.read;
+  consumed = h.consumed;
+  sent = h.sent ++ p.sent.part;
+  appended = Appends-trans held held' held'' h.sent p.sent.part h.appended p.sent.appended;
+  outcome =
+      let s = h.stands in
+      let whole : p.answer ≡ p.sent.part = p.sent.of_bytes ∙ (ap (λ x. p.sent.part ++ x) (p.sent.all_sent refl) ∙ append-nil p.sent.part) in
+      let taken = LineAnswered-kept_end settings now kept s.cut.rest p.answer new s.cut.kept_is p.answered in
+      let each = EachAnswered-end settings first (map strip_carriage_return s.finished) s.cut.rest now h.sent new p.answer s.answered taken in
+      (z, rw (lines-cut h.read s.finished kept s.cut, ← whole) (Answers-each settings first _ _ new each));
+}
+serves_end X settings first now new left left' held held' held'' kept (Err e) h z p idle f = record {
+  read = h.read;
+  consumed = h.consumed;
+  sent = h.sent ++ p.sent.part;
+  appended = Appends-trans held held' held'' h.sent p.sent.part h.appended p.sent.appended;
+  outcome =
+      let s = h.stands in
+      let taken = LineAnswered-kept_end settings now kept s.cut.rest p.answer new s.cut.kept_is p.answered in
+      let some : s.cut.rest ≡ [] → ⊥ = λ empty. let bad = idle (s.cut.kept_is ∙ ap (take 262) empty) in cc in
+      EndsBy-break settings first h.read (h.sent ++ p.sent.part) new e f.0
+      (rw (lines-cut h.read s.finished kept s.cut) (Breaks-end settings first (map strip_carriage_return s.finished) s.cut.rest now h.sent new p.answer p.sent.part p.sent.unsent some s.answered taken p.sent.of_bytes));
+}
+
+pub Serves-end : (X : WireFault → Type 0) (settings : Settings) (first now new : Server) (left left' left'' held held' held'' : Option Text) (kept line buf : Text) (n : ℕ) (result : Result (Unit {0}) WireFault)
+    → HasServed settings first now left left' held held' kept → n ≡ 0 → Consumes left' left'' (take n buf) → IsAtEnd left'' → line ≡ kept
+    → LineSent settings now line new held' held'' (is_ok result) → (line ≡ [] → result ≡ Ok tt) → IfErr result (λ e. (e ≢ Read) × X e)
+    → Serves settings first new left left'' held held'' result
+Serves-end X settings first now new left left' left'' held held' held'' kept line buf n result h none c z same p idle f =
+    let P : Text → Type 0 = λ l. HasServed settings first now left left'' held held' l in
+    let at_end : HasServed settings first now left left'' held held' kept = record { read = h.read; sent = h.sent; consumed = Consumes-none left left' left'' h.read buf n none h.consumed c; appended = h.appended; stands = h.stands } in
+    serves_end X settings first now new left left'' held held' held'' line result (subst P (sym same) at_end) z p idle f
+
+-- a line of a piece broke
+pub Serves-piece : (settings : Settings) (first now new : Server) (left left' left'' held held' held'' : Option Text) (kept kept' piece : Text) (e : WireFault)
+    → HasServed settings first now left left' held held' kept → Consumes left' left'' piece → Passes settings now kept piece new kept' held' held'' (Err e) → e ≢ Read
+    → Serves settings first new left left'' held held'' (Err e)
+Serves-piece settings first now new left left' left'' held held' held'' kept kept' piece e h c p f = record {
+  read = h.read ++ piece;
+  consumed = Consumes-trans left left' left'' h.read piece h.consumed c;
+  sent = h.sent ++ p.sent;
+  appended = Appends-trans held held' held'' h.sent p.sent h.appended p.appended;
+  outcome = EndsBy-break settings first (h.read ++ piece) (h.sent ++ p.sent) new e f (simp append-nil at (p.outcome first h.read h.sent h.stands []));
+}

@@ -1,12 +1,14 @@
 -- The events of the lines of a stream, gathered as its bytes come.
-use Rattle.std.proofs.Common.{◌≡◌, ◌++◌, ◌+◌, ◌<◌, ◌≤◌, ◌==◌, List, [], ◌∷◌, ℕ, false, refl, sym, ◌∙◌, ap, subst, append_assoc, length, get_or, take, arith}
+use Rattle.std.proofs.Common.{◌≡◌, ◌++◌, ◌+◌, ◌<◌, ◌≤◌, ◌==◌, List, [], ◌∷◌, ℕ, false, refl, sym, ◌∙◌, ap, subst, Option, append_assoc, length, get_or, take, arith}
 use Rattle.std.specs.Prelude.{map}
+use Rattle.std.proofs.KnownBytes.{Consumes-nil, Consumes-trans}
+use Rattle.std.specs.Io.KnownBytes.{Consumes}
 use Rattle.std.specs.Str.Lines.{lines, lines_of_parts, strip_carriage_return}
 use Rattle.std.proofs.lemmas.List.{map-append, take_all, take_more}
 use Rattle.mspec.specs.Act.{Text}
 use Rattle.mmeaning.specs.Step.{Event}
 use Rattle.mwire.specs.Wire.{Fate, Ignored, TooLong, Unreadable, Runs, fate_of, before_events, events_of}
-use Rattle.mwire.specs.Progress.{Gathered}
+use Rattle.mwire.specs.Progress.{Gathered, HasGathered}
 use Rattle.mwire.proofs.Cuts.{fate_of-kept, fate_of-kept_end, IsCut-nil, IsCut-byte, IsCut-line, lines-cut, last_part}
 
 before_events-append : (fate : Fate) (xs ys : List Event) → before_events fate (xs ++ ys) ≡ before_events fate xs ++ ys
@@ -69,3 +71,16 @@ Gathered-end bytes kept events events' added s =
     ∙ (ap (λ es. events_of (map strip_carriage_return s.finished) ++ es) (last_events rest)
     ∙ (sym (events_of-append (map strip_carriage_return s.finished) (lines_of_parts (rest ∷ [])))
     ∙ ap events_of (sym (lines-cut bytes s.finished kept s.cut))))))
+
+-- ---- how far `read_events` has come, and how it ends
+
+pub HasGathered-start : (left : Option Text) → HasGathered left left [] []
+HasGathered-start left = record { read = []; consumed = Consumes-nil left; gathered = Gathered-start }
+
+pub HasGathered-more : (left left' left'' : Option Text) (kept kept' piece : Text) (events events' : List Event) → HasGathered left left' kept events → Consumes left' left'' piece
+    → ((past : Text) → Gathered past kept events → Gathered (past ++ piece) kept' events') → HasGathered left left'' kept' events'
+HasGathered-more left left' left'' kept kept' piece events events' h c more = record {
+  read = h.read ++ piece;
+  consumed = Consumes-trans left left' left'' h.read piece h.consumed c;
+  gathered = more h.read h.gathered;
+}

@@ -10,3 +10,4 @@ pub mod Outputs
 pub mod Gathers
 pub mod Results
 pub mod ServedLines
+pub mod Sends

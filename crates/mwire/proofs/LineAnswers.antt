@@ -2,7 +2,7 @@
 use Rattle.std.proofs.Common.{◌≡◌, ◌++◌, List, [], ◌∷◌, refl, sym, ◌∙◌, ap, subst, append_assoc, append-nil}
 use Rattle.std.specs.Prelude.{map}
 use Rattle.mspec.specs.Act.{Text}
-use Rattle.mmeaning.specs.Step.{Settings, Server, Event, Reply}
+use Rattle.mmeaning.specs.Step.{Settings, Server, Reply}
 use Rattle.mmeaning.specs.History.{History}
 use Rattle.mwire.specs.Wire.{Fate, Ignored, TooLong, Unreadable, Runs, fate_of, before_events, events_of, too_long_text, unreadable_text, reply_text}
 use Rattle.mwire.specs.Answers.{line_text, replies_behind, answer_text, Answers, FateAnswered, LineAnswered}

@@ -1,9 +1,8 @@
 -- How the lines of a stream are answered as its bytes come.
-use Rattle.std.proofs.Common.{◌≡◌, ◌≢◌, ◌++◌, ◌+◌, ◌<◌, ◌==◌, List, [], ◌∷◌, ℕ, refl, sym, ◌∙◌, ap, subst, Bool, true, false, Ok, Err, Result, Option, append_assoc, append-nil, length, take, drop, get_or, MatchResult, is_ok, take-append-drop, arith}
+use Rattle.std.proofs.Common.{◌≡◌, ◌++◌, ◌+◌, ◌<◌, ◌==◌, List, [], ◌∷◌, ℕ, refl, sym, ◌∙◌, ap, subst, false, Ok, Err, Result, Option, append_assoc, append-nil, length, take, drop, get_or, is_ok, take-append-drop, arith}
 use Rattle.std.specs.Prelude.{map}
 use Rattle.std.proofs.KnownBytes.{Appends-nil, Appends-trans}
 use Rattle.std.specs.Str.Lines.{lines, strip_carriage_return}
-use Rattle.std.specs.Io.KnownBytes.{Appends}
 use Rattle.std.proofs.lemmas.List.{take_more, map-append}
 use Rattle.mspec.specs.Act.{Text}
 use Rattle.mmeaning.specs.Step.{Settings, Server}
@@ -61,20 +60,20 @@ pub Passes-line : {E : Type 0} (settings : Settings) (old : Server) (kept line :
     → byte ≡ 10 → kept' ≡ [] → line ≡ strip_carriage_return kept → LineSent settings old line new before after (is_ok result)
     → Passes settings old kept (byte ∷ []) new kept' before after result
 Passes-line settings old kept line byte new kept' before after (Ok u) eb ek el p = record {
-  sent = p.part;
-  appended = p.appended;
+  sent = p.sent.part;
+  appended = p.sent.appended;
   outcome = λ first past text s.
       let P : Text → Type 0 = λ l. LineAnswered settings old l p.answer new in
-      let whole : p.answer ≡ p.part = p.of_answer ∙ (ap (λ x. p.part ++ x) (p.all_sent refl) ∙ append-nil p.part) in
+      let whole : p.answer ≡ p.sent.part = p.sent.of_bytes ∙ (ap (λ x. p.sent.part ++ x) (p.sent.all_sent refl) ∙ append-nil p.sent.part) in
       let stands = Stands-line settings first past old kept text new p.answer s (subst P el p.answered) in
       rw (eb, ek, ← whole) stands;
 }
 Passes-line settings old kept line byte new kept' before after (Err e) eb ek el p = record {
-  sent = p.part;
-  appended = p.appended;
+  sent = p.sent.part;
+  appended = p.sent.appended;
   outcome = λ first past text s more.
       let P : Text → Type 0 = λ l. LineAnswered settings old l p.answer new in
-      rw eb (Breaks-line settings first past old kept text new p.answer p.part p.unsent s (subst P el p.answered) p.of_answer more);
+      rw eb (Breaks-line settings first past old kept text new p.answer p.sent.part p.sent.unsent s (subst P el p.answered) p.sent.of_bytes more);
 }
 
 -- another byte

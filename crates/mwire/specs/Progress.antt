@@ -1,7 +1,7 @@
 -- How far a stream has been taken, and answered.
-use Rattle.std.specs.Prelude.{◌≡◌, ◌==◌, ◌≢◌, ℕ, Bool, true, false, List, [], ◌∷◌, ◌++◌, take, map, OnOk, MatchResult, Result, Option}
+use Rattle.std.specs.Prelude.{◌≡◌, ◌==◌, Bool, true, false, List, [], ◌∷◌, ◌++◌, take, map, MatchResult, Result, Option}
 use Rattle.std.specs.List.{All, flat_map}
-use Rattle.std.specs.Io.KnownBytes.{Appends}
+use Rattle.std.specs.Io.KnownBytes.{Appends, Consumes}
 use Rattle.std.specs.Str.Lines.{lines, strip_carriage_return}
 use Rattle.mspec.specs.Act.{Text}
 use Rattle.mmeaning.specs.Step.{Settings, Server, Event}
@@ -45,18 +45,42 @@ pub record Passes {E : Type 0} (settings : Settings) (old : Server) (kept bytes 
       → MatchResult result (λ _. Stands settings first (past ++ bytes) new kept' (text ++ sent))
       (λ _. (more : Text) → Breaks settings first (lines ((past ++ bytes) ++ more)) (text ++ sent) new)
 
--- a line was answered, and of its answer a front was sent, the whole where `whole` is true
+-- of the bytes all but this rest were sent
+pub record SentUpTo (bytes rest : Text) (before after : Option Text) : Type 0 where
+  pub part : Text
+  pub of_bytes : bytes ≡ part ++ rest
+  pub appended : Appends before after part
+
+-- of the bytes a front was sent, the whole where `whole` is true
+pub record FrontSent (bytes : Text) (before after : Option Text) (whole : Bool) : Type 0 where
+  pub part : Text
+  pub unsent : Text
+  pub of_bytes : bytes ≡ part ++ unsent
+  pub all_sent : whole ≡ true → unsent ≡ []
+  pub appended : Appends before after part
+
+-- a line was answered, and of its answer a front was sent
 pub record LineSent (settings : Settings) (old : Server) (line : Text) (new : Server) (before after : Option Text) (whole : Bool) : Type 0 where
   pub answer : Text
   pub answered : LineAnswered settings old line answer new
-  pub part : Text
-  pub unsent : Text
-  pub of_answer : answer ≡ part ++ unsent
-  pub all_sent : whole ≡ true → unsent ≡ []
-  pub appended : Appends before after part
+  pub sent : FrontSent answer before after whole
+
+-- so far these bytes were read and those sent, and the finished lines of those read are answered
+pub record HasServed (settings : Settings) (first now : Server) (left left' held held' : Option Text) (kept : Text) : Type 0 where
+  pub read : Text
+  pub sent : Text
+  pub consumed : Consumes left left' read
+  pub appended : Appends held held' sent
+  pub stands : Stands settings first read now kept sent
 
 -- the events are those of the finished lines of the bytes so far
 pub record Gathered (bytes kept : Text) (events : List Event) : Type 0 where
   pub finished : List Text
   pub cut : IsCut bytes finished kept
   pub events_are : events ≡ events_of (map strip_carriage_return finished)
+
+-- so far these bytes were read, and the events of their finished lines are gathered
+pub record HasGathered (left left' : Option Text) (kept : Text) (events : List Event) : Type 0 where
+  pub read : Text
+  pub consumed : Consumes left left' read
+  pub gathered : Gathered read kept events

@@ -1,5 +1,5 @@
 -- What `serve` and `read_events` do with the bytes of a reader and of a writer.
-use Rattle.std.specs.Prelude.{◌≡◌, ◌≢◌, List, map, MatchResult, Result, Option}
+use Rattle.std.specs.Prelude.{◌≡◌, ◌≢◌, List, MatchResult, Result, Option}
 use Rattle.std.specs.Io.KnownBytes.{Appends, Consumes, IsAtEnd}
 use Rattle.std.specs.Str.Lines.{lines}
 use Rattle.mspec.specs.Act.{Text}

@@ -1,12 +1,11 @@
 // A stream, served: each line is run and answered before the next one.
 ghost use Rattle.std.specs.Prelude.{◌≡◌, ◌≢◌, ◌+◌, ℕ, List, [], ◌∷◌, ◌++◌, false, OnOk, IfOk, IfErr, is_ok, Ok, Err};
-ghost use Rattle.std.specs.Io.KnownBytes.{Appends};
 ghost use Rattle.mworld.specs.Profile.{profile};
 ghost use Rattle.mworld.specs.View.{server_of, reply_of};
 ghost use Rattle.mwire.specs.Wire.{reply_text};
 ghost use Rattle.mwire.specs.Watched.{inner_of, failed_of, ReadBroke, WriteBroke};
 ghost use Rattle.mwire.specs.Serves.{Serves};
-ghost use Rattle.mwire.specs.Progress.{Passes, LineSent};
+ghost use Rattle.mwire.specs.Progress.{Passes, LineSent, FrontSent};
 
 use crate::fate::{Fate, fate_of};
 use crate::fault::WireFault;
@@ -138,9 +137,7 @@ fn shown_reply(alloc: Global, terminal: u32, reply: &Reply) -> Result<Vec<u8>, W
 
 // Writes all of these bytes, or a front of them.
 fn write_whole<W: Write>(writer: &mut Watched<W>, bytes: &[u8]) -> Result<(), WireFault>
-    ensures sent { (sent rest : List ℕ) × (bytes.now ≡ sent ++ rest)
-        × Appends (W.contents (inner_of writer.old)) (W.contents (inner_of writer.new)) sent
-        × OnOk result (rest ≡ []) }
+    ensures sent { FrontSent bytes.now (W.contents (inner_of writer.old)) (W.contents (inner_of writer.new)) (is_ok result) }
     ensures fault { IfErr result (λ e. (e ≡ WireFault.Write) × WriteBroke writer.new) }
     ensures ok { OnOk result (failed_of writer.new ≡ failed_of writer.old) }
 {

@@ -48,6 +48,7 @@ impl<R: Read> Read for Watched<R> {
         ensures bytes { ReadConsumes (R.remaining (inner_of self.old)) (R.remaining (inner_of self.new)) result buf.new }
         ensures failed { failed_of self.new ≡ (failed_of self.old || is_err result) }
         ensures calls { calls_of self.new ≡ min (calls_of self.old + 1) (2 ^ 64 - 1) }
+        ensures stalled { stalled_of self.new ≡ stalled_of self.old }
     {
         self.calls = self.calls.saturating_add(1);
         let result = self.inner.read(buf);
@@ -64,6 +65,7 @@ impl<W: Write> Write for Watched<W> {
         ensures bytes { WriteAppends (W.contents (inner_of self.old)) (W.contents (inner_of self.new)) result buf.now }
         ensures failed { failed_of self.new ≡ (failed_of self.old || is_err result) }
         ensures stalled { stalled_of self.new ≡ is_stall result }
+        ensures calls { calls_of self.new ≡ calls_of self.old }
     {
         let result = self.inner.write(buf);
         self.failed = self.failed || result.is_err();
@@ -74,6 +76,8 @@ impl<W: Write> Write for Watched<W> {
     fn flush(&mut self) -> io::Result<()>
         ensures bytes { Keeps (W.contents (inner_of self.old)) (W.contents (inner_of self.new)) }
         ensures failed { failed_of self.new ≡ (failed_of self.old || is_err result) }
+        ensures stalled { stalled_of self.new ≡ stalled_of self.old }
+        ensures calls { calls_of self.new ≡ calls_of self.old }
     {
         let result = self.inner.flush();
         self.failed = self.failed || result.is_err();

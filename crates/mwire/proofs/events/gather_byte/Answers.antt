@@ -1,4 +1,4 @@
-use Rattle.std.proofs.Common.{◌∙◌, rules}
+use Rattle.std.proofs.Common.{rules}
 use Rattle.mwire.proofs.Gathers.{Gathered-byte, Gathered-line}
 use Rattle.mwire.proofs.events.gather_byte.Goals as goal
 

@@ -1,10 +1,9 @@
-use Rattle.std.proofs.Common.{[], refl, sym, ◌∙◌, ap}
-use Rattle.std.proofs.KnownBytes.{Appends-nil}
+use Rattle.std.proofs.Common.{refl, sym, ◌∙◌, ap, []}
 use Rattle.mworld.specs.View.{reply_of}
 use Rattle.mwire.specs.Fates.{fate_in}
-use Rattle.mwire.specs.Wire.{reply_text}
 use Rattle.mwire.proofs.LineAnswers.{LineAnswered-at}
-use Rattle.mwire.proofs.Results.{on_ok_at, not_ok}
+use Rattle.mwire.proofs.Results.{not_ok}
+use Rattle.mwire.proofs.Sends.{FrontSent-none}
 use Rattle.mwire.proofs.serving.answer_line.Goals as goal
 
 pub returns-in_err-bytes-in-Runs-clause-sent : goal.returns-in_err-bytes-in-Runs-clause-sent
@@ -13,40 +12,30 @@ returns-in_err-bytes-in-Runs-clause-sent g c =
     record {
       answer = _;
       answered = LineAnswered-at _ _ _ _ _ _ is (reply_of c.line-reply.result, c.line-reply.ensures, refl);
-      part = [];
-      unsent = _;
-      of_answer = refl;
-      all_sent = not_ok _ c.from_residual.ensures.0;
-      appended = Appends-nil _;
+      sent = FrontSent-none _ _ _ (not_ok _ c.from_residual.ensures.0);
     }
 
 pub returns-in-Ignored-clause-sent : goal.returns-in-Ignored-clause-sent
 returns-in-Ignored-clause-sent g c =
     let is = sym c.fate_of.ensures ∙ ap fate_in c.in-Ignored.is in
-    record { answer = []; answered = LineAnswered-at _ _ _ _ _ _ is (refl, refl); part = []; unsent = []; of_answer = refl; all_sent = λ _. refl; appended = Appends-nil _ }
+    record { answer = []; answered = LineAnswered-at _ _ _ _ _ _ is (refl, refl); sent = FrontSent-none _ _ _ (λ _. refl) }
 
 pub returns-in-TooLong-clause-sent : goal.returns-in-TooLong-clause-sent
 returns-in-TooLong-clause-sent g c =
     let is = sym c.fate_of.ensures ∙ ap fate_in c.in-TooLong.is in
-    let s = c.write_whole.ensures.sent in
-    record { answer = _; answered = LineAnswered-at _ _ _ _ _ _ is (refl, refl); part = s.0; unsent = s.1; of_answer = s.2; all_sent = on_ok_at _ _ s.4; appended = s.3 }
+    record { answer = _; answered = LineAnswered-at _ _ _ _ _ _ is (refl, refl); sent = c.write_whole.ensures.sent }
 
 pub returns-in-Unreadable-clause-sent : goal.returns-in-Unreadable-clause-sent
 returns-in-Unreadable-clause-sent g c =
     let is = sym c.fate_of.ensures ∙ ap fate_in c.in-Unreadable.is in
-    let s = c.write_whole-in-Unreadable.ensures.sent in
-    record { answer = _; answered = LineAnswered-at _ _ _ _ _ _ is (refl, refl); part = s.0; unsent = s.1; of_answer = s.2; all_sent = on_ok_at _ _ s.4; appended = s.3 }
+    record { answer = _; answered = LineAnswered-at _ _ _ _ _ _ is (refl, refl); sent = c.write_whole-in-Unreadable.ensures.sent }
 
 pub returns-in_ok-bytes-in-Runs-clause-sent : goal.returns-in_ok-bytes-in-Runs-clause-sent
 returns-in_ok-bytes-in-Runs-clause-sent g c =
     let is = sym c.fate_of.ensures ∙ ap fate_in c.in-Runs.is in
-    let s = c.write_whole-in-Runs.ensures.sent in
+    let same = c.deref.ensures.value ∙ c.in_ok-bytes-in-Runs.ensures.ok in
     record {
-      answer = reply_text c.in-Runs.terminal (reply_of c.line-reply.result);
-      answered = LineAnswered-at _ _ _ _ _ _ is (reply_of c.line-reply.result, c.line-reply.ensures, refl);
-      part = s.0;
-      unsent = s.1;
-      of_answer = sym c.in_ok-bytes-in-Runs.ensures.ok ∙ (sym c.deref.ensures.value ∙ s.2);
-      all_sent = on_ok_at _ _ s.4;
-      appended = s.3;
+      answer = c.deref.result.now;
+      answered = LineAnswered-at _ _ _ _ _ _ is (reply_of c.line-reply.result, c.line-reply.ensures, same);
+      sent = c.write_whole-in-Runs.ensures.sent;
     }

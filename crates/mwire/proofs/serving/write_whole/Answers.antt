@@ -1,9 +1,9 @@
-use Rattle.std.proofs.Common.{◌++◌, take, rules}
-use Rattle.std.proofs.KnownBytes.{Appends-trans}
-use Rattle.mwire.proofs.Fronts.{rest_after}
+use Rattle.std.proofs.Common.{rules, refl}
+use Rattle.mwire.proofs.Sends.{SentUpTo-start, SentUpTo-more}
 use Rattle.mwire.proofs.serving.write_whole.Goals as goal
 
+pub loop-rest-init : goal.loop-rest-init
+loop-rest-init g c = record { sent = SentUpTo-start _ _; works = refl }
+
 pub loop-rest-preserved : goal.loop-rest-preserved
-loop-rest-preserved g c =
-    let inv = c.loop-rest.invariant in
-    (inv.0 ++ take c.in-Ok.n c.loop-rest.rest.now, rest_after _ _ c.loop-rest.rest.now _ inv.1, Appends-trans _ _ _ _ _ inv.2 c.in-Ok.ensures.bytes, search rules)
+loop-rest-preserved g c = record { sent = SentUpTo-more _ _ _ _ _ _ c.loop-rest.invariant.sent c.in-Ok.ensures.bytes; works = search rules }

@@ -1,13 +1,13 @@
-use Rattle.std.proofs.Common.{◌≡◌, ℕ, List, ◌++◌, length}
-use Rattle.std.specs.Io.KnownBytes.{Appends}
+use Rattle.std.proofs.Common.{◌≡◌, length}
 use Rattle.mwire.specs.Watched.{inner_of, failed_of}
+use Rattle.mwire.specs.Progress.{SentUpTo}
 use Rattle.mwire.proofs.serving.write_whole.Given as goal
 
 abbrev pub invariant-loop-rest : goal.invariant-loop-rest
-invariant-loop-rest g l =
-    (sent : List ℕ) × (l.bytes ≡ sent ++ l.rest)
-    × Appends (g.W.Write.contents (inner_of l.initial.writer)) (g.W.Write.contents (inner_of l.writer)) sent
-    × (failed_of l.writer ≡ failed_of l.initial.writer)
+invariant-loop-rest g l = record {
+  sent : SentUpTo l.bytes l.rest (g.W.Write.contents (inner_of l.initial.writer)) (g.W.Write.contents (inner_of l.writer));
+  works : failed_of l.writer ≡ failed_of l.initial.writer;
+}
 
 abbrev pub decreases-loop-rest : goal.decreases-loop-rest
 decreases-loop-rest g l = length l.rest

@@ -1,4 +1,4 @@
-use Rattle.std.proofs.Common.{◌≡◌, arith}
+use Rattle.std.proofs.Common.{arith}
 use Rattle.mwire.proofs.Fronts.{take-push_room, take-push_full}
 use Rattle.mwire.proofs.line_buffer.LineBuffer.push.Goals as goal
 

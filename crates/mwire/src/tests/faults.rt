@@ -3,6 +3,8 @@ use super::devices::{Pieces, Sink};
 use crate::{Watched, WireFault, serve};
 use mworld::World;
 use std::alloc::Global;
+use std::io;
+use std::io::Write;
 use std::test::Fail;
 
 // Lines with their answers.
@@ -152,4 +154,27 @@ fn messages(rt: HostRuntime) -> Result<(), Fail> {
         assert_eq!(rt; format!(in rt.alloc(); "{fault}")?.as_str(), message);
     }
     Ok(())
+}
+
+// A writer that cannot flush.
+#[derive(Drop)]
+struct Stuck;
+
+impl Write for Stuck {
+    fn write(&mut self, buf: &[u8]) -> io::Result<usize> {
+        Ok(buf.len())
+    }
+
+    fn flush(&mut self) -> io::Result<()> {
+        Err(io::Error::from(io::ErrorKind::BrokenPipe))
+    }
+}
+
+#[test]
+fn a_flush_is_passed_on(rt: HostRuntime) {
+    let mut writer = Watched::new(Stuck);
+    assert!(rt; writer.write(b"a").is_ok());
+    assert!(rt; !writer.failed());
+    assert!(rt; writer.flush().is_err());
+    assert!(rt; writer.failed());
 }

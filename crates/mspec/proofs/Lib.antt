@@ -15,3 +15,6 @@ pub mod ReadingLoops
 pub mod GrammarExamples
 pub mod Plans
 pub mod Maps
+pub mod PieceLists
+pub mod PieceExamples
+pub mod PatternExamples

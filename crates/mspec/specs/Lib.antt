@@ -9,3 +9,7 @@ pub mod Code
 pub mod Plan
 pub mod Act
 pub mod Maps
+pub mod Pieces
+pub mod PieceLaws
+pub mod TextFunctions
+pub mod Pattern

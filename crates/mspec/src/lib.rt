@@ -6,3 +6,4 @@
 
 pub mod grammar_laws;
 pub mod number_laws;
+pub mod piece_laws;

@@ -1,5 +1,7 @@
 #!/usr/bin/env python3
-"""Prints crates/number_bench/stdout: the checksums of the benchmark's thousand rounds, by Python's own fractions."""
+"""Prints crates/benchmark/stdout: the checksums of the benchmark's thousand rounds, by Python's own fractions and texts."""
+import re
+
 from number_vectors import OPERATORS, text_of, value
 
 PASSES = 5
@@ -33,6 +35,11 @@ def main():
         print(f"  {'from_text':<12} {summed(lambda i: units(xs[i % 4]))}")
         print(f"  {'is_canonical':<12} {summed(lambda i: int(text_of(xs[i % 4]) == words[i % 4]))}")
         print(f"  {'write':<12} {summed(lambda i: len(text_of(xs[i % 4])))}")
+    text = "abcdefghi^" * 400 + "needle"
+    print("texts")
+    print(f"  {'pieces':<12} {summed(lambda i: len(text.split('^')))}")
+    print(f"  {'find':<12} {summed(lambda i: text.index('needle') + len('needle') + 1)}")
+    print(f"  {'matches':<12} {summed(lambda i: int(bool(re.fullmatch('[A-Za-z]+-[0-9]+', 'ABCDEFGHIJ-123456789'))))}")
 
 
 if __name__ == "__main__":

@@ -1,0 +1,58 @@
+// How an operation is timed.
+use std::time::Instant;
+
+// Each operation is timed so often; the least time counts, since other work on the machine only adds to it.
+const PASSES: u32 = 5;
+
+// How often an operation runs in a pass, and whether its time is printed.
+#[derive(Clone, Copy)]
+pub struct Plan {
+    pub rounds: usize,
+    pub timed: bool,
+}
+
+// What the time of a round is told as.
+#[derive(Clone, Copy)]
+pub enum Unit {
+    Nanoseconds,
+    /// So many bytes are gone over in a round, and the time is told as bytes a nanosecond.
+    BytesPerNanosecond(usize),
+}
+
+// Prints the time of the fastest pass, or the sum of what the rounds gave.
+pub fn measure<F: FnMut(usize) -> i128>(
+    rt: &HostRuntime,
+    name: &str,
+    plan: Plan,
+    unit: Unit,
+    work: F,
+) -> anyhow::Result<()>
+    requires { F.IsAlwaysCallable work }
+{
+    let mut work = work;
+    let mut sum: i128 = 0;
+    let mut least = u128::MAX;
+    for _ in 0..PASSES {
+        let start = Instant::now(rt)?;
+        for round in 0..plan.rounds {
+            sum = sum.wrapping_add(work(round));
+        }
+        least = least.min(start.elapsed(rt)?.as_nanos());
+    }
+    if !plan.timed {
+        println!(rt; "  {name:<12} {sum}")?;
+        return Ok(());
+    }
+    let rounds = plan.rounds.max(1) as u128;
+    let (tenths, unit) = match unit {
+        Unit::Nanoseconds => (least / rounds.div_ceil(10), "ns"),
+        Unit::BytesPerNanosecond(bytes) => (
+            (bytes as u128).saturating_mul(rounds).saturating_mul(10) / least.max(1),
+            "bytes/ns",
+        ),
+    };
+    let whole = tenths / 10;
+    let tenth = tenths % 10;
+    println!(rt; "  {name:<12} {whole:>4}.{tenth} {unit}")?;
+    Ok(())
+}

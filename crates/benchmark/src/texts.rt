@@ -1,0 +1,82 @@
+// Searches in texts, and pattern match.
+use crate::measure::{Plan, Unit, measure};
+use anyhow::Context;
+use mnum::Bytes7;
+use mtext::{Atom, Count, Pattern, PatternCode, Repeated, find, matches, pieces};
+use std::alloc::Global;
+
+// The long text is so many pieces, each with its delimiter, and then what is sought.
+const PIECE: &[u8] = b"abcdefghi^";
+
+const PIECES: usize = 400;
+
+const SOUGHT: &[u8] = b"needle";
+
+const SHORT: &[u8] = b"ABCDEFGHIJ-123456789";
+
+fn long_text(alloc: Global) -> anyhow::Result<Vec<u8>> {
+    let mut text = Vec::new(alloc);
+    for _ in 0..PIECES {
+        text.extend_from_slice(PIECE)?;
+    }
+    text.extend_from_slice(SOUGHT)?;
+    Ok(text)
+}
+
+fn members(alloc: Global, code: PatternCode) -> anyhow::Result<Atom> {
+    Ok(Atom {
+        count: Count {
+            least: 1,
+            most: None,
+        },
+        repeated: Repeated::Members(vec![in alloc; code]?),
+    })
+}
+
+// 1.A1"-"1.N
+fn letters_and_digits(alloc: Global) -> anyhow::Result<Pattern> {
+    let dash = Bytes7::new(b"-".to_vec(alloc)?)
+        .ok()
+        .context("a dash is ASCII")?;
+    let between = Atom {
+        count: Count {
+            least: 1,
+            most: Some(1),
+        },
+        repeated: Repeated::Copies(dash),
+    };
+    let atoms = vec![in alloc;
+        members(alloc, PatternCode::A)?,
+        between,
+        members(alloc, PatternCode::N)?,
+    ]?;
+    Ok(Pattern { atoms })
+}
+
+// Each on one text.
+pub fn texts(rt: &HostRuntime, plan: Plan) -> anyhow::Result<()> {
+    println!(rt; "texts")?;
+    let text = long_text(rt.alloc())?;
+    let unit = Unit::BytesPerNanosecond(text.len());
+    measure(rt, "pieces", plan, unit, |_| pieces(&text, b"^") as i128)?;
+    measure(
+        rt,
+        "find",
+        plan,
+        unit,
+        |_| find(&text, SOUGHT, None) as i128,
+    )?;
+    let pattern = letters_and_digits(rt.alloc())?;
+    let alloc = rt.alloc();
+    measure(
+        rt,
+        "matches",
+        plan,
+        Unit::Nanoseconds,
+        |_| match matches(alloc, &pattern, SHORT) {
+            Ok(true) => 1,
+            Ok(false) => 0,
+            Err(_) => -1,
+        },
+    )
+}

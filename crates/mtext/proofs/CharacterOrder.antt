@@ -1,0 +1,16 @@
+-- The order of character codes as the comparison of slices has it.
+use Rattle.std.proofs.Common.{◌≡◌, ℕ, Bool, List, refl, arith, eqb}
+use Rattle.std.specs.Ordering.{nat_cmp, ordering_index}
+use Rattle.std.specs.declared.cmp.Ordering.{Ordering}
+use Rattle.std.specs.Cmp.Lexicographic.{slice_cmp}
+use Rattle.std.proofs.lemmas.Bool.Decides.{nat_tests}
+use Rattle.std.proofs.lemmas.Cmp.{same_from_slice_cmp}
+use Rattle.mspec.specs.TextFunctions.{follows}
+
+-- the test for `Greater`
+abbrev is_greater : Ordering → Bool
+is_greater o = eqb (ordering_index o) 2
+
+-- one text follows another exactly where the comparison of slices says `Greater`
+pub follows_is : (s t : List ℕ) (o : Ordering) → o ≡ slice_cmp nat_cmp s t → eqb (ordering_index o) 2 ≡ follows s t
+follows_is = same_from_slice_cmp nat_cmp is_greater follows refl (λ _ _. refl) (λ _ _. refl) (λ x y xs ys o h. grind (arith, nat_tests))

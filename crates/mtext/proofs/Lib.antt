@@ -1,0 +1,9 @@
+pub mod FoundPlaces
+pub mod PieceSteps
+pub mod CharacterOrder
+pub mod PieceSetting
+pub mod MadeTexts
+pub mod PatternSlices
+pub mod PatternMembers
+pub mod PatternCopies
+pub mod PatternJoins

@@ -1,0 +1,23 @@
+use Rattle.std.proofs.Common.{arith, Some, None, subst, sym, length, ◌+◌, ap}
+use Rattle.mtext.specs.Cuts.{IsBehind}
+use Rattle.mtext.proofs.PieceSteps.{behind_more, behind_last, some_characters}
+use Rattle.mtext.proofs.FoundPlaces.{in_rest}
+use Rattle.mtext.proofs.cutting.delimiters.Goals as goal
+
+pub loop-before-preserved : goal.loop-before-preserved
+loop-before-preserved c =
+    let d = c.args.finder.now in
+    let s = c.args.text.now in
+    let some = some_characters d c.requires in
+    let same = ap length c.needle.ensures in
+    record {
+      behind = subst (λ needle. IsBehind d s (c.loop-before.passed + 1) (c.loop-before.at + (c.in-Some.before + length needle))) (sym c.needle.ensures)
+          (behind_more d s c.loop-before.passed c.loop-before.at c.in-Some.before c.requires c.loop-before.invariant.behind
+          (in_rest s d c.loop-before.at (Some c.in-Some.before) c.in-Some.ensures));
+      few = omega arith;
+    }
+
+pub returns-clause-count : goal.returns-clause-count
+returns-clause-count c =
+    behind_last c.args.finder.now c.args.text.now c.loop-before.passed c.loop-before.at c.requires c.loop-before.invariant.behind
+    (in_rest c.args.text.now c.args.finder.now c.loop-before.at None c.in_default.ensures)

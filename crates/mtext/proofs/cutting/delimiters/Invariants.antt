@@ -1,0 +1,9 @@
+use Rattle.std.proofs.Common.{◌-◌, ◌≤◌, length}
+use Rattle.mtext.specs.Cuts.{IsBehind}
+use Rattle.mtext.proofs.cutting.delimiters.Given as goal
+
+abbrev pub invariant-loop-before : goal.invariant-loop-before
+invariant-loop-before l = record { behind : IsBehind l.finder l.text l.passed l.at; few : l.passed ≤ l.at }
+
+abbrev pub decreases-loop-before : goal.decreases-loop-before
+decreases-loop-before l = length l.text - l.at

@@ -1,0 +1,10 @@
+use Rattle.std.proofs.Common.{sym, ap, ◌∙◌, length}
+use Rattle.mspec.specs.Pieces.{pieces_of}
+use Rattle.mtext.proofs.PieceSteps.{empty_is, no_pieces}
+use Rattle.mtext.proofs.cutting.pieces.Goals as goal
+
+pub returns-then-is_empty : goal.returns-then-is_empty
+returns-then-is_empty c =
+    let s = c.args.text.now in
+    let none = empty_is c.args.delimiter.now c.if-is_empty.ensures in
+    sym (ap (λ d. length (pieces_of d s)) none ∙ ap length (no_pieces s))

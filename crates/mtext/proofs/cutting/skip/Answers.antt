@@ -1,0 +1,21 @@
+use Rattle.std.proofs.Common.{arith, ◌+◌, sym, length, Some, None, subst}
+use Rattle.mtext.specs.Cuts.{IsBehind}
+use Rattle.mtext.proofs.PieceSteps.{behind_more, behind_last}
+use Rattle.mtext.proofs.FoundPlaces.{in_rest}
+use Rattle.mtext.proofs.cutting.skip.Goals as goal
+
+pub returns-in-None-clause-missing : goal.returns-in-None-clause-missing
+returns-in-None-clause-missing c =
+    omega (
+      arith,
+      behind_last c.args.finder.now c.args.text.now c.loop-passed.passed c.loop-passed.at c.requires c.loop-passed.invariant
+          (in_rest c.args.text.now c.args.finder.now c.loop-passed.at None c.in-None.ensures),
+    )
+
+pub loop-passed-preserved : goal.loop-passed-preserved
+loop-passed-preserved c =
+    let d = c.args.finder.now in
+    let s = c.args.text.now in
+    subst (λ needle. IsBehind d s (c.loop-passed.passed + 1) (c.loop-passed.at + (c.in-Some.before + length needle))) (sym c.needle.ensures)
+    (behind_more d s c.loop-passed.passed c.loop-passed.at c.in-Some.before c.requires c.loop-passed.invariant
+    (in_rest s d c.loop-passed.at (Some c.in-Some.before) c.in-Some.ensures))

@@ -1,0 +1,5 @@
+use Rattle.mtext.specs.Cuts.{IsBehind}
+use Rattle.mtext.proofs.cutting.skip.Given as goal
+
+abbrev pub invariant-loop-passed : goal.invariant-loop-passed
+invariant-loop-passed l = IsBehind l.finder l.text l.passed l.at

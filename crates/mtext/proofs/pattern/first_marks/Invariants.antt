@@ -1,0 +1,8 @@
+use Rattle.std.proofs.Common.{◌≡◌, ◌<◌, ℕ, length, get_or, ◌==◌, false}
+use Rattle.mtext.proofs.pattern.first_marks.Given as goal
+
+abbrev pub invariant-loop-place : goal.invariant-loop-place
+invariant-loop-place l = record {
+  size : length l.marks.items ≡ l.place;
+  each : (k : ℕ) → k < l.place → get_or l.marks.items k false ≡ (k == 0);
+}

@@ -1,0 +1,9 @@
+use Rattle.std.proofs.Common.{◌-◌, ◌≤◌, ◌↔◌}
+use Rattle.mtext.specs.PatternPlaces.{IsCopiedTo}
+use Rattle.mtext.proofs.pattern.has_copies.Given as goal
+
+abbrev pub invariant-loop-taken : goal.invariant-loop-taken
+invariant-loop-taken l = record {
+  below : l.start ≤ l.place;
+  same : IsCopiedTo l.text l.string l.starts l.place l.number ↔ IsCopiedTo l.text l.string l.starts l.start (l.number - l._taken);
+}

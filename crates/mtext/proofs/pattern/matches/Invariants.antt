@@ -1,0 +1,6 @@
+use Rattle.std.proofs.Common.{take}
+use Rattle.mtext.specs.PatternPlaces.{atoms_of, AreMatched}
+use Rattle.mtext.proofs.pattern.matches.Given as goal
+
+abbrev pub invariant-loop-atom : goal.invariant-loop-atom
+invariant-loop-atom l = AreMatched l.text (atoms_of (take l.atom-index l.pattern.atoms.items)) l.places.items

@@ -1,0 +1,14 @@
+-- Places at which a text is cut into its pieces.
+use Rattle.std.specs.Prelude.{◌≡◌, ℕ, ◌≤◌, List, ◌++◌, length, take, drop}
+use Rattle.std.specs.List.{flat_map}
+use Rattle.mspec.specs.Pieces.{pieces_of}
+
+-- the texts in a row, with d behind each
+abbrev pub closed : List ℕ → List (List ℕ) → List ℕ
+closed d ps = flat_map (λ p. p ++ d) ps
+
+-- place `at` of s stands behind its first n pieces and their delimiters
+pub record IsBehind (d s : List ℕ) (n at : ℕ) : Type 0 where
+  pub inside : at ≤ length s
+  pub front : take at s ≡ closed d (take n (pieces_of d s))
+  pub rest : pieces_of d (drop at s) ≡ drop n (pieces_of d s)

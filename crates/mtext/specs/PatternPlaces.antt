@@ -1,0 +1,71 @@
+-- The patterns of the code as plain ones, and the places of a text: how many of its characters stand before them. A list of
+-- marks has one for each place from 0 to the text's length.
+use Rattle.std.specs.Prelude.{◌≡◌, ℕ, ◌+◌, ◌-◌, ◌≤◌, Bool, true, false, List, map, take, length, get_or, slice_range, Decides, Option, Some, None}
+use Rattle.mspec.specs.Pattern as plain
+use Rattle.mspec.specs.Pattern.{IsPermitted, IsRepetition, Matches}
+use Rattle.mtext.specs.declared.pattern.PatternCode.{PatternCode}
+use Rattle.mtext.specs.declared.pattern.PatternCode.TheVariants as code
+use Rattle.mtext.specs.declared.pattern.Count.{Count}
+use Rattle.mtext.specs.declared.pattern.Repeated.{Repeated}
+use Rattle.mtext.specs.declared.pattern.Repeated.TheVariants as repeated
+use Rattle.mtext.specs.declared.pattern.Atom.{Atom}
+
+abbrev pub code_of : PatternCode → plain.PatternCode
+code_of code.A = plain.letter
+code_of code.C = plain.control
+code_of code.E = plain.everything
+code_of code.L = plain.lower
+code_of code.N = plain.numeral
+code_of code.P = plain.punctuation
+code_of code.U = plain.upper
+
+abbrev pub codes_of : List PatternCode → List plain.PatternCode
+codes_of codes = map code_of codes
+
+abbrev pub count_of : Count → plain.Count
+count_of count = record { least = count.least; most = count.most }
+
+abbrev pub repeated_of : Repeated → plain.Repeated
+repeated_of (repeated.Members codes) = plain.members (codes_of codes.items)
+repeated_of (repeated.Copies string) = plain.copies string
+
+abbrev pub atom_of : Atom → plain.Atom
+atom_of atom = record { count = count_of atom.count; repeated = repeated_of atom.repeated }
+
+abbrev pub atoms_of : List Atom → List plain.Atom
+atoms_of atoms = map atom_of atoms
+
+-- a repetition stands between one of the marked places and this one
+abbrev pub IsEnd : List ℕ → plain.Count → plain.Repeated → List Bool → ℕ → Type 0
+IsEnd text count what starts place =
+    (start : ℕ) × (start ≤ place) × (get_or starts start false ≡ true) × IsRepetition count what (slice_range text start place)
+
+-- the marks of the places where a repetition from one of the marked places ends
+pub record AreEnds (text : List ℕ) (count : plain.Count) (what : plain.Repeated) (starts : List Bool) (ends : List Bool) : Type 0 where
+  pub size : length ends ≡ length text + 1
+  pub each : (place : ℕ) → place ≤ length text → Decides (get_or ends place false) (IsEnd text count what starts place)
+
+-- the marks of the places up to which the text matches
+pub record AreMatched (text : List ℕ) (atoms : List plain.Atom) (marks : List Bool) : Type 0 where
+  pub size : length marks ≡ length text + 1
+  pub each : (place : ℕ) → place ≤ length text → Decides (get_or marks place false) (Matches atoms (take place text))
+
+-- what may be repeated stands from `first` on: is the latest start that is far enough behind the place also near enough
+abbrev pub IsNear : Option ℕ → Option ℕ → ℕ → ℕ → Type 0
+IsNear most None first place = ⊥
+IsNear most (Some start) first place = (first ≤ start) × plain.IsAtMost most (place - start)
+
+-- the string stands right before the place
+abbrev pub IsBefore : List ℕ → List ℕ → ℕ → Type 0
+IsBefore text string place = (length string ≤ place) × (slice_range text (place - length string) place ≡ string)
+
+-- so many copies stand between one of the marked places and this one
+abbrev pub IsCopiedTo : List ℕ → List ℕ → List Bool → ℕ → ℕ → Type 0
+IsCopiedTo text string starts place number =
+    (start : ℕ) × (start ≤ place) × (get_or starts start false ≡ true) × (slice_range text start place ≡ plain.copied number string)
+
+-- the fewest such copies, of those that are at least so many
+abbrev pub IsFewest : List ℕ → List ℕ → ℕ → List Bool → ℕ → Option ℕ → Type 0
+IsFewest text string least starts place None = (n : ℕ) → least ≤ n → IsCopiedTo text string starts place n → ⊥
+IsFewest text string least starts place (Some number) =
+    (least ≤ number) × IsCopiedTo text string starts place number × ((n : ℕ) → least ≤ n → IsCopiedTo text string starts place n → number ≤ n)

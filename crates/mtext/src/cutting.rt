@@ -1,0 +1,91 @@
+// Pieces of texts.
+ghost use Rattle.std.specs.Prelude.{◌≡◌, ◌≢◌, ◌+◌, ◌<◌, ◌≤◌, [], length, take, IfOk, IfErr};
+ghost use Rattle.mspec.specs.TextFunctions.{piece_of, piece_count};
+ghost use Rattle.mspec.specs.Pieces.{join, pieces_of};
+ghost use Rattle.mtext.specs.Cuts.{IsBehind};
+
+use crate::places::range;
+use memchr::memmem::Finder;
+
+/// $LENGTH with a delimiter: how many pieces `text` has by `delimiter`, and 0 where that is empty. Takes no memory.
+pub fn pieces(text: &[u8], delimiter: &[u8]) -> usize
+    ensures { result ≡ piece_count text.now delimiter.now }
+{
+    if delimiter.is_empty() {
+        return 0;
+    }
+    delimiters(&Finder::new(delimiter), text) + 1
+}
+
+/// How many delimiters part the pieces of a text.
+fn delimiters(finder: &Finder, text: &[u8]) -> usize
+    requires { finder.now ≢ [] }
+    ensures count { length (pieces_of finder.now text.now) ≡ result + 1 }
+    ensures few { result ≤ length text.now }
+{
+    let mut at = 0;
+    let mut passed = 0;
+    while let Some(before) = finder.find(&text[at..]) {
+        at += before + finder.needle().len();
+        passed += 1;
+    }
+    passed
+}
+
+/// The place behind the first `count` pieces of a text and their delimiters.
+///
+/// # Errors
+///
+/// How many delimiters the text has too few.
+pub(crate) fn skip(finder: &Finder, text: &[u8], count: usize) -> Result<usize, usize>
+    requires { finder.now ≢ [] }
+    ensures behind { IfOk result (λ at. IsBehind finder.now text.now count at) }
+    ensures missing { IfErr result (λ n. length (pieces_of finder.now text.now) + n ≡ count + 1) }
+    ensures some { IfErr result (λ n. 0 < n) }
+{
+    let mut at = 0;
+    for passed in 0..count {
+        match finder.find(&text[at..]) {
+            None => return Err(count - passed),
+            Some(before) => at += before + finder.needle().len(),
+        }
+    }
+    Ok(at)
+}
+
+/// The end of the first `count` pieces of a text and one more, or of the text where it has fewer.
+pub(crate) fn end_of(finder: &Finder, text: &[u8], count: usize) -> usize
+    requires { finder.now ≢ [] }
+    ensures within { result ≤ length text.now }
+    ensures end { take result text.now ≡ join finder.now (take (count + 1) (pieces_of finder.now text.now)) }
+{
+    match skip(finder, text, count) {
+        Err(_) => text.len(),
+        Ok(at) => match finder.find(&text[at..]) {
+            None => text.len(),
+            Some(before) => at + before,
+        },
+    }
+}
+
+/// $PIECE: the pieces of `text` by `delimiter` from place `from` up to place `to`, with their delimiters between them. `from`
+/// is 1 where it is left out, and `to` is `from` as it was given; a `from` below 1 then counts as 1. Empty where `to` is below
+/// `from`, where no such piece is there, and where `delimiter` is empty.
+///
+/// A part of `text`; takes no memory.
+pub fn piece<'t>(text: &'t [u8], delimiter: &[u8], from: Option<i64>, to: Option<i64>) -> &'t [u8]
+    ensures { result.now ≡ piece_of text.now delimiter.now from to }
+{
+    let (before, count) = range(from, to);
+    if delimiter.is_empty() || count == 0 {
+        return &text[..0];
+    }
+    let finder = Finder::new(delimiter);
+    match skip(&finder, text, before) {
+        Err(_) => &text[..0],
+        Ok(start) => {
+            let rest = &text[start..];
+            &rest[..end_of(&finder, rest, count - 1)]
+        }
+    }
+}

@@ -1,0 +1,21 @@
+//! The functions and operators of texts: pieces, characters, searches, the texts that they make, and pattern match.
+//!
+//! The definitions that the contracts cite stand in `mspec`: `Pieces`, `TextFunctions` and `Pattern`. Places are counted from
+//! 1, and are whole numbers of any size. An argument that the language lets a program leave out is an `Option`.
+#![tactic(auto)]
+
+mod cutting;
+mod fault;
+mod functions;
+mod making;
+mod pattern;
+mod places;
+
+pub use cutting::{piece, pieces};
+pub use fault::TextFault;
+pub use functions::{contains, extract, find, follows};
+pub use making::{justify, set_piece, translate};
+pub use pattern::{Atom, Count, Pattern, PatternCode, Repeated, matches};
+
+#[cfg(test)]
+mod tests;

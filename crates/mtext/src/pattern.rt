@@ -1,0 +1,290 @@
+// Pattern match.
+ghost use Rattle.std.specs.Prelude.{◌≡◌, ℕ, ◌+◌, ◌<◌, ◌≤◌, [], true, false, None, IfSome, IfOk, Decides, MatchOption, length, get_or};
+ghost use Rattle.mspec.specs.Pattern.{IsAtMost, is_in, is_in_any, Matches, copies, members};
+ghost use Rattle.mtext.specs.PatternPlaces.{code_of, codes_of, count_of, repeated_of, atoms_of, IsNear, IsBefore, IsCopiedTo, IsFewest, AreEnds, AreMatched};
+
+use mnum::Bytes7;
+use std::alloc::{AllocError, Global};
+
+/// A class of ASCII characters, by its letter in a pattern.
+#[derive(Clone, Copy, Debug, PartialEq, Eq, Drop)]
+pub enum PatternCode {
+    /// The letters.
+    A,
+    /// The controls: 0 to 31 and 127.
+    C,
+    /// Every character of ASCII.
+    E,
+    /// The lower case letters.
+    L,
+    /// The digits.
+    N,
+    /// The 33 others, of which the space is one.
+    P,
+    /// The upper case letters.
+    U,
+}
+
+/// How often an atom repeats: `least` times at least and `most` at most, where there is a greatest count.
+#[derive(Clone, Copy, Debug, PartialEq, Eq, Drop)]
+pub struct Count {
+    pub least: usize,
+    pub most: Option<usize>,
+}
+
+/// What an atom repeats.
+#[derive(Debug, Drop)]
+pub enum Repeated {
+    /// Characters, each of any of the classes.
+    Members(Vec<PatternCode>),
+    /// Copies of a string.
+    Copies(Bytes7),
+}
+
+/// An atom of a pattern.
+#[derive(Debug, Drop)]
+pub struct Atom {
+    pub count: Count,
+    pub repeated: Repeated,
+}
+
+/// A pattern: its atoms in turn.
+#[derive(Debug, Drop)]
+pub struct Pattern {
+    pub atoms: Vec<Atom>,
+}
+
+impl PatternCode {
+    // Is the byte a character of the class.
+    fn contains(self, byte: u8) -> bool
+        ensures { result ≡ is_in (code_of self) byte }
+    {
+        match self {
+            PatternCode::A => byte.is_ascii_alphabetic(),
+            PatternCode::C => byte.is_ascii_control(),
+            PatternCode::E => byte < 128,
+            PatternCode::L => byte.is_ascii_lowercase(),
+            PatternCode::N => byte.is_ascii_digit(),
+            PatternCode::P => byte == b' ' || byte.is_ascii_punctuation(),
+            PatternCode::U => byte.is_ascii_uppercase(),
+        }
+    }
+}
+
+impl Count {
+    // Is so much not above the greatest count.
+    fn is_at_most(self, number: usize) -> bool
+        ensures { Decides result (IsAtMost self.most number) }
+    {
+        match self.most {
+            None => true,
+            Some(most) => number <= most,
+        }
+    }
+
+    // Is there a number, and is it not above the greatest count.
+    fn has_at_most(self, number: Option<usize>) -> bool
+        ensures { MatchOption number (result ≡ false) (λ n. Decides result (IsAtMost self.most n)) }
+    {
+        match number {
+            None => false,
+            Some(number) => self.is_at_most(number),
+        }
+    }
+}
+
+// Is the byte a character of one of the classes.
+fn is_of_any(codes: &[PatternCode], byte: u8) -> bool
+    ensures { result ≡ is_in_any (codes_of codes.now) byte }
+{
+    codes.iter().any(|code| code.contains(byte))
+}
+
+// Is the latest start not before `first`, and no more characters before the place than are permitted.
+fn is_near(latest: Option<usize>, first: usize, count: Count, place: usize) -> bool
+    requires { IfSome latest (λ start. start ≤ place) }
+    ensures { Decides result (IsNear count.most latest first place) }
+{
+    match latest {
+        None => false,
+        Some(start) => start >= first && count.is_at_most(place - start),
+    }
+}
+
+// The places to which an atom of classes leads: marks for the places 0 to the text's length, from those where it may start.
+fn ends_of_members(
+    alloc: Global,
+    text: &[u8],
+    codes: &[PatternCode],
+    count: Count,
+    starts: &[bool],
+) -> Result<Vec<bool>, AllocError>
+    requires { length starts.now ≡ length text.now + 1 }
+    ensures { IfOk result (λ ends. AreEnds text.now (count_of count) (members (codes_of codes.now)) starts.now ends.items) }
+{
+    let mut ends = Vec::with_capacity(alloc, starts.len())?;
+    // every character from `first` up to the place is of a class; `latest` is the last start that is far enough back
+    let mut first = 0;
+    let mut latest = None;
+    for place in 0..starts.len() {
+        if place >= count.least && starts[place - count.least] {
+            latest = Some(place - count.least);
+        }
+        ends.push(is_near(latest, first, count, place))?;
+        if place < text.len() && !is_of_any(codes, text[place]) {
+            first = place + 1;
+        }
+    }
+    Ok(ends)
+}
+
+// Does the string stand right before the place.
+fn stands_before(text: &[u8], string: &[u8], place: usize) -> bool
+    requires { place ≤ length text.now }
+    ensures { Decides result (IsBefore text.now string.now place) }
+{
+    place >= string.len() && &text[place - string.len()..place] == string
+}
+
+// Do so many copies of a string stand between one of the starts and the place.
+fn has_copies(text: &[u8], string: &[u8], number: usize, starts: &[bool], place: usize) -> bool
+    requires size { length starts.now ≡ length text.now + 1 }
+    requires within { place ≤ length text.now }
+    ensures { Decides result (IsCopiedTo text.now string.now starts.now place number) }
+{
+    let mut start = place;
+    for _taken in 0..number {
+        if !stands_before(text, string, start) {
+            return false;
+        }
+        start -= string.len();
+    }
+    starts[start]
+}
+
+// The fewest copies between one of the starts and the place, of so many as `least` or more, from those at the places before.
+fn fewest_copies(
+    text: &[u8],
+    string: &[u8],
+    least: usize,
+    starts: &[bool],
+    fewest: &[Option<usize>],
+) -> Option<usize>
+    requires some { 0 < length string.now }
+    requires size { length starts.now ≡ length text.now + 1 }
+    requires within { length fewest.now ≤ length text.now }
+    requires before { (k : ℕ) → k < length fewest.now → IsFewest text.now string.now least starts.now k (get_or fewest.now k None) }
+    ensures { IsFewest text.now string.now least starts.now (length fewest.now) result }
+{
+    let place = fewest.len();
+    if has_copies(text, string, least, starts, place) {
+        return Some(least);
+    }
+    if !stands_before(text, string, place) {
+        return None;
+    }
+    match fewest[place - string.len()] {
+        None => None,
+        Some(number) => Some(number + 1),
+    }
+}
+
+// The places to which an atom of copies of a string leads, each found from the fewest copies that serve.
+fn ends_of_copies(
+    alloc: Global,
+    text: &[u8],
+    string: &[u8],
+    count: Count,
+    starts: &[bool],
+) -> Result<Vec<bool>, AllocError>
+    requires some { 0 < length string.now }
+    requires size { length starts.now ≡ length text.now + 1 }
+    ensures { IfOk result (λ ends. AreEnds text.now (count_of count) (copies string.now) starts.now ends.items) }
+{
+    let mut ends = Vec::with_capacity(alloc, starts.len())?;
+    let mut fewest = Vec::with_capacity(alloc, starts.len())?;
+    for _place in 0..starts.len() {
+        let number = fewest_copies(text, string, count.least, starts, fewest.as_slice());
+        ends.push(count.has_at_most(number))?;
+        fewest.push(number)?;
+    }
+    Ok(ends)
+}
+
+// The places to which an atom of copies of the empty string leads.
+fn ends_of_nothing(alloc: Global, count: Count, starts: &[bool]) -> Result<Vec<bool>, AllocError>
+    ensures size { IfOk result (λ ends. length ends.items ≡ length starts.now) }
+    ensures each { IfOk result (λ ends. (k : ℕ) → k < length starts.now → Decides (get_or ends.items k false) ((get_or starts.now k false ≡ true) × IsAtMost count.most count.least)) }
+{
+    if count.is_at_most(count.least) {
+        Vec::from_slice(alloc, starts)
+    } else {
+        vec![in alloc; false; starts.len()]
+    }
+}
+
+// The places to which an atom leads.
+fn ends_of(
+    alloc: Global,
+    text: &[u8],
+    atom: &Atom,
+    starts: &[bool],
+) -> Result<Vec<bool>, AllocError>
+    requires { length starts.now ≡ length text.now + 1 }
+    ensures { IfOk result (λ ends. AreEnds text.now (count_of atom.now.count) (repeated_of atom.now.repeated) starts.now ends.items) }
+{
+    if starts.iter().all(|mark| !*mark) {
+        return Vec::from_slice(alloc, starts);
+    }
+    match &atom.repeated {
+        Repeated::Members(codes) => ends_of_members(
+            alloc,
+            text,
+            codes.as_slice(),
+            atom.count,
+            starts,
+        ),
+        Repeated::Copies(string) => if string.as_bytes().is_empty() {
+            ends_of_nothing(alloc, atom.count, starts)
+        } else {
+            ends_of_copies(
+                alloc,
+                text,
+                string.as_bytes(),
+                atom.count,
+                starts,
+            )
+        },
+    }
+}
+
+// The marks of a text before any atom: the place 0 alone.
+fn first_marks(alloc: Global, text: &[u8]) -> Result<Vec<bool>, AllocError>
+    ensures { IfOk result (λ marks. AreMatched text.now [] marks.items) }
+{
+    let mut marks = Vec::with_capacity(alloc, text.len() + 1)?;
+    for place in 0..text.len() + 1 {
+        marks.push(place == 0)?;
+    }
+    Ok(marks)
+}
+
+/// Does the text match the pattern: is it a joining of segments, one for each atom, each a permitted number of characters
+/// of the atom's classes or of copies of its string. A byte over 127 is of no class. Where a greatest count is below the
+/// least nothing matches.
+///
+/// Time is at most the square of the text's length, and beside it for each atom the text's length times the atom's. Memory
+/// is a few words for each place of the text.
+///
+/// # Errors
+///
+/// `AllocError` for want of memory.
+pub fn matches(alloc: Global, pattern: &Pattern, text: &[u8]) -> Result<bool, AllocError>
+    ensures { IfOk result (λ answer. Decides answer (Matches (atoms_of pattern.now.atoms.items) text.now)) }
+{
+    let mut places = first_marks(alloc, text)?;
+    for atom in &pattern.atoms {
+        places = ends_of(alloc, text, atom, places.as_slice())?;
+    }
+    Ok(places[text.len()])
+}

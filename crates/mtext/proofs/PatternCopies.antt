@@ -51,7 +51,7 @@ one_more text string starts place n before e =
       omega arith,
       e.2,
       part_split text e.0 (place - length string) place e.1 (omega arith) ∙ ap (λ t. slice_range text e.0 (place - length string) ++ t) before.1
-      ∙ ap (λ t. t ++ string) e.3 ∙ sym (copied_last n string),
+          ∙ ap (λ t. t ++ string) e.3 ∙ sym (copied_last n string),
     )
 
 pub record IsOneFewer (text string : List ℕ) (starts : List Bool) (place n : ℕ) : Type 0 where

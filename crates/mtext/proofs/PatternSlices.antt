@@ -29,7 +29,7 @@ pub each_more : {X : Type 0} (P : ℕ → X → Type 0) (xs more : List X) (x d 
 each_more P xs more x d n e size each here =
     subst (λ t. (k : ℕ) → k < n + 1 → P k (get_or t k d)) (sym e)
     (below_more (λ k. P k (get_or (xs ++ x ∷ []) k d)) n (λ k h. subst (λ y. P k y) (sym (get_or_append_left xs (x ∷ []) d k (omega arith))) (each k h))
-      (subst (λ y. P n y) (sym (get_or_push xs x d n size)) here))
+    (subst (λ y. P n y) (sym (get_or_push xs x d n size)) here))
 
 pub marked_more : (P : ℕ → Type 0) (marks more : List Bool) (b : Bool) (n : ℕ) → more ≡ marks ++ b ∷ [] → length marks ≡ n →
     ((k : ℕ) → k < n → Decides (get_or marks k false) (P k)) → Decides b (P n) → (k : ℕ) → k < n + 1 → Decides (get_or more k false) (P k)

@@ -233,6 +233,7 @@ fn ends_of(
     requires { length starts.now ≡ length text.now + 1 }
     ensures { IfOk result (λ ends. AreEnds text.now (count_of atom.now.count) (repeated_of atom.now.repeated) starts.now ends.items) }
 {
+    // so no atom looks for copies that are longer, with those of the atoms before it, than the text
     if starts.iter().all(|mark| !*mark) {
         return Vec::from_slice(alloc, starts);
     }
@@ -247,13 +248,7 @@ fn ends_of(
         Repeated::Copies(string) => if string.as_bytes().is_empty() {
             ends_of_nothing(alloc, atom.count, starts)
         } else {
-            ends_of_copies(
-                alloc,
-                text,
-                string.as_bytes(),
-                atom.count,
-                starts,
-            )
+            ends_of_copies(alloc, text, string.as_bytes(), atom.count, starts)
         },
     }
 }

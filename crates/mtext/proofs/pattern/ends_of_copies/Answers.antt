@@ -15,8 +15,8 @@ loop-place-preserved c =
     record {
       size = search rules;
       each = marked_more (IsEnd c.args.text.now (count_of c.args.count) (copies c.args.string.now) c.args.starts.now) c.loop-place.ends.items c.push.new.self.items c.has_at_most.result c.loop-place._place
-      c.in_ok-push.ensures.items c.loop-place.invariant.size c.loop-place.invariant.each here;
+          c.in_ok-push.ensures.items c.loop-place.invariant.size c.loop-place.invariant.each here;
       known = search rules;
       before = each_more (λ k f. IsFewest c.args.text.now c.args.string.now c.args.count.least c.args.starts.now k f) c.loop-place.fewest.items c.push-in-loop-place.new.self.items c.fewest_copies-number.result None c.loop-place._place
-      c.in_ok-push-2.ensures.items known c.loop-place.invariant.before is;
+          c.in_ok-push-2.ensures.items known c.loop-place.invariant.before is;
     }

@@ -26,7 +26,7 @@ returns-in-None c =
     fewest_more c.args.text.now c.args.string.now c.args.least c.args.starts.now (length c.args.fewest.now) None c.requires.within
     (λ e. true≢false (sym (c.has_copies.ensures.1 e) ∙ c.if-has_copies.false)) before
     (subst (λ f. IsFewest c.args.text.now c.args.string.now c.args.least c.args.starts.now (length c.args.fewest.now - length c.args.string.now) f) c.in-None.is
-      (c.requires.before (length c.args.fewest.now - length c.args.string.now) (omega arith)))
+    (c.requires.before (length c.args.fewest.now - length c.args.string.now) (omega arith)))
 
 pub returns-in-Some : goal.returns-in-Some
 returns-in-Some c =
@@ -34,6 +34,6 @@ returns-in-Some c =
     let room : length c.args.string.now ≤ length c.args.fewest.now = before.0 in
     subst (λ n. IsFewest c.args.text.now c.args.string.now c.args.least c.args.starts.now (length c.args.fewest.now) (Some n)) (omega arith)
     (fewest_more c.args.text.now c.args.string.now c.args.least c.args.starts.now (length c.args.fewest.now) (Some c.in-Some.number) c.requires.within
-      (λ e. true≢false (sym (c.has_copies.ensures.1 e) ∙ c.if-has_copies.false)) before
-      (subst (λ f. IsFewest c.args.text.now c.args.string.now c.args.least c.args.starts.now (length c.args.fewest.now - length c.args.string.now) f) c.in-Some.is
-        (c.requires.before (length c.args.fewest.now - length c.args.string.now) (omega arith))))
+    (λ e. true≢false (sym (c.has_copies.ensures.1 e) ∙ c.if-has_copies.false)) before
+    (subst (λ f. IsFewest c.args.text.now c.args.string.now c.args.least c.args.starts.now (length c.args.fewest.now - length c.args.string.now) f) c.in-Some.is
+    (c.requires.before (length c.args.fewest.now - length c.args.string.now) (omega arith))))

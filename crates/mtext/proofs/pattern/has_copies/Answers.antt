@@ -7,11 +7,11 @@ pub returns-then-not-stands_before : goal.returns-then-not-stands_before
 returns-then-not-stands_before c = (
   λ h. absurd (true≢false (sym h)),
   λ e.
-  let left : c.args.number - c.loop-taken._taken ≡ suc (c.args.number - (c.loop-taken._taken + 1)) = omega arith in
-  let fewer : IsOneFewer c.args.text.now c.args.string.now c.args.starts.now c.loop-taken.start (c.args.number - (c.loop-taken._taken + 1)) =
-  one_fewer c.args.text.now c.args.string.now c.args.starts.now c.loop-taken.start (c.args.number - (c.loop-taken._taken + 1)) (omega arith)
-  (subst (λ n. IsCopiedTo c.args.text.now c.args.string.now c.args.starts.now c.loop-taken.start n) left (c.loop-taken.invariant.same.0 e)) in
-  absurd (true≢false (sym (c.stands_before.ensures.1 fewer.last) ∙ c.if-not-stands_before.true)),
+      let left : c.args.number - c.loop-taken._taken ≡ suc (c.args.number - (c.loop-taken._taken + 1)) = omega arith in
+      let fewer : IsOneFewer c.args.text.now c.args.string.now c.args.starts.now c.loop-taken.start (c.args.number - (c.loop-taken._taken + 1)) =
+      one_fewer c.args.text.now c.args.string.now c.args.starts.now c.loop-taken.start (c.args.number - (c.loop-taken._taken + 1)) (omega arith)
+      (subst (λ n. IsCopiedTo c.args.text.now c.args.string.now c.args.starts.now c.loop-taken.start n) left (c.loop-taken.invariant.same.0 e)) in
+      absurd (true≢false (sym (c.stands_before.ensures.1 fewer.last) ∙ c.if-not-stands_before.true)),
 )
 
 pub loop-taken-preserved : goal.loop-taken-preserved
@@ -22,9 +22,9 @@ loop-taken-preserved c =
       below = omega arith;
       same = (
         λ e. IsOneFewer.first (one_fewer c.args.text.now c.args.string.now c.args.starts.now c.loop-taken.start (c.args.number - (c.loop-taken._taken + 1)) (omega arith)
-          (subst (λ n. IsCopiedTo c.args.text.now c.args.string.now c.args.starts.now c.loop-taken.start n) left (c.loop-taken.invariant.same.0 e))),
+            (subst (λ n. IsCopiedTo c.args.text.now c.args.string.now c.args.starts.now c.loop-taken.start n) left (c.loop-taken.invariant.same.0 e))),
         λ e. c.loop-taken.invariant.same.1 (subst (λ n. IsCopiedTo c.args.text.now c.args.string.now c.args.starts.now c.loop-taken.start n) (sym left)
-          (one_more c.args.text.now c.args.string.now c.args.starts.now c.loop-taken.start (c.args.number - (c.loop-taken._taken + 1)) before e)),
+            (one_more c.args.text.now c.args.string.now c.args.starts.now c.loop-taken.start (c.args.number - (c.loop-taken._taken + 1)) before e)),
       );
     }
 
@@ -32,7 +32,7 @@ pub returns : goal.returns
 returns c =
     let done : c.args.number - c.loop-taken._taken ≡ 0 = omega arith in (
       λ h. c.loop-taken.invariant.same.1 (subst (λ n. IsCopiedTo c.args.text.now c.args.string.now c.args.starts.now c.loop-taken.start n) (sym done)
-        (none_more c.args.text.now c.args.string.now c.args.starts.now c.loop-taken.start h)),
+          (none_more c.args.text.now c.args.string.now c.args.starts.now c.loop-taken.start h)),
       λ e. none_fewer c.args.text.now c.args.string.now c.args.starts.now c.loop-taken.start (omega arith)
-      (subst (λ n. IsCopiedTo c.args.text.now c.args.string.now c.args.starts.now c.loop-taken.start n) done (c.loop-taken.invariant.same.0 e)),
+          (subst (λ n. IsCopiedTo c.args.text.now c.args.string.now c.args.starts.now c.loop-taken.start n) done (c.loop-taken.invariant.same.0 e)),
     )

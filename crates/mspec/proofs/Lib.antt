@@ -18,3 +18,4 @@ pub mod Maps
 pub mod PieceLists
 pub mod PieceExamples
 pub mod PatternExamples
+pub mod FirstPlaces

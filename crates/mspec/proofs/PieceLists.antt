@@ -83,10 +83,10 @@ join-onto_first d x (p ∷ []) some = refl
 join-onto_first d x (p ∷ q ∷ ps) some = refl
 
 -- a text that doesn't begin with d is not d with something after it
-not_begun : (d s after : List ℕ) → begins_with d s ≡ false → s ≢ d ++ after
+pub not_begun : (d s after : List ℕ) → begins_with d s ≡ false → s ≢ d ++ after
 not_begun d s after no' e = let begun : begins_with d s ≡ true = ap (begins_with d) e ∙ begins_append d after in absurd cc
 
-lacks_more : (d : List ℕ) (x : ℕ) (s : List ℕ) → Lacks d s → begins_with d (x ∷ s) ≡ false → Lacks d (x ∷ s)
+pub lacks_more : (d : List ℕ) (x : ℕ) (s : List ℕ) → Lacks d s → begins_with d (x ∷ s) ≡ false → Lacks d (x ∷ s)
 lacks_more d x s lacks no' [] after e = not_begun d (x ∷ s) after no' e
 lacks_more d x s lacks no' (y ∷ before) after e = lacks before after cc
 

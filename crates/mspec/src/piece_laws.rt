@@ -1,7 +1,13 @@
-// The law of pieces. The function's contract is the law, and its body is empty: the code never calls it.
-ghost use Rattle.mspec.specs.PieceLaws.{OneList};
+// The laws of pieces and of places in texts. Each function's contract is the law, and its body is empty: the code never calls
+// them.
+ghost use Rattle.mspec.specs.PieceLaws.{OneList, FirstPlace};
 
 /// A text has one list of pieces by a delimiter that is not empty, and it is the one that `pieces_of` gives.
 pub fn one_list()
     ensures { OneList }
+{}
+
+/// `first_place` gives the first place at which a text stands in another, and none where it stands nowhere.
+pub fn first_place()
+    ensures { FirstPlace }
 {}

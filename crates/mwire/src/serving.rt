@@ -25,6 +25,8 @@ use std::io::{Read, Write};
 ///
 /// After `Write` and `Memory` the lines up to some last one are run. The replies of all but the last are written whole, and
 /// of the last one's a front. After each fault the world stands after the lines that were run.
+///
+/// The condition: no call of the reader or the writer has failed yet, which `failed` tells.
 pub fn serve<R: Read, W: Write>(
     alloc: Global,
     world: &mut World,

@@ -1,5 +1,6 @@
 #!/usr/bin/env python3
-"""Prints crates/benchmark/stdout: the checksums of the benchmark's thousand rounds, by Python's own fractions and texts."""
+"""Prints crates/benchmark/stdout: the checksums of the benchmark's thousand rounds, by Python's own fractions and texts,
+and by the form of replies."""
 import re
 
 from number_vectors import OPERATORS, text_of, value
@@ -25,6 +26,10 @@ def summed(work):
     return wrapped(PASSES * sum(work(i) for i in range(ROUNDS)))
 
 
+def reply(value):
+    return f"1-{value}\n1.\n"
+
+
 def main():
     for title, words in SETS.items():
         print(title)
@@ -40,6 +45,10 @@ def main():
     print(f"  {'pieces':<12} {summed(lambda i: len(text.split('^')))}")
     print(f"  {'find':<12} {summed(lambda i: text.index('needle') + len('needle') + 1)}")
     print(f"  {'matches':<12} {summed(lambda i: int(bool(re.fullmatch('[A-Za-z]+-[0-9]+', 'ABCDEFGHIJ-123456789'))))}")
+    lines = 10_000
+    print("lines")
+    print(f"  {'equal':<12} {PASSES * lines * len(reply(1))}")
+    print(f"  {'different':<12} {PASSES * sum(len(reply(i)) for i in range(lines))}")
 
 
 if __name__ == "__main__":

@@ -17,6 +17,8 @@ pub enum Unit {
     Nanoseconds,
     /// So many bytes are gone over in a round, and the time is told as bytes a nanosecond.
     BytesPerNanosecond(usize),
+    /// So many lines are run in a round, and the time is told as thousands of lines a second.
+    ThousandLinesPerSecond(usize),
 }
 
 // Prints the time of the fastest pass, or the sum of what the rounds gave.
@@ -49,6 +51,13 @@ pub fn measure<F: FnMut(usize) -> i128>(
         Unit::BytesPerNanosecond(bytes) => (
             (bytes as u128).saturating_mul(rounds).saturating_mul(10) / least.max(1),
             "bytes/ns",
+        ),
+        Unit::ThousandLinesPerSecond(lines) => (
+            (lines as u128)
+                .saturating_mul(rounds)
+                .saturating_mul(10_000_000)
+                / least.max(1),
+            "thousand lines/s",
         ),
     };
     let whole = tenths / 10;

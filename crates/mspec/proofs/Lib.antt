@@ -8,7 +8,11 @@ pub mod WholeTexts
 pub mod LongestLiteral
 pub mod NumberExamples
 pub mod ReadingBasics
+pub mod ReadingNumbers
 pub mod ReadingLists
+pub mod ReadingPatterns
+pub mod ReadingOperators
+pub mod ReadingTrees
 pub mod ReadingExprs
 pub mod ReadingLines
 pub mod ReadingLoops

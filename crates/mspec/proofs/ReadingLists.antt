@@ -38,29 +38,29 @@ module _ {A : Type 0} (spell : A → List ℕ) (P : A → Type 0) (item : List �
       more_takes n cs b.0 x b.1 takes (many_takes takes n) b.2
 
   -- what may follow an item stands before other items too
-  follows_by : (F : List ℕ → Type 0) → ((x : A) (rest : List ℕ) → F (spell x ++ rest)) → (xs : List A) (rest : List ℕ) → F rest → F (each spell xs ++ rest)
-  follows_by F begins [] rest f = f
-  follows_by F begins (x ∷ xs) rest f = subst F (sym (append_assoc (spell x) (each spell xs) rest)) (begins x (each spell xs ++ rest))
+  follows_by : (F : List ℕ → Type 0) → ((x : A) (rest : List ℕ) → P x → F (spell x ++ rest)) → (xs : List A) (rest : List ℕ) → WellAll P xs → F rest → F (each spell xs ++ rest)
+  follows_by F begins [] rest w f = f
+  follows_by F begins (x ∷ xs) rest w f = subst F (sym (append_assoc (spell x) (each spell xs) rest)) (begins x (each spell xs ++ rest) w.0)
 
   -- F is what may follow an item, and each item begins so
-  pub many_again : (F : List ℕ → Type 0) → ((x : A) (rest : List ℕ) → P x → F rest → item (spell x ++ rest) ≡ Some (Some (x, rest))) → ((x : A) (rest : List ℕ) → F (spell x ++ rest))
+  pub many_again : (F : List ℕ → Type 0) → ((x : A) (rest : List ℕ) → P x → F rest → item (spell x ++ rest) ≡ Some (Some (x, rest))) → ((x : A) (rest : List ℕ) → P x → F (spell x ++ rest))
       → (n : ℕ) (xs : List A) (rest : List ℕ) → length xs ≤ n → WellAll P xs → F rest → item rest ≡ Some None → many item n (each spell xs ++ rest) ≡ Some (xs, rest)
   unfolding many
   many_again F again begins zero [] rest le w f none = refl
   many_again F again begins zero (x ∷ xs) rest le w f none = absurd (omega arith)
   many_again F again begins (suc n) [] rest le w f none = rw none refl
   many_again F again begins (suc n) (x ∷ xs) rest le w f none =
-      let follows : F (each spell xs ++ rest) = follows_by F begins xs rest f in
+      let follows : F (each spell xs ++ rest) = follows_by F begins xs rest w.1 f in
       let parts : each spell (x ∷ xs) ++ rest ≡ spell x ++ (each spell xs ++ rest) = append_assoc (spell x) (each spell xs) rest in
       let one : item (each spell (x ∷ xs) ++ rest) ≡ Some (Some (x, each spell xs ++ rest)) = ap item parts ∙ again x (each spell xs ++ rest) w.0 follows in
       let others : many item n (each spell xs ++ rest) ≡ Some (xs, rest) = many_again F again begins n xs rest (omega arith) w.1 f none in
       rw (one, others) refl
 
   -- each item has a character, so the count of the characters is enough
-  pub count_le : ((x : A) → 0 < length (spell x)) → (xs : List A) (rest : List ℕ) → length xs ≤ length (each spell xs ++ rest)
-  count_le long [] rest = omega arith
-  count_le long (x ∷ xs) rest =
-      omega (arith, long x, count_le long xs rest, length-append (each spell xs) rest, length-append (spell x) (each spell xs), length-append (spell x ++ each spell xs) rest)
+  pub count_le : ((x : A) → P x → 0 < length (spell x)) → (xs : List A) (rest : List ℕ) → WellAll P xs → length xs ≤ length (each spell xs ++ rest)
+  count_le long [] rest w = omega arith
+  count_le long (x ∷ xs) rest w =
+      omega (arith, long x w.0, count_le long xs rest w.1, length-append (each spell xs) rest, length-append (spell x) (each spell xs), length-append (spell x ++ each spell xs) rest)
 
 -- the text of two parts, of which the second is spelled by b' too
 pub joined : (cs a r b c b' : List ℕ) → cs ≡ a ++ r → r ≡ b ++ c → b' ≡ b → cs ≡ (a ++ b') ++ c
@@ -112,8 +112,8 @@ module _ {A : Type 0} (f : A → List ℕ) (P : A → Type 0) (item : List ℕ �
 
     more_again : (xs : List A) (rest : List ℕ) → WellAll P xs → F rest → Stops is_comma rest → many (after_comma item) (length (spell_more f xs ++ rest)) (spell_more f xs ++ rest) ≡ Some (xs, rest)
     more_again xs rest w s k =
-        rw (spell_more-each f xs) (many_again (λ a. 44 ∷ f a) P (after_comma item) F comma_again (λ x cs. comma_follows (f x ++ cs))
-        (length (each (λ a. 44 ∷ f a) xs ++ rest)) xs rest (count_le (λ a. 44 ∷ f a) P (after_comma item) (λ x. omega arith) xs rest) w s (no_comma rest k))
+        rw (spell_more-each f xs) (many_again (λ a. 44 ∷ f a) P (after_comma item) F comma_again (λ x cs v. comma_follows (f x ++ cs))
+        (length (each (λ a. 44 ∷ f a) xs ++ rest)) xs rest (count_le (λ a. 44 ∷ f a) P (after_comma item) (λ x v. omega arith) xs rest w) w s (no_comma rest k))
 
     pub list_again : Again (spell_list f) (WellList P) (λ rest. F rest × Stops is_comma rest) (list_at item)
     unfolding list_at

@@ -13,7 +13,9 @@ pub mod ReadingLists
 pub mod ReadingPatterns
 pub mod ReadingOperators
 pub mod ReadingTrees
+pub mod ReadingPrimaries
 pub mod ReadingExprs
+pub mod ReadingTargets
 pub mod ReadingLines
 pub mod ReadingLoops
 pub mod GrammarExamples

@@ -6,8 +6,8 @@ use Rattle.std.proofs.lemmas.Bool.Decides.{nat_tests}
 use Rattle.std.proofs.lemmas.List.Elements.{All-from_recursion, All-head, All-tail}
 use Rattle.mspec.specs.Literal.{is_digit, ExponentSign, Unsigned, Plus, Minus, Exponent, Literal, spell_sign, spell_fraction, spell_exponent, spell_literal, IsDigits, IsFraction, IsExponent, IsMantissa, IsLiteral}
 use Rattle.mspec.specs.Grammar.{AllAre, IsNumber}
-use Rattle.mspec.specs.Reading.{run_of, after_run, is_plus_or_minus, one_sign, after_sign, point_by, point_at, exponent_by, exponent_at, number_by, number_at, is_digit_or_point}
-use Rattle.mspec.proofs.ReadingBasics.{Takes, Again, Stops, Stops-weaker, Begins, chosen, some_is, both_are, run_parts, run_again}
+use Rattle.mspec.specs.Reading.{run_of, after_run, is_plus_or_minus, one_sign, after_sign, point_by, point_at, exponent_by, exponent_at, number_at, is_digit_or_point}
+use Rattle.mspec.proofs.ReadingBasics.{Takes, Again, Stops, Stops-weaker, Begins, chosen, some_is, run_parts, run_again}
 
 -- ---- digits
 
@@ -66,9 +66,12 @@ exponent_text cs one s ds after rest p q r = rw (p, q, r) (ap (λ (x : List ℕ)
 
 exponent_parts_by : (ds cs : List ℕ) → AllAre is_digit ds → after_sign cs ≡ ds ++ after_run is_digit (after_sign cs) → SignIs cs → Part spell_exponent IsExponent (69 ∷ cs) (exponent_by ds cs)
 exponent_parts_by [] cs all e s = (None, refl, tt, refl)
-exponent_parts_by (d ∷ ds) cs all e s =
-    (Some (record { sign = s.0; digits = d ∷ ds }), ap (λ (x : List ℕ). 69 ∷ (x ++ d ∷ ds)) s.1, some_digits d ds all,
-    exponent_text cs (one_sign cs) (spell_sign s.0) (d ∷ ds) (after_sign cs) (after_run is_digit (after_sign cs)) s.2 s.1 e)
+exponent_parts_by (d ∷ ds) cs all e s = (
+  Some (record { sign = s.0; digits = d ∷ ds }),
+  ap (λ (x : List ℕ). 69 ∷ (x ++ d ∷ ds)) s.1,
+  some_digits d ds all,
+  exponent_text cs (one_sign cs) (spell_sign s.0) (d ∷ ds) (after_sign cs) (after_run is_digit (after_sign cs)) s.2 s.1 e,
+)
 
 exponent_parts_test : (c : ℕ) (cs : List ℕ) (b : Bool) → eqb c 69 ≡ b → Part spell_exponent IsExponent (69 ∷ cs) (exponent_by (run_of is_digit (after_sign cs)) cs)
     → Part spell_exponent IsExponent (c ∷ cs) (cond b (exponent_by (run_of is_digit (after_sign cs)) cs) ([], c ∷ cs))

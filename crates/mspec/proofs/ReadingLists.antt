@@ -1,9 +1,8 @@
 -- The laws of reading a list of items.
-use Rattle.std.proofs.Common.{◌≡◌, ℕ, zero, suc, ◌<◌, ◌≤◌, Bool, eqb, inl, inr, List, [], ◌∷◌, ◌++◌, length, Option, Some, None, refl, sym, ap, subst, ◌∙◌, append_assoc, arith, length-append}
-use Rattle.std.proofs.lemmas.Bool.{eqb-true}
+use Rattle.std.proofs.Common.{◌≡◌, ℕ, zero, suc, ◌<◌, ◌≤◌, Bool, eqb, List, [], ◌∷◌, ◌++◌, length, Option, Some, None, refl, sym, ap, subst, ◌∙◌, append_assoc, arith, length-append}
 use Rattle.mspec.specs.Grammar.{spell_more, spell_list, WellAll, WellList}
-use Rattle.mspec.specs.Reading.{Read, ◌>>=◌, many, more_by, after_comma, list_at}
-use Rattle.mspec.proofs.ReadingBasics.{Takes, Again, Stops, bind_some, some_is, chosen}
+use Rattle.mspec.specs.Reading.{Read, ◌>>=◌, past, many, more_by, comma_by, after_comma, list_at}
+use Rattle.mspec.proofs.ReadingBasics.{Takes, Again, Stops, bind_some, some_is, past_takes}
 
 -- the texts of the items, one after another
 abbrev pub each : {A : Type 0} → (A → List ℕ) → List A → List ℕ
@@ -76,17 +75,16 @@ spell_more-each f [] = refl
 spell_more-each f (x ∷ xs) = ap (λ (y : List ℕ). 44 ∷ (f x ++ y)) (spell_more-each f xs)
 
 module _ {A : Type 0} (f : A → List ℕ) (P : A → Type 0) (item : List ℕ → Read A) where
+  -- as comma_takes, where this stands behind a comma
+  comma_takes_by : (cs : List ℕ) (o : Option (List ℕ)) (x : A × List ℕ) → Takes f P item → past 44 cs ≡ o → comma_by item o ≡ Some (Some x) → (cs ≡ (44 ∷ f x.0) ++ x.1) × P x.0
+  comma_takes_by cs None x takes h e = absurd cc
+  comma_takes_by cs (Some rest) x takes h e =
+      let b = bind_some (item rest) (λ y. Some (Some y)) (Some x) e in
+      let t = takes rest b.0 b.1 in
+      subst (λ (y : A × List ℕ). (cs ≡ (44 ∷ f y.0) ++ y.1) × P y.0) (some_is b.0 x (some_is (Some b.0) (Some x) b.2)) (past_takes 44 cs rest h ∙ ap (λ (y : List ℕ). 44 ∷ y) t.0, t.1)
+
   comma_takes : Takes f P item → ItemTakes (λ a. 44 ∷ f a) P (after_comma item)
-  comma_takes takes [] x e = absurd cc
-  comma_takes takes (c ∷ cs) x e =
-      elim (chosen (eqb c 44) (item cs >>= λ y. Some (Some y)) (Some None) (Some (Some x)) e) [
-        | inl p ↦
-            let b = bind_some (item cs) (λ y. Some (Some y)) (Some x) p.1 in
-            let t = takes cs b.0 b.1 in
-            let at : c ≡ 44 = eqb-true _ _ p.0 in
-            subst (λ (y : A × List ℕ). (c ∷ cs ≡ (44 ∷ f y.0) ++ y.1) × P y.0) (some_is b.0 x (some_is (Some b.0) (Some x) b.2)) (rw at (ap (λ (y : List ℕ). 44 ∷ y) t.0), t.1)
-        | inr p ↦ absurd cc
-      ]
+  comma_takes takes cs x e = comma_takes_by cs (past 44 cs) x takes refl e
 
   pub list_takes : Takes f P item → Takes (spell_list f) (WellList P) (list_at item)
   unfolding list_at

@@ -1,13 +1,13 @@
 -- What is read of a number is spelled so, and what is spelled so is read.
-use Rattle.std.proofs.Common.{◌≡◌, ◌≢◌, ℕ, ◌+◌, Bool, true, false, cond, eqb, List, [], ◌∷◌, ◌++◌, length, All, Option, Some, None, inl, inr, refl, sym, ap, subst, ◌∙◌, append_assoc, arith}
+use Rattle.std.proofs.Common.{◌≡◌, ◌≢◌, ℕ, Bool, true, false, cond, eqb, List, [], ◌∷◌, ◌++◌, All, Option, Some, None, refl, sym, ap, subst, ◌∙◌, append_assoc, arith}
 use Rattle.std.specs.Prelude.{◌||◌}
 use Rattle.std.proofs.lemmas.Bool.{eqb-true}
 use Rattle.std.proofs.lemmas.Bool.Decides.{nat_tests}
 use Rattle.std.proofs.lemmas.List.Elements.{All-from_recursion, All-head, All-tail}
 use Rattle.mspec.specs.Literal.{is_digit, ExponentSign, Unsigned, Plus, Minus, Exponent, Literal, spell_sign, spell_fraction, spell_exponent, spell_literal, IsDigits, IsFraction, IsExponent, IsMantissa, IsLiteral}
 use Rattle.mspec.specs.Grammar.{AllAre, IsNumber}
-use Rattle.mspec.specs.Reading.{run_of, after_run, is_plus_or_minus, one_sign, after_sign, point_by, point_at, exponent_by, exponent_at, number_at, is_digit_or_point}
-use Rattle.mspec.proofs.ReadingBasics.{Takes, Again, Stops, Stops-weaker, Begins, chosen, some_is, run_parts, run_again}
+use Rattle.mspec.specs.Reading.{run_of, after_run, is_plus_or_minus, one_sign, after_sign, point_by, point_at, exponent_by, exponent_at, number_by, number_at, is_digit_or_point}
+use Rattle.mspec.proofs.ReadingBasics.{Takes, Again, Stops, Stops-weaker, Begins, some_is, run_parts, run_again}
 
 -- ---- digits
 
@@ -86,13 +86,18 @@ exponent_parts (c ∷ cs) =
     exponent_parts_test c cs (eqb c 69) refl (exponent_parts_by (run_of is_digit (after_sign cs)) cs r.1 r.0 (sign_parts cs))
 
 -- digits, and a fraction or none, are a mantissa where there is a digit
-is_mantissa : (ds : List ℕ) (o : Option (List ℕ)) → AllAre is_digit ds → IsFraction o → eqb (length ds + length (spell_fraction o)) 0 ≡ false → IsMantissa ds o
-is_mantissa [] None all f h = absurd cc
-is_mantissa (d ∷ ds) None all f h = some_digits d ds all
-is_mantissa ds (Some digits) all f h = (are_digits ds all, f)
+is_mantissa : (ds : List ℕ) (o : Option (List ℕ)) → AllAre is_digit ds → IsFraction o → ds ++ spell_fraction o ≢ [] → IsMantissa ds o
+is_mantissa [] None all f some = absurd (some refl)
+is_mantissa (d ∷ ds) None all f some = some_digits d ds all
+is_mantissa ds (Some digits) all f some = (are_digits ds all, f)
 
-three_parts : (cs a r b t c rest : List ℕ) → cs ≡ a ++ r → r ≡ b ++ t → t ≡ c ++ rest → cs ≡ (a ++ (b ++ c)) ++ rest
+three_parts : (cs a r b t c rest : List ℕ) → cs ≡ a ++ r → r ≡ b ++ t → t ≡ c ++ rest → cs ≡ ((a ++ b) ++ c) ++ rest
 three_parts cs a r b t c rest p q s = rw (p, q, s) (simp append_assoc)
+
+-- a mantissa that has a digit, and an exponent or none
+number_takes_by : (m cs : List ℕ) (x : List ℕ × List ℕ) → number_by m cs ≡ Some x → (m ≢ []) × ((m ++ (exponent_at cs).0, (exponent_at cs).1) ≡ x)
+number_takes_by [] cs x e = absurd cc
+number_takes_by (d ∷ ds) cs x e = (λ z. cc, some_is _ x e)
 
 pub number_takes : Takes (λ ds. ds) IsNumber number_at
 unfolding number_at
@@ -100,19 +105,16 @@ number_takes cs x e =
     let ds = run_of is_digit cs in
     let f = point_at (after_run is_digit cs) in
     let t = exponent_at f.1 in
-    elim (chosen (eqb (length ds + length f.0) 0) None (Some (ds ++ (f.0 ++ t.0), t.1)) (Some x) e) [
-      | inl p ↦ absurd cc
-      | inr p ↦
-          let r = run_parts is_digit cs in
-          let point = point_parts (after_run is_digit cs) in
-          let exponent = exponent_parts f.1 in
-          let some : eqb (length ds + length (spell_fraction point.0)) 0 ≡ false = subst (λ (y : List ℕ). eqb (length ds + length y) 0 ≡ false) point.1 p.0 in
-          let l : Literal = record { whole = ds; fraction = point.0; exponent = exponent.0 } in
-          let is : IsLiteral l = record { mantissa = is_mantissa ds point.0 r.1 point.2 some; exponent = exponent.2 } in
-          let same : spell_literal l ≡ ds ++ (f.0 ++ t.0) = rw (point.1, exponent.1) refl in
-          let parts : cs ≡ (ds ++ (f.0 ++ t.0)) ++ t.1 = three_parts cs ds (after_run is_digit cs) f.0 f.1 t.0 t.1 r.0 point.3 exponent.3 in
-          subst (λ (y : List ℕ × List ℕ). (cs ≡ y.0 ++ y.1) × IsNumber y.0) (some_is (ds ++ (f.0 ++ t.0), t.1) x p.1) (parts, (l, is, same))
-    ]
+    let b = number_takes_by (ds ++ f.0) f.1 x e in
+    let r = run_parts is_digit cs in
+    let point = point_parts (after_run is_digit cs) in
+    let exponent = exponent_parts f.1 in
+    let some : ds ++ spell_fraction point.0 ≢ [] = subst (λ (y : List ℕ). ds ++ y ≢ []) point.1 b.0 in
+    let l : Literal = record { whole = ds; fraction = point.0; exponent = exponent.0 } in
+    let is : IsLiteral l = record { mantissa = is_mantissa ds point.0 r.1 point.2 some; exponent = exponent.2 } in
+    let same : spell_literal l ≡ (ds ++ f.0) ++ t.0 = rw (point.1, exponent.1, append_assoc) refl in
+    let parts : cs ≡ ((ds ++ f.0) ++ t.0) ++ t.1 = three_parts cs ds (after_run is_digit cs) f.0 f.1 t.0 t.1 r.0 point.3 exponent.3 in
+    subst (λ (y : List ℕ × List ℕ). (cs ≡ y.0 ++ y.1) × IsNumber y.0) b.1 (parts, (l, is, same))
 
 -- ---- what is spelled so is read
 
@@ -178,10 +180,15 @@ point_stops : (o : Option (List ℕ)) (rest : List ℕ) → Stops is_digit rest 
 point_stops None rest s = s
 point_stops (Some ds) rest s = refl
 
-mantissa_parts : (ds : List ℕ) (o : Option (List ℕ)) → IsMantissa ds o → AllAre is_digit ds × IsFraction o × (eqb (length ds + length (spell_fraction o)) 0 ≡ false)
+mantissa_parts : (ds : List ℕ) (o : Option (List ℕ)) → IsMantissa ds o → AllAre is_digit ds × IsFraction o × (ds ++ spell_fraction o ≢ [])
 mantissa_parts [] None m = absurd (m.some refl)
-mantissa_parts (d ∷ ds) None m = (digits_are (d ∷ ds) m.each, tt, grind (arith, nat_tests))
-mantissa_parts ds (Some digits) m = (digits_are ds m.0, m.1, grind (arith, nat_tests))
+mantissa_parts (d ∷ ds) None m = (digits_are (d ∷ ds) m.each, tt, λ z. cc)
+mantissa_parts [] (Some digits) m = (tt, m.1, λ z. cc)
+mantissa_parts (d ∷ ds) (Some digits) m = (digits_are (d ∷ ds) m.0, m.1, λ z. cc)
+
+number_some : (m cs : List ℕ) → m ≢ [] → number_by m cs ≡ Some (m ++ (exponent_at cs).0, (exponent_at cs).1)
+number_some [] cs some = absurd (some refl)
+number_some (d ∷ ds) cs some = refl
 
 literal_again : (l : Literal) (rest : List ℕ) → IsLiteral l → Stops goes_on_number rest → number_at (spell_literal l ++ rest) ≡ Some (spell_literal l, rest)
 unfolding number_at
@@ -193,7 +200,8 @@ literal_again l rest is s =
     let f = point_again l.fraction (spell_exponent l.exponent ++ rest) m.1 k.0 k.1 in
     let e = exponent_again l.exponent rest is.exponent s in
     let parts : spell_literal l ++ rest ≡ l.whole ++ tail = simp append_assoc in
-    ap number_at parts ∙ rw (r.0, r.1, f, e, m.2) refl
+    let some = number_some (l.whole ++ spell_fraction l.fraction) (spell_exponent l.exponent ++ rest) m.2 in
+    ap number_at parts ∙ rw (r.0, r.1, f, some, e) (ap (λ (y : List ℕ). Some (y, rest)) (append_assoc l.whole (spell_fraction l.fraction) (spell_exponent l.exponent)))
 
 pub number_again : Again (λ ds. ds) IsNumber (Stops goes_on_number) number_at
 number_again t rest is s = subst (λ (y : List ℕ). number_at (y ++ rest) ≡ Some (y, rest)) is.2 (literal_again is.0 rest is.1 s)

@@ -1,5 +1,5 @@
 -- Reading a tree back from its text. No public clause cites these: they show that a text has one tree.
-use Rattle.std.specs.Prelude.{ℕ, zero, suc, ◌+◌, ◌-◌, Bool, true, false, ◌&&◌, ◌||◌, ◌==◌, nat_le, nat_lt, if◌then◌else◌, List, [], ◌∷◌, ◌++◌, length, drop, Option, Some, None}
+use Rattle.std.specs.Prelude.{ℕ, zero, suc, ◌-◌, Bool, true, false, ◌&&◌, ◌||◌, ◌==◌, nat_le, nat_lt, if◌then◌else◌, List, [], ◌∷◌, ◌++◌, length, drop, Option, Some, None}
 use Rattle.mspec.specs.Literal.{is_digit}
 use Rattle.mspec.specs.Grammar.{SignTree, plus, minus, negate, TruthTree, equals, less, greater, contains, follows, sorts_after, both, either, BinaryTree, add, subtract, multiply, divide, divide_whole, remainder, join, is, is_not, CountTree, RepeatedTree, classes, copies, AtomTree, ExprTree, expr, StepTree, apply, matches, matches_not, steps_of, OperandTree, operand, PrimaryTree, number, text, local, bracket, call, select, exprs_of, choices_of, TargetTree, variable, piece, DestinationTree, one, several, AssignmentTree, OutputTree, breaks, value, CommandTree, set, write, SpacedTree, LineTree, is_letter, is_name_start, is_name_rest, is_character, KeywordTree, set_word, write_word, keyword_of, FunctionTree, ascii_function, char_function, extract_function, find_function, justify_function, length_function, piece_function, select_function, translate_function, function_of, takes, is_pattern_letter, max_depth}
 
@@ -55,16 +55,24 @@ unfoldable pub exponent_at : List ℕ → List ℕ × List ℕ
 exponent_at [] = ([], [])
 exponent_at (c ∷ cs) = if c == 69 then exponent_by (run_of is_digit (after_sign cs)) cs else ([], c ∷ cs)
 
--- digits, and a fraction with the text after it, unless neither has a digit
-abbrev pub number_by : List ℕ → List ℕ × List ℕ → Read (List ℕ)
-number_by ds f = if length ds + length f.0 == 0 then None else Some (ds ++ (f.0 ++ (exponent_at f.1).0), (exponent_at f.1).1)
+-- what was read so far of a number, with a fraction, and with an exponent
+abbrev pub with_point : List ℕ → List ℕ → Read (List ℕ)
+with_point front cs = Some (front ++ (point_at cs).0, (point_at cs).1)
+
+abbrev pub with_exponent : List ℕ → List ℕ → Read (List ℕ)
+with_exponent front cs = Some (front ++ (exponent_at cs).0, (exponent_at cs).1)
+
+-- a mantissa, unless it has no digit
+abbrev pub number_by : List ℕ → List ℕ → Read (List ℕ)
+number_by [] cs = None
+number_by (d ∷ ds) cs = with_exponent (d ∷ ds) cs
 
 -- a character that a number or a count begins with
 abbrev pub is_digit_or_point : ℕ → Bool
 is_digit_or_point c = is_digit c || c == 46
 
 unfoldable pub number_at : List ℕ → Read (List ℕ)
-number_at cs = number_by (run_of is_digit cs) (point_at (after_run is_digit cs))
+number_at cs = with_point (run_of is_digit cs) (after_run is_digit cs) >>= λ m. number_by m.0 m.1
 
 unfoldable pub name_at : List ℕ → Read (List ℕ)
 name_at [] = None
@@ -81,6 +89,11 @@ text_from true (c ∷ cs) = if c == 34 then with_front (34 ∷ []) (text_from fa
 text_from false [] = None
 text_from false (c ∷ cs) = if c == 34 then text_from true cs else (if is_character c then with_front (c ∷ []) (text_from false cs) else None)
 
+-- the text behind this character, which is to come
+abbrev pub past : ℕ → List ℕ → Option (List ℕ)
+past a [] = None
+past a (c ∷ cs) = if c == a then Some cs else None
+
 -- ---- lists
 
 -- An item reads one more, or nothing where none begins, or None at a fault.
@@ -95,19 +108,17 @@ module _ {A : Type 0} (item : List ℕ → Option (Option (A × List ℕ))) wher
   many (suc n) cs = item cs >>= more_by (many n) cs
 
 module _ {A : Type 0} (item : List ℕ → Read A) where
+  abbrev pub comma_by : Option (List ℕ) → Option (Option (A × List ℕ))
+  comma_by None = Some None
+  comma_by (Some rest) = item rest >>= λ x. Some (Some x)
+
   -- an item behind a comma, or nothing where no comma stands
   abbrev pub after_comma : List ℕ → Option (Option (A × List ℕ))
-  after_comma [] = Some None
-  after_comma (c ∷ cs) = if c == 44 then (item cs >>= λ x. Some (Some x)) else Some None
+  after_comma cs = comma_by (past 44 cs)
 
   -- one or more, with commas between
   unfoldable pub list_at : List ℕ → Read (List A)
   list_at cs = item cs >>= λ x. many after_comma (length x.1) x.1 >>= λ xs. Some (x.0 ∷ xs.0, xs.1)
-
--- the text behind this character, which is to come
-abbrev pub past : ℕ → List ℕ → Option (List ℕ)
-past a [] = None
-past a (c ∷ cs) = if c == a then Some cs else None
 
 -- ---- patterns
 
@@ -118,6 +129,9 @@ behind_of (c ∷ cs) = if c == 46 then Some (run_of is_digit cs) else None
 abbrev pub after_behind : List ℕ → List ℕ
 after_behind [] = []
 after_behind (c ∷ cs) = if c == 46 then after_run is_digit cs else c ∷ cs
+
+abbrev pub behind_at : List ℕ → Read (Option (List ℕ))
+behind_at cs = Some (behind_of cs, after_behind cs)
 
 abbrev pub is_count : List ℕ → Option (List ℕ) → Bool
 is_count front None = nat_lt 0 (length front) && nat_le (length front) 4

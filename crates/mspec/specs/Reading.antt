@@ -216,11 +216,15 @@ abbrev pub plain_by : Option BinaryTree → List ℕ → Read OperatorTree
 plain_by None cs = truth_at cs >>= λ t. Some (between (is t.0), t.1)
 plain_by (Some b) cs = Some (between b, drop 1 cs)
 
+abbrev pub plain_at : List ℕ → Read OperatorTree
+plain_at [] = None
+plain_at (c ∷ cs) = plain_by (found arithmetic c) (c ∷ cs)
+
 -- None where no operator begins
 unfoldable pub operator_at : List ℕ → Read OperatorTree
 operator_at [] = None
 operator_at (c ∷ cs) =
-    if c == 39 then negated_at cs else (if c == 63 then Some (matching, cs) else plain_by (found arithmetic c) (c ∷ cs))
+    if c == 39 then negated_at cs else (if c == 63 then Some (matching, cs) else plain_at (c ∷ cs))
 
 -- ---- expressions
 

@@ -26,43 +26,39 @@ fn alone(alloc: Global, primary: Primary) -> Result<Expr, AllocError> {
     })
 }
 
+// The tree of `Set %a="x""y"`.
+fn setting(alloc: Global) -> Result<Command, Fail> {
+    let value = alone(alloc, Primary::Text(ascii(alloc, "x\"y")?))?;
+    let destination = Destination::One(Target::Variable(ascii(alloc, "%a")?));
+    let all = vec![in alloc; Assignment { destination, value }]?;
+    Ok(Command::Set(ascii(alloc, "Set")?, all))
+}
+
+// The tree of `w !!,-+12*B1`.
+fn writing(alloc: Global) -> Result<Command, Fail> {
+    let literal = Primary::Number(ascii(alloc, "12")?);
+    let first = operand(alloc, &[Sign::Minus, Sign::Plus], literal)?;
+    let rest = Vec::new(alloc);
+    let right = operand(alloc, &[], Primary::Local(ascii(alloc, "B1")?))?;
+    let product = with_step(Expr { first, rest }, Step::Apply(Binary::Multiply, right))?;
+    let mut outputs = Vec::new(alloc);
+    outputs.push(Output::Breaks(2))?;
+    outputs.push(Output::Value(product))?;
+    Ok(Command::Write(ascii(alloc, "w")?, outputs))
+}
+
 // The tree of `  Set %a="x""y"  w !!,-+12*B1 ;end`.
 fn line(alloc: Global) -> Result<Line, Fail> {
-    let value = alone(alloc, Primary::Text(ascii(alloc, "x\"y")?))?;
-    let name = Target::Variable(ascii(alloc, "%a")?);
-    let mut product = Expr {
-        first: operand(
-            alloc,
-            &[Sign::Minus, Sign::Plus],
-            Primary::Number(ascii(alloc, "12")?),
-        )?,
-        rest: Vec::new(alloc),
-    };
-    let right = operand(alloc, &[], Primary::Local(ascii(alloc, "B1")?))?;
-    product.rest.push(Step::Apply(Binary::Multiply, right))?;
-    let set = Command::Set(
-        ascii(alloc, "Set")?,
-        vec![in alloc;
-            Assignment {
-                destination: Destination::One(name),
-                value
-            },
-        ]?,
-    );
-    let outputs = vec![in alloc; Output::Breaks(2), Output::Value(product)]?;
-    let write = Command::Write(ascii(alloc, "w")?, outputs);
-    let first = Spaced {
-        command: set,
-        spaces: 2,
-    };
-    let second = Spaced {
-        command: write,
-        spaces: 1,
-    };
+    let mut commands = Vec::new(alloc);
+    let command = setting(alloc)?;
+    commands.push(Spaced { command, spaces: 2 })?;
+    let command = writing(alloc)?;
+    commands.push(Spaced { command, spaces: 1 })?;
+    let comment = Some(ascii(alloc, "end")?);
     Ok(Line {
         lead: 2,
-        commands: vec![in alloc; first, second]?,
-        comment: Some(ascii(alloc, "end")?),
+        commands,
+        comment,
     })
 }
 

@@ -7,11 +7,11 @@ ghost use Rattle.mparse.specs.Gives.{Gives};
 ghost use Rattle.mparse.specs.Operators.{operator_tree};
 
 use crate::fault::ParseFault;
-use crate::function::{function, takes};
 use crate::number::number;
 use crate::operator::{Operator, next_operator, signs};
 use crate::pattern::pattern;
 use crate::run::{Class, expect, name, past, run, text_after};
+use crate::words::{function, takes};
 use mnum::Bytes7;
 use mtree::{Choice, Expr, Function, Operand, Primary, Step};
 use std::alloc::Global;
@@ -147,11 +147,7 @@ fn bracket(alloc: Global, bytes: &[u8], depth: u32) -> Result<(Primary, &[u8]), 
 // The rest of a function, behind its `$`.
 #[cycle(expr)]
 #[tactic(auto, unfolding(mspec::specs::Reading::function_with))]
-fn call_or_select(
-    alloc: Global,
-    bytes: &[u8],
-    depth: u32,
-) -> Result<(Primary, &[u8]), ParseFault>
+fn call_or_select(alloc: Global, bytes: &[u8], depth: u32) -> Result<(Primary, &[u8]), ParseFault>
     ensures { Gives (λ x. (primary_tree x.0, x.1.now)) result (function_with (readers_at depth) bytes.now) }
 {
     let (letters, rest) = run(Class::Letter, bytes);

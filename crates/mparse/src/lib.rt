@@ -3,13 +3,13 @@
 
 mod expr;
 mod fault;
-mod function;
 mod line;
 mod number;
 mod operator;
 mod pattern;
 mod run;
 mod set;
+mod words;
 
 pub use fault::ParseFault;
 pub use line::parse_line;

@@ -1,15 +1,15 @@
 // Commands and lines.
 ghost use Rattle.std.specs.Prelude.{◌≡◌, length, map, IfOk, Err, option_map};
-ghost use Rattle.std.specs.Str.{str_eq_ignore_ascii_case};
-ghost use Rattle.mspec.specs.Grammar.{LineTree, keyword_of, spell, well};
+ghost use Rattle.mspec.specs.Grammar.{LineTree, spell, well};
 ghost use Rattle.mspec.specs.Reading.{many, list_at, output_at, command_at, at_end, spaced_at, comment_at, line_at};
-ghost use Rattle.mtree.specs.Tree.{keyword_tree, output_tree, command_tree, spaced_tree, line_tree};
+ghost use Rattle.mtree.specs.Tree.{output_tree, command_tree, spaced_tree, line_tree};
 ghost use Rattle.mparse.specs.Gives.{Gives};
 
 use crate::expr::{MAX_DEPTH, expr};
 use crate::fault::ParseFault;
 use crate::run::{Class, past, run};
 use crate::set::assignments;
+use crate::words::keyword;
 use mnum::Bytes7;
 use mtree::{Command, Keyword, Line, Output, Spaced};
 use std::alloc::Global;
@@ -24,25 +24,6 @@ fn output(alloc: Global, bytes: &[u8]) -> Result<(Output, &[u8]), ParseFault>
     }
     let (value, rest) = expr(alloc, bytes, MAX_DEPTH)?;
     Ok((Output::Value(value), rest))
-}
-
-fn is_word(word: &[u8], name: &[u8]) -> bool
-    ensures { result ≡ str_eq_ignore_ascii_case word.now name.now }
-{
-    word.eq_ignore_ascii_case(name)
-}
-
-#[tactic(auto, unfolding(mspec::specs::Grammar::keyword_of))]
-fn keyword(word: &[u8]) -> Option<Keyword>
-    ensures { option_map keyword_tree result ≡ keyword_of word.now }
-{
-    if is_word(word, b"s") || is_word(word, b"set") {
-        Some(Keyword::Set)
-    } else if is_word(word, b"w") || is_word(word, b"write") {
-        Some(Keyword::Write)
-    } else {
-        None
-    }
 }
 
 fn is_at_end(bytes: &[u8]) -> bool

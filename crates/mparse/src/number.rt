@@ -46,13 +46,13 @@ fn exponent<'a>(bytes: &'a [u8], number: &mut Bytes7) -> Result<&'a [u8], ParseF
         return Ok(bytes);
     };
     let (sign, behind) = sign(behind);
-    let (digits, rest) = run(Class::Digit, behind);
-    if digits.is_empty() {
+    let (power, rest) = run(Class::Digit, behind);
+    if power.is_empty() {
         return Ok(bytes);
     }
     number.push(b'E')?;
     number.append(sign)?;
-    number.append(digits)?;
+    number.append(power)?;
     Ok(rest)
 }
 

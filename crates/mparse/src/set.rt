@@ -7,8 +7,8 @@ ghost use Rattle.mparse.specs.Gives.{Gives};
 
 use crate::expr::{MAX_DEPTH, expr, inner};
 use crate::fault::ParseFault;
-use crate::function::function;
 use crate::run::{Class, expect, name, past, run};
+use crate::words::function;
 use mnum::Bytes7;
 use mtree::{Assignment, Destination, Expr, Function, PieceTarget, Target};
 use std::alloc::Global;

@@ -1,15 +1,28 @@
-// Words of functions, and how many arguments they take.
+// Words of commands and of functions, and how many arguments a function takes.
 ghost use Rattle.std.specs.Prelude.{◌≡◌, option_map};
-ghost use Rattle.mspec.specs.Grammar.{is_either, function_of, takes};
-ghost use Rattle.mtree.specs.Tree.{function_tree};
+ghost use Rattle.mspec.specs.Grammar.{is_either, keyword_of, function_of, takes};
+ghost use Rattle.mtree.specs.Tree.{keyword_tree, function_tree};
 
-use mtree::Function;
+use mtree::{Function, Keyword};
 
 // Whether the word is this one or that one, in either case of letters.
 fn is_either(word: &[u8], short: &[u8], long: &[u8]) -> bool
     ensures { result ≡ is_either short.now long.now word.now }
 {
     word.eq_ignore_ascii_case(short) || word.eq_ignore_ascii_case(long)
+}
+
+#[tactic(auto, unfolding(mspec::specs::Grammar::keyword_of))]
+pub fn keyword(word: &[u8]) -> Option<Keyword>
+    ensures { option_map keyword_tree result ≡ keyword_of word.now }
+{
+    if is_either(word, b"s", b"set") {
+        Some(Keyword::Set)
+    } else if is_either(word, b"w", b"write") {
+        Some(Keyword::Write)
+    } else {
+        None
+    }
 }
 
 #[tactic(auto, unfolding(mspec::specs::Grammar::function_of))]

@@ -15,6 +15,8 @@ class_below class.NameStart c h = grind (arith, nat_tests)
 class_below class.NameRest c h = grind (arith, nat_tests)
 class_below class.Space c h = grind (arith, nat_tests)
 class_below class.Bang c h = grind (arith, nat_tests)
+class_below class.PatternLetter c h = grind (arith, nat_tests)
+class_below class.DigitOrPoint c h = grind (arith, nat_tests)
 class_below class.Any c h = grind (arith, nat_tests)
 
 run_step : (k : Class) (c : ℕ) (rest : List ℕ) (b : Bool) → in_class k c ≡ b → AllByRecursion (λ x. x < 128) rest → AllByRecursion (λ x. x < 128) (cond b (c ∷ rest) [])

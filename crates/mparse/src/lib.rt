@@ -4,7 +4,12 @@
 mod expr;
 mod fault;
 mod line;
+mod number;
+mod operator;
+mod pattern;
 mod run;
+mod set;
+mod words;
 
 pub use fault::ParseFault;
 pub use line::parse_line;

@@ -1,32 +1,18 @@
 // Commands and lines.
 ghost use Rattle.std.specs.Prelude.{◌≡◌, length, map, IfOk, Err, option_map};
-ghost use Rattle.std.specs.Str.{str_eq_ignore_ascii_case};
-ghost use Rattle.mspec.specs.Grammar.{LineTree, keyword_of, spell, well};
-ghost use Rattle.mspec.specs.Reading.{with_front, many, after_comma, list_at, assignment_at, output_at, command_at, at_end, spaced_at, comment_at, line_at};
-ghost use Rattle.mtree.specs.Tree.{keyword_tree, assignment_tree, output_tree, command_tree, spaced_tree, line_tree};
+ghost use Rattle.mspec.specs.Grammar.{LineTree, spell, well};
+ghost use Rattle.mspec.specs.Reading.{many, list_at, output_at, command_at, at_end, spaced_at, comment_at, line_at};
+ghost use Rattle.mtree.specs.Tree.{output_tree, command_tree, spaced_tree, line_tree};
 ghost use Rattle.mparse.specs.Gives.{Gives};
 
-use crate::expr::expr;
+use crate::expr::{MAX_DEPTH, expr};
 use crate::fault::ParseFault;
-use crate::run::{Class, name, run};
+use crate::run::{Class, past, run};
+use crate::set::assignments;
+use crate::words::keyword;
 use mnum::Bytes7;
-use mtree::{Assignment, Command, Keyword, Line, Output, Spaced};
+use mtree::{Command, Keyword, Line, Output, Spaced};
 use std::alloc::Global;
-
-// How many brackets may be open at a place.
-const MAX_DEPTH: u32 = 40;
-
-#[tactic(auto, unfolding(mspec::specs::Reading::assignment_at))]
-fn assignment(alloc: Global, bytes: &[u8]) -> Result<(Assignment, &[u8]), ParseFault>
-    ensures { Gives (λ x. (assignment_tree x.0, x.1.now)) result (assignment_at bytes.now) }
-{
-    let (name, rest) = name(alloc, bytes)?;
-    let Some((b'=', rest)) = rest.split_first() else {
-        return Err(ParseFault::Syntax);
-    };
-    let (value, rest) = expr(alloc, rest, MAX_DEPTH)?;
-    Ok((Assignment { name, value }, rest))
-}
 
 #[tactic(auto, unfolding(mspec::specs::Reading::output_at))]
 fn output(alloc: Global, bytes: &[u8]) -> Result<(Output, &[u8]), ParseFault>
@@ -38,43 +24,6 @@ fn output(alloc: Global, bytes: &[u8]) -> Result<(Output, &[u8]), ParseFault>
     }
     let (value, rest) = expr(alloc, bytes, MAX_DEPTH)?;
     Ok((Output::Value(value), rest))
-}
-
-fn next_assignment(alloc: Global, bytes: &[u8]) -> Result<Option<(Assignment, &[u8])>, ParseFault>
-    ensures { Gives (λ o. option_map (λ x. (assignment_tree x.0, x.1.now)) o) result (after_comma assignment_at bytes.now) }
-{
-    let Some((b',', rest)) = bytes.split_first() else {
-        return Ok(None);
-    };
-    Ok(Some(assignment(alloc, rest)?))
-}
-
-fn next_output(alloc: Global, bytes: &[u8]) -> Result<Option<(Output, &[u8])>, ParseFault>
-    ensures { Gives (λ o. option_map (λ x. (output_tree x.0, x.1.now)) o) result (after_comma output_at bytes.now) }
-{
-    let Some((b',', rest)) = bytes.split_first() else {
-        return Ok(None);
-    };
-    Ok(Some(output(alloc, rest)?))
-}
-
-fn is_word(word: &[u8], name: &[u8]) -> bool
-    ensures { result ≡ str_eq_ignore_ascii_case word.now name.now }
-{
-    word.eq_ignore_ascii_case(name)
-}
-
-#[tactic(auto, unfolding(mspec::specs::Grammar::keyword_of))]
-fn keyword(word: &[u8]) -> Option<Keyword>
-    ensures { option_map keyword_tree result ≡ keyword_of word.now }
-{
-    if is_word(word, b"s") || is_word(word, b"set") {
-        Some(Keyword::Set)
-    } else if is_word(word, b"w") || is_word(word, b"write") {
-        Some(Keyword::Write)
-    } else {
-        None
-    }
 }
 
 fn is_at_end(bytes: &[u8]) -> bool
@@ -100,63 +49,22 @@ fn comment(alloc: Global, bytes: &[u8]) -> Result<Option<Bytes7>, ParseFault>
     Ok(Some(Bytes7::from_slice(alloc, text)?))
 }
 
-// Goes on with assignments, each behind a comma, and gives what follows them.
-fn more_assignments<'a>(
-    alloc: Global,
-    bytes: &'a [u8],
-    all: &mut Vec<Assignment>,
-) -> Result<&'a [u8], ParseFault>
-    ensures { Gives (λ rest. (map assignment_tree all.new.items, rest.now)) result (with_front (map assignment_tree all.old.items) (many (after_comma assignment_at) (length bytes.now) bytes.now)) }
-{
-    let mut rest = bytes;
-    for _ in 0..bytes.len() {
-        let Some((item, after)) = next_assignment(alloc, rest)? else {
-            break;
-        };
-        all.push(item)?;
-        rest = after;
-    }
-    Ok(rest)
-}
-
-#[tactic(auto, unfolding(mspec::specs::Reading::list_at))]
-fn assignments(alloc: Global, bytes: &[u8]) -> Result<(Vec<Assignment>, &[u8]), ParseFault>
-    ensures { Gives (λ x. (map assignment_tree x.0.items, x.1.now)) result (list_at assignment_at bytes.now) }
-{
-    let (first, rest) = assignment(alloc, bytes)?;
-    let mut all = Vec::new(alloc);
-    all.push(first)?;
-    let rest = more_assignments(alloc, rest, &mut all)?;
-    Ok((all, rest))
-}
-
-// Goes on with outputs, each behind a comma, and gives what follows them.
-fn more_outputs<'a>(
-    alloc: Global,
-    bytes: &'a [u8],
-    all: &mut Vec<Output>,
-) -> Result<&'a [u8], ParseFault>
-    ensures { Gives (λ rest. (map output_tree all.new.items, rest.now)) result (with_front (map output_tree all.old.items) (many (after_comma output_at) (length bytes.now) bytes.now)) }
-{
-    let mut rest = bytes;
-    for _ in 0..bytes.len() {
-        let Some((item, after)) = next_output(alloc, rest)? else {
-            break;
-        };
-        all.push(item)?;
-        rest = after;
-    }
-    Ok(rest)
-}
-
-#[tactic(auto, unfolding(mspec::specs::Reading::list_at))]
+// Outputs with commas between.
 fn outputs(alloc: Global, bytes: &[u8]) -> Result<(Vec<Output>, &[u8]), ParseFault>
     ensures { Gives (λ x. (map output_tree x.0.items, x.1.now)) result (list_at output_at bytes.now) }
 {
-    let (first, rest) = output(alloc, bytes)?;
+    let (first, start) = output(alloc, bytes)?;
     let mut all = Vec::new(alloc);
     all.push(first)?;
-    let rest = more_outputs(alloc, rest, &mut all)?;
+    let mut rest = start;
+    for _ in 0..start.len() {
+        let Some(behind) = past(b',', rest) else {
+            break;
+        };
+        let (item, after) = output(alloc, behind)?;
+        all.push(item)?;
+        rest = after;
+    }
     Ok((all, rest))
 }
 

@@ -1,6 +1,7 @@
-// Runs of characters, names, numbers and strings.
-ghost use Rattle.std.specs.Prelude.{◌≡◌, ◌<◌, All, false};
-ghost use Rattle.mspec.specs.Reading.{run_of, after_run, number_at, name_at, text_from};
+// Runs of characters, names and strings.
+ghost use Rattle.std.specs.Prelude.{◌≡◌, ◌<◌, All, false, option_map};
+ghost use Rattle.mspec.specs.Grammar.{is_pattern_letter};
+ghost use Rattle.mspec.specs.Reading.{run_of, after_run, name_at, text_from, past};
 ghost use Rattle.mparse.specs.Classes.{in_class};
 ghost use Rattle.mparse.specs.Gives.{Gives};
 
@@ -17,7 +18,20 @@ pub enum Class {
     NameRest,
     Space,
     Bang,
+    // Of a pattern's classes.
+    PatternLetter,
+    // What a number or a count begins with.
+    DigitOrPoint,
     Any,
+}
+
+fn is_pattern_letter(byte: u8) -> bool
+    ensures { result ≡ is_pattern_letter byte }
+{
+    matches!(
+        byte.to_ascii_uppercase(),
+        b'A' | b'C' | b'E' | b'L' | b'N' | b'P' | b'U'
+    )
 }
 
 impl Class {
@@ -31,6 +45,8 @@ impl Class {
             Class::NameRest => byte.is_ascii_alphabetic() || byte.is_ascii_digit(),
             Class::Space => byte == b' ',
             Class::Bang => byte == b'!',
+            Class::PatternLetter => is_pattern_letter(byte),
+            Class::DigitOrPoint => byte.is_ascii_digit() || byte == b'.',
             Class::Any => byte < 128,
         }
     }
@@ -59,15 +75,19 @@ pub fn run(class: Class, bytes: &[u8]) -> (&[u8], &[u8])
     split_run(class, bytes)
 }
 
-#[tactic(auto, unfolding(mspec::specs::Reading::number_at))]
-pub fn number(alloc: Global, bytes: &[u8]) -> Result<(Bytes7, &[u8]), ParseFault>
-    ensures { Gives (λ x. (x.0, x.1.now)) result (number_at bytes.now) }
+// What follows this character, where the text begins with it.
+pub fn past(byte: u8, bytes: &[u8]) -> Option<&[u8]>
+    ensures { option_map (λ x. x.now) result ≡ past byte bytes.now }
 {
-    let (digits, rest) = run(Class::Digit, bytes);
-    if digits.is_empty() {
-        return Err(ParseFault::Syntax);
-    }
-    Ok((Bytes7::from_slice(alloc, digits)?, rest))
+    let (first, rest) = bytes.split_first()?;
+    if *first == byte { Some(rest) } else { None }
+}
+
+// What follows this character, with which the text has to begin.
+pub fn expect(byte: u8, bytes: &[u8]) -> Result<&[u8], ParseFault>
+    ensures { Gives (λ x. x.now) result (past byte bytes.now) }
+{
+    past(byte, bytes).ok_or(ParseFault::Syntax)
 }
 
 // A name is at most so long.

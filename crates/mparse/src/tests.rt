@@ -1,6 +1,6 @@
 // That texts of the grammar are parsed with ample memory, and which are not in it.
 use crate::{ParseFault, parse_line};
-use mtree::{Binary, Command, Output, Primary, Sign, write_line};
+use mtree::{Binary, Command, Output, Primary, Sign, Step, write_line};
 use std::alloc::Global;
 use std::process::Abort;
 use std::test::Fail;
@@ -88,7 +88,6 @@ fn refused(rt: HostRuntime) {
         "W 1 2",
         "1",
         "S 1=2",
-        "W 1/2",
         "W\t1",
         "W 1\tW 2",
         "S abcdefghijklmnopqrstuvwxyzABCDEF=1",
@@ -97,8 +96,6 @@ fn refused(rt: HostRuntime) {
         "W 1 ,2",
         "W \"a\"W 2",
         "W 1A",
-        "W (1)",
-        "W 1.5",
         "W 1+",
         "W A(1)",
         "SW 1",
@@ -110,6 +107,168 @@ fn refused(rt: HostRuntime) {
     }
     assert_syntax(&rt, b"W \"\x80\"");
     assert_syntax(&rt, b";\xff");
+}
+
+#[test]
+fn numbers(rt: HostRuntime) -> Result<(), Fail> {
+    for text in ["W 1.50,.5,00.0", "W 2E3,2E-03,.2E+1,1.5E0", "W -.5E1*2"] {
+        assert_same(&rt, text)?;
+    }
+    for text in [
+        "W 1..5", "W 1.", "W .", "W .E1", "W 1E", "W 1E+", "W 1EE1", "W 1e1", "W 1E5.5",
+    ] {
+        assert_syntax(&rt, text.as_bytes());
+    }
+    Ok(())
+}
+
+#[test]
+fn operators(rt: HostRuntime) -> Result<(), Fail> {
+    for text in [
+        "W 1+2-3*4/5\\6#7_8",
+        "W 1=2<3>4[5]6]]7&8!9",
+        "W 1'=2'<3'>4'[5']6']]7'&8'!9",
+        "W 1='2,'1'='2,''1",
+    ] {
+        assert_same(&rt, text)?;
+    }
+    for text in [
+        "W 1'2", "W 1'+2", "W 1'", "W 1]]]2", "W 1@2", "W *1", "W 1==2",
+    ] {
+        assert_syntax(&rt, text.as_bytes());
+    }
+    Ok(())
+}
+
+#[test]
+fn patterns(rt: HostRuntime) -> Result<(), Fail> {
+    for text in [
+        "W A?1N",
+        "W A'?.E2.aUn.3\"x\"1.2P0001.9999ACELNPUacelnpu",
+        "W A?1\"\"\"\"1N_1?1N'?1A",
+        "W \"\"?.\"ab\"",
+    ] {
+        assert_same(&rt, text)?;
+    }
+    for text in [
+        "W 1?00001N",
+        "W 1?1.00001N",
+        "W 1?N",
+        "W 1?1",
+        "W 1?",
+        "W 1'?",
+        "W 1?1X",
+        "W 1?1N\"a\"",
+        "W 1?1..2N",
+        "W ?1N",
+    ] {
+        assert_syntax(&rt, text.as_bytes());
+    }
+    Ok(())
+}
+
+#[test]
+fn functions(rt: HostRuntime) -> Result<(), Fail> {
+    for text in [
+        "W $A(1),$A(1,2),$ascii(1)",
+        "W $C(1),$CHAR(1,2,3,4,5)",
+        "W $E(1),$E(1,2),$EXTRACT(1,2,3)",
+        "W $F(1,2),$Find(1,2,3)",
+        "W $J(1,2),$justify(1,2)",
+        "W $L(1),$LENGTH(1,2)",
+        "W $P(1,2),$P(1,2,3),$PIECE(1,2,3,4)",
+        "W $TR(1,2),$tRaNsLaTe(1,2,3)",
+        "W $S(1:2),$SELECT(A=1:2,1:$L($C(65)))",
+    ] {
+        assert_same(&rt, text)?;
+    }
+    for text in [
+        "W $C()",
+        "W $L()",
+        "W $L(1,2,3)",
+        "W $P(A)",
+        "W $P(1,2,3,4,5)",
+        "W $J(1)",
+        "W $TR(1)",
+        "W $F(1)",
+        "W $S(1)",
+        "W $S()",
+        "W $S(1:2,3)",
+        "W $L(1:2)",
+        "W $X(1)",
+        "W $(1)",
+        "W $L",
+        "W $LEN(1)",
+        "W $T(1,2)",
+        "W $L(1",
+        "W $L (1)",
+        "W $L(1,)",
+        "W $1(1)",
+    ] {
+        assert_syntax(&rt, text.as_bytes());
+    }
+    Ok(())
+}
+
+#[test]
+fn left_sides(rt: HostRuntime) -> Result<(), Fail> {
+    for text in [
+        "S $P(A,\",\")=1,$piece(A,1+2,3)=B",
+        "S (A)=1,(A,B,%)=2",
+        "S (A,$P(B,\"-\",2),C)=$P(A,1)",
+    ] {
+        assert_same(&rt, text)?;
+    }
+    for text in [
+        "S ()=1",
+        "S (A=1",
+        "S (A,1)=1",
+        "S ((A))=1",
+        "S (A)",
+        "S (A,)=1",
+        "S $P(A)=1",
+        "S $P(1,2)=1",
+        "S $P(A,1,2,3)=1",
+        "S $L(A)=1",
+        "S $P=1",
+        "S A+1=1",
+    ] {
+        assert_syntax(&rt, text.as_bytes());
+    }
+    Ok(())
+}
+
+// A WRITE of a number in so many brackets, each opened so.
+fn nested(alloc: Global, open: &str, count: usize) -> Result<Vec<u8>, Fail> {
+    let mut text = b"W ".to_vec(alloc)?;
+    for _ in 0..count {
+        text.extend_from_slice(open.as_bytes())?;
+    }
+    text.push(b'1')?;
+    for _ in 0..count {
+        text.push(b')')?;
+    }
+    Ok(text)
+}
+
+#[test]
+fn brackets(rt: HostRuntime) -> Result<(), Fail> {
+    for text in ["W (1),-(A),(1+2)*(3),((1))", "W $L((1))"] {
+        assert_same(&rt, text)?;
+    }
+    for text in ["W ()", "W (1", "W 1)", "W (1,2)", "W (1))", "W (W 1)"] {
+        assert_syntax(&rt, text.as_bytes());
+    }
+    for open in ["(", "$L(", "$S(1:"] {
+        let text = nested(rt.alloc(), open, 40)?;
+        assert_eq!(rt;
+            again(rt.alloc(), &text)?.as_slice(),
+            text.as_slice(),
+            "at 40 {open}"
+        );
+        assert_syntax(&rt, &nested(rt.alloc(), open, 41)?);
+    }
+    Ok(())
 }
 
 // A look at a tree, so that a parser that always refuses fails.
@@ -136,8 +295,11 @@ fn a_tree(rt: HostRuntime) -> Result<(), Fail> {
     };
     assert_eq!(rt; name.as_bytes(), b"A".as_slice());
     let step = value.rest.first().ok_or("no step")?;
-    assert_eq!(rt; step.operator, Binary::Multiply);
-    let Primary::Number(digits) = &step.operand.primary else {
+    let Step::Apply(operator, operand) = step else {
+        panic!(rt; "no operator");
+    };
+    assert_eq!(rt; *operator, Binary::Multiply);
+    let Primary::Number(digits) = &operand.primary else {
         panic!(rt; "no number");
     };
     assert_eq!(rt; digits.as_bytes(), b"12".as_slice());

@@ -8,8 +8,14 @@ pub mod WholeTexts
 pub mod LongestLiteral
 pub mod NumberExamples
 pub mod ReadingBasics
+pub mod ReadingNumbers
 pub mod ReadingLists
+pub mod ReadingPatterns
+pub mod ReadingOperators
+pub mod ReadingTrees
+pub mod ReadingPrimaries
 pub mod ReadingExprs
+pub mod ReadingTargets
 pub mod ReadingLines
 pub mod ReadingLoops
 pub mod GrammarExamples

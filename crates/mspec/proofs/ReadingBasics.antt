@@ -1,11 +1,10 @@
--- What is read of a run, a number, a name or a string is spelled so, and what is spelled so is read.
-use Rattle.std.proofs.Common.{◌≡◌, ℕ, ◌≤◌, Bool, true, false, cond, eqb, List, [], ◌∷◌, ◌++◌, length, Option, Some, None, ◌⊎◌, inl, inr, refl, ap, subst, ◌∙◌, arith}
-use Rattle.std.specs.Prelude.{nat_le, ◌&&◌}
+-- What is read of a run, a name or a string is spelled so, and what is spelled so is read.
+use Rattle.std.proofs.Common.{◌≡◌, ℕ, ◌<◌, ◌≤◌, Bool, true, false, cond, eqb, List, [], ◌∷◌, ◌++◌, length, Option, Some, None, ◌⊎◌, inl, inr, refl, ap, subst, arith}
+use Rattle.std.specs.Prelude.{nat_le, ◌&&◌, ◌||◌}
 use Rattle.std.proofs.lemmas.Bool.{eqb-true}
 use Rattle.std.proofs.lemmas.Bool.Decides.{nat_tests}
-use Rattle.mspec.specs.Literal.{is_digit}
-use Rattle.mspec.specs.Grammar.{quoted, is_name_start, is_name_rest, is_character, AllAre, IsNumber, IsName}
-use Rattle.mspec.specs.Reading.{Read, ◌>>=◌, run_of, after_run, number_of, number_at, name_at, with_front, text_from}
+use Rattle.mspec.specs.Grammar.{quoted, is_name_start, is_name_rest, is_character, AllAre, IsName}
+use Rattle.mspec.specs.Reading.{Read, ◌>>=◌, run_of, after_run, name_at, with_front, text_from, past}
 
 -- ---- the two laws of a reader
 
@@ -25,6 +24,31 @@ Stops p (c ∷ cs) = p c ≡ false
 pub Stops-weaker : (p q : ℕ → Bool) (rest : List ℕ) → ((c : ℕ) → p c ≡ false → q c ≡ false) → Stops p rest → Stops q rest
 Stops-weaker p q [] f s = tt
 Stops-weaker p q (c ∷ cs) f s = f c s
+
+-- the first character passes the test
+abbrev pub Begins : (ℕ → Bool) → List ℕ → Type 0
+Begins p [] = ⊥
+Begins p (c ∷ cs) = p c ≡ true
+
+pub Begins-stops : (p q : ℕ → Bool) (cs : List ℕ) → ((c : ℕ) → p c ≡ true → q c ≡ false) → Begins p cs → Stops q cs
+Begins-stops p q [] f b = absurd b
+Begins-stops p q (c ∷ cs) f b = f c b
+
+pub Begins-weaker : (p q : ℕ → Bool) (cs : List ℕ) → ((c : ℕ) → p c ≡ true → q c ≡ true) → Begins p cs → Begins q cs
+Begins-weaker p q [] f b = absurd b
+Begins-weaker p q (c ∷ cs) f b = f c b
+
+pub Begins-append : (p : ℕ → Bool) (a b : List ℕ) → Begins p a → Begins p (a ++ b)
+Begins-append p [] b h = absurd h
+Begins-append p (c ∷ a) b h = h
+
+pub Begins-long : (p : ℕ → Bool) (cs : List ℕ) → Begins p cs → 0 < length cs
+Begins-long p [] b = absurd b
+Begins-long p (c ∷ cs) b = omega arith
+
+-- a character that would go on with a number, a name, a string or a pattern
+abbrev pub goes_on : ℕ → Bool
+goes_on c = is_name_rest c || eqb c 34 || eqb c 46
 
 -- ---- tools
 
@@ -62,26 +86,19 @@ run_again p (x ∷ xs) rest h s =
     let i = run_again p xs rest h.1 s in
     (rw (h.0) (ap (λ (y : List ℕ). x ∷ y) i.0), rw (h.0) i.1)
 
--- ---- numbers
+-- ---- a character that is to come
 
--- a run of digits that is a number
-number_by : (ds rest : List ℕ) (x : List ℕ × List ℕ) → AllAre is_digit ds → number_of ds rest ≡ Some x → (ds ++ rest ≡ x.0 ++ x.1) × IsNumber x.0
-number_by [] rest x h e = absurd cc
-number_by (d ∷ ds) rest x h e = subst (λ (y : List ℕ × List ℕ). ((d ∷ ds) ++ rest ≡ y.0 ++ y.1) × IsNumber y.0) (some_is (d ∷ ds, rest) x e) (refl, h)
+-- the text of a character and what follows it
+pub both_are : (c : ℕ) (cs : List ℕ) (a : ℕ) (bs : List ℕ) → c ≡ a → cs ≡ bs → c ∷ cs ≡ a ∷ bs
+both_are c cs a bs p q = cc
 
-pub number_takes : Takes (λ ds. ds) IsNumber number_at
-unfolding number_at
-number_takes cs x e =
-    let r = run_parts is_digit cs in
-    let n = number_by (run_of is_digit cs) (after_run is_digit cs) x r.1 e in
-    (r.0 ∙ n.0, n.1)
-
-pub number_again : Again (λ ds. ds) IsNumber (Stops is_digit) number_at
-unfolding number_at
-number_again [] rest h s = absurd h
-number_again (d ∷ ds) rest h s =
-    let i = run_again is_digit (d ∷ ds) rest h s in
-    rw (i.0, i.1) refl
+pub past_takes : (a : ℕ) (cs rest : List ℕ) → past a cs ≡ Some rest → cs ≡ a ∷ rest
+past_takes a [] rest e = absurd cc
+past_takes a (c ∷ cs) rest e =
+    elim (chosen (eqb c a) (Some cs) None (Some rest) e) [
+      | inl p ↦ both_are c cs a rest (eqb-true _ _ p.0) (some_is cs rest p.1)
+      | inr p ↦ absurd cc
+    ]
 
 -- ---- names
 

@@ -4,12 +4,13 @@ use Rattle.std.specs.Prelude.{nat_lt, ◌||◌}
 use Rattle.std.proofs.lemmas.Bool.{eqb-true}
 use Rattle.std.proofs.lemmas.Bool.Decides.{nat_tests}
 use Rattle.std.proofs.lemmas.List.{append-nil, length-replicate}
-use Rattle.mspec.specs.Literal.{is_digit}
-use Rattle.mspec.specs.Grammar.{plus, minus, ExprTree, expr, operand, PrimaryTree, number, text, local, AssignmentTree, OutputTree, breaks, value, CommandTree, set, write, SpacedTree, LineTree, spell_expr, spell_steps, spell_primary, spell_assignment, spell_output, spell_list, spell_command, spell_commands, spell_comment, spell, is_letter, is_name_start, is_character, KeywordTree, set_word, write_word, keyword_of, max_depth, AllAre, IsName, WellExpr, WellPrimary, WellAssignment, WellOutput, WellCommand, WellCommands, WellComment, well}
-use Rattle.mspec.specs.Reading.{◌>>=◌, run_of, after_run, many, more_by, name_at, expr_at, readers_at, list_at, assigned, assignment_at, is_bang, output_by, output_at, arguments_by, command_by, command_at, is_space, at_end, spaced, spaced_at, comment_by, comment_at, line_at}
-use Rattle.mspec.proofs.ReadingBasics.{Takes, Again, Stops, bind_some, chosen, some_is, run_parts, run_again, name_takes, name_again}
+use Rattle.mspec.specs.Grammar.{OutputTree, breaks, value, CommandTree, set, write, SpacedTree, LineTree, spell_expr, spell_assignment, spell_output, spell_list, spell_command, spell_commands, spell_comment, spell, is_letter, is_character, KeywordTree, set_word, write_word, keyword_of, max_depth, AllAre, WellAssignment, WellOutput, WellCommand, WellCommands, WellComment, well}
+use Rattle.mspec.specs.Reading.{◌>>=◌, run_of, after_run, many, more_by, expr_at, readers_at, list_at, assignment_at, is_bang, output_by, output_at, arguments_by, command_by, command_at, is_space, at_end, spaced, spaced_at, comment_by, comment_at, line_at}
+use Rattle.mspec.proofs.ReadingBasics.{Takes, Again, Stops, Begins-stops, Begins-append, bind_some, chosen, some_is, run_parts, run_again}
 use Rattle.mspec.proofs.ReadingLists.{is_comma, list_takes, list_again}
-use Rattle.mspec.proofs.ReadingExprs.{Ends, is_sign, expr_takes, expr_again}
+use Rattle.mspec.proofs.ReadingPrimaries.{Ends}
+use Rattle.mspec.proofs.ReadingExprs.{begins_operand, expr_begins, inner_takes, inner_again, expr_takes, expr_again}
+use Rattle.mspec.proofs.ReadingTargets.{assignment_takes, assignment_again}
 
 -- ---- arguments
 
@@ -17,72 +18,7 @@ use Rattle.mspec.proofs.ReadingExprs.{Ends, is_sign, expr_takes, expr_again}
 abbrev pub Follows : List ℕ → Type 0
 Follows rest = Ends rest × Stops is_bang rest
 
--- an assignment to a name that was read
-assigned_takes : (n cs : List ℕ) (x : AssignmentTree × List ℕ) → IsName n → assigned n cs ≡ Some x → (n ++ cs ≡ spell_assignment x.0 ++ x.1) × WellAssignment x.0
-assigned_takes n [] x w e = absurd cc
-assigned_takes n (c ∷ cs) x w e =
-    elim (chosen (eqb c 61) (expr_at max_depth cs >>= λ y. Some ((n, y.0), y.1)) None (Some x) e) [
-      | inl p ↦
-          let b = bind_some (expr_at max_depth cs) (λ y. Some ((n, y.0), y.1)) x p.1 in
-          let t = expr_takes max_depth (readers_at max_depth) cs b.0 b.1 in
-          let parts : n ++ c ∷ cs ≡ (n ++ 61 ∷ spell_expr b.0.0) ++ b.0.1 = equals n c cs (spell_expr b.0.0) b.0.1 (eqb-true _ _ p.0) t.0 in
-          subst (λ (y : AssignmentTree × List ℕ). (n ++ c ∷ cs ≡ spell_assignment y.0 ++ y.1) × WellAssignment y.0) (some_is ((n, b.0.0), b.0.1) x b.2) (parts, (w, t.1))
-      | inr p ↦ absurd cc
-    ]
-  where
-    equals : (n : List ℕ) (c : ℕ) (cs a rest : List ℕ) → c ≡ 61 → cs ≡ a ++ rest → n ++ c ∷ cs ≡ (n ++ 61 ∷ a) ++ rest
-    equals n c cs a rest p q = rw (p, q, append_assoc) refl
-
-assignment_takes : Takes spell_assignment WellAssignment assignment_at
-unfolding assignment_at
-assignment_takes cs x e =
-    let b = bind_some (name_at cs) (λ n. assigned n.0 n.1) x e in
-    let n = name_takes cs b.0 b.1 in
-    let a = assigned_takes b.0.0 b.0.1 x n.1 b.2 in
-    (n.0 ∙ a.0, a.1)
-
-assignment_again : Again spell_assignment WellAssignment Follows assignment_at
-unfolding assignment_at
-assignment_again x rest w s =
-    ap assignment_at (append_assoc x.0 (61 ∷ spell_expr x.1) rest)
-    ∙ rw (name_again x.0 (61 ∷ (spell_expr x.1 ++ rest)) w.0 refl, expr_again max_depth (readers_at max_depth) x.1 rest w.1 s.0) refl
-
--- a character that an expression begins with
-abbrev begins_expr : ℕ → Bool
-begins_expr c = is_sign c || is_digit c || is_name_start c || eqb c 34
-
--- the first character passes the test
-abbrev Begins : (ℕ → Bool) → List ℕ → Type 0
-Begins p [] = ⊥
-Begins p (c ∷ cs) = p c ≡ true
-
-Begins-stops : (p q : ℕ → Bool) (cs : List ℕ) → ((c : ℕ) → p c ≡ true → q c ≡ false) → Begins p cs → Stops q cs
-Begins-stops p q [] f b = absurd b
-Begins-stops p q (c ∷ cs) f b = f c b
-
-Begins-append : (p : ℕ → Bool) (a b : List ℕ) → Begins p a → Begins p (a ++ b)
-Begins-append p [] b h = absurd h
-Begins-append p (c ∷ a) b h = h
-
-digit_begins : (c : ℕ) → is_digit c ≡ true → begins_expr c ≡ true
-digit_begins c h = grind (arith, nat_tests)
-
-name_begins : (c : ℕ) → is_name_start c ≡ true → begins_expr c ≡ true
-name_begins c h = grind (arith, nat_tests)
-
-primary_begins : (d : ℕ) (p : PrimaryTree) → WellPrimary d p → Begins begins_expr (spell_primary p)
-primary_begins d (number []) w = absurd w
-primary_begins d (number (c ∷ cs)) w = digit_begins c w.0
-primary_begins d (text t) w = refl
-primary_begins d (local []) w = absurd w
-primary_begins d (local (c ∷ cs)) w = name_begins c w.0
-
-expr_begins : (d : ℕ) (e : ExprTree) → WellExpr d e → Begins begins_expr (spell_expr e)
-expr_begins d (expr (operand [] p) rest) w = Begins-append begins_expr (spell_primary p) (spell_steps rest) (primary_begins d p w.0)
-expr_begins d (expr (operand (plus ∷ ss) p) rest) w = refl
-expr_begins d (expr (operand (minus ∷ ss) p) rest) w = refl
-
-not_bang : (c : ℕ) → begins_expr c ≡ true → is_bang c ≡ false
+not_bang : (c : ℕ) → begins_operand c ≡ true → is_bang c ≡ false
 not_bang c h = grind (arith, nat_tests)
 
 no_run : (p : ℕ → Bool) (cs : List ℕ) → Stops p cs → run_of p cs ≡ []
@@ -101,7 +37,7 @@ copies_are a (suc n) h = (h, copies_are a n h)
 output_takes_by : (r cs : List ℕ) (x : OutputTree × List ℕ) → run_of is_bang cs ≡ r → output_by r cs ≡ Some x → (cs ≡ spell_output x.0 ++ x.1) × WellOutput x.0
 output_takes_by [] cs x h e =
     let b = bind_some (expr_at max_depth cs) (λ y. Some (value y.0, y.1)) x e in
-    let t = expr_takes max_depth (readers_at max_depth) cs b.0 b.1 in
+    let t = expr_takes max_depth (readers_at max_depth) (inner_takes max_depth) cs b.0 b.1 in
     subst (λ (y : OutputTree × List ℕ). (cs ≡ spell_output y.0 ++ y.1) × WellOutput y.0) (some_is (value b.0.0, b.0.1) x b.2) t
 output_takes_by (b ∷ bs) cs x h e =
     let r = run_parts is_bang cs in
@@ -121,8 +57,8 @@ output_again (breaks (suc n)) rest w s =
     let r = run_again is_bang (replicate n 33) rest (copies_are 33 n refl) s.1 in
     rw (r.0, r.1, length-replicate {A = ℕ} n 33) refl
 output_again (value e) rest w s =
-    let none : run_of is_bang (spell_expr e ++ rest) ≡ [] = no_run is_bang (spell_expr e ++ rest) (Begins-stops begins_expr is_bang (spell_expr e ++ rest) not_bang (Begins-append begins_expr (spell_expr e) rest (expr_begins max_depth e w))) in
-    rw (none, expr_again max_depth (readers_at max_depth) e rest w s.0) refl
+    let none : run_of is_bang (spell_expr e ++ rest) ≡ [] = no_run is_bang (spell_expr e ++ rest) (Begins-stops begins_operand is_bang (spell_expr e ++ rest) not_bang (Begins-append begins_operand (spell_expr e) rest (expr_begins max_depth e w))) in
+    rw (none, expr_again max_depth (readers_at max_depth) (inner_again max_depth) e rest w s.0) refl
 
 -- ---- commands
 
@@ -175,7 +111,7 @@ unfolding command_at
 command_again (set w args) rest h s =
     let r = run_again is_letter w (32 ∷ (spell_list spell_assignment args ++ rest)) h.1 refl in
     ap command_at (append_assoc w (32 ∷ spell_list spell_assignment args) rest)
-    ∙ rw (r.0, r.1, h.0, list_again spell_assignment WellAssignment assignment_at Follows (λ cs. ((refl, refl), refl)) assignment_again args rest h.2 s) refl
+    ∙ rw (r.0, r.1, h.0, list_again spell_assignment WellAssignment assignment_at Ends (λ cs. (refl, refl)) assignment_again args rest h.2 (s.0.0, s.1)) refl
 command_again (write w args) rest h s =
     let r = run_again is_letter w (32 ∷ (spell_list spell_output args ++ rest)) h.1 refl in
     ap command_at (append_assoc w (32 ∷ spell_list spell_output args) rest)
@@ -266,7 +202,7 @@ command_begins (set w args) rest h = rw append_assoc (word_begins w ((32 ∷ spe
 command_begins (write w args) rest h = rw append_assoc (word_begins w ((32 ∷ spell_list spell_output args) ++ rest) write_word h.0 h.1)
 
 end_follows : (rest : List ℕ) → at_end rest ≡ true → After rest × Stops is_space rest
-end_follows [] h = ((((tt, refl), tt), tt), tt)
+end_follows [] h = ((((tt, tt), tt), tt), tt)
 end_follows (c ∷ cs) h = subst (λ (x : ℕ). After (x ∷ cs) × Stops is_space (x ∷ cs)) (sym (eqb-true c 59 h)) ((((refl, refl), refl), refl), refl)
 
 gap_follows : (n : ℕ) (rest : List ℕ) → (at_end rest || nat_lt 0 n ≡ true) → After (replicate n 32 ++ rest)

@@ -3,33 +3,71 @@
 -- Restates productions of ISO/IEC 11756:1999, each named at its rule by its name in the standard's metalanguage. Nothing
 -- reads here: a text has a tree where a tree that is `well` spells it. A tree keeps what the text says beside the meaning:
 -- words as they are written, digits, spaces.
-use Rattle.std.specs.Prelude.{◌≡◌, ℕ, ◌<◌, ◌≤◌, Bool, true, ◌&&◌, ◌||◌, ◌==◌, nat_le, nat_lt, if◌then◌else◌, List, [], ◌∷◌, ◌++◌, length, replicate, codes, Option, Some, None}
+use Rattle.std.specs.Prelude.{◌≡◌, ℕ, suc, ◌-◌, ◌<◌, ◌≤◌, Bool, true, false, ◌&&◌, ◌||◌, ◌==◌, nat_le, nat_lt, if◌then◌else◌, List, [], ◌∷◌, ◌++◌, length, replicate, codes, Option, Some, None}
+use Rattle.std.specs.List.{list_any}
 use Rattle.std.specs.Str.{str_eq_ignore_ascii_case}
-use Rattle.mspec.specs.Literal.{is_digit}
+use Rattle.mspec.specs.Literal.{is_digit, Literal, IsLiteral, spell_literal}
 
 -- ---- trees
 
--- `unaryop`, without the `'`
+-- `unaryop`
 pub data SignTree : Type 0 where
   plus : SignTree
   minus : SignTree
+  negate : SignTree
 
--- `binaryop`
+-- `truthop`: `relation` and `logicalop`
+pub data TruthTree : Type 0 where
+  equals : TruthTree
+  less : TruthTree
+  greater : TruthTree
+  contains : TruthTree
+  follows : TruthTree
+  sorts_after : TruthTree
+  both : TruthTree
+  either : TruthTree
+
+-- `binaryop`; and a `truthop`, alone or behind a `'`
 pub data BinaryTree : Type 0 where
   add : BinaryTree
   subtract : BinaryTree
   multiply : BinaryTree
+  divide : BinaryTree
+  divide_whole : BinaryTree
+  remainder : BinaryTree
   join : BinaryTree
+  is : TruthTree → BinaryTree
+  is_not : TruthTree → BinaryTree
 
--- `expr` and `exprtail`, of which a list of steps is a run; `expratom` with its unary operators in front; `numlit`, `strlit`
--- and `lvn`, each with its characters
+-- `repcount`: the digits in front, and a point with the digits behind it
+pub record CountTree : Type 0 where
+  pub front : List ℕ
+  pub behind : Option (List ℕ)
+
+-- a run of `patcode`, as its letters are written, or `strlit`
+pub data RepeatedTree : Type 0 where
+  classes : List ℕ → RepeatedTree
+  copies : List ℕ → RepeatedTree
+
+-- `patatom`
+pub record AtomTree : Type 0 where
+  pub count : CountTree
+  pub repeated : RepeatedTree
+
+-- `expr`; `exprtail`, of which a list of steps is a run; `expratom` with its unary operators in front; `numlit`, `strlit` and
+-- `lvn`, each with its characters; `function`, with its word as it is written, $SELECT apart
 mutual
   pub data ExprTree : Type 0 where
     expr : OperandTree → StepsTree → ExprTree
 
   pub data StepsTree : Type 0 where
     no_steps : StepsTree
-    step : BinaryTree → OperandTree → StepsTree → StepsTree
+    step : StepTree → StepsTree → StepsTree
+
+  pub data StepTree : Type 0 where
+    apply : BinaryTree → OperandTree → StepTree
+    matches : List AtomTree → StepTree
+    matches_not : List AtomTree → StepTree
 
   pub data OperandTree : Type 0 where
     operand : List SignTree → PrimaryTree → OperandTree
@@ -38,18 +76,44 @@ mutual
     number : List ℕ → PrimaryTree
     text : List ℕ → PrimaryTree
     local : List ℕ → PrimaryTree
+    bracket : ExprTree → PrimaryTree
+    call : List ℕ → ExprsTree → PrimaryTree
+    select : List ℕ → ChoicesTree → PrimaryTree
 
--- an operator and its operand
-abbrev pub StepTree : Type 0
-StepTree = BinaryTree × OperandTree
+  pub data ExprsTree : Type 0 where
+    no_exprs : ExprsTree
+    exprs : ExprTree → ExprsTree → ExprsTree
+
+  -- conditions, each with its value
+  pub data ChoicesTree : Type 0 where
+    no_choices : ChoicesTree
+    choice : ExprTree → ExprTree → ChoicesTree → ChoicesTree
 
 abbrev pub steps_of : List StepTree → StepsTree
 steps_of [] = no_steps
-steps_of (s ∷ ss) = step s.0 s.1 (steps_of ss)
+steps_of (s ∷ ss) = step s (steps_of ss)
 
--- `setargument`: a name and a value
+abbrev pub exprs_of : List ExprTree → ExprsTree
+exprs_of [] = no_exprs
+exprs_of (e ∷ es) = exprs e (exprs_of es)
+
+abbrev pub choices_of : List (ExprTree × ExprTree) → ChoicesTree
+choices_of [] = no_choices
+choices_of (c ∷ cs) = choice c.0 c.1 (choices_of cs)
+
+-- `setleft`: a name; or `setpiece` with its word, its name, its delimiter and its place
+pub data TargetTree : Type 0 where
+  variable : List ℕ → TargetTree
+  piece : List ℕ → List ℕ → ExprTree → Option ExprTree → TargetTree
+
+-- `setdestination`: one, or a list in brackets
+pub data DestinationTree : Type 0 where
+  one : TargetTree → DestinationTree
+  several : List TargetTree → DestinationTree
+
+-- `setargument`: a destination and a value
 abbrev pub AssignmentTree : Type 0
-AssignmentTree = List ℕ × ExprTree
+AssignmentTree = DestinationTree × ExprTree
 
 -- `writeargument`: a run of the format `!`, or a value
 pub data OutputTree : Type 0 where
@@ -71,17 +135,34 @@ pub record LineTree : Type 0 where
   pub commands : List SpacedTree
   pub comment : Option (List ℕ)
 
--- ---- the text of a tree; 32 is a space, 33 `!`, 34 a quote, 44 a comma, 59 `;`, 61 `=`
+-- ---- the text of a tree; 32 is a space, 33 `!`, 34 a quote, 36 `$`, 39 `'`, 40 and 41 brackets, 44 a comma, 46 a point,
+-- 58 a colon, 59 `;`, 61 `=`, 63 `?`
 
 abbrev pub sign_char : SignTree → ℕ
 sign_char plus = 43
 sign_char minus = 45
+sign_char negate = 39
 
-abbrev pub binary_char : BinaryTree → ℕ
-binary_char add = 43
-binary_char subtract = 45
-binary_char multiply = 42
-binary_char join = 95
+abbrev pub spell_truth : TruthTree → List ℕ
+spell_truth equals = 61 ∷ []
+spell_truth less = 60 ∷ []
+spell_truth greater = 62 ∷ []
+spell_truth contains = 91 ∷ []
+spell_truth follows = 93 ∷ []
+spell_truth sorts_after = 93 ∷ 93 ∷ []
+spell_truth both = 38 ∷ []
+spell_truth either = 33 ∷ []
+
+abbrev pub spell_binary : BinaryTree → List ℕ
+spell_binary add = 43 ∷ []
+spell_binary subtract = 45 ∷ []
+spell_binary multiply = 42 ∷ []
+spell_binary divide = 47 ∷ []
+spell_binary divide_whole = 92 ∷ []
+spell_binary remainder = 35 ∷ []
+spell_binary join = 95 ∷ []
+spell_binary (is t) = spell_truth t
+spell_binary (is_not t) = 39 ∷ spell_truth t
 
 abbrev pub spell_signs : List SignTree → List ℕ
 spell_signs [] = []
@@ -92,28 +173,65 @@ abbrev pub quoted : List ℕ → List ℕ
 quoted [] = []
 quoted (c ∷ cs) = if c == 34 then 34 ∷ 34 ∷ quoted cs else c ∷ quoted cs
 
+abbrev pub spell_string : List ℕ → List ℕ
+spell_string t = 34 ∷ (quoted t ++ 34 ∷ [])
+
+abbrev pub spell_behind : Option (List ℕ) → List ℕ
+spell_behind None = []
+spell_behind (Some digits) = 46 ∷ digits
+
+abbrev pub spell_repeated : RepeatedTree → List ℕ
+spell_repeated (classes letters) = letters
+spell_repeated (copies t) = spell_string t
+
+abbrev pub spell_atom : AtomTree → List ℕ
+spell_atom a = a.count.front ++ (spell_behind a.count.behind ++ spell_repeated a.repeated)
+
+abbrev pub spell_atoms : List AtomTree → List ℕ
+spell_atoms [] = []
+spell_atoms (a ∷ rest) = spell_atom a ++ spell_atoms rest
+
 abbrev mutual
   pub spell_expr : ExprTree → List ℕ
   spell_expr (expr first rest) = spell_operand first ++ spell_steps rest
 
   pub spell_steps : StepsTree → List ℕ
   spell_steps no_steps = []
-  spell_steps (step b o rest) = binary_char b ∷ (spell_operand o ++ spell_steps rest)
+  spell_steps (step s rest) = spell_step s ++ spell_steps rest
+
+  pub spell_step : StepTree → List ℕ
+  spell_step (apply b o) = spell_binary b ++ spell_operand o
+  spell_step (matches atoms) = 63 ∷ spell_atoms atoms
+  spell_step (matches_not atoms) = 39 ∷ 63 ∷ spell_atoms atoms
 
   pub spell_operand : OperandTree → List ℕ
   spell_operand (operand signs p) = spell_signs signs ++ spell_primary p
 
   pub spell_primary : PrimaryTree → List ℕ
-  spell_primary (number digits) = digits
-  spell_primary (text t) = 34 ∷ (quoted t ++ 34 ∷ [])
+  spell_primary (number literal) = literal
+  spell_primary (text t) = spell_string t
   spell_primary (local name) = name
+  spell_primary (bracket e) = 40 ∷ (spell_expr e ++ 41 ∷ [])
+  spell_primary (call word args) = 36 ∷ (word ++ 40 ∷ (spell_exprs args ++ 41 ∷ []))
+  spell_primary (select word choices) = 36 ∷ (word ++ 40 ∷ (spell_choices choices ++ 41 ∷ []))
 
-abbrev pub spell_assignment : AssignmentTree → List ℕ
-spell_assignment a = a.0 ++ 61 ∷ spell_expr a.1
+  -- with commas between
+  pub spell_exprs : ExprsTree → List ℕ
+  spell_exprs no_exprs = []
+  spell_exprs (exprs e rest) = spell_expr e ++ spell_more_exprs rest
 
-abbrev pub spell_output : OutputTree → List ℕ
-spell_output (breaks n) = replicate n 33
-spell_output (value e) = spell_expr e
+  -- with a comma before each
+  pub spell_more_exprs : ExprsTree → List ℕ
+  spell_more_exprs no_exprs = []
+  spell_more_exprs (exprs e rest) = 44 ∷ (spell_expr e ++ spell_more_exprs rest)
+
+  pub spell_choices : ChoicesTree → List ℕ
+  spell_choices no_choices = []
+  spell_choices (choice c v rest) = spell_expr c ++ 58 ∷ (spell_expr v ++ spell_more_choices rest)
+
+  pub spell_more_choices : ChoicesTree → List ℕ
+  spell_more_choices no_choices = []
+  spell_more_choices (choice c v rest) = 44 ∷ (spell_expr c ++ 58 ∷ (spell_expr v ++ spell_more_choices rest))
 
 -- with a comma before each
 abbrev pub spell_more : {A : Type 0} → (A → List ℕ) → List A → List ℕ
@@ -124,6 +242,26 @@ spell_more spell (a ∷ rest) = 44 ∷ (spell a ++ spell_more spell rest)
 abbrev pub spell_list : {A : Type 0} → (A → List ℕ) → List A → List ℕ
 spell_list spell [] = []
 spell_list spell (a ∷ rest) = spell a ++ spell_more spell rest
+
+abbrev pub spell_place : Option ExprTree → List ℕ
+spell_place None = []
+spell_place (Some e) = 44 ∷ spell_expr e
+
+abbrev pub spell_target : TargetTree → List ℕ
+spell_target (variable name) = name
+spell_target (piece word name delimiter place) =
+    36 ∷ (word ++ 40 ∷ (name ++ 44 ∷ (spell_expr delimiter ++ (spell_place place ++ 41 ∷ []))))
+
+abbrev pub spell_destination : DestinationTree → List ℕ
+spell_destination (one t) = spell_target t
+spell_destination (several ts) = 40 ∷ (spell_list spell_target ts ++ 41 ∷ [])
+
+abbrev pub spell_assignment : AssignmentTree → List ℕ
+spell_assignment a = spell_destination a.0 ++ 61 ∷ spell_expr a.1
+
+abbrev pub spell_output : OutputTree → List ℕ
+spell_output (breaks n) = replicate n 33
+spell_output (value e) = spell_expr e
 
 abbrev pub spell_command : CommandTree → List ℕ
 spell_command (set word args) = word ++ 32 ∷ spell_list spell_assignment args
@@ -160,10 +298,9 @@ abbrev pub AllAre : (ℕ → Bool) → List ℕ → Type 0
 AllAre p [] = Unit {0}
 AllAre p (c ∷ cs) = (p c ≡ true) × AllAre p cs
 
--- `intlit`
+-- `numlit`
 abbrev pub IsNumber : List ℕ → Type 0
-IsNumber [] = ⊥
-IsNumber (d ∷ ds) = (is_digit d ≡ true) × AllAre is_digit ds
+IsNumber t = (l : Literal) × IsLiteral l × (spell_literal l ≡ t)
 
 -- `name`: of at most 31 characters, which the standard leaves open
 abbrev pub IsName : List ℕ → Type 0
@@ -180,35 +317,72 @@ keyword_of w =
     if str_eq_ignore_ascii_case w (codes "s") || str_eq_ignore_ascii_case w (codes "set") then Some set_word
     else (if str_eq_ignore_ascii_case w (codes "w") || str_eq_ignore_ascii_case w (codes "write") then Some write_word else None)
 
+pub data FunctionTree : Type 0 where
+  ascii_function : FunctionTree
+  char_function : FunctionTree
+  extract_function : FunctionTree
+  find_function : FunctionTree
+  justify_function : FunctionTree
+  length_function : FunctionTree
+  piece_function : FunctionTree
+  select_function : FunctionTree
+  translate_function : FunctionTree
+
+-- the word is this one or that one, in either case of letters
+abbrev pub is_either : List ℕ → List ℕ → List ℕ → Bool
+is_either short long w = str_eq_ignore_ascii_case w short || str_eq_ignore_ascii_case w long
+
+-- the name of a `function`: the whole word or its abbreviation
+unfoldable pub function_of : List ℕ → Option FunctionTree
+function_of w =
+    if is_either (codes "a") (codes "ascii") w then Some ascii_function
+    else (if is_either (codes "c") (codes "char") w then Some char_function
+    else (if is_either (codes "e") (codes "extract") w then Some extract_function
+    else (if is_either (codes "f") (codes "find") w then Some find_function
+    else (if is_either (codes "j") (codes "justify") w then Some justify_function
+    else (if is_either (codes "l") (codes "length") w then Some length_function
+    else (if is_either (codes "p") (codes "piece") w then Some piece_function
+    else (if is_either (codes "s") (codes "select") w then Some select_function
+    else (if is_either (codes "tr") (codes "translate") w then Some translate_function else None))))))))
+
+abbrev pub is_between : ℕ → ℕ → ℕ → Bool
+is_between least most n = nat_le least n && nat_le n most
+
+-- whether a function takes so many arguments; those of $SELECT are of another form
+abbrev pub takes : FunctionTree → ℕ → Bool
+takes ascii_function n = is_between 1 2 n
+takes char_function n = nat_le 1 n
+takes extract_function n = is_between 1 3 n
+takes find_function n = is_between 2 3 n
+takes justify_function n = n == 2
+takes length_function n = is_between 1 2 n
+takes piece_function n = is_between 2 4 n
+takes select_function n = false
+takes translate_function n = is_between 2 3 n
+
+abbrev pub upper_case : ℕ → ℕ
+upper_case c = if nat_le 97 c && nat_le c 122 then c - 32 else c
+
+-- `patcode`, in either case of letters
+abbrev pub is_pattern_letter : ℕ → Bool
+is_pattern_letter c = list_any (λ letter. letter == upper_case c) (codes "ACELNPU")
+
 -- ---- what makes a tree the tree of a text
 
--- so many brackets may be open within; none of them is in the grammar yet
-abbrev mutual
-  pub WellExpr : ℕ → ExprTree → Type 0
-  WellExpr d (expr first rest) = WellOperand d first × WellSteps d rest
+-- one to four digits
+abbrev pub IsBound : List ℕ → Type 0
+IsBound digits = AllAre is_digit digits × (length digits ≤ 4)
 
-  pub WellSteps : ℕ → StepsTree → Type 0
-  WellSteps d no_steps = Unit {0}
-  WellSteps d (step b o rest) = WellOperand d o × WellSteps d rest
+abbrev pub IsCount : List ℕ → Option (List ℕ) → Type 0
+IsCount front None = IsBound front × (0 < length front)
+IsCount front (Some behind) = IsBound front × IsBound behind
 
-  pub WellOperand : ℕ → OperandTree → Type 0
-  WellOperand d (operand signs p) = WellPrimary d p
+abbrev pub WellRepeated : RepeatedTree → Type 0
+WellRepeated (classes letters) = AllAre is_pattern_letter letters × (0 < length letters)
+WellRepeated (copies t) = AllAre is_character t
 
-  pub WellPrimary : ℕ → PrimaryTree → Type 0
-  WellPrimary d (number digits) = IsNumber digits
-  WellPrimary d (text t) = AllAre is_character t
-  WellPrimary d (local name) = IsName name
-
--- how deep a place may lie within a text
-abbrev pub max_depth : ℕ
-max_depth = 40
-
-abbrev pub WellAssignment : AssignmentTree → Type 0
-WellAssignment a = IsName a.0 × WellExpr max_depth a.1
-
-abbrev pub WellOutput : OutputTree → Type 0
-WellOutput (breaks n) = 0 < n
-WellOutput (value e) = WellExpr max_depth e
+abbrev pub WellAtom : AtomTree → Type 0
+WellAtom a = IsCount a.count.front a.count.behind × WellRepeated a.repeated
 
 abbrev pub WellAll : {A : Type 0} → (A → Type 0) → List A → Type 0
 WellAll P [] = Unit {0}
@@ -218,6 +392,78 @@ WellAll P (a ∷ rest) = P a × WellAll P rest
 abbrev pub WellList : {A : Type 0} → (A → Type 0) → List A → Type 0
 WellList P [] = ⊥
 WellList P (a ∷ rest) = P a × WellAll P rest
+
+abbrev pub exprs_count : ExprsTree → ℕ
+exprs_count no_exprs = 0
+exprs_count (exprs e rest) = suc (exprs_count rest)
+
+-- a function that takes so many arguments
+abbrev pub IsCall : List ℕ → ℕ → Type 0
+IsCall word n = (f : FunctionTree) × (function_of word ≡ Some f) × (takes f n ≡ true)
+
+abbrev pub HasChoice : ChoicesTree → Type 0
+HasChoice no_choices = ⊥
+HasChoice (choice c v rest) = Unit {0}
+
+abbrev pub IsFunction : FunctionTree → List ℕ → Type 0
+IsFunction f word = (function_of word ≡ Some f) × AllAre is_letter word
+
+-- where so many brackets more may be open
+abbrev mutual
+  pub WellExpr : ℕ → ExprTree → Type 0
+  WellExpr d (expr first rest) = WellOperand d first × WellSteps d rest
+
+  pub WellSteps : ℕ → StepsTree → Type 0
+  WellSteps d no_steps = Unit {0}
+  WellSteps d (step s rest) = WellStep d s × WellSteps d rest
+
+  pub WellStep : ℕ → StepTree → Type 0
+  WellStep d (apply b o) = WellOperand d o
+  WellStep d (matches atoms) = WellList WellAtom atoms
+  WellStep d (matches_not atoms) = WellList WellAtom atoms
+
+  pub WellOperand : ℕ → OperandTree → Type 0
+  WellOperand d (operand signs p) = WellPrimary d p
+
+  pub WellPrimary : ℕ → PrimaryTree → Type 0
+  WellPrimary d (number literal) = IsNumber literal
+  WellPrimary d (text t) = AllAre is_character t
+  WellPrimary d (local name) = IsName name
+  WellPrimary d (bracket e) = (0 < d) × WellExpr (d - 1) e
+  WellPrimary d (call word args) = (0 < d) × AllAre is_letter word × IsCall word (exprs_count args) × WellExprs (d - 1) args
+  WellPrimary d (select word choices) = (0 < d) × IsFunction select_function word × HasChoice choices × WellChoices (d - 1) choices
+
+  pub WellExprs : ℕ → ExprsTree → Type 0
+  WellExprs d no_exprs = Unit {0}
+  WellExprs d (exprs e rest) = WellExpr d e × WellExprs d rest
+
+  pub WellChoices : ℕ → ChoicesTree → Type 0
+  WellChoices d no_choices = Unit {0}
+  WellChoices d (choice c v rest) = WellExpr d c × WellExpr d v × WellChoices d rest
+
+-- how deep a place may lie within a text
+abbrev pub max_depth : ℕ
+max_depth = 40
+
+abbrev pub WellPlace : ℕ → Option ExprTree → Type 0
+WellPlace d None = Unit {0}
+WellPlace d (Some e) = WellExpr d e
+
+abbrev pub WellTarget : ℕ → TargetTree → Type 0
+WellTarget d (variable name) = IsName name
+WellTarget d (piece word name delimiter place) =
+    IsFunction piece_function word × IsName name × WellExpr (d - 1) delimiter × WellPlace (d - 1) place
+
+abbrev pub WellDestination : DestinationTree → Type 0
+WellDestination (one t) = WellTarget max_depth t
+WellDestination (several ts) = WellList (WellTarget (max_depth - 1)) ts
+
+abbrev pub WellAssignment : AssignmentTree → Type 0
+WellAssignment a = WellDestination a.0 × WellExpr max_depth a.1
+
+abbrev pub WellOutput : OutputTree → Type 0
+WellOutput (breaks n) = 0 < n
+WellOutput (value e) = WellExpr max_depth e
 
 abbrev pub WellCommand : CommandTree → Type 0
 WellCommand (set w args) = (keyword_of w ≡ Some set_word) × AllAre is_letter w × WellList WellAssignment args

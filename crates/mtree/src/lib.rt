@@ -3,11 +3,14 @@
 //! What a tree means as plain data, and which text it has, are definitions of `mspec`: `Grammar`.
 #![tactic(auto)]
 
+mod expression;
+mod pieces;
 pub mod tree;
 pub mod write;
 
 pub use tree::{
-    Assignment, Binary, Command, Expr, Keyword, Line, Operand, Output, Primary, Sign, Spaced, Step,
+    Assignment, Atom, Binary, Choice, Command, Count, Destination, Expr, Function, Keyword, Line,
+    Operand, Output, PieceTarget, Primary, Repeated, Sign, Spaced, Step, Target, Truth,
 };
 pub use write::write_line;
 

@@ -1,121 +1,77 @@
 // The text of a line: each function appends the spelling of its part, as `mspec`'s grammar has it.
-ghost use Rattle.std.specs.Prelude.{◌≡◌, ◌++◌, ◌<◌, ◌∷◌, [], IfOk, OnOk, replicate, map};
-ghost use Rattle.mspec.specs.Grammar.{sign_char, binary_char, spell_signs, quoted, spell_expr, steps_of, spell_steps, spell_operand, spell_primary, spell_assignment, spell_output, spell_list, spell_more, spell_command, spell_commands, spell};
-ghost use Rattle.mtree.specs.Tree.{sign_tree, binary_tree, expr_tree, operand_tree, primary_tree, step_tree, assignment_tree, output_tree, command_tree, spaced_tree, line_tree};
+ghost use Rattle.std.specs.Prelude.{◌≡◌, ◌++◌, ◌∷◌, [], IfOk, OnOk, map, option_map};
+ghost use Rattle.mspec.specs.Grammar.{spell_place, spell_target, spell_destination, spell_assignment, spell_output, spell_list, spell_command, spell_commands, spell};
+ghost use Rattle.mtree.specs.Tree.{expr_tree, piece_tree, target_tree, destination_tree, assignment_tree, output_tree, command_tree, spaced_tree, line_tree};
 
+use crate::expression::{put_expr, put_word};
+use crate::pieces::{put_run, put_text};
 use crate::tree::{
-    Assignment, Binary, Command, Expr, Line, Operand, Output, Primary, Sign, Spaced, Step,
+    Assignment, Command, Destination, Expr, Line, Output, PieceTarget, Spaced, Target,
 };
 use mnum::Bytes7;
 use std::alloc::{AllocError, Global};
 
-fn put_text(out: &mut Bytes7, text: &Bytes7) -> Result<(), AllocError>
-    ensures { OnOk result (out.new ≡ out.old ++ text.now) }
+fn put_place(out: &mut Bytes7, place: &Option<Expr>) -> Result<(), AllocError>
+    ensures { OnOk result (out.new ≡ out.old ++ spell_place (option_map expr_tree place.now)) }
 {
-    out.append(text.as_bytes())
-}
-
-fn sign_byte(sign: Sign) -> u8
-    ensures value { result ≡ sign_char (sign_tree sign) }
-    ensures seven_bits { result < 128 }
-{
-    match sign {
-        Sign::Plus => b'+',
-        Sign::Minus => b'-',
-    }
-}
-
-fn put_signs(out: &mut Bytes7, signs: &[Sign]) -> Result<(), AllocError>
-    ensures { OnOk result (out.new ≡ out.old ++ spell_signs (map sign_tree signs.now)) }
-{
-    for sign in signs {
-        out.push(sign_byte(*sign))?;
+    if let Some(place) = place {
+        out.push(b',')?;
+        put_expr(out, place)?;
     }
     Ok(())
 }
 
-fn binary_byte(operator: Binary) -> u8
-    ensures value { result ≡ binary_char (binary_tree operator) }
-    ensures seven_bits { result < 128 }
+fn put_piece(out: &mut Bytes7, piece: &PieceTarget) -> Result<(), AllocError>
+    ensures { OnOk result (out.new ≡ out.old ++ spell_target (piece_tree piece.now)) }
 {
-    match operator {
-        Binary::Add => b'+',
-        Binary::Subtract => b'-',
-        Binary::Multiply => b'*',
-        Binary::Join => b'_',
+    put_word(out, &piece.word)?;
+    put_text(out, &piece.name)?;
+    out.push(b',')?;
+    put_expr(out, &piece.delimiter)?;
+    put_place(out, &piece.place)?;
+    out.push(b')')
+}
+
+fn put_target(out: &mut Bytes7, target: &Target) -> Result<(), AllocError>
+    ensures { OnOk result (out.new ≡ out.old ++ spell_target (target_tree target.now)) }
+{
+    match target {
+        Target::Variable(name) => put_text(out, name),
+        Target::Piece(piece) => put_piece(out, piece),
     }
 }
 
-// The characters of a string, with each quote doubled.
-fn put_quoted(out: &mut Bytes7, text: &Bytes7) -> Result<(), AllocError>
-    ensures { OnOk result (out.new ≡ out.old ++ quoted text.now) }
+fn put_targets(out: &mut Bytes7, all: &[Target]) -> Result<(), AllocError>
+    ensures { OnOk result (out.new ≡ out.old ++ spell_list spell_target (map target_tree all.now)) }
 {
-    for byte in text.as_bytes() {
-        if *byte == b'"' {
-            out.push(b'"')?;
+    let Some((first, rest)) = all.split_first() else {
+        return Ok(());
+    };
+    put_target(out, first)?;
+    for other in rest {
+        out.push(b',')?;
+        put_target(out, other)?;
+    }
+    Ok(())
+}
+
+fn put_destination(out: &mut Bytes7, destination: &Destination) -> Result<(), AllocError>
+    ensures { OnOk result (out.new ≡ out.old ++ spell_destination (destination_tree destination.now)) }
+{
+    match destination {
+        Destination::One(target) => put_target(out, target),
+        Destination::Several(targets) => {
+            out.push(b'(')?;
+            put_targets(out, targets)?;
+            out.push(b')')
         }
-        out.push(*byte)?;
     }
-    Ok(())
-}
-
-fn put_string(out: &mut Bytes7, text: &Bytes7) -> Result<(), AllocError>
-    ensures { OnOk result (out.new ≡ out.old ++ 34 ∷ (quoted text.now ++ 34 ∷ [])) }
-{
-    out.push(b'"')?;
-    put_quoted(out, text)?;
-    out.push(b'"')
-}
-
-fn put_primary(out: &mut Bytes7, primary: &Primary) -> Result<(), AllocError>
-    ensures { OnOk result (out.new ≡ out.old ++ spell_primary (primary_tree primary.now)) }
-{
-    match primary {
-        Primary::Number(digits) => put_text(out, digits),
-        Primary::Text(text) => put_string(out, text),
-        Primary::Local(name) => put_text(out, name),
-    }
-}
-
-fn put_operand(out: &mut Bytes7, operand: &Operand) -> Result<(), AllocError>
-    ensures { OnOk result (out.new ≡ out.old ++ spell_operand (operand_tree operand.now)) }
-{
-    put_signs(out, &operand.signs)?;
-    put_primary(out, &operand.primary)
-}
-
-fn put_steps(out: &mut Bytes7, steps: &[Step]) -> Result<(), AllocError>
-    ensures { OnOk result (out.new ≡ out.old ++ spell_steps (steps_of (map step_tree steps.now))) }
-{
-    for step in steps {
-        out.push(binary_byte(step.operator))?;
-        put_operand(out, &step.operand)?;
-    }
-    Ok(())
-}
-
-fn put_expr(out: &mut Bytes7, expr: &Expr) -> Result<(), AllocError>
-    ensures { OnOk result (out.new ≡ out.old ++ spell_expr (expr_tree expr.now)) }
-{
-    put_operand(out, &expr.first)?;
-    put_steps(out, &expr.rest)
-}
-
-// So many of one byte.
-fn put_run(out: &mut Bytes7, byte: u8, count: usize) -> Result<(), AllocError>
-    requires { byte < 128 }
-    ensures { OnOk result (out.new ≡ out.old ++ replicate count byte) }
-{
-    for _ in 0..count {
-        out.push(byte)?;
-    }
-    Ok(())
 }
 
 fn put_assignment(out: &mut Bytes7, assignment: &Assignment) -> Result<(), AllocError>
     ensures { OnOk result (out.new ≡ out.old ++ spell_assignment (assignment_tree assignment.now)) }
 {
-    put_text(out, &assignment.name)?;
+    put_destination(out, &assignment.destination)?;
     out.push(b'=')?;
     put_expr(out, &assignment.value)
 }

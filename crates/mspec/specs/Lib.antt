@@ -13,3 +13,5 @@ pub mod Pieces
 pub mod PieceLaws
 pub mod TextFunctions
 pub mod Pattern
+pub mod NodeOrder
+pub mod KeyBytes

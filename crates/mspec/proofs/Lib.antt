@@ -20,3 +20,5 @@ pub mod PieceExamples
 pub mod PatternExamples
 pub mod FirstPlaces
 pub mod KeyExamples
+pub mod NodeOrders
+pub mod KeyOrders

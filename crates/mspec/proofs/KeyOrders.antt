@@ -1,25 +1,23 @@
 -- Bytes of keys stand in the order of their nodes, and a key begins with the keys of its node's ancestors and no others.
-use Rattle.std.proofs.Common.{ℕ, zero, suc, ◌≡◌, ◌+◌, ◌-◌, ◌*◌, ◌/◌, ◌%◌, ◌^◌, ◌<◌, ◌≤◌, Bool, true, false, cond, Option, Some, None, option_map, List, [], ◌∷◌, ◌++◌, length, All, refl, sym, ◌∙◌, ap, subst, arith, append_assoc, append-nil, ◌⊎◌, inl, inr, nat_le}
-use Rattle.std.specs.Prelude.{ℤ, pos, negsuc, unsigned_abs, ◌+ℤ◌}
-use Rattle.std.specs.Cmp.Lexicographic.{slice_cmp, nat_list_cmp_total}
+use Rattle.std.proofs.Common.{ℕ, zero, suc, ◌≡◌, ◌+◌, ◌*◌, ◌/◌, ◌%◌, ◌^◌, ◌<◌, ◌≤◌, Bool, true, false, cond, Option, Some, None, option_map, List, [], ◌∷◌, ◌++◌, length, refl, sym, ◌∙◌, ap, subst, arith, ◌⊎◌, inl, inr, nat_le}
+use Rattle.std.specs.Prelude.{ℤ, pos, negsuc, unsigned_abs}
+use Rattle.std.specs.Cmp.Lexicographic.{slice_cmp}
 use Rattle.std.specs.Cmp.{nat_cmp_is}
 use Rattle.std.specs.declared.cmp.Ordering.{Ordering}
 use Rattle.std.specs.declared.cmp.Ordering.TheVariants.{Less, Equal, Greater}
-use Rattle.std.specs.FinMap.{IsAntisymmetric, nat_cmp-IsAntisymmetric, slice_cmp-IsAntisymmetric}
-use Rattle.std.specs.Ordering.{nat_cmp, int_cmp, ordering_then, MatchOrdering}
-use Rattle.std.specs.List.{flat_map}
+use Rattle.std.specs.Ordering.{nat_cmp, int_cmp, ordering_then}
 use Rattle.std.proofs.lemmas.Bool.{cases_order}
 use Rattle.std.proofs.lemmas.Bool.Decides.{nat_tests}
-use Rattle.std.proofs.lemmas.Cmp.{tied_itself, nat_cmp_total}
-use Rattle.std.proofs.lemmas.Nat.{mod_below, div_below}
+use Rattle.std.proofs.lemmas.Nat.{mod_below}
 use Rattle.std.proofs.lemmas.List.Elements.{All-head, All-tail}
 use Rattle.std.proofs.Math.Nat.{div-add-mod', one-le-pow, mul-le-mul_right}
-use Rattle.mspec.specs.Act.{Text, Node}
+use Rattle.mspec.specs.Act.{Text}
 use Rattle.mspec.specs.Number.{round_size, nearest, rounding_unit, signed}
-use Rattle.mspec.specs.NumberText.{numeric_value, literal_size, is_negated, after_signs}
-use Rattle.mspec.specs.NodeOrder.{canonical_value, Place, Numeric, Other, place, place_by, place_cmp, text_cmp, subscripts_cmp, node_cmp}
-use Rattle.mspec.specs.KeyBytes.{big_endian, text_bytes, raised, number_bytes, subscript_by, subscript_bytes, subscripts_bytes, local_bytes, key_bytes}
-use Rattle.mspec.proofs.NodeOrders.{canonical_of_value, text_cmp_exact, both_Equal}
+use Rattle.mspec.specs.NumberText.{numeric_value, literal_size, is_negated}
+use Rattle.mspec.specs.NodeOrder.{canonical_value, place_by, place_cmp, text_cmp, subscripts_cmp}
+use Rattle.mspec.specs.KeyBytes.{big_endian, text_bytes, raised, number_bytes, subscript_by, subscript_bytes, subscripts_bytes, local_bytes}
+use Rattle.mspec.specs.KeyLaws.{NoneEmpty, KeysKeepOrder, LocalsKeepOrder}
+use Rattle.mspec.proofs.NodeOrders.{canonical_of_value}
 
 -- ---- orders one after another
 
@@ -178,14 +176,14 @@ subscript_order kept (c ∷ s) (d ∷ t) x y some_s some_t =
     by_value (c ∷ s) (d ∷ t) (canonical_value kept (c ∷ s)) (canonical_value kept (d ∷ t)) x y (canonical_in_range kept (c ∷ s)) (canonical_in_range kept (d ∷ t))
 
 -- a subscript's bytes begin with 1 or 2
-record HasTag (bytes : List ℕ) : Type 0 where
-  tag : ℕ
-  rest : List ℕ
-  is : bytes ≡ tag ∷ rest
-  some : 0 < tag
-  few : tag < 3
+pub record HasTag (bytes : List ℕ) : Type 0 where
+  pub tag : ℕ
+  pub rest : List ℕ
+  pub is : bytes ≡ tag ∷ rest
+  pub some : 0 < tag
+  pub few : tag < 3
 
-tag_of : (s : Text) (o : Option ℤ) → HasTag (subscript_by s o)
+pub tag_of : (s : Text) (o : Option ℤ) → HasTag (subscript_by s o)
 tag_of s (Some u) = record { tag = 1; rest = number_bytes u; is = refl; some = omega arith; few = omega arith }
 tag_of s None = record { tag = 2; rest = text_bytes s; is = refl; some = omega arith; few = omega arith }
 
@@ -196,10 +194,6 @@ first_is_less kept s x = let tag = tag_of s (canonical_value kept s) in ap (λ b
 last_is_greater : (kept : ℕ) (s : Text) (x : List ℕ) → slice_cmp nat_cmp (subscript_bytes kept s ++ x) [] ≡ Greater
 last_is_greater kept s x = let tag = tag_of s (canonical_value kept s) in ap (λ b. slice_cmp nat_cmp (b ++ x) []) tag.is
 
--- no text is empty
-abbrev pub NoneEmpty : List Text → Type 0
-NoneEmpty xs = All (λ s. 0 < length s) xs
-
 pub subscripts_order : (kept : ℕ) (xs ys : List Text) → NoneEmpty xs → NoneEmpty ys → slice_cmp nat_cmp (subscripts_bytes kept xs) (subscripts_bytes kept ys) ≡ subscripts_cmp kept xs ys
 subscripts_order kept [] [] all_x all_y = refl
 subscripts_order kept [] (t ∷ ys) all_x all_y = first_is_less kept t (subscripts_bytes kept ys)
@@ -208,50 +202,12 @@ subscripts_order kept (s ∷ xs) (t ∷ ys) all_x all_y =
     subscript_order kept s t (subscripts_bytes kept xs) (subscripts_bytes kept ys) (All-head (λ s. 0 < length s) s xs all_x) (All-head (λ s. 0 < length s) t ys all_y)
     ∙ ap (ordering_then (text_cmp kept s t)) (subscripts_order kept xs ys (All-tail (λ s. 0 < length s) s xs all_x) (All-tail (λ s. 0 < length s) t ys all_y))
 
-pub local_order : (kept : ℕ) (a b : Text) (xs ys : List Text) → NoneEmpty xs → NoneEmpty ys → slice_cmp nat_cmp (local_bytes kept a xs) (local_bytes kept b ys) ≡ ordering_then (slice_cmp nat_cmp a b) (subscripts_cmp kept xs ys)
+pub local_order : LocalsKeepOrder
 local_order kept a b xs ys all_x all_y =
     text_order a b (subscripts_bytes kept xs) (subscripts_bytes kept ys) ∙ ap (ordering_then (slice_cmp nat_cmp a b)) (subscripts_order kept xs ys all_x all_y)
 
 -- keys stand in the order of nodes
-pub key_order : (kept : ℕ) (a b : Node) → NoneEmpty a.subscripts → NoneEmpty b.subscripts → slice_cmp nat_cmp (key_bytes kept a) (key_bytes kept b) ≡ node_cmp kept a b
+pub key_order : KeysKeepOrder
 key_order kept a b all_a all_b =
     text_order a.account b.account (local_bytes kept a.name a.subscripts) (local_bytes kept b.name b.subscripts)
     ∙ ap (ordering_then (slice_cmp nat_cmp a.account b.account)) (local_order kept a.name b.name a.subscripts b.subscripts all_a all_b)
-
--- ---- what stands in front
-
--- equal bytes compare as equal
-same_bytes : (x y : List ℕ) → x ≡ y → slice_cmp nat_cmp x y ≡ Equal
-same_bytes x y e = ap (slice_cmp nat_cmp x) (sym e) ∙ tied_itself nat_list_cmp_total x
-
-bytes_exact : IsAntisymmetric (slice_cmp nat_cmp)
-bytes_exact = slice_cmp-IsAntisymmetric nat_cmp-IsAntisymmetric
-
--- a text's bytes end by themselves
-text_split : (s t x y : List ℕ) → text_bytes s ++ x ≡ text_bytes t ++ y → (s ≡ t) × (x ≡ y)
-text_split s t x y e =
-    let both = both_Equal (slice_cmp nat_cmp s t) (slice_cmp nat_cmp x y) (sym (text_order s t x y) ∙ same_bytes _ _ e) in
-    (bytes_exact s t both.0, bytes_exact x y both.1)
-
-subscript_split : (kept : ℕ) (s t : Text) (x y : List ℕ) → 0 < length s → 0 < length t → subscript_bytes kept s ++ x ≡ subscript_bytes kept t ++ y → (s ≡ t) × (x ≡ y)
-subscript_split kept s t x y some_s some_t e =
-    let both = both_Equal (text_cmp kept s t) (slice_cmp nat_cmp x y) (sym (subscript_order kept s t x y some_s some_t) ∙ same_bytes _ _ e) in
-    (text_cmp_exact kept s t both.0, bytes_exact x y both.1)
-
--- the subscripts behind others, of which the bytes are given
-record IsBehind (kept : ℕ) (front : List Text) (rest : List ℕ) (all : List Text) : Type 0 where
-  more : List Text
-  subscripts : all ≡ front ++ more
-  bytes : rest ≡ subscripts_bytes kept more
-
-subscripts_split : (kept : ℕ) (xs ys : List Text) (rest : List ℕ) → NoneEmpty xs → NoneEmpty ys → subscripts_bytes kept xs ++ rest ≡ subscripts_bytes kept ys → IsBehind kept xs rest ys
-subscripts_split kept [] ys rest all_x all_y e = record { more = ys; subscripts = refl; bytes = e }
-subscripts_split kept (s ∷ xs) [] rest all_x all_y e =
-    let tag = tag_of s (canonical_value kept s) in
-    let bytes : tag.tag ∷ ((tag.rest ++ subscripts_bytes kept xs) ++ rest) ≡ [] = ap (λ b. (b ++ subscripts_bytes kept xs) ++ rest) (sym tag.is) ∙ e in
-    absurd (cc)
-subscripts_split kept (s ∷ xs) (t ∷ ys) rest all_x all_y e =
-    let first = subscript_split kept s t (subscripts_bytes kept xs ++ rest) (subscripts_bytes kept ys) (All-head (λ s. 0 < length s) s xs all_x) (All-head (λ s. 0 < length s) t ys all_y)
-    (sym (append_assoc (subscript_bytes kept s) (subscripts_bytes kept xs) rest) ∙ e) in
-    let behind = subscripts_split kept xs ys rest (All-tail (λ s. 0 < length s) s xs all_x) (All-tail (λ s. 0 < length s) t ys all_y) first.1 in
-    record { more = behind.more; subscripts = λ i. sym first.0 i ∷ behind.subscripts i; bytes = behind.bytes }

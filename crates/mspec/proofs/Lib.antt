@@ -22,3 +22,4 @@ pub mod FirstPlaces
 pub mod KeyExamples
 pub mod NodeOrders
 pub mod KeyOrders
+pub mod KeyRanges

@@ -1,5 +1,5 @@
 -- The order of texts, of lists of subscripts and of nodes is total, and in it only equal values tie.
-use Rattle.std.proofs.Common.{ℕ, ◌≡◌, ◌≢◌, ◌+◌, ◌<◌, Bool, true, false, cond, Option, Some, None, List, [], ◌∷◌, length, refl, sym, ◌∙◌, ap, subst, arith}
+use Rattle.std.proofs.Common.{ℕ, ◌≡◌, Bool, true, false, cond, Option, Some, None, [], ◌∷◌, MatchOption, refl, sym, ◌∙◌, ap, subst}
 use Rattle.std.specs.Prelude.{ℤ, pos, option_and_then, nat_eq}
 use Rattle.std.specs.Cmp.{IsTotalOrder}
 use Rattle.std.specs.Cmp.Lexicographic.{pointwise, slice_cmp, lists_total, nat_list_cmp_total, bytes_decides}
@@ -11,6 +11,7 @@ use Rattle.std.proofs.lemmas.Cmp.{nat_cmp_total, int_cmp_total, on_total, then_t
 use Rattle.mspec.specs.Act.{Text, Node}
 use Rattle.mspec.specs.NumberText.{numeric_value, number_text, IsCanonical}
 use Rattle.mspec.specs.NodeOrder.{where_text, canonical_value, Place, Empty, Numeric, Other, place_by, place, place_cmp, text_cmp, subscripts_cmp, node_cmp}
+use Rattle.mspec.specs.KeyLaws.{CanonicalValueIsTold, NodesAreOrdered}
 
 -- ---- the canonical value
 
@@ -39,6 +40,13 @@ value_of_canonical kept s canonical =
 -- a text without a canonical value is not canonical
 pub none_of_other : (kept : ℕ) (s : Text) → canonical_value kept s ≡ None → IsCanonical kept s → ⊥
 none_of_other kept s none canonical = let some = value_of_canonical kept s canonical in absurd (cc)
+
+pub canonical_value_is_told : CanonicalValueIsTold
+canonical_value_is_told kept s = here (canonical_value kept s) refl
+  where
+    here : (o : Option ℤ) → canonical_value kept s ≡ o → MatchOption o (IsCanonical kept s → ⊥) (λ u. (numeric_value kept s ≡ Some u) × (number_text u ≡ s))
+    here None e = none_of_other kept s e
+    here (Some u) e = canonical_of_value kept s u e
 
 -- ---- places
 
@@ -144,3 +152,10 @@ node_cmp_exact kept a b e =
     let first = both_Equal (slice_cmp nat_cmp a.account b.account) _ e in
     let rest = both_Equal (slice_cmp nat_cmp a.name b.name) _ first.1 in
     same_node a b (bytes_exact a.account b.account first.0) (bytes_exact a.name b.name rest.0) (subscripts_cmp_exact kept a.subscripts b.subscripts rest.1)
+
+pub nodes_are_ordered : NodesAreOrdered
+nodes_are_ordered kept = (
+  record { total = text_cmp_total kept; exact = text_cmp_exact kept },
+  record { total = subscripts_cmp_total kept; exact = subscripts_cmp_exact kept },
+  record { total = node_cmp_total kept; exact = node_cmp_exact kept },
+)

@@ -15,3 +15,4 @@ pub mod TextFunctions
 pub mod Pattern
 pub mod NodeOrder
 pub mod KeyBytes
+pub mod KeyLaws

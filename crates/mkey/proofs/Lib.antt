@@ -1,0 +1,3 @@
+pub mod NumberBytes
+pub mod Pushes
+pub mod ShortTexts

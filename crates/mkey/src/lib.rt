@@ -1,0 +1,16 @@
+//! The bytes under which a node lies in a table, and the order of subscripts.
+//!
+//! Bytes of keys stand in the order of their nodes, and the keys that begin with a key are those of its node and of the nodes
+//! below it. The definitions that the contracts cite stand in `mspec`: `NodeOrder` (the order of texts and of nodes) and
+//! `KeyBytes` (the bytes); their laws are `key_laws` there.
+#![tactic(auto)]
+
+mod encoding;
+mod fault;
+mod place;
+mod subs;
+
+pub use encoding::push_local;
+pub use fault::KeyFault;
+pub use place::collate;
+pub use subs::{Subs, subs_ok};

@@ -1,3 +1,4 @@
 pub mod NumberBytes
 pub mod Pushes
 pub mod ShortTexts
+pub mod Keys

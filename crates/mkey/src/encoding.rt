@@ -2,7 +2,7 @@
 ghost use Rattle.std.specs.Prelude.{◌≡◌, ℤ, ◌+◌, ◌*◌, ◌^◌, ◌<◌, ◌≤◌, ◌++◌, All, length, unsigned_abs, vec_len, vec_capacity, OnOk, OnErr};
 ghost use Rattle.mkey.specs.Room.{room_of, total_room};
 ghost use Rattle.mspec.specs.Grammar.{IsName};
-ghost use Rattle.mspec.specs.KeyBytes.{text_bytes, raised, number_bytes, subscript_bytes, subscripts_bytes, local_bytes, AreSubscripts};
+ghost use Rattle.mspec.specs.KeyBytes.{text_bytes, raised, number_bytes, subscript_bytes, subscripts_bytes, local_bytes, AreSubscripts, IsAscii};
 ghost use Rattle.mspec.specs.Number.{significant_digits};
 
 use crate::place::canonical;
@@ -83,6 +83,7 @@ pub fn room(subs: &[Bytes7]) -> usize
     requires { AreSubscripts subs.now }
     ensures value { result ≡ total_room subs.now }
     ensures at_most { result ≤ 15 * 272 }
+    ensures ascii { All IsAscii subs.now }
 {
     let mut total = 0;
     for text in subs {

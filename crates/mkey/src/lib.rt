@@ -7,10 +7,12 @@
 
 mod encoding;
 mod fault;
+mod key;
 mod place;
 mod subs;
 
 pub use encoding::push_local;
 pub use fault::KeyFault;
+pub use key::NodeKey;
 pub use place::collate;
 pub use subs::{Subs, subs_ok};

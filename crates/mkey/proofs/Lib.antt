@@ -2,3 +2,5 @@ pub mod NumberBytes
 pub mod Pushes
 pub mod ShortTexts
 pub mod Keys
+pub mod TextFronts
+pub mod NameTests

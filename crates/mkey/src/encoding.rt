@@ -10,7 +10,7 @@ use mnum::Bytes7;
 use std::alloc::AllocError;
 
 // Numbers are raised by this, so that none is below zero.
-const RAISE: u128 = 1 << 127;
+pub const RAISE: u128 = 1 << 127;
 
 // The bytes of a text, each plus 1, and a 0 behind them.
 pub fn push_text(out: &mut Vec<u8>, text: &Bytes7)

@@ -5,9 +5,11 @@
 //! `KeyBytes` (the bytes); their laws are `key_laws` there.
 #![tactic(auto)]
 
+mod decoding;
 mod encoding;
 mod fault;
 mod key;
+mod names;
 mod place;
 mod subs;
 

@@ -1,8 +1,8 @@
 -- Bounds of the keys of nodes.
-use Rattle.std.proofs.Common.{ℕ, ◌≡◌, ◌↔◌, ◌++◌, ◌∙◌, List, [], ◌∷◌, sym, subst, append_assoc, ap}
+use Rattle.std.proofs.Common.{ℕ, ◌≡◌, ◌++◌, ◌∙◌, List, [], ◌∷◌, sym, subst, append_assoc, ap}
 use Rattle.mspec.specs.Act.{Text, Node}
-use Rattle.mspec.specs.KeyBytes.{key_bytes, text_bytes, subscripts_bytes, children_start, subtree_end, IsStored}
-use Rattle.mspec.specs.KeyLaws.{BeginsWith, IsWithin, IsBetween}
+use Rattle.mspec.specs.KeyBytes.{key_bytes, text_bytes, subscripts_bytes, children_start, IsStored}
+use Rattle.mspec.specs.KeyLaws.{BeginsWith, IsWithin}
 use Rattle.mspec.specs.NodeOrder.{IsAncestor}
 use Rattle.mspec.specs.Number.{significant_digits}
 use Rattle.mspec.proofs.KeyRanges.{subtrees_are_ranges, descendants_are_ranges, keys_of_subtrees_begin_alike}

@@ -4,3 +4,5 @@ pub mod ShortTexts
 pub mod Keys
 pub mod TextFronts
 pub mod NameTests
+pub mod SubscriptFronts
+pub mod SubscriptLists

@@ -1,10 +1,14 @@
 -- The text that bytes begin with.
-use Rattle.std.proofs.Common.{ℕ, suc, ◌≡◌, ◌≢◌, ◌+◌, ◌-◌, ◌<◌, ◌≤◌, Option, Some, None, MatchOption, List, [], ◌∷◌, ◌++◌, map, length, get_or, drop, All, refl, sym, ◌∙◌, ap, subst, arith, append_assoc, append-nil, add-one}
+use Rattle.std.proofs.Common.{ℕ, ◌≡◌, ◌≢◌, ◌+◌, ◌-◌, ◌<◌, ◌≤◌, Option, Some, None, MatchOption, List, [], ◌∷◌, ◌++◌, map, length, get_or, drop, All, refl, sym, ◌∙◌, ap, subst, arith, append_assoc, append-nil, add-one, true, false, IsTrue}
 use Rattle.std.proofs.Math.Seq.{drop-cons}
 use Rattle.std.proofs.Math.ListN.{drop_of_length-le}
 use Rattle.std.proofs.lemmas.List.{map-append}
+use Rattle.std.proofs.lemmas.Bool.Decides.{nat_tests}
+use Rattle.std.proofs.lemmas.List.Elements.{All-nil, All-cons}
 use Rattle.mspec.specs.Act.{Text}
+use Rattle.mspec.specs.Grammar.{AllAre, IsName, is_name_rest, is_name_start}
 use Rattle.mspec.specs.KeyBytes.{text_bytes, IsAscii}
+use Rattle.mspec.proofs.KeyRanges.{text_split}
 use Rattle.mkey.specs.Front.{IsFront, BeginsWithNo}
 
 -- each case of an option, told in other words
@@ -79,3 +83,30 @@ text_open bytes t i end is s rest ascii e = by_more found.more found.bytes
     by_more : (more : Text) → [] ≡ text_bytes more ++ rest → ⊥
     by_more [] bytes' = absurd (cc)
     by_more (c ∷ more) bytes' = absurd (cc)
+
+-- ---- names
+
+pub not_so : IsTrue false → ⊥
+not_so h = absurd (cc)
+
+-- a text that is found in front, and is none of those that are sought
+pub other_found : (P : Text → Type 0) (bytes : List ℕ) (t : Text) (n : ℕ) → IsFront bytes (text_bytes t) n → (P t → ⊥) → BeginsWithNo P text_bytes bytes
+other_found P bytes t n front other s rest is e = other (subst P (text_split s t rest (drop n bytes) (sym e ∙ front.is)).0 is)
+
+word_ascii : (c : ℕ) → is_name_rest c ≡ true → c < 128
+word_ascii c h = grind (arith, nat_tests)
+
+start_ascii : (c : ℕ) → is_name_start c ≡ true → c < 128
+start_ascii c h = grind (arith, nat_tests)
+
+words_ascii : (cs : Text) → AllAre is_name_rest cs → IsAscii cs
+words_ascii [] all = All-nil (λ c. c < 128)
+words_ascii (c ∷ cs) all = All-cons (λ c. c < 128) c cs (word_ascii c all.0) (words_ascii cs all.1)
+
+name_ascii : (s : Text) → IsName s → IsAscii s
+name_ascii [] name = absurd name
+name_ascii (c ∷ cs) name = All-cons (λ c. c < 128) c cs (start_ascii c name.0) (words_ascii cs name.1)
+
+-- bytes that begin with no text begin with no name
+pub no_name : (bytes : List ℕ) → BeginsWithNo IsAscii text_bytes bytes → BeginsWithNo IsName text_bytes bytes
+no_name bytes none s rest name e = none s rest (name_ascii s name) e

@@ -1,7 +1,7 @@
 -- What bytes begin with.
-use Rattle.std.specs.Prelude.{◌≡◌, ◌≤◌, ℕ, List, ◌++◌, length, drop}
+use Rattle.std.specs.Prelude.{◌≡◌, ◌≤◌, ℕ, List, ◌++◌, length, drop, All}
 use Rattle.mspec.specs.Act.{Text}
-use Rattle.mspec.specs.KeyBytes.{IsSubscript, IsAscii}
+use Rattle.mspec.specs.KeyBytes.{IsSubscript, AreSubscripts, IsAscii}
 
 -- the bytes begin with these, which are `count` of them
 pub record IsFront (bytes front : List ℕ) (count : ℕ) : Type 0 where
@@ -15,3 +15,6 @@ BeginsWithNo P bytes_of bytes = (s : Text) (rest : List ℕ) → P s → bytes �
 -- a text that is a subscript of a store
 abbrev pub IsSub : Text → Type 0
 IsSub s = IsSubscript s × IsAscii s
+
+abbrev pub AreSubs : List Text → Type 0
+AreSubs subscripts = AreSubscripts subscripts × All IsAscii subscripts

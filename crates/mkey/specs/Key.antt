@@ -1,5 +1,5 @@
 -- What the bytes of a key stand for.
-use Rattle.std.specs.Prelude.{◌≡◌, ◌↔◌, ◌<◌, ℕ, Bool, List, [], ◌∷◌, length}
+use Rattle.std.specs.Prelude.{◌≡◌, ◌↔◌, ℕ, Bool, List, [], ◌∷◌}
 use Rattle.std.proofs.Common.{sym, ◌∙◌}
 use Rattle.std.specs.Coded.{Coded-set, coded_ℕ, coded_bool, coded_list, ×_prop, le_prop, Unit-prop}
 use mathlib.Core.HLevel.{Σ_prop_path}
@@ -10,9 +10,13 @@ use Rattle.mspec.specs.KeyLaws.{IsBetween, NoneEmpty}
 use Rattle.mspec.specs.Number.{significant_digits}
 use Rattle.mspec.proofs.KeyRanges.{keys_are_injective}
 
+-- the bytes are the key of this node, which is one of a store
+abbrev pub IsKeyOf : Node → List ℕ → Type 0
+IsKeyOf n bytes = IsStored n × (key_bytes significant_digits n ≡ bytes)
+
 -- the bytes are the key of a node of a store
 abbrev pub IsKey : List ℕ → Type 0
-IsKey bytes = (n : Node) × (IsStored n × (key_bytes significant_digits n ≡ bytes))
+IsKey bytes = (n : Node) × IsKeyOf n bytes
 
 -- the keys from `low` on and before `high` are those of the nodes of which this holds
 abbrev pub BoundsKeysOf : (Node → Type 0) → List ℕ → List ℕ → Type 0

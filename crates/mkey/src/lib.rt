@@ -13,6 +13,7 @@ mod names;
 mod place;
 mod subs;
 
+pub use decoding::read;
 pub use encoding::push_local;
 pub use fault::KeyFault;
 pub use key::NodeKey;

@@ -1,7 +1,7 @@
 -- Units that no number has.
-use Rattle.std.proofs.Common.{ℕ, suc, ◌≡◌, ◌≢◌, ◌⊎◌, inl, inr, ◌+◌, ◌-◌, ◌*◌, ◌/◌, ◌%◌, ◌^◌, ◌<◌, ◌≤◌, sym, ◌∙◌, ap, subst, arith, ⊎_elim}
+use Rattle.std.proofs.Common.{ℕ, ◌≡◌, ◌≢◌, ◌⊎◌, inl, inr, ◌+◌, ◌-◌, ◌*◌, ◌/◌, ◌%◌, ◌^◌, ◌<◌, ◌≤◌, sym, ◌∙◌, ap, arith, ⊎_elim}
 use Rattle.std.specs.Prelude.{ℤ, unsigned_abs}
-use Rattle.std.proofs.Math.Nat.{mul-le-mul_left, one-le-pow}
+use Rattle.std.proofs.Math.Nat.{mul-le-mul_left}
 use Rattle.std.proofs.lemmas.Bool.{cases_lt}
 use Rattle.std.proofs.lemmas.Nat.{same_from_place}
 use Rattle.mspec.specs.Number.{IsNumber}
@@ -16,16 +16,16 @@ pub too_many : (d j m k : ℕ) → d * 10 ^ j ≡ m * 10 ^ k → d % 10 ≢ 0 �
 too_many d j m k e last few =
     ⊎_elim
     (λ (more : j < k).
-      let apart : k ≡ (k - j - 1) + 1 + j = omega arith in
-      let power : 10 ^ k ≡ 10 ^ (k - j - 1) * 10 * 10 ^ j = ap (λ n. 10 ^ n) apart ∙ ten_add (k - j - 1 + 1) j ∙ ap (λ n. n * 10 ^ j) (ten_add (k - j - 1) 1) in
-      let tens : d ≡ m * 10 ^ (k - j - 1) * 10 = cancel d (m * 10 ^ (k - j - 1) * 10) (10 ^ j) (ten_pos j) (e ∙ ap (λ n. m * n) power ∙ around m (10 ^ (k - j - 1)) (10 ^ j)) in
-      absurd (last (omega arith)))
+    let apart : k ≡ (k - j - 1) + 1 + j = omega arith in
+    let power : 10 ^ k ≡ 10 ^ (k - j - 1) * 10 * 10 ^ j = ap (λ n. 10 ^ n) apart ∙ ten_add (k - j - 1 + 1) j ∙ ap (λ n. n * 10 ^ j) (ten_add (k - j - 1) 1) in
+    let tens : d ≡ m * 10 ^ (k - j - 1) * 10 = cancel d (m * 10 ^ (k - j - 1) * 10) (10 ^ j) (ten_pos j) (e ∙ ap (λ n. m * n) power ∙ around m (10 ^ (k - j - 1)) (10 ^ j)) in
+    absurd (last (omega arith)))
     (λ (fewer : k ≤ j).
-      let apart : j ≡ (j - k) + k = omega arith in
-      let power : 10 ^ j ≡ 10 ^ (j - k) * 10 ^ k = ap (λ n. 10 ^ n) apart ∙ ten_add (j - k) k in
-      let whole : d * 10 ^ (j - k) ≡ m = cancel (d * 10 ^ (j - k)) m (10 ^ k) (ten_pos k) (beside d (10 ^ (j - k)) (10 ^ k) ∙ ap (λ n. d * n) (sym power) ∙ e) in
-      let least : d * 1 ≤ d * 10 ^ (j - k) = mul-le-mul_left d (ten_pos (j - k)) in
-      omega arith)
+    let apart : j ≡ (j - k) + k = omega arith in
+    let power : 10 ^ j ≡ 10 ^ (j - k) * 10 ^ k = ap (λ n. 10 ^ n) apart ∙ ten_add (j - k) k in
+    let whole : d * 10 ^ (j - k) ≡ m = cancel (d * 10 ^ (j - k)) m (10 ^ k) (ten_pos k) (beside d (10 ^ (j - k)) (10 ^ k) ∙ ap (λ n. d * n) (sym power) ∙ e) in
+    let least : d * 1 ≤ d * 10 ^ (j - k) = mul-le-mul_left d (ten_pos (j - k)) in
+    omega arith)
     (cases_lt j k)
   where
     around : (m p t : ℕ) → m * (p * 10 * t) ≡ m * p * 10 * t

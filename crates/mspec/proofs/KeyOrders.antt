@@ -124,11 +124,11 @@ value_in_range kept s u e = rounded_in_range kept _ _ (is_negated s) u e
 raised_negative : (n : ℕ) → suc n < 10 ^ 36 → raised (negsuc n) + suc n ≡ 2 ^ 127
 raised_negative n below = grind (arith, nat_tests)
 
-raised_below : (u : ℤ) → unsigned_abs u < 10 ^ 36 → raised u < 256 ^ 16
+pub raised_below : (u : ℤ) → unsigned_abs u < 10 ^ 36 → raised u < 256 ^ 16
 raised_below (pos n) below = omega arith
 raised_below (negsuc n) below = omega (arith, raised_negative n below)
 
-raised_order : (u v : ℤ) → unsigned_abs u < 10 ^ 36 → unsigned_abs v < 10 ^ 36 → nat_cmp (raised u) (raised v) ≡ int_cmp u v
+pub raised_order : (u v : ℤ) → unsigned_abs u < 10 ^ 36 → unsigned_abs v < 10 ^ 36 → nat_cmp (raised u) (raised v) ≡ int_cmp u v
 raised_order (pos n) (pos m) below_u below_v = both n m (2 ^ 127)
   where
     both : (n m h : ℕ) → nat_cmp (n + h) (m + h) ≡ int_cmp (pos n) (pos m)

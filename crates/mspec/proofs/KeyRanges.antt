@@ -19,7 +19,7 @@ use Rattle.mspec.proofs.KeyOrders.{text_order, subscript_order, HasTag, tag_of, 
 -- ---- what stands in front
 
 -- equal bytes compare as equal
-same_bytes : (x y : List ℕ) → x ≡ y → slice_cmp nat_cmp x y ≡ Equal
+pub same_bytes : (x y : List ℕ) → x ≡ y → slice_cmp nat_cmp x y ≡ Equal
 same_bytes x y e = ap (slice_cmp nat_cmp x) (sym e) ∙ tied_itself nat_list_cmp_total x
 
 bytes_exact : IsAntisymmetric (slice_cmp nat_cmp)

@@ -1,4 +1,4 @@
-use Rattle.std.proofs.Common.{ℕ, ◌≡◌, ◌+◌, ◌*◌, ◌^◌, ◌<◌, ◌≤◌, ◌∙◌, ap, get_or, length, take, arith, refl}
+use Rattle.std.proofs.Common.{◌+◌, ◌*◌, ◌^◌, ◌<◌, ◌≤◌, get_or, arith, refl}
 use Rattle.std.proofs.Math.Nat.{pow-le-pow_right}
 use Rattle.mkey.proofs.NumberBytes.{byte_below, byte_pushed}
 use Rattle.mkey.proofs.decoding.read_bytes.Goals as goal
@@ -21,6 +21,6 @@ pub loop-byte-preserved : goal.loop-byte-preserved
 loop-byte-preserved c =
     let low : get_or c.args.bytes.now c.loop-byte.byte-index 0 < 256 = omega (arith, c.type_inv.bytes c.loop-byte.byte-index) in
     record {
-  below = byte_below c.loop-byte.byte-index c.loop-byte.number (get_or c.args.bytes.now c.loop-byte.byte-index 0) low c.loop-byte.invariant.below;
-  bytes = byte_pushed c.loop-byte.byte-index c.loop-byte.number (get_or c.args.bytes.now c.loop-byte.byte-index 0) c.args.bytes.now c.loop-byte-test.true refl low c.loop-byte.invariant.below c.loop-byte.invariant.bytes;
-}
+      below = byte_below c.loop-byte.byte-index c.loop-byte.number (get_or c.args.bytes.now c.loop-byte.byte-index 0) low c.loop-byte.invariant.below;
+      bytes = byte_pushed c.loop-byte.byte-index c.loop-byte.number (get_or c.args.bytes.now c.loop-byte.byte-index 0) c.args.bytes.now c.loop-byte-test.true refl low c.loop-byte.invariant.below c.loop-byte.invariant.bytes;
+    }

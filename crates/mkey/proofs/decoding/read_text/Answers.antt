@@ -1,6 +1,5 @@
-use Rattle.std.proofs.Common.{◌≡◌, ◌++◌, ◌+◌, ◌∙◌, drop, sym, ap, subst, ℕ, List, All, ◌<◌}
-use Rattle.mspec.specs.Act.{Text}
-use Rattle.mspec.specs.KeyBytes.{text_bytes, IsAscii}
+use Rattle.std.proofs.Common.{◌++◌, ◌+◌, ◌∙◌, drop, sym, ap, subst, All, ◌<◌}
+use Rattle.mspec.specs.KeyBytes.{text_bytes}
 use Rattle.mkey.specs.Front.{IsFront}
 use Rattle.mkey.proofs.TextFronts.{raised_text, match_map, text_more, text_found, text_other, text_open}
 use Rattle.mkey.proofs.decoding.read_text.Goals as goal
@@ -14,7 +13,7 @@ returns-then-byte-eq0 c =
     (λ other. text_other c.args.bytes.now c.loop-i.text.items c.loop-i.i c.loop-i-test.true c.if-byte-eq0.true c.loop-i.invariant other)
     (λ part is. (
       subst (λ n. IsFront c.args.bytes.now (text_bytes part.0) n) (sym is.1)
-      (subst (λ t. IsFront c.args.bytes.now (text_bytes t) (c.loop-i.i + 1)) (sym is.0) (text_found c.args.bytes.now c.loop-i.text.items c.loop-i.i c.loop-i-test.true c.if-byte-eq0.true c.loop-i.invariant)),
+          (subst (λ t. IsFront c.args.bytes.now (text_bytes t) (c.loop-i.i + 1)) (sym is.0) (text_found c.args.bytes.now c.loop-i.text.items c.loop-i.i c.loop-i-test.true c.if-byte-eq0.true c.loop-i.invariant)),
       subst (All (λ c. c < 128)) (sym is.0) is.2,
     ))
     c.counted.ensures

@@ -1,4 +1,4 @@
-use Rattle.std.proofs.Common.{ℕ, [], ◌<◌, ◌≤◌, length, get_or, arith}
+use Rattle.std.proofs.Common.{[], arith}
 use Rattle.std.proofs.lemmas.List.Elements.{All-from_get_or}
 use Rattle.mspec.specs.KeyBytes.{IsAscii}
 use Rattle.mkey.proofs.encoding.room.Goals as goal

@@ -1,8 +1,8 @@
-use Rattle.std.proofs.Common.{◌≡◌, ◌++◌, ◌∙◌, ap, sym}
+use Rattle.std.proofs.Common.{◌≡◌, ◌++◌, ◌∙◌, ap}
 use Rattle.mspec.specs.Act.{Node}
 use Rattle.mspec.specs.KeyBytes.{key_bytes, text_bytes, AreSubscripts, IsStored}
 use Rattle.mspec.specs.Number.{significant_digits}
-use Rattle.mkey.specs.Key.{IsKey, one_node}
+use Rattle.mkey.specs.Key.{one_node}
 use Rattle.mkey.proofs.Keys.{joined}
 use Rattle.mkey.proofs.key.NodeKey.build.Goals as goal
 

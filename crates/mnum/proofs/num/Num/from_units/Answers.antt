@@ -2,7 +2,7 @@ use Rattle.std.proofs.Common.{◌≡◌, ◌≢◌, ◌⊎◌, inl, inr, ◌%◌
 use Rattle.std.specs.Prelude.{unsigned_abs}
 use Rattle.std.proofs.lemmas.Int.{to_z-of_z}
 use mir.Syntax.{w128}
-use mir.Val.{SFits, to_z, of_z}
+use mir.Val.{SFits}
 use Rattle.mnum.proofs.UnitDigits.{stripped, not_number}
 use Rattle.mnum.proofs.num.Num.from_units.Goals as goal
 use Rattle.mnum.proofs.num.Num.from_units.Goals.{then-loop-digits-test+then-places-gt0+else-digits-eq0, then-loop-digits-test+else-places-gt0, else-loop-digits-test}

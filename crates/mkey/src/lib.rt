@@ -19,3 +19,6 @@ pub use fault::KeyFault;
 pub use key::NodeKey;
 pub use place::collate;
 pub use subs::{Subs, subs_ok};
+
+#[cfg(test)]
+mod tests;

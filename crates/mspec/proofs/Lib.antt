@@ -25,3 +25,7 @@ pub mod PieceLists
 pub mod PieceExamples
 pub mod PatternExamples
 pub mod FirstPlaces
+pub mod KeyExamples
+pub mod NodeOrders
+pub mod KeyOrders
+pub mod KeyRanges

@@ -13,3 +13,6 @@ pub mod Pieces
 pub mod PieceLaws
 pub mod TextFunctions
 pub mod Pattern
+pub mod NodeOrder
+pub mod KeyBytes
+pub mod KeyLaws

@@ -5,5 +5,6 @@
 #![tactic(auto)]
 
 pub mod grammar_laws;
+pub mod key_laws;
 pub mod number_laws;
 pub mod piece_laws;

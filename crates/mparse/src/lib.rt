@@ -1,13 +1,8 @@
 //! A line of M, from its text to its tree: a tree exactly where the grammar has one.
 #![tactic(auto)]
 
-mod expr;
 mod fault;
 mod line;
-mod run;
 
 pub use fault::ParseFault;
 pub use line::parse_line;
-
-#[cfg(test)]
-mod tests;

@@ -4,7 +4,6 @@ pub mod NumberText
 pub mod NumberLaws
 pub mod Grammar
 pub mod Reading
-pub mod GrammarLaws
 pub mod Code
 pub mod Plan
 pub mod Act

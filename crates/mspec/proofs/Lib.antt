@@ -13,3 +13,4 @@ pub mod PieceLists
 pub mod PieceExamples
 pub mod PatternExamples
 pub mod FirstPlaces
+pub mod KeyExamples

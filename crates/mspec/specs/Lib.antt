@@ -12,3 +12,5 @@ pub mod Pieces
 pub mod PieceLaws
 pub mod TextFunctions
 pub mod Pattern
+pub mod NodeOrder
+pub mod KeyBytes

@@ -1,0 +1,32 @@
+-- The bytes of keys on examples, as proved equations.
+use Rattle.std.proofs.Common.{◌≡◌, ℕ, ◌+◌, ◌*◌, ◌^◌, ◌≤◌, List, [], ◌∷◌, ◌++◌, refl}
+use Rattle.std.specs.Prelude.{codes}
+use Rattle.std.specs.Fmt.{digits}
+use Rattle.mspec.specs.Number.{round, round_size, nearest, rounding_unit, digits_before, significant_digits}
+use Rattle.mspec.specs.NumberText.{numeric_value, literal_size, size_text}
+use Rattle.mspec.specs.NodeOrder.{canonical_value}
+use Rattle.mspec.specs.KeyBytes.{key_bytes, number_bytes}
+
+-- the key of account A, global B and one subscript, behind its two names
+abbrev key_of : List ℕ → List ℕ
+key_of s = key_bytes significant_digits (record { account = codes "A"; name = codes "B"; subscripts = s ∷ [] })
+
+key_of_1 : key_of (codes "1") ≡ 66 ∷ 0 ∷ 67 ∷ 0 ∷ 1 ∷ 128 ∷ 0 ∷ 0 ∷ 0 ∷ 0 ∷ 0 ∷ 0 ∷ 0 ∷ 13 ∷ 224 ∷ 182 ∷ 179 ∷ 167 ∷ 100 ∷ 0 ∷ 0 ∷ []
+unfolding canonical_value number_bytes numeric_value literal_size round round_size nearest rounding_unit digits_before size_text digits
+key_of_1 = refl
+
+key_of_half : key_of (codes ".5") ≡ 66 ∷ 0 ∷ 67 ∷ 0 ∷ 1 ∷ 128 ∷ 0 ∷ 0 ∷ 0 ∷ 0 ∷ 0 ∷ 0 ∷ 0 ∷ 6 ∷ 240 ∷ 91 ∷ 89 ∷ 211 ∷ 178 ∷ 0 ∷ 0 ∷ []
+unfolding canonical_value number_bytes numeric_value literal_size round round_size nearest rounding_unit digits_before size_text digits
+key_of_half = refl
+
+key_of_minus_1 : key_of (codes "-1") ≡ 66 ∷ 0 ∷ 67 ∷ 0 ∷ 1 ∷ 127 ∷ 255 ∷ 255 ∷ 255 ∷ 255 ∷ 255 ∷ 255 ∷ 255 ∷ 242 ∷ 31 ∷ 73 ∷ 76 ∷ 88 ∷ 156 ∷ 0 ∷ 0 ∷ []
+unfolding canonical_value number_bytes numeric_value literal_size round round_size nearest rounding_unit digits_before size_text digits
+key_of_minus_1 = refl
+
+key_of_letter : key_of (codes "A") ≡ 66 ∷ 0 ∷ 67 ∷ 0 ∷ 2 ∷ 66 ∷ 0 ∷ []
+unfolding canonical_value number_bytes numeric_value literal_size round round_size nearest rounding_unit digits_before size_text digits
+key_of_letter = refl
+
+key_of_leading_zero : key_of (codes "01") ≡ 66 ∷ 0 ∷ 67 ∷ 0 ∷ 2 ∷ 49 ∷ 50 ∷ 0 ∷ []
+unfolding canonical_value number_bytes numeric_value literal_size round round_size nearest rounding_unit digits_before size_text digits
+key_of_leading_zero = refl

@@ -14,3 +14,4 @@ pub mod PieceExamples
 pub mod PatternExamples
 pub mod FirstPlaces
 pub mod KeyExamples
+pub mod Matchings

@@ -14,3 +14,7 @@ pub mod TextFunctions
 pub mod Pattern
 pub mod NodeOrder
 pub mod KeyBytes
+pub mod Matching
+pub mod PatternLaws
+pub mod Interpretations
+pub mod CharacterFunctions

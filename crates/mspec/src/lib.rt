@@ -5,4 +5,5 @@
 #![tactic(auto)]
 
 pub mod number_laws;
+pub mod pattern_laws;
 pub mod piece_laws;

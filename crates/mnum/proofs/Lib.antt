@@ -16,3 +16,4 @@ pub mod LiteralLaws
 pub mod Prints
 pub mod Sums
 pub mod Remainders
+pub mod WholeParts

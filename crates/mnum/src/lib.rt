@@ -12,6 +12,7 @@ mod powers;
 mod reading;
 mod rounding;
 mod size;
+mod whole;
 mod writing;
 
 pub use bytes::Bytes7;

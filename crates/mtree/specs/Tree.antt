@@ -1,18 +1,32 @@
 -- A line of the program as a plain tree of the grammar.
-use Rattle.std.specs.Prelude.{map}
+use Rattle.std.specs.Prelude.{map, option_map}
 use Rattle.mspec.specs.Grammar as grammar
-use Rattle.mspec.specs.Grammar.{SignTree, BinaryTree, KeywordTree, ExprTree, StepTree, steps_of, OperandTree, PrimaryTree, AssignmentTree, OutputTree, CommandTree, SpacedTree, LineTree}
+use Rattle.mspec.specs.Grammar.{SignTree, TruthTree, BinaryTree, KeywordTree, FunctionTree, CountTree, RepeatedTree, AtomTree, ExprTree, StepTree, steps_of, exprs_of, choices_of, OperandTree, PrimaryTree, TargetTree, DestinationTree, AssignmentTree, OutputTree, CommandTree, SpacedTree, LineTree}
 use Rattle.mtree.specs.declared.tree.Sign.{Sign}
 use Rattle.mtree.specs.declared.tree.Sign.TheVariants as sign
+use Rattle.mtree.specs.declared.tree.Truth.{Truth}
+use Rattle.mtree.specs.declared.tree.Truth.TheVariants as truth
 use Rattle.mtree.specs.declared.tree.Binary.{Binary}
 use Rattle.mtree.specs.declared.tree.Binary.TheVariants as binary
 use Rattle.mtree.specs.declared.tree.Keyword.{Keyword}
 use Rattle.mtree.specs.declared.tree.Keyword.TheVariants as keyword
-use Rattle.mtree.specs.declared.tree.Expr.{Expr}
-use Rattle.mtree.specs.declared.tree.Step.{Step}
-use Rattle.mtree.specs.declared.tree.Operand.{Operand}
-use Rattle.mtree.specs.declared.tree.Primary.{Primary}
-use Rattle.mtree.specs.declared.tree.Primary.TheVariants as primary
+use Rattle.mtree.specs.declared.tree.Function.{Function}
+use Rattle.mtree.specs.declared.tree.Function.TheVariants as function
+use Rattle.mtree.specs.declared.tree.Count.{Count}
+use Rattle.mtree.specs.declared.tree.Repeated.{Repeated}
+use Rattle.mtree.specs.declared.tree.Repeated.TheVariants as repeated
+use Rattle.mtree.specs.declared.tree.Atom.{Atom}
+use Rattle.mtree.specs.declared.tree.Expr.{Expr, fold-Expr}
+use Rattle.mtree.specs.declared.tree.Step.{Step, fold-Step}
+use Rattle.mtree.specs.declared.tree.Operand.{Operand, fold-Operand}
+use Rattle.mtree.specs.declared.tree.Primary.{Primary, fold-Primary}
+use Rattle.mtree.specs.declared.tree.Choice.{Choice, fold-Choice}
+use Rattle.mtree.specs.declared.tree.Primary.TheOpen.{Primary-F, Expr-F, Operand-F, Step-F, Choice-F}
+use Rattle.mtree.specs.declared.tree.PieceTarget.{PieceTarget}
+use Rattle.mtree.specs.declared.tree.Target.{Target}
+use Rattle.mtree.specs.declared.tree.Target.TheVariants as target
+use Rattle.mtree.specs.declared.tree.Destination.{Destination}
+use Rattle.mtree.specs.declared.tree.Destination.TheVariants as destination
 use Rattle.mtree.specs.declared.tree.Assignment.{Assignment}
 use Rattle.mtree.specs.declared.tree.Output.{Output}
 use Rattle.mtree.specs.declared.tree.Output.TheVariants as output
@@ -24,33 +38,106 @@ use Rattle.mtree.specs.declared.tree.Line.{Line}
 abbrev pub sign_tree : Sign → SignTree
 sign_tree sign.Plus = grammar.plus
 sign_tree sign.Minus = grammar.minus
+sign_tree sign.Not = grammar.negate
+
+abbrev pub truth_tree : Truth → TruthTree
+truth_tree truth.Equals = grammar.equals
+truth_tree truth.Less = grammar.less
+truth_tree truth.Greater = grammar.greater
+truth_tree truth.Contains = grammar.contains
+truth_tree truth.Follows = grammar.follows
+truth_tree truth.SortsAfter = grammar.sorts_after
+truth_tree truth.Both = grammar.both
+truth_tree truth.Either = grammar.either
 
 abbrev pub binary_tree : Binary → BinaryTree
 binary_tree binary.Add = grammar.add
 binary_tree binary.Subtract = grammar.subtract
 binary_tree binary.Multiply = grammar.multiply
+binary_tree binary.Divide = grammar.divide
+binary_tree binary.DivideWhole = grammar.divide_whole
+binary_tree binary.Remainder = grammar.remainder
 binary_tree binary.Join = grammar.join
+binary_tree (binary.Is t) = grammar.is (truth_tree t)
+binary_tree (binary.IsNot t) = grammar.is_not (truth_tree t)
 
 abbrev pub keyword_tree : Keyword → KeywordTree
 keyword_tree keyword.Set = grammar.set_word
 keyword_tree keyword.Write = grammar.write_word
 
-abbrev pub primary_tree : Primary → PrimaryTree
-primary_tree (primary.Number digits) = grammar.number digits
-primary_tree (primary.Text t) = grammar.text t
-primary_tree (primary.Local name) = grammar.local name
+abbrev pub function_tree : Function → FunctionTree
+function_tree function.Ascii = grammar.ascii_function
+function_tree function.Char = grammar.char_function
+function_tree function.Extract = grammar.extract_function
+function_tree function.Find = grammar.find_function
+function_tree function.Justify = grammar.justify_function
+function_tree function.Length = grammar.length_function
+function_tree function.Piece = grammar.piece_function
+function_tree function.Select = grammar.select_function
+function_tree function.Translate = grammar.translate_function
 
-abbrev pub operand_tree : Operand → OperandTree
-operand_tree o = grammar.operand (map sign_tree o.signs.items) (primary_tree o.primary)
+abbrev pub count_tree : Count → CountTree
+count_tree c = record { front = c.front; behind = c.behind }
 
-abbrev pub step_tree : Step → StepTree
-step_tree s = (binary_tree s.operator, operand_tree s.operand)
+abbrev pub repeated_tree : Repeated → RepeatedTree
+repeated_tree (repeated.Classes letters) = grammar.classes letters
+repeated_tree (repeated.Copies t) = grammar.copies t
+
+abbrev pub atom_tree : Atom → AtomTree
+atom_tree a = record { count = count_tree a.count; repeated = repeated_tree a.repeated }
+
+-- a condition, and its value
+abbrev pub ChoiceTree : Type 0
+ChoiceTree = ExprTree × ExprTree
+
+-- one level of a tree, with what each part stands for in its place
+abbrev pub expr_layer : Expr-F PrimaryTree StepTree ChoiceTree ExprTree OperandTree → ExprTree
+expr_layer e = grammar.expr e.first (steps_of e.rest.items)
+
+abbrev pub step_layer : Step-F PrimaryTree StepTree ChoiceTree ExprTree OperandTree → StepTree
+step_layer (Step-F.Apply b o) = grammar.apply (binary_tree b) o
+step_layer (Step-F.Matches atoms) = grammar.matches (map atom_tree atoms.items)
+step_layer (Step-F.MatchesNot atoms) = grammar.matches_not (map atom_tree atoms.items)
+
+abbrev pub operand_layer : Operand-F PrimaryTree StepTree ChoiceTree ExprTree OperandTree → OperandTree
+operand_layer o = grammar.operand (map sign_tree o.signs.items) o.primary
+
+abbrev pub primary_layer : Primary-F PrimaryTree StepTree ChoiceTree ExprTree OperandTree → PrimaryTree
+primary_layer (Primary-F.Number literal) = grammar.number literal
+primary_layer (Primary-F.Text t) = grammar.text t
+primary_layer (Primary-F.Local name) = grammar.local name
+primary_layer (Primary-F.Bracket e) = grammar.bracket e.value
+primary_layer (Primary-F.Call word args) = grammar.call word (exprs_of args.items)
+primary_layer (Primary-F.Select word choices) = grammar.select word (choices_of choices.items)
+
+abbrev pub choice_layer : Choice-F PrimaryTree StepTree ChoiceTree ExprTree OperandTree → ChoiceTree
+choice_layer c = (c.condition, c.value)
 
 abbrev pub expr_tree : Expr → ExprTree
-expr_tree e = grammar.expr (operand_tree e.first) (steps_of (map step_tree e.rest.items))
+expr_tree = fold-Expr PrimaryTree StepTree ChoiceTree ExprTree OperandTree primary_layer step_layer choice_layer expr_layer operand_layer
+
+abbrev pub step_tree : Step → StepTree
+step_tree = fold-Step PrimaryTree StepTree ChoiceTree ExprTree OperandTree primary_layer step_layer choice_layer expr_layer operand_layer
+
+abbrev pub operand_tree : Operand → OperandTree
+operand_tree = fold-Operand PrimaryTree StepTree ChoiceTree ExprTree OperandTree primary_layer step_layer choice_layer expr_layer operand_layer
+
+abbrev pub primary_tree : Primary → PrimaryTree
+primary_tree = fold-Primary PrimaryTree StepTree ChoiceTree ExprTree OperandTree primary_layer step_layer choice_layer expr_layer operand_layer
+
+abbrev pub choice_tree : Choice → ChoiceTree
+choice_tree = fold-Choice PrimaryTree StepTree ChoiceTree ExprTree OperandTree primary_layer step_layer choice_layer expr_layer operand_layer
+
+abbrev pub target_tree : Target → TargetTree
+target_tree (target.Variable name) = grammar.variable name
+target_tree (target.Piece p) = grammar.piece p.word p.name (expr_tree p.delimiter) (option_map expr_tree p.place)
+
+abbrev pub destination_tree : Destination → DestinationTree
+destination_tree (destination.One t) = grammar.one (target_tree t)
+destination_tree (destination.Several ts) = grammar.several (map target_tree ts.items)
 
 abbrev pub assignment_tree : Assignment → AssignmentTree
-assignment_tree a = (a.name, expr_tree a.value)
+assignment_tree a = (destination_tree a.destination, expr_tree a.value)
 
 abbrev pub output_tree : Output → OutputTree
 output_tree (output.Breaks n) = grammar.breaks n

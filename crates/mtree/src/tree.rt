@@ -6,6 +6,29 @@ use mnum::Bytes7;
 pub enum Sign {
     Plus,
     Minus,
+    /// `'`, which negates a truth value.
+    Not,
+}
+
+/// An operator that gives a truth value of its two operands.
+#[derive(Clone, Copy, Debug, PartialEq, Eq)]
+pub enum Truth {
+    /// `=`, of texts.
+    Equals,
+    /// `<`, of numbers.
+    Less,
+    /// `>`, of numbers.
+    Greater,
+    /// `[`: the left text contains the right one.
+    Contains,
+    /// `]`: the left text is greater by character codes.
+    Follows,
+    /// `]]`: the left text comes later in the order of subscripts.
+    SortsAfter,
+    /// `&`
+    Both,
+    /// `!`
+    Either,
 }
 
 /// An operator between two operands.
@@ -14,46 +37,139 @@ pub enum Binary {
     Add,
     Subtract,
     Multiply,
+    /// `/`
+    Divide,
+    /// `\`, the quotient without its fraction.
+    DivideWhole,
+    /// `#`, what division with a floor leaves.
+    Remainder,
     /// `_`, which joins two texts.
     Join,
+    Is(Truth),
+    /// The operator behind a `'`.
+    IsNot(Truth),
+}
+
+/// How often an atom of a pattern repeats: digits, and a point with the digits behind it, all as they are written.
+#[derive(Drop)]
+pub struct Count {
+    pub front: Bytes7,
+    pub behind: Option<Bytes7>,
+}
+
+/// What an atom of a pattern repeats.
+#[derive(Drop)]
+pub enum Repeated {
+    /// Characters of any of these classes; the letters as they are written.
+    Classes(Bytes7),
+    /// A string, without the quotes around it.
+    Copies(Bytes7),
+}
+
+/// An atom of a pattern.
+#[derive(Drop)]
+pub struct Atom {
+    pub count: Count,
+    pub repeated: Repeated,
 }
 
 /// Operands with operators between them, which apply from left to right.
 #[derive(Drop)]
+#[cycle(tree)]
 pub struct Expr {
     pub first: Operand,
     pub rest: Vec<Step>,
 }
 
-/// An operator, and the operand to its right.
+/// What is done with the value to the left.
 #[derive(Drop)]
-pub struct Step {
-    pub operator: Binary,
-    pub operand: Operand,
+#[cycle(tree)]
+pub enum Step {
+    /// An operator, and the operand to its right.
+    Apply(Binary, Operand),
+    /// `?`, and a pattern.
+    Matches(Vec<Atom>),
+    /// `'?`, and a pattern.
+    MatchesNot(Vec<Atom>),
 }
 
 /// A primary with the signs in front of it, which bind to it alone.
 #[derive(Drop)]
+#[cycle(tree)]
 pub struct Operand {
     pub signs: Vec<Sign>,
     pub primary: Primary,
 }
 
-/// What an operand stands on: a number, a string or a variable.
+/// What an operand stands on.
 #[derive(Drop)]
+#[cycle(tree)]
 pub enum Primary {
-    /// A number's digits as they are written.
+    /// A number as it is written.
     Number(Bytes7),
     /// A string without the quotes around it; a doubled quote within is one here.
     Text(Bytes7),
     /// A local variable's name.
     Local(Bytes7),
+    /// An expression in brackets.
+    Bracket(Box<Expr>),
+    /// A function: its word behind the `$`, and its arguments.
+    Call(Bytes7, Vec<Expr>),
+    /// `$SELECT`, with its word behind the `$`.
+    Select(Bytes7, Vec<Choice>),
+}
+
+/// An argument of `$SELECT`: a condition, and the value where it is true.
+#[derive(Drop)]
+#[cycle(tree)]
+pub struct Choice {
+    pub condition: Expr,
+    pub value: Expr,
+}
+
+/// What a function's word says.
+#[derive(Clone, Copy, Debug, PartialEq, Eq)]
+pub enum Function {
+    Ascii,
+    Char,
+    Extract,
+    Find,
+    Justify,
+    Length,
+    Piece,
+    Select,
+    Translate,
+}
+
+/// A piece of a variable, to which SET assigns: `$PIECE`, with its word behind the `$`.
+#[derive(Drop)]
+pub struct PieceTarget {
+    pub word: Bytes7,
+    pub name: Bytes7,
+    pub delimiter: Expr,
+    pub place: Option<Expr>,
+}
+
+/// What SET assigns to.
+#[derive(Drop)]
+pub enum Target {
+    /// A local variable's name.
+    Variable(Bytes7),
+    Piece(PieceTarget),
+}
+
+/// What an argument of SET assigns its value to.
+#[derive(Drop)]
+pub enum Destination {
+    One(Target),
+    /// A list in brackets.
+    Several(Vec<Target>),
 }
 
 /// An argument of SET.
 #[derive(Drop)]
 pub struct Assignment {
-    pub name: Bytes7,
+    pub destination: Destination,
     pub value: Expr,
 }
 

@@ -1,6 +1,6 @@
 -- Expressions end with a value, or with a code of the line's own.
 use Rattle.std.proofs.Common.{◌≡◌, ℕ, Bool, true, false, List, [], ◌∷◌, ◌++◌, length, Option, Some, None, Result, Ok, Err, refl}
-use Rattle.std.specs.Prelude.{ℤ, pos, ◌-◌, cond, not, nat_le, slice_get, unwrap_or, if◌then◌else◌}
+use Rattle.std.specs.Prelude.{ℤ, pos, ◌-◌, cond, not, map, nat_le, slice_get, unwrap_or, if◌then◌else◌}
 use Rattle.std.specs.List.{list_any, flat_map}
 use Rattle.mspec.specs.Code.{Code, M6, M9, M10, Zover, Zarg, Zlong, Zchar}
 use Rattle.mspec.specs.Act.{Text, State, give_some, unless, charge}
@@ -10,9 +10,10 @@ use Rattle.mspec.specs.Interpretations.{is_true}
 use Rattle.mspec.specs.Pieces.{join, pieces_of}
 use Rattle.mspec.specs.TextFunctions.{longest_text, made, to_place, with_piece, may_be_set, set_piece_of}
 use Rattle.mspec.specs.CharacterFunctions.{is_over_ascii, character_of, char_of}
+use Rattle.mspec.specs.Pattern.{Atom}
 use Rattle.mspec.specs.Matching.{atom_of, is_reversed}
 use Rattle.mspec.specs.Grammar as grammar
-use Rattle.mspec.specs.Grammar.{SignTree, plus, minus, negate, TruthTree, BinaryTree, AtomTree, FunctionTree, ascii_function, char_function, extract_function, find_function, justify_function, length_function, piece_function, select_function, translate_function, function_of, ExprTree, expr, StepsTree, no_steps, step, StepTree, apply, matches, matches_not, OperandTree, operand, PrimaryTree, number, text, local, bracket, call, select, ExprsTree, no_exprs, exprs, ChoicesTree, no_choices, choice}
+use Rattle.mspec.specs.Grammar.{SignTree, plus, minus, negate, TruthTree, BinaryTree, FunctionTree, ascii_function, char_function, extract_function, find_function, justify_function, length_function, piece_function, select_function, translate_function, function_of, ExprTree, expr, StepsTree, no_steps, step, StepTree, apply, matches, matches_not, OperandTree, operand, PrimaryTree, number, text, local, bracket, call, select, ExprsTree, no_exprs, exprs, ChoicesTree, no_choices, choice}
 use Rattle.mmeaning.specs.Operators.{as_number, as_truth, both_numbers, unary, unaries, arithmetic, division, of_numbers, truth, binary, matching}
 use Rattle.mmeaning.specs.Functions.{as_whole, as_whole_or_none, whole_at, wholes, text_at, function_value, named_value, call_value}
 use Rattle.mmeaning.specs.Expression.{value, steps_value, step_value, operand_value, primary_value, values, chosen}
@@ -76,9 +77,9 @@ binary_named grammar.join x y s = outcome_named (made (x ++ y)) (made_own (x ++ 
 binary_named (grammar.is o) x y s = then_named (truth o x y s) _ (truth_named o x y s) (λ b t. tt)
 binary_named (grammar.is_not o) x y s = then_named (truth o x y s) _ (truth_named o x y s) (λ b t. tt)
 
-matching_named : (atoms : List AtomTree) (x : Text) (s : State) → Named (matching atoms x s)
-matching_named atoms x s =
-    let serves = not (list_any (λ a. is_reversed (atom_of a).count) atoms) in
+matching_named : (pattern : List Atom) (x : Text) (s : State) → Named (matching pattern x s)
+matching_named pattern x s =
+    let serves = not (list_any (λ a. is_reversed a.count) pattern) in
     then_named (unless M10 serves s) _ (unless_named M10 serves refl s) (λ u t. tt)
 
 -- ---- functions
@@ -139,8 +140,8 @@ mutual
 
   step_named : (x : Text) (d : StepTree) (s : State) → Named (step_value x d s)
   step_named x (apply b o) s = then_named (operand_value o s) _ (operand_named o s) (λ y t. binary_named b x y t)
-  step_named x (matches atoms) s = then_named (matching atoms x s) _ (matching_named atoms x s) (λ b t. tt)
-  step_named x (matches_not atoms) s = then_named (matching atoms x s) _ (matching_named atoms x s) (λ b t. tt)
+  step_named x (matches atoms) s = then_named (matching (map atom_of atoms) x s) _ (matching_named (map atom_of atoms) x s) (λ b t. tt)
+  step_named x (matches_not atoms) s = then_named (matching (map atom_of atoms) x s) _ (matching_named (map atom_of atoms) x s) (λ b t. tt)
 
   operand_named : (o : OperandTree) (s : State) → Named (operand_value o s)
   operand_named (operand signs p) s = then_named (primary_value p s) _ (primary_named p s) (λ x t. unaries_named signs x t)

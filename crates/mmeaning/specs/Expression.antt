@@ -2,10 +2,11 @@
 --
 -- Restates "Expressions" and "$SELECT" of ISO/IEC 11756:1999: operators apply from left to right, none before another, and
 -- unary operators bind to the operand behind them. Both operands of an operator are evaluated, the left one first.
-use Rattle.std.specs.Prelude.{Bool, true, false, cond, not, List, [], ◌∷◌, ◌++◌}
+use Rattle.std.specs.Prelude.{Bool, true, false, cond, not, List, [], ◌∷◌, ◌++◌, map}
 use Rattle.mspec.specs.Number.{significant_digits}
 use Rattle.mspec.specs.NumberText.{numeric_value}
 use Rattle.mspec.specs.Interpretations.{truth_text}
+use Rattle.mspec.specs.Matching.{atom_of}
 use Rattle.mspec.specs.Grammar.{ExprTree, expr, StepsTree, no_steps, step, StepTree, apply, matches, matches_not, OperandTree, operand, PrimaryTree, number, text, local, bracket, call, select, ExprsTree, no_exprs, exprs, ChoicesTree, no_choices, choice}
 use Rattle.mspec.specs.Code.{M4}
 use Rattle.mspec.specs.Act.{Text, Act, ◌>>=◌, ◌>>◌, give, fail, charge, get_local}
@@ -31,10 +32,10 @@ abbrev mutual
     y ← operand_value o
     binary b x y
   step_value x (matches atoms) = do
-    b ← matching atoms x
+    b ← matching (map atom_of atoms) x
     give (truth_text b)
   step_value x (matches_not atoms) = do
-    b ← matching atoms x
+    b ← matching (map atom_of atoms) x
     give (truth_text (not b))
 
   pub operand_value : OperandTree → Act Text

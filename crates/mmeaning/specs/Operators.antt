@@ -2,7 +2,7 @@
 --
 -- Restates "Unary operator", "Binary operators" and "Pattern match pattern" of ISO/IEC 11756:1999. Where an operator wants
 -- numbers its operands become numbers once both are evaluated, the left one first.
-use Rattle.std.specs.Prelude.{ℕ, ℤ, neg_ℤ, Bool, not, ◌&&◌, ◌||◌, nat_le, nat_eq, List, [], ◌∷◌, ◌++◌, map, length, Option, option_map, Result, Ok, Err}
+use Rattle.std.specs.Prelude.{ℤ, neg_ℤ, Bool, not, ◌&&◌, ◌||◌, nat_eq, List, [], ◌∷◌, ◌++◌, Option, option_map, Result, Ok, Err}
 use Rattle.std.specs.List.{list_any}
 use Rattle.std.specs.Ordering.{int_cmp, is_lt, is_gt}
 use Rattle.std.specs.Cmp.Lexicographic.{pointwise}
@@ -11,8 +11,9 @@ use Rattle.mspec.specs.NumberText.{numeric_value, number_text}
 use Rattle.mspec.specs.Interpretations.{is_true, truth_text}
 use Rattle.mspec.specs.NodeOrder.{text_cmp}
 use Rattle.mspec.specs.TextFunctions as texts
-use Rattle.mspec.specs.Matching.{atom_of, is_reversed, is_match}
-use Rattle.mspec.specs.Grammar.{SignTree, plus, minus, negate, TruthTree, equals, less, greater, contains, follows, sorts_after, both, either, BinaryTree, add, subtract, multiply, divide, divide_whole, remainder, join, is, is_not, AtomTree}
+use Rattle.mspec.specs.Pattern.{Atom}
+use Rattle.mspec.specs.Matching.{is_reversed, is_match}
+use Rattle.mspec.specs.Grammar.{SignTree, plus, minus, negate, TruthTree, equals, less, greater, contains, follows, sorts_after, both, either, BinaryTree, add, subtract, multiply, divide, divide_whole, remainder, join, is, is_not}
 use Rattle.mspec.specs.Code.{Code, M9, M10, Zover}
 use Rattle.mspec.specs.Act.{Text, Act, ◌>>=◌, ◌>>◌, give, fail, give_some, unless}
 
@@ -107,7 +108,7 @@ binary (is_not t) x y = do
 -- ---- patterns
 
 -- any atom whose greatest count is below its least is an error, whether the text comes to it or not
-abbrev pub matching : List AtomTree → Text → Act Bool
-matching atoms x = do
-  unless M10 (not (list_any (λ a. is_reversed (atom_of a).count) atoms))
-  give (is_match (map atom_of atoms) x)
+abbrev pub matching : List Atom → Text → Act Bool
+matching pattern x = do
+  unless M10 (not (list_any (λ a. is_reversed a.count) pattern))
+  give (is_match pattern x)

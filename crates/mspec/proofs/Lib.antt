@@ -7,6 +7,12 @@ pub mod CanonicalForm
 pub mod WholeTexts
 pub mod LongestLiteral
 pub mod NumberExamples
+pub mod ReadingBasics
+pub mod ReadingLists
+pub mod ReadingExprs
+pub mod ReadingLines
+pub mod ReadingLoops
+pub mod GrammarExamples
 pub mod Plans
 pub mod Maps
 pub mod PieceLists

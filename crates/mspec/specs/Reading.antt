@@ -1,7 +1,7 @@
 -- Reading a tree back from its text. No public clause cites these: they show that a text has one tree.
 use Rattle.std.specs.Prelude.{ℕ, zero, suc, Bool, true, false, ◌&&◌, ◌||◌, ◌==◌, nat_le, nat_lt, if◌then◌else◌, List, [], ◌∷◌, ◌++◌, length, drop, Option, Some, None}
 use Rattle.mspec.specs.Literal.{is_digit}
-use Rattle.mspec.specs.Grammar.{SignTree, plus, minus, BinaryTree, add, subtract, multiply, join, ExprTree, expr, StepTree, apply, one, variable, steps_of, OperandTree, operand, PrimaryTree, number, text, local, AssignmentTree, OutputTree, breaks, value, CommandTree, set, write, SpacedTree, LineTree, is_letter, is_name_start, is_name_rest, is_character, KeywordTree, set_word, write_word, keyword_of, max_depth}
+use Rattle.mspec.specs.Grammar.{SignTree, plus, minus, BinaryTree, add, subtract, multiply, join, ExprTree, expr, StepTree, steps_of, OperandTree, operand, PrimaryTree, number, text, local, AssignmentTree, OutputTree, breaks, value, CommandTree, set, write, SpacedTree, LineTree, is_letter, is_name_start, is_name_rest, is_character, KeywordTree, set_word, write_word, keyword_of, max_depth}
 
 -- what was read, and the text after it
 abbrev pub Read : Type 0 → Type 0
@@ -112,7 +112,7 @@ module _ (r : Readers) where
   -- a step, where this operator is in front
   abbrev pub step_by : Option BinaryTree → List ℕ → Option (Option (StepTree × List ℕ))
   step_by None cs = Some None
-  step_by (Some b) cs = operand_with (drop 1 cs) >>= λ o. Some (Some (apply b o.0, o.1))
+  step_by (Some b) cs = operand_with (drop 1 cs) >>= λ o. Some (Some ((b, o.0), o.1))
 
   unfoldable pub step_with : List ℕ → Option (Option (StepTree × List ℕ))
   step_with cs = step_by (operator_at cs) cs
@@ -133,7 +133,7 @@ expr_at d = expr_with (readers_at d)
 -- an assignment to this name, of which the text behind the name is left
 abbrev pub assigned : List ℕ → List ℕ → Read AssignmentTree
 assigned n [] = None
-assigned n (c ∷ cs) = if c == 61 then (expr_at max_depth cs >>= λ e. Some ((one (variable n), e.0), e.1)) else None
+assigned n (c ∷ cs) = if c == 61 then (expr_at max_depth cs >>= λ e. Some ((n, e.0), e.1)) else None
 
 unfoldable pub assignment_at : List ℕ → Read AssignmentTree
 assignment_at cs = name_at cs >>= λ n. assigned n.0 n.1

@@ -1,0 +1,8 @@
+use Rattle.std.proofs.Common.{◌≡◌, ◌-◌, length, map}
+use Rattle.mtree.specs.Tree.{output_tree}
+use Rattle.mspec.specs.Reading.{with_front, many, after_comma, output_at}
+use Rattle.mparse.proofs.line.more_outputs.Given as goal
+
+abbrev pub invariant-loop : goal.invariant-loop
+invariant-loop l =
+    with_front (map output_tree l.all.items) (many (after_comma output_at) (length l.bytes - l.counter) l.rest) ≡ with_front (map output_tree l.fn.all.items) (many (after_comma output_at) (length l.bytes) l.bytes)

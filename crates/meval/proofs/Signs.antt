@@ -2,15 +2,16 @@
 use Rattle.std.proofs.Common.{◌≡◌, ℕ, zero, suc, ◌+◌, ◌-◌, ◌<◌, ◌≤◌, length, take, map, get_or, arith, List, [], ◌∷◌, ◌++◌, Result, Ok, Err, refl, sym, ap, ◌∙◌, subst}
 use Rattle.std.proofs.lemmas.List.{take_more, map_push}
 use Rattle.mspec.specs.Plan.{Plan, Done, Ask, then_plan}
-use Rattle.mspec.specs.Grammar.{SignTree, plus, minus}
+use Rattle.mspec.specs.Grammar.{SignTree}
 use Rattle.mspec.specs.Act.{Text, Outcome, Gives, Fails, Act, on_gives, ◌>>=◌, give}
-use Rattle.mmeaning.specs.Expression.{as_number, unary, unaries}
+use Rattle.mmeaning.specs.Operators.{unary, unaries}
 use Rattle.mmeaning.proofs.Calls.{assoc}
-use Rattle.mnum.specs.Num.{units}
 use Rattle.mtree.specs.Tree.{sign_tree}
 use Rattle.mtree.specs.declared.tree.Sign.{Sign}
+use Rattle.meval.specs.Values.{text_of}
 use Rattle.meval.specs.Yields.{Yields}
 use Rattle.meval.specs.declared.code.Code.{Code}
+use Rattle.meval.specs.declared.value.Value.{Value}
 use Rattle.meval.proofs.Yielding.{yields_then, yields_failed, yields_gives}
 
 -- to give what an act gives changes nothing
@@ -36,29 +37,24 @@ last_sign signs left d some within =
     ∙ map_push sign_tree (take (left - 1) signs) (get_or signs (left - 1) d)
 
 -- once the last sign has applied, the others are left
-sign_applied : (ss : List SignTree) (s : SignTree) (x y : Text) (r : Result Text Code) → Yields (unary s x) (λ (t : Text). t) (Ok y) → Yields (unaries ss y) (λ (t : Text). t) r → Yields (unaries (ss ++ s ∷ []) x) (λ (t : Text). t) r
-sign_applied ss s x y r d k = subst (λ (p : Act Text). Yields p (λ (t : Text). t) r) (sym (last_first ss s x)) (yields_then (unaries ss) d k)
+sign_applied : (ss : List SignTree) (s : SignTree) (x : Text) (y : Value) (r : Result Value Code) → Yields (unary s x) text_of (Ok y) → Yields (unaries ss (text_of y)) text_of r → Yields (unaries (ss ++ s ∷ []) x) text_of r
+sign_applied ss s x y r d k = subst (λ (p : Act Text). Yields p text_of r) (sym (last_first ss s x)) (yields_then (unaries ss) d k)
 
 -- the last of so many signs, where it is on
-pub next_sign : (signs : List Sign) (left : ℕ) (d : Sign) (x y : Text) (r : Result Text Code) → 0 < left → left ≤ length signs → Yields (unary (sign_tree (get_or signs (left - 1) d)) x) (λ (t : Text). t) (Ok y)
-    → Yields (unaries (map sign_tree (take (left - 1) signs)) y) (λ (t : Text). t) r → Yields (unaries (map sign_tree (take left signs)) x) (λ (t : Text). t) r
+pub next_sign : (signs : List Sign) (left : ℕ) (d : Sign) (x : Text) (y : Value) (r : Result Value Code) → 0 < left → left ≤ length signs → Yields (unary (sign_tree (get_or signs (left - 1) d)) x) text_of (Ok y)
+    → Yields (unaries (map sign_tree (take (left - 1) signs)) (text_of y)) text_of r → Yields (unaries (map sign_tree (take left signs)) x) text_of r
 next_sign signs left d x y r some within here k =
-    subst (λ (ss : List SignTree). Yields (unaries ss x) (λ (t : Text). t) r) (sym (last_sign signs left d some within))
+    subst (λ (ss : List SignTree). Yields (unaries ss x) text_of r) (sym (last_sign signs left d some within))
     (sign_applied (map sign_tree (take (left - 1) signs)) (sign_tree (get_or signs (left - 1) d)) x y r here k)
 
 -- and where it fails
-pub sign_failed : (signs : List Sign) (left : ℕ) (d : Sign) (x : Text) (e : Code) → 0 < left → left ≤ length signs → Yields (unary (sign_tree (get_or signs (left - 1) d)) x) (λ (t : Text). t) (Err e)
-    → Yields (unaries (map sign_tree (take left signs)) x) (λ (t : Text). t) (Err e)
+pub sign_failed : (signs : List Sign) (left : ℕ) (d : Sign) (x : Text) (e : Code) → 0 < left → left ≤ length signs → Yields (unary (sign_tree (get_or signs (left - 1) d)) x) text_of (Err e)
+    → Yields (unaries (map sign_tree (take left signs)) x) text_of (Err e)
 sign_failed signs left d x e some within here =
-    subst (λ (ss : List SignTree). Yields (unaries ss x) (λ (t : Text). t) (Err e)) (sym (last_sign signs left d some within))
-    (subst (λ (p : Act Text). Yields p (λ (t : Text). t) (Err e)) (sym (last_first (map sign_tree (take (left - 1) signs)) (sign_tree (get_or signs (left - 1) d)) x)) (yields_failed (unaries (map sign_tree (take (left - 1) signs))) here))
+    subst (λ (ss : List SignTree). Yields (unaries ss x) text_of (Err e)) (sym (last_sign signs left d some within))
+    (subst (λ (p : Act Text). Yields p text_of (Err e)) (sym (last_first (map sign_tree (take (left - 1) signs)) (sign_tree (get_or signs (left - 1) d)) x)) (yields_failed (unaries (map sign_tree (take (left - 1) signs))) here))
 
--- a sign fails where its operand is no number
-pub unary_failed : (s : SignTree) (x : Text) (e : Code) → Yields (as_number x) units (Err e) → Yields (unary s x) (λ (t : Text). t) (Err e)
-unary_failed plus x e d = yields_failed _ d
-unary_failed minus x e d = yields_failed _ d
-
--- where no sign is left, the text is the value
-pub no_sign_left : (signs : List Sign) (left : ℕ) (x : Text) → left ≤ 0 → Yields (unaries (map sign_tree (take left signs)) x) (λ (t : Text). t) (Ok x)
-no_sign_left signs zero x none = yields_gives x (λ (t : Text). t) x refl
+-- where no sign is left, the value stands
+pub no_sign_left : (signs : List Sign) (left : ℕ) (x : Value) → left ≤ 0 → Yields (unaries (map sign_tree (take left signs)) (text_of x)) text_of (Ok x)
+no_sign_left signs zero x none = yields_gives (text_of x) text_of x refl
 no_sign_left signs (suc left) x none = absurd (omega arith)

@@ -1,9 +1,11 @@
 -- How acts that cost no steps are put together.
-use Rattle.std.proofs.Common.{◌≡◌, Result, Ok, Err}
+use Rattle.std.proofs.Common.{◌≡◌, Result, Ok, Err, refl, sym, subst}
+use Rattle.std.specs.Result.{IsErr, IsErrAnd}
 use Rattle.mspec.specs.Act.{Act, ◌>>=◌, give}
-use Rattle.mmeaning.proofs.Calls.{evaluates_then, evaluates_failed, evaluates_gives}
+use Rattle.mmeaning.proofs.Calls.{evaluates_then, evaluates_failed, evaluates_gives, evaluates_lost, residual_is}
 use Rattle.meval.specs.Yields.{Yields}
 use Rattle.meval.specs.declared.code.Code.{Code}
+use Rattle.meval.specs.declared.code.Code.TheVariants.{Zmem}
 
 pub yields_then : {A B X Y : Type 0} {p : Act A} (q : A → Act B) {f : X → A} {g : Y → B} {x : X} {r : Result Y Code} → Yields p f (Ok x) → Yields (q (f x)) g r → Yields (p >>= q) g r
 yields_then q d k = record { at = λ locals n. evaluates_then q (d.at locals n) (k.at locals n) }
@@ -11,5 +13,13 @@ yields_then q d k = record { at = λ locals n. evaluates_then q (d.at locals n) 
 pub yields_failed : {A B X Y : Type 0} {p : Act A} (q : A → Act B) {f : X → A} {g : Y → B} {e : Code} → Yields p f (Err e) → Yields (p >>= q) g (Err e)
 yields_failed q d = record { at = λ locals n. evaluates_failed q (d.at locals n) }
 
+-- the same, where it is by a `?` that the call returns
+pub yields_stopped : {A B X Y : Type 0} {p : Act A} (q : A → Act B) {f : X → A} {g : Y → B} {e : Code} {r : Result Y Code} → Yields p f (Err e) → IsErr r × IsErrAnd r (λ x. x ≡ e) → Yields (p >>= q) g r
+yields_stopped {p = p} q {g = g} {r = r} d h = subst (λ r. Yields (p >>= q) g r) (sym (residual_is r _ h)) (yields_failed q d)
+
 pub yields_gives : {A X : Type 0} (a : A) (f : X → A) (x : X) → f x ≡ a → Yields (give a) f (Ok x)
 yields_gives a f x e = record { at = λ locals n. evaluates_gives a f x e }
+
+-- want of memory, by a `?` that the call returns
+pub yields_wanting : {A X : Type 0} (p : Act A) (f : X → A) (r : Result X Code) → IsErr r × IsErrAnd r (λ e. e ≡ Zmem) → Yields p f r
+yields_wanting p f r h = subst (λ r. Yields p f r) (sym (residual_is r Zmem h)) (record { at = λ locals n. evaluates_lost p f Zmem refl })

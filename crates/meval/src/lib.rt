@@ -1,12 +1,16 @@
 //! The value of an expression.
 #![tactic(auto)]
 
+mod arguments;
+mod characters;
 mod code;
-mod eval;
+
+mod functions;
 mod operators;
+mod patterns;
+mod relations;
+mod value;
 
 pub use code::Code;
-pub use eval::Eval;
 
-#[cfg(test)]
-mod tests;
+

@@ -1,107 +1,139 @@
 // What the operators of expressions give, of operands that are values already.
 ghost use Rattle.std.specs.Prelude.{◌≡◌, map, length, ◌++◌};
-ghost use Rattle.mmeaning.specs.Expression as meaning;
-ghost use Rattle.meval.specs.Yields.{Yields, outcome_units, both_numbers};
+ghost use Rattle.mmeaning.specs.Operators as meaning;
 ghost use Rattle.mnum.specs.Num.{units};
+ghost use Rattle.mspec.specs.TextFunctions.{made};
 ghost use Rattle.mtree.specs.Tree.{sign_tree, binary_tree};
+ghost use Rattle.meval.specs.Values.{text_of};
+ghost use Rattle.meval.specs.Yields.{Yields, outcome_units, quotient_act};
 
 use crate::code::Code;
-use mnum::{Bytes7, Num, Over};
+use crate::relations::relation;
+use crate::value::{TEXT_LIMIT, Value};
+use mnum::{ArithFault, Num, Over};
 use mtree::{Binary, Sign};
 use std::alloc::Global;
 
-// The longest text, in characters.
-const TEXT_LIMIT: usize = 4095;
-
-// The number that a text stands for.
-fn as_number(text: &Bytes7) -> Result<Num, Code>
-    ensures { Yields (meaning.as_number text.now) units result }
+// What an operation on numbers gives.
+pub(crate) fn computed(outcome: Result<Num, Over>) -> Result<Value, Code>
+    ensures { Yields (meaning.as_text (outcome_units outcome)) text_of result }
 {
-    match Num::from_text(text.as_bytes()) {
-        Ok(number) => Ok(number),
+    match outcome {
+        Ok(number) => Ok(Value::Number(number)),
         Err(_) => Err(Code::Zover),
     }
 }
 
-// The canonical text of what an operation on numbers gives.
-pub fn as_text(alloc: Global, outcome: Result<Num, Over>) -> Result<Bytes7, Code>
-    ensures { Yields (meaning.as_text (outcome_units outcome)) (λ text. text) result }
+// What a division gives.
+fn divided(outcome: Result<Num, ArithFault>) -> Result<Value, Code>
+    ensures { Yields (quotient_act outcome) text_of result }
 {
-    let Ok(number) = outcome else {
-        return Err(Code::Zover);
-    };
-    let mut bytes = Vec::new(alloc);
-    number.write(&mut bytes)?;
-    match Bytes7::new(bytes) {
-        Ok(text) => Ok(text),
-        Err(_) => unreachable!(),
+    match outcome {
+        Ok(number) => Ok(Value::Number(number)),
+        Err(ArithFault::Zero) => Err(Code::M9),
+        Err(ArithFault::Over) => Err(Code::Zover),
     }
 }
 
-// A sign makes a number of its operand, and `-` turns that number's sign.
-fn unary(alloc: Global, sign: Sign, text: &Bytes7) -> Result<Bytes7, Code>
-    ensures { Yields (meaning.unary (sign_tree sign) text.now) (λ text. text) result }
+// A sign makes a number of its operand, `-` turns that number's sign, and `'` negates it as a truth.
+fn unary(sign: Sign, value: &Value) -> Result<Value, Code>
+    ensures { Yields (meaning.unary (sign_tree sign) (text_of value.now)) text_of result }
 {
-    let number = as_number(text)?;
     match sign {
-        Sign::Plus => as_text(alloc, Ok(number)),
-        Sign::Minus => as_text(alloc, Ok(number.neg())),
+        Sign::Plus => {
+            let number = value.number()?;
+            Ok(Value::Number(number))
+        }
+        Sign::Minus => {
+            let number = value.number()?;
+            Ok(Value::Number(number.neg()))
+        }
+        Sign::Not => {
+            let is_true = value.truth()?;
+            Ok(Value::of_truth(!is_true))
+        }
     }
 }
 
 // The signs in front of an operand apply to it from the nearest on.
-pub fn unaries(alloc: Global, signs: &[Sign], text: Bytes7) -> Result<Bytes7, Code>
-    ensures { Yields (meaning.unaries (map sign_tree signs.now) text) (λ text. text) result }
+pub(crate) fn unaries(signs: &[Sign], value: Value) -> Result<Value, Code>
+    ensures { Yields (meaning.unaries (map sign_tree signs.now) (text_of value)) text_of result }
 {
-    let mut text = text;
+    let mut value = value;
     let mut left = signs.len();
     while left > 0 {
         left -= 1;
-        text = unary(alloc, signs[left], &text)?;
+        value = unary(signs[left], &value)?;
     }
-    Ok(text)
+    Ok(value)
 }
 
 // Both operands as numbers, the left one first.
-fn numbers(left: &Bytes7, right: &Bytes7) -> Result<(Num, Num), Code>
-    ensures { Yields (both_numbers left.now right.now) (λ pair. (units pair.0, units pair.1)) result }
+pub(crate) fn numbers(left: &Value, right: &Value) -> Result<(Num, Num), Code>
+    ensures { Yields (meaning.both_numbers (text_of left.now) (text_of right.now)) (λ pair. (units pair.0, units pair.1)) result }
 {
-    let a = as_number(left)?;
-    let b = as_number(right)?;
+    let a = left.number()?;
+    let b = right.number()?;
     Ok((a, b))
 }
 
 // The left text with the right one behind it.
-fn joined(left: Bytes7, right: &Bytes7) -> Result<Bytes7, Code>
-    ensures { Yields (meaning.joined (left ++ right.now)) (λ text. text) result }
+fn joined(alloc: Global, left: Value, right: &Value) -> Result<Value, Code>
+    ensures { Yields (meaning.outcome (made (text_of left ++ text_of right.now))) text_of result }
 {
-    let mut text = left;
-    let more = right.as_bytes();
+    let mut text = left.into_text(alloc)?;
+    let right = right.shown(alloc)?;
+    let more = right.text().as_bytes();
     let length = text.as_bytes().len();
     if length > TEXT_LIMIT || more.len() > TEXT_LIMIT - length {
         return Err(Code::Zlong);
     }
     text.append(more)?;
-    Ok(text)
+    Ok(Value::Text(text))
 }
 
 // What an operator gives of its two operands.
-pub fn binary(alloc: Global, operator: Binary, left: Bytes7, right: &Bytes7) -> Result<Bytes7, Code>
-    ensures { Yields (meaning.binary (binary_tree operator) left right.now) (λ text. text) result }
+pub(crate) fn binary(
+    alloc: Global,
+    operator: Binary,
+    left: Value,
+    right: &Value,
+) -> Result<Value, Code>
+    ensures { Yields (meaning.binary (binary_tree operator) (text_of left) (text_of right.now)) text_of result }
 {
     match operator {
-        Binary::Join => joined(left, right),
+        Binary::Join => joined(alloc, left, right),
+        Binary::Is(truth) => {
+            let holds = relation(alloc, truth, &left, right)?;
+            Ok(Value::of_truth(holds))
+        }
+        Binary::IsNot(truth) => {
+            let holds = relation(alloc, truth, &left, right)?;
+            Ok(Value::of_truth(!holds))
+        }
         Binary::Add => {
             let (a, b) = numbers(&left, right)?;
-            as_text(alloc, a.add(b))
+            computed(a.add(b))
         }
         Binary::Subtract => {
             let (a, b) = numbers(&left, right)?;
-            as_text(alloc, a.sub(b))
+            computed(a.sub(b))
         }
         Binary::Multiply => {
             let (a, b) = numbers(&left, right)?;
-            as_text(alloc, a.mul(b))
+            computed(a.mul(b))
+        }
+        Binary::Divide => {
+            let (a, b) = numbers(&left, right)?;
+            divided(a.div(b))
+        }
+        Binary::DivideWhole => {
+            let (a, b) = numbers(&left, right)?;
+            divided(a.quot(b))
+        }
+        Binary::Remainder => {
+            let (a, b) = numbers(&left, right)?;
+            divided(a.rem(b))
         }
     }
 }

@@ -10,7 +10,7 @@ use Rattle.mspec.specs.Reading.{number_at, name_at, many, list_at, primary_with,
 use Rattle.mspec.specs.Code.{Code, M6, Zlong, Zsyntax, Zover, Zchar, Zline, Zterm}
 use Rattle.mspec.specs.Plan.{Done}
 use Rattle.mspec.specs.Act.{Text, State, Gives, Fails}
-use Rattle.mmeaning.specs.Expression.{binary}
+use Rattle.mmeaning.specs.Operators.{binary}
 use Rattle.mmeaning.specs.Step.{Settings, Event, Reply, Finished, Faulted}
 use Rattle.mmeaning.specs.History.{opening, replies}
 

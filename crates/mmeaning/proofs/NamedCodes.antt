@@ -1,30 +1,20 @@
 -- A line ends with a code of its own, never for want of memory or of the store.
-use Rattle.std.proofs.Common.{◌≡◌, ℕ, zero, suc, Bool, true, false, List, [], ◌∷◌, ◌++◌, length, Option, Some, None, refl}
-use Rattle.std.specs.Prelude.{ℤ, nat_le, map}
+use Rattle.std.proofs.Common.{◌≡◌, Bool, true, false, List, [], ◌∷◌, ◌++◌, Option, Some, None, refl}
+use Rattle.std.specs.Prelude.{map, unwrap_or}
 use Rattle.std.specs.FinMap.{get}
-use Rattle.mspec.specs.Code.{Code, Zover, Zlong, M6}
-use Rattle.mspec.specs.Plan.{Answer, Plan, Done, Ask, then_plan, Ops, perform}
-use Rattle.mspec.specs.Act.{Text, State, Outcome, Gives, Fails, Act, on_gives, ◌>>◌, give, give_some, unless, charge, charged}
-use Rattle.mspec.specs.Number.{significant_digits, sum_of, difference_of, product_of}
-use Rattle.mspec.specs.NumberText.{numeric_value}
-use Rattle.mspec.specs.Grammar.{SignTree, plus, minus, BinaryTree, add, subtract, multiply, join, ExprTree, expr, StepsTree, no_steps, step, OperandTree, operand, PrimaryTree, number, text, local, AssignmentTree, OutputTree, breaks, value as value_tree, CommandTree, set, write as write_tree, LineTree}
+use Rattle.mspec.specs.Plan.{Plan, Done, Ask, Ops, perform}
+use Rattle.mspec.specs.Act.{Text, State, Outcome, Gives, Fails, Act, charge, value_of}
+use Rattle.mspec.specs.TextFunctions.{set_piece_of}
+use Rattle.mspec.specs.Grammar.{ExprTree, TargetTree, variable, piece, AssignmentTree, OutputTree, breaks, value as value_tree, CommandTree, set, write as write_tree, LineTree}
 use Rattle.mspec.specs.Reading.{line_at}
-use Rattle.mmeaning.specs.Expression.{text_limit, as_number, unary, unaries, arithmetic, binary, primary_value, operand_value, steps_value, value}
-use Rattle.mmeaning.specs.LineMeaning.{Signal, setting, settings, writing, writings, command, commands, run}
-use Rattle.mmeaning.specs.Step.{Settings, Event, Server, Account, Faulted, is_failure, is_too_long, is_ascii, text_run, plan_of, begun, session_or_new, act, at_tree, checked, at_account, reply_of}
+use Rattle.mmeaning.specs.Operators.{outcome}
+use Rattle.mmeaning.specs.Functions.{as_whole_or_none}
+use Rattle.mmeaning.specs.Expression.{value}
+use Rattle.mmeaning.specs.LineMeaning.{Signal, Pending, whole, part, place_value, pending, pendings, assigned, all_assigned, targets, setting, settings, writing, writings, command, commands, run}
+use Rattle.mmeaning.specs.Step.{Settings, Event, Server, Account, is_failure, is_too_long, is_ascii, text_run, plan_of, begun, session_or_new, act, at_tree, checked, at_account, reply_of}
 use Rattle.mmeaning.specs.StepLaws.{NormalNeverFails}
-
--- the plan ends with a value, or with a code of the line's own
-abbrev Named : {A : Type 0} → Plan (Outcome A) → Type 0
-Named (Done (Gives a s)) = Unit {0}
-Named (Done (Fails c s)) = is_failure (Faulted c) ≡ false
-Named (Ask op k) = (r : Answer op) → Named (k r)
-
--- one act after another
-then_named : {A B : Type 0} (p : Plan (Outcome A)) (f : A → Act B) → Named p → ((a : A) (s : State) → Named (f a s)) → Named (then_plan p (on_gives f))
-then_named (Done (Gives a s)) f h g = g a s
-then_named (Done (Fails c s)) f h g = h
-then_named (Ask op k) f h g = λ r. then_named (k r) f (h r) g
+use Rattle.mmeaning.proofs.NamedActs.{Named, then_named, charge_named, outcome_named}
+use Rattle.mmeaning.proofs.NamedValues.{value_named, whole_or_none_named, set_piece_own}
 
 -- what is carried out ends so
 performed : {W : Type 0} (ops : Ops W) (p : Plan (Outcome Signal)) (w : W) → Named p → is_failure (reply_of (perform ops p w).0).ending ≡ false
@@ -32,68 +22,40 @@ performed ops (Done (Gives a s)) w h = refl
 performed ops (Done (Fails c s)) w h = h
 performed ops (Ask op k) w h = performed ops (k (ops op w).0) (ops op w).1 (h (ops op w).0)
 
--- ---- acts
-
-some_named : {A : Type 0} (c : Code) (o : Option A) → is_failure (Faulted c) ≡ false → (s : State) → Named (give_some c o s)
-some_named c None h s = h
-some_named c (Some a) h s = tt
-
-charged_named : (n : ℕ) (s : State) → Named (Done (charged n s))
-charged_named zero s = refl
-charged_named (suc n) s = tt
-
-charge_named : (s : State) → Named (charge s)
-charge_named s = charged_named s.steps s
-
--- ---- expressions
-
-number_named : (x : Text) (s : State) → Named (as_number x s)
-number_named x s = some_named Zover (numeric_value significant_digits x) refl s
-
-unary_named : (sign : SignTree) (x : Text) (s : State) → Named (unary sign x s)
-unary_named plus x s = then_named (as_number x s) _ (number_named x s) (λ n t. tt)
-unary_named minus x s = then_named (as_number x s) _ (number_named x s) (λ n t. tt)
-
-unaries_named : (signs : List SignTree) (x : Text) (s : State) → Named (unaries signs x s)
-unaries_named [] x s = tt
-unaries_named (sign ∷ signs) x s = then_named (unaries signs x s) _ (unaries_named signs x s) (λ y t. unary_named sign y t)
-
-arithmetic_named : (f : ℤ → ℤ → Option ℤ) (x y : Text) (s : State) → Named (arithmetic f x y s)
-arithmetic_named f x y s =
-    then_named (as_number x s) _ (number_named x s) (λ a t. then_named (as_number y t) _ (number_named y t) (λ b u. some_named Zover _ refl u))
-
-joined_named : (short : Bool) (x : Text) (s : State) → Named ((unless Zlong short >> give x) s)
-joined_named true x s = tt
-joined_named false x s = refl
-
-binary_named : (b : BinaryTree) (x y : Text) (s : State) → Named (binary b x y s)
-binary_named add x y s = arithmetic_named sum_of x y s
-binary_named subtract x y s = arithmetic_named difference_of x y s
-binary_named multiply x y s = arithmetic_named product_of x y s
-binary_named join x y s = joined_named (nat_le (length (x ++ y)) text_limit) (x ++ y) s
-
-primary_named : (p : PrimaryTree) (s : State) → Named (primary_value p s)
-primary_named (number digits) s = then_named (charge s) _ (charge_named s) (λ u t. some_named Zover _ refl t)
-primary_named (text x) s = then_named (charge s) _ (charge_named s) (λ u t. tt)
-primary_named (local name) s = then_named (charge s) _ (charge_named s) (λ u t. some_named M6 _ refl t)
-
-operand_named : (o : OperandTree) (s : State) → Named (operand_value o s)
-operand_named (operand signs p) s = then_named (primary_value p s) _ (primary_named p s) (λ x t. unaries_named signs x t)
-
-steps_named : (x : Text) (steps : StepsTree) (s : State) → Named (steps_value x steps s)
-steps_named x no_steps s = tt
-steps_named x (step b o rest) s =
-    then_named (operand_value o s) _ (operand_named o s) (λ y t. then_named (binary b x y t) _ (binary_named b x y t) (λ z u. steps_named z rest u))
-
-value_named : (e : ExprTree) (s : State) → Named (value e s)
-value_named (expr first rest) s = then_named (operand_value first s) _ (operand_named first s) (λ x t. steps_named x rest t)
-
 -- ---- commands
+
+place_named : (place : Option ExprTree) (s : State) → Named (place_value place s)
+place_named None s = tt
+place_named (Some e) s = then_named (value e s) _ (value_named e s) (λ x t. tt)
+
+pending_named : (target : TargetTree) (s : State) → Named (pending target s)
+pending_named (variable name) s = tt
+pending_named (piece word name delimiter place) s =
+    then_named (value delimiter s) _ (value_named delimiter s) (λ d t. then_named (place_value place t) _ (place_named place t) (λ n u. tt))
+
+pendings_named : (ps : List Pending) (targets : List TargetTree) (s : State) → Named (pendings ps targets s)
+pendings_named ps [] s = tt
+pendings_named ps (target ∷ rest) s = then_named (pending target s) _ (pending_named target s) (λ p t. pendings_named (ps ++ p ∷ []) rest t)
+
+assigned_named : (x : Text) (p : Pending) (s : State) → Named (assigned x p s)
+assigned_named x (whole name) s = tt
+assigned_named x (part name d place) s =
+    then_named (as_whole_or_none place s) _ (whole_or_none_named place s)
+    (λ n t. then_named (outcome (set_piece_of (unwrap_or (value_of t.locals name) []) d n x) t) _ (outcome_named _ (set_piece_own _ d n x) t) (λ new u. tt))
+
+all_named : (x : Text) (ps : List Pending) (s : State) → Named (all_assigned x ps s)
+all_named x [] s = tt
+all_named x (p ∷ ps) s = then_named (assigned x p s) _ (assigned_named x p s) (λ u t. all_named x ps t)
+
+setting_named : (a : AssignmentTree) (s : State) → Named (setting a s)
+setting_named a s =
+    then_named (pendings [] (targets a.0) s) _ (pendings_named [] (targets a.0) s)
+    (λ ps t. then_named (value a.1 t) _ (value_named a.1 t) (λ x u. all_named x ps u))
 
 settings_named : (args : List AssignmentTree) (s : State) → Named (settings args s)
 settings_named [] s = tt
 settings_named (a ∷ rest) s =
-    then_named (setting a s) _ (then_named (value a.1 s) _ (value_named a.1 s) (λ x t. tt)) (λ u t. settings_named rest t)
+    then_named (setting a s) _ (setting_named a s) (λ u t. settings_named rest t)
 
 writing_named : (o : OutputTree) (s : State) → Named (writing o s)
 writing_named (breaks n) s = tt

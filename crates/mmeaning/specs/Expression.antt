@@ -1,76 +1,70 @@
 -- Expression meaning: the text that an expression gives, or its code.
 --
--- Restates "Expressions" of ISO/IEC 11756:1999: operators apply from left to right, and unary operators bind to the operand
--- behind them. Both operands are evaluated, the left one first, and then they become numbers, left first, where the operator
--- wants numbers.
-use Rattle.std.specs.Prelude.{ℕ, nat_le, List, [], ◌∷◌, ◌++◌, length, Option, option_map, ℤ, neg_ℤ}
-use Rattle.mspec.specs.Number.{significant_digits, sum_of, difference_of, product_of}
-use Rattle.mspec.specs.NumberText.{numeric_value, number_text}
-use Rattle.mspec.specs.Grammar.{SignTree, plus, minus, BinaryTree, add, subtract, multiply, join, ExprTree, expr, StepsTree, no_steps, step, OperandTree, operand, PrimaryTree, number, text, local}
-use Rattle.mspec.specs.Code.{Zover, Zlong}
-use Rattle.mspec.specs.Act.{Text, Act, ◌>>=◌, ◌>>◌, give, give_some, unless, charge, get_local}
+-- Restates "Expressions" and "$SELECT" of ISO/IEC 11756:1999: operators apply from left to right, none before another, and
+-- unary operators bind to the operand behind them. Both operands of an operator are evaluated, the left one first.
+use Rattle.std.specs.Prelude.{Bool, true, false, cond, not, List, [], ◌∷◌, ◌++◌, map}
+use Rattle.mspec.specs.Number.{significant_digits}
+use Rattle.mspec.specs.NumberText.{numeric_value}
+use Rattle.mspec.specs.Interpretations.{truth_text}
+use Rattle.mspec.specs.Matching.{atom_of}
+use Rattle.mspec.specs.Grammar.{ExprTree, expr, StepsTree, no_steps, step, StepTree, apply, matches, matches_not, OperandTree, operand, PrimaryTree, number, text, local, bracket, call, select, ExprsTree, no_exprs, exprs, ChoicesTree, no_choices, choice}
+use Rattle.mspec.specs.Code.{M4}
+use Rattle.mspec.specs.Act.{Text, Act, ◌>>=◌, ◌>>◌, give, fail, charge, get_local}
+use Rattle.mmeaning.specs.Operators.{as_text, as_truth, unaries, binary, matching}
+use Rattle.mmeaning.specs.Functions.{call_value}
 
--- the longest text
-abbrev pub text_limit : ℕ
-text_limit = 4095
+-- A primary costs a step, before it is evaluated: a bracket and a call cost theirs before what stands in them.
+abbrev mutual
+  pub value : ExprTree → Act Text
+  value (expr first rest) = do
+    x ← operand_value first
+    steps_value x rest
 
-abbrev pub as_number : Text → Act ℤ
-as_number x = give_some Zover (numeric_value significant_digits x)
+  -- what is left of an expression, applied to the value so far
+  pub steps_value : Text → StepsTree → Act Text
+  steps_value x no_steps = give x
+  steps_value x (step s rest) = do
+    y ← step_value x s
+    steps_value y rest
 
--- a result as its canonical text
-abbrev pub as_text : Option ℤ → Act Text
-as_text result = give_some Zover (option_map number_text result)
+  pub step_value : Text → StepTree → Act Text
+  step_value x (apply b o) = do
+    y ← operand_value o
+    binary b x y
+  step_value x (matches atoms) = do
+    b ← matching (map atom_of atoms) x
+    give (truth_text b)
+  step_value x (matches_not atoms) = do
+    b ← matching (map atom_of atoms) x
+    give (truth_text (not b))
 
-abbrev pub unary : SignTree → Text → Act Text
-unary plus x = do
-  n ← as_number x
-  give (number_text n)
-unary minus x = do
-  n ← as_number x
-  give (number_text (neg_ℤ n))
+  pub operand_value : OperandTree → Act Text
+  operand_value (operand signs p) = do
+    x ← primary_value p
+    unaries signs x
 
--- the sign nearest to the operand first
-abbrev pub unaries : List SignTree → Text → Act Text
-unaries [] x = give x
-unaries (s ∷ ss) x = do
-  y ← unaries ss x
-  unary s y
+  pub primary_value : PrimaryTree → Act Text
+  primary_value (number literal) = charge >> as_text (numeric_value significant_digits literal)
+  primary_value (text t) = charge >> give t
+  primary_value (local name) = charge >> get_local name
+  primary_value (bracket e) = charge >> value e
+  primary_value (call word args) = do
+    charge
+    xs ← values [] args
+    call_value word xs
+  primary_value (select word choices) = charge >> chosen choices
 
-abbrev pub arithmetic : (ℤ → ℤ → Option ℤ) → Text → Text → Act Text
-arithmetic operator x y = do
-  a ← as_number x
-  b ← as_number y
-  as_text (operator a b)
+  -- the values of some expressions, behind those before them
+  pub values : List Text → ExprsTree → Act (List Text)
+  values xs no_exprs = give xs
+  values xs (exprs e rest) = do
+    x ← value e
+    values (xs ++ x ∷ []) rest
 
-abbrev pub joined : Text → Act Text
-joined x = unless Zlong (nat_le (length x) text_limit) >> give x
-
-abbrev pub binary : BinaryTree → Text → Text → Act Text
-binary add x y = arithmetic sum_of x y
-binary subtract x y = arithmetic difference_of x y
-binary multiply x y = arithmetic product_of x y
-binary join x y = joined (x ++ y)
-
--- a primary costs a step, before it is evaluated
-abbrev pub primary_value : PrimaryTree → Act Text
-primary_value (number digits) = charge >> as_text (numeric_value significant_digits digits)
-primary_value (text t) = charge >> give t
-primary_value (local name) = charge >> get_local name
-
-abbrev pub operand_value : OperandTree → Act Text
-operand_value (operand signs p) = do
-  x ← primary_value p
-  unaries signs x
-
--- what is left of an expression, applied to the value so far
-abbrev pub steps_value : Text → StepsTree → Act Text
-steps_value x no_steps = give x
-steps_value x (step b o rest) = do
-  y ← operand_value o
-  z ← binary b x y
-  steps_value z rest
-
-abbrev pub value : ExprTree → Act Text
-value (expr first rest) = do
-  x ← operand_value first
-  steps_value x rest
+  -- the value of the first choice whose condition is true; what stands behind it is not evaluated
+  pub chosen : ChoicesTree → Act Text
+  chosen no_choices = fail M4
+  chosen (choice c v rest) = do
+    x ← value c
+    b ← as_truth x
+    cond b (value v) (chosen rest)

@@ -1,3 +1,5 @@
+pub mod Operators
+pub mod Functions
 pub mod Expression
 pub mod LineMeaning
 pub mod Step

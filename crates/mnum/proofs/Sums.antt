@@ -84,7 +84,7 @@ sum_is s na nb n a b g A B P x near g_is sum a_is b_is value =
     back P near = omega arith
 
 -- the quotient without its fraction
-quotient_signed : (s t : Bool) (m n : ℕ) → 0 < n → int_div (signed s m) (signed t n) ≡ signed (not (beq s t)) (m / n)
+pub quotient_signed : (s t : Bool) (m n : ℕ) → 0 < n → int_div (signed s m) (signed t n) ≡ signed (not (beq s t)) (m / n)
 quotient_signed s t m zero h = absurd (omega arith)
 quotient_signed false false m (suc n) h = refl
 quotient_signed false true m (suc n) h = refl

@@ -13,6 +13,7 @@ mod reading;
 mod rounding;
 mod size;
 mod units;
+mod whole;
 mod writing;
 
 pub use bytes::Bytes7;

@@ -198,6 +198,31 @@ fn units_and_signs(rt: HostRuntime) -> Result<(), Fail> {
     Ok(())
 }
 
+// The number without its fraction, its text where it is a number again, and whether it is true.
+#[test]
+fn whole_numbers_and_truths(rt: HostRuntime) -> Result<(), Fail> {
+    for (text, whole, again, is_true) in [
+        ("2.9", 2, "2", true),
+        ("-2.9", -2, "-2", true),
+        ("-.5", 0, "0", true),
+        (".000000000000000001", 0, "0", true),
+        ("-0", 0, "0", false),
+        (
+            "-999999999999999999",
+            -999_999_999_999_999_999,
+            "-999999999999999999",
+            true,
+        ),
+    ] {
+        let read = Num::from_text(text.as_bytes()).map_err(|_| "over")?;
+        assert_eq!(rt; read.to_whole(), whole, "at {text}");
+        assert_eq!(rt; read.is_true(), is_true, "at {text}");
+        let number = written(rt.alloc(), Num::from_whole(read.to_whole()))?;
+        assert_eq!(rt; number.as_slice(), again.as_bytes(), "at {text}");
+    }
+    Ok(())
+}
+
 #[test]
 fn texts_of_seven_bits(rt: HostRuntime) -> Result<(), Fail> {
     let mut ascii = Vec::new(rt.alloc());

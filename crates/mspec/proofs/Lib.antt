@@ -29,3 +29,4 @@ pub mod KeyExamples
 pub mod NodeOrders
 pub mod KeyOrders
 pub mod KeyRanges
+pub mod Matchings

@@ -16,3 +16,7 @@ pub mod Pattern
 pub mod NodeOrder
 pub mod KeyBytes
 pub mod KeyLaws
+pub mod Matching
+pub mod PatternLaws
+pub mod Interpretations
+pub mod CharacterFunctions

@@ -7,4 +7,5 @@
 pub mod grammar_laws;
 pub mod key_laws;
 pub mod number_laws;
+pub mod pattern_laws;
 pub mod piece_laws;

@@ -1,0 +1,11 @@
+use Rattle.std.proofs.Common.{ℤ, [], drop, map, Result, Vec, Global}
+use Rattle.mmeaning.specs.Functions as meaning
+use Rattle.meval.specs.Values.{text_of}
+use Rattle.meval.specs.Yields.{Yields}
+use Rattle.meval.specs.declared.code.Code.{Code}
+use Rattle.meval.proofs.arguments.wholes.Given as goal
+
+abbrev pub invariant-loop-argument : goal.invariant-loop-argument
+invariant-loop-argument l =
+    (r : Result (Vec ℤ Global) Code) → Yields (meaning.wholes l.wholes.items (map text_of (drop l.argument-index l.arguments))) (λ (w : Vec ℤ Global). w.items) r
+    → Yields (meaning.wholes [] (map text_of l.arguments)) (λ (w : Vec ℤ Global). w.items) r

@@ -1,0 +1,160 @@
+// The functions, of arguments that are values already.
+ghost use Rattle.std.specs.Prelude.{◌≡◌, map, option_map};
+ghost use Rattle.mspec.specs.Grammar as grammar;
+ghost use Rattle.mmeaning.specs.Functions as meaning;
+ghost use Rattle.mtree.specs.Tree.{function_tree};
+ghost use Rattle.meval.specs.Values.{text_of};
+ghost use Rattle.meval.specs.Yields.{Yields};
+
+use crate::arguments::{text_at, whole_at, wholes};
+use crate::characters::{characters, code_at};
+use crate::code::Code;
+use crate::value::Value;
+use mtext::{extract, find, justify, piece, pieces, translate};
+use mtree::Function;
+use std::alloc::Global;
+
+fn is_either(short: &[u8], long: &[u8], word: &[u8]) -> bool
+    ensures { result ≡ grammar.is_either short.now long.now word.now }
+{
+    word.eq_ignore_ascii_case(short) || word.eq_ignore_ascii_case(long)
+}
+
+// What a function's word says.
+#[tactic(auto, unfolding(mspec::specs::Grammar::function_of))]
+fn function_of(word: &[u8]) -> Option<Function>
+    ensures { option_map function_tree result ≡ grammar.function_of word.now }
+{
+    if is_either(b"a", b"ascii", word) {
+        Some(Function::Ascii)
+    } else if is_either(b"c", b"char", word) {
+        Some(Function::Char)
+    } else if is_either(b"e", b"extract", word) {
+        Some(Function::Extract)
+    } else if is_either(b"f", b"find", word) {
+        Some(Function::Find)
+    } else if is_either(b"j", b"justify", word) {
+        Some(Function::Justify)
+    } else if is_either(b"l", b"length", word) {
+        Some(Function::Length)
+    } else if is_either(b"p", b"piece", word) {
+        Some(Function::Piece)
+    } else if is_either(b"s", b"select", word) {
+        Some(Function::Select)
+    } else if is_either(b"tr", b"translate", word) {
+        Some(Function::Translate)
+    } else {
+        None
+    }
+}
+
+// ---- functions, by their names
+
+fn ascii(alloc: Global, arguments: &[Value]) -> Result<Value, Code>
+    ensures { Yields (meaning.function_value grammar.ascii_function (map text_of arguments.now)) text_of result }
+{
+    let place = whole_at(arguments, 1)?;
+    let text = text_at(alloc, arguments, 0)?;
+    Ok(Value::of_whole(code_at(text.text().as_bytes(), place)))
+}
+
+fn char(alloc: Global, arguments: &[Value]) -> Result<Value, Code>
+    ensures { Yields (meaning.function_value grammar.char_function (map text_of arguments.now)) text_of result }
+{
+    let codes = wholes(alloc, arguments)?;
+    characters(alloc, &codes)
+}
+
+fn extracted(alloc: Global, arguments: &[Value]) -> Result<Value, Code>
+    ensures { Yields (meaning.function_value grammar.extract_function (map text_of arguments.now)) text_of result }
+{
+    let from = whole_at(arguments, 1)?;
+    let to = whole_at(arguments, 2)?;
+    let text = text_at(alloc, arguments, 0)?;
+    let part = extract(text.text().as_bytes(), from, to);
+    Value::of_bytes(alloc, part)
+}
+
+fn found(alloc: Global, arguments: &[Value]) -> Result<Value, Code>
+    ensures { Yields (meaning.function_value grammar.find_function (map text_of arguments.now)) text_of result }
+{
+    let from = whole_at(arguments, 2)?;
+    let text = text_at(alloc, arguments, 0)?;
+    let what = text_at(alloc, arguments, 1)?;
+    Value::of_count(find(text.text().as_bytes(), what.text().as_bytes(), from))
+}
+
+fn justified(alloc: Global, arguments: &[Value]) -> Result<Value, Code>
+    ensures { Yields (meaning.function_value grammar.justify_function (map text_of arguments.now)) text_of result }
+{
+    let width = whole_at(arguments, 1)?;
+    let text = text_at(alloc, arguments, 0)?;
+    Value::of_answer(justify(alloc, text.text(), width.unwrap_or(0)))
+}
+
+// Of characters, and of pieces where there is a delimiter.
+fn length(alloc: Global, arguments: &[Value]) -> Result<Value, Code>
+    ensures { Yields (meaning.function_value grammar.length_function (map text_of arguments.now)) text_of result }
+{
+    let text = text_at(alloc, arguments, 0)?;
+    let bytes = text.text().as_bytes();
+    match arguments.get(1) {
+        None => Value::of_count(bytes.len() as u64),
+        Some(value) => {
+            let delimiter = value.shown(alloc)?;
+            Value::of_count(pieces(bytes, delimiter.text().as_bytes()) as u64)
+        }
+    }
+}
+
+fn pieces_from_to(alloc: Global, arguments: &[Value]) -> Result<Value, Code>
+    ensures { Yields (meaning.function_value grammar.piece_function (map text_of arguments.now)) text_of result }
+{
+    let from = whole_at(arguments, 2)?;
+    let to = whole_at(arguments, 3)?;
+    let text = text_at(alloc, arguments, 0)?;
+    let delimiter = text_at(alloc, arguments, 1)?;
+    let part = piece(
+        text.text().as_bytes(),
+        delimiter.text().as_bytes(),
+        from,
+        to,
+    );
+    Value::of_bytes(alloc, part)
+}
+
+fn translated(alloc: Global, arguments: &[Value]) -> Result<Value, Code>
+    ensures { Yields (meaning.function_value grammar.translate_function (map text_of arguments.now)) text_of result }
+{
+    let text = text_at(alloc, arguments, 0)?;
+    let from = text_at(alloc, arguments, 1)?;
+    let to = text_at(alloc, arguments, 2)?;
+    Value::of_answer(translate(alloc, text.text(), from.text(), to.text()))
+}
+
+// What a function gives of its arguments.
+fn function(alloc: Global, function: Function, arguments: &[Value]) -> Result<Value, Code>
+    ensures { Yields (meaning.function_value (function_tree function) (map text_of arguments.now)) text_of result }
+{
+    match function {
+        Function::Ascii => ascii(alloc, arguments),
+        Function::Char => char(alloc, arguments),
+        Function::Extract => extracted(alloc, arguments),
+        Function::Find => found(alloc, arguments),
+        Function::Justify => justified(alloc, arguments),
+        Function::Length => length(alloc, arguments),
+        Function::Piece => pieces_from_to(alloc, arguments),
+        Function::Select => Err(Code::Zsyntax),
+        Function::Translate => translated(alloc, arguments),
+    }
+}
+
+// What the function of a word gives of its arguments. Where no function has the word, no text has the tree.
+pub(crate) fn call(alloc: Global, word: &[u8], arguments: &[Value]) -> Result<Value, Code>
+    ensures { Yields (meaning.call_value word.now (map text_of arguments.now)) text_of result }
+{
+    match function_of(word) {
+        None => Err(Code::Zsyntax),
+        Some(named) => function(alloc, named, arguments),
+    }
+}

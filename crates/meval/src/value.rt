@@ -1,0 +1,161 @@
+// Values while they are worked with: a number stays a number until its text is wanted.
+ghost use Rattle.std.specs.Prelude.{◌≡◌, ◌^◌, ◌<◌, ℕ, List, All, Result, pos, unsigned_abs, IfOk};
+ghost use Rattle.mspec.specs.Interpretations.{truth_text};
+ghost use Rattle.mspec.specs.NumberText.{number_text};
+ghost use Rattle.mspec.specs.Act.{give};
+ghost use Rattle.mspec.specs.Code as spec;
+ghost use Rattle.mmeaning.specs.Operators.{as_number, as_truth, outcome};
+ghost use Rattle.mmeaning.specs.Functions.{whole_text, as_whole};
+ghost use Rattle.mnum.specs.Num.{units};
+ghost use Rattle.mtext.specs.Made.{Answers};
+ghost use Rattle.meval.specs.Values.{text_of, shown_text};
+ghost use Rattle.meval.specs.Yields.{Yields};
+
+use crate::code::Code;
+use mnum::{Bytes7, Num};
+use mtext::TextFault;
+use std::alloc::{AllocError, Global};
+
+// The longest text, in characters.
+pub(crate) const TEXT_LIMIT: usize = 4095;
+
+/// A value. Contracts see it as its text.
+#[derive(Drop)]
+pub(crate) enum Value {
+    /// A number, whose text is its canonical one.
+    Number(Num),
+    Text(Bytes7),
+}
+
+/// The text of a value: its own, or one that was printed for it.
+#[derive(Drop)]
+pub(crate) enum Shown<'a> {
+    Lent(&'a Bytes7),
+    Printed(Bytes7),
+}
+
+impl<'a> Shown<'a> {
+    /// The text itself.
+    pub(crate) fn text(&self) -> &Bytes7
+        ensures { result.now ≡ shown_text self.now }
+    {
+        match self {
+            Shown::Lent(text) => text,
+            Shown::Printed(text) => text,
+        }
+    }
+}
+
+/// The canonical text of a number.
+fn printed(alloc: Global, number: Num) -> Result<Bytes7, AllocError>
+    ensures { IfOk result (λ text. text ≡ number_text (units number)) }
+{
+    let mut bytes = Vec::new(alloc);
+    number.write(&mut bytes)?;
+    match Bytes7::new(bytes) {
+        Ok(text) => Ok(text),
+        Err(_) => unreachable!(),
+    }
+}
+
+impl Value {
+    /// The value of a truth.
+    pub(crate) fn of_truth(is_true: bool) -> Value
+        ensures { text_of result ≡ truth_text is_true }
+    {
+        if is_true {
+            Value::of_whole(1)
+        } else {
+            Value::of_whole(0)
+        }
+    }
+
+    /// The value of a whole number.
+    pub(crate) fn of_whole(whole: i64) -> Value
+        requires { unsigned_abs whole < 10 ^ 18 }
+        ensures { text_of result ≡ whole_text whole }
+    {
+        Value::Number(Num::from_whole(whole))
+    }
+
+    /// The value of a count. One of 10^18 or more is of a text that no memory suffices for.
+    pub(crate) fn of_count(count: u64) -> Result<Value, Code>
+        ensures { Yields (give (whole_text (pos count))) text_of result }
+    {
+        if count >= 1_000_000_000_000_000_000 {
+            return Err(Code::Zmem);
+        }
+        Ok(Value::of_whole(count as i64))
+    }
+
+    /// The value of a part of a text.
+    pub(crate) fn of_bytes(alloc: Global, bytes: &[u8]) -> Result<Value, Code>
+        requires { All (λ c. c < 128) bytes.now }
+        ensures { Yields (give bytes.now) text_of result }
+    {
+        let text = Bytes7::from_slice(alloc, bytes)?;
+        Ok(Value::Text(text))
+    }
+
+    /// The value of a text that was to be made, or the code of its refusal.
+    pub(crate) fn of_answer(answer: Result<Bytes7, TextFault>) -> Result<Value, Code>
+        ensures { (wanted : Result (List ℕ) spec.Code) → Answers wanted answer → Yields (outcome wanted) text_of result }
+    {
+        match answer {
+            Ok(text) => Ok(Value::Text(text)),
+            Err(TextFault::Arg) => Err(Code::Zarg),
+            Err(TextFault::TooLong) => Err(Code::Zlong),
+            Err(TextFault::Memory) => Err(Code::Zmem),
+        }
+    }
+
+    /// The text of the value.
+    pub(crate) fn into_text(self, alloc: Global) -> Result<Bytes7, AllocError>
+        ensures { IfOk result (λ text. text ≡ text_of self) }
+    {
+        match self {
+            Value::Number(number) => printed(alloc, number),
+            Value::Text(text) => Ok(text),
+        }
+    }
+
+    /// The text of the value, printed where it is a number.
+    pub(crate) fn shown(&self, alloc: Global) -> Result<Shown<'_>, AllocError>
+        ensures { IfOk result (λ shown. shown_text shown ≡ text_of self.now) }
+    {
+        match self {
+            Value::Number(number) => Ok(Shown::Printed(printed(alloc, *number)?)),
+            Value::Text(text) => Ok(Shown::Lent(text)),
+        }
+    }
+
+    /// The number that the value stands for.
+    pub(crate) fn number(&self) -> Result<Num, Code>
+        ensures { Yields (as_number (text_of self.now)) units result }
+    {
+        match self {
+            Value::Number(number) => Ok(*number),
+            Value::Text(text) => match Num::from_text(text.as_bytes()) {
+                Ok(number) => Ok(number),
+                Err(_) => Err(Code::Zover),
+            },
+        }
+    }
+
+    /// Whether the value is true.
+    pub(crate) fn truth(&self) -> Result<bool, Code>
+        ensures { Yields (as_truth (text_of self.now)) (λ is_true. is_true) result }
+    {
+        let number = self.number()?;
+        Ok(number.is_true())
+    }
+
+    /// The number that the value stands for, without its fraction.
+    pub(crate) fn whole(&self) -> Result<i64, Code>
+        ensures whole { Yields (as_whole (text_of self.now)) (λ whole. whole) result }
+        ensures below { IfOk result (λ whole. unsigned_abs whole < 10 ^ 18) }
+    {
+        let number = self.number()?;
+        Ok(number.to_whole())
+    }
+}

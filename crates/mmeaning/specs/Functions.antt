@@ -1,0 +1,86 @@
+-- What functions give of the values of their arguments, $SELECT apart.
+--
+-- Restates "Intrinsic functions" of ISO/IEC 11756:1999. All arguments are evaluated before the first of them becomes a
+-- number. Then each that is to be a whole number becomes one, from left to right, also where it plays no part.
+use Rattle.std.specs.Prelude.{ℕ, ◌*◌, ◌^◌, ℤ, pos, ◌*ℤ◌, List, [], ◌∷◌, ◌++◌, length, get_or, slice_get, Option, Some, None, unwrap_or}
+use Rattle.mspec.specs.NumberText.{number_text}
+use Rattle.mspec.specs.Interpretations.{whole_part}
+use Rattle.mspec.specs.TextFunctions.{piece_of, extract_of, find_of, piece_count, translate_of, justify_of}
+use Rattle.mspec.specs.CharacterFunctions.{ascii_of, char_of}
+use Rattle.mspec.specs.Grammar.{FunctionTree, ascii_function, char_function, extract_function, find_function, justify_function, length_function, piece_function, select_function, translate_function, function_of}
+use Rattle.mspec.specs.Code.{Zsyntax}
+use Rattle.mspec.specs.Act.{Text, Act, ◌>>=◌, give, fail}
+use Rattle.mmeaning.specs.Operators.{as_number, outcome}
+
+-- ---- arguments
+
+-- the argument at a place; the empty text where it is left out
+abbrev pub text_at : ℕ → List Text → Text
+text_at k args = get_or args k []
+
+-- the value without its fraction
+abbrev pub as_whole : Text → Act ℤ
+as_whole x = do
+  n ← as_number x
+  give (whole_part n)
+
+abbrev pub as_whole_or_none : Option Text → Act (Option ℤ)
+as_whole_or_none None = give None
+as_whole_or_none (Some x) = do
+  n ← as_whole x
+  give (Some n)
+
+-- the argument at a place as a whole number; none where it is left out
+abbrev pub whole_at : ℕ → List Text → Act (Option ℤ)
+whole_at k args = as_whole_or_none (slice_get args k)
+
+-- the arguments as whole numbers, behind those before them
+abbrev pub wholes : List ℤ → List Text → Act (List ℤ)
+wholes ns [] = give ns
+wholes ns (x ∷ xs) = do
+  n ← as_whole x
+  wholes (ns ++ n ∷ []) xs
+
+-- ---- values
+
+-- a whole number as its text
+abbrev pub whole_text : ℤ → Text
+whole_text n = number_text (n *ℤ pos (10 ^ 18))
+
+-- $LENGTH: of characters, and of pieces where there is a delimiter
+abbrev pub length_of : Text → Option Text → ℕ
+length_of s None = length s
+length_of s (Some d) = piece_count s d
+
+abbrev pub function_value : FunctionTree → List Text → Act Text
+function_value ascii_function args = do
+  place ← whole_at 1 args
+  give (whole_text (ascii_of (text_at 0 args) place))
+function_value char_function args = do
+  ns ← wholes [] args
+  outcome (char_of ns)
+function_value extract_function args = do
+  from ← whole_at 1 args
+  to ← whole_at 2 args
+  give (extract_of (text_at 0 args) from to)
+function_value find_function args = do
+  from ← whole_at 2 args
+  give (whole_text (pos (find_of (text_at 0 args) (text_at 1 args) from)))
+function_value justify_function args = do
+  width ← whole_at 1 args
+  outcome (justify_of (text_at 0 args) (unwrap_or width (pos 0)))
+function_value length_function args = give (whole_text (pos (length_of (text_at 0 args) (slice_get args 1))))
+function_value piece_function args = do
+  from ← whole_at 2 args
+  to ← whole_at 3 args
+  give (piece_of (text_at 0 args) (text_at 1 args) from to)
+function_value select_function args = fail Zsyntax
+function_value translate_function args = outcome (translate_of (text_at 0 args) (text_at 1 args) (text_at 2 args))
+
+-- a word that names no function is in no tree of the grammar
+abbrev pub named_value : Option FunctionTree → List Text → Act Text
+named_value None args = fail Zsyntax
+named_value (Some f) args = function_value f args
+
+abbrev pub call_value : Text → List Text → Act Text
+call_value word args = named_value (function_of word) args

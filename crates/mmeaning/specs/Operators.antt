@@ -1,0 +1,114 @@
+-- What operators give of values.
+--
+-- Restates "Unary operator", "Binary operators" and "Pattern match pattern" of ISO/IEC 11756:1999. Where an operator wants
+-- numbers its operands become numbers once both are evaluated, the left one first.
+use Rattle.std.specs.Prelude.{ℤ, neg_ℤ, Bool, not, ◌&&◌, ◌||◌, nat_eq, List, [], ◌∷◌, ◌++◌, Option, option_map, Result, Ok, Err}
+use Rattle.std.specs.List.{list_any}
+use Rattle.std.specs.Ordering.{int_cmp, is_lt, is_gt}
+use Rattle.std.specs.Cmp.Lexicographic.{pointwise}
+use Rattle.mspec.specs.Number.{significant_digits, sum_of, difference_of, product_of, quotient_of, whole_quotient_of, remainder_of}
+use Rattle.mspec.specs.NumberText.{numeric_value, number_text}
+use Rattle.mspec.specs.Interpretations.{is_true, truth_text}
+use Rattle.mspec.specs.NodeOrder.{text_cmp}
+use Rattle.mspec.specs.TextFunctions as texts
+use Rattle.mspec.specs.Pattern.{Atom}
+use Rattle.mspec.specs.Matching.{is_reversed, is_match}
+use Rattle.mspec.specs.Grammar.{SignTree, plus, minus, negate, TruthTree, equals, less, greater, contains, follows, sorts_after, both, either, BinaryTree, add, subtract, multiply, divide, divide_whole, remainder, join, is, is_not}
+use Rattle.mspec.specs.Code.{Code, M9, M10, Zover}
+use Rattle.mspec.specs.Act.{Text, Act, ◌>>=◌, ◌>>◌, give, fail, give_some, unless}
+
+abbrev pub as_number : Text → Act ℤ
+as_number x = give_some Zover (numeric_value significant_digits x)
+
+-- a result as its canonical text
+abbrev pub as_text : Option ℤ → Act Text
+as_text result = give_some Zover (option_map number_text result)
+
+abbrev pub as_truth : Text → Act Bool
+as_truth x = do
+  n ← as_number x
+  give (is_true n)
+
+-- what was made, or the code in its place
+abbrev pub outcome : Result Text Code → Act Text
+outcome (Ok x) = give x
+outcome (Err c) = fail c
+
+-- ---- unary operators
+
+abbrev pub unary : SignTree → Text → Act Text
+unary plus x = do
+  n ← as_number x
+  give (number_text n)
+unary minus x = do
+  n ← as_number x
+  give (number_text (neg_ℤ n))
+unary negate x = do
+  b ← as_truth x
+  give (truth_text (not b))
+
+-- the sign nearest to the operand first
+abbrev pub unaries : List SignTree → Text → Act Text
+unaries [] x = give x
+unaries (s ∷ ss) x = do
+  y ← unaries ss x
+  unary s y
+
+-- ---- binary operators
+
+-- two texts as numbers, the left one first
+abbrev pub both_numbers : Text → Text → Act (ℤ × ℤ)
+both_numbers x y = do
+  a ← as_number x
+  b ← as_number y
+  give (a, b)
+
+abbrev pub arithmetic : (ℤ → ℤ → Option ℤ) → Text → Text → Act Text
+arithmetic operator x y = do
+  n ← both_numbers x y
+  as_text (operator n.0 n.1)
+
+-- by a divisor that is not 0
+abbrev pub division : (ℤ → ℤ → Option ℤ) → Text → Text → Act Text
+division operator x y = do
+  n ← both_numbers x y
+  unless M9 (is_true n.1)
+  as_text (operator n.0 n.1)
+
+abbrev pub of_numbers : (ℤ → ℤ → Bool) → Text → Text → Act Bool
+of_numbers test x y = do
+  n ← both_numbers x y
+  give (test n.0 n.1)
+
+abbrev pub truth : TruthTree → Text → Text → Act Bool
+truth equals x y = give (pointwise nat_eq x y)
+truth less x y = of_numbers (λ a b. is_lt (int_cmp a b)) x y
+truth greater x y = of_numbers (λ a b. is_gt (int_cmp a b)) x y
+truth contains x y = give (texts.contains x y)
+truth follows x y = give (texts.follows x y)
+truth sorts_after x y = give (is_gt (text_cmp significant_digits x y))
+truth both x y = of_numbers (λ a b. is_true a && is_true b) x y
+truth either x y = of_numbers (λ a b. is_true a || is_true b) x y
+
+abbrev pub binary : BinaryTree → Text → Text → Act Text
+binary add x y = arithmetic sum_of x y
+binary subtract x y = arithmetic difference_of x y
+binary multiply x y = arithmetic product_of x y
+binary divide x y = division quotient_of x y
+binary divide_whole x y = division whole_quotient_of x y
+binary remainder x y = division remainder_of x y
+binary join x y = outcome (texts.made (x ++ y))
+binary (is t) x y = do
+  b ← truth t x y
+  give (truth_text b)
+binary (is_not t) x y = do
+  b ← truth t x y
+  give (truth_text (not b))
+
+-- ---- patterns
+
+-- any atom whose greatest count is below its least is an error, whether the text comes to it or not
+abbrev pub matching : List Atom → Text → Act Bool
+matching pattern x = do
+  unless M10 (not (list_any (λ a. is_reversed a.count) pattern))
+  give (is_match pattern x)

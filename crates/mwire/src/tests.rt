@@ -1,6 +1,7 @@
 // The wire by example.
 mod devices;
 mod events;
+mod expressions;
 mod faults;
 mod lines;
 mod replies;

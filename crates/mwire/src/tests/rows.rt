@@ -56,14 +56,14 @@ fn output_codes_and_locals(rt: HostRuntime) -> Result<(), Fail> {
     Ok(())
 }
 
-// A blank line, lines that are not readable and of no account, an escape behind a carriage return, and a last line that is
-// not finished.
+// A blank line, lines that are not readable and of no account, escapes before a carriage return, and a last line that is not
+// finished.
 #[test]
 fn wire_stream(rt: HostRuntime) -> Result<(), Fail> {
-    let stream = "\nx W 1\n9 W 1\n1 W \"a\\\",!\r\n1 W 2";
+    let stream = "\nx W 1\n9 W 1\n1 W \"a\\\",$C(10)\r\n1 W 2";
     for size in SIZES {
         let got = served(rt.alloc(), stream.as_bytes(), size)?;
-        let answer = b"?!ZWIRE\n9!ZTERM\n1:a\\5C\n1.\n1-2\n1.\n";
+        let answer = b"?!ZWIRE\n9!ZTERM\n1-a\\5C\\0A\n1.\n1-2\n1.\n";
         assert_eq!(rt; got.as_slice(), answer.as_slice(), "by {size}");
     }
     Ok(())

@@ -76,7 +76,9 @@ number_at cs = with_point (run_of is_digit cs) (after_run is_digit cs) >>= λ m.
 
 unfoldable pub name_at : List ℕ → Read (List ℕ)
 name_at [] = None
-name_at (c ∷ cs) = if is_name_start c && nat_le (length (run_of is_name_rest cs)) 30 then Some (c ∷ run_of is_name_rest cs, after_run is_name_rest cs) else None
+name_at (c ∷ cs) =
+    if is_name_start c && nat_le (length (run_of is_name_rest cs)) 30
+    then Some (c ∷ run_of is_name_rest cs, after_run is_name_rest cs) else None
 
 -- a list that was read, behind what was there before
 abbrev pub with_front : {A : Type 0} → List A → Read (List A) → Read (List A)
@@ -87,7 +89,8 @@ abbrev pub text_from : Bool → List ℕ → Read (List ℕ)
 text_from true [] = Some ([], [])
 text_from true (c ∷ cs) = if c == 34 then with_front (34 ∷ []) (text_from false cs) else Some ([], c ∷ cs)
 text_from false [] = None
-text_from false (c ∷ cs) = if c == 34 then text_from true cs else (if is_character c then with_front (c ∷ []) (text_from false cs) else None)
+text_from false (c ∷ cs) =
+    if c == 34 then text_from true cs else (if is_character c then with_front (c ∷ []) (text_from false cs) else None)
 
 -- the text behind this character, which is to come
 abbrev pub past : ℕ → List ℕ → Option (List ℕ)
@@ -157,7 +160,9 @@ repeated_at (c ∷ cs) =
 unfoldable pub atom_at : List ℕ → Option (Option (AtomTree × List ℕ))
 atom_at [] = Some None
 atom_at (c ∷ cs) =
-    if is_digit_or_point c then (count_at (c ∷ cs) >>= λ n. repeated_at n.1 >>= λ x. Some (Some (record { count = n.0; repeated = x.0 }, x.1))) else Some None
+    if is_digit_or_point c
+    then (count_at (c ∷ cs) >>= λ n. repeated_at n.1 >>= λ x. Some (Some (record { count = n.0; repeated = x.0 }, x.1)))
+    else Some None
 
 -- atoms, unless there are none
 abbrev pub pattern_by : List AtomTree → List ℕ → Read (List AtomTree)
@@ -171,11 +176,15 @@ pattern_at cs = many atom_at (length cs) cs >>= λ x. pattern_by x.0 x.1
 
 abbrev pub signs_of : List ℕ → List SignTree
 signs_of [] = []
-signs_of (c ∷ cs) = if c == 43 then plus ∷ signs_of cs else (if c == 45 then minus ∷ signs_of cs else (if c == 39 then negate ∷ signs_of cs else []))
+signs_of (c ∷ cs) =
+    if c == 43 then plus ∷ signs_of cs
+    else (if c == 45 then minus ∷ signs_of cs else (if c == 39 then negate ∷ signs_of cs else []))
 
 abbrev pub after_signs : List ℕ → List ℕ
 after_signs [] = []
-after_signs (c ∷ cs) = if c == 43 then after_signs cs else (if c == 45 then after_signs cs else (if c == 39 then after_signs cs else c ∷ cs))
+after_signs (c ∷ cs) =
+    if c == 43 then after_signs cs
+    else (if c == 45 then after_signs cs else (if c == 39 then after_signs cs else c ∷ cs))
 
 abbrev pub signs_at : List ℕ → Read (List SignTree)
 signs_at cs = Some (signs_of cs, after_signs cs)
@@ -189,7 +198,8 @@ abbrev pub truths : List (ℕ × TruthTree)
 truths = (61, equals) ∷ (60, less) ∷ (62, greater) ∷ (91, contains) ∷ (38, both) ∷ (33, either) ∷ []
 
 abbrev pub arithmetic : List (ℕ × BinaryTree)
-arithmetic = (43, add) ∷ (45, subtract) ∷ (42, multiply) ∷ (47, divide) ∷ (92, divide_whole) ∷ (35, remainder) ∷ (95, join) ∷ []
+arithmetic =
+    (43, add) ∷ (45, subtract) ∷ (42, multiply) ∷ (47, divide) ∷ (92, divide_whole) ∷ (35, remainder) ∷ (95, join) ∷ []
 
 -- the operator behind a `]`: the longest
 abbrev pub follows_at : List ℕ → TruthTree × List ℕ
@@ -209,7 +219,8 @@ pub data OperatorTree : Type 0 where
 -- behind a `'`
 abbrev pub negated_at : List ℕ → Read OperatorTree
 negated_at [] = None
-negated_at (c ∷ cs) = if c == 63 then Some (matching_not, cs) else (truth_at (c ∷ cs) >>= λ t. Some (between (is_not t.0), t.1))
+negated_at (c ∷ cs) =
+    if c == 63 then Some (matching_not, cs) else (truth_at (c ∷ cs) >>= λ t. Some (between (is_not t.0), t.1))
 
 -- where the first character alone says this
 abbrev pub plain_by : Option BinaryTree → List ℕ → Read OperatorTree
@@ -267,7 +278,9 @@ module _ (r : Readers) where
   select_with w cs = list_at choice_with cs >>= λ x. past 41 x.1 >>= λ rest. Some (select w (choices_of x.0), rest)
 
   unfoldable pub call_with : FunctionTree → List ℕ → List ℕ → Read PrimaryTree
-  call_with f w cs = list_at (r.inner) cs >>= λ x. past 41 x.1 >>= λ rest. if takes f (length x.0) then Some (call w (exprs_of x.0), rest) else None
+  call_with f w cs =
+      list_at (r.inner) cs >>= λ x. past 41 x.1 >>= λ rest.
+      if takes f (length x.0) then Some (call w (exprs_of x.0), rest) else None
 
   abbrev pub function_by : List ℕ → Option FunctionTree → List ℕ → Read PrimaryTree
   function_by w None cs = None
@@ -275,7 +288,8 @@ module _ (r : Readers) where
 
   -- behind a `$`
   unfoldable pub function_with : List ℕ → Read PrimaryTree
-  function_with cs = past 40 (after_run is_letter cs) >>= function_by (run_of is_letter cs) (function_of (run_of is_letter cs))
+  function_with cs =
+      past 40 (after_run is_letter cs) >>= function_by (run_of is_letter cs) (function_of (run_of is_letter cs))
 
   unfoldable pub primary_with : List ℕ → Read PrimaryTree
   primary_with [] = None
@@ -326,7 +340,8 @@ module _ (r : Readers) where
 
   unfoldable pub piece_with : List ℕ → List ℕ → Read TargetTree
   piece_with w cs =
-      name_at cs >>= λ n. past 44 n.1 >>= λ rest. r.inner rest >>= λ e. place_with e.1 >>= λ p. past 41 p.1 >>= λ end.
+      name_at cs >>= λ n. past 44 n.1 >>= λ rest. r.inner rest >>= λ e. place_with e.1 >>= λ p.
+      past 41 p.1 >>= λ end.
       Some (piece w n.0 e.0 p.0, end)
 
   abbrev pub piece_by : List ℕ → Option FunctionTree → List ℕ → Read TargetTree
@@ -336,17 +351,20 @@ module _ (r : Readers) where
   unfoldable pub target_with : List ℕ → Read TargetTree
   target_with [] = None
   target_with (c ∷ cs) =
-      if c == 36 then (past 40 (after_run is_letter cs) >>= piece_by (run_of is_letter cs) (function_of (run_of is_letter cs)))
+      if c == 36
+      then (past 40 (after_run is_letter cs) >>= piece_by (run_of is_letter cs) (function_of (run_of is_letter cs)))
       else (name_at (c ∷ cs) >>= λ n. Some (variable n.0, n.1))
 
 unfoldable pub destination_at : List ℕ → Read DestinationTree
 destination_at [] = None
 destination_at (c ∷ cs) =
-    if c == 40 then (list_at (target_with (readers_at (max_depth - 1))) cs >>= λ x. past 41 x.1 >>= λ rest. Some (several x.0, rest))
+    if c == 40
+    then (list_at (target_with (readers_at (max_depth - 1))) cs >>= λ x. past 41 x.1 >>= λ rest. Some (several x.0, rest))
     else (target_with (readers_at max_depth) (c ∷ cs) >>= λ t. Some (one t.0, t.1))
 
 unfoldable pub assignment_at : List ℕ → Read AssignmentTree
-assignment_at cs = destination_at cs >>= λ d. past 61 d.1 >>= λ rest. expr_at max_depth rest >>= λ e. Some ((d.0, e.0), e.1)
+assignment_at cs =
+    destination_at cs >>= λ d. past 61 d.1 >>= λ rest. expr_at max_depth rest >>= λ e. Some ((d.0, e.0), e.1)
 
 abbrev pub is_bang : ℕ → Bool
 is_bang c = c == 33
@@ -385,10 +403,13 @@ at_end (c ∷ cs) = c == 59
 
 -- a command with these spaces behind it: some, unless nothing more than a comment follows
 abbrev pub spaced : CommandTree → List ℕ → List ℕ → Option (Option (SpacedTree × List ℕ))
-spaced c spaces rest = if at_end rest || nat_lt 0 (length spaces) then Some (Some ((c, length spaces), rest)) else None
+spaced c spaces rest =
+    if at_end rest || nat_lt 0 (length spaces) then Some (Some ((c, length spaces), rest)) else None
 
 unfoldable pub spaced_at : List ℕ → Option (Option (SpacedTree × List ℕ))
-spaced_at cs = if at_end cs then Some None else (command_at cs >>= λ c. spaced c.0 (run_of is_space c.1) (after_run is_space c.1))
+spaced_at cs =
+    if at_end cs then Some None
+    else (command_at cs >>= λ c. spaced c.0 (run_of is_space c.1) (after_run is_space c.1))
 
 -- a comment, unless something is left behind it
 abbrev pub comment_by : List ℕ → List ℕ → Option (Option (List ℕ))

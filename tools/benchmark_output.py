@@ -2,6 +2,7 @@
 """Prints crates/benchmark/stdout: the checksums of the benchmark's thousand rounds, by Python's own fractions and texts."""
 import re
 
+from key_vectors import key, units as canonical
 from number_vectors import OPERATORS, text_of, value
 
 PASSES = 5
@@ -40,6 +41,35 @@ def main():
     print(f"  {'pieces':<12} {summed(lambda i: len(text.split('^')))}")
     print(f"  {'find':<12} {summed(lambda i: text.index('needle') + len('needle') + 1)}")
     print(f"  {'matches':<12} {summed(lambda i: int(bool(re.fullmatch('[A-Za-z]+-[0-9]+', 'ABCDEFGHIJ-123456789'))))}")
+    keys()
+
+
+KEYS = {
+    "keys of a small number": ["12"],
+    "keys of a price": ["-7.25"],
+    "keys of three texts": ["north", "item", "colour"],
+}
+ORDERS = {
+    "order of small numbers": ["12", "7", "250", "3"],
+    "order of texts": ["north", "item", "colour", "12A"],
+}
+
+
+def place(text):
+    """Where a text stands among the subscripts."""
+    number = canonical(text.encode())
+    return (1, text) if number is None else (0, number)
+
+
+def keys():
+    for title, words in KEYS.items():
+        print(title)
+        made = key(b"ALICE", b"DATA", [word.encode() for word in words])
+        print(f"  {'build':<12} {summed(lambda i: len(made))}")
+        print(f"  {'read':<12} {summed(lambda i: len(words))}")
+    for title, words in ORDERS.items():
+        print(title)
+        print(f"  {'collate':<12} {summed(lambda i: int(place(words[i % 4]) < place(words[i // 4 % 4])))}")
 
 
 if __name__ == "__main__":

@@ -1,8 +1,9 @@
-//! Times the operations of numbers and texts. With a count, as `benchmark 2000000`, each runs so often in each of five passes,
+//! Times the operations of numbers, texts and keys. With a count, as `benchmark 2000000`, each runs so often in each of five passes,
 //! and the time of the fastest pass is printed; without one, a thousand times, and only checksums are printed, which are the
 //! same on every machine.
 #![tactic(auto)]
 
+mod keys;
 mod measure;
 mod numbers;
 mod texts;
@@ -21,5 +22,6 @@ fn main(rt: HostRuntime) -> anyhow::Result<()> {
         plan.timed = true;
     }
     numbers::numbers(&rt, plan)?;
-    texts::texts(&rt, plan)
+    texts::texts(&rt, plan)?;
+    keys::keys_and_orders(&rt, plan)
 }

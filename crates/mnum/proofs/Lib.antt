@@ -17,3 +17,4 @@ pub mod Prints
 pub mod Sums
 pub mod Remainders
 pub mod WholeParts
+pub mod UnitDigits

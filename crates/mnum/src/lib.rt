@@ -12,6 +12,7 @@ mod powers;
 mod reading;
 mod rounding;
 mod size;
+mod units;
 mod whole;
 mod writing;
 

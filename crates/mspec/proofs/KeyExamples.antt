@@ -1,10 +1,12 @@
--- The bytes of keys on examples, as proved equations.
-use Rattle.std.proofs.Common.{◌≡◌, ℕ, ◌+◌, ◌*◌, ◌^◌, ◌≤◌, List, [], ◌∷◌, ◌++◌, refl}
+-- The order of nodes and the bytes of keys on examples, as proved equations.
+use Rattle.std.proofs.Common.{◌≡◌, ℕ, List, [], ◌∷◌, refl, replicate}
 use Rattle.std.specs.Prelude.{codes}
+use Rattle.std.specs.declared.cmp.Ordering.{Ordering}
+use Rattle.std.specs.declared.cmp.Ordering.TheVariants.{Less, Greater}
 use Rattle.std.specs.Fmt.{digits}
 use Rattle.mspec.specs.Number.{round, round_size, nearest, rounding_unit, digits_before, significant_digits}
 use Rattle.mspec.specs.NumberText.{numeric_value, literal_size, size_text}
-use Rattle.mspec.specs.NodeOrder.{canonical_value}
+use Rattle.mspec.specs.NodeOrder.{canonical_value, text_cmp, node_cmp}
 use Rattle.mspec.specs.KeyBytes.{key_bytes, number_bytes}
 
 -- the key of account A, global B and one subscript, behind its two names
@@ -30,3 +32,23 @@ key_of_letter = refl
 key_of_leading_zero : key_of (codes "01") ≡ 66 ∷ 0 ∷ 67 ∷ 0 ∷ 2 ∷ 49 ∷ 50 ∷ 0 ∷ []
 unfolding canonical_value number_bytes numeric_value literal_size round round_size nearest rounding_unit digits_before size_text digits
 key_of_leading_zero = refl
+
+-- the order of each text with the next
+abbrev steps : List (List ℕ) → List Ordering
+steps [] = []
+steps (s ∷ []) = []
+steps (s ∷ t ∷ more) = text_cmp significant_digits s t ∷ steps (t ∷ more)
+
+texts_in_order : steps (codes "" ∷ codes "-1" ∷ codes ".5" ∷ codes "9" ∷ codes "10" ∷ codes "01" ∷ codes "1.0" ∷ codes "A" ∷ codes "a" ∷ []) ≡ replicate 8 Less
+unfolding canonical_value numeric_value literal_size round round_size nearest rounding_unit digits_before size_text digits
+texts_in_order = refl
+
+-- a name with two subscripts, and with the first alone
+longer_behind : node_cmp significant_digits (record { account = codes "A"; name = codes "B"; subscripts = codes "2" ∷ codes "x" ∷ [] }) (record { account = codes "A"; name = codes "B"; subscripts = codes "2" ∷ [] }) ≡ Greater
+unfolding canonical_value numeric_value literal_size round round_size nearest rounding_unit digits_before size_text digits
+longer_behind = refl
+
+-- by fifteen digits a text of sixteen is no number
+sixteen_digits : text_cmp 15 (codes "1234567890123456") (codes "0A") ≡ Greater
+unfolding canonical_value numeric_value literal_size round round_size nearest rounding_unit digits_before size_text digits
+sixteen_digits = refl

@@ -15,3 +15,6 @@ pub mod PatternExamples
 pub mod FirstPlaces
 pub mod KeyExamples
 pub mod Matchings
+pub mod NodeOrders
+pub mod KeyOrders
+pub mod KeyRanges

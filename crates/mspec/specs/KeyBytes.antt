@@ -3,7 +3,7 @@
 -- Bytes of keys stand in the order of their nodes, and a key begins with the keys of its node's ancestors: a byte 0 ends a
 -- text, of which each byte is raised by one, and a number has a fixed length. The digits that a number keeps are a parameter,
 -- since old stores kept fewer.
-use Rattle.std.specs.Prelude.{◌≡◌, ℕ, zero, suc, ◌+◌, ◌/◌, ◌%◌, ◌^◌, ◌<◌, ◌≤◌, ◌≢◌, true, ◌||◌, List, [], ◌∷◌, ◌++◌, length, All, Option, Some, None, ℤ, pos, ◌+ℤ◌, unsigned_abs}
+use Rattle.std.specs.Prelude.{◌≡◌, ℕ, zero, suc, ◌+◌, ◌/◌, ◌%◌, ◌^◌, ◌<◌, ◌≤◌, true, ◌||◌, List, [], ◌∷◌, ◌++◌, length, All, Option, Some, None, ℤ, pos, ◌+ℤ◌, unsigned_abs}
 use Rattle.std.specs.List.{flat_map}
 use Rattle.mspec.specs.Act.{Text, Node}
 use Rattle.mspec.specs.Grammar.{IsName, is_letter}
@@ -45,6 +45,13 @@ local_bytes kept name subscripts = text_bytes name ++ subscripts_bytes kept subs
 -- the key of a node
 abbrev pub key_bytes : ℕ → Node → List ℕ
 key_bytes kept n = text_bytes n.account ++ local_bytes kept n.name n.subscripts
+
+-- where the keys below a key begin, and the end of those that begin with it
+abbrev pub children_start : List ℕ → List ℕ
+children_start key = key ++ (1 ∷ [])
+
+abbrev pub subtree_end : List ℕ → List ℕ
+subtree_end key = key ++ (3 ∷ [])
 
 -- ---- the nodes that have keys
 

@@ -18,3 +18,4 @@ pub mod Matching
 pub mod PatternLaws
 pub mod Interpretations
 pub mod CharacterFunctions
+pub mod KeyLaws

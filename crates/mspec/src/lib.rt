@@ -4,6 +4,8 @@
 //! an empty body.
 #![tactic(auto)]
 
+pub mod grammar_laws;
+pub mod key_laws;
 pub mod number_laws;
 pub mod pattern_laws;
 pub mod piece_laws;

@@ -1,0 +1,32 @@
+-- Bounds of the keys of nodes.
+use Rattle.std.proofs.Common.{ℕ, ◌≡◌, ◌++◌, ◌∙◌, List, [], ◌∷◌, sym, subst, append_assoc, ap}
+use Rattle.mspec.specs.Act.{Text, Node}
+use Rattle.mspec.specs.KeyBytes.{key_bytes, text_bytes, subscripts_bytes, children_start, IsStored}
+use Rattle.mspec.specs.KeyLaws.{BeginsWith, IsWithin}
+use Rattle.mspec.specs.NodeOrder.{IsAncestor}
+use Rattle.mspec.specs.Number.{significant_digits}
+use Rattle.mspec.proofs.KeyRanges.{subtrees_are_ranges, descendants_are_ranges, keys_of_subtrees_begin_alike}
+use Rattle.mkey.specs.Key.{BoundsKeysOf, none_empty}
+
+-- a key, put together from its parts
+pub joined : (account name : Text) (subs : List Text) (first second third : List ℕ) → first ≡ [] ++ text_bytes account → second ≡ first ++ text_bytes name → third ≡ second ++ subscripts_bytes significant_digits subs → key_bytes significant_digits (record { account = account; name = name; subscripts = subs }) ≡ third
+joined account name subs first second third e f g =
+    sym (g ∙ ap (λ b. b ++ subscripts_bytes significant_digits subs) (f ∙ ap (λ b. b ++ text_bytes name) e)
+    ∙ append_assoc (text_bytes account) (text_bytes name) (subscripts_bytes significant_digits subs))
+
+pub bounds_subtree : (a : Node) (high : List ℕ) → IsStored a → high ≡ key_bytes significant_digits a ++ 3 ∷ [] → BoundsKeysOf (IsWithin a) (key_bytes significant_digits a) high
+bounds_subtree a high stored e =
+    subst (BoundsKeysOf (IsWithin a) (key_bytes significant_digits a)) (sym e)
+    (λ n stored_n. subtrees_are_ranges significant_digits a n (none_empty a stored) (none_empty n stored_n))
+
+pub bounds_beginnings : (a : Node) (high : List ℕ) → IsStored a → high ≡ key_bytes significant_digits a ++ 3 ∷ [] → BoundsKeysOf (λ n. BeginsWith (key_bytes significant_digits n) (key_bytes significant_digits a)) (key_bytes significant_digits a) high
+bounds_beginnings a high stored e = λ n stored_n.
+    let begins = keys_of_subtrees_begin_alike significant_digits a n (none_empty a stored) (none_empty n stored_n) in
+    let within = bounds_subtree a high stored e n stored_n in
+    (λ is. begins.1 (within.0 is), λ is. within.1 (begins.0 is))
+
+pub bounds_below : (a : Node) (low high : List ℕ) → IsStored a → low ≡ key_bytes significant_digits a ++ 1 ∷ [] → high ≡ key_bytes significant_digits a ++ 3 ∷ [] → BoundsKeysOf (IsAncestor a) low high
+bounds_below a low high stored e f =
+    subst (λ l. BoundsKeysOf (IsAncestor a) l high) (sym e)
+    (subst (BoundsKeysOf (IsAncestor a) (children_start (key_bytes significant_digits a))) (sym f)
+    (λ n stored_n. descendants_are_ranges significant_digits a n (none_empty a stored) (none_empty n stored_n)))

@@ -1,0 +1,8 @@
+pub mod NumberBytes
+pub mod Pushes
+pub mod ShortTexts
+pub mod Keys
+pub mod TextFronts
+pub mod NameTests
+pub mod SubscriptFronts
+pub mod SubscriptLists

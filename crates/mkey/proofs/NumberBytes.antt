@@ -1,0 +1,90 @@
+-- The bytes of a machine's number, high byte first.
+use Rattle.std.proofs.Common.{ℕ, zero, suc, ◌≡◌, ◌+◌, ◌*◌, ◌/◌, ◌%◌, ◌^◌, ◌<◌, List, [], ◌∷◌, ◌++◌, length, get_or, take, refl, sym, ◌∙◌, ap, ap₂, arith, add-one}
+use Rattle.std.specs.Prelude.{ℤ}
+use Rattle.std.specs.Int.{byte_at, bytes_high_first}
+use Rattle.std.proofs.Math.Nat.{div-add-mod', one-le-pow, pow-suc, div-one, mod-eq_of_lt}
+use Rattle.std.proofs.lemmas.Nat.{mod_below, div-mul-add, mod-mul-add, mul-add-lt}
+use Rattle.std.proofs.lemmas.List.{take_more}
+use Rattle.mspec.specs.KeyBytes.{big_endian, raised, number_bytes}
+
+byte_pos : (k : ℕ) → 0 < 256 ^ k
+byte_pos k = one-le-pow k 256 (omega arith)
+
+-- the first byte of n in one byte more than w holds, and the rest
+record Cut (n w : ℕ) : Type 0 where
+  first : n % (w * 256) / w ≡ n / w % 256
+  rest : n % (w * 256) % w ≡ n % w
+
+cut : (n w : ℕ) → 0 < w → Cut n w
+cut n w some =
+    let parts : n / w * w + n % w ≡ n = div-add-mod' n w in
+    let places : n / w / 256 * 256 + n / w % 256 ≡ n / w = div-add-mod' (n / w) 256 in
+    by_parts (n / w / 256) (n / w % 256) (n % w) (n / w) parts places (mod_below (n / w) 256 (omega arith)) (mod_below n w some)
+  where
+    by_parts : (a b r q : ℕ) → q * w + r ≡ n → a * 256 + b ≡ q → b < 256 → r < w → Cut n w
+    by_parts a b r q parts places low below =
+        let small : b * w + r < w * 256 = mul-add-lt b w r 256 low below in
+        let whole : a * (w * 256) + (b * w + r) ≡ n = joined a b r q parts places in
+        let left : n % (w * 256) ≡ b * w + r = ap (λ m. m % (w * 256)) (sym whole) ∙ mod-mul-add a (w * 256) (b * w + r) small in
+        let quotient : n / w ≡ q = ap (λ m. m / w) (sym parts) ∙ div-mul-add q w r below in
+        let rest : n % w ≡ r = ap (λ m. m % w) (sym parts) ∙ mod-mul-add q w r below in
+        record {
+          first = ap (λ m. m / w) left ∙ div-mul-add b w r below ∙ sym (mod-mul-add a 256 b low) ∙ ap (λ m. m % 256) (places ∙ sym quotient);
+          rest = ap (λ m. m % w) left ∙ mod-mul-add b w r below ∙ sym rest;
+        }
+      where
+        joined : (a b r q : ℕ) → q * w + r ≡ n → a * 256 + b ≡ q → a * (w * 256) + (b * w + r) ≡ n
+        joined a b r q parts places =
+            let spread : (a * 256 + b) * w + r ≡ n = ap (λ x. x * w + r) places ∙ parts in
+            omega arith
+
+byte_is : (k n : ℕ) → byte_at k n ≡ n / 256 ^ k % 256
+byte_is zero n = ap (λ m. m % 256) (sym (div-one n))
+byte_is (suc k) n = refl
+
+more_bytes : (k : ℕ) → 256 ^ suc k ≡ 256 ^ k * 256
+more_bytes k = pow-suc 256 k
+
+-- the low bytes of n are those of what it leaves
+low_bytes : (k n : ℕ) → bytes_high_first k n ≡ big_endian k (n % 256 ^ k)
+low_bytes zero n = refl
+low_bytes (suc k) n =
+    let parts = cut n (256 ^ k) (byte_pos k) in
+    let first : n % 256 ^ suc k / 256 ^ k ≡ n / 256 ^ k % 256 = ap (λ w. n % w / 256 ^ k) (more_bytes k) ∙ parts.first in
+    let rest : n % 256 ^ suc k % 256 ^ k ≡ n % 256 ^ k = ap (λ w. n % w % 256 ^ k) (more_bytes k) ∙ parts.rest in
+    ap₂ (λ b bytes. b ∷ bytes) (byte_is k n ∙ sym first) (low_bytes k n ∙ ap (big_endian k) (sym rest))
+
+-- a number that fits is its bytes
+pub bytes_of_fitting : (k n : ℕ) → n < 256 ^ k → bytes_high_first k n ≡ big_endian k n
+bytes_of_fitting k n below = low_bytes k n ∙ ap (big_endian k) (mod-eq_of_lt below)
+
+-- the bytes of a number of the language
+pub bytes_of_number : (u : ℤ) (n : ℕ) → n ≡ raised u → n < 256 ^ 16 → bytes_high_first 16 n ≡ number_bytes u
+unfolding number_bytes
+bytes_of_number u n is below = bytes_of_fitting 16 n below ∙ ap (big_endian 16) is
+
+-- a number with one more byte behind it
+pub push_byte : (k n b : ℕ) → b < 256 → n < 256 ^ k → big_endian (suc k) (n * 256 + b) ≡ big_endian k n ++ b ∷ []
+push_byte zero n b low below = ap (λ x. x ∷ []) (alone n b below)
+  where
+    alone : (n b : ℕ) → n < 1 → (n * 256 + b) / 1 ≡ b
+    alone n b below = omega arith
+push_byte (suc k) n b low below =
+    let w : ℕ = 256 ^ k in
+    let some : 0 < w = byte_pos k in
+    let less : n % w < w = mod_below n w some in
+    let small : n % w * 256 + b < w * 256 = omega (arith, less) in
+    let whole : n / w * (w * 256) + (n % w * 256 + b) ≡ n * 256 + b = around (n / w) (n % w) w n b (div-add-mod' n w) in
+    let first : (n * 256 + b) / 256 ^ suc k ≡ n / w = ap (λ m. (n * 256 + b) / m) (more_bytes k) ∙ ap (λ m. m / (w * 256)) (sym whole) ∙ div-mul-add (n / w) (w * 256) (n % w * 256 + b) small in
+    let rest : (n * 256 + b) % 256 ^ suc k ≡ n % w * 256 + b = ap (λ m. (n * 256 + b) % m) (more_bytes k) ∙ ap (λ m. m % (w * 256)) (sym whole) ∙ mod-mul-add (n / w) (w * 256) (n % w * 256 + b) small in
+    ap₂ (λ x bytes. x ∷ bytes) first (ap (big_endian (suc k)) rest ∙ push_byte k (n % w) b low less)
+  where
+    around : (q r w n b : ℕ) → q * w + r ≡ n → q * (w * 256) + (r * 256 + b) ≡ n * 256 + b
+    around q r w n b e = let spread : (q * w + r) * 256 + b ≡ n * 256 + b = ap (λ m. m * 256 + b) e in omega arith
+
+pub byte_below : (k n b : ℕ) → b < 256 → n < 256 ^ k → n * 256 + b < 256 ^ (k + 1)
+byte_below k n b low below = let more : 256 ^ (k + 1) ≡ 256 ^ k * 256 = ap (λ m. 256 ^ m) (add-one k) ∙ more_bytes k in omega arith
+
+pub byte_pushed : (k n b : ℕ) (bytes : List ℕ) → k < length bytes → get_or bytes k 0 ≡ b → b < 256 → n < 256 ^ k → big_endian k n ≡ take k bytes → big_endian (k + 1) (n * 256 + b) ≡ take (k + 1) bytes
+byte_pushed k n b bytes inside is low below e =
+    ap (λ m. big_endian m (n * 256 + b)) (add-one k) ∙ push_byte k n b low below ∙ ap (λ t. t ++ b ∷ []) e ∙ ap (λ x. take k bytes ++ x ∷ []) (sym is) ∙ sym (take_more bytes k 0 inside)

@@ -1,0 +1,38 @@
+-- The canonical value of a text, as code finds it.
+use Rattle.std.proofs.Common.{ℕ, ◌≡◌, ◌⊎◌, inl, inr, ◌*◌, ◌^◌, ◌<◌, ◌≤◌, true, Option, Some, None, List, [], ◌∷◌, take, length, get_or, All, refl, sym, ◌∙◌, subst, arith}
+use Rattle.std.specs.Prelude.{ℤ, pos, unsigned_abs}
+use Rattle.mspec.specs.Literal.{is_digit, digits_after}
+use Rattle.mspec.specs.NumberText.{numeric_value, IsCanonical}
+use Rattle.mspec.specs.NodeOrder.{canonical_value}
+use Rattle.mspec.proofs.NodeOrders.{canonical_of_value, value_of_canonical}
+use Rattle.mspec.proofs.KeyOrders.{value_in_range}
+use Rattle.mspec.proofs.WholeTexts.{value_of_digits, zero_is_canonical, whole_is_canonical}
+use Rattle.mnum.proofs.Wholes.{few_below, value_all, digits_all}
+
+-- a canonical text's value is the one that is read
+pub value_where_canonical : (s : List ℕ) (u : ℤ) → IsCanonical 18 s → numeric_value 18 s ≡ Some u → canonical_value 18 s ≡ Some u
+value_where_canonical s u canonical read = value_of_canonical 18 s canonical ∙ sym canonical.value ∙ read
+
+-- any other text has none
+pub none_where_other : (s : List ℕ) → (IsCanonical 18 s → ⊥) → canonical_value 18 s ≡ None
+none_where_other s other = here (canonical_value 18 s) refl
+  where
+    here : (o : Option ℤ) → canonical_value 18 s ≡ o → o ≡ None
+    here None e = refl
+    here (Some u) e = let is = canonical_of_value 18 s u e in absurd (other (record { number = u; value = is.0; text = is.1 }))
+
+pub value_fits : (s : List ℕ) (u : ℤ) → canonical_value 18 s ≡ Some u → unsigned_abs u < 10 ^ 36
+value_fits s u e = value_in_range 18 s u (canonical_of_value 18 s u e).0
+
+-- one to eighteen digits, of which the first is not 0 or stands alone
+pub short_is_canonical : (s : List ℕ) → 0 < length s → length s ≤ 18 → ((get_or s 0 0 ≡ 48) × (length s ≤ 1)) ⊎ (get_or s 0 0 ≡ 48 → ⊥) → All (λ c. is_digit c ≡ true) s → IsCanonical 18 s
+short_is_canonical [] some short front all = absurd (omega arith)
+short_is_canonical (c ∷ []) some short (inl zero) all = subst (λ (x : ℕ). IsCanonical 18 (x ∷ [])) (sym zero.0) zero_is_canonical
+short_is_canonical (c ∷ d ∷ s) some short (inl zero) all = absurd (omega arith)
+short_is_canonical (c ∷ s) some short (inr other) all = whole_is_canonical c s all other short
+
+pub short_value : (n i : ℕ) (s : List ℕ) → 0 < length s → length s ≤ 18 → ((get_or s 0 0 ≡ 48) × (length s ≤ 1)) ⊎ (get_or s 0 0 ≡ 48 → ⊥) → length s ≤ i → i ≤ length s → n < 10 ^ i → n ≡ digits_after 0 (take i s) → ((k : ℕ) → k < i → is_digit (get_or s k 0) ≡ true) → canonical_value 18 s ≡ Some (pos (n * 10 ^ 18))
+short_value n i s some short front end end' below is each =
+    let all : All (λ c. is_digit c ≡ true) s = digits_all i s end each in
+    value_where_canonical s (pos (n * 10 ^ 18)) (short_is_canonical s some short front all)
+    (value_of_digits s n all (value_all n i s end is) (few_below n i below (omega arith)))

@@ -1,0 +1,145 @@
+-- The subscript that bytes begin with.
+use Rattle.std.proofs.Common.{ℕ, zero, suc, ◌≡◌, ◌≢◌, ◌+◌, ◌^◌, ◌<◌, ◌≤◌, Option, Some, None, List, [], ◌∷◌, ◌++◌, length, take, drop, refl, sym, ◌∙◌, ap, subst, arith, length-append, take-append-drop, add-one, ◌%◌}
+use Rattle.std.specs.Prelude.{ℤ, unsigned_abs}
+use Rattle.std.specs.FinMap.{nat_cmp-IsAntisymmetric, int_cmp-IsAntisymmetric}
+use Rattle.std.specs.Ordering.{nat_cmp}
+use Rattle.std.specs.declared.cmp.Ordering.TheVariants.{Equal}
+use Rattle.std.proofs.Math.Seq.{take-append_seam}
+use Rattle.std.proofs.lemmas.Cmp.{tied_itself, nat_cmp_total}
+use Rattle.mspec.specs.Act.{Text}
+use Rattle.mspec.specs.KeyBytes.{big_endian, raised, number_bytes, text_bytes, subscript_by, subscript_bytes, IsAscii}
+use Rattle.mspec.specs.Number.{IsNumber}
+use Rattle.mspec.specs.NumberText.{number_text}
+use Rattle.mspec.specs.NodeOrder.{canonical_value}
+use Rattle.mspec.proofs.KeyOrders.{bytes_order, raised_below, raised_order}
+use Rattle.mspec.proofs.KeyRanges.{same_bytes, text_split}
+use Rattle.mspec.proofs.NodeOrders.{both_Equal, canonical_of_value, value_of_canonical}
+use Rattle.mspec.proofs.TextLaws.{text_has_value, value_is_number}
+use Rattle.mkey.specs.Front.{IsFront, BeginsWithNo, IsSub}
+use Rattle.mkey.proofs.ShortTexts.{value_fits}
+
+abbrev NoSub : List ℕ → Type 0
+NoSub bytes = BeginsWithNo IsSub (subscript_bytes 18) bytes
+
+-- ---- numbers
+
+pub length-big_endian : (k n : ℕ) → length (big_endian k n) ≡ k
+length-big_endian zero n = refl
+length-big_endian (suc k) n = ap suc (length-big_endian k (n % 256 ^ k))
+
+same_number : (n m : ℕ) → n < 256 ^ 16 → m < 256 ^ 16 → big_endian 16 n ≡ big_endian 16 m → n ≡ m
+same_number n m below_n below_m e =
+    let tied = both_Equal (nat_cmp n m) Equal (sym (bytes_order 16 n m [] [] below_n below_m) ∙ same_bytes _ _ (ap (λ b. b ++ []) e)) in
+    nat_cmp-IsAntisymmetric n m tied.0
+
+same_raised : (u v : ℤ) → unsigned_abs u < 10 ^ 36 → unsigned_abs v < 10 ^ 36 → raised u ≡ raised v → u ≡ v
+same_raised u v below_u below_v e =
+    int_cmp-IsAntisymmetric u v (sym (raised_order u v below_u below_v) ∙ ap (nat_cmp (raised u)) (sym e) ∙ tied_itself nat_cmp_total (raised u))
+
+-- a subscript whose bytes begin with 1
+record IsNumeric (s : Text) (rest more : List ℕ) : Type 0 where
+  value : ℤ
+  canonical : canonical_value 18 s ≡ Some value
+  bytes : rest ≡ number_bytes value ++ more
+
+numeric : (s : Text) (rest more : List ℕ) → 1 ∷ rest ≡ subscript_bytes 18 s ++ more → IsNumeric s rest more
+numeric s rest more e = by_value (canonical_value 18 s) refl e
+  where
+    by_value : (o : Option ℤ) → canonical_value 18 s ≡ o → 1 ∷ rest ≡ subscript_by s o ++ more → IsNumeric s rest more
+    by_value (Some u) is e = record { value = u; canonical = is; bytes = cc }
+    by_value None is e = let no : ◌≡◌ {A = ℕ} 1 2 = cc in absurd (omega (arith, no))
+
+-- its number's bytes are the first sixteen
+number_in_front : (u : ℤ) (rest more : List ℕ) → rest ≡ number_bytes u ++ more → (take 16 rest ≡ big_endian 16 (raised u)) × (16 ≤ length rest)
+unfolding number_bytes
+number_in_front u rest more e = (
+  ap (take 16) e ∙ ap (λ k. take k (big_endian 16 (raised u) ++ more)) (sym (length-big_endian 16 (raised u))) ∙ take-append_seam (big_endian 16 (raised u)) more,
+  omega (arith, ap length e, length-append (big_endian 16 (raised u)) more, length-big_endian 16 (raised u)),
+)
+
+pub too_short : (rest : List ℕ) → length rest < 16 → NoSub (1 ∷ rest)
+too_short rest short s more is e =
+    let at = numeric s rest more e in
+    let front = number_in_front at.value rest more at.bytes in
+    omega (arith, front.1)
+
+-- the number that the sixteen bytes are is that of each subscript that they begin
+its_number : (rest : List ℕ) (n : ℕ) → big_endian 16 n ≡ take 16 rest → n < 256 ^ 16 → (s : Text) (more : List ℕ) → 1 ∷ rest ≡ subscript_bytes 18 s ++ more → (u : ℤ) × (canonical_value 18 s ≡ Some u) × (raised u ≡ n)
+its_number rest n is below s more e =
+    let at = numeric s rest more e in
+    let front = number_in_front at.value rest more at.bytes in
+    let fits = value_fits s at.value at.canonical in
+    (at.value, at.canonical, same_number (raised at.value) n (raised_below at.value fits) below (sym front.0 ∙ sym is))
+
+pub no_number : (rest : List ℕ) (n : ℕ) → big_endian 16 n ≡ take 16 rest → n < 256 ^ 16 → ((u : ℤ) → IsNumber 18 u → raised u ≡ n → ⊥) → NoSub (1 ∷ rest)
+no_number rest n is below none s more sub e =
+    let at = its_number rest n is below s more e in
+    none at.0 (value_is_number 18 s at.0 (omega arith) (canonical_of_value 18 s at.0 at.1).0) at.2
+
+pub no_such_sub : (rest : List ℕ) (n : ℕ) (v : ℤ) → big_endian 16 n ≡ take 16 rest → n < 256 ^ 16 → raised v ≡ n → IsNumber 18 v → ((s : Text) → IsSub s → canonical_value 18 s ≡ Some v → ⊥) → NoSub (1 ∷ rest)
+no_such_sub rest n v is below raised_v number none s more sub e =
+    let at = its_number rest n is below s more e in
+    let same : at.0 ≡ v = same_raised at.0 v (value_fits s at.0 at.1) number.in_range (at.2 ∙ sym raised_v) in
+    none s sub (at.1 ∙ ap Some same)
+
+pub number_found : (rest : List ℕ) (n : ℕ) (v : ℤ) (s : Text) → 16 ≤ length rest → big_endian 16 n ≡ take 16 rest → raised v ≡ n → canonical_value 18 s ≡ Some v → IsFront (1 ∷ rest) (subscript_bytes 18 s) 17
+unfolding number_bytes
+number_found rest n v s long is raised_v canonical =
+    let bytes : subscript_bytes 18 s ≡ 1 ∷ take 16 rest = ap (subscript_by s) canonical ∙ ap (λ m. 1 ∷ big_endian 16 m) raised_v ∙ ap (λ b. 1 ∷ b) is in
+    record { fits = omega arith; is = sym (ap (λ b. b ++ drop 16 rest) bytes ∙ ap (λ b. 1 ∷ b) (take-append-drop 16 rest)) }
+
+-- the text of a number is the one text with it as its value
+pub text_of_number : (t : Text) (v : ℤ) → IsNumber 18 v → t ≡ number_text v → canonical_value 18 t ≡ Some v
+text_of_number t v number is =
+    ap (canonical_value 18) is ∙ value_of_canonical 18 (number_text v) (record { number = v; value = text_has_value 18 v number; text = refl })
+
+pub no_other_text : (t : Text) (v : ℤ) → t ≡ number_text v → (IsSub t → ⊥) → (s : Text) → IsSub s → canonical_value 18 s ≡ Some v → ⊥
+no_other_text t v is other s sub canonical = other (subst IsSub (sym (canonical_of_value 18 s v canonical).1 ∙ sym is) sub)
+
+-- ---- texts
+
+-- a subscript whose bytes begin with 2
+record IsOther (s : Text) (rest more : List ℕ) : Type 0 where
+  none : canonical_value 18 s ≡ None
+  bytes : rest ≡ text_bytes s ++ more
+
+other : (s : Text) (rest more : List ℕ) → 2 ∷ rest ≡ subscript_bytes 18 s ++ more → IsOther s rest more
+other s rest more e = by_value (canonical_value 18 s) refl e
+  where
+    by_value : (o : Option ℤ) → canonical_value 18 s ≡ o → 2 ∷ rest ≡ subscript_by s o ++ more → IsOther s rest more
+    by_value (Some u) is e = let no : ◌≡◌ {A = ℕ} 2 1 = cc in absurd (omega (arith, no))
+    by_value None is e = record { none = is; bytes = cc }
+
+pub no_letters : (rest : List ℕ) → BeginsWithNo IsAscii text_bytes rest → NoSub (2 ∷ rest)
+no_letters rest none s more sub e = none s more sub.1 (other s rest more e).bytes
+
+pub other_letters : (rest : List ℕ) (t : Text) (n : ℕ) → IsFront rest (text_bytes t) n → (IsSub t → canonical_value 18 t ≡ None → ⊥) → NoSub (2 ∷ rest)
+other_letters rest t n front none s more sub e =
+    let at = other s rest more e in
+    let same : s ≡ t = (text_split s t more (drop n rest) (sym at.bytes ∙ front.is)).0 in
+    none (subst IsSub same sub) (ap (canonical_value 18) (sym same) ∙ at.none)
+
+pub letters_found : (rest : List ℕ) (t : Text) (n : ℕ) → IsFront rest (text_bytes t) n → canonical_value 18 t ≡ None → IsFront (2 ∷ rest) (subscript_bytes 18 t) (n + 1)
+letters_found rest t n front none =
+    let bytes : subscript_bytes 18 t ≡ 2 ∷ text_bytes t = ap (subscript_by t) none in
+    let fits : n ≤ length rest = front.fits in
+    record {
+      fits = omega arith;
+      is = ap (λ b. 2 ∷ b) front.is ∙ ap (λ b. b ++ drop n rest) (sym bytes) ∙ ap (λ m. subscript_bytes 18 t ++ drop m (2 ∷ rest)) (sym (add-one n));
+    }
+
+-- ---- other tags
+
+pub no_tag : (b : ℕ) (rest : List ℕ) → b ≢ 1 → b ≢ 2 → NoSub (b ∷ rest)
+no_tag b rest one two s more sub e = by_value (canonical_value 18 s) e
+  where
+    by_value : (o : Option ℤ) → b ∷ rest ≡ subscript_by s o ++ more → ⊥
+    by_value (Some u) e = one (cc)
+    by_value None e = two (cc)
+
+pub nothing_begins : NoSub []
+nothing_begins s more sub e = by_value (canonical_value 18 s) e
+  where
+    by_value : (o : Option ℤ) → [] ≡ subscript_by s o ++ more → ⊥
+    by_value (Some u) e = absurd (cc)
+    by_value None e = absurd (cc)

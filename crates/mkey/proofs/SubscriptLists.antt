@@ -1,0 +1,85 @@
+-- Lists of subscripts, and nodes, that bytes are.
+use Rattle.std.proofs.Common.{ℕ, ◌≡◌, ◌<◌, List, [], ◌∷◌, ◌++◌, length, drop, All, sym, ◌∙◌, ap, subst, arith, append_assoc, append-nil, length-append}
+use Rattle.std.proofs.lemmas.List.Concat.{flat_map-append}
+use Rattle.std.proofs.lemmas.List.Elements.{All-head, All-tail}
+use Rattle.mspec.specs.Act.{Text, Node}
+use Rattle.mspec.specs.Grammar.{IsName}
+use Rattle.mspec.specs.KeyBytes.{text_bytes, subscript_bytes, subscripts_bytes, local_bytes, key_bytes, IsSubscript, IsAscii, IsAccountName, IsStored}
+use Rattle.mspec.specs.KeyLaws.{NoneEmpty}
+use Rattle.mspec.proofs.KeyRanges.{IsBehind, subscripts_split, text_split}
+use Rattle.mkey.specs.Front.{IsFront, BeginsWithNo, IsSub, AreSubs}
+use Rattle.mkey.specs.Key.{IsKeyOf}
+
+-- ---- subscripts
+
+some_each : (xs : List Text) → All IsSub xs → NoneEmpty xs
+some_each xs all = λ k d inside. (all k d inside).0.some
+
+some_all : (ys : List Text) → AreSubs ys → NoneEmpty ys
+some_all ys all = λ k d inside. (all.0.each k d inside).some
+
+-- what is behind the subscripts that were read
+behind_read : (xs ys : List Text) (rest bytes : List ℕ) → All IsSub xs → AreSubs ys → bytes ≡ subscripts_bytes 18 xs ++ rest → bytes ≡ subscripts_bytes 18 ys → IsBehind 18 xs rest ys
+behind_read xs ys rest bytes subs all is e = subscripts_split 18 xs ys rest (some_each xs subs) (some_all ys all) (sym is ∙ e)
+
+pub too_many_subs : (xs ys : List Text) (rest bytes : List ℕ) → All IsSub xs → AreSubs ys → bytes ≡ subscripts_bytes 18 xs ++ rest → bytes ≡ subscripts_bytes 18 ys → length xs ≡ 15 → 0 < length rest → ⊥
+too_many_subs xs ys rest bytes subs all is e full some = by_more behind.more behind.subscripts behind.bytes
+  where
+    behind : IsBehind 18 xs rest ys
+    behind = behind_read xs ys rest bytes subs all is e
+
+    by_more : (more : List Text) → ys ≡ xs ++ more → rest ≡ subscripts_bytes 18 more → ⊥
+    by_more [] list rest_is = omega (arith, ap length rest_is)
+    by_more (s ∷ more) list rest_is = omega (arith, ap length list, length-append xs (s ∷ more), all.0.few)
+
+-- what holds of each of a list holds of each of its end
+All-drop-back : {X : Type 0} (P : X → Type 0) (xs ys : List X) → All P (xs ++ ys) → All P ys
+All-drop-back P [] ys all = all
+All-drop-back P (x ∷ xs) ys all = All-drop-back P xs ys (All-tail P x (xs ++ ys) all)
+
+-- the subscript behind others is one too
+sub_behind : (xs ys : List Text) (s : Text) (more : List Text) → AreSubs ys → ys ≡ xs ++ (s ∷ more) → IsSub s
+sub_behind xs ys s more all e =
+    let each : All IsSubscript (s ∷ more) = All-drop-back IsSubscript xs (s ∷ more) (subst (All IsSubscript) e all.0.each) in
+    let ascii : All IsAscii (s ∷ more) = All-drop-back IsAscii xs (s ∷ more) (subst (All IsAscii) e all.1) in
+    (All-head IsSubscript s more each, All-head IsAscii s more ascii)
+
+pub no_more_subs : (xs ys : List Text) (rest bytes : List ℕ) → All IsSub xs → AreSubs ys → bytes ≡ subscripts_bytes 18 xs ++ rest → bytes ≡ subscripts_bytes 18 ys → BeginsWithNo IsSub (subscript_bytes 18) rest → 0 < length rest → ⊥
+no_more_subs xs ys rest bytes subs all is e none some = by_more behind.more behind.subscripts behind.bytes
+  where
+    behind : IsBehind 18 xs rest ys
+    behind = behind_read xs ys rest bytes subs all is e
+
+    by_more : (more : List Text) → ys ≡ xs ++ more → rest ≡ subscripts_bytes 18 more → ⊥
+    by_more [] list rest_is = omega (arith, ap length rest_is)
+    by_more (s ∷ more) list rest_is = none s (subscripts_bytes 18 more) (sub_behind xs ys s more all list) rest_is
+
+pub one_more_sub : (xs : List Text) (s : Text) (rest bytes : List ℕ) (n : ℕ) → bytes ≡ subscripts_bytes 18 xs ++ rest → IsFront rest (subscript_bytes 18 s) n → bytes ≡ subscripts_bytes 18 (xs ++ s ∷ []) ++ drop n rest
+one_more_sub xs s rest bytes n is front =
+    is ∙ ap (λ b. subscripts_bytes 18 xs ++ b) front.is
+    ∙ sym (append_assoc (subscripts_bytes 18 xs) (subscript_bytes 18 s) (drop n rest))
+    ∙ ap (λ b. (subscripts_bytes 18 xs ++ b) ++ drop n rest) (sym (append-nil (subscript_bytes 18 s)))
+    ∙ ap (λ b. b ++ drop n rest) (sym (flat_map-append (subscript_bytes 18) xs (s ∷ [])))
+
+-- ---- nodes
+
+-- the names in front of bytes are those of each node whose key they are
+module _ (bytes : List ℕ) (account : Text) (count : ℕ) (front : IsFront bytes (text_bytes account) count) where
+  same_account : (n : Node) → key_bytes 18 n ≡ bytes → (n.account ≡ account) × (local_bytes 18 n.name n.subscripts ≡ drop count bytes)
+  same_account n e = text_split n.account account (local_bytes 18 n.name n.subscripts) (drop count bytes) (e ∙ front.is)
+
+  pub no_such_name : (local : List ℕ) → local ≡ drop count bytes → BeginsWithNo IsName text_bytes local → (n : Node) → IsStored n → key_bytes 18 n ≡ bytes → ⊥
+  no_such_name local is none n stored e = none n.name (subscripts_bytes 18 n.subscripts) stored.name (is ∙ sym (same_account n e).1)
+
+  module _ (local : List ℕ) (is_local : local ≡ drop count bytes) (name : Text) (count' : ℕ) (front' : IsFront local (text_bytes name) count') where
+    same_name : (n : Node) → key_bytes 18 n ≡ bytes → (n.name ≡ name) × (subscripts_bytes 18 n.subscripts ≡ drop count' local)
+    same_name n e = text_split n.name name (subscripts_bytes 18 n.subscripts) (drop count' local) ((same_account n e).1 ∙ sym is_local ∙ front'.is)
+
+    pub no_such_subs : (rest : List ℕ) → rest ≡ drop count' local → ((ys : List Text) → AreSubs ys → rest ≡ subscripts_bytes 18 ys → ⊥) → (n : Node) → IsStored n → key_bytes 18 n ≡ bytes → ⊥
+    no_such_subs rest is none n stored e = none n.subscripts (stored.subscripts, stored.ascii) (is ∙ sym (same_name n e).1)
+
+    pub node_found : (rest : List ℕ) (subs : List Text) → rest ≡ drop count' local → AreSubs subs → rest ≡ subscripts_bytes 18 subs → IsAccountName account → IsName name → IsKeyOf (record { account = account; name = name; subscripts = subs }) bytes
+    node_found rest subs is all is_subs is_account is_name = (
+      record { account = is_account; name = is_name; subscripts = all.0; ascii = all.1 },
+      ap (λ b. text_bytes account ++ (text_bytes name ++ b)) (sym is_subs ∙ is) ∙ ap (λ b. text_bytes account ++ b) (sym front'.is ∙ is_local) ∙ sym front.is,
+    )

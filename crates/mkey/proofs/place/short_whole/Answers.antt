@@ -1,0 +1,38 @@
+use Rattle.std.proofs.Common.{◌≡◌, ◌+◌, ◌*◌, ◌-◌, ◌^◌, ◌<◌, true, get_or, length, sym, ◌∙◌, arith, below_more}
+use Rattle.std.proofs.lemmas.Bool.Decides.{nat_tests}
+use Rattle.mspec.specs.Literal.{is_digit}
+use Rattle.mnum.proofs.Scans.{digit_high}
+use Rattle.mnum.proofs.Wholes.{digit_below, few_below, digit_fits, value_more}
+use Rattle.mkey.proofs.ShortTexts.{short_value}
+use Rattle.mkey.proofs.place.short_whole.Goals as goal
+
+pub overflow_mul-number : goal.overflow_mul-number
+overflow_mul-number c =
+    let digit : is_digit (get_or c.args.text.now c.loop-c.c-index 0) ≡ true = sym c.is_ascii_digit.ensures.value ∙ c.if-not-is_ascii_digit.false in
+    let fits : c.loop-c.number * 10 + (get_or c.args.text.now c.loop-c.c-index 0 - 48) < 10 ^ 18 =
+    digit_fits c.loop-c.number c.loop-c.c-index (length c.args.text.now) (get_or c.args.text.now c.loop-c.c-index 0) c.loop-c.invariant.below c.loop-c-test.true c.if-text-gt18.false (digit_high _ digit) in
+    omega arith
+
+pub overflow_add-number : goal.overflow_add-number
+overflow_add-number c =
+    let digit : is_digit (get_or c.args.text.now c.loop-c.c-index 0) ≡ true = sym c.is_ascii_digit.ensures.value ∙ c.if-not-is_ascii_digit.false in
+    let fits : c.loop-c.number * 10 + (get_or c.args.text.now c.loop-c.c-index 0 - 48) < 10 ^ 18 =
+    digit_fits c.loop-c.number c.loop-c.c-index (length c.args.text.now) (get_or c.args.text.now c.loop-c.c-index 0) c.loop-c.invariant.below c.loop-c-test.true c.if-text-gt18.false (digit_high _ digit) in
+    omega arith
+
+pub loop-c-preserved : goal.loop-c-preserved
+loop-c-preserved c =
+    let digit : is_digit (get_or c.args.text.now c.loop-c.c-index 0) ≡ true = sym c.is_ascii_digit.ensures.value ∙ c.if-not-is_ascii_digit.false in
+    record {
+      below = digit_below c.loop-c.number c.loop-c.c-index (get_or c.args.text.now c.loop-c.c-index 0) c.loop-c.invariant.below (digit_high _ digit);
+      value = value_more c.loop-c.number c.loop-c.c-index c.args.text.now c.loop-c-test.true c.loop-c.invariant.value;
+      digits = below_more _ _ c.loop-c.invariant.digits digit;
+    }
+
+pub returns-clause-value : goal.returns-clause-value
+returns-clause-value c =
+    let some : 0 < length c.args.text.now = grind (arith, nat_tests, c.if-is_empty.ensures) in
+    short_value c.loop-c.number c.loop-c.c-index c.args.text.now some c.if-text-gt18.false c.else-text-eq48.either c.loop-c-test.false c.loop-c.auto.c-index-end c.loop-c.invariant.below c.loop-c.invariant.value c.loop-c.invariant.digits
+
+pub returns-clause-below : goal.returns-clause-below
+returns-clause-below c = few_below c.loop-c.number c.loop-c.c-index c.loop-c.invariant.below (omega arith)

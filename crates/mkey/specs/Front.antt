@@ -1,0 +1,20 @@
+-- What bytes begin with.
+use Rattle.std.specs.Prelude.{◌≡◌, ◌≤◌, ℕ, List, ◌++◌, length, drop, All}
+use Rattle.mspec.specs.Act.{Text}
+use Rattle.mspec.specs.KeyBytes.{IsSubscript, AreSubscripts, IsAscii}
+
+-- the bytes begin with these, which are `count` of them
+pub record IsFront (bytes front : List ℕ) (count : ℕ) : Type 0 where
+  pub fits : count ≤ length bytes
+  pub is : bytes ≡ front ++ drop count bytes
+
+-- the bytes do not begin with those of a text of which this holds
+abbrev pub BeginsWithNo : (Text → Type 0) → (Text → List ℕ) → List ℕ → Type 0
+BeginsWithNo P bytes_of bytes = (s : Text) (rest : List ℕ) → P s → bytes ≡ bytes_of s ++ rest → ⊥
+
+-- a text that is a subscript of a store
+abbrev pub IsSub : Text → Type 0
+IsSub s = IsSubscript s × IsAscii s
+
+abbrev pub AreSubs : List Text → Type 0
+AreSubs subscripts = AreSubscripts subscripts × All IsAscii subscripts

@@ -1,0 +1,253 @@
+// Keys read back.
+ghost use Rattle.std.specs.Prelude.{◌≡◌, ℕ, ℤ, ◌+◌, ◌^◌, ◌<◌, ◌≤◌, List, [], ◌∷◌, ◌++◌, All, length, drop, Some, IfOk, MatchOption};
+ghost use Rattle.mkey.specs.Front.{IsFront, BeginsWithNo, IsSub, AreSubs};
+ghost use Rattle.mkey.specs.Key.{IsKeyOf};
+ghost use Rattle.mnum.specs.Num.{units};
+ghost use Rattle.mspec.specs.Act.{Node};
+ghost use Rattle.mspec.specs.Grammar.{IsName};
+ghost use Rattle.mspec.specs.KeyBytes.{big_endian, text_bytes, raised, subscript_by, subscript_bytes, subscripts_bytes, key_bytes, IsAccountName, IsAscii, AreSubscripts, IsStored};
+ghost use Rattle.mspec.specs.NodeOrder.{canonical_value};
+ghost use Rattle.mspec.specs.Number.{significant_digits, IsNumber};
+
+use crate::encoding::RAISE;
+use crate::names::{is_account_name, is_name};
+use crate::place::canonical;
+use crate::subs::{Subs, is_subscript};
+use mnum::{Bytes7, Num};
+use std::alloc::{AllocError, Global};
+
+// Room for most texts of keys.
+const SHORT_TEXT: usize = 32;
+
+// Room for each text of a number: eighteen digits, a sign and a point.
+const NUMBER_TEXT: usize = 20;
+
+// The most subscripts of a node.
+const MOST_SUBS: usize = 15;
+
+// What stands behind the first `count` bytes.
+fn behind(bytes: &[u8], count: usize) -> &[u8]
+    requires { count ≤ length bytes.now }
+    ensures { result.now ≡ drop count bytes.now }
+{
+    &bytes[count..]
+}
+
+// The text of these bytes, beside a count; None where one of them is over 127.
+fn counted(bytes: Vec<u8>, count: usize) -> Option<(Bytes7, usize)>
+    ensures { MatchOption result
+        (All (λ c. c < 128) bytes.items → ⊥)
+        (λ part. (part.0 ≡ bytes.items) × (part.1 ≡ count) × All (λ c. c < 128) bytes.items) }
+{
+    match Bytes7::new(bytes) {
+        Ok(text) => Some((text, count)),
+        Err(_) => None,
+    }
+}
+
+// The text that the bytes begin with, and how many of them are its own; None where they begin with no text.
+fn read_text(alloc: Global, bytes: &[u8]) -> Result<Option<(Bytes7, usize)>, AllocError>
+    ensures { IfOk result (λ found. MatchOption found
+        (BeginsWithNo IsAscii text_bytes bytes.now)
+        (λ part. IsFront bytes.now (text_bytes part.0) part.1 × IsAscii part.0)) }
+{
+    let mut text = Vec::with_capacity(alloc, bytes.len().min(SHORT_TEXT))?;
+    for (i, byte) in bytes.iter().enumerate() {
+        if *byte == 0 {
+            return Ok(counted(text, i + 1));
+        }
+        text.push(*byte - 1)?;
+    }
+    Ok(None)
+}
+
+// The number that sixteen bytes are, high byte first.
+fn read_bytes(bytes: &[u8]) -> u128
+    requires { length bytes.now ≡ 16 }
+    ensures { big_endian 16 result ≡ bytes.now }
+{
+    let mut number: u128 = 0;
+    for byte in bytes {
+        number = number * 256 + *byte as u128;
+    }
+    number
+}
+
+// The number of the language that was raised to this one.
+fn lowered(number: u128) -> Option<Num>
+    ensures { MatchOption result ((u : ℤ) → IsNumber significant_digits u → raised u ≡ number → ⊥) (λ n. raised (units n) ≡ number) }
+{
+    if number >= RAISE {
+        Num::from_units((number - RAISE) as i128)
+    } else if number > 0 {
+        Num::from_units(-((RAISE - number) as i128))
+    } else {
+        None
+    }
+}
+
+// The text of these bytes as a subscript, beside a count; None where it is none.
+fn sub_of(bytes: Vec<u8>, count: usize) -> Option<(Bytes7, usize)>
+    ensures { MatchOption result
+        (IsSub bytes.items → ⊥)
+        (λ part. (part.0 ≡ bytes.items) × (part.1 ≡ count) × IsSub part.0) }
+{
+    match Bytes7::new(bytes) {
+        Ok(text) => {
+            if is_subscript(&text) {
+                Some((text, count))
+            } else {
+                None
+            }
+        }
+        Err(_) => None,
+    }
+}
+
+// The subscript that is this number, beside a count.
+fn numeric_sub(
+    alloc: Global,
+    number: Num,
+    count: usize,
+) -> Result<Option<(Bytes7, usize)>, AllocError>
+    ensures { IfOk result (λ found. MatchOption found
+        ((s : List ℕ) → IsSub s → canonical_value significant_digits s ≡ Some (units number) → ⊥)
+        (λ part. (canonical_value significant_digits part.0 ≡ Some (units number)) × (part.1 ≡ count) × IsSub part.0)) }
+{
+    let mut text = Vec::with_capacity(alloc, NUMBER_TEXT)?;
+    number.write(&mut text)?;
+    Ok(sub_of(text, count))
+}
+
+// The subscript that bytes with the tag 1 in front begin with, and how many of them are its own.
+fn read_number(alloc: Global, bytes: &[u8]) -> Result<Option<(Bytes7, usize)>, AllocError>
+    ensures { IfOk result (λ found. MatchOption found
+        (BeginsWithNo IsSub (subscript_bytes significant_digits) (1 ∷ bytes.now))
+        (λ part. IsFront (1 ∷ bytes.now) (subscript_bytes significant_digits part.0) part.1 × IsSub part.0)) }
+{
+    if bytes.len() < 16 {
+        return Ok(None);
+    }
+    match lowered(read_bytes(&bytes[..16])) {
+        None => Ok(None),
+        Some(number) => {
+            let found = numeric_sub(alloc, number, 17)?;
+            Ok(found)
+        }
+    }
+}
+
+// The same with the tag 2 in front.
+fn read_letters(alloc: Global, bytes: &[u8]) -> Result<Option<(Bytes7, usize)>, AllocError>
+    ensures { IfOk result (λ found. MatchOption found
+        (BeginsWithNo IsSub (subscript_bytes significant_digits) (2 ∷ bytes.now))
+        (λ part. IsFront (2 ∷ bytes.now) (subscript_bytes significant_digits part.0) part.1 × IsSub part.0)) }
+{
+    match read_text(alloc, bytes)? {
+        None => Ok(None),
+        Some((text, count)) => {
+            if !is_subscript(&text) {
+                return Ok(None);
+            }
+            match canonical(text.as_bytes()) {
+                Some(_) => Ok(None),
+                None => Ok(Some((text, count + 1))),
+            }
+        }
+    }
+}
+
+// The subscript that the bytes begin with, and how many of them are its own.
+fn read_subscript(alloc: Global, bytes: &[u8]) -> Result<Option<(Bytes7, usize)>, AllocError>
+    ensures { IfOk result (λ found. MatchOption found
+        (BeginsWithNo IsSub (subscript_bytes significant_digits) bytes.now)
+        (λ part. IsFront bytes.now (subscript_bytes significant_digits part.0) part.1 × IsSub part.0)) }
+{
+    match bytes {
+        [1, rest @ ..] => read_number(alloc, rest),
+        [2, rest @ ..] => read_letters(alloc, rest),
+        _ => Ok(None),
+    }
+}
+
+// The subscripts that the bytes are.
+fn read_subs(alloc: Global, bytes: &[u8]) -> Result<Option<Subs>, AllocError>
+    ensures { IfOk result (λ found. MatchOption found
+        ((ys : List (List ℕ)) → AreSubs ys → bytes.now ≡ subscripts_bytes significant_digits ys → ⊥)
+        (λ subs. AreSubs subs × (bytes.now ≡ subscripts_bytes significant_digits subs))) }
+{
+    let mut texts = Vec::new(alloc);
+    let mut rest = bytes;
+    while !rest.is_empty() {
+        if texts.len() == MOST_SUBS {
+            return Ok(None);
+        }
+        let Some((text, count)) = read_subscript(alloc, rest)? else {
+            return Ok(None);
+        };
+        texts.push(text)?;
+        rest = behind(rest, count);
+    }
+    Ok(Some(Subs { texts }))
+}
+
+// The account's name that the bytes begin with, and how many of them are its own.
+fn read_account(alloc: Global, bytes: &[u8]) -> Result<Option<(Bytes7, usize)>, AllocError>
+    ensures { IfOk result (λ found. MatchOption found
+        (BeginsWithNo IsAccountName text_bytes bytes.now)
+        (λ part. IsFront bytes.now (text_bytes part.0) part.1 × IsAccountName part.0)) }
+{
+    match read_text(alloc, bytes)? {
+        Some((text, count)) => {
+            if is_account_name(&text) {
+                Ok(Some((text, count)))
+            } else {
+                Ok(None)
+            }
+        }
+        None => Ok(None),
+    }
+}
+
+// The global's name that the bytes begin with, and how many of them are its own.
+fn read_name(alloc: Global, bytes: &[u8]) -> Result<Option<(Bytes7, usize)>, AllocError>
+    ensures { IfOk result (λ found. MatchOption found
+        (BeginsWithNo IsName text_bytes bytes.now)
+        (λ part. IsFront bytes.now (text_bytes part.0) part.1 × IsName part.0)) }
+{
+    match read_text(alloc, bytes)? {
+        Some((text, count)) => {
+            if is_name(&text) {
+                Ok(Some((text, count)))
+            } else {
+                Ok(None)
+            }
+        }
+        None => Ok(None),
+    }
+}
+
+/// The account, the global's name and the subscripts of the node whose key these bytes are, or None where they are the key of
+/// no node of a store: of no account name of 1 to 16 letters or digits, global name of 1 to 31 characters and list of subscripts
+/// that `subs_ok` takes.
+///
+/// # Errors
+///
+/// `AllocError` for want of memory.
+pub fn read(alloc: Global, bytes: &[u8]) -> Result<Option<(Bytes7, Bytes7, Subs)>, AllocError>
+    ensures { IfOk result (λ found. MatchOption found
+        ((n : Node) → IsStored n → key_bytes significant_digits n ≡ bytes.now → ⊥)
+        (λ parts. IsKeyOf (record { account = parts.0; name = parts.1; subscripts = parts.2 }) bytes.now)) }
+{
+    let Some((account, count)) = read_account(alloc, bytes)? else {
+        return Ok(None);
+    };
+    let local = behind(bytes, count);
+    let Some((name, count)) = read_name(alloc, local)? else {
+        return Ok(None);
+    };
+    let Some(subs) = read_subs(alloc, behind(local, count))? else {
+        return Ok(None);
+    };
+    Ok(Some((account, name, subs)))
+}

@@ -1,0 +1,116 @@
+// Keys of nodes.
+ghost use Rattle.std.specs.Prelude.{◌≡◌, ◌↔◌, ◌<◌, [], ◌∷◌, ◌++◌, IfOk, Err, All};
+ghost use Rattle.mkey.specs.Key.{IsKey, IsKey-prop, BoundsKeysOf};
+ghost use Rattle.mspec.specs.Grammar.{IsName};
+ghost use Rattle.mspec.specs.KeyBytes.{key_bytes, children_start, subtree_end, IsAccountName, AreSubscripts, IsStored};
+ghost use Rattle.mspec.specs.KeyLaws.{BeginsWith, IsWithin};
+ghost use Rattle.mspec.specs.NodeOrder.{IsAncestor};
+ghost use Rattle.mspec.specs.Number.{significant_digits};
+
+use crate::encoding::{push_subscripts, push_text, room};
+use crate::fault::KeyFault;
+use crate::subs::subs_ok;
+use mnum::Bytes7;
+use std::alloc::{AllocError, Global};
+use std::marker::Model;
+
+// What stands behind a key in the bounds of the nodes below it.
+const FIRST_TAG: u8 = 1;
+
+const BEHIND_TAGS: u8 = 3;
+
+/// The key of a node of a store. Contracts see it as the node.
+#[derive(Debug, Drop)]
+pub struct NodeKey {
+    bytes: Vec<u8>,
+    ghost of_node: { IsKey bytes.items } by { IsKey-prop bytes.items },
+}
+
+impl Model for NodeKey {
+    ghost use Rattle.mspec.specs.Act.{Node};
+
+    ghost Value = { Node };
+
+    ghost view = { λ key. key.of_node.0 };
+}
+
+impl NodeKey {
+    /// The key of the node of this account, global name and subscripts.
+    ///
+    /// # Errors
+    ///
+    /// `Sub` exactly where `subs_ok` is false, and `Memory`.
+    pub fn build(
+        alloc: Global,
+        account: &Bytes7,
+        name: &Bytes7,
+        subs: &[Bytes7],
+    ) -> Result<NodeKey, KeyFault>
+        requires account { IsAccountName account.now }
+        requires name { IsName name.now }
+        ensures ok { IfOk result (λ key. key ≡ record { account = account.now; name = name.now; subscripts = subs.now }) }
+        ensures sub { (result ≡ Err KeyFault.Sub) ↔ (AreSubscripts subs.now → ⊥) }
+        ensures memory { result ≡ Err KeyFault.Memory → AreSubscripts subs.now }
+    {
+        if !subs_ok(subs) {
+            return Err(KeyFault::Sub);
+        }
+        let names = account.as_bytes().len() + 1 + name.as_bytes().len() + 1;
+        let mut bytes = Vec::with_capacity(alloc, names + room(subs))?;
+        push_text(&mut bytes, account);
+        push_text(&mut bytes, name);
+        push_subscripts(&mut bytes, subs);
+        Ok(NodeKey { bytes })
+    }
+
+    /// The bytes of the key. They stand in the order of nodes, and begin with the bytes of another key exactly where this
+    /// node is the other or below it. Takes no memory.
+    pub fn as_bytes(&self) -> &[u8]
+        ensures bytes { result.now ≡ key_bytes significant_digits self.now }
+        ensures stored { IsStored self.now }
+    {
+        self.bytes.as_slice()
+    }
+
+    // The bytes of the key with one more behind them.
+    fn followed_by(&self, alloc: Global, byte: u8) -> Result<Vec<u8>, AllocError>
+        ensures bytes { IfOk result (λ bytes. bytes.items ≡ key_bytes significant_digits self.now ++ byte ∷ []) }
+        ensures stored { IsStored self.now }
+    {
+        let key = self.as_bytes();
+        let mut bytes = Vec::with_capacity(alloc, key.len() + 1)?;
+        bytes.extend_from_slice(key)?;
+        bytes.push(byte)?;
+        Ok(bytes)
+    }
+
+    /// The end of the keys of the node and of the nodes below it, which are those that begin with this key: they stand from
+    /// this key on and before that end.
+    ///
+    /// # Errors
+    ///
+    /// `AllocError` for want of memory.
+    pub fn after_subtree(&self, alloc: Global) -> Result<Vec<u8>, AllocError>
+        ensures bytes { IfOk result (λ end. end.items ≡ subtree_end (key_bytes significant_digits self.now)) }
+        ensures subtree { IfOk result (λ end. BoundsKeysOf (IsWithin self.now) (key_bytes significant_digits self.now) end.items) }
+        ensures begins { IfOk result (λ end. BoundsKeysOf (λ n. BeginsWith (key_bytes significant_digits n) (key_bytes significant_digits self.now)) (key_bytes significant_digits self.now) end.items) }
+    {
+        let end = self.followed_by(alloc, BEHIND_TAGS)?;
+        Ok(end)
+    }
+
+    /// The bounds of the keys of the nodes below this one: they stand from the first on and before the second.
+    ///
+    /// # Errors
+    ///
+    /// `AllocError` for want of memory.
+    pub fn child_bounds(&self, alloc: Global) -> Result<(Vec<u8>, Vec<u8>), AllocError>
+        ensures low { IfOk result (λ bounds. bounds.0.items ≡ children_start (key_bytes significant_digits self.now)) }
+        ensures high { IfOk result (λ bounds. bounds.1.items ≡ subtree_end (key_bytes significant_digits self.now)) }
+        ensures below { IfOk result (λ bounds. BoundsKeysOf (IsAncestor self.now) bounds.0.items bounds.1.items) }
+    {
+        let low = self.followed_by(alloc, FIRST_TAG)?;
+        let high = self.followed_by(alloc, BEHIND_TAGS)?;
+        Ok((low, high))
+    }
+}

@@ -1,0 +1,25 @@
+//! The bytes under which a node lies in a table, and the order of subscripts.
+//!
+//! Bytes of keys stand in the order of their nodes, and the keys that begin with a key are those of its node and of the nodes
+//! below it. The definitions that the contracts cite stand in `mspec`: `NodeOrder` (the order of texts and of nodes) and
+//! `KeyBytes` (the bytes); their laws are `key_laws` there.
+#![tactic(auto)]
+
+mod decoding;
+mod encoding;
+mod fault;
+mod key;
+mod names;
+mod place;
+mod subs;
+
+pub use decoding::read;
+pub use encoding::push_local;
+pub use fault::KeyFault;
+pub use key::NodeKey;
+pub use names::{is_account_name, is_name};
+pub use place::collate;
+pub use subs::{Subs, subs_ok};
+
+#[cfg(test)]
+mod tests;

@@ -1,0 +1,38 @@
+// Numbers made of their units.
+ghost use Rattle.std.specs.Prelude.{◌≡◌, MatchOption};
+ghost use Rattle.mnum.specs.Num.{units};
+ghost use Rattle.mspec.specs.Number.{significant_digits, IsNumber};
+
+use crate::num::Num;
+
+// The units of 1, and the end of the digits of a number.
+const UNIT: u128 = 1_000_000_000_000_000_000;
+
+impl Num {
+    /// The number of so many units of 10^-18, or None exactly where there is none: where they are 10^36 or more in size, or have
+    /// more than eighteen significant digits. Takes no memory.
+    pub fn from_units(count: i128) -> Option<Num>
+        ensures { MatchOption result (IsNumber significant_digits count → ⊥) (λ n. units n ≡ count) }
+    {
+        let negative = count < 0;
+        let size = count.unsigned_abs();
+        let mut digits = size;
+        let mut places: u32 = 18;
+        if size % UNIT == 0 {
+            digits = size / UNIT;
+            places = 0;
+        }
+        while digits >= UNIT && places > 0 && digits % 10 == 0 {
+            digits /= 10;
+            places -= 1;
+        }
+        if digits >= UNIT {
+            return None;
+        }
+        Some(Num {
+            digits: digits as u64,
+            places,
+            negative,
+        })
+    }
+}

@@ -1,0 +1,5 @@
+use Rattle.mspec.proofs.KeyRanges.{local_descendants_are_ranges}
+use Rattle.mspec.proofs.key_laws.local_descendants_are_ranges.Goals as goal
+
+pub returns : goal.returns
+returns c = local_descendants_are_ranges

@@ -1,8 +1,18 @@
 //! A line of M, from its text to its tree: a tree exactly where the grammar has one.
 #![tactic(auto)]
 
+mod expr;
 mod fault;
 mod line;
+mod number;
+mod operator;
+mod pattern;
+mod run;
+mod set;
+mod words;
 
 pub use fault::ParseFault;
 pub use line::parse_line;
+
+#[cfg(test)]
+mod tests;

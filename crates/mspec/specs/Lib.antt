@@ -4,6 +4,7 @@ pub mod NumberText
 pub mod NumberLaws
 pub mod Grammar
 pub mod Reading
+pub mod GrammarLaws
 pub mod Code
 pub mod Plan
 pub mod Act

@@ -1,7 +1,7 @@
 -- Reading a tree back from its text. No public clause cites these: they show that a text has one tree.
-use Rattle.std.specs.Prelude.{ℕ, zero, suc, Bool, true, false, ◌&&◌, ◌||◌, ◌==◌, nat_le, nat_lt, if◌then◌else◌, List, [], ◌∷◌, ◌++◌, length, drop, Option, Some, None}
+use Rattle.std.specs.Prelude.{ℕ, zero, suc, ◌-◌, Bool, true, false, ◌&&◌, ◌||◌, ◌==◌, nat_le, nat_lt, if◌then◌else◌, List, [], ◌∷◌, ◌++◌, length, drop, Option, Some, None}
 use Rattle.mspec.specs.Literal.{is_digit}
-use Rattle.mspec.specs.Grammar.{SignTree, plus, minus, BinaryTree, add, subtract, multiply, join, ExprTree, expr, StepTree, apply, one, variable, steps_of, OperandTree, operand, PrimaryTree, number, text, local, AssignmentTree, OutputTree, breaks, value, CommandTree, set, write, SpacedTree, LineTree, is_letter, is_name_start, is_name_rest, is_character, KeywordTree, set_word, write_word, keyword_of, max_depth}
+use Rattle.mspec.specs.Grammar.{SignTree, plus, minus, negate, TruthTree, equals, less, greater, contains, follows, sorts_after, both, either, BinaryTree, add, subtract, multiply, divide, divide_whole, remainder, join, is, is_not, CountTree, RepeatedTree, classes, copies, AtomTree, ExprTree, expr, StepTree, apply, matches, matches_not, steps_of, OperandTree, operand, PrimaryTree, number, text, local, bracket, call, select, exprs_of, choices_of, TargetTree, variable, piece, DestinationTree, one, several, AssignmentTree, OutputTree, breaks, value, CommandTree, set, write, SpacedTree, LineTree, is_letter, is_name_start, is_name_rest, is_character, KeywordTree, set_word, write_word, keyword_of, FunctionTree, ascii_function, char_function, extract_function, find_function, justify_function, length_function, piece_function, select_function, translate_function, function_of, takes, is_pattern_letter, max_depth}
 
 -- what was read, and the text after it
 abbrev pub Read : Type 0 → Type 0
@@ -25,13 +25,54 @@ after_run p (c ∷ cs) = if p c then after_run p cs else c ∷ cs
 
 -- ---- numbers, names and strings
 
--- a run of digits, unless it is empty
-abbrev pub number_of : List ℕ → List ℕ → Read (List ℕ)
-number_of [] rest = None
-number_of (d ∷ ds) rest = Some (d ∷ ds, rest)
+-- a point with digits behind it, or nothing; and the text after it
+abbrev pub point_by : List ℕ → List ℕ → List ℕ × List ℕ
+point_by [] cs = ([], 46 ∷ cs)
+point_by (d ∷ ds) cs = (46 ∷ d ∷ ds, after_run is_digit cs)
+
+unfoldable pub point_at : List ℕ → List ℕ × List ℕ
+point_at [] = ([], [])
+point_at (c ∷ cs) = if c == 46 then point_by (run_of is_digit cs) cs else ([], c ∷ cs)
+
+abbrev pub is_plus_or_minus : ℕ → Bool
+is_plus_or_minus c = c == 43 || c == 45
+
+-- a sign, or nothing
+abbrev pub one_sign : List ℕ → List ℕ
+one_sign [] = []
+one_sign (c ∷ cs) = if is_plus_or_minus c then c ∷ [] else []
+
+abbrev pub after_sign : List ℕ → List ℕ
+after_sign [] = []
+after_sign (c ∷ cs) = if is_plus_or_minus c then cs else c ∷ cs
+
+-- an `E` with a sign or none and digits behind it, or nothing; and the text after it
+abbrev pub exponent_by : List ℕ → List ℕ → List ℕ × List ℕ
+exponent_by [] cs = ([], 69 ∷ cs)
+exponent_by (d ∷ ds) cs = (69 ∷ (one_sign cs ++ d ∷ ds), after_run is_digit (after_sign cs))
+
+unfoldable pub exponent_at : List ℕ → List ℕ × List ℕ
+exponent_at [] = ([], [])
+exponent_at (c ∷ cs) = if c == 69 then exponent_by (run_of is_digit (after_sign cs)) cs else ([], c ∷ cs)
+
+-- what was read so far of a number, with a fraction, and with an exponent
+abbrev pub with_point : List ℕ → List ℕ → Read (List ℕ)
+with_point front cs = Some (front ++ (point_at cs).0, (point_at cs).1)
+
+abbrev pub with_exponent : List ℕ → List ℕ → Read (List ℕ)
+with_exponent front cs = Some (front ++ (exponent_at cs).0, (exponent_at cs).1)
+
+-- a mantissa, unless it has no digit
+abbrev pub number_by : List ℕ → List ℕ → Read (List ℕ)
+number_by [] cs = None
+number_by (d ∷ ds) cs = with_exponent (d ∷ ds) cs
+
+-- a character that a number or a count begins with
+abbrev pub is_digit_or_point : ℕ → Bool
+is_digit_or_point c = is_digit c || c == 46
 
 unfoldable pub number_at : List ℕ → Read (List ℕ)
-number_at cs = number_of (run_of is_digit cs) (after_run is_digit cs)
+number_at cs = with_point (run_of is_digit cs) (after_run is_digit cs) >>= λ m. number_by m.0 m.1
 
 unfoldable pub name_at : List ℕ → Read (List ℕ)
 name_at [] = None
@@ -48,6 +89,11 @@ text_from true (c ∷ cs) = if c == 34 then with_front (34 ∷ []) (text_from fa
 text_from false [] = None
 text_from false (c ∷ cs) = if c == 34 then text_from true cs else (if is_character c then with_front (c ∷ []) (text_from false cs) else None)
 
+-- the text behind this character, which is to come
+abbrev pub past : ℕ → List ℕ → Option (List ℕ)
+past a [] = None
+past a (c ∷ cs) = if c == a then Some cs else None
+
 -- ---- lists
 
 -- An item reads one more, or nothing where none begins, or None at a fault.
@@ -62,60 +108,199 @@ module _ {A : Type 0} (item : List ℕ → Option (Option (A × List ℕ))) wher
   many (suc n) cs = item cs >>= more_by (many n) cs
 
 module _ {A : Type 0} (item : List ℕ → Read A) where
+  abbrev pub comma_by : Option (List ℕ) → Option (Option (A × List ℕ))
+  comma_by None = Some None
+  comma_by (Some rest) = item rest >>= λ x. Some (Some x)
+
   -- an item behind a comma, or nothing where no comma stands
   abbrev pub after_comma : List ℕ → Option (Option (A × List ℕ))
-  after_comma [] = Some None
-  after_comma (c ∷ cs) = if c == 44 then (item cs >>= λ x. Some (Some x)) else Some None
+  after_comma cs = comma_by (past 44 cs)
 
   -- one or more, with commas between
   unfoldable pub list_at : List ℕ → Read (List A)
   list_at cs = item cs >>= λ x. many after_comma (length x.1) x.1 >>= λ xs. Some (x.0 ∷ xs.0, xs.1)
 
--- ---- expressions
+-- ---- patterns
+
+abbrev pub behind_of : List ℕ → Option (List ℕ)
+behind_of [] = None
+behind_of (c ∷ cs) = if c == 46 then Some (run_of is_digit cs) else None
+
+abbrev pub after_behind : List ℕ → List ℕ
+after_behind [] = []
+after_behind (c ∷ cs) = if c == 46 then after_run is_digit cs else c ∷ cs
+
+abbrev pub behind_at : List ℕ → Read (Option (List ℕ))
+behind_at cs = Some (behind_of cs, after_behind cs)
+
+abbrev pub is_count : List ℕ → Option (List ℕ) → Bool
+is_count front None = nat_lt 0 (length front) && nat_le (length front) 4
+is_count front (Some behind) = nat_le (length front) 4 && nat_le (length behind) 4
+
+-- digits, and what stands behind a point, where the text after them is cs
+abbrev pub count_by : List ℕ → Option (List ℕ) → List ℕ → Read CountTree
+count_by front behind cs = if is_count front behind then Some (record { front = front; behind = behind }, cs) else None
+
+unfoldable pub count_at : List ℕ → Read CountTree
+count_at cs = count_by (run_of is_digit cs) (behind_of (after_run is_digit cs)) (after_behind (after_run is_digit cs))
+
+abbrev pub classes_by : List ℕ → List ℕ → Read RepeatedTree
+classes_by [] cs = None
+classes_by (l ∷ ls) cs = Some (classes (l ∷ ls), cs)
+
+unfoldable pub repeated_at : List ℕ → Read RepeatedTree
+repeated_at [] = None
+repeated_at (c ∷ cs) =
+    if c == 34 then (text_from false cs >>= λ x. Some (copies x.0, x.1))
+    else classes_by (run_of is_pattern_letter (c ∷ cs)) (after_run is_pattern_letter (c ∷ cs))
+
+unfoldable pub atom_at : List ℕ → Option (Option (AtomTree × List ℕ))
+atom_at [] = Some None
+atom_at (c ∷ cs) =
+    if is_digit_or_point c then (count_at (c ∷ cs) >>= λ n. repeated_at n.1 >>= λ x. Some (Some (record { count = n.0; repeated = x.0 }, x.1))) else Some None
+
+-- atoms, unless there are none
+abbrev pub pattern_by : List AtomTree → List ℕ → Read (List AtomTree)
+pattern_by [] cs = None
+pattern_by (a ∷ more) cs = Some (a ∷ more, cs)
+
+unfoldable pub pattern_at : List ℕ → Read (List AtomTree)
+pattern_at cs = many atom_at (length cs) cs >>= λ x. pattern_by x.0 x.1
+
+-- ---- signs and operators
 
 abbrev pub signs_of : List ℕ → List SignTree
 signs_of [] = []
-signs_of (c ∷ cs) = if c == 43 then plus ∷ signs_of cs else (if c == 45 then minus ∷ signs_of cs else [])
+signs_of (c ∷ cs) = if c == 43 then plus ∷ signs_of cs else (if c == 45 then minus ∷ signs_of cs else (if c == 39 then negate ∷ signs_of cs else []))
 
 abbrev pub after_signs : List ℕ → List ℕ
 after_signs [] = []
-after_signs (c ∷ cs) = if c == 43 then after_signs cs else (if c == 45 then after_signs cs else c ∷ cs)
+after_signs (c ∷ cs) = if c == 43 then after_signs cs else (if c == 45 then after_signs cs else (if c == 39 then after_signs cs else c ∷ cs))
 
 abbrev pub signs_at : List ℕ → Read (List SignTree)
 signs_at cs = Some (signs_of cs, after_signs cs)
 
-abbrev pub operator_of : ℕ → Option BinaryTree
-operator_of c =
-    if c == 43 then Some add else (if c == 45 then Some subtract else (if c == 42 then Some multiply else (if c == 95 then Some join else None)))
+-- what stands beside a character in a table
+abbrev pub found : {A : Type 0} → List (ℕ × A) → ℕ → Option A
+found [] c = None
+found (entry ∷ entries) c = if c == entry.0 then Some entry.1 else found entries c
 
--- the operator that the next character is
-abbrev pub operator_at : List ℕ → Option BinaryTree
+abbrev pub truths : List (ℕ × TruthTree)
+truths = (61, equals) ∷ (60, less) ∷ (62, greater) ∷ (91, contains) ∷ (38, both) ∷ (33, either) ∷ []
+
+abbrev pub arithmetic : List (ℕ × BinaryTree)
+arithmetic = (43, add) ∷ (45, subtract) ∷ (42, multiply) ∷ (47, divide) ∷ (92, divide_whole) ∷ (35, remainder) ∷ (95, join) ∷ []
+
+-- the operator behind a `]`: the longest
+abbrev pub follows_at : List ℕ → TruthTree × List ℕ
+follows_at [] = (follows, [])
+follows_at (c ∷ cs) = if c == 93 then (sorts_after, cs) else (follows, c ∷ cs)
+
+unfoldable pub truth_at : List ℕ → Read TruthTree
+truth_at [] = None
+truth_at (c ∷ cs) = if c == 93 then Some (follows_at cs) else (found truths c >>= λ t. Some (t, cs))
+
+-- what stands between an operand and what it is taken with
+pub data OperatorTree : Type 0 where
+  between : BinaryTree → OperatorTree
+  matching : OperatorTree
+  matching_not : OperatorTree
+
+-- behind a `'`
+abbrev pub negated_at : List ℕ → Read OperatorTree
+negated_at [] = None
+negated_at (c ∷ cs) = if c == 63 then Some (matching_not, cs) else (truth_at (c ∷ cs) >>= λ t. Some (between (is_not t.0), t.1))
+
+-- where the first character alone says this
+abbrev pub plain_by : Option BinaryTree → List ℕ → Read OperatorTree
+plain_by None cs = truth_at cs >>= λ t. Some (between (is t.0), t.1)
+plain_by (Some b) cs = Some (between b, drop 1 cs)
+
+abbrev pub plain_at : List ℕ → Read OperatorTree
+plain_at [] = None
+plain_at (c ∷ cs) = plain_by (found arithmetic c) (c ∷ cs)
+
+-- None where no operator begins
+unfoldable pub operator_at : List ℕ → Read OperatorTree
 operator_at [] = None
-operator_at (c ∷ cs) = operator_of c
+operator_at (c ∷ cs) =
+    if c == 39 then negated_at cs else (if c == 63 then Some (matching, cs) else plain_at (c ∷ cs))
 
--- how to read an expression in brackets, and the operand of an `@`: neither is in the grammar yet
+-- ---- expressions
+
+-- how to read an expression in brackets, and the operand of an `@`: the latter is not in the grammar yet
 pub record Readers : Type 0 where
   pub inner : List ℕ → Read ExprTree
   pub below : List ℕ → Read PrimaryTree
 
+abbrev pub is_select : FunctionTree → Bool
+is_select ascii_function = false
+is_select char_function = false
+is_select extract_function = false
+is_select find_function = false
+is_select justify_function = false
+is_select length_function = false
+is_select piece_function = false
+is_select select_function = true
+is_select translate_function = false
+
+abbrev pub is_piece : FunctionTree → Bool
+is_piece ascii_function = false
+is_piece char_function = false
+is_piece extract_function = false
+is_piece find_function = false
+is_piece justify_function = false
+is_piece length_function = false
+is_piece piece_function = true
+is_piece select_function = false
+is_piece translate_function = false
+
 module _ (r : Readers) where
+  unfoldable pub bracket_with : List ℕ → Read PrimaryTree
+  bracket_with cs = r.inner cs >>= λ e. past 41 e.1 >>= λ rest. Some (bracket e.0, rest)
+
+  unfoldable pub choice_with : List ℕ → Read (ExprTree × ExprTree)
+  choice_with cs = r.inner cs >>= λ c. past 58 c.1 >>= λ rest. r.inner rest >>= λ v. Some ((c.0, v.0), v.1)
+
+  -- of this word, where the text behind its bracket is left
+  unfoldable pub select_with : List ℕ → List ℕ → Read PrimaryTree
+  select_with w cs = list_at choice_with cs >>= λ x. past 41 x.1 >>= λ rest. Some (select w (choices_of x.0), rest)
+
+  unfoldable pub call_with : FunctionTree → List ℕ → List ℕ → Read PrimaryTree
+  call_with f w cs = list_at (r.inner) cs >>= λ x. past 41 x.1 >>= λ rest. if takes f (length x.0) then Some (call w (exprs_of x.0), rest) else None
+
+  abbrev pub function_by : List ℕ → Option FunctionTree → List ℕ → Read PrimaryTree
+  function_by w None cs = None
+  function_by w (Some f) cs = if is_select f then select_with w cs else call_with f w cs
+
+  -- behind a `$`
+  unfoldable pub function_with : List ℕ → Read PrimaryTree
+  function_with cs = past 40 (after_run is_letter cs) >>= function_by (run_of is_letter cs) (function_of (run_of is_letter cs))
+
   unfoldable pub primary_with : List ℕ → Read PrimaryTree
   primary_with [] = None
   primary_with (c ∷ cs) =
-      if is_digit c then (number_at (c ∷ cs) >>= λ x. Some (number x.0, x.1))
+      if is_digit_or_point c then (number_at (c ∷ cs) >>= λ x. Some (number x.0, x.1))
       else (if c == 34 then (text_from false cs >>= λ x. Some (text x.0, x.1))
-      else (name_at (c ∷ cs) >>= λ n. Some (local n.0, n.1)))
+      else (if c == 40 then bracket_with cs
+      else (if c == 36 then function_with cs
+      else (name_at (c ∷ cs) >>= λ n. Some (local n.0, n.1)))))
 
   unfoldable pub operand_with : List ℕ → Read OperandTree
   operand_with cs = primary_with (after_signs cs) >>= λ p. Some (operand (signs_of cs) p.0, p.1)
 
-  -- a step, where this operator is in front
-  abbrev pub step_by : Option BinaryTree → List ℕ → Option (Option (StepTree × List ℕ))
-  step_by None cs = Some None
-  step_by (Some b) cs = operand_with (drop 1 cs) >>= λ o. Some (Some (apply b o.0, o.1))
+  -- a step, where this operator is in front and this text behind it
+  unfoldable pub step_by : OperatorTree → List ℕ → Read StepTree
+  step_by (between b) cs = operand_with cs >>= λ o. Some (apply b o.0, o.1)
+  step_by matching cs = pattern_at cs >>= λ p. Some (matches p.0, p.1)
+  step_by matching_not cs = pattern_at cs >>= λ p. Some (matches_not p.0, p.1)
+
+  abbrev pub step_behind : Option (OperatorTree × List ℕ) → Option (Option (StepTree × List ℕ))
+  step_behind None = Some None
+  step_behind (Some o) = step_by o.0 o.1 >>= λ s. Some (Some s)
 
   unfoldable pub step_with : List ℕ → Option (Option (StepTree × List ℕ))
-  step_with cs = step_by (operator_at cs) cs
+  step_with cs = step_behind (operator_at cs)
 
   unfoldable pub expr_with : List ℕ → Read ExprTree
   expr_with cs = operand_with cs >>= λ o. many step_with (length o.1) o.1 >>= λ s. Some (expr o.0 (steps_of s.0), s.1)
@@ -125,18 +310,43 @@ unfoldable pub readers_at : ℕ → Readers
 readers_at zero = record { inner = λ cs. None; below = λ cs. None }
 readers_at (suc d) = record { inner = expr_with (readers_at d); below = primary_with (readers_at d) }
 
+abbrev pub inner_at : ℕ → List ℕ → Read ExprTree
+inner_at d cs = (readers_at d).inner cs
+
 abbrev pub expr_at : ℕ → List ℕ → Read ExprTree
 expr_at d = expr_with (readers_at d)
 
 -- ---- arguments
 
--- an assignment to this name, of which the text behind the name is left
-abbrev pub assigned : List ℕ → List ℕ → Read AssignmentTree
-assigned n [] = None
-assigned n (c ∷ cs) = if c == 61 then (expr_at max_depth cs >>= λ e. Some ((one (variable n), e.0), e.1)) else None
+module _ (r : Readers) where
+  -- behind a delimiter
+  unfoldable pub place_with : List ℕ → Read (Option ExprTree)
+  place_with [] = Some (None, [])
+  place_with (c ∷ cs) = if c == 44 then (r.inner cs >>= λ e. Some (Some e.0, e.1)) else Some (None, c ∷ cs)
+
+  unfoldable pub piece_with : List ℕ → List ℕ → Read TargetTree
+  piece_with w cs =
+      name_at cs >>= λ n. past 44 n.1 >>= λ rest. r.inner rest >>= λ e. place_with e.1 >>= λ p. past 41 p.1 >>= λ end.
+      Some (piece w n.0 e.0 p.0, end)
+
+  abbrev pub piece_by : List ℕ → Option FunctionTree → List ℕ → Read TargetTree
+  piece_by w None cs = None
+  piece_by w (Some f) cs = if is_piece f then piece_with w cs else None
+
+  unfoldable pub target_with : List ℕ → Read TargetTree
+  target_with [] = None
+  target_with (c ∷ cs) =
+      if c == 36 then (past 40 (after_run is_letter cs) >>= piece_by (run_of is_letter cs) (function_of (run_of is_letter cs)))
+      else (name_at (c ∷ cs) >>= λ n. Some (variable n.0, n.1))
+
+unfoldable pub destination_at : List ℕ → Read DestinationTree
+destination_at [] = None
+destination_at (c ∷ cs) =
+    if c == 40 then (list_at (target_with (readers_at (max_depth - 1))) cs >>= λ x. past 41 x.1 >>= λ rest. Some (several x.0, rest))
+    else (target_with (readers_at max_depth) (c ∷ cs) >>= λ t. Some (one t.0, t.1))
 
 unfoldable pub assignment_at : List ℕ → Read AssignmentTree
-assignment_at cs = name_at cs >>= λ n. assigned n.0 n.1
+assignment_at cs = destination_at cs >>= λ d. past 61 d.1 >>= λ rest. expr_at max_depth rest >>= λ e. Some ((d.0, e.0), e.1)
 
 abbrev pub is_bang : ℕ → Bool
 is_bang c = c == 33

@@ -128,9 +128,12 @@ primary_tree = fold-Primary PrimaryTree StepTree ChoiceTree ExprTree OperandTree
 abbrev pub choice_tree : Choice → ChoiceTree
 choice_tree = fold-Choice PrimaryTree StepTree ChoiceTree ExprTree OperandTree primary_layer step_layer choice_layer expr_layer operand_layer
 
+abbrev pub piece_tree : PieceTarget → TargetTree
+piece_tree p = grammar.piece p.word p.name (expr_tree p.delimiter) (option_map expr_tree p.place)
+
 abbrev pub target_tree : Target → TargetTree
 target_tree (target.Variable name) = grammar.variable name
-target_tree (target.Piece p) = grammar.piece p.word p.name (expr_tree p.delimiter) (option_map expr_tree p.place)
+target_tree (target.Piece p) = piece_tree p
 
 abbrev pub destination_tree : Destination → DestinationTree
 destination_tree (destination.One t) = grammar.one (target_tree t)

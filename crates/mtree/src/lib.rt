@@ -3,14 +3,16 @@
 //! What a tree means as plain data, and which text it has, are definitions of `mspec`: `Grammar`.
 #![tactic(auto)]
 
+mod expression;
+mod pieces;
 pub mod tree;
-//WR pub mod write;
+pub mod write;
 
 pub use tree::{
     Assignment, Atom, Binary, Choice, Command, Count, Destination, Expr, Function, Keyword, Line,
     Operand, Output, PieceTarget, Primary, Repeated, Sign, Spaced, Step, Target, Truth,
 };
-//WR pub use write::write_line;
+pub use write::write_line;
 
-//WR #[cfg(test)]
-//WR mod tests;
+#[cfg(test)]
+mod tests;

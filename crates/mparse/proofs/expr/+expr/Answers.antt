@@ -1,0 +1,88 @@
+use Rattle.std.proofs.Common.{◌≡◌, ◌++◌, ◌∷◌, [], length, map, refl, rules}
+use Rattle.std.proofs.lemmas.Result.{err_from_is_err_and}
+use Rattle.std.proofs.lemmas.List.{map_push}
+use Rattle.mtree.specs.Tree.{expr_tree, step_tree, choice_tree}
+use Rattle.mspec.specs.Reading.{many, after_comma, list_at, choice_with, step_with, readers_at, inner_at}
+use Rattle.mspec.proofs.ReadingLoops.{goes_on, stops, is_done, list_begins, comma_goes_on, comma_stops}
+use Rattle.mparse.proofs.Faults.{fails, list_fails, comma_fails}
+use Rattle.mparse.proofs.expr.+expr.Goals as goal
+use Rattle.mparse.proofs.expr.+expr.Goals.{steps-else-loop-test, steps-then-loop-test+in_ok-step+in_default, exprs-else-loop-test, exprs-then-loop-test+in_default, choices-else-loop-test, choices-then-loop-test+in_default}
+
+pub steps-returns-in_err-step : goal.steps-returns-in_err-step
+steps-returns-in_err-step t c =
+    let p = err_from_is_err_and c.from_residual.result c.from_residual.ensures.1 in
+    rw (p.1, p.2) (fails (step_with (readers_at c.args.depth)) c.in_err-step.field-0.0 (map step_tree c.loop.steps.items) (length c.args.bytes.now) c.loop.counter c.loop.rest.now
+    (many (step_with (readers_at c.args.depth)) (length c.args.bytes.now) c.args.bytes.now) c.loop-test.true c.in_err-step.ensures c.loop.invariant)
+
+pub steps-loop-preserved : goal.steps-loop-preserved
+steps-loop-preserved t c =
+    let e : map step_tree c.push.new.self.items ≡ map step_tree c.loop.steps.items ++ step_tree c.in-Some.step ∷ [] = rw c.in_ok-push.ensures.items (map_push _ c.loop.steps.items c.in-Some.step) in
+    rw e (goes_on (step_with (readers_at c.args.depth)) (map step_tree c.loop.steps.items) (length c.args.bytes.now) c.loop.counter c.loop.rest.now (step_tree c.in-Some.step) c.in-Some.after.now
+    (many (step_with (readers_at c.args.depth)) (length c.args.bytes.now) c.args.bytes.now) c.loop-test.true (rw c.in-Some.is at c.in_ok-step.ensures) c.loop.invariant)
+
+pub steps-returns : goal.steps-returns
+steps-returns t c =
+    elim c.loop-test.branch [
+      | steps-else-loop-test w ↦ is_done (step_with (readers_at c.args.depth)) (map step_tree c.loop.steps.items) (length c.args.bytes.now) c.loop.counter c.loop.rest.now
+          (many (step_with (readers_at c.args.depth)) (length c.args.bytes.now) c.args.bytes.now) w.loop-test.false c.loop.invariant
+      | steps-then-loop-test+in_ok-step+in_default w ↦ stops (step_with (readers_at c.args.depth)) (map step_tree c.loop.steps.items) (length c.args.bytes.now) c.loop.counter c.loop.rest.now
+          (many (step_with (readers_at c.args.depth)) (length c.args.bytes.now) c.args.bytes.now) w.loop-test.true (search rules) c.loop.invariant
+    ]
+
+pub exprs-returns-in_err-first : goal.exprs-returns-in_err-first
+exprs-returns-in_err-first t c =
+    let p = err_from_is_err_and c.from_residual.result c.from_residual.ensures.1 in
+    rw (p.1, p.2) (list_fails (inner_at c.args.depth) c.in_err-first.field-0.0 c.args.bytes.now c.in_err-first.ensures)
+
+pub exprs-loop-init : goal.exprs-loop-init
+exprs-loop-init t c =
+    let e : map expr_tree c.push.new.self.items ≡ expr_tree c.in_ok-first.first ∷ [] = rw (c.in_ok-push.ensures.items, c.new-all.ensures.items) refl in
+    rw e (list_begins (inner_at c.args.depth) c.args.bytes.now (expr_tree c.in_ok-first.first) c.in_ok-first.start.now c.in_ok-first.ensures)
+
+pub exprs-returns-in_err-item : goal.exprs-returns-in_err-item
+exprs-returns-in_err-item t c =
+    let p = err_from_is_err_and c.from_residual-in_err-item.result c.from_residual-in_err-item.ensures.1 in
+    rw (p.1, p.2) (comma_fails (inner_at c.args.depth) c.in_err-item.field-0.0 (map expr_tree c.loop.all.items) (length c.in_ok-first.start.now) c.loop.counter c.loop.rest.now c.in-Some.behind.now
+    (list_at (inner_at c.args.depth) c.args.bytes.now) c.loop-test.true (search rules) c.in_err-item.ensures c.loop.invariant)
+
+pub exprs-loop-preserved : goal.exprs-loop-preserved
+exprs-loop-preserved t c =
+    let e : map expr_tree c.push-in-loop.new.self.items ≡ map expr_tree c.loop.all.items ++ expr_tree c.in_ok-item.item ∷ [] = rw c.in_ok-push-2.ensures.items (map_push _ c.loop.all.items c.in_ok-item.item) in
+    rw e (comma_goes_on (inner_at c.args.depth) (map expr_tree c.loop.all.items) (length c.in_ok-first.start.now) c.loop.counter c.loop.rest.now c.in-Some.behind.now (expr_tree c.in_ok-item.item) c.in_ok-item.after.now
+    (list_at (inner_at c.args.depth) c.args.bytes.now) c.loop-test.true (search rules) c.in_ok-item.ensures c.loop.invariant)
+
+pub exprs-returns : goal.exprs-returns
+exprs-returns t c =
+    elim c.loop-test.branch [
+      | exprs-else-loop-test w ↦ is_done (after_comma (inner_at c.args.depth)) (map expr_tree c.loop.all.items) (length c.in_ok-first.start.now) c.loop.counter c.loop.rest.now (list_at (inner_at c.args.depth) c.args.bytes.now) w.loop-test.false c.loop.invariant
+      | exprs-then-loop-test+in_default w ↦ comma_stops (inner_at c.args.depth) (map expr_tree c.loop.all.items) (length c.in_ok-first.start.now) c.loop.counter c.loop.rest.now (list_at (inner_at c.args.depth) c.args.bytes.now) w.loop-test.true (search rules) c.loop.invariant
+    ]
+
+pub choices-returns-in_err-first : goal.choices-returns-in_err-first
+choices-returns-in_err-first t c =
+    let p = err_from_is_err_and c.from_residual.result c.from_residual.ensures.1 in
+    rw (p.1, p.2) (list_fails (choice_with (readers_at c.args.depth)) c.in_err-first.field-0.0 c.args.bytes.now c.in_err-first.ensures)
+
+pub choices-loop-init : goal.choices-loop-init
+choices-loop-init t c =
+    let e : map choice_tree c.push.new.self.items ≡ choice_tree c.in_ok-first.first ∷ [] = rw (c.in_ok-push.ensures.items, c.new-all.ensures.items) refl in
+    rw e (list_begins (choice_with (readers_at c.args.depth)) c.args.bytes.now (choice_tree c.in_ok-first.first) c.in_ok-first.start.now c.in_ok-first.ensures)
+
+pub choices-returns-in_err-item : goal.choices-returns-in_err-item
+choices-returns-in_err-item t c =
+    let p = err_from_is_err_and c.from_residual-in_err-item.result c.from_residual-in_err-item.ensures.1 in
+    rw (p.1, p.2) (comma_fails (choice_with (readers_at c.args.depth)) c.in_err-item.field-0.0 (map choice_tree c.loop.all.items) (length c.in_ok-first.start.now) c.loop.counter c.loop.rest.now c.in-Some.behind.now
+    (list_at (choice_with (readers_at c.args.depth)) c.args.bytes.now) c.loop-test.true (search rules) c.in_err-item.ensures c.loop.invariant)
+
+pub choices-loop-preserved : goal.choices-loop-preserved
+choices-loop-preserved t c =
+    let e : map choice_tree c.push-in-loop.new.self.items ≡ map choice_tree c.loop.all.items ++ choice_tree c.in_ok-item.item ∷ [] = rw c.in_ok-push-2.ensures.items (map_push _ c.loop.all.items c.in_ok-item.item) in
+    rw e (comma_goes_on (choice_with (readers_at c.args.depth)) (map choice_tree c.loop.all.items) (length c.in_ok-first.start.now) c.loop.counter c.loop.rest.now c.in-Some.behind.now (choice_tree c.in_ok-item.item) c.in_ok-item.after.now
+    (list_at (choice_with (readers_at c.args.depth)) c.args.bytes.now) c.loop-test.true (search rules) c.in_ok-item.ensures c.loop.invariant)
+
+pub choices-returns : goal.choices-returns
+choices-returns t c =
+    elim c.loop-test.branch [
+      | choices-else-loop-test w ↦ is_done (after_comma (choice_with (readers_at c.args.depth))) (map choice_tree c.loop.all.items) (length c.in_ok-first.start.now) c.loop.counter c.loop.rest.now (list_at (choice_with (readers_at c.args.depth)) c.args.bytes.now) w.loop-test.false c.loop.invariant
+      | choices-then-loop-test+in_default w ↦ comma_stops (choice_with (readers_at c.args.depth)) (map choice_tree c.loop.all.items) (length c.in_ok-first.start.now) c.loop.counter c.loop.rest.now (list_at (choice_with (readers_at c.args.depth)) c.args.bytes.now) w.loop-test.true (search rules) c.loop.invariant
+    ]

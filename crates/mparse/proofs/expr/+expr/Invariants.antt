@@ -1,0 +1,60 @@
+use Rattle.std.proofs.Common.{◌≡◌, ◌+◌, ◌*◌, ◌-◌, length, map}
+use Rattle.mspec.specs.Reading.{with_front, many, after_comma, list_at, choice_with, step_with, readers_at, inner_at}
+use Rattle.mtree.specs.Tree.{expr_tree, step_tree, choice_tree}
+use Rattle.mparse.proofs.expr.+expr.Given as goal
+
+-- Brackets fall in number at `inner` alone; each other call leads to a lower rank.
+
+abbrev pub decreases-inner : goal.decreases-inner
+decreases-inner l = 13 * l.depth + 0
+
+abbrev pub decreases-bracket : goal.decreases-bracket
+decreases-bracket l = 13 * l.depth + 1
+
+abbrev pub decreases-choice : goal.decreases-choice
+decreases-choice l = 13 * l.depth + 1
+
+abbrev pub decreases-exprs : goal.decreases-exprs
+decreases-exprs l = 13 * l.depth + 2
+
+abbrev pub decreases-choices : goal.decreases-choices
+decreases-choices l = 13 * l.depth + 2
+
+abbrev pub decreases-call : goal.decreases-call
+decreases-call l = 13 * l.depth + 3
+
+abbrev pub decreases-select : goal.decreases-select
+decreases-select l = 13 * l.depth + 3
+
+abbrev pub decreases-call_or_select : goal.decreases-call_or_select
+decreases-call_or_select l = 13 * l.depth + 4
+
+abbrev pub decreases-primary : goal.decreases-primary
+decreases-primary l = 13 * l.depth + 5
+
+abbrev pub decreases-operand : goal.decreases-operand
+decreases-operand l = 13 * l.depth + 6
+
+abbrev pub decreases-step_by : goal.decreases-step_by
+decreases-step_by l = 13 * l.depth + 7
+
+abbrev pub decreases-step : goal.decreases-step
+decreases-step l = 13 * l.depth + 8
+
+abbrev pub decreases-steps : goal.decreases-steps
+decreases-steps l = 13 * l.depth + 9
+
+abbrev pub decreases-expr : goal.decreases-expr
+decreases-expr l = 13 * l.depth + 10
+
+abbrev pub invariant-steps-loop : goal.invariant-steps-loop
+invariant-steps-loop l =
+    with_front (map step_tree l.steps.items) (many (step_with (readers_at l.depth)) (length l.bytes - l.counter) l.rest) ≡ many (step_with (readers_at l.depth)) (length l.bytes) l.bytes
+
+abbrev pub invariant-exprs-loop : goal.invariant-exprs-loop
+invariant-exprs-loop l =
+    with_front (map expr_tree l.all.items) (many (after_comma (inner_at l.depth)) (l.end - l.counter) l.rest) ≡ list_at (inner_at l.depth) l.bytes
+
+abbrev pub invariant-choices-loop : goal.invariant-choices-loop
+invariant-choices-loop l =
+    with_front (map choice_tree l.all.items) (many (after_comma (choice_with (readers_at l.depth))) (l.end - l.counter) l.rest) ≡ list_at (choice_with (readers_at l.depth)) l.bytes

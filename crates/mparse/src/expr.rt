@@ -1,0 +1,251 @@
+// Expressions.
+ghost use Rattle.std.specs.Prelude.{◌≡◌, ◌<◌, length, map, option_map};
+ghost use Rattle.mspec.specs.Grammar.{exprs_of, choices_of};
+ghost use Rattle.mspec.specs.Reading.{many, list_at, bracket_with, choice_with, select_with, call_with, function_with, primary_with, operand_with, step_by, step_with, expr_with, readers_at, inner_at};
+ghost use Rattle.mtree.specs.Tree.{function_tree, expr_tree, operand_tree, primary_tree, step_tree, choice_tree};
+ghost use Rattle.mparse.specs.Gives.{Gives};
+ghost use Rattle.mparse.specs.Operators.{operator_tree};
+
+use crate::fault::ParseFault;
+use crate::number::number;
+use crate::operator::{Operator, next_operator, signs};
+use crate::pattern::pattern;
+use crate::run::{Class, expect, name, past, run, text_after};
+use crate::words::{function, takes};
+use mnum::Bytes7;
+use mtree::{Choice, Expr, Function, Operand, Primary, Step};
+use std::alloc::Global;
+
+// How many brackets may be open at a place.
+pub const MAX_DEPTH: u32 = 40;
+
+// An expression within which so many brackets may be open.
+#[cycle(expr)]
+#[tactic(auto, unfolding(mspec::specs::Reading::expr_with))]
+pub fn expr(alloc: Global, bytes: &[u8], depth: u32) -> Result<(Expr, &[u8]), ParseFault>
+    ensures { Gives (λ x. (expr_tree x.0, x.1.now)) result (expr_with (readers_at depth) bytes.now) }
+{
+    let (first, rest) = operand(alloc, bytes, depth)?;
+    let (rest, after) = steps(alloc, rest, depth)?;
+    Ok((Expr { first, rest }, after))
+}
+
+#[cycle(expr)]
+fn steps(alloc: Global, bytes: &[u8], depth: u32) -> Result<(Vec<Step>, &[u8]), ParseFault>
+    ensures { Gives (λ x. (map step_tree x.0.items, x.1.now)) result (many (step_with (readers_at depth)) (length bytes.now) bytes.now) }
+{
+    let mut steps = Vec::new(alloc);
+    let mut rest = bytes;
+    for _ in 0..bytes.len() {
+        let Some((step, after)) = step(alloc, rest, depth)? else {
+            break;
+        };
+        steps.push(step)?;
+        rest = after;
+    }
+    Ok((steps, rest))
+}
+
+// The next step, where an operator begins.
+#[cycle(expr)]
+#[tactic(auto, unfolding(mspec::specs::Reading::step_with))]
+fn step(alloc: Global, bytes: &[u8], depth: u32) -> Result<Option<(Step, &[u8])>, ParseFault>
+    ensures { Gives (λ o. option_map (λ x. (step_tree x.0, x.1.now)) o) result (step_with (readers_at depth) bytes.now) }
+{
+    let Some((operator, rest)) = next_operator(bytes) else {
+        return Ok(None);
+    };
+    Ok(Some(step_by(alloc, operator, rest, depth)?))
+}
+
+// The step of this operator.
+#[cycle(expr)]
+#[tactic(auto, unfolding(mspec::specs::Reading::step_by))]
+fn step_by(
+    alloc: Global,
+    operator: Operator,
+    bytes: &[u8],
+    depth: u32,
+) -> Result<(Step, &[u8]), ParseFault>
+    ensures { Gives (λ x. (step_tree x.0, x.1.now)) result (step_by (readers_at depth) (operator_tree operator) bytes.now) }
+{
+    match operator {
+        Operator::Between(binary) => {
+            let (operand, rest) = operand(alloc, bytes, depth)?;
+            Ok((Step::Apply(binary, operand), rest))
+        }
+        Operator::Match => {
+            let (atoms, rest) = pattern(alloc, bytes)?;
+            Ok((Step::Matches(atoms), rest))
+        }
+        Operator::MatchNot => {
+            let (atoms, rest) = pattern(alloc, bytes)?;
+            Ok((Step::MatchesNot(atoms), rest))
+        }
+    }
+}
+
+#[cycle(expr)]
+#[tactic(auto, unfolding(mspec::specs::Reading::operand_with))]
+fn operand(alloc: Global, bytes: &[u8], depth: u32) -> Result<(Operand, &[u8]), ParseFault>
+    ensures { Gives (λ x. (operand_tree x.0, x.1.now)) result (operand_with (readers_at depth) bytes.now) }
+{
+    let (signs, rest) = signs(alloc, bytes)?;
+    let (primary, after) = primary(alloc, rest, depth)?;
+    Ok((Operand { signs, primary }, after))
+}
+
+#[cycle(expr)]
+#[tactic(auto, unfolding(mspec::specs::Reading::primary_with))]
+fn primary(alloc: Global, bytes: &[u8], depth: u32) -> Result<(Primary, &[u8]), ParseFault>
+    ensures { Gives (λ x. (primary_tree x.0, x.1.now)) result (primary_with (readers_at depth) bytes.now) }
+{
+    let Some((first, rest)) = bytes.split_first() else {
+        return Err(ParseFault::Syntax);
+    };
+    if Class::DigitOrPoint.has(*first) {
+        let (literal, after) = number(alloc, bytes)?;
+        return Ok((Primary::Number(literal), after));
+    }
+    match *first {
+        b'"' => {
+            let (text, after) = text_after(alloc, rest)?;
+            Ok((Primary::Text(text), after))
+        }
+        b'(' => bracket(alloc, rest, depth),
+        b'$' => call_or_select(alloc, rest, depth),
+        _ => {
+            let (name, after) = name(alloc, bytes)?;
+            Ok((Primary::Local(name), after))
+        }
+    }
+}
+
+// The expression behind an opening bracket, where one bracket fewer may open.
+#[cycle(expr)]
+#[tactic(auto, unfolding(mspec::specs::Reading::readers_at))]
+pub fn inner(alloc: Global, bytes: &[u8], depth: u32) -> Result<(Expr, &[u8]), ParseFault>
+    ensures { Gives (λ x. (expr_tree x.0, x.1.now)) result (inner_at depth bytes.now) }
+{
+    if depth == 0 {
+        return Err(ParseFault::Syntax);
+    }
+    expr(alloc, bytes, depth - 1)
+}
+
+// The rest of an expression in brackets, behind the bracket that opens it.
+#[cycle(expr)]
+#[tactic(auto, unfolding(mspec::specs::Reading::bracket_with))]
+fn bracket(alloc: Global, bytes: &[u8], depth: u32) -> Result<(Primary, &[u8]), ParseFault>
+    ensures { Gives (λ x. (primary_tree x.0, x.1.now)) result (bracket_with (readers_at depth) bytes.now) }
+{
+    let (expr, rest) = inner(alloc, bytes, depth)?;
+    let rest = expect(b')', rest)?;
+    Ok((Primary::Bracket(Box::new(alloc, expr)?), rest))
+}
+
+// The rest of a function, behind its `$`.
+#[cycle(expr)]
+#[tactic(auto, unfolding(mspec::specs::Reading::function_with))]
+fn call_or_select(alloc: Global, bytes: &[u8], depth: u32) -> Result<(Primary, &[u8]), ParseFault>
+    ensures { Gives (λ x. (primary_tree x.0, x.1.now)) result (function_with (readers_at depth) bytes.now) }
+{
+    let (letters, rest) = run(Class::Letter, bytes);
+    let rest = expect(b'(', rest)?;
+    let Some(function) = function(letters) else {
+        return Err(ParseFault::Syntax);
+    };
+    let word = Bytes7::from_slice(alloc, letters)?;
+    if function == Function::Select {
+        select(alloc, word, rest, depth)
+    } else {
+        call(alloc, function, word, rest, depth)
+    }
+}
+
+// The rest of a call of this function, behind its bracket.
+#[cycle(expr)]
+#[tactic(auto, unfolding(mspec::specs::Reading::call_with))]
+fn call(
+    alloc: Global,
+    function: Function,
+    word: Bytes7,
+    bytes: &[u8],
+    depth: u32,
+) -> Result<(Primary, &[u8]), ParseFault>
+    ensures { Gives (λ x. (primary_tree x.0, x.1.now)) result (call_with (readers_at depth) (function_tree function) word bytes.now) }
+{
+    let (arguments, rest) = exprs(alloc, bytes, depth)?;
+    let rest = expect(b')', rest)?;
+    if !takes(function, arguments.len()) {
+        return Err(ParseFault::Syntax);
+    }
+    Ok((Primary::Call(word, arguments), rest))
+}
+
+// The rest of a `$SELECT`, behind its bracket.
+#[cycle(expr)]
+#[tactic(auto, unfolding(mspec::specs::Reading::select_with))]
+fn select(
+    alloc: Global,
+    word: Bytes7,
+    bytes: &[u8],
+    depth: u32,
+) -> Result<(Primary, &[u8]), ParseFault>
+    ensures { Gives (λ x. (primary_tree x.0, x.1.now)) result (select_with (readers_at depth) word bytes.now) }
+{
+    let (choices, rest) = choices(alloc, bytes, depth)?;
+    let rest = expect(b')', rest)?;
+    Ok((Primary::Select(word, choices), rest))
+}
+
+#[cycle(expr)]
+#[tactic(auto, unfolding(mspec::specs::Reading::choice_with))]
+fn choice(alloc: Global, bytes: &[u8], depth: u32) -> Result<(Choice, &[u8]), ParseFault>
+    ensures { Gives (λ x. (choice_tree x.0, x.1.now)) result (choice_with (readers_at depth) bytes.now) }
+{
+    let (condition, rest) = inner(alloc, bytes, depth)?;
+    let rest = expect(b':', rest)?;
+    let (value, rest) = inner(alloc, rest, depth)?;
+    Ok((Choice { condition, value }, rest))
+}
+
+// Expressions with commas between.
+#[cycle(expr)]
+fn exprs(alloc: Global, bytes: &[u8], depth: u32) -> Result<(Vec<Expr>, &[u8]), ParseFault>
+    ensures { Gives (λ x. (map expr_tree x.0.items, x.1.now)) result (list_at (inner_at depth) bytes.now) }
+{
+    let (first, start) = inner(alloc, bytes, depth)?;
+    let mut all = Vec::new(alloc);
+    all.push(first)?;
+    let mut rest = start;
+    for _ in 0..start.len() {
+        let Some(behind) = past(b',', rest) else {
+            break;
+        };
+        let (item, after) = inner(alloc, behind, depth)?;
+        all.push(item)?;
+        rest = after;
+    }
+    Ok((all, rest))
+}
+
+// Choices with commas between.
+#[cycle(expr)]
+fn choices(alloc: Global, bytes: &[u8], depth: u32) -> Result<(Vec<Choice>, &[u8]), ParseFault>
+    ensures { Gives (λ x. (map choice_tree x.0.items, x.1.now)) result (list_at (choice_with (readers_at depth)) bytes.now) }
+{
+    let (first, start) = choice(alloc, bytes, depth)?;
+    let mut all = Vec::new(alloc);
+    all.push(first)?;
+    let mut rest = start;
+    for _ in 0..start.len() {
+        let Some(behind) = past(b',', rest) else {
+            break;
+        };
+        let (item, after) = choice(alloc, behind, depth)?;
+        all.push(item)?;
+        rest = after;
+    }
+    Ok((all, rest))
+}

@@ -1,0 +1,136 @@
+// What SET assigns to.
+ghost use Rattle.std.specs.Prelude.{◌≡◌, ◌-◌, map, option_map};
+ghost use Rattle.mspec.specs.Reading.{list_at, readers_at, place_with, piece_with, target_with, destination_at, assignment_at};
+ghost use Rattle.mspec.specs.Grammar.{max_depth};
+ghost use Rattle.mtree.specs.Tree.{expr_tree, target_tree, destination_tree, assignment_tree};
+ghost use Rattle.mparse.specs.Gives.{Gives};
+
+use crate::expr::{MAX_DEPTH, expr, inner};
+use crate::fault::ParseFault;
+use crate::run::{Class, expect, name, past, run};
+use crate::words::function;
+use mnum::Bytes7;
+use mtree::{Assignment, Destination, Expr, Function, PieceTarget, Target};
+use std::alloc::Global;
+
+// The place behind the delimiter of a `$PIECE`, where one stands.
+#[tactic(auto, unfolding(mspec::specs::Reading::place_with))]
+fn place(alloc: Global, bytes: &[u8], depth: u32) -> Result<(Option<Expr>, &[u8]), ParseFault>
+    ensures { Gives (λ x. (option_map expr_tree x.0, x.1.now)) result (place_with (readers_at depth) bytes.now) }
+{
+    let Some((b',', behind)) = bytes.split_first() else {
+        return Ok((None, bytes));
+    };
+    let (place, rest) = inner(alloc, behind, depth)?;
+    Ok((Some(place), rest))
+}
+
+// The rest of a `$PIECE` that is assigned to, behind its bracket.
+#[tactic(auto, unfolding(mspec::specs::Reading::piece_with))]
+fn piece(
+    alloc: Global,
+    word: Bytes7,
+    bytes: &[u8],
+    depth: u32,
+) -> Result<(Target, &[u8]), ParseFault>
+    ensures { Gives (λ x. (target_tree x.0, x.1.now)) result (piece_with (readers_at depth) word bytes.now) }
+{
+    let (name, rest) = name(alloc, bytes)?;
+    let rest = expect(b',', rest)?;
+    let (delimiter, rest) = inner(alloc, rest, depth)?;
+    let (place, rest) = place(alloc, rest, depth)?;
+    let rest = expect(b')', rest)?;
+    let piece = PieceTarget {
+        word,
+        name,
+        delimiter,
+        place,
+    };
+    Ok((Target::Piece(piece), rest))
+}
+
+#[tactic(auto, unfolding(mspec::specs::Reading::target_with))]
+fn target(alloc: Global, bytes: &[u8], depth: u32) -> Result<(Target, &[u8]), ParseFault>
+    ensures { Gives (λ x. (target_tree x.0, x.1.now)) result (target_with (readers_at depth) bytes.now) }
+{
+    let Some((first, rest)) = bytes.split_first() else {
+        return Err(ParseFault::Syntax);
+    };
+    if *first != b'$' {
+        let (name, rest) = name(alloc, bytes)?;
+        return Ok((Target::Variable(name), rest));
+    }
+    let (letters, rest) = run(Class::Letter, rest);
+    let rest = expect(b'(', rest)?;
+    if function(letters) != Some(Function::Piece) {
+        return Err(ParseFault::Syntax);
+    }
+    piece(alloc, Bytes7::from_slice(alloc, letters)?, rest, depth)
+}
+
+// How many brackets may be open within those of a list.
+const LIST_DEPTH: u32 = MAX_DEPTH - 1;
+
+// Targets with commas between.
+fn targets(alloc: Global, bytes: &[u8]) -> Result<(Vec<Target>, &[u8]), ParseFault>
+    ensures { Gives (λ x. (map target_tree x.0.items, x.1.now)) result (list_at (target_with (readers_at (max_depth - 1))) bytes.now) }
+{
+    let (first, start) = target(alloc, bytes, LIST_DEPTH)?;
+    let mut all = Vec::new(alloc);
+    all.push(first)?;
+    let mut rest = start;
+    for _ in 0..start.len() {
+        let Some(behind) = past(b',', rest) else {
+            break;
+        };
+        let (item, after) = target(alloc, behind, LIST_DEPTH)?;
+        all.push(item)?;
+        rest = after;
+    }
+    Ok((all, rest))
+}
+
+#[tactic(auto, unfolding(mspec::specs::Reading::destination_at))]
+fn destination(alloc: Global, bytes: &[u8]) -> Result<(Destination, &[u8]), ParseFault>
+    ensures { Gives (λ x. (destination_tree x.0, x.1.now)) result (destination_at bytes.now) }
+{
+    let Some((first, behind)) = bytes.split_first() else {
+        return Err(ParseFault::Syntax);
+    };
+    if *first == b'(' {
+        let (all, rest) = targets(alloc, behind)?;
+        let rest = expect(b')', rest)?;
+        return Ok((Destination::Several(all), rest));
+    }
+    let (target, rest) = target(alloc, bytes, MAX_DEPTH)?;
+    Ok((Destination::One(target), rest))
+}
+
+#[tactic(auto, unfolding(mspec::specs::Reading::assignment_at))]
+fn assignment(alloc: Global, bytes: &[u8]) -> Result<(Assignment, &[u8]), ParseFault>
+    ensures { Gives (λ x. (assignment_tree x.0, x.1.now)) result (assignment_at bytes.now) }
+{
+    let (destination, rest) = destination(alloc, bytes)?;
+    let rest = expect(b'=', rest)?;
+    let (value, rest) = expr(alloc, rest, MAX_DEPTH)?;
+    Ok((Assignment { destination, value }, rest))
+}
+
+// Assignments with commas between.
+pub fn assignments(alloc: Global, bytes: &[u8]) -> Result<(Vec<Assignment>, &[u8]), ParseFault>
+    ensures { Gives (λ x. (map assignment_tree x.0.items, x.1.now)) result (list_at assignment_at bytes.now) }
+{
+    let (first, start) = assignment(alloc, bytes)?;
+    let mut all = Vec::new(alloc);
+    all.push(first)?;
+    let mut rest = start;
+    for _ in 0..start.len() {
+        let Some(behind) = past(b',', rest) else {
+            break;
+        };
+        let (item, after) = assignment(alloc, behind)?;
+        all.push(item)?;
+        rest = after;
+    }
+    Ok((all, rest))
+}

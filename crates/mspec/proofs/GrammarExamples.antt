@@ -1,0 +1,251 @@
+-- The grammar on examples, as proved equations: texts with their trees, and texts that have none.
+use Rattle.std.proofs.Common.{◌≡◌, ℕ, List, [], ◌∷◌, ◌++◌, Option, Some, None, refl}
+use Rattle.std.specs.Prelude.{codes, replicate}
+use Rattle.mspec.specs.Grammar.{plus, minus, negate, equals, less, greater, contains, follows, sorts_after, both, either, add, subtract, multiply, divide, divide_whole, remainder, join, is, is_not, classes, copies, AtomTree, OperandTree, PrimaryTree, ExprTree, expr, StepTree, steps_of, apply, matches, matches_not, operand, number, text, local, bracket, call, select, exprs_of, choices_of, variable, piece, DestinationTree, one, several, breaks, value, set, write, LineTree, spell, keyword_of, function_of}
+use Rattle.mspec.specs.Reading.{many, list_at, point_at, exponent_at, number_at, name_at, count_at, repeated_at, atom_at, pattern_at, truth_at, operator_at, bracket_with, choice_with, select_with, call_with, function_with, primary_with, operand_with, step_by, step_with, expr_with, readers_at, place_with, piece_with, target_with, destination_at, assignment_at, output_at, command_at, spaced_at, comment_at, line_at}
+
+-- ---- short forms
+
+-- the text has this tree
+abbrev IsRead : List ℕ → LineTree → Type 0
+IsRead t l = (spell l ≡ t) × (line_at t ≡ Some l)
+
+-- nothing is read of the text: it has no tree (`no_tree` of ReadingLines)
+abbrev HasNone : List ℕ → Type 0
+HasNone t = line_at t ≡ None
+
+-- with no signs in front
+abbrev plain : PrimaryTree → OperandTree
+plain p = operand [] p
+
+abbrev digits : List ℕ → OperandTree
+digits t = plain (number t)
+
+abbrev name : List ℕ → OperandTree
+name t = plain (local t)
+
+abbrev taken : OperandTree → List StepTree → ExprTree
+taken o steps = expr o (steps_of steps)
+
+abbrev alone : OperandTree → ExprTree
+alone o = taken o []
+
+-- a line of one WRITE, by the letter W
+abbrev written : ExprTree → LineTree
+written e = record { lead = 0; commands = (write (codes "W") (value e ∷ []), 0) ∷ []; comment = None }
+
+-- a line of one SET, by the letter S
+abbrev assigned : DestinationTree → ExprTree → LineTree
+assigned t e = record { lead = 0; commands = (set (codes "S") ((t, e) ∷ []), 0) ∷ []; comment = None }
+
+-- ---- texts with their trees
+
+-- operators have no ranks: `1+2*3` is a run of steps
+sum_and_product : IsRead (codes "W 1+2*3") (written (taken (digits (codes "1")) (apply add (digits (codes "2")) ∷ apply multiply (digits (codes "3")) ∷ [])))
+unfolding keyword_of function_of many list_at point_at exponent_at number_at name_at count_at repeated_at atom_at pattern_at truth_at operator_at bracket_with choice_with select_with call_with function_with primary_with operand_with step_by step_with expr_with readers_at place_with piece_with target_with destination_at assignment_at output_at command_at spaced_at comment_at line_at
+sum_and_product = (refl, refl)
+
+-- a quote within a string, two spaces between commands, and a comment
+abbrev two_commands : LineTree
+two_commands = record {
+  lead = 1;
+  commands = (set (codes "s") ((one (variable (codes "A")), alone (plain (text (codes "x\"y")))) ∷ []), 2)
+      ∷ (write (codes "w") (value (alone (name (codes "A"))) ∷ breaks 2 ∷ []), 0) ∷ [];
+  comment = Some (codes "c");
+}
+
+two_commands_read : IsRead (codes " s A=\"x\"\"y\"  w A,!!;c") (two_commands)
+unfolding keyword_of function_of many list_at point_at exponent_at number_at name_at count_at repeated_at atom_at pattern_at truth_at operator_at bracket_with choice_with select_with call_with function_with primary_with operand_with step_by step_with expr_with readers_at place_with piece_with target_with destination_at assignment_at output_at command_at spaced_at comment_at line_at
+two_commands_read = (refl, refl)
+
+-- signs, a name with `%`, and a word in full
+abbrev signs_in_front : LineTree
+signs_in_front = record {
+  lead = 0;
+  commands = (write (codes "WrItE") (value (taken (operand (minus ∷ negate ∷ plus ∷ []) (local (codes "%a1"))) (apply join (operand (minus ∷ []) (text [])) ∷ [])) ∷ []), 1) ∷ [];
+  comment = None;
+}
+
+signs_in_front_read : IsRead (codes "WrItE -'+%a1_-\"\" ") (signs_in_front)
+unfolding keyword_of function_of many list_at point_at exponent_at number_at name_at count_at repeated_at atom_at pattern_at truth_at operator_at bracket_with choice_with select_with call_with function_with primary_with operand_with step_by step_with expr_with readers_at place_with piece_with target_with destination_at assignment_at output_at command_at spaced_at comment_at line_at
+signs_in_front_read = (refl, refl)
+
+nothing : IsRead [] (record { lead = 0; commands = []; comment = None })
+unfolding keyword_of function_of many list_at point_at exponent_at number_at name_at count_at repeated_at atom_at pattern_at truth_at operator_at bracket_with choice_with select_with call_with function_with primary_with operand_with step_by step_with expr_with readers_at place_with piece_with target_with destination_at assignment_at output_at command_at spaced_at comment_at line_at
+nothing = (refl, refl)
+
+comment_alone : IsRead (codes "  ;W 1") (record { lead = 2; commands = []; comment = Some (codes "W 1") })
+unfolding keyword_of function_of many list_at point_at exponent_at number_at name_at count_at repeated_at atom_at pattern_at truth_at operator_at bracket_with choice_with select_with call_with function_with primary_with operand_with step_by step_with expr_with readers_at place_with piece_with target_with destination_at assignment_at output_at command_at spaced_at comment_at line_at
+comment_alone = (refl, refl)
+
+-- a fraction, a fraction alone, and exponents
+numbers : IsRead (codes "W 1.50_.5_2E3_2E-03_.2E+1") (written (taken (digits (codes "1.50")) (apply join (digits (codes ".5")) ∷ apply join (digits (codes "2E3")) ∷ apply join (digits (codes "2E-03")) ∷ apply join (digits (codes ".2E+1")) ∷ [])))
+unfolding keyword_of function_of many list_at point_at exponent_at number_at name_at count_at repeated_at atom_at pattern_at truth_at operator_at bracket_with choice_with select_with call_with function_with primary_with operand_with step_by step_with expr_with readers_at place_with piece_with target_with destination_at assignment_at output_at command_at spaced_at comment_at line_at
+numbers = (refl, refl)
+
+arithmetic_operators : IsRead (codes "W 1-2/3\\4#5") (written (taken (digits (codes "1")) (apply subtract (digits (codes "2")) ∷ apply divide (digits (codes "3")) ∷ apply divide_whole (digits (codes "4")) ∷ apply remainder (digits (codes "5")) ∷ [])))
+unfolding keyword_of function_of many list_at point_at exponent_at number_at name_at count_at repeated_at atom_at pattern_at truth_at operator_at bracket_with choice_with select_with call_with function_with primary_with operand_with step_by step_with expr_with readers_at place_with piece_with target_with destination_at assignment_at output_at command_at spaced_at comment_at line_at
+arithmetic_operators = (refl, refl)
+
+-- `]]` is one operator: the longest
+truth_operators : IsRead (codes "W 1=2<3>4[5]6]]7&8!9") (written (taken (digits (codes "1")) (apply (is equals) (digits (codes "2")) ∷ apply (is less) (digits (codes "3")) ∷ apply (is greater) (digits (codes "4")) ∷ apply (is contains) (digits (codes "5")) ∷ apply (is follows) (digits (codes "6")) ∷ apply (is sorts_after) (digits (codes "7")) ∷ apply (is both) (digits (codes "8")) ∷ apply (is either) (digits (codes "9")) ∷ [])))
+unfolding keyword_of function_of many list_at point_at exponent_at number_at name_at count_at repeated_at atom_at pattern_at truth_at operator_at bracket_with choice_with select_with call_with function_with primary_with operand_with step_by step_with expr_with readers_at place_with piece_with target_with destination_at assignment_at output_at command_at spaced_at comment_at line_at
+truth_operators = (refl, refl)
+
+-- a `'` before an operator belongs to it, and one behind it is a sign
+negated_operators : IsRead (codes "W 1'=2']3']]4'!5='6") (written (taken (digits (codes "1")) (apply (is_not equals) (digits (codes "2")) ∷ apply (is_not follows) (digits (codes "3")) ∷ apply (is_not sorts_after) (digits (codes "4")) ∷ apply (is_not either) (digits (codes "5")) ∷ apply (is equals) (operand (negate ∷ []) (number (codes "6"))) ∷ [])))
+unfolding keyword_of function_of many list_at point_at exponent_at number_at name_at count_at repeated_at atom_at pattern_at truth_at operator_at bracket_with choice_with select_with call_with function_with primary_with operand_with step_by step_with expr_with readers_at place_with piece_with target_with destination_at assignment_at output_at command_at spaced_at comment_at line_at
+negated_operators = (refl, refl)
+
+abbrev atom : List ℕ → Option (List ℕ) → List ℕ → AtomTree
+atom front behind letters = record { count = record { front = front; behind = behind }; repeated = classes letters }
+
+abbrev string_atom : List ℕ → Option (List ℕ) → List ℕ → AtomTree
+string_atom front behind t = record { count = record { front = front; behind = behind }; repeated = copies t }
+
+-- each form of a count; `E` is a class here; a string, and letters in either case
+patterns : IsRead (codes "W A?1N.E2.aUn.3\"x\"1.2P") (written (taken (name (codes "A")) (matches (atom (codes "1") None (codes "N") ∷ atom [] (Some []) (codes "E") ∷ atom (codes "2") (Some []) (codes "aUn") ∷ string_atom [] (Some (codes "3")) (codes "x") ∷ atom (codes "1") (Some (codes "2")) (codes "P") ∷ []) ∷ [])))
+unfolding keyword_of function_of many list_at point_at exponent_at number_at name_at count_at repeated_at atom_at pattern_at truth_at operator_at bracket_with choice_with select_with call_with function_with primary_with operand_with step_by step_with expr_with readers_at place_with piece_with target_with destination_at assignment_at output_at command_at spaced_at comment_at line_at
+patterns = (refl, refl)
+
+-- an expression goes on behind a pattern
+pattern_within : IsRead (codes "W A'?1N_1?0001C") (written (taken (name (codes "A")) (matches_not (atom (codes "1") None (codes "N") ∷ []) ∷ apply join (digits (codes "1")) ∷ matches (atom (codes "0001") None (codes "C") ∷ []) ∷ [])))
+unfolding keyword_of function_of many list_at point_at exponent_at number_at name_at count_at repeated_at atom_at pattern_at truth_at operator_at bracket_with choice_with select_with call_with function_with primary_with operand_with step_by step_with expr_with readers_at place_with piece_with target_with destination_at assignment_at output_at command_at spaced_at comment_at line_at
+pattern_within = (refl, refl)
+
+brackets : IsRead (codes "W -(1+2)*(A)") (written (taken (operand (minus ∷ []) (bracket (taken (digits (codes "1")) (apply add (digits (codes "2")) ∷ [])))) (apply multiply (plain (bracket (alone (name (codes "A"))))) ∷ [])))
+unfolding keyword_of function_of many list_at point_at exponent_at number_at name_at count_at repeated_at atom_at pattern_at truth_at operator_at bracket_with choice_with select_with call_with function_with primary_with operand_with step_by step_with expr_with readers_at place_with piece_with target_with destination_at assignment_at output_at command_at spaced_at comment_at line_at
+brackets = (refl, refl)
+
+-- a word in either case, in full or not
+functions : IsRead (codes "W $L(A)_$extract(A,1,2)") (written (taken (plain (call (codes "L") (exprs_of (alone (name (codes "A")) ∷ [])))) (apply join (plain (call (codes "extract") (exprs_of (alone (name (codes "A")) ∷ alone (digits (codes "1")) ∷ alone (digits (codes "2")) ∷ [])))) ∷ [])))
+unfolding keyword_of function_of many list_at point_at exponent_at number_at name_at count_at repeated_at atom_at pattern_at truth_at operator_at bracket_with choice_with select_with call_with function_with primary_with operand_with step_by step_with expr_with readers_at place_with piece_with target_with destination_at assignment_at output_at command_at spaced_at comment_at line_at
+functions = (refl, refl)
+
+choices : IsRead (codes "W $S(A:1,1:2)") (written (alone (plain (select (codes "S") (choices_of ((alone (name (codes "A")), alone (digits (codes "1"))) ∷ (alone (digits (codes "1")), alone (digits (codes "2"))) ∷ []))))))
+unfolding keyword_of function_of many list_at point_at exponent_at number_at name_at count_at repeated_at atom_at pattern_at truth_at operator_at bracket_with choice_with select_with call_with function_with primary_with operand_with step_by step_with expr_with readers_at place_with piece_with target_with destination_at assignment_at output_at command_at spaced_at comment_at line_at
+choices = (refl, refl)
+
+piece_set : IsRead (codes "S $P(A,1,2)=3") (assigned (one (piece (codes "P") (codes "A") (alone (digits (codes "1"))) (Some (alone (digits (codes "2")))))) (alone (digits (codes "3"))))
+unfolding keyword_of function_of many list_at point_at exponent_at number_at name_at count_at repeated_at atom_at pattern_at truth_at operator_at bracket_with choice_with select_with call_with function_with primary_with operand_with step_by step_with expr_with readers_at place_with piece_with target_with destination_at assignment_at output_at command_at spaced_at comment_at line_at
+piece_set = (refl, refl)
+
+several_set : IsRead (codes "S (A,$PIECE(B,1))=3") (assigned (several (variable (codes "A") ∷ piece (codes "PIECE") (codes "B") (alone (digits (codes "1"))) None ∷ [])) (alone (digits (codes "3"))))
+unfolding keyword_of function_of many list_at point_at exponent_at number_at name_at count_at repeated_at atom_at pattern_at truth_at operator_at bracket_with choice_with select_with call_with function_with primary_with operand_with step_by step_with expr_with readers_at place_with piece_with target_with destination_at assignment_at output_at command_at spaced_at comment_at line_at
+several_set = (refl, refl)
+
+-- ---- how deep brackets may lie
+
+-- a number in so many brackets
+abbrev in_brackets : ℕ → List ℕ
+in_brackets n = replicate n 40 ++ (49 ∷ replicate n 41)
+
+abbrev IsSome : {A : Type 0} → Option A → Type 0
+IsSome None = ⊥
+IsSome (Some a) = Unit {0}
+
+forty_open : IsSome (line_at (codes "W " ++ in_brackets 40))
+unfolding keyword_of function_of many list_at point_at exponent_at number_at name_at count_at repeated_at atom_at pattern_at truth_at operator_at bracket_with choice_with select_with call_with function_with primary_with operand_with step_by step_with expr_with readers_at place_with piece_with target_with destination_at assignment_at output_at command_at spaced_at comment_at line_at
+forty_open = tt
+
+forty_one_open : HasNone (codes "W " ++ in_brackets 41)
+unfolding keyword_of function_of many list_at point_at exponent_at number_at name_at count_at repeated_at atom_at pattern_at truth_at operator_at bracket_with choice_with select_with call_with function_with primary_with operand_with step_by step_with expr_with readers_at place_with piece_with target_with destination_at assignment_at output_at command_at spaced_at comment_at line_at
+forty_one_open = refl
+
+-- ---- texts that have none
+
+-- commands and their arguments
+no_commands :
+    HasNone (codes "W")
+    × HasNone (codes "W 1,")
+    × HasNone (codes "W 1 2")
+    × HasNone (codes "WRI 1")
+    × HasNone (codes "W  1")
+    × HasNone (codes "W \"a\"W 1")
+    × HasNone (codes "W ,1")
+unfolding keyword_of function_of many list_at point_at exponent_at number_at name_at count_at repeated_at atom_at pattern_at truth_at operator_at bracket_with choice_with select_with call_with function_with primary_with operand_with step_by step_with expr_with readers_at place_with piece_with target_with destination_at assignment_at output_at command_at spaced_at comment_at line_at
+no_commands = (refl, refl, refl, refl, refl, refl, refl)
+
+-- strings and names
+no_names :
+    HasNone (codes "W \"a")
+    × HasNone (codes "W A234567890123456789012345678901X")
+unfolding keyword_of function_of many list_at point_at exponent_at number_at name_at count_at repeated_at atom_at pattern_at truth_at operator_at bracket_with choice_with select_with call_with function_with primary_with operand_with step_by step_with expr_with readers_at place_with piece_with target_with destination_at assignment_at output_at command_at spaced_at comment_at line_at
+no_names = (refl, refl)
+
+-- numbers: `E` belongs to one only where a digit, or a sign and a digit, follows
+no_numbers :
+    HasNone (codes "W 1..5")
+    × HasNone (codes "W 1.")
+    × HasNone (codes "W .")
+    × HasNone (codes "W 1E")
+    × HasNone (codes "W 1E+")
+    × HasNone (codes "W 1E5E5")
+    × HasNone (codes "W 1A")
+unfolding keyword_of function_of many list_at point_at exponent_at number_at name_at count_at repeated_at atom_at pattern_at truth_at operator_at bracket_with choice_with select_with call_with function_with primary_with operand_with step_by step_with expr_with readers_at place_with piece_with target_with destination_at assignment_at output_at command_at spaced_at comment_at line_at
+no_numbers = (refl, refl, refl, refl, refl, refl, refl)
+
+-- operators
+no_operators :
+    HasNone (codes "W 1+")
+    × HasNone (codes "W *1")
+    × HasNone (codes "W 1'2")
+    × HasNone (codes "W 1'+2")
+    × HasNone (codes "W 1]]]2")
+    × HasNone (codes "W 1@2")
+unfolding keyword_of function_of many list_at point_at exponent_at number_at name_at count_at repeated_at atom_at pattern_at truth_at operator_at bracket_with choice_with select_with call_with function_with primary_with operand_with step_by step_with expr_with readers_at place_with piece_with target_with destination_at assignment_at output_at command_at spaced_at comment_at line_at
+no_operators = (refl, refl, refl, refl, refl, refl)
+
+-- patterns: a count has at most four digits, and something that it counts
+no_patterns :
+    HasNone (codes "W 1?00001N")
+    × HasNone (codes "W 1?1.00001N")
+    × HasNone (codes "W 1?N")
+    × HasNone (codes "W 1?1")
+    × HasNone (codes "W 1?")
+    × HasNone (codes "W 1?1X")
+    × HasNone (codes "W 1?\"a\"")
+    × HasNone (codes "W 1'?")
+    × HasNone (codes "W 1?1N \"a\"")
+unfolding keyword_of function_of many list_at point_at exponent_at number_at name_at count_at repeated_at atom_at pattern_at truth_at operator_at bracket_with choice_with select_with call_with function_with primary_with operand_with step_by step_with expr_with readers_at place_with piece_with target_with destination_at assignment_at output_at command_at spaced_at comment_at line_at
+no_patterns = (refl, refl, refl, refl, refl, refl, refl, refl, refl)
+
+-- brackets
+no_brackets :
+    HasNone (codes "W ()")
+    × HasNone (codes "W (1")
+    × HasNone (codes "W 1)")
+    × HasNone (codes "W (1,2)")
+unfolding keyword_of function_of many list_at point_at exponent_at number_at name_at count_at repeated_at atom_at pattern_at truth_at operator_at bracket_with choice_with select_with call_with function_with primary_with operand_with step_by step_with expr_with readers_at place_with piece_with target_with destination_at assignment_at output_at command_at spaced_at comment_at line_at
+no_brackets = (refl, refl, refl, refl)
+
+-- functions: the number of arguments, and the form of $SELECT
+no_functions :
+    HasNone (codes "W $C()")
+    × HasNone (codes "W $P(A)")
+    × HasNone (codes "W $L(1,2,3)")
+    × HasNone (codes "W $S(1)")
+    × HasNone (codes "W $S(1:2,3)")
+    × HasNone (codes "W $L(1:2)")
+    × HasNone (codes "W $X(1)")
+    × HasNone (codes "W $L")
+    × HasNone (codes "W $ST(1)")
+    × HasNone (codes "W $L(1")
+unfolding keyword_of function_of many list_at point_at exponent_at number_at name_at count_at repeated_at atom_at pattern_at truth_at operator_at bracket_with choice_with select_with call_with function_with primary_with operand_with step_by step_with expr_with readers_at place_with piece_with target_with destination_at assignment_at output_at command_at spaced_at comment_at line_at
+no_functions = (refl, refl, refl, refl, refl, refl, refl, refl, refl, refl)
+
+-- left sides of a SET
+no_targets :
+    HasNone (codes "S A=")
+    × HasNone (codes "S 1=2")
+    × HasNone (codes "S ()=1")
+    × HasNone (codes "S $L(A)=1")
+    × HasNone (codes "S $P(A)=1")
+    × HasNone (codes "S $P(1,2)=1")
+    × HasNone (codes "S $P(A,1,2,3)=1")
+    × HasNone (codes "S (A=1")
+    × HasNone (codes "S (A,1)=1")
+    × HasNone (codes "S ((A))=1")
+    × HasNone (codes "S (A)")
+unfolding keyword_of function_of many list_at point_at exponent_at number_at name_at count_at repeated_at atom_at pattern_at truth_at operator_at bracket_with choice_with select_with call_with function_with primary_with operand_with step_by step_with expr_with readers_at place_with piece_with target_with destination_at assignment_at output_at command_at spaced_at comment_at line_at
+no_targets = (refl, refl, refl, refl, refl, refl, refl, refl, refl, refl, refl)

@@ -1,0 +1,193 @@
+-- What is read as an expression is spelled so, and what is spelled so is read.
+use Rattle.std.proofs.Common.{◌≡◌, ℕ, zero, suc, ◌<◌, ◌-◌, Bool, true, false, List, [], ◌∷◌, ◌++◌, length, Option, Some, None, refl, sym, ap, subst, ◌∙◌, append_assoc, arith}
+use Rattle.std.specs.Prelude.{◌||◌}
+use Rattle.std.proofs.lemmas.Bool.Decides.{nat_tests}
+use Rattle.std.proofs.lemmas.List.{append-nil}
+use Rattle.mspec.specs.Grammar.{plus, minus, negate, BinaryTree, AtomTree, ExprTree, expr, StepTree, apply, matches, matches_not, StepsTree, no_steps, step, steps_of, OperandTree, operand, spell_signs, spell_binary, spell_atoms, spell_expr, spell_steps, spell_step, spell_operand, spell_primary, WellExpr, WellSteps, WellStep, WellOperand}
+use Rattle.mspec.specs.Reading.{◌>>=◌, many, pattern_at, signs_of, after_signs, OperatorTree, between, matching, matching_not, operator_at, Readers, primary_with, operand_with, step_by, step_behind, step_with, expr_with, readers_at, inner_at}
+use Rattle.mspec.proofs.ReadingBasics.{Takes, Again, Begins, Begins-stops, Begins-append, Begins-weaker, Begins-long, goes_on, bind_some, some_is}
+use Rattle.mspec.proofs.ReadingLists.{each, ItemTakes, many_takes, many_again, count_le, joined}
+use Rattle.mspec.proofs.ReadingPatterns.{pattern_takes, pattern_again}
+use Rattle.mspec.proofs.ReadingOperators.{is_sign, signs_parts, signs_again, is_follows, spell_operator, operator_takes, operator_again, is_operator, operator_begins, no_operator}
+use Rattle.mspec.proofs.ReadingTrees.{steps_list, steps_back, spell_steps-each, steps_well, list_well, WellInner}
+use Rattle.mspec.proofs.ReadingPrimaries.{OperandEnds, Ends, begins_primary, primary_begins, primary_takes, primary_again}
+
+-- ---- what is read is spelled so, below some depth
+
+-- the text of an operator and of what stands behind it
+behind_parts : (o cs a b : List ℕ) → cs ≡ a ++ b → o ++ cs ≡ (o ++ a) ++ b
+behind_parts o cs a b p = rw (p, append_assoc) refl
+
+module _ (d : ℕ) (r : Readers) (inner_takes : Takes spell_expr (WellInner d) (r.inner)) where
+  operand_takes : Takes spell_operand (WellOperand d) (operand_with r)
+  unfolding operand_with
+  operand_takes cs x e =
+      let b = bind_some (primary_with r (after_signs cs)) (λ p. Some (operand (signs_of cs) p.0, p.1)) x e in
+      let p = primary_takes d r inner_takes (after_signs cs) b.0 b.1 in
+      let s = signs_parts cs in
+      subst (λ (y : OperandTree × List ℕ). (cs ≡ spell_operand y.0 ++ y.1) × WellOperand d y.0) (some_is (operand (signs_of cs) b.0.0, b.0.1) x b.2)
+      (s ∙ ap (λ (y : List ℕ). spell_signs (signs_of cs) ++ y) p.0 ∙ sym (append_assoc (spell_signs (signs_of cs)) (spell_primary b.0.0) b.0.1), p.1)
+
+  -- this step was read of this operator and the text behind it
+  abbrev StepIs : List ℕ → StepTree × List ℕ → Type 0
+  StepIs cs x = (cs ≡ spell_step x.0 ++ x.1) × WellStep d x.0
+
+  step_takes_by : (o : OperatorTree) (cs : List ℕ) (x : StepTree × List ℕ) → step_by r o cs ≡ Some x → StepIs (spell_operator o ++ cs) x
+  unfolding step_by
+  step_takes_by (between b) cs x e =
+      let k = bind_some (operand_with r cs) (λ o. Some (apply b o.0, o.1)) x e in
+      let o = operand_takes cs k.0 k.1 in
+      subst (StepIs (spell_binary b ++ cs)) (some_is (apply b k.0.0, k.0.1) x k.2) (behind_parts (spell_binary b) cs (spell_operand k.0.0) k.0.1 o.0, o.1)
+  step_takes_by matching cs x e =
+      let k = bind_some (pattern_at cs) (λ p. Some (matches p.0, p.1)) x e in
+      let p = pattern_takes cs k.0 k.1 in
+      subst (StepIs (63 ∷ cs)) (some_is (matches k.0.0, k.0.1) x k.2) (behind_parts (63 ∷ []) cs (spell_atoms k.0.0) k.0.1 p.0, p.1)
+  step_takes_by matching_not cs x e =
+      let k = bind_some (pattern_at cs) (λ p. Some (matches_not p.0, p.1)) x e in
+      let p = pattern_takes cs k.0 k.1 in
+      subst (StepIs (39 ∷ 63 ∷ cs)) (some_is (matches_not k.0.0, k.0.1) x k.2) (behind_parts (39 ∷ 63 ∷ []) cs (spell_atoms k.0.0) k.0.1 p.0, p.1)
+
+  -- as step_takes, where this operator is in front
+  step_takes_behind : (cs : List ℕ) (o : Option (OperatorTree × List ℕ)) (x : StepTree × List ℕ) → operator_at cs ≡ o → step_behind r o ≡ Some (Some x) → StepIs cs x
+  step_takes_behind cs None x h e = absurd cc
+  step_takes_behind cs (Some o) x h e =
+      let k = bind_some (step_by r o.0 o.1) (λ s. Some (Some s)) (Some x) e in
+      let s = step_takes_by o.0 o.1 k.0 k.1 in
+      let parts : cs ≡ spell_operator o.0 ++ o.1 = operator_takes cs o h in
+      subst (StepIs cs) (some_is k.0 x (some_is (Some k.0) (Some x) k.2)) (parts ∙ s.0, s.1)
+
+  step_takes : ItemTakes spell_step (WellStep d) (step_with r)
+  unfolding step_with
+  step_takes cs x e = step_takes_behind cs (operator_at cs) x refl e
+
+  pub expr_takes : Takes spell_expr (WellExpr d) (expr_with r)
+  unfolding expr_with
+  expr_takes cs x e =
+      let b = bind_some (operand_with r cs) (λ o. many (step_with r) (length o.1) o.1 >>= λ s. Some (expr o.0 (steps_of s.0), s.1)) x e in
+      let k = bind_some (many (step_with r) (length b.0.1) b.0.1) (λ s. Some (expr b.0.0 (steps_of s.0), s.1)) x b.2 in
+      let o = operand_takes cs b.0 b.1 in
+      let s = many_takes spell_step (WellStep d) (step_with r) step_takes (length b.0.1) b.0.1 k.0 k.1 in
+      let parts : cs ≡ (spell_operand b.0.0 ++ spell_steps (steps_of k.0.0)) ++ k.0.1 = joined cs (spell_operand b.0.0) b.0.1 (each spell_step k.0.0) k.0.1 (spell_steps (steps_of k.0.0)) o.0 s.0 (spell_steps-each k.0.0) in
+      subst (λ (y : ExprTree × List ℕ). (cs ≡ spell_expr y.0 ++ y.1) × WellExpr d y.0) (some_is (expr b.0.0 (steps_of k.0.0), k.0.1) x k.2) (parts, (o.1, steps_well d k.0.0 s.1))
+
+-- an expression that was read within brackets
+inner_well : (d : ℕ) (e : ExprTree) → WellExpr d e → WellInner (suc d) e
+inner_well d e w =
+    let lt : 0 < suc d = omega arith in
+    let same : d ≡ suc d - 1 = omega arith in
+    (lt, subst (λ (n : ℕ). WellExpr n e) same w)
+
+well_inner : (d : ℕ) (e : ExprTree) → WellInner (suc d) e → WellExpr d e
+well_inner d e w = let same : suc d - 1 ≡ d = omega arith in subst (λ (n : ℕ). WellExpr n e) same w.1
+
+pub inner_takes : (d : ℕ) → Takes spell_expr (WellInner d) (inner_at d)
+unfolding readers_at
+inner_takes zero cs x e = absurd cc
+inner_takes (suc d) cs x e =
+    let t = expr_takes d (readers_at d) (inner_takes d) cs x e in
+    (t.0, inner_well d x.0 t.1)
+
+-- ---- what is spelled so is read, below some depth
+
+primary_tests : (c : ℕ) → begins_primary c ≡ true → (is_sign c ≡ false) × (is_follows c ≡ false)
+primary_tests c h = (grind (arith, nat_tests), grind (arith, nat_tests))
+
+-- a character that an operand begins with
+abbrev pub begins_operand : ℕ → Bool
+begins_operand c = is_sign c || begins_primary c
+
+begins_either : (c : ℕ) → begins_primary c ≡ true → begins_operand c ≡ true
+begins_either c h = grind (arith, nat_tests)
+
+pub operand_begins : (d : ℕ) (o : OperandTree) → WellOperand d o → Begins begins_operand (spell_operand o)
+operand_begins d (operand [] p) w = Begins-weaker begins_primary begins_operand (spell_primary p) begins_either (primary_begins d p w)
+operand_begins d (operand (plus ∷ ss) p) w = refl
+operand_begins d (operand (minus ∷ ss) p) w = refl
+operand_begins d (operand (negate ∷ ss) p) w = refl
+
+pub expr_begins : (d : ℕ) (e : ExprTree) → WellExpr d e → Begins begins_operand (spell_expr e)
+expr_begins d (expr first rest) w = Begins-append begins_operand (spell_operand first) (spell_steps rest) (operand_begins d first w.0)
+
+not_follows : (c : ℕ) → begins_operand c ≡ true → is_follows c ≡ false
+not_follows c h = grind (arith, nat_tests)
+
+step_begins : (s : StepTree) → Begins is_operator (spell_step s)
+step_begins (apply b o) = Begins-append is_operator (spell_binary b) (spell_operand o) (subst (Begins is_operator) (append-nil (spell_binary b)) (operator_begins (between b) []))
+step_begins (matches atoms) = refl
+step_begins (matches_not atoms) = refl
+
+operator_ends : (c : ℕ) → is_operator c ≡ true → goes_on c ≡ false
+operator_ends c h = grind (arith, nat_tests)
+
+step_ends : (s : StepTree) (rest : List ℕ) → OperandEnds (spell_step s ++ rest)
+step_ends s rest = Begins-stops is_operator goes_on (spell_step s ++ rest) operator_ends (Begins-append is_operator (spell_step s) rest (step_begins s))
+
+-- steps begin with what may follow an operand
+steps_stop : (s : StepsTree) (rest : List ℕ) → OperandEnds rest → OperandEnds (spell_steps s ++ rest)
+steps_stop no_steps rest f = f
+steps_stop (step s more) rest f = subst OperandEnds (sym (append_assoc (spell_step s) (spell_steps more) rest)) (step_ends s (spell_steps more ++ rest))
+
+by_operator : (r : Readers) (cs ds : List ℕ) (o : OperatorTree) (s : StepTree) (rest : List ℕ) → operator_at cs ≡ Some (o, ds) → step_by r o ds ≡ Some (s, rest) → step_with r cs ≡ Some (Some (s, rest))
+unfolding step_with
+by_operator r cs ds o s rest h k = rw (h, k) refl
+
+apply_step : (r : Readers) (b : BinaryTree) (cs : List ℕ) (o : OperandTree) (rest : List ℕ) → operand_with r cs ≡ Some (o, rest) → step_by r (between b) cs ≡ Some (apply b o, rest)
+unfolding step_by
+apply_step r b cs o rest h = rw h refl
+
+matches_step : (r : Readers) (cs : List ℕ) (atoms : List AtomTree) (rest : List ℕ) → pattern_at cs ≡ Some (atoms, rest) → step_by r matching cs ≡ Some (matches atoms, rest)
+unfolding step_by
+matches_step r cs atoms rest h = rw h refl
+
+matches_not_step : (r : Readers) (cs : List ℕ) (atoms : List AtomTree) (rest : List ℕ) → pattern_at cs ≡ Some (atoms, rest) → step_by r matching_not cs ≡ Some (matches_not atoms, rest)
+unfolding step_by
+matches_not_step r cs atoms rest h = rw h refl
+
+match_operators : (cs : List ℕ) → (operator_at (63 ∷ cs) ≡ Some (matching, cs)) × (operator_at (39 ∷ 63 ∷ cs) ≡ Some (matching_not, cs))
+unfolding operator_at
+match_operators cs = (refl, refl)
+
+module _ (d : ℕ) (r : Readers) (inner_again : Again spell_expr (WellInner d) Ends (r.inner)) where
+  operand_again : Again spell_operand (WellOperand d) OperandEnds (operand_with r)
+  unfolding operand_with
+  operand_again (operand signs p) rest w s =
+      let no_sign = Begins-stops begins_primary is_sign (spell_primary p ++ rest) (λ c h. (primary_tests c h).0) (Begins-append begins_primary (spell_primary p) rest (primary_begins d p w)) in
+      let i = signs_again signs (spell_primary p ++ rest) no_sign in
+      let parts : (spell_signs signs ++ spell_primary p) ++ rest ≡ spell_signs signs ++ (spell_primary p ++ rest) = append_assoc (spell_signs signs) (spell_primary p) rest in
+      ap (operand_with r) parts ∙ rw (i.0, i.1, primary_again d r inner_again p rest w s) refl
+
+  step_again : (x : StepTree) (rest : List ℕ) → WellStep d x → OperandEnds rest → step_with r (spell_step x ++ rest) ≡ Some (Some (x, rest))
+  step_again (apply b o) rest w s =
+      let stops = Begins-stops begins_operand is_follows (spell_operand o ++ rest) not_follows (Begins-append begins_operand (spell_operand o) rest (operand_begins d o w)) in
+      by_operator r ((spell_binary b ++ spell_operand o) ++ rest) (spell_operand o ++ rest) (between b) (apply b o) rest
+      (ap operator_at (append_assoc (spell_binary b) (spell_operand o) rest) ∙ operator_again (between b) (spell_operand o ++ rest) stops) (apply_step r b (spell_operand o ++ rest) o rest (operand_again o rest w s))
+  step_again (matches atoms) rest w s =
+      by_operator r (63 ∷ (spell_atoms atoms ++ rest)) (spell_atoms atoms ++ rest) matching (matches atoms) rest (match_operators (spell_atoms atoms ++ rest)).0
+      (matches_step r (spell_atoms atoms ++ rest) atoms rest (pattern_again atoms rest w s))
+  step_again (matches_not atoms) rest w s =
+      by_operator r (39 ∷ 63 ∷ (spell_atoms atoms ++ rest)) (spell_atoms atoms ++ rest) matching_not (matches_not atoms) rest (match_operators (spell_atoms atoms ++ rest)).1
+      (matches_not_step r (spell_atoms atoms ++ rest) atoms rest (pattern_again atoms rest w s))
+
+  step_none : (rest : List ℕ) → operator_at rest ≡ None → step_with r rest ≡ Some None
+  unfolding step_with
+  step_none rest h = rw h refl
+
+  steps_again : (s : StepsTree) (rest : List ℕ) → WellSteps d s → Ends rest → many (step_with r) (length (spell_steps s ++ rest)) (spell_steps s ++ rest) ≡ Some (steps_list s, rest)
+  steps_again s rest w f =
+      let xs = steps_list s in
+      let same : spell_steps s ≡ each spell_step xs = ap spell_steps (sym (steps_back s)) ∙ spell_steps-each xs in
+      let well = list_well d s w in
+      let enough = count_le spell_step (WellStep d) (step_with r) (λ x v. Begins-long is_operator (spell_step x) (step_begins x)) xs rest well in
+      rw same (many_again spell_step (WellStep d) (step_with r) OperandEnds step_again (λ x cs v. step_ends x cs)
+      (length (each spell_step xs ++ rest)) xs rest enough well f.0 (step_none rest (no_operator rest f.1)))
+
+  pub expr_again : Again spell_expr (WellExpr d) Ends (expr_with r)
+  unfolding expr_with
+  expr_again (expr first steps) rest w f =
+      let parts : (spell_operand first ++ spell_steps steps) ++ rest ≡ spell_operand first ++ (spell_steps steps ++ rest) = append_assoc (spell_operand first) (spell_steps steps) rest in
+      ap (expr_with r) parts ∙ rw (operand_again first (spell_steps steps ++ rest) w.0 (steps_stop steps rest f.0), steps_again steps rest w.1 f, steps_back steps) refl
+
+pub inner_again : (d : ℕ) → Again spell_expr (WellInner d) Ends (inner_at d)
+unfolding readers_at
+inner_again zero e rest w f = absurd (omega (arith, w.0))
+inner_again (suc d) e rest w f = expr_again d (readers_at d) (inner_again d) e rest (well_inner d e w) f

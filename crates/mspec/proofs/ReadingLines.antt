@@ -1,0 +1,344 @@
+-- What is read as a line is spelled so, and what is spelled so is read.
+use Rattle.std.proofs.Common.{◌≡◌, ℕ, zero, suc, ◌<◌, ◌≤◌, Bool, true, false, eqb, List, [], ◌∷◌, ◌++◌, length, Option, Some, None, inl, inr, refl, sym, ap, subst, ◌∙◌, append_assoc, arith, replicate, length-append}
+use Rattle.std.specs.Prelude.{nat_lt, ◌||◌}
+use Rattle.std.proofs.lemmas.Bool.{eqb-true}
+use Rattle.std.proofs.lemmas.Bool.Decides.{nat_tests}
+use Rattle.std.proofs.lemmas.List.{append-nil, length-replicate}
+use Rattle.mspec.specs.Grammar.{OutputTree, breaks, value, CommandTree, set, write, SpacedTree, LineTree, spell_expr, spell_assignment, spell_output, spell_list, spell_command, spell_commands, spell_comment, spell, is_letter, is_character, KeywordTree, set_word, write_word, keyword_of, max_depth, AllAre, WellAssignment, WellOutput, WellCommand, WellCommands, WellComment, well}
+use Rattle.mspec.specs.Reading.{◌>>=◌, run_of, after_run, many, more_by, expr_at, readers_at, list_at, assignment_at, is_bang, output_by, output_at, arguments_by, command_by, command_at, is_space, at_end, spaced, spaced_at, comment_by, comment_at, line_at}
+use Rattle.mspec.proofs.ReadingBasics.{Takes, Again, Stops, Begins-stops, Begins-append, bind_some, chosen, some_is, run_parts, run_again}
+use Rattle.mspec.proofs.ReadingLists.{is_comma, list_takes, list_again}
+use Rattle.mspec.proofs.ReadingPrimaries.{Ends}
+use Rattle.mspec.proofs.ReadingExprs.{begins_operand, expr_begins, inner_takes, inner_again, expr_takes, expr_again}
+use Rattle.mspec.proofs.ReadingTargets.{assignment_takes, assignment_again}
+
+-- ---- arguments
+
+-- what may follow an argument
+abbrev pub Follows : List ℕ → Type 0
+Follows rest = Ends rest × Stops is_bang rest
+
+not_bang : (c : ℕ) → begins_operand c ≡ true → is_bang c ≡ false
+not_bang c h = grind (arith, nat_tests)
+
+no_run : (p : ℕ → Bool) (cs : List ℕ) → Stops p cs → run_of p cs ≡ []
+no_run p [] s = refl
+no_run p (c ∷ cs) s = rw s refl
+
+all_copies : (a : ℕ) (xs : List ℕ) → AllAre (λ c. eqb c a) xs → xs ≡ replicate (length xs) a
+all_copies a [] h = refl
+all_copies a (c ∷ cs) h = let at : c ≡ a = eqb-true _ _ h.0 in rw (← at) (ap (λ (y : List ℕ). c ∷ y) (rw at (all_copies a cs h.1)))
+
+copies_are : (a n : ℕ) → eqb a a ≡ true → AllAre (λ c. eqb c a) (replicate n a)
+copies_are a zero h = tt
+copies_are a (suc n) h = (h, copies_are a n h)
+
+-- as output_takes, where this run of `!` is in front
+output_takes_by : (r cs : List ℕ) (x : OutputTree × List ℕ) → run_of is_bang cs ≡ r → output_by r cs ≡ Some x → (cs ≡ spell_output x.0 ++ x.1) × WellOutput x.0
+output_takes_by [] cs x h e =
+    let b = bind_some (expr_at max_depth cs) (λ y. Some (value y.0, y.1)) x e in
+    let t = expr_takes max_depth (readers_at max_depth) (inner_takes max_depth) cs b.0 b.1 in
+    subst (λ (y : OutputTree × List ℕ). (cs ≡ spell_output y.0 ++ y.1) × WellOutput y.0) (some_is (value b.0.0, b.0.1) x b.2) t
+output_takes_by (b ∷ bs) cs x h e =
+    let r = run_parts is_bang cs in
+    let copies : b ∷ bs ≡ replicate (length (b ∷ bs)) 33 = all_copies 33 (b ∷ bs) (subst (AllAre is_bang) h r.1) in
+    let parts : cs ≡ replicate (length (b ∷ bs)) 33 ++ after_run is_bang cs = r.0 ∙ ap (λ (y : List ℕ). y ++ after_run is_bang cs) (h ∙ copies) in
+    let long : 0 < length (b ∷ bs) = omega arith in
+    subst (λ (y : OutputTree × List ℕ). (cs ≡ spell_output y.0 ++ y.1) × WellOutput y.0) (some_is (breaks (length (b ∷ bs)), after_run is_bang cs) x e) (parts, long)
+
+output_takes : Takes spell_output WellOutput output_at
+unfolding output_at
+output_takes cs x e = output_takes_by (run_of is_bang cs) cs x refl e
+
+output_again : Again spell_output WellOutput Follows output_at
+unfolding output_at
+output_again (breaks zero) rest w s = absurd (omega arith)
+output_again (breaks (suc n)) rest w s =
+    let r = run_again is_bang (replicate n 33) rest (copies_are 33 n refl) s.1 in
+    rw (r.0, r.1, length-replicate {A = ℕ} n 33) refl
+output_again (value e) rest w s =
+    let none : run_of is_bang (spell_expr e ++ rest) ≡ [] = no_run is_bang (spell_expr e ++ rest) (Begins-stops begins_operand is_bang (spell_expr e ++ rest) not_bang (Begins-append begins_operand (spell_expr e) rest (expr_begins max_depth e w))) in
+    rw (none, expr_again max_depth (readers_at max_depth) (inner_again max_depth) e rest w s.0) refl
+
+-- ---- commands
+
+-- what may follow the last argument
+abbrev After : List ℕ → Type 0
+After rest = Follows rest × Stops is_comma rest
+
+-- a command of this word and keyword, of which the arguments are left
+arguments_takes : (w cs : List ℕ) (k : Option KeywordTree) (x : CommandTree × List ℕ) → keyword_of w ≡ k → AllAre is_letter w → arguments_by w k cs ≡ Some x
+    → (w ++ 32 ∷ cs ≡ spell_command x.0 ++ x.1) × WellCommand x.0
+arguments_takes w cs None x h l e = absurd cc
+arguments_takes w cs (Some set_word) x h l e =
+    let b = bind_some (list_at assignment_at cs) (λ y. Some (set w y.0, y.1)) x e in
+    let t = list_takes spell_assignment WellAssignment assignment_at assignment_takes cs b.0 b.1 in
+    subst (λ (y : CommandTree × List ℕ). (w ++ 32 ∷ cs ≡ spell_command y.0 ++ y.1) × WellCommand y.0) (some_is (set w b.0.0, b.0.1) x b.2)
+    (spread w cs (spell_list spell_assignment b.0.0) b.0.1 t.0, (h, l, t.1))
+  where
+    spread : (w cs a rest : List ℕ) → cs ≡ a ++ rest → w ++ 32 ∷ cs ≡ (w ++ 32 ∷ a) ++ rest
+    spread w cs a rest p = rw (p, append_assoc) refl
+arguments_takes w cs (Some write_word) x h l e =
+    let b = bind_some (list_at output_at cs) (λ y. Some (write w y.0, y.1)) x e in
+    let t = list_takes spell_output WellOutput output_at output_takes cs b.0 b.1 in
+    subst (λ (y : CommandTree × List ℕ). (w ++ 32 ∷ cs ≡ spell_command y.0 ++ y.1) × WellCommand y.0) (some_is (write w b.0.0, b.0.1) x b.2)
+    (spread w cs (spell_list spell_output b.0.0) b.0.1 t.0, (h, l, t.1))
+  where
+    spread : (w cs a rest : List ℕ) → cs ≡ a ++ rest → w ++ 32 ∷ cs ≡ (w ++ 32 ∷ a) ++ rest
+    spread w cs a rest p = rw (p, append_assoc) refl
+
+-- a command of this word, of which the text behind the word is left
+command_takes_by : (w cs : List ℕ) (x : CommandTree × List ℕ) → AllAre is_letter w → command_by w cs ≡ Some x → (w ++ cs ≡ spell_command x.0 ++ x.1) × WellCommand x.0
+command_takes_by w [] x l e = absurd cc
+command_takes_by w (c ∷ cs) x l e =
+    elim (chosen (eqb c 32) (arguments_by w (keyword_of w) cs) None (Some x) e) [
+      | inl p ↦
+          let t = arguments_takes w cs (keyword_of w) x refl l p.1 in
+          let at : c ≡ 32 = eqb-true _ _ p.0 in
+          (ap (λ (y : ℕ). w ++ y ∷ cs) at ∙ t.0, t.1)
+      | inr p ↦ absurd cc
+    ]
+
+command_takes : Takes spell_command WellCommand command_at
+unfolding command_at
+command_takes cs x e =
+    let r = run_parts is_letter cs in
+    let t = command_takes_by (run_of is_letter cs) (after_run is_letter cs) x r.1 e in
+    (r.0 ∙ t.0, t.1)
+
+command_again : Again spell_command WellCommand After command_at
+unfolding command_at
+command_again (set w args) rest h s =
+    let r = run_again is_letter w (32 ∷ (spell_list spell_assignment args ++ rest)) h.1 refl in
+    ap command_at (append_assoc w (32 ∷ spell_list spell_assignment args) rest)
+    ∙ rw (r.0, r.1, h.0, list_again spell_assignment WellAssignment assignment_at Ends (λ cs. (refl, refl)) assignment_again args rest h.2 (s.0.0, s.1)) refl
+command_again (write w args) rest h s =
+    let r = run_again is_letter w (32 ∷ (spell_list spell_output args ++ rest)) h.1 refl in
+    ap command_at (append_assoc w (32 ∷ spell_list spell_output args) rest)
+    ∙ rw (r.0, r.1, h.0, list_again spell_output WellOutput output_at Follows (λ cs. ((refl, refl), refl)) output_again args rest h.2 s) refl
+
+-- ---- commands with spaces behind them
+
+-- a space stands behind the command, unless nothing more than a comment follows
+abbrev HasGap : SpacedTree → List ℕ → Type 0
+HasGap c rest = at_end rest || nat_lt 0 c.1 ≡ true
+
+spaced_takes : (cs : List ℕ) (x : SpacedTree × List ℕ) → spaced_at cs ≡ Some (Some x) → (cs ≡ spell_command x.0.0 ++ (replicate x.0.1 32 ++ x.1)) × WellCommand x.0.0 × HasGap x.0 x.1
+unfolding spaced_at
+spaced_takes cs x e =
+    elim (chosen (at_end cs) (Some None) (command_at cs >>= λ c. spaced c.0 (run_of is_space c.1) (after_run is_space c.1)) (Some (Some x)) e) [
+      | inl p ↦ absurd cc
+      | inr p ↦
+          let b = bind_some (command_at cs) (λ c. spaced c.0 (run_of is_space c.1) (after_run is_space c.1)) (Some x) p.1 in
+          let t = command_takes cs b.0 b.1 in
+          let r = run_parts is_space b.0.1 in
+          let copies : run_of is_space b.0.1 ≡ replicate (length (run_of is_space b.0.1)) 32 = all_copies 32 (run_of is_space b.0.1) r.1 in
+          let gap : b.0.1 ≡ replicate (length (run_of is_space b.0.1)) 32 ++ after_run is_space b.0.1 = r.0 ∙ ap (λ (y : List ℕ). y ++ after_run is_space b.0.1) copies in
+          elim (chosen (at_end (after_run is_space b.0.1) || nat_lt 0 (length (run_of is_space b.0.1))) (Some (Some ((b.0.0, length (run_of is_space b.0.1)), after_run is_space b.0.1))) None (Some (Some x)) b.2) [
+            | inl q ↦
+                let is : ((b.0.0, length (run_of is_space b.0.1)), after_run is_space b.0.1) ≡ x = some_is _ x (some_is _ (Some x) q.1) in
+                subst (λ (y : SpacedTree × List ℕ). (cs ≡ spell_command y.0.0 ++ (replicate y.0.1 32 ++ y.1)) × WellCommand y.0.0 × HasGap y.0 y.1) is
+                (t.0 ∙ ap (λ (y : List ℕ). spell_command b.0.0 ++ y) gap, t.1, q.0)
+            | inr q ↦ absurd cc
+          ]
+    ]
+
+-- at the end no more commands are read
+none_at_end : (n : ℕ) (cs : List ℕ) (x : List SpacedTree × List ℕ) → at_end cs ≡ true → many spaced_at n cs ≡ Some x → x.0 ≡ []
+unfolding many spaced_at
+none_at_end zero cs x h e = ap (λ (y : List SpacedTree × List ℕ). y.0) (sym (some_is ([], cs) x e))
+none_at_end (suc n) cs x h e =
+    let one : many spaced_at (suc n) cs ≡ Some ([], cs) = rw h refl in
+    ap (λ (y : List SpacedTree × List ℕ). y.0) (sym (some_is ([], cs) x (sym one ∙ e)))
+
+-- a space stands before another command, where b is the test for the end
+gap_before : (c : SpacedTree) (d : SpacedTree) (ds : List SpacedTree) (b : Bool) → (b || nat_lt 0 c.1 ≡ true) → (b ≡ true → d ∷ ds ≡ []) → 0 < c.1
+gap_before c d ds true h f = absurd (let e = f refl in let g : d ∷ ds ≡ [] = e in cc)
+gap_before c d ds false h f = grind (arith, nat_tests)
+
+well_more : (c : SpacedTree) (ds : List SpacedTree) (rest : List ℕ) → WellCommand c.0 → HasGap c rest → (at_end rest ≡ true → ds ≡ []) → WellCommands ds → WellCommands (c ∷ ds)
+well_more c [] rest w g f h = w
+well_more c (d ∷ ds) rest w g f h = (w, gap_before c d ds (at_end rest) g f, h)
+
+-- these commands were read of a text
+abbrev CommandsAre : List ℕ → List SpacedTree × List ℕ → Type 0
+CommandsAre cs x = (cs ≡ spell_commands x.0 ++ x.1) × WellCommands x.0
+
+-- one turn
+commands_by : (n : ℕ) (cs : List ℕ) (o : Option (SpacedTree × List ℕ)) (x : List SpacedTree × List ℕ) → spaced_at cs ≡ Some o
+    → ((ds : List ℕ) (y : List SpacedTree × List ℕ) → many spaced_at n ds ≡ Some y → CommandsAre ds y) → more_by spaced_at (many spaced_at n) cs o ≡ Some x → CommandsAre cs x
+commands_by n cs None x h i e = subst (CommandsAre cs) (some_is ([], cs) x e) (refl, tt)
+commands_by n cs (Some y) x h i e =
+    let b = bind_some (many spaced_at n y.1) (λ z. Some ((y.0 ∷ []) ++ z.0, z.1)) x e in
+    let first = spaced_takes cs y h in
+    let others = i y.1 b.0 b.1 in
+    let parts : cs ≡ (spell_command y.0.0 ++ (replicate y.0.1 32 ++ spell_commands b.0.0)) ++ b.0.1 = three cs (spell_command y.0.0) (replicate y.0.1 32) y.1 (spell_commands b.0.0) b.0.1 first.0 others.0 in
+    subst (CommandsAre cs) (some_is ((y.0 ∷ []) ++ b.0.0, b.0.1) x b.2) (parts, well_more y.0 b.0.0 y.1 first.1 first.2 (λ z. none_at_end n y.1 b.0 z b.1) others.1)
+  where
+    three : (cs a s r b c : List ℕ) → cs ≡ a ++ (s ++ r) → r ≡ b ++ c → cs ≡ (a ++ (s ++ b)) ++ c
+    three cs a s r b c p q = rw (p, q) (simp append_assoc)
+
+commands_takes : (n : ℕ) (cs : List ℕ) (x : List SpacedTree × List ℕ) → many spaced_at n cs ≡ Some x → CommandsAre cs x
+unfolding many
+commands_takes zero cs x e = subst (CommandsAre cs) (some_is ([], cs) x e) (refl, tt)
+commands_takes (suc n) cs x e =
+    let b = bind_some (spaced_at cs) (more_by spaced_at (many spaced_at n) cs) x e in
+    commands_by n cs b.0 x b.1 (commands_takes n) b.2
+
+letter_not_end : (c : ℕ) → is_letter c ≡ true → (eqb c 59 ≡ false) × (is_space c ≡ false)
+letter_not_end c h = (grind (arith, nat_tests), grind (arith, nat_tests))
+
+no_keyword : keyword_of [] ≡ None
+unfolding keyword_of
+no_keyword = refl
+
+-- a word is no end and no space
+word_begins : (w rest : List ℕ) (k : KeywordTree) → keyword_of w ≡ Some k → AllAre is_letter w → (at_end (w ++ rest) ≡ false) × Stops is_space (w ++ rest)
+word_begins [] rest k h l = absurd (let e : None ≡ Some k = sym no_keyword ∙ h in cc)
+word_begins (c ∷ cs) rest k h l = letter_not_end c l.0
+
+command_begins : (c : CommandTree) (rest : List ℕ) → WellCommand c → (at_end (spell_command c ++ rest) ≡ false) × Stops is_space (spell_command c ++ rest)
+command_begins (set w args) rest h = rw append_assoc (word_begins w ((32 ∷ spell_list spell_assignment args) ++ rest) set_word h.0 h.1)
+command_begins (write w args) rest h = rw append_assoc (word_begins w ((32 ∷ spell_list spell_output args) ++ rest) write_word h.0 h.1)
+
+end_follows : (rest : List ℕ) → at_end rest ≡ true → After rest × Stops is_space rest
+end_follows [] h = ((((tt, tt), tt), tt), tt)
+end_follows (c ∷ cs) h = subst (λ (x : ℕ). After (x ∷ cs) × Stops is_space (x ∷ cs)) (sym (eqb-true c 59 h)) ((((refl, refl), refl), refl), refl)
+
+gap_follows : (n : ℕ) (rest : List ℕ) → (at_end rest || nat_lt 0 n ≡ true) → After (replicate n 32 ++ rest)
+gap_follows zero rest h = (end_follows rest (grind (arith, nat_tests))).0
+gap_follows (suc n) rest h = (((refl, refl), refl), refl)
+
+spaced_again : (c : SpacedTree) (rest : List ℕ) → WellCommand c.0 → HasGap c rest → Stops is_space rest → spaced_at (spell_command c.0 ++ (replicate c.1 32 ++ rest)) ≡ Some (Some (c, rest))
+unfolding spaced_at
+spaced_again c rest w g s =
+    let r = run_again is_space (replicate c.1 32) rest (copies_are 32 c.1 refl) s in
+    let begins = command_begins c.0 (replicate c.1 32 ++ rest) w in
+    rw (begins.0, command_again c.0 (replicate c.1 32 ++ rest) w (gap_follows c.1 rest g), r.0, r.1, length-replicate {A = ℕ} c.1 32, g) refl
+
+has_gap : (n : ℕ) (rest : List ℕ) → 0 < n → at_end rest || nat_lt 0 n ≡ true
+has_gap n rest h = grind (arith, nat_tests)
+
+at_end_gap : (n : ℕ) (rest : List ℕ) → at_end rest ≡ true → at_end rest || nat_lt 0 n ≡ true
+at_end_gap n rest h = rw h refl
+
+commands_parts : (c : SpacedTree) (cs : List SpacedTree) (rest : List ℕ) → spell_commands (c ∷ cs) ++ rest ≡ spell_command c.0 ++ (replicate c.1 32 ++ (spell_commands cs ++ rest))
+commands_parts c cs rest = simp append_assoc
+
+-- one command more in front
+commands_step : (n : ℕ) (c : SpacedTree) (cs : List SpacedTree) (rest : List ℕ) → WellCommand c.0 → HasGap c (spell_commands cs ++ rest) → Stops is_space (spell_commands cs ++ rest)
+    → many spaced_at n (spell_commands cs ++ rest) ≡ Some (cs, rest) → many spaced_at (suc n) (spell_commands (c ∷ cs) ++ rest) ≡ Some (c ∷ cs, rest)
+unfolding many
+commands_step n c cs rest w g s i =
+    ap (λ (t : List ℕ). many spaced_at (suc n) t) (commands_parts c cs rest) ∙ rw (spaced_again c (spell_commands cs ++ rest) w g s, i) refl
+
+stops_at_end : (n : ℕ) (rest : List ℕ) → at_end rest ≡ true → many spaced_at n rest ≡ Some ([], rest)
+unfolding many spaced_at
+stops_at_end zero rest h = refl
+stops_at_end (suc n) rest h = rw h refl
+
+commands_again : (n : ℕ) (cs : List SpacedTree) (rest : List ℕ) → length cs ≤ n → WellCommands cs → at_end rest ≡ true → many spaced_at n (spell_commands cs ++ rest) ≡ Some (cs, rest)
+commands_again n [] rest le w h = stops_at_end n rest h
+commands_again zero (c ∷ cs) rest le w h = absurd (omega arith)
+commands_again (suc n) (c ∷ []) rest le w h = commands_step n c [] rest w (at_end_gap c.1 rest h) (end_follows rest h).1 (stops_at_end n rest h)
+commands_again (suc n) (c ∷ d ∷ cs) rest le w h =
+    let head : WellCommand d.0 = head_well d cs w.2 in
+    let stop : Stops is_space (spell_commands (d ∷ cs) ++ rest) = rw (commands_parts d cs rest) ((command_begins d.0 (replicate d.1 32 ++ (spell_commands cs ++ rest)) head).1) in
+    commands_step n c (d ∷ cs) rest w.0 (has_gap c.1 (spell_commands (d ∷ cs) ++ rest) w.1) stop (commands_again n (d ∷ cs) rest (omega arith) w.2 h)
+  where
+    head_well : (d : SpacedTree) (cs : List SpacedTree) → WellCommands (d ∷ cs) → WellCommand d.0
+    head_well d [] w = w
+    head_well d (e ∷ es) w = w.0
+
+-- ---- comments and whole lines
+
+command_long : (c : CommandTree) → 0 < length (spell_command c)
+command_long (set w args) = omega (arith, length-append w (32 ∷ spell_list spell_assignment args))
+command_long (write w args) = omega (arith, length-append w (32 ∷ spell_list spell_output args))
+
+-- the count of the characters is enough turns
+commands_count : (cs : List SpacedTree) (rest : List ℕ) → length cs ≤ length (spell_commands cs ++ rest)
+commands_count [] rest = omega arith
+commands_count (c ∷ cs) rest =
+    let long = command_long c.0 in
+    let more = commands_count cs rest in
+    let parts = ap length (commands_parts c cs rest) in
+    omega (arith, long, more, parts, length-append (spell_command c.0) (replicate c.1 32 ++ (spell_commands cs ++ rest)), length-append (replicate c.1 32) (spell_commands cs ++ rest))
+
+comment_takes_by : (t after : List ℕ) (o : Option (List ℕ)) → AllAre is_character t → comment_by t after ≡ Some o → (59 ∷ (t ++ after) ≡ spell_comment o) × WellComment o
+comment_takes_by t [] o w e = subst (λ (y : Option (List ℕ)). (59 ∷ (t ++ []) ≡ spell_comment y) × WellComment y) (some_is (Some t) o e) (ap (λ (y : List ℕ). 59 ∷ y) (append-nil t), w)
+comment_takes_by t (c ∷ cs) o w e = absurd cc
+
+comment_takes : (cs : List ℕ) (o : Option (List ℕ)) → comment_at cs ≡ Some o → (cs ≡ spell_comment o) × WellComment o
+unfolding comment_at
+comment_takes [] o e = subst (λ (y : Option (List ℕ)). ([] ≡ spell_comment y) × WellComment y) (some_is None o e) (refl, tt)
+comment_takes (c ∷ cs) o e =
+    elim (chosen (eqb c 59) (comment_by (run_of is_character cs) (after_run is_character cs)) None (Some o) e) [
+      | inl p ↦
+          let r = run_parts is_character cs in
+          let t = comment_takes_by (run_of is_character cs) (after_run is_character cs) o r.1 p.1 in
+          let at : c ≡ 59 = eqb-true _ _ p.0 in
+          let whole : c ∷ cs ≡ 59 ∷ (run_of is_character cs ++ after_run is_character cs) = two c cs 59 _ at r.0 in
+          (whole ∙ t.0, t.1)
+      | inr p ↦ absurd cc
+    ]
+  where
+    two : (c : ℕ) (cs : List ℕ) (a : ℕ) (bs : List ℕ) → c ≡ a → cs ≡ bs → c ∷ cs ≡ a ∷ bs
+    two c cs a bs p q = cc
+
+comment_again : (o : Option (List ℕ)) → WellComment o → comment_at (spell_comment o) ≡ Some o
+unfolding comment_at
+comment_again None w = refl
+comment_again (Some t) w =
+    let r = run_again is_character t [] w tt in
+    let same : t ++ [] ≡ t = append-nil t in
+    let text : run_of is_character t ≡ t = ap (run_of is_character) (sym same) ∙ r.0 in
+    let after : after_run is_character t ≡ [] = ap (after_run is_character) (sym same) ∙ r.1 in
+    rw (text, after) refl
+
+comment_ends : (o : Option (List ℕ)) → at_end (spell_comment o) ≡ true
+comment_ends None = refl
+comment_ends (Some t) = refl
+
+pub line_takes : (cs : List ℕ) (l : LineTree) → line_at cs ≡ Some l → (spell l ≡ cs) × well l
+unfolding line_at
+line_takes cs l e =
+    let spaces = run_of is_space cs in
+    let rest = after_run is_space cs in
+    let b = bind_some (many spaced_at (length rest) rest) (λ x. comment_at x.1 >>= λ c. Some (record { lead = length spaces; commands = x.0; comment = c })) l e in
+    let k = bind_some (comment_at b.0.1) (λ c. Some (record { lead = length spaces; commands = b.0.0; comment = c })) l b.2 in
+    let r = run_parts is_space cs in
+    let copies : spaces ≡ replicate (length spaces) 32 = all_copies 32 spaces r.1 in
+    let c = commands_takes (length rest) rest b.0 b.1 in
+    let o = comment_takes b.0.1 k.0 k.1 in
+    let made : LineTree = record { lead = length spaces; commands = b.0.0; comment = k.0 } in
+    let parts : spell made ≡ cs = sym (four cs spaces (replicate (length spaces) 32) rest (spell_commands b.0.0) b.0.1 (spell_comment k.0) r.0 copies c.0 o.0) in
+    subst (λ (y : LineTree). (spell y ≡ cs) × well y) (some_is made l k.2) (parts, (c.1, o.1))
+  where
+    four : (cs a a' r b c d : List ℕ) → cs ≡ a ++ r → a ≡ a' → r ≡ b ++ c → c ≡ d → cs ≡ a' ++ (b ++ d)
+    four cs a a' r b c d p q u v = cc
+
+-- the spaces in front end where the commands begin
+stop_commands : (cs : List SpacedTree) (rest : List ℕ) → WellCommands cs → at_end rest ≡ true → Stops is_space (spell_commands cs ++ rest)
+stop_commands [] rest w h = (end_follows rest h).1
+stop_commands (c ∷ []) rest w h = rw (commands_parts c [] rest) ((command_begins c.0 (replicate c.1 32 ++ rest) w).1)
+stop_commands (c ∷ d ∷ cs) rest w h = rw (commands_parts c (d ∷ cs) rest) ((command_begins c.0 (replicate c.1 32 ++ (spell_commands (d ∷ cs) ++ rest)) w.0).1)
+
+pub line_again : (l : LineTree) → well l → line_at (spell l) ≡ Some l
+unfolding line_at
+line_again l w =
+    let rest = spell_commands l.commands ++ spell_comment l.comment in
+    let ends = comment_ends l.comment in
+    let r = run_again is_space (replicate l.lead 32) rest (copies_are 32 l.lead refl) (stop_commands l.commands (spell_comment l.comment) w.0 ends) in
+    let c : many spaced_at (length rest) rest ≡ Some (l.commands, spell_comment l.comment) = commands_again (length rest) l.commands (spell_comment l.comment) (commands_count l.commands (spell_comment l.comment)) w.0 ends in
+    rw (r.0, r.1, c, comment_again l.comment w.1, length-replicate {A = ℕ} l.lead 32) refl
+
+-- no text has two trees: what is read of it is each of them
+pub one_tree : (s t : LineTree) → well s → well t → spell s ≡ spell t → s ≡ t
+one_tree s t v w e = some_is s t (sym (line_again s v) ∙ ap line_at e ∙ line_again t w)
+
+-- a text of which nothing is read has no tree
+pub no_tree : (cs : List ℕ) → line_at cs ≡ None → (t : LineTree) → well t → spell t ≡ cs → ⊥
+no_tree cs none t w same =
+    let clash : None ≡ Some t = sym none ∙ ap line_at (sym same) ∙ line_again t w in
+    cc

@@ -1,0 +1,121 @@
+-- The laws of reading a list of items.
+use Rattle.std.proofs.Common.{◌≡◌, ℕ, zero, suc, ◌<◌, ◌≤◌, Bool, eqb, List, [], ◌∷◌, ◌++◌, length, Option, Some, None, refl, sym, ap, subst, ◌∙◌, append_assoc, arith, length-append}
+use Rattle.mspec.specs.Grammar.{spell_more, spell_list, WellAll, WellList}
+use Rattle.mspec.specs.Reading.{Read, ◌>>=◌, past, many, more_by, comma_by, after_comma, list_at}
+use Rattle.mspec.proofs.ReadingBasics.{Takes, Again, Stops, bind_some, some_is, past_takes}
+
+-- the texts of the items, one after another
+abbrev pub each : {A : Type 0} → (A → List ℕ) → List A → List ℕ
+each spell [] = []
+each spell (x ∷ xs) = spell x ++ each spell xs
+
+module _ {A : Type 0} (spell : A → List ℕ) (P : A → Type 0) (item : List ℕ → Option (Option (A × List ℕ))) where
+  -- the law Takes, for an item that may not begin
+  abbrev pub ItemTakes : Type 0
+  ItemTakes = (cs : List ℕ) (x : A × List ℕ) → item cs ≡ Some (Some x) → (cs ≡ spell x.0 ++ x.1) × P x.0
+
+  -- these items were read of a text
+  abbrev Parts : List ℕ → List A × List ℕ → Type 0
+  Parts cs x = (cs ≡ each spell x.0 ++ x.1) × WellAll P x.0
+
+  -- one turn
+  abbrev more_takes : (n : ℕ) (cs : List ℕ) (o : Option (A × List ℕ)) (x : List A × List ℕ) → item cs ≡ Some o → ItemTakes
+      → ((ds : List ℕ) (y : List A × List ℕ) → many item n ds ≡ Some y → Parts ds y) → more_by item (many item n) cs o ≡ Some x → Parts cs x
+  more_takes n cs None x h takes i e = subst (Parts cs) (some_is ([], cs) x e) (refl, tt)
+  more_takes n cs (Some y) x h takes i e =
+      let b = bind_some (many item n y.1) (λ z. Some ((y.0 ∷ []) ++ z.0, z.1)) x e in
+      let first = takes cs y h in
+      let others = i y.1 b.0 b.1 in
+      subst (Parts cs) (some_is ((y.0 ∷ []) ++ b.0.0, b.0.1) x b.2)
+      (first.0 ∙ ap (λ (t : List ℕ). spell y.0 ++ t) others.0 ∙ sym (append_assoc (spell y.0) (each spell b.0.0) b.0.1), (first.1, others.1))
+
+  pub many_takes : ItemTakes → (n : ℕ) (cs : List ℕ) (x : List A × List ℕ) → many item n cs ≡ Some x → Parts cs x
+  unfolding many
+  many_takes takes zero cs x e = subst (Parts cs) (some_is ([], cs) x e) (refl, tt)
+  many_takes takes (suc n) cs x e =
+      let b = bind_some (item cs) (more_by item (many item n) cs) x e in
+      more_takes n cs b.0 x b.1 takes (many_takes takes n) b.2
+
+  -- what may follow an item stands before other items too
+  follows_by : (F : List ℕ → Type 0) → ((x : A) (rest : List ℕ) → P x → F (spell x ++ rest)) → (xs : List A) (rest : List ℕ) → WellAll P xs → F rest → F (each spell xs ++ rest)
+  follows_by F begins [] rest w f = f
+  follows_by F begins (x ∷ xs) rest w f = subst F (sym (append_assoc (spell x) (each spell xs) rest)) (begins x (each spell xs ++ rest) w.0)
+
+  -- F is what may follow an item, and each item begins so
+  pub many_again : (F : List ℕ → Type 0) → ((x : A) (rest : List ℕ) → P x → F rest → item (spell x ++ rest) ≡ Some (Some (x, rest))) → ((x : A) (rest : List ℕ) → P x → F (spell x ++ rest))
+      → (n : ℕ) (xs : List A) (rest : List ℕ) → length xs ≤ n → WellAll P xs → F rest → item rest ≡ Some None → many item n (each spell xs ++ rest) ≡ Some (xs, rest)
+  unfolding many
+  many_again F again begins zero [] rest le w f none = refl
+  many_again F again begins zero (x ∷ xs) rest le w f none = absurd (omega arith)
+  many_again F again begins (suc n) [] rest le w f none = rw none refl
+  many_again F again begins (suc n) (x ∷ xs) rest le w f none =
+      let follows : F (each spell xs ++ rest) = follows_by F begins xs rest w.1 f in
+      let parts : each spell (x ∷ xs) ++ rest ≡ spell x ++ (each spell xs ++ rest) = append_assoc (spell x) (each spell xs) rest in
+      let one : item (each spell (x ∷ xs) ++ rest) ≡ Some (Some (x, each spell xs ++ rest)) = ap item parts ∙ again x (each spell xs ++ rest) w.0 follows in
+      let others : many item n (each spell xs ++ rest) ≡ Some (xs, rest) = many_again F again begins n xs rest (omega arith) w.1 f none in
+      rw (one, others) refl
+
+  -- each item has a character, so the count of the characters is enough
+  pub count_le : ((x : A) → P x → 0 < length (spell x)) → (xs : List A) (rest : List ℕ) → WellAll P xs → length xs ≤ length (each spell xs ++ rest)
+  count_le long [] rest w = omega arith
+  count_le long (x ∷ xs) rest w =
+      omega (arith, long x w.0, count_le long xs rest w.1, length-append (each spell xs) rest, length-append (spell x) (each spell xs), length-append (spell x ++ each spell xs) rest)
+
+-- the text of two parts, of which the second is spelled by b' too
+pub joined : (cs a r b c b' : List ℕ) → cs ≡ a ++ r → r ≡ b ++ c → b' ≡ b → cs ≡ (a ++ b') ++ c
+joined cs a r b c b' p q e = rw (p, q, e, append_assoc) refl
+
+-- ---- lists with commas
+
+abbrev pub is_comma : ℕ → Bool
+is_comma c = eqb c 44
+
+spell_more-each : {A : Type 0} (f : A → List ℕ) (xs : List A) → spell_more f xs ≡ each (λ a. 44 ∷ f a) xs
+spell_more-each f [] = refl
+spell_more-each f (x ∷ xs) = ap (λ (y : List ℕ). 44 ∷ (f x ++ y)) (spell_more-each f xs)
+
+module _ {A : Type 0} (f : A → List ℕ) (P : A → Type 0) (item : List ℕ → Read A) where
+  -- as comma_takes, where this stands behind a comma
+  comma_takes_by : (cs : List ℕ) (o : Option (List ℕ)) (x : A × List ℕ) → Takes f P item → past 44 cs ≡ o → comma_by item o ≡ Some (Some x) → (cs ≡ (44 ∷ f x.0) ++ x.1) × P x.0
+  comma_takes_by cs None x takes h e = absurd cc
+  comma_takes_by cs (Some rest) x takes h e =
+      let b = bind_some (item rest) (λ y. Some (Some y)) (Some x) e in
+      let t = takes rest b.0 b.1 in
+      subst (λ (y : A × List ℕ). (cs ≡ (44 ∷ f y.0) ++ y.1) × P y.0) (some_is b.0 x (some_is (Some b.0) (Some x) b.2)) (past_takes 44 cs rest h ∙ ap (λ (y : List ℕ). 44 ∷ y) t.0, t.1)
+
+  comma_takes : Takes f P item → ItemTakes (λ a. 44 ∷ f a) P (after_comma item)
+  comma_takes takes cs x e = comma_takes_by cs (past 44 cs) x takes refl e
+
+  pub list_takes : Takes f P item → Takes (spell_list f) (WellList P) (list_at item)
+  unfolding list_at
+  list_takes takes cs x e =
+      let b = bind_some (item cs) (λ y. many (after_comma item) (length y.1) y.1 >>= λ ys. Some (y.0 ∷ ys.0, ys.1)) x e in
+      let k = bind_some (many (after_comma item) (length b.0.1) b.0.1) (λ ys. Some (b.0.0 ∷ ys.0, ys.1)) x b.2 in
+      let first = takes cs b.0 b.1 in
+      let others = many_takes (λ a. 44 ∷ f a) P (after_comma item) (comma_takes takes) (length b.0.1) b.0.1 k.0 k.1 in
+      let parts : cs ≡ (f b.0.0 ++ spell_more f k.0.0) ++ k.0.1 = joined cs (f b.0.0) b.0.1 (each (λ a. 44 ∷ f a) k.0.0) k.0.1 (spell_more f k.0.0) first.0 others.0 (spell_more-each f k.0.0) in
+      subst (λ (y : List A × List ℕ). (cs ≡ spell_list f y.0 ++ y.1) × WellList P y.0) {x = (b.0.0 ∷ k.0.0, k.0.1)} (some_is (b.0.0 ∷ k.0.0, k.0.1) x k.2) (parts, (first.1, others.1))
+
+  module _ (F : List ℕ → Type 0) (comma_follows : (rest : List ℕ) → F (44 ∷ rest)) (again : Again f P F item) where
+    comma_again : (x : A) (rest : List ℕ) → P x → F rest → after_comma item ((44 ∷ f x) ++ rest) ≡ Some (Some (x, rest))
+    comma_again x rest w s = rw (again x rest w s) refl
+
+    no_comma : (rest : List ℕ) → Stops is_comma rest → after_comma item rest ≡ Some None
+    no_comma [] s = refl
+    no_comma (c ∷ cs) s = rw s refl
+
+    more_follows : (xs : List A) (rest : List ℕ) → F rest → F (spell_more f xs ++ rest)
+    more_follows [] rest s = s
+    more_follows (x ∷ xs) rest s = comma_follows ((f x ++ spell_more f xs) ++ rest)
+
+    more_again : (xs : List A) (rest : List ℕ) → WellAll P xs → F rest → Stops is_comma rest → many (after_comma item) (length (spell_more f xs ++ rest)) (spell_more f xs ++ rest) ≡ Some (xs, rest)
+    more_again xs rest w s k =
+        rw (spell_more-each f xs) (many_again (λ a. 44 ∷ f a) P (after_comma item) F comma_again (λ x cs v. comma_follows (f x ++ cs))
+        (length (each (λ a. 44 ∷ f a) xs ++ rest)) xs rest (count_le (λ a. 44 ∷ f a) P (after_comma item) (λ x v. omega arith) xs rest w) w s (no_comma rest k))
+
+    pub list_again : Again (spell_list f) (WellList P) (λ rest. F rest × Stops is_comma rest) (list_at item)
+    unfolding list_at
+    list_again [] rest w s = absurd w
+    list_again (x ∷ xs) rest w s =
+        ap (list_at item) (append_assoc (f x) (spell_more f xs) rest)
+        ∙ rw (again x (spell_more f xs ++ rest) w.0 (more_follows xs rest s.0), more_again xs rest w.1 s.0 s.1) refl

@@ -1,0 +1,253 @@
+-- What is read of a pattern is spelled so, and what is spelled so is read.
+use Rattle.std.proofs.Common.{◌≡◌, ℕ, ◌<◌, ◌≤◌, Bool, true, false, cond, eqb, List, [], ◌∷◌, ◌++◌, length, Option, Some, None, inl, inr, refl, sym, ap, subst, ◌∙◌, append_assoc, arith}
+use Rattle.std.specs.Prelude.{◌||◌}
+use Rattle.std.proofs.lemmas.Bool.{eqb-true}
+use Rattle.std.proofs.lemmas.Bool.Decides.{nat_tests}
+use Rattle.std.proofs.lemmas.List.{append-nil}
+use Rattle.mspec.specs.Literal.{is_digit}
+use Rattle.mspec.specs.Grammar.{CountTree, RepeatedTree, classes, copies, AtomTree, quoted, spell_string, spell_behind, spell_repeated, spell_atom, spell_atoms, is_letter, is_pattern_letter, AllAre, IsCount, WellRepeated, WellAtom, WellAll, WellList}
+use Rattle.mspec.specs.Reading.{◌>>=◌, run_of, after_run, text_from, many, behind_of, after_behind, is_count, count_at, classes_by, repeated_at, is_digit_or_point, atom_at, pattern_by, pattern_at}
+use Rattle.mspec.proofs.ReadingBasics.{Takes, Again, Stops, Stops-weaker, Begins, Begins-stops, Begins-long, goes_on, bind_some, chosen, some_is, run_parts, run_again, text_takes, text_again}
+use Rattle.mspec.proofs.ReadingLists.{each, ItemTakes, many_takes, many_again, count_le}
+
+-- ---- counts
+
+abbrev spell_count : CountTree → List ℕ
+spell_count n = n.front ++ spell_behind n.behind
+
+abbrev WellCount : CountTree → Type 0
+WellCount n = IsCount n.front n.behind
+
+-- what stands behind a point that was read, or none
+abbrev IsBehind : Option (List ℕ) → Type 0
+IsBehind None = Unit {0}
+IsBehind (Some ds) = AllAre is_digit ds
+
+abbrev BehindIs : List ℕ → Option (List ℕ) → List ℕ → Type 0
+BehindIs cs o rest = (cs ≡ spell_behind o ++ rest) × IsBehind o
+
+behind_test : (c : ℕ) (cs : List ℕ) (b : Bool) → eqb c 46 ≡ b → BehindIs (c ∷ cs) (cond b (Some (run_of is_digit cs)) None) (cond b (after_run is_digit cs) (c ∷ cs))
+behind_test c cs true h =
+    let r = run_parts is_digit cs in
+    let at : c ≡ 46 = eqb-true _ _ h in
+    (rw at (ap (λ (x : List ℕ). 46 ∷ x) r.0), r.1)
+behind_test c cs false h = (refl, tt)
+
+behind_parts : (cs : List ℕ) → BehindIs cs (behind_of cs) (after_behind cs)
+behind_parts [] = (refl, tt)
+behind_parts (c ∷ cs) = behind_test c cs (eqb c 46) refl
+
+count_is : (front : List ℕ) (o : Option (List ℕ)) → is_count front o ≡ true → AllAre is_digit front → IsBehind o → IsCount front o
+count_is front None h all b =
+    let short : length front ≤ 4 = grind (arith, nat_tests, h) in
+    let long : 0 < length front = grind (arith, nat_tests, h) in
+    ((all, short), long)
+count_is front (Some behind) h all b =
+    let short : length front ≤ 4 = grind (arith, nat_tests, h) in
+    let short_behind : length behind ≤ 4 = grind (arith, nat_tests, h) in
+    ((all, short), (b, short_behind))
+
+two_parts : (cs a r b rest : List ℕ) → cs ≡ a ++ r → r ≡ b ++ rest → cs ≡ (a ++ b) ++ rest
+two_parts cs a r b rest p q = rw (p, q, append_assoc) refl
+
+count_takes : Takes spell_count WellCount count_at
+unfolding count_at
+count_takes cs x e =
+    let front = run_of is_digit cs in
+    let after = after_run is_digit cs in
+    let r = run_parts is_digit cs in
+    let b = behind_parts after in
+    elim (chosen (is_count front (behind_of after)) (Some (record { front = front; behind = behind_of after }, after_behind after)) None (Some x) e) [
+      | inl p ↦
+          subst (λ (y : CountTree × List ℕ). (cs ≡ spell_count y.0 ++ y.1) × WellCount y.0) (some_is (record { front = front; behind = behind_of after }, after_behind after) x p.1)
+          (two_parts cs front after (spell_behind (behind_of after)) (after_behind after) r.0 b.0, count_is front (behind_of after) p.0 r.1 b.1)
+      | inr p ↦ absurd cc
+    ]
+
+not_count : (c : ℕ) → is_digit_or_point c ≡ false → (is_digit c ≡ false) × (eqb c 46 ≡ false)
+not_count c h = (grind (arith, nat_tests), grind (arith, nat_tests))
+
+no_behind : (rest : List ℕ) → Stops (λ c. eqb c 46) rest → (behind_of rest ≡ None) × (after_behind rest ≡ rest)
+no_behind [] s = (refl, refl)
+no_behind (c ∷ rest) s = (rw s refl, rw s refl)
+
+behind_again : (o : Option (List ℕ)) (rest : List ℕ) → IsBehind o → Stops is_digit_or_point rest → (behind_of (spell_behind o ++ rest) ≡ o) × (after_behind (spell_behind o ++ rest) ≡ rest)
+behind_again None rest b s = no_behind rest (Stops-weaker is_digit_or_point (λ c. eqb c 46) rest (λ c h. (not_count c h).1) s)
+behind_again (Some ds) rest b s =
+    let r = run_again is_digit ds rest b (Stops-weaker is_digit_or_point is_digit rest (λ c h. (not_count c h).0) s) in
+    (rw r.0 refl, r.1)
+
+behind_stops : (o : Option (List ℕ)) (rest : List ℕ) → Stops is_digit_or_point rest → Stops is_digit (spell_behind o ++ rest)
+behind_stops None rest s = Stops-weaker is_digit_or_point is_digit rest (λ c h. (not_count c h).0) s
+behind_stops (Some ds) rest s = refl
+
+is_count_true : (front : List ℕ) (o : Option (List ℕ)) → IsCount front o → (is_count front o ≡ true) × AllAre is_digit front × IsBehind o
+is_count_true front None w = (grind (arith, nat_tests, w.0.1, w.1), w.0.0, tt)
+is_count_true front (Some behind) w = (grind (arith, nat_tests, w.0.1, w.1.1), w.0.0, w.1.0)
+
+count_again : Again spell_count WellCount (Stops is_digit_or_point) count_at
+unfolding count_at
+count_again n rest w s =
+    let t = is_count_true n.front n.behind w in
+    let r = run_again is_digit n.front (spell_behind n.behind ++ rest) t.1 (behind_stops n.behind rest s) in
+    let b = behind_again n.behind rest t.2 s in
+    ap count_at (append_assoc n.front (spell_behind n.behind) rest) ∙ rw (r.0, r.1, b.0, b.1, t.0) refl
+
+-- ---- what is repeated
+
+classes_takes : (ls rest : List ℕ) (x : RepeatedTree × List ℕ) → AllAre is_pattern_letter ls → classes_by ls rest ≡ Some x → (ls ++ rest ≡ spell_repeated x.0 ++ x.1) × WellRepeated x.0
+classes_takes [] rest x all e = absurd cc
+classes_takes (l ∷ ls) rest x all e =
+    let long : 0 < length (l ∷ ls) = omega arith in
+    subst (λ (y : RepeatedTree × List ℕ). ((l ∷ ls) ++ rest ≡ spell_repeated y.0 ++ y.1) × WellRepeated y.0) (some_is (classes (l ∷ ls), rest) x e) (refl, (all, long))
+
+quote_cells : (c : ℕ) (cs t rest : List ℕ) → c ≡ 34 → cs ≡ quoted t ++ 34 ∷ rest → c ∷ cs ≡ spell_string t ++ rest
+quote_cells c cs t rest p q = rw (p, q, append_assoc) refl
+
+repeated_takes : Takes spell_repeated WellRepeated repeated_at
+unfolding repeated_at
+repeated_takes [] x e = absurd cc
+repeated_takes (c ∷ cs) x e =
+    let ls = run_of is_pattern_letter (c ∷ cs) in
+    let after = after_run is_pattern_letter (c ∷ cs) in
+    elim (chosen (eqb c 34) (text_from false cs >>= λ y. Some (copies y.0, y.1)) (classes_by ls after) (Some x) e) [
+      | inl p ↦
+          let b = bind_some (text_from false cs) (λ y. Some (copies y.0, y.1)) x p.1 in
+          let t = text_takes false cs b.0 b.1 in
+          subst (λ (y : RepeatedTree × List ℕ). (c ∷ cs ≡ spell_repeated y.0 ++ y.1) × WellRepeated y.0) (some_is (copies b.0.0, b.0.1) x b.2)
+          (quote_cells c cs b.0.0 b.0.1 (eqb-true _ _ p.0) t.0, t.1)
+      | inr p ↦
+          let r = run_parts is_pattern_letter (c ∷ cs) in
+          let t = classes_takes ls after x r.1 p.1 in
+          (r.0 ∙ t.0, t.1)
+    ]
+
+-- a character that would go on with what is repeated
+abbrev goes_on_repeated : ℕ → Bool
+goes_on_repeated c = is_letter c || eqb c 34
+
+pattern_letter : (c : ℕ) → is_pattern_letter c ≡ true → (is_letter c ≡ true) × (eqb c 34 ≡ false) × (is_digit_or_point c ≡ false)
+pattern_letter c h = (grind (arith, nat_tests), grind (arith, nat_tests), grind (arith, nat_tests))
+
+not_repeated : (c : ℕ) → goes_on_repeated c ≡ false → (is_pattern_letter c ≡ false) × (eqb c 34 ≡ false)
+not_repeated c h = (grind (arith, nat_tests), grind (arith, nat_tests))
+
+repeated_again : Again spell_repeated WellRepeated (Stops goes_on_repeated) repeated_at
+unfolding repeated_at
+repeated_again (classes []) rest w s = absurd (omega (arith, w.1))
+repeated_again (classes (l ∷ ls)) rest w s =
+    let r = run_again is_pattern_letter (l ∷ ls) rest w.0 (Stops-weaker goes_on_repeated is_pattern_letter rest (λ c h. (not_repeated c h).0) s) in
+    let p = pattern_letter l w.0.0 in
+    rw (p.1, r.0, r.1) refl
+repeated_again (copies t) rest w s =
+    ap repeated_at (ap (λ (y : List ℕ). 34 ∷ y) (append_assoc (quoted t) (34 ∷ []) rest))
+    ∙ rw (text_again t rest w (Stops-weaker goes_on_repeated (λ c. eqb c 34) rest (λ c h. (not_repeated c h).1) s)) refl
+
+-- what is repeated begins with no digit and no point
+repeated_begins : (p : RepeatedTree) (rest : List ℕ) → WellRepeated p → Stops is_digit_or_point (spell_repeated p ++ rest)
+repeated_begins (classes []) rest w = absurd (omega (arith, w.1))
+repeated_begins (classes (l ∷ ls)) rest w = (pattern_letter l w.0.0).2
+repeated_begins (copies t) rest w = refl
+
+-- ---- atoms
+
+atom_takes : ItemTakes spell_atom WellAtom atom_at
+unfolding atom_at
+atom_takes [] x e = absurd cc
+atom_takes (c ∷ cs) x e =
+    elim (chosen (is_digit_or_point c) (count_at (c ∷ cs) >>= λ n. repeated_at n.1 >>= λ y. Some (Some (record { count = n.0; repeated = y.0 }, y.1))) (Some None) (Some (Some x)) e) [
+      | inl p ↦
+          let n = bind_some (count_at (c ∷ cs)) (λ n. repeated_at n.1 >>= λ y. Some (Some (record { count = n.0; repeated = y.0 }, y.1))) (Some x) p.1 in
+          let y = bind_some (repeated_at n.0.1) (λ y. Some (Some (record { count = n.0.0; repeated = y.0 }, y.1))) (Some x) n.2 in
+          let count = count_takes (c ∷ cs) n.0 n.1 in
+          let repeated = repeated_takes n.0.1 y.0 y.1 in
+          let made : AtomTree × List ℕ = (record { count = n.0.0; repeated = y.0.0 }, y.0.1) in
+          let parts : c ∷ cs ≡ spell_atom made.0 ++ made.1 =
+          two_parts (c ∷ cs) (spell_count n.0.0) n.0.1 (spell_repeated y.0.0) y.0.1 count.0 repeated.0
+          ∙ ap (λ (z : List ℕ). z ++ y.0.1) (append_assoc n.0.0.front (spell_behind n.0.0.behind) (spell_repeated y.0.0)) in
+          subst (λ (z : AtomTree × List ℕ). (c ∷ cs ≡ spell_atom z.0 ++ z.1) × WellAtom z.0) (some_is made x (some_is (Some made) (Some x) y.2)) (parts, (count.1, repeated.1))
+      | inr p ↦ absurd cc
+    ]
+
+digit_begins : (c : ℕ) → is_digit c ≡ true → is_digit_or_point c ≡ true
+digit_begins c h = grind (arith, nat_tests)
+
+count_begins : (front : List ℕ) (o : Option (List ℕ)) (rest : List ℕ) → IsCount front o → Begins is_digit_or_point (front ++ (spell_behind o ++ rest))
+count_begins [] None rest w = absurd (omega (arith, w.1))
+count_begins (c ∷ cs) None rest w = digit_begins c w.0.0.0
+count_begins [] (Some ds) rest w = refl
+count_begins (c ∷ cs) (Some ds) rest w = digit_begins c w.0.0.0
+
+atom_parts : (a : AtomTree) (rest : List ℕ) → spell_atom a ++ rest ≡ a.count.front ++ (spell_behind a.count.behind ++ (spell_repeated a.repeated ++ rest))
+atom_parts a rest = simp append_assoc
+
+atom_begins : (a : AtomTree) (rest : List ℕ) → WellAtom a → Begins is_digit_or_point (spell_atom a ++ rest)
+atom_begins a rest w = subst (Begins is_digit_or_point) (sym (atom_parts a rest)) (count_begins a.count.front a.count.behind (spell_repeated a.repeated ++ rest) w.0)
+
+begins_atom : (cs ds : List ℕ) (n : CountTree) (y : RepeatedTree) (rest : List ℕ) → Begins is_digit_or_point cs → count_at cs ≡ Some (n, ds) → repeated_at ds ≡ Some (y, rest)
+    → atom_at cs ≡ Some (Some (record { count = n; repeated = y }, rest))
+unfolding atom_at
+begins_atom [] ds n y rest b p q = absurd b
+begins_atom (c ∷ cs) ds n y rest b p q = rw (b, p, q) refl
+
+-- what may follow an atom
+abbrev AtomEnds : List ℕ → Type 0
+AtomEnds rest = Stops goes_on_repeated rest
+
+count_again_parts : (a : AtomTree) (rest : List ℕ) → WellAtom a → count_at (spell_atom a ++ rest) ≡ Some (a.count, spell_repeated a.repeated ++ rest)
+count_again_parts a rest w =
+    ap count_at (atom_parts a rest ∙ sym (append_assoc a.count.front (spell_behind a.count.behind) (spell_repeated a.repeated ++ rest)))
+    ∙ count_again a.count (spell_repeated a.repeated ++ rest) w.0 (repeated_begins a.repeated rest w.1)
+
+atom_again : (a : AtomTree) (rest : List ℕ) → WellAtom a → AtomEnds rest → atom_at (spell_atom a ++ rest) ≡ Some (Some (a, rest))
+atom_again a rest w s =
+    begins_atom (spell_atom a ++ rest) (spell_repeated a.repeated ++ rest) a.count a.repeated rest (atom_begins a rest w) (count_again_parts a rest w) (repeated_again a.repeated rest w.1 s)
+
+count_character : (c : ℕ) → is_digit_or_point c ≡ true → goes_on_repeated c ≡ false
+count_character c h = grind (arith, nat_tests)
+
+no_atom : (rest : List ℕ) → Stops is_digit_or_point rest → atom_at rest ≡ Some None
+unfolding atom_at
+no_atom [] s = refl
+no_atom (c ∷ rest) s = rw s refl
+
+-- ---- patterns
+
+spell_atoms-each : (xs : List AtomTree) → spell_atoms xs ≡ each spell_atom xs
+spell_atoms-each [] = refl
+spell_atoms-each (x ∷ xs) = ap (λ (y : List ℕ). spell_atom x ++ y) (spell_atoms-each xs)
+
+pattern_takes_by : (cs : List ℕ) (atoms : List AtomTree) (rest : List ℕ) (x : List AtomTree × List ℕ) → cs ≡ each spell_atom atoms ++ rest → WellAll WellAtom atoms → pattern_by atoms rest ≡ Some x
+    → (cs ≡ spell_atoms x.0 ++ x.1) × WellList WellAtom x.0
+pattern_takes_by cs [] rest x parts w e = absurd cc
+pattern_takes_by cs (a ∷ more) rest x parts w e =
+    subst (λ (y : List AtomTree × List ℕ). (cs ≡ spell_atoms y.0 ++ y.1) × WellList WellAtom y.0) (some_is (a ∷ more, rest) x e)
+    (parts ∙ ap (λ (y : List ℕ). y ++ rest) (sym (spell_atoms-each (a ∷ more))), w)
+
+pub pattern_takes : Takes spell_atoms (WellList WellAtom) pattern_at
+unfolding pattern_at
+pattern_takes cs x e =
+    let b = bind_some (many atom_at (length cs) cs) (λ y. pattern_by y.0 y.1) x e in
+    let m = many_takes spell_atom WellAtom atom_at atom_takes (length cs) cs b.0 b.1 in
+    pattern_takes_by cs b.0.0 b.0.1 x m.0 m.1 b.2
+
+not_pattern : (c : ℕ) → goes_on c ≡ false → (is_digit_or_point c ≡ false) × (goes_on_repeated c ≡ false)
+not_pattern c h = (grind (arith, nat_tests), grind (arith, nat_tests))
+
+atoms_well : (atoms : List AtomTree) → WellList WellAtom atoms → WellAll WellAtom atoms
+atoms_well [] w = absurd w
+atoms_well (a ∷ more) w = w
+
+atoms_by : (cs : List ℕ) (atoms : List AtomTree) (rest : List ℕ) → WellList WellAtom atoms → many atom_at (length cs) cs ≡ Some (atoms, rest) → pattern_at cs ≡ Some (atoms, rest)
+unfolding pattern_at
+atoms_by cs [] rest w e = absurd w
+atoms_by cs (a ∷ more) rest w e = rw e refl
+
+pub pattern_again : Again spell_atoms (WellList WellAtom) (Stops goes_on) pattern_at
+pattern_again atoms rest w s =
+    let all = atoms_well atoms w in
+    let enough = count_le spell_atom WellAtom atom_at (λ a v. Begins-long is_digit_or_point (spell_atom a) (subst (Begins is_digit_or_point) (append-nil (spell_atom a)) (atom_begins a [] v))) atoms rest all in
+    let ends = Stops-weaker goes_on goes_on_repeated rest (λ c h. (not_pattern c h).1) s in
+    let none = no_atom rest (Stops-weaker goes_on is_digit_or_point rest (λ c h. (not_pattern c h).0) s) in
+    let m = many_again spell_atom WellAtom atom_at AtomEnds atom_again (λ a cs v. Begins-stops is_digit_or_point goes_on_repeated (spell_atom a ++ cs) count_character (atom_begins a cs v)) (length (each spell_atom atoms ++ rest)) atoms rest enough all ends none in
+    atoms_by (spell_atoms atoms ++ rest) atoms rest w (ap (λ (y : List ℕ). many atom_at (length (y ++ rest)) (y ++ rest)) (spell_atoms-each atoms) ∙ m)

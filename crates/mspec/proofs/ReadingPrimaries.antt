@@ -1,0 +1,306 @@
+-- What is read of a primary is spelled so, and what is spelled so is read.
+use Rattle.std.proofs.Common.{◌≡◌, ℕ, ◌<◌, Bool, true, false, cond, eqb, List, [], ◌∷◌, ◌++◌, length, Option, Some, None, inl, inr, refl, sym, ap, subst, ◌∙◌, append_assoc, arith}
+use Rattle.std.specs.Prelude.{◌||◌}
+use Rattle.std.proofs.lemmas.Bool.{eqb-true}
+use Rattle.std.proofs.lemmas.Bool.Decides.{nat_tests}
+use Rattle.mspec.specs.Grammar.{ExprTree, PrimaryTree, number, text, local, bracket, call, select, ExprsTree, exprs_of, ChoicesTree, choices_of, quoted, spell_expr, spell_primary, spell_exprs, spell_choices, spell_list, is_letter, is_name_start, is_name_rest, is_character, AllAre, IsName, FunctionTree, ascii_function, char_function, extract_function, find_function, justify_function, length_function, piece_function, select_function, translate_function, function_of, takes, exprs_count, IsCall, WellPrimary, WellAll, WellList}
+use Rattle.mspec.specs.Reading.{◌>>=◌, run_of, after_run, number_at, is_digit_or_point, name_at, text_from, past, list_at, Readers, is_select, bracket_with, choice_with, select_with, call_with, function_by, function_with, primary_with}
+use Rattle.mspec.proofs.ReadingBasics.{Takes, Again, Stops, Stops-weaker, Begins, Begins-weaker, Begins-append, goes_on, bind_some, chosen, some_is, run_parts, run_again, past_takes, name_takes, name_again, text_takes, text_again}
+use Rattle.mspec.proofs.ReadingNumbers.{number_takes, number_again, number_begins, goes_on_number}
+use Rattle.mspec.proofs.ReadingOperators.{is_operator}
+use Rattle.mspec.proofs.ReadingLists.{list_takes, list_again}
+use Rattle.mspec.proofs.ReadingTrees.{WellInner, exprs_list, exprs_back, spell_exprs-list, count-length, exprs_well, exprs_inner, spell_choice, WellChoice, choices_list, choices_back, spell_choices-list, choices_well, choices_inner}
+
+-- ---- what may follow
+
+-- what may follow an operand: nothing that goes on with it
+abbrev pub OperandEnds : List ℕ → Type 0
+OperandEnds rest = Stops goes_on rest
+
+-- what may follow an expression: that, and no operator
+abbrev pub Ends : List ℕ → Type 0
+Ends rest = Stops goes_on rest × Stops is_operator rest
+
+not_on : (c : ℕ) → goes_on c ≡ false → (goes_on_number c ≡ false) × (is_name_rest c ≡ false) × (eqb c 34 ≡ false)
+not_on c h = (grind (arith, nat_tests), grind (arith, nat_tests), grind (arith, nat_tests))
+
+-- ---- what is read is spelled so, below some depth
+
+-- the text of a string, from the text behind its first quote
+cells : (c : ℕ) (cs : List ℕ) (a : ℕ) (t : List ℕ) (z : ℕ) (rest : List ℕ) → c ≡ a → cs ≡ t ++ z ∷ rest → c ∷ cs ≡ (a ∷ (t ++ z ∷ [])) ++ rest
+cells c cs a t z rest p q = rw (p, q, append_assoc) refl
+
+-- the text behind the bracket of a function, and what follows the function
+pub in_brackets : (w t rest : List ℕ) → (36 ∷ (w ++ 40 ∷ (t ++ 41 ∷ []))) ++ rest ≡ 36 ∷ (w ++ 40 ∷ (t ++ 41 ∷ rest))
+in_brackets w t rest = simp append_assoc
+
+-- the text of a function, from its parts
+pub call_cells : (cs w after inside t t' last rest : List ℕ) → cs ≡ w ++ after → after ≡ 40 ∷ inside → inside ≡ t ++ last → last ≡ 41 ∷ rest → t' ≡ t
+    → 36 ∷ cs ≡ (36 ∷ (w ++ 40 ∷ (t' ++ 41 ∷ []))) ++ rest
+call_cells cs w after inside t t' last rest p q s u e =
+    let whole : 36 ∷ cs ≡ 36 ∷ (w ++ 40 ∷ (t ++ 41 ∷ rest)) = rw (p, q, s, u) refl in
+    whole ∙ sym (in_brackets w t rest) ∙ ap (λ (y : List ℕ). (36 ∷ (w ++ 40 ∷ (y ++ 41 ∷ []))) ++ rest) (sym e)
+
+-- which function takes other arguments than those of $SELECT
+select_is : (f : FunctionTree) → is_select f ≡ true → f ≡ select_function
+select_is ascii_function h = absurd cc
+select_is char_function h = absurd cc
+select_is extract_function h = absurd cc
+select_is find_function h = absurd cc
+select_is justify_function h = absurd cc
+select_is length_function h = absurd cc
+select_is piece_function h = absurd cc
+select_is select_function h = refl
+select_is translate_function h = absurd cc
+
+no_select : (f : FunctionTree) (n : ℕ) → takes f n ≡ true → is_select f ≡ false
+no_select ascii_function n h = refl
+no_select char_function n h = refl
+no_select extract_function n h = refl
+no_select find_function n h = refl
+no_select justify_function n h = refl
+no_select length_function n h = refl
+no_select piece_function n h = refl
+no_select select_function n h = absurd cc
+no_select translate_function n h = refl
+
+-- each function takes some argument
+takes_some : (f : FunctionTree) → takes f 0 ≡ true → ⊥
+takes_some ascii_function h = cc
+takes_some char_function h = cc
+takes_some extract_function h = cc
+takes_some find_function h = cc
+takes_some justify_function h = cc
+takes_some length_function h = cc
+takes_some piece_function h = cc
+takes_some select_function h = cc
+takes_some translate_function h = cc
+
+-- what is read behind a character is a primary
+abbrev PrimaryIs : ℕ → List ℕ → PrimaryTree × List ℕ → Type 0
+PrimaryIs d cs y = (cs ≡ spell_primary y.0 ++ y.1) × WellPrimary d y.0
+
+number_primary : (d : ℕ) (cs : List ℕ) (x : PrimaryTree × List ℕ) → (number_at cs >>= λ y. Some (number y.0, y.1)) ≡ Some x → PrimaryIs d cs x
+number_primary d cs x e =
+    let b = bind_some (number_at cs) (λ y. Some (number y.0, y.1)) x e in
+    subst (PrimaryIs d cs) (some_is (number b.0.0, b.0.1) x b.2) (number_takes cs b.0 b.1)
+
+text_primary : (d c : ℕ) (cs : List ℕ) (x : PrimaryTree × List ℕ) → c ≡ 34 → (text_from false cs >>= λ y. Some (text y.0, y.1)) ≡ Some x → PrimaryIs d (c ∷ cs) x
+text_primary d c cs x at e =
+    let b = bind_some (text_from false cs) (λ y. Some (text y.0, y.1)) x e in
+    let t = text_takes false cs b.0 b.1 in
+    subst (PrimaryIs d (c ∷ cs)) (some_is (text b.0.0, b.0.1) x b.2) (cells c cs 34 (quoted b.0.0) 34 b.0.1 at t.0, t.1)
+
+name_primary : (d : ℕ) (cs : List ℕ) (x : PrimaryTree × List ℕ) → (name_at cs >>= λ n. Some (local n.0, n.1)) ≡ Some x → PrimaryIs d cs x
+name_primary d cs x e =
+    let b = bind_some (name_at cs) (λ n. Some (local n.0, n.1)) x e in
+    subst (PrimaryIs d cs) (some_is (local b.0.0, b.0.1) x b.2) (name_takes cs b.0 b.1)
+
+-- arguments that were read are one or more
+first_well : (d : ℕ) (es : List ExprTree) → WellList (WellInner d) es → (0 < d) × WellAll (WellInner d) es
+first_well d [] w = absurd w
+first_well d (e ∷ es) w = (w.0.0, w)
+
+module _ (d : ℕ) (r : Readers) (inner_takes : Takes spell_expr (WellInner d) (r.inner)) where
+  bracket_primary : (c : ℕ) (cs : List ℕ) (x : PrimaryTree × List ℕ) → c ≡ 40 → bracket_with r cs ≡ Some x → PrimaryIs d (c ∷ cs) x
+  unfolding bracket_with
+  bracket_primary c cs x at e =
+      let b = bind_some (r.inner cs) (λ y. past 41 y.1 >>= λ rest. Some (bracket y.0, rest)) x e in
+      let k = bind_some (past 41 b.0.1) (λ rest. Some (bracket b.0.0, rest)) x b.2 in
+      let t = inner_takes cs b.0 b.1 in
+      let z = past_takes 41 b.0.1 k.0 k.1 in
+      subst (PrimaryIs d (c ∷ cs)) (some_is (bracket b.0.0, k.0) x k.2)
+      (cells c cs 40 (spell_expr b.0.0) 41 k.0 at (t.0 ∙ ap (λ (y : List ℕ). spell_expr b.0.0 ++ y) z), t.1)
+
+  choice_parts : (cs c t rest v after : List ℕ) → cs ≡ c ++ t → t ≡ 58 ∷ rest → rest ≡ v ++ after → cs ≡ (c ++ 58 ∷ v) ++ after
+  choice_parts cs c t rest v after p q s = rw (p, q, s, append_assoc) refl
+
+  choice_takes : Takes spell_choice (WellChoice d) (choice_with r)
+  unfolding choice_with
+  choice_takes cs x e =
+      let c = bind_some (r.inner cs) (λ c. past 58 c.1 >>= λ rest. r.inner rest >>= λ v. Some ((c.0, v.0), v.1)) x e in
+      let k = bind_some (past 58 c.0.1) (λ rest. r.inner rest >>= λ v. Some ((c.0.0, v.0), v.1)) x c.2 in
+      let v = bind_some (r.inner k.0) (λ v. Some ((c.0.0, v.0), v.1)) x k.2 in
+      let condition = inner_takes cs c.0 c.1 in
+      let colon = past_takes 58 c.0.1 k.0 k.1 in
+      let value = inner_takes k.0 v.0 v.1 in
+      subst (λ (y : (ExprTree × ExprTree) × List ℕ). (cs ≡ spell_choice y.0 ++ y.1) × WellChoice d y.0) {x = ((c.0.0, v.0.0), v.0.1)} (some_is ((c.0.0, v.0.0), v.0.1) x v.2)
+      (choice_parts cs (spell_expr c.0.0) c.0.1 k.0 (spell_expr v.0.0) v.0.1 condition.0 colon value.0, (condition.1, value.1))
+
+  -- behind a word and its bracket
+  select_takes : (w cs ds after : List ℕ) (x : PrimaryTree × List ℕ) → ds ≡ w ++ after → after ≡ 40 ∷ cs → AllAre is_letter w → function_of w ≡ Some select_function → select_with r w cs ≡ Some x
+      → PrimaryIs d (36 ∷ ds) x
+  unfolding select_with
+  select_takes w cs ds after x p q l f e =
+      let b = bind_some (list_at (choice_with r) cs) (λ y. past 41 y.1 >>= λ rest. Some (select w (choices_of y.0), rest)) x e in
+      let k = bind_some (past 41 b.0.1) (λ rest. Some (select w (choices_of b.0.0), rest)) x b.2 in
+      let t = list_takes spell_choice (WellChoice d) (choice_with r) choice_takes cs b.0 b.1 in
+      let z = past_takes 41 b.0.1 k.0 k.1 in
+      let well = choices_well d b.0.0 t.1 in
+      subst (PrimaryIs d (36 ∷ ds)) (some_is (select w (choices_of b.0.0), k.0) x k.2)
+      (call_cells ds w after cs (spell_list spell_choice b.0.0) (spell_choices (choices_of b.0.0)) b.0.1 k.0 p q t.0 z (spell_choices-list b.0.0), (well.0, (f, l), well.1, well.2))
+
+  call_takes : (g : FunctionTree) (w cs ds after : List ℕ) (x : PrimaryTree × List ℕ) → ds ≡ w ++ after → after ≡ 40 ∷ cs → AllAre is_letter w → function_of w ≡ Some g → call_with r g w cs ≡ Some x
+      → PrimaryIs d (36 ∷ ds) x
+  unfolding call_with
+  call_takes g w cs ds after x p q l f e =
+      let b = bind_some (list_at (r.inner) cs) (λ y. past 41 y.1 >>= λ rest. cond (takes g (length y.0)) (Some (call w (exprs_of y.0), rest)) None) x e in
+      let k = bind_some (past 41 b.0.1) (λ rest. cond (takes g (length b.0.0)) (Some (call w (exprs_of b.0.0), rest)) None) x b.2 in
+      let t = list_takes spell_expr (WellInner d) (r.inner) inner_takes cs b.0 b.1 in
+      let z = past_takes 41 b.0.1 k.0 k.1 in
+      let first = first_well d b.0.0 t.1 in
+      elim (chosen (takes g (length b.0.0)) (Some (call w (exprs_of b.0.0), k.0)) None (Some x) k.2) [
+        | inl u ↦
+            let is : IsCall w (exprs_count (exprs_of b.0.0)) = (g, f, ap (takes g) (count-length b.0.0) ∙ u.0) in
+            subst (PrimaryIs d (36 ∷ ds)) (some_is (call w (exprs_of b.0.0), k.0) x u.1)
+            (call_cells ds w after cs (spell_list spell_expr b.0.0) (spell_exprs (exprs_of b.0.0)) b.0.1 k.0 p q t.0 z (spell_exprs-list b.0.0), (first.0, l, is, exprs_well d b.0.0 first.1))
+        | inr u ↦ absurd cc
+      ]
+
+  function_takes : (w cs ds after : List ℕ) (o : Option FunctionTree) (x : PrimaryTree × List ℕ) → ds ≡ w ++ after → after ≡ 40 ∷ cs → AllAre is_letter w → function_of w ≡ o → function_by r w o cs ≡ Some x
+      → PrimaryIs d (36 ∷ ds) x
+  function_takes w cs ds after None x p q l f e = absurd cc
+  function_takes w cs ds after (Some g) x p q l f e =
+      elim (chosen (is_select g) (select_with r w cs) (call_with r g w cs) (Some x) e) [
+        | inl s ↦ select_takes w cs ds after x p q l (f ∙ ap (λ (y : FunctionTree). Some y) (select_is g s.0)) s.1
+        | inr s ↦ call_takes g w cs ds after x p q l f s.1
+      ]
+
+  function_primary : (c : ℕ) (cs : List ℕ) (x : PrimaryTree × List ℕ) → c ≡ 36 → function_with r cs ≡ Some x → PrimaryIs d (c ∷ cs) x
+  unfolding function_with
+  function_primary c cs x at e =
+      let w = run_of is_letter cs in
+      let after = after_run is_letter cs in
+      let k = bind_some (past 40 after) (function_by r w (function_of w)) x e in
+      let parts = run_parts is_letter cs in
+      let is : PrimaryIs d (36 ∷ cs) x = function_takes w k.0 cs after (function_of w) x parts.0 (past_takes 40 after k.0 k.1) parts.1 refl k.2 in
+      (ap (λ (y : ℕ). y ∷ cs) at ∙ is.0, is.1)
+
+  pub primary_takes : Takes spell_primary (WellPrimary d) (primary_with r)
+  unfolding primary_with
+  primary_takes [] x e = absurd cc
+  primary_takes (c ∷ cs) x e =
+      elim (chosen (is_digit_or_point c) (number_at (c ∷ cs) >>= λ y. Some (number y.0, y.1)) _ (Some x) e) [
+        | inl p ↦ number_primary d (c ∷ cs) x p.1
+        | inr p ↦ elim (chosen (eqb c 34) (text_from false cs >>= λ y. Some (text y.0, y.1)) _ (Some x) p.1) [
+          | inl q ↦ text_primary d c cs x (eqb-true _ _ q.0) q.1
+          | inr q ↦ elim (chosen (eqb c 40) (bracket_with r cs) _ (Some x) q.1) [
+            | inl s ↦ bracket_primary c cs x (eqb-true _ _ s.0) s.1
+            | inr s ↦ elim (chosen (eqb c 36) (function_with r cs) _ (Some x) s.1) [
+              | inl t ↦ function_primary c cs x (eqb-true _ _ t.0) t.1
+              | inr t ↦ name_primary d (c ∷ cs) x t.1
+            ]
+          ]
+        ]
+      ]
+
+-- ---- where a primary begins
+
+-- a character that a primary begins with
+abbrev pub begins_primary : ℕ → Bool
+begins_primary c = is_digit_or_point c || is_name_start c || eqb c 34 || eqb c 40 || eqb c 36
+
+name_begins : (c : ℕ) → is_name_start c ≡ true → begins_primary c ≡ true
+name_begins c h = grind (arith, nat_tests)
+
+digit_or_point_begins : (c : ℕ) → is_digit_or_point c ≡ true → begins_primary c ≡ true
+digit_or_point_begins c h = grind (arith, nat_tests)
+
+pub primary_begins : (d : ℕ) (p : PrimaryTree) → WellPrimary d p → Begins begins_primary (spell_primary p)
+primary_begins d (number t) w = Begins-weaker is_digit_or_point begins_primary t digit_or_point_begins (number_begins t w)
+primary_begins d (text t) w = refl
+primary_begins d (local []) w = absurd w
+primary_begins d (local (c ∷ cs)) w = name_begins c w.0
+primary_begins d (bracket e) w = refl
+primary_begins d (call word args) w = refl
+primary_begins d (select word all) w = refl
+
+-- ---- what is spelled so is read, below some depth
+
+name_start_tests : (c : ℕ) → is_name_start c ≡ true → (is_digit_or_point c ≡ false) × (eqb c 34 ≡ false) × (eqb c 40 ≡ false) × (eqb c 36 ≡ false)
+name_start_tests c h = (grind (arith, nat_tests), grind (arith, nat_tests), grind (arith, nat_tests), grind (arith, nat_tests))
+
+number_step : (r : Readers) (cs t rest : List ℕ) → Begins is_digit_or_point cs → number_at cs ≡ Some (t, rest) → primary_with r cs ≡ Some (number t, rest)
+unfolding primary_with
+number_step r [] t rest b e = absurd b
+number_step r (c ∷ cs) t rest b e = rw (b, e) refl
+
+text_step : (r : Readers) (t rest : List ℕ) → AllAre is_character t → Stops (λ c. eqb c 34) rest → primary_with r (34 ∷ (quoted t ++ 34 ∷ rest)) ≡ Some (text t, rest)
+unfolding primary_with
+text_step r t rest w s = rw (text_again t rest w s) refl
+
+name_step : (r : Readers) (n rest : List ℕ) → IsName n → Stops is_name_rest rest → primary_with r (n ++ rest) ≡ Some (local n, rest)
+unfolding primary_with
+name_step r [] rest w f = absurd w
+name_step r (c ∷ n) rest w f =
+    let t = name_start_tests c w.0 in
+    rw (t.0, t.1, t.2, t.3, name_again (c ∷ n) rest w f) refl
+
+bracket_step : (r : Readers) (cs : List ℕ) (e : ExprTree) (rest : List ℕ) → r.inner cs ≡ Some (e, 41 ∷ rest) → primary_with r (40 ∷ cs) ≡ Some (bracket e, rest)
+unfolding primary_with bracket_with
+bracket_step r cs e rest h = rw h refl
+
+choice_step : (r : Readers) (cs ds : List ℕ) (c v : ExprTree) (rest : List ℕ) → r.inner cs ≡ Some (c, 58 ∷ ds) → r.inner ds ≡ Some (v, rest) → choice_with r cs ≡ Some ((c, v), rest)
+unfolding choice_with
+choice_step r cs ds c v rest h k = rw (h, k) refl
+
+-- behind a word and its bracket
+select_step : (r : Readers) (w cs : List ℕ) (all : List (ExprTree × ExprTree)) (rest : List ℕ) → function_of w ≡ Some select_function → list_at (choice_with r) cs ≡ Some (all, 41 ∷ rest)
+    → function_by r w (function_of w) cs ≡ Some (select w (choices_of all), rest)
+unfolding select_with
+select_step r w cs all rest f h = rw (f, h) refl
+
+call_step : (r : Readers) (g : FunctionTree) (w cs : List ℕ) (args : List ExprTree) (rest : List ℕ) → function_of w ≡ Some g → takes g (length args) ≡ true → list_at (r.inner) cs ≡ Some (args, 41 ∷ rest)
+    → function_by r w (function_of w) cs ≡ Some (call w (exprs_of args), rest)
+unfolding call_with
+call_step r g w cs args rest f t h = rw (f, no_select g (length args) t, h, t) refl
+
+function_step : (r : Readers) (w cs : List ℕ) (p : PrimaryTree) (rest : List ℕ) → AllAre is_letter w → function_by r w (function_of w) cs ≡ Some (p, rest) → primary_with r (36 ∷ (w ++ 40 ∷ cs)) ≡ Some (p, rest)
+unfolding primary_with function_with
+function_step r w cs p rest l h =
+    let i = run_again is_letter w (40 ∷ cs) l refl in
+    rw (i.0, i.1) h
+
+module _ (d : ℕ) (r : Readers) (inner_again : Again spell_expr (WellInner d) Ends (r.inner)) where
+  choice_again : Again spell_choice (WellChoice d) Ends (choice_with r)
+  choice_again c rest w s =
+      ap (choice_with r) (append_assoc (spell_expr c.0) (58 ∷ spell_expr c.1) rest)
+      ∙ choice_step r (spell_expr c.0 ++ 58 ∷ (spell_expr c.1 ++ rest)) (spell_expr c.1 ++ rest) c.0 c.1 rest
+      (inner_again c.0 (58 ∷ (spell_expr c.1 ++ rest)) w.0 (refl, refl)) (inner_again c.1 rest w.1 s)
+
+  select_again : (w : List ℕ) (all : ChoicesTree) (rest : List ℕ) → WellPrimary d (select w all) → primary_with r (spell_primary (select w all) ++ rest) ≡ Some (select w all, rest)
+  select_again w all rest h =
+      let cs = choices_list all in
+      let same : spell_choices all ≡ spell_list spell_choice cs = ap spell_choices (sym (choices_back all)) ∙ spell_choices-list cs in
+      let l = list_again spell_choice (WellChoice d) (choice_with r) Ends (λ more. (refl, refl)) choice_again cs (41 ∷ rest) (choices_inner d all h.0 h.2 h.3) ((refl, refl), refl) in
+      let step = function_step r w (spell_list spell_choice cs ++ 41 ∷ rest) (select w (choices_of cs)) rest h.1.1 (select_step r w (spell_list spell_choice cs ++ 41 ∷ rest) cs rest h.1.0 l) in
+      ap (primary_with r) (in_brackets w (spell_choices all) rest ∙ ap (λ (y : List ℕ). 36 ∷ (w ++ 40 ∷ (y ++ 41 ∷ rest))) same)
+      ∙ step ∙ ap (λ (y : ChoicesTree). Some (select w y, rest)) (choices_back all)
+
+  exprs_some : (f : FunctionTree) (es : List ExprTree) → takes f (length es) ≡ true → WellAll (WellInner d) es → WellList (WellInner d) es
+  exprs_some f [] t w = absurd (takes_some f t)
+  exprs_some f (e ∷ es) t w = w
+
+  call_again : (w : List ℕ) (args : ExprsTree) (rest : List ℕ) → WellPrimary d (call w args) → primary_with r (spell_primary (call w args) ++ rest) ≡ Some (call w args, rest)
+  call_again w args rest h =
+      let es = exprs_list args in
+      let f : FunctionTree = h.2.0 in
+      let same : spell_exprs args ≡ spell_list spell_expr es = ap spell_exprs (sym (exprs_back args)) ∙ spell_exprs-list es in
+      let count : takes f (length es) ≡ true = ap (takes f) (sym (count-length es) ∙ ap exprs_count (exprs_back args)) ∙ h.2.2 in
+      let l = list_again spell_expr (WellInner d) (r.inner) Ends (λ more. (refl, refl)) inner_again es (41 ∷ rest) (exprs_some f es count (exprs_inner d args h.0 h.3)) ((refl, refl), refl) in
+      let step = function_step r w (spell_list spell_expr es ++ 41 ∷ rest) (call w (exprs_of es)) rest h.1 (call_step r f w (spell_list spell_expr es ++ 41 ∷ rest) es rest h.2.1 count l) in
+      ap (primary_with r) (in_brackets w (spell_exprs args) rest ∙ ap (λ (y : List ℕ). 36 ∷ (w ++ 40 ∷ (y ++ 41 ∷ rest))) same)
+      ∙ step ∙ ap (λ (y : ExprsTree). Some (call w y, rest)) (exprs_back args)
+
+  pub primary_again : Again spell_primary (WellPrimary d) OperandEnds (primary_with r)
+  primary_again (number t) rest w s =
+      number_step r (t ++ rest) t rest (Begins-append is_digit_or_point t rest (number_begins t w)) (number_again t rest w (Stops-weaker goes_on goes_on_number rest (λ c h. (not_on c h).0) s))
+  primary_again (text t) rest w s =
+      ap (λ (y : List ℕ). primary_with r (34 ∷ y)) (append_assoc (quoted t) (34 ∷ []) rest)
+      ∙ text_step r t rest w (Stops-weaker goes_on (λ c. eqb c 34) rest (λ c h. (not_on c h).2) s)
+  primary_again (local n) rest w s = name_step r n rest w (Stops-weaker goes_on is_name_rest rest (λ c h. (not_on c h).1) s)
+  primary_again (bracket e) rest w s =
+      ap (λ (y : List ℕ). primary_with r (40 ∷ y)) (append_assoc (spell_expr e) (41 ∷ []) rest)
+      ∙ bracket_step r (spell_expr e ++ 41 ∷ rest) e rest (inner_again e (41 ∷ rest) w (refl, refl))
+  primary_again (call word args) rest w s = call_again word args rest w
+  primary_again (select word all) rest w s = select_again word all rest w

@@ -1,0 +1,238 @@
+-- What is read of the left side of an assignment is spelled so, and what is spelled so is read.
+use Rattle.std.proofs.Common.{◌≡◌, ℕ, ◌<◌, ◌-◌, true, false, eqb, List, [], ◌∷◌, ◌++◌, Option, Some, None, inl, inr, refl, sym, ap, subst, ◌∙◌, append_assoc, arith}
+use Rattle.std.proofs.lemmas.Bool.{eqb-true}
+use Rattle.std.proofs.lemmas.Bool.Decides.{nat_tests}
+use Rattle.mspec.specs.Grammar.{ExprTree, TargetTree, variable, piece, DestinationTree, one, several, AssignmentTree, spell_expr, spell_list, spell_place, spell_target, spell_destination, spell_assignment, is_letter, is_name_start, is_name_rest, AllAre, IsName, FunctionTree, ascii_function, char_function, extract_function, find_function, justify_function, length_function, piece_function, select_function, translate_function, function_of, max_depth, WellPlace, WellTarget, WellDestination, WellAssignment}
+use Rattle.mspec.specs.Reading.{Read, ◌>>=◌, run_of, after_run, name_at, past, list_at, Readers, is_piece, expr_at, readers_at, place_with, piece_with, piece_by, target_with, destination_at, assignment_at}
+use Rattle.mspec.proofs.ReadingBasics.{Takes, Again, Stops, bind_some, chosen, some_is, both_are, run_parts, run_again, past_takes, name_takes, name_again}
+use Rattle.mspec.proofs.ReadingLists.{is_comma, list_takes, list_again}
+use Rattle.mspec.proofs.ReadingTrees.{WellInner}
+use Rattle.mspec.proofs.ReadingPrimaries.{Ends}
+use Rattle.mspec.proofs.ReadingExprs.{inner_takes, inner_again, expr_takes, expr_again}
+
+-- ---- what is read is spelled so
+
+-- the text of a $PIECE, and what follows it
+spread : (w a b c rest : List ℕ) → (36 ∷ (w ++ 40 ∷ (a ++ 44 ∷ (b ++ (c ++ 41 ∷ []))))) ++ rest ≡ 36 ∷ (w ++ 40 ∷ (a ++ 44 ∷ (b ++ (c ++ 41 ∷ rest))))
+spread w a b c rest = simp append_assoc
+
+-- the text of a $PIECE, from its parts
+piece_cells : (ds w after cs n t a e u p last rest : List ℕ) → ds ≡ w ++ after → after ≡ 40 ∷ cs → cs ≡ n ++ t → t ≡ 44 ∷ a → a ≡ e ++ u → u ≡ p ++ last → last ≡ 41 ∷ rest
+    → 36 ∷ ds ≡ (36 ∷ (w ++ 40 ∷ (n ++ 44 ∷ (e ++ (p ++ 41 ∷ []))))) ++ rest
+piece_cells ds w after cs n t a e u p last rest f g h k l m z =
+    let whole : 36 ∷ ds ≡ 36 ∷ (w ++ 40 ∷ (n ++ 44 ∷ (e ++ (p ++ 41 ∷ rest)))) = rw (f, g, h, k, l, m, z) refl in
+    whole ∙ sym (spread w n e p rest)
+
+piece_is : (f : FunctionTree) → is_piece f ≡ true → f ≡ piece_function
+piece_is ascii_function h = absurd cc
+piece_is char_function h = absurd cc
+piece_is extract_function h = absurd cc
+piece_is find_function h = absurd cc
+piece_is justify_function h = absurd cc
+piece_is length_function h = absurd cc
+piece_is piece_function h = refl
+piece_is select_function h = absurd cc
+piece_is translate_function h = absurd cc
+
+-- a target that is read with so many brackets to open
+abbrev TargetIs : ℕ → List ℕ → TargetTree × List ℕ → Type 0
+TargetIs d cs x = (cs ≡ spell_target x.0 ++ x.1) × WellTarget d x.0
+
+module _ (d : ℕ) (r : Readers) (takes : Takes spell_expr (WellInner d) (r.inner)) where
+  place_takes : Takes spell_place (WellPlace (d - 1)) (place_with r)
+  unfolding place_with
+  place_takes [] x e = subst (λ (y : Option ExprTree × List ℕ). ([] ≡ spell_place y.0 ++ y.1) × WellPlace (d - 1) y.0) (some_is (None, []) x e) (refl, tt)
+  place_takes (c ∷ cs) x e =
+      let Is : Option ExprTree × List ℕ → Type 0 = λ y. (c ∷ cs ≡ spell_place y.0 ++ y.1) × WellPlace (d - 1) y.0 in
+      elim (chosen (eqb c 44) (r.inner cs >>= λ e. Some (Some e.0, e.1)) (Some (None, c ∷ cs)) (Some x) e) [
+        | inl p ↦
+            let b = bind_some (r.inner cs) (λ e. Some (Some e.0, e.1)) x p.1 in
+            let t = takes cs b.0 b.1 in
+            subst Is (some_is (Some b.0.0, b.0.1) x b.2) (both_are c cs 44 (spell_expr b.0.0 ++ b.0.1) (eqb-true _ _ p.0) t.0, t.1.1)
+        | inr p ↦ subst Is (some_is (None, c ∷ cs) x p.1) (refl, tt)
+      ]
+
+  -- behind a word and its bracket
+  piece_takes : (w cs ds after : List ℕ) (x : TargetTree × List ℕ) → ds ≡ w ++ after → after ≡ 40 ∷ cs → AllAre is_letter w → function_of w ≡ Some piece_function → piece_with r w cs ≡ Some x
+      → TargetIs d (36 ∷ ds) x
+  unfolding piece_with
+  piece_takes w cs ds after x p q l f e =
+      let n = bind_some (name_at cs) (λ n. past 44 n.1 >>= λ rest. r.inner rest >>= λ e. place_with r e.1 >>= λ p. past 41 p.1 >>= λ end. Some (piece w n.0 e.0 p.0, end)) x e in
+      let k = bind_some (past 44 n.0.1) (λ rest. r.inner rest >>= λ e. place_with r e.1 >>= λ p. past 41 p.1 >>= λ end. Some (piece w n.0.0 e.0 p.0, end)) x n.2 in
+      let v = bind_some (r.inner k.0) (λ e. place_with r e.1 >>= λ p. past 41 p.1 >>= λ end. Some (piece w n.0.0 e.0 p.0, end)) x k.2 in
+      let u = bind_some (place_with r v.0.1) (λ p. past 41 p.1 >>= λ end. Some (piece w n.0.0 v.0.0 p.0, end)) x v.2 in
+      let z = bind_some (past 41 u.0.1) (λ end. Some (piece w n.0.0 v.0.0 u.0.0, end)) x u.2 in
+      let name = name_takes cs n.0 n.1 in
+      let comma = past_takes 44 n.0.1 k.0 k.1 in
+      let delimiter = takes k.0 v.0 v.1 in
+      let place = place_takes v.0.1 u.0 u.1 in
+      let close = past_takes 41 u.0.1 z.0 z.1 in
+      let made : TargetTree × List ℕ = (piece w n.0.0 v.0.0 u.0.0, z.0) in
+      let whole : 36 ∷ ds ≡ spell_target made.0 ++ made.1 =
+      piece_cells ds w after cs n.0.0 n.0.1 k.0 (spell_expr v.0.0) v.0.1 (spell_place u.0.0) u.0.1 z.0 p q name.0 comma delimiter.0 place.0 close in
+      subst (TargetIs d (36 ∷ ds)) {x = made} (some_is made x z.2) (whole, ((f, l), name.1, delimiter.1.1, place.1))
+
+  piece_takes_by : (w cs ds after : List ℕ) (o : Option FunctionTree) (x : TargetTree × List ℕ) → ds ≡ w ++ after → after ≡ 40 ∷ cs → AllAre is_letter w → function_of w ≡ o → piece_by r w o cs ≡ Some x
+      → TargetIs d (36 ∷ ds) x
+  piece_takes_by w cs ds after None x p q l f e = absurd cc
+  piece_takes_by w cs ds after (Some g) x p q l f e =
+      elim (chosen (is_piece g) (piece_with r w cs) None (Some x) e) [
+        | inl s ↦ piece_takes w cs ds after x p q l (f ∙ ap (λ (y : FunctionTree). Some y) (piece_is g s.0)) s.1
+        | inr s ↦ absurd cc
+      ]
+
+  pub target_takes : Takes spell_target (WellTarget d) (target_with r)
+  unfolding target_with
+  target_takes [] x e = absurd cc
+  target_takes (c ∷ cs) x e =
+      let w = run_of is_letter cs in
+      let after = after_run is_letter cs in
+      elim (chosen (eqb c 36) (past 40 after >>= piece_by r w (function_of w)) (name_at (c ∷ cs) >>= λ n. Some (variable n.0, n.1)) (Some x) e) [
+        | inl p ↦
+            let k = bind_some (past 40 after) (piece_by r w (function_of w)) x p.1 in
+            let parts = run_parts is_letter cs in
+            let at : c ≡ 36 = eqb-true _ _ p.0 in
+            let is = piece_takes_by w k.0 cs after (function_of w) x parts.0 (past_takes 40 after k.0 k.1) parts.1 refl k.2 in
+            (ap (λ (y : ℕ). y ∷ cs) at ∙ is.0, is.1)
+        | inr p ↦
+            let b = bind_some (name_at (c ∷ cs)) (λ n. Some (variable n.0, n.1)) x p.1 in
+            subst (TargetIs d (c ∷ cs)) (some_is (variable b.0.0, b.0.1) x b.2) (name_takes (c ∷ cs) b.0 b.1)
+      ]
+
+abbrev DestinationIs : List ℕ → DestinationTree × List ℕ → Type 0
+DestinationIs cs x = (cs ≡ spell_destination x.0 ++ x.1) × WellDestination x.0
+
+list_cells : (c : ℕ) (cs t last rest : List ℕ) → c ≡ 40 → cs ≡ t ++ last → last ≡ 41 ∷ rest → c ∷ cs ≡ (40 ∷ (t ++ 41 ∷ [])) ++ rest
+list_cells c cs t last rest p q s = rw (p, q, s, append_assoc) refl
+
+-- how the targets of a list are read
+abbrev listed : List ℕ → Read TargetTree
+listed = target_with (readers_at (max_depth - 1))
+
+several_takes : (c : ℕ) (cs : List ℕ) (x : DestinationTree × List ℕ) → c ≡ 40 → (list_at listed cs >>= λ y. past 41 y.1 >>= λ rest. Some (several y.0, rest)) ≡ Some x → DestinationIs (c ∷ cs) x
+several_takes c cs x at e =
+    let b = bind_some (list_at listed cs) (λ y. past 41 y.1 >>= λ rest. Some (several y.0, rest)) x e in
+    let k = bind_some (past 41 b.0.1) (λ rest. Some (several b.0.0, rest)) x b.2 in
+    let t = list_takes spell_target (WellTarget (max_depth - 1)) listed (target_takes (max_depth - 1) (readers_at (max_depth - 1)) (inner_takes (max_depth - 1))) cs b.0 b.1 in
+    let z = past_takes 41 b.0.1 k.0 k.1 in
+    subst (DestinationIs (c ∷ cs)) (some_is (several b.0.0, k.0) x k.2) (list_cells c cs (spell_list spell_target b.0.0) b.0.1 k.0 at t.0 z, t.1)
+
+destination_takes : Takes spell_destination WellDestination destination_at
+unfolding destination_at
+destination_takes [] x e = absurd cc
+destination_takes (c ∷ cs) x e =
+    elim (chosen (eqb c 40) (list_at listed cs >>= λ y. past 41 y.1 >>= λ rest. Some (several y.0, rest)) (target_with (readers_at max_depth) (c ∷ cs) >>= λ t. Some (one t.0, t.1)) (Some x) e) [
+      | inl p ↦ several_takes c cs x (eqb-true _ _ p.0) p.1
+      | inr p ↦
+          let b = bind_some (target_with (readers_at max_depth) (c ∷ cs)) (λ t. Some (one t.0, t.1)) x p.1 in
+          subst (DestinationIs (c ∷ cs)) (some_is (one b.0.0, b.0.1) x b.2) (target_takes max_depth (readers_at max_depth) (inner_takes max_depth) (c ∷ cs) b.0 b.1)
+    ]
+
+equals_parts : (cs n t a e rest : List ℕ) → cs ≡ n ++ t → t ≡ 61 ∷ a → a ≡ e ++ rest → cs ≡ (n ++ 61 ∷ e) ++ rest
+equals_parts cs n t a e rest p q s = rw (p, q, s, append_assoc) refl
+
+pub assignment_takes : Takes spell_assignment WellAssignment assignment_at
+unfolding assignment_at
+assignment_takes cs x e =
+    let t = bind_some (destination_at cs) (λ t. past 61 t.1 >>= λ rest. expr_at max_depth rest >>= λ v. Some ((t.0, v.0), v.1)) x e in
+    let k = bind_some (past 61 t.0.1) (λ rest. expr_at max_depth rest >>= λ v. Some ((t.0.0, v.0), v.1)) x t.2 in
+    let v = bind_some (expr_at max_depth k.0) (λ v. Some ((t.0.0, v.0), v.1)) x k.2 in
+    let destination = destination_takes cs t.0 t.1 in
+    let equals = past_takes 61 t.0.1 k.0 k.1 in
+    let value = expr_takes max_depth (readers_at max_depth) (inner_takes max_depth) k.0 v.0 v.1 in
+    let made : AssignmentTree × List ℕ = ((t.0.0, v.0.0), v.0.1) in
+    subst (λ (y : AssignmentTree × List ℕ). (cs ≡ spell_assignment y.0 ++ y.1) × WellAssignment y.0) {x = made} (some_is made x v.2)
+    (equals_parts cs (spell_destination t.0.0) t.0.1 k.0 (spell_expr v.0.0) v.0.1 destination.0 equals value.0, (destination.1, value.1))
+
+-- ---- what is spelled so is read
+
+-- what may follow a target: nothing that goes on with a name
+abbrev TargetEnds : List ℕ → Type 0
+TargetEnds rest = Stops is_name_rest rest
+
+name_no_dollar : (c : ℕ) → is_name_start c ≡ true → (eqb c 36 ≡ false) × (eqb c 40 ≡ false)
+name_no_dollar c h = (grind (arith, nat_tests), grind (arith, nat_tests))
+
+place_none : (r : Readers) (rest : List ℕ) → Stops is_comma rest → place_with r rest ≡ Some (None, rest)
+unfolding place_with
+place_none r [] s = refl
+place_none r (c ∷ rest) s = rw s refl
+
+place_some : (r : Readers) (cs : List ℕ) (e : ExprTree) (rest : List ℕ) → r.inner cs ≡ Some (e, rest) → place_with r (44 ∷ cs) ≡ Some (Some e, rest)
+unfolding place_with
+place_some r cs e rest h = rw h refl
+
+variable_step : (r : Readers) (n rest : List ℕ) → IsName n → TargetEnds rest → target_with r (n ++ rest) ≡ Some (variable n, rest)
+unfolding target_with
+variable_step r [] rest w s = absurd w
+variable_step r (c ∷ n) rest w s = rw ((name_no_dollar c w.0).0, name_again (c ∷ n) rest w s) refl
+
+inside_step : (r : Readers) (w cs name t u v : List ℕ) (delimiter : ExprTree) (place : Option ExprTree) (rest : List ℕ)
+    → name_at cs ≡ Some (name, t) → past 44 t ≡ Some u → r.inner u ≡ Some (delimiter, v) → place_with r v ≡ Some (place, 41 ∷ rest) → piece_with r w cs ≡ Some (piece w name delimiter place, rest)
+unfolding piece_with
+inside_step r w cs name t u v delimiter place rest h k l m = rw (h, k, l, m) refl
+
+piece_step : (r : Readers) (w cs : List ℕ) (x : TargetTree × List ℕ) → AllAre is_letter w → function_of w ≡ Some piece_function → piece_with r w cs ≡ Some x → target_with r (36 ∷ (w ++ 40 ∷ cs)) ≡ Some x
+unfolding target_with
+piece_step r w cs x l f h =
+    let i = run_again is_letter w (40 ∷ cs) l refl in
+    rw (i.0, i.1, f) h
+
+module _ (d : ℕ) (r : Readers) (lt : 0 < d) (again : Again spell_expr (WellInner d) Ends (r.inner)) where
+  place_again : (place : Option ExprTree) (rest : List ℕ) → WellPlace (d - 1) place → place_with r (spell_place place ++ 41 ∷ rest) ≡ Some (place, 41 ∷ rest)
+  place_again None rest w = place_none r (41 ∷ rest) refl
+  place_again (Some e) rest w = place_some r (spell_expr e ++ 41 ∷ rest) e (41 ∷ rest) (again e (41 ∷ rest) (lt, w) (refl, refl))
+
+  place_ends : (place : Option ExprTree) (rest : List ℕ) → Ends (spell_place place ++ 41 ∷ rest)
+  place_ends None rest = (refl, refl)
+  place_ends (Some e) rest = (refl, refl)
+
+  inside_again : (w name : List ℕ) (delimiter : ExprTree) (place : Option ExprTree) (rest : List ℕ) → WellTarget d (piece w name delimiter place)
+      → piece_with r w (name ++ 44 ∷ (spell_expr delimiter ++ (spell_place place ++ 41 ∷ rest))) ≡ Some (piece w name delimiter place, rest)
+  inside_again w name delimiter place rest h =
+      let last : List ℕ = spell_place place ++ 41 ∷ rest in
+      let u : List ℕ = spell_expr delimiter ++ last in
+      inside_step r w (name ++ 44 ∷ u) name (44 ∷ u) u last delimiter place rest
+      (name_again name (44 ∷ u) h.1 refl) refl (again delimiter last (lt, h.2) (place_ends place rest)) (place_again place rest h.3)
+
+  pub target_again : Again spell_target (WellTarget d) TargetEnds (target_with r)
+  target_again (variable name) rest w s = variable_step r name rest w s
+  target_again (piece word name delimiter place) rest w s =
+      let parts : spell_target (piece word name delimiter place) ++ rest ≡ 36 ∷ (word ++ 40 ∷ (name ++ 44 ∷ (spell_expr delimiter ++ (spell_place place ++ 41 ∷ rest)))) =
+      spread word name (spell_expr delimiter) (spell_place place) rest in
+      ap (target_with r) parts ∙ piece_step r word (name ++ 44 ∷ (spell_expr delimiter ++ (spell_place place ++ 41 ∷ rest))) (piece word name delimiter place, rest) w.0.1 w.0.0
+      (inside_again word name delimiter place rest w)
+
+list_step : (cs : List ℕ) (ts : List TargetTree) (rest : List ℕ) → list_at listed cs ≡ Some (ts, 41 ∷ rest) → destination_at (40 ∷ cs) ≡ Some (several ts, rest)
+unfolding destination_at
+list_step cs ts rest h = rw h refl
+
+-- a text that begins with no bracket
+one_step : (cs : List ℕ) (t : TargetTree) (rest : List ℕ) → Stops (λ c. eqb c 40) cs → target_with (readers_at max_depth) cs ≡ Some (t, rest) → destination_at cs ≡ Some (one t, rest)
+unfolding destination_at target_with
+one_step [] t rest s h = absurd cc
+one_step (c ∷ cs) t rest s h = rw (s, h) refl
+
+target_stops : (d : ℕ) (t : TargetTree) (rest : List ℕ) → WellTarget d t → Stops (λ c. eqb c 40) (spell_target t ++ rest)
+target_stops d (variable []) rest w = absurd w
+target_stops d (variable (c ∷ n)) rest w = (name_no_dollar c w.0).1
+target_stops d (piece word name delimiter place) rest w = refl
+
+destination_again : Again spell_destination WellDestination TargetEnds destination_at
+destination_again (one t) rest w s =
+    one_step (spell_target t ++ rest) t rest (target_stops max_depth t rest w) (target_again max_depth (readers_at max_depth) (omega arith) (inner_again max_depth) t rest w s)
+destination_again (several ts) rest w s =
+    let again = target_again (max_depth - 1) (readers_at (max_depth - 1)) (omega arith) (inner_again (max_depth - 1)) in
+    let l = list_again spell_target (WellTarget (max_depth - 1)) listed TargetEnds (λ cs. refl) again ts (41 ∷ rest) w (refl, refl) in
+    ap destination_at (ap (λ (y : List ℕ). 40 ∷ y) (append_assoc (spell_list spell_target ts) (41 ∷ []) rest)) ∙ list_step (spell_list spell_target ts ++ 41 ∷ rest) ts rest l
+
+assignment_step : (cs t u : List ℕ) (destination : DestinationTree) (value : ExprTree) (rest : List ℕ) → destination_at cs ≡ Some (destination, t) → past 61 t ≡ Some u → expr_at max_depth u ≡ Some (value, rest)
+    → assignment_at cs ≡ Some ((destination, value), rest)
+unfolding assignment_at
+assignment_step cs t u destination value rest h k l = rw (h, k, l) refl
+
+pub assignment_again : Again spell_assignment WellAssignment Ends assignment_at
+assignment_again x rest w s =
+    let u : List ℕ = spell_expr x.1 ++ rest in
+    ap assignment_at (append_assoc (spell_destination x.0) (61 ∷ spell_expr x.1) rest)
+    ∙ assignment_step (spell_destination x.0 ++ 61 ∷ u) (61 ∷ u) u x.0 x.1 rest (destination_again x.0 (61 ∷ u) w.0 refl) refl (expr_again max_depth (readers_at max_depth) (inner_again max_depth) x.1 rest w.1 s)

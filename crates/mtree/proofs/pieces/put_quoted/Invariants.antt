@@ -1,0 +1,6 @@
+use Rattle.std.proofs.Common.{◌≡◌, ◌++◌, drop}
+use Rattle.mspec.specs.Grammar.{quoted}
+use Rattle.mtree.proofs.pieces.put_quoted.Given as goal
+
+abbrev pub invariant-loop-byte : goal.invariant-loop-byte
+invariant-loop-byte l = l.out ++ quoted (drop l.byte-index l.byte-items) ≡ l.fn.out ++ quoted l.fn.text

@@ -1,0 +1,238 @@
+// The text of an expression.
+ghost use Rattle.std.specs.Prelude.{◌≡◌, ◌++◌, ◌<◌, ◌∷◌, [], OnOk, map};
+ghost use Rattle.mspec.specs.Grammar.{sign_char, spell_truth, spell_binary, spell_signs, spell_behind, spell_repeated, spell_atom, spell_atoms, spell_expr, steps_of, exprs_of, choices_of, spell_steps, spell_step, spell_operand, spell_primary, spell_exprs, spell_choices};
+ghost use Rattle.mtree.specs.Tree.{sign_tree, truth_tree, binary_tree, repeated_tree, atom_tree, expr_tree, step_tree, operand_tree, primary_tree, choice_tree};
+
+use crate::pieces::{put_string, put_text};
+use crate::tree::{Atom, Binary, Choice, Expr, Operand, Primary, Repeated, Sign, Step, Truth};
+use mnum::Bytes7;
+use std::alloc::AllocError;
+
+fn sign_byte(sign: Sign) -> u8
+    ensures value { result ≡ sign_char (sign_tree sign) }
+    ensures seven_bits { result < 128 }
+{
+    match sign {
+        Sign::Plus => b'+',
+        Sign::Minus => b'-',
+        Sign::Not => b'\'',
+    }
+}
+
+fn put_signs(out: &mut Bytes7, signs: &[Sign]) -> Result<(), AllocError>
+    ensures { OnOk result (out.new ≡ out.old ++ spell_signs (map sign_tree signs.now)) }
+{
+    for sign in signs {
+        out.push(sign_byte(*sign))?;
+    }
+    Ok(())
+}
+
+fn put_truth(out: &mut Bytes7, operator: Truth) -> Result<(), AllocError>
+    ensures { OnOk result (out.new ≡ out.old ++ spell_truth (truth_tree operator)) }
+{
+    match operator {
+        Truth::Equals => out.push(b'='),
+        Truth::Less => out.push(b'<'),
+        Truth::Greater => out.push(b'>'),
+        Truth::Contains => out.push(b'['),
+        Truth::Follows => out.push(b']'),
+        Truth::SortsAfter => {
+            out.push(b']')?;
+            out.push(b']')
+        }
+        Truth::Both => out.push(b'&'),
+        Truth::Either => out.push(b'!'),
+    }
+}
+
+fn put_binary(out: &mut Bytes7, operator: Binary) -> Result<(), AllocError>
+    ensures { OnOk result (out.new ≡ out.old ++ spell_binary (binary_tree operator)) }
+{
+    match operator {
+        Binary::Add => out.push(b'+'),
+        Binary::Subtract => out.push(b'-'),
+        Binary::Multiply => out.push(b'*'),
+        Binary::Divide => out.push(b'/'),
+        Binary::DivideWhole => out.push(b'\\'),
+        Binary::Remainder => out.push(b'#'),
+        Binary::Join => out.push(b'_'),
+        Binary::Is(truth) => put_truth(out, truth),
+        Binary::IsNot(truth) => {
+            out.push(b'\'')?;
+            put_truth(out, truth)
+        }
+    }
+}
+
+fn put_behind(out: &mut Bytes7, behind: &Option<Bytes7>) -> Result<(), AllocError>
+    ensures { OnOk result (out.new ≡ out.old ++ spell_behind behind.now) }
+{
+    if let Some(digits) = behind {
+        out.push(b'.')?;
+        put_text(out, digits)?;
+    }
+    Ok(())
+}
+
+fn put_repeated(out: &mut Bytes7, repeated: &Repeated) -> Result<(), AllocError>
+    ensures { OnOk result (out.new ≡ out.old ++ spell_repeated (repeated_tree repeated.now)) }
+{
+    match repeated {
+        Repeated::Classes(letters) => put_text(out, letters),
+        Repeated::Copies(text) => put_string(out, text),
+    }
+}
+
+fn put_atom(out: &mut Bytes7, atom: &Atom) -> Result<(), AllocError>
+    ensures { OnOk result (out.new ≡ out.old ++ spell_atom (atom_tree atom.now)) }
+{
+    put_text(out, &atom.count.front)?;
+    put_behind(out, &atom.count.behind)?;
+    put_repeated(out, &atom.repeated)
+}
+
+fn put_atoms(out: &mut Bytes7, atoms: &[Atom]) -> Result<(), AllocError>
+    ensures { OnOk result (out.new ≡ out.old ++ spell_atoms (map atom_tree atoms.now)) }
+{
+    for atom in atoms {
+        put_atom(out, atom)?;
+    }
+    Ok(())
+}
+
+#[cycle(expr)]
+pub fn put_expr(out: &mut Bytes7, expr: &Expr) -> Result<(), AllocError>
+    ensures { OnOk result (out.new ≡ out.old ++ spell_expr (expr_tree expr.now)) }
+{
+    put_operand(out, &expr.first)?;
+    put_steps(out, &expr.rest)
+}
+
+#[cycle(expr)]
+fn put_steps(out: &mut Bytes7, steps: &[Step]) -> Result<(), AllocError>
+    ensures { OnOk result (out.new ≡ out.old ++ spell_steps (steps_of (map step_tree steps.now))) }
+{
+    for step in steps {
+        put_step(out, step)?;
+    }
+    Ok(())
+}
+
+#[cycle(expr)]
+fn put_step(out: &mut Bytes7, step: &Step) -> Result<(), AllocError>
+    ensures { OnOk result (out.new ≡ out.old ++ spell_step (step_tree step.now)) }
+{
+    match step {
+        Step::Apply(operator, operand) => {
+            put_binary(out, *operator)?;
+            put_operand(out, operand)
+        }
+        Step::Matches(atoms) => {
+            out.push(b'?')?;
+            put_atoms(out, atoms)
+        }
+        Step::MatchesNot(atoms) => {
+            out.push(b'\'')?;
+            out.push(b'?')?;
+            put_atoms(out, atoms)
+        }
+    }
+}
+
+#[cycle(expr)]
+fn put_operand(out: &mut Bytes7, operand: &Operand) -> Result<(), AllocError>
+    ensures { OnOk result (out.new ≡ out.old ++ spell_operand (operand_tree operand.now)) }
+{
+    put_signs(out, &operand.signs)?;
+    put_primary(out, &operand.primary)
+}
+
+#[cycle(expr)]
+fn put_primary(out: &mut Bytes7, primary: &Primary) -> Result<(), AllocError>
+    ensures { OnOk result (out.new ≡ out.old ++ spell_primary (primary_tree primary.now)) }
+{
+    match primary {
+        Primary::Number(literal) => put_text(out, literal),
+        Primary::Text(text) => put_string(out, text),
+        Primary::Local(name) => put_text(out, name),
+        Primary::Bracket(inner) => put_bracket(out, inner),
+        Primary::Call(word, arguments) => put_call(out, word, arguments),
+        Primary::Select(word, choices) => put_select(out, word, choices),
+    }
+}
+
+#[cycle(expr)]
+fn put_bracket(out: &mut Bytes7, inner: &Expr) -> Result<(), AllocError>
+    ensures { OnOk result (out.new ≡ out.old ++ 40 ∷ (spell_expr (expr_tree inner.now) ++ 41 ∷ [])) }
+{
+    out.push(b'(')?;
+    put_expr(out, inner)?;
+    out.push(b')')
+}
+
+// A function's word, and the bracket behind it.
+pub fn put_word(out: &mut Bytes7, word: &Bytes7) -> Result<(), AllocError>
+    ensures { OnOk result (out.new ≡ out.old ++ 36 ∷ (word.now ++ 40 ∷ [])) }
+{
+    out.push(b'$')?;
+    put_text(out, word)?;
+    out.push(b'(')
+}
+
+#[cycle(expr)]
+fn put_call(out: &mut Bytes7, word: &Bytes7, arguments: &[Expr]) -> Result<(), AllocError>
+    ensures { OnOk result (out.new ≡ out.old ++ 36 ∷ (word.now ++ 40 ∷ (spell_exprs (exprs_of (map expr_tree arguments.now)) ++ 41 ∷ []))) }
+{
+    put_word(out, word)?;
+    put_exprs(out, arguments)?;
+    out.push(b')')
+}
+
+#[cycle(expr)]
+fn put_select(out: &mut Bytes7, word: &Bytes7, choices: &[Choice]) -> Result<(), AllocError>
+    ensures { OnOk result (out.new ≡ out.old ++ 36 ∷ (word.now ++ 40 ∷ (spell_choices (choices_of (map choice_tree choices.now)) ++ 41 ∷ []))) }
+{
+    put_word(out, word)?;
+    put_choices(out, choices)?;
+    out.push(b')')
+}
+
+#[cycle(expr)]
+fn put_exprs(out: &mut Bytes7, exprs: &[Expr]) -> Result<(), AllocError>
+    ensures { OnOk result (out.new ≡ out.old ++ spell_exprs (exprs_of (map expr_tree exprs.now))) }
+{
+    let Some((first, rest)) = exprs.split_first() else {
+        return Ok(());
+    };
+    put_expr(out, first)?;
+    for other in rest {
+        out.push(b',')?;
+        put_expr(out, other)?;
+    }
+    Ok(())
+}
+
+#[cycle(expr)]
+fn put_choice(out: &mut Bytes7, choice: &Choice) -> Result<(), AllocError>
+    ensures { OnOk result (out.new ≡ out.old ++ spell_expr (choice_tree choice.now).0 ++ 58 ∷ spell_expr (choice_tree choice.now).1) }
+{
+    put_expr(out, &choice.condition)?;
+    out.push(b':')?;
+    put_expr(out, &choice.value)
+}
+
+#[cycle(expr)]
+fn put_choices(out: &mut Bytes7, choices: &[Choice]) -> Result<(), AllocError>
+    ensures { OnOk result (out.new ≡ out.old ++ spell_choices (choices_of (map choice_tree choices.now))) }
+{
+    let Some((first, rest)) = choices.split_first() else {
+        return Ok(());
+    };
+    put_choice(out, first)?;
+    for other in rest {
+        out.push(b',')?;
+        put_choice(out, other)?;
+    }
+    Ok(())
+}

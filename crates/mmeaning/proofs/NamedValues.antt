@@ -1,9 +1,9 @@
 -- Expressions end with a value, or with a code of the line's own.
-use Rattle.std.proofs.Common.{◌≡◌, ℕ, Bool, true, false, List, [], ◌∷◌, ◌++◌, length, Option, Some, None, Result, Ok, Err, refl}
+use Rattle.std.proofs.Common.{ℕ, Bool, true, false, List, [], ◌∷◌, ◌++◌, length, Option, Some, None, Result, Ok, Err, refl}
 use Rattle.std.specs.Prelude.{ℤ, pos, ◌-◌, cond, not, map, nat_le, slice_get, unwrap_or, if◌then◌else◌}
 use Rattle.std.specs.List.{list_any, flat_map}
 use Rattle.mspec.specs.Code.{Code, M6, M9, M10, Zover, Zarg, Zlong, Zchar}
-use Rattle.mspec.specs.Act.{Text, State, give_some, unless, charge}
+use Rattle.mspec.specs.Act.{Text, State, unless, charge}
 use Rattle.mspec.specs.Number.{significant_digits, sum_of, difference_of, product_of, quotient_of, whole_quotient_of, remainder_of}
 use Rattle.mspec.specs.NumberText.{numeric_value}
 use Rattle.mspec.specs.Interpretations.{is_true}
@@ -15,7 +15,7 @@ use Rattle.mspec.specs.Matching.{atom_of, is_reversed}
 use Rattle.mspec.specs.Grammar as grammar
 use Rattle.mspec.specs.Grammar.{SignTree, plus, minus, negate, TruthTree, BinaryTree, FunctionTree, ascii_function, char_function, extract_function, find_function, justify_function, length_function, piece_function, select_function, translate_function, function_of, ExprTree, expr, StepsTree, no_steps, step, StepTree, apply, matches, matches_not, OperandTree, operand, PrimaryTree, number, text, local, bracket, call, select, ExprsTree, no_exprs, exprs, ChoicesTree, no_choices, choice}
 use Rattle.mmeaning.specs.Operators.{as_number, as_truth, both_numbers, unary, unaries, arithmetic, division, of_numbers, truth, binary, matching}
-use Rattle.mmeaning.specs.Functions.{as_whole, as_whole_or_none, whole_at, wholes, text_at, function_value, named_value, call_value}
+use Rattle.mmeaning.specs.Functions.{as_whole, as_whole_or_none, whole_at, wholes, function_value, named_value}
 use Rattle.mmeaning.specs.Expression.{value, steps_value, step_value, operand_value, primary_value, values, chosen}
 use Rattle.mmeaning.proofs.NamedActs.{Named, then_named, some_named, unless_named, charge_named, OwnCode, outcome_named}
 

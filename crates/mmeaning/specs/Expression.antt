@@ -2,7 +2,7 @@
 --
 -- Restates "Expressions" and "$SELECT" of ISO/IEC 11756:1999: operators apply from left to right, none before another, and
 -- unary operators bind to the operand behind them. Both operands of an operator are evaluated, the left one first.
-use Rattle.std.specs.Prelude.{Bool, true, false, cond, not, List, [], ◌∷◌, ◌++◌, map}
+use Rattle.std.specs.Prelude.{cond, not, List, [], ◌∷◌, ◌++◌, map}
 use Rattle.mspec.specs.Number.{significant_digits}
 use Rattle.mspec.specs.NumberText.{numeric_value}
 use Rattle.mspec.specs.Interpretations.{truth_text}

@@ -2,7 +2,7 @@
 --
 -- Restates "Intrinsic functions" of ISO/IEC 11756:1999. All arguments are evaluated before the first of them becomes a
 -- number. Then each that is to be a whole number becomes one, from left to right, also where it plays no part.
-use Rattle.std.specs.Prelude.{ℕ, ◌*◌, ◌^◌, ℤ, pos, ◌*ℤ◌, List, [], ◌∷◌, ◌++◌, length, get_or, slice_get, Option, Some, None, unwrap_or}
+use Rattle.std.specs.Prelude.{ℕ, ◌^◌, ℤ, pos, ◌*ℤ◌, List, [], ◌∷◌, ◌++◌, length, get_or, slice_get, Option, Some, None, unwrap_or}
 use Rattle.mspec.specs.NumberText.{number_text}
 use Rattle.mspec.specs.Interpretations.{whole_part}
 use Rattle.mspec.specs.TextFunctions.{piece_of, extract_of, find_of, piece_count, translate_of, justify_of}

@@ -3,6 +3,7 @@
 and by the form of replies."""
 import re
 
+from key_vectors import key, units as canonical
 from number_vectors import OPERATORS, text_of, value
 
 PASSES = 5
@@ -45,10 +46,43 @@ def main():
     print(f"  {'pieces':<12} {summed(lambda i: len(text.split('^')))}")
     print(f"  {'find':<12} {summed(lambda i: text.index('needle') + len('needle') + 1)}")
     print(f"  {'matches':<12} {summed(lambda i: int(bool(re.fullmatch('[A-Za-z]+-[0-9]+', 'ABCDEFGHIJ-123456789'))))}")
-    lines = 10_000
+    keys()
+    lines()
+
+
+KEYS = {
+    "keys of a small number": ["12"],
+    "keys of a price": ["-7.25"],
+    "keys of three texts": ["north", "item", "colour"],
+}
+ORDERS = {
+    "order of small numbers": ["12", "7", "250", "3"],
+    "order of texts": ["north", "item", "colour", "12A"],
+}
+
+
+def place(text):
+    """Where a text stands among the subscripts."""
+    number = canonical(text.encode())
+    return (1, text) if number is None else (0, number)
+
+
+def keys():
+    for title, words in KEYS.items():
+        print(title)
+        made = key(b"ALICE", b"DATA", [word.encode() for word in words])
+        print(f"  {'build':<12} {summed(lambda i: len(made))}")
+        print(f"  {'read':<12} {summed(lambda i: len(words))}")
+    for title, words in ORDERS.items():
+        print(title)
+        print(f"  {'collate':<12} {summed(lambda i: int(place(words[i % 4]) < place(words[i // 4 % 4])))}")
+
+
+def lines():
+    count = 10_000
     print("lines")
-    print(f"  {'equal':<12} {PASSES * lines * len(reply(1))}")
-    print(f"  {'different':<12} {PASSES * sum(len(reply(i)) for i in range(lines))}")
+    print(f"  {'equal':<12} {PASSES * count * len(reply(1))}")
+    print(f"  {'different':<12} {PASSES * sum(len(reply(i)) for i in range(count))}")
 
 
 if __name__ == "__main__":

@@ -1,5 +1,7 @@
 pub mod Yielding
 pub mod Numbers
+pub mod TreeViews
+pub mod Trees
 pub mod Truths
 pub mod PieceBytes
 pub mod GivenArguments

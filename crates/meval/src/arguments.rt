@@ -10,7 +10,11 @@ use mnum::Bytes7;
 use std::alloc::{AllocError, Global};
 
 // The text of the argument at a place, or the empty one where it is left out.
-pub(crate) fn text_at(alloc: Global, arguments: &[Value], place: usize) -> Result<Shown<'_>, AllocError>
+pub(crate) fn text_at(
+    alloc: Global,
+    arguments: &[Value],
+    place: usize,
+) -> Result<Shown<'_>, AllocError>
     ensures { IfOk result (λ shown. shown_text shown ≡ meaning.text_at place (map text_of arguments.now)) }
 {
     match arguments.get(place) {

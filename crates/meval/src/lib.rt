@@ -4,7 +4,7 @@
 mod arguments;
 mod characters;
 mod code;
-
+mod eval;
 mod functions;
 mod operators;
 mod patterns;
@@ -12,5 +12,4 @@ mod relations;
 mod value;
 
 pub use code::Code;
-
-
+pub use eval::Eval;

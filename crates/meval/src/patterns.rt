@@ -80,7 +80,10 @@ fn repeated(alloc: Global, repeated: &mtree::Repeated) -> Result<Repeated, Alloc
     ensures { IfOk result (λ read. repeated_of read ≡ plain_repeated (repeated_tree repeated.now)) }
 {
     match repeated {
-        mtree::Repeated::Classes(letters) => Ok(Repeated::Members(pattern_codes(alloc, letters.as_bytes())?)),
+        mtree::Repeated::Classes(letters) => Ok(Repeated::Members(pattern_codes(
+            alloc,
+            letters.as_bytes(),
+        )?)),
         mtree::Repeated::Copies(text) => Ok(Repeated::Copies(text.copy()?)),
     }
 }

@@ -9,6 +9,7 @@ ghost use Rattle.meval.specs.Yields.{Yields};
 use crate::code::Code;
 use crate::operators::numbers;
 use crate::value::Value;
+use mkey::collate;
 use mtext::{contains, follows};
 use mtree::Truth;
 use std::alloc::{AllocError, Global};
@@ -56,7 +57,11 @@ pub(crate) fn relation(
             let other = right.shown(alloc)?;
             Ok(follows(text.text().as_bytes(), other.text().as_bytes()))
         }
-        Truth::SortsAfter => Err(Code::Zmem),
+        Truth::SortsAfter => {
+            let text = left.shown(alloc)?;
+            let other = right.shown(alloc)?;
+            Ok(collate(text.text(), other.text()).is_gt())
+        }
         Truth::Both => {
             let (a, b) = numbers(left, right)?;
             Ok(a.is_true() && b.is_true())

@@ -17,6 +17,7 @@ pub use decoding::read;
 pub use encoding::push_local;
 pub use fault::KeyFault;
 pub use key::NodeKey;
+pub use names::{is_account_name, is_name};
 pub use place::collate;
 pub use subs::{Subs, subs_ok};
 

@@ -26,7 +26,7 @@ fn starts_name(c: u8) -> bool
     c.is_ascii_alphabetic() || c == b'%'
 }
 
-// Whether this is 1 to 16 letters or digits.
+/// Whether this is an account's name: 1 to 16 letters or digits. Takes no memory.
 pub fn is_account_name(text: &Bytes7) -> bool
     ensures { IsTrue result ↔ IsAccountName text.now }
 {
@@ -34,7 +34,7 @@ pub fn is_account_name(text: &Bytes7) -> bool
     !characters.is_empty() && characters.len() <= 16 && are_words(characters)
 }
 
-// Whether this is a letter or `%` with at most 30 letters or digits behind it.
+/// Whether this is a name: a letter or `%` with at most 30 letters or digits behind it. Takes no memory.
 pub fn is_name(text: &Bytes7) -> bool
     ensures { IsTrue result ↔ IsName text.now }
 {

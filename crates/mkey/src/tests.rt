@@ -1,8 +1,7 @@
 // What no clause says: that calls succeed with ample memory, and that the definitions give the keys of the format.
 mod vectors;
 
-use crate::names::{is_account_name, is_name};
-use crate::{KeyFault, NodeKey, collate, push_local, read, subs_ok};
+use crate::{KeyFault, NodeKey, collate, is_account_name, is_name, push_local, read, subs_ok};
 use mnum::Bytes7;
 use std::alloc::Global;
 use std::cmp::Ordering;
@@ -217,8 +216,6 @@ fn refused_subscripts(rt: HostRuntime) -> Result<(), Fail> {
     if !is_account_name(&account) || !is_name(&name) {
         panic!(rt; "names refused");
     }
-    let most = bytes_of(rt.alloc(), "41*255")?;
-    let long = bytes_of(rt.alloc(), "41*256")?;
     for (list, taken) in [
         ("-", true),
         ("41*255", true),
@@ -236,7 +233,6 @@ fn refused_subscripts(rt: HostRuntime) -> Result<(), Fail> {
             assert_eq!(rt; fault, KeyFault::Sub, "at {list}");
         }
     }
-    assert_eq!(rt; (most.len(), long.len()), (255, 256));
     Ok(())
 }
 
@@ -288,5 +284,25 @@ fn names_with_subscripts(rt: HostRuntime) -> Result<(), Fail> {
     push_local(&mut out, &name, &subs)?;
     let want = bytes_of(rt.alloc(), "6b657074.424300.027900.0180.00*15")?;
     assert_eq!(rt; out.as_slice(), want.as_slice());
+    Ok(())
+}
+
+#[test]
+fn names_of_nodes(rt: HostRuntime) -> Result<(), Fail> {
+    for (word, account, global) in [
+        ("A", true, true),
+        ("0123456789abcdef", true, false),
+        ("a0123456789abcdefg", false, true),
+        ("%23456789A123456789B123456789C1", false, true),
+        ("%23456789A123456789B123456789C12", false, false),
+        ("%", false, true),
+        ("A%", false, false),
+        ("A B", false, false),
+        ("", false, false),
+    ] {
+        let word = text(rt.alloc(), word)?;
+        assert_eq!(rt; is_account_name(&word), account);
+        assert_eq!(rt; is_name(&word), global);
+    }
     Ok(())
 }

@@ -1,5 +1,5 @@
 -- What fails where an item of a loop or of a list fails, fails alike.
-use Rattle.std.proofs.Common.{◌≡◌, ℕ, ◌-◌, ◌<◌, List, Option, Some, None, refl}
+use Rattle.std.proofs.Common.{◌≡◌, ℕ, ◌-◌, ◌<◌, List, Option, Some, refl}
 use Rattle.mspec.specs.Reading.{Read, with_front, past, many, after_comma, list_at}
 use Rattle.mspec.proofs.ReadingLoops.{fails_none}
 use Rattle.mparse.specs.Gives.{Fails}

@@ -4,6 +4,7 @@
 mod expr;
 mod fault;
 mod line;
+mod list;
 mod number;
 mod operator;
 mod pattern;

@@ -1,17 +1,17 @@
 // Commands and lines.
 ghost use Rattle.std.specs.Prelude.{◌≡◌, length, map, IfOk, Err, option_map};
-ghost use Rattle.mspec.specs.Grammar.{LineTree, spell, well};
-ghost use Rattle.mspec.specs.Reading.{many, list_at, output_at, command_at, at_end, spaced_at, comment_at, line_at};
+ghost use Rattle.mspec.specs.Grammar.{OutputTree, LineTree, spell, well};
+ghost use Rattle.mspec.specs.Reading.{many, output_at, command_at, at_end, spaced_at, comment_at, line_at};
 ghost use Rattle.mtree.specs.Tree.{output_tree, command_tree, spaced_tree, line_tree};
 ghost use Rattle.mparse.specs.Gives.{Gives};
 
 use crate::expr::{MAX_DEPTH, expr};
 use crate::fault::ParseFault;
-use crate::run::{Class, past, run};
-use crate::set::assignments;
+use crate::list::{Item, list};
+use crate::run::{Class, run};
 use crate::words::keyword;
 use mnum::Bytes7;
-use mtree::{Command, Keyword, Line, Output, Spaced};
+use mtree::{Assignment, Command, Keyword, Line, Output, Spaced};
 use std::alloc::Global;
 
 #[tactic(auto, unfolding(mspec::specs::Reading::output_at))]
@@ -49,23 +49,16 @@ fn comment(alloc: Global, bytes: &[u8]) -> Result<Option<Bytes7>, ParseFault>
     Ok(Some(Bytes7::from_slice(alloc, text)?))
 }
 
-// Outputs with commas between.
-fn outputs(alloc: Global, bytes: &[u8]) -> Result<(Vec<Output>, &[u8]), ParseFault>
-    ensures { Gives (λ x. (map output_tree x.0.items, x.1.now)) result (list_at output_at bytes.now) }
-{
-    let (first, start) = output(alloc, bytes)?;
-    let mut all = Vec::new(alloc);
-    all.push(first)?;
-    let mut rest = start;
-    for _ in 0..start.len() {
-        let Some(behind) = past(b',', rest) else {
-            break;
-        };
-        let (item, after) = output(alloc, behind)?;
-        all.push(item)?;
-        rest = after;
+impl Item for Output {
+    ghost Tree = { OutputTree };
+
+    ghost tree = { output_tree };
+
+    ghost read = { output_at };
+
+    fn item(alloc: Global, bytes: &[u8]) -> Result<(Output, &[u8]), ParseFault> {
+        output(alloc, bytes)
     }
-    Ok((all, rest))
 }
 
 #[tactic(auto, unfolding(mspec::specs::Reading::command_at))]
@@ -79,14 +72,14 @@ fn command(alloc: Global, bytes: &[u8]) -> Result<(Command, &[u8]), ParseFault>
     match keyword(letters) {
         None => Err(ParseFault::Syntax),
         Some(Keyword::Set) => {
-            let (arguments, rest) = assignments(alloc, rest)?;
+            let (arguments, rest) = list::<Assignment>(alloc, rest)?;
             Ok((
                 Command::Set(Bytes7::from_slice(alloc, letters)?, arguments),
                 rest,
             ))
         }
         Some(Keyword::Write) => {
-            let (arguments, rest) = outputs(alloc, rest)?;
+            let (arguments, rest) = list::<Output>(alloc, rest)?;
             Ok((
                 Command::Write(Bytes7::from_slice(alloc, letters)?, arguments),
                 rest,

@@ -1,13 +1,14 @@
 // What SET assigns to.
-ghost use Rattle.std.specs.Prelude.{◌≡◌, ◌-◌, map, option_map};
-ghost use Rattle.mspec.specs.Reading.{list_at, readers_at, place_with, piece_with, target_with, destination_at, assignment_at};
-ghost use Rattle.mspec.specs.Grammar.{max_depth};
+ghost use Rattle.std.specs.Prelude.{◌-◌, option_map};
+ghost use Rattle.mspec.specs.Reading.{readers_at, place_with, piece_with, target_with, destination_at, assignment_at};
+ghost use Rattle.mspec.specs.Grammar.{TargetTree, AssignmentTree, max_depth};
 ghost use Rattle.mtree.specs.Tree.{expr_tree, target_tree, destination_tree, assignment_tree};
 ghost use Rattle.mparse.specs.Gives.{Gives};
 
 use crate::expr::{MAX_DEPTH, expr, inner};
 use crate::fault::ParseFault;
-use crate::run::{Class, expect, name, past, run};
+use crate::list::{Item, list};
+use crate::run::{Class, expect, name, run};
 use crate::words::function;
 use mnum::Bytes7;
 use mtree::{Assignment, Destination, Expr, Function, PieceTarget, Target};
@@ -68,26 +69,17 @@ fn target(alloc: Global, bytes: &[u8], depth: u32) -> Result<(Target, &[u8]), Pa
     piece(alloc, Bytes7::from_slice(alloc, letters)?, rest, depth)
 }
 
-// How many brackets may be open within those of a list.
-const LIST_DEPTH: u32 = MAX_DEPTH - 1;
+impl Item for Target {
+    ghost Tree = { TargetTree };
 
-// Targets with commas between.
-fn targets(alloc: Global, bytes: &[u8]) -> Result<(Vec<Target>, &[u8]), ParseFault>
-    ensures { Gives (λ x. (map target_tree x.0.items, x.1.now)) result (list_at (target_with (readers_at (max_depth - 1))) bytes.now) }
-{
-    let (first, start) = target(alloc, bytes, LIST_DEPTH)?;
-    let mut all = Vec::new(alloc);
-    all.push(first)?;
-    let mut rest = start;
-    for _ in 0..start.len() {
-        let Some(behind) = past(b',', rest) else {
-            break;
-        };
-        let (item, after) = target(alloc, behind, LIST_DEPTH)?;
-        all.push(item)?;
-        rest = after;
+    ghost tree = { target_tree };
+
+    // Within the brackets of a list.
+    ghost read = { target_with (readers_at (max_depth - 1)) };
+
+    fn item(alloc: Global, bytes: &[u8]) -> Result<(Target, &[u8]), ParseFault> {
+        target(alloc, bytes, MAX_DEPTH - 1)
     }
-    Ok((all, rest))
 }
 
 #[tactic(auto, unfolding(mspec::specs::Reading::destination_at))]
@@ -98,7 +90,7 @@ fn destination(alloc: Global, bytes: &[u8]) -> Result<(Destination, &[u8]), Pars
         return Err(ParseFault::Syntax);
     };
     if *first == b'(' {
-        let (all, rest) = targets(alloc, behind)?;
+        let (all, rest) = list::<Target>(alloc, behind)?;
         let rest = expect(b')', rest)?;
         return Ok((Destination::Several(all), rest));
     }
@@ -116,21 +108,14 @@ fn assignment(alloc: Global, bytes: &[u8]) -> Result<(Assignment, &[u8]), ParseF
     Ok((Assignment { destination, value }, rest))
 }
 
-// Assignments with commas between.
-pub fn assignments(alloc: Global, bytes: &[u8]) -> Result<(Vec<Assignment>, &[u8]), ParseFault>
-    ensures { Gives (λ x. (map assignment_tree x.0.items, x.1.now)) result (list_at assignment_at bytes.now) }
-{
-    let (first, start) = assignment(alloc, bytes)?;
-    let mut all = Vec::new(alloc);
-    all.push(first)?;
-    let mut rest = start;
-    for _ in 0..start.len() {
-        let Some(behind) = past(b',', rest) else {
-            break;
-        };
-        let (item, after) = assignment(alloc, behind)?;
-        all.push(item)?;
-        rest = after;
+impl Item for Assignment {
+    ghost Tree = { AssignmentTree };
+
+    ghost tree = { assignment_tree };
+
+    ghost read = { assignment_at };
+
+    fn item(alloc: Global, bytes: &[u8]) -> Result<(Assignment, &[u8]), ParseFault> {
+        assignment(alloc, bytes)
     }
-    Ok((all, rest))
 }

@@ -1,0 +1,8 @@
+use Rattle.std.proofs.Common.{◌≡◌, ◌-◌, map}
+use Rattle.mspec.specs.Reading.{with_front, many, after_comma, list_at}
+use Rattle.mparse.proofs.list.list.Given as goal
+
+abbrev pub invariant-loop : goal.invariant-loop
+invariant-loop g l =
+    with_front (map (g.T.Item.tree) l.all.items) (many (after_comma (g.T.Item.read)) (l.end - l.counter) l.rest)
+    ≡ list_at (g.T.Item.read) l.bytes

@@ -187,6 +187,8 @@ fn units_and_signs(rt: HostRuntime) -> Result<(), Fail> {
     ] {
         let read = Num::from_text(text.as_bytes()).map_err(|_| "over")?;
         assert_eq!(rt; read.to_units(), units, "at {text}");
+        let again = Num::from_units(units).map(|number| number.to_units());
+        assert_eq!(rt; again, Some(units), "from units at {text}");
         assert_eq!(rt; read.neg().to_units(), negated, "negated at {text}");
         assert_eq!(rt;
             read.cmp(read.neg()),
@@ -246,4 +248,18 @@ fn texts_of_seven_bits(rt: HostRuntime) -> Result<(), Fail> {
         Err(same) => assert_eq!(rt; same.as_slice(), b"caf\xc3\xa9".as_slice()),
     }
     Ok(())
+}
+
+// Counts of units that no number has: nineteen significant digits, and 10^18.
+#[test]
+fn units_of_no_number(rt: HostRuntime) {
+    for units in [
+        1_000_000_000_000_000_001,
+        -1_234_567_890_123_456_789_000_000,
+        1_000_000_000_000_000_000_000_000_000_000_000_000,
+        i128::MAX,
+        i128::MIN,
+    ] {
+        assert!(rt; Num::from_units(units).is_none(), "at {units}");
+    }
 }

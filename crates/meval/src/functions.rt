@@ -1,5 +1,5 @@
 // The functions, of arguments that are values already.
-ghost use Rattle.std.specs.Prelude.{◌≡◌, map, option_map};
+ghost use Rattle.std.specs.Prelude.{map};
 ghost use Rattle.mspec.specs.Grammar as grammar;
 ghost use Rattle.mmeaning.specs.Functions as meaning;
 ghost use Rattle.mtree.specs.Tree.{function_tree};
@@ -11,42 +11,8 @@ use crate::characters::{characters, code_at};
 use crate::code::Code;
 use crate::value::Value;
 use mtext::{extract, find, justify, piece, pieces, translate};
-use mtree::Function;
+use mtree::{Function, function_of};
 use std::alloc::Global;
-
-fn is_either(short: &[u8], long: &[u8], word: &[u8]) -> bool
-    ensures { result ≡ grammar.is_either short.now long.now word.now }
-{
-    word.eq_ignore_ascii_case(short) || word.eq_ignore_ascii_case(long)
-}
-
-// What a function's word says.
-#[tactic(auto, unfolding(mspec::specs::Grammar::function_of))]
-fn function_of(word: &[u8]) -> Option<Function>
-    ensures { option_map function_tree result ≡ grammar.function_of word.now }
-{
-    if is_either(b"a", b"ascii", word) {
-        Some(Function::Ascii)
-    } else if is_either(b"c", b"char", word) {
-        Some(Function::Char)
-    } else if is_either(b"e", b"extract", word) {
-        Some(Function::Extract)
-    } else if is_either(b"f", b"find", word) {
-        Some(Function::Find)
-    } else if is_either(b"j", b"justify", word) {
-        Some(Function::Justify)
-    } else if is_either(b"l", b"length", word) {
-        Some(Function::Length)
-    } else if is_either(b"p", b"piece", word) {
-        Some(Function::Piece)
-    } else if is_either(b"s", b"select", word) {
-        Some(Function::Select)
-    } else if is_either(b"tr", b"translate", word) {
-        Some(Function::Translate)
-    } else {
-        None
-    }
-}
 
 // ---- functions, by their names
 

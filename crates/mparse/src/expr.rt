@@ -6,14 +6,14 @@ ghost use Rattle.mtree.specs.Tree.{function_tree, expr_tree, operand_tree, prima
 ghost use Rattle.mparse.specs.Gives.{Gives};
 ghost use Rattle.mparse.specs.Operators.{operator_tree};
 
+use crate::arity::takes;
 use crate::fault::ParseFault;
 use crate::number::number;
 use crate::operator::{Operator, next_operator, signs};
 use crate::pattern::pattern;
 use crate::run::{Class, expect, name, past, run, text_after};
-use crate::words::{function, takes};
 use mnum::Bytes7;
-use mtree::{Choice, Expr, Function, Operand, Primary, Step};
+use mtree::{Choice, Expr, Function, Operand, Primary, Step, function_of};
 use std::alloc::Global;
 
 // How many brackets may be open at a place.
@@ -152,7 +152,7 @@ fn call_or_select(alloc: Global, bytes: &[u8], depth: u32) -> Result<(Primary, &
 {
     let (letters, rest) = run(Class::Letter, bytes);
     let rest = expect(b'(', rest)?;
-    let Some(function) = function(letters) else {
+    let Some(function) = function_of(letters) else {
         return Err(ParseFault::Syntax);
     };
     let word = Bytes7::from_slice(alloc, letters)?;

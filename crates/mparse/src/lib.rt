@@ -1,6 +1,7 @@
 //! A line of M, from its text to its tree: a tree exactly where the grammar has one.
 #![tactic(auto)]
 
+mod arity;
 mod expr;
 mod fault;
 mod line;
@@ -10,7 +11,6 @@ mod operator;
 mod pattern;
 mod run;
 mod set;
-mod words;
 
 pub use fault::ParseFault;
 pub use line::parse_line;

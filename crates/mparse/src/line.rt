@@ -9,9 +9,8 @@ use crate::expr::{MAX_DEPTH, expr};
 use crate::fault::ParseFault;
 use crate::list::{Item, list};
 use crate::run::{Class, run};
-use crate::words::keyword;
 use mnum::Bytes7;
-use mtree::{Assignment, Command, Keyword, Line, Output, Spaced};
+use mtree::{Assignment, Command, Keyword, Line, Output, Spaced, keyword_of};
 use std::alloc::Global;
 
 #[tactic(auto, unfolding(mspec::specs::Reading::output_at))]
@@ -69,7 +68,7 @@ fn command(alloc: Global, bytes: &[u8]) -> Result<(Command, &[u8]), ParseFault>
     let Some((b' ', rest)) = rest.split_first() else {
         return Err(ParseFault::Syntax);
     };
-    match keyword(letters) {
+    match keyword_of(letters) {
         None => Err(ParseFault::Syntax),
         Some(Keyword::Set) => {
             let (arguments, rest) = list::<Assignment>(alloc, rest)?;

@@ -9,9 +9,8 @@ use crate::expr::{MAX_DEPTH, expr, inner};
 use crate::fault::ParseFault;
 use crate::list::{Item, list};
 use crate::run::{Class, expect, name, run};
-use crate::words::function;
 use mnum::Bytes7;
-use mtree::{Assignment, Destination, Expr, Function, PieceTarget, Target};
+use mtree::{Assignment, Destination, Expr, Function, PieceTarget, Target, function_of};
 use std::alloc::Global;
 
 // The place behind the delimiter of a `$PIECE`, where one stands.
@@ -63,7 +62,7 @@ fn target(alloc: Global, bytes: &[u8], depth: u32) -> Result<(Target, &[u8]), Pa
     }
     let (letters, rest) = run(Class::Letter, rest);
     let rest = expect(b'(', rest)?;
-    if function(letters) != Some(Function::Piece) {
+    if function_of(letters) != Some(Function::Piece) {
         return Err(ParseFault::Syntax);
     }
     piece(alloc, Bytes7::from_slice(alloc, letters)?, rest, depth)

@@ -6,12 +6,14 @@
 mod expression;
 mod pieces;
 pub mod tree;
+pub mod words;
 pub mod write;
 
 pub use tree::{
     Assignment, Atom, Binary, Choice, Command, Count, Destination, Expr, Function, Keyword, Line,
     Operand, Output, PieceTarget, Primary, Repeated, Sign, Spaced, Step, Target, Truth,
 };
+pub use words::{function_of, keyword_of};
 pub use write::write_line;
 
 #[cfg(test)]

@@ -1,7 +1,8 @@
 // That lines are written with ample memory, as their trees keep them.
 use crate::{
-    Assignment, Atom, Binary, Choice, Command, Count, Destination, Expr, Line, Operand, Output,
-    PieceTarget, Primary, Repeated, Sign, Spaced, Step, Target, Truth, write_line,
+    Assignment, Atom, Binary, Choice, Command, Count, Destination, Expr, Function, Keyword, Line,
+    Operand, Output, PieceTarget, Primary, Repeated, Sign, Spaced, Step, Target, Truth,
+    function_of, keyword_of, write_line,
 };
 use mnum::Bytes7;
 use std::alloc::{AllocError, Global};
@@ -205,5 +206,17 @@ fn writes_functions(rt: HostRuntime) -> Result<(), Fail> {
     let text = write_line(alloc, &assignment(alloc, functions(alloc)?)?)?;
     let want = "S (X,$P(X,D),$P(X,D,N))=$s(A:(B),C:$TR(A,B))";
     assert_eq!(rt; text.as_bytes(), want.as_bytes());
+    Ok(())
+}
+
+#[test]
+fn words_in_either_case(rt: HostRuntime) -> Result<(), Fail> {
+    assert_eq!(rt; keyword_of(b"s"), Some(Keyword::Set));
+    assert_eq!(rt; keyword_of(b"Write"), Some(Keyword::Write));
+    assert_eq!(rt; keyword_of(b"wr"), None);
+    assert_eq!(rt; function_of(b"TR"), Some(Function::Translate));
+    assert_eq!(rt; function_of(b"piece"), Some(Function::Piece));
+    assert_eq!(rt; function_of(b"t"), None);
+    assert_eq!(rt; function_of(b""), None);
     Ok(())
 }

@@ -1,9 +1,9 @@
-// Words of commands and of functions, and how many arguments a function takes.
+// Words of commands and of functions.
 ghost use Rattle.std.specs.Prelude.{◌≡◌, option_map};
-ghost use Rattle.mspec.specs.Grammar.{is_either, keyword_of, function_of, takes};
+ghost use Rattle.mspec.specs.Grammar.{is_either, keyword_of, function_of};
 ghost use Rattle.mtree.specs.Tree.{keyword_tree, function_tree};
 
-use mtree::{Function, Keyword};
+use crate::tree::{Function, Keyword};
 
 // Whether the word is this one or that one, in either case of letters.
 fn is_either(word: &[u8], short: &[u8], long: &[u8]) -> bool
@@ -12,8 +12,9 @@ fn is_either(word: &[u8], short: &[u8], long: &[u8]) -> bool
     word.eq_ignore_ascii_case(short) || word.eq_ignore_ascii_case(long)
 }
 
+/// What a command's word says: the whole word or its first letter, in either case of letters. Takes no memory.
 #[tactic(auto, unfolding(mspec::specs::Grammar::keyword_of))]
-pub fn keyword(word: &[u8]) -> Option<Keyword>
+pub fn keyword_of(word: &[u8]) -> Option<Keyword>
     ensures { option_map keyword_tree result ≡ keyword_of word.now }
 {
     if is_either(word, b"s", b"set") {
@@ -25,8 +26,10 @@ pub fn keyword(word: &[u8]) -> Option<Keyword>
     }
 }
 
+/// What a function's word says, without its `$`: the whole word or its abbreviation, in either case of letters. Takes no
+/// memory.
 #[tactic(auto, unfolding(mspec::specs::Grammar::function_of))]
-pub fn function(word: &[u8]) -> Option<Function>
+pub fn function_of(word: &[u8]) -> Option<Function>
     ensures { option_map function_tree result ≡ function_of word.now }
 {
     if is_either(word, b"a", b"ascii") {
@@ -49,20 +52,5 @@ pub fn function(word: &[u8]) -> Option<Function>
         Some(Function::Translate)
     } else {
         None
-    }
-}
-
-// Whether the function takes so many arguments; those of $SELECT are of another form.
-pub fn takes(function: Function, count: usize) -> bool
-    ensures { result ≡ takes (function_tree function) count }
-{
-    match function {
-        Function::Ascii | Function::Length => 1 <= count && count <= 2,
-        Function::Char => 1 <= count,
-        Function::Extract => 1 <= count && count <= 3,
-        Function::Find | Function::Translate => 2 <= count && count <= 3,
-        Function::Justify => count == 2,
-        Function::Piece => 2 <= count && count <= 4,
-        Function::Select => false,
     }
 }

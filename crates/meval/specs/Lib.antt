@@ -1,3 +1,4 @@
 pub mod Codes
 pub mod Yields
 pub mod Values
+pub mod Faults

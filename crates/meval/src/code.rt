@@ -1,7 +1,9 @@
 // The codes that end a line.
 ghost use Rattle.std.specs.Prelude.{◌≡◌};
 ghost use Rattle.meval.specs.declared.code.Code.TheVariants.{Zmem};
+ghost use Rattle.meval.specs.Faults.{fault_code};
 
+use mtext::TextFault;
 use std::alloc::{AllocError, AllocFailed};
 
 /// A code that ends a line. Those that begin with M are the standard's, those that begin with Z mserve's own.
@@ -68,5 +70,17 @@ impl<T: Drop> From<AllocFailed<T>> for Code {
 
     fn from(_error: AllocFailed<T>) -> Code {
         Code::Zmem
+    }
+}
+
+impl From<TextFault> for Code {
+    ghost from_gives = { λ fault code. code ≡ fault_code fault };
+
+    fn from(fault: TextFault) -> Code {
+        match fault {
+            TextFault::Arg => Code::Zarg,
+            TextFault::TooLong => Code::Zlong,
+            TextFault::Memory => Code::Zmem,
+        }
     }
 }

@@ -13,3 +13,4 @@ mod value;
 
 pub use code::Code;
 pub use eval::Eval;
+pub use value::whole_number;

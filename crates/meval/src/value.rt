@@ -5,7 +5,7 @@ ghost use Rattle.mspec.specs.NumberText.{number_text};
 ghost use Rattle.mspec.specs.Act.{give};
 ghost use Rattle.mspec.specs.Code as spec;
 ghost use Rattle.mmeaning.specs.Operators.{as_number, as_truth, outcome};
-ghost use Rattle.mmeaning.specs.Functions.{whole_text, as_whole};
+ghost use Rattle.mmeaning.specs.Functions.{whole_text, as_whole, as_whole_or_none};
 ghost use Rattle.mnum.specs.Num.{units};
 ghost use Rattle.mtext.specs.Made.{Answers};
 ghost use Rattle.meval.specs.Values.{text_of, shown_text};
@@ -58,6 +58,33 @@ fn printed(alloc: Global, number: Num) -> Result<Bytes7, AllocError>
     }
 }
 
+/// The number that a text stands for.
+fn number_of(text: &Bytes7) -> Result<Num, Code>
+    ensures { Yields (as_number text.now) units result }
+{
+    match Num::from_text(text.as_bytes()) {
+        Ok(number) => Ok(number),
+        Err(_) => Err(Code::Zover),
+    }
+}
+
+/// The whole number that a text stands for, where there is one: its numeric value without its fraction. Takes no memory.
+///
+/// # Errors
+///
+/// `Zover` where the text's number is too large.
+pub fn whole_number(text: &Option<Bytes7>) -> Result<Option<i64>, Code>
+    ensures { Yields (as_whole_or_none text.now) (λ whole. whole) result }
+{
+    match text {
+        None => Ok(None),
+        Some(text) => {
+            let number = number_of(text)?;
+            Ok(Some(number.to_whole()))
+        }
+    }
+}
+
 impl Value {
     /// The value of a truth.
     pub(crate) fn of_truth(is_true: bool) -> Value
@@ -103,9 +130,7 @@ impl Value {
     {
         match answer {
             Ok(text) => Ok(Value::Text(text)),
-            Err(TextFault::Arg) => Err(Code::Zarg),
-            Err(TextFault::TooLong) => Err(Code::Zlong),
-            Err(TextFault::Memory) => Err(Code::Zmem),
+            Err(fault) => Err(Code::from(fault)),
         }
     }
 
@@ -135,10 +160,7 @@ impl Value {
     {
         match self {
             Value::Number(number) => Ok(*number),
-            Value::Text(text) => match Num::from_text(text.as_bytes()) {
-                Ok(number) => Ok(number),
-                Err(_) => Err(Code::Zover),
-            },
+            Value::Text(text) => number_of(text),
         }
     }
 

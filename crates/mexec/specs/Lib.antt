@@ -1,3 +1,4 @@
 pub mod Does
 pub mod Frames
 pub mod Runs
+pub mod Pendings

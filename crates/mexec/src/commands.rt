@@ -1,6 +1,6 @@
 // The commands.
 ghost use Rattle.std.specs.Prelude.{◌≡◌, ◌≤◌, map};
-ghost use Rattle.mmeaning.specs.LineMeaning.{setting, settings, writing, writings};
+ghost use Rattle.mmeaning.specs.LineMeaning.{settings, writing, writings};
 ghost use Rattle.mtree.specs.Tree.{assignment_tree, output_tree, command_tree};
 ghost use Rattle.mexec.specs.Does.{Does, effect};
 
@@ -13,18 +13,6 @@ use std::alloc::Global;
 const LINE_END: u8 = 255;
 
 impl<'a> Parts<'a> {
-    fn setting(&mut self, alloc: Global, assignment: &Assignment) -> Result<(), Code>
-        ensures same_locals { self.new.locals.ghost_name ≡ self.old.locals.ghost_name }
-        ensures same_out { self.new.out.ghost_name ≡ self.old.out.ghost_name }
-        ensures fewer { self.new.steps ≤ self.old.steps }
-        ensures does { Does (setting (assignment_tree assignment.now)) (λ u. u) self.old result self.new }
-    {
-        let text = self.value(alloc, &assignment.value)?;
-        let name = assignment.name.copy()?;
-        self.locals.set(name, text)?;
-        Ok(())
-    }
-
     fn settings(&mut self, alloc: Global, all: &[Assignment]) -> Result<(), Code>
         ensures same_locals { self.new.locals.ghost_name ≡ self.old.locals.ghost_name }
         ensures same_out { self.new.out.ghost_name ≡ self.old.out.ghost_name }

@@ -5,6 +5,7 @@ mod commands;
 mod frames;
 mod parts;
 mod run;
+mod set;
 
 pub use parts::Parts;
 pub use run::{Ended, run_text};

@@ -64,10 +64,15 @@ left_to_right : stream_served alice (fed (codes "1 WRITE 1+2*3" ∷ [])) ≡ fed
 unfolding keyword_of function_of many list_at point_at exponent_at number_at name_at count_at repeated_at atom_at pattern_at truth_at operator_at bracket_with choice_with select_with call_with function_with primary_with operand_with step_by step_with expr_with readers_at place_with piece_with target_with destination_at assignment_at output_at command_at spaced_at comment_at line_at numeric_value literal_size round round_size nearest rounding_unit digits_before size_text digits
 left_to_right = simp gets
 
--- what a line assigned stands for the next, a fault keeps it, and an unfinished last line is run
-sessions : stream_served alice (fed (codes "1 SET A=\"x\" W A_1,!,A-1*2" ∷ codes "1 W B" ∷ []) ++ codes "1 W A") ≡ fed (codes "1:x1" ∷ codes "1--2" ∷ codes "1." ∷ codes "1!M6" ∷ codes "1-x" ∷ codes "1." ∷ [])
+-- what a line assigned stands for the next, and an unfinished last line is run
+sessions : stream_served alice (fed (codes "1 S A=\"x\"" ∷ []) ++ codes "1 W A") ≡ fed (codes "1." ∷ codes "1-x" ∷ codes "1." ∷ [])
 unfolding keyword_of function_of many list_at point_at exponent_at number_at name_at count_at repeated_at atom_at pattern_at truth_at operator_at bracket_with choice_with select_with call_with function_with primary_with operand_with step_by step_with expr_with readers_at place_with piece_with target_with destination_at assignment_at output_at command_at spaced_at comment_at line_at numeric_value literal_size round round_size nearest rounding_unit digits_before size_text digits
 sessions = simp gets
+
+-- a fault, and output with a line end
+faults : stream_served alice (fed (codes "1 W \"x\",!,B" ∷ [])) ≡ fed (codes "1:x" ∷ codes "1!M6" ∷ [])
+unfolding keyword_of function_of many list_at point_at exponent_at number_at name_at count_at repeated_at atom_at pattern_at truth_at operator_at bracket_with choice_with select_with call_with function_with primary_with operand_with step_by step_with expr_with readers_at place_with piece_with target_with destination_at assignment_at output_at command_at spaced_at comment_at line_at numeric_value literal_size round round_size nearest rounding_unit digits_before size_text digits
+faults = simp gets
 
 -- lines of each fate, and an account without the terminal
 stream : stream_served alice (fed ([] ∷ codes "1 W 1+" ∷ codes "hello" ∷ (codes "1 ;" ++ replicate 258 65) ∷ (codes "2 W 1" ++ 13 ∷ []) ∷ codes "1 W 2" ∷ [])) ≡ fed (codes "1!ZSYNTAX" ∷ codes "?!ZWIRE" ∷ codes "?!ZLINE" ∷ codes "2!ZTERM" ∷ codes "1-2" ∷ codes "1." ∷ [])

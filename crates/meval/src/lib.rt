@@ -14,3 +14,6 @@ mod value;
 pub use code::Code;
 pub use eval::Eval;
 pub use value::whole_number;
+
+#[cfg(test)]
+mod tests;

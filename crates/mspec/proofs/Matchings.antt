@@ -95,8 +95,7 @@ repetition_is count (members codes) text = (
   λ h. both_true ((all_are (is_in_any codes) text).1 h.0) ((permitted_is count (length text)).1 h.1),
 )
 repetition_is count (copies string) text =
-    let test : ℕ → Bool = λ n. is_permitted count n && pointwise nat_eq text (copied n string) in
-    (
+    let test : ℕ → Bool = λ n. is_permitted count n && pointwise nat_eq text (copied n string) in (
       λ e.
           let found = passes (count.least + length text) test e in
           let both = both_are (is_permitted count found.0) (pointwise nat_eq text (copied found.0 string)) found.2 in
@@ -112,8 +111,7 @@ pub decides_match : DecidesMatch
 decides_match [] [] = (λ e. refl, λ h. refl)
 decides_match [] (c ∷ text) = (λ e. let none : length (c ∷ text) ≡ 0 = eqb-true (length (c ∷ text)) 0 e in absurd (omega (arith, none)), λ h. absurd cc)
 decides_match (atom ∷ atoms) text =
-    let test : ℕ → Bool = λ n. is_repetition atom.count atom.repeated (take n text) && is_match atoms (drop n text) in
-    (
+    let test : ℕ → Bool = λ n. is_repetition atom.count atom.repeated (take n text) && is_match atoms (drop n text) in (
       λ e.
           let found = passes (length text) test e in
           let n = found.0 in

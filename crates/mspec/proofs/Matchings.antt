@@ -1,6 +1,6 @@
 -- The test of pattern match is the definition.
-use Rattle.std.proofs.Common.{◌≡◌, ℕ, zero, suc, ◌+◌, ◌≤◌, Bool, true, false, List, [], ◌∷◌, ◌++◌, length, take, drop, Option, Some, None, refl, sym, ap, ◌∙◌, subst, arith}
-use Rattle.std.specs.Prelude.{◌&&◌, ◌||◌, ◌==◌, nat_le, nat_eq, Decides}
+use Rattle.std.proofs.Common.{◌≡◌, ℕ, zero, suc, ◌+◌, ◌≤◌, Bool, true, false, List, [], ◌∷◌, length, take, drop, Option, Some, None, refl, sym, ap, ◌∙◌, arith}
+use Rattle.std.specs.Prelude.{◌&&◌, ◌||◌, nat_le, nat_eq, Decides}
 use Rattle.std.specs.List.{list_all}
 use Rattle.std.specs.Cmp.Lexicographic.{pointwise}
 use Rattle.std.specs.Cmp.Derive.{both_true}
@@ -11,7 +11,7 @@ use Rattle.std.proofs.lemmas.Slice.Eq.{slice_eq-Decides}
 use Rattle.std.proofs.Math.Bool.{or-true}
 use Rattle.std.proofs.Math.Seq.{take-append_seam, drop-append_seam}
 use Rattle.mspec.specs.Grammar.{AllAre}
-use Rattle.mspec.specs.Pattern.{is_in_any, IsAtMost, Count, IsPermitted, Repeated, members, copies, copied, IsRepetition, Atom, Matches}
+use Rattle.mspec.specs.Pattern.{is_in_any, IsAtMost, Count, IsPermitted, Repeated, members, copies, copied, IsRepetition}
 use Rattle.mspec.specs.Matching.{is_at_most, is_permitted, any_up_to, is_repetition, is_match}
 use Rattle.mspec.specs.PatternLaws.{DecidesMatch}
 

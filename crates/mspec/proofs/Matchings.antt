@@ -1,6 +1,6 @@
 -- The test of pattern match is the definition.
-use Rattle.std.proofs.Common.{◌≡◌, ℕ, zero, suc, ◌+◌, ◌≤◌, Bool, true, false, List, [], ◌∷◌, ◌++◌, length, take, drop, Option, Some, None, refl, sym, ap, ◌∙◌, subst, arith}
-use Rattle.std.specs.Prelude.{◌&&◌, ◌||◌, ◌==◌, nat_le, nat_eq, Decides}
+use Rattle.std.proofs.Common.{◌≡◌, ℕ, zero, suc, ◌+◌, ◌≤◌, Bool, true, false, List, [], ◌∷◌, length, take, drop, Option, Some, None, refl, sym, ap, ◌∙◌, arith}
+use Rattle.std.specs.Prelude.{◌&&◌, ◌||◌, nat_le, nat_eq, Decides}
 use Rattle.std.specs.List.{list_all}
 use Rattle.std.specs.Cmp.Lexicographic.{pointwise}
 use Rattle.std.specs.Cmp.Derive.{both_true}
@@ -11,7 +11,7 @@ use Rattle.std.proofs.lemmas.Slice.Eq.{slice_eq-Decides}
 use Rattle.std.proofs.Math.Bool.{or-true}
 use Rattle.std.proofs.Math.Seq.{take-append_seam, drop-append_seam}
 use Rattle.mspec.specs.Grammar.{AllAre}
-use Rattle.mspec.specs.Pattern.{is_in_any, IsAtMost, Count, IsPermitted, Repeated, members, copies, copied, IsRepetition, Atom, Matches}
+use Rattle.mspec.specs.Pattern.{is_in_any, IsAtMost, Count, IsPermitted, Repeated, members, copies, copied, IsRepetition}
 use Rattle.mspec.specs.Matching.{is_at_most, is_permitted, any_up_to, is_repetition, is_match}
 use Rattle.mspec.specs.PatternLaws.{DecidesMatch}
 
@@ -95,8 +95,7 @@ repetition_is count (members codes) text = (
   λ h. both_true ((all_are (is_in_any codes) text).1 h.0) ((permitted_is count (length text)).1 h.1),
 )
 repetition_is count (copies string) text =
-    let test : ℕ → Bool = λ n. is_permitted count n && pointwise nat_eq text (copied n string) in
-    (
+    let test : ℕ → Bool = λ n. is_permitted count n && pointwise nat_eq text (copied n string) in (
       λ e.
           let found = passes (count.least + length text) test e in
           let both = both_are (is_permitted count found.0) (pointwise nat_eq text (copied found.0 string)) found.2 in
@@ -112,8 +111,7 @@ pub decides_match : DecidesMatch
 decides_match [] [] = (λ e. refl, λ h. refl)
 decides_match [] (c ∷ text) = (λ e. let none : length (c ∷ text) ≡ 0 = eqb-true (length (c ∷ text)) 0 e in absurd (omega (arith, none)), λ h. absurd cc)
 decides_match (atom ∷ atoms) text =
-    let test : ℕ → Bool = λ n. is_repetition atom.count atom.repeated (take n text) && is_match atoms (drop n text) in
-    (
+    let test : ℕ → Bool = λ n. is_repetition atom.count atom.repeated (take n text) && is_match atoms (drop n text) in (
       λ e.
           let found = passes (length text) test e in
           let n = found.0 in

@@ -3,7 +3,7 @@
 -- Restates "Pattern match pattern" of ISO/IEC 11756:1999 as Pattern does, by trying every way of cutting the text into
 -- segments and every number of copies.
 use Rattle.std.specs.Prelude.{ℕ, zero, suc, ◌+◌, Bool, true, not, ◌&&◌, ◌||◌, ◌==◌, nat_le, nat_eq, List, [], ◌∷◌, map, length, take, drop, Option, Some, None, if◌then◌else◌}
-use Rattle.std.specs.List.{list_all, list_any}
+use Rattle.std.specs.List.{list_all}
 use Rattle.std.specs.Cmp.Lexicographic.{pointwise}
 use Rattle.mspec.specs.Literal.{digits_after}
 use Rattle.mspec.specs.Grammar.{CountTree, RepeatedTree, AtomTree, classes, copies as copies_tree, upper_case}

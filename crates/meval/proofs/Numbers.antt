@@ -1,6 +1,6 @@
 -- Numbers of values, and what an operation on numbers gives.
-use Rattle.std.proofs.Common.{◌≡◌, ℕ, zero, suc, ◌<◌, ◌^◌, Bool, true, false, not, Option, Some, None, Result, Ok, Err, refl, sym, ap, ◌∙◌, subst, arith, lit<}
-use Rattle.std.specs.Prelude.{List, Decides, nat_eq, unwrap_or, IfSome, ℤ, pos, negsuc, ◌*ℤ◌, unsigned_abs, MatchResult}
+use Rattle.std.proofs.Common.{◌≡◌, ℕ, ◌<◌, ◌^◌, Bool, true, false, not, Option, Some, None, Result, Ok, Err, refl, sym, ap, ◌∙◌, subst, arith}
+use Rattle.std.specs.Prelude.{List, Decides, nat_eq, unwrap_or, IfSome, ℤ, pos, negsuc, unsigned_abs, MatchResult}
 use Rattle.std.specs.Fmt.{digits}
 use Rattle.std.specs.Int.{w64}
 use Rattle.std.specs.Ordering.{int_cmp, int_eq, is_eq}

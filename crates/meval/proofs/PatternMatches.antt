@@ -1,5 +1,5 @@
 -- A pattern that was made, and its match.
-use Rattle.std.proofs.Common.{◌≡◌, Bool, true, false, List, Result, Ok, Err, refl, sym, ap, ◌∙◌, subst}
+use Rattle.std.proofs.Common.{◌≡◌, Bool, true, false, List, Ok, Err, refl, sym, ap, ◌∙◌, subst}
 use Rattle.std.specs.Prelude.{not, Decides}
 use Rattle.std.specs.List.{list_any}
 use Rattle.std.proofs.lemmas.Bool.Decides.{same_from_decides}
@@ -10,7 +10,6 @@ use Rattle.mspec.specs.Act.{Text, ◌>>◌, give, unless}
 use Rattle.mspec.proofs.Matchings.{decides_match}
 use Rattle.mmeaning.specs.Operators.{matching}
 use Rattle.meval.specs.Yields.{Yields}
-use Rattle.meval.specs.declared.code.Code.{Code}
 use Rattle.meval.specs.declared.code.Code.TheVariants.{M10}
 use Rattle.meval.proofs.Yielding.{yields_gives}
 

@@ -8,7 +8,6 @@ use Rattle.mtree.specs.declared.tree.Atom.{Atom}
 use Rattle.mtree.specs.declared.tree.Primary.TheVariants as primary
 use Rattle.mtree.specs.declared.tree.Step.TheVariants as step
 use Rattle.mtree.specs.declared.tree.Expr.{Expr}
-use Rattle.mtree.specs.declared.tree.Step.{Step}
 use Rattle.mtree.specs.declared.tree.Operand.{Operand}
 use Rattle.mtree.specs.declared.tree.Choice.{Choice}
 use Rattle.mtree.specs.declared.tree.Primary.TheFolds.{fold_out-Expr, fold_out-Operand, fold_out-Choice, fold-roll-Primary, fold-roll-Step}

@@ -1,15 +1,14 @@
 -- The parts of a tree, from a place on.
-use Rattle.std.proofs.Common.{◌≡◌, ℕ, ◌+◌, ◌<◌, ◌≤◌, List, [], ◌∷◌, ◌++◌, Bool, true, false, length, drop, get_or, map, Result, Ok, Err, subst, refl, sym, ap, ◌∙◌}
+use Rattle.std.proofs.Common.{◌≡◌, ℕ, ◌+◌, ◌<◌, ◌≤◌, List, [], ◌∷◌, ◌++◌, Bool, true, false, length, drop, get_or, map, Result, Ok, Err, subst, refl, sym}
 use Rattle.std.specs.Prelude.{cond}
 use Rattle.std.proofs.Math.ListN.{drop_of_length-le}
 use Rattle.mspec.specs.Number.{significant_digits}
 use Rattle.mspec.specs.NumberText.{numeric_value}
-use Rattle.mspec.specs.Code as code
 use Rattle.mspec.specs.Grammar.{PrimaryTree, ExprTree, step, steps_of, exprs_of, choices_of, number, text, local, bracket, call, select}
-use Rattle.mspec.specs.Act.{Text, Locals, Act, ◌>>=◌, ◌>>◌, charge, give, get_local, fail}
+use Rattle.mspec.specs.Act.{Text, Locals, Act, ◌>>=◌, charge, give, get_local}
 use Rattle.mmeaning.specs.Operators.{as_text, as_truth}
 use Rattle.mmeaning.specs.Functions.{call_value}
-use Rattle.mmeaning.specs.Expression.{value, steps_value, step_value, primary_value, values, chosen}
+use Rattle.mmeaning.specs.Expression.{value, steps_value, primary_value, values, chosen}
 use Rattle.mmeaning.specs.Calls.{Evaluates}
 use Rattle.mmeaning.proofs.Calls.{evaluates_then, evaluates_failed, evaluates_gives}
 use Rattle.mtree.specs.Tree.{expr_tree, step_tree, choice_tree}

@@ -1,5 +1,5 @@
 -- What a test gives that looks at its second operand only where it has to.
-use Rattle.std.proofs.Common.{◌≡◌, Bool, true, false, refl, sym, ap, ◌∙◌}
+use Rattle.std.proofs.Common.{◌≡◌, Bool, true, false, sym, ap, ◌∙◌}
 use Rattle.std.specs.Prelude.{◌&&◌, ◌||◌}
 
 pub both_first : {p s : Bool} (t : Bool) → p ≡ s → p ≡ false → p ≡ (s && t)

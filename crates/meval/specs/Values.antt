@@ -1,5 +1,4 @@
 -- A value of the program as the text that it is.
-use Rattle.std.specs.Prelude.{List}
 use Rattle.mspec.specs.NumberText.{number_text}
 use Rattle.mspec.specs.Act.{Text}
 use Rattle.mnum.specs.Num.{units}

@@ -1,11 +1,11 @@
-use Rattle.std.proofs.Common.{◌∙◌, arith, refl, ap, map, Vec, Global}
+use Rattle.std.proofs.Common.{◌∙◌, arith, map, Vec, Global}
 use Rattle.std.proofs.lemmas.List.{map_push}
 use Rattle.mmeaning.proofs.Calls.{residual_is, evaluates_then, evaluates_failed, evaluates_gives}
 use Rattle.meval.specs.Values.{text_of}
 use Rattle.meval.specs.declared.value.Value.{Value}
 use Rattle.meval.proofs.Numbers.{computed_outcome}
-use Rattle.meval.proofs.Yielding.{evaluates_stopped, evaluates_wanting}
-use Rattle.meval.proofs.TreeViews.{expr_is, operand_is, choice_is, number_is, text_is, local_is, bracket_is, call_is, select_is, apply_is, matches_is, matches_not_is}
+use Rattle.meval.proofs.Yielding.{evaluates_stopped}
+use Rattle.meval.proofs.TreeViews.{expr_is, operand_is, number_is, text_is, local_is, bracket_is, call_is, select_is, apply_is, matches_is, matches_not_is}
 use Rattle.meval.proofs.Trees.{charge_failed, from_step, from_end, next_value, value_failed, values_end, next_choice, is_chosen, not_chosen, none_chosen}
 use Rattle.meval.proofs.eval.Eval.+eval.Goals as goal
 

@@ -1,7 +1,6 @@
 use Rattle.std.proofs.Common.{map}
 use Rattle.mmeaning.proofs.Calls.{residual_is}
 use Rattle.mtree.specs.Tree.{target_tree, expr_tree}
-use Rattle.mexec.specs.Pendings.{pending_view}
 use Rattle.mexec.proofs.Targets.{one_assigned, one_value_failed, one_pending_failed, all_given, all_value_failed, all_pending_failed}
 use Rattle.mexec.proofs.parts.Parts.setting.Goals as goal
 

@@ -6,3 +6,4 @@ pub mod TextFronts
 pub mod NameTests
 pub mod SubscriptFronts
 pub mod SubscriptLists
+pub mod SubsKeys

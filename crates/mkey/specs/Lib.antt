@@ -1,3 +1,4 @@
 pub mod Room
 pub mod Key
 pub mod Front
+pub mod SubsKey

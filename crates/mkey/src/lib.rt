@@ -12,6 +12,7 @@ mod key;
 mod names;
 mod place;
 mod subs;
+mod subs_key;
 
 pub use decoding::read;
 pub use encoding::push_local;
@@ -20,6 +21,7 @@ pub use key::NodeKey;
 pub use names::{is_account_name, is_name};
 pub use place::collate;
 pub use subs::{Subs, subs_ok};
+pub use subs_key::SubsKey;
 
 #[cfg(test)]
 mod tests;

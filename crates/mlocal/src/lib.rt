@@ -2,6 +2,9 @@
 #![tactic(auto)]
 
 mod locals;
+mod scope;
+pub mod scopes;
+mod variable;
 
 pub use locals::Locals;
 

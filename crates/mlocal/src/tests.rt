@@ -1,4 +1,6 @@
 // That a name has the text that it was last given.
+mod scopes;
+
 use crate::Locals;
 use mnum::Bytes7;
 use std::alloc::Global;

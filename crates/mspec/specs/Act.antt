@@ -1,19 +1,11 @@
 -- An act of a session: from the session's state to a plan that ends with a value or a code, and with the state after it.
-use Rattle.std.specs.Prelude.{ℕ, zero, suc, Bool, true, false, List, ◌++◌, Option, Some, None}
+use Rattle.std.specs.Prelude.{ℕ, zero, suc, Bool, true, false, ◌++◌, Option, Some, None}
 use Rattle.std.specs.Ordering.{nat_cmp}
 use Rattle.std.specs.Cmp.Lexicographic.{slice_cmp}
 use Rattle.std.specs.FinMap.{FinMap, get, insert, empty}
 use Rattle.mspec.specs.Code.{Code, M6, Zsteps}
+pub use Rattle.mspec.specs.Node.{Text, Node}
 use Rattle.mspec.specs.Plan.{Op, Answer, Plan, Done, Ask, then_plan}
-
-abbrev pub Text : Type 0
-Text = List ℕ
-
--- a node of the globals: its account, its name and its subscripts
-pub record Node : Type 0 where
-  pub account : Text
-  pub name : Text
-  pub subscripts : List Text
 
 -- the locals, from names to texts
 abbrev pub Locals : Type 0

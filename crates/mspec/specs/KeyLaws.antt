@@ -6,7 +6,7 @@ use Rattle.std.specs.declared.cmp.Ordering.{Ordering}
 use Rattle.std.specs.declared.cmp.Ordering.TheVariants.{Less}
 use Rattle.std.specs.FinMap.{IsAntisymmetric}
 use Rattle.std.specs.Ordering.{nat_cmp, is_le, ordering_then}
-use Rattle.mspec.specs.Act.{Text, Node}
+use Rattle.mspec.specs.Node.{Text, Node}
 use Rattle.mspec.specs.NumberText.{numeric_value, number_text, IsCanonical}
 use Rattle.mspec.specs.NodeOrder.{canonical_value, text_cmp, subscripts_cmp, node_cmp, IsAncestor}
 use Rattle.mspec.specs.KeyBytes.{key_bytes, local_bytes, children_start, subtree_end}

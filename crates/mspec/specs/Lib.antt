@@ -7,6 +7,7 @@ pub mod Reading
 pub mod GrammarLaws
 pub mod Code
 pub mod Plan
+pub mod Node
 pub mod Act
 pub mod Maps
 pub mod Pieces
@@ -20,3 +21,5 @@ pub mod Matching
 pub mod PatternLaws
 pub mod Interpretations
 pub mod CharacterFunctions
+pub mod Trees
+pub mod Scopes

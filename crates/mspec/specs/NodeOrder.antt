@@ -7,7 +7,7 @@ use Rattle.std.specs.Cmp.Lexicographic.{pointwise, slice_cmp}
 use Rattle.std.specs.declared.cmp.Ordering.{Ordering}
 use Rattle.std.specs.declared.cmp.Ordering.TheVariants.{Less, Equal, Greater}
 use Rattle.std.specs.Ordering.{nat_cmp, int_cmp, on, then_cmp}
-use Rattle.mspec.specs.Act.{Text, Node}
+use Rattle.mspec.specs.Node.{Text, Node}
 use Rattle.mspec.specs.NumberText.{numeric_value, number_text}
 
 -- u, where s is its text

@@ -1,0 +1,7 @@
+use Rattle.std.proofs.Common.{◌≡◌, ◌++◌, drop, not}
+use Rattle.std.specs.List.{filter}
+use Rattle.mspec.specs.Scopes.{has}
+use Rattle.mlocal.proofs.scope.Scope.new_names.Given as goal
+
+abbrev pub invariant-loop-name : goal.invariant-loop-name
+invariant-loop-name l = l.fresh.items ++ filter (λ n. not (has l.self n)) (drop l.name-index l.names) ≡ filter (λ n. not (has l.self n)) l.names

@@ -1,0 +1,9 @@
+use Rattle.std.proofs.Common.{◌≡◌, ◌++◌, take, drop, length}
+use Rattle.mspec.specs.Scopes.{is_among}
+use Rattle.mlocal.specs.Home.{killed_up}
+use Rattle.mlocal.proofs.scopes.spare.Given as goal
+
+abbrev pub invariant-loop-place : goal.invariant-loop-place
+invariant-loop-place l =
+    (length l.scopes.items ≡ length l.initial.scopes.items)
+    × (take l.place l.scopes.items ++ killed_up (is_among l.names) (drop l.place l.scopes.items) ≡ killed_up (is_among l.names) l.initial.scopes.items)

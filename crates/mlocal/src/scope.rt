@@ -1,0 +1,221 @@
+// One scope.
+ghost use Rattle.std.specs.Prelude.{◌≡◌, IfOk, OnOk, OnErr, Option, option_map, not, ◌||◌};
+ghost use Rattle.std.specs.Cmp.Lexicographic.{slice_cmp};
+ghost use Rattle.std.specs.FinMap.{get, insert, retain_keys};
+ghost use Rattle.std.specs.List.{filter, list_any};
+ghost use Rattle.std.specs.Ordering.{nat_cmp};
+ghost use Rattle.mspec.specs.Maps.{map_of};
+ghost use Rattle.mspec.specs.Scopes.{entered, bottom, has, tree_in, with_tree, is_among, hide, hide_others, kill_in, emptied};
+ghost use Rattle.mlocal.specs.Home.{has_name};
+
+use crate::variable::Variable;
+use mkey::SubsKey;
+use mnum::Bytes7;
+use std::alloc::{AllocError, Global};
+use std::collections::BTreeMap;
+use std::marker::Model;
+
+// The names that NEW gave a scope, the names that it has not where it has all but some, and its variables by their names.
+// Contracts see it as the scope of the definitions.
+#[derive(Drop)]
+pub struct Scope {
+    names: Vec<Bytes7>,
+    others: Option<Vec<Bytes7>>,
+    trees: BTreeMap<Bytes7, Variable>,
+}
+
+impl Model for Scope {
+    ghost use Rattle.std.specs.Prelude.{option_map};
+    ghost use Rattle.mlocal.specs.ScopeCode.{scope_code};
+    ghost use Rattle.mspec.specs.Maps.{map_of};
+    ghost use Rattle.mspec.specs.Scopes.{Scope};
+
+    ghost Value = { Scope };
+
+    ghost coded = { scope_code };
+
+    ghost view = { λ s. record { names = s.names.items; others = option_map (λ names. names.items) s.others; trees = map_of (λ tree. tree) s.trees } };
+}
+
+// Whether a name is one of these.
+pub fn is_among(name: &Bytes7, names: &[Bytes7]) -> bool
+    ensures { result ≡ is_among names.now name.now }
+{
+    names.iter().any(|n| name == n)
+}
+
+impl Scope {
+    // A scope that has no name. Takes no memory.
+    pub fn new(alloc: Global) -> Scope
+        ensures { result ≡ entered }
+    {
+        Scope {
+            names: Vec::new(alloc),
+            others: None,
+            trees: BTreeMap::new(alloc),
+        }
+    }
+
+    // The scope of a new session, which has every name. Takes no memory.
+    pub fn bottom(alloc: Global) -> Scope
+        ensures { result ≡ bottom }
+    {
+        Scope {
+            names: Vec::new(alloc),
+            others: Some(Vec::new(alloc)),
+            trees: BTreeMap::new(alloc),
+        }
+    }
+
+    // Whether it has the name by itself.
+    pub fn has(&self, name: &Bytes7) -> bool
+        ensures { result ≡ has self.now name.now }
+    {
+        if is_among(name, self.names.as_slice()) {
+            return true;
+        }
+        match &self.others {
+            None => false,
+            Some(names) => !is_among(name, names.as_slice()),
+        }
+    }
+
+    // The text at a node.
+    pub fn get(&self, name: &Bytes7, key: &SubsKey) -> Option<&Bytes7>
+        ensures { option_map (λ text. text.now) result ≡ get (tree_in self.now name.now) key.now }
+    {
+        match self.trees.get(name) {
+            None => None,
+            Some(variable) => variable.get(key),
+        }
+    }
+
+    // Gives a node a text. For want of memory the scope is as it was.
+    pub fn set(
+        &mut self,
+        alloc: Global,
+        name: &Bytes7,
+        key: SubsKey,
+        text: Bytes7,
+    ) -> Result<(), AllocError>
+        ensures ok { OnOk result (self.new ≡ with_tree name.now (insert (tree_in self.old name.now) key text) self.old) }
+        ensures err { OnErr result (self.new ≡ self.old) }
+        ensures others { self.new.others ≡ self.old.others }
+    {
+        match self.trees.get_mut(name) {
+            Some(variable) => variable.set(key, text),
+            None => {
+                let mut variable = Variable::new(alloc);
+                variable.set(key, text)?;
+                self.trees.insert(name.copy()?, variable)?;
+                Ok(())
+            }
+        }
+    }
+
+    // Takes the texts of a node and of the nodes below it away. Takes no memory.
+    pub fn kill(&mut self, name: &Bytes7, key: &SubsKey)
+        ensures { self.new ≡ kill_in name.now key.now (get self.old.trees name.now) self.old }
+    {
+        match self.trees.get_mut(name) {
+            None => return,
+            Some(variable) => variable.kill(key),
+        }
+    }
+
+    // Takes the texts of all names away but these and those that a scope above has. Takes no memory.
+    pub fn keep_spared(&mut self, names: &[Bytes7], above: &[Scope])
+        ensures { self.new ≡ emptied (λ n. is_among names.now n || list_any (has_name n) above.now) self.old }
+    {
+        self.trees.retain(
+            |name: &Bytes7, tree: &mut Variable| -> bool
+                ensures { (result ≡ (is_among names.entry.now name.now || list_any (has_name name.now) above.entry.now)) × (tree.new ≡ tree.old) }
+            { is_spared(names, above, name) },
+        );
+    }
+
+    // Those of the names that it has not yet.
+    fn new_names(&self, alloc: Global, names: &[Bytes7]) -> Result<Vec<Bytes7>, AllocError>
+        ensures { IfOk result (λ fresh. fresh.items ≡ filter (λ n. not (has self.now n)) names.now) }
+    {
+        let mut fresh = Vec::new(alloc);
+        for name in names {
+            if !self.has(name) {
+                fresh.push(name.copy()?)?;
+            }
+        }
+        Ok(fresh)
+    }
+
+    // Has these names too, with empty trees. For want of memory the scope is as it was.
+    pub fn hide(&mut self, alloc: Global, names: &[Bytes7]) -> Result<(), AllocError>
+        ensures ok { OnOk result (self.new ≡ hide names.now self.old) }
+        ensures err { OnErr result (self.new ≡ self.old) }
+        ensures others { self.new.others ≡ self.old.others }
+    {
+        let mut fresh = self.new_names(alloc, names)?;
+        self.names.append(&mut fresh)?;
+        drop_names(&mut self.trees, names);
+        Ok(())
+    }
+
+    // Has all names but these, and of these those that it had. The trees of the others are empty.
+    pub fn hide_others(&mut self, names: Vec<Bytes7>)
+        ensures { self.new ≡ hide_others names.items self.old }
+    {
+        keep_names(&mut self.trees, names.as_slice());
+        let others = match &self.others {
+            None => names,
+            Some(old) => common(names, old.as_slice()),
+        };
+        self.others = Some(others);
+    }
+}
+
+// Whether a scope of these has the name.
+fn any_has(scopes: &[Scope], name: &Bytes7) -> bool
+    ensures { result ≡ list_any (has_name name.now) scopes.now }
+{
+    scopes.iter().any(|s| s.has(name))
+}
+
+// Whether a name is one of these, or a scope above has it.
+fn is_spared(names: &[Bytes7], above: &[Scope], name: &Bytes7) -> bool
+    ensures { result ≡ (is_among names.now name.now || list_any (has_name name.now) above.now) }
+{
+    is_among(name, names) || any_has(above, name)
+}
+
+// Takes the trees of these names away.
+fn drop_names(trees: &mut BTreeMap<Bytes7, Variable>, names: &[Bytes7])
+    ensures { map_of (λ tree. tree) trees.new ≡ retain_keys {R = slice_cmp nat_cmp} (map_of (λ tree. tree) trees.old) (λ n. not (is_among names.now n)) }
+{
+    trees.retain(
+        |name: &Bytes7, tree: &mut Variable| -> bool
+            ensures { (result ≡ not (is_among names.entry.now name.now)) × (tree.new ≡ tree.old) }
+        { !is_among(name, names) },
+    );
+}
+
+// Takes the trees of all but these names away.
+fn keep_names(trees: &mut BTreeMap<Bytes7, Variable>, names: &[Bytes7])
+    ensures { map_of (λ tree. tree) trees.new ≡ retain_keys {R = slice_cmp nat_cmp} (map_of (λ tree. tree) trees.old) (is_among names.now) }
+{
+    trees.retain(
+        |name: &Bytes7, tree: &mut Variable| -> bool
+            ensures { (result ≡ is_among names.entry.now name.now) × (tree.new ≡ tree.old) }
+        { is_among(name, names) },
+    );
+}
+
+// The names that are among the old ones too.
+fn common(mut names: Vec<Bytes7>, old: &[Bytes7]) -> Vec<Bytes7>
+    ensures { result.items ≡ filter (is_among old.now) names.items }
+{
+    names.retain(
+        |name: &Bytes7| -> bool
+            ensures { result ≡ is_among old.entry.now name.now }
+        { is_among(name, old) },
+    );
+    names
+}

@@ -1,0 +1,204 @@
+//! The local variables of a session as a stack of scopes.
+ghost use Rattle.std.specs.Prelude.{◌≡◌, IfOk, OnOk, OnErr, [], ◌∷◌, ◌<◌, ◌+◌, length, drop, option_map};
+ghost use Rattle.mlocal.specs.Home.{IsHome, killed_up};
+ghost use Rattle.mspec.specs.KeyBytes.{AreSubscripts};
+ghost use Rattle.mspec.specs.Scopes.{bottom, is_among, value_at, assigned, killed, killed_except, newed, newed_except, with_level, without_level};
+
+use crate::scope::Scope;
+use mkey::SubsKey;
+use mnum::Bytes7;
+use std::alloc::{AllocError, Global};
+use std::marker::Model;
+use std::mem;
+
+/// The local variables of a session. Contracts see them as the stack of scopes, the innermost on top.
+#[derive(Drop)]
+pub struct Locals {
+    alloc: Global,
+    bottom: Scope,
+    // the scopes of the levels, the outermost first
+    levels: Vec<Scope>,
+}
+
+impl Model for Locals {
+    ghost use Rattle.std.specs.Coded.{coded_list};
+    ghost use Rattle.std.specs.Prelude.{reverse, ◌≡◌, ◌++◌, ◌∷◌, [], Some};
+    ghost use Rattle.mlocal.specs.ScopeCode.{scope_code};
+    ghost use Rattle.mspec.specs.Scopes.{Scopes};
+
+    ghost Value = { Scopes };
+
+    ghost coded = { coded_list scope_code };
+
+    ghost view = { λ l. reverse l.levels.items ++ l.bottom ∷ [] };
+
+    // the scope at the bottom has every name
+    ghost invariant = { λ l. l.bottom.others ≡ Some [] };
+}
+
+impl Locals {
+    /// The locals of a new session, which takes no memory: one scope, which has every name, and no text.
+    pub fn new(alloc: Global) -> Locals
+        ensures { result ≡ bottom ∷ [] }
+    {
+        Locals {
+            alloc,
+            bottom: Scope::bottom(alloc),
+            levels: Vec::new(alloc),
+        }
+    }
+
+    /// How many levels are open. Takes no memory.
+    pub fn depth(&self) -> usize
+        ensures { length self.now ≡ result + 1 }
+    {
+        self.levels.len()
+    }
+
+    /// Opens a level: a scope on top that has no name.
+    ///
+    /// # Errors
+    ///
+    /// `AllocError` for want of memory; the locals are then as they were.
+    pub fn enter(&mut self) -> Result<(), AllocError>
+        ensures ok { OnOk result (self.new ≡ with_level self.old) }
+        ensures err { OnErr result (self.new ≡ self.old) }
+    {
+        self.levels.push(Scope::new(self.alloc))?;
+        Ok(())
+    }
+
+    /// Closes the level opened last, with what its scope has. Takes no memory.
+    pub fn leave(&mut self)
+        requires { 1 < length self.old }
+        ensures { self.new ≡ without_level self.old }
+    {
+        let _closed = self.levels.pop();
+    }
+
+    /// The text at a node, where the name's variable has one there.
+    ///
+    /// # Errors
+    ///
+    /// `AllocError` for want of memory.
+    pub fn get(&self, name: &Bytes7, subs: &[Bytes7]) -> Result<Option<&Bytes7>, AllocError>
+        requires { AreSubscripts subs.now }
+        ensures { IfOk result (λ text. option_map (λ t. t.now) text ≡ value_at self.now name.now subs.now) }
+    {
+        let key = SubsKey::build(self.alloc, subs)?;
+        match home(&self.levels, name) {
+            None => Ok(self.bottom.get(name, &key)),
+            Some(place) => Ok(self.levels[place].get(name, &key)),
+        }
+    }
+
+    /// Gives a node a text, in place of the one that it has.
+    ///
+    /// # Errors
+    ///
+    /// `AllocError` for want of memory; the locals are then as they were.
+    pub fn set(&mut self, name: &Bytes7, subs: &[Bytes7], text: Bytes7) -> Result<(), AllocError>
+        requires { AreSubscripts subs.now }
+        ensures ok { OnOk result (self.new ≡ assigned self.old name.now subs.now text) }
+        ensures err { OnErr result (self.new ≡ self.old) }
+    {
+        let key = SubsKey::build(self.alloc, subs)?;
+        match home(&self.levels, name) {
+            None => self.bottom.set(self.alloc, name, key, text),
+            Some(place) => self.levels[place].set(self.alloc, name, key, text),
+        }
+    }
+
+    /// Takes the texts of a node and of the nodes below it away.
+    ///
+    /// # Errors
+    ///
+    /// `AllocError` for want of memory; the locals are then as they were.
+    pub fn kill(&mut self, name: &Bytes7, subs: &[Bytes7]) -> Result<(), AllocError>
+        requires { AreSubscripts subs.now }
+        ensures ok { OnOk result (self.new ≡ killed self.old name.now subs.now) }
+        ensures err { OnErr result (self.new ≡ self.old) }
+    {
+        let key = SubsKey::build(self.alloc, subs)?;
+        match home(&self.levels, name) {
+            None => {
+                self.bottom.kill(name, &key);
+                Ok(())
+            }
+            Some(place) => {
+                self.levels[place].kill(name, &key);
+                Ok(())
+            }
+        }
+    }
+
+    /// Takes the texts of all variables away that can be seen, but those of these names. Takes no memory.
+    pub fn kill_except(&mut self, names: &[Bytes7])
+        ensures { self.new ≡ killed_except names.now self.old }
+    {
+        self.bottom.keep_spared(names, self.levels.as_slice());
+        spare(self.alloc, &mut self.levels, names);
+    }
+
+    /// Gives the top scope these names, as variables without a text, until its level ends.
+    ///
+    /// # Errors
+    ///
+    /// `AllocError` for want of memory; the locals are then as they were.
+    pub fn new_vars(&mut self, names: &[Bytes7]) -> Result<(), AllocError>
+        ensures ok { OnOk result (self.new ≡ newed names.now self.old) }
+        ensures err { OnErr result (self.new ≡ self.old) }
+    {
+        let count = self.levels.len();
+        if count == 0 {
+            return self.bottom.hide(self.alloc, names);
+        }
+        self.levels[count - 1].hide(self.alloc, names)
+    }
+
+    /// Gives the top scope all names but these, and of these those that it had, until its level ends. The variables of the
+    /// others have no text. Takes no memory.
+    pub fn new_except(&mut self, names: Vec<Bytes7>)
+        ensures { self.new ≡ newed_except names.items self.old }
+    {
+        let count = self.levels.len();
+        if count == 0 {
+            self.bottom.hide_others(names);
+        } else {
+            self.levels[count - 1].hide_others(names);
+        }
+    }
+}
+
+// Takes the texts of all variables of these scopes away that no scope above hides, but those of these names.
+fn spare(alloc: Global, scopes: &mut Vec<Scope>, names: &[Bytes7])
+    ensures { scopes.new.items ≡ killed_up (is_among names.now) scopes.old.items }
+{
+    for place in 0..scopes.len() {
+        let mut scope = mem::replace(&mut scopes[place], Scope::new(alloc));
+        scope.keep_spared(names, scopes_above(scopes, place));
+        scopes[place] = scope;
+    }
+}
+
+// The scopes above a place.
+fn scopes_above(scopes: &Vec<Scope>, place: usize) -> &[Scope]
+    requires { place < length scopes.now.items }
+    ensures { result.now ≡ drop (place + 1) scopes.now.items }
+{
+    &scopes.as_slice()[place + 1..]
+}
+
+// The place of the topmost of these scopes that has the name.
+fn home(scopes: &Vec<Scope>, name: &Bytes7) -> Option<usize>
+    ensures { IsHome name.now scopes.now.items result }
+{
+    let mut place = scopes.len();
+    while place > 0 {
+        place -= 1;
+        if scopes[place].has(name) {
+            return Some(place);
+        }
+    }
+    None
+}

@@ -1,0 +1,70 @@
+-- The tree of a variable: the texts at its nodes, by their subscripts.
+--
+-- Restates what "Local variable handling", "$DATA", "$ORDER" and "KILL" of ISO/IEC 11756:1999 say of one variable. Its own
+-- text lies where there are no subscripts.
+use Rattle.std.specs.Prelude.{Bool, true, false, not, ◌&&◌, ◌||◌, nat_lt, nat_eq, List, [], ◌∷◌, length, slice_get, Option, None, is_some, if◌then◌else◌, reverse}
+use Rattle.std.specs.List.{list_any, find, flat_map, starts_with}
+use Rattle.std.specs.Option.{option_to_list}
+use Rattle.std.specs.Ordering.{is_lt}
+use Rattle.std.specs.Cmp.Lexicographic.{pointwise}
+use Rattle.std.specs.FinMap.{FinMap, get, keys, retain_keys}
+use Rattle.mspec.specs.Node.{Text}
+use Rattle.mspec.specs.Number.{significant_digits}
+use Rattle.mspec.specs.NodeOrder.{text_cmp, subscripts_cmp}
+
+abbrev pub Tree : Type 0
+Tree = FinMap (subscripts_cmp significant_digits) Text
+
+abbrev pub text_eq : Text → Text → Bool
+text_eq = pointwise nat_eq
+
+-- ys is xs, or stands below it
+abbrev pub is_within : List Text → List Text → Bool
+is_within xs ys = starts_with text_eq ys xs
+
+abbrev pub is_below : List Text → List Text → Bool
+is_below xs ys = is_within xs ys && nat_lt (length xs) (length ys)
+
+-- ---- $DATA
+
+abbrev pub has_value : Tree → List Text → Bool
+has_value t xs = is_some (get t xs)
+
+abbrev pub has_descendants : Tree → List Text → Bool
+has_descendants t xs = list_any (is_below xs) (keys t)
+
+-- ---- KILL
+
+-- without a node and what stands below it
+abbrev pub without : Tree → List Text → Tree
+without t xs = retain_keys t (λ ys. not (is_within xs ys))
+
+-- ---- $ORDER
+
+-- the subscript next behind xs in ys, where ys stands below xs
+abbrev pub child_of : List Text → List Text → Option Text
+child_of xs ys = if is_within xs ys then slice_get ys (length xs) else None
+
+-- the subscripts next behind xs of the nodes below it, in order; each as often as it stands there
+abbrev pub children : Tree → List Text → List Text
+children t xs = flat_map (λ ys. option_to_list (child_of xs ys)) (keys t)
+
+abbrev pub is_before : Text → Text → Bool
+is_before x y = is_lt (text_cmp significant_digits x y)
+
+pub data Direction : Type 0 where
+  Forward : Direction
+  Backward : Direction
+
+abbrev pub is_empty : Text → Bool
+is_empty [] = true
+is_empty (c ∷ x) = false
+
+-- the first of the subscripts behind x, or the last of those before it; the empty x stands before all, and behind all
+abbrev pub neighbour : Direction → Text → List Text → Option Text
+neighbour Forward x cs = find (λ c. is_before x c) cs
+neighbour Backward x cs = find (λ c. is_empty x || is_before c x) (reverse cs)
+
+-- the subscript after x behind xs, of those below which there is a text
+abbrev pub order_of : Tree → Direction → List Text → Text → Option Text
+order_of t direction xs x = neighbour direction x (children t xs)

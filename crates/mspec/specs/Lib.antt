@@ -23,3 +23,4 @@ pub mod Interpretations
 pub mod CharacterFunctions
 pub mod Trees
 pub mod Scopes
+pub mod Globals

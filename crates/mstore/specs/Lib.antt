@@ -1,1 +1,3 @@
+pub mod Map
+pub mod Keyed
 pub mod Entries

@@ -26,7 +26,7 @@ use Rattle.mkey.specs.Key.{IsKey, none_empty}
 use Rattle.mstore.specs.Map.{Content, PutsAt, RemovesWithin, in_bounds}
 use Rattle.mstore.specs.Keyed.{lookup_by, globals_by, AreKeyed}
 
-abbrev key : Node → List ℕ
+abbrev pub key : Node → List ℕ
 key = key_bytes significant_digits
 
 o : IsTotalOrder (node_cmp significant_digits)
@@ -44,10 +44,10 @@ none_empty_or ((c ∷ s) ∷ xs) = rest (none_empty_or xs)
     rest (inr some) = inr (λ all. some (All-tail (λ s. 0 < length s) (c ∷ s) xs all))
 
 -- the node of a key that is one
-node_at : (k : List ℕ) (is : IsKey k) → node_of k ≡ is.0
+pub node_at : (k : List ℕ) (is : IsKey k) → node_of k ≡ is.0
 node_at k is = ap node_of (sym is.1.1) ∙ keys_are_read significant_digits is.0
 
-same_of : (m n : Node) → eq_by_cmp (node_cmp significant_digits) m n ≡ true → m ≡ n
+pub same_of : (m n : Node) → eq_by_cmp (node_cmp significant_digits) m n ≡ true → m ≡ n
 same_of m n e = node_cmp_exact significant_digits m n ((Equal-is (node_cmp significant_digits m n)).0 e)
 
 -- keys are equal exactly where their nodes are
@@ -60,7 +60,7 @@ same_keys k is n some =
 
 -- ---- what is within a node
 
-both_true : (a b : Bool) → (a && b) ≡ true → (a ≡ true) × (b ≡ true)
+pub both_true : (a b : Bool) → (a && b) ≡ true → (a ≡ true) × (b ≡ true)
 both_true true true e = (refl, refl)
 both_true true false e = (refl, e)
 both_true false b e = absurd (cc)

@@ -2,6 +2,7 @@
 use Rattle.std.proofs.Common.{◌≡◌, ℕ, List, [], ◌∷◌, ◌++◌, Option, Some, None, refl}
 use Rattle.std.specs.Prelude.{codes, map, replicate}
 use Rattle.std.specs.FinMap.{empty, insert, gets}
+use Rattle.mspec.proofs.ScopeValues.{local_values}
 use Rattle.std.specs.Fmt.{digits}
 use Rattle.mspec.specs.Number.{round, round_size, nearest, rounding_unit, digits_before}
 use Rattle.mspec.specs.NumberText.{numeric_value, literal_size, size_text}
@@ -133,15 +134,15 @@ refusals = refl
 -- targets of SET, from left to right
 list_of_targets : answers ((1, codes "S (A,B)=3 W A+B") ∷ []) ≡ (done (codes "6") ∷ [])
 unfolding keyword_of function_of many list_at point_at exponent_at number_at name_at count_at repeated_at atom_at pattern_at truth_at operator_at bracket_with choice_with select_with call_with function_with primary_with operand_with step_by step_with expr_with readers_at place_with piece_with target_with destination_at assignment_at output_at command_at spaced_at comment_at line_at numeric_value literal_size round round_size nearest rounding_unit digits_before size_text digits pieces_of first_place with_piece canonical_value
-list_of_targets = simp gets
+list_of_targets = simp (gets, local_values)
 
 piece_padded : answers ((1, codes "S P=\"a\" S $P(P,\"-\",3)=\"z\" W P") ∷ []) ≡ (done (codes "a--z") ∷ [])
 unfolding keyword_of function_of many list_at point_at exponent_at number_at name_at count_at repeated_at atom_at pattern_at truth_at operator_at bracket_with choice_with select_with call_with function_with primary_with operand_with step_by step_with expr_with readers_at place_with piece_with target_with destination_at assignment_at output_at command_at spaced_at comment_at line_at numeric_value literal_size round round_size nearest rounding_unit digits_before size_text digits pieces_of first_place with_piece canonical_value
-piece_padded = simp gets
+piece_padded = simp (gets, local_values)
 
 targets_one_by_one : answers ((1, codes "S (B,$P(B,\",\",2))=\"x\" W B") ∷ []) ≡ (done (codes "x,x") ∷ [])
 unfolding keyword_of function_of many list_at point_at exponent_at number_at name_at count_at repeated_at atom_at pattern_at truth_at operator_at bracket_with choice_with select_with call_with function_with primary_with operand_with step_by step_with expr_with readers_at place_with piece_with target_with destination_at assignment_at output_at command_at spaced_at comment_at line_at numeric_value literal_size round round_size nearest rounding_unit digits_before size_text digits pieces_of first_place with_piece canonical_value
-targets_one_by_one = simp gets
+targets_one_by_one = simp (gets, local_values)
 
 place_too_far : answers ((1, codes "S B=1,$P(B,\",\",501)=2") ∷ []) ≡ (failed [] Zarg ∷ [])
 unfolding keyword_of function_of many list_at point_at exponent_at number_at name_at count_at repeated_at atom_at pattern_at truth_at operator_at bracket_with choice_with select_with call_with function_with primary_with operand_with step_by step_with expr_with readers_at place_with piece_with target_with destination_at assignment_at output_at command_at spaced_at comment_at line_at numeric_value literal_size round round_size nearest rounding_unit digits_before size_text digits pieces_of first_place with_piece canonical_value
@@ -157,7 +158,7 @@ delimiter_empty = simp gets
 
 place_without_fraction : answers ((1, codes "S $P(A,\",\",2.9)=1 W A") ∷ []) ≡ (done (codes ",1") ∷ [])
 unfolding keyword_of function_of many list_at point_at exponent_at number_at name_at count_at repeated_at atom_at pattern_at truth_at operator_at bracket_with choice_with select_with call_with function_with primary_with operand_with step_by step_with expr_with readers_at place_with piece_with target_with destination_at assignment_at output_at command_at spaced_at comment_at line_at numeric_value literal_size round round_size nearest rounding_unit digits_before size_text digits pieces_of first_place with_piece canonical_value
-place_without_fraction = simp gets
+place_without_fraction = simp (gets, local_values)
 
 parts_before_value : answers ((1, codes "S $P(A,1/0)=B") ∷ []) ≡ (failed [] M9 ∷ [])
 unfolding keyword_of function_of many list_at point_at exponent_at number_at name_at count_at repeated_at atom_at pattern_at truth_at operator_at bracket_with choice_with select_with call_with function_with primary_with operand_with step_by step_with expr_with readers_at place_with piece_with target_with destination_at assignment_at output_at command_at spaced_at comment_at line_at numeric_value literal_size round round_size nearest rounding_unit digits_before size_text digits pieces_of first_place with_piece canonical_value
@@ -166,26 +167,26 @@ parts_before_value = simp gets
 -- a line end is the byte 255
 set_and_write : answers ((1, codes "SET A=\"x\" W A_1,!,A-1*2") ∷ []) ≡ (done (codes "x1" ++ (255 ∷ codes "-2")) ∷ [])
 unfolding keyword_of function_of many list_at point_at exponent_at number_at name_at count_at repeated_at atom_at pattern_at truth_at operator_at bracket_with choice_with select_with call_with function_with primary_with operand_with step_by step_with expr_with readers_at place_with piece_with target_with destination_at assignment_at output_at command_at spaced_at comment_at line_at numeric_value literal_size round round_size nearest rounding_unit digits_before size_text digits pieces_of first_place with_piece canonical_value
-set_and_write = simp gets
+set_and_write = simp (gets, local_values)
 
 -- locals last from line to line
 locals_last : answers ((1, codes "S A=5") ∷ (1, codes "W A,A+1") ∷ []) ≡ (done [] ∷ done (codes "56") ∷ [])
 unfolding keyword_of function_of many list_at point_at exponent_at number_at name_at count_at repeated_at atom_at pattern_at truth_at operator_at bracket_with choice_with select_with call_with function_with primary_with operand_with step_by step_with expr_with readers_at place_with piece_with target_with destination_at assignment_at output_at command_at spaced_at comment_at line_at numeric_value literal_size round round_size nearest rounding_unit digits_before size_text digits pieces_of first_place with_piece canonical_value
-locals_last = simp gets
+locals_last = simp (gets, local_values)
 
 undefined_local : answers ((1, codes "W 1,\"a\"_B") ∷ []) ≡ (failed (codes "1") M6 ∷ [])
 unfolding keyword_of function_of many list_at point_at exponent_at number_at name_at count_at repeated_at atom_at pattern_at truth_at operator_at bracket_with choice_with select_with call_with function_with primary_with operand_with step_by step_with expr_with readers_at place_with piece_with target_with destination_at assignment_at output_at command_at spaced_at comment_at line_at numeric_value literal_size round round_size nearest rounding_unit digits_before size_text digits pieces_of first_place with_piece canonical_value
-undefined_local = simp gets
+undefined_local = simp (gets, local_values)
 
 -- both operands are evaluated before they become numbers
 operands_before_numbers : answers ((1, codes "W \"1E30\"+B") ∷ []) ≡ (failed [] M6 ∷ [])
 unfolding keyword_of function_of many list_at point_at exponent_at number_at name_at count_at repeated_at atom_at pattern_at truth_at operator_at bracket_with choice_with select_with call_with function_with primary_with operand_with step_by step_with expr_with readers_at place_with piece_with target_with destination_at assignment_at output_at command_at spaced_at comment_at line_at numeric_value literal_size round round_size nearest rounding_unit digits_before size_text digits pieces_of first_place with_piece canonical_value
-operands_before_numbers = simp gets
+operands_before_numbers = simp (gets, local_values)
 
 -- what stands before an error stands
 set_stops_at_fault : answers ((1, codes "S A=1,B=C,D=3") ∷ (1, codes "W A W D") ∷ []) ≡ (failed [] M6 ∷ failed (codes "1") M6 ∷ [])
 unfolding keyword_of function_of many list_at point_at exponent_at number_at name_at count_at repeated_at atom_at pattern_at truth_at operator_at bracket_with choice_with select_with call_with function_with primary_with operand_with step_by step_with expr_with readers_at place_with piece_with target_with destination_at assignment_at output_at command_at spaced_at comment_at line_at numeric_value literal_size round round_size nearest rounding_unit digits_before size_text digits pieces_of first_place with_piece canonical_value
-set_stops_at_fault = simp gets
+set_stops_at_fault = simp (gets, local_values)
 
 -- the checks in their order
 unknown_terminal : answers ((2, codes "W 1") ∷ (1, codes "W 1 2") ∷ (1, codes "") ∷ []) ≡ (failed [] Zterm ∷ failed [] Zsyntax ∷ done [] ∷ [])

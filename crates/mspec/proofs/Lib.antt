@@ -31,3 +31,4 @@ pub mod KeyOrders
 pub mod KeyRanges
 pub mod KeyReadings
 pub mod Matchings
+pub mod ScopeValues

@@ -1,24 +1,23 @@
 -- An act of a session: from the session's state to a plan that ends with a value or a code, and with the state after it.
-use Rattle.std.specs.Prelude.{ℕ, zero, suc, Bool, true, false, ◌++◌, Option, Some, None}
-use Rattle.std.specs.Ordering.{nat_cmp}
-use Rattle.std.specs.Cmp.Lexicographic.{slice_cmp}
-use Rattle.std.specs.FinMap.{FinMap, get, insert, empty}
+use Rattle.std.specs.Prelude.{ℕ, zero, suc, Bool, true, false, [], ◌∷◌, ◌++◌, Option, Some, None}
 use Rattle.mspec.specs.Code.{Code, M6, Zsteps}
 pub use Rattle.mspec.specs.Node.{Text, Node}
+use Rattle.mspec.specs.Scopes.{Scopes, bottom, value_at, assigned}
 use Rattle.mspec.specs.Plan.{Op, Answer, Plan, Done, Ask, then_plan}
 
--- the locals, from names to texts
+-- the locals of a session: a stack of scopes
 abbrev pub Locals : Type 0
-Locals = FinMap (slice_cmp nat_cmp) Text
+Locals = Scopes
 
-abbrev pub no_locals : Locals
-no_locals = empty
+-- those of a new session: the scope at the bottom, without a text
+unfoldable pub no_locals : Locals
+no_locals = bottom ∷ []
 
-abbrev pub value_of : Locals → Text → Option Text
-value_of locals name = get locals name
+unfoldable pub value_of : Locals → Text → Option Text
+value_of locals name = value_at locals name []
 
-abbrev pub assigned_to : Locals → Text → Text → Locals
-assigned_to locals name x = insert locals name x
+unfoldable pub assigned_to : Locals → Text → Text → Locals
+assigned_to locals name x = assigned locals name [] x
 
 -- the state of a session while a line runs: what it keeps (locals, naked indicator, $TEST), the output so far and the steps
 -- that are left

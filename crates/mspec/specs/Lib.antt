@@ -8,7 +8,6 @@ pub mod GrammarLaws
 pub mod Code
 pub mod Plan
 pub mod Node
-pub mod Act
 pub mod Maps
 pub mod Pieces
 pub mod PieceLaws
@@ -25,3 +24,4 @@ pub mod CharacterFunctions
 pub mod Trees
 pub mod Scopes
 pub mod Globals
+pub mod Act

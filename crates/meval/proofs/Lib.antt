@@ -8,3 +8,4 @@ pub mod GivenArguments
 pub mod PatternMatches
 pub mod Signs
 pub mod AsciiNumbers
+pub mod LocalTexts

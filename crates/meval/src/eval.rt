@@ -46,8 +46,8 @@ impl<'a> Eval<'a> {
     fn local(&self, name: &Bytes7) -> Result<Value, Code>
         ensures { Evaluates code_of (get_local name.now) text_of self.now.locals.now self.now.steps.now result self.now.steps.now }
     {
-        match self.locals.get(name)? {
-            Some(text) => Ok(Value::Text(text)),
+        match self.locals.get(name, &[])? {
+            Some(text) => Ok(Value::Text(text.copy()?)),
             None => Err(Code::M6),
         }
     }

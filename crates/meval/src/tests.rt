@@ -54,7 +54,7 @@ fn expr(alloc: Global, first: &str, rest: &[(Binary, &str)]) -> Result<Expr, Fai
 // The locals of every test: A is x, and there is no other.
 fn locals(alloc: Global) -> Result<Locals, Fail> {
     let mut locals = Locals::new(alloc);
-    locals.set(ascii(alloc, "A")?, ascii(alloc, "x")?)?;
+    locals.set(&ascii(alloc, "A")?, &[], ascii(alloc, "x")?)?;
     Ok(locals)
 }
 

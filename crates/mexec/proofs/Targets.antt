@@ -27,6 +27,11 @@ use Rattle.mexec.proofs.Calls.{does_then, does_failed, does_stopped, does_yielde
 
 -- ---- pieces
 
+-- a whole variable is given a text
+pub whole_assigned : (old new : Parts) (name x : Text) (p : meaning.Pending) → p ≡ meaning.whole name → new.locals.now ≡ assigned_to old.locals.now name x → new.out.now.items ≡ old.out.now.items → new.steps ≡ old.steps
+    → Does (meaning.assigned x p) (λ (u : Unit {0}). u) old (Ok tt) new
+whole_assigned old new name x p is locals out steps = subst (λ p. Does (meaning.assigned x p) (λ (u : Unit {0}). u) old (Ok tt) new) (sym is) (set_does old new name x locals out steps)
+
 text_found : (parts : Parts) (name x : Text) → x ≡ unwrap_or (value_of parts.locals.now name) [] → Does (meaning.text_or_empty name) (λ (t : Text). t) parts (Ok x) parts
 text_found parts name x e = record {
   at = λ b naked test w. record { ends = ap (λ t. (Gives t (record { locals = parts.locals.now; naked = naked; test = test; out = parts.out.now.items; steps = parts.steps }), w)) (sym e) };

@@ -79,8 +79,8 @@ impl<'a> Parts<'a> {
     fn text_or_empty(&self, alloc: Global, name: &Bytes7) -> Result<Bytes7, AllocError>
         ensures { IfOk result (λ text. text ≡ unwrap_or (value_of self.now.locals.now name.now) []) }
     {
-        match self.locals.get(name)? {
-            Some(text) => Ok(text),
+        match self.locals.get(name, &[])? {
+            Some(text) => Ok(text.copy()?),
             None => Ok(Bytes7::empty(alloc)),
         }
     }
@@ -102,8 +102,7 @@ impl<'a> Parts<'a> {
         let place = whole_number(place)?;
         let old = self.text_or_empty(alloc, name)?;
         let new = set_piece(alloc, &old, delimiter, place, value)?;
-        let name = name.copy()?;
-        self.locals.set(name, new)?;
+        self.locals.set(name, &[], new)?;
         Ok(())
     }
 
@@ -116,8 +115,7 @@ impl<'a> Parts<'a> {
     {
         match pending {
             Pending::Whole(name) => {
-                let name = name.copy()?;
-                self.locals.set(name, value)?;
+                self.locals.set(name, &[], value)?;
                 Ok(())
             }
             Pending::Part(name, delimiter, place) => {

@@ -1,12 +1,11 @@
 //! The local variables of a session.
 #![tactic(auto)]
 
-mod locals;
 mod scope;
-pub mod scopes;
+mod scopes;
 mod variable;
 
-pub use locals::Locals;
+pub use scopes::Locals;
 
 #[cfg(test)]
 mod tests;

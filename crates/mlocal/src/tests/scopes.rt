@@ -1,6 +1,6 @@
 // What KILL and NEW leave, by calls with ample memory. The texts are those that the standard's sections give.
 use super::ascii;
-use crate::scopes::Locals;
+use crate::Locals;
 use mkey::subs_ok;
 use mnum::Bytes7;
 use std::alloc::Global;

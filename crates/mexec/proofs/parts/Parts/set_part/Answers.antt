@@ -1,4 +1,4 @@
-use Rattle.std.proofs.Common.{◌∙◌, ap, refl}
+use Rattle.std.proofs.Common.{refl}
 use Rattle.mspec.specs.Act.{assigned_to}
 use Rattle.mexec.proofs.Calls.{does_stopped, does_yielded}
 use Rattle.mexec.proofs.Targets.{part_assigned, part_refused}
@@ -12,6 +12,6 @@ returns-in_err-new-clause-does c =
     part_refused c.args.name.now c.args.delimiter.now c.args.value.now c.args.place.now c.in_ok-place.place c.in_ok-old.old _ c.args.self.now _ c.in_ok-place.ensures c.in_ok-old.ensures c.in_err-new.ensures c.from_residual-in_err-new.ensures
 
 pub returns-clause-does : goal.returns-clause-does
+unfolding assigned_to
 returns-clause-does c =
-    let locals = c.in_ok-set.ensures.ok ∙ ap (λ name. assigned_to c.args.self.now.locals.now name c.in_ok-new.new) c.in_ok-name.ensures in
-    part_assigned c.args.name.now c.args.delimiter.now c.args.value.now c.args.place.now c.in_ok-place.place c.in_ok-old.old c.in_ok-new.new c.args.self.now _ c.in_ok-place.ensures c.in_ok-old.ensures c.in_ok-new.ensures locals refl refl
+    part_assigned c.args.name.now c.args.delimiter.now c.args.value.now c.args.place.now c.in_ok-place.place c.in_ok-old.old c.in_ok-new.new c.args.self.now _ c.in_ok-place.ensures c.in_ok-old.ensures c.in_ok-new.ensures c.in_ok-set.ensures.ok refl refl

@@ -1,17 +1,26 @@
 -- Bytes of lists of subscripts that begin alike.
-use Rattle.std.proofs.Common.{ℕ, ◌≡◌, ◌++◌, Bool, true, false, nat_eq, List, length, drop, refl, sym, ◌∙◌, ap}
+use Rattle.std.proofs.Common.{ℕ, zero, suc, ◌≡◌, ◌<◌, ◌++◌, Bool, true, false, nat_eq, List, [], ◌∷◌, length, drop, Option, Some, None, refl, sym, ◌∙◌, ap, arith}
+use Rattle.std.specs.Prelude.{slice_get, if◌then◌else◌}
 use Rattle.std.specs.Cmp.Lexicographic.{bytes_decides}
+use Rattle.std.specs.Fmt.{digits}
 use Rattle.std.specs.List.{starts_with}
+use Rattle.std.proofs.Math.Seq.{drop-append_seam}
 use Rattle.std.proofs.lemmas.Bool.Decides.{Decides-eqb}
 use Rattle.std.proofs.lemmas.List.Concat.{flat_map-append}
+use Rattle.std.proofs.lemmas.List.Elements.{All-push}
 use Rattle.std.proofs.lemmas.Slice.Eq.{starts_is}
-use Rattle.mspec.specs.KeyBytes.{subscript_bytes, subscripts_bytes}
+use Rattle.mspec.specs.KeyBytes.{subscript_by, subscript_bytes, subscripts_bytes}
+use Rattle.mspec.specs.KeyLaws.{NoneEmpty}
 use Rattle.mspec.specs.Node.{Text}
-use Rattle.mspec.specs.Number.{significant_digits}
-use Rattle.mspec.specs.Trees.{text_eq, is_within}
-use Rattle.mspec.proofs.KeyRanges.{subscripts_split}
-use Rattle.mkey.specs.Front.{AreSubs}
-use Rattle.mkey.specs.SubsKey.{none_empty_of}
+use Rattle.mspec.specs.NodeOrder.{canonical_value}
+use Rattle.mspec.specs.Number.{significant_digits, round, round_size, nearest, rounding_unit, digits_before}
+use Rattle.mspec.specs.NumberText.{numeric_value, literal_size, size_text}
+use Rattle.mspec.specs.Trees.{text_eq, is_within, child_of}
+use Rattle.mspec.proofs.KeyRanges.{subscripts_split, subscript_split}
+use Rattle.mkey.specs.Front.{IsFront, BeginsWithNo, IsSub, AreSubs}
+use Rattle.mkey.specs.SubsKey.{IsSubsKeyOf, beyond, behind_below}
+use Rattle.mkey.proofs.SubscriptFronts.{nothing_begins}
+use Rattle.mkey.proofs.SubscriptLists.{sub_behind}
 
 same_truth : (a b : Bool) → (a ≡ true → b ≡ true) → (b ≡ true → a ≡ true) → a ≡ b
 same_truth true b f g = sym (f refl)
@@ -19,13 +28,73 @@ same_truth false true f g = g refl
 same_truth false false f g = refl
 
 -- the bytes begin with those of another list exactly where the list begins with the other
-pub within_bytes : (xs ys : List Text) → AreSubs xs → AreSubs ys → (r : Bool) → r ≡ starts_with nat_eq (subscripts_bytes significant_digits ys) (subscripts_bytes significant_digits xs) → r ≡ is_within xs ys
-within_bytes xs ys subs_x subs_y r e =
+pub within_bytes : (xs ys : List Text) → NoneEmpty xs → NoneEmpty ys → (r : Bool) → r ≡ starts_with nat_eq (subscripts_bytes significant_digits ys) (subscripts_bytes significant_digits xs) → r ≡ is_within xs ys
+within_bytes xs ys some_x some_y r e =
     let low : List ℕ = subscripts_bytes significant_digits xs in
     let all : List ℕ = subscripts_bytes significant_digits ys in
     let of_bytes = starts_is Decides-eqb all low r e in
     let of_lists = starts_is bytes_decides ys xs (is_within xs ys) refl in
     same_truth r (is_within xs ys)
-    (λ t. let behind = subscripts_split significant_digits xs ys (drop (length low) all) (none_empty_of xs subs_x) (none_empty_of ys subs_y) (sym (of_bytes.0 t)) in of_lists.1 behind.more behind.subscripts)
+    (λ t. let behind = subscripts_split significant_digits xs ys (drop (length low) all) some_x some_y (sym (of_bytes.0 t)) in of_lists.1 behind.more behind.subscripts)
     (λ t. of_bytes.1 (subscripts_bytes significant_digits (drop (length xs) ys))
     (ap (subscripts_bytes significant_digits) (of_lists.0 t) ∙ flat_map-append (subscript_bytes significant_digits) xs (drop (length xs) ys)))
+
+-- ---- the bound behind all that begin with a list
+
+its_bytes : subscripts_bytes significant_digits (beyond ∷ []) ≡ 2 ∷ 255 ∷ 0 ∷ []
+unfolding canonical_value numeric_value literal_size round round_size nearest rounding_unit digits_before size_text digits
+its_bytes = refl
+
+pub beyond_bytes : (xs : List Text) → subscripts_bytes significant_digits (behind_below xs) ≡ subscripts_bytes significant_digits xs ++ 2 ∷ 255 ∷ 0 ∷ []
+beyond_bytes xs = flat_map-append (subscript_bytes significant_digits) xs (beyond ∷ []) ∙ ap (λ b. subscripts_bytes significant_digits xs ++ b) its_bytes
+
+some_each : (xs : List Text) → AreSubs xs → NoneEmpty xs
+some_each xs subs = λ k d inside. (subs.0.each k d inside).some
+
+pub beyond_key : (xs : List Text) (bytes : List ℕ) → AreSubs xs → bytes ≡ subscripts_bytes significant_digits xs ++ 2 ∷ 255 ∷ 0 ∷ [] → IsSubsKeyOf (behind_below xs) bytes
+beyond_key xs bytes subs e = (All-push (λ s. 0 < length s) xs beyond (some_each xs subs) (omega arith), beyond_bytes xs ∙ sym e)
+
+pub key_of_subs : (xs : List Text) (bytes : List ℕ) → AreSubs xs → bytes ≡ subscripts_bytes significant_digits xs → IsSubsKeyOf xs bytes
+key_of_subs xs bytes subs e = (some_each xs subs, sym e)
+
+-- ---- the subscript next behind a list
+
+pub split_within : (xs ys : List Text) → is_within xs ys ≡ true → ys ≡ xs ++ drop (length xs) ys
+split_within xs ys h = (starts_is bytes_decides ys xs (is_within xs ys) refl).0 h
+
+pub bytes_within : (xs ys : List Text) → is_within xs ys ≡ true → subscripts_bytes significant_digits ys ≡ subscripts_bytes significant_digits xs ++ subscripts_bytes significant_digits (drop (length xs) ys)
+bytes_within xs ys h = ap (subscripts_bytes significant_digits) (split_within xs ys h) ∙ flat_map-append (subscript_bytes significant_digits) xs (drop (length xs) ys)
+
+pub bytes_behind : (xs ys : List Text) → is_within xs ys ≡ true → drop (length (subscripts_bytes significant_digits xs)) (subscripts_bytes significant_digits ys) ≡ subscripts_bytes significant_digits (drop (length xs) ys)
+bytes_behind xs ys h =
+    ap (drop (length (subscripts_bytes significant_digits xs))) (bytes_within xs ys h)
+    ∙ drop-append_seam (subscripts_bytes significant_digits xs) (subscripts_bytes significant_digits (drop (length xs) ys))
+
+at_front : {X : Type 0} (ys : List X) (n : ℕ) → slice_get ys n ≡ slice_get (drop n ys) 0
+at_front [] zero = refl
+at_front [] (suc n) = refl
+at_front (y ∷ ys) zero = refl
+at_front (y ∷ ys) (suc n) = at_front ys n
+
+pub no_child : (xs ys : List Text) → is_within xs ys ≡ false → None ≡ child_of xs ys
+no_child xs ys h = sym (ap (λ b. if b then slice_get ys (length xs) else None) h)
+
+child_is : (xs ys : List Text) → is_within xs ys ≡ true → child_of xs ys ≡ slice_get (drop (length xs) ys) 0
+child_is xs ys h = ap (λ b. if b then slice_get ys (length xs) else None) h ∙ at_front ys (length xs)
+
+-- what is read behind the bytes of xs is the child of ys
+module _ (xs ys : List Text) (subs : AreSubs ys) (h : is_within xs ys ≡ true) (rest : List ℕ) (is : rest ≡ subscripts_bytes significant_digits (drop (length xs) ys)) where
+  pub none_read : BeginsWithNo IsSub (subscript_bytes significant_digits) rest → None ≡ child_of xs ys
+  none_read none = here (drop (length xs) ys) (split_within xs ys h) is ∙ sym (child_is xs ys h)
+    where
+      here : (d : List Text) → ys ≡ xs ++ d → rest ≡ subscripts_bytes significant_digits d → None ≡ slice_get d 0
+      here [] split e = refl
+      here (s ∷ d) split e = absurd (none s (subscripts_bytes significant_digits d) (sub_behind xs ys s d subs split) e)
+
+  pub one_read : (t : Text) (n : ℕ) → IsSub t → IsFront rest (subscript_bytes significant_digits t) n → Some t ≡ child_of xs ys
+  one_read t n sub front = here (drop (length xs) ys) (split_within xs ys h) is ∙ sym (child_is xs ys h)
+    where
+      here : (d : List Text) → ys ≡ xs ++ d → rest ≡ subscripts_bytes significant_digits d → Some t ≡ slice_get d 0
+      here [] split e = absurd (nothing_begins t (drop n rest) sub (sym e ∙ front.is))
+      here (s ∷ d) split e =
+          ap Some (subscript_split significant_digits t s (drop n rest) (subscripts_bytes significant_digits d) sub.0.some (sub_behind xs ys s d subs split).0.some (sym front.is ∙ e)).0

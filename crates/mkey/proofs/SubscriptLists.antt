@@ -38,7 +38,7 @@ All-drop-back P [] ys all = all
 All-drop-back P (x ∷ xs) ys all = All-drop-back P xs ys (All-tail P x (xs ++ ys) all)
 
 -- the subscript behind others is one too
-sub_behind : (xs ys : List Text) (s : Text) (more : List Text) → AreSubs ys → ys ≡ xs ++ (s ∷ more) → IsSub s
+pub sub_behind : (xs ys : List Text) (s : Text) (more : List Text) → AreSubs ys → ys ≡ xs ++ (s ∷ more) → IsSub s
 sub_behind xs ys s more all e =
     let each : All IsSubscript (s ∷ more) = All-drop-back IsSubscript xs (s ∷ more) (subst (All IsSubscript) e all.0.each) in
     let ascii : All IsAscii (s ∷ more) = All-drop-back IsAscii xs (s ∷ more) (subst (All IsAscii) e all.1) in

@@ -26,7 +26,7 @@ const NUMBER_TEXT: usize = 20;
 const MOST_SUBS: usize = 15;
 
 // What stands behind the first `count` bytes.
-fn behind(bytes: &[u8], count: usize) -> &[u8]
+pub fn behind(bytes: &[u8], count: usize) -> &[u8]
     requires { count ≤ length bytes.now }
     ensures { result.now ≡ drop count bytes.now }
 {
@@ -158,7 +158,7 @@ fn read_letters(alloc: Global, bytes: &[u8]) -> Result<Option<(Bytes7, usize)>, 
 }
 
 // The subscript that the bytes begin with, and how many of them are its own.
-fn read_subscript(alloc: Global, bytes: &[u8]) -> Result<Option<(Bytes7, usize)>, AllocError>
+pub fn read_subscript(alloc: Global, bytes: &[u8]) -> Result<Option<(Bytes7, usize)>, AllocError>
     ensures { IfOk result (λ found. MatchOption found
         (BeginsWithNo IsSub (subscript_bytes significant_digits) bytes.now)
         (λ part. IsFront bytes.now (subscript_bytes significant_digits part.0) part.1 × IsSub part.0)) }

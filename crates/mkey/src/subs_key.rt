@@ -3,18 +3,23 @@ ghost use Rattle.std.specs.Prelude.{◌≡◌, IfOk, Some, refl, [], ◌∷◌};
 ghost use Rattle.std.specs.Cmp.{partial_equiv_from_equiv, partial_order_from_total, eq_by_cmp_equiv};
 ghost use Rattle.std.specs.Ordering.{eq_by_cmp};
 ghost use Rattle.mkey.specs.Front.{AreSubs};
-ghost use Rattle.mkey.specs.SubsKey.{IsSubsKey, IsSubsKey-prop};
+ghost use Rattle.mkey.specs.SubsKey.{IsSubsKey, IsSubsKey-prop, behind_below};
 ghost use Rattle.mspec.specs.KeyBytes.{AreSubscripts, subscripts_bytes};
+ghost use Rattle.mspec.specs.KeyLaws.{NoneEmpty};
 ghost use Rattle.mspec.specs.NodeOrder.{subscripts_cmp};
 ghost use Rattle.mspec.specs.Number.{significant_digits};
-ghost use Rattle.mspec.specs.Trees.{is_within};
+ghost use Rattle.mspec.specs.Trees.{is_within, child_of};
 ghost use Rattle.mspec.proofs.NodeOrders.{subscripts_cmp_total};
 
+use crate::decoding::{behind, read_subscript};
 use crate::encoding::{push_subscripts, room};
 use mnum::Bytes7;
 use std::alloc::{AllocError, Global};
 use std::cmp::Ordering;
 use std::marker::Model;
+
+// What stands behind the bytes of subscripts in the bound of those that begin with them: more than any other subscript's.
+const BEYOND: [u8; 3] = [2, 255, 0];
 
 /// The key of a list of subscripts, in the order of subscripts. Contracts see it as the list.
 #[derive(Debug, Drop)]
@@ -39,11 +44,29 @@ impl SubsKey {
     /// `AllocError` for want of memory.
     pub fn build(alloc: Global, subs: &[Bytes7]) -> Result<SubsKey, AllocError>
         requires { AreSubscripts subs.now }
-        ensures { IfOk result (λ key. key ≡ subs.now) }
+        ensures key { IfOk result (λ key. key ≡ subs.now) }
+        ensures subs { AreSubs subs.now }
     {
         let mut bytes = Vec::with_capacity(alloc, room(subs))?;
         push_subscripts(&mut bytes, subs);
         Ok(SubsKey { bytes })
+    }
+
+    /// A bound of the keys of subscripts that begin with these: it stands behind all of them, and before all others that stand
+    /// behind one of them.
+    ///
+    /// # Errors
+    ///
+    /// `AllocError` for want of memory.
+    pub fn behind_below(alloc: Global, subs: &[Bytes7]) -> Result<SubsKey, AllocError>
+        requires { AreSubscripts subs.now }
+        ensures key { IfOk result (λ key. key ≡ behind_below subs.now) }
+        ensures subs { AreSubs subs.now }
+    {
+        let mut bound = Vec::with_capacity(alloc, room(subs) + BEYOND.len())?;
+        push_subscripts(&mut bound, subs);
+        bound.extend_from_slice(&BEYOND)?;
+        Ok(SubsKey { bytes: bound })
     }
 
     /// The key of no subscripts, which takes no memory.
@@ -59,7 +82,7 @@ impl SubsKey {
     /// list begins with the other's. Takes no memory.
     pub fn as_bytes(&self) -> &[u8]
         ensures bytes { result.now ≡ subscripts_bytes significant_digits self.now }
-        ensures subs { AreSubs self.now }
+        ensures subs { NoneEmpty self.now }
     {
         self.bytes.as_slice()
     }
@@ -69,6 +92,25 @@ impl SubsKey {
         ensures { result ≡ is_within above.now self.now }
     {
         self.as_bytes().starts_with(above.as_bytes())
+    }
+
+    /// The subscript next behind those of another list, where the list begins with the other and goes on.
+    ///
+    /// # Errors
+    ///
+    /// `AllocError` for want of memory.
+    pub fn child_of(&self, alloc: Global, above: &SubsKey) -> Result<Option<Bytes7>, AllocError>
+        requires { AreSubs self.now }
+        ensures { IfOk result (λ child. child ≡ child_of above.now self.now) }
+    {
+        if !self.is_within(above) {
+            return Ok(None);
+        }
+        let rest = behind(self.as_bytes(), above.as_bytes().len());
+        match read_subscript(alloc, rest)? {
+            None => Ok(None),
+            Some((text, _)) => Ok(Some(text)),
+        }
     }
 }
 

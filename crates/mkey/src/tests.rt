@@ -1,4 +1,5 @@
 // What no clause says: that calls succeed with ample memory, and that the definitions give the keys of the format.
+mod subs_key;
 mod vectors;
 
 use crate::{KeyFault, NodeKey, collate, is_account_name, is_name, push_local, read, subs_ok};

@@ -1,3 +1,5 @@
 pub mod Views
 pub mod Stacks
 pub mod Killed
+pub mod Bounds
+pub mod Walks

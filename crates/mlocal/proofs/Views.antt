@@ -2,7 +2,7 @@
 use Rattle.std.proofs.Common.{◌≡◌, Bool, true, false, cond, ◌||◌, Option, Some, None, List, [], ◌∷◌, Bor, Result, Ok, Err, map, refl, sym, ap, subst, ◌∙◌}
 use Rattle.std.specs.Prelude.{option_map, unwrap_or}
 use Rattle.std.specs.Option.{option_copied}
-use Rattle.std.specs.Result.{OnOk, OnErr}
+use Rattle.std.specs.Result.{IfOk, OnOk, OnErr}
 use Rattle.std.specs.Map.{lookup, set_value}
 use Rattle.std.specs.BTreeMap as tree
 use Rattle.std.specs.BTreeMap.{BTreeMap}
@@ -10,11 +10,13 @@ use Rattle.std.specs.Cmp.Lexicographic.{slice_cmp, nat_list_cmp_total}
 use Rattle.std.specs.FinMap.{IsAntisymmetric, from_entries, empty, retain_keys, same_map, get-from_entries, get-retain_keys, nat_cmp-IsAntisymmetric, slice_cmp-IsAntisymmetric}
 use Rattle.std.specs.FinMap.Entries.{where_key, find-where_key}
 use Rattle.std.specs.Cmp.{IsTotalOrder}
-use Rattle.std.specs.List.{filter}
+use Rattle.std.specs.List.{All, filter}
+use Rattle.std.specs.Map.{keys_of}
 use Rattle.std.specs.Map.Calls.{RetainsPairs}
 use Rattle.std.specs.Ordering.{nat_cmp}
 use Rattle.std.specs.declared.cmp.Ordering.{Ordering}
 use Rattle.std.specs.declared.cmp.Ordering.TheVariants.{Equal}
+use Rattle.std.proofs.lemmas.List.Elements.{All-head, All-tail, All-cons}
 use Rattle.std.proofs.lemmas.Map.Entries.{filter_from_retain_pairs}
 use Rattle.std.proofs.lemmas.Map.Steps.{set_value_same}
 use Rattle.mspec.specs.Maps.{map_of}
@@ -34,6 +36,10 @@ OnOk-map (Err e) f h = h
 pub OnErr-map : {T E : Type 0} {P Q : Type 0} (r : Result T E) → (P → Q) → OnErr r P → OnErr r Q
 OnErr-map (Ok x) f h = h
 OnErr-map (Err e) f h = f h
+
+pub IfOk-map : {T E : Type 0} {P Q : T → Type 0} (r : Result T E) → ((x : T) → P x → Q x) → IfOk r P → IfOk r Q
+IfOk-map (Ok x) f h = f x h
+IfOk-map (Err e) f h = h
 
 pub yes_or : (a b : Bool) → a ≡ true → true ≡ (a || b)
 yes_or a b e = ap (λ x. x || b) (sym e)
@@ -88,3 +94,12 @@ module _ {K X : Type 0} {R : K → K → Ordering} (total : IsTotalOrder R) (exa
 
   pub retain-map_of : (m m' : BTreeMap K X) (p : K → Bool) → m'.entries ≡ filter (λ e. p e.0) m.entries → map_of {R = R} (λ x. x) m' ≡ retain_keys (map_of (λ x. x) m) p
   retain-map_of m m' p h = ap (λ l. from_entries (pairs l)) h ∙ ap from_entries (sym (where-view p m.entries)) ∙ from_entries-where (pairs m.entries) p
+
+-- what holds of each key holds of those that are kept
+pub keys_kept : {K X : Type 0} (P : K → Type 0) (p : K → Bool) (es : List (K × X)) → All P (keys_of es) → All P (keys_of (filter (λ e. p e.0) es))
+keys_kept P p [] all = all
+keys_kept P p (e ∷ es) all = here (p e.0) (keys_kept P p es (All-tail P e.0 (keys_of es) all))
+  where
+    here : (b : Bool) → All P (keys_of (filter (λ e. p e.0) es)) → All P (keys_of (cond b (e ∷ filter (λ e. p e.0) es) (filter (λ e. p e.0) es)))
+    here true rest = All-cons P e.0 (keys_of (filter (λ e. p e.0) es)) (All-head P e.0 (keys_of es) all) rest
+    here false rest = rest

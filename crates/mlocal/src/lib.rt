@@ -4,8 +4,10 @@
 mod scope;
 mod scopes;
 mod variable;
+mod walk;
 
 pub use scopes::Locals;
+pub use walk::{Data, Direction, order_subs_ok};
 
 #[cfg(test)]
 mod tests;

@@ -4,11 +4,16 @@ ghost use Rattle.std.specs.Cmp.Lexicographic.{slice_cmp};
 ghost use Rattle.std.specs.FinMap.{get, insert, retain_keys};
 ghost use Rattle.std.specs.List.{filter, list_any};
 ghost use Rattle.std.specs.Ordering.{nat_cmp};
+ghost use Rattle.mkey.specs.Front.{AreSubs};
 ghost use Rattle.mspec.specs.Maps.{map_of};
 ghost use Rattle.mspec.specs.Scopes.{entered, bottom, has, tree_in, with_tree, is_among, hide, hide_others, kill_in, emptied};
+ghost use Rattle.mspec.specs.KeyBytes.{AreSubscripts};
+ghost use Rattle.mspec.specs.Trees.{has_value, has_descendants, order_of, front, last, AreOrderSubscripts};
 ghost use Rattle.mlocal.specs.Home.{has_name};
+ghost use Rattle.mlocal.specs.Way.{way};
 
 use crate::variable::Variable;
+use crate::walk::{Data, Direction};
 use mkey::SubsKey;
 use mnum::Bytes7;
 use std::alloc::{AllocError, Global};
@@ -90,6 +95,38 @@ impl Scope {
         }
     }
 
+    // Whether a node has a text, and whether a node below it has one.
+    pub fn data(&self, alloc: Global, name: &Bytes7, subs: &[Bytes7]) -> Result<Data, AllocError>
+        requires { AreSubscripts subs.now }
+        ensures value { IfOk result (λ found. found.value ≡ has_value (tree_in self.now name.now) subs.now) }
+        ensures descendants { IfOk result (λ found. found.descendants ≡ has_descendants (tree_in self.now name.now) subs.now) }
+    {
+        match self.trees.get(name) {
+            None => Ok(Data {
+                value: false,
+                descendants: false,
+            }),
+            Some(variable) => variable.data(alloc, subs),
+        }
+    }
+
+    // The subscript next to the last of these, of those below which there is a text.
+    pub fn order(
+        &self,
+        alloc: Global,
+        name: &Bytes7,
+        subs: &[Bytes7],
+        direction: Direction,
+    ) -> Result<Option<Bytes7>, AllocError>
+        requires { AreOrderSubscripts subs.now }
+        ensures { IfOk result (λ next. next ≡ order_of (tree_in self.now name.now) (way direction) (front subs.now) (last subs.now)) }
+    {
+        match self.trees.get(name) {
+            None => Ok(None),
+            Some(variable) => variable.order(alloc, subs, direction),
+        }
+    }
+
     // Gives a node a text. For want of memory the scope is as it was.
     pub fn set(
         &mut self,
@@ -98,6 +135,7 @@ impl Scope {
         key: SubsKey,
         text: Bytes7,
     ) -> Result<(), AllocError>
+        requires { AreSubs key }
         ensures ok { OnOk result (self.new ≡ with_tree name.now (insert (tree_in self.old name.now) key text) self.old) }
         ensures err { OnErr result (self.new ≡ self.old) }
         ensures others { self.new.others ≡ self.old.others }

@@ -1,10 +1,13 @@
 //! The local variables of a session as a stack of scopes.
 ghost use Rattle.std.specs.Prelude.{◌≡◌, IfOk, OnOk, OnErr, [], ◌∷◌, ◌<◌, ◌+◌, length, drop, option_map};
 ghost use Rattle.mlocal.specs.Home.{IsHome, killed_up};
+ghost use Rattle.mlocal.specs.Way.{way};
 ghost use Rattle.mspec.specs.KeyBytes.{AreSubscripts};
-ghost use Rattle.mspec.specs.Scopes.{bottom, is_among, value_at, assigned, killed, killed_except, newed, newed_except, with_level, without_level};
+ghost use Rattle.mspec.specs.Scopes.{bottom, is_among, value_at, is_value, is_above, next_subscript, assigned, killed, killed_except, newed, newed_except, with_level, without_level};
+ghost use Rattle.mspec.specs.Trees.{AreOrderSubscripts};
 
 use crate::scope::Scope;
+use crate::walk::{Data, Direction};
 use mkey::SubsKey;
 use mnum::Bytes7;
 use std::alloc::{AllocError, Global};
@@ -89,6 +92,43 @@ impl Locals {
         match home(&self.levels, name) {
             None => Ok(self.bottom.get(name, &key)),
             Some(place) => Ok(self.levels[place].get(name, &key)),
+        }
+    }
+
+    /// Whether the name's variable has a text at a node, and whether it has one below it.
+    ///
+    /// # Errors
+    ///
+    /// `AllocError` for want of memory.
+    pub fn data(&self, name: &Bytes7, subs: &[Bytes7]) -> Result<Data, AllocError>
+        requires { AreSubscripts subs.now }
+        ensures value { IfOk result (λ found. found.value ≡ is_value self.now name.now subs.now) }
+        ensures descendants { IfOk result (λ found. found.descendants ≡ is_above self.now name.now subs.now) }
+    {
+        match home(&self.levels, name) {
+            None => self.bottom.data(self.alloc, name, subs),
+            Some(place) => self.levels[place].data(self.alloc, name, subs),
+        }
+    }
+
+    /// The subscript next to the last of these, of those in its place below which the name's variable has a text. An empty last
+    /// subscript begins the walk, at the first or from the last, and none ends it.
+    ///
+    /// # Errors
+    ///
+    /// `AllocError` for want of memory.
+    pub fn order(
+        &self,
+        name: &Bytes7,
+        subs: &[Bytes7],
+        direction: Direction,
+    ) -> Result<Option<Bytes7>, AllocError>
+        requires { AreOrderSubscripts subs.now }
+        ensures { IfOk result (λ next. next ≡ next_subscript self.now (way direction) name.now subs.now) }
+    {
+        match home(&self.levels, name) {
+            None => self.bottom.order(self.alloc, name, subs, direction),
+            Some(place) => self.levels[place].order(self.alloc, name, subs, direction),
         }
     }
 

@@ -1,13 +1,23 @@
 // One variable: the texts at its nodes.
-ghost use Rattle.std.specs.Prelude.{◌≡◌, OnOk, OnErr, option_map, not};
-ghost use Rattle.std.specs.FinMap.{get, insert, empty};
-ghost use Rattle.mspec.specs.Trees.{without, is_within};
+ghost use Rattle.std.specs.Prelude.{◌≡◌, IfOk, OnOk, OnErr, option_and_then, option_map, IfSome, not, ◌||◌, reverse};
+ghost use Rattle.std.specs.BTreeMap.{IsOrdered, keys};
+ghost use Rattle.std.specs.BTreeMap.Range.{IsLtBy};
+ghost use Rattle.std.specs.FinMap.{get, insert, empty, keys as nodes_of};
+ghost use Rattle.std.specs.List.{All, find};
+ghost use Rattle.mkey.specs.Front.{AreSubs};
+ghost use Rattle.mlocal.specs.Way.{way, is_between, has_child};
+ghost use Rattle.mspec.specs.KeyBytes.{AreSubscripts};
+ghost use Rattle.mspec.specs.NodeOrder.{subscripts_cmp};
+ghost use Rattle.mspec.specs.Number.{significant_digits};
+ghost use Rattle.mspec.specs.Trees.{without, is_within, child_of, has_value, has_descendants, order_of, is_before, is_empty, front, last, AreOrderSubscripts};
 
+use crate::walk::{Data, Direction, front, last};
 use mkey::SubsKey;
 use mnum::Bytes7;
 use std::alloc::{AllocError, Global};
 use std::collections::BTreeMap;
 use std::marker::Model;
+use std::ops::Bound;
 
 // The texts at the nodes of a variable, by their subscripts. Contracts see it as the tree.
 #[derive(Drop)]
@@ -17,7 +27,10 @@ pub struct Variable {
 
 impl Model for Variable {
     ghost use Rattle.std.specs.Coded.{coded_ℕ, coded_list};
+    ghost use Rattle.std.specs.BTreeMap.{keys};
     ghost use Rattle.std.specs.FinMap.{code};
+    ghost use Rattle.std.specs.List.{All};
+    ghost use Rattle.mkey.specs.Front.{AreSubs};
     ghost use Rattle.mspec.specs.Maps.{map_of};
     ghost use Rattle.mspec.specs.Trees.{Tree};
 
@@ -26,6 +39,9 @@ impl Model for Variable {
     ghost coded = { code (coded_list (coded_list coded_ℕ)) (coded_list coded_ℕ) };
 
     ghost view = { λ v. map_of (λ text. text) v.texts };
+
+    // each node is one of subscripts
+    ghost invariant = { λ v. All AreSubs (keys v.texts) };
 }
 
 impl Variable {
@@ -47,6 +63,7 @@ impl Variable {
 
     // Gives a node a text. For want of memory the variable is as it was.
     pub fn set(&mut self, key: SubsKey, text: Bytes7) -> Result<(), AllocError>
+        requires { AreSubs key }
         ensures ok { OnOk result (self.new ≡ insert self.old key text) }
         ensures err { OnErr result (self.new ≡ self.old) }
     {
@@ -63,5 +80,127 @@ impl Variable {
                 ensures { (result ≡ not (is_within key.entry.now k.now)) × (text.new ≡ text.old) }
             { !k.is_within(key) },
         );
+    }
+
+    // Whether a node has a text, and whether a node below it has one.
+    pub fn data(&self, alloc: Global, subs: &[Bytes7]) -> Result<Data, AllocError>
+        requires { AreSubscripts subs.now }
+        ensures value { IfOk result (λ found. found.value ≡ has_value self.now subs.now) }
+        ensures descendants { IfOk result (λ found. found.descendants ≡ has_descendants self.now subs.now) }
+    {
+        let key = SubsKey::build(alloc, subs)?;
+        let end = SubsKey::behind_below(alloc, subs)?;
+        Ok(Data {
+            value: self.texts.contains_key(&key),
+            descendants: first_between(&self.texts, &key, &end).is_some(),
+        })
+    }
+
+    // The subscript next to the last of these, of those below which there is a text.
+    pub fn order(
+        &self,
+        alloc: Global,
+        subs: &[Bytes7],
+        direction: Direction,
+    ) -> Result<Option<Bytes7>, AllocError>
+        requires { AreOrderSubscripts subs.now }
+        ensures { IfOk result (λ next. next ≡ order_of self.now (way direction) (front subs.now) (last subs.now)) }
+    {
+        let above = SubsKey::build(alloc, front(subs))?;
+        match direction {
+            Direction::Forward => child(alloc, &above, self.behind(alloc, &above, subs)?),
+            Direction::Backward => child(alloc, &above, self.before(alloc, &above, subs)?),
+        }
+    }
+
+    // The first key of those whose subscript there stands behind the last of these.
+    fn behind(
+        &self,
+        alloc: Global,
+        above: &SubsKey,
+        subs: &[Bytes7],
+    ) -> Result<Option<&SubsKey>, AllocError>
+        requires subs { AreOrderSubscripts subs.now }
+        requires above { above.now ≡ front subs.now }
+        ensures key { IfOk result (λ key. option_map (λ k. k.now) key ≡ find (has_child (is_before (last subs.now)) (front subs.now)) (nodes_of self.now)) }
+        ensures subs { IfOk result (λ key. IfSome key (λ k. AreSubs k.now)) }
+    {
+        let end = SubsKey::behind_below(alloc, front(subs))?;
+        if last(subs).as_bytes().is_empty() {
+            return Ok(first_between(&self.texts, above, &end));
+        }
+        let start = SubsKey::behind_below(alloc, subs)?;
+        Ok(first_between(&self.texts, &start, &end))
+    }
+
+    // The last key of those whose subscript there stands before the last of these, or of all where that is empty.
+    fn before(
+        &self,
+        alloc: Global,
+        above: &SubsKey,
+        subs: &[Bytes7],
+    ) -> Result<Option<&SubsKey>, AllocError>
+        requires subs { AreOrderSubscripts subs.now }
+        requires above { above.now ≡ front subs.now }
+        ensures key { IfOk result (λ key. option_map (λ k. k.now) key ≡ find (has_child (λ c. is_empty (last subs.now) || is_before c (last subs.now)) (front subs.now)) (reverse (nodes_of self.now))) }
+        ensures subs { IfOk result (λ key. IfSome key (λ k. AreSubs k.now)) }
+    {
+        if last(subs).as_bytes().is_empty() {
+            let end = SubsKey::behind_below(alloc, front(subs))?;
+            return Ok(last_between(&self.texts, above, &end));
+        }
+        let end = SubsKey::build(alloc, subs)?;
+        Ok(last_between(&self.texts, above, &end))
+    }
+}
+
+// The subscript next behind a list in the key that was found.
+fn child(
+    alloc: Global,
+    above: &SubsKey,
+    found: Option<&SubsKey>,
+) -> Result<Option<Bytes7>, AllocError>
+    requires { IfSome found (λ k. AreSubs k.now) }
+    ensures { IfOk result (λ child. child ≡ option_and_then (child_of above.now) (option_map (λ k. k.now) found.entry)) }
+{
+    match found {
+        None => Ok(None),
+        Some(key) => key.child_of(alloc, above),
+    }
+}
+
+// The first key that stands behind one and before another.
+fn first_between<'a>(
+    texts: &'a BTreeMap<SubsKey, Bytes7>,
+    low: &SubsKey,
+    high: &SubsKey,
+) -> Option<&'a SubsKey>
+    requires forward { IsLtBy (subscripts_cmp significant_digits) low.now high.now }
+    requires subs { All AreSubs (keys texts.now) }
+    ensures ordered { IsOrdered (subscripts_cmp significant_digits) texts.now }
+    ensures subs { IfSome result (λ k. AreSubs k.now) }
+    ensures key { option_map (λ k. k.now) result ≡ find (is_between low.now high.now) (keys texts.now) }
+{
+    match texts.range((Bound::Excluded(low), Bound::Excluded(high))).next() {
+        Some((key, _)) => Some(key),
+        None => None,
+    }
+}
+
+// The last of them.
+fn last_between<'a>(
+    texts: &'a BTreeMap<SubsKey, Bytes7>,
+    low: &SubsKey,
+    high: &SubsKey,
+) -> Option<&'a SubsKey>
+    requires forward { IsLtBy (subscripts_cmp significant_digits) low.now high.now }
+    requires subs { All AreSubs (keys texts.now) }
+    ensures ordered { IsOrdered (subscripts_cmp significant_digits) texts.now }
+    ensures subs { IfSome result (λ k. AreSubs k.now) }
+    ensures key { option_map (λ k. k.now) result ≡ find (is_between low.now high.now) (reverse (keys texts.now)) }
+{
+    match texts.range((Bound::Excluded(low), Bound::Excluded(high))).next_back() {
+        Some((key, _)) => Some(key),
+        None => None,
     }
 }

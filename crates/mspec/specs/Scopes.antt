@@ -9,7 +9,7 @@ use Rattle.std.specs.Ordering.{nat_cmp}
 use Rattle.std.specs.Cmp.Lexicographic.{slice_cmp}
 use Rattle.std.specs.FinMap.{FinMap, get, insert, retain_keys, empty}
 use Rattle.mspec.specs.Node.{Text}
-use Rattle.mspec.specs.Trees.{Tree, text_eq, without, has_value, has_descendants, Direction, order_of}
+use Rattle.mspec.specs.Trees.{Tree, text_eq, without, has_value, has_descendants, Direction, order_of, front, last}
 
 -- the names that NEW gave it, the names that it has not where it has all but some, and the trees of variables by their names
 pub record Scope : Type 0 where
@@ -66,8 +66,8 @@ is_value scopes n xs = has_value (tree_of scopes n) xs
 abbrev pub is_above : Scopes → Text → List Text → Bool
 is_above scopes n xs = has_descendants (tree_of scopes n) xs
 
-abbrev pub next_subscript : Scopes → Direction → Text → List Text → Text → Option Text
-next_subscript scopes direction n xs x = order_of (tree_of scopes n) direction xs x
+abbrev pub next_subscript : Scopes → Direction → Text → List Text → Option Text
+next_subscript scopes direction n xs = order_of (tree_of scopes n) direction (front xs) (last xs)
 
 abbrev pub assigned : Scopes → Text → List Text → Text → Scopes
 assigned scopes n xs x = at_home (λ s. with_tree n (insert (tree_in s n) xs x) s) n scopes

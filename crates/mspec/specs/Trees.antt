@@ -2,12 +2,13 @@
 --
 -- Restates what "Local variable handling", "$DATA", "$ORDER" and "KILL" of ISO/IEC 11756:1999 say of one variable. Its own
 -- text lies where there are no subscripts.
-use Rattle.std.specs.Prelude.{Bool, true, false, not, ◌&&◌, ◌||◌, nat_lt, nat_eq, List, [], ◌∷◌, length, slice_get, Option, None, is_some, if◌then◌else◌, reverse}
+use Rattle.std.specs.Prelude.{ℕ, ◌-◌, ◌<◌, ◌≤◌, Bool, true, false, not, ◌&&◌, ◌||◌, nat_lt, nat_eq, List, [], ◌∷◌, length, take, slice_get, slice_index_or, Option, None, is_some, if◌then◌else◌, reverse}
 use Rattle.std.specs.List.{list_any, find, flat_map, starts_with}
 use Rattle.std.specs.Option.{option_to_list}
 use Rattle.std.specs.Ordering.{is_lt}
 use Rattle.std.specs.Cmp.Lexicographic.{pointwise}
 use Rattle.std.specs.FinMap.{FinMap, get, keys, retain_keys}
+use Rattle.mspec.specs.KeyBytes.{AreSubscripts}
 use Rattle.mspec.specs.Node.{Text}
 use Rattle.mspec.specs.Number.{significant_digits}
 use Rattle.mspec.specs.NodeOrder.{text_cmp, subscripts_cmp}
@@ -68,3 +69,17 @@ neighbour Backward x cs = find (λ c. is_empty x || is_before c x) (reverse cs)
 -- the subscript after x behind xs, of those below which there is a text
 abbrev pub order_of : Tree → Direction → List Text → Text → Option Text
 order_of t direction xs x = neighbour direction x (children t xs)
+
+-- the subscripts in front of the last one, and the last one
+abbrev pub front : List Text → List Text
+front xs = take (length xs - 1) xs
+
+abbrev pub last : List Text → Text
+last xs = slice_index_or xs (length xs - 1) []
+
+-- the subscripts with which $ORDER may be asked: those of a node, but that the last may be empty
+pub record AreOrderSubscripts (xs : List Text) : Type 0 where
+  pub some : 0 < length xs
+  pub few : length xs ≤ 15
+  pub before : AreSubscripts (front xs)
+  pub short : length (last xs) ≤ 255

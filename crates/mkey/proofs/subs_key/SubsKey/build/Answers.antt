@@ -1,11 +1,12 @@
-use Rattle.std.proofs.Common.{◌++◌, ◌∙◌, ap, sym}
+use Rattle.std.proofs.Common.{◌++◌, ◌∙◌, ap}
 use Rattle.mspec.specs.KeyBytes.{subscripts_bytes}
 use Rattle.mspec.specs.Number.{significant_digits}
 use Rattle.mkey.specs.SubsKey.{one_list}
+use Rattle.mkey.proofs.SubsKeys.{key_of_subs}
 use Rattle.mkey.proofs.subs_key.SubsKey.build.Goals as goal
 
-pub returns : goal.returns
-returns c =
+pub returns-clause-key : goal.returns-clause-key
+returns-clause-key c =
     let given = c.result-1.given.0 in
     one_list given.0 c.args.subs.now _ given.1
-    ((c.requires, c.room.ensures.ascii), sym (c.push_subscripts.ensures ∙ ap (λ b. b ++ subscripts_bytes significant_digits c.args.subs.now) c.in_ok-bytes.ensures.items))
+    (key_of_subs c.args.subs.now _ (c.requires, c.room.ensures.ascii) (c.push_subscripts.ensures ∙ ap (λ b. b ++ subscripts_bytes significant_digits c.args.subs.now) c.in_ok-bytes.ensures.items))

@@ -10,7 +10,7 @@ returns-in-None-clause-ok c =
     let l = c.self.inside in
     let f : Scope → Scope = λ s. kill_in n c.args.subs.now (get s.trees n) s in
     home-bottom f n l.levels.items l.bottom c.kill.new.self c.self.invariant c.in-None.ensures
-    (c.kill.ensures ∙ ap (λ k. kill_in n k (get l.bottom.trees n) l.bottom) c.in_ok-key.ensures)
+    (c.kill.ensures ∙ ap (λ k. kill_in n k (get l.bottom.trees n) l.bottom) c.in_ok-key.ensures.key)
     ∙ ap (λ s. killed s n c.args.subs.now) c.self.view_is
 
 pub returns-clause-ok : goal.returns-clause-ok
@@ -19,5 +19,5 @@ returns-clause-ok c =
     let l = c.self.inside in
     let f : Scope → Scope = λ s. kill_in n c.args.subs.now (get s.trees n) s in
     home-at f n l.levels.items (l.bottom ∷ []) c.in-Some.place c.index_mut.result.now c.kill-in-Some.new.self c.in-Some.ensures
-    (c.kill-in-Some.ensures ∙ ap (λ k. kill_in n k (get c.index_mut.result.now.trees n) c.index_mut.result.now) c.in_ok-key.ensures ∙ ap f c.index_mut.ensures.value)
+    (c.kill-in-Some.ensures ∙ ap (λ k. kill_in n k (get c.index_mut.result.now.trees n) c.index_mut.result.now) c.in_ok-key.ensures.key ∙ ap f c.index_mut.ensures.value)
     ∙ ap (λ s. killed s n c.args.subs.now) c.self.view_is

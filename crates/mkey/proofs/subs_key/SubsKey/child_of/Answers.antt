@@ -1,0 +1,32 @@
+use Rattle.std.proofs.Common.{◌≡◌, ◌++◌, ◌∙◌, true, length, drop, ap, sym, arith, length-append}
+use Rattle.mspec.specs.KeyBytes.{subscripts_bytes}
+use Rattle.mspec.specs.Number.{significant_digits}
+use Rattle.mspec.specs.Trees.{is_within}
+use Rattle.mkey.proofs.SubsKeys.{bytes_within, bytes_behind, none_read, one_read}
+use Rattle.mkey.proofs.subs_key.SubsKey.child_of.Goals as goal
+
+pub behind-rest-requires : goal.behind-rest-requires
+behind-rest-requires c =
+    let within : is_within c.args.above.now c.args.self.now ≡ true = sym c.is_within.ensures ∙ c.if-not-is_within.false in
+    let bytes = bytes_within c.args.above.now c.args.self.now within in
+    omega (
+      arith, ap length c.as_bytes-2.ensures.bytes, ap length c.as_bytes.ensures.bytes, ap length bytes,
+      length-append (subscripts_bytes significant_digits c.args.above.now) (subscripts_bytes significant_digits (drop (length c.args.above.now) c.args.self.now)),
+    )
+
+pub returns-in-None : goal.returns-in-None
+returns-in-None c =
+    let within : is_within c.args.above.now c.args.self.now ≡ true = sym c.is_within.ensures ∙ c.if-not-is_within.false in
+    none_read c.args.above.now c.args.self.now c.requires within c.behind-rest.result.now
+    (c.behind-rest.ensures ∙ ap (λ b. drop (length b) c.as_bytes.result.now) c.as_bytes-2.ensures.bytes
+    ∙ ap (drop (length (subscripts_bytes significant_digits c.args.above.now))) c.as_bytes.ensures.bytes ∙ bytes_behind c.args.above.now c.args.self.now within)
+    (rw c.in-None.is at c.in_ok-read_subscript.ensures)
+
+pub returns-in-Some : goal.returns-in-Some
+returns-in-Some c =
+    let within : is_within c.args.above.now c.args.self.now ≡ true = sym c.is_within.ensures ∙ c.if-not-is_within.false in
+    let found = rw c.in-Some.is at c.in_ok-read_subscript.ensures in
+    one_read c.args.above.now c.args.self.now c.requires within c.behind-rest.result.now
+    (c.behind-rest.ensures ∙ ap (λ b. drop (length b) c.as_bytes.result.now) c.as_bytes-2.ensures.bytes
+    ∙ ap (drop (length (subscripts_bytes significant_digits c.args.above.now))) c.as_bytes.ensures.bytes ∙ bytes_behind c.args.above.now c.args.self.now within)
+    c.in-Some.text c.in-Some.field-0-1 found.1 found.0

@@ -1,0 +1,254 @@
+-- The first and the last of the nodes that a test takes, as what $DATA and $ORDER ask.
+use Rattle.std.proofs.Common.{◌≡◌, ℕ, suc, ◌+◌, ◌-◌, ◌<◌, ◌≤◌, Bool, true, false, ◌&&◌, ◌||◌, cond, List, [], ◌∷◌, ◌++◌, length, take, drop, map, reverse, get_or, All, Option, Some, None, refl, sym, ap, ◌∙◌, subst, arith, append-nil, length-append, add-one}
+use Rattle.std.specs.Prelude.{slice_get, option_and_then, option_map, is_some, nat_lt, T}
+use Rattle.std.specs.BTreeMap as tree
+use Rattle.std.specs.BTreeMap.{BTreeMap, IsOrdered}
+use Rattle.std.specs.Cmp.{IsTotalOrder}
+use Rattle.std.specs.Cmp.Lexicographic.{bytes_decides}
+use Rattle.std.specs.FinMap as map
+use Rattle.std.specs.FinMap.{FinMap, IsAntisymmetric, from_entries, from_sorted, empty, entries, len-entries, len-empty, get-empty, same_map, get-from_entries, get-from_sorted, entries-from_sorted}
+use Rattle.std.specs.FinMap.Entries.{is_sorted, below_all}
+use Rattle.std.specs.List.{list_any, find, filter, flat_map}
+use Rattle.std.specs.List.Sorted.{IsStrictlySortedBy}
+use Rattle.std.specs.Map.{keys_of}
+use Rattle.std.specs.Option.{option_to_list, option_or}
+use Rattle.std.specs.Ordering.{is_lt}
+use Rattle.std.specs.declared.cmp.Ordering.{Ordering}
+use Rattle.std.specs.declared.cmp.Ordering.TheVariants.{Less}
+use Rattle.std.proofs.lemmas.Bool.Decides.{nat_tests}
+use Rattle.std.proofs.lemmas.List.{reverse-append, map-id, take-append-drop, drop_all}
+use Rattle.std.proofs.lemmas.List.Folds.{find-append}
+use Rattle.std.proofs.lemmas.Map.Keys.{sorted_tail}
+use Rattle.std.proofs.lemmas.Map.Views.{All-after_first}
+use Rattle.std.proofs.lemmas.List.Concat.{flat_map-append}
+use Rattle.std.proofs.lemmas.List.Elements.{All-head, All-tail, All-push, All-nil}
+use Rattle.std.proofs.lemmas.Slice.Eq.{starts_is}
+use Rattle.std.proofs.Math.Seq.{drop-cons}
+use Rattle.mspec.specs.KeyBytes.{IsSubscript, AreSubscripts, IsAscii}
+use Rattle.mspec.specs.Maps.{map_of}
+use Rattle.mspec.specs.Node.{Text}
+use Rattle.mspec.specs.NodeOrder.{subscripts_cmp}
+use Rattle.mspec.specs.Number.{significant_digits}
+use Rattle.mspec.specs.Trees as trees
+use Rattle.mspec.specs.Trees.{Tree, is_within, is_below, child_of, children, order_of, is_before, is_empty, front, last, AreOrderSubscripts, has_value, has_descendants}
+use Rattle.mspec.proofs.NodeOrders.{subscripts_cmp_total, subscripts_cmp_exact}
+use Rattle.mkey.specs.Front.{IsSub, AreSubs}
+use Rattle.mlocal.specs.Way.{passes, has_child}
+use Rattle.mlocal.proofs.Bounds.{at_front}
+
+-- ---- the first that a test takes
+
+pub find_alike : (p q : List Text → Bool) (ks : List (List Text)) → All AreSubs ks → ((k : List Text) → AreSubs k → p k ≡ q k) → find p ks ≡ find q ks
+find_alike p q [] all alike = refl
+find_alike p q (k ∷ ks) all alike =
+    ap (λ b. cond b (Some k) (find p ks)) (alike k (All-head AreSubs k ks all)) ∙ ap (cond (q k) (Some k)) (find_alike p q ks (All-tail AreSubs k ks all) alike)
+
+any_found : (p q : List Text → Bool) (ks : List (List Text)) → All AreSubs ks → ((k : List Text) → AreSubs k → p k ≡ q k) → is_some (find p ks) ≡ list_any q ks
+any_found p q [] all alike = refl
+any_found p q (k ∷ ks) all alike = here (p k) (q k) (alike k (All-head AreSubs k ks all)) (any_found p q ks (All-tail AreSubs k ks all) alike)
+  where
+    here : (a b : Bool) → a ≡ b → is_some (find p ks) ≡ list_any q ks → is_some (cond a (Some k) (find p ks)) ≡ (b || list_any q ks)
+    here true b e h = ap (λ c. c || list_any q ks) e
+    here false b e h = h ∙ ap (λ c. c || list_any q ks) e
+
+-- ---- the subscripts next behind a list
+
+abbrev subs_of : List Text → List (List Text) → List Text
+subs_of xs ks = flat_map (λ ys. option_to_list (child_of xs ys)) ks
+
+find_child : (p : Text → Bool) (xs : List Text) (ks : List (List Text)) → find p (subs_of xs ks) ≡ option_and_then (child_of xs) (find (has_child p xs) ks)
+find_child p xs [] = refl
+find_child p xs (k ∷ ks) = by_child (child_of xs k) refl (find_child p xs ks)
+  where
+    here : (b : Bool) (c : Text) → child_of xs k ≡ Some c → (find p (subs_of xs ks) ≡ option_and_then (child_of xs) (find (has_child p xs) ks)) → cond b (Some c) (find p (subs_of xs ks)) ≡ option_and_then (child_of xs) (cond b (Some k) (find (has_child p xs) ks))
+    here true c e rest = sym e
+    here false c e rest = rest
+
+    by_child : (o : Option Text) → child_of xs k ≡ o → (find p (subs_of xs ks) ≡ option_and_then (child_of xs) (find (has_child p xs) ks)) → find p (option_to_list o ++ subs_of xs ks) ≡ option_and_then (child_of xs) (cond (passes p o) (Some k) (find (has_child p xs) ks))
+    by_child None e rest = rest
+    by_child (Some c) e rest = here (p c) c e rest
+
+one_reversed : (o : Option Text) → reverse (option_to_list o) ≡ option_to_list o
+one_reversed None = refl
+one_reversed (Some c) = refl
+
+subs_reversed : (xs : List Text) (ks : List (List Text)) → reverse (subs_of xs ks) ≡ subs_of xs (reverse ks)
+subs_reversed xs [] = refl
+subs_reversed xs (k ∷ ks) =
+    let f : List Text → List Text = λ ys. option_to_list (child_of xs ys) in
+    reverse-append (f k) (subs_of xs ks)
+    ∙ ap (λ l. l ++ reverse (f k)) (subs_reversed xs ks)
+    ∙ ap (λ l. subs_of xs (reverse ks) ++ l) (one_reversed (child_of xs k) ∙ sym (append-nil (f k)))
+    ∙ sym (flat_map-append f (reverse ks) (k ∷ []))
+    ∙ sym (ap (flat_map f) (reverse-append (k ∷ []) ks))
+
+pub order_forward : (t : Tree) (xs : List Text) (x : Text) → order_of t trees.Forward xs x ≡ option_and_then (child_of xs) (find (has_child (is_before x) xs) (map.keys t))
+order_forward t xs x = find_child (is_before x) xs (map.keys t)
+
+pub order_backward : (t : Tree) (xs : List Text) (x : Text) → order_of t trees.Backward xs x ≡ option_and_then (child_of xs) (find (has_child (λ c. is_empty x || is_before c x) xs) (reverse (map.keys t)))
+order_backward t xs x = ap (find (λ c. is_empty x || is_before c x)) (subs_reversed xs (map.keys t)) ∙ find_child (λ c. is_empty x || is_before c x) xs (reverse (map.keys t))
+
+-- ---- what a range begins and ends with
+
+or_none : {K : Type 0} (o : Option K) → option_or o None ≡ o
+or_none None = refl
+or_none (Some k) = refl
+
+module _ {K X : Type 0} (p : K → Bool) where
+  first_kept : (es : List (K × X)) → find p (keys_of es) ≡ option_map (λ e. e.0) (slice_get (filter (λ e. p e.0) es) 0)
+  first_kept [] = refl
+  first_kept (e ∷ es) = here (p e.0) (first_kept es)
+    where
+      here : (b : Bool) → find p (keys_of es) ≡ option_map (λ e. e.0) (slice_get (filter (λ e. p e.0) es) 0) → cond b (Some e.0) (find p (keys_of es)) ≡ option_map (λ e. e.0) (slice_get (cond b (e ∷ filter (λ e. p e.0) es) (filter (λ e. p e.0) es)) 0)
+      here true h = refl
+      here false h = h
+
+  pub first_is : (es : List (K × X)) (e : K × X) (t : List (K × X)) → filter (λ e. p e.0) es ≡ e ∷ t → Some e.0 ≡ find p (keys_of es)
+  first_is es e t h = sym (first_kept es ∙ ap (λ l. option_map (λ e. e.0) (slice_get l 0)) h)
+
+  pub none_is : (es : List (K × X)) → filter (λ e. p e.0) es ≡ [] → None ≡ find p (keys_of es)
+  none_is es h = sym (first_kept es ∙ ap (λ l. option_map (λ e. e.0) (slice_get l 0)) h)
+
+  or_first : (l : List (K × X)) (e : K × X) → option_or (option_map (λ e. e.0) (slice_get l 0)) (Some e.0) ≡ option_map (λ e. e.0) (slice_get (l ++ e ∷ []) 0)
+  or_first [] e = refl
+  or_first (d ∷ l) e = refl
+
+  last_kept : (es : List (K × X)) → find p (reverse (keys_of es)) ≡ option_map (λ e. e.0) (slice_get (reverse (filter (λ e. p e.0) es)) 0)
+  last_kept [] = refl
+  last_kept (e ∷ es) =
+      ap (find p) (reverse-append (e.0 ∷ []) (keys_of es)) ∙ find-append p (reverse (keys_of es)) (e.0 ∷ [])
+      ∙ ap (λ o. option_or o (cond (p e.0) (Some e.0) None)) (last_kept es) ∙ here (filter (λ e. p e.0) es) (p e.0)
+    where
+      here : (kept : List (K × X)) (b : Bool) → option_or (option_map (λ e. e.0) (slice_get (reverse kept) 0)) (cond b (Some e.0) None) ≡ option_map (λ e. e.0) (slice_get (reverse (cond b (e ∷ kept) kept)) 0)
+      here kept true = or_first (reverse kept) e ∙ ap (λ l. option_map (λ e. e.0) (slice_get l 0)) (sym (reverse-append (e ∷ []) kept))
+      here kept false = or_none _
+
+  pub last_is : (es : List (K × X)) (e : K × X) (t : List (K × X)) → filter (λ e. p e.0) es ≡ t ++ e ∷ [] → Some e.0 ≡ find p (reverse (keys_of es))
+  last_is es e t h = sym (last_kept es ∙ ap (λ l. option_map (λ e. e.0) (slice_get (reverse l) 0)) h ∙ ap (λ l. option_map (λ e. e.0) (slice_get l 0)) (reverse-append t (e ∷ [])))
+
+  pub none_last : (es : List (K × X)) → filter (λ e. p e.0) es ≡ [] → None ≡ find p (reverse (keys_of es))
+  none_last es h = sym (last_kept es ∙ ap (λ l. option_map (λ e. e.0) (slice_get (reverse l) 0)) h)
+
+pub all_reversed : {X : Type 0} (P : X → Type 0) (xs : List X) → All P xs → All P (reverse xs)
+all_reversed P [] all = All-nil P
+all_reversed P (x ∷ xs) all = subst (All P) (sym (reverse-append (x ∷ []) xs)) (All-push P (reverse xs) x (all_reversed P xs (All-tail P x xs all)) (All-head P x xs all))
+
+-- what was found is one of them
+pub found_all : {K : Type 0} (P : K → Type 0) (p : K → Bool) (ks : List K) → All P ks → (k : K) → Some k ≡ find p ks → P k
+found_all P p [] all k e = absurd (cc)
+found_all P p (x ∷ ks) all k e = here (p x) e (found_all P p ks (All-tail P x ks all) k)
+  where
+    here : (b : Bool) → Some k ≡ cond b (Some x) (find p ks) → (Some k ≡ find p ks → P k) → P k
+    here true e rest = let same : x ≡ k = cc in subst P same (All-head P x ks all)
+    here false e rest = rest e
+
+-- ---- the keys of an ordered map
+
+both_hold : (a b : Bool) → T a → T b → T (a && b)
+both_hold true b s t = t
+both_hold false b s t = absurd s
+
+module _ {K X : Type 0} {R : K → K → Ordering} (total : IsTotalOrder R) (exact : IsAntisymmetric R) where
+  below_every : (k : K) (es : List (K × X)) → All (λ q. R k q ≡ Less) (keys_of es) → T (below_all R k es)
+  below_every k [] all = tt
+  below_every k (e ∷ es) all =
+      let first : R k e.0 ≡ Less = All-head (λ q. R k q ≡ Less) e.0 (keys_of es) all in
+      subst T (sym (ap (λ o. is_lt o && below_all R k es) first)) (below_every k es (All-tail (λ q. R k q ≡ Less) e.0 (keys_of es) all))
+
+  sorted_entries : (es : List (K × X)) → IsStrictlySortedBy R (keys_of es) → T (is_sorted R es)
+  sorted_entries [] h = tt
+  sorted_entries (e ∷ es) h =
+      both_hold (below_all R e.0 es) (is_sorted R es) (below_every e.0 es (All-after_first R e.0 (keys_of es) h)) (sorted_entries es (sorted_tail R e.0 (keys_of es) h))
+
+  entries_are : (es : List (K × X)) → IsStrictlySortedBy R (keys_of es) → entries (from_entries {R = R} es) ≡ es
+  entries_are es h =
+      let sorted : T (is_sorted R es) = sorted_entries es h in
+      ap entries (same_map total exact (from_entries es) (from_sorted es) (λ q. get-from_entries total es q ∙ sym (get-from_sorted R es q sorted)))
+      ∙ entries-from_sorted R es sorted
+
+  pub keys_are : (m : BTreeMap K X) → IsOrdered R m → map.keys (map_of {R = R} (λ x. x) m) ≡ tree.keys m
+  keys_are m h = ap (λ es. map.keys (from_entries {R = R} es)) (map-id m.entries) ∙ ap (map (λ e. e.0)) (entries_are m.entries h)
+
+-- ---- the subscripts of $ORDER
+
+pub split_last : (xs : List Text) → 0 < length xs → xs ≡ front xs ++ last xs ∷ []
+split_last xs some =
+    let inside : length xs - 1 < length xs = omega arith in
+    let past : length xs ≤ suc (length xs - 1) = omega arith in
+    sym (take-append-drop (length xs - 1) xs)
+    ∙ ap (λ l. front xs ++ l) (drop-cons xs (length xs - 1) [] inside ∙ ap (λ l. last xs ∷ l) (drop_all (suc (length xs - 1)) xs past))
+
+-- with a last that is not empty they are those of a node
+pub whole : (xs : List Text) → AreOrderSubscripts xs → 0 < length (last xs) → AreSubscripts xs
+whole xs subs some = record {
+  few = subs.few;
+  each = subst (All IsSubscript) (sym (split_last xs subs.some)) (All-push IsSubscript (front xs) (last xs) subs.before.each (record { some = some; few = subs.short }));
+}
+
+pub last_sub : (xs : List Text) → AreSubs xs → 0 < length xs → IsSub (last xs)
+last_sub xs subs some = let inside : length xs - 1 < length xs = omega arith in (subs.0.each (length xs - 1) [] inside, subs.1 (length xs - 1) [] inside)
+
+pub nothing_in : (x : Text) → length x ≡ 0 → x ≡ []
+nothing_in [] e = refl
+nothing_in (c ∷ x) e = absurd (omega arith)
+
+-- ---- what is below
+
+pub below_is : (xs ys : List Text) → has_child (λ c. true) xs ys ≡ is_below xs ys
+below_is xs ys = here (is_within xs ys) refl
+  where
+    more : (d : List Text) (n m : ℕ) → n ≡ m + length d → is_some (slice_get d 0) ≡ nat_lt m n
+    more [] n m e = grind (arith, nat_tests)
+    more (c ∷ d) n m e = grind (arith, nat_tests)
+
+    passed : (o : Option Text) → passes (λ c. true) o ≡ is_some o
+    passed None = refl
+    passed (Some c) = refl
+
+    here : (b : Bool) → is_within xs ys ≡ b → passes (λ c. true) (cond b (slice_get ys (length xs)) None) ≡ (b && nat_lt (length xs) (length ys))
+    here false e = refl
+    here true e =
+        let split : ys ≡ xs ++ drop (length xs) ys = (starts_is bytes_decides ys xs (is_within xs ys) refl).0 e in
+        passed (slice_get ys (length xs)) ∙ ap is_some (at_front ys (length xs))
+        ∙ more (drop (length xs) ys) (length ys) (length xs) (ap length split ∙ length-append xs (drop (length xs) ys))
+
+pub not_empty : (x : Text) → 0 < length x → is_empty x ≡ false
+not_empty [] some = absurd (omega arith)
+not_empty (c ∷ x) some = refl
+
+pub some_map : {X Y : Type 0} (f : X → Y) (o : Option X) → is_some o ≡ is_some (option_map f o)
+some_map f None = refl
+some_map f (Some x) = refl
+
+-- ---- the same of the tree that an ordered map is seen as
+
+module _ (t : Tree) (m : BTreeMap (List Text) Text) (is : map_of (λ x. x) m ≡ t) (ordered : IsOrdered (subscripts_cmp significant_digits) m) (all : All AreSubs (tree.keys m)) (q p : List Text → Bool) (alike : (k : List Text) → AreSubs k → q k ≡ p k) where
+  same_keys : tree.keys m ≡ map.keys t
+  same_keys = sym (keys_are (subscripts_cmp_total significant_digits) (subscripts_cmp_exact significant_digits) m ordered) ∙ ap map.keys is
+
+  pub first_walk : (r : Option (List Text)) → r ≡ find q (tree.keys m) → r ≡ find p (map.keys t)
+  first_walk r e = e ∙ find_alike q p (tree.keys m) all alike ∙ ap (find p) same_keys
+
+  pub last_walk : (r : Option (List Text)) → r ≡ find q (reverse (tree.keys m)) → r ≡ find p (reverse (map.keys t))
+  last_walk r e = e ∙ find_alike q p (reverse (tree.keys m)) (all_reversed AreSubs (tree.keys m) all) alike ∙ ap (λ ks. find p (reverse ks)) same_keys
+
+  pub any_walk : is_some (find q (tree.keys m)) ≡ list_any p (map.keys t)
+  any_walk = any_found q p (tree.keys m) all alike ∙ ap (list_any p) same_keys
+
+-- a variable without a text has no node
+no_list : {X : Type 0} (xs : List X) → length xs ≡ 0 → xs ≡ []
+no_list [] e = refl
+no_list (x ∷ xs) e = absurd (omega arith)
+
+pub no_keys : map.keys (empty {X = Text} {R = subscripts_cmp significant_digits}) ≡ []
+no_keys = ap (map (λ e. e.0)) (no_list (entries empty) (sym (len-entries empty) ∙ len-empty (subscripts_cmp significant_digits) Text))
+
+pub none_next : (direction : trees.Direction) (xs : List Text) (x : Text) → None ≡ order_of empty direction xs x
+none_next trees.Forward xs x = sym (ap (λ ks. find (is_before x) (subs_of xs ks)) no_keys)
+none_next trees.Backward xs x = sym (ap (λ ks. find (λ c. is_empty x || is_before c x) (reverse (subs_of xs ks))) no_keys)
+
+pub none_below : (xs : List Text) → false ≡ has_descendants empty xs
+none_below xs = sym (ap (list_any (is_below xs)) no_keys)
+
+pub none_there : (xs : List Text) → false ≡ has_value empty xs
+none_there xs = sym (ap is_some (get-empty (subscripts_cmp significant_digits) xs))

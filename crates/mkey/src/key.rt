@@ -73,7 +73,8 @@ impl NodeKey {
     ///
     /// `AllocError` for want of memory.
     pub fn copy(&self) -> Result<NodeKey, AllocError>
-        ensures { IfOk result (λ key. key ≡ self.now) }
+        ensures key { IfOk result (λ key. key ≡ self.now) }
+        ensures stored { IsStored self.now }
     {
         let bytes = self.bytes.clone()?;
         Ok(NodeKey { bytes })

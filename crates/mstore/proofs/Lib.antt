@@ -1,0 +1,4 @@
+pub mod SortedEntries
+pub mod EntryPlaces
+pub mod EntryRanges
+pub mod Subtrees

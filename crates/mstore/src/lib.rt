@@ -8,4 +8,3 @@ pub mod store;
 
 pub use plain::Plain;
 pub use store::{NodeStore, StoreFault};
-

@@ -1,1 +1,4 @@
 pub mod Entries
+pub mod Layout
+pub mod Map
+pub mod Rows

@@ -35,7 +35,8 @@ use Rattle.sqlite_typed.proofs.TestLemmas.{at_ints, at_blobs, last_term, bytes_e
 use Rattle.sqlite.specs.Effect.{IsDatabase}
 use Rattle.sqlite.specs.Held.{Held, state}
 use Rattle.mstore.specs.Layout.{node, schema}
-use Rattle.mstore.specs.Rows.{IsMemory, AreNodes, IsNode, IsInForm, IsCalm, Keeps, ShowsNode, ShowsEach, key_of, value_of}
+use Rattle.mstore.specs.Database.{IsMemory, IsCalm, Stays, ShowsAll}
+use Rattle.mstore.specs.Rows.{AreNodes, IsNode, IsInForm, ShowsNode, HasOther, shown_of, key_of, value_of}
 use Rattle.std.proofs.Common.{All, IsTrue}
 use Rattle.std.proofs.lemmas.List.Elements.{All-contains}
 use Rattle.sqlite_rules.proofs.ListLemmas.{contains_had}
@@ -45,9 +46,10 @@ use Rattle.sqlite.specs.Term.{col}
 use Rattle.sqlite.specs.State.{State, Shown, IsLive}
 use Rattle.sqlite.specs.Listing.{understood}
 use Rattle.sqlite.proofs.Callers.{IsPlain, reads_as}
-use Rattle.mstore.proofs.Texts.{all_text, all_is, all_command}
-use Rattle.mstore.proofs.Answer.{rows_to}
-use Rattle.mstore.proofs.States.{shown_keeps, failed_query_keeps}
+use Rattle.mstore.proofs.Texts.{all_is, all_command}
+use Rattle.mstore.specs.Statements.{all_text}
+use Rattle.mstore.proofs.Answer.{rows_from, rows_to}
+use Rattle.mstore.proofs.States.{shown_stays}
 use Rattle.mstore.proofs.RowTests.{key_column}
 
 node_shape : (r : Row) (k v : List ℕ) → is_int (rowid r) ≡ true → are_typed None 0 node.columns (drop 1 r) ≡ true → column r 1 ≡ Blob k → column r 2 ≡ Blob v → IsNode r
@@ -108,19 +110,25 @@ module _ {S : Type 0} (g : Ghosts S) (h : Held S) (quiet : IsMemory g) (db : IsD
     pub nodes_from : AreNodes rows
     nodes_from = record { each = node_each; in_form = node_in_form; ids = node_ids; keys = node_keys }
 
-pub all_shown : (old new : State) (shown : List Row) → IsCalm old → Shown all_text [] old new shown → ShowsEach old shown
-all_shown old new shown calm h r has =
-    let a = (reads_as all_text [] old new schema calm.schema_is all_command all_is.0 all_is.1 all_is.2 shown h).answer Null in
-    rows_to [] [] (col 1 1 ∷ col 1 2 ∷ []) [] old.now.trees shown a r has refl
+pub all_shown : (old new : State) (shown : List Row) → old.now.schema ≡ schema → Shown all_text [] old new shown → ShowsAll old shown
+all_shown old new shown has h =
+    let a = (reads_as all_text [] old new schema has all_command all_is.0 all_is.1 all_is.2 shown h).answer Null in
+    record {
+      each = λ r here. rows_to [] [] (col 1 1 ∷ col 1 2 ∷ []) [] old.now.trees 0 refl shown a r here refl;
+      only = λ row among. let it = rows_from [] [] (col 1 1 ∷ col 1 2 ∷ []) [] old.now.trees 0 refl shown a row among in (it.0, it.1, it.3);
+    }
 
-pub all_keeps : (old new : State) (shown : List Row) → IsCalm old → IsTrue new.is_open → Shown all_text [] old new shown → Keeps old new
-all_keeps old new shown calm is_open h = shown_keeps old new calm is_open all_text [] shown (subst (λ s. IsPlain (understood s all_text)) (sym calm.schema_is) all_is.1) h
-
-same_head : (a b : Value) (xs ys : Row) → ◌≡◌ {A = Row} (a ∷ xs) (b ∷ ys) → a ≡ b
-same_head a b xs ys e = cc
+pub all_stays : (old new : State) (shown : List Row) → IsCalm old → IsTrue new.is_open → Shown all_text [] old new shown → Stays old new
+all_stays old new shown calm is_open h = shown_stays old new calm.idle is_open all_text [] shown (subst (λ s. IsPlain (understood s all_text)) (sym calm.schema_is) all_is.1) h
 
 -- what is taken is a store
-pub adopted : {S : Type 0} (g : Ghosts S) (h : Held S) (shown : List Row) → IsMemory g → IsLive (state g h) → IsCalm (state g h) → ShowsEach (state g h) shown → AllByRecursion ShowsNode shown → AreNodes ((state g h).now.trees 0)
-adopted g h shown quiet live calm each nodes = nodes_from g h quiet (live (quiet.is_open h.store)).0 calm.schema_is (λ r has.
-    let it = all_has ShowsNode shown (column r 1 ∷ column r 2 ∷ []) nodes (each r has) in
+pub adopted : {S : Type 0} (g : Ghosts S) (h : Held S) (shown : List Row) → IsMemory g → IsLive (state g h) → IsCalm (state g h) → ShowsAll (state g h) shown → AllByRecursion ShowsNode shown → AreNodes ((state g h).now.trees 0)
+adopted g h shown quiet live calm all nodes = nodes_from g h quiet (live (quiet.is_open h.store)).0 calm.schema_is (λ r has.
+    let it = all_has ShowsNode shown (shown_of r) nodes (all.each r has) in
     (it.0, it.1, ap (λ (x : Row). column x 0) it.2, ap (λ (x : Row). column x 1) it.2, it.3))
+
+-- a row that is shown and is no node is in the table
+pub other_row : (s : State) (shown : List Row) → ShowsAll s shown → ((row : Row) × Has shown row × (ShowsNode row → ⊥)) → HasOther (s.now.trees 0)
+other_row s shown all found =
+    let it = all.only found.0 found.1 in
+    (it.0, it.1, λ node. found.2 (subst ShowsNode (sym it.2) node))

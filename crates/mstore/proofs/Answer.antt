@@ -11,6 +11,7 @@ use Rattle.sqlite_trees.specs.Tree.{Trees}
 use Rattle.sqlite_sql.specs.Term.{Term, Env, eval_all, holds}
 use Rattle.sqlite.specs.Query.{Query, IsAnswer, output, output_cmp, Output}
 use Rattle.sqlite.specs.Program.{overlay}
+use Rattle.sqlite_sql.specs.Query.{matches_as}
 use Rattle.sqlite_rules.specs.Lists.{Has}
 use Rattle.sqlite_rules.proofs.ListLemmas.{has_either, has_left, has_right, has_contained, contains_had}
 use Rattle.mstore.proofs.Texts.{table_query}
@@ -58,32 +59,35 @@ module _ (tests : List Term) (params : Row) where
   has_match (s ∷ rows) r (inl same) pass = has_left (one s) _ _ (subst (λ t. Has (one t) (params ∷ r ∷ [])) same (has_one r pass))
   has_match (s ∷ rows) r (inr later) pass = has_right (one s) _ _ (has_match rows r later pass)
 
-  module _ (project : List Term) (order : List (Term × Key)) (db : Trees) where
+  module _ (project : List Term) (order : List (Term × Key)) (db : Trees) (tree : ℕ) (plain : overlay db [] tree ≡ db tree) where
     abbrev pub query : Query
-    query = table_query tests project order
+    query = table_query tree tests project order
 
     abbrev pub shown : Row → Row
     shown r = eval_all project (params ∷ r ∷ [])
 
+    found : matches_as Null (overlay db []) query.filter query.from (params ∷ []) ≡ flat_map one (db tree)
+    found = ap (flat_map one) plain
+
     -- each output is that of a row which passes
     pub outputs_from : (rows : List Row) (a : IsAnswer query (overlay db []) params rows) (o : Output) → Has a.ordered o
-        → (r : Row) × Has (db 0) r × (passes r ≡ true) × (o ≡ output query (params ∷ r ∷ []))
+        → (r : Row) × Has (db tree) r × (passes r ≡ true) × (o ≡ output query (params ∷ r ∷ []))
     outputs_from rows a o h =
         let kept : Has a.kept o = has_shuffled a.ordered a.kept o (IsPermutation-sym a.kept a.ordered a.same) h in
-        let made = has_mapped (output query) (flat_map one (db 0)) o (subst (λ l. Has l o) (a.distinct ∙ ap (map (output query)) a.grouped) kept) in
-        let it = match_has (db 0) made.0 made.1 in
+        let made = has_mapped (output query) (flat_map one (db tree)) o (subst (λ l. Has l o) (a.distinct ∙ ap (map (output query)) (a.grouped ∙ found)) kept) in
+        let it = match_has (db tree) made.0 made.1 in
         (it.0, it.1, it.2, made.2 ∙ ap (output query) it.3)
 
-    pub outputs_to : (rows : List Row) (a : IsAnswer query (overlay db []) params rows) (r : Row) → Has (db 0) r → passes r ≡ true → Has a.ordered (output query (params ∷ r ∷ []))
+    pub outputs_to : (rows : List Row) (a : IsAnswer query (overlay db []) params rows) (r : Row) → Has (db tree) r → passes r ≡ true → Has a.ordered (output query (params ∷ r ∷ []))
     outputs_to rows a r h pass =
-        let matched = mapped_has (output query) (flat_map one (db 0)) (params ∷ r ∷ []) (has_match (db 0) r h pass) in
-        has_shuffled a.kept a.ordered _ a.same (subst (λ l. Has l (output query (params ∷ r ∷ []))) (sym (a.distinct ∙ ap (map (output query)) a.grouped)) matched)
+        let matched = mapped_has (output query) (flat_map one (db tree)) (params ∷ r ∷ []) (has_match (db tree) r h pass) in
+        has_shuffled a.kept a.ordered _ a.same (subst (λ l. Has l (output query (params ∷ r ∷ []))) (sym (a.distinct ∙ ap (map (output query)) (a.grouped ∙ found))) matched)
 
-    pub rows_from : (rows : List Row) → IsAnswer query (overlay db []) params rows → (x : Row) → Has rows x → (r : Row) × Has (db 0) r × (passes r ≡ true) × (x ≡ shown r)
+    pub rows_from : (rows : List Row) → IsAnswer query (overlay db []) params rows → (x : Row) → Has rows x → (r : Row) × Has (db tree) r × (passes r ≡ true) × (x ≡ shown r)
     rows_from rows a x h =
         let out = has_mapped (λ (o : Output). o.1) a.ordered x (subst (λ l. Has l x) a.shown h) in
         let it = outputs_from rows a out.0 out.1 in
         (it.0, it.1, it.2, out.2 ∙ ap (λ (o : Output). o.1) it.3)
 
-    pub rows_to : (rows : List Row) → IsAnswer query (overlay db []) params rows → (r : Row) → Has (db 0) r → passes r ≡ true → Has rows (shown r)
+    pub rows_to : (rows : List Row) → IsAnswer query (overlay db []) params rows → (r : Row) → Has (db tree) r → passes r ≡ true → Has rows (shown r)
     rows_to rows a r h pass = subst (λ l. Has l (shown r)) (sym a.shown) (mapped_has (λ (o : Output). o.1) a.ordered _ (outputs_to rows a r h pass))

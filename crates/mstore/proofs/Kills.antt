@@ -20,24 +20,27 @@ use Rattle.sqlite.specs.State.{State, Writes}
 use Rattle.sqlite.proofs.Callers.{runs_as, one_step}
 use Rattle.sqlite.specs.State.{Executes}
 use Rattle.mstore.specs.Layout.{node, schema}
-use Rattle.mstore.specs.Rows.{IsStore, AreNodes, IsNode, content, key_of, value_of, lookup, in_bounds, RemovesWithin}
-use Rattle.mstore.proofs.Texts.{kill_text, kill_is, kill_command, kill_query, program, in_range}
+use Rattle.mstore.specs.Database.{IsIdle}
+use Rattle.mstore.specs.Map.{in_bounds, RemovesWithin}
+use Rattle.mstore.specs.Rows.{AreNodes, IsNode, key_of, value_of, lookup}
+use Rattle.mstore.proofs.Texts.{kill_is, kill_command, kill_query, program, in_range}
+use Rattle.mstore.specs.Statements.{kill_text}
 use Rattle.mstore.proofs.Answer.{rows_from, rows_to, has_mapped, mapped_has, passes}
 use Rattle.mstore.proofs.RowTests.{in_range_is, is_within}
 use Rattle.mstore.proofs.Edits.{IsLeft, left_is, left_nodes, lookup_same}
 use Rattle.mstore.proofs.Maps.{lookup_none}
-use Rattle.mstore.proofs.Writes.{went, same_value, deleted, written_store, task}
+use Rattle.mstore.proofs.Writes.{went, same_value, deleted, idle_after, task}
 
-module _ (old : State) (store : IsStore old) (low high : List ℕ) where
+module _ (old : State) (has : old.now.schema ≡ schema) (nodes : AreNodes (old.now.trees 0)) (low high : List ℕ) where
   abbrev params : Row
   params = Blob low ∷ Blob high ∷ []
 
-  pub kills : (new : State) (count : ℕ) → Executes kill_text params old new (Ok count) → IsStore new × IsLeft (old.now.trees 0) (new.now.trees 0) (is_within low high)
+  pub kills : (new : State) (count : ℕ) → Executes kill_text params old new (Ok count)
+      → (new.now.schema ≡ schema) × (IsIdle old → IsIdle new) × IsLeft (old.now.trees 0) (new.now.trees 0) (is_within low high)
   kills new count h =
       let rows = old.now.trees 0 in
-      let nodes = store.nodes in
-      let w = runs_as kill_text params old new schema store.calm.schema_is kill_command kill_is.0 kill_is.1 count h in
-      let made = deleted old new store params _ count (program kill_query) w in
+      let w = runs_as kill_text params old new schema has kill_command kill_is.0 kill_is.1 count h in
+      let made = deleted old new has params _ count (program kill_query) w in
       let asked = went made.1 in
       let edited = went asked.2 in
       let edit = edit_of old.now.trees node (ids_of asked.0) Given 0 [] in
@@ -46,22 +49,22 @@ module _ (old : State) (store : IsStore old) (low high : List ℕ) where
       let is : made.0.trees 0 ≡ without_all rows (ids_of asked.0) = ap (λ (t : Trees). t 0) trees ∙ step.rows in
       let now : new.now.trees 0 ≡ made.0.trees 0 = ap (λ (d : Database). d.trees 0) made.2 in
       let a = asked.1.answer Null in
-      let left = left_is rows nodes (ids_of asked.0) (is_within low high) (from asked.0 a) (to asked.0 a) in
-      let here : IsLeft rows (made.0.trees 0) (is_within low high) = subst (λ l. IsLeft rows l (is_within low high)) (sym is) left in (
-        written_store old new store params _ count kill_command w made.0 made.2 (left_nodes rows (made.0.trees 0) (is_within low high) nodes here),
-        subst (λ l. IsLeft rows l (is_within low high)) (sym now) here,
+      let left = left_is rows nodes (ids_of asked.0) (is_within low high) (from asked.0 a) (to asked.0 a) in (
+        ap (λ (d : Database). d.schema) made.2,
+        idle_after old new kill_command _ params count w,
+        subst (λ l. IsLeft rows l (is_within low high)) (sym (now ∙ is)) left,
       )
     where
       from : (asked : List Row) → IsAnswer kill_query (overlay old.now.trees []) params asked → (id : ℤ) → Has (ids_of asked) id
           → (s : Row) × Has (old.now.trees 0) s × (is_within low high s ≡ true) × (id ≡ id_in (rowid s))
       from asked a id among =
           let shown = has_mapped (λ r. id_in (rowid r)) asked id among in
-          let it = rows_from in_range params (col 1 0 ∷ []) [] old.now.trees asked a shown.0 shown.1 in
-          (it.0, it.1, sym (in_range_is low high it.0 (store.nodes.each it.0 it.1)) ∙ it.2, shown.2 ∙ ap (λ r. id_in (rowid r)) it.3)
+          let it = rows_from in_range params (col 1 0 ∷ []) [] old.now.trees 0 refl asked a shown.0 shown.1 in
+          (it.0, it.1, sym (in_range_is low high it.0 (nodes.each it.0 it.1)) ∙ it.2, shown.2 ∙ ap (λ r. id_in (rowid r)) it.3)
 
       to : (asked : List Row) → IsAnswer kill_query (overlay old.now.trees []) params asked → (r : Row) → Has (old.now.trees 0) r → is_within low high r ≡ true → Has (ids_of asked) (id_in (rowid r))
       to asked a r h within =
-          mapped_has (λ r. id_in (rowid r)) asked (rowid r ∷ []) (rows_to in_range params (col 1 0 ∷ []) [] old.now.trees asked a r h (in_range_is low high r (store.nodes.each r h) ∙ within))
+          mapped_has (λ r. id_in (rowid r)) asked (rowid r ∷ []) (rows_to in_range params (col 1 0 ∷ []) [] old.now.trees 0 refl asked a r h (in_range_is low high r (nodes.each r h) ∙ within))
 
 pub kill_map : (rows next : List Row) (low high : List ℕ) → AreNodes rows → IsLeft rows next (is_within low high) → RemovesWithin (lookup rows) (lookup next) low high
 kill_map rows next low high nodes left = record {

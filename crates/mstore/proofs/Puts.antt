@@ -35,25 +35,17 @@ use Rattle.sqlite_typed.proofs.TestLemmas.{at_ints, at_blobs, last_term, same_by
 use Rattle.sqlite.specs.State.{State, Writes, Executes}
 use Rattle.sqlite.proofs.Callers.{runs_as, one_step}
 use Rattle.mstore.specs.Layout.{node, schema}
-use Rattle.mstore.specs.Rows.{IsStore, AreNodes, IsNode, IsInForm, PutsAt, content, key_of, value_of, lookup, is_at}
-use Rattle.mstore.proofs.Texts.{put_text, put_is, put_command, put_query, put_clauses, put_source, program, at_rowid}
+use Rattle.mstore.specs.Database.{IsIdle}
+use Rattle.mstore.specs.Map.{PutsAt}
+use Rattle.mstore.specs.Rows.{AreNodes, IsNode, IsInForm, key_of, value_of, lookup, is_at}
+use Rattle.mstore.proofs.Texts.{put_is, put_command, put_query, put_clauses, put_source, program, at_rowid}
+use Rattle.mstore.specs.Statements.{put_text}
+use Rattle.mstore.proofs.Casts.{cast_null, cast_int}
 use Rattle.mstore.proofs.Answer.{rows_from, rows_to, has_mapped, mapped_has, passes}
 use Rattle.mstore.proofs.RowTests.{key_column}
 use Rattle.mstore.proofs.Edits.{IsLeft, left_is, left_nodes, lookup_same, taken_own}
 use Rattle.mstore.proofs.Maps.{lookup_has, lookup_none, at_itself}
-use Rattle.mstore.proofs.Writes.{went, same_value, inserted, written_store, task}
-
-either : (b : Bool) (x : Value) → cond b x x ≡ x
-either true x = refl
-either false x = refl
-
-cast_null : cast Integer Null ≡ Null
-unfolding unary
-cast_null = either _ Null
-
-cast_int : (n : ℤ) → cast Integer (Int n) ≡ Int n
-unfolding unary
-cast_int n = either _ (Int n)
+use Rattle.mstore.proofs.Writes.{went, same_value, inserted, idle_after, task}
 
 abbrev pub row_of : ℤ → List ℕ → List ℕ → Row
 row_of id k v = Int id ∷ Blob k ∷ Blob v ∷ []
@@ -120,7 +112,7 @@ int_same m n h = grind (arith, ints)
 int_itself : (m : ℤ) → int_eq m m ≡ true
 int_itself m = grind (arith, ints)
 
-module _ (old : State) (store : IsStore old) (k v : List ℕ) where
+module _ (old : State) (has_schema : old.now.schema ≡ schema) (nodes : AreNodes (old.now.trees 0)) (k v : List ℕ) where
   abbrev params : Row
   params = Blob k ∷ Blob v ∷ []
 
@@ -135,7 +127,7 @@ module _ (old : State) (store : IsStore old) (k v : List ℕ) where
   conflict_is r n = ap (λ (f : Key). is_true (binary (Compare Eq f.collation) (column r 1) (Blob k)) && true || false) first_key-plain ∙ or_false _ ∙ last_term (ap (λ x. is_true (binary (Compare Eq Binary) x (Blob k))) (key_column r n) ∙ at_blobs false Eq (key_of r) k)
 
   none_at : AreConflicts (Some (1 ∷ [])) schema.indexes node rows fresh [] → (r : Row) → Has rows r → key_of r ≢ k
-  none_at are r h same = are.complete r h (conflict_is r (store.nodes.each r h) ∙ at_itself r k same)
+  none_at are r h same = are.complete r h (conflict_is r (nodes.each r h) ∙ at_itself r k same)
 
   -- a key that is not there
   puts_new : (one : Written) → ((r : Row) → Has rows r → key_of r ≢ k) → Puts (task old params) fresh old.now.trees (Ok one) → IsPut rows (one.trees 0) k v
@@ -158,7 +150,7 @@ module _ (old : State) (store : IsStore old) (k v : List ℕ) where
     number = id_in (rowid r)
 
     own : (s : Row) → Has rows s → rowid s ≡ Int (id_in (rowid s))
-    own s h = ap (λ t. rowid t) (store.nodes.each s h)
+    own s h = ap (λ t. rowid t) (nodes.each s h)
 
     abbrev full : Row
     full = rowid r ∷ rowid r ∷ column r 1 ∷ Blob v ∷ []
@@ -168,18 +160,18 @@ module _ (old : State) (store : IsStore old) (k v : List ℕ) where
 
     asked_from : (asked : List Row) → IsAnswer put_query (overlay old.now.trees []) given_params asked → (x : Row) → Has asked x → x ≡ full
     asked_from asked a x h =
-        let it = rows_from at_rowid given_params (col 1 0 ∷ col 1 0 ∷ col 1 1 ∷ col 0 5 ∷ []) [] old.now.trees asked a x h in
-        let one = store.nodes.ids it.0 r it.1 has (own it.0 it.1 ∙ ap Int (int_same _ _ (sym (passes_is it.0 it.1) ∙ it.2)) ∙ sym (own r has)) in
+        let it = rows_from at_rowid given_params (col 1 0 ∷ col 1 0 ∷ col 1 1 ∷ col 0 5 ∷ []) [] old.now.trees 0 refl asked a x h in
+        let one = nodes.ids it.0 r it.1 has (own it.0 it.1 ∙ ap Int (int_same _ _ (sym (passes_is it.0 it.1) ∙ it.2)) ∙ sym (own r has)) in
         it.3 ∙ ap (λ s. rowid s ∷ rowid s ∷ column s 1 ∷ Blob v ∷ []) one
 
     asked_to : (asked : List Row) → IsAnswer put_query (overlay old.now.trees []) given_params asked → Has asked full
-    asked_to asked a = rows_to at_rowid given_params (col 1 0 ∷ col 1 0 ∷ col 1 1 ∷ col 0 5 ∷ []) [] old.now.trees asked a r has (passes_is r has ∙ int_itself number)
+    asked_to asked a = rows_to at_rowid given_params (col 1 0 ∷ col 1 0 ∷ col 1 1 ∷ col 0 5 ∷ []) [] old.now.trees 0 refl asked a r has (passes_is r has ∙ int_itself number)
 
     abbrev cast_of : Row → Row
     cast_of s = cast_row node (drop 1 s)
 
     cast_full : cast_of full ≡ row_of number k v
-    cast_full = ap₂ (λ a b. a ∷ b ∷ Blob v ∷ []) (ap (cast Integer) (own r has) ∙ cast_int number) (key_column r (store.nodes.each r has) ∙ ap Blob same)
+    cast_full = ap₂ (λ a b. a ∷ b ∷ Blob v ∷ []) (ap (cast Integer) (own r has) ∙ cast_int number) (key_column r (nodes.each r has) ∙ ap Blob same)
 
     puts_over : (one : Written) → Updates (task old params) (program put_query) given_params old.now.trees (Ok one) → IsPut rows (one.trees 0) k v
     puts_over one did =
@@ -192,10 +184,10 @@ module _ (old : State) (store : IsStore old) (k v : List ℕ) where
         let left = without_all rows ids in
         let news : edit.news ≡ map cast_of asked.0 = given left (map cast_of asked.0) in
         let trees : one.trees 0 ≡ made.0 0 = ap (λ (it : Written). it.trees 0) (same_value made.2) in
-        let kept = left_is rows store.nodes ids (is_at k)
+        let kept = left_is rows nodes ids (is_at k)
         (λ d among. let x = has_mapped (λ s. id_in (rowid s)) asked.0 d among in (r, has, at_itself r k same, x.2 ∙ ap (λ s. id_in (rowid s)) (asked_from asked.0 a x.0 x.1)))
         (λ s here at.
-        let one = store.nodes.keys s r here has (same_bytes (key_of s) k at ∙ sym same) in
+        let one = nodes.keys s r here has (same_bytes (key_of s) k at ∙ sym same) in
         subst (λ t. Has ids (id_in (rowid t))) (sym one) (mapped_has (λ s. id_in (rowid s)) asked.0 full (asked_to asked.0 a))) in
         put_is_made rows left (map cast_of asked.0) (one.trees 0) k v number kept (trees ∙ step.rows ∙ ap (put_all left) news) (subst (λ l. are_fresh left l ≡ true) news step.fresh)
         (λ x here. let s = has_mapped cast_of asked.0 x here in s.2 ∙ ap cast_of (asked_from asked.0 a s.0 s.1) ∙ cast_full)
@@ -211,7 +203,7 @@ module _ (old : State) (store : IsStore old) (k v : List ℕ) where
   meets one [] are h = clears one h.0 (none_at are) h.2
   meets one (there ∷ more) are h =
       let it = are.sound there (inl refl) in
-      let same = same_bytes (key_of it.0) k (sym (conflict_is it.0 (store.nodes.each it.0 it.1)) ∙ it.2) in
+      let same = same_bytes (key_of it.0) k (sym (conflict_is it.0 (nodes.each it.0 it.1)) ∙ it.2) in
       puts_over it.0 it.1 same (Int (next_rowid rows)) one
       (subst (λ (x : Row). Updates (task old params) (program put_query) (Blob k ∷ Blob v ∷ rowid x ∷ Int (next_rowid rows) ∷ Blob k ∷ Blob v ∷ []) old.now.trees (Ok one)) it.3 h)
 
@@ -223,10 +215,10 @@ module _ (old : State) (store : IsStore old) (k v : List ℕ) where
   tries one (inl h) = let e = h.1 in absurd cc
   tries one (inr h) = judged one h.0 h.2
 
-  pub puts : (new : State) (count : ℕ) → IsInForm k v → Executes put_text params old new (Ok count) → IsStore new × IsPut rows (new.now.trees 0) k v
-  puts new count right h =
-      let w = runs_as put_text params old new schema store.calm.schema_is put_command put_is.0 put_is.1 count h in
-      let made = inserted old new store params _ count put_source put_clauses w in
+  pub puts : (new : State) (count : ℕ) → Executes put_text params old new (Ok count) → (new.now.schema ≡ schema) × (IsIdle old → IsIdle new) × IsPut rows (new.now.trees 0) k v
+  puts new count h =
+      let w = runs_as put_text params old new schema has_schema put_command put_is.0 put_is.1 count h in
+      let made = inserted old new has_schema params _ count put_source put_clauses w in
       let given = went made.1 in
       let counter = went given.2 in
       let each = went counter.2 in
@@ -235,8 +227,8 @@ module _ (old : State) (store : IsStore old) (k v : List ℕ) where
       let put = tries tried.0 (subst (λ i. Tries (task old params) Abort put_clauses (with_rowid Chosen rows (i ∷ Blob k ∷ Blob v ∷ [])) old.now.trees (Ok tried.0)) cast_null tried.1) in
       let first : each.0.0.trees ≡ tried.0.trees = ap (λ (p : Written × ℤ). p.0.trees) (same_value tried.2) in
       let trees : made.0.trees 0 ≡ tried.0.trees 0 = ap (λ (it : Written). it.trees 0) (same_value counts.2) ∙ ap (λ (t : Trees). t 0) (same_value counts.1) ∙ ap (λ (t : Trees). t 0) first in
-      let now : new.now.trees 0 ≡ made.0.trees 0 = ap (λ (d : Database). d.trees 0) made.2 in
-      let here : IsPut rows (made.0.trees 0) k v = subst (λ l. IsPut rows l k v) (sym trees) put in (
-        written_store old new store params _ count put_command w made.0 made.2 (put_nodes rows (made.0.trees 0) k v right store.nodes here),
-        subst (λ l. IsPut rows l k v) (sym now) here,
+      let now : new.now.trees 0 ≡ made.0.trees 0 = ap (λ (d : Database). d.trees 0) made.2 in (
+        ap (λ (d : Database). d.schema) made.2,
+        idle_after old new put_command _ params count w,
+        subst (λ l. IsPut rows l k v) (sym (now ∙ trees)) put,
       )

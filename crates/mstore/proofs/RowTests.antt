@@ -9,7 +9,8 @@ use Rattle.sqlite_sql.specs.declared.ops.BinaryOp.TheVariants.{Compare}
 use Rattle.sqlite_sql.specs.declared.ops.CompareOp.TheVariants.{Eq, Ge, Lt}
 use Rattle.sqlite_sql.specs.Ops.{binary, is_true}
 use Rattle.sqlite_typed.proofs.TestLemmas.{at_blobs, last_term}
-use Rattle.mstore.specs.Rows.{IsNode, key_of, value_of, is_at, in_bounds}
+use Rattle.mstore.specs.Map.{in_bounds}
+use Rattle.mstore.specs.Rows.{IsNode, key_of, value_of, is_at}
 use Rattle.mstore.proofs.Texts.{at_key, in_range}
 use Rattle.mstore.proofs.Answer.{passes}
 

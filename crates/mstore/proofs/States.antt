@@ -12,72 +12,70 @@ use Rattle.sqlite.specs.declared.error.Error.TheVariants.{QueryReturnedNoRows}
 use Rattle.sqlite.specs.Listing.{understood}
 use Rattle.sqlite.specs.State.{State, IsUnchanged, IsRolledBack, Fails, IsNotRun, FailsToQuery, FailsToShow, QueriesRow, ExecutesIn, Executes, RunsAlone, RunsCommand, Shown, ShowsRows, Begins, store_error, shows_rows}
 use Rattle.sqlite.proofs.Callers.{IsPlain}
-use Rattle.mstore.specs.Rows.{IsCalm, Keeps}
+use Rattle.mstore.specs.Database.{IsIdle, IsCalm, Stays, IsUntouched}
 
-module _ (old new : State) (was : IsCalm old) (is_open : IsTrue new.is_open) where
-  pub unchanged_keeps : IsUnchanged old new → Keeps old new
-  unchanged_keeps h = record {
-    calm = record {
-      autocommit = h.0.mode ∙ was.autocommit;
-      settled = h.0.now_is ∙ was.settled ∙ sym h.0.committed_is;
-      schema_is = ap (λ (d : Database). d.schema) h.0.now_is ∙ was.schema_is;
-    };
+pub stays_calm : (old new : State) → IsCalm old → Stays old new → IsCalm new
+stays_calm old new was k = record { idle = k.idle; schema_is = ap (λ (d : Database). d.schema) k.same ∙ was.schema_is }
+
+-- one call after another
+pub stays_on : (a b c : State) → Stays a b → Stays b c → Stays a c
+stays_on a b c p q = record { idle = q.idle; same = q.same ∙ p.same }
+
+pub untouched : (old new : State) → IsIdle old → Stays old new → IsUntouched old new
+untouched old new was k = record { now = k.same; committed = sym k.idle.settled ∙ k.same ∙ was.settled; mode = k.idle.autocommit ∙ sym was.autocommit }
+
+module _ (old new : State) (was : IsIdle old) (is_open : IsTrue new.is_open) where
+  pub unchanged_stays : IsUnchanged old new → Stays old new
+  unchanged_stays h = record {
+    idle = record { autocommit = h.0.mode ∙ was.autocommit; settled = h.0.now_is ∙ was.settled ∙ sym h.0.committed_is };
     same = h.0.now_is;
   }
 
-  pub undone_keeps : IsRolledBack old new → Keeps old new
-  undone_keeps h =
+  pub undone_stays : IsRolledBack old new → Stays old new
+  undone_stays h =
       let back = h.undone is_open in
-      let now : new.now ≡ old.now = back.0 ∙ sym was.settled in
-      record {
-        calm = record {
-          autocommit = h.autocommit;
-          settled = back.0 ∙ sym back.1;
-          schema_is = ap (λ (d : Database). d.schema) now ∙ was.schema_is;
-        };
-        same = now;
-      }
+      record { idle = record { autocommit = h.autocommit; settled = back.0 ∙ sym back.1 }; same = back.0 ∙ sym was.settled }
 
-  not_run_keeps : (sql : List ℕ) (params : Row) (e : Error) → IsNotRun old new sql params e → Keeps old new
+  pub not_run_stays : (sql : List ℕ) (params : Row) (e : Error) → IsNotRun old new sql params e → Stays old new
   unfolding IsNotRun
-  not_run_keeps sql params e (inl h) = unchanged_keeps h.1
-  not_run_keeps sql params e (inr h) = undone_keeps h.3
+  not_run_stays sql params e (inl h) = unchanged_stays h.1
+  not_run_stays sql params e (inr h) = undone_stays h.3
 
-  command_keeps : (sql : List ℕ) (c : _) (params : Row) (e : Error) → RunsCommand old new sql c params (Err e) → Keeps old new
-  command_keeps sql c params e (inl h) = unchanged_keeps h.1
-  command_keeps sql c params e (inr h) = undone_keeps h.3
+  command_stays : (sql : List ℕ) (c : _) (params : Row) (e : Error) → RunsCommand old new sql c params (Err e) → Stays old new
+  command_stays sql c params e (inl h) = unchanged_stays h.1
+  command_stays sql c params e (inr h) = undone_stays h.3
 
-  pub failed_execute_keeps : (sql : List ℕ) (params : Row) (e : Error) → Executes sql params old new (Err e) → Keeps old new
+  pub failed_execute_stays : (sql : List ℕ) (params : Row) (e : Error) → Executes sql params old new (Err e) → Stays old new
   unfolding ExecutesIn
-  failed_execute_keeps sql params e (inl h) = not_run_keeps sql params e h
-  failed_execute_keeps sql params e (inr h) = elim (cases_Bool (shows_rows false h.0)) [
-    | inl shows ↦ unchanged_keeps (rw shows at h.2).1
-    | inr runs ↦ command_keeps sql h.0 _ e (rw runs at h.2)
+  failed_execute_stays sql params e (inl h) = not_run_stays sql params e h
+  failed_execute_stays sql params e (inr h) = elim (cases_Bool (shows_rows false h.0)) [
+    | inl shows ↦ unchanged_stays (rw shows at h.2).1
+    | inr runs ↦ command_stays sql h.0 _ e (rw runs at h.2)
   ]
 
-  show_keeps : (sql : List ℕ) (c : _) (params : Row) (e : Error) (o : _) → FailsToShow old new sql c params e o → Keeps old new
-  show_keeps sql c params e None h = unchanged_keeps h.3
-  show_keeps sql c params e (Some what) h = command_keeps sql c params e h
+  show_stays : (sql : List ℕ) (c : _) (params : Row) (e : Error) (o : _) → FailsToShow old new sql c params e o → Stays old new
+  show_stays sql c params e None h = unchanged_stays h.3
+  show_stays sql c params e (Some what) h = command_stays sql c params e h
 
-  pub failed_query_keeps : (sql : List ℕ) (params : Row) (e : Error) → FailsToQuery sql params old new e → Keeps old new
+  pub failed_query_stays : (sql : List ℕ) (params : Row) (e : Error) → FailsToQuery sql params old new e → Stays old new
   unfolding FailsToQuery
-  failed_query_keeps sql params e (inl h) = not_run_keeps sql params e h
-  failed_query_keeps sql params e (inr h) = show_keeps sql h.0 _ e _ h.2
+  failed_query_stays sql params e (inl h) = not_run_stays sql params e h
+  failed_query_stays sql params e (inr h) = show_stays sql h.0 _ e _ h.2
 
-  rows_keep : (sql : List ℕ) (c : _) (params : Row) (rows : List Row) (o : _) → o ≡ None → ShowsRows old new sql c params rows o → Keeps old new
-  rows_keep sql c params rows None e h = unchanged_keeps h.3
-  rows_keep sql c params rows (Some what) e h = absurd cc
+  rows_stay : (sql : List ℕ) (c : _) (params : Row) (rows : List Row) (o : _) → o ≡ None → ShowsRows old new sql c params rows o → Stays old new
+  rows_stay sql c params rows None e h = unchanged_stays h.3
+  rows_stay sql c params rows (Some what) e h = absurd cc
 
-  pub shown_keeps : (sql : List ℕ) (params : Row) (rows : List Row) → IsPlain (understood old.now.schema sql) → Shown sql params old new rows → Keeps old new
+  pub shown_stays : (sql : List ℕ) (params : Row) (rows : List Row) → IsPlain (understood old.now.schema sql) → Shown sql params old new rows → Stays old new
   unfolding Shown
-  shown_keeps sql params rows plain h = rows_keep sql h.0 _ rows _ (subst IsPlain h.1.is plain).0 h.2
+  shown_stays sql params rows plain h = rows_stay sql h.0 _ rows _ (subst IsPlain h.1.is plain).0 h.2
 
-  pub query_row_keeps : (sql : List ℕ) (params : Row) (r : Result Row Error) → IsPlain (understood old.now.schema sql) → QueriesRow sql params old new r → Keeps old new
+  pub query_row_stays : (sql : List ℕ) (params : Row) (r : Result Row Error) → IsPlain (understood old.now.schema sql) → QueriesRow sql params old new r → Stays old new
   unfolding QueriesRow
-  query_row_keeps sql params (Ok row) plain (inl h) = unchanged_keeps h.1
-  query_row_keeps sql params (Ok row) plain (inr h) = shown_keeps sql params h.0 plain h.1
-  query_row_keeps sql params (Err e) plain (inl h) = failed_query_keeps sql params e h
-  query_row_keeps sql params (Err e) plain (inr h) = shown_keeps sql params [] plain h.1
+  query_row_stays sql params (Ok row) plain (inl h) = unchanged_stays h.1
+  query_row_stays sql params (Ok row) plain (inr h) = shown_stays sql params h.0 plain h.1
+  query_row_stays sql params (Err e) plain (inl h) = failed_query_stays sql params e h
+  query_row_stays sql params (Err e) plain (inr h) = shown_stays sql params [] plain h.1
 
 -- a failure has a name of its own
 store_error_is : (cause : StoreError) → store_error cause ≢ QueryReturnedNoRows

@@ -22,7 +22,9 @@ use Rattle.sqlite.specs.declared.error.Error.TheVariants.{QueryReturnedNoRows}
 use Rattle.sqlite.proofs.Callers.{IsPlain, command_of, first_as, reads_as}
 use Rattle.sqlite_rules.specs.Lists.{Has}
 use Rattle.mstore.specs.Layout.{schema}
-use Rattle.mstore.specs.Rows.{IsStore, IsNode, content, key_of, value_of, in_bounds, is_nearer, IsNearest, HasNone, lookup}
+use Rattle.mstore.specs.Database.{IsStore, content}
+use Rattle.mstore.specs.Map.{in_bounds, is_nearer, IsNearest, HasNone}
+use Rattle.mstore.specs.Rows.{IsNode, key_of, value_of, lookup}
 use Rattle.mstore.proofs.Texts.{step_query, step_command, in_range}
 use Rattle.mstore.proofs.Answer.{outputs_from, outputs_to, rows_to, passes}
 use Rattle.mstore.proofs.Maps.{lookup_has, lookup_none, lookup_some}
@@ -78,7 +80,7 @@ module _ (down : Bool) (text : List ℕ) (is : (command_of (understood schema te
   nearest row tail a (o ∷ rest) some =
       let nodes = store.nodes in
       let here : Has a.ordered o = subst (λ l. Has l o) (sym some) (inl refl) in
-      let it = outputs_from in_range params (col 1 1 ∷ []) (Rattle.mstore.proofs.Texts.by_key down) old.now.trees (row ∷ tail) a o here in
+      let it = outputs_from in_range params (col 1 1 ∷ []) (Rattle.mstore.proofs.Texts.by_key down) old.now.trees 0 refl (row ∷ tail) a o here in
       let r = it.0 in
       let column_is = key_column r (nodes.each r it.1) in
       let shown : row ≡ o.1 = let e = a.shown ∙ ap (map (λ (o : Output). o.1)) some in cc in
@@ -93,7 +95,7 @@ module _ (down : Bool) (text : List ℕ) (is : (command_of (understood schema te
               let s = other.0 in
               let pass = in_range_is low high s (nodes.each s other.1) ∙ ap (in_bounds low high) other.2 ∙ within in
               let x = output (step_query down) (params ∷ s ∷ []) in
-              let among : Has (o ∷ rest) x = subst (λ l. Has l x) some (outputs_to in_range params (col 1 1 ∷ []) (Rattle.mstore.proofs.Texts.by_key down) old.now.trees (row ∷ tail) a s other.1 pass) in
+              let among : Has (o ∷ rest) x = subst (λ l. Has l x) some (outputs_to in_range params (col 1 1 ∷ []) (Rattle.mstore.proofs.Texts.by_key down) old.now.trees 0 refl (row ∷ tail) a s other.1 pass) in
               let least = first_is_least down o rest sorted x among in
               nearer_is down (key_of r) q (sym (ap₂ (λ u v. is_lt (by_key (end_key down) u v)) (key_column s (nodes.each s other.1) ∙ ap Blob other.2) (ap sorts_by it.3 ∙ column_is)) ∙ least);
         },
@@ -109,5 +111,5 @@ module _ (down : Bool) (text : List ℕ) (is : (command_of (understood schema te
       let shown = no_row_is text params old new step_plain h in
       let a = (reads_as text params old new schema store.calm.schema_is (step_command down) is.0 is.1 is.2 [] shown).answer Null in
       lookup_none rows q (λ r has same.
-      rows_to in_range params (col 1 1 ∷ []) (Rattle.mstore.proofs.Texts.by_key down) old.now.trees [] a r has
+      rows_to in_range params (col 1 1 ∷ []) (Rattle.mstore.proofs.Texts.by_key down) old.now.trees 0 refl [] a r has
       (in_range_is low high r (store.nodes.each r has) ∙ ap (in_bounds low high) same ∙ within))

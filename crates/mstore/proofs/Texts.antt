@@ -18,13 +18,9 @@ use Rattle.sqlite.specs.Command.TheVariants.{Select, InsertOr, Delete}
 use Rattle.sqlite_tied.specs.Compute.{everything}
 use Rattle.sqlite.specs.Listing.{understood, reads_listing}
 use Rattle.sqlite.proofs.Callers.{IsPlain, command_of, statement_of}
+use Rattle.mstore.specs.Database.{version_name}
 use Rattle.mstore.specs.Layout.{node, meta, no_schema, schema}
-
-abbrev pub node_text : List ℕ
-node_text = codes "CREATE TABLE node (k BLOB PRIMARY KEY NOT NULL, v BLOB NOT NULL)"
-
-abbrev pub meta_text : List ℕ
-meta_text = codes "CREATE TABLE meta (name TEXT PRIMARY KEY, n INTEGER)"
+use Rattle.mstore.specs.Statements.{node_text, meta_text, get_text, put_text, kill_text, next_text, prev_text, which_text, all_text}
 
 pub node_is : table_defined_by node_text ≡ Ok node
 unfolding everything
@@ -34,13 +30,10 @@ pub meta_is : table_defined_by meta_text ≡ Ok meta
 unfolding everything
 meta_is = refl
 
-abbrev pub get_text : List ℕ
-get_text = codes "SELECT v FROM node WHERE k = ?1"
-
 -- every row of one table that passes the tests, in an order
-abbrev pub table_query : List Term → List Term → List (Term × Key) → Query
-table_query filter project order = record {
-  from = inner 0 end;
+abbrev pub table_query : ℕ → List Term → List Term → List (Term × Key) → Query
+table_query tree filter project order = record {
+  from = inner tree end;
   filter = filter;
   group = None;
   project = project;
@@ -67,7 +60,7 @@ abbrev pub by_key : Bool → List (Term × Key)
 by_key down = (col 1 1, record { collation = Binary; descending = down }) ∷ []
 
 abbrev pub get_query : Query
-get_query = table_query at_key (col 1 2 ∷ []) []
+get_query = table_query 0 at_key (col 1 2 ∷ []) []
 
 abbrev pub get_command : Command
 get_command = Select (program get_query) (codes "v" ∷ [])
@@ -76,11 +69,8 @@ pub get_is : (command_of (understood schema get_text) ≡ get_command) × IsPlai
 unfolding understood everything
 get_is = (refl, (refl, refl), refl)
 
-abbrev pub put_text : List ℕ
-put_text = codes "INSERT INTO node (k, v) VALUES (?1, ?2) ON CONFLICT (k) DO UPDATE SET v = excluded.v"
-
 abbrev pub put_query : Query
-put_query = table_query at_rowid (col 1 0 ∷ col 1 0 ∷ col 1 1 ∷ col 0 5 ∷ []) []
+put_query = table_query 0 at_rowid (col 1 0 ∷ col 1 0 ∷ col 1 1 ∷ col 0 5 ∷ []) []
 
 abbrev pub put_clauses : List Upsert
 put_clauses = record { target = Some (1 ∷ []); update = Some (program put_query) } ∷ []
@@ -95,11 +85,8 @@ pub put_is : (command_of (understood schema put_text) ≡ put_command) × IsPlai
 unfolding understood everything
 put_is = (refl, (refl, refl))
 
-abbrev pub kill_text : List ℕ
-kill_text = codes "DELETE FROM node WHERE k >= ?1 AND k < ?2"
-
 abbrev pub kill_query : Query
-kill_query = table_query in_range (col 1 0 ∷ []) []
+kill_query = table_query 0 in_range (col 1 0 ∷ []) []
 
 abbrev pub kill_command : Command
 kill_command = Delete 0 (program kill_query)
@@ -108,11 +95,8 @@ pub kill_is : (command_of (understood schema kill_text) ≡ kill_command) × IsP
 unfolding understood everything
 kill_is = (refl, (refl, refl))
 
-abbrev pub next_text : List ℕ
-next_text = codes "SELECT k FROM node WHERE k >= ?1 AND k < ?2 ORDER BY k"
-
 abbrev pub step_query : Bool → Query
-step_query down = table_query in_range (col 1 1 ∷ []) (by_key down)
+step_query down = table_query 0 in_range (col 1 1 ∷ []) (by_key down)
 
 abbrev pub step_command : Bool → Command
 step_command down = Select (program (step_query down)) (codes "k" ∷ [])
@@ -121,18 +105,12 @@ pub next_is : (command_of (understood schema next_text) ≡ step_command false) 
 unfolding understood everything
 next_is = (refl, (refl, refl), refl)
 
-abbrev pub prev_text : List ℕ
-prev_text = codes "SELECT k FROM node WHERE k >= ?1 AND k < ?2 ORDER BY k DESC"
-
 pub prev_is : (command_of (understood schema prev_text) ≡ step_command true) × IsPlain (understood schema prev_text) × (reads_listing schema prev_text ≡ false)
 unfolding understood everything
 prev_is = (refl, (refl, refl), refl)
 
-abbrev pub all_text : List ℕ
-all_text = codes "SELECT k, v FROM node"
-
 abbrev pub all_query : Query
-all_query = table_query [] (col 1 1 ∷ col 1 2 ∷ []) []
+all_query = table_query 0 [] (col 1 1 ∷ col 1 2 ∷ []) []
 
 abbrev pub all_command : Command
 all_command = Select (program all_query) (codes "k" ∷ codes "v" ∷ [])
@@ -140,3 +118,17 @@ all_command = Select (program all_query) (codes "k" ∷ codes "v" ∷ [])
 pub all_is : (command_of (understood schema all_text) ≡ all_command) × IsPlain (understood schema all_text) × (reads_listing schema all_text ≡ false)
 unfolding understood everything
 all_is = (refl, (refl, refl), refl)
+
+-- the row of a name
+abbrev pub at_name : List Term
+at_name = op2 (Compare Eq Binary) (col 1 1) (lit version_name) ∷ []
+
+abbrev pub which_query : Query
+which_query = table_query 2 at_name (col 1 2 ∷ []) []
+
+abbrev pub which_command : Command
+which_command = Select (program which_query) (codes "n" ∷ [])
+
+pub which_is : (command_of (understood schema which_text) ≡ which_command) × IsPlain (understood schema which_text) × (reads_listing schema which_text ≡ false)
+unfolding understood everything
+which_is = (refl, (refl, refl), refl)

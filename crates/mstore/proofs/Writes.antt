@@ -13,7 +13,7 @@ use Rattle.sqlite.specs.Rows.{Written, Task, InsertsOr, Deletes}
 use Rattle.sqlite.specs.Effect.{Database}
 use Rattle.sqlite.specs.State.{State, mode_of, Writes}
 use Rattle.mstore.specs.Layout.{node, schema}
-use Rattle.mstore.specs.Rows.{IsStore, AreNodes}
+use Rattle.mstore.specs.Database.{IsIdle}
 
 -- a part that gave a value did not stop on the way
 pub went : {B E R : Type 0} {b : B} {Stops : E → Type 0} → ((stop : E) × Stops stop × (Ok b ≡ Err stop)) ⊎ R → R
@@ -26,28 +26,24 @@ same_value e = cc
 abbrev pub task : State → Row → Task
 task s params = record { limit = s.step_limit; keys = Enforced; schema = schema; table = node; params = params }
 
-module _ (old new : State) (store : IsStore old) (params : Row) (text : List ℕ) (count : ℕ) where
+module _ (old new : State) (has : old.now.schema ≡ schema) (params : Row) (text : List ℕ) (count : ℕ) where
   abbrev pub Leaves : Written → Type 0
   Leaves one = new.now ≡ record { schema = schema; trees = one.trees }
 
   pub inserted : (from : Source) (clauses : List Upsert) → Writes old new None (InsertOr 0 Abort from clauses) text params count
       → (one : Written) × InsertsOr (task old params) Abort clauses from old.now.trees (Ok one) × Leaves one
   inserted from clauses w =
-      let done = went (subst (λ s. Does old.step_limit (mode_of old) params (record old.now { schema = s }) text None (InsertOr 0 Abort from clauses) (Ok (w.tally, new.now))) store.calm.schema_is w.changed) in
+      let done = went (subst (λ s. Does old.step_limit (mode_of old) params (record old.now { schema = s }) text None (InsertOr 0 Abort from clauses) (Ok (w.tally, new.now))) has w.changed) in
       (done.0, done.1, ap (λ (p : Tally × Database). p.1) (same_value (went (went done.2).2).2))
 
   pub deleted : (q : Program) → Writes old new None (Delete 0 q) text params count → (one : Written) × Deletes (task old params) q old.now.trees (Ok one) × Leaves one
   deleted q w =
-      let done = went (subst (λ s. Does old.step_limit (mode_of old) params (record old.now { schema = s }) text None (Delete 0 q) (Ok (w.tally, new.now))) store.calm.schema_is w.changed) in
+      let done = went (subst (λ s. Does old.step_limit (mode_of old) params (record old.now { schema = s }) text None (Delete 0 q) (Ok (w.tally, new.now))) has w.changed) in
       (done.0, done.1, ap (λ (p : Tally × Database). p.1) (same_value (went (went done.2).2).2))
 
-  -- outside a transaction the change is committed
-  pub written_store : (command : Command) → Writes old new None command text params count → (one : Written) → Leaves one → AreNodes (one.trees 0) → IsStore new
-  written_store command w one leaves nodes = record {
-    calm = record {
-      autocommit = w.shown.mode ∙ store.calm.autocommit;
-      settled = sym (w.shown.committed_is ∙ ap (λ b. cond b old.committed new.now) store.calm.autocommit);
-      schema_is = ap (λ (d : Database). d.schema) leaves;
-    };
-    nodes = subst (λ (d : Database). AreNodes (d.trees 0)) (sym leaves) nodes;
-  }
+-- outside a transaction the change is committed
+pub idle_after : (old new : State) (command : Command) (text : List ℕ) (params : Row) (count : ℕ) → Writes old new None command text params count → IsIdle old → IsIdle new
+idle_after old new command text params count w idle = record {
+  autocommit = w.shown.mode ∙ idle.autocommit;
+  settled = sym (w.shown.committed_is ∙ ap (λ b. cond b old.committed new.now) idle.autocommit);
+}

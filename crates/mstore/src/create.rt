@@ -4,7 +4,7 @@ ghost use Rattle.std.specs.Prelude.{◌≡◌, false, OnOk, OnErr};
 ghost use Rattle.sqlite.specs.Held.{state};
 ghost use Rattle.sqlite.specs.State.{HasCleanDisk};
 ghost use Rattle.std.specs.Prelude.{IsTrue};
-ghost use Rattle.mstore.specs.Rows.{IsBlank, IsBare, IsMemory};
+ghost use Rattle.mstore.specs.Database.{IsBlank, IsBare, IsMemory};
 
 use sqlite::{Alter, Connection, Error};
 

@@ -1,16 +1,16 @@
 // How a database that is there is read.
-ghost use Rattle.std.specs.Prelude.{◌≡◌, ◌≢◌, ◌↔◌, ◌<◌, ◌≤◌, List, ℕ, length, IsTrue, IfOk, IfErr, true, false, All};
+ghost use Rattle.std.specs.Prelude.{◌≡◌, ◌↔◌, List, IsTrue, IfOk, false};
 ghost use Rattle.std.specs.List.{AllByRecursion};
-ghost use Rattle.mspec.specs.KeyBytes.{IsAscii};
 ghost use Rattle.sqlite.specs.Held.{state};
 ghost use Rattle.sqlite.specs.declared.types.Value.{Value};
 ghost use Rattle.sqlite_rules.specs.Lists.{Has};
-ghost use Rattle.mstore.specs.Rows.{IsMemory, IsCalm, Keeps, IsValue, IsInForm, ShowsNode, ShowsEach};
+ghost use Rattle.mstore.specs.Database.{IsMemory, IsIdle, IsCalm, Stays, ShowsAll, ShowsVersion};
+ghost use Rattle.mstore.specs.Rows.{IsValue, IsInForm, ShowsNode};
 
 use crate::statements::fault_of;
 use crate::store::StoreFault;
 use mkey::read;
-use sqlite::{Alter, Connection, Row};
+use sqlite::{Alter, Connection, Error, Row};
 use sqlite_value::value::ValueRef;
 use std::alloc::{AllocError, Global};
 
@@ -65,11 +65,23 @@ pub fn are_nodes(alloc: Global, rows: &[Row]) -> Result<bool, AllocError>
 
 // All keys with their values.
 pub fn read_all<S: Alter>(conn: &mut Connection<S>) -> Result<Vec<Row>, StoreFault>
-    ensures kept { IsMemory S.Store → IsCalm (state S.Store conn.old) → Keeps (state S.Store conn.old) (state S.Store conn.new) }
-    ensures all { IsMemory S.Store → IsCalm (state S.Store conn.old) → IfOk result (λ rows. ShowsEach (state S.Store conn.old) rows.items) }
+    ensures stays { IsMemory S.Store → IsCalm (state S.Store conn.old) → Stays (state S.Store conn.old) (state S.Store conn.new) }
+    ensures all { IsMemory S.Store → IsCalm (state S.Store conn.old) → IfOk result (λ rows. ShowsAll (state S.Store conn.old) rows.items) }
 {
     match conn.query_all("SELECT k, v FROM node", &[]) {
         Ok(rows) => Ok(rows),
+        Err(error) => Err(fault_of(&error)),
+    }
+}
+
+// The row that gives the version, where there is one.
+fn find_version<S: Alter>(conn: &mut Connection<S>) -> Result<Option<Row>, StoreFault>
+    ensures stays { IsMemory S.Store → IsCalm (state S.Store conn.old) → Stays (state S.Store conn.old) (state S.Store conn.new) }
+    ensures found { IsMemory S.Store → IsCalm (state S.Store conn.old) → IfOk result (ShowsVersion (state S.Store conn.old).now) }
+{
+    match conn.query_row("SELECT n FROM meta WHERE name = 'version'", &[]) {
+        Ok(row) => Ok(Some(row)),
+        Err(Error::QueryReturnedNoRows) => Ok(None),
         Err(error) => Err(fault_of(&error)),
     }
 }

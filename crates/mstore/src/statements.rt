@@ -1,7 +1,9 @@
 // The statements, each alone.
 
 ghost use Rattle.std.specs.Prelude.{◌≡◌, true, false, IfOk, OnOk, OnErr};
-ghost use Rattle.mstore.specs.Rows.{IsSound, IsKept, IsInForm, holds, ShowsValue, ShowsKey, PutsAt, RemovesWithin};
+ghost use Rattle.mstore.specs.Database.{IsSound, IsKept, holds};
+ghost use Rattle.mstore.specs.Map.{PutsAt, RemovesWithin};
+ghost use Rattle.mstore.specs.Rows.{IsInForm, ShowsValue, ShowsKey};
 
 use crate::store::StoreFault;
 use sqlite::{Alter, Connection, Error, ErrorCode, Row, params};

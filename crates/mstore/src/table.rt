@@ -21,7 +21,7 @@ pub struct Table<S: Alter> {
 
 impl<S: Alter> Model for Table<S> {
     ghost use Rattle.sqlite.specs.Held.{Held, held_code, state};
-    ghost use Rattle.mstore.specs.Rows.{IsMemory, IsStore};
+    ghost use Rattle.mstore.specs.Database.{IsMemory, IsStore};
 
     ghost Value = { Held S };
 
@@ -43,7 +43,7 @@ pub enum OpenFault {
 
 impl Table<MemStore> {
     ghost use Rattle.sqlite.specs.Steps.{over_memory};
-    ghost use Rattle.mstore.specs.Rows.{holds};
+    ghost use Rattle.mstore.specs.Database.{holds};
 
     /// An empty table in memory.
     pub fn open_memory(alloc: Global) -> Result<Table<MemStore>, OpenFault>
@@ -64,7 +64,7 @@ impl Table<MemStore> {
 
 impl<S: Alter> Table<S> {
     ghost use Rattle.sqlite.specs.Held.{state};
-    ghost use Rattle.mstore.specs.Rows.{IsMemory, holds};
+    ghost use Rattle.mstore.specs.Database.{IsMemory, holds};
 
     /// Takes a connection whose database is a store.
     pub fn adopt(alloc: Global, mut conn: Connection<S>) -> Result<Table<S>, (OpenFault, Connection<S>)>

@@ -1,6 +1,6 @@
 use Rattle.std.proofs.Common.{◌≡◌, true, sym, subst, rules}
 use Rattle.sqlite.specs.Held.{state}
-use Rattle.mstore.specs.Rows.{IsBare}
+use Rattle.mstore.specs.Database.{IsBare}
 use Rattle.mstore.proofs.Makes.{makes_node, makes_meta, adds_version}
 use Rattle.mstore.proofs.create.create_tables.Goals as goal
 

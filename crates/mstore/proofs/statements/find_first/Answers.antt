@@ -3,7 +3,8 @@ use Rattle.sqlite.specs.declared.types.Value.TheVariants.{Blob}
 use Rattle.sqlite.specs.Held.{state}
 use Rattle.sqlite.specs.Listing.{understood}
 use Rattle.sqlite.proofs.Callers.{IsPlain}
-use Rattle.mstore.proofs.Texts.{next_text, next_is}
+use Rattle.mstore.proofs.Texts.{next_is}
+use Rattle.mstore.specs.Statements.{next_text}
 use Rattle.mstore.proofs.Steps.{steps, steps_none}
 use Rattle.mstore.proofs.Sound.{clean_after, query_keeps}
 use Rattle.mstore.proofs.statements.find_first.Goals as goal

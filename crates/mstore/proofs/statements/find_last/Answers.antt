@@ -3,7 +3,8 @@ use Rattle.sqlite.specs.declared.types.Value.TheVariants.{Blob}
 use Rattle.sqlite.specs.Held.{state}
 use Rattle.sqlite.specs.Listing.{understood}
 use Rattle.sqlite.proofs.Callers.{IsPlain}
-use Rattle.mstore.proofs.Texts.{prev_text, prev_is}
+use Rattle.mstore.proofs.Texts.{prev_is}
+use Rattle.mstore.specs.Statements.{prev_text}
 use Rattle.mstore.proofs.Steps.{steps, steps_none}
 use Rattle.mstore.proofs.Sound.{clean_after, query_keeps}
 use Rattle.mstore.proofs.statements.find_last.Goals as goal

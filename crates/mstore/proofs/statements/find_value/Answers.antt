@@ -1,7 +1,7 @@
 use Rattle.std.proofs.Common.{[], ◌∷◌}
 use Rattle.sqlite.specs.declared.types.Value.TheVariants.{Blob}
 use Rattle.sqlite.specs.Held.{state}
-use Rattle.mstore.proofs.Texts.{get_text}
+use Rattle.mstore.specs.Statements.{get_text}
 use Rattle.mstore.proofs.Gets.{get_plain, gets, gets_none}
 use Rattle.mstore.proofs.Sound.{clean_after, query_keeps}
 use Rattle.mstore.proofs.statements.find_value.Goals as goal

@@ -1,18 +1,26 @@
 // How a database that is there is read.
-ghost use Rattle.std.specs.Prelude.{◌≡◌, ◌↔◌, List, IsTrue, IfOk, false};
+ghost use Rattle.std.specs.Prelude.{◌≡◌, ◌↔◌, List, IsTrue, IfOk, Err, false};
 ghost use Rattle.std.specs.List.{AllByRecursion};
 ghost use Rattle.sqlite.specs.Held.{state};
+ghost use Rattle.sqlite.specs.Listing.{understood};
+ghost use Rattle.sqlite_resolve.specs.declared.error.CompileError.{CompileError};
 ghost use Rattle.sqlite.specs.declared.types.Value.{Value};
 ghost use Rattle.sqlite_rules.specs.Lists.{Has};
 ghost use Rattle.mstore.specs.Database.{IsMemory, IsIdle, IsCalm, Stays, ShowsAll, ShowsVersion};
+ghost use Rattle.mstore.specs.Statements.{statements, RefusesOne};
 ghost use Rattle.mstore.specs.Rows.{IsValue, IsInForm, ShowsNode};
 
-use crate::statements::fault_of;
+use crate::statements::{GET, KILL, NEXT, PREV, PUT, fault_of};
 use crate::store::StoreFault;
 use mkey::read;
 use sqlite::{Alter, Connection, Error, Row};
 use sqlite_value::value::ValueRef;
 use std::alloc::{AllocError, Global};
+
+// The version, and every row.
+const WHICH: &str = "SELECT n FROM meta WHERE name = 'version'";
+
+const ALL: &str = "SELECT k, v FROM node";
 
 // The most characters that a node holds.
 const LONGEST_TEXT: usize = 4095;
@@ -68,7 +76,7 @@ pub fn read_all<S: Alter>(conn: &mut Connection<S>) -> Result<Vec<Row>, StoreFau
     ensures stays { IsMemory S.Store → IsCalm (state S.Store conn.old) → Stays (state S.Store conn.old) (state S.Store conn.new) }
     ensures all { IsMemory S.Store → IsCalm (state S.Store conn.old) → IfOk result (λ rows. ShowsAll (state S.Store conn.old) rows.items) }
 {
-    match conn.query_all("SELECT k, v FROM node", &[]) {
+    match conn.query_all(ALL, &[]) {
         Ok(rows) => Ok(rows),
         Err(error) => Err(fault_of(&error)),
     }
@@ -79,9 +87,49 @@ fn find_version<S: Alter>(conn: &mut Connection<S>) -> Result<Option<Row>, Store
     ensures stays { IsMemory S.Store → IsCalm (state S.Store conn.old) → Stays (state S.Store conn.old) (state S.Store conn.new) }
     ensures found { IsMemory S.Store → IsCalm (state S.Store conn.old) → IfOk result (ShowsVersion (state S.Store conn.old).now) }
 {
-    match conn.query_row("SELECT n FROM meta WHERE name = 'version'", &[]) {
+    match conn.query_row(WHICH, &[]) {
         Ok(row) => Ok(Some(row)),
         Err(Error::QueryReturnedNoRows) => Ok(None),
         Err(error) => Err(fault_of(&error)),
     }
+}
+
+// Whether the columns take a statement.
+fn takes<S: Alter>(conn: &mut Connection<S>, text: &str) -> Result<bool, StoreFault>
+    ensures stays { IsMemory S.Store → IsIdle (state S.Store conn.old) → Stays (state S.Store conn.old) (state S.Store conn.new) }
+    ensures other { IsMemory S.Store → IfOk result (λ taken. taken ≡ false → (fault : CompileError) × (understood (state S.Store conn.old).now.schema text.now ≡ Err fault)) }
+{
+    match conn.prepare(text) {
+        Ok(_) => Ok(true),
+        Err(Error::SqlInputError(_)) => Ok(false),
+        Err(error) => Err(fault_of(&error)),
+    }
+}
+
+// A statement of this crate, by its number.
+fn statement(number: usize) -> &'static str
+    ensures { Has statements result.now }
+{
+    match number {
+        0 => GET,
+        1 => PUT,
+        2 => KILL,
+        3 => NEXT,
+        4 => PREV,
+        5 => WHICH,
+        _ => ALL,
+    }
+}
+
+// Whether the columns take each of the statements.
+pub fn takes_each<S: Alter>(conn: &mut Connection<S>) -> Result<bool, StoreFault>
+    ensures stays { IsMemory S.Store → IsIdle (state S.Store conn.old) → Stays (state S.Store conn.old) (state S.Store conn.new) }
+    ensures other { IsMemory S.Store → IsIdle (state S.Store conn.old) → IfOk result (λ taken. taken ≡ false → RefusesOne (state S.Store conn.old).now.schema) }
+{
+    for number in 0..7 {
+        if !takes(conn, statement(number))? {
+            return Ok(false);
+        }
+    }
+    Ok(true)
 }

@@ -32,12 +32,13 @@ use Rattle.sqlite_rules.proofs.PlaceLemmas.{tied_same}
 use Rattle.sqlite_catalog.specs.Listing.{IsSound}
 use Rattle.sqlite_catalog.proofs.LayoutLemmas.{laid_out, objects_rise}
 use Rattle.sqlite_typed.proofs.TestLemmas.{at_ints, at_blobs, last_term, bytes_eq_refl}
-use Rattle.sqlite.specs.Effect.{IsDatabase}
+use Rattle.sqlite.specs.Effect.{Database, IsDatabase}
+use Rattle.mstore.specs.declared.open_fault.OpenFault.{OpenFault}
 use Rattle.sqlite.specs.Held.{Held, state}
 use Rattle.mstore.specs.Layout.{node, schema}
-use Rattle.mstore.specs.Database.{IsMemory, IsCalm, Stays, ShowsAll}
+use Rattle.mstore.specs.Database.{IsMemory, IsCalm, IsStore, Stays, ShowsAll, ShowsNodes}
 use Rattle.mstore.specs.Rows.{AreNodes, IsNode, IsInForm, ShowsNode, HasOther, shown_of, key_of, value_of}
-use Rattle.std.proofs.Common.{All, IsTrue}
+use Rattle.std.proofs.Common.{IsTrue, OnOk, Result}
 use Rattle.std.proofs.lemmas.List.Elements.{All-contains}
 use Rattle.sqlite_rules.proofs.ListLemmas.{contains_had}
 use Rattle.sqlite.specs.declared.types.Value.{Value}
@@ -49,7 +50,7 @@ use Rattle.sqlite.proofs.Callers.{IsPlain, reads_as}
 use Rattle.mstore.proofs.Texts.{all_is, all_command}
 use Rattle.mstore.specs.Statements.{all_text}
 use Rattle.mstore.proofs.Answer.{rows_from, rows_to}
-use Rattle.mstore.proofs.States.{shown_stays}
+use Rattle.mstore.proofs.States.{shown_stays, stays_calm}
 use Rattle.mstore.proofs.RowTests.{key_column}
 
 node_shape : (r : Row) (k v : List ℕ) → is_int (rowid r) ≡ true → are_typed None 0 node.columns (drop 1 r) ≡ true → column r 1 ≡ Blob k → column r 2 ≡ Blob v → IsNode r
@@ -122,10 +123,21 @@ pub all_stays : (old new : State) (shown : List Row) → IsCalm old → IsTrue n
 all_stays old new shown calm is_open h = shown_stays old new calm.idle is_open all_text [] shown (subst (λ s. IsPlain (understood s all_text)) (sym calm.schema_is) all_is.1) h
 
 -- what is taken is a store
-pub adopted : {S : Type 0} (g : Ghosts S) (h : Held S) (shown : List Row) → IsMemory g → IsLive (state g h) → IsCalm (state g h) → ShowsAll (state g h) shown → AllByRecursion ShowsNode shown → AreNodes ((state g h).now.trees 0)
-adopted g h shown quiet live calm all nodes = nodes_from g h quiet (live (quiet.is_open h.store)).0 calm.schema_is (λ r has.
-    let it = all_has ShowsNode shown (shown_of r) nodes (all.each r has) in
-    (it.0, it.1, ap (λ (x : Row). column x 0) it.2, ap (λ (x : Row). column x 1) it.2, it.3))
+pub taken : {S : Type 0} (g : Ghosts S) (h : Held S) → IsMemory g → IsLive (state g h) → IsCalm (state g h) → ShowsNodes (state g h).now → IsStore (state g h)
+taken g h quiet live calm nodes = record {
+  calm = calm;
+  nodes = nodes_from g h quiet (live (quiet.is_open h.store)).0 calm.schema_is (λ r has.
+      let it = nodes r has in
+      (it.0, it.1, ap (λ (x : Row). column x 0) it.2, ap (λ (x : Row). column x 1) it.2, it.3));
+}
+
+pub store_after : {S : Type 0} (g : Ghosts S) (old new : Held S) (r : Result Unit OpenFault) → IsMemory g → IsLive (state g old) → IsCalm (state g old) → Stays (state g old) (state g new)
+    → OnOk r (ShowsNodes (state g old).now) → OnOk r (IsStore (state g new))
+store_after g old new (Ok _) quiet live calm stays nodes = record {
+  calm = stays_calm (state g old) (state g new) calm stays;
+  nodes = subst (λ (d : Database). AreNodes (d.trees 0)) (sym stays.same) (taken g old quiet live calm nodes).nodes;
+}
+store_after g old new (Err e) quiet live calm stays nodes = nodes
 
 -- a row that is shown and is no node is in the table
 pub other_row : (s : State) (shown : List Row) → ShowsAll s shown → ((row : Row) × Has shown row × (ShowsNode row → ⊥)) → HasOther (s.now.trees 0)

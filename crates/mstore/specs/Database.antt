@@ -1,5 +1,8 @@
 -- What a connection holds where its database is that of a table, and what a call leaves of it.
-use Rattle.std.specs.Prelude.{◌≡◌, ◌≢◌, ◌⊎◌, ℕ, pos, List, ◌∷◌, [], codes, false, Option, Some, None, IsTrue}
+use Rattle.std.specs.Prelude.{◌≡◌, ◌≢◌, ◌⊎◌, ◌||◌, ℕ, pos, List, ◌∷◌, [], codes, Bool, false, Option, Some, None, IsTrue}
+use Rattle.std.specs.List.{list_any}
+use Rattle.sqlite_schema.specs.declared.schema.Schema.{Schema}
+use Rattle.sqlite_schema.specs.Names.{same_name}
 use Rattle.sqlite_value.specs.declared.value.Value.{Value}
 use Rattle.sqlite_value.specs.declared.value.Value.TheVariants.{Int, Text}
 use Rattle.sqlite_value.specs.Order.{Row, column}
@@ -12,7 +15,7 @@ use Rattle.sqlite.specs.Effect.{Database}
 use Rattle.sqlite.specs.Held.{Held, state}
 use Rattle.mstore.specs.Layout.{schema, no_schema}
 use Rattle.mstore.specs.Map.{Content}
-use Rattle.mstore.specs.Rows.{AreNodes, lookup, shown_of}
+use Rattle.mstore.specs.Rows.{AreNodes, ShowsNode, lookup, shown_of}
 use Rattle.mstore.specs.Statements.{RefusesOne}
 
 -- the store beneath is memory: it never loses what it holds, and is in order at each moment
@@ -74,6 +77,10 @@ pub record ShowsAll (s : State) (shown : List Row) : Type 0 where
   pub each : (r : Row) → Has (s.now.trees 0) r → Has shown (shown_of r)
   pub only : (row : Row) → Has shown row → (r : Row) × Has (s.now.trees 0) r × (row ≡ shown_of r)
 
+-- each row is a key and a value in form
+abbrev pub ShowsNodes : Database → Type 0
+ShowsNodes db = (r : Row) → Has (db.trees 0) r → ShowsNode (shown_of r)
+
 -- ---- the version
 
 abbrev pub version_name : Value
@@ -101,6 +108,19 @@ pub record IsBare (db : Database) : Type 0 where
   pub empty : db.trees 0 ≡ []
   pub version : HasVersion db this_version
 
--- why a database is not one of this version: its columns do not take our statements, or it gives no version or another
+-- ---- a database that is opened
+
+abbrev pub has_table : Schema → List ℕ → Bool
+has_table schema name = list_any (λ t. same_name t.name name) schema.tables
+
+-- it has one of the two tables, and columns that do not take one of the statements
+abbrev pub RefusesColumns : Schema → Type 0
+RefusesColumns schema = IsTrue (has_table schema (codes "node") || has_table schema (codes "meta")) × RefusesOne schema
+
+-- why a database is not one of this version: its columns, or it gives no version or another
 abbrev pub IsOtherVersion : Database → Type 0
-IsOtherVersion db = RefusesOne db.schema ⊎ ((db.schema ≡ schema) × (HasNoVersion db ⊎ ((v : Value) × HasVersion db v × (v ≢ this_version))))
+IsOtherVersion db = RefusesColumns db.schema ⊎ ((db.schema ≡ schema) × (HasNoVersion db ⊎ ((v : Value) × HasVersion db v × (v ≢ this_version))))
+
+-- a database with no table has got both, and one that was a table of this version is as it was
+abbrev pub IsOpenedFrom : State → State → Type 0
+IsOpenedFrom old new = (IsBlank old × IsBare new.now) ⊎ ((new.now ≡ old.now) × (old.now.schema ≡ schema) × HasVersion old.now this_version)

@@ -1,5 +1,6 @@
 pub mod Database
 pub mod Entries
+pub mod Faults
 pub mod Layout
 pub mod Map
 pub mod Rows

@@ -1,7 +1,7 @@
 // Whether a schema is that of a store.
 
 ghost use Rattle.std.specs.Prelude.{◌≡◌, [], ◌∷◌, true, false, IsTrue, codes, ◌↔◌};
-ghost use Rattle.mstore.specs.Layout.{column_of, table_of, index_of, schema as schema_of};
+ghost use Rattle.mstore.specs.Layout.{column_of, table_of, index_of, no_schema, schema as schema_of};
 
 use sqlite_schema::code::Terms;
 use sqlite_schema::schema::{Column, Index, Kind, Schema, Table};
@@ -148,4 +148,11 @@ pub fn is_store(schema: &Schema) -> bool
     has_tables(schema.tables.as_slice())
         && has_indexes(schema.indexes.as_slice())
         && schema.views.is_empty()
+}
+
+// Whether the schema has no table.
+pub fn is_blank(schema: &Schema) -> bool
+    ensures { IsTrue result ↔ (schema.now ≡ no_schema) }
+{
+    schema.tables.is_empty() && schema.indexes.is_empty() && schema.views.is_empty()
 }

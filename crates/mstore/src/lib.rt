@@ -5,12 +5,14 @@
 
 mod create;
 mod layout;
+mod open_fault;
 mod opening;
 pub mod plain;
 mod statements;
 pub mod store;
 pub mod table;
 
+pub use open_fault::OpenFault;
 pub use plain::Plain;
 pub use store::{NodeStore, StoreFault};
-pub use table::{OpenFault, Table};
+pub use table::Table;

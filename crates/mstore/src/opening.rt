@@ -1,19 +1,25 @@
 // How a database that is there is read.
-ghost use Rattle.std.specs.Prelude.{◌≡◌, ◌↔◌, List, IsTrue, IfOk, Err, false};
+ghost use Rattle.std.specs.Prelude.{◌≡◌, ◌≢◌, ◌↔◌, List, IsTrue, IfOk, OnOk, OnErr, Err, false};
 ghost use Rattle.std.specs.List.{AllByRecursion};
 ghost use Rattle.sqlite.specs.Held.{state};
 ghost use Rattle.sqlite.specs.Listing.{understood};
 ghost use Rattle.sqlite_resolve.specs.declared.error.CompileError.{CompileError};
 ghost use Rattle.sqlite.specs.declared.types.Value.{Value};
 ghost use Rattle.sqlite_rules.specs.Lists.{Has};
-ghost use Rattle.mstore.specs.Database.{IsMemory, IsIdle, IsCalm, Stays, ShowsAll, ShowsVersion};
+ghost use Rattle.mstore.specs.Database.{IsMemory, IsIdle, IsCalm, IsStore, IsUntouched, IsOpenedFrom, Stays, ShowsAll, ShowsNodes, ShowsVersion, HasVersion, this_version, has_table, RefusesColumns, IsOtherVersion};
+ghost use Rattle.mstore.specs.Layout.{schema as schema_of};
 ghost use Rattle.mstore.specs.Statements.{statements, RefusesOne};
-ghost use Rattle.mstore.specs.Rows.{IsValue, IsInForm, ShowsNode};
+ghost use Rattle.mstore.specs.Rows.{IsValue, IsInForm, ShowsNode, HasOther};
 
+use crate::create::make_tables;
+use crate::layout::{is_blank, is_store};
+use crate::open_fault::OpenFault;
 use crate::statements::{GET, KILL, NEXT, PREV, PUT, fault_of};
 use crate::store::StoreFault;
 use mkey::read;
 use sqlite::{Alter, Connection, Error, Row};
+use sqlite_schema::names::same_name;
+use sqlite_schema::schema::Schema;
 use sqlite_value::value::ValueRef;
 use std::alloc::{AllocError, Global};
 
@@ -132,4 +138,96 @@ pub fn takes_each<S: Alter>(conn: &mut Connection<S>) -> Result<bool, StoreFault
         }
     }
     Ok(true)
+}
+
+// Whether there is a table of a name.
+fn has_table(schema: &Schema, name: &[u8]) -> bool
+    ensures { result ≡ has_table schema.now name.now }
+{
+    schema
+        .tables
+        .as_slice()
+        .iter()
+        .any(|table| same_name(table.name.as_slice(), name))
+}
+
+// Why a database is refused that has tables, and not those that are made here.
+fn refusal<S: Alter>(conn: &mut Connection<S>) -> OpenFault
+    ensures stays { IsMemory S.Store → IsIdle (state S.Store conn.old) → Stays (state S.Store conn.old) (state S.Store conn.new) }
+    ensures version { IsMemory S.Store → IsIdle (state S.Store conn.old) → result ≡ OpenFault.BadVersion → RefusesColumns (state S.Store conn.old).now.schema }
+    ensures key { result ≢ OpenFault.BadKey }
+{
+    let schema = conn.schema();
+    if !has_table(schema, b"node") && !has_table(schema, b"meta") {
+        return OpenFault::Store;
+    }
+    match takes_each(conn) {
+        Ok(true) => OpenFault::Store,
+        Ok(false) => OpenFault::BadVersion,
+        Err(fault) => OpenFault::from(fault),
+    }
+}
+
+// Tests the version.
+fn test_version<S: Alter>(conn: &mut Connection<S>) -> Result<(), OpenFault>
+    ensures stays { IsMemory S.Store → IsCalm (state S.Store conn.old) → Stays (state S.Store conn.old) (state S.Store conn.new) }
+    ensures this { IsMemory S.Store → IsCalm (state S.Store conn.old) → OnOk result (HasVersion (state S.Store conn.old).now this_version) }
+    ensures version { IsMemory S.Store → IsCalm (state S.Store conn.old) → result ≡ Err OpenFault.BadVersion → IsOtherVersion (state S.Store conn.old).now }
+    ensures key { result ≢ Err OpenFault.BadKey }
+{
+    let Some(row) = find_version(conn)? else {
+        return Err(OpenFault::BadVersion);
+    };
+    match row.get_ref(0) {
+        Ok(ValueRef::Int(2)) => Ok(()),
+        _ => Err(OpenFault::BadVersion),
+    }
+}
+
+// Tests each row.
+fn test_rows<S: Alter>(alloc: Global, conn: &mut Connection<S>) -> Result<(), OpenFault>
+    ensures stays { IsMemory S.Store → IsCalm (state S.Store conn.old) → Stays (state S.Store conn.old) (state S.Store conn.new) }
+    ensures nodes { IsMemory S.Store → IsCalm (state S.Store conn.old) → OnOk result (ShowsNodes (state S.Store conn.old).now) }
+    ensures key { IsMemory S.Store → IsCalm (state S.Store conn.old) → result ≡ Err OpenFault.BadKey → HasOther ((state S.Store conn.old).now.trees 0) }
+    ensures version { result ≢ Err OpenFault.BadVersion }
+{
+    let rows = read_all(conn)?;
+    match are_nodes(alloc, rows.as_slice()) {
+        Ok(true) => Ok(()),
+        Ok(false) => Err(OpenFault::BadKey),
+        Err(_) => Err(OpenFault::Memory),
+    }
+}
+
+// Tests the tables that are there.
+fn test_tables<S: Alter>(alloc: Global, conn: &mut Connection<S>) -> Result<(), OpenFault>
+    ensures stays { IsMemory S.Store → IsCalm (state S.Store conn.old) → Stays (state S.Store conn.old) (state S.Store conn.new) }
+    ensures this { IsMemory S.Store → IsCalm (state S.Store conn.old) → OnOk result (HasVersion (state S.Store conn.old).now this_version) }
+    ensures nodes { IsMemory S.Store → IsCalm (state S.Store conn.old) → OnOk result (ShowsNodes (state S.Store conn.old).now) }
+    ensures version { IsMemory S.Store → IsCalm (state S.Store conn.old) → result ≡ Err OpenFault.BadVersion → IsOtherVersion (state S.Store conn.old).now }
+    ensures key { IsMemory S.Store → IsCalm (state S.Store conn.old) → result ≡ Err OpenFault.BadKey → HasOther ((state S.Store conn.old).now.trees 0) }
+{
+    test_version(conn)?;
+    test_rows(alloc, conn)
+}
+
+// Makes the tables in a database without any, and tests those that are there.
+pub fn open_tables<S: Alter>(alloc: Global, conn: &mut Connection<S>) -> Result<(), OpenFault>
+    ensures store { IsMemory S.Store → OnOk result (IsStore (state S.Store conn.new)) }
+    ensures opened { IsMemory S.Store → OnOk result (IsOpenedFrom (state S.Store conn.old) (state S.Store conn.new)) }
+    ensures untouched { IsMemory S.Store → OnErr result (IsUntouched (state S.Store conn.old) (state S.Store conn.new)) }
+    ensures version { IsMemory S.Store → result ≡ Err OpenFault.BadVersion → IsOtherVersion (state S.Store conn.old).now }
+    ensures key { IsMemory S.Store → result ≡ Err OpenFault.BadKey → ((state S.Store conn.old).now.schema ≡ schema_of) × HasOther ((state S.Store conn.old).now.trees 0) }
+{
+    if !conn.is_autocommit() {
+        return Err(OpenFault::Store);
+    }
+    let schema = conn.schema();
+    if is_blank(schema) {
+        return make_tables(conn);
+    }
+    if is_store(schema) {
+        return test_tables(alloc, conn);
+    }
+    Err(refusal(conn))
 }

@@ -1,19 +1,15 @@
 // A table over a connection.
+ghost use Rattle.std.specs.Prelude.{◌≡◌, IfOk, IfErr, Vec, List, ℕ, None};
+ghost use Rattle.mstore.specs.Layout.{schema};
 
-ghost use Rattle.std.specs.Prelude.{◌≡◌, false, IfOk, IfErr, Vec, List, ℕ, None};
-ghost use Rattle.sqlite.specs.Order.{column};
-ghost use Rattle.sqlite.specs.declared.types.Value.TheVariants.{Blob};
-
-use crate::create::create_tables;
-use crate::layout::is_store;
-use crate::opening::{are_nodes, read_all};
-use crate::statements::fault_of;
-use crate::store::StoreFault;
-use sqlite::{Alter, Connection, MemStore, Row};
+use crate::create::make_tables;
+use crate::open_fault::OpenFault;
+use crate::opening::open_tables;
+use sqlite::{Alter, Connection, MemStore};
 use std::alloc::Global;
 use std::marker::Model;
 
-/// A map in the table `node` of a connection.
+/// A store in the table `node` of a database. What is said of its content holds where its connection is in memory.
 #[derive(Drop)]
 pub struct Table<S: Alter> {
     conn: Connection<S>,
@@ -32,63 +28,56 @@ impl<S: Alter> Model for Table<S> {
     ghost invariant = { λ t. IsMemory S.Store → IsStore (state S.Store t.conn) };
 }
 
-/// Why no table was opened.
-#[derive(Clone, Copy, Debug, PartialEq, Eq, Drop)]
-pub enum OpenFault {
-    BadKey,
-    BadVersion,
-    Store,
-    Memory,
-}
-
 impl Table<MemStore> {
     ghost use Rattle.sqlite.specs.Steps.{over_memory};
     ghost use Rattle.mstore.specs.Database.{holds};
 
     /// An empty table in memory.
+    ///
+    /// # Errors
+    ///
+    /// `Memory` and `Store`.
     pub fn open_memory(alloc: Global) -> Result<Table<MemStore>, OpenFault>
         ensures { IfOk result (λ t. (q : List ℕ) → holds over_memory t q ≡ None) }
     {
         let Ok(mut conn) = Connection::open_in_memory(alloc) else {
             return Err(OpenFault::Memory);
         };
-        match create_tables(&mut conn) {
-            Ok(()) => Ok(Table { conn }),
-            Err(error) => Err(match fault_of(&error) {
-                StoreFault::Memory => OpenFault::Memory,
-                StoreFault::Store => OpenFault::Store,
-            }),
-        }
+        make_tables(&mut conn)?;
+        Ok(Table { conn })
     }
 }
 
 impl<S: Alter> Table<S> {
     ghost use Rattle.sqlite.specs.Held.{state};
-    ghost use Rattle.mstore.specs.Database.{IsMemory, holds};
+    ghost use Rattle.mstore.specs.Database.{IsMemory, IsStore, IsOpenedFrom, IsOtherVersion, IsUntouched};
+    ghost use Rattle.mstore.specs.Rows.{HasOther};
 
-    /// Takes a connection whose database is a store.
-    pub fn adopt(alloc: Global, mut conn: Connection<S>) -> Result<Table<S>, (OpenFault, Connection<S>)>
-        ensures same { IfOk result (λ t. IsMemory S.Store → holds S.Store t ≡ holds S.Store conn) }
-        ensures back { IfErr result (λ e. IsMemory S.Store → conn.in_transaction ≡ false → (state S.Store e.1).now ≡ (state S.Store conn).now) }
+    /// Takes a connection whose database is a table of this version, with exactly its rows, or has no table and gets it.
+    ///
+    /// # Errors
+    ///
+    /// With the connection, and its database unchanged: `BadVersion` where one of `node` and `meta` is missing, where their
+    /// columns do not take a statement of this crate, where there is no row `version` or one of another version; `BadKey`
+    /// where a row is not a node's; `Memory`; and `Store` where the database refuses, where a transaction is open, and where
+    /// there is more than the two tables or they are otherwise made.
+    pub fn adopt(
+        alloc: Global,
+        mut conn: Connection<S>,
+    ) -> Result<Table<S>, (OpenFault, Connection<S>)>
+        ensures store { IfOk result (λ t. IsMemory S.Store → IsStore (state S.Store t)) }
+        ensures opened { IfOk result (λ t. IsMemory S.Store → IsOpenedFrom (state S.Store conn) (state S.Store t)) }
+        ensures back { IfErr result (λ e. IsMemory S.Store → IsUntouched (state S.Store conn) (state S.Store e.1)) }
+        ensures version { IfErr result (λ e. IsMemory S.Store → e.0 ≡ OpenFault.BadVersion → IsOtherVersion (state S.Store conn).now) }
+        ensures key { IfErr result (λ e. IsMemory S.Store → e.0 ≡ OpenFault.BadKey → ((state S.Store conn).now.schema ≡ schema) × HasOther ((state S.Store conn).now.trees 0)) }
     {
-        if !conn.is_autocommit() {
-            return Err((OpenFault::Store, conn));
-        }
-        if !is_store(conn.schema()) {
-            return Err((OpenFault::BadVersion, conn));
-        }
-        let rows = match read_all(&mut conn) {
-            Ok(rows) => rows,
-            Err(StoreFault::Memory) => return Err((OpenFault::Memory, conn)),
-            Err(StoreFault::Store) => return Err((OpenFault::Store, conn)),
-        };
-        match are_nodes(alloc, rows.as_slice()) {
-            Ok(true) => Ok(Table { conn }),
-            Ok(false) => Err((OpenFault::BadKey, conn)),
-            Err(_) => Err((OpenFault::Memory, conn)),
+        match open_tables(alloc, &mut conn) {
+            Ok(()) => Ok(Table { conn }),
+            Err(fault) => Err((fault, conn)),
         }
     }
 
+    /// The connection, with the rows as they are. Takes no memory.
     pub fn into_connection(self) -> Connection<S>
         ensures { result ≡ self }
     {

@@ -1,6 +1,6 @@
 // The statements, each alone.
 
-ghost use Rattle.std.specs.Prelude.{◌≡◌, true, false, IfOk, OnOk, OnErr};
+ghost use Rattle.std.specs.Prelude.{◌≡◌, ◌↔◌, true, false, IfOk, OnOk, OnErr};
 ghost use Rattle.mstore.specs.Database.{IsSound, IsKept, holds};
 ghost use Rattle.mstore.specs.Map.{PutsAt, RemovesWithin};
 ghost use Rattle.mstore.specs.Rows.{IsInForm, ShowsValue, ShowsKey};
@@ -20,7 +20,9 @@ pub const NEXT: &str = "SELECT k FROM node WHERE k >= ?1 AND k < ?2 ORDER BY k";
 pub const PREV: &str = "SELECT k FROM node WHERE k >= ?1 AND k < ?2 ORDER BY k DESC";
 
 // What went wrong, of which nothing but want of memory is told apart.
-pub fn fault_of(error: &Error) -> StoreFault {
+pub fn fault_of(error: &Error) -> StoreFault
+    ensures { (result ≡ StoreFault.Memory) ↔ (error.now ≡ Error.SqliteFailure ErrorCode.OutOfMemory) }
+{
     match error {
         Error::SqliteFailure(ErrorCode::OutOfMemory) => StoreFault::Memory,
         _ => StoreFault::Store,

@@ -1,13 +1,17 @@
 // A table over a connection.
-ghost use Rattle.std.specs.Prelude.{◌≡◌, IfOk, IfErr, Vec, List, ℕ, None};
+ghost use Rattle.std.specs.Prelude.{◌≡◌, IfOk, IfErr, List, ℕ, None, Err, codes};
 ghost use Rattle.mstore.specs.Layout.{schema};
 
 use crate::create::make_tables;
 use crate::open_fault::OpenFault;
 use crate::opening::open_tables;
+use crate::statements::fault_of;
 use sqlite::{Alter, Connection, MemStore};
+use sqlite_std_file::File;
+use sqlite_store::FileStore;
 use std::alloc::Global;
 use std::marker::Model;
+use std::rt::HostRuntime;
 
 /// A store in the table `node` of a database. What is said of its content holds where its connection is in memory.
 #[derive(Drop)]
@@ -45,6 +49,29 @@ impl Table<MemStore> {
         };
         make_tables(&mut conn)?;
         Ok(Table { conn })
+    }
+}
+
+impl Table<FileStore<File>> {
+    ghost use Rattle.mstore.specs.declared.open_fault.OpenFault.TheVariants.{Store};
+
+    /// The table in a file, which is made where there is none. The log of the database stands beside the file, and a
+    /// statement that has returned is in it, also where the process is killed.
+    ///
+    /// # Errors
+    ///
+    /// Those of `adopt`. A file that is no database, or that another process has open, is `Store`, and so is `:memory:`.
+    pub fn open_file(rt: &HostRuntime, path: &str) -> Result<Table<FileStore<File>>, OpenFault>
+        ensures { path.now ≡ codes ":memory:" → result ≡ Err Store }
+    {
+        let conn = match Connection::open(rt, path) {
+            Ok(conn) => conn,
+            Err(error) => return Err(OpenFault::from(fault_of(&error))),
+        };
+        match Table::adopt(rt.alloc(), conn) {
+            Ok(table) => Ok(table),
+            Err((fault, _)) => Err(fault),
+        }
     }
 }
 

@@ -100,7 +100,7 @@ pub keys_are_injective : KeysAreInjective
 keys_are_injective kept a b all_a all_b e = node_cmp_exact kept a b (sym (key_order kept a b all_a all_b) ∙ same_bytes _ _ e)
 
 -- a node with more subscripts, or none, behind those of another
-within : (a b : Node) (more : List Text) → a.account ≡ b.account → a.name ≡ b.name → b.subscripts ≡ a.subscripts ++ more → IsWithin a b
+pub within : (a b : Node) (more : List Text) → a.account ≡ b.account → a.name ≡ b.name → b.subscripts ≡ a.subscripts ++ more → IsWithin a b
 within a b [] account name e = inl (same_node a b account name (sym (append-nil a.subscripts) ∙ sym e))
 within a b (s ∷ more) account name e = inr (record { account = account; name = name; longer = (s, more, e) })
 

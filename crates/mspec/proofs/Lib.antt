@@ -29,4 +29,5 @@ pub mod KeyExamples
 pub mod NodeOrders
 pub mod KeyOrders
 pub mod KeyRanges
+pub mod KeyReadings
 pub mod Matchings

@@ -17,6 +17,7 @@ pub mod Pattern
 pub mod NodeOrder
 pub mod KeyBytes
 pub mod KeyLaws
+pub mod KeyReading
 pub mod Matching
 pub mod PatternLaws
 pub mod Interpretations

@@ -1,6 +1,7 @@
 pub mod Database
 pub mod Entries
 pub mod Faults
+pub mod Keyed
 pub mod Layout
 pub mod Map
 pub mod Rows

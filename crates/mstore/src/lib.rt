@@ -3,8 +3,16 @@
 //! What a store holds, and what its calls do to that, are definitions of `mspec`: `Globals`.
 #![tactic(auto)]
 
+mod create;
+mod layout;
+mod open_fault;
+mod opening;
 pub mod plain;
+mod statements;
 pub mod store;
+pub mod table;
 
+pub use open_fault::OpenFault;
 pub use plain::Plain;
 pub use store::{NodeStore, StoreFault};
+pub use table::Table;

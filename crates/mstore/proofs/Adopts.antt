@@ -1,0 +1,146 @@
+-- The rows of a database whose columns are blobs are a map.
+use Rattle.std.proofs.Common.{◌≡◌, ◌≢◌, ◌⊎◌, ℕ, ℤ, ◌<◌, Bool, cond, true, false, not, ◌&&◌, List, [], ◌∷◌, length, drop, Option, Some, None, Ok, Err, refl, sym, ap, ap₂, subst, ◌∙◌, inl, inr, arith, is_eq, int_eq}
+use Rattle.std.proofs.lemmas.Bool.{true≢false, and_parts, not-true, false_from_ne_true}
+use Rattle.std.proofs.lemmas.Int.{ints}
+use Rattle.std.proofs.lemmas.Cmp.{tied_itself}
+use Rattle.std.specs.List.{AllByRecursion, list_any}
+use Rattle.sqlite.specs.declared.types.Value.TheVariants.{Int, Blob}
+use Rattle.sqlite.specs.Order.{Row, column}
+use Rattle.sqlite.specs.Collation.TheVariants.{Binary}
+use Rattle.sqlite_value.specs.Order.{bytes, value_cmp}
+use Rattle.sqlite_value.specs.Keys.{plain}
+use Rattle.sqlite_value.specs.declared.keys.Key.{Key}
+use Rattle.sqlite_value.proofs.KeyLemmas.{first_key-plain}
+use Rattle.sqlite_value.proofs.OrderLemmas.{value_cmp_total}
+use Rattle.sqlite_sql.specs.Ops.{binary, is_true}
+use Rattle.sqlite_sql.specs.declared.ops.BinaryOp.TheVariants.{Compare}
+use Rattle.sqlite_sql.specs.declared.ops.CompareOp.TheVariants.{Eq, Ne}
+use Rattle.sqlite_schema.specs.declared.schema.Constraint.TheVariants.{Datatype, Unique}
+use Rattle.sqlite_schema.specs.declared.schema.Schema.{Schema}
+use Rattle.sqlite_schema.specs.Rules.{are_typed, clashes, agree, differ}
+use Rattle.sqlite_trees.specs.declared.store.Store.{Ghosts}
+use Rattle.sqlite_trees.specs.declared.store.Shape.TheVariants.{Table}
+use Rattle.sqlite_trees.specs.Tree.{rowid, IsTable}
+use Rattle.sqlite_trees.specs.View.{is_int, IsShaped}
+use Rattle.sqlite_rules.specs.Lists.{Has}
+use Rattle.sqlite_rules.specs.Edit.{id_in}
+use Rattle.sqlite_rules.proofs.ListLemmas.{all_has, some_from}
+use Rattle.sqlite_rules.proofs.RuleLemmas.{keeps_at}
+use Rattle.sqlite_rules.proofs.RowLemmas.{untyped}
+use Rattle.sqlite_rules.proofs.TableLemmas.{int_is}
+use Rattle.sqlite_rules.proofs.PlaceLemmas.{tied_same}
+use Rattle.sqlite_catalog.specs.Listing.{IsSound}
+use Rattle.sqlite_catalog.proofs.LayoutLemmas.{laid_out, objects_rise}
+use Rattle.sqlite_typed.proofs.TestLemmas.{at_ints, at_blobs, last_term, bytes_eq_refl}
+use Rattle.sqlite.specs.Effect.{Database, IsDatabase}
+use Rattle.mstore.specs.declared.open_fault.OpenFault.{OpenFault}
+use Rattle.sqlite.specs.Held.{Held, state}
+use Rattle.mstore.specs.Layout.{node, schema}
+use Rattle.mstore.specs.Database.{IsMemory, IsCalm, IsStore, Stays, ShowsAll, ShowsNodes}
+use Rattle.mstore.specs.Rows.{AreNodes, IsNode, IsInForm, ShowsNode, HasOther, shown_of, key_of, value_of}
+use Rattle.std.proofs.Common.{IsTrue, OnOk, Result}
+use Rattle.std.proofs.lemmas.List.Elements.{All-contains}
+use Rattle.sqlite_rules.proofs.ListLemmas.{contains_had}
+use Rattle.sqlite.specs.declared.types.Value.{Value}
+use Rattle.sqlite.specs.declared.types.Value.TheVariants.{Null}
+use Rattle.sqlite.specs.Term.{col}
+use Rattle.sqlite.specs.State.{State, Shown, IsLive}
+use Rattle.sqlite.specs.Listing.{understood}
+use Rattle.sqlite.proofs.Callers.{IsPlain, reads_as}
+use Rattle.mstore.proofs.Texts.{all_is, all_command}
+use Rattle.mstore.specs.Statements.{all_text}
+use Rattle.mstore.proofs.Answer.{rows_from, rows_to}
+use Rattle.mstore.proofs.States.{shown_stays, stays_calm}
+use Rattle.mstore.proofs.RowTests.{key_column}
+
+node_shape : (r : Row) (k v : List ℕ) → is_int (rowid r) ≡ true → are_typed None 0 node.columns (drop 1 r) ≡ true → column r 1 ≡ Blob k → column r 2 ≡ Blob v → IsNode r
+node_shape [] k v int typed one two = absurd cc
+node_shape (a ∷ []) k v int typed one two = absurd cc
+node_shape (a ∷ b ∷ []) k v int typed one two = absurd cc
+node_shape (a ∷ b ∷ c ∷ []) k v int typed one two =
+    ap (λ x. x ∷ b ∷ c ∷ []) (int_is a int) ∙ ap₂ (λ x y. Int (id_in a) ∷ x ∷ y ∷ []) (one ∙ ap (λ x. Blob (bytes x)) (sym one)) (two ∙ ap (λ x. Blob (bytes x)) (sym two))
+node_shape (a ∷ b ∷ c ∷ d ∷ more) k v int typed one two = absurd (true≢false (sym typed ∙ untyped None 0 node.columns (b ∷ c ∷ d ∷ more) (omega arith)))
+
+int_same : (m n : ℤ) → not (int_eq m n) ≡ false → m ≡ n
+int_same m n h = grind (arith, ints)
+
+module _ {S : Type 0} (g : Ghosts S) (h : Held S) (quiet : IsMemory g) (db : IsDatabase (state g h).now) (has : h.schema ≡ schema) where
+  abbrev rows : List Row
+  rows = (g.view h.store).trees 0
+
+  sound : IsSound schema (g.view h.store).trees
+  sound = subst (λ s. IsSound s (g.view h.store).trees) has db
+
+  shaped : IsShaped Table rows
+  shaped =
+      let v = g.view h.store in
+      let laid = laid_out (quiet.listed h.store) (objects_rise v (quiet.listed h.store) (quiet.ordered h.store)) sound.lists.listed in
+      subst (λ s. IsShaped s rows) laid.tables.0 (quiet.ordered h.store 0)
+
+  module _ (blobs : (r : Row) → Has rows r → (k : List ℕ) × (v : List ℕ) × (column r 1 ≡ Blob k) × (column r 2 ≡ Blob v) × IsInForm k v) where
+    node_each : (r : Row) → Has rows r → IsNode r
+    node_each r here =
+        let it = blobs r here in
+        let typed = keeps_at Datatype schema (g.view h.store).trees node r (sound.obeys.rules Datatype) (inl refl) here in
+        node_shape r it.0 it.1 (all_has _ rows r shaped.1 here) (and_parts _ _ typed).0 it.2 it.3
+
+    node_in_form : (r : Row) → Has rows r → IsInForm (key_of r) (value_of r)
+    node_in_form r here =
+        let it = blobs r here in
+        subst (λ a. IsInForm (bytes a) (value_of r)) (sym it.2) (subst (λ b. IsInForm it.0 (bytes b)) (sym it.3) it.4)
+
+    node_ids : (r s : Row) → Has rows r → Has rows s → rowid r ≡ rowid s → r ≡ s
+    node_ids r s a b same = tied_same rows r s shaped.0 a b (subst (λ x. value_cmp (rowid r) x ≡ Rattle.std.proofs.Common.Equal) same (tied_itself value_cmp_total (rowid r)))
+
+    agrees : (r s : Row) → Has rows r → Has rows s → key_of r ≡ key_of s → agree plain (1 ∷ []) s (1 ∷ []) r ≡ true
+    agrees r s a b same =
+        ap (λ (f : Key). is_true (binary (Compare Eq f.collation) (column s 1) (column r 1)) && true) first_key-plain
+        ∙ last_term (ap₂ (λ x y. is_true (binary (Compare Eq Binary) x y)) (key_column s (node_each s b)) (key_column r (node_each r a)) ∙ at_blobs false Eq (key_of s) (key_of r)
+        ∙ subst (λ k. is_eq (Rattle.std.specs.Cmp.Lexicographic.slice_cmp Rattle.std.proofs.Common.nat_cmp (key_of s) k) ≡ true) (sym same) (bytes_eq_refl (key_of s)))
+
+    node_keys : (r s : Row) → Has rows r → Has rows s → key_of r ≡ key_of s → r ≡ s
+    node_keys r s a b same =
+        let unique = keeps_at Unique schema (g.view h.store).trees node r (sound.obeys.rules Unique) (inl refl) a in
+        let alone : clashes plain (1 ∷ []) rows r ≡ false = not-true _ (and_parts _ _ unique).0 in
+        let ids : differ (rowid s) (rowid r) ≡ false = false_from_ne_true (differ (rowid s) (rowid r)) (λ other.
+        true≢false (sym (some_from _ rows s b (Rattle.std.proofs.lemmas.Bool.and_from _ _ (agrees r s a b same) other)) ∙ alone)) in
+        let number = λ (t : Row) (here : Has rows t). ap (λ u. rowid u) (node_each t here) in
+        let one = int_same (id_in (rowid s)) (id_in (rowid r)) (sym (ap₂ (λ x y. is_true (binary (Compare Ne Binary) x y)) (number s b) (number r a) ∙ at_ints false Ne (id_in (rowid s)) (id_in (rowid r))) ∙ ids) in
+        node_ids r s a b (number r a ∙ ap Int (sym one) ∙ sym (number s b))
+
+    pub nodes_from : AreNodes rows
+    nodes_from = record { each = node_each; in_form = node_in_form; ids = node_ids; keys = node_keys }
+
+pub all_shown : (old new : State) (shown : List Row) → old.now.schema ≡ schema → Shown all_text [] old new shown → ShowsAll old shown
+all_shown old new shown has h =
+    let a = (reads_as all_text [] old new schema has all_command all_is.0 all_is.1 all_is.2 shown h).answer Null in
+    record {
+      each = λ r here. rows_to [] [] (col 1 1 ∷ col 1 2 ∷ []) [] old.now.trees 0 refl shown a r here refl;
+      only = λ row among. let it = rows_from [] [] (col 1 1 ∷ col 1 2 ∷ []) [] old.now.trees 0 refl shown a row among in (it.0, it.1, it.3);
+    }
+
+pub all_stays : (old new : State) (shown : List Row) → IsCalm old → IsTrue new.is_open → Shown all_text [] old new shown → Stays old new
+all_stays old new shown calm is_open h = shown_stays old new calm.idle is_open all_text [] shown (subst (λ s. IsPlain (understood s all_text)) (sym calm.schema_is) all_is.1) h
+
+-- what is taken is a store
+pub taken : {S : Type 0} (g : Ghosts S) (h : Held S) → IsMemory g → IsLive (state g h) → IsCalm (state g h) → ShowsNodes (state g h).now → IsStore (state g h)
+taken g h quiet live calm nodes = record {
+  calm = calm;
+  nodes = nodes_from g h quiet (live (quiet.is_open h.store)).0 calm.schema_is (λ r has.
+      let it = nodes r has in
+      (it.0, it.1, ap (λ (x : Row). column x 0) it.2, ap (λ (x : Row). column x 1) it.2, it.3));
+}
+
+pub store_after : {S : Type 0} (g : Ghosts S) (old new : Held S) (r : Result Unit OpenFault) → IsMemory g → IsLive (state g old) → IsCalm (state g old) → Stays (state g old) (state g new)
+    → OnOk r (ShowsNodes (state g old).now) → OnOk r (IsStore (state g new))
+store_after g old new (Ok _) quiet live calm stays nodes = record {
+  calm = stays_calm (state g old) (state g new) calm stays;
+  nodes = subst (λ (d : Database). AreNodes (d.trees 0)) (sym stays.same) (taken g old quiet live calm nodes).nodes;
+}
+store_after g old new (Err e) quiet live calm stays nodes = nodes
+
+-- a row that is shown and is no node is in the table
+pub other_row : (s : State) (shown : List Row) → ShowsAll s shown → ((row : Row) × Has shown row × (ShowsNode row → ⊥)) → HasOther (s.now.trees 0)
+other_row s shown all found =
+    let it = all.only found.0 found.1 in
+    (it.0, it.1, λ node. found.2 (subst ShowsNode (sym it.2) node))

@@ -1,0 +1,40 @@
+-- What `get` finds.
+use Rattle.std.proofs.Common.{◌≡◌, ◌≢◌, ℕ, true, false, List, [], ◌∷◌, Option, Some, None, Ok, Err, refl, sym, ap, subst, ◌∙◌, inl, inr}
+use Rattle.sqlite.specs.declared.types.Value.TheVariants.{Null, Blob}
+use Rattle.sqlite.specs.Order.{Row, column}
+use Rattle.sqlite_value.specs.Order.{bytes}
+use Rattle.sqlite.specs.State.{State, QueriesRow}
+use Rattle.sqlite.specs.Listing.{understood}
+use Rattle.sqlite.specs.declared.error.Error.TheVariants.{QueryReturnedNoRows}
+use Rattle.sqlite.proofs.Callers.{IsPlain, first_as, reads_as}
+use Rattle.sqlite_typed.proofs.TestLemmas.{same_bytes}
+use Rattle.mstore.specs.Layout.{schema}
+use Rattle.mstore.specs.Database.{IsStore, content}
+use Rattle.mstore.specs.Rows.{key_of, value_of, is_at}
+use Rattle.mstore.proofs.Texts.{get_is, get_command, at_key}
+use Rattle.mstore.specs.Statements.{get_text}
+use Rattle.mstore.proofs.Answer.{rows_from, rows_to}
+use Rattle.mstore.proofs.Maps.{lookup_has, lookup_none, at_itself}
+use Rattle.mstore.proofs.States.{no_row_is}
+use Rattle.mstore.proofs.RowTests.{at_key_is, value_column}
+
+pub get_plain : (s : State) → IsStore s → IsPlain (understood s.now.schema get_text)
+get_plain s store = subst (λ c. IsPlain (understood c get_text)) (sym store.calm.schema_is) get_is.1
+
+pub gets : (old new : State) (k : List ℕ) (row : Row) → IsStore old → QueriesRow get_text (Blob k ∷ []) old new (Ok row)
+    → (v : List ℕ) × (row ≡ Blob v ∷ []) × (content old k ≡ Some v)
+gets old new k row store h =
+    let nodes = store.nodes in
+    let got = (first_as get_text (Blob k ∷ []) old new schema store.calm.schema_is get_command get_is.0 get_is.1 get_is.2 row h).1 in
+    let it = rows_from at_key (Blob k ∷ []) (Rattle.sqlite.specs.Term.col 1 2 ∷ []) [] old.now.trees 0 refl (row ∷ got.0) (got.1 Null) row (inl refl) in
+    let node = nodes.each it.0 it.1 in
+    let same = same_bytes (key_of it.0) k (sym (at_key_is k it.0 node) ∙ it.2) in
+    (value_of it.0, it.3 ∙ ap (λ v. v ∷ []) (value_column it.0 node), subst (λ q. content old q ≡ Some (value_of it.0)) same (lookup_has (old.now.trees 0) it.0 nodes it.1))
+
+pub gets_none : (old new : State) (k : List ℕ) → IsStore old → QueriesRow get_text (Blob k ∷ []) old new (Err QueryReturnedNoRows) → content old k ≡ None
+gets_none old new k store h =
+    let nodes = store.nodes in
+    let shown = no_row_is get_text (Blob k ∷ []) old new (get_plain old store) h in
+    let a = (reads_as get_text (Blob k ∷ []) old new schema store.calm.schema_is get_command get_is.0 get_is.1 get_is.2 [] shown).answer Null in
+    lookup_none (old.now.trees 0) k (λ r has same.
+    rows_to at_key (Blob k ∷ []) (Rattle.sqlite.specs.Term.col 1 2 ∷ []) [] old.now.trees 0 refl [] a r has (at_key_is k r (nodes.each r has) ∙ at_itself r k same))

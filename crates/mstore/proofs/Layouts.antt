@@ -1,0 +1,14 @@
+-- The schema of a store, written out.
+use Rattle.std.proofs.Common.{◌≡◌, true, false, [], ◌∷◌, codes, refl}
+use Rattle.std.specs.Fmt.{digits}
+use Rattle.sqlite.specs.Kind.TheVariants.{Integer, Text, Any}
+use Rattle.mstore.specs.Layout.{column_of, table_of, index_of, schema}
+
+pub schema_is : schema ≡ record {
+  tables = table_of (codes "node") 0 (column_of (codes "k") Any true ∷ column_of (codes "v") Any true ∷ [])
+      ∷ table_of (codes "meta") 2 (column_of (codes "name") Text false ∷ column_of (codes "n") Integer false ∷ []) ∷ [];
+  indexes = index_of (codes "sqlite_autoindex_node_1") 1 0 ∷ index_of (codes "sqlite_autoindex_meta_1") 3 2 ∷ [];
+  views = [];
+}
+unfolding digits
+schema_is = refl

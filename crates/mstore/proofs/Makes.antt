@@ -1,0 +1,131 @@
+-- How the tables are made.
+use Rattle.std.proofs.Common.{◌≡◌, ◌≢◌, ◌⊎◌, ℕ, ℤ, pos, Bool, cond, true, false, List, [], ◌∷◌, codes, Option, Some, None, Ok, Err, Result, refl, sym, ap, ap₂, subst, ◌∙◌, inl, inr, arith}
+use Rattle.sqlite.specs.declared.types.Value.TheVariants.{Null, Int, Text}
+use Rattle.sqlite.specs.Order.{Row}
+use Rattle.sqlite.specs.Term.{Term, lit}
+use Rattle.sqlite.specs.Source.{Source}
+use Rattle.sqlite.specs.Source.TheVariants.{Values}
+use Rattle.sqlite.specs.Command.TheVariants.{CreateTable, Insert}
+use Rattle.sqlite.specs.Compile.{table_defined_by}
+use Rattle.sqlite.specs.Table.{Table}
+use Rattle.sqlite.specs.Tree.{Trees}
+use Rattle.sqlite.specs.Edit.{edit_of, numbered, next_rowid, put_all}
+use Rattle.sqlite_schema.specs.declared.schema.Keys.TheVariants.{Enforced}
+use Rattle.sqlite_rules.specs.declared.error.Rowids.TheVariants.{Chosen}
+use Rattle.sqlite.specs.Change.{created, next_tree}
+use Rattle.sqlite.specs.Does.{Tally, Does, lacks_sequence}
+use Rattle.sqlite.specs.Rows.{Written}
+use Rattle.sqlite_trees.specs.Memory.{memory_is_listed, memory_is_ordered}
+use Rattle.sqlite_tied.specs.Compute.{everything}
+use Rattle.sqlite.specs.Listing.{understood}
+use Rattle.sqlite.specs.Effect.{Database}
+use Rattle.sqlite.specs.State.{State, mode_of, Writes, Executes}
+use Rattle.sqlite.proofs.Callers.{IsPlain, command_of, statement_of, runs_as, one_step}
+use Rattle.mstore.specs.Layout.{node, meta, schema, no_schema}
+use Rattle.mstore.specs.Database.{version_name, this_version, IsIdle, IsStore, IsBare, IsBlank, IsMemory, content}
+use Rattle.mstore.specs.Rows.{AreNodes, lookup}
+use Rattle.sqlite.specs.Steps.{over_memory, IsEmpty}
+use Rattle.sqlite_trees.proofs.Doubt.{no_doubt}
+use Rattle.mstore.proofs.Texts.{node_is, meta_is}
+use Rattle.mstore.specs.Statements.{node_text, meta_text, version_text}
+use Rattle.mstore.proofs.Casts.{cast_null, cast_int}
+use Rattle.sqlite_rules.proofs.TableLemmas.{put_all_adds}
+use Rattle.sqlite_rules.specs.Lists.{Has}
+use Rattle.mstore.proofs.Writes.{went, same_value}
+
+abbrev version_source : Source
+version_source = Values (lit Null ∷ lit (Text (codes "version")) ∷ lit (Int (pos 2)) ∷ []) 3
+
+make_node : (command_of (understood no_schema node_text) ≡ CreateTable) × (statement_of node_text (understood no_schema node_text) ≡ node_text) × IsPlain (understood no_schema node_text)
+unfolding understood everything
+make_node = (refl, refl, (refl, refl))
+
+make_meta : (command_of (understood (created no_schema node) meta_text) ≡ CreateTable) × (statement_of meta_text (understood (created no_schema node) meta_text) ≡ meta_text)
+    × IsPlain (understood (created no_schema node) meta_text)
+unfolding understood everything
+make_meta = (refl, refl, (refl, refl))
+
+version_is : (command_of (understood schema version_text) ≡ Insert 1 version_source) × IsPlain (understood schema version_text)
+unfolding understood everything
+version_is = (refl, (refl, refl))
+
+-- both tables stand, and no node
+pub record HasTables (db : Database) : Type 0 where
+  pub schema_is : db.schema ≡ schema
+  pub empty : db.trees 0 ≡ []
+
+pub makes_node : (old new : State) (count : ℕ) → old.now.schema ≡ no_schema → Executes node_text [] old new (Ok count) → (new.now.schema ≡ created no_schema node) × (new.now.trees 0 ≡ [])
+makes_node old new count has h =
+    let w = subst (λ t. Writes old new None CreateTable t [] count) make_node.1 (runs_as node_text [] old new no_schema has CreateTable make_node.0 make_node.2 count h) in
+    let all = went w.changed in
+    let first = went all.1 in
+    let made = first.1 in
+    let both : Ok made.table ≡ Ok node = sym made.defined ∙ node_is in
+    let same : made.table ≡ node = cc in
+    let made_is : first.0.schema ≡ created no_schema node = made.is ∙ ap (λ s. created s made.table) has ∙ ap (created no_schema) same in
+    let plain : lacks_sequence first.0.schema ≡ false = ap lacks_sequence made_is in
+    let now : new.now ≡ first.0 = ap (λ (p : Tally × Database). p.1) (same_value all.2) ∙ same_value (rw plain at first.2) in
+    (ap (λ (d : Database). d.schema) now ∙ made_is, ap (λ (d : Database). d.trees 0) now ∙ subst (λ s. first.0.trees (next_tree s) ≡ []) has made.empty)
+
+pub makes_meta : (old new : State) (count : ℕ) → old.now.schema ≡ created no_schema node → old.now.trees 0 ≡ [] → Executes meta_text [] old new (Ok count) → HasTables new.now
+makes_meta old new count has none h =
+    let w = subst (λ t. Writes old new None CreateTable t [] count) make_meta.1 (runs_as meta_text [] old new (created no_schema node) has CreateTable make_meta.0 make_meta.2 count h) in
+    let all = went (subst (λ s. Does old.step_limit (mode_of old) [] (record old.now { schema = s }) meta_text None CreateTable (Ok (w.tally, new.now))) has w.changed) in
+    let first = went all.1 in
+    let made = first.1 in
+    let both : Ok made.table ≡ Ok meta = sym made.defined ∙ meta_is in
+    let same : made.table ≡ meta = cc in
+    let made_is : first.0.schema ≡ schema = made.is ∙ ap (created (created no_schema node)) same in
+    let plain : lacks_sequence first.0.schema ≡ false = ap lacks_sequence made_is in
+    let now : new.now ≡ first.0 = ap (λ (p : Tally × Database). p.1) (same_value all.2) ∙ same_value (rw plain at first.2) in
+    record { schema_is = ap (λ (d : Database). d.schema) now ∙ made_is; empty = ap (λ (d : Database). d.trees 0) now ∙ made.others.0 ∙ none }
+
+apart : ◌≡◌ {A = ℕ} 0 2 → ⊥
+apart e = absurd (omega (arith, e))
+
+abbrev version_row : List Row → Row
+version_row rows = Int (next_rowid rows) ∷ version_name ∷ this_version ∷ []
+
+abbrev meta_table : Table
+meta_table = record meta { tree = 2 }
+
+news_is : (db : Trees) (given : List Row) → given ≡ (Null ∷ version_name ∷ this_version ∷ []) ∷ [] → (edit_of db meta_table [] Chosen 0 given).news ≡ version_row (db 2) ∷ []
+news_is db given is = ap (λ l. (edit_of db meta_table [] Chosen 0 l).news) is ∙ ap₂ (λ a b. numbered Chosen (db 2) ((a ∷ version_name ∷ b ∷ []) ∷ [])) cast_null (cast_int (pos 2))
+
+pub adds_version : (old new : State) (count : ℕ) → HasTables old.now → Executes version_text [] old new (Ok count) → IsBare new.now
+adds_version old new count bare h =
+    let db = old.now.trees in
+    let w = runs_as version_text [] old new schema bare.schema_is (Insert 1 version_source) version_is.0 version_is.1 count h in
+    let text = statement_of version_text (understood schema version_text) in
+    let done = went (subst (λ s. Does old.step_limit (mode_of old) [] (record old.now { schema = s }) text None (Insert 1 version_source) (Ok (w.tally, new.now))) bare.schema_is w.changed) in
+    let now = ap (λ (p : Tally × Database). p.1) (same_value (went (went done.2).2).2) in
+    let given = went done.1 in
+    let written = went (went given.2).2 in
+    let counted = went written.2 in
+    let trees : done.0.trees ≡ written.0 = ap (λ (it : Written). it.trees) (same_value counted.2) ∙ same_value counted.1 in
+    let edit = edit_of db meta_table [] Chosen 0 given.0 in
+    let step = one_step schema Enforced db written.0 edit refl written.1 in
+    let kept : written.0 0 ≡ db 0 = step.tables.0 apart in
+    let news : edit.news ≡ version_row (db 2) ∷ [] = news_is db given.0 given.1.1 in
+    let added = put_all_adds edit.news (db 2) (version_row (db 2)) step.fresh (subst (λ l. Has l (version_row (db 2))) (sym news) (inl refl)) in
+    let rows : new.now.trees 2 ≡ put_all (db 2) edit.news = ap (λ (d : Database). d.trees 2) now ∙ ap (λ (t : Trees). t 2) trees ∙ step.rows in
+    record {
+      schema_is = ap (λ (d : Database). d.schema) now;
+      empty = ap (λ (d : Database). d.trees 0) now ∙ ap (λ (t : Trees). t 0) trees ∙ kept ∙ bare.empty;
+      version = (version_row (db 2), subst (λ l. Has l (version_row (db 2))) (sym rows) added, refl, refl);
+    }
+
+pub bare_nodes : (rows : List Row) → rows ≡ [] → AreNodes rows
+bare_nodes rows none = subst AreNodes (sym none) (record { each = λ r h. absurd h; in_form = λ r h. absurd h; ids = λ r s h. absurd h; keys = λ r s h. absurd h })
+
+pub bare_store : (s : State) → IsBare s.now → IsIdle s → IsStore s
+bare_store s bare idle = record { calm = record { idle = idle; schema_is = bare.schema_is }; nodes = bare_nodes (s.now.trees 0) bare.empty }
+
+pub blank_from : (s : State) → IsEmpty s → IsBlank s
+blank_from s h = record { idle = record { autocommit = h.0.autocommit; settled = h.0.clean }; schema_is = h.2 }
+
+pub memory_is : IsMemory over_memory
+memory_is = record { clean = λ s. no_doubt true refl; is_open = λ s. refl; listed = memory_is_listed; ordered = memory_is_ordered }
+
+pub bare_is_none : (s : State) (q : List ℕ) → IsBare s.now → content s q ≡ None
+bare_is_none s q bare = ap (λ rows. lookup rows q) bare.empty

@@ -1,0 +1,33 @@
+-- What the tests of the statements say of a row.
+use Rattle.std.proofs.Common.{◌≡◌, ℕ, Bool, true, false, ◌&&◌, List, [], ◌∷◌, refl, sym, ap, ap₂, subst, ◌∙◌, is_eq, is_lt, is_le, nat_cmp}
+use Rattle.std.specs.Cmp.Lexicographic.{slice_cmp}
+use Rattle.sqlite.specs.declared.types.Value.{Value}
+use Rattle.sqlite.specs.declared.types.Value.TheVariants.{Blob}
+use Rattle.sqlite.specs.Order.{Row, column}
+use Rattle.sqlite.specs.Collation.TheVariants.{Binary}
+use Rattle.sqlite_sql.specs.declared.ops.BinaryOp.TheVariants.{Compare}
+use Rattle.sqlite_sql.specs.declared.ops.CompareOp.TheVariants.{Eq, Ge, Lt}
+use Rattle.sqlite_sql.specs.Ops.{binary, is_true}
+use Rattle.sqlite_typed.proofs.TestLemmas.{at_blobs, last_term}
+use Rattle.mstore.specs.Map.{in_bounds}
+use Rattle.mstore.specs.Rows.{IsNode, key_of, value_of, is_at}
+use Rattle.mstore.proofs.Texts.{at_key, in_range}
+use Rattle.mstore.proofs.Answer.{passes}
+
+pub key_column : (r : Row) → IsNode r → column r 1 ≡ Blob (key_of r)
+key_column r h = ap (λ s. column s 1) h
+
+pub value_column : (r : Row) → IsNode r → column r 2 ≡ Blob (value_of r)
+value_column r h = ap (λ s. column s 2) h
+
+-- the key is in the range
+abbrev pub is_within : List ℕ → List ℕ → Row → Bool
+is_within low high r = in_bounds low high (key_of r)
+
+pub at_key_is : (k : List ℕ) (r : Row) → IsNode r → passes at_key (Blob k ∷ []) r ≡ is_at k r
+at_key_is k r node = last_term (ap (λ v. is_true (binary (Compare Eq Binary) v (Blob k))) (key_column r node) ∙ at_blobs false Eq (key_of r) k)
+
+pub in_range_is : (low high : List ℕ) (r : Row) → IsNode r → passes in_range (Blob low ∷ Blob high ∷ []) r ≡ is_within low high r
+in_range_is low high r node = ap₂ ◌&&◌
+    (ap (λ v. is_true (binary (Compare Ge Binary) v (Blob low))) (key_column r node) ∙ at_blobs false Ge (key_of r) low)
+    (last_term (ap (λ v. is_true (binary (Compare Lt Binary) v (Blob high))) (key_column r node) ∙ at_blobs false Lt (key_of r) high))

@@ -1,0 +1,49 @@
+-- From what a call says to what it leaves of a sound store.
+use Rattle.std.proofs.Common.{◌≡◌, ℕ, List, [], ◌∷◌, Result, Ok, Err, refl, sym, ap, subst, ◌∙◌}
+use Rattle.sqlite_trees.specs.declared.store.Store.{Ghosts}
+use Rattle.sqlite.specs.Order.{Row}
+use Rattle.sqlite.specs.declared.error.Error.{Error}
+use Rattle.sqlite.specs.Effect.{Database}
+use Rattle.sqlite.specs.Held.{Held, state}
+use Rattle.sqlite.specs.State.{State, HasCleanDisk, QueriesRow, Executes}
+use Rattle.sqlite.specs.Listing.{understood}
+use Rattle.sqlite.proofs.Callers.{IsPlain}
+use Rattle.mstore.specs.Database.{IsSound, IsIdle, Stays, holds}
+use Rattle.mstore.specs.Map.{PutsAt, RemovesWithin}
+use Rattle.mstore.specs.Rows.{IsInForm, AreNodes, lookup}
+use Rattle.mstore.proofs.States.{stays_calm, query_row_stays, failed_execute_stays}
+use Rattle.sqlite.specs.declared.types.Value.TheVariants.{Blob}
+use Rattle.mstore.specs.Statements.{put_text, kill_text}
+use Rattle.mstore.proofs.Puts.{puts, put_nodes, put_map}
+use Rattle.mstore.proofs.Kills.{kills, kill_map}
+use Rattle.mstore.proofs.Edits.{left_nodes}
+
+-- each call lifts what its statement does to the store
+module _ {S : Type 0} (g : Ghosts S) (old new : Held S) (sound : IsSound g old) where
+  pub clean_after : HasCleanDisk (state g new)
+  clean_after = sound.0.clean new.store
+
+  abbrev idle : IsIdle (state g old)
+  idle = sound.1.calm.idle
+
+  kept_sound : Stays (state g old) (state g new) → IsSound g new × (holds g new ≡ holds g old)
+  kept_sound k = (
+    (sound.0, record { calm = stays_calm _ _ sound.1.calm k; nodes = subst (λ (d : Database). AreNodes (d.trees 0)) (sym k.same) sound.1.nodes }),
+    ap (λ (d : Database). lookup (d.trees 0)) k.same,
+  )
+
+  pub query_keeps : (sql : List ℕ) (params : Row) (r : Result Row Error) → IsPlain (understood old.schema sql) → QueriesRow sql params (state g old) (state g new) r → IsSound g new × (holds g new ≡ holds g old)
+  query_keeps sql params r plain h = kept_sound (query_row_stays (state g old) (state g new) idle (sound.0.is_open new.store) sql params r plain h)
+
+  pub failed_execute : (sql : List ℕ) (params : Row) (e : Error) → Executes sql params (state g old) (state g new) (Err e) → IsSound g new × (holds g new ≡ holds g old)
+  failed_execute sql params e h = kept_sound (failed_execute_stays (state g old) (state g new) idle (sound.0.is_open new.store) sql params e h)
+
+  pub put_done : (k v : List ℕ) (count : ℕ) → IsInForm k v → Executes put_text (Blob k ∷ Blob v ∷ []) (state g old) (state g new) (Ok count) → IsSound g new × PutsAt (holds g old) (holds g new) k v
+  put_done k v count right h =
+      let it = puts (state g old) sound.1.calm.schema_is sound.1.nodes k v (state g new) count h in
+      ((sound.0, record { calm = record { idle = it.1 idle; schema_is = it.0 }; nodes = put_nodes _ _ k v right sound.1.nodes it.2 }), put_map _ _ k v right sound.1.nodes it.2)
+
+  pub kill_done : (low high : List ℕ) (count : ℕ) → Executes kill_text (Blob low ∷ Blob high ∷ []) (state g old) (state g new) (Ok count) → IsSound g new × RemovesWithin (holds g old) (holds g new) low high
+  kill_done low high count h =
+      let it = kills (state g old) sound.1.calm.schema_is sound.1.nodes low high (state g new) count h in
+      ((sound.0, record { calm = record { idle = it.1 idle; schema_is = it.0 }; nodes = left_nodes _ _ _ sound.1.nodes it.2 }), kill_map _ _ low high sound.1.nodes it.2)

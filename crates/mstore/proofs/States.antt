@@ -1,0 +1,112 @@
+-- What a statement leaves, whatever became of it.
+use Rattle.std.proofs.Common.{◌≡◌, ◌≢◌, ◌⊎◌, ℕ, Bool, true, false, List, [], ◌∷◌, Option, Some, None, Result, Ok, Err, IsTrue, MatchBool, refl, sym, ap, subst, ◌∙◌, inl, inr}
+use Rattle.std.proofs.lemmas.Bool.{cases_Bool}
+use Rattle.sqlite.specs.Order.{Row}
+use Rattle.sqlite.specs.Command.{Command}
+use Rattle.sqlite.specs.Command.TheVariants.{Select, Rows}
+use Rattle.sqlite.specs.Effect.{Database, RefusesToRead}
+use Rattle.sqlite_trees.specs.declared.error.StoreError.{StoreError}
+use Rattle.sqlite_trees.specs.declared.error.StoreError.TheVariants.{OutOfMemory, Io, Corrupt, Full, Broken, Unstorable}
+use Rattle.sqlite.specs.declared.error.Error.{Error}
+use Rattle.sqlite.specs.declared.error.Error.TheVariants.{QueryReturnedNoRows}
+use Rattle.sqlite.specs.Listing.{understood}
+use Rattle.sqlite.specs.State.{State, IsUnchanged, IsRolledBack, Fails, IsNotRun, FailsToQuery, FailsToShow, QueriesRow, ExecutesIn, Executes, RunsAlone, RunsCommand, Shown, ShowsRows, Begins, store_error, shows_rows}
+use Rattle.sqlite.proofs.Callers.{IsPlain}
+use Rattle.mstore.specs.Database.{IsIdle, IsCalm, Stays, IsUntouched}
+
+pub stays_calm : (old new : State) → IsCalm old → Stays old new → IsCalm new
+stays_calm old new was k = record { idle = k.idle; schema_is = ap (λ (d : Database). d.schema) k.same ∙ was.schema_is }
+
+-- one call after another
+pub stays_on : (a b c : State) → Stays a b → Stays b c → Stays a c
+stays_on a b c p q = record { idle = q.idle; same = q.same ∙ p.same }
+
+pub untouched : (old new : State) → IsIdle old → Stays old new → IsUntouched old new
+untouched old new was k = record { now = k.same; committed = sym k.idle.settled ∙ k.same ∙ was.settled; mode = k.idle.autocommit ∙ sym was.autocommit }
+
+module _ (old new : State) (was : IsIdle old) (is_open : IsTrue new.is_open) where
+  pub unchanged_stays : IsUnchanged old new → Stays old new
+  unchanged_stays h = record {
+    idle = record { autocommit = h.0.mode ∙ was.autocommit; settled = h.0.now_is ∙ was.settled ∙ sym h.0.committed_is };
+    same = h.0.now_is;
+  }
+
+  pub undone_stays : IsRolledBack old new → Stays old new
+  undone_stays h =
+      let back = h.undone is_open in
+      record { idle = record { autocommit = h.autocommit; settled = back.0 ∙ sym back.1 }; same = back.0 ∙ sym was.settled }
+
+  pub not_run_stays : (sql : List ℕ) (params : Row) (e : Error) → IsNotRun old new sql params e → Stays old new
+  unfolding IsNotRun
+  not_run_stays sql params e (inl h) = unchanged_stays h.1
+  not_run_stays sql params e (inr h) = undone_stays h.3
+
+  command_stays : (sql : List ℕ) (c : _) (params : Row) (e : Error) → RunsCommand old new sql c params (Err e) → Stays old new
+  command_stays sql c params e (inl h) = unchanged_stays h.1
+  command_stays sql c params e (inr h) = undone_stays h.3
+
+  pub failed_execute_stays : (sql : List ℕ) (params : Row) (e : Error) → Executes sql params old new (Err e) → Stays old new
+  unfolding ExecutesIn
+  failed_execute_stays sql params e (inl h) = not_run_stays sql params e h
+  failed_execute_stays sql params e (inr h) = elim (cases_Bool (shows_rows false h.0)) [
+    | inl shows ↦ unchanged_stays (rw shows at h.2).1
+    | inr runs ↦ command_stays sql h.0 _ e (rw runs at h.2)
+  ]
+
+  show_stays : (sql : List ℕ) (c : _) (params : Row) (e : Error) (o : _) → FailsToShow old new sql c params e o → Stays old new
+  show_stays sql c params e None h = unchanged_stays h.3
+  show_stays sql c params e (Some what) h = command_stays sql c params e h
+
+  pub failed_query_stays : (sql : List ℕ) (params : Row) (e : Error) → FailsToQuery sql params old new e → Stays old new
+  unfolding FailsToQuery
+  failed_query_stays sql params e (inl h) = not_run_stays sql params e h
+  failed_query_stays sql params e (inr h) = show_stays sql h.0 _ e _ h.2
+
+  rows_stay : (sql : List ℕ) (c : _) (params : Row) (rows : List Row) (o : _) → o ≡ None → ShowsRows old new sql c params rows o → Stays old new
+  rows_stay sql c params rows None e h = unchanged_stays h.3
+  rows_stay sql c params rows (Some what) e h = absurd cc
+
+  pub shown_stays : (sql : List ℕ) (params : Row) (rows : List Row) → IsPlain (understood old.now.schema sql) → Shown sql params old new rows → Stays old new
+  unfolding Shown
+  shown_stays sql params rows plain h = rows_stay sql h.0 _ rows _ (subst IsPlain h.1.is plain).0 h.2
+
+  pub query_row_stays : (sql : List ℕ) (params : Row) (r : Result Row Error) → IsPlain (understood old.now.schema sql) → QueriesRow sql params old new r → Stays old new
+  unfolding QueriesRow
+  query_row_stays sql params (Ok row) plain (inl h) = unchanged_stays h.1
+  query_row_stays sql params (Ok row) plain (inr h) = shown_stays sql params h.0 plain h.1
+  query_row_stays sql params (Err e) plain (inl h) = failed_query_stays sql params e h
+  query_row_stays sql params (Err e) plain (inr h) = shown_stays sql params [] plain h.1
+
+-- a failure has a name of its own
+store_error_is : (cause : StoreError) → store_error cause ≢ QueryReturnedNoRows
+store_error_is OutOfMemory e = absurd cc
+store_error_is Io e = absurd cc
+store_error_is Corrupt e = absurd cc
+store_error_is Full e = absurd cc
+store_error_is Broken e = absurd cc
+store_error_is Unstorable e = absurd cc
+
+refusal_is : (limit : Option ℕ) (command : Command) (db : Database) (params : Row) → RefusesToRead limit command db params QueryReturnedNoRows → ⊥
+refusal_is limit (Select q names) db params (inl h) = let e = h.0 in absurd cc
+refusal_is limit (Select q names) db params (inr (inl h)) = let e = h.0 in absurd cc
+refusal_is limit (Select q names) db params (inr (inr h)) = let e = h.0 in absurd cc
+refusal_is limit (Rows values width names) db params h = let e = h.0 in absurd cc
+refusal_is limit _ db params h = absurd cc
+
+not_run_is : (old new : State) (sql : List ℕ) (params : Row) → IsNotRun old new sql params QueryReturnedNoRows → ⊥
+unfolding IsNotRun
+not_run_is old new sql params (inl (inl h, same)) = let e = h.2 in absurd cc
+not_run_is old new sql params (inl (inr h, same)) = elim h.2 [
+  | inl many ↦ let e = many.1 in absurd cc
+  | inr rest ↦ elim rest [ inl count ↦ (let e = count.1 in absurd cc) | inr clock ↦ (let e = clock.1 in absurd cc) ]
+]
+not_run_is old new sql params (inr h) = store_error_is h.0 (sym h.1)
+
+-- no row is told only where the answer has none
+pub no_row_is : (sql : List ℕ) (params : Row) (old new : State) → IsPlain (understood old.now.schema sql) → QueriesRow sql params old new (Err QueryReturnedNoRows) → Shown sql params old new []
+unfolding QueriesRow FailsToQuery
+no_row_is sql params old new plain (inl (inl h)) = absurd (not_run_is old new sql params h)
+no_row_is sql params old new plain (inl (inr h)) =
+    let none = (subst IsPlain h.1.is plain).0 in
+    absurd (let it = subst (FailsToShow old new sql h.0 _ QueryReturnedNoRows) none h.2 in refusal_is _ h.0.command it.0 _ it.2)
+no_row_is sql params old new plain (inr h) = h.1

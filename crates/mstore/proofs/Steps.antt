@@ -1,0 +1,115 @@
+-- The first key of a range, and the last.
+use Rattle.std.proofs.Common.{◌≡◌, ◌≢◌, ◌⊎◌, ℕ, suc, zero, ◌<◌, ◌≤◌, ◌+◌, Bool, true, false, List, [], ◌∷◌, length, get_or, map, Option, Some, None, Ok, Err, IsSome, refl, sym, ap, ap₂, subst, ◌∙◌, inl, inr, arith, is_lt}
+use Rattle.std.specs.List.Sorted.{IsSorted, IsSortedBy}
+use Rattle.std.proofs.lemmas.List.Sorted.{sorted_far, ranks_by}
+use Rattle.std.proofs.lemmas.Bool.{true≢false, cases_Bool}
+use Rattle.std.specs.Ordering.{ordering_then}
+use Rattle.std.specs.declared.cmp.Ordering.TheVariants.{Equal}
+use Rattle.sqlite.specs.declared.types.Value.{Value}
+use Rattle.sqlite.specs.declared.types.Value.TheVariants.{Null, Blob}
+use Rattle.sqlite.specs.Order.{Row, column}
+use Rattle.sqlite.specs.Collation.TheVariants.{Binary}
+use Rattle.sqlite_value.specs.declared.keys.Key.{Key}
+use Rattle.sqlite_value.specs.Keys.{by_key}
+use Rattle.sqlite_value.proofs.KeyLemmas.{by_key_total}
+use Rattle.sqlite_value.proofs.OrderLemmas.{then-Equal, value_cmp-Blob}
+use Rattle.sqlite.specs.Term.{col}
+use Rattle.sqlite.specs.Query.{IsAnswer, output, output_cmp, Output}
+use Rattle.sqlite.specs.Program.{overlay}
+use Rattle.sqlite.specs.Listing.{understood, reads_listing}
+use Rattle.sqlite.specs.State.{State, QueriesRow}
+use Rattle.sqlite.specs.declared.error.Error.TheVariants.{QueryReturnedNoRows}
+use Rattle.sqlite.proofs.Callers.{IsPlain, command_of, first_as, reads_as}
+use Rattle.sqlite_rules.specs.Lists.{Has}
+use Rattle.mstore.specs.Layout.{schema}
+use Rattle.mstore.specs.Database.{IsStore, content}
+use Rattle.mstore.specs.Map.{in_bounds, is_nearer, IsNearest, HasNone}
+use Rattle.mstore.specs.Rows.{IsNode, key_of, value_of, lookup}
+use Rattle.mstore.proofs.Texts.{step_query, step_command, in_range}
+use Rattle.mstore.proofs.Answer.{outputs_from, outputs_to, rows_to, passes}
+use Rattle.mstore.proofs.Maps.{lookup_has, lookup_none, lookup_some}
+use Rattle.mstore.proofs.States.{no_row_is}
+use Rattle.mstore.proofs.RowTests.{in_range_is, key_column}
+
+there_is : (rows : List Row) (q : List ℕ) → IsSome (lookup rows q) → (r : Row) × Has rows r × (key_of r ≡ q)
+there_is rows q h = go (lookup rows q) refl h
+  where
+    go : (o : Option (List ℕ)) → lookup rows q ≡ o → IsSome o → (r : Row) × Has rows r × (key_of r ≡ q)
+    go None e none = absurd cc
+    go (Some v) e some = let it = lookup_some rows q v e in (it.0, it.1, it.2)
+
+has_index : {X : Type 0} (xs : List X) (x d : X) → Has xs x → (j : ℕ) × (j < length xs) × (get_or xs j d ≡ x)
+has_index [] x d h = absurd h
+has_index (y ∷ xs) x d (inl same) = (0, omega arith, sym same)
+has_index (y ∷ xs) x d (inr later) = let it = has_index xs x d later in (suc it.0, omega (arith, it.1), it.2)
+
+abbrev end_key : Bool → Key
+end_key down = record { collation = Binary; descending = down }
+
+abbrev sorts_by : Output → Value
+sorts_by o = column o.0 0
+
+-- no output of the answer is before the first
+first_is_least : (down : Bool) (o : Output) (rest : List Output) → IsSorted (output_cmp (step_query down)) (o ∷ rest) → (x : Output) → Has (o ∷ rest) x
+    → is_lt (by_key (end_key down) (sorts_by x) (sorts_by o)) ≡ false
+first_is_least down o rest sorted x h =
+    let at = has_index (o ∷ rest) x o h in
+    let plain : IsSortedBy (λ (a b : Output). is_lt (by_key (end_key down) (sorts_by a) (sorts_by b))) (o ∷ rest) =
+    λ k d low high. ap is_lt (sym (then-Equal _)) ∙ sorted k d low high in
+    let far = sorted_far _ (ranks_by (by_key_total (end_key down)) sorts_by) (o ∷ rest) plain 0 at.0 o (omega arith) at.1 in
+    subst (λ y. is_lt (by_key (end_key down) (sorts_by y) (sorts_by o)) ≡ false) at.2 far
+
+nearer_is : (down : Bool) (k q : List ℕ) → is_lt (by_key (end_key down) (Blob q) (Blob k)) ≡ false → is_nearer down k q ≡ false
+nearer_is false k q h = ap is_lt (sym (value_cmp-Blob q k)) ∙ h
+nearer_is true k q h = ap is_lt (sym (value_cmp-Blob k q)) ∙ h
+
+module _ (down : Bool) (text : List ℕ) (is : (command_of (understood schema text) ≡ step_command down) × IsPlain (understood schema text) × (reads_listing schema text ≡ false)) (old new : State)
+    (store : IsStore old) (low high : List ℕ) where
+  abbrev params : Row
+  params = Blob low ∷ Blob high ∷ []
+
+  abbrev rows : List Row
+  rows = old.now.trees 0
+
+  step_plain : IsPlain (understood old.now.schema text)
+  step_plain = subst (λ c. IsPlain (understood c text)) (sym store.calm.schema_is) is.1
+
+  nearest : (row : Row) (tail : List Row) (a : IsAnswer (step_query down) (overlay old.now.trees []) params (row ∷ tail)) (ordered : List Output) → a.ordered ≡ ordered
+      → (k : List ℕ) × (row ≡ Blob k ∷ []) × IsNearest down (content old) low high k
+  nearest row tail a [] none = absurd (let e = a.shown ∙ ap (map (λ (o : Output). o.1)) none in cc)
+  nearest row tail a (o ∷ rest) some =
+      let nodes = store.nodes in
+      let here : Has a.ordered o = subst (λ l. Has l o) (sym some) (inl refl) in
+      let it = outputs_from in_range params (col 1 1 ∷ []) (Rattle.mstore.proofs.Texts.by_key down) old.now.trees 0 refl (row ∷ tail) a o here in
+      let r = it.0 in
+      let column_is = key_column r (nodes.each r it.1) in
+      let shown : row ≡ o.1 = let e = a.shown ∙ ap (map (λ (o : Output). o.1)) some in cc in
+      let sorted = subst (IsSorted (output_cmp (step_query down))) some a.sorted in (
+        key_of r,
+        shown ∙ ap (λ (x : Output). x.1) it.3 ∙ ap (λ v. v ∷ []) column_is,
+        record {
+          some = subst IsSome (sym (lookup_has rows r nodes it.1)) refl;
+          within = sym (in_range_is low high r (nodes.each r it.1)) ∙ it.2;
+          none_nearer = λ q is_there within.
+              let other = there_is rows q is_there in
+              let s = other.0 in
+              let pass = in_range_is low high s (nodes.each s other.1) ∙ ap (in_bounds low high) other.2 ∙ within in
+              let x = output (step_query down) (params ∷ s ∷ []) in
+              let among : Has (o ∷ rest) x = subst (λ l. Has l x) some (outputs_to in_range params (col 1 1 ∷ []) (Rattle.mstore.proofs.Texts.by_key down) old.now.trees 0 refl (row ∷ tail) a s other.1 pass) in
+              let least = first_is_least down o rest sorted x among in
+              nearer_is down (key_of r) q (sym (ap₂ (λ u v. is_lt (by_key (end_key down) u v)) (key_column s (nodes.each s other.1) ∙ ap Blob other.2) (ap sorts_by it.3 ∙ column_is)) ∙ least);
+        },
+      )
+
+  pub steps : (row : Row) → QueriesRow text params old new (Ok row) → (k : List ℕ) × (row ≡ Blob k ∷ []) × IsNearest down (content old) low high k
+  steps row h =
+      let got = (first_as text params old new schema store.calm.schema_is (step_command down) is.0 is.1 is.2 row h).1 in
+      nearest row got.0 (got.1 Null) (got.1 Null).ordered refl
+
+  pub steps_none : QueriesRow text params old new (Err QueryReturnedNoRows) → HasNone (content old) low high
+  steps_none h q within =
+      let shown = no_row_is text params old new step_plain h in
+      let a = (reads_as text params old new schema store.calm.schema_is (step_command down) is.0 is.1 is.2 [] shown).answer Null in
+      lookup_none rows q (λ r has same.
+      rows_to in_range params (col 1 1 ∷ []) (Rattle.mstore.proofs.Texts.by_key down) old.now.trees 0 refl [] a r has
+      (in_range_is low high r (store.nodes.each r has) ∙ ap (in_bounds low high) same ∙ within))

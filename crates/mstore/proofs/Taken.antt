@@ -1,0 +1,34 @@
+-- What `prepare` says of a statement that the columns do not take.
+use Rattle.std.proofs.Common.{◌≡◌, ◌≢◌, ℕ, List, [], Result, Ok, Err, IsTrue, IfOk, IfErr, sym, inl, inr}
+use Rattle.sqlite.specs.Order.{Row}
+use Rattle.sqlite_trees.specs.declared.error.StoreError.{StoreError}
+use Rattle.sqlite_trees.specs.declared.error.StoreError.TheVariants.{OutOfMemory, Io, Corrupt, Full, Broken, Unstorable}
+use Rattle.sqlite_resolve.specs.declared.error.CompileError.{CompileError}
+use Rattle.sqlite.specs.declared.error.Error.{Error}
+use Rattle.sqlite.specs.declared.error.Error.TheVariants.{SqlInputError}
+use Rattle.sqlite.specs.Listing.{understood}
+use Rattle.sqlite.specs.State.{State, IsUnchanged, IsNotRun, store_error}
+use Rattle.mstore.specs.Database.{IsIdle, Stays}
+use Rattle.mstore.proofs.States.{unchanged_stays, not_run_stays}
+
+pub prepare_stays : {A : Type 0} (Is : A → Type 0) (old new : State) (sql : List ℕ) (r : Result A Error) → IsIdle old → IsTrue new.is_open → IfOk r (λ s. Is s × IsUnchanged old new)
+    → IfErr r (λ e. (params : Row) → IsNotRun old new sql params e) → Stays old new
+prepare_stays Is old new sql (Ok s) idle is_open ok err = unchanged_stays old new idle is_open ok.1
+prepare_stays Is old new sql (Err e) idle is_open ok err = not_run_stays old new idle is_open sql [] e (err [])
+
+no_fault_of_store : (cause : StoreError) (fault : CompileError) → store_error cause ≢ SqlInputError fault
+no_fault_of_store OutOfMemory fault e = absurd cc
+no_fault_of_store Io fault e = absurd cc
+no_fault_of_store Corrupt fault e = absurd cc
+no_fault_of_store Full fault e = absurd cc
+no_fault_of_store Broken fault e = absurd cc
+no_fault_of_store Unstorable fault e = absurd cc
+
+pub not_taken : (old new : State) (sql : List ℕ) (fault : CompileError) → IsNotRun old new sql [] (SqlInputError fault) → (it : CompileError) × (understood old.now.schema sql ≡ Err it)
+unfolding IsNotRun
+not_taken old new sql fault (inl (inl h, same)) = (h.0, h.1)
+not_taken old new sql fault (inl (inr h, same)) = elim h.2 [
+  | inl many ↦ absurd (let e = many.1 in cc)
+  | inr rest ↦ elim rest [ inl count ↦ absurd (let e = count.1 in cc) | inr clock ↦ absurd (let e = clock.1 in cc) ]
+]
+not_taken old new sql fault (inr h) = absurd (no_fault_of_store h.0 fault (sym h.1))

@@ -1,0 +1,134 @@
+-- What the statements are compiled to.
+use Rattle.std.proofs.Common.{◌≡◌, ℕ, Bool, List, [], ◌∷◌, codes, Ok, refl, pos, negsuc, true, false, Some, None}
+use Rattle.sqlite.specs.Query.{Query, inner, end}
+use Rattle.sqlite.specs.Term.{Term, lit, col, op2}
+use Rattle.sqlite.specs.Source.{Source}
+use Rattle.sqlite.specs.Command.{Command}
+use Rattle.sqlite_schema.specs.declared.command.Upsert.{Upsert}
+use Rattle.sqlite_schema.specs.declared.program.Program.{Program}
+use Rattle.sqlite_value.specs.declared.keys.Key.{Key}
+use Rattle.sqlite.specs.Source.TheVariants.{Values}
+use Rattle.sqlite.specs.Collation.TheVariants.{Binary}
+use Rattle.sqlite.specs.declared.types.Value.TheVariants.{Null, Int}
+use Rattle.sqlite_sql.specs.declared.ops.BinaryOp.TheVariants.{Compare, And}
+use Rattle.sqlite_sql.specs.declared.ops.CompareOp.TheVariants.{Eq, Ge, Lt}
+use Rattle.sqlite_schema.specs.declared.command.Conflict.TheVariants.{Abort}
+use Rattle.sqlite.specs.Compile.{table_defined_by}
+use Rattle.sqlite.specs.Command.TheVariants.{Select, InsertOr, Delete}
+use Rattle.sqlite_tied.specs.Compute.{everything}
+use Rattle.sqlite.specs.Listing.{understood, reads_listing}
+use Rattle.sqlite.proofs.Callers.{IsPlain, command_of, statement_of}
+use Rattle.mstore.specs.Database.{version_name}
+use Rattle.mstore.specs.Layout.{node, meta, no_schema, schema}
+use Rattle.mstore.specs.Statements.{node_text, meta_text, get_text, put_text, kill_text, next_text, prev_text, which_text, all_text}
+
+pub node_is : table_defined_by node_text ≡ Ok node
+unfolding everything
+node_is = refl
+
+pub meta_is : table_defined_by meta_text ≡ Ok meta
+unfolding everything
+meta_is = refl
+
+-- every row of one table that passes the tests, in an order
+abbrev pub table_query : ℕ → List Term → List Term → List (Term × Key) → Query
+table_query tree filter project order = record {
+  from = inner tree end;
+  filter = filter;
+  group = None;
+  project = project;
+  distinct = false;
+  collations = [];
+  order = order;
+  limit = lit (Int (negsuc 0));
+  offset = lit (Int (pos 0));
+}
+
+abbrev pub program : Query → Program
+program q = record { lets = []; body = q }
+
+abbrev pub at_key : List Term
+at_key = op2 (Compare Eq Binary) (col 1 1) (col 0 0) ∷ []
+
+abbrev pub in_range : List Term
+in_range = op2 (Compare Ge Binary) (col 1 1) (col 0 0) ∷ op2 (Compare Lt Binary) (col 1 1) (col 0 1) ∷ []
+
+abbrev pub at_rowid : List Term
+at_rowid = op2 (Compare Eq Binary) (col 1 0) (col 0 2) ∷ []
+
+abbrev pub by_key : Bool → List (Term × Key)
+by_key down = (col 1 1, record { collation = Binary; descending = down }) ∷ []
+
+abbrev pub get_query : Query
+get_query = table_query 0 at_key (col 1 2 ∷ []) []
+
+abbrev pub get_command : Command
+get_command = Select (program get_query) (codes "v" ∷ [])
+
+pub get_is : (command_of (understood schema get_text) ≡ get_command) × IsPlain (understood schema get_text) × (reads_listing schema get_text ≡ false)
+unfolding understood everything
+get_is = (refl, (refl, refl), refl)
+
+abbrev pub put_query : Query
+put_query = table_query 0 at_rowid (col 1 0 ∷ col 1 0 ∷ col 1 1 ∷ col 0 5 ∷ []) []
+
+abbrev pub put_clauses : List Upsert
+put_clauses = record { target = Some (1 ∷ []); update = Some (program put_query) } ∷ []
+
+abbrev pub put_source : Source
+put_source = Values (lit Null ∷ col 0 0 ∷ col 0 1 ∷ []) 3
+
+abbrev pub put_command : Command
+put_command = InsertOr 0 Abort put_source put_clauses
+
+pub put_is : (command_of (understood schema put_text) ≡ put_command) × IsPlain (understood schema put_text)
+unfolding understood everything
+put_is = (refl, (refl, refl))
+
+abbrev pub kill_query : Query
+kill_query = table_query 0 in_range (col 1 0 ∷ []) []
+
+abbrev pub kill_command : Command
+kill_command = Delete 0 (program kill_query)
+
+pub kill_is : (command_of (understood schema kill_text) ≡ kill_command) × IsPlain (understood schema kill_text)
+unfolding understood everything
+kill_is = (refl, (refl, refl))
+
+abbrev pub step_query : Bool → Query
+step_query down = table_query 0 in_range (col 1 1 ∷ []) (by_key down)
+
+abbrev pub step_command : Bool → Command
+step_command down = Select (program (step_query down)) (codes "k" ∷ [])
+
+pub next_is : (command_of (understood schema next_text) ≡ step_command false) × IsPlain (understood schema next_text) × (reads_listing schema next_text ≡ false)
+unfolding understood everything
+next_is = (refl, (refl, refl), refl)
+
+pub prev_is : (command_of (understood schema prev_text) ≡ step_command true) × IsPlain (understood schema prev_text) × (reads_listing schema prev_text ≡ false)
+unfolding understood everything
+prev_is = (refl, (refl, refl), refl)
+
+abbrev pub all_query : Query
+all_query = table_query 0 [] (col 1 1 ∷ col 1 2 ∷ []) []
+
+abbrev pub all_command : Command
+all_command = Select (program all_query) (codes "k" ∷ codes "v" ∷ [])
+
+pub all_is : (command_of (understood schema all_text) ≡ all_command) × IsPlain (understood schema all_text) × (reads_listing schema all_text ≡ false)
+unfolding understood everything
+all_is = (refl, (refl, refl), refl)
+
+-- the row of a name
+abbrev pub at_name : List Term
+at_name = op2 (Compare Eq Binary) (col 1 1) (lit version_name) ∷ []
+
+abbrev pub which_query : Query
+which_query = table_query 2 at_name (col 1 2 ∷ []) []
+
+abbrev pub which_command : Command
+which_command = Select (program which_query) (codes "n" ∷ [])
+
+pub which_is : (command_of (understood schema which_text) ≡ which_command) × IsPlain (understood schema which_text) × (reads_listing schema which_text ≡ false)
+unfolding understood everything
+which_is = (refl, (refl, refl), refl)

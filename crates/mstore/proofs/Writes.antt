@@ -1,0 +1,49 @@
+-- What a statement that writes the table leaves.
+use Rattle.std.proofs.Common.{◌≡◌, ◌≢◌, ◌⊎◌, ℕ, ℤ, pos, Bool, true, false, cond, List, [], ◌∷◌, Option, Some, None, Ok, Err, Result, IsTrue, refl, sym, ap, subst, ◌∙◌, inl, inr}
+use Rattle.sqlite.specs.Order.{Row}
+use Rattle.sqlite.specs.Command.{Command}
+use Rattle.sqlite.specs.Command.TheVariants.{InsertOr, Delete}
+use Rattle.sqlite_schema.specs.declared.schema.Keys.TheVariants.{Enforced}
+use Rattle.sqlite_schema.specs.declared.command.Conflict.TheVariants.{Abort}
+use Rattle.sqlite.specs.Source.{Source}
+use Rattle.sqlite_schema.specs.declared.command.Upsert.{Upsert}
+use Rattle.sqlite_schema.specs.declared.program.Program.{Program}
+use Rattle.sqlite.specs.Does.{Tally, Does}
+use Rattle.sqlite.specs.Rows.{Written, Task, InsertsOr, Deletes}
+use Rattle.sqlite.specs.Effect.{Database}
+use Rattle.sqlite.specs.State.{State, mode_of, Writes}
+use Rattle.mstore.specs.Layout.{node, schema}
+use Rattle.mstore.specs.Database.{IsIdle}
+
+-- a part that gave a value did not stop on the way
+pub went : {B E R : Type 0} {b : B} {Stops : E → Type 0} → ((stop : E) × Stops stop × (Ok b ≡ Err stop)) ⊎ R → R
+went (inl stopped) = absurd (let e = stopped.2 in cc)
+went (inr on) = on
+
+pub same_value : {B E : Type 0} {a b : B} → ◌≡◌ {A = Result B E} (Ok a) (Ok b) → a ≡ b
+same_value e = cc
+
+abbrev pub task : State → Row → Task
+task s params = record { limit = s.step_limit; keys = Enforced; schema = schema; table = node; params = params }
+
+module _ (old new : State) (has : old.now.schema ≡ schema) (params : Row) (text : List ℕ) (count : ℕ) where
+  abbrev pub Leaves : Written → Type 0
+  Leaves one = new.now ≡ record { schema = schema; trees = one.trees }
+
+  pub inserted : (from : Source) (clauses : List Upsert) → Writes old new None (InsertOr 0 Abort from clauses) text params count
+      → (one : Written) × InsertsOr (task old params) Abort clauses from old.now.trees (Ok one) × Leaves one
+  inserted from clauses w =
+      let done = went (subst (λ s. Does old.step_limit (mode_of old) params (record old.now { schema = s }) text None (InsertOr 0 Abort from clauses) (Ok (w.tally, new.now))) has w.changed) in
+      (done.0, done.1, ap (λ (p : Tally × Database). p.1) (same_value (went (went done.2).2).2))
+
+  pub deleted : (q : Program) → Writes old new None (Delete 0 q) text params count → (one : Written) × Deletes (task old params) q old.now.trees (Ok one) × Leaves one
+  deleted q w =
+      let done = went (subst (λ s. Does old.step_limit (mode_of old) params (record old.now { schema = s }) text None (Delete 0 q) (Ok (w.tally, new.now))) has w.changed) in
+      (done.0, done.1, ap (λ (p : Tally × Database). p.1) (same_value (went (went done.2).2).2))
+
+-- outside a transaction the change is committed
+pub idle_after : (old new : State) (command : Command) (text : List ℕ) (params : Row) (count : ℕ) → Writes old new None command text params count → IsIdle old → IsIdle new
+idle_after old new command text params count w idle = record {
+  autocommit = w.shown.mode ∙ idle.autocommit;
+  settled = sym (w.shown.committed_is ∙ ap (λ b. cond b old.committed new.now) idle.autocommit);
+}

@@ -1,0 +1,6 @@
+use Rattle.sqlite.specs.Held.{state}
+use Rattle.mstore.specs.Database.{IsMemory, IsIdle, Stays}
+use Rattle.mstore.proofs.opening.takes_each.Given as goal
+
+abbrev pub invariant-loop-number : goal.invariant-loop-number
+invariant-loop-number g l = IsMemory g.S.Store → IsIdle (state g.S.Store l.initial.conn) → Stays (state g.S.Store l.initial.conn) (state g.S.Store l.conn)

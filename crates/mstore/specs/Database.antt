@@ -1,0 +1,126 @@
+-- What a connection holds where its database is that of a table, and what a call leaves of it.
+use Rattle.std.specs.Prelude.{◌≡◌, ◌≢◌, ◌⊎◌, ◌||◌, ℕ, pos, List, ◌∷◌, [], codes, Bool, false, Option, Some, None, IsTrue}
+use Rattle.std.specs.List.{list_any}
+use Rattle.sqlite_schema.specs.declared.schema.Schema.{Schema}
+use Rattle.sqlite_schema.specs.Names.{same_name}
+use Rattle.sqlite_value.specs.declared.value.Value.{Value}
+use Rattle.sqlite_value.specs.declared.value.Value.TheVariants.{Int, Text}
+use Rattle.sqlite_value.specs.Order.{Row, column}
+use Rattle.sqlite_trees.specs.View.{IsClean, IsOrdered}
+use Rattle.sqlite_trees.specs.Objects.{catalog_tree, IsListed}
+use Rattle.sqlite_trees.specs.declared.store.Store.{Ghosts}
+use Rattle.sqlite_rules.specs.Lists.{Has}
+use Rattle.sqlite.specs.State.{State}
+use Rattle.sqlite.specs.Effect.{Database}
+use Rattle.sqlite.specs.Held.{Held, state}
+use Rattle.mstore.specs.Layout.{schema, no_schema}
+use Rattle.mstore.specs.Map.{Content}
+use Rattle.mstore.specs.Rows.{AreNodes, ShowsNode, lookup, shown_of}
+use Rattle.mstore.specs.Statements.{RefusesOne}
+
+-- the store beneath is memory: it never loses what it holds, and is in order at each moment
+pub record IsMemory {S : Type 0} (g : Ghosts S) : Type 0 where
+  pub clean : (s : S) → IsClean (g.view s)
+  pub is_open : (s : S) → IsTrue (g.view s).is_open
+  pub listed : (s : S) → IsListed ((g.view s).trees catalog_tree) (g.view s).shape (g.view s).reals
+  pub ordered : (s : S) → IsOrdered (g.view s).shape (g.view s).trees
+
+-- between statements, outside a transaction
+pub record IsIdle (s : State) : Type 0 where
+  pub autocommit : s.in_transaction ≡ false
+  pub settled : s.now ≡ s.committed
+
+-- and with both tables
+pub record IsCalm (s : State) : Type 0 where
+  pub idle : IsIdle s
+  pub schema_is : s.now.schema ≡ schema
+
+-- and with no table
+pub record IsBlank (s : State) : Type 0 where
+  pub idle : IsIdle s
+  pub schema_is : s.now.schema ≡ no_schema
+
+-- both tables, and the rows are a map
+pub record IsStore (s : State) : Type 0 where
+  pub calm : IsCalm s
+  pub nodes : AreNodes (s.now.trees 0)
+
+abbrev pub content : State → Content
+content s = lookup (s.now.trees 0)
+
+abbrev pub holds : {S : Type 0} → Ghosts S → Held S → Content
+holds g h = content (state g h)
+
+-- what the calls say holds where the store is memory and was a table
+abbrev pub IsSound : {S : Type 0} → Ghosts S → Held S → Type 0
+IsSound g h = IsMemory g × IsStore (state g h)
+
+-- ---- after a call
+
+-- what the database holds is as it was
+pub record Stays (old new : State) : Type 0 where
+  pub idle : IsIdle new
+  pub same : new.now ≡ old.now
+
+-- and a table is still one
+abbrev pub IsKept : {S : Type 0} → Ghosts S → Held S → Held S → Type 0
+IsKept g old new = IsSound g old → IsSound g new × (holds g new ≡ holds g old)
+
+-- all that the database holds, what is committed and whether a transaction is open is as it was
+pub record IsUntouched (old new : State) : Type 0 where
+  pub now : new.now ≡ old.now
+  pub committed : new.committed ≡ old.committed
+  pub mode : new.in_transaction ≡ old.in_transaction
+
+-- the rows show each node, and nothing else
+pub record ShowsAll (s : State) (shown : List Row) : Type 0 where
+  pub each : (r : Row) → Has (s.now.trees 0) r → Has shown (shown_of r)
+  pub only : (row : Row) → Has shown row → (r : Row) × Has (s.now.trees 0) r × (row ≡ shown_of r)
+
+-- each row is a key and a value in form
+abbrev pub ShowsNodes : Database → Type 0
+ShowsNodes db = (r : Row) → Has (db.trees 0) r → ShowsNode (shown_of r)
+
+-- ---- the version
+
+abbrev pub version_name : Value
+version_name = Text (codes "version")
+
+-- the version of the tables that are made here
+abbrev pub this_version : Value
+this_version = Int (pos 2)
+
+-- a row gives the version
+abbrev pub HasVersion : Database → Value → Type 0
+HasVersion db v = (r : Row) × Has (db.trees 2) r × (column r 1 ≡ version_name) × (column r 2 ≡ v)
+
+abbrev pub HasNoVersion : Database → Type 0
+HasNoVersion db = (r : Row) → Has (db.trees 2) r → column r 1 ≢ version_name
+
+-- the row shows the version, and there is none where no row gives one
+abbrev pub ShowsVersion : Database → Option Row → Type 0
+ShowsVersion db None = HasNoVersion db
+ShowsVersion db (Some row) = (v : Value) × (row ≡ v ∷ []) × HasVersion db v
+
+-- both tables stand, with the version and no node
+pub record IsBare (db : Database) : Type 0 where
+  pub schema_is : db.schema ≡ schema
+  pub empty : db.trees 0 ≡ []
+  pub version : HasVersion db this_version
+
+-- ---- a database that is opened
+
+abbrev pub has_table : Schema → List ℕ → Bool
+has_table schema name = list_any (λ t. same_name t.name name) schema.tables
+
+-- it has one of the two tables, and columns that do not take one of the statements
+abbrev pub RefusesColumns : Schema → Type 0
+RefusesColumns schema = IsTrue (has_table schema (codes "node") || has_table schema (codes "meta")) × RefusesOne schema
+
+-- why a database is not one of this version: its columns, or it gives no version or another
+abbrev pub IsOtherVersion : Database → Type 0
+IsOtherVersion db = RefusesColumns db.schema ⊎ ((db.schema ≡ schema) × (HasNoVersion db ⊎ ((v : Value) × HasVersion db v × (v ≢ this_version))))
+
+-- a database with no table has got both, and one that was a table of this version is as it was
+abbrev pub IsOpenedFrom : State → State → Type 0
+IsOpenedFrom old new = (IsBlank old × IsBare new.now) ⊎ ((new.now ≡ old.now) × (old.now.schema ≡ schema) × HasVersion old.now this_version)

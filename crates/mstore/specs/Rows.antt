@@ -1,0 +1,69 @@
+-- The rows of the table of nodes as a map from keys to values.
+use Rattle.std.specs.Prelude.{◌≡◌, ◌≤◌, ℕ, List, ◌∷◌, [], length, Bool, find, Option, Some, None, option_map}
+use Rattle.std.specs.Ordering.{is_eq, nat_cmp}
+use Rattle.std.specs.Cmp.Lexicographic.{slice_cmp}
+use Rattle.sqlite_value.specs.declared.value.Value.TheVariants.{Int, Blob}
+use Rattle.sqlite_value.specs.Order.{Row, column, bytes}
+use Rattle.sqlite_trees.specs.Tree.{rowid}
+use Rattle.sqlite_rules.specs.Lists.{Has}
+use Rattle.sqlite_rules.specs.Edit.{id_in}
+use Rattle.mkey.specs.Key.{IsKey}
+use Rattle.mspec.specs.KeyBytes.{IsAscii}
+use Rattle.mspec.specs.TextFunctions.{longest_text}
+use Rattle.mstore.specs.Map.{Content, IsNearest, HasNone}
+
+abbrev pub key_of : Row → List ℕ
+key_of r = bytes (column r 1)
+
+abbrev pub value_of : Row → List ℕ
+value_of r = bytes (column r 2)
+
+abbrev pub is_at : List ℕ → Row → Bool
+is_at k r = is_eq (slice_cmp nat_cmp (key_of r) k)
+
+-- the value beside the key
+abbrev pub lookup : List Row → Content
+lookup rows k = option_map value_of (find (is_at k) rows)
+
+-- a rowid, a key and a value
+abbrev pub IsNode : Row → Type 0
+IsNode r = r ≡ Int (id_in (rowid r)) ∷ Blob (key_of r) ∷ Blob (value_of r) ∷ []
+
+-- what a node may hold
+abbrev pub IsValue : List ℕ → Type 0
+IsValue v = (length v ≤ longest_text) × IsAscii v
+
+-- the key of a node of a store, with what it may hold
+abbrev pub IsInForm : List ℕ → List ℕ → Type 0
+IsInForm k v = IsKey k × IsValue v
+
+-- no two rows have one rowid or one key, and each is in form
+pub record AreNodes (rows : List Row) : Type 0 where
+  pub each : (r : Row) → Has rows r → IsNode r
+  pub in_form : (r : Row) → Has rows r → IsInForm (key_of r) (value_of r)
+  pub ids : (r s : Row) → Has rows r → Has rows s → rowid r ≡ rowid s → r ≡ s
+  pub keys : (r s : Row) → Has rows r → Has rows s → key_of r ≡ key_of s → r ≡ s
+
+-- ---- what an answer shows of them
+
+-- the row shows the value, and there is none where there is no value
+abbrev pub ShowsValue : Option (List ℕ) → Option Row → Type 0
+ShowsValue found None = found ≡ None
+ShowsValue found (Some row) = (v : List ℕ) × (row ≡ Blob v ∷ []) × (found ≡ Some v)
+
+-- the row shows the key that is sought, and there is none where there is no such key
+abbrev pub ShowsKey : Bool → Content → List ℕ → List ℕ → Option Row → Type 0
+ShowsKey down m low high None = HasNone m low high
+ShowsKey down m low high (Some row) = (k : List ℕ) × (row ≡ Blob k ∷ []) × IsNearest down m low high k
+
+-- the row is a key and a value, in form
+abbrev pub ShowsNode : Row → Type 0
+ShowsNode row = (k : List ℕ) × (v : List ℕ) × (row ≡ Blob k ∷ Blob v ∷ []) × IsInForm k v
+
+-- what is shown of a row
+abbrev pub shown_of : Row → Row
+shown_of r = column r 1 ∷ column r 2 ∷ []
+
+-- a row that is no node in form
+abbrev pub HasOther : List Row → Type 0
+HasOther rows = (r : Row) × Has rows r × (ShowsNode (shown_of r) → ⊥)

@@ -1,0 +1,158 @@
+// Whether a schema is that of a store.
+
+ghost use Rattle.std.specs.Prelude.{◌≡◌, [], ◌∷◌, true, false, IsTrue, codes, ◌↔◌};
+ghost use Rattle.mstore.specs.Layout.{column_of, table_of, index_of, no_schema, schema as schema_of};
+
+use sqlite_schema::code::Terms;
+use sqlite_schema::schema::{Column, Index, Kind, Schema, Table};
+use sqlite_value::keys::{Collation, Order};
+use sqlite_value::value::Value;
+
+fn is_null(value: &Value) -> bool
+    ensures { IsTrue result ↔ (value.now ≡ Value.Null) }
+{
+    match value {
+        Value::Null => true,
+        _ => false,
+    }
+}
+
+fn is_column(column: &Column, name: &[u8], kind: Kind, not_null: bool) -> bool
+    ensures { IsTrue result ↔ (column.now ≡ column_of name.now kind not_null) }
+{
+    column.name.as_slice() == name
+        && column.kind == kind
+        && !column.is_strict
+        && column.not_null == not_null
+        && is_null(&column.default)
+        && column.collation == Collation::Binary
+}
+
+fn is_first(places: &[usize]) -> bool
+    ensures { IsTrue result ↔ (places.now ≡ 1 ∷ []) }
+{
+    places.len() == 1 && places[0] == 1
+}
+
+fn is_empty(terms: &Terms) -> bool
+    ensures { IsTrue result ↔ (terms.now ≡ []) }
+{
+    terms.roots.is_empty()
+}
+
+fn is_plain(table: &Table) -> bool
+    ensures { IsTrue result ↔ (table.now ≡ table_of table.now.name table.now.tree table.now.columns) }
+{
+    if table.uniques.len() != 1 || table.orders.len() != 1 {
+        return false;
+    }
+    let keyed = is_first(table.primary.as_slice())
+        && is_first(table.uniques.as_slice()[0].as_slice())
+        && table.orders.as_slice()[0] == Order::PLAIN
+        && table.key.is_none();
+    let bare = is_empty(&table.checks)
+        && table.references.is_empty()
+        && table.computed.is_empty()
+        && table.stamps.places.is_empty()
+        && is_empty(&table.stamps.terms)
+        && table.stamps.formats.is_empty()
+        && !table.is_counted;
+    keyed && bare
+}
+
+fn is_index(index: &Index, name: &[u8], tree: u32, table: u32) -> bool
+    ensures { IsTrue result ↔ (index.now ≡ index_of name.now tree table) }
+{
+    index.name.as_slice() == name
+        && index.tree == tree
+        && index.table == table
+        && is_first(index.columns.as_slice())
+        && index.order == Order::PLAIN
+        && index.is_unique
+}
+
+fn has_columns(
+    columns: &[Column],
+    first: &[u8],
+    one: Kind,
+    second: &[u8],
+    two: Kind,
+    not_null: bool,
+) -> bool
+    ensures { IsTrue result ↔ (columns.now ≡ column_of first.now one not_null ∷ column_of second.now two not_null ∷ []) }
+{
+    if columns.len() != 2 {
+        return false;
+    }
+    is_column(&columns[0], first, one, not_null) && is_column(&columns[1], second, two, not_null)
+}
+
+fn is_table(table: &Table, name: &[u8], tree: u32) -> bool
+    ensures { IsTrue result ↔ (table.now ≡ table_of name.now tree table.now.columns) }
+{
+    table.name.as_slice() == name && table.tree == tree && is_plain(table)
+}
+
+fn is_node(table: &Table) -> bool
+    ensures { IsTrue result ↔ (table.now ≡ table_of (codes "node") 0 (column_of (codes "k") Kind.Any true ∷ column_of (codes "v") Kind.Any true ∷ [])) }
+{
+    is_table(table, b"node", 0)
+        && has_columns(
+            table.columns.as_slice(),
+            b"k",
+            Kind::Any,
+            b"v",
+            Kind::Any,
+            true,
+        )
+}
+
+fn is_meta(table: &Table) -> bool
+    ensures { IsTrue result ↔ (table.now ≡ table_of (codes "meta") 2 (column_of (codes "name") Kind.Text false ∷ column_of (codes "n") Kind.Integer false ∷ [])) }
+{
+    is_table(table, b"meta", 2)
+        && has_columns(
+            table.columns.as_slice(),
+            b"name",
+            Kind::Text,
+            b"n",
+            Kind::Integer,
+            false,
+        )
+}
+
+fn has_tables(tables: &[Table]) -> bool
+    ensures { IsTrue result ↔ (tables.now ≡ schema_of.tables) }
+{
+    if tables.len() != 2 {
+        return false;
+    }
+    is_node(&tables[0]) && is_meta(&tables[1])
+}
+
+fn has_indexes(indexes: &[Index]) -> bool
+    ensures { IsTrue result ↔ (indexes.now ≡ index_of (codes "sqlite_autoindex_node_1") 1 0 ∷ index_of (codes "sqlite_autoindex_meta_1") 3 2 ∷ []) }
+{
+    if indexes.len() != 2 {
+        return false;
+    }
+    is_index(&indexes[0], b"sqlite_autoindex_node_1", 1, 0)
+        && is_index(&indexes[1], b"sqlite_autoindex_meta_1", 3, 2)
+}
+
+/// Whether the schema has the two tables, and nothing else.
+#[tactic(auto, using(crate::proofs::Layouts::schema_is))]
+pub fn is_store(schema: &Schema) -> bool
+    ensures { IsTrue result ↔ (schema.now ≡ schema_of) }
+{
+    has_tables(schema.tables.as_slice())
+        && has_indexes(schema.indexes.as_slice())
+        && schema.views.is_empty()
+}
+
+// Whether the schema has no table.
+pub fn is_blank(schema: &Schema) -> bool
+    ensures { IsTrue result ↔ (schema.now ≡ no_schema) }
+{
+    schema.tables.is_empty() && schema.indexes.is_empty() && schema.views.is_empty()
+}

@@ -1,0 +1,34 @@
+// Why no table was opened.
+ghost use Rattle.std.specs.Prelude.{◌≡◌};
+ghost use Rattle.mstore.specs.Faults.{opening_fault};
+
+use crate::store::StoreFault;
+use thiserror::Error;
+
+/// Why no table was opened.
+#[derive(Clone, Copy, Debug, PartialEq, Eq, Error)]
+pub enum OpenFault {
+    /// A row is not a node's: its key does not read, or its value is no BLOB of at most 4,095 bytes, each ASCII.
+    #[error("BadKey")]
+    BadKey,
+    /// The tables are not those of this version.
+    #[error("BadVersion")]
+    BadVersion,
+    /// The database refused, or holds more than the two tables, or them otherwise made.
+    #[error("Store")]
+    Store,
+    /// Want of memory.
+    #[error("Memory")]
+    Memory,
+}
+
+impl From<StoreFault> for OpenFault {
+    ghost from_gives = { λ fault opening. opening ≡ opening_fault fault };
+
+    fn from(fault: StoreFault) -> OpenFault {
+        match fault {
+            StoreFault::Memory => OpenFault::Memory,
+            StoreFault::Store => OpenFault::Store,
+        }
+    }
+}

@@ -1,0 +1,113 @@
+// A table over a connection.
+ghost use Rattle.std.specs.Prelude.{◌≡◌, IfOk, IfErr, List, ℕ, None, Err, codes};
+ghost use Rattle.mstore.specs.Layout.{schema};
+
+use crate::create::make_tables;
+use crate::open_fault::OpenFault;
+use crate::opening::open_tables;
+use crate::statements::fault_of;
+use sqlite::{Alter, Connection, MemStore};
+use sqlite_std_file::File;
+use sqlite_store::FileStore;
+use std::alloc::Global;
+use std::marker::Model;
+use std::rt::HostRuntime;
+
+/// A store in the table `node` of a database. What is said of its content holds where its connection is in memory.
+#[derive(Drop)]
+pub struct Table<S: Alter> {
+    conn: Connection<S>,
+}
+
+impl<S: Alter> Model for Table<S> {
+    ghost use Rattle.sqlite.specs.Held.{Held, held_code, state};
+    ghost use Rattle.mstore.specs.Database.{IsMemory, IsStore};
+
+    ghost Value = { Held S };
+
+    ghost coded = { held_code S.code };
+
+    ghost view = { λ t. t.conn };
+
+    ghost invariant = { λ t. IsMemory S.Store → IsStore (state S.Store t.conn) };
+}
+
+impl Table<MemStore> {
+    ghost use Rattle.sqlite.specs.Steps.{over_memory};
+    ghost use Rattle.mstore.specs.Database.{holds};
+
+    /// An empty table in memory.
+    ///
+    /// # Errors
+    ///
+    /// `Memory` and `Store`.
+    pub fn open_memory(alloc: Global) -> Result<Table<MemStore>, OpenFault>
+        ensures { IfOk result (λ t. (q : List ℕ) → holds over_memory t q ≡ None) }
+    {
+        let Ok(mut conn) = Connection::open_in_memory(alloc) else {
+            return Err(OpenFault::Memory);
+        };
+        make_tables(&mut conn)?;
+        Ok(Table { conn })
+    }
+}
+
+impl Table<FileStore<File>> {
+    ghost use Rattle.mstore.specs.declared.open_fault.OpenFault.TheVariants.{Store};
+
+    /// The table in a file, which is made where there is none. The log of the database stands beside the file, and a
+    /// statement that has returned is in it, also where the process is killed.
+    ///
+    /// # Errors
+    ///
+    /// Those of `adopt`. A file that is no database, or that another process has open, is `Store`, and so is `:memory:`.
+    pub fn open_file(rt: &HostRuntime, path: &str) -> Result<Table<FileStore<File>>, OpenFault>
+        ensures { path.now ≡ codes ":memory:" → result ≡ Err Store }
+    {
+        let conn = match Connection::open(rt, path) {
+            Ok(conn) => conn,
+            Err(error) => return Err(OpenFault::from(fault_of(&error))),
+        };
+        match Table::adopt(rt.alloc(), conn) {
+            Ok(table) => Ok(table),
+            Err((fault, _)) => Err(fault),
+        }
+    }
+}
+
+impl<S: Alter> Table<S> {
+    ghost use Rattle.sqlite.specs.Held.{state};
+    ghost use Rattle.mstore.specs.Database.{IsMemory, IsStore, IsOpenedFrom, IsOtherVersion, IsUntouched};
+    ghost use Rattle.mstore.specs.Rows.{HasOther};
+
+    /// Takes a connection whose database is a table of this version, with exactly its rows, or has no table and gets it.
+    ///
+    /// # Errors
+    ///
+    /// With the connection, and its database unchanged: `BadVersion` where one of `node` and `meta` is missing, where their
+    /// columns do not take a statement of this crate, where there is no row `version` or one of another version; `BadKey`
+    /// where a row is not a node's; `Memory`; and `Store` where the database refuses, where a transaction is open, and where
+    /// there is more than the two tables or they are otherwise made.
+    pub fn adopt(
+        alloc: Global,
+        mut conn: Connection<S>,
+    ) -> Result<Table<S>, (OpenFault, Connection<S>)>
+        ensures store { IfOk result (λ t. IsMemory S.Store → IsStore (state S.Store t)) }
+        ensures opened { IfOk result (λ t. IsMemory S.Store → IsOpenedFrom (state S.Store conn) (state S.Store t)) }
+        ensures back { IfErr result (λ e. IsMemory S.Store → IsUntouched (state S.Store conn) (state S.Store e.1)) }
+        ensures version { IfErr result (λ e. IsMemory S.Store → e.0 ≡ OpenFault.BadVersion → IsOtherVersion (state S.Store conn).now) }
+        ensures key { IfErr result (λ e. IsMemory S.Store → e.0 ≡ OpenFault.BadKey → ((state S.Store conn).now.schema ≡ schema) × HasOther ((state S.Store conn).now.trees 0)) }
+    {
+        match open_tables(alloc, &mut conn) {
+            Ok(()) => Ok(Table { conn }),
+            Err(fault) => Err((fault, conn)),
+        }
+    }
+
+    /// The connection, with the rows as they are. Takes no memory.
+    pub fn into_connection(self) -> Connection<S>
+        ensures { result ≡ self }
+    {
+        self.conn
+    }
+}

@@ -30,3 +30,4 @@ pub mod NodeOrders
 pub mod KeyOrders
 pub mod KeyRanges
 pub mod Matchings
+pub mod ScopeFacts

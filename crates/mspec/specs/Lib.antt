@@ -23,4 +23,5 @@ pub mod Interpretations
 pub mod CharacterFunctions
 pub mod Trees
 pub mod Scopes
+pub mod ScopeLaws
 pub mod Globals

@@ -32,3 +32,4 @@ pub mod KeyRanges
 pub mod KeyReadings
 pub mod Matchings
 pub mod ScopeValues
+pub mod ScopeFacts

@@ -23,5 +23,6 @@ pub mod Interpretations
 pub mod CharacterFunctions
 pub mod Trees
 pub mod Scopes
+pub mod ScopeLaws
 pub mod Globals
 pub mod Act

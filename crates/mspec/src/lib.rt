@@ -9,3 +9,4 @@ pub mod key_laws;
 pub mod number_laws;
 pub mod pattern_laws;
 pub mod piece_laws;
+pub mod scope_laws;

@@ -1,0 +1,140 @@
+// Local variables, beside ten thousand others.
+use crate::measure::{Plan, Unit, measure};
+use mkey::subs_ok;
+use mlocal::scopes::Locals;
+use mlocal::{Direction, order_subs_ok};
+use mnum::Bytes7;
+use std::alloc::Global;
+
+const NS: Unit = Unit::Nanoseconds;
+
+const COUNT: usize = 10_000;
+
+// Variables are asked for in the steps of this number, so that neighbours do not follow one another.
+const STRIDE: usize = 7_919;
+
+// The texts of a letter and a number each.
+fn texts(alloc: Global, letter: &str) -> anyhow::Result<Vec<Bytes7>> {
+    let mut out = Vec::new(alloc);
+    for i in 0..COUNT {
+        let text = format!(in alloc; "{letter}{i}")?;
+        match Bytes7::new(text.into_bytes()) {
+            Ok(text) => out.push(text)?,
+            Err(_) => anyhow::bail!("a text is not ASCII"),
+        }
+    }
+    Ok(out)
+}
+
+// What stands at a place that the round tells.
+fn at(items: &[Bytes7], round: usize) -> Option<&Bytes7> {
+    items.get(round.wrapping_mul(STRIDE) % COUNT)
+}
+
+fn set(locals: &mut Locals, name: &Bytes7, subs: &[Bytes7], text: &Bytes7) -> i128 {
+    if !subs_ok(subs) {
+        return -1;
+    }
+    match text.copy() {
+        Ok(text) => locals.set(name, subs, text).is_ok() as i128,
+        Err(_) => -1,
+    }
+}
+
+fn get(locals: &Locals, name: &Bytes7, subs: &[Bytes7]) -> i128 {
+    if !subs_ok(subs) {
+        return -1;
+    }
+    match locals.get(name, subs) {
+        Ok(Some(text)) => text.as_bytes().len() as i128,
+        _ => -1,
+    }
+}
+
+fn next(locals: &Locals, name: &Bytes7, sub: &Bytes7, direction: Direction) -> i128 {
+    let Ok(sub) = sub.copy() else {
+        return -1;
+    };
+    let subs = [sub];
+    if !order_subs_ok(&subs) {
+        return -1;
+    }
+    match locals.order(name, &subs, direction) {
+        Ok(Some(text)) => text.as_bytes().len() as i128,
+        Ok(None) => 0,
+        Err(_) => -1,
+    }
+}
+
+// A level with one name.
+fn level(locals: &mut Locals, names: &[Bytes7]) -> i128 {
+    if locals.enter().is_err() {
+        return -1;
+    }
+    let made = locals.new_vars(names).is_ok();
+    if locals.depth() > 0 {
+        locals.leave();
+    }
+    made as i128
+}
+
+// The unsubscripted variables of so many names.
+fn variables(rt: &HostRuntime, plan: Plan) -> anyhow::Result<()> {
+    println!(rt; "ten thousand locals")?;
+    let alloc = rt.alloc();
+    let names = texts(alloc, "V")?;
+    let mut locals = Locals::new(alloc);
+    for name in &names {
+        set(&mut locals, name, &[], name);
+    }
+    measure(
+        rt,
+        "get",
+        plan,
+        NS,
+        |i| at(&names, i).map_or(-1, |name| get(&locals, name, &[])),
+    )?;
+    measure(
+        rt,
+        "set",
+        plan,
+        NS,
+        |i| at(&names, i).map_or(-1, |name| set(&mut locals, name, &[], name)),
+    )?;
+    let one = texts(alloc, "V")?;
+    measure(rt, "level", plan, NS, |_| level(&mut locals, &one[..1.min(one.len())]))
+}
+
+// One variable with so many subscripts.
+fn subscripts(rt: &HostRuntime, plan: Plan, what: &str, letter: &str) -> anyhow::Result<()> {
+    println!(rt; "{what}")?;
+    let alloc = rt.alloc();
+    let subs = texts(alloc, letter)?;
+    let mut locals = Locals::new(alloc);
+    let Some(name) = subs.first() else {
+        anyhow::bail!("no name");
+    };
+    for sub in &subs {
+        set(&mut locals, name, &[sub.copy()?], sub);
+    }
+    measure(
+        rt,
+        "order",
+        plan,
+        NS,
+        |i| at(&subs, i).map_or(-1, |sub| next(&locals, name, sub, Direction::Forward)),
+    )?;
+    measure(
+        rt,
+        "order back",
+        plan,
+        NS,
+        |i| at(&subs, i).map_or(-1, |sub| next(&locals, name, sub, Direction::Backward)),
+    )
+}
+
+pub fn locals(rt: &HostRuntime, plan: Plan) -> anyhow::Result<()> {
+    variables(rt, plan)?;
+    subscripts(rt, plan, "ten thousand subscripts, numbers", "")?;
+    subscripts(rt, plan, "ten thousand subscripts, texts", "item")
+}

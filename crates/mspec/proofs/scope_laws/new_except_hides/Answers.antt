@@ -1,0 +1,5 @@
+use Rattle.mspec.proofs.ScopeFacts.{new_except_hides}
+use Rattle.mspec.proofs.scope_laws.new_except_hides.Goals as goal
+
+pub returns : goal.returns
+returns c = new_except_hides

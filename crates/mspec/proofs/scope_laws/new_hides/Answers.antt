@@ -1,0 +1,5 @@
+use Rattle.mspec.proofs.ScopeFacts.{new_hides}
+use Rattle.mspec.proofs.scope_laws.new_hides.Goals as goal
+
+pub returns : goal.returns
+returns c = new_hides

@@ -1,0 +1,5 @@
+use Rattle.mspec.proofs.ScopeFacts.{new_keeps_below}
+use Rattle.mspec.proofs.scope_laws.new_keeps_below.Goals as goal
+
+pub returns : goal.returns
+returns c = new_keeps_below

@@ -1,0 +1,32 @@
+// The laws of scopes. Each function's contract is the law, and its body is empty: the code never calls them.
+ghost use Rattle.mspec.specs.ScopeLaws.{LeavingRestores, TopVariablesStandAlone, NewKeepsBelow, NewHides, NewExceptHides, HiddenVariablesComeBack};
+
+/// Leaving a level that was just entered gives back what was there.
+pub fn leaving_restores()
+    ensures { LeavingRestores }
+{}
+
+/// What is done to a variable of the top scope changes no scope below.
+pub fn top_variables_stand_alone()
+    ensures { TopVariablesStandAlone }
+{}
+
+/// NEW changes no scope below.
+pub fn new_keeps_below()
+    ensures { NewKeepsBelow }
+{}
+
+/// NEW hides the variables of its names, and leaves all others as they are.
+pub fn new_hides()
+    ensures { NewHides }
+{}
+
+/// NEW with names in brackets hides the variables of all others, and leaves those of its names as they are.
+pub fn new_except_hides()
+    ensures { NewExceptHides }
+{}
+
+/// The variables that a scope hides come back when its level ends, whatever was done on top of it.
+pub fn hidden_variables_come_back()
+    ensures { HiddenVariablesComeBack }
+{}

@@ -8,3 +8,6 @@ pub mod store;
 
 pub use plain::Plain;
 pub use store::{NodeStore, StoreFault};
+
+#[cfg(test)]
+mod tests;

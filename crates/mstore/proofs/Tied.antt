@@ -1,5 +1,5 @@
 -- What the statements do, of the globals that the rows are.
-use Rattle.std.proofs.Common.{◌≡◌, ℕ, Bool, false, true, List, [], ◌∷◌, Option, Some, None, refl, sym, ap, subst, subst₂, ◌∙◌}
+use Rattle.std.proofs.Common.{◌≡◌, ℕ, Bool, false, true, List, [], ◌∷◌, Option, Some, None, Result, Ok, Err, OnOk, refl, sym, ap, subst, subst₂, ◌∙◌}
 use Rattle.std.specs.FinMap.{get, insert}
 use Rattle.sqlite.specs.declared.types.Value.{Value}
 use Rattle.sqlite.specs.declared.types.Value.TheVariants.{Blob}
@@ -75,3 +75,7 @@ module _ {S : Type 0} (g : Ghosts S) (old new : Held S) (was : IsSound g old) (i
 
   pub kill_is : (n : Node) → IsStored n → RemovesWithin (holds g old) (holds g new) (key_bytes significant_digits n) (subtree_end (key_bytes significant_digits n)) → stored g new ≡ without_subtree (stored g old) n
   kill_is n stored_n gone = keyed_rows.kills key_of value_of (rows g old) (rows g new) (are_keyed g old was) (are_keyed g new is) n (none_empty n stored_n) gone
+
+pub on_ok : {A E P Q : Type 0} (r : Result A E) → (P → Q) → OnOk r P → OnOk r Q
+on_ok (Ok a) f p = f p
+on_ok (Err e) f p = p

@@ -1,5 +1,5 @@
 -- Bytes of lists of subscripts that begin alike.
-use Rattle.std.proofs.Common.{ℕ, ◌≡◌, ◌++◌, Bool, true, false, nat_eq, List, length, drop, refl, sym, ◌∙◌, ap}
+use Rattle.std.proofs.Common.{ℕ, ◌≡◌, Bool, true, false, nat_eq, List, length, drop, refl, sym, ◌∙◌, ap}
 use Rattle.std.specs.Cmp.Lexicographic.{bytes_decides}
 use Rattle.std.specs.List.{starts_with}
 use Rattle.std.proofs.lemmas.Bool.Decides.{Decides-eqb}
@@ -8,7 +8,7 @@ use Rattle.std.proofs.lemmas.Slice.Eq.{starts_is}
 use Rattle.mspec.specs.KeyBytes.{subscript_bytes, subscripts_bytes}
 use Rattle.mspec.specs.Node.{Text}
 use Rattle.mspec.specs.Number.{significant_digits}
-use Rattle.mspec.specs.Trees.{text_eq, is_within}
+use Rattle.mspec.specs.Trees.{is_within}
 use Rattle.mspec.proofs.KeyRanges.{subscripts_split}
 use Rattle.mkey.specs.Front.{AreSubs}
 use Rattle.mkey.specs.SubsKey.{none_empty_of}

@@ -1,17 +1,21 @@
 // Keys of nodes.
-ghost use Rattle.std.specs.Prelude.{◌≡◌, ◌↔◌, ◌<◌, [], ◌∷◌, ◌++◌, IfOk, Err, All};
+ghost use Rattle.std.specs.Prelude.{◌≡◌, ◌↔◌, ◌<◌, [], ◌∷◌, ◌++◌, IfOk, Err, All, Some, refl};
+ghost use Rattle.std.specs.Cmp.{partial_equiv_from_equiv, partial_order_from_total, eq_by_cmp_equiv};
+ghost use Rattle.std.specs.Ordering.{eq_by_cmp};
 ghost use Rattle.mkey.specs.Key.{IsKey, IsKey-prop, BoundsKeysOf};
 ghost use Rattle.mspec.specs.Grammar.{IsName};
 ghost use Rattle.mspec.specs.KeyBytes.{key_bytes, children_start, subtree_end, IsAccountName, AreSubscripts, IsStored};
 ghost use Rattle.mspec.specs.KeyLaws.{BeginsWith, IsWithin};
-ghost use Rattle.mspec.specs.NodeOrder.{IsAncestor};
+ghost use Rattle.mspec.specs.NodeOrder.{IsAncestor, node_cmp};
 ghost use Rattle.mspec.specs.Number.{significant_digits};
+ghost use Rattle.mspec.proofs.NodeOrders.{node_cmp_total};
 
 use crate::encoding::{push_subscripts, push_text, room};
 use crate::fault::KeyFault;
 use crate::subs::subs_ok;
 use mnum::Bytes7;
 use std::alloc::{AllocError, Global};
+use std::cmp::Ordering;
 use std::marker::Model;
 
 // What stands behind a key in the bounds of the nodes below it.
@@ -19,7 +23,7 @@ const FIRST_TAG: u8 = 1;
 
 const BEHIND_TAGS: u8 = 3;
 
-/// The key of a node of a store. Contracts see it as the node.
+/// The key of a node of a store, in the order of nodes. Contracts see it as the node.
 #[derive(Debug, Drop)]
 pub struct NodeKey {
     bytes: Vec<u8>,
@@ -60,6 +64,19 @@ impl NodeKey {
         push_text(&mut bytes, account);
         push_text(&mut bytes, name);
         push_subscripts(&mut bytes, subs);
+        Ok(NodeKey { bytes })
+    }
+
+    /// A second key of the same node, on this one's allocator.
+    ///
+    /// # Errors
+    ///
+    /// `AllocError` for want of memory.
+    pub fn copy(&self) -> Result<NodeKey, AllocError>
+        ensures key { IfOk result (λ key. key ≡ self.now) }
+        ensures stored { IsStored self.now }
+    {
+        let bytes = self.bytes.clone()?;
         Ok(NodeKey { bytes })
     }
 
@@ -112,5 +129,45 @@ impl NodeKey {
         let low = self.followed_by(alloc, FIRST_TAG)?;
         let high = self.followed_by(alloc, BEHIND_TAGS)?;
         Ok((low, high))
+    }
+}
+
+// Keys stand in the order of their nodes, and are equal where those are.
+
+impl PartialEq for NodeKey {
+    ghost eq = { eq_by_cmp (node_cmp significant_digits) };
+
+    ghost laws = { partial_equiv_from_equiv (eq_by_cmp_equiv (node_cmp_total significant_digits)) };
+
+    fn eq(&self, other: &NodeKey) -> bool {
+        self.cmp(other).is_eq()
+    }
+}
+
+impl Eq for NodeKey {
+    ghost laws = { eq_by_cmp_equiv (node_cmp_total significant_digits) };
+}
+
+impl PartialOrd for NodeKey {
+    ghost partial_cmp = { λ a b. Some (node_cmp significant_digits a b) };
+
+    ghost laws = { partial_order_from_total (node_cmp_total significant_digits) };
+
+    fn partial_cmp(&self, other: &NodeKey) -> Option<Ordering> {
+        Some(self.cmp(other))
+    }
+}
+
+impl Ord for NodeKey {
+    ghost cmp = { node_cmp significant_digits };
+
+    ghost total = { node_cmp_total significant_digits };
+
+    ghost matches_partial_cmp = { λ a b. refl };
+
+    ghost matches_eq = { λ a b. refl };
+
+    fn cmp(&self, other: &NodeKey) -> Ordering {
+        self.as_bytes().cmp(other.as_bytes())
     }
 }

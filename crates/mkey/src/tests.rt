@@ -210,6 +210,15 @@ fn bounds_of_what_is_below(rt: HostRuntime) -> Result<(), Fail> {
 }
 
 #[test]
+fn copies_and_order(rt: HostRuntime) -> Result<(), Fail> {
+    let ten = key(rt.alloc(), &["10"])?;
+    assert!(rt; ten == ten.copy()?);
+    assert!(rt; key(rt.alloc(), &["9", "A"])? < ten);
+    assert!(rt; ten < key(rt.alloc(), &["10", "1"])?);
+    Ok(())
+}
+
+#[test]
 fn refused_subscripts(rt: HostRuntime) -> Result<(), Fail> {
     let account = text(rt.alloc(), "A")?;
     let name = text(rt.alloc(), "B")?;

@@ -1,0 +1,14 @@
+use Rattle.std.proofs.Common.{◌∙◌, ap}
+use Rattle.std.specs.Cmp.Lexicographic.{slice_cmp}
+use Rattle.std.specs.Ordering.{nat_cmp}
+use Rattle.mspec.specs.KeyBytes.{key_bytes}
+use Rattle.mspec.specs.Number.{significant_digits}
+use Rattle.mspec.proofs.KeyOrders.{key_order}
+use Rattle.mkey.specs.Key.{none_empty}
+use Rattle.mkey.proofs.key.NodeKeyOrd.cmp.Goals as goal
+
+pub returns : goal.returns
+returns c =
+    c.cmp.ensures ∙ ap (λ b. slice_cmp nat_cmp b c.as_bytes-2.result.now) c.as_bytes.ensures.bytes
+    ∙ ap (slice_cmp nat_cmp (key_bytes significant_digits c.args.self.now)) c.as_bytes-2.ensures.bytes
+    ∙ key_order significant_digits c.args.self.now c.args.other.now (none_empty c.args.self.now c.as_bytes.ensures.stored) (none_empty c.args.other.now c.as_bytes-2.ensures.stored)

@@ -1,0 +1,23 @@
+use Rattle.std.proofs.Common.{◌≡◌, IfOk, Some, ap, sym, subst, ◌∙◌}
+use Rattle.std.specs.FinMap.{get}
+use Rattle.mstore.specs.Entries.{IsAt, IsGapFor}
+use Rattle.mstore.proofs.SortedEntries.{get_held}
+use Rattle.mstore.proofs.EntryPlaces.{find_at, find_in_gap}
+use Rattle.mstore.proofs.plain.PlainNodeStore.get.Goals as goal
+use Rattle.mstore.proofs.plain.PlainNodeStore.get.Goals.{in-Ok+in_ok-copy-in-Ok, in-Err}
+
+pub returns-clause-found : goal.returns-clause-found
+returns-clause-found c u =
+    let items = c.self.inside.entries.items in
+    let node = c.args.key.now in
+    let had = sym (get_held items node) ∙ ap (λ g. get g node) c.self.view_is in
+    elim c.match-search.branch [
+      | in-Ok+in_ok-copy-in-Ok w ↦
+          let at = subst (λ es. IsAt es node w.in-Ok.at) c.deref.ensures.value w.in-Ok.ensures.found in
+          subst (λ r. IfOk r (λ text. text ≡ get c.args.self.now node)) (sym w.result-is)
+          (ap Some (w.in_ok-copy-in-Ok.ensures ∙ ap (λ e. e.text) w.index.ensures) ∙ sym (find_at items c.self.invariant.sorted node w.in-Ok.at at w.index.result.now) ∙ had)
+      | in-Err w ↦
+          let gap = subst (λ es. IsGapFor es node w.in-Err.field-0) c.deref.ensures.value w.in-Err.ensures.absent in
+          subst (λ r. IfOk r (λ text. text ≡ get c.args.self.now node)) (sym w.result-is)
+          (sym (find_in_gap items node w.in-Err.field-0 gap) ∙ had)
+    ]

@@ -1,0 +1,45 @@
+use Rattle.std.proofs.Common.{◌≤◌, length, refl, ap, sym, subst, ◌∙◌, is_ok}
+use Rattle.std.specs.FinMap as finite
+use Rattle.mstore.specs.Entries.{AreEntries, IsAt, IsGapFor, held}
+use Rattle.mstore.proofs.EntryPlaces.{had_room, are_set, are_inserted, held_set, held_inserted}
+use Rattle.mstore.proofs.plain.PlainNodeStore.put.Goals as goal
+
+-- the entry is there, and has another text now
+pub invariant_of-self : goal.invariant_of-self
+invariant_of-self c =
+    let items = c.self.inside.entries.items in
+    let node = c.args.key.now in
+    let at = subst (λ es. IsAt es node c.in-Ok.at) c.deref.ensures.value c.in-Ok.ensures.found in
+    are_set items c.self.invariant node c.in_ok-text.text c.in-Ok.at _ (ap (λ e. e.key) c.index_mut.ensures.value ∙ at.of_node c.index_mut.result.now) refl at
+
+pub returns-in-Ok-clause-put : goal.returns-in-Ok-clause-put
+returns-in-Ok-clause-put c u =
+    let items = c.self.inside.entries.items in
+    let node = c.args.key.now in
+    let at = subst (λ es. IsAt es node c.in-Ok.at) c.deref.ensures.value c.in-Ok.ensures.found in
+    held_set items c.self.invariant node c.args.text.now c.in-Ok.at _ (ap (λ e. e.key) c.index_mut.ensures.value ∙ at.of_node c.index_mut.result.now) c.in_ok-text.ensures at
+    ∙ ap (λ g. finite.insert g node c.args.text.now) c.self.view_is
+
+-- a new entry is put between those before it and those behind it
+pub invariant_of-self-in-Continue-branch-3 : goal.invariant_of-self-in-Continue-branch-3
+invariant_of-self-in-Continue-branch-3 c =
+    let items = c.self.inside.entries.items in
+    let node = c.args.key.now in
+    let place = c.in-Err.place in
+    let le = subst (λ es. place ≤ length es) c.deref.ensures.value c.in-Err.ensures.bound in
+    let gap = subst (λ es. IsGapFor es node place) c.deref.ensures.value c.in-Err.ensures.absent in
+    let new = c.insert.ensures.items ∙ had_room _ _ items (sym c.map_err.ensures.variant ∙ ap is_ok c.in_ok-map_err-in-Err.was) in
+    subst AreEntries (sym new)
+    (are_inserted items c.self.invariant node c.in_ok-text.text place _ c.in_ok-key-in-Err.ensures.key refl le gap c.copy-in-Err.ensures.stored)
+
+pub returns-in_ok-map_err-in-Err-clause-put : goal.returns-in_ok-map_err-in-Err-clause-put
+returns-in_ok-map_err-in-Err-clause-put c u =
+    let items = c.self.inside.entries.items in
+    let node = c.args.key.now in
+    let place = c.in-Err.place in
+    let le = subst (λ es. place ≤ length es) c.deref.ensures.value c.in-Err.ensures.bound in
+    let gap = subst (λ es. IsGapFor es node place) c.deref.ensures.value c.in-Err.ensures.absent in
+    let new = c.insert.ensures.items ∙ had_room _ _ items (sym c.map_err.ensures.variant ∙ ap is_ok c.in_ok-map_err-in-Err.was) in
+    ap held new
+    ∙ held_inserted items c.self.invariant node c.args.text.now place _ c.in_ok-key-in-Err.ensures.key c.in_ok-text.ensures le gap
+    ∙ ap (λ g. finite.insert g node c.args.text.now) c.self.view_is

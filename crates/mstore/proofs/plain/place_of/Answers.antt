@@ -1,0 +1,10 @@
+use Rattle.std.proofs.Common.{rules}
+use Rattle.std.proofs.lemmas.List.Sorted.{IsPartitionPoint-from_clause}
+use Rattle.mstore.specs.Entries.{is_before}
+use Rattle.mstore.proofs.EntryPlaces.{before_some}
+use Rattle.mstore.proofs.plain.place_of.Goals as goal
+
+pub returns-clause-place : goal.returns-clause-place
+returns-clause-place c =
+    IsPartitionPoint-from_clause (is_before c.args.bytes.now) c.args.entries.now _ c.partition_point.ensures.partitioned
+    (before_some c.args.entries.now c.requires c.args.bytes.now) (λ a r f called. search rules)

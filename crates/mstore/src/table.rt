@@ -1,12 +1,13 @@
 // A table over a connection.
-ghost use Rattle.std.specs.Prelude.{◌≡◌, IfOk, IfErr, List, ℕ, None, Err, codes};
+ghost use Rattle.std.specs.Prelude.{◌≡◌, ◌≤◌, length, IfOk, IfErr, List, ℕ, None, Err, codes};
 ghost use Rattle.sqlite.specs.Order.{column};
 ghost use Rattle.sqlite.specs.declared.types.Value.TheVariants.{Blob};
+ghost use Rattle.mspec.specs.TextFunctions.{longest_text};
 ghost use Rattle.mstore.specs.Layout.{schema};
 
 use crate::create::make_tables;
 use crate::open_fault::OpenFault;
-use crate::opening::open_tables;
+use crate::opening::{LONGEST_TEXT, open_tables};
 use crate::statements::{fault_of, find_first, find_last, find_value, remove_range, store_value};
 use crate::store::{NodeStore, StoreFault};
 use mkey::NodeKey;
@@ -39,16 +40,20 @@ impl<S: Alter> Model for Table<S> {
 }
 
 impl Table<MemStore> {
+    ghost use Rattle.std.specs.FinMap.{empty};
+    ghost use Rattle.sqlite.specs.Held.{state};
     ghost use Rattle.sqlite.specs.Steps.{over_memory};
-    ghost use Rattle.mstore.specs.Database.{holds};
+    ghost use Rattle.mstore.specs.Database.{IsMemory, HasVersion, this_version, stored};
 
-    /// An empty table in memory.
+    /// An empty table in memory, of which holds what is said of a table's content.
     ///
     /// # Errors
     ///
     /// `Memory` and `Store`.
     pub fn open_memory(alloc: Global) -> Result<Table<MemStore>, OpenFault>
-        ensures { IfOk result (λ t. (q : List ℕ) → holds over_memory t q ≡ None) }
+        ensures empty { IfOk result (λ t. stored over_memory t ≡ empty) }
+        ensures version { IfOk result (λ t. HasVersion (state over_memory t).now this_version) }
+        ensures sound { IfOk result (λ _. IsMemory over_memory) }
     {
         let Ok(mut conn) = Connection::open_in_memory(alloc) else {
             return Err(OpenFault::Memory);
@@ -120,9 +125,14 @@ impl<S: Alter> Table<S> {
 
 // The text that a row shows.
 fn text_in(row: &Row) -> Result<Bytes7, StoreFault>
-    ensures { IfOk result (λ text. column row.now 0 ≡ Blob text) }
+    ensures text { IfOk result (λ text. column row.now 0 ≡ Blob text) }
+    ensures short { IfOk result (λ text. length text ≤ longest_text) }
 {
-    match Bytes7::new(bytes_in(row)?) {
+    let bytes = bytes_in(row)?;
+    if bytes.len() > LONGEST_TEXT {
+        return Err(StoreFault::Store);
+    }
+    match Bytes7::new(bytes) {
         Ok(text) => Ok(text),
         Err(_) => Err(StoreFault::Store),
     }

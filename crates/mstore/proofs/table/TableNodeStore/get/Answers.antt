@@ -17,4 +17,4 @@ returns-clause-found g c quiet =
     let sound : IsSound g.S.Store h = (quiet, c.self.invariant quiet) in
     let shows = rw (c.as_bytes.ensures.bytes, c.in-Some.is) at c.in_ok-row.ensures.found sound in
     subst (λ t. Some c.in_ok-text.text ≡ get (stored g.S.Store t) c.args.key.now) c.self.view_is
-    (gets_text g.S.Store h sound c.args.key.now c.in-Some.row c.in_ok-text.text c.as_bytes.ensures.stored shows c.in_ok-text.ensures)
+    (gets_text g.S.Store h sound c.args.key.now c.in-Some.row c.in_ok-text.text c.as_bytes.ensures.stored shows c.in_ok-text.ensures.text)

@@ -23,7 +23,9 @@ use Rattle.sqlite.specs.State.{State, mode_of, Writes, Executes}
 use Rattle.sqlite.proofs.Callers.{IsPlain, command_of, statement_of, runs_as, one_step}
 use Rattle.mstore.specs.Layout.{node, meta, schema, no_schema}
 use Rattle.mstore.specs.Database.{version_name, this_version, IsIdle, IsStore, IsBare, IsBlank, IsMemory, content}
-use Rattle.mstore.specs.Rows.{AreNodes, lookup}
+use Rattle.mstore.specs.Rows.{AreNodes, key_of, value_of}
+use Rattle.mstore.specs.Keyed.{globals_by}
+use Rattle.std.specs.FinMap.{empty}
 use Rattle.sqlite.specs.Steps.{over_memory, IsEmpty}
 use Rattle.sqlite_trees.proofs.Doubt.{no_doubt}
 use Rattle.mstore.proofs.Texts.{node_is, meta_is}
@@ -127,5 +129,5 @@ blank_from s h = record { idle = record { autocommit = h.0.autocommit; settled =
 pub memory_is : IsMemory over_memory
 memory_is = record { clean = λ s. no_doubt true refl; is_open = λ s. refl; listed = memory_is_listed; ordered = memory_is_ordered }
 
-pub bare_is_none : (s : State) (q : List ℕ) → IsBare s.now → content s q ≡ None
-bare_is_none s q bare = ap (λ rows. lookup rows q) bare.empty
+pub bare_is_empty : (s : State) → IsBare s.now → globals_by key_of value_of (s.now.trees 0) ≡ empty
+bare_is_empty s bare = ap (globals_by key_of value_of) bare.empty

@@ -8,9 +8,10 @@ use Rattle.sqlite.specs.Held.{Held, state}
 use Rattle.sqlite.specs.State.{State, HasCleanDisk, QueriesRow, Executes}
 use Rattle.sqlite.specs.Listing.{understood}
 use Rattle.sqlite.proofs.Callers.{IsPlain}
-use Rattle.mstore.specs.Database.{IsSound, IsIdle, Stays, holds}
+use Rattle.mstore.specs.Database.{IsSound, IsIdle, Stays, holds, stored}
 use Rattle.mstore.specs.Map.{PutsAt, RemovesWithin}
-use Rattle.mstore.specs.Rows.{IsInForm, AreNodes, lookup}
+use Rattle.mstore.specs.Rows.{IsInForm, AreNodes, key_of, value_of}
+use Rattle.mstore.specs.Keyed.{globals_by}
 use Rattle.mstore.proofs.States.{stays_calm, query_row_stays, failed_execute_stays}
 use Rattle.sqlite.specs.declared.types.Value.TheVariants.{Blob}
 use Rattle.mstore.specs.Statements.{put_text, kill_text}
@@ -26,16 +27,16 @@ module _ {S : Type 0} (g : Ghosts S) (old new : Held S) (sound : IsSound g old) 
   abbrev idle : IsIdle (state g old)
   idle = sound.1.calm.idle
 
-  kept_sound : Stays (state g old) (state g new) → IsSound g new × (holds g new ≡ holds g old)
+  kept_sound : Stays (state g old) (state g new) → IsSound g new × (stored g new ≡ stored g old)
   kept_sound k = (
     (sound.0, record { calm = stays_calm _ _ sound.1.calm k; nodes = subst (λ (d : Database). AreNodes (d.trees 0)) (sym k.same) sound.1.nodes }),
-    ap (λ (d : Database). lookup (d.trees 0)) k.same,
+    ap (λ (d : Database). globals_by key_of value_of (d.trees 0)) k.same,
   )
 
-  pub query_keeps : (sql : List ℕ) (params : Row) (r : Result Row Error) → IsPlain (understood old.schema sql) → QueriesRow sql params (state g old) (state g new) r → IsSound g new × (holds g new ≡ holds g old)
+  pub query_keeps : (sql : List ℕ) (params : Row) (r : Result Row Error) → IsPlain (understood old.schema sql) → QueriesRow sql params (state g old) (state g new) r → IsSound g new × (stored g new ≡ stored g old)
   query_keeps sql params r plain h = kept_sound (query_row_stays (state g old) (state g new) idle (sound.0.is_open new.store) sql params r plain h)
 
-  pub failed_execute : (sql : List ℕ) (params : Row) (e : Error) → Executes sql params (state g old) (state g new) (Err e) → IsSound g new × (holds g new ≡ holds g old)
+  pub failed_execute : (sql : List ℕ) (params : Row) (e : Error) → Executes sql params (state g old) (state g new) (Err e) → IsSound g new × (stored g new ≡ stored g old)
   failed_execute sql params e h = kept_sound (failed_execute_stays (state g old) (state g new) idle (sound.0.is_open new.store) sql params e h)
 
   pub put_done : (k v : List ℕ) (count : ℕ) → IsInForm k v → Executes put_text (Blob k ∷ Blob v ∷ []) (state g old) (state g new) (Ok count) → IsSound g new × PutsAt (holds g old) (holds g new) k v

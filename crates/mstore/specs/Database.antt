@@ -13,9 +13,11 @@ use Rattle.sqlite_rules.specs.Lists.{Has}
 use Rattle.sqlite.specs.State.{State}
 use Rattle.sqlite.specs.Effect.{Database}
 use Rattle.sqlite.specs.Held.{Held, state}
+use Rattle.mspec.specs.Globals.{Globals}
 use Rattle.mstore.specs.Layout.{schema, no_schema}
+use Rattle.mstore.specs.Keyed.{globals_by}
 use Rattle.mstore.specs.Map.{Content}
-use Rattle.mstore.specs.Rows.{AreNodes, ShowsNode, lookup, shown_of}
+use Rattle.mstore.specs.Rows.{AreNodes, ShowsNode, key_of, value_of, lookup, shown_of}
 use Rattle.mstore.specs.Statements.{RefusesOne}
 
 -- the store beneath is memory: it never loses what it holds, and is in order at each moment
@@ -51,6 +53,10 @@ content s = lookup (s.now.trees 0)
 abbrev pub holds : {S : Type 0} → Ghosts S → Held S → Content
 holds g h = content (state g h)
 
+-- the globals that the rows are
+abbrev pub stored : {S : Type 0} → Ghosts S → Held S → Globals
+stored g h = globals_by key_of value_of ((state g h).now.trees 0)
+
 -- what the calls say holds where the store is memory and was a table
 abbrev pub IsSound : {S : Type 0} → Ghosts S → Held S → Type 0
 IsSound g h = IsMemory g × IsStore (state g h)
@@ -64,7 +70,7 @@ pub record Stays (old new : State) : Type 0 where
 
 -- and a table is still one
 abbrev pub IsKept : {S : Type 0} → Ghosts S → Held S → Held S → Type 0
-IsKept g old new = IsSound g old → IsSound g new × (holds g new ≡ holds g old)
+IsKept g old new = IsSound g old → IsSound g new × (stored g new ≡ stored g old)
 
 -- all that the database holds, what is committed and whether a transaction is open is as it was
 pub record IsUntouched (old new : State) : Type 0 where

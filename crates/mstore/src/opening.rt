@@ -29,7 +29,7 @@ const WHICH: &str = "SELECT n FROM meta WHERE name = 'version'";
 const ALL: &str = "SELECT k, v FROM node";
 
 // The most characters that a node holds.
-const LONGEST_TEXT: usize = 4095;
+pub const LONGEST_TEXT: usize = 4095;
 
 // Whether these are the characters of a text of a node.
 pub fn is_value(bytes: &[u8]) -> bool

@@ -1,7 +1,7 @@
 // The statements, each alone.
 
 ghost use Rattle.std.specs.Prelude.{◌≡◌, ◌↔◌, true, false, IfOk, OnOk, OnErr};
-ghost use Rattle.mstore.specs.Database.{IsSound, IsKept, holds};
+ghost use Rattle.mstore.specs.Database.{IsSound, IsKept, holds, stored};
 ghost use Rattle.mstore.specs.Map.{PutsAt, RemovesWithin};
 ghost use Rattle.mstore.specs.Rows.{IsInForm, ShowsValue, ShowsKey};
 
@@ -82,7 +82,7 @@ pub fn store_value<S: Alter>(
     requires { IsInForm key.now value.now }
     ensures sound { IsSound S.Store conn.old → IsSound S.Store conn.new }
     ensures put { IsSound S.Store conn.old → OnOk result (PutsAt (holds S.Store conn.old) (holds S.Store conn.new) key.now value.now) }
-    ensures fault { IsSound S.Store conn.old → OnErr result (holds S.Store conn.new ≡ holds S.Store conn.old) }
+    ensures fault { IsSound S.Store conn.old → OnErr result (stored S.Store conn.new ≡ stored S.Store conn.old) }
 {
     match conn.execute(PUT, params![key, value]) {
         Ok(_) => Ok(()),
@@ -98,7 +98,7 @@ pub fn remove_range<S: Alter>(
 ) -> Result<(), StoreFault>
     ensures sound { IsSound S.Store conn.old → IsSound S.Store conn.new }
     ensures removed { IsSound S.Store conn.old → OnOk result (RemovesWithin (holds S.Store conn.old) (holds S.Store conn.new) low.now high.now) }
-    ensures fault { IsSound S.Store conn.old → OnErr result (holds S.Store conn.new ≡ holds S.Store conn.old) }
+    ensures fault { IsSound S.Store conn.old → OnErr result (stored S.Store conn.new ≡ stored S.Store conn.old) }
 {
     match conn.execute(KILL, params![low, high]) {
         Ok(_) => Ok(()),

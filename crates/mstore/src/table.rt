@@ -1,12 +1,18 @@
 // A table over a connection.
-ghost use Rattle.std.specs.Prelude.{◌≡◌, IfOk, IfErr, List, ℕ, None, Err, codes};
+ghost use Rattle.std.specs.Prelude.{◌≡◌, ◌≤◌, length, IfOk, IfErr, List, ℕ, None, Err, codes};
+ghost use Rattle.sqlite.specs.Order.{column};
+ghost use Rattle.sqlite.specs.declared.types.Value.TheVariants.{Blob};
+ghost use Rattle.mspec.specs.TextFunctions.{longest_text};
 ghost use Rattle.mstore.specs.Layout.{schema};
 
 use crate::create::make_tables;
 use crate::open_fault::OpenFault;
-use crate::opening::open_tables;
-use crate::statements::fault_of;
-use sqlite::{Alter, Connection, MemStore};
+use crate::opening::{LONGEST_TEXT, open_tables};
+use crate::statements::{fault_of, find_first, find_last, find_value, remove_range, store_value};
+use crate::store::{NodeStore, StoreFault};
+use mkey::NodeKey;
+use mnum::Bytes7;
+use sqlite::{Alter, Connection, MemStore, Row};
 use sqlite_std_file::File;
 use sqlite_store::FileStore;
 use std::alloc::Global;
@@ -17,6 +23,7 @@ use std::rt::HostRuntime;
 #[derive(Drop)]
 pub struct Table<S: Alter> {
     conn: Connection<S>,
+    alloc: Global,
 }
 
 impl<S: Alter> Model for Table<S> {
@@ -33,22 +40,26 @@ impl<S: Alter> Model for Table<S> {
 }
 
 impl Table<MemStore> {
+    ghost use Rattle.std.specs.FinMap.{empty};
+    ghost use Rattle.sqlite.specs.Held.{state};
     ghost use Rattle.sqlite.specs.Steps.{over_memory};
-    ghost use Rattle.mstore.specs.Database.{holds};
+    ghost use Rattle.mstore.specs.Database.{IsMemory, HasVersion, this_version, stored};
 
-    /// An empty table in memory.
+    /// An empty table in memory, of which holds what is said of a table's content.
     ///
     /// # Errors
     ///
     /// `Memory` and `Store`.
     pub fn open_memory(alloc: Global) -> Result<Table<MemStore>, OpenFault>
-        ensures { IfOk result (λ t. (q : List ℕ) → holds over_memory t q ≡ None) }
+        ensures empty { IfOk result (λ t. stored over_memory t ≡ empty) }
+        ensures version { IfOk result (λ t. HasVersion (state over_memory t).now this_version) }
+        ensures sound { IfOk result (λ _. IsMemory over_memory) }
     {
         let Ok(mut conn) = Connection::open_in_memory(alloc) else {
             return Err(OpenFault::Memory);
         };
         make_tables(&mut conn)?;
-        Ok(Table { conn })
+        Ok(Table { conn, alloc })
     }
 }
 
@@ -99,7 +110,7 @@ impl<S: Alter> Table<S> {
         ensures key { IfErr result (λ e. IsMemory S.Store → e.0 ≡ OpenFault.BadKey → ((state S.Store conn).now.schema ≡ schema) × HasOther ((state S.Store conn).now.trees 0)) }
     {
         match open_tables(alloc, &mut conn) {
-            Ok(()) => Ok(Table { conn }),
+            Ok(()) => Ok(Table { conn, alloc }),
             Err(fault) => Err((fault, conn)),
         }
     }
@@ -109,5 +120,73 @@ impl<S: Alter> Table<S> {
         ensures { result ≡ self }
     {
         self.conn
+    }
+}
+
+// The text that a row shows.
+fn text_in(row: &Row) -> Result<Bytes7, StoreFault>
+    ensures text { IfOk result (λ text. column row.now 0 ≡ Blob text) }
+    ensures short { IfOk result (λ text. length text ≤ longest_text) }
+{
+    let bytes = bytes_in(row)?;
+    if bytes.len() > LONGEST_TEXT {
+        return Err(StoreFault::Store);
+    }
+    match Bytes7::new(bytes) {
+        Ok(text) => Ok(text),
+        Err(_) => Err(StoreFault::Store),
+    }
+}
+
+// The bytes that a row shows.
+fn bytes_in(row: &Row) -> Result<Vec<u8>, StoreFault>
+    ensures { IfOk result (λ bytes. column row.now 0 ≡ Blob bytes.items) }
+{
+    match row.get::<Vec<u8>>(0) {
+        Ok(bytes) => Ok(bytes),
+        Err(error) => Err(fault_of(&error)),
+    }
+}
+
+impl<S: Alter> NodeStore for Table<S> {
+    ghost use Rattle.mstore.specs.Database.{IsMemory, stored};
+
+    ghost content = { λ t. stored S.Store t };
+
+    ghost sound = { λ t. IsMemory S.Store };
+
+    ghost steady = { λ t. ⊥ };
+
+    fn get(&mut self, key: &NodeKey) -> Result<Option<Bytes7>, StoreFault> {
+        let Some(row) = find_value(&mut self.conn, key.as_bytes())? else {
+            return Ok(None);
+        };
+        let text = text_in(&row)?;
+        Ok(Some(text))
+    }
+
+    fn put(&mut self, key: &NodeKey, text: &Bytes7) -> Result<(), StoreFault> {
+        store_value(&mut self.conn, key.as_bytes(), text.as_bytes())
+    }
+
+    fn kill(&mut self, key: &NodeKey) -> Result<(), StoreFault> {
+        let end = key.after_subtree(self.alloc)?;
+        remove_range(&mut self.conn, key.as_bytes(), end.as_slice())
+    }
+
+    fn next(&mut self, low: &[u8], high: &[u8]) -> Result<Option<Vec<u8>>, StoreFault> {
+        let Some(row) = find_first(&mut self.conn, low, high)? else {
+            return Ok(None);
+        };
+        let bytes = bytes_in(&row)?;
+        Ok(Some(bytes))
+    }
+
+    fn prev(&mut self, low: &[u8], high: &[u8]) -> Result<Option<Vec<u8>>, StoreFault> {
+        let Some(row) = find_last(&mut self.conn, low, high)? else {
+            return Ok(None);
+        };
+        let bytes = bytes_in(&row)?;
+        Ok(Some(bytes))
     }
 }

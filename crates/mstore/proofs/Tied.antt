@@ -1,0 +1,81 @@
+-- What the statements do, of the globals that the rows are.
+use Rattle.std.proofs.Common.{◌≡◌, ℕ, Bool, false, true, List, [], ◌∷◌, Option, Some, None, Result, Ok, Err, OnOk, refl, sym, ap, subst, subst₂, ◌∙◌}
+use Rattle.std.specs.FinMap.{get, insert}
+use Rattle.sqlite.specs.declared.types.Value.{Value}
+use Rattle.sqlite.specs.declared.types.Value.TheVariants.{Blob}
+use Rattle.sqlite.specs.Order.{Row, column}
+use Rattle.sqlite_trees.specs.declared.store.Store.{Ghosts}
+use Rattle.sqlite_rules.proofs.ListLemmas.{all_from}
+use Rattle.sqlite.specs.Held.{Held, state}
+use Rattle.mspec.specs.Node.{Node}
+use Rattle.mspec.specs.Number.{significant_digits}
+use Rattle.mspec.specs.KeyBytes.{key_bytes, subtree_end, IsStored}
+use Rattle.mspec.specs.Globals.{without_subtree, next_key, previous_key}
+use Rattle.mkey.specs.Key.{IsKey, none_empty}
+use Rattle.mstore.specs.Keyed.{AreKeyed}
+use Rattle.mstore.specs.Map.{Content, PutsAt, RemovesWithin, ShowsBytes, IsNearest}
+use Rattle.mstore.specs.Rows.{ShowsValue, ShowsKey, key_of, value_of}
+use Rattle.mstore.specs.Database.{IsSound, holds, stored}
+use Rattle.mstore.proofs.KeyedRows as keyed_rows
+use Rattle.mstore.proofs.KeyedOrder as keyed_order
+
+abbrev rows : {S : Type 0} → Ghosts S → Held S → List Row
+rows g h = (state g h).now.trees 0
+
+are_keyed : {S : Type 0} (g : Ghosts S) (h : Held S) → IsSound g h → AreKeyed key_of (rows g h)
+are_keyed g h sound = all_from (λ r. IsKey (key_of r)) (rows g h) (λ r has. (sound.1.nodes.in_form r has).0)
+
+same_bytes : (a b : List ℕ) → ◌≡◌ {A = Value} (Blob a) (Blob b) → a ≡ b
+same_bytes a b e = cc
+
+-- the row shows its first column
+shown_bytes : (row : Row) (a b : List ℕ) → row ≡ Blob a ∷ [] → column row 0 ≡ Blob b → a ≡ b
+shown_bytes row a b is shows = same_bytes a b (sym (ap (λ (r : Row). column r 0) is) ∙ shows)
+
+module _ {S : Type 0} (g : Ghosts S) (h : Held S) (sound : IsSound g h) where
+  abbrev here : List Row
+  here = rows g h
+
+  abbrev keyed : AreKeyed key_of here
+  keyed = are_keyed g h sound
+
+  got : (n : Node) → IsStored n → get (stored g h) n ≡ holds g h (key_bytes significant_digits n)
+  got n is = keyed_rows.gets key_of value_of here keyed n (none_empty n is)
+
+  pub gets_none : (n : Node) → IsStored n → ShowsValue (holds g h (key_bytes significant_digits n)) None → None ≡ get (stored g h) n
+  gets_none n is none = sym (got n is ∙ none)
+
+  pub gets_text : (n : Node) (row : Row) (text : List ℕ) → IsStored n → ShowsValue (holds g h (key_bytes significant_digits n)) (Some row) → column row 0 ≡ Blob text → Some text ≡ get (stored g h) n
+  gets_text n row text is shows column_is = ap Some (sym (shown_bytes row shows.0 text shows.1 column_is)) ∙ sym (got n is ∙ shows.2)
+
+  next_is : (low high : List ℕ) (q : Option (List ℕ)) → ShowsBytes false (holds g h) low high q → q ≡ next_key (stored g h) low high
+  next_is low high q shows = keyed_order.nexts key_of value_of here keyed low high q shows
+
+  previous_is : (low high : List ℕ) (q : Option (List ℕ)) → ShowsBytes true (holds g h) low high q → q ≡ previous_key (stored g h) low high
+  previous_is low high q shows = keyed_order.prevs key_of value_of here keyed low high q shows
+
+  shown_key : (down : Bool) (low high : List ℕ) (row : Row) (k : List ℕ) → ShowsKey down (holds g h) low high (Some row) → column row 0 ≡ Blob k → ShowsBytes down (holds g h) low high (Some k)
+  shown_key down low high row k shows column_is = subst (IsNearest down (holds g h) low high) (shown_bytes row shows.0 k shows.1 column_is) shows.2
+
+  pub next_none : (low high : List ℕ) → ShowsKey false (holds g h) low high None → None ≡ next_key (stored g h) low high
+  next_none low high none = next_is low high None none
+
+  pub next_some : (low high : List ℕ) (row : Row) (k : List ℕ) → ShowsKey false (holds g h) low high (Some row) → column row 0 ≡ Blob k → Some k ≡ next_key (stored g h) low high
+  next_some low high row k shows column_is = next_is low high (Some k) (shown_key false low high row k shows column_is)
+
+  pub previous_none : (low high : List ℕ) → ShowsKey true (holds g h) low high None → None ≡ previous_key (stored g h) low high
+  previous_none low high none = previous_is low high None none
+
+  pub previous_some : (low high : List ℕ) (row : Row) (k : List ℕ) → ShowsKey true (holds g h) low high (Some row) → column row 0 ≡ Blob k → Some k ≡ previous_key (stored g h) low high
+  previous_some low high row k shows column_is = previous_is low high (Some k) (shown_key true low high row k shows column_is)
+
+module _ {S : Type 0} (g : Ghosts S) (old new : Held S) (was : IsSound g old) (is : IsSound g new) where
+  pub put_is : (n : Node) (text : List ℕ) → IsStored n → PutsAt (holds g old) (holds g new) (key_bytes significant_digits n) text → stored g new ≡ insert (stored g old) n text
+  put_is n text stored_n put = keyed_rows.puts key_of value_of (rows g old) (rows g new) (are_keyed g old was) (are_keyed g new is) n text (none_empty n stored_n) put
+
+  pub kill_is : (n : Node) → IsStored n → RemovesWithin (holds g old) (holds g new) (key_bytes significant_digits n) (subtree_end (key_bytes significant_digits n)) → stored g new ≡ without_subtree (stored g old) n
+  kill_is n stored_n gone = keyed_rows.kills key_of value_of (rows g old) (rows g new) (are_keyed g old was) (are_keyed g new is) n (none_empty n stored_n) gone
+
+pub on_ok : {A E P Q : Type 0} (r : Result A E) → (P → Q) → OnOk r P → OnOk r Q
+on_ok (Ok a) f p = f p
+on_ok (Err e) f p = p

@@ -1,0 +1,14 @@
+use Rattle.std.proofs.Common.{◌≡◌, OnOk, subst}
+use Rattle.std.specs.FinMap.{insert}
+use Rattle.mstore.specs.Database.{IsSound, stored}
+use Rattle.mstore.proofs.Tied.{put_is, on_ok}
+use Rattle.mstore.proofs.table.TableNodeStore.put.Goals as goal
+
+pub returns-clause-put : goal.returns-clause-put
+returns-clause-put g c quiet =
+    let h = c.self.inside.conn in
+    let new = c.store_value.new.conn in
+    let sound : IsSound g.S.Store h = (quiet, c.self.invariant quiet) in
+    let put = rw (c.as_bytes.ensures.bytes, c.as_bytes-2.ensures.bytes) at c.store_value.ensures.put sound in
+    subst (λ t. OnOk c.store_value.result (stored g.S.Store new ≡ insert (stored g.S.Store t) c.args.key.now c.args.text.now)) c.self.view_is
+    (on_ok c.store_value.result (put_is g.S.Store h new sound (c.store_value.ensures.sound sound) c.args.key.now c.args.text.now c.as_bytes.ensures.stored) put)

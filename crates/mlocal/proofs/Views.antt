@@ -1,29 +1,30 @@
 -- Scopes of the code as scopes of the definitions.
 use Rattle.std.proofs.Common.{◌≡◌, Bool, true, false, cond, ◌||◌, Option, Some, None, List, [], ◌∷◌, Bor, Result, Ok, Err, map, refl, sym, ap, subst, ◌∙◌}
-use Rattle.std.specs.Prelude.{option_map, unwrap_or}
+use Rattle.std.specs.Prelude.{option_map, unwrap_or, is_some, nat_eq}
 use Rattle.std.specs.Option.{option_copied}
 use Rattle.std.specs.Result.{IfOk, OnOk, OnErr}
 use Rattle.std.specs.Map.{lookup, set_value}
-use Rattle.std.specs.BTreeMap as tree
 use Rattle.std.specs.BTreeMap.{BTreeMap}
-use Rattle.std.specs.Cmp.Lexicographic.{slice_cmp, nat_list_cmp_total}
-use Rattle.std.specs.FinMap.{IsAntisymmetric, from_entries, empty, retain_keys, same_map, get-from_entries, get-retain_keys, nat_cmp-IsAntisymmetric, slice_cmp-IsAntisymmetric}
+use Rattle.std.specs.HashMap as hash
+use Rattle.std.specs.HashMap.{HashMap}
+use Rattle.std.specs.Cmp.Lexicographic.{slice_cmp, pointwise, texts_ties, nat_list_cmp_total}
+use Rattle.std.specs.FinMap.{FinMap, IsAntisymmetric, from_entries, get, insert, empty, retain_keys, same_map, get-from_entries, get-retain_keys, nat_cmp-IsAntisymmetric, slice_cmp-IsAntisymmetric}
 use Rattle.std.specs.FinMap.Entries.{where_key, find-where_key}
 use Rattle.std.specs.Cmp.{IsTotalOrder}
 use Rattle.std.specs.List.{All, filter}
 use Rattle.std.specs.Map.{keys_of}
 use Rattle.std.specs.Map.Calls.{RetainsPairs}
-use Rattle.std.specs.Ordering.{nat_cmp}
+use Rattle.std.specs.Ordering.{nat_cmp, is_eq}
 use Rattle.std.specs.declared.cmp.Ordering.{Ordering}
 use Rattle.std.specs.declared.cmp.Ordering.TheVariants.{Equal}
 use Rattle.std.proofs.lemmas.List.Elements.{All-head, All-tail, All-cons}
 use Rattle.std.proofs.lemmas.Map.Entries.{filter_from_retain_pairs}
 use Rattle.std.proofs.lemmas.Map.Steps.{set_value_same}
-use Rattle.mspec.specs.Maps.{map_of}
+use Rattle.mspec.specs.Maps.{map_of, hash_map_of}
 use Rattle.mspec.specs.Node.{Text}
 use Rattle.mspec.specs.Scopes.{Scope, with_tree, tree_in}
 use Rattle.mspec.specs.Trees.{Tree}
-use Rattle.mspec.proofs.Maps.{found_is_had, insert-map_of}
+use Rattle.mspec.proofs.HashMaps.{hash_found_is_had, insert-hash_map_of}
 
 pub shown : {X : Type 0} (r : Option (Bor X)) → option_map (λ x. x.now) r ≡ option_copied r
 shown None = refl
@@ -51,20 +52,21 @@ pub names_exact : IsAntisymmetric (slice_cmp nat_cmp)
 names_exact = slice_cmp-IsAntisymmetric nat_cmp-IsAntisymmetric
 
 -- the scope of these names and trees
-abbrev pub scope_of : List Text → Option (List Text) → BTreeMap Text Tree → Scope
-scope_of ns o m = record { names = ns; others = o; trees = map_of (λ t. t) m }
+abbrev pub scope_of : {S : Type 0} → List Text → Option (List Text) → HashMap Text Tree S → Scope
+scope_of ns o m = record { names = ns; others = o; trees = hash_map_of (λ t. t) m }
 
--- the tree of a name, by what the map has
-pub tree_is : (ns : List Text) (o : Option (List Text)) (m : BTreeMap Text Tree) (n : Text) (r : Option Tree) → r ≡ tree.get (slice_cmp nat_cmp) m n → unwrap_or r empty ≡ tree_in (scope_of ns o m) n
-tree_is ns o m n r e = ap (λ q. unwrap_or q empty) (e ∙ found_is_had nat_list_cmp_total m n)
+module _ {S : Type 0} (ns : List Text) (o : Option (List Text)) (m : HashMap Text Tree S) where
+  -- the tree of a name, by what the map has
+  pub tree_is : (n : Text) (r : Option Tree) → r ≡ hash.get (pointwise nat_eq) m n → unwrap_or r empty ≡ tree_in (scope_of ns o m) n
+  tree_is n r e = ap (λ q. unwrap_or q empty) (e ∙ hash_found_is_had nat_list_cmp_total (pointwise nat_eq) texts_ties m n)
 
-pub tree_put : (ns : List Text) (o : Option (List Text)) (m m' : BTreeMap Text Tree) (n : Text) (t : Tree) → tree.Updates (slice_cmp nat_cmp) m m' n (Some t) → scope_of ns o m' ≡ with_tree n t (scope_of ns o m)
-tree_put ns o m m' n t u = ap (λ ts. record { names = ns; others = o; trees = ts }) (insert-map_of nat_list_cmp_total (λ t. t) names_exact m m' n t u)
+  pub tree_put : (m' : HashMap Text Tree S) (n : Text) (t : Tree) → hash.Updates (pointwise nat_eq) m m' n (Some t) → scope_of ns o m' ≡ with_tree n t (scope_of ns o m)
+  tree_put m' n t u = ap (λ ts. record { names = ns; others = o; trees = ts }) (insert-hash_map_of nat_list_cmp_total (pointwise nat_eq) texts_ties names_exact m m' n t u)
 
--- what was there is written back
-pub tree_kept : (ns : List Text) (o : Option (List Text)) (m m' : BTreeMap Text Tree) (test : Text → Bool) (t v : Tree) → m'.entries ≡ set_value test m.entries t → t ≡ v → lookup test m.entries ≡ Some v → scope_of ns o m' ≡ scope_of ns o m
-tree_kept ns o m m' test t v e same found =
-    ap (λ es. record { names = ns; others = o; trees = from_entries (map (λ p. (p.0, p.1)) es) }) (e ∙ ap (set_value test m.entries) same ∙ set_value_same test m.entries v found)
+  -- what was there is written back
+  pub tree_kept : (m' : HashMap Text Tree S) (test : Text → Bool) (t v : Tree) → m'.entries ≡ set_value test m.entries t → t ≡ v → lookup test m.entries ≡ Some v → scope_of ns o m' ≡ scope_of ns o m
+  tree_kept m' test t v e same found =
+      ap (λ es. record { names = ns; others = o; trees = from_entries (map (λ p. (p.0, p.1)) es) }) (e ∙ ap (set_value test m.entries) same ∙ set_value_same test m.entries v found)
 
 -- ---- `retain` by the key
 
@@ -91,6 +93,9 @@ module _ {K X : Type 0} {R : K → K → Ordering} (total : IsTotalOrder R) (exa
       let alike : (x : K) → R q x ≡ Equal → p x ≡ p q = λ x t. ap p (sym (exact q x t)) in
       get-from_entries total (where_key R p es) q ∙ find-where_key R p q alike es
       ∙ sym (get-retain_keys (from_entries es) p q alike ∙ ap (λ o. cond (p q) o None) (get-from_entries total es q)))
+
+  pub retain-hash_map_of : {S : Type 0} (m m' : HashMap K X S) (p : K → Bool) → m'.entries ≡ filter (λ e. p e.0) m.entries → hash_map_of {R = R} (λ x. x) m' ≡ retain_keys (hash_map_of (λ x. x) m) p
+  retain-hash_map_of m m' p h = ap (λ l. from_entries (pairs l)) h ∙ ap from_entries (sym (where-view p m.entries)) ∙ from_entries-where (pairs m.entries) p
 
   pub retain-map_of : (m m' : BTreeMap K X) (p : K → Bool) → m'.entries ≡ filter (λ e. p e.0) m.entries → map_of {R = R} (λ x. x) m' ≡ retain_keys (map_of (λ x. x) m) p
   retain-map_of m m' p h = ap (λ l. from_entries (pairs l)) h ∙ ap from_entries (sym (where-view p m.entries)) ∙ from_entries-where (pairs m.entries) p

@@ -1,5 +1,5 @@
 -- The first and the last of the nodes that a test takes, as what $DATA and $ORDER ask.
-use Rattle.std.proofs.Common.{◌≡◌, ℕ, suc, ◌+◌, ◌-◌, ◌<◌, ◌≤◌, Bool, true, false, ◌&&◌, ◌||◌, cond, List, [], ◌∷◌, ◌++◌, length, take, drop, map, reverse, get_or, All, Option, Some, None, refl, sym, ap, ◌∙◌, subst, arith, append-nil, length-append, add-one}
+use Rattle.std.proofs.Common.{◌≡◌, ℕ, suc, ◌+◌, ◌-◌, ◌<◌, ◌≤◌, Bool, true, false, not, ◌&&◌, ◌||◌, cond, List, [], ◌∷◌, ◌++◌, length, take, drop, map, reverse, get_or, All, Option, Some, None, refl, sym, ap, ◌∙◌, subst, arith, append-nil, length-append, add-one}
 use Rattle.std.specs.Prelude.{slice_get, option_and_then, option_map, is_some, nat_lt, T}
 use Rattle.std.specs.BTreeMap as tree
 use Rattle.std.specs.BTreeMap.{BTreeMap, IsOrdered}
@@ -12,9 +12,9 @@ use Rattle.std.specs.List.{list_any, find, filter, flat_map}
 use Rattle.std.specs.List.Sorted.{IsStrictlySortedBy}
 use Rattle.std.specs.Map.{keys_of}
 use Rattle.std.specs.Option.{option_to_list, option_or}
-use Rattle.std.specs.Ordering.{is_lt}
+use Rattle.std.specs.Ordering.{is_lt, is_le}
 use Rattle.std.specs.declared.cmp.Ordering.{Ordering}
-use Rattle.std.specs.declared.cmp.Ordering.TheVariants.{Less}
+use Rattle.std.specs.declared.cmp.Ordering.TheVariants.{Less, Equal, Greater}
 use Rattle.std.proofs.lemmas.Bool.Decides.{nat_tests}
 use Rattle.std.proofs.lemmas.List.{reverse-append, map-id, take-append-drop, drop_all}
 use Rattle.std.proofs.lemmas.List.Folds.{find-append}
@@ -33,8 +33,10 @@ use Rattle.mspec.specs.Trees as trees
 use Rattle.mspec.specs.Trees.{Tree, is_within, is_below, child_of, children, order_of, is_before, is_empty, front, last, AreOrderSubscripts, has_value, has_descendants}
 use Rattle.mspec.proofs.NodeOrders.{subscripts_cmp_total, subscripts_cmp_exact}
 use Rattle.mkey.specs.Front.{IsSub, AreSubs}
-use Rattle.mlocal.specs.Way.{passes, has_child}
+use Rattle.mkey.specs.SubsKey.{behind_below}
+use Rattle.mlocal.specs.Way.{is_behind, is_between, passes, has_child}
 use Rattle.mlocal.proofs.Bounds.{at_front}
+use Rattle.mlocal.proofs.Bounds.{below_all as each_below}
 
 -- ---- the first that a test takes
 
@@ -220,6 +222,60 @@ pub some_map : {X Y : Type 0} (f : X → Y) (o : Option X) → is_some o ≡ is_
 some_map f None = refl
 some_map f (Some x) = refl
 
+-- ---- the first behind a bound, where what lies past a node has no subscript there
+
+abbrev R : List Text → List Text → Ordering
+R = subscripts_cmp significant_digits
+
+passed : (o : Option Text) → passes (λ c. true) o ≡ false → o ≡ None
+passed None e = refl
+passed (Some c) e = cc
+
+-- what stands at the end of those below a list or behind it is not below it
+past_below : (xs k : List Text) → AreSubs k → not (is_le (R (behind_below xs) k)) ≡ false → child_of xs k ≡ None
+past_below xs k subs e =
+    passed (child_of xs k) (sym (each_below (λ c. true) (λ s sub. refl) xs k subs) ∙ ap (λ b. is_lt (R xs k) && b) e ∙ and_no (is_lt (R xs k)))
+  where
+    and_no : (b : Bool) → (b && false) ≡ false
+    and_no true = refl
+    and_no false = refl
+
+later : (h k q : List Text) → not (is_le (R h k)) ≡ false → R k q ≡ Less → not (is_le (R h q)) ≡ false
+later h k q e less = by_order (R h k) refl e
+  where
+    total : IsTotalOrder R
+    total = subscripts_cmp_total significant_digits
+
+    by_order : (o : Ordering) → R h k ≡ o → not (is_le o) ≡ false → not (is_le (R h q)) ≡ false
+    by_order Less is f = ap (λ o. not (is_le o)) (total.trans h k q is less)
+    by_order Equal is f = ap (λ o. not (is_le o)) (total.congr h k q is ∙ less)
+    by_order Greater is f = cc
+
+none_later : (low h k : List Text) (ks : List (List Text)) → not (is_le (R h k)) ≡ false → All (λ q. R k q ≡ Less) ks → find (is_between low h) ks ≡ None
+none_later low h k [] e all = refl
+none_later low h k (q ∷ ks) e all =
+    ap (λ b. cond (is_lt (R low q) && b) (Some q) (find (is_between low h) ks)) (later h k q e (All-head (λ q. R k q ≡ Less) q ks all))
+    ∙ here (is_lt (R low q)) (none_later low h k ks e (All-tail (λ q. R k q ≡ Less) q ks all))
+  where
+    here : (b : Bool) → find (is_between low h) ks ≡ None → cond (b && false) (Some q) (find (is_between low h) ks) ≡ None
+    here true rest = rest
+    here false rest = rest
+
+onward : (low xs : List Text) (ks : List (List Text)) → IsStrictlySortedBy R ks → All AreSubs ks
+    → option_and_then (child_of xs) (find (is_behind low) ks) ≡ option_and_then (child_of xs) (find (is_between low (behind_below xs)) ks)
+onward low xs [] sorted all = refl
+onward low xs (k ∷ ks) sorted all =
+    here (is_lt (R low k)) (not (is_le (R (behind_below xs) k))) refl (onward low xs ks (sorted_tail R k ks sorted) (All-tail AreSubs k ks all))
+  where
+    here : (a b : Bool) → not (is_le (R (behind_below xs) k)) ≡ b
+        → option_and_then (child_of xs) (find (is_behind low) ks) ≡ option_and_then (child_of xs) (find (is_between low (behind_below xs)) ks)
+        → option_and_then (child_of xs) (cond (a && true) (Some k) (find (is_behind low) ks)) ≡ option_and_then (child_of xs) (cond (a && b) (Some k) (find (is_between low (behind_below xs)) ks))
+    here false b e rest = rest
+    here true true e rest = refl
+    here true false e rest =
+        past_below xs k (All-head AreSubs k ks all) e
+        ∙ sym (ap (option_and_then (child_of xs)) (none_later low (behind_below xs) k ks e (All-after_first R k ks sorted)))
+
 -- ---- the same of the tree that an ordered map is seen as
 
 module _ (t : Tree) (m : BTreeMap (List Text) Text) (is : map_of (λ x. x) m ≡ t) (ordered : IsOrdered (subscripts_cmp significant_digits) m) (all : All AreSubs (tree.keys m)) (q p : List Text → Bool) (alike : (k : List Text) → AreSubs k → q k ≡ p k) where
@@ -234,6 +290,15 @@ module _ (t : Tree) (m : BTreeMap (List Text) Text) (is : map_of (λ x. x) m ≡
 
   pub any_walk : is_some (find q (tree.keys m)) ≡ list_any p (map.keys t)
   any_walk = any_found q p (tree.keys m) all alike ∙ ap (list_any p) same_keys
+
+pub onward_walk : (t : Tree) (m : BTreeMap (List Text) Text) → map_of (λ x. x) m ≡ t → IsOrdered (subscripts_cmp significant_digits) m → All AreSubs (tree.keys m)
+    → (low xs : List Text) (x : Text) → ((k : List Text) → AreSubs k → is_between low (behind_below xs) k ≡ has_child (is_before x) xs k)
+    → (r : Option (List Text)) → r ≡ find (is_behind low) (tree.keys m) → option_and_then (child_of xs) r ≡ order_of t trees.Forward xs x
+onward_walk t m is ordered all low xs x alike r e =
+    ap (option_and_then (child_of xs)) e ∙ onward low xs (tree.keys m) ordered all
+    ∙ ap (option_and_then (child_of xs)) (find_alike (is_between low (behind_below xs)) (has_child (is_before x) xs) (tree.keys m) all alike
+    ∙ ap (find (has_child (is_before x) xs)) (sym (keys_are (subscripts_cmp_total significant_digits) (subscripts_cmp_exact significant_digits) m ordered) ∙ ap map.keys is))
+    ∙ sym (order_forward t xs x)
 
 -- a variable without a text has no node
 no_list : {X : Type 0} (xs : List X) → length xs ≡ 0 → xs ≡ []

@@ -5,7 +5,7 @@ ghost use Rattle.std.specs.FinMap.{get, insert, retain_keys};
 ghost use Rattle.std.specs.List.{filter, list_any};
 ghost use Rattle.std.specs.Ordering.{nat_cmp};
 ghost use Rattle.mkey.specs.Front.{AreSubs};
-ghost use Rattle.mspec.specs.Maps.{map_of};
+ghost use Rattle.mspec.specs.Maps.{hash_map_of};
 ghost use Rattle.mspec.specs.Scopes.{entered, bottom, has, tree_in, with_tree, is_among, hide, hide_others, kill_in, emptied};
 ghost use Rattle.mspec.specs.KeyBytes.{AreSubscripts};
 ghost use Rattle.mspec.specs.Trees.{has_value, has_descendants, order_of, front, last, AreOrderSubscripts};
@@ -17,7 +17,7 @@ use crate::walk::{Data, Direction};
 use mkey::SubsKey;
 use mnum::Bytes7;
 use std::alloc::{AllocError, Global};
-use std::collections::BTreeMap;
+use std::collections::HashMap;
 use std::marker::Model;
 
 // The names that NEW gave a scope, the names that it has not where it has all but some, and its variables by their names.
@@ -26,20 +26,20 @@ use std::marker::Model;
 pub struct Scope {
     names: Vec<Bytes7>,
     others: Option<Vec<Bytes7>>,
-    trees: BTreeMap<Bytes7, Variable>,
+    trees: HashMap<Bytes7, Variable>,
 }
 
 impl Model for Scope {
     ghost use Rattle.std.specs.Prelude.{option_map};
     ghost use Rattle.mlocal.specs.ScopeCode.{scope_code};
-    ghost use Rattle.mspec.specs.Maps.{map_of};
+    ghost use Rattle.mspec.specs.Maps.{hash_map_of};
     ghost use Rattle.mspec.specs.Scopes.{Scope};
 
     ghost Value = { Scope };
 
     ghost coded = { scope_code };
 
-    ghost view = { λ s. record { names = s.names.items; others = option_map (λ names. names.items) s.others; trees = map_of (λ tree. tree) s.trees } };
+    ghost view = { λ s. record { names = s.names.items; others = option_map (λ names. names.items) s.others; trees = hash_map_of (λ tree. tree) s.trees } };
 }
 
 // Whether a name is one of these.
@@ -57,7 +57,7 @@ impl Scope {
         Scope {
             names: Vec::new(alloc),
             others: None,
-            trees: BTreeMap::new(alloc),
+            trees: HashMap::new(alloc),
         }
     }
 
@@ -68,7 +68,7 @@ impl Scope {
         Scope {
             names: Vec::new(alloc),
             others: Some(Vec::new(alloc)),
-            trees: BTreeMap::new(alloc),
+            trees: HashMap::new(alloc),
         }
     }
 
@@ -225,8 +225,8 @@ fn is_spared(names: &[Bytes7], above: &[Scope], name: &Bytes7) -> bool
 }
 
 // Takes the trees of these names away.
-fn drop_names(trees: &mut BTreeMap<Bytes7, Variable>, names: &[Bytes7])
-    ensures { map_of (λ tree. tree) trees.new ≡ retain_keys {R = slice_cmp nat_cmp} (map_of (λ tree. tree) trees.old) (λ n. not (is_among names.now n)) }
+fn drop_names(trees: &mut HashMap<Bytes7, Variable>, names: &[Bytes7])
+    ensures { hash_map_of (λ tree. tree) trees.new ≡ retain_keys {R = slice_cmp nat_cmp} (hash_map_of (λ tree. tree) trees.old) (λ n. not (is_among names.now n)) }
 {
     trees.retain(
         |name: &Bytes7, tree: &mut Variable| -> bool
@@ -236,8 +236,8 @@ fn drop_names(trees: &mut BTreeMap<Bytes7, Variable>, names: &[Bytes7])
 }
 
 // Takes the trees of all but these names away.
-fn keep_names(trees: &mut BTreeMap<Bytes7, Variable>, names: &[Bytes7])
-    ensures { map_of (λ tree. tree) trees.new ≡ retain_keys {R = slice_cmp nat_cmp} (map_of (λ tree. tree) trees.old) (is_among names.now) }
+fn keep_names(trees: &mut HashMap<Bytes7, Variable>, names: &[Bytes7])
+    ensures { hash_map_of (λ tree. tree) trees.new ≡ retain_keys {R = slice_cmp nat_cmp} (hash_map_of (λ tree. tree) trees.old) (is_among names.now) }
 {
     trees.retain(
         |name: &Bytes7, tree: &mut Variable| -> bool

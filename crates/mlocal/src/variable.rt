@@ -5,11 +5,11 @@ ghost use Rattle.std.specs.BTreeMap.Range.{IsLtBy};
 ghost use Rattle.std.specs.FinMap.{get, insert, empty, keys as nodes_of};
 ghost use Rattle.std.specs.List.{All, find};
 ghost use Rattle.mkey.specs.Front.{AreSubs};
-ghost use Rattle.mlocal.specs.Way.{way, is_between, has_child};
+ghost use Rattle.mlocal.specs.Way.{way, is_behind, is_between, has_child};
 ghost use Rattle.mspec.specs.KeyBytes.{AreSubscripts};
 ghost use Rattle.mspec.specs.NodeOrder.{subscripts_cmp};
 ghost use Rattle.mspec.specs.Number.{significant_digits};
-ghost use Rattle.mspec.specs.Trees.{without, is_within, child_of, has_value, has_descendants, order_of, is_before, is_empty, front, last, AreOrderSubscripts};
+ghost use Rattle.mspec.specs.Trees.{without, is_within, child_of, has_value, has_descendants, Forward, order_of, is_before, is_empty, front, last, AreOrderSubscripts};
 
 use crate::walk::{Data, Direction, front, last};
 use mkey::SubsKey;
@@ -113,7 +113,8 @@ impl Variable {
         }
     }
 
-    // The first key of those whose subscript there stands behind the last of these.
+    // The first key behind those whose subscript there is the last of these, or stands before it. It may lie past the node: then
+    // it has no subscript there.
     fn behind(
         &self,
         alloc: Global,
@@ -122,15 +123,14 @@ impl Variable {
     ) -> Result<Option<&SubsKey>, AllocError>
         requires subs { AreOrderSubscripts subs.now }
         requires above { above.now ≡ front subs.now }
-        ensures key { IfOk result (λ key. option_map (λ k. k.now) key ≡ find (has_child (is_before (last subs.now)) (front subs.now)) (nodes_of self.now)) }
+        ensures next { IfOk result (λ key. option_and_then (child_of (front subs.now)) (option_map (λ k. k.now) key) ≡ order_of self.now Forward (front subs.now) (last subs.now)) }
         ensures subs { IfOk result (λ key. IfSome key (λ k. AreSubs k.now)) }
     {
-        let end = SubsKey::behind_below(alloc, front(subs))?;
         if last(subs).as_bytes().is_empty() {
-            return Ok(first_between(&self.texts, above, &end));
+            return Ok(first_behind(&self.texts, above));
         }
         let start = SubsKey::behind_below(alloc, subs)?;
-        Ok(first_between(&self.texts, &start, &end))
+        Ok(first_behind(&self.texts, &start))
     }
 
     // The last key of those whose subscript there stands before the last of these, or of all where that is empty.
@@ -166,6 +166,19 @@ fn child(
     match found {
         None => Ok(None),
         Some(key) => key.child_of(alloc, above),
+    }
+}
+
+// The first key that stands behind one.
+fn first_behind<'a>(texts: &'a BTreeMap<SubsKey, Bytes7>, low: &SubsKey) -> Option<&'a SubsKey>
+    requires subs { All AreSubs (keys texts.now) }
+    ensures ordered { IsOrdered (subscripts_cmp significant_digits) texts.now }
+    ensures subs { IfSome result (λ k. AreSubs k.now) }
+    ensures key { option_map (λ k. k.now) result ≡ find (is_behind low.now) (keys texts.now) }
+{
+    match texts.range((Bound::Excluded(low), Bound::Unbounded)).next() {
+        Some((key, _)) => Some(key),
+        None => None,
     }
 }
 

@@ -2,11 +2,13 @@
 ghost use Rattle.std.specs.Prelude.{◌≡◌, ◌↔◌, ◌<◌, [], ◌∷◌, ◌++◌, All, IsOk, IfOk, IfErr, OnOk, OnErr};
 ghost use Rattle.std.specs.Prelude.{Some, nat_eq, refl};
 ghost use Rattle.std.specs.Cmp.{partial_equiv_from_equiv};
-ghost use Rattle.std.specs.Cmp.Lexicographic.{pointwise, slice_cmp, nat_list_eq_equiv, nat_list_cmp_total, texts_po, texts_ties};
+ghost use Rattle.std.specs.Cmp.Lexicographic.{pointwise, slice_cmp, nat_list_eq_equiv, nat_list_cmp_total, texts_po, texts_ties, bytes_decides};
+ghost use Rattle.std.proofs.Common.{ap};
 ghost use Rattle.std.specs.Ordering.{nat_cmp};
 
 use std::alloc::{AllocError, Global};
 use std::cmp::Ordering;
+use std::hash::{Hash, Hasher};
 use std::marker::Model;
 
 /// A text of ASCII characters: bytes that are each under 128. Contracts see it as its list of bytes.
@@ -127,6 +129,16 @@ impl PartialEq for Bytes7 {
 
 impl Eq for Bytes7 {
     ghost laws = { nat_list_eq_equiv };
+}
+
+impl Hash for Bytes7 {
+    ghost hash_input = { λ text. text ∷ [] };
+
+    ghost respects_eq = { λ x y same. ap (λ text. text ∷ []) ((bytes_decides x y).0 same) };
+
+    fn hash<H: Hasher>(&self, state: &mut H) {
+        state.write(self.as_bytes());
+    }
 }
 
 impl PartialOrd for Bytes7 {

@@ -21,6 +21,7 @@ pub mod ReadingLoops
 pub mod GrammarExamples
 pub mod Plans
 pub mod Maps
+pub mod HashMaps
 pub mod PieceLists
 pub mod PieceExamples
 pub mod PatternExamples

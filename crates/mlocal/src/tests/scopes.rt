@@ -1,4 +1,5 @@
-// What the calls leave, with ample memory. The texts are those that the standard's sections give.
+// What the calls leave, with ample memory. A script has calls between semicolons, each a word and its arguments, of which `-` is
+// the empty text; what get, data, next and back give stands in a row. The rows are those that the standard's sections give.
 use super::ascii;
 use crate::{Direction, Locals, order_subs_ok};
 use mkey::subs_ok;
@@ -9,106 +10,86 @@ use std::test::Fail;
 fn texts(alloc: Global, words: &[&str]) -> Result<Vec<Bytes7>, Fail> {
     let mut out = Vec::new(alloc);
     for word in words {
-        out.push(ascii(alloc, word)?)?;
+        out.push(ascii(alloc, if *word == "-" { "" } else { *word })?)?;
     }
     Ok(out)
 }
 
-// The text at a node, and `-` where it has none.
-fn at(locals: &Locals, alloc: Global, name: &str, words: &[&str]) -> Result<Vec<u8>, Fail> {
-    let name = ascii(alloc, name)?;
-    let subs = texts(alloc, words)?;
-    if !subs_ok(subs.as_slice()) {
-        return Err("no subscripts")?;
+// Adds a text and a space, and `-` where there is none.
+fn push(out: &mut Vec<u8>, text: Option<&Bytes7>) -> Result<(), Fail> {
+    match text {
+        None => out.push(b'-')?,
+        Some(text) => out.extend_from_slice(text.as_bytes())?,
     }
-    match locals.get(&name, subs.as_slice())? {
-        None => Ok(b"-".to_vec(alloc)?),
-        Some(text) => Ok(text.as_bytes().to_vec(alloc)?),
-    }
-}
-
-// The texts of these names one after another.
-fn values(locals: &Locals, alloc: Global, names: &[&str]) -> Result<Vec<u8>, Fail> {
-    let mut out = Vec::new(alloc);
-    for name in names {
-        out.extend_from_slice(at(locals, alloc, name, &[])?.as_slice())?;
-    }
-    Ok(out)
-}
-
-fn set(
-    locals: &mut Locals,
-    alloc: Global,
-    name: &str,
-    words: &[&str],
-    text: &str,
-) -> Result<(), Fail> {
-    let name = ascii(alloc, name)?;
-    let subs = texts(alloc, words)?;
-    let text = ascii(alloc, text)?;
-    if subs_ok(subs.as_slice()) {
-        locals.set(&name, subs.as_slice(), text)?;
-    }
-    Ok(())
-}
-
-// Gives each name itself as its text.
-fn set_all(locals: &mut Locals, alloc: Global, names: &[&str]) -> Result<(), Fail> {
-    for name in names {
-        set(locals, alloc, name, &[], name)?;
-    }
-    Ok(())
-}
-
-// Gives the nodes of one subscript of `L` a text.
-fn set_nodes(locals: &mut Locals, alloc: Global, words: &[&str]) -> Result<(), Fail> {
-    for word in words {
-        set(locals, alloc, "L", &[*word], "1")?;
-    }
-    Ok(())
-}
-
-fn kill(locals: &mut Locals, alloc: Global, name: &str, words: &[&str]) -> Result<(), Fail> {
-    let name = ascii(alloc, name)?;
-    let subs = texts(alloc, words)?;
-    if subs_ok(subs.as_slice()) {
-        locals.kill(&name, subs.as_slice())?;
-    }
+    out.push(b' ')?;
     Ok(())
 }
 
 // What $DATA gives.
-fn data(locals: &Locals, alloc: Global, name: &str, words: &[&str]) -> Result<u32, Fail> {
-    let name = ascii(alloc, name)?;
-    let subs = texts(alloc, words)?;
-    if !subs_ok(subs.as_slice()) {
+fn data(locals: &Locals, name: &Bytes7, subs: &[Bytes7]) -> Result<&'static [u8], Fail> {
+    if !subs_ok(subs) {
         return Err("no subscripts")?;
     }
-    let found = locals.data(&name, subs.as_slice())?;
+    let found = locals.data(name, subs)?;
     Ok(match (found.descendants, found.value) {
-        (false, false) => 0,
-        (false, true) => 1,
-        (true, false) => 10,
-        (true, true) => 11,
+        (false, false) => b"0 ".as_slice(),
+        (false, true) => b"1 ".as_slice(),
+        (true, false) => b"10 ".as_slice(),
+        (true, true) => b"11 ".as_slice(),
     })
 }
 
-// What $ORDER gives of `L`, and `-` for the end.
 fn next(
     locals: &Locals,
-    alloc: Global,
-    words: &[&str],
+    name: &Bytes7,
+    subs: &[Bytes7],
     direction: Direction,
-) -> Result<Vec<u8>, Fail> {
-    let name = ascii(alloc, "L")?;
-    let subs = texts(alloc, words)?;
-    if !order_subs_ok(subs.as_slice()) {
+) -> Result<Option<Bytes7>, Fail> {
+    if !order_subs_ok(subs) {
         return Err("no subscripts")?;
     }
-    match locals.order(&name, subs.as_slice(), direction)? {
-        None => Ok(b"-".to_vec(alloc)?),
-        Some(text) => Ok(text.as_bytes().to_vec(alloc)?),
+    Ok(locals.order(name, subs, direction)?)
+}
+
+// What is asked of a node.
+fn ask(
+    locals: &Locals,
+    what: &str,
+    name: &Bytes7,
+    subs: &[Bytes7],
+    out: &mut Vec<u8>,
+) -> Result<(), Fail> {
+    match what {
+        "get" => {
+            if !subs_ok(subs) {
+                return Err("no subscripts")?;
+            }
+            push(out, locals.get(name, subs)?)
+        }
+        "data" => {
+            out.extend_from_slice(data(locals, name, subs)?)?;
+            Ok(())
+        }
+        "next" => push(out, next(locals, name, subs, Direction::Forward)?.as_ref()),
+        "back" => push(out, next(locals, name, subs, Direction::Backward)?.as_ref()),
+        _ => Err("no call")?,
     }
+}
+
+fn set(locals: &mut Locals, name: &Bytes7, subs: &[Bytes7], text: Bytes7) -> Result<(), Fail> {
+    if !subs_ok(subs) {
+        return Err("no subscripts")?;
+    }
+    locals.set(name, subs, text)?;
+    Ok(())
+}
+
+fn kill(locals: &mut Locals, name: &Bytes7, subs: &[Bytes7]) -> Result<(), Fail> {
+    if !subs_ok(subs) {
+        return Err("no subscripts")?;
+    }
+    locals.kill(name, subs)?;
+    Ok(())
 }
 
 fn leave(locals: &mut Locals) {
@@ -117,144 +98,157 @@ fn leave(locals: &mut Locals) {
     }
 }
 
+fn call(
+    locals: &mut Locals,
+    alloc: Global,
+    words: &[&str],
+    out: &mut Vec<u8>,
+) -> Result<(), Fail> {
+    match words {
+        ["enter"] => {
+            locals.enter()?;
+            Ok(())
+        }
+        ["leave"] => {
+            leave(locals);
+            Ok(())
+        }
+        ["new", names @ ..] => {
+            locals.new_vars(texts(alloc, names)?.as_slice())?;
+            Ok(())
+        }
+        ["except", names @ ..] => {
+            locals.new_except(texts(alloc, names)?);
+            Ok(())
+        }
+        ["but", names @ ..] => {
+            locals.kill_except(texts(alloc, names)?.as_slice());
+            Ok(())
+        }
+        ["kill", name, subs @ ..] => kill(
+            locals,
+            &ascii(alloc, name)?,
+            texts(alloc, subs)?.as_slice(),
+        ),
+        ["set", name, subs @ .., text] => set(
+            locals,
+            &ascii(alloc, name)?,
+            texts(alloc, subs)?.as_slice(),
+            ascii(alloc, text)?,
+        ),
+        [what, name, subs @ ..] => ask(
+            locals,
+            what,
+            &ascii(alloc, name)?,
+            texts(alloc, subs)?.as_slice(),
+            out,
+        ),
+        _ => Err("no call")?,
+    }
+}
+
+// What the calls of a script give.
+fn played(alloc: Global, script: &str) -> Result<Vec<u8>, Fail> {
+    let mut locals = Locals::new(alloc);
+    let mut out = Vec::new(alloc);
+    for line in script.split(';') {
+        let words: Vec<&str> = line.split(' ').collect(alloc)?;
+        call(&mut locals, alloc, words.as_slice(), &mut out)?;
+    }
+    Ok(out)
+}
+
 #[test]
 fn a_node_has_its_last_text(rt: HostRuntime) -> Result<(), Fail> {
-    let mut locals = Locals::new(rt.alloc());
-    set(&mut locals, rt.alloc(), "A", &[], "x")?;
-    set(&mut locals, rt.alloc(), "A", &["1"], "one")?;
-    set(&mut locals, rt.alloc(), "A", &["1"], "two")?;
-    assert_eq!(rt; values(&locals, rt.alloc(), &["A", "B"])?.as_slice(), b"x-".as_slice());
-    assert_eq!(rt; at(&locals, rt.alloc(), "A", &["1"])?.as_slice(), b"two".as_slice());
-    assert_eq!(rt; at(&locals, rt.alloc(), "A", &["1.0"])?.as_slice(), b"-".as_slice());
+    let row = played(
+        rt.alloc(),
+        "set A x;set A 1 one;set A 1 two;get A;get A 1;get A 1.0;get B",
+    )?;
+    assert_eq!(rt; row.as_slice(), b"x two - - ".as_slice());
     Ok(())
 }
 
 #[test]
 fn data_tells_of_a_node_and_of_those_below(rt: HostRuntime) -> Result<(), Fail> {
-    let mut locals = Locals::new(rt.alloc());
-    set(&mut locals, rt.alloc(), "A", &["1"], "x")?;
-    set(&mut locals, rt.alloc(), "A", &["1", "b"], "below")?;
-    assert_eq!(rt; data(&locals, rt.alloc(), "A", &[])?, 10);
-    assert_eq!(rt; data(&locals, rt.alloc(), "A", &["1"])?, 11);
-    assert_eq!(rt; data(&locals, rt.alloc(), "A", &["1", "b"])?, 1);
-    assert_eq!(rt; data(&locals, rt.alloc(), "A", &["b"])?, 0);
-    assert_eq!(rt; data(&locals, rt.alloc(), "B", &[])?, 0);
+    let row = played(
+        rt.alloc(),
+        "set A 1 x;set A 1 b y;data A;data A 1;data A 1 b;data A b;data B",
+    )?;
+    assert_eq!(rt; row.as_slice(), b"10 11 1 0 0 ".as_slice());
     Ok(())
 }
 
 #[test]
 fn kill_takes_a_node_and_those_below(rt: HostRuntime) -> Result<(), Fail> {
-    let mut locals = Locals::new(rt.alloc());
-    set(&mut locals, rt.alloc(), "A", &["1"], "one")?;
-    set(&mut locals, rt.alloc(), "A", &["1", "2"], "below")?;
-    set(&mut locals, rt.alloc(), "A", &["12"], "twelve")?;
-    kill(&mut locals, rt.alloc(), "A", &["1"])?;
-    assert_eq!(rt; data(&locals, rt.alloc(), "A", &["1"])?, 0);
-    assert_eq!(rt; at(&locals, rt.alloc(), "A", &["12"])?.as_slice(), b"twelve".as_slice());
+    let row = played(
+        rt.alloc(),
+        "set A 1 x;set A 1 2 y;set A 12 z;kill A 1;data A 1;get A 12",
+    )?;
+    assert_eq!(rt; row.as_slice(), b"0 z ".as_slice());
     Ok(())
 }
 
 #[test]
 fn a_walk_stays_under_its_node(rt: HostRuntime) -> Result<(), Fail> {
-    let mut locals = Locals::new(rt.alloc());
-    set_nodes(&mut locals, rt.alloc(), &["2", "3"])?;
-    set(&mut locals, rt.alloc(), "L", &["2", "a"], "below")?;
-    let forward = next(&locals, rt.alloc(), &["2"], Direction::Forward)?;
-    assert_eq!(rt; forward.as_slice(), b"3".as_slice());
-    let below = next(&locals, rt.alloc(), &["2", ""], Direction::Forward)?;
-    assert_eq!(rt; below.as_slice(), b"a".as_slice());
-    let end = next(&locals, rt.alloc(), &["2", "a"], Direction::Forward)?;
-    assert_eq!(rt; end.as_slice(), b"-".as_slice());
-    let last = next(&locals, rt.alloc(), &["2", ""], Direction::Backward)?;
-    assert_eq!(rt; last.as_slice(), b"a".as_slice());
+    let row = played(
+        rt.alloc(),
+        "set L 2 x;set L 3 x;set L 2 a x;next L 2;next L 2 -;next L 2 a;back L 2 -;back L 3;back L -",
+    )?;
+    assert_eq!(rt; row.as_slice(), b"3 a - a 2 3 ".as_slice());
     Ok(())
 }
 
 #[test]
 fn new_hides_until_the_level_ends(rt: HostRuntime) -> Result<(), Fail> {
-    let mut locals = Locals::new(rt.alloc());
-    set_all(&mut locals, rt.alloc(), &["A", "B"])?;
-    locals.enter()?;
-    locals.new_vars(texts(rt.alloc(), &["A"])?.as_slice())?;
-    assert_eq!(rt; values(&locals, rt.alloc(), &["A", "B"])?.as_slice(), b"-B".as_slice());
-    set(&mut locals, rt.alloc(), "A", &[], "inner")?;
-    set(&mut locals, rt.alloc(), "B", &[], "C")?;
-    leave(&mut locals);
-    assert_eq!(rt; values(&locals, rt.alloc(), &["A", "B"])?.as_slice(), b"AC".as_slice());
+    let row = played(
+        rt.alloc(),
+        "set A a;set B b;enter;new A;get A;get B;set A x;set B c;leave;get A;get B",
+    )?;
+    assert_eq!(rt; row.as_slice(), b"- b a c ".as_slice());
     Ok(())
 }
 
 #[test]
 fn a_second_new_with_brackets_hides_more(rt: HostRuntime) -> Result<(), Fail> {
-    let mut locals = Locals::new(rt.alloc());
-    set_all(&mut locals, rt.alloc(), &["A", "B"])?;
-    locals.enter()?;
-    locals.new_except(texts(rt.alloc(), &["A"])?);
-    assert_eq!(rt; values(&locals, rt.alloc(), &["A", "B"])?.as_slice(), b"A-".as_slice());
-    locals.new_except(texts(rt.alloc(), &["B"])?);
-    assert_eq!(rt; values(&locals, rt.alloc(), &["A", "B"])?.as_slice(), b"--".as_slice());
-    leave(&mut locals);
-    assert_eq!(rt; values(&locals, rt.alloc(), &["A", "B"])?.as_slice(), b"AB".as_slice());
+    let row = played(
+        rt.alloc(),
+        "set A a;set B b;enter;except A;get A;get B;except B;get A;get B;leave;get A;get B",
+    )?;
+    assert_eq!(rt; row.as_slice(), b"a - - - a b ".as_slice());
     Ok(())
 }
 
 #[test]
 fn kill_of_all_but_some_spares_what_is_hidden(rt: HostRuntime) -> Result<(), Fail> {
-    let mut locals = Locals::new(rt.alloc());
-    set_all(&mut locals, rt.alloc(), &["A", "B", "C"])?;
-    locals.enter()?;
-    locals.new_vars(texts(rt.alloc(), &["A"])?.as_slice())?;
-    set(&mut locals, rt.alloc(), "A", &[], "inner")?;
-    locals.kill_except(texts(rt.alloc(), &["C"])?.as_slice());
-    assert_eq!(rt; values(&locals, rt.alloc(), &["A", "B", "C"])?.as_slice(), b"--C".as_slice());
-    leave(&mut locals);
-    assert_eq!(rt; values(&locals, rt.alloc(), &["A", "B", "C"])?.as_slice(), b"A-C".as_slice());
+    let row = played(
+        rt.alloc(),
+        "set A a;set B b;set C c;enter;new A;set A x;but C;get A;get B;get C;leave;get A;get B",
+    )?;
+    assert_eq!(rt; row.as_slice(), b"- - c a - ".as_slice());
     Ok(())
 }
 
 #[test]
 fn routine_with_new(rt: HostRuntime) -> Result<(), Fail> {
-    let mut locals = Locals::new(rt.alloc());
-    set(&mut locals, rt.alloc(), "V", &[], "9")?;
-    locals.enter()?;
-    locals.new_vars(texts(rt.alloc(), &["V"])?.as_slice())?;
-    set(&mut locals, rt.alloc(), "V", &[], "2")?;
-    locals.enter()?;
-    assert_eq!(rt; values(&locals, rt.alloc(), &["V"])?.as_slice(), b"2".as_slice());
-    set(&mut locals, rt.alloc(), "V", &[], "3")?;
-    leave(&mut locals);
-    assert_eq!(rt; values(&locals, rt.alloc(), &["V"])?.as_slice(), b"3".as_slice());
-    leave(&mut locals);
-    assert_eq!(rt; values(&locals, rt.alloc(), &["V"])?.as_slice(), b"9".as_slice());
+    let row = played(
+        rt.alloc(),
+        "set V 9;enter;new V;set V 2;enter;get V;set V 3;leave;get V;leave;get V",
+    )?;
+    assert_eq!(rt; row.as_slice(), b"2 3 9 ".as_slice());
     Ok(())
 }
 
 #[test]
 fn kill_new_and_order_of_locals(rt: HostRuntime) -> Result<(), Fail> {
-    let mut locals = Locals::new(rt.alloc());
-    set_all(&mut locals, rt.alloc(), &["A", "B", "C"])?;
-    locals.enter()?;
-    locals.kill_except(texts(rt.alloc(), &["A", "B"])?.as_slice());
-    assert_eq!(rt; values(&locals, rt.alloc(), &["A", "C"])?.as_slice(), b"A-".as_slice());
-    locals.new_except(texts(rt.alloc(), &["A"])?);
-    assert_eq!(rt; values(&locals, rt.alloc(), &["A", "B"])?.as_slice(), b"A-".as_slice());
-    leave(&mut locals);
-    assert_eq!(rt; values(&locals, rt.alloc(), &["A", "B"])?.as_slice(), b"AB".as_slice());
-    Ok(())
-}
-
-// The rest of that row.
-#[test]
-fn order_of_locals(rt: HostRuntime) -> Result<(), Fail> {
-    let mut locals = Locals::new(rt.alloc());
-    set_nodes(&mut locals, rt.alloc(), &["2", "x", "10"])?;
-    let first = next(&locals, rt.alloc(), &[""], Direction::Forward)?;
-    assert_eq!(rt; first.as_slice(), b"2".as_slice());
-    let second = next(&locals, rt.alloc(), &["2"], Direction::Forward)?;
-    assert_eq!(rt; second.as_slice(), b"10".as_slice());
-    let back = next(&locals, rt.alloc(), &["x"], Direction::Backward)?;
-    assert_eq!(rt; back.as_slice(), b"10".as_slice());
-    let last = next(&locals, rt.alloc(), &[""], Direction::Backward)?;
-    assert_eq!(rt; last.as_slice(), b"x".as_slice());
+    let row = played(
+        rt.alloc(),
+        "set A 1;set B 2;set C 3;enter;but A B;data A;data C;except A;get A;data B;leave;get A;get B",
+    )?;
+    assert_eq!(rt; row.as_slice(), b"1 0 1 0 1 2 ".as_slice());
+    let walk = played(
+        rt.alloc(),
+        "set L 2 1;set L x 1;set L 10 1;next L -;next L 2;back L x",
+    )?;
+    assert_eq!(rt; walk.as_slice(), b"2 10 10 ".as_slice());
     Ok(())
 }

@@ -2,10 +2,10 @@ use Rattle.std.proofs.Common.{Bool, not, rules}
 use Rattle.std.specs.Cmp.Lexicographic.{nat_list_cmp_total}
 use Rattle.mspec.specs.Node.{Text}
 use Rattle.mspec.specs.Scopes.{is_among}
-use Rattle.mlocal.proofs.Views.{names_exact, retain_same, retain-map_of}
+use Rattle.mlocal.proofs.Views.{names_exact, retain_same, retain-hash_map_of}
 use Rattle.mlocal.proofs.scope.drop_names.Goals as goal
 
 pub returns : goal.returns
 returns c =
     let p : Text → Bool = λ n. not (is_among c.args.names.now n) in
-    retain-map_of nat_list_cmp_total names_exact c.args.trees.now c.retain.new.self p (retain_same _ _ (λ e. p e.0) (λ k v b w g call. search rules) _ _ c.retain.ensures.filtered)
+    retain-hash_map_of nat_list_cmp_total names_exact c.args.trees.now c.retain.new.self p (retain_same _ _ (λ e. p e.0) (λ k v b w g call. search rules) _ _ c.retain.ensures.filtered)

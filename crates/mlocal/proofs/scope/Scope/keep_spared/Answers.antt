@@ -5,7 +5,7 @@ use Rattle.std.specs.Prelude.{option_map}
 use Rattle.mspec.specs.Node.{Text}
 use Rattle.mspec.specs.Scopes.{is_among, emptied}
 use Rattle.mlocal.specs.Home.{has_name}
-use Rattle.mlocal.proofs.Views.{names_exact, retain_same, retain-map_of}
+use Rattle.mlocal.proofs.Views.{names_exact, retain_same, retain-hash_map_of}
 use Rattle.mlocal.proofs.scope.Scope.keep_spared.Goals as goal
 
 pub returns : goal.returns
@@ -13,5 +13,5 @@ returns c =
     let p : Text → Bool = λ n. is_among c.args.names.now n || list_any (has_name n) c.args.above.now in
     let l = c.self.inside in
     ap (λ ts. record { names = l.names.items; others = option_map (λ names. names.items) l.others; trees = ts })
-    (retain-map_of nat_list_cmp_total names_exact l.trees c.retain.new.self p (retain_same _ _ (λ e. p e.0) (λ k v b w g call. search rules) _ _ c.retain.ensures.filtered))
+    (retain-hash_map_of nat_list_cmp_total names_exact l.trees c.retain.new.self p (retain_same _ _ (λ e. p e.0) (λ k v b w g call. search rules) _ _ c.retain.ensures.filtered))
     ∙ ap (emptied p) c.self.view_is

@@ -1,9 +1,9 @@
-use Rattle.std.proofs.Common.{refl, ap, subst, ◌∙◌}
+use Rattle.std.proofs.Common.{◌≡◌, refl, ap, sym, subst, ◌∙◌}
 use Rattle.std.specs.Prelude.{option_map, IsSome}
-use Rattle.std.specs.Cmp.Lexicographic.{nat_list_cmp_total}
+use Rattle.std.specs.Cmp.Lexicographic.{nat_list_cmp_total, texts_ties}
 use Rattle.std.specs.FinMap.{get}
-use Rattle.mspec.specs.Scopes.{with_tree, kill_in}
-use Rattle.mspec.proofs.Maps.{found_is_had}
+use Rattle.mspec.specs.Scopes.{with_tree, kill_in, Scope}
+use Rattle.mspec.proofs.HashMaps.{hash_found_is_had}
 use Rattle.mlocal.proofs.Views.{scope_of, tree_put}
 use Rattle.mlocal.proofs.scope.Scope.kill.Goals as goal
 
@@ -17,7 +17,7 @@ returns c =
     let some = subst IsSome c.in-Some.ensures.value refl in
     tree_put ns o m (c.get_mut.follows.lender w) n w ((c.get_mut.follows.holds w).3 some)
     ∙ ap (λ t. with_tree n t (scope_of ns o m)) c.kill.ensures
-    ∙ ap (λ t. kill_in n c.args.key.now t (scope_of ns o m)) (c.in-Some.ensures.value ∙ found_is_had nat_list_cmp_total m n)
+    ∙ ap (λ t. kill_in n c.args.key.now t (scope_of ns o m)) (c.in-Some.ensures.value ∙ hash_found_is_had nat_list_cmp_total _ texts_ties m n)
     ∙ ap (λ s. kill_in n c.args.key.now (get s.trees n) s) c.self.view_is
 
 pub returns-in-None : goal.returns-in-None
@@ -27,5 +27,5 @@ returns-in-None c =
     let m = c.self.inside.trees in
     let o = option_map (λ names. names.items) c.self.inside.others in
     ap (scope_of ns o) c.get_mut.follows.holds-at-none
-    ∙ ap (λ t. kill_in n c.args.key.now t (scope_of ns o m)) (c.in-None.ensures.value ∙ found_is_had nat_list_cmp_total m n)
+    ∙ ap (λ t. kill_in n c.args.key.now t (scope_of ns o m)) (c.in-None.ensures.value ∙ hash_found_is_had nat_list_cmp_total _ texts_ties m n)
     ∙ ap (λ s. kill_in n c.args.key.now (get s.trees n) s) c.self.view_is

@@ -3,7 +3,7 @@ use Rattle.std.specs.Prelude.{option_map, option_and_then}
 use Rattle.mspec.specs.Trees.{child_of, order_of, front, last}
 use Rattle.mlocal.specs.Way.{way}
 use Rattle.mlocal.proofs.Views.{IfOk-map}
-use Rattle.mlocal.proofs.Walks.{order_forward, order_backward}
+use Rattle.mlocal.proofs.Walks.{order_backward}
 use Rattle.mlocal.proofs.variable.Variable.order.Goals as goal
 
 pub returns-in-Forward : goal.returns-in-Forward
@@ -12,8 +12,7 @@ returns-in-Forward c =
     let above = c.in_ok-above.ensures.key ∙ c.front.ensures in
     IfOk-map c.child.result (λ next is. is
     ∙ ap (λ xs. option_and_then (child_of xs) (option_map (λ k. k.now) c.in_ok-behind-in-Forward.field-0)) above
-    ∙ ap (option_and_then (child_of (front subs))) c.in_ok-behind-in-Forward.ensures.key
-    ∙ sym (order_forward c.args.self.now (front subs) (last subs))
+    ∙ c.in_ok-behind-in-Forward.ensures.next
     ∙ ap (λ d. order_of c.args.self.now (way d) (front subs) (last subs)) (sym c.in-Forward.is)) c.child.ensures
 
 pub returns : goal.returns

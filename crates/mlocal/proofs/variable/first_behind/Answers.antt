@@ -1,0 +1,18 @@
+use Rattle.std.proofs.Common.{Some, ◌≡◌, sym, ◌∙◌}
+use Rattle.std.specs.BTreeMap.{keys}
+use Rattle.mkey.specs.Front.{AreSubs}
+use Rattle.mlocal.specs.Way.{is_behind}
+use Rattle.mlocal.proofs.Walks.{first_is, none_is, found_all}
+use Rattle.mlocal.proofs.variable.first_behind.Goals as goal
+
+pub returns-in-Some-clause-key : goal.returns-in-Some-clause-key
+returns-in-Some-clause-key c =
+    first_is (is_behind c.args.low.now) c.args.texts.now.entries (c.in-Some.key.now, c.in-Some.field-0-1.now) c.next.new.self (sym (c.range.ensures.between tt) ∙ c.in-Some.ensures.steps)
+
+pub returns-in-Some-clause-subs : goal.returns-in-Some-clause-subs
+returns-in-Some-clause-subs c =
+    found_all AreSubs (is_behind c.args.low.now) (keys c.args.texts.now) (c.requires.subs) c.in-Some.key.now (returns-in-Some-clause-key c)
+
+pub returns-in-None-clause-key : goal.returns-in-None-clause-key
+returns-in-None-clause-key c =
+    none_is (is_behind c.args.low.now) c.args.texts.now.entries (sym (c.range.ensures.between tt) ∙ c.in-None.ensures.steps.0)

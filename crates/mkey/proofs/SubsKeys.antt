@@ -1,5 +1,5 @@
 -- Bytes of lists of subscripts that begin alike.
-use Rattle.std.proofs.Common.{ℕ, zero, suc, ◌≡◌, ◌<◌, ◌++◌, Bool, true, false, nat_eq, List, [], ◌∷◌, length, drop, Option, Some, None, refl, sym, ◌∙◌, ap, arith}
+use Rattle.std.proofs.Common.{ℕ, zero, suc, ◌≡◌, ◌<◌, ◌++◌, Bool, true, false, nat_eq, List, [], ◌∷◌, length, drop, Some, None, refl, sym, ◌∙◌, ap, arith}
 use Rattle.std.specs.Prelude.{slice_get, if◌then◌else◌}
 use Rattle.std.specs.Cmp.Lexicographic.{bytes_decides}
 use Rattle.std.specs.Fmt.{digits}
@@ -9,13 +9,13 @@ use Rattle.std.proofs.lemmas.Bool.Decides.{Decides-eqb}
 use Rattle.std.proofs.lemmas.List.Concat.{flat_map-append}
 use Rattle.std.proofs.lemmas.List.Elements.{All-push}
 use Rattle.std.proofs.lemmas.Slice.Eq.{starts_is}
-use Rattle.mspec.specs.KeyBytes.{subscript_by, subscript_bytes, subscripts_bytes}
+use Rattle.mspec.specs.KeyBytes.{subscript_bytes, subscripts_bytes}
 use Rattle.mspec.specs.KeyLaws.{NoneEmpty}
 use Rattle.mspec.specs.Node.{Text}
 use Rattle.mspec.specs.NodeOrder.{canonical_value}
 use Rattle.mspec.specs.Number.{significant_digits, round, round_size, nearest, rounding_unit, digits_before}
 use Rattle.mspec.specs.NumberText.{numeric_value, literal_size, size_text}
-use Rattle.mspec.specs.Trees.{text_eq, is_within, child_of}
+use Rattle.mspec.specs.Trees.{is_within, child_of}
 use Rattle.mspec.proofs.KeyRanges.{subscripts_split, subscript_split}
 use Rattle.mkey.specs.Front.{IsFront, BeginsWithNo, IsSub, AreSubs}
 use Rattle.mkey.specs.SubsKey.{IsSubsKeyOf, beyond, behind_below}

@@ -194,7 +194,10 @@ fn first_between<'a>(
     ensures subs { IfSome result (λ k. AreSubs k.now) }
     ensures key { option_map (λ k. k.now) result ≡ find (is_between low.now high.now) (keys texts.now) }
 {
-    match texts.range((Bound::Excluded(low), Bound::Excluded(high))).next() {
+    match texts
+        .range((Bound::Excluded(low), Bound::Excluded(high)))
+        .next()
+    {
         Some((key, _)) => Some(key),
         None => None,
     }
@@ -212,7 +215,10 @@ fn last_between<'a>(
     ensures subs { IfSome result (λ k. AreSubs k.now) }
     ensures key { option_map (λ k. k.now) result ≡ find (is_between low.now high.now) (reverse (keys texts.now)) }
 {
-    match texts.range((Bound::Excluded(low), Bound::Excluded(high))).next_back() {
+    match texts
+        .range((Bound::Excluded(low), Bound::Excluded(high)))
+        .next_back()
+    {
         Some((key, _)) => Some(key),
         None => None,
     }

@@ -50,9 +50,21 @@ fn a_bound_stands_behind_what_is_below(rt: HostRuntime) -> Result<(), Fail> {
 fn the_subscript_behind_a_list(rt: HostRuntime) -> Result<(), Fail> {
     let none = SubsKey::empty(rt.alloc());
     let above = subs_key(rt.alloc(), &["2"])?;
-    assert_eq!(rt; child(rt.alloc(), &["2", "x"], &none)?.as_slice(), b"2".as_slice());
-    assert_eq!(rt; child(rt.alloc(), &["2", "x"], &above)?.as_slice(), b"x".as_slice());
-    assert_eq!(rt; child(rt.alloc(), &["2"], &above)?.as_slice(), b"-".as_slice());
-    assert_eq!(rt; child(rt.alloc(), &["3", "x"], &above)?.as_slice(), b"-".as_slice());
+    assert_eq!(rt;
+        child(rt.alloc(), &["2", "x"], &none)?.as_slice(),
+        b"2".as_slice()
+    );
+    assert_eq!(rt;
+        child(rt.alloc(), &["2", "x"], &above)?.as_slice(),
+        b"x".as_slice()
+    );
+    assert_eq!(rt;
+        child(rt.alloc(), &["2"], &above)?.as_slice(),
+        b"-".as_slice()
+    );
+    assert_eq!(rt;
+        child(rt.alloc(), &["3", "x"], &above)?.as_slice(),
+        b"-".as_slice()
+    );
     Ok(())
 }

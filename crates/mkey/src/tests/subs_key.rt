@@ -37,6 +37,7 @@ fn child(alloc: Global, words: &[&str], above: &SubsKey) -> Result<Vec<u8>, Fail
 fn a_bound_stands_behind_what_is_below(rt: HostRuntime) -> Result<(), Fail> {
     let above = subs_key(rt.alloc(), &["2"])?;
     let below = subs_key(rt.alloc(), &["2", "x"])?;
+    assert!(rt; SubsKey::empty(rt.alloc()).is_empty() && !above.is_empty());
     assert!(rt; below.is_within(&above));
     assert!(rt; !above.is_within(&below));
     assert!(rt; above < below);

@@ -9,12 +9,11 @@ use Rattle.std.specs.declared.cmp.Ordering.TheVariants.{Less, Equal, Greater}
 use Rattle.std.proofs.lemmas.Bool.Decides.{nat_tests}
 use Rattle.std.proofs.lemmas.Cmp.{tied_itself}
 use Rattle.std.proofs.lemmas.List.Elements.{All-head, All-tail, All-drop}
-use Rattle.mspec.specs.KeyBytes.{IsAscii}
 use Rattle.mspec.specs.Node.{Text}
 use Rattle.mspec.specs.NodeOrder.{canonical_value, Other, place, place_by, place_cmp, text_cmp, subscripts_cmp}
 use Rattle.mspec.specs.Number.{significant_digits, round, round_size, nearest, rounding_unit, digits_before}
 use Rattle.mspec.specs.NumberText.{numeric_value, literal_size, size_text}
-use Rattle.mspec.specs.Trees.{text_eq, is_within, child_of, is_before}
+use Rattle.mspec.specs.Trees.{text_eq, is_within, is_before}
 use Rattle.mspec.proofs.NodeOrders.{text_cmp_total, text_cmp_exact}
 use Rattle.mkey.specs.Front.{IsSub, AreSubs}
 use Rattle.mkey.specs.SubsKey.{beyond, behind_below}

@@ -1,10 +1,10 @@
 -- The text of a variable beside those of its nodes with subscripts.
-use Rattle.std.proofs.Common.{◌≡◌, ℕ, ◌<◌, Bool, true, false, not, ◌||◌, cond, List, [], ◌∷◌, ◌++◌, length, reverse, All, Option, Some, None, refl, sym, ap, ◌∙◌, arith}
-use Rattle.std.specs.Prelude.{slice_get, is_some}
+use Rattle.std.proofs.Common.{◌≡◌, ◌<◌, Bool, true, false, not, ◌||◌, cond, List, [], ◌∷◌, ◌++◌, length, reverse, All, Option, Some, None, refl, sym, ap, ◌∙◌, arith}
+use Rattle.std.specs.Prelude.{slice_get}
 use Rattle.std.specs.BTreeMap as tree
 use Rattle.std.specs.BTreeMap.{BTreeMap, IsOrdered}
 use Rattle.std.specs.FinMap as map
-use Rattle.std.specs.FinMap.{FinMap, get, insert, empty, retain_keys, entries, from_entries, get-empty, get-insert, get-retain_keys, same_map, entries-insert}
+use Rattle.std.specs.FinMap.{get, insert, empty, get-empty, get-insert, get-retain_keys, same_map, entries-insert}
 use Rattle.std.specs.FinMap.Entries.{put}
 use Rattle.std.specs.List.{list_any, find}
 use Rattle.std.specs.Map.{lookup, keys_of}
@@ -18,7 +18,7 @@ use Rattle.mspec.specs.Maps.{map_of}
 use Rattle.mspec.specs.Node.{Text}
 use Rattle.mspec.specs.NodeOrder.{subscripts_cmp}
 use Rattle.mspec.specs.Number.{significant_digits}
-use Rattle.mspec.specs.Trees.{Tree, is_within, child_of, without}
+use Rattle.mspec.specs.Trees.{Tree, is_within, without}
 use Rattle.mspec.proofs.Maps.{found_is_had}
 use Rattle.mspec.proofs.NodeOrders.{subscripts_cmp_total, subscripts_cmp_exact}
 use Rattle.mkey.specs.Front.{AreSubs}

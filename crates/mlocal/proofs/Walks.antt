@@ -1,12 +1,12 @@
 -- The first and the last of the nodes that a test takes, as what $DATA and $ORDER ask.
-use Rattle.std.proofs.Common.{◌≡◌, ℕ, suc, ◌+◌, ◌-◌, ◌<◌, ◌≤◌, Bool, true, false, not, ◌&&◌, ◌||◌, cond, List, [], ◌∷◌, ◌++◌, length, take, drop, map, reverse, get_or, All, Option, Some, None, refl, sym, ap, ◌∙◌, subst, arith, append-nil, length-append, add-one}
+use Rattle.std.proofs.Common.{◌≡◌, ℕ, suc, ◌+◌, ◌-◌, ◌<◌, ◌≤◌, Bool, true, false, not, ◌&&◌, ◌||◌, cond, List, [], ◌∷◌, ◌++◌, length, drop, map, reverse, All, Option, Some, None, refl, sym, ap, ◌∙◌, subst, arith, append-nil, length-append}
 use Rattle.std.specs.Prelude.{slice_get, option_and_then, option_map, is_some, nat_lt, T}
 use Rattle.std.specs.BTreeMap as tree
 use Rattle.std.specs.BTreeMap.{BTreeMap, IsOrdered}
 use Rattle.std.specs.Cmp.{IsTotalOrder}
 use Rattle.std.specs.Cmp.Lexicographic.{bytes_decides}
 use Rattle.std.specs.FinMap as map
-use Rattle.std.specs.FinMap.{FinMap, IsAntisymmetric, from_entries, from_sorted, empty, entries, len-entries, len-empty, get-empty, same_map, get-from_entries, get-from_sorted, entries-from_sorted}
+use Rattle.std.specs.FinMap.{IsAntisymmetric, from_entries, from_sorted, empty, entries, len-entries, len-empty, get-empty, same_map, get-from_entries, get-from_sorted, entries-from_sorted}
 use Rattle.std.specs.FinMap.Entries.{is_sorted, below_all}
 use Rattle.std.specs.List.{list_any, find, filter, flat_map}
 use Rattle.std.specs.List.Sorted.{IsStrictlySortedBy}
@@ -24,14 +24,14 @@ use Rattle.std.proofs.lemmas.List.Concat.{flat_map-append}
 use Rattle.std.proofs.lemmas.List.Elements.{All-head, All-tail, All-push, All-nil}
 use Rattle.std.proofs.lemmas.Slice.Eq.{starts_is}
 use Rattle.std.proofs.Math.Seq.{drop-cons}
-use Rattle.mspec.specs.KeyBytes.{IsSubscript, AreSubscripts, IsAscii}
+use Rattle.mspec.specs.KeyBytes.{IsSubscript, AreSubscripts}
 use Rattle.mspec.specs.Maps.{map_of}
 use Rattle.mspec.specs.Node.{Text}
 use Rattle.mspec.specs.NodeOrder.{subscripts_cmp}
 use Rattle.mspec.specs.Number.{significant_digits}
 use Rattle.mspec.specs.Trees as trees
 use Rattle.mspec.specs.Trees.{Tree, is_within, is_below, child_of, children, order_of, is_before, is_empty, front, last, AreOrderSubscripts, has_value, has_descendants}
-use Rattle.mspec.proofs.NodeOrders.{subscripts_cmp_total, subscripts_cmp_exact}
+use Rattle.mspec.proofs.NodeOrders.{subscripts_cmp_total}
 use Rattle.mkey.specs.Front.{IsSub, AreSubs}
 use Rattle.mkey.specs.SubsKey.{behind_below}
 use Rattle.mlocal.specs.Way.{is_behind, is_between, passes, has_child}

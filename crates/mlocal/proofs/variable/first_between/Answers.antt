@@ -1,4 +1,4 @@
-use Rattle.std.proofs.Common.{Some, ◌≡◌, sym, ◌∙◌}
+use Rattle.std.proofs.Common.{sym, ◌∙◌}
 use Rattle.std.specs.BTreeMap.{keys}
 use Rattle.mlocal.specs.Own.{AreSomeSubs}
 use Rattle.mlocal.specs.Way.{is_between}

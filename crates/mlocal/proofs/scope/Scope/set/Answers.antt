@@ -1,7 +1,7 @@
-use Rattle.std.proofs.Common.{◌≡◌, refl, ap, sym, subst, ◌∙◌}
+use Rattle.std.proofs.Common.{refl, ap, sym, subst, ◌∙◌}
 use Rattle.std.specs.Prelude.{option_map, IsSome}
 use Rattle.std.specs.FinMap.{insert}
-use Rattle.mspec.specs.Scopes.{with_tree, tree_in, Scope}
+use Rattle.mspec.specs.Scopes.{with_tree, tree_in}
 use Rattle.mlocal.proofs.Views.{OnOk-map, OnErr-map, scope_of, tree_is, tree_put, tree_kept}
 use Rattle.mlocal.proofs.scope.Scope.set.Goals as goal
 

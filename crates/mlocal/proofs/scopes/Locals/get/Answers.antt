@@ -1,6 +1,6 @@
 use Rattle.std.proofs.Common.{[], ◌∷◌, ap, sym, ◌∙◌}
 use Rattle.std.specs.FinMap.{get}
-use Rattle.mspec.specs.Scopes.{tree_in, tree_of, value_at}
+use Rattle.mspec.specs.Scopes.{tree_in, value_at}
 use Rattle.mlocal.proofs.Stacks.{tree-at, tree-bottom}
 use Rattle.mlocal.proofs.scopes.Locals.get.Goals as goal
 

@@ -1,4 +1,4 @@
-use Rattle.std.proofs.Common.{[], ◌∷◌, ap, sym, ◌∙◌}
+use Rattle.std.proofs.Common.{[], ◌∷◌, ap, ◌∙◌}
 use Rattle.std.specs.FinMap.{insert}
 use Rattle.mspec.specs.Scopes.{Scope, with_tree, tree_in, assigned}
 use Rattle.mlocal.proofs.Views.{OnOk-map}

@@ -7,7 +7,6 @@ use Rattle.mkey.specs.SubsKey.{behind_below}
 use Rattle.mlocal.specs.Way.{is_between}
 use Rattle.mlocal.proofs.Bounds.{below_all, below_behind, empty_first}
 use Rattle.mlocal.proofs.Steps.{onward_walk}
-use Rattle.mlocal.proofs.Own.{not_child}
 use Rattle.mlocal.proofs.Walks.{split_last, whole, nothing_in}
 use Rattle.mlocal.proofs.variable.Variable.behind.Goals as goal
 

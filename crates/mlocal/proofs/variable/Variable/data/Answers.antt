@@ -1,12 +1,8 @@
-use Rattle.std.proofs.Common.{◌≡◌, true, refl, [], ap, sym, ◌∙◌}
+use Rattle.std.proofs.Common.{true, refl, [], ap, sym, ◌∙◌}
 use Rattle.std.specs.Prelude.{is_some}
-use Rattle.std.specs.FinMap.{get}
-use Rattle.mspec.specs.Maps.{map_of}
 use Rattle.mspec.specs.NodeOrder.{subscripts_cmp}
 use Rattle.mspec.specs.Number.{significant_digits}
 use Rattle.mspec.specs.Trees.{is_below, has_value}
-use Rattle.mspec.proofs.Maps.{found_is_had}
-use Rattle.mspec.proofs.NodeOrders.{subscripts_cmp_total}
 use Rattle.mkey.specs.SubsKey.{beyond}
 use Rattle.mlocal.specs.Way.{is_between}
 use Rattle.mlocal.proofs.Bounds.{below_all, more_behind}

@@ -77,9 +77,6 @@ at_front [] (suc n) = refl
 at_front (y ∷ ys) zero = refl
 at_front (y ∷ ys) (suc n) = at_front ys n
 
-pub no_child : (xs ys : List Text) → is_within xs ys ≡ false → None ≡ child_of xs ys
-no_child xs ys h = sym (ap (λ b. if b then slice_get ys (length xs) else None) h)
-
 child_is : (xs ys : List Text) → is_within xs ys ≡ true → child_of xs ys ≡ slice_get (drop (length xs) ys) 0
 child_is xs ys h = ap (λ b. if b then slice_get ys (length xs) else None) h ∙ at_front ys (length xs)
 

@@ -67,9 +67,6 @@ beyond_last (c ∷ s) sub = ap (λ p. place_cmp p (place significant_digits (c �
     by_value (Some u) = refl
     by_value None = ap (λ o. ordering_then o (slice_cmp nat_cmp [] s)) (above_ascii c (All-head (λ k. k < 128) c s sub.1))
 
-beyond_first : (s : Text) → IsSub s → C s beyond ≡ Less
-beyond_first s sub = (text_cmp_total significant_digits).antisymm s beyond ∙ ap ordering_reverse (beyond_last s sub)
-
 -- the empty text stands before all subscripts
 pub empty_first : (s : Text) → IsSub s → is_before [] s ≡ true
 empty_first [] sub = absurd (omega (arith, sub.0.some))
@@ -155,13 +152,7 @@ below_before xs x ys =
     ∙ ap (λ b. is_within xs ys && b) (before_between x (drop (length xs) ys))
     ∙ child-drop (λ c. is_before c x) xs ys
 
--- ---- the bounds run forward
+-- ---- what has more subscripts stands behind
 
 pub more_behind : (xs : List Text) (x : Text) (ys : List Text) → R xs (xs ++ x ∷ ys) ≡ Less
 more_behind xs x ys = ap (λ k. R k (xs ++ x ∷ ys)) (sym (append-nil xs)) ∙ cmp-front xs [] (x ∷ ys)
-
-pub bounds_forward : (xs : List Text) (x : Text) → IsSub x → R (behind_below (xs ++ x ∷ [])) (behind_below xs) ≡ Less
-bounds_forward xs x sub =
-    ap (λ k. R k (behind_below xs)) (append_assoc xs (x ∷ []) (beyond ∷ []))
-    ∙ cmp-front xs (x ∷ beyond ∷ []) (beyond ∷ [])
-    ∙ ap (λ o. ordering_then o (R (beyond ∷ []) [])) (beyond_first x sub)

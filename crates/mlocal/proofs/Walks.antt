@@ -32,7 +32,7 @@ use Rattle.mspec.specs.Number.{significant_digits}
 use Rattle.mspec.specs.Trees as trees
 use Rattle.mspec.specs.Trees.{Tree, is_within, is_below, child_of, children, order_of, is_before, is_empty, front, last, AreOrderSubscripts, has_value, has_descendants}
 use Rattle.mspec.proofs.NodeOrders.{subscripts_cmp_total}
-use Rattle.mkey.specs.Front.{IsSub, AreSubs}
+use Rattle.mkey.specs.Front.{AreSubs}
 use Rattle.mkey.specs.SubsKey.{behind_below}
 use Rattle.mlocal.specs.Way.{is_behind, is_between, passes, has_child}
 use Rattle.mlocal.proofs.Bounds.{at_front}
@@ -190,12 +190,9 @@ whole xs subs some = record {
   each = subst (All IsSubscript) (sym (split_last xs subs.some)) (All-push IsSubscript (front xs) (last xs) subs.before.each (record { some = some; few = subs.short }));
 }
 
-pub last_sub : (xs : List Text) → AreSubs xs → 0 < length xs → IsSub (last xs)
-last_sub xs subs some = let inside : length xs - 1 < length xs = omega arith in (subs.0.each (length xs - 1) [] inside, subs.1 (length xs - 1) [] inside)
-
-pub nothing_in : (x : Text) → length x ≡ 0 → x ≡ []
-nothing_in [] e = refl
-nothing_in (c ∷ x) e = absurd (omega arith)
+pub no_list : {X : Type 0} (xs : List X) → length xs ≡ 0 → xs ≡ []
+no_list [] e = refl
+no_list (x ∷ xs) e = absurd (omega arith)
 
 -- ---- what is below
 
@@ -280,10 +277,6 @@ onward low xs (k ∷ ks) sorted all =
         ∙ sym (ap (option_and_then (child_of xs)) (none_later low (behind_below xs) k ks e (All-after_first R k ks sorted)))
 
 -- a variable without a text has no node
-pub no_list : {X : Type 0} (xs : List X) → length xs ≡ 0 → xs ≡ []
-no_list [] e = refl
-no_list (x ∷ xs) e = absurd (omega arith)
-
 pub no_keys : map.keys (empty {X = Text} {R = subscripts_cmp significant_digits}) ≡ []
 no_keys = ap (map (λ e. e.0)) (no_list (entries empty) (sym (len-entries empty) ∙ len-empty (subscripts_cmp significant_digits) Text))
 

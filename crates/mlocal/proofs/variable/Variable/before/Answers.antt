@@ -9,7 +9,7 @@ use Rattle.mlocal.specs.Way.{is_between, has_child}
 use Rattle.mlocal.proofs.Bounds.{below_all, below_before, more_behind}
 use Rattle.mlocal.proofs.Steps.{last_walk}
 use Rattle.mlocal.proofs.Own.{not_child}
-use Rattle.mlocal.proofs.Walks.{split_last, whole, nothing_in, not_empty}
+use Rattle.mlocal.proofs.Walks.{split_last, whole, no_list, not_empty}
 use Rattle.mlocal.proofs.variable.Variable.before.Goals as goal
 
 pub last_between-requires-clause-forward : goal.last_between-requires-clause-forward
@@ -23,7 +23,7 @@ returns-then-is_empty-clause-key c =
     let subs = c.args.subs.now in
     let end = c.in_ok-end.ensures.key ∙ ap behind_below c.front.ensures in
     let bytes = c.as_bytes.ensures.bytes ∙ c.last.ensures in
-    let none : last subs ≡ [] = sym bytes ∙ nothing_in c.as_bytes.result.now (grind (arith, nat_tests, c.if-is_empty.ensures)) in
+    let none : last subs ≡ [] = sym bytes ∙ no_list c.as_bytes.result.now (grind (arith, nat_tests, c.if-is_empty.ensures)) in
     last_walk c.args.self.now c.self.inside.own c.self.inside.texts c.self.view_is c.last_between.ensures.ordered c.self.invariant
     (is_between c.args.above.now c.in_ok-end.end) (has_child (λ s. is_empty (last subs) || is_before s (last subs)) (front subs)) (not_child (λ s. is_empty (last subs) || is_before s (last subs)) (front subs))
     (λ k is. ap (λ low. is_between low c.in_ok-end.end k) c.requires.above ∙ ap (λ high. is_between (front subs) high k) end

@@ -47,6 +47,7 @@ def main():
     print(f"  {'find':<12} {summed(lambda i: text.index('needle') + len('needle') + 1)}")
     print(f"  {'matches':<12} {summed(lambda i: int(bool(re.fullmatch('[A-Za-z]+-[0-9]+', 'ABCDEFGHIJ-123456789'))))}")
     keys()
+    local_variables()
     stores()
     lines()
 
@@ -77,6 +78,23 @@ def keys():
     for title, words in ORDERS.items():
         print(title)
         print(f"  {'collate':<12} {summed(lambda i: int(place(words[i % 4]) < place(words[i // 4 % 4])))}")
+
+
+def local_variables():
+    count, stride = 10_000, 7_919
+    names = [f"V{i}" for i in range(count)]
+    print("ten thousand locals")
+    print(f"  {'get':<12} {summed(lambda i: len(names[i * stride % count]))}")
+    print(f"  {'set':<12} {summed(lambda i: 1)}")
+    print(f"  {'level':<12} {summed(lambda i: 1)}")
+    for title, letter in {"numbers": "", "texts": "item"}.items():
+        print(f"ten thousand subscripts, {title}")
+        words = [f"{letter}{i}" for i in range(count)]
+        order = sorted(words, key=place)
+        at = {word: i for i, word in enumerate(order)}
+        for name, step in {"order": 1, "order back": -1}.items():
+            reached = [order[at[w] + step] if 0 <= at[w] + step < count else "" for w in words]
+            print(f"  {name:<12} {summed(lambda i: len(reached[i * stride % count]))}")
 
 
 def drawn(i, count):

@@ -31,6 +31,16 @@ fn at(items: &[Bytes7], round: usize) -> Option<&Bytes7> {
     items.get(round.wrapping_mul(STRIDE) % COUNT)
 }
 
+// The same, as a list of one.
+fn one_at(items: &[Bytes7], round: usize) -> &[Bytes7] {
+    let place = round.wrapping_mul(STRIDE) % COUNT;
+    if place < items.len() {
+        &items[place..place + 1]
+    } else {
+        &items[..0]
+    }
+}
+
 fn set(locals: &mut Locals, name: &Bytes7, subs: &[Bytes7], text: &Bytes7) -> i128 {
     if !subs_ok(subs) {
         return -1;
@@ -51,15 +61,11 @@ fn get(locals: &Locals, name: &Bytes7, subs: &[Bytes7]) -> i128 {
     }
 }
 
-fn next(locals: &Locals, name: &Bytes7, sub: &Bytes7, direction: Direction) -> i128 {
-    let Ok(sub) = sub.copy() else {
-        return -1;
-    };
-    let subs = [sub];
-    if !order_subs_ok(&subs) {
+fn next(locals: &Locals, name: &Bytes7, subs: &[Bytes7], direction: Direction) -> i128 {
+    if !order_subs_ok(subs) {
         return -1;
     }
-    match locals.order(name, &subs, direction) {
+    match locals.order(name, subs, direction) {
         Ok(Some(text)) => text.as_bytes().len() as i128,
         Ok(None) => 0,
         Err(_) => -1,
@@ -102,7 +108,13 @@ fn variables(rt: &HostRuntime, plan: Plan) -> anyhow::Result<()> {
         |i| at(&names, i).map_or(-1, |name| set(&mut locals, name, &[], name)),
     )?;
     let one = texts(alloc, "V")?;
-    measure(rt, "level", plan, NS, |_| level(&mut locals, &one[..1.min(one.len())]))
+    measure(
+        rt,
+        "level",
+        plan,
+        NS,
+        |_| level(&mut locals, &one[..1.min(one.len())]),
+    )
 }
 
 // One variable with so many subscripts.
@@ -122,14 +134,14 @@ fn subscripts(rt: &HostRuntime, plan: Plan, what: &str, letter: &str) -> anyhow:
         "order",
         plan,
         NS,
-        |i| at(&subs, i).map_or(-1, |sub| next(&locals, name, sub, Direction::Forward)),
+        |i| next(&locals, name, one_at(&subs, i), Direction::Forward),
     )?;
     measure(
         rt,
         "order back",
         plan,
         NS,
-        |i| at(&subs, i).map_or(-1, |sub| next(&locals, name, sub, Direction::Backward)),
+        |i| next(&locals, name, one_at(&subs, i), Direction::Backward),
     )
 }
 

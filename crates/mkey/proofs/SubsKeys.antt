@@ -1,21 +1,22 @@
 -- Bytes of lists of subscripts that begin alike.
-use Rattle.std.proofs.Common.{ℕ, zero, suc, ◌≡◌, ◌<◌, ◌++◌, Bool, true, false, nat_eq, List, [], ◌∷◌, length, drop, Option, Some, None, refl, sym, ◌∙◌, ap, arith}
+use Rattle.std.proofs.Common.{ℕ, zero, suc, ◌≡◌, ◌==◌, ◌<◌, ◌++◌, Bool, true, false, nat_eq, List, [], ◌∷◌, length, drop, Some, None, refl, sym, ◌∙◌, ap, arith}
 use Rattle.std.specs.Prelude.{slice_get, if◌then◌else◌}
 use Rattle.std.specs.Cmp.Lexicographic.{bytes_decides}
 use Rattle.std.specs.Fmt.{digits}
 use Rattle.std.specs.List.{starts_with}
 use Rattle.std.proofs.Math.Seq.{drop-append_seam}
-use Rattle.std.proofs.lemmas.Bool.Decides.{Decides-eqb}
+use Rattle.std.proofs.lemmas.Bool.Decides.{Decides-eqb, nat_tests}
 use Rattle.std.proofs.lemmas.List.Concat.{flat_map-append}
 use Rattle.std.proofs.lemmas.List.Elements.{All-push}
 use Rattle.std.proofs.lemmas.Slice.Eq.{starts_is}
-use Rattle.mspec.specs.KeyBytes.{subscript_by, subscript_bytes, subscripts_bytes}
+use Rattle.mspec.specs.KeyBytes.{subscript_bytes, subscripts_bytes}
 use Rattle.mspec.specs.KeyLaws.{NoneEmpty}
 use Rattle.mspec.specs.Node.{Text}
 use Rattle.mspec.specs.NodeOrder.{canonical_value}
 use Rattle.mspec.specs.Number.{significant_digits, round, round_size, nearest, rounding_unit, digits_before}
 use Rattle.mspec.specs.NumberText.{numeric_value, literal_size, size_text}
-use Rattle.mspec.specs.Trees.{text_eq, is_within, child_of}
+use Rattle.mspec.specs.Trees.{is_within, child_of}
+use Rattle.mspec.proofs.KeyOrders.{tag_of}
 use Rattle.mspec.proofs.KeyRanges.{subscripts_split, subscript_split}
 use Rattle.mkey.specs.Front.{IsFront, BeginsWithNo, IsSub, AreSubs}
 use Rattle.mkey.specs.SubsKey.{IsSubsKeyOf, beyond, behind_below}
@@ -76,9 +77,6 @@ at_front [] (suc n) = refl
 at_front (y ∷ ys) zero = refl
 at_front (y ∷ ys) (suc n) = at_front ys n
 
-pub no_child : (xs ys : List Text) → is_within xs ys ≡ false → None ≡ child_of xs ys
-no_child xs ys h = sym (ap (λ b. if b then slice_get ys (length xs) else None) h)
-
 child_is : (xs ys : List Text) → is_within xs ys ≡ true → child_of xs ys ≡ slice_get (drop (length xs) ys) 0
 child_is xs ys h = ap (λ b. if b then slice_get ys (length xs) else None) h ∙ at_front ys (length xs)
 
@@ -98,3 +96,12 @@ module _ (xs ys : List Text) (subs : AreSubs ys) (h : is_within xs ys ≡ true) 
       here [] split e = absurd (nothing_begins t (drop n rest) sub (sym e ∙ front.is))
       here (s ∷ d) split e =
           ap Some (subscript_split significant_digits t s (drop n rest) (subscripts_bytes significant_digits d) sub.0.some (sub_behind xs ys s d subs split).0.some (sym front.is ∙ e)).0
+
+never : (n m : ℕ) → (suc n == 0) ≡ (suc m == 0)
+never n m = grind (arith, nat_tests)
+
+pub none_of_bytes : (xs : List Text) → (length (subscripts_bytes significant_digits xs) == 0) ≡ (length xs == 0)
+none_of_bytes [] = refl
+none_of_bytes (s ∷ xs) =
+    let tag = tag_of s (canonical_value significant_digits s) in
+    ap (λ b. length (b ++ subscripts_bytes significant_digits xs) == 0) tag.is ∙ never (length (tag.rest ++ subscripts_bytes significant_digits xs)) (length xs)

@@ -1,5 +1,5 @@
 // Keys of lists of subscripts.
-ghost use Rattle.std.specs.Prelude.{◌≡◌, IfOk, Some, refl, [], ◌∷◌};
+ghost use Rattle.std.specs.Prelude.{◌≡◌, ◌==◌, length, IfOk, Some, refl, [], ◌∷◌};
 ghost use Rattle.std.specs.Cmp.{partial_equiv_from_equiv, partial_order_from_total, eq_by_cmp_equiv};
 ghost use Rattle.std.specs.Ordering.{eq_by_cmp};
 ghost use Rattle.mkey.specs.Front.{AreSubs};
@@ -76,6 +76,13 @@ impl SubsKey {
         SubsKey {
             bytes: Vec::new(alloc),
         }
+    }
+
+    /// Whether it is the key of no subscripts. Takes no memory.
+    pub fn is_empty(&self) -> bool
+        ensures { result ≡ (length self.now == 0) }
+    {
+        self.as_bytes().is_empty()
     }
 
     /// The bytes of the key. They stand in the order of subscripts, and begin with the bytes of another key exactly where the

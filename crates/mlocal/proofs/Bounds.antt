@@ -9,12 +9,11 @@ use Rattle.std.specs.declared.cmp.Ordering.TheVariants.{Less, Equal, Greater}
 use Rattle.std.proofs.lemmas.Bool.Decides.{nat_tests}
 use Rattle.std.proofs.lemmas.Cmp.{tied_itself}
 use Rattle.std.proofs.lemmas.List.Elements.{All-head, All-tail, All-drop}
-use Rattle.mspec.specs.KeyBytes.{IsAscii}
 use Rattle.mspec.specs.Node.{Text}
 use Rattle.mspec.specs.NodeOrder.{canonical_value, Other, place, place_by, place_cmp, text_cmp, subscripts_cmp}
 use Rattle.mspec.specs.Number.{significant_digits, round, round_size, nearest, rounding_unit, digits_before}
 use Rattle.mspec.specs.NumberText.{numeric_value, literal_size, size_text}
-use Rattle.mspec.specs.Trees.{text_eq, is_within, child_of, is_before}
+use Rattle.mspec.specs.Trees.{text_eq, is_within, is_before}
 use Rattle.mspec.proofs.NodeOrders.{text_cmp_total, text_cmp_exact}
 use Rattle.mkey.specs.Front.{IsSub, AreSubs}
 use Rattle.mkey.specs.SubsKey.{beyond, behind_below}
@@ -67,9 +66,6 @@ beyond_last (c ∷ s) sub = ap (λ p. place_cmp p (place significant_digits (c �
     by_value : (o : Option ℤ) → place_cmp (Other beyond) (place_by (c ∷ s) o) ≡ Greater
     by_value (Some u) = refl
     by_value None = ap (λ o. ordering_then o (slice_cmp nat_cmp [] s)) (above_ascii c (All-head (λ k. k < 128) c s sub.1))
-
-beyond_first : (s : Text) → IsSub s → C s beyond ≡ Less
-beyond_first s sub = (text_cmp_total significant_digits).antisymm s beyond ∙ ap ordering_reverse (beyond_last s sub)
 
 -- the empty text stands before all subscripts
 pub empty_first : (s : Text) → IsSub s → is_before [] s ≡ true
@@ -156,13 +152,7 @@ below_before xs x ys =
     ∙ ap (λ b. is_within xs ys && b) (before_between x (drop (length xs) ys))
     ∙ child-drop (λ c. is_before c x) xs ys
 
--- ---- the bounds run forward
+-- ---- what has more subscripts stands behind
 
 pub more_behind : (xs : List Text) (x : Text) (ys : List Text) → R xs (xs ++ x ∷ ys) ≡ Less
 more_behind xs x ys = ap (λ k. R k (xs ++ x ∷ ys)) (sym (append-nil xs)) ∙ cmp-front xs [] (x ∷ ys)
-
-pub bounds_forward : (xs : List Text) (x : Text) → IsSub x → R (behind_below (xs ++ x ∷ [])) (behind_below xs) ≡ Less
-bounds_forward xs x sub =
-    ap (λ k. R k (behind_below xs)) (append_assoc xs (x ∷ []) (beyond ∷ []))
-    ∙ cmp-front xs (x ∷ beyond ∷ []) (beyond ∷ [])
-    ∙ ap (λ o. ordering_then o (R (beyond ∷ []) [])) (beyond_first x sub)

@@ -3,3 +3,5 @@ pub mod Stacks
 pub mod Killed
 pub mod Bounds
 pub mod Walks
+pub mod Own
+pub mod Steps

@@ -1,12 +1,12 @@
 -- The first and the last of the nodes that a test takes, as what $DATA and $ORDER ask.
-use Rattle.std.proofs.Common.{◌≡◌, ℕ, suc, ◌+◌, ◌-◌, ◌<◌, ◌≤◌, Bool, true, false, not, ◌&&◌, ◌||◌, cond, List, [], ◌∷◌, ◌++◌, length, take, drop, map, reverse, get_or, All, Option, Some, None, refl, sym, ap, ◌∙◌, subst, arith, append-nil, length-append, add-one}
+use Rattle.std.proofs.Common.{◌≡◌, ℕ, suc, ◌+◌, ◌-◌, ◌<◌, ◌≤◌, Bool, true, false, not, ◌&&◌, ◌||◌, cond, List, [], ◌∷◌, ◌++◌, length, drop, map, reverse, All, Option, Some, None, refl, sym, ap, ◌∙◌, subst, arith, append-nil, length-append}
 use Rattle.std.specs.Prelude.{slice_get, option_and_then, option_map, is_some, nat_lt, T}
 use Rattle.std.specs.BTreeMap as tree
 use Rattle.std.specs.BTreeMap.{BTreeMap, IsOrdered}
 use Rattle.std.specs.Cmp.{IsTotalOrder}
 use Rattle.std.specs.Cmp.Lexicographic.{bytes_decides}
 use Rattle.std.specs.FinMap as map
-use Rattle.std.specs.FinMap.{FinMap, IsAntisymmetric, from_entries, from_sorted, empty, entries, len-entries, len-empty, get-empty, same_map, get-from_entries, get-from_sorted, entries-from_sorted}
+use Rattle.std.specs.FinMap.{IsAntisymmetric, from_entries, from_sorted, empty, entries, len-entries, len-empty, get-empty, same_map, get-from_entries, get-from_sorted, entries-from_sorted}
 use Rattle.std.specs.FinMap.Entries.{is_sorted, below_all}
 use Rattle.std.specs.List.{list_any, find, filter, flat_map}
 use Rattle.std.specs.List.Sorted.{IsStrictlySortedBy}
@@ -24,15 +24,15 @@ use Rattle.std.proofs.lemmas.List.Concat.{flat_map-append}
 use Rattle.std.proofs.lemmas.List.Elements.{All-head, All-tail, All-push, All-nil}
 use Rattle.std.proofs.lemmas.Slice.Eq.{starts_is}
 use Rattle.std.proofs.Math.Seq.{drop-cons}
-use Rattle.mspec.specs.KeyBytes.{IsSubscript, AreSubscripts, IsAscii}
+use Rattle.mspec.specs.KeyBytes.{IsSubscript, AreSubscripts}
 use Rattle.mspec.specs.Maps.{map_of}
 use Rattle.mspec.specs.Node.{Text}
 use Rattle.mspec.specs.NodeOrder.{subscripts_cmp}
 use Rattle.mspec.specs.Number.{significant_digits}
 use Rattle.mspec.specs.Trees as trees
 use Rattle.mspec.specs.Trees.{Tree, is_within, is_below, child_of, children, order_of, is_before, is_empty, front, last, AreOrderSubscripts, has_value, has_descendants}
-use Rattle.mspec.proofs.NodeOrders.{subscripts_cmp_total, subscripts_cmp_exact}
-use Rattle.mkey.specs.Front.{IsSub, AreSubs}
+use Rattle.mspec.proofs.NodeOrders.{subscripts_cmp_total}
+use Rattle.mkey.specs.Front.{AreSubs}
 use Rattle.mkey.specs.SubsKey.{behind_below}
 use Rattle.mlocal.specs.Way.{is_behind, is_between, passes, has_child}
 use Rattle.mlocal.proofs.Bounds.{at_front}
@@ -45,7 +45,7 @@ find_alike p q [] all alike = refl
 find_alike p q (k ∷ ks) all alike =
     ap (λ b. cond b (Some k) (find p ks)) (alike k (All-head AreSubs k ks all)) ∙ ap (cond (q k) (Some k)) (find_alike p q ks (All-tail AreSubs k ks all) alike)
 
-any_found : (p q : List Text → Bool) (ks : List (List Text)) → All AreSubs ks → ((k : List Text) → AreSubs k → p k ≡ q k) → is_some (find p ks) ≡ list_any q ks
+pub any_found : (p q : List Text → Bool) (ks : List (List Text)) → All AreSubs ks → ((k : List Text) → AreSubs k → p k ≡ q k) → is_some (find p ks) ≡ list_any q ks
 any_found p q [] all alike = refl
 any_found p q (k ∷ ks) all alike = here (p k) (q k) (alike k (All-head AreSubs k ks all)) (any_found p q ks (All-tail AreSubs k ks all) alike)
   where
@@ -58,7 +58,7 @@ any_found p q (k ∷ ks) all alike = here (p k) (q k) (alike k (All-head AreSubs
 abbrev subs_of : List Text → List (List Text) → List Text
 subs_of xs ks = flat_map (λ ys. option_to_list (child_of xs ys)) ks
 
-find_child : (p : Text → Bool) (xs : List Text) (ks : List (List Text)) → find p (subs_of xs ks) ≡ option_and_then (child_of xs) (find (has_child p xs) ks)
+pub find_child : (p : Text → Bool) (xs : List Text) (ks : List (List Text)) → find p (subs_of xs ks) ≡ option_and_then (child_of xs) (find (has_child p xs) ks)
 find_child p xs [] = refl
 find_child p xs (k ∷ ks) = by_child (child_of xs k) refl (find_child p xs ks)
   where
@@ -92,7 +92,7 @@ order_backward t xs x = ap (find (λ c. is_empty x || is_before c x)) (subs_reve
 
 -- ---- what a range begins and ends with
 
-or_none : {K : Type 0} (o : Option K) → option_or o None ≡ o
+pub or_none : {K : Type 0} (o : Option K) → option_or o None ≡ o
 or_none None = refl
 or_none (Some k) = refl
 
@@ -168,8 +168,11 @@ module _ {K X : Type 0} {R : K → K → Ordering} (total : IsTotalOrder R) (exa
       ap entries (same_map total exact (from_entries es) (from_sorted es) (λ q. get-from_entries total es q ∙ sym (get-from_sorted R es q sorted)))
       ∙ entries-from_sorted R es sorted
 
+  pub entries_are_of : (m : BTreeMap K X) → IsOrdered R m → entries (map_of {R = R} (λ x. x) m) ≡ m.entries
+  entries_are_of m h = ap (λ es. entries (from_entries {R = R} es)) (map-id m.entries) ∙ entries_are m.entries h
+
   pub keys_are : (m : BTreeMap K X) → IsOrdered R m → map.keys (map_of {R = R} (λ x. x) m) ≡ tree.keys m
-  keys_are m h = ap (λ es. map.keys (from_entries {R = R} es)) (map-id m.entries) ∙ ap (map (λ e. e.0)) (entries_are m.entries h)
+  keys_are m h = ap (map (λ e. e.0)) (entries_are_of m h)
 
 -- ---- the subscripts of $ORDER
 
@@ -187,12 +190,9 @@ whole xs subs some = record {
   each = subst (All IsSubscript) (sym (split_last xs subs.some)) (All-push IsSubscript (front xs) (last xs) subs.before.each (record { some = some; few = subs.short }));
 }
 
-pub last_sub : (xs : List Text) → AreSubs xs → 0 < length xs → IsSub (last xs)
-last_sub xs subs some = let inside : length xs - 1 < length xs = omega arith in (subs.0.each (length xs - 1) [] inside, subs.1 (length xs - 1) [] inside)
-
-pub nothing_in : (x : Text) → length x ≡ 0 → x ≡ []
-nothing_in [] e = refl
-nothing_in (c ∷ x) e = absurd (omega arith)
+pub no_list : {X : Type 0} (xs : List X) → length xs ≡ 0 → xs ≡ []
+no_list [] e = refl
+no_list (x ∷ xs) e = absurd (omega arith)
 
 -- ---- what is below
 
@@ -261,7 +261,7 @@ none_later low h k (q ∷ ks) e all =
     here true rest = rest
     here false rest = rest
 
-onward : (low xs : List Text) (ks : List (List Text)) → IsStrictlySortedBy R ks → All AreSubs ks
+pub onward : (low xs : List Text) (ks : List (List Text)) → IsStrictlySortedBy R ks → All AreSubs ks
     → option_and_then (child_of xs) (find (is_behind low) ks) ≡ option_and_then (child_of xs) (find (is_between low (behind_below xs)) ks)
 onward low xs [] sorted all = refl
 onward low xs (k ∷ ks) sorted all =
@@ -276,35 +276,7 @@ onward low xs (k ∷ ks) sorted all =
         past_below xs k (All-head AreSubs k ks all) e
         ∙ sym (ap (option_and_then (child_of xs)) (none_later low (behind_below xs) k ks e (All-after_first R k ks sorted)))
 
--- ---- the same of the tree that an ordered map is seen as
-
-module _ (t : Tree) (m : BTreeMap (List Text) Text) (is : map_of (λ x. x) m ≡ t) (ordered : IsOrdered (subscripts_cmp significant_digits) m) (all : All AreSubs (tree.keys m)) (q p : List Text → Bool) (alike : (k : List Text) → AreSubs k → q k ≡ p k) where
-  same_keys : tree.keys m ≡ map.keys t
-  same_keys = sym (keys_are (subscripts_cmp_total significant_digits) (subscripts_cmp_exact significant_digits) m ordered) ∙ ap map.keys is
-
-  pub first_walk : (r : Option (List Text)) → r ≡ find q (tree.keys m) → r ≡ find p (map.keys t)
-  first_walk r e = e ∙ find_alike q p (tree.keys m) all alike ∙ ap (find p) same_keys
-
-  pub last_walk : (r : Option (List Text)) → r ≡ find q (reverse (tree.keys m)) → r ≡ find p (reverse (map.keys t))
-  last_walk r e = e ∙ find_alike q p (reverse (tree.keys m)) (all_reversed AreSubs (tree.keys m) all) alike ∙ ap (λ ks. find p (reverse ks)) same_keys
-
-  pub any_walk : is_some (find q (tree.keys m)) ≡ list_any p (map.keys t)
-  any_walk = any_found q p (tree.keys m) all alike ∙ ap (list_any p) same_keys
-
-pub onward_walk : (t : Tree) (m : BTreeMap (List Text) Text) → map_of (λ x. x) m ≡ t → IsOrdered (subscripts_cmp significant_digits) m → All AreSubs (tree.keys m)
-    → (low xs : List Text) (x : Text) → ((k : List Text) → AreSubs k → is_between low (behind_below xs) k ≡ has_child (is_before x) xs k)
-    → (r : Option (List Text)) → r ≡ find (is_behind low) (tree.keys m) → option_and_then (child_of xs) r ≡ order_of t trees.Forward xs x
-onward_walk t m is ordered all low xs x alike r e =
-    ap (option_and_then (child_of xs)) e ∙ onward low xs (tree.keys m) ordered all
-    ∙ ap (option_and_then (child_of xs)) (find_alike (is_between low (behind_below xs)) (has_child (is_before x) xs) (tree.keys m) all alike
-    ∙ ap (find (has_child (is_before x) xs)) (sym (keys_are (subscripts_cmp_total significant_digits) (subscripts_cmp_exact significant_digits) m ordered) ∙ ap map.keys is))
-    ∙ sym (order_forward t xs x)
-
 -- a variable without a text has no node
-no_list : {X : Type 0} (xs : List X) → length xs ≡ 0 → xs ≡ []
-no_list [] e = refl
-no_list (x ∷ xs) e = absurd (omega arith)
-
 pub no_keys : map.keys (empty {X = Text} {R = subscripts_cmp significant_digits}) ≡ []
 no_keys = ap (map (λ e. e.0)) (no_list (entries empty) (sym (len-entries empty) ∙ len-empty (subscripts_cmp significant_digits) Text))
 

@@ -1,3 +1,4 @@
 pub mod Home
 pub mod ScopeCode
 pub mod Way
+pub mod Own

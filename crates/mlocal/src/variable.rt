@@ -5,6 +5,7 @@ ghost use Rattle.std.specs.BTreeMap.Range.{IsLtBy};
 ghost use Rattle.std.specs.FinMap.{get, insert, empty, keys as nodes_of};
 ghost use Rattle.std.specs.List.{All, find};
 ghost use Rattle.mkey.specs.Front.{AreSubs};
+ghost use Rattle.mlocal.specs.Own.{AreSomeSubs};
 ghost use Rattle.mlocal.specs.Way.{way, is_behind, is_between, has_child};
 ghost use Rattle.mspec.specs.KeyBytes.{AreSubscripts};
 ghost use Rattle.mspec.specs.NodeOrder.{subscripts_cmp};
@@ -19,9 +20,12 @@ use std::collections::BTreeMap;
 use std::marker::Model;
 use std::ops::Bound;
 
-// The texts at the nodes of a variable, by their subscripts. Contracts see it as the tree.
+// The texts at the nodes of a variable. Contracts see it as the tree.
 #[derive(Drop)]
 pub struct Variable {
+    // its own text; most variables have no other
+    own: Option<Bytes7>,
+    // the texts at nodes with subscripts, by these
     texts: BTreeMap<SubsKey, Bytes7>,
 }
 
@@ -30,7 +34,7 @@ impl Model for Variable {
     ghost use Rattle.std.specs.BTreeMap.{keys};
     ghost use Rattle.std.specs.FinMap.{code};
     ghost use Rattle.std.specs.List.{All};
-    ghost use Rattle.mkey.specs.Front.{AreSubs};
+    ghost use Rattle.mlocal.specs.Own.{with_own, AreSomeSubs};
     ghost use Rattle.mspec.specs.Maps.{map_of};
     ghost use Rattle.mspec.specs.Trees.{Tree};
 
@@ -38,10 +42,9 @@ impl Model for Variable {
 
     ghost coded = { code (coded_list (coded_list coded_ℕ)) (coded_list coded_ℕ) };
 
-    ghost view = { λ v. map_of (λ text. text) v.texts };
+    ghost view = { λ v. with_own v.own (map_of (λ text. text) v.texts) };
 
-    // each node is one of subscripts
-    ghost invariant = { λ v. All AreSubs (keys v.texts) };
+    ghost invariant = { λ v. All AreSomeSubs (keys v.texts) };
 }
 
 impl Variable {
@@ -50,6 +53,7 @@ impl Variable {
         ensures { result ≡ empty }
     {
         Variable {
+            own: None,
             texts: BTreeMap::new(alloc),
         }
     }
@@ -58,6 +62,9 @@ impl Variable {
     pub fn get(&self, key: &SubsKey) -> Option<&Bytes7>
         ensures { option_map (λ text. text.now) result ≡ get self.now key.now }
     {
+        if key.is_empty() {
+            return self.own.as_ref();
+        }
         self.texts.get(key)
     }
 
@@ -67,6 +74,10 @@ impl Variable {
         ensures ok { OnOk result (self.new ≡ insert self.old key text) }
         ensures err { OnErr result (self.new ≡ self.old) }
     {
+        if key.is_empty() {
+            self.own = Some(text);
+            return Ok(());
+        }
         self.texts.insert(key, text)?;
         Ok(())
     }
@@ -75,6 +86,11 @@ impl Variable {
     pub fn kill(&mut self, key: &SubsKey)
         ensures { self.new ≡ without self.old key.now }
     {
+        if key.is_empty() {
+            self.own = None;
+            self.texts.clear();
+            return;
+        }
         self.texts.retain(
             |k: &SubsKey, text: &mut Bytes7| -> bool
                 ensures { (result ≡ not (is_within key.entry.now k.now)) × (text.new ≡ text.old) }
@@ -91,7 +107,7 @@ impl Variable {
         let key = SubsKey::build(alloc, subs)?;
         let end = SubsKey::behind_below(alloc, subs)?;
         Ok(Data {
-            value: self.texts.contains_key(&key),
+            value: self.get(&key).is_some(),
             descendants: first_between(&self.texts, &key, &end).is_some(),
         })
     }
@@ -171,7 +187,7 @@ fn child(
 
 // The first key that stands behind one.
 fn first_behind<'a>(texts: &'a BTreeMap<SubsKey, Bytes7>, low: &SubsKey) -> Option<&'a SubsKey>
-    requires subs { All AreSubs (keys texts.now) }
+    requires subs { All AreSomeSubs (keys texts.now) }
     ensures ordered { IsOrdered (subscripts_cmp significant_digits) texts.now }
     ensures subs { IfSome result (λ k. AreSubs k.now) }
     ensures key { option_map (λ k. k.now) result ≡ find (is_behind low.now) (keys texts.now) }
@@ -189,12 +205,15 @@ fn first_between<'a>(
     high: &SubsKey,
 ) -> Option<&'a SubsKey>
     requires forward { IsLtBy (subscripts_cmp significant_digits) low.now high.now }
-    requires subs { All AreSubs (keys texts.now) }
+    requires subs { All AreSomeSubs (keys texts.now) }
     ensures ordered { IsOrdered (subscripts_cmp significant_digits) texts.now }
     ensures subs { IfSome result (λ k. AreSubs k.now) }
     ensures key { option_map (λ k. k.now) result ≡ find (is_between low.now high.now) (keys texts.now) }
 {
-    match texts.range((Bound::Excluded(low), Bound::Excluded(high))).next() {
+    match texts
+        .range((Bound::Excluded(low), Bound::Excluded(high)))
+        .next()
+    {
         Some((key, _)) => Some(key),
         None => None,
     }
@@ -207,12 +226,15 @@ fn last_between<'a>(
     high: &SubsKey,
 ) -> Option<&'a SubsKey>
     requires forward { IsLtBy (subscripts_cmp significant_digits) low.now high.now }
-    requires subs { All AreSubs (keys texts.now) }
+    requires subs { All AreSomeSubs (keys texts.now) }
     ensures ordered { IsOrdered (subscripts_cmp significant_digits) texts.now }
     ensures subs { IfSome result (λ k. AreSubs k.now) }
     ensures key { option_map (λ k. k.now) result ≡ find (is_between low.now high.now) (reverse (keys texts.now)) }
 {
-    match texts.range((Bound::Excluded(low), Bound::Excluded(high))).next_back() {
+    match texts
+        .range((Bound::Excluded(low), Bound::Excluded(high)))
+        .next_back()
+    {
         Some((key, _)) => Some(key),
         None => None,
     }

@@ -26,10 +26,7 @@ pub fn order_subs_ok(subs: &[Bytes7]) -> bool
     ensures { IsTrue result ↔ AreOrderSubscripts subs.now }
 {
     let count = subs.len();
-    0 < count
-        && count <= 15
-        && last(subs).as_bytes().len() <= 255
-        && subs_ok(front(subs))
+    0 < count && count <= 15 && last(subs).as_bytes().len() <= 255 && subs_ok(front(subs))
 }
 
 // The subscripts in front of the last one.

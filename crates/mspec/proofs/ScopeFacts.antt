@@ -1,17 +1,17 @@
 -- What the calls leave of the scopes.
-use Rattle.std.proofs.Common.{ℕ, zero, suc, ◌≡◌, Bool, true, false, not, cond, ◌&&◌, ◌||◌, List, [], ◌∷◌, ◌++◌, Option, Some, None, refl, sym, ap, ◌∙◌, subst}
+use Rattle.std.proofs.Common.{ℕ, zero, suc, ◌≡◌, Bool, true, false, not, cond, ◌&&◌, ◌||◌, List, [], ◌∷◌, Option, Some, None, refl, sym, ap, ◌∙◌}
 use Rattle.std.specs.Prelude.{unwrap_or}
 use Rattle.std.specs.Cmp.Lexicographic.{slice_cmp, bytes_decides, nat_list_cmp_total}
-use Rattle.std.specs.FinMap.{FinMap, IsAntisymmetric, get, insert, empty, retain_keys, get-insert, get-retain_keys, nat_cmp-IsAntisymmetric, slice_cmp-IsAntisymmetric}
-use Rattle.std.specs.List.{filter, list_any}
+use Rattle.std.specs.FinMap.{IsAntisymmetric, get, insert, empty, retain_keys, get-insert, get-retain_keys, nat_cmp-IsAntisymmetric, slice_cmp-IsAntisymmetric}
+use Rattle.std.specs.List.{filter}
 use Rattle.std.specs.Ordering.{nat_cmp, is_eq}
 use Rattle.std.specs.declared.cmp.Ordering.{Ordering}
 use Rattle.std.specs.declared.cmp.Ordering.TheVariants.{Less, Equal, Greater}
 use Rattle.std.proofs.lemmas.List.Folds.{list_any-append}
 use Rattle.mspec.specs.Node.{Text}
 use Rattle.mspec.specs.Trees.{Tree, text_eq, without}
-use Rattle.mspec.specs.Scopes.{Scope, Scopes, has, is_among, is_other, entered, tree_in, tree_of, with_tree, at_home, kill_in, emptied, killed_but, on_top, hide, hide_others, common, newed, newed_except, without_level}
-use Rattle.mspec.specs.ScopeLaws.{LeavingRestores, TopVariablesStandAlone, NewKeepsBelow, NewHides, NewExceptHides, HiddenVariablesComeBack, Call, Assign, Kill, KillExcept, New, NewExcept, Enter, Leave, after, after_all, is_nested}
+use Rattle.mspec.specs.Scopes.{Scope, Scopes, has, is_among, is_other, tree_in, tree_of, with_tree, at_home, kill_in, killed_but, on_top, hide, hide_others, common, without_level}
+use Rattle.mspec.specs.ScopeLaws.{LeavingRestores, TopVariablesStandAlone, NewKeepsBelow, NewHides, NewExceptHides, HiddenVariablesComeBack, Call, Assign, Kill, KillExcept, New, NewExcept, Enter, Leave, after_all, is_nested}
 
 -- ---- one call
 

@@ -3,7 +3,6 @@
 use Rattle.std.specs.Prelude.{◌≡◌, ℕ, zero, suc, Bool, true, false, List, [], ◌∷◌}
 use Rattle.std.specs.FinMap.{empty}
 use Rattle.mspec.specs.Node.{Text}
-use Rattle.mspec.specs.Trees.{Tree}
 use Rattle.mspec.specs.Scopes.{Scope, Scopes, has, is_among, tree_of, assigned, killed, killed_except, newed, newed_except, with_level, without_level}
 
 -- ---- one call

@@ -37,6 +37,7 @@ fn child(alloc: Global, words: &[&str], above: &SubsKey) -> Result<Vec<u8>, Fail
 fn a_bound_stands_behind_what_is_below(rt: HostRuntime) -> Result<(), Fail> {
     let above = subs_key(rt.alloc(), &["2"])?;
     let below = subs_key(rt.alloc(), &["2", "x"])?;
+    assert!(rt; SubsKey::empty(rt.alloc()).is_empty() && !above.is_empty());
     assert!(rt; below.is_within(&above));
     assert!(rt; !above.is_within(&below));
     assert!(rt; above < below);
@@ -50,9 +51,21 @@ fn a_bound_stands_behind_what_is_below(rt: HostRuntime) -> Result<(), Fail> {
 fn the_subscript_behind_a_list(rt: HostRuntime) -> Result<(), Fail> {
     let none = SubsKey::empty(rt.alloc());
     let above = subs_key(rt.alloc(), &["2"])?;
-    assert_eq!(rt; child(rt.alloc(), &["2", "x"], &none)?.as_slice(), b"2".as_slice());
-    assert_eq!(rt; child(rt.alloc(), &["2", "x"], &above)?.as_slice(), b"x".as_slice());
-    assert_eq!(rt; child(rt.alloc(), &["2"], &above)?.as_slice(), b"-".as_slice());
-    assert_eq!(rt; child(rt.alloc(), &["3", "x"], &above)?.as_slice(), b"-".as_slice());
+    assert_eq!(rt;
+        child(rt.alloc(), &["2", "x"], &none)?.as_slice(),
+        b"2".as_slice()
+    );
+    assert_eq!(rt;
+        child(rt.alloc(), &["2", "x"], &above)?.as_slice(),
+        b"x".as_slice()
+    );
+    assert_eq!(rt;
+        child(rt.alloc(), &["2"], &above)?.as_slice(),
+        b"-".as_slice()
+    );
+    assert_eq!(rt;
+        child(rt.alloc(), &["3", "x"], &above)?.as_slice(),
+        b"-".as_slice()
+    );
     Ok(())
 }

@@ -98,12 +98,7 @@ fn leave(locals: &mut Locals) {
     }
 }
 
-fn call(
-    locals: &mut Locals,
-    alloc: Global,
-    words: &[&str],
-    out: &mut Vec<u8>,
-) -> Result<(), Fail> {
+fn call(locals: &mut Locals, alloc: Global, words: &[&str], out: &mut Vec<u8>) -> Result<(), Fail> {
     match words {
         ["enter"] => {
             locals.enter()?;

@@ -1,6 +1,6 @@
-use Rattle.std.proofs.Common.{Some, ◌≡◌, sym, ◌∙◌}
+use Rattle.std.proofs.Common.{sym, ◌∙◌}
 use Rattle.std.specs.BTreeMap.{keys}
-use Rattle.mkey.specs.Front.{AreSubs}
+use Rattle.mlocal.specs.Own.{AreSomeSubs}
 use Rattle.mlocal.specs.Way.{is_behind}
 use Rattle.mlocal.proofs.Walks.{first_is, none_is, found_all}
 use Rattle.mlocal.proofs.variable.first_behind.Goals as goal
@@ -11,7 +11,7 @@ returns-in-Some-clause-key c =
 
 pub returns-in-Some-clause-subs : goal.returns-in-Some-clause-subs
 returns-in-Some-clause-subs c =
-    found_all AreSubs (is_behind c.args.low.now) (keys c.args.texts.now) (c.requires.subs) c.in-Some.key.now (returns-in-Some-clause-key c)
+    (found_all AreSomeSubs (is_behind c.args.low.now) (keys c.args.texts.now) (c.requires.subs) c.in-Some.key.now (returns-in-Some-clause-key c)).0
 
 pub returns-in-None-clause-key : goal.returns-in-None-clause-key
 returns-in-None-clause-key c =

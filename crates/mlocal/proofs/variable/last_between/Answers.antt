@@ -1,6 +1,6 @@
-use Rattle.std.proofs.Common.{Some, reverse, ◌≡◌, sym, ◌∙◌}
+use Rattle.std.proofs.Common.{reverse, sym, ◌∙◌}
 use Rattle.std.specs.BTreeMap.{keys}
-use Rattle.mkey.specs.Front.{AreSubs}
+use Rattle.mlocal.specs.Own.{AreSomeSubs}
 use Rattle.mlocal.specs.Way.{is_between}
 use Rattle.mlocal.proofs.Walks.{last_is, none_last, found_all, all_reversed}
 use Rattle.mlocal.proofs.variable.last_between.Goals as goal
@@ -11,7 +11,7 @@ returns-in-Some-clause-key c =
 
 pub returns-in-Some-clause-subs : goal.returns-in-Some-clause-subs
 returns-in-Some-clause-subs c =
-    found_all AreSubs (is_between c.args.low.now c.args.high.now) (reverse (keys c.args.texts.now)) (all_reversed AreSubs (keys c.args.texts.now) c.requires.subs) c.in-Some.key.now (returns-in-Some-clause-key c)
+    (found_all AreSomeSubs (is_between c.args.low.now c.args.high.now) (reverse (keys c.args.texts.now)) (all_reversed AreSomeSubs (keys c.args.texts.now) c.requires.subs) c.in-Some.key.now (returns-in-Some-clause-key c)).0
 
 pub returns-in-None-clause-key : goal.returns-in-None-clause-key
 returns-in-None-clause-key c =

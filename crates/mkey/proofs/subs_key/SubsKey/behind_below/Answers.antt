@@ -1,4 +1,4 @@
-use Rattle.std.proofs.Common.{◌≡◌, ◌++◌, ◌∷◌, [], ◌∙◌, ap}
+use Rattle.std.proofs.Common.{◌++◌, ◌∷◌, [], ◌∙◌, ap}
 use Rattle.mspec.specs.KeyBytes.{subscripts_bytes}
 use Rattle.mspec.specs.Number.{significant_digits}
 use Rattle.mkey.specs.SubsKey.{one_list, behind_below, IsSubsKeyOf}

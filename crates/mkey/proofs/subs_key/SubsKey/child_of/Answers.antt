@@ -1,4 +1,4 @@
-use Rattle.std.proofs.Common.{◌≡◌, ◌++◌, ◌∙◌, true, length, drop, ap, sym, arith, length-append}
+use Rattle.std.proofs.Common.{◌≡◌, ◌∙◌, true, length, drop, ap, sym, arith, length-append}
 use Rattle.mspec.specs.KeyBytes.{subscripts_bytes}
 use Rattle.mspec.specs.Number.{significant_digits}
 use Rattle.mspec.specs.Trees.{is_within}
@@ -10,7 +10,10 @@ behind-rest-requires c =
     let within : is_within c.args.above.now c.args.self.now ≡ true = sym c.is_within.ensures ∙ c.if-not-is_within.false in
     let bytes = bytes_within c.args.above.now c.args.self.now within in
     omega (
-      arith, ap length c.as_bytes-2.ensures.bytes, ap length c.as_bytes.ensures.bytes, ap length bytes,
+      arith,
+      ap length c.as_bytes-2.ensures.bytes,
+      ap length c.as_bytes.ensures.bytes,
+      ap length bytes,
       length-append (subscripts_bytes significant_digits c.args.above.now) (subscripts_bytes significant_digits (drop (length c.args.above.now) c.args.self.now)),
     )
 

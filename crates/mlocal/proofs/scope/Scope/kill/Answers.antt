@@ -1,8 +1,8 @@
-use Rattle.std.proofs.Common.{◌≡◌, refl, ap, sym, subst, ◌∙◌}
+use Rattle.std.proofs.Common.{refl, ap, subst, ◌∙◌}
 use Rattle.std.specs.Prelude.{option_map, IsSome}
 use Rattle.std.specs.Cmp.Lexicographic.{nat_list_cmp_total, texts_ties}
 use Rattle.std.specs.FinMap.{get}
-use Rattle.mspec.specs.Scopes.{with_tree, kill_in, Scope}
+use Rattle.mspec.specs.Scopes.{with_tree, kill_in}
 use Rattle.mspec.proofs.HashMaps.{hash_found_is_had}
 use Rattle.mlocal.proofs.Views.{scope_of, tree_put}
 use Rattle.mlocal.proofs.scope.Scope.kill.Goals as goal

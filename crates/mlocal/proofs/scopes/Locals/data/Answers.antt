@@ -1,6 +1,6 @@
 use Rattle.std.proofs.Common.{[], ◌∷◌, ap, sym, ◌∙◌}
-use Rattle.mspec.specs.Scopes.{Scopes, tree_in, tree_of}
-use Rattle.mspec.specs.Trees.{Tree, has_value, has_descendants}
+use Rattle.mspec.specs.Scopes.{tree_in, tree_of}
+use Rattle.mspec.specs.Trees.{has_value, has_descendants}
 use Rattle.mlocal.proofs.Views.{IfOk-map}
 use Rattle.mlocal.proofs.Stacks.{tree-at, tree-bottom}
 use Rattle.mlocal.proofs.scopes.Locals.data.Goals as goal

@@ -1,6 +1,6 @@
 use Rattle.std.proofs.Common.{[], ◌∷◌, ap, sym, ◌∙◌}
-use Rattle.mspec.specs.Scopes.{Scopes, tree_in, tree_of}
-use Rattle.mspec.specs.Trees.{Tree, order_of, front, last}
+use Rattle.mspec.specs.Scopes.{tree_in, tree_of}
+use Rattle.mspec.specs.Trees.{order_of, front, last}
 use Rattle.mlocal.specs.Way.{way}
 use Rattle.mlocal.proofs.Views.{IfOk-map}
 use Rattle.mlocal.proofs.Stacks.{tree-at, tree-bottom}

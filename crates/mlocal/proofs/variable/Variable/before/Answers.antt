@@ -1,14 +1,15 @@
-use Rattle.std.proofs.Common.{◌≡◌, ◌<◌, true, ◌||◌, ◌++◌, ◌∷◌, [], List, length, ap, sym, subst, ◌∙◌, arith}
+use Rattle.std.proofs.Common.{◌≡◌, ◌<◌, ◌||◌, [], length, ap, sym, subst, ◌∙◌, arith}
 use Rattle.std.specs.Prelude.{option_map}
 use Rattle.std.proofs.lemmas.Bool.Decides.{nat_tests}
-use Rattle.mspec.specs.Node.{Text}
 use Rattle.mspec.specs.NodeOrder.{subscripts_cmp}
 use Rattle.mspec.specs.Number.{significant_digits}
 use Rattle.mspec.specs.Trees.{front, last, is_before, is_empty}
 use Rattle.mkey.specs.SubsKey.{behind_below, beyond}
 use Rattle.mlocal.specs.Way.{is_between, has_child}
 use Rattle.mlocal.proofs.Bounds.{below_all, below_before, more_behind}
-use Rattle.mlocal.proofs.Walks.{last_walk, split_last, whole, nothing_in, not_empty}
+use Rattle.mlocal.proofs.Steps.{last_walk}
+use Rattle.mlocal.proofs.Own.{not_child}
+use Rattle.mlocal.proofs.Walks.{split_last, whole, no_list, not_empty}
 use Rattle.mlocal.proofs.variable.Variable.before.Goals as goal
 
 pub last_between-requires-clause-forward : goal.last_between-requires-clause-forward
@@ -22,9 +23,9 @@ returns-then-is_empty-clause-key c =
     let subs = c.args.subs.now in
     let end = c.in_ok-end.ensures.key ∙ ap behind_below c.front.ensures in
     let bytes = c.as_bytes.ensures.bytes ∙ c.last.ensures in
-    let none : last subs ≡ [] = sym bytes ∙ nothing_in c.as_bytes.result.now (grind (arith, nat_tests, c.if-is_empty.ensures)) in
-    last_walk c.args.self.now c.self.inside.texts c.self.view_is c.last_between.ensures.ordered c.self.invariant
-    (is_between c.args.above.now c.in_ok-end.end) (has_child (λ s. is_empty (last subs) || is_before s (last subs)) (front subs))
+    let none : last subs ≡ [] = sym bytes ∙ no_list c.as_bytes.result.now (grind (arith, nat_tests, c.if-is_empty.ensures)) in
+    last_walk c.args.self.now c.self.inside.own c.self.inside.texts c.self.view_is c.last_between.ensures.ordered c.self.invariant
+    (is_between c.args.above.now c.in_ok-end.end) (has_child (λ s. is_empty (last subs) || is_before s (last subs)) (front subs)) (not_child (λ s. is_empty (last subs) || is_before s (last subs)) (front subs))
     (λ k is. ap (λ low. is_between low c.in_ok-end.end k) c.requires.above ∙ ap (λ high. is_between (front subs) high k) end
     ∙ below_all (λ s. is_empty (last subs) || is_before s (last subs)) (λ s sub. ap (λ x. is_empty x || is_before s x) none) (front subs) k is)
     (option_map (λ k. k.now) c.last_between.result) c.last_between.ensures.key
@@ -48,8 +49,8 @@ returns-clause-key c =
     let bytes = c.as_bytes.ensures.bytes ∙ c.last.ensures in
     let some : 0 < length c.as_bytes.result.now = grind (arith, nat_tests, c.if-is_empty.ensures) in
     let full = not_empty (last subs) (subst (λ x. 0 < length x) bytes some) in
-    last_walk c.args.self.now c.self.inside.texts c.self.view_is c.last_between-2.ensures.ordered c.self.invariant
-    (is_between c.args.above.now c.in_ok-end-2.end) (has_child (λ s. is_empty (last subs) || is_before s (last subs)) (front subs))
+    last_walk c.args.self.now c.self.inside.own c.self.inside.texts c.self.view_is c.last_between-2.ensures.ordered c.self.invariant
+    (is_between c.args.above.now c.in_ok-end-2.end) (has_child (λ s. is_empty (last subs) || is_before s (last subs)) (front subs)) (not_child (λ s. is_empty (last subs) || is_before s (last subs)) (front subs))
     (λ k is. ap (λ low. is_between low c.in_ok-end-2.end k) c.requires.above ∙ ap (λ high. is_between (front subs) high k) end
     ∙ below_before (front subs) (last subs) k ∙ ap (λ b. has_child (λ s. b || is_before s (last subs)) (front subs) k) (sym full))
     (option_map (λ k. k.now) c.last_between-2.result) c.last_between-2.ensures.key

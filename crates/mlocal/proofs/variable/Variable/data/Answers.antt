@@ -1,16 +1,14 @@
-use Rattle.std.proofs.Common.{◌≡◌, true, refl, [], ap, sym, ◌∙◌}
+use Rattle.std.proofs.Common.{true, refl, [], ap, sym, ◌∙◌}
 use Rattle.std.specs.Prelude.{is_some}
-use Rattle.std.specs.FinMap.{get}
-use Rattle.mspec.specs.Maps.{map_of}
 use Rattle.mspec.specs.NodeOrder.{subscripts_cmp}
 use Rattle.mspec.specs.Number.{significant_digits}
 use Rattle.mspec.specs.Trees.{is_below, has_value}
-use Rattle.mspec.proofs.Maps.{found_is_had}
-use Rattle.mspec.proofs.NodeOrders.{subscripts_cmp_total}
 use Rattle.mkey.specs.SubsKey.{beyond}
 use Rattle.mlocal.specs.Way.{is_between}
 use Rattle.mlocal.proofs.Bounds.{below_all, more_behind}
-use Rattle.mlocal.proofs.Walks.{any_walk, some_map, below_is}
+use Rattle.mlocal.proofs.Steps.{any_walk}
+use Rattle.mlocal.proofs.Own.{not_child}
+use Rattle.mlocal.proofs.Walks.{some_map, below_is}
 use Rattle.mlocal.proofs.variable.Variable.data.Goals as goal
 
 pub first_between-requires-clause-forward : goal.first_between-requires-clause-forward
@@ -20,14 +18,13 @@ first_between-requires-clause-forward c =
 
 pub returns-clause-value : goal.returns-clause-value
 returns-clause-value c =
-    c.contains_key.ensures ∙ ap is_some (found_is_had (subscripts_cmp_total significant_digits) c.self.inside.texts c.in_ok-key.key)
-    ∙ ap (λ t. has_value t c.in_ok-key.key) c.self.view_is ∙ ap (has_value c.args.self.now) c.in_ok-key.ensures.key
+    c.is_some.ensures ∙ some_map (λ text. text.now) c.get.result ∙ ap is_some c.get.ensures ∙ ap (has_value c.args.self.now) c.in_ok-key.ensures.key
 
 pub returns-clause-descendants : goal.returns-clause-descendants
 returns-clause-descendants c =
     let subs = c.args.subs.now in
-    c.is_some.ensures ∙ some_map (λ k. k.now) c.first_between.result ∙ ap is_some c.first_between.ensures.key
-    ∙ any_walk c.args.self.now c.self.inside.texts c.self.view_is c.first_between.ensures.ordered c.self.invariant
-    (is_between c.in_ok-key.key c.in_ok-end.end) (is_below subs)
+    c.is_some-2.ensures ∙ some_map (λ k. k.now) c.first_between.result ∙ ap is_some c.first_between.ensures.key
+    ∙ any_walk c.args.self.now c.self.inside.own c.self.inside.texts c.self.view_is c.first_between.ensures.ordered c.self.invariant
+    (is_between c.in_ok-key.key c.in_ok-end.end) (is_below subs) (sym (below_is subs []) ∙ not_child (λ s. true) subs)
     (λ k is. ap (λ low. is_between low c.in_ok-end.end k) c.in_ok-key.ensures.key ∙ ap (λ high. is_between subs high k) c.in_ok-end.ensures.key
     ∙ below_all (λ s. true) (λ s sub. refl) subs k is ∙ below_is subs k)

@@ -1,12 +1,28 @@
-use Rattle.std.proofs.Common.{ap, ◌∙◌}
+use Rattle.std.proofs.Common.{◌≡◌, ◌<◌, [], length, ap, sym, ◌∙◌, arith}
 use Rattle.std.specs.FinMap.{get}
+use Rattle.std.proofs.lemmas.Bool.Decides.{nat_tests}
+use Rattle.mspec.specs.Maps.{map_of}
 use Rattle.mspec.specs.Number.{significant_digits}
 use Rattle.mspec.proofs.Maps.{found_is_had}
 use Rattle.mspec.proofs.NodeOrders.{subscripts_cmp_total}
+use Rattle.mlocal.specs.Own.{with_own}
+use Rattle.mlocal.proofs.Own.{own_there, others_there}
 use Rattle.mlocal.proofs.Views.{shown}
+use Rattle.mlocal.proofs.Walks.{no_list}
 use Rattle.mlocal.proofs.variable.Variable.get.Goals as goal
+
+pub returns-then-is_empty : goal.returns-then-is_empty
+returns-then-is_empty c =
+    let v = c.self.inside in
+    let key = c.args.key.now in
+    let none : key ≡ [] = no_list key (grind (arith, nat_tests, c.if-is_empty.ensures)) in
+    shown c.as_ref.result ∙ c.as_ref.ensures.value ∙ own_there v.own v.texts c.self.invariant
+    ∙ ap (get (with_own v.own (map_of (λ x. x) v.texts))) (sym none) ∙ ap (λ t. get t key) c.self.view_is
 
 pub returns : goal.returns
 returns c =
-    shown c.get.result ∙ c.get.ensures.value ∙ found_is_had (subscripts_cmp_total significant_digits) c.self.inside.texts c.args.key.now
-    ∙ ap (λ t. get t c.args.key.now) c.self.view_is
+    let v = c.self.inside in
+    let key = c.args.key.now in
+    let some : 0 < length key = grind (arith, nat_tests, c.if-is_empty.ensures) in
+    shown c.get.result ∙ c.get.ensures.value ∙ found_is_had (subscripts_cmp_total significant_digits) v.texts key
+    ∙ others_there v.own (map_of (λ x. x) v.texts) key some ∙ ap (λ t. get t key) c.self.view_is

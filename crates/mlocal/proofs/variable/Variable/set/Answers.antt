@@ -1,21 +1,37 @@
-use Rattle.std.proofs.Common.{ap, sym, subst, ◌∙◌}
+use Rattle.std.proofs.Common.{◌≡◌, ◌<◌, [], length, ap, sym, subst, ◌∙◌, arith}
+use Rattle.std.specs.FinMap.{insert}
 use Rattle.std.specs.List.{All}
 use Rattle.std.specs.Map.{keys_of}
+use Rattle.std.proofs.lemmas.Bool.Decides.{nat_tests}
 use Rattle.std.proofs.lemmas.Map.Views.{All-keys-insert_entry}
-use Rattle.std.specs.FinMap.{insert}
+use Rattle.mspec.specs.Maps.{map_of}
 use Rattle.mspec.specs.NodeOrder.{subscripts_cmp}
 use Rattle.mspec.specs.Number.{significant_digits}
-use Rattle.mkey.specs.Front.{AreSubs}
 use Rattle.mspec.proofs.Maps.{insert-map_of}
 use Rattle.mspec.proofs.NodeOrders.{subscripts_cmp_total, subscripts_cmp_exact}
+use Rattle.mlocal.specs.Own.{with_own, AreSomeSubs}
+use Rattle.mlocal.proofs.Own.{own_set, other_set}
+use Rattle.mlocal.proofs.Walks.{no_list}
 use Rattle.mlocal.proofs.variable.Variable.set.Goals as goal
+
+pub returns-then-is_empty-clause-ok : goal.returns-then-is_empty-clause-ok
+returns-then-is_empty-clause-ok c =
+    let v = c.self.inside in
+    let none : c.args.key ≡ [] = no_list c.args.key (grind (arith, nat_tests, c.if-is_empty.ensures)) in
+    own_set (map_of (λ x. x) v.texts) v.own c.args.text
+    ∙ ap (λ k. insert (with_own v.own (map_of (λ x. x) v.texts)) k c.args.text) (sym none)
+    ∙ ap (λ t. insert t c.args.key c.args.text) c.self.view_is
 
 pub returns-clause-ok : goal.returns-clause-ok
 returns-clause-ok c =
-    insert-map_of (subscripts_cmp_total significant_digits) (λ text. text) (subscripts_cmp_exact significant_digits) c.self.inside.texts c.insert.new.self c.args.key c.args.text c.in_ok-insert.ensures.updates
+    let v = c.self.inside in
+    let some : 0 < length c.args.key = grind (arith, nat_tests, c.if-is_empty.ensures) in
+    ap (with_own v.own) (insert-map_of (subscripts_cmp_total significant_digits) (λ text. text) (subscripts_cmp_exact significant_digits) v.texts c.insert.new.self c.args.key c.args.text c.in_ok-insert.ensures.updates)
+    ∙ other_set (map_of (λ x. x) v.texts) v.own c.args.key c.args.text some
     ∙ ap (λ t. insert t c.args.key c.args.text) c.self.view_is
 
 pub invariant_of-self-2 : goal.invariant_of-self-2
 invariant_of-self-2 c =
-    subst (λ es. All AreSubs (keys_of es)) (sym c.in_ok-insert.ensures.entries)
-    (All-keys-insert_entry (subscripts_cmp significant_digits) c.args.key c.args.text AreSubs c.self.inside.texts.entries c.self.invariant c.requires)
+    let some : 0 < length c.args.key = grind (arith, nat_tests, c.if-is_empty.ensures) in
+    subst (λ es. All AreSomeSubs (keys_of es)) (sym c.in_ok-insert.ensures.entries)
+    (All-keys-insert_entry (subscripts_cmp significant_digits) c.args.key c.args.text AreSomeSubs c.self.inside.texts.entries c.self.invariant (c.requires, some))

@@ -1,0 +1,44 @@
+-- What a search in the map of a variable finds of its tree.
+use Rattle.std.proofs.Common.{◌≡◌, Bool, false, List, [], ◌++◌, reverse, All, Option, sym, ap, ◌∙◌}
+use Rattle.std.specs.Prelude.{option_and_then, is_some}
+use Rattle.std.specs.BTreeMap as tree
+use Rattle.std.specs.BTreeMap.{BTreeMap, IsOrdered}
+use Rattle.std.specs.FinMap as map
+use Rattle.std.specs.List.{list_any, find}
+use Rattle.mspec.specs.Maps.{map_of}
+use Rattle.mspec.specs.Node.{Text}
+use Rattle.mspec.specs.NodeOrder.{subscripts_cmp}
+use Rattle.mspec.specs.Number.{significant_digits}
+use Rattle.mspec.specs.Trees as trees
+use Rattle.mspec.specs.Trees.{Tree, child_of, order_of, is_before}
+use Rattle.mkey.specs.Front.{AreSubs}
+use Rattle.mkey.specs.SubsKey.{behind_below}
+use Rattle.mlocal.specs.Own.{with_own, AreSomeSubs}
+use Rattle.mlocal.specs.Way.{is_behind, is_between, has_child}
+use Rattle.mlocal.proofs.Own.{own_keys, subs_each, keys_with_own, not_child, first_of_others, last_of_others, any_of_others}
+use Rattle.mlocal.proofs.Walks.{find_alike, any_found, all_reversed, onward, order_forward}
+
+module _ (t : Tree) (o : Option Text) (m : BTreeMap (List Text) Text) (is : with_own o (map_of (λ x. x) m) ≡ t) (ordered : IsOrdered (subscripts_cmp significant_digits) m) (all : All AreSomeSubs (tree.keys m)) where
+  same_keys : own_keys o ++ tree.keys m ≡ map.keys t
+  same_keys = sym (keys_with_own o m ordered all) ∙ ap map.keys is
+
+  subs : All AreSubs (tree.keys m)
+  subs = subs_each (tree.keys m) all
+
+  module _ (q p : List Text → Bool) (none : p [] ≡ false) (alike : (k : List Text) → AreSubs k → q k ≡ p k) where
+    pub last_walk : (r : Option (List Text)) → r ≡ find q (reverse (tree.keys m)) → r ≡ find p (reverse (map.keys t))
+    last_walk r e =
+        e ∙ find_alike q p (reverse (tree.keys m)) (all_reversed AreSubs (tree.keys m) subs) alike
+        ∙ last_of_others p none (tree.keys m) o ∙ ap (λ ks. find p (reverse ks)) same_keys
+
+    pub any_walk : is_some (find q (tree.keys m)) ≡ list_any p (map.keys t)
+    any_walk = any_found q p (tree.keys m) subs alike ∙ any_of_others p none (tree.keys m) o ∙ ap (list_any p) same_keys
+
+  pub onward_walk : (low xs : List Text) (x : Text) → ((k : List Text) → AreSubs k → is_between low (behind_below xs) k ≡ has_child (is_before x) xs k)
+      → (r : Option (List Text)) → r ≡ find (is_behind low) (tree.keys m) → option_and_then (child_of xs) r ≡ order_of t trees.Forward xs x
+  onward_walk low xs x alike r e =
+      ap (option_and_then (child_of xs)) e ∙ onward low xs (tree.keys m) ordered subs
+      ∙ ap (option_and_then (child_of xs)) (find_alike (is_between low (behind_below xs)) (has_child (is_before x) xs) (tree.keys m) subs alike
+      ∙ first_of_others (has_child (is_before x) xs) (not_child (is_before x) xs) (tree.keys m) o
+      ∙ ap (find (has_child (is_before x) xs)) same_keys)
+      ∙ sym (order_forward t xs x)

@@ -13,7 +13,9 @@ const TIMED: [usize; 2] = [10_000, 1_000_000];
 
 const FEW: [usize; 2] = [100, 1_000];
 
-// A node put between others moves those behind it, so that fewer rounds tell enough.
+// So many rounds at most, since a large store takes long; a node put between others moves those behind it, which takes longest.
+const MOST_DRAWN: usize = 200_000;
+
 const MOST_BETWEEN: usize = 100;
 
 const TEXT: &str = "hello world";
@@ -156,60 +158,87 @@ fn resident(rt: &HostRuntime) -> anyhow::Result<u64> {
     Ok(pages.saturating_mul(PAGE_BYTES))
 }
 
-// Fills a store with nodes in order, and asks it of drawn ones.
-fn calls<S: NodeStore>(
+// The same with at most so many rounds.
+fn limited(plan: Plan, most: usize) -> Plan {
+    Plan {
+        rounds: plan.rounds.min(most),
+        passes: plan.passes,
+        timed: plan.timed,
+    }
+}
+
+// Fills a store with nodes in order, once.
+fn fill<S: NodeStore>(
+    rt: &HostRuntime,
+    timed: bool,
+    store: &mut S,
+    nodes: &Nodes,
+) -> anyhow::Result<()> {
+    let rounds = nodes.keys.len();
+    let plan = Plan {
+        rounds,
+        passes: 1,
+        timed,
+    };
+    let before = resident(rt)?;
+    measure(rt, "put", plan, NS, |i| put_at(store, nodes, i))?;
+    if timed {
+        let taken = resident(rt)?.saturating_sub(before) / rounds.max(1) as u64;
+        println!(rt; "  {:<12} {taken:>4} bytes a node", "memory")?;
+    }
+    Ok(())
+}
+
+// Asks a store of drawn nodes.
+fn ask<S: NodeStore>(
     rt: &HostRuntime,
     plan: Plan,
     store: &mut S,
-    count: usize,
+    nodes: &Nodes,
 ) -> anyhow::Result<()> {
-    let alloc = rt.alloc();
-    let nodes = make_nodes(alloc, count)?;
-    let once = Plan {
-        rounds: count,
-        passes: 1,
-        timed: plan.timed,
-    };
-    let few = Plan {
-        rounds: plan.rounds.min(MOST_BETWEEN),
-        passes: plan.passes,
-        timed: plan.timed,
-    };
-    let new = new_nodes(alloc, count, few.rounds)?;
-    let before = resident(rt)?;
-    measure(rt, "put", once, NS, |i| put_at(store, &nodes, i))?;
-    if plan.timed {
-        let taken = resident(rt)?.saturating_sub(before) / count.max(1) as u64;
-        println!(rt; "  {:<12} {taken:>4} bytes a node", "memory")?;
-    }
+    let count = nodes.keys.len();
     measure(
         rt,
         "put again",
         plan,
         NS,
-        |i| put_at(store, &nodes, drawn(i, count)),
+        |i| put_at(store, nodes, drawn(i, count)),
     )?;
     measure(
         rt,
         "get",
         plan,
         NS,
-        |i| get_at(store, &nodes, drawn(i, count)),
+        |i| get_at(store, nodes, drawn(i, count)),
     )?;
     measure(
         rt,
         "next",
         plan,
         NS,
-        |i| next_at(store, &nodes, drawn(i, count)),
+        |i| next_at(store, nodes, drawn(i, count)),
     )?;
     measure(
         rt,
         "prev",
         plan,
         NS,
-        |i| prev_at(store, &nodes, drawn(i, count)),
-    )?;
+        |i| prev_at(store, nodes, drawn(i, count)),
+    )
+}
+
+// All of it, on a store with so many nodes.
+fn calls<S: NodeStore>(
+    rt: &HostRuntime,
+    plan: Plan,
+    store: &mut S,
+    count: usize,
+) -> anyhow::Result<()> {
+    let nodes = make_nodes(rt.alloc(), count)?;
+    let few = limited(plan, MOST_BETWEEN);
+    let new = new_nodes(rt.alloc(), count, few.rounds)?;
+    fill(rt, plan.timed, store, &nodes)?;
+    ask(rt, limited(plan, MOST_DRAWN), store, &nodes)?;
     measure(
         rt,
         "put and kill",

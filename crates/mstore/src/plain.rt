@@ -7,7 +7,7 @@ ghost use Rattle.mspec.specs.Number.{significant_digits};
 ghost use Rattle.mstore.specs.Entries.{AreEntries, IsAt, IsGapFor, IsPlaceOf, is_before, key_within};
 
 use crate::store::{NodeStore, StoreFault};
-use mkey::NodeKey;
+use mkey::{NodeKey, compare};
 use mnum::Bytes7;
 use std::alloc::{AllocError, Global};
 use std::cmp::Ordering;
@@ -67,7 +67,7 @@ fn search(entries: &[Entry], key: &NodeKey) -> Result<usize, usize>
     )
 }
 
-// How many keys stand before these bytes. `cmp` takes half the time that `<` takes.
+// How many keys stand before these bytes.
 fn place_of(entries: &[Entry], bytes: &[u8]) -> usize
     requires { AreEntries entries.now }
     ensures bound { result ≤ length entries.now }
@@ -76,7 +76,7 @@ fn place_of(entries: &[Entry], bytes: &[u8]) -> usize
     entries.partition_point(
         |entry: &Entry| -> bool
             ensures { result ≡ is_before bytes.entry.now entry.now }
-        { entry.key.as_bytes().cmp(bytes).is_lt() },
+        { compare(entry.key.as_bytes(), bytes).is_lt() },
     )
 }
 

@@ -221,7 +221,7 @@ module _ {A : Type 0} (key_of value_of : A → List ℕ) where
         let is = key_is rows keyed k some in
         let g : Globals = globals_by key_of value_of rows in
         let text : Entries.find (node_cmp significant_digits) is.0 (entries g) ≡ lookup_by key_of value_of rows k =
-            sym (get-entries g is.0) ∙ gets key_of value_of rows keyed is.0 (none_empty is.0 is.1.0) ∙ ap (lookup_by key_of value_of rows) is.1.1 in
+        sym (get-entries g is.0) ∙ gets key_of value_of rows keyed is.0 (none_empty is.0 is.1.0) ∙ ap (lookup_by key_of value_of rows) is.1.1 in
         subst (In (keys_in (entries g))) is.1.1 (found_in (entries g) is.0 (ap is_some text ∙ some))
 
     in_some : (k : List ℕ) → In (keys_of (globals_by key_of value_of rows)) k → IsSome (lookup_by key_of value_of rows k)

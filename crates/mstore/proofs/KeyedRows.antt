@@ -107,11 +107,11 @@ range_is n m some_n some_m =
     let ranges = subtrees_are_ranges significant_digits n m some_n some_m in
     same_truth (in_bounds (key n) (subtree_end (key n)) (key m)) (is_node_within n m)
     (λ e.
-        let both = both_true (is_le (slice_cmp nat_cmp (key n) (key m))) (is_lt (slice_cmp nat_cmp (key m) (subtree_end (key n)))) e in
-        of_within n m (ranges.0 (record { from = both.0; below = less (slice_cmp nat_cmp (key m) (subtree_end (key n))) both.1 })))
+    let both = both_true (is_le (slice_cmp nat_cmp (key n) (key m))) (is_lt (slice_cmp nat_cmp (key m) (subtree_end (key n)))) e in
+    of_within n m (ranges.0 (record { from = both.0; below = less (slice_cmp nat_cmp (key m) (subtree_end (key n))) both.1 })))
     (λ e.
-        let between = ranges.1 (within_of n m e) in
-        two_true (is_le (slice_cmp nat_cmp (key n) (key m))) (is_lt (slice_cmp nat_cmp (key m) (subtree_end (key n)))) between.from (ap is_lt between.below))
+    let between = ranges.1 (within_of n m e) in
+    two_true (is_le (slice_cmp nat_cmp (key n) (key m))) (is_lt (slice_cmp nat_cmp (key m) (subtree_end (key n)))) between.from (ap is_lt between.below))
 
 -- ---- a node's text is the value at its key
 

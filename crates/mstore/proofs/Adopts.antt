@@ -16,11 +16,10 @@ use Rattle.sqlite_sql.specs.Ops.{binary, is_true}
 use Rattle.sqlite_sql.specs.declared.ops.BinaryOp.TheVariants.{Compare}
 use Rattle.sqlite_sql.specs.declared.ops.CompareOp.TheVariants.{Eq, Ne}
 use Rattle.sqlite_schema.specs.declared.schema.Constraint.TheVariants.{Datatype, Unique}
-use Rattle.sqlite_schema.specs.declared.schema.Schema.{Schema}
 use Rattle.sqlite_schema.specs.Rules.{are_typed, clashes, agree, differ}
 use Rattle.sqlite_trees.specs.declared.store.Store.{Ghosts}
 use Rattle.sqlite_trees.specs.declared.store.Shape.TheVariants.{Table}
-use Rattle.sqlite_trees.specs.Tree.{rowid, IsTable}
+use Rattle.sqlite_trees.specs.Tree.{rowid}
 use Rattle.sqlite_trees.specs.View.{is_int, IsShaped}
 use Rattle.sqlite_rules.specs.Lists.{Has}
 use Rattle.sqlite_rules.specs.Edit.{id_in}
@@ -37,11 +36,8 @@ use Rattle.mstore.specs.declared.open_fault.OpenFault.{OpenFault}
 use Rattle.sqlite.specs.Held.{Held, state}
 use Rattle.mstore.specs.Layout.{node, schema}
 use Rattle.mstore.specs.Database.{IsMemory, IsCalm, IsStore, Stays, ShowsAll, ShowsNodes}
-use Rattle.mstore.specs.Rows.{AreNodes, IsNode, IsInForm, ShowsNode, HasOther, shown_of, key_of, value_of}
+use Rattle.mstore.specs.Rows.{AreNodes, IsNode, IsInForm, ShowsNode, HasOther, key_of, value_of}
 use Rattle.std.proofs.Common.{IsTrue, OnOk, Result}
-use Rattle.std.proofs.lemmas.List.Elements.{All-contains}
-use Rattle.sqlite_rules.proofs.ListLemmas.{contains_had}
-use Rattle.sqlite.specs.declared.types.Value.{Value}
 use Rattle.sqlite.specs.declared.types.Value.TheVariants.{Null}
 use Rattle.sqlite.specs.Term.{col}
 use Rattle.sqlite.specs.State.{State, Shown, IsLive}

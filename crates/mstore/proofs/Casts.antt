@@ -17,4 +17,3 @@ cast_null = either _ Null
 pub cast_int : (n : ℤ) → cast Integer (Int n) ≡ Int n
 unfolding unary
 cast_int n = either _ (Int n)
-

@@ -1,15 +1,15 @@
 -- What an edit leaves of the rows, as a map.
-use Rattle.std.proofs.Common.{◌≡◌, ◌≢◌, ◌⊎◌, ℕ, ℤ, Bool, true, false, not, List, [], ◌∷◌, find, map, Option, Some, None, Ok, Err, Result, refl, sym, ap, subst, ◌∙◌, inl, inr, is_eq, int_cmp, arith}
+use Rattle.std.proofs.Common.{◌≡◌, ℕ, ℤ, Bool, true, false, not, List, [], ◌∷◌, Option, Some, None, refl, sym, ap, subst, ◌∙◌, inl, inr, is_eq, int_cmp, arith}
 use Rattle.std.proofs.lemmas.Int.{ints}
-use Rattle.std.proofs.lemmas.Bool.{true≢false, cases_Bool, not_from_false, not-true, false_from_ne_true, and_parts}
+use Rattle.std.proofs.lemmas.Bool.{true≢false, not-true, false_from_ne_true}
 use Rattle.std.proofs.lemmas.Cmp.{tied_itself}
-use Rattle.sqlite.specs.declared.types.Value.TheVariants.{Int, Blob}
+use Rattle.sqlite.specs.declared.types.Value.TheVariants.{Int}
 use Rattle.sqlite.specs.Order.{Row}
 use Rattle.sqlite_value.specs.Order.{value_cmp}
 use Rattle.sqlite_value.proofs.OrderLemmas.{value_cmp_total, value_cmp-Int}
 use Rattle.sqlite_trees.specs.Tree.{rowid, has_rowid, without_rowid}
 use Rattle.sqlite_rules.specs.Lists.{Has}
-use Rattle.sqlite_rules.specs.Edit.{id_in, without_all, put_all, are_fresh, is_taken}
+use Rattle.sqlite_rules.specs.Edit.{id_in, without_all, is_taken}
 use Rattle.sqlite_rules.proofs.ListLemmas.{has_filtered, has_kept, some_from}
 use Rattle.mstore.specs.Rows.{IsNode, AreNodes, lookup, key_of, value_of}
 use Rattle.mstore.proofs.Maps.{lookup_some, lookup_has, lookup_none}

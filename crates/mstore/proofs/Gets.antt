@@ -1,8 +1,7 @@
 -- What `get` finds.
-use Rattle.std.proofs.Common.{◌≡◌, ◌≢◌, ℕ, true, false, List, [], ◌∷◌, Option, Some, None, Ok, Err, refl, sym, ap, subst, ◌∙◌, inl, inr}
+use Rattle.std.proofs.Common.{◌≡◌, ℕ, List, [], ◌∷◌, Some, None, Ok, Err, refl, sym, ap, subst, ◌∙◌, inl}
 use Rattle.sqlite.specs.declared.types.Value.TheVariants.{Null, Blob}
 use Rattle.sqlite.specs.Order.{Row, column}
-use Rattle.sqlite_value.specs.Order.{bytes}
 use Rattle.sqlite.specs.State.{State, QueriesRow}
 use Rattle.sqlite.specs.Listing.{understood}
 use Rattle.sqlite.specs.declared.error.Error.TheVariants.{QueryReturnedNoRows}
@@ -10,7 +9,7 @@ use Rattle.sqlite.proofs.Callers.{IsPlain, first_as, reads_as}
 use Rattle.sqlite_typed.proofs.TestLemmas.{same_bytes}
 use Rattle.mstore.specs.Layout.{schema}
 use Rattle.mstore.specs.Database.{IsStore, content}
-use Rattle.mstore.specs.Rows.{key_of, value_of, is_at}
+use Rattle.mstore.specs.Rows.{key_of, value_of}
 use Rattle.mstore.proofs.Texts.{get_is, get_command, at_key}
 use Rattle.mstore.specs.Statements.{get_text}
 use Rattle.mstore.proofs.Answer.{rows_from, rows_to}

@@ -1,14 +1,14 @@
 -- The first and the last key of rows within bounds, as those of the globals that the rows hold.
-use Rattle.std.proofs.Common.{ℕ, ◌≡◌, ◌<◌, ◌⊎◌, inl, inr, Bool, true, false, cond, ◌&&◌, Option, Some, None, option_map, is_some, List, [], ◌∷◌, ◌++◌, map, length, reverse, refl, sym, ◌∙◌, ap, subst, arith}
+use Rattle.std.proofs.Common.{ℕ, ◌≡◌, ◌⊎◌, inl, inr, Bool, true, false, cond, ◌&&◌, Option, Some, None, option_map, is_some, List, [], ◌∷◌, map, length, reverse, refl, sym, ◌∙◌, ap, subst, arith}
 use Rattle.std.specs.Prelude.{⊤, T, IsSome}
 use Rattle.std.specs.Option.{option_or}
 use Rattle.std.specs.List.{find, AllByRecursion}
-use Rattle.std.specs.Ordering.{nat_cmp, is_eq, is_lt, is_le, eq_by_cmp, ordering_reverse}
+use Rattle.std.specs.Ordering.{nat_cmp, is_eq, is_lt, eq_by_cmp, ordering_reverse}
 use Rattle.std.specs.declared.cmp.Ordering.{Ordering}
 use Rattle.std.specs.declared.cmp.Ordering.TheVariants.{Less, Equal, Greater}
-use Rattle.std.specs.Cmp.{IsTotalOrder, eq_by_cmp_equiv, Equal-is, nat_cmp_is}
-use Rattle.std.specs.Cmp.Lexicographic.{slice_cmp, nat_list_cmp_total, bytes_decides}
-use Rattle.std.specs.FinMap.{nat_cmp-IsAntisymmetric, slice_cmp-IsAntisymmetric, len-entries, len-empty, get, insert, entries, entries_sorted, entries-insert, get-entries, from_entries, empty}
+use Rattle.std.specs.Cmp.{eq_by_cmp_equiv, Equal-is}
+use Rattle.std.specs.Cmp.Lexicographic.{slice_cmp, nat_list_cmp_total}
+use Rattle.std.specs.FinMap.{nat_cmp-IsAntisymmetric, slice_cmp-IsAntisymmetric, len-entries, len-empty, entries, entries_sorted, entries-insert, get-entries, empty}
 use Rattle.std.specs.FinMap.Entries as Entries
 use Rattle.std.proofs.lemmas.List.{reverse-append}
 use Rattle.std.proofs.lemmas.List.Folds.{find-append}
@@ -18,10 +18,10 @@ use Rattle.mspec.specs.NodeOrder.{node_cmp}
 use Rattle.mspec.specs.KeyLaws.{NoneEmpty}
 use Rattle.mspec.specs.KeyReading.{node_of}
 use Rattle.mspec.specs.Globals.{Globals, keys_of, is_between, next_key, previous_key}
-use Rattle.mspec.proofs.NodeOrders.{node_cmp_total, node_cmp_exact}
+use Rattle.mspec.proofs.NodeOrders.{node_cmp_total}
 use Rattle.mspec.proofs.KeyOrders.{key_order}
 use Rattle.mkey.specs.Key.{IsKey, none_empty}
-use Rattle.mstore.specs.Map.{Content, ShowsBytes, IsNearest, HasNone, in_bounds, is_below, is_nearer}
+use Rattle.mstore.specs.Map.{ShowsBytes, is_below, is_nearer}
 use Rattle.mstore.specs.Keyed.{lookup_by, globals_by, AreKeyed}
 use Rattle.mstore.proofs.KeyedRows.{key, node_at, both_true, same_of, gets}
 
@@ -221,7 +221,7 @@ module _ {A : Type 0} (key_of value_of : A → List ℕ) where
         let is = key_is rows keyed k some in
         let g : Globals = globals_by key_of value_of rows in
         let text : Entries.find (node_cmp significant_digits) is.0 (entries g) ≡ lookup_by key_of value_of rows k =
-            sym (get-entries g is.0) ∙ gets key_of value_of rows keyed is.0 (none_empty is.0 is.1.0) ∙ ap (lookup_by key_of value_of rows) is.1.1 in
+        sym (get-entries g is.0) ∙ gets key_of value_of rows keyed is.0 (none_empty is.0 is.1.0) ∙ ap (lookup_by key_of value_of rows) is.1.1 in
         subst (In (keys_in (entries g))) is.1.1 (found_in (entries g) is.0 (ap is_some text ∙ some))
 
     in_some : (k : List ℕ) → In (keys_of (globals_by key_of value_of rows)) k → IsSome (lookup_by key_of value_of rows k)

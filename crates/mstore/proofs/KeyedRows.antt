@@ -1,29 +1,29 @@
 -- What calls do to rows by their keys, they do to the globals that the rows hold.
-use Rattle.std.proofs.Common.{ℕ, ◌≡◌, ◌≢◌, ◌<◌, ◌⊎◌, inl, inr, Bool, true, false, cond, not, ◌&&◌, Option, Some, None, option_map, is_some, List, [], ◌∷◌, ◌++◌, map, length, reverse, drop, refl, sym, ◌∙◌, ap, subst, arith, append-nil}
-use Rattle.std.specs.List.{find, AllByRecursion, starts_with}
+use Rattle.std.proofs.Common.{ℕ, ◌≡◌, ◌≢◌, ◌<◌, ◌⊎◌, inl, inr, Bool, true, false, cond, not, ◌&&◌, Some, None, option_map, List, [], ◌∷◌, map, length, drop, refl, sym, ◌∙◌, ap, subst, arith, append-nil}
+use Rattle.std.specs.List.{find}
 use Rattle.std.specs.Ordering.{nat_cmp, is_eq, is_lt, is_le, eq_by_cmp}
 use Rattle.std.specs.declared.cmp.Ordering.{Ordering}
 use Rattle.std.specs.Cmp.{IsTotalOrder, eq_by_cmp_equiv, Equal-is}
 use Rattle.std.specs.Cmp.Lexicographic.{slice_cmp, bytes_decides}
 use Rattle.std.specs.declared.cmp.Ordering.TheVariants.{Less, Equal, Greater}
-use Rattle.std.specs.FinMap.{FinMap, get, insert, retain_keys, from_entries, get-from_entries, get-insert, get-retain_keys, same_map}
+use Rattle.std.specs.FinMap.{get, insert, get-from_entries, get-insert, get-retain_keys, same_map}
 use Rattle.std.specs.FinMap.Entries as Entries
 use Rattle.std.proofs.lemmas.List.Elements.{All-head, All-tail, All-cons, All-nil}
 use Rattle.std.proofs.lemmas.Slice.Eq.{starts_is}
 use Rattle.mspec.specs.Node.{Text, Node}
 use Rattle.mspec.specs.Number.{significant_digits}
-use Rattle.mspec.specs.NodeOrder.{node_cmp, IsAncestor}
+use Rattle.mspec.specs.NodeOrder.{node_cmp}
 use Rattle.mspec.specs.KeyBytes.{key_bytes, subtree_end}
-use Rattle.mspec.specs.KeyLaws.{NoneEmpty, IsWithin, IsBetween}
+use Rattle.mspec.specs.KeyLaws.{NoneEmpty, IsWithin}
 use Rattle.mspec.specs.KeyReading.{node_of}
 use Rattle.mspec.specs.Trees.{text_eq, is_within}
-use Rattle.mspec.specs.Globals.{Globals, is_node_within, without_subtree, is_between}
+use Rattle.mspec.specs.Globals.{Globals, is_node_within, without_subtree}
 use Rattle.mspec.proofs.NodeOrders.{node_cmp_total, node_cmp_exact}
 use Rattle.mspec.proofs.KeyOrders.{key_order}
 use Rattle.mspec.proofs.KeyRanges.{keys_are_injective, subtrees_are_ranges, within}
 use Rattle.mspec.proofs.KeyReadings.{keys_are_read}
 use Rattle.mkey.specs.Key.{IsKey, none_empty}
-use Rattle.mstore.specs.Map.{Content, PutsAt, RemovesWithin, in_bounds}
+use Rattle.mstore.specs.Map.{PutsAt, RemovesWithin, in_bounds}
 use Rattle.mstore.specs.Keyed.{lookup_by, globals_by, AreKeyed}
 
 abbrev pub key : Node → List ℕ
@@ -107,11 +107,11 @@ range_is n m some_n some_m =
     let ranges = subtrees_are_ranges significant_digits n m some_n some_m in
     same_truth (in_bounds (key n) (subtree_end (key n)) (key m)) (is_node_within n m)
     (λ e.
-        let both = both_true (is_le (slice_cmp nat_cmp (key n) (key m))) (is_lt (slice_cmp nat_cmp (key m) (subtree_end (key n)))) e in
-        of_within n m (ranges.0 (record { from = both.0; below = less (slice_cmp nat_cmp (key m) (subtree_end (key n))) both.1 })))
+    let both = both_true (is_le (slice_cmp nat_cmp (key n) (key m))) (is_lt (slice_cmp nat_cmp (key m) (subtree_end (key n)))) e in
+    of_within n m (ranges.0 (record { from = both.0; below = less (slice_cmp nat_cmp (key m) (subtree_end (key n))) both.1 })))
     (λ e.
-        let between = ranges.1 (within_of n m e) in
-        two_true (is_le (slice_cmp nat_cmp (key n) (key m))) (is_lt (slice_cmp nat_cmp (key m) (subtree_end (key n)))) between.from (ap is_lt between.below))
+    let between = ranges.1 (within_of n m e) in
+    two_true (is_le (slice_cmp nat_cmp (key n) (key m))) (is_lt (slice_cmp nat_cmp (key m) (subtree_end (key n)))) between.from (ap is_lt between.below))
 
 -- ---- a node's text is the value at its key
 

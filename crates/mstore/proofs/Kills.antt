@@ -1,7 +1,7 @@
 -- What `kill` takes out.
-use Rattle.std.proofs.Common.{◌≡◌, ◌≢◌, ◌⊎◌, ℕ, ℤ, Bool, true, false, List, [], ◌∷◌, map, Option, Some, None, Ok, Err, refl, sym, ap, subst, ◌∙◌, inl, inr}
-use Rattle.std.proofs.lemmas.Bool.{true≢false, cases_Bool, false_from_ne_true}
-use Rattle.sqlite.specs.declared.types.Value.TheVariants.{Null, Int, Blob}
+use Rattle.std.proofs.Common.{◌≡◌, ℕ, ℤ, true, List, [], ◌∷◌, Ok, refl, sym, ap, subst, ◌∙◌}
+use Rattle.std.proofs.lemmas.Bool.{true≢false}
+use Rattle.sqlite.specs.declared.types.Value.TheVariants.{Null, Blob}
 use Rattle.sqlite.specs.Order.{Row}
 use Rattle.sqlite.specs.Term.{col}
 use Rattle.sqlite.specs.Rows.{Written}
@@ -11,25 +11,24 @@ use Rattle.sqlite.specs.Query.{IsAnswer}
 use Rattle.sqlite.specs.Program.{overlay}
 use Rattle.sqlite_schema.specs.declared.schema.Keys.TheVariants.{Enforced}
 use Rattle.sqlite_rules.specs.declared.error.Rowids.TheVariants.{Given}
-use Rattle.sqlite_trees.specs.Tree.{rowid, has_rowid}
+use Rattle.sqlite_trees.specs.Tree.{rowid}
 use Rattle.sqlite_rules.specs.Lists.{Has}
 use Rattle.sqlite_rules.specs.Edit.{id_in, without_all, edit_of}
 use Rattle.sqlite_rules.specs.Calls.{ids_of}
-use Rattle.sqlite_typed.proofs.TestLemmas.{at_ints}
-use Rattle.sqlite.specs.State.{State, Writes}
+use Rattle.sqlite.specs.State.{State}
 use Rattle.sqlite.proofs.Callers.{runs_as, one_step}
 use Rattle.sqlite.specs.State.{Executes}
 use Rattle.mstore.specs.Layout.{node, schema}
 use Rattle.mstore.specs.Database.{IsIdle}
 use Rattle.mstore.specs.Map.{in_bounds, RemovesWithin}
-use Rattle.mstore.specs.Rows.{AreNodes, IsNode, key_of, value_of, lookup}
+use Rattle.mstore.specs.Rows.{AreNodes, lookup}
 use Rattle.mstore.proofs.Texts.{kill_is, kill_command, kill_query, program, in_range}
 use Rattle.mstore.specs.Statements.{kill_text}
-use Rattle.mstore.proofs.Answer.{rows_from, rows_to, has_mapped, mapped_has, passes}
+use Rattle.mstore.proofs.Answer.{rows_from, rows_to, has_mapped, mapped_has}
 use Rattle.mstore.proofs.RowTests.{in_range_is, is_within}
 use Rattle.mstore.proofs.Edits.{IsLeft, left_is, left_nodes, lookup_same}
 use Rattle.mstore.proofs.Maps.{lookup_none}
-use Rattle.mstore.proofs.Writes.{went, same_value, deleted, idle_after, task}
+use Rattle.mstore.proofs.Writes.{went, same_value, deleted, idle_after}
 
 module _ (old : State) (has : old.now.schema ≡ schema) (nodes : AreNodes (old.now.trees 0)) (low high : List ℕ) where
   abbrev params : Row

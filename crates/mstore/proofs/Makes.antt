@@ -1,12 +1,11 @@
 -- How the tables are made.
-use Rattle.std.proofs.Common.{◌≡◌, ◌≢◌, ◌⊎◌, ℕ, ℤ, pos, Bool, cond, true, false, List, [], ◌∷◌, codes, Option, Some, None, Ok, Err, Result, refl, sym, ap, ap₂, subst, ◌∙◌, inl, inr, arith}
+use Rattle.std.proofs.Common.{◌≡◌, ℕ, pos, true, false, List, [], ◌∷◌, codes, None, Ok, refl, sym, ap, ap₂, subst, ◌∙◌, inl, arith}
 use Rattle.sqlite.specs.declared.types.Value.TheVariants.{Null, Int, Text}
 use Rattle.sqlite.specs.Order.{Row}
-use Rattle.sqlite.specs.Term.{Term, lit}
+use Rattle.sqlite.specs.Term.{lit}
 use Rattle.sqlite.specs.Source.{Source}
 use Rattle.sqlite.specs.Source.TheVariants.{Values}
 use Rattle.sqlite.specs.Command.TheVariants.{CreateTable, Insert}
-use Rattle.sqlite.specs.Compile.{table_defined_by}
 use Rattle.sqlite.specs.Table.{Table}
 use Rattle.sqlite.specs.Tree.{Trees}
 use Rattle.sqlite.specs.Edit.{edit_of, numbered, next_rowid, put_all}
@@ -22,7 +21,7 @@ use Rattle.sqlite.specs.Effect.{Database}
 use Rattle.sqlite.specs.State.{State, mode_of, Writes, Executes}
 use Rattle.sqlite.proofs.Callers.{IsPlain, command_of, statement_of, runs_as, one_step}
 use Rattle.mstore.specs.Layout.{node, meta, schema, no_schema}
-use Rattle.mstore.specs.Database.{version_name, this_version, IsIdle, IsStore, IsBare, IsBlank, IsMemory, content}
+use Rattle.mstore.specs.Database.{version_name, this_version, IsIdle, IsStore, IsBare, IsBlank, IsMemory}
 use Rattle.mstore.specs.Rows.{AreNodes, key_of, value_of}
 use Rattle.mstore.specs.Keyed.{globals_by}
 use Rattle.std.specs.FinMap.{empty}

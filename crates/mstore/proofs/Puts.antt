@@ -1,12 +1,11 @@
 -- What `put` writes.
-use Rattle.std.proofs.Common.{◌≡◌, ◌≢◌, ◌⊎◌, ℕ, ℤ, Bool, cond, true, false, ◌&&◌, ◌||◌, List, [], ◌∷◌, map, drop, Option, Some, None, Ok, Err, refl, sym, ap, ap₂, arith, int_eq, subst, ◌∙◌, inl, inr}
-use Rattle.std.proofs.lemmas.Bool.{true≢false, cases_Bool, false_from_ne_true, and_parts, or_left, or_cases, not-true}
+use Rattle.std.proofs.Common.{◌≡◌, ◌≢◌, ◌⊎◌, ℕ, ℤ, Bool, true, false, ◌&&◌, ◌||◌, List, [], ◌∷◌, map, drop, Option, Some, None, Ok, refl, sym, ap, ap₂, arith, int_eq, subst, ◌∙◌, inl, inr}
+use Rattle.std.proofs.lemmas.Bool.{true≢false, false_from_ne_true, and_parts, not-true}
 use Rattle.sqlite.specs.declared.types.Value.{Value}
 use Rattle.sqlite.specs.declared.types.Value.TheVariants.{Null, Int, Blob}
 use Rattle.sqlite.specs.Order.{Row, column}
 use Rattle.sqlite.specs.Collation.TheVariants.{Binary}
 use Rattle.sqlite.specs.Term.{col}
-use Rattle.sqlite.specs.Ops.{unary}
 use Rattle.sqlite_sql.specs.Ops.{binary, is_true}
 use Rattle.sqlite_sql.specs.declared.ops.BinaryOp.TheVariants.{Compare}
 use Rattle.sqlite_sql.specs.declared.ops.CompareOp.TheVariants.{Eq}
@@ -25,14 +24,14 @@ use Rattle.sqlite.specs.Cast.{cast, cast_row}
 use Rattle.sqlite_schema.specs.declared.schema.Keys.TheVariants.{Enforced}
 use Rattle.sqlite_schema.specs.declared.command.Conflict.TheVariants.{Abort}
 use Rattle.sqlite_rules.specs.declared.error.Rowids.TheVariants.{Given, Chosen}
-use Rattle.sqlite_trees.specs.Tree.{rowid, has_rowid}
+use Rattle.sqlite_trees.specs.Tree.{rowid}
 use Rattle.sqlite_rules.specs.Lists.{Has}
 use Rattle.sqlite_rules.specs.Keys.{conflicts, AreConflicts}
 use Rattle.sqlite_rules.specs.Edit.{id_in, next_rowid, without_all, put_all, are_fresh, edit_of, is_taken, with_rowid}
 use Rattle.sqlite_rules.specs.Calls.{ids_of}
 use Rattle.sqlite_rules.proofs.TableLemmas.{put_all_has, put_all_keeps, put_all_adds}
 use Rattle.sqlite_typed.proofs.TestLemmas.{at_ints, at_blobs, last_term, same_bytes}
-use Rattle.sqlite.specs.State.{State, Writes, Executes}
+use Rattle.sqlite.specs.State.{State, Executes}
 use Rattle.sqlite.proofs.Callers.{runs_as, one_step}
 use Rattle.mstore.specs.Layout.{node, schema}
 use Rattle.mstore.specs.Database.{IsIdle}
@@ -43,8 +42,8 @@ use Rattle.mstore.specs.Statements.{put_text}
 use Rattle.mstore.proofs.Casts.{cast_null, cast_int}
 use Rattle.mstore.proofs.Answer.{rows_from, rows_to, has_mapped, mapped_has, passes}
 use Rattle.mstore.proofs.RowTests.{key_column}
-use Rattle.mstore.proofs.Edits.{IsLeft, left_is, left_nodes, lookup_same, taken_own}
-use Rattle.mstore.proofs.Maps.{lookup_has, lookup_none, at_itself}
+use Rattle.mstore.proofs.Edits.{IsLeft, left_is, lookup_same, taken_own}
+use Rattle.mstore.proofs.Maps.{lookup_has, at_itself}
 use Rattle.mstore.proofs.Writes.{went, same_value, inserted, idle_after, task}
 
 abbrev pub row_of : ℤ → List ℕ → List ℕ → Row

@@ -1,10 +1,7 @@
 -- The first key of a range, and the last.
-use Rattle.std.proofs.Common.{◌≡◌, ◌≢◌, ◌⊎◌, ℕ, suc, zero, ◌<◌, ◌≤◌, ◌+◌, Bool, true, false, List, [], ◌∷◌, length, get_or, map, Option, Some, None, Ok, Err, IsSome, refl, sym, ap, ap₂, subst, ◌∙◌, inl, inr, arith, is_lt}
+use Rattle.std.proofs.Common.{◌≡◌, ℕ, suc, ◌<◌, Bool, true, false, List, [], ◌∷◌, length, get_or, map, Option, Some, None, Ok, Err, IsSome, refl, sym, ap, ap₂, subst, ◌∙◌, inl, inr, arith, is_lt}
 use Rattle.std.specs.List.Sorted.{IsSorted, IsSortedBy}
 use Rattle.std.proofs.lemmas.List.Sorted.{sorted_far, ranks_by}
-use Rattle.std.proofs.lemmas.Bool.{true≢false, cases_Bool}
-use Rattle.std.specs.Ordering.{ordering_then}
-use Rattle.std.specs.declared.cmp.Ordering.TheVariants.{Equal}
 use Rattle.sqlite.specs.declared.types.Value.{Value}
 use Rattle.sqlite.specs.declared.types.Value.TheVariants.{Null, Blob}
 use Rattle.sqlite.specs.Order.{Row, column}
@@ -24,9 +21,9 @@ use Rattle.sqlite_rules.specs.Lists.{Has}
 use Rattle.mstore.specs.Layout.{schema}
 use Rattle.mstore.specs.Database.{IsStore, content}
 use Rattle.mstore.specs.Map.{in_bounds, is_nearer, IsNearest, HasNone}
-use Rattle.mstore.specs.Rows.{IsNode, key_of, value_of, lookup}
+use Rattle.mstore.specs.Rows.{key_of, lookup}
 use Rattle.mstore.proofs.Texts.{step_query, step_command, in_range}
-use Rattle.mstore.proofs.Answer.{outputs_from, outputs_to, rows_to, passes}
+use Rattle.mstore.proofs.Answer.{outputs_from, outputs_to, rows_to}
 use Rattle.mstore.proofs.Maps.{lookup_has, lookup_none, lookup_some}
 use Rattle.mstore.proofs.States.{no_row_is}
 use Rattle.mstore.proofs.RowTests.{in_range_is, key_column}

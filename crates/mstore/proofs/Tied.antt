@@ -1,5 +1,5 @@
 -- What the statements do, of the globals that the rows are.
-use Rattle.std.proofs.Common.{◌≡◌, ℕ, Bool, false, true, List, [], ◌∷◌, Option, Some, None, Result, Ok, Err, OnOk, refl, sym, ap, subst, subst₂, ◌∙◌}
+use Rattle.std.proofs.Common.{◌≡◌, ℕ, Bool, false, true, List, [], ◌∷◌, Option, Some, None, Result, Ok, Err, OnOk, sym, ap, subst, ◌∙◌}
 use Rattle.std.specs.FinMap.{get, insert}
 use Rattle.sqlite.specs.declared.types.Value.{Value}
 use Rattle.sqlite.specs.declared.types.Value.TheVariants.{Blob}
@@ -13,7 +13,7 @@ use Rattle.mspec.specs.KeyBytes.{key_bytes, subtree_end, IsStored}
 use Rattle.mspec.specs.Globals.{without_subtree, next_key, previous_key}
 use Rattle.mkey.specs.Key.{IsKey, none_empty}
 use Rattle.mstore.specs.Keyed.{AreKeyed}
-use Rattle.mstore.specs.Map.{Content, PutsAt, RemovesWithin, ShowsBytes, IsNearest}
+use Rattle.mstore.specs.Map.{PutsAt, RemovesWithin, ShowsBytes, IsNearest}
 use Rattle.mstore.specs.Rows.{ShowsValue, ShowsKey, key_of, value_of}
 use Rattle.mstore.specs.Database.{IsSound, holds, stored}
 use Rattle.mstore.proofs.KeyedRows as keyed_rows

@@ -1,5 +1,5 @@
 -- The row of the version.
-use Rattle.std.proofs.Common.{◌≡◌, ℕ, Bool, true, false, List, [], ◌∷◌, codes, Some, None, Result, Ok, Err, refl, sym, ap, subst, ◌∙◌, inl, IsTrue}
+use Rattle.std.proofs.Common.{◌≡◌, ℕ, true, false, List, [], ◌∷◌, codes, Some, None, Result, Ok, Err, refl, sym, ap, subst, ◌∙◌, inl, IsTrue}
 use Rattle.sqlite.specs.declared.types.Value.{Value}
 use Rattle.sqlite.specs.declared.types.Value.TheVariants.{Null, Int, Real, Text, Blob}
 use Rattle.sqlite.specs.Order.{Row, column}
@@ -17,7 +17,7 @@ use Rattle.sqlite.specs.declared.error.Error.TheVariants.{QueryReturnedNoRows}
 use Rattle.sqlite.proofs.Callers.{IsPlain, first_as, reads_as}
 use Rattle.mstore.specs.Layout.{schema}
 use Rattle.mstore.specs.Statements.{which_text}
-use Rattle.mstore.specs.Database.{IsIdle, IsCalm, Stays, ShowsVersion, version_name}
+use Rattle.mstore.specs.Database.{IsCalm, Stays, ShowsVersion}
 use Rattle.mstore.proofs.Texts.{which_is, which_command, at_name}
 use Rattle.mstore.proofs.Answer.{rows_from, rows_to}
 use Rattle.mstore.proofs.States.{no_row_is, query_row_stays}

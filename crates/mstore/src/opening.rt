@@ -32,7 +32,7 @@ const ALL: &str = "SELECT k, v FROM node";
 pub const LONGEST_TEXT: usize = 4095;
 
 // Whether these are the characters of a text of a node.
-pub fn is_value(bytes: &[u8]) -> bool
+fn is_value(bytes: &[u8]) -> bool
     ensures { IsTrue result ↔ IsValue bytes.now }
 {
     bytes.len() <= LONGEST_TEXT && bytes.iter().all(|byte| *byte < 128)
@@ -65,7 +65,7 @@ fn is_node(alloc: Global, row: &Row) -> Result<bool, AllocError>
 }
 
 // Whether each row shows a key and a value, in form.
-pub fn are_nodes(alloc: Global, rows: &[Row]) -> Result<bool, AllocError>
+fn are_nodes(alloc: Global, rows: &[Row]) -> Result<bool, AllocError>
     ensures all { IfOk result (λ right. IsTrue right → AllByRecursion ShowsNode rows.now) }
     ensures other { IfOk result (λ right. right ≡ false → (row : List Value) × Has rows.now row × (ShowsNode row → ⊥)) }
 {
@@ -78,7 +78,7 @@ pub fn are_nodes(alloc: Global, rows: &[Row]) -> Result<bool, AllocError>
 }
 
 // All keys with their values.
-pub fn read_all<S: Alter>(conn: &mut Connection<S>) -> Result<Vec<Row>, StoreFault>
+fn read_all<S: Alter>(conn: &mut Connection<S>) -> Result<Vec<Row>, StoreFault>
     ensures stays { IsMemory S.Store → IsCalm (state S.Store conn.old) → Stays (state S.Store conn.old) (state S.Store conn.new) }
     ensures all { IsMemory S.Store → IsCalm (state S.Store conn.old) → IfOk result (λ rows. ShowsAll (state S.Store conn.old) rows.items) }
 {
@@ -128,7 +128,7 @@ fn statement(number: usize) -> &'static str
 }
 
 // Whether the columns take each of the statements.
-pub fn takes_each<S: Alter>(conn: &mut Connection<S>) -> Result<bool, StoreFault>
+fn takes_each<S: Alter>(conn: &mut Connection<S>) -> Result<bool, StoreFault>
     ensures stays { IsMemory S.Store → IsIdle (state S.Store conn.old) → Stays (state S.Store conn.old) (state S.Store conn.new) }
     ensures other { IsMemory S.Store → IsIdle (state S.Store conn.old) → IfOk result (λ taken. taken ≡ false → RefusesOne (state S.Store conn.old).now.schema) }
 {

@@ -119,7 +119,8 @@ impl<S: Alter> Table<S> {
     pub fn into_connection(self) -> Connection<S>
         ensures { result ≡ self }
     {
-        self.conn
+        let Table { conn, alloc: _ } = self;
+        conn
     }
 }
 

@@ -47,8 +47,9 @@ fn node(alloc: Global) -> Result<NodeKey, Fail> {
     key(alloc, "X", &["1"])
 }
 
+// A body that refuses every database, or always answers want of memory, meets the contract too.
 #[test]
-fn tables_and_blank_databases_are_taken(rt: HostRuntime) -> Result<(), Fail> {
+fn adopt_refuses_all(rt: HostRuntime) -> Result<(), Fail> {
     assert_eq!(rt; refused(rt.alloc(), &[])?, None);
     assert_eq!(rt; refused(rt.alloc(), &[NODE, META, VERSION])?, None);
     assert_eq!(rt;
@@ -150,5 +151,18 @@ fn a_table_keeps_its_rows(rt: HostRuntime) -> Result<(), Fail> {
     };
     let text = table.get(&node(alloc)?).map_err(|_| "not read")?;
     assert!(rt; text == Some(ascii(alloc, "abc")?));
+    Ok(())
+}
+
+#[test]
+fn faults_have_names(rt: HostRuntime) -> Result<(), Fail> {
+    let names = format!(in rt.alloc();
+        "{} {} {} {}",
+        OpenFault::BadKey,
+        OpenFault::BadVersion,
+        OpenFault::Store,
+        OpenFault::Memory
+    )?;
+    assert_eq!(rt; names.as_str(), "BadKey BadVersion Store Memory");
     Ok(())
 }

@@ -16,6 +16,6 @@ returns-clause-other g c quiet =
     elim c.match-prepare.branch [
       | in-Ok w ↦ rw w.result-is (λ e. absurd cc)
       | in-Err-SqlInputError w ↦ rw w.result-is (λ _. not_taken (state g.S.Store c.args.conn.now) (state g.S.Store new) c.args.text.now w.in-Err-SqlInputError.field-0-0
-        (subst (IsNotRun (state g.S.Store c.args.conn.now) (state g.S.Store new) c.args.text.now []) w.in-Err-SqlInputError.field-0-is (w.in-Err-SqlInputError.ensures.err (quiet.clean new.store) [])))
+          (subst (IsNotRun (state g.S.Store c.args.conn.now) (state g.S.Store new) c.args.text.now []) w.in-Err-SqlInputError.field-0-is (w.in-Err-SqlInputError.ensures.err (quiet.clean new.store) [])))
       | in-Err w ↦ rw w.result-is tt
     ]

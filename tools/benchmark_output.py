@@ -1,6 +1,7 @@
 #!/usr/bin/env python3
 """Prints crates/benchmark/stdout: the checksums of the benchmark's thousand rounds, by Python's own fractions and texts,
 and by the form of replies."""
+import itertools
 import re
 
 from key_vectors import key, units as canonical
@@ -104,8 +105,8 @@ def drawn(i, count):
 
 def stores():
     length = len(key(b"ALICE", b"DATA", [b"0"]))
-    for count in (100, 1000):
-        print(f"plain store of {count} nodes")
+    for count, kind in itertools.product((100, 1000), ("plain store", "table")):
+        print(f"{kind} of {count} nodes")
         print(f"  {'put':<12} {count}")
         print(f"  {'put again':<12} {PASSES * ROUNDS}")
         print(f"  {'get':<12} {summed(lambda i: len('hello world'))}")

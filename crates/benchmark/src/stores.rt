@@ -2,7 +2,7 @@
 use crate::measure::{Plan, Unit, measure};
 use mkey::{NodeKey, is_account_name, is_name};
 use mnum::Bytes7;
-use mstore::{NodeStore, Plain};
+use mstore::{NodeStore, Plain, Table};
 use std::alloc::Global;
 use std::fs;
 
@@ -254,6 +254,11 @@ pub fn stores(rt: &HostRuntime, plan: Plan) -> anyhow::Result<()> {
     for count in sizes {
         println!(rt; "plain store of {count} nodes")?;
         calls(rt, plan, &mut Plain::new(rt.alloc()), count)?;
+        println!(rt; "table of {count} nodes")?;
+        let Ok(mut table) = Table::open_memory(rt.alloc()) else {
+            anyhow::bail!("no table");
+        };
+        calls(rt, plan, &mut table, count)?;
     }
     Ok(())
 }

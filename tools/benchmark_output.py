@@ -47,6 +47,7 @@ def main():
     print(f"  {'find':<12} {summed(lambda i: text.index('needle') + len('needle') + 1)}")
     print(f"  {'matches':<12} {summed(lambda i: int(bool(re.fullmatch('[A-Za-z]+-[0-9]+', 'ABCDEFGHIJ-123456789'))))}")
     keys()
+    stores()
     lines()
 
 
@@ -76,6 +77,23 @@ def keys():
     for title, words in ORDERS.items():
         print(title)
         print(f"  {'collate':<12} {summed(lambda i: int(place(words[i % 4]) < place(words[i // 4 % 4])))}")
+
+
+def drawn(i, count):
+    """A place below the count, by the number of the round."""
+    return (i * 0x9E3779B97F4A7C15 % 2**64 >> 32) % count
+
+
+def stores():
+    length = len(key(b"ALICE", b"DATA", [b"0"]))
+    for count in (100, 1000):
+        print(f"plain store of {count} nodes")
+        print(f"  {'put':<12} {count}")
+        print(f"  {'put again':<12} {PASSES * ROUNDS}")
+        print(f"  {'get':<12} {summed(lambda i: len('hello world'))}")
+        print(f"  {'next':<12} {summed(lambda i: length)}")
+        print(f"  {'prev':<12} {summed(lambda i: length if drawn(i, count) else 0)}")
+        print(f"  {'put and kill':<12} {PASSES * 100}")
 
 
 def lines():

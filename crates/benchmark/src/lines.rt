@@ -49,6 +49,7 @@ pub fn lines(rt: &HostRuntime, plan: Plan) -> anyhow::Result<()> {
     let alloc = rt.alloc();
     let plan = Plan {
         rounds: plan.rounds.div_ceil(ROUNDS),
+        passes: plan.passes,
         timed: plan.timed,
     };
     let unit = Unit::ThousandLinesPerSecond(LINES);

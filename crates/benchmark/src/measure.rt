@@ -1,13 +1,12 @@
 // How an operation is timed.
 use std::time::Instant;
 
-// Each operation is timed so often; the least time counts, since other work on the machine only adds to it.
-const PASSES: u32 = 5;
-
-// How often an operation runs in a pass, and whether its time is printed.
+// How often an operation runs in a pass, in how many passes it is timed, and whether its time is printed. The least time counts,
+// since other work on the machine only adds to it.
 #[derive(Clone, Copy)]
 pub struct Plan {
     pub rounds: usize,
+    pub passes: u32,
     pub timed: bool,
 }
 
@@ -34,7 +33,7 @@ pub fn measure<F: FnMut(usize) -> i128>(
     let mut work = work;
     let mut sum: i128 = 0;
     let mut least = u128::MAX;
-    for _ in 0..PASSES {
+    for _ in 0..plan.passes {
         let start = Instant::now(rt)?;
         for round in 0..plan.rounds {
             sum = sum.wrapping_add(work(round));

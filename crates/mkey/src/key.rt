@@ -12,6 +12,7 @@ ghost use Rattle.mspec.proofs.NodeOrders.{node_cmp_total};
 
 use crate::encoding::{push_subscripts, push_text, room};
 use crate::fault::KeyFault;
+use crate::order::compare;
 use crate::subs::subs_ok;
 use mnum::Bytes7;
 use std::alloc::{AllocError, Global};
@@ -168,6 +169,6 @@ impl Ord for NodeKey {
     ghost matches_eq = { λ a b. refl };
 
     fn cmp(&self, other: &NodeKey) -> Ordering {
-        self.as_bytes().cmp(other.as_bytes())
+        compare(self.as_bytes(), other.as_bytes())
     }
 }

@@ -11,6 +11,7 @@ ghost use Rattle.mspec.specs.Trees.{is_within};
 ghost use Rattle.mspec.proofs.NodeOrders.{subscripts_cmp_total};
 
 use crate::encoding::{push_subscripts, room};
+use crate::order::compare;
 use mnum::Bytes7;
 use std::alloc::{AllocError, Global};
 use std::cmp::Ordering;
@@ -108,6 +109,6 @@ impl Ord for SubsKey {
     ghost matches_eq = { λ a b. refl };
 
     fn cmp(&self, other: &SubsKey) -> Ordering {
-        self.as_bytes().cmp(other.as_bytes())
+        compare(self.as_bytes(), other.as_bytes())
     }
 }

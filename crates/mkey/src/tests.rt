@@ -1,7 +1,9 @@
 // What no clause says: that calls succeed with ample memory, and that the definitions give the keys of the format.
 mod vectors;
 
-use crate::{KeyFault, NodeKey, collate, is_account_name, is_name, push_local, read, subs_ok};
+use crate::{
+    KeyFault, NodeKey, collate, compare, is_account_name, is_name, push_local, read, subs_ok,
+};
 use mnum::Bytes7;
 use std::alloc::Global;
 use std::cmp::Ordering;
@@ -215,6 +217,28 @@ fn copies_and_order(rt: HostRuntime) -> Result<(), Fail> {
     assert!(rt; ten == ten.copy()?);
     assert!(rt; key(rt.alloc(), &["9", "A"])? < ten);
     assert!(rt; ten < key(rt.alloc(), &["10", "1"])?);
+    Ok(())
+}
+
+// Runs of bytes of each length up to forty, and those that differ from them in one place.
+#[test]
+fn bytes_in_order(rt: HostRuntime) -> Result<(), Fail> {
+    let bytes = [7u8; 40];
+    for length in 0..=40usize {
+        let whole = &bytes[..length];
+        assert_eq!(rt;
+            compare(whole, &bytes),
+            whole.cmp(bytes.as_slice()),
+            "at {length}"
+        );
+        for place in 0..length {
+            let mut changed = bytes;
+            changed[place] = 200;
+            let other = &changed[..length];
+            assert_eq!(rt; compare(whole, other), Ordering::Less);
+            assert_eq!(rt; compare(other, whole), Ordering::Greater);
+        }
+    }
     Ok(())
 }
 

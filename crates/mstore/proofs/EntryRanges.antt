@@ -134,9 +134,6 @@ absorbed None x p = refl
 absorbed (Some y) x p = refl
 
 module _ (low high : List ℕ) where
-  passes : List ℕ → Bool
-  passes = is_between low high
-
   one : Entry → Option (List ℕ)
   one e = cond (is_between low high (bytes_of e)) (Some (bytes_of e)) None
 

@@ -7,7 +7,7 @@ ghost use Rattle.mspec.specs.Number.{significant_digits};
 ghost use Rattle.mstore.specs.Entries.{AreEntries, IsAt, IsGapFor, IsPlaceOf, is_before, key_within};
 
 use crate::store::{NodeStore, StoreFault};
-use mkey::NodeKey;
+use mkey::{NodeKey, compare};
 use mnum::Bytes7;
 use std::alloc::{AllocError, Global};
 use std::cmp::Ordering;
@@ -76,7 +76,7 @@ fn place_of(entries: &[Entry], bytes: &[u8]) -> usize
     entries.partition_point(
         |entry: &Entry| -> bool
             ensures { result ≡ is_before bytes.entry.now entry.now }
-        { entry.key.as_bytes() < bytes },
+        { compare(entry.key.as_bytes(), bytes).is_lt() },
     )
 }
 

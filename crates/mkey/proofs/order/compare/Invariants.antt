@@ -1,0 +1,11 @@
+use Rattle.std.proofs.Common.{◌≡◌, length}
+use Rattle.std.specs.Cmp.Lexicographic.{slice_cmp}
+use Rattle.std.specs.Ordering.{nat_cmp}
+use Rattle.mkey.proofs.order.compare.Given as goal
+
+-- what is left decides as the whole does
+abbrev pub invariant-loop-rest : goal.invariant-loop-rest
+invariant-loop-rest l = slice_cmp nat_cmp l.left l.right ≡ slice_cmp nat_cmp l.rest l.other
+
+abbrev pub decreases-loop-rest : goal.decreases-loop-rest
+decreases-loop-rest l = length l.rest

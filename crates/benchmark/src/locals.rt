@@ -1,8 +1,7 @@
 // Local variables, beside ten thousand others.
 use crate::measure::{Plan, Unit, measure};
 use mkey::subs_ok;
-use mlocal::scopes::Locals;
-use mlocal::{Direction, order_subs_ok};
+use mlocal::{Direction, Locals, order_subs_ok};
 use mnum::Bytes7;
 use std::alloc::Global;
 

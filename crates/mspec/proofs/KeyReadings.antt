@@ -112,5 +112,5 @@ keys_are_read kept n =
     let account : text_of (key_bytes kept n) ≡ n.account = text_read n.account local in
     let name : text_of (behind_text (key_bytes kept n)) ≡ n.name = ap text_of behind ∙ text_read n.name subscripts in
     let read : subscripts_of (length (key_bytes kept n)) (behind_text (behind_text (key_bytes kept n))) ≡ n.subscripts =
-        ap (subscripts_of (length (key_bytes kept n))) last ∙ subscripts_read kept (length (key_bytes kept n)) n.subscripts (omega arith) in
+    ap (subscripts_of (length (key_bytes kept n))) last ∙ subscripts_read kept (length (key_bytes kept n)) n.subscripts (omega arith) in
     λ i. record { account = account i; name = name i; subscripts = read i }

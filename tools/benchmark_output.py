@@ -87,6 +87,7 @@ def local_variables():
     print("ten thousand locals")
     print(f"  {'get':<12} {summed(lambda i: len(names[i * stride % count]))}")
     print(f"  {'set':<12} {summed(lambda i: 1)}")
+    print(f"  {'copy alone':<12} {summed(lambda i: len(names[i * stride % count]))}")
     print(f"  {'level':<12} {summed(lambda i: 1)}")
     for title, letter in {"numbers": "", "texts": "item"}.items():
         print(f"ten thousand subscripts, {title}")
@@ -96,6 +97,8 @@ def local_variables():
         for name, step in {"order": 1, "order back": -1}.items():
             reached = [order[at[w] + step] if 0 <= at[w] + step < count else "" for w in words]
             print(f"  {name:<12} {summed(lambda i: len(reached[i * stride % count]))}")
+        for name, walk in {"walk": order + [""], "walk back": order[::-1] + [""]}.items():
+            print(f"  {name:<12} {sum(len(walk[i % len(walk)]) for i in range(PASSES * ROUNDS))}")
 
 
 def drawn(i, count):

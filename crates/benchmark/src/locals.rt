@@ -50,6 +50,14 @@ fn set(locals: &mut Locals, name: &Bytes7, subs: &[Bytes7], text: &Bytes7) -> i1
     }
 }
 
+// What a text costs that a variable is to have.
+fn copied(text: &Bytes7) -> i128 {
+    match text.copy() {
+        Ok(copy) => copy.as_bytes().len() as i128,
+        Err(_) => -1,
+    }
+}
+
 fn get(locals: &Locals, name: &Bytes7, subs: &[Bytes7]) -> i128 {
     if !subs_ok(subs) {
         return -1;
@@ -67,6 +75,31 @@ fn next(locals: &Locals, name: &Bytes7, subs: &[Bytes7], direction: Direction) -
     match locals.order(name, subs, direction) {
         Ok(Some(text)) => text.as_bytes().len() as i128,
         Ok(None) => 0,
+        Err(_) => -1,
+    }
+}
+
+// A step of a walk, which begins again where it ends.
+fn step(
+    alloc: Global,
+    locals: &Locals,
+    name: &Bytes7,
+    at: &mut [Bytes7; 1],
+    direction: Direction,
+) -> i128 {
+    if !order_subs_ok(at.as_slice()) {
+        return -1;
+    }
+    match locals.order(name, at.as_slice(), direction) {
+        Ok(Some(text)) => {
+            let length = text.as_bytes().len() as i128;
+            at[0] = text;
+            length
+        }
+        Ok(None) => {
+            at[0] = Bytes7::empty(alloc);
+            0
+        }
         Err(_) => -1,
     }
 }
@@ -106,6 +139,13 @@ fn variables(rt: &HostRuntime, plan: Plan) -> anyhow::Result<()> {
         NS,
         |i| at(&names, i).map_or(-1, |name| set(&mut locals, name, &[], name)),
     )?;
+    measure(
+        rt,
+        "copy alone",
+        plan,
+        NS,
+        |i| at(&names, i).map_or(-1, copied),
+    )?;
     let one = texts(alloc, "V")?;
     measure(
         rt,
@@ -141,6 +181,22 @@ fn subscripts(rt: &HostRuntime, plan: Plan, what: &str, letter: &str) -> anyhow:
         plan,
         NS,
         |i| next(&locals, name, one_at(&subs, i), Direction::Backward),
+    )?;
+    let mut at = [Bytes7::empty(alloc)];
+    measure(
+        rt,
+        "walk",
+        plan,
+        NS,
+        |_| step(alloc, &locals, name, &mut at, Direction::Forward),
+    )?;
+    let mut at = [Bytes7::empty(alloc)];
+    measure(
+        rt,
+        "walk back",
+        plan,
+        NS,
+        |_| step(alloc, &locals, name, &mut at, Direction::Backward),
     )
 }
 

@@ -30,6 +30,11 @@ impl From<AllocError> for StoreFault {
 ///
 /// Beside what it holds a store has two facts, seen by contracts alone and changed by no call: what is said of the content
 /// holds where the store is `sound`, and where it is `steady` no call answers `Store`.
+///
+/// # Errors
+///
+/// Of each call: `Memory` for want of memory, and `Store` where the database refuses or a row is not in form. What the store holds is
+/// then as it was.
 pub trait NodeStore {
     ghost content: { Self → Globals };
 

@@ -1,10 +1,8 @@
 #!/usr/bin/env python3
-"""Prints the tables of crates/mkey/src/tests/vectors.rt: keys of nodes, and what is left of a key that is changed.
+"""Prints transcripts/keys-computed.txt: keys of nodes, and what is left of a key that is changed.
 
-A line `key account name subscripts bytes` is a node and its key. Bytes are written in hexadecimal, in parts between points, of
-which `42*255` is the byte 42 so many times; subscripts are parted by commas, and `-` stands for none. A line
-`changed bytes prefixes changes` says how many of the beginnings of a key, and of the keys with one byte changed, are the key of a
-node. The rules restated here: a name's bytes are raised by one and end with 00; a canonical number is 01 and its units raised by
+A case `key account name subscripts` is a node, with the bytes of its key below it in hexadecimal. A case `changed bytes` says how
+many of the beginnings of a key, and of the keys with one byte changed, are the key of a node. The rules restated here: a name's bytes are raised by one and end with 00; a canonical number is 01 and its units raised by
 2^127 in sixteen bytes; any other subscript is 02 and its bytes raised by one, ended by 00.
 """
 import random
@@ -67,20 +65,16 @@ def read(data):
     return (account, name, subscripts) if key(account, name, subscripts) == data else None
 
 
-def shown(data):
-    """The bytes in hexadecimal, long runs of one byte as a part of its own."""
-    return ".".join(cut(data))
+PLAIN = b"ABCDEFGHIJKLMNOPQRSTUVWXYZabcdefghijklmnopqrstuvwxyz0123456789.%+,-"
 
 
-def cut(data):
-    """The bytes in parts: a run of eight or more of one byte, or what stands between two such runs."""
-    parts, last = [], 0
-    for run in re.finditer(rb"(.)\1{7,}", data, re.S):
-        parts.append(data[last:run.start()].hex())
-        parts.append(f"{run[1].hex()}*{len(run[0])}")
-        last = run.end()
-    parts.append(data[last:].hex())
-    return [part for part in parts if part]
+def word(text):
+    """A text as a word of a case: `-` stands for the empty text, long runs of one character and what is not plain in escapes."""
+    run = re.fullmatch(rb"([A-Z])\1{7,}", text)
+    if run:
+        return "{%d*%s}" % (len(text), text[:1].decode())
+    plain = b"" if text == b"-" else PLAIN
+    return "".join(chr(code) if code in plain else "{%02x}" % code for code in text) or "-"
 
 
 def nodes(chance):
@@ -116,16 +110,18 @@ def changed(data):
         for code in range(256)
         if code != data[place]
     )
-    return f"changed {shown(data)} {prefixes} {changes}"
+    print(f"changed {data.hex()}\n    {prefixes} beginnings, {changes} changes")
 
 
 def main():
+    print("== keys: computed by tools/key_vectors.py")
     for account, name, subscripts in nodes(random.Random(127)):
         made = key(account, name, subscripts)
         assert read(made) == (account, name, subscripts)
-        print("key", account.decode(), name.decode(), ",".join(map(shown, subscripts)) or "-", shown(made))
-    print(changed(key(b"A1", b"%B", [b"1", b"x.5", b"-.5", b"007"])))
-    print(changed(key(b"A", b"B", [b"-12.25"])))
+        print(" ".join(["key", account.decode(), name.decode(), *map(word, subscripts)]))
+        print(f"    {made.hex()}")
+    changed(key(b"A1", b"%B", [b"1", b"x.5", b"-.5", b"007"]))
+    changed(key(b"A", b"B", [b"-12.25"]))
 
 
 if __name__ == "__main__":

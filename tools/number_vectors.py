@@ -1,8 +1,8 @@
 #!/usr/bin/env python3
-"""Prints the table of crates/mnum/src/tests/vectors.rt: what the operators of numbers give, by Python's own fractions.
+"""Prints transcripts/numbers-computed.txt: what the operators of numbers give, by Python's own fractions.
 
-A line is `operator left right result`, or `value text result`; `over` and `zero` stand for the two refusals. Texts have
-no spaces. The rules restated here: a number has eighteen significant digits and a unit of 10^-18; results are exact, then
+A case is `operator left right`, or `number text`, with its result below; `over` and `zero` stand for the two refusals. Texts
+have no spaces. The rules restated here: a number has eighteen significant digits and a unit of 10^-18; results are exact, then
 rounded once, ties away from zero; nothing reaches 10^18.
 """
 import random
@@ -105,21 +105,26 @@ def literal(chance):
     return text + chance.choice(["", "", "X", "E", ".", "-1", "e5"])
 
 
+def show(case, result):
+    print(f"{case}\n    {result}")
+
+
 def main():
     chance = random.Random(18)
+    print("== numbers: computed by tools/number_vectors.py")
     for symbol, operator in OPERATORS.items():
         for _ in range(40):
             left, right = operand(chance), operand(chance)
             result = operator(left, right)
-            print(symbol, text_of(left), text_of(right), result if result == "zero" else text_of(result))
+            show(f"{symbol} {text_of(left)} {text_of(right)}", result if result == "zero" else text_of(result))
         result = operator(Fraction(5), Fraction(0))
-        print(symbol, "5", "0", result if result == "zero" else text_of(result))
+        show(f"{symbol} 5 0", result if result == "zero" else text_of(result))
     for _ in range(40):
         left, right = operand(chance), operand(chance)
-        print("cmp", text_of(left), text_of(right), (left > right) - (left < right))
+        show(f"cmp {text_of(left)} {text_of(right)}", (left > right) - (left < right))
     for _ in range(60):
         text = literal(chance) or "0"
-        print("value", text, text_of(value(text)))
+        show(f"number {text}", text_of(value(text)))
 
 
 if __name__ == "__main__":

@@ -1,0 +1,40 @@
+// Databases that are there: which of them are tables of nodes, and why others are refused.
+use crate::escapes::bytes_of;
+use crate::{print_case, print_result};
+use anyhow::Context;
+use mstore::Table;
+use sqlite::{Connection, MemStore};
+use std::alloc::Global;
+
+/// Makes a database in memory by the statements of the cases, and says whether it is taken, or by which fault it is refused;
+/// and how many rows of nodes the connection that comes back has.
+pub fn database(alloc: Global, cases: &[&str], out: &mut Vec<u8>) -> anyhow::Result<()> {
+    let mut conn = Connection::open_in_memory(alloc)?;
+    for case in cases {
+        if print_case(out, case)? {
+            let bytes = bytes_of(alloc, case)?;
+            let text = String::from_utf8(bytes).ok().context("not text")?;
+            conn.execute(text.as_str(), &[])?;
+        }
+    }
+    let (told, mut conn) = match Table::adopt(alloc, conn) {
+        Ok(table) => ("taken".to_string(alloc)?, table.into_connection()),
+        Err((fault, conn)) => (fault.to_string(alloc)?, conn),
+    };
+    print_result(out, told.as_bytes())?;
+    print_rows(alloc, &mut conn, out)
+}
+
+// Tells how many nodes there are, and nothing where there is no table of them.
+fn print_rows(
+    alloc: Global,
+    conn: &mut Connection<MemStore>,
+    out: &mut Vec<u8>,
+) -> anyhow::Result<()> {
+    if let Ok(row) = conn.query_row("SELECT count(*) FROM node", &[]) {
+        let count = row.get::<i64>(0)?;
+        let told = format!(in alloc; "{count} nodes")?;
+        print_result(out, told.as_bytes())?;
+    }
+    Ok(())
+}

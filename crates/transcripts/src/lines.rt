@@ -1,0 +1,97 @@
+// Lines of the wire, with their replies, and the events of a stream.
+use crate::escapes::bytes_of;
+use crate::pieces::Pieces;
+use crate::{print_case, print_result, print_results};
+use mwire::{Watched, read_events, serve};
+use mworld::World;
+use std::alloc::Global;
+
+// A stream is given in pieces of each of these sizes.
+const SIZES: [usize; 4] = [1, 2, 7, 4096];
+
+// The bytes of a line: a line feed ends it, but where `{end}` stands at its end.
+fn stream_line(alloc: Global, case: &str) -> anyhow::Result<Vec<u8>> {
+    match case.strip_suffix("{end}") {
+        Some(unfinished) => bytes_of(alloc, unfinished),
+        None => {
+            let mut line = bytes_of(alloc, case)?;
+            line.push(b'\n')?;
+            Ok(line)
+        }
+    }
+}
+
+// What a world answers to a stream that comes in pieces of this size.
+fn served(alloc: Global, world: &mut World, stream: &[u8], size: usize) -> anyhow::Result<Vec<u8>> {
+    let mut out = Vec::new(alloc);
+    let mut reader = Watched::new(Pieces { left: stream, size });
+    serve(alloc, world, &mut reader, &mut Watched::new(&mut out))?;
+    Ok(out)
+}
+
+/// Serves each line in the world that the lines before it left. Then all lines are served as one stream, in a new world
+/// for each size of pieces: where the replies are others, they are printed too.
+pub fn lines(alloc: Global, cases: &[&str], out: &mut Vec<u8>) -> anyhow::Result<()> {
+    let mut world = World::new(alloc);
+    let mut stream = Vec::new(alloc);
+    let mut replies = Vec::new(alloc);
+    for case in cases {
+        if print_case(out, case)? {
+            let line = stream_line(alloc, case)?;
+            let answer = served(alloc, &mut world, &line, 4096)?;
+            print_results(alloc, out, &answer)?;
+            stream.extend_from_slice(&line)?;
+            replies.extend_from_slice(&answer)?;
+        }
+    }
+    whole_streams(alloc, &stream, &replies, out)
+}
+
+fn whole_streams(
+    alloc: Global,
+    stream: &[u8],
+    replies: &[u8],
+    out: &mut Vec<u8>,
+) -> anyhow::Result<()> {
+    for size in SIZES {
+        let answer = served(alloc, &mut World::new(alloc), stream, size)?;
+        if answer.as_slice() != replies {
+            let told = format!(in alloc; "in pieces of {size}:")?;
+            print_result(out, told.as_bytes())?;
+            print_results(alloc, out, &answer)?;
+        }
+    }
+    Ok(())
+}
+
+/// The events of all lines as one stream, for each size of pieces: those of the greatest, and others where they differ.
+pub fn events(alloc: Global, cases: &[&str], out: &mut Vec<u8>) -> anyhow::Result<()> {
+    let mut stream = Vec::new(alloc);
+    for case in cases {
+        if print_case(out, case)? {
+            stream.extend_from_slice(&stream_line(alloc, case)?)?;
+        }
+    }
+    let whole = told_events(alloc, &stream, 4096)?;
+    print_results(alloc, out, &whole)?;
+    for size in SIZES {
+        let told = told_events(alloc, &stream, size)?;
+        if told.as_slice() != whole.as_slice() {
+            print_results(alloc, out, &told)?;
+        }
+    }
+    Ok(())
+}
+
+// A line for each event: its terminal, a space, and its text.
+fn told_events(alloc: Global, stream: &[u8], size: usize) -> anyhow::Result<Vec<u8>> {
+    let mut reader = Watched::new(Pieces { left: stream, size });
+    let mut out = Vec::new(alloc);
+    for event in &read_events(alloc, &mut reader)? {
+        out.extend_from_slice(event.terminal.to_string(alloc)?.as_bytes())?;
+        out.push(b' ')?;
+        out.extend_from_slice(&event.text)?;
+        out.push(b'\n')?;
+    }
+    Ok(out)
+}

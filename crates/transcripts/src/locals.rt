@@ -1,0 +1,128 @@
+// Calls on the scopes of local variables.
+use crate::words::{text_of, texts_of, words_of};
+use crate::{print_case, print_result};
+use mkey::subs_ok;
+use mlocal::{Direction, Locals, order_subs_ok};
+use mnum::Bytes7;
+use std::alloc::Global;
+
+/// Plays calls one after another over the same locals; what get, data, next and back give stands below them.
+pub fn locals(alloc: Global, cases: &[&str], out: &mut Vec<u8>) -> anyhow::Result<()> {
+    let mut locals = Locals::new(alloc);
+    for case in cases {
+        if print_case(out, case)? {
+            let words = words_of(alloc, case)?;
+            if let Some(given) = call(&mut locals, alloc, words.as_slice())? {
+                print_result(out, given.as_bytes())?;
+            }
+        }
+    }
+    Ok(())
+}
+
+// Carries out a call, and gives what it answers.
+fn call(locals: &mut Locals, alloc: Global, words: &[&str]) -> anyhow::Result<Option<Bytes7>> {
+    match words {
+        ["enter"] => locals.enter()?,
+        ["leave"] => leave(locals),
+        ["new", names @ ..] => locals.new_vars(texts_of(alloc, names)?.as_slice())?,
+        ["new-all-but", names @ ..] => locals.new_except(texts_of(alloc, names)?),
+        ["kill-all-but", names @ ..] => locals.kill_except(texts_of(alloc, names)?.as_slice()),
+        ["kill", name, subs @ ..] => kill(locals, alloc, name, subs)?,
+        ["set", name, subs @ .., "=", text] => set(locals, alloc, name, subs, text)?,
+        [what, name, subs @ ..] => {
+            return Ok(Some(asked(locals, alloc, what, name, subs)?));
+        }
+        _ => anyhow::bail!("no call on locals"),
+    }
+    Ok(None)
+}
+
+fn leave(locals: &mut Locals) {
+    if locals.depth() > 0 {
+        locals.leave();
+    }
+}
+
+fn kill(locals: &mut Locals, alloc: Global, name: &str, subs: &[&str]) -> anyhow::Result<()> {
+    let subs = texts_of(alloc, subs)?;
+    if !subs_ok(&subs) {
+        anyhow::bail!("no subscripts");
+    }
+    locals.kill(&text_of(alloc, name)?, &subs)?;
+    Ok(())
+}
+
+fn set(
+    locals: &mut Locals,
+    alloc: Global,
+    name: &str,
+    subs: &[&str],
+    text: &str,
+) -> anyhow::Result<()> {
+    let subs = texts_of(alloc, subs)?;
+    if !subs_ok(&subs) {
+        anyhow::bail!("no subscripts");
+    }
+    locals.set(&text_of(alloc, name)?, &subs, text_of(alloc, text)?)?;
+    Ok(())
+}
+
+// What is asked of a node, `none` where it has none.
+fn asked(
+    locals: &Locals,
+    alloc: Global,
+    what: &str,
+    name: &str,
+    subs: &[&str],
+) -> anyhow::Result<Bytes7> {
+    let name = text_of(alloc, name)?;
+    let subs = texts_of(alloc, subs)?;
+    let found = match what {
+        "get" => text(locals, &name, &subs)?,
+        "data" => return text_of(alloc, data(locals, &name, &subs)?),
+        "next" => next(locals, &name, &subs, Direction::Forward)?,
+        "back" => next(locals, &name, &subs, Direction::Backward)?,
+        _ => anyhow::bail!("no call on locals"),
+    };
+    match found {
+        None => text_of(alloc, "none"),
+        Some(text) => Ok(text),
+    }
+}
+
+fn text(locals: &Locals, name: &Bytes7, subs: &[Bytes7]) -> anyhow::Result<Option<Bytes7>> {
+    if !subs_ok(subs) {
+        anyhow::bail!("no subscripts");
+    }
+    match locals.get(name, subs)? {
+        None => Ok(None),
+        Some(text) => Ok(Some(text.copy()?)),
+    }
+}
+
+// What $DATA gives.
+fn data(locals: &Locals, name: &Bytes7, subs: &[Bytes7]) -> anyhow::Result<&'static str> {
+    if !subs_ok(subs) {
+        anyhow::bail!("no subscripts");
+    }
+    let found = locals.data(name, subs)?;
+    Ok(match (found.descendants, found.value) {
+        (false, false) => "0",
+        (false, true) => "1",
+        (true, false) => "10",
+        (true, true) => "11",
+    })
+}
+
+fn next(
+    locals: &Locals,
+    name: &Bytes7,
+    subs: &[Bytes7],
+    direction: Direction,
+) -> anyhow::Result<Option<Bytes7>> {
+    if !order_subs_ok(subs) {
+        anyhow::bail!("no subscripts");
+    }
+    Ok(locals.order(name, subs, direction)?)
+}

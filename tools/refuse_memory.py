@@ -1,69 +1,111 @@
 #!/usr/bin/env python3
-"""Runs the program's tests on memory with their Nth request for memory refused, N counting up.
+"""Runs the built program on each block of lines of transcripts/, with each of its requests for memory refused in turn.
 
-With each N the tests `.._to_memory` must pass: up to the first want of memory all replies are the row's. The tests
-`.._with_ample_memory` fail where the refused request was one of theirs; the count ends with the first N at which none of them
-does, since then each request of each row was refused once; or where nine minutes are over, and then it says how far it came.
-Status 1 where a test fails or is missing, or where the first requests were not refused."""
+With one request refused, the replies are the transcript's as far as the first want of memory; that is told by ZMEM, by
+`mserve: wire: Memory` with status 5, or by `mserve: Memory` with status 2; and what comes after ZMEM is replies in form. One request
+of a run may go by untold, with all replies as they are: std asks for the words of the command line in advance, and again where
+that was refused. Status 1 where a run does otherwise, where a block asks for no memory, or where there is no block.
+
+The program is crates/mserve/out/mserve, as `./mserve` or the gate leaves it. `tools/refuse_memory.c` refuses the requests."""
 import os
 import re
 import subprocess
 import sys
-import time
+import tempfile
 from concurrent.futures import ThreadPoolExecutor
 
-CRATE = os.path.join(os.path.dirname(os.path.abspath(__file__)), "..", "crates", "mserve")
-MOST = 200
-SECONDS = 480
-AT_LEAST = 8
-LINE = re.compile(r"^test tests::memory::(\w+) \.\.\. (ok|FAILED)$", re.M)
+TOP = os.path.join(os.path.dirname(os.path.abspath(__file__)), "..")
+PROGRAM = os.path.join(TOP, "crates", "mserve", "out", "mserve")
+REPLY = re.compile(rb"(\d+[:-].*|\d+\.|\d+![A-Z]+\d*|\?!Z(LINE|WIRE))\n")
+ESCAPE = re.compile(r"\{(?:(\d+)\*([^}]*)|([0-9a-f]{2}))?\}")
 
 
-def run(nth):
-    """What became of each test of memory with this request refused."""
-    done = subprocess.run(
-        ["rt", "try", "--test", "--fail-alloc", str(nth)], cwd=CRATE, capture_output=True, text=True
-    )
-    return dict(LINE.findall(done.stdout))
+def bytes_of(case):
+    """The bytes of a line of a transcript."""
+    def plain(found):
+        return found[2] * int(found[1]) if found[1] else chr(int(found[3], 16)) if found[3] else ""
+    unfinished = case.endswith("{end}")
+    text = ESCAPE.sub(plain, case[: -len("{end}")] if unfinished else case)
+    return text.encode("latin1") + (b"" if unfinished else b"\n")
 
 
-def judge(nth, results):
-    """Whether a request was refused; None where a reply was wrong."""
-    tolerant = {name: end for name, end in results.items() if name.endswith("_to_memory")}
-    ample = {name: end for name, end in results.items() if name.endswith("_with_ample_memory")}
-    if len(tolerant) < 4 or len(tolerant) != len(ample):
-        print(f"refuse_memory: request {nth}: the tests were not found, {results}")
+def blocks():
+    """Each block of lines: its name, its stream and its replies."""
+    folder = os.path.join(TOP, "transcripts")
+    for file in sorted(os.listdir(folder)):
+        for block in open(os.path.join(folder, file), encoding="ascii").read().strip("\n").split("\n\n"):
+            header, *lines = block.split("\n")
+            if header.startswith("== lines: "):
+                lines = [line for line in lines if not line.startswith("# ")]
+                stream = b"".join(bytes_of(line) for line in lines if not line.startswith("    "))
+                replies = "".join(line[4:] + "\n" for line in lines if line.startswith("    "))
+                yield header[len("== lines: "):], stream, replies.encode("ascii")
+
+
+def run(shim, stream, nth):
+    """The program's output, what it told, its status, and how many requests it made, with this one refused."""
+    read, write = os.pipe()
+    environment = {**os.environ, "LD_PRELOAD": shim, "REFUSE": str(nth), "REFUSE_TOLD": str(write)}
+    try:
+        ran = subprocess.run([PROGRAM, "run"], input=stream, capture_output=True, env=environment, pass_fds=[write], timeout=60)
+    finally:
+        os.close(write)
+        told = os.read(read, 32)
+        os.close(read)
+    return ran.stdout, ran.stderr, ran.returncode, int(told or b"0")
+
+
+def fault(wanted, output, told, status):
+    """What is wrong with a run of which a request was refused; "" where it is not told at all, and None where all is well."""
+    lines = output.splitlines(True)
+    lost = next((i for i, line in enumerate(lines) if line.endswith(b"!ZMEM\n")), None)
+    if lost is not None:
+        if not wanted.startswith(b"".join(lines[:lost])):
+            return "other replies before the want of memory"
+        if not all(REPLY.fullmatch(line) for line in lines[lost:]):
+            return "no replies behind the want of memory"
+        return None if (status, told) == (0, b"") else f"status {status}, {told!r}"
+    if not wanted.startswith(output):
+        return "other replies"
+    if (status, told) in ((5, b"mserve: wire: Memory\n"), (2, b"mserve: Memory\n")):
         return None
-    wrong = [name for name, end in tolerant.items() if end != "ok"]
-    if wrong:
-        print(f"refuse_memory: request {nth}: FAILED {', '.join(wrong)}")
-        return None
-    return "FAILED" in ample.values()
+    return "" if (status, told, output) == (0, b"", wanted) else f"status {status}, {told!r}"
 
 
-def counted(pool, side_by_side):
-    """How many requests were refused, one in each run, or None where a reply was wrong."""
-    start = time.monotonic()
-    for first in range(1, MOST, side_by_side):
-        batch = range(first, first + side_by_side)
-        for nth, results in zip(batch, pool.map(run, batch)):
-            refused = judge(nth, results)
-            if refused is None:
-                return None
-            if not refused:
-                print(f"refuse_memory: each of the {nth - 1} requests refused in turn")
-                return nth - 1
-        if time.monotonic() - start > SECONDS:
-            break
-    print(f"refuse_memory: stopped after the first {batch[-1]} requests, each refused in turn")
-    return batch[-1]
+def judge(shim, block):
+    """How many requests of a block were refused, and what went wrong."""
+    name, stream, wanted = block
+    output, told, status, count = run(shim, stream, 0)
+    if (output, told, status) != (wanted, b"", 0) or count == 0:
+        return 0, [f"{name}: with ample memory: status {status}, {told!r}, {count} requests"]
+    faults, untold = [], []
+    for nth in range(1, count + 1):
+        output, told, status, _ = run(shim, stream, nth)
+        wrong = fault(wanted, output, told, status)
+        if wrong == "":
+            untold.append(nth)
+        elif wrong:
+            faults.append(f"{name}: request {nth} of {count}: {wrong}")
+    if len(untold) > 1:
+        faults.append(f"{name}: requests {untold} of {count}: not told")
+    return count, faults
 
 
 def main():
-    side_by_side = os.cpu_count() or 1
-    with ThreadPoolExecutor(side_by_side) as pool:
-        refused = counted(pool, side_by_side)
-    return 0 if refused is not None and refused >= AT_LEAST else 1
+    if not os.path.exists(PROGRAM):
+        sys.exit("refuse_memory: the program is not built: run ./mserve run </dev/null")
+    with tempfile.TemporaryDirectory() as folder:
+        shim = os.path.join(folder, "refuse_memory.so")
+        source = os.path.join(TOP, "tools", "refuse_memory.c")
+        subprocess.run(["cc", "-shared", "-fPIC", "-O1", "-o", shim, source], check=True)
+        with ThreadPoolExecutor(os.cpu_count() or 1) as pool:
+            judged = list(pool.map(lambda block: judge(shim, block), blocks()))
+    faults = [fault for _, faults in judged for fault in faults]
+    for told in faults[:20]:
+        print(f"refuse_memory: {told}")
+    requests = sum(count for count, _ in judged)
+    print(f"refuse_memory: {requests} requests of {len(judged)} blocks refused in turn, {len(faults)} faults")
+    return 1 if faults or not judged else 0
 
 
 sys.exit(main())

@@ -14,6 +14,3 @@ mod value;
 pub use code::Code;
 pub use eval::Eval;
 pub use value::whole_number;
-
-#[cfg(test)]
-mod tests;

@@ -9,6 +9,3 @@ mod set;
 
 pub use parts::Parts;
 pub use run::{Ended, run_text};
-
-#[cfg(test)]
-mod tests;

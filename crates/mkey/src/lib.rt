@@ -24,6 +24,3 @@ pub use order::compare;
 pub use place::collate;
 pub use subs::{Subs, subs_ok};
 pub use subs_key::SubsKey;
-
-#[cfg(test)]
-mod tests;

@@ -8,6 +8,3 @@ mod walk;
 
 pub use scopes::Locals;
 pub use walk::{Data, Direction, order_subs_ok};
-
-#[cfg(test)]
-mod tests;

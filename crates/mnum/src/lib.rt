@@ -19,6 +19,3 @@ mod writing;
 pub use bytes::Bytes7;
 pub use num::{ArithFault, Num, Over};
 pub use writing::{is_canonical, is_canonical_by};
-
-#[cfg(test)]
-mod tests;

@@ -14,6 +14,3 @@ mod set;
 
 pub use fault::ParseFault;
 pub use line::parse_line;
-
-#[cfg(test)]
-mod tests;

@@ -1,3 +1,2 @@
-// Tests that take the whole program.
+// What no transcript can show: the words of the command line, statuses, and devices that fail.
 mod command_line;
-mod memory;

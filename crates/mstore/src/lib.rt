@@ -16,6 +16,3 @@ pub use open_fault::OpenFault;
 pub use plain::Plain;
 pub use store::{NodeStore, StoreFault};
 pub use table::Table;
-
-#[cfg(test)]
-mod tests;

@@ -16,6 +16,3 @@ pub use fault::TextFault;
 pub use functions::{contains, extract, find, follows};
 pub use making::{justify, set_piece, translate};
 pub use pattern::{Atom, Count, Pattern, PatternCode, Repeated, matches};
-
-#[cfg(test)]
-mod tests;

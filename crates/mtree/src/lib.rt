@@ -15,6 +15,3 @@ pub use tree::{
 };
 pub use words::{function_of, keyword_of};
 pub use write::write_line;
-
-#[cfg(test)]
-mod tests;

@@ -1,9 +1,6 @@
-// The wire by example.
+// What no transcript can show: devices that fail, and codes that the language does not come to yet.
 mod devices;
 mod events;
-mod expressions;
 mod faults;
-mod lines;
 mod replies;
-mod rows;
-mod streams;
+mod worlds;

@@ -9,6 +9,3 @@ pub use meval::Code;
 pub use mexec::Ended;
 pub use reply::{Event, Reply};
 pub use world::World;
-
-#[cfg(test)]
-mod tests;

@@ -1,10 +1,7 @@
 // Readers and writers that give and take little at a time, and fail.
-use crate::{Watched, serve};
-use mworld::World;
 use std::alloc::Global;
 use std::io;
 use std::io::{Read, Write};
-use std::test::Fail;
 
 /// Gives its bytes in pieces, and fails at one of its calls.
 #[derive(Drop)]
@@ -83,13 +80,4 @@ impl Write for Sink {
     fn flush(&mut self) -> io::Result<()> {
         Ok(())
     }
-}
-
-/// What a new world answers to a stream that comes in pieces of this size.
-pub fn served(alloc: Global, stream: &[u8], size: usize) -> Result<Vec<u8>, Fail> {
-    let mut world = World::new(alloc);
-    let mut sink = Sink::new(alloc, 4096);
-    let mut reader = Watched::new(Pieces::of(stream, size));
-    serve(alloc, &mut world, &mut reader, &mut Watched::new(&mut sink))?;
-    Ok(sink.taken)
 }

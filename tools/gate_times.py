@@ -1,0 +1,139 @@
+#!/usr/bin/env python3
+"""Runs the gate, `rt ci`, hands its output on, and tells before its last line where the processor time went: a table by crate,
+in seconds, of its proof, of proving its tests, and of trying its must-fail edits (with their count).
+
+    tools/gate_times.py          runs the gate
+    tools/gate_times.py --write  puts the table of the run into docs/PERFORMANCE.md too
+
+The times are read off the processes below the gate five times a second, so of each process up to a fifth of a second is missed."""
+import os
+import re
+import subprocess
+import sys
+import threading
+import time
+from collections import defaultdict
+
+TOP = os.path.realpath(os.path.join(os.path.dirname(os.path.abspath(__file__)), ".."))
+PAGE = os.path.join(TOP, "docs", "PERFORMANCE.md")
+TICKS = os.sysconf("SC_CLK_TCK")
+PARTS = ("proof", "tests", "edits")
+
+
+def processes():
+    """Of each process its parent, when it began, and the processor seconds that it used."""
+    found = {}
+    for name in os.listdir("/proc"):
+        if name.isdigit():
+            try:
+                with open(f"/proc/{name}/stat", encoding="utf-8", errors="replace") as file:
+                    fields = file.read().rpartition(")")[2].split()
+                found[int(name)] = int(fields[1]), int(fields[19]), (int(fields[11]) + int(fields[12])) / TICKS
+            except OSError:
+                pass
+    return found
+
+
+def below(top, found):
+    """The processes that the top one started, and those that they started."""
+    children = defaultdict(list)
+    for pid, (parent, _, _) in found.items():
+        children[parent].append(pid)
+    left, all_below = [top], []
+    while left:
+        pid = left.pop()
+        all_below.append(pid)
+        left += children[pid]
+    return all_below
+
+
+def task_of(pid):
+    """The crate and the part that a process of the prover works for; None for another process."""
+    try:
+        with open(f"/proc/{pid}/cmdline", encoding="utf-8", errors="replace") as file:
+            words = file.read().split("\0")
+        folder = os.readlink(f"/proc/{pid}/cwd")
+    except OSError:
+        return None
+    if "--crate-name" not in words:
+        return None
+    crate = words[words.index("--crate-name") + 1]
+    if "rt-edit-" in folder:
+        return crate, "edits"
+    return crate, "tests" if "--test" in words else "proof"
+
+
+class Watch(threading.Thread):
+    """Reads the processor times of what is below a process, until it is told to end."""
+
+    def __init__(self, top):
+        super().__init__(daemon=True)
+        self.top, self.ended, self.tasks, self.times = top, threading.Event(), {}, {}
+
+    def run(self):
+        while not self.ended.wait(0.2):
+            found = processes()
+            for pid in below(self.top, found):
+                if pid in found:
+                    key = pid, found[pid][1]
+                    if self.tasks.get(key) is None:
+                        self.tasks[key] = task_of(pid)
+                    self.times[key] = found[pid][2]
+
+
+def table(watch, seconds):
+    """The table, with the most costly crates first."""
+    spent = defaultdict(lambda: dict.fromkeys(PARTS, 0.0))
+    other = 0.0
+    for key, used in watch.times.items():
+        if watch.tasks.get(key):
+            crate, part = watch.tasks[key]
+            spent[crate][part] += used
+        else:
+            other += used
+    lines = ["| Crate | proof | tests | edits |", "|---|---|---|---|"]
+    for crate, parts in sorted(spent.items(), key=lambda it: -sum(it[1].values())):
+        folder = os.path.join(TOP, "crates", crate, "must-fail")
+        count = len(os.listdir(folder)) if os.path.isdir(folder) else 0
+        cells = [f"{parts['proof']:.0f}", f"{parts['tests']:.0f}" if parts["tests"] else "", f"{parts['edits']:.0f} ({count})" if count else ""]
+        lines.append(f"| `{crate}` | " + " | ".join(cells) + " |")
+    sums = [sum(parts[part] for parts in spent.values()) for part in PARTS]
+    lines.append("| together | " + " | ".join(f"{it:.0f}" for it in sums) + " |")
+    minutes = (sum(sums) + other) / 60
+    lines.append("")
+    lines.append(f"{seconds / 60:.0f} minutes by the clock on {os.cpu_count()} processors, {minutes:.0f} processor minutes, {other / 60:.0f} of them compiling and running.")
+    return "\n".join(lines) + "\n"
+
+
+def write_page(text):
+    with open(PAGE, encoding="utf-8") as file:
+        page = file.read()
+    begin, end = "<!-- gate_times.py -->\n", "<!-- end -->\n"
+    made = re.sub(re.escape(begin) + ".*?" + re.escape(end), lambda _: begin + text + end, page, flags=re.S)
+    if begin not in page:
+        sys.exit("gate_times: docs/PERFORMANCE.md has no place for the table")
+    with open(PAGE, "w", encoding="utf-8") as file:
+        file.write(made)
+
+
+def main():
+    start = time.monotonic()
+    with subprocess.Popen(["rt", "ci"], cwd=TOP, stdout=subprocess.PIPE, stderr=subprocess.STDOUT, text=True, errors="replace") as gate:
+        watch = Watch(gate.pid)
+        watch.start()
+        last = ""
+        for line in gate.stdout:
+            print(last, end="", flush=True)
+            last = line
+        gate.wait()
+        watch.ended.set()
+        watch.join()
+    text = table(watch, time.monotonic() - start)
+    print(text, end="")
+    if "--write" in sys.argv:
+        write_page(text)
+    print(last, end="", flush=True)
+    return gate.returncode
+
+
+sys.exit(main())

@@ -9,8 +9,8 @@ use meval::Code;
 use mtree::{Assignment, Command, Output};
 use std::alloc::Global;
 
-// In an output, the end of a line, which no text has.
-const LINE_END: u8 = 255;
+/// In an output, the end of a line, which no text has.
+pub const LINE_END: u8 = 255;
 
 impl<'a> Parts<'a> {
     fn settings(&mut self, alloc: Global, all: &[Assignment]) -> Result<(), Code>

@@ -7,5 +7,6 @@ mod parts;
 mod run;
 mod set;
 
+pub use commands::LINE_END;
 pub use parts::Parts;
 pub use run::{Ended, run_text};

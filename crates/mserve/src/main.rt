@@ -7,11 +7,11 @@ mod program;
 #[cfg(test)]
 mod tests;
 
-use crate::program::{program, short_of_memory};
+use crate::program::{no_words, program};
 use std::process::ExitCode;
 use std::{env, io};
 
-// The words behind the program's name.
+// The words behind the program's name. One that is not UTF-8 is an error, and so is want of memory.
 fn words(rt: &HostRuntime) -> io::Result<Vec<String>> {
     Ok(env::args(rt)?.skip(1).collect(rt.alloc())?)
 }
@@ -25,7 +25,7 @@ fn main(rt: HostRuntime) -> ExitCode {
             rt.stdout(),
             &mut rt.stderr(),
         ),
-        Err(_) => short_of_memory(&mut rt.stderr()),
+        Err(error) => no_words(&error, &mut rt.stderr()),
     };
     ExitCode::from(status)
 }

@@ -1,10 +1,12 @@
 // The program, over any reader and two writers.
-ghost use Rattle.std.specs.Prelude.{◌≡◌, ◌↔◌, false, map, string_bytes};
+ghost use Rattle.std.specs.Prelude.{◌≡◌, ◌≢◌, ◌↔◌, false, map, string_bytes};
+ghost use Rattle.std.specs.IoError.{error_kind};
 ghost use Rattle.mserve.specs.Statuses.{IsStatus, is_run};
 
 use mwire::{Watched, serve};
 use mworld::World;
-use std::io::{Read, Write};
+use std::io;
+use std::io::{ErrorKind, Read, Write};
 
 /// Runs the program with these words, which stand behind its name on the command line, and gives the exit status: 0 where
 /// the input was answered to its end, 2 for words that are refused, and 5 for a fault of the wire, of which `errors` is told.
@@ -22,6 +24,7 @@ where
     O: Drop,
     ensures status { IsStatus result }
     ensures refused { (result ≡ 2) ↔ (is_run (map string_bytes words.now) ≡ false) }
+    ensures untold { result ≢ 5 → errors.new ≡ errors.old }
 {
     if !is_run(words) {
         return 2;
@@ -47,6 +50,18 @@ fn is_run(words: &[String]) -> bool
         [word] => word.as_str() == "run",
         _ => false,
     }
+}
+
+/// The exit status where the words of the command line cannot be had: 2. `errors` is told where that is for want of memory, and
+/// nothing is told of words that are not UTF-8.
+pub fn no_words<E: Write>(error: &io::Error, errors: &mut E) -> u8
+    ensures status { result ≡ 2 }
+    ensures untold { error_kind error.now ≢ ErrorKind.OutOfMemory → errors.new ≡ errors.old }
+{
+    if error.kind() == ErrorKind::OutOfMemory {
+        return short_of_memory(errors);
+    }
+    2
 }
 
 /// Tells `errors` that there was no memory for the command line, and gives the exit status.

@@ -1,2 +1,3 @@
 // What no transcript can show: the words of the command line, statuses, and devices that fail.
 mod command_line;
+mod refused_words;

@@ -2,7 +2,7 @@
 use Rattle.std.proofs.Common.{◌≡◌, ◌++◌, ◌+◌, ◌-◌, ◌<◌, ◌≤◌, ◌==◌, List, [], ◌∷◌, ℕ, refl, sym, ◌∙◌, ap, true, false, append_assoc, append-nil, length, take, map, arith, inl, inr, if◌then◌else◌, slice_index}
 use Rattle.std.specs.List.{flat_map}
 use Rattle.std.specs.Str.Lines.{lines, lines_of_parts, strip_carriage_return}
-use Rattle.std.proofs.lemmas.List.{take_all, length-take-le}
+use Rattle.std.proofs.lemmas.List.{take_all, length-take-le, map-append}
 use Rattle.std.proofs.lemmas.List.Concat.{flat_map-append}
 use Rattle.std.proofs.lemmas.List.Elements.{All-push, All-nil}
 use Rattle.std.proofs.lemmas.List.Splits.{slice_split_at, slice_split_none, length-slice_split}
@@ -101,26 +101,31 @@ lines_of_parts-front [] y ys = refl
 lines_of_parts-front (x ∷ []) y ys = refl
 lines_of_parts-front (x ∷ x' ∷ xs) y ys = ap (λ ls. strip_carriage_return x ∷ ls) (lines_of_parts-front (x' ∷ xs) y ys)
 
-lines_of_parts-cons : (x : List ℕ) (ps : List (List ℕ)) (n : ℕ) → length ps ≡ n + 1 → lines_of_parts (x ∷ ps) ≡ strip_carriage_return x ∷ lines_of_parts ps
-lines_of_parts-cons x [] n e = absurd (omega arith)
-lines_of_parts-cons x (y ∷ ys) n e = refl
-
 pub lines-cut : (bytes : List ℕ) (finished : List (List ℕ)) (kept : List ℕ) → (c : IsCut bytes finished kept) → lines bytes ≡ map strip_carriage_return finished ++ lines_of_parts (c.rest ∷ [])
 lines-cut bytes finished kept c =
     ap lines c.whole ∙ (ap lines_of_parts (parts_of-cut finished c.rest c.each c.open_rest) ∙ lines_of_parts-front finished c.rest [])
-
-pub lines-cut_more : (bytes : List ℕ) (finished : List (List ℕ)) (kept more : List ℕ) → (c : IsCut bytes finished kept)
-    → lines ((bytes ++ 10 ∷ []) ++ more) ≡ map strip_carriage_return finished ++ strip_carriage_return c.rest ∷ lines more
-lines-cut_more bytes finished kept more c =
-    let joined : (bytes ++ 10 ∷ []) ++ more ≡ bytes ++ 10 ∷ more = append_assoc bytes (10 ∷ []) more in
-    ap lines joined ∙ (ap (λ b. lines (b ++ 10 ∷ more)) c.whole ∙ (ap lines_of_parts (parts_of-cut_more finished c.rest more c.each c.open_rest)
-    ∙ (lines_of_parts-front finished c.rest (parts_of more)
-    ∙ ap (λ ls. map strip_carriage_return finished ++ ls) (lines_of_parts-cons c.rest (parts_of more) _ (length-slice_split (λ b. b == 10) more)))))
 
 but_last-push : (xs : List (List ℕ)) (x : List ℕ) → but_last (xs ++ x ∷ []) ≡ xs
 but_last-push [] x = refl
 but_last-push (y ∷ []) x = refl
 but_last-push (y ∷ y' ∷ ys) x = ap (λ l. y ∷ l) (but_last-push (y' ∷ ys) x)
+
+but_last-front : (xs : List (List ℕ)) (y : List ℕ) (ys : List (List ℕ)) (n : ℕ) → length ys ≡ n + 1 → but_last (xs ++ y ∷ ys) ≡ xs ++ y ∷ but_last ys
+but_last-front [] y [] n e = absurd (omega arith)
+but_last-front [] y (z ∷ zs) n e = refl
+but_last-front (x ∷ []) y ys n e = ap (λ l. x ∷ l) (but_last-front [] y ys n e)
+but_last-front (x ∷ x' ∷ xs) y ys n e = ap (λ l. x ∷ l) (but_last-front (x' ∷ xs) y ys n e)
+
+-- the finished lines of a text that is cut
+
+pub finished_lines-cut_more : (bytes : List ℕ) (finished : List (List ℕ)) (kept more : List ℕ) → (c : IsCut bytes finished kept)
+    → finished_lines ((bytes ++ 10 ∷ []) ++ more) ≡ map strip_carriage_return finished ++ strip_carriage_return c.rest ∷ finished_lines more
+finished_lines-cut_more bytes finished kept more c =
+    let joined : (bytes ++ 10 ∷ []) ++ more ≡ bytes ++ 10 ∷ more = append_assoc bytes (10 ∷ []) more in
+    ap finished_lines joined ∙ (ap (λ b. finished_lines (b ++ 10 ∷ more)) c.whole
+    ∙ (ap (λ ps. map strip_carriage_return (but_last ps)) (parts_of-cut_more finished c.rest more c.each c.open_rest)
+    ∙ (ap (map strip_carriage_return) (but_last-front finished c.rest (parts_of more) _ (length-slice_split (λ b. b == 10) more))
+    ∙ map-append strip_carriage_return finished (c.rest ∷ but_last (parts_of more)))))
 
 pub finished_lines-cut : (bytes : List ℕ) (finished : List (List ℕ)) (kept : List ℕ) → IsCut bytes finished kept → finished_lines bytes ≡ map strip_carriage_return finished
 finished_lines-cut bytes finished kept c =

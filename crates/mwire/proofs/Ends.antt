@@ -1,15 +1,15 @@
 -- How far `serve` comes, and how it ends.
-use Rattle.std.proofs.Common.{◌≡◌, ◌≢◌, ◌++◌, List, [], ◌∷◌, ℕ, refl, sym, ◌∙◌, ap, subst, Ok, Err, Result, Option, append-nil, take, IfErr, is_ok, arith}
+use Rattle.std.proofs.Common.{◌≡◌, ◌≢◌, ◌++◌, List, [], ◌∷◌, ℕ, refl, sym, ◌∙◌, ap, subst, Ok, Err, Result, Option, append-nil, take, IfErr, is_ok, inl, inr, arith}
 use Rattle.std.specs.Prelude.{map}
 use Rattle.std.proofs.KnownBytes.{Appends-nil, Appends-trans, Consumes-nil, Consumes-trans, Consumes-kept}
-use Rattle.std.specs.Str.Lines.{lines, lines_of_parts, strip_carriage_return}
+use Rattle.std.specs.Str.Lines.{lines_of_parts, strip_carriage_return}
 use Rattle.std.specs.Io.KnownBytes.{Keeps, Consumes, IsAtEnd}
 use Rattle.mspec.specs.Act.{Text}
 use Rattle.mmeaning.specs.Step.{Settings, Server}
 use Rattle.mwire.specs.Wire.{fate_of}
 use Rattle.mwire.specs.Answers.{Answers, LineAnswered, Breaks}
 use Rattle.mwire.specs.Progress.{EachAnswered, Passes, LineSent, HasServed}
-use Rattle.mwire.specs.Serves.{EndsBy, Serves}
+use Rattle.mwire.specs.Serves.{BreaksOff, EndsBy, Serves}
 use Rattle.mwire.specs.declared.fault.WireFault.{WireFault}
 use Rattle.mwire.specs.declared.fault.WireFault.TheVariants.{Read, Write, Memory}
 use Rattle.mwire.proofs.Cuts.{fate_of-kept_end, lines-cut, finished_lines-cut, last_part}
@@ -92,11 +92,11 @@ Breaks-end settings first done (x ∷ xs) now text new answer part unsent ne h t
   sent = refl;
 }
 
-EndsBy-break : (settings : Settings) (old : Server) (read sent : Text) (new : Server) (e : WireFault)
-    → e ≢ Read → Breaks settings old (lines read) sent new → EndsBy settings old read sent new e
-EndsBy-break settings old read sent new Read ne b = absurd (ne refl)
-EndsBy-break settings old read sent new Write ne b = b
-EndsBy-break settings old read sent new Memory ne b = b
+EndsBy-break : (settings : Settings) (old : Server) (left : Option Text) (read sent : Text) (new : Server) (e : WireFault)
+    → e ≢ Read → BreaksOff settings old left read sent new → EndsBy settings old left read sent new e
+EndsBy-break settings old left read sent new Read ne b = absurd (ne refl)
+EndsBy-break settings old left read sent new Write ne b = b
+EndsBy-break settings old left read sent new Memory ne b = b
 
 -- a read of no bytes
 pub Consumes-none : (a b c : Option Text) (bs buf : Text) (n : ℕ) → n ≡ 0 → Consumes a b bs → Consumes b c (take n buf) → Consumes a c bs
@@ -131,8 +131,8 @@ serves_end X settings first now new left left' held held' held'' kept (Err e) h 
       let s = h.stands in
       let taken = LineAnswered-kept_end settings now kept s.cut.rest p.answer new s.cut.kept_is p.answered in
       let some : s.cut.rest ≡ [] → ⊥ = λ empty. let bad = idle (s.cut.kept_is ∙ ap (take 262) empty) in cc in
-      EndsBy-break settings first h.read (h.sent ++ p.sent.part) new e f.0
-      (rw (lines-cut h.read s.finished kept s.cut) (Breaks-end settings first (map strip_carriage_return s.finished) s.cut.rest now h.sent new p.answer p.sent.part p.sent.unsent some s.answered taken p.sent.of_bytes));
+      let breaks = Breaks-end settings first (map strip_carriage_return s.finished) s.cut.rest now h.sent new p.answer p.sent.part p.sent.unsent some s.answered taken p.sent.of_bytes in
+      EndsBy-break settings first left' h.read (h.sent ++ p.sent.part) new e f.0 (inr (z, rw (lines-cut h.read s.finished kept s.cut) breaks));
 }
 
 pub Serves-end : (X : WireFault → Type 0) (settings : Settings) (first now new : Server) (left left' left'' held held' held'' : Option Text) (kept line buf : Text) (n : ℕ) (result : Result (Unit {0}) WireFault)
@@ -153,5 +153,5 @@ Serves-piece settings first now new left left' left'' held held' held'' kept kep
   consumed = Consumes-trans left left' left'' h.read piece h.consumed c;
   sent = h.sent ++ p.sent;
   appended = Appends-trans held held' held'' h.sent p.sent h.appended p.appended;
-  outcome = EndsBy-break settings first (h.read ++ piece) (h.sent ++ p.sent) new e f (simp append-nil at (p.outcome first h.read h.sent h.stands []));
+  outcome = EndsBy-break settings first left'' (h.read ++ piece) (h.sent ++ p.sent) new e f (inl (simp append-nil at (p.outcome first h.read h.sent h.stands [])));
 }

@@ -2,14 +2,14 @@
 use Rattle.std.proofs.Common.{◌≡◌, ◌++◌, ◌+◌, ◌<◌, ◌==◌, List, [], ◌∷◌, ℕ, refl, sym, ◌∙◌, ap, subst, false, Ok, Err, Result, Option, append_assoc, append-nil, length, take, drop, get_or, is_ok, take-append-drop, arith}
 use Rattle.std.specs.Prelude.{map}
 use Rattle.std.proofs.KnownBytes.{Appends-nil, Appends-trans}
-use Rattle.std.specs.Str.Lines.{lines, strip_carriage_return}
+use Rattle.std.specs.Str.Lines.{strip_carriage_return}
 use Rattle.std.proofs.lemmas.List.{take_more, map-append}
 use Rattle.mspec.specs.Act.{Text}
 use Rattle.mmeaning.specs.Step.{Settings, Server}
-use Rattle.mwire.specs.Wire.{fate_of}
+use Rattle.mwire.specs.Wire.{fate_of, finished_lines}
 use Rattle.mwire.specs.Answers.{LineAnswered, Breaks}
 use Rattle.mwire.specs.Progress.{EachAnswered, Stands, Passes, LineSent}
-use Rattle.mwire.proofs.Cuts.{fate_of-kept, IsCut-nil, IsCut-byte, IsCut-line, lines-cut_more}
+use Rattle.mwire.proofs.Cuts.{fate_of-kept, IsCut-nil, IsCut-byte, IsCut-line, finished_lines-cut_more}
 use Rattle.mwire.proofs.LineAnswers.{LineAnswered-same, EachAnswered-more, Answers-each}
 
 -- where the stream begins
@@ -38,12 +38,12 @@ Stands-line settings first past old kept text new answer s t = record {
 -- a line's end, of whose answer a front was sent
 Breaks-line : (settings : Settings) (first : Server) (past : Text) (old : Server) (kept text : Text) (new : Server) (answer part unsent : Text)
     → Stands settings first past old kept text → LineAnswered settings old (strip_carriage_return kept) answer new → answer ≡ part ++ unsent
-    → (more : Text) → Breaks settings first (lines ((past ++ 10 ∷ []) ++ more)) (text ++ part) new
+    → (more : Text) → Breaks settings first (finished_lines ((past ++ 10 ∷ []) ++ more)) (text ++ part) new
 Breaks-line settings first past old kept text new answer part unsent s t e more = record {
   done = map strip_carriage_return s.finished;
   last = strip_carriage_return s.cut.rest;
-  others = lines more;
-  of_all = lines-cut_more past s.finished kept more s.cut;
+  others = finished_lines more;
+  of_all = finished_lines-cut_more past s.finished kept more s.cut;
   whole = text;
   between = old;
   answered = Answers-each settings first (map strip_carriage_return s.finished) text old s.answered;

@@ -2,10 +2,10 @@
 use Rattle.std.specs.Prelude.{◌≡◌, ◌==◌, Bool, true, false, List, [], ◌∷◌, ◌++◌, take, map, MatchResult, Result, Option}
 use Rattle.std.specs.List.{All, flat_map}
 use Rattle.std.specs.Io.KnownBytes.{Appends, Consumes}
-use Rattle.std.specs.Str.Lines.{lines, strip_carriage_return}
+use Rattle.std.specs.Str.Lines.{strip_carriage_return}
 use Rattle.mspec.specs.Act.{Text}
 use Rattle.mmeaning.specs.Step.{Settings, Server, Event}
-use Rattle.mwire.specs.Wire.{events_of}
+use Rattle.mwire.specs.Wire.{finished_lines, events_of}
 use Rattle.mwire.specs.Answers.{LineAnswered, Breaks}
 
 -- no line feed is among the bytes
@@ -43,7 +43,7 @@ pub record Passes {E : Type 0} (settings : Settings) (old : Server) (kept bytes 
   pub appended : Appends before after sent
   pub outcome : (first : Server) (past text : Text) → Stands settings first past old kept text
       → MatchResult result (λ _. Stands settings first (past ++ bytes) new kept' (text ++ sent))
-      (λ _. (more : Text) → Breaks settings first (lines ((past ++ bytes) ++ more)) (text ++ sent) new)
+      (λ _. (more : Text) → Breaks settings first (finished_lines ((past ++ bytes) ++ more)) (text ++ sent) new)
 
 -- of the bytes all but this rest were sent
 pub record SentUpTo (bytes rest : Text) (before after : Option Text) : Type 0 where

@@ -1,5 +1,5 @@
 -- What `serve` and `read_events` do with the bytes of a reader and of a writer.
-use Rattle.std.specs.Prelude.{◌≡◌, ◌≢◌, List, MatchResult, Result, Option}
+use Rattle.std.specs.Prelude.{◌≡◌, ◌≢◌, ◌⊎◌, List, MatchResult, Result, Option}
 use Rattle.std.specs.Io.KnownBytes.{Appends, Consumes, IsAtEnd}
 use Rattle.std.specs.Str.Lines.{lines}
 use Rattle.mspec.specs.Act.{Text}
@@ -9,12 +9,17 @@ use Rattle.mwire.specs.Answers.{Answers, Breaks}
 use Rattle.mwire.specs.declared.fault.WireFault.{WireFault}
 use Rattle.mwire.specs.declared.fault.WireFault.TheVariants.{Read, Write, Memory}
 
+-- the answer of a finished line is cut off, or, where the reader is at its end, that of any line
+abbrev pub BreaksOff : Settings → Server → Option Text → Text → Text → Server → Type 0
+BreaksOff settings server left read sent after =
+    Breaks settings server (finished_lines read) sent after ⊎ (IsAtEnd left × Breaks settings server (lines read) sent after)
+
 -- how far the bytes read are answered after a fault: after one of a read exactly the finished lines are, and after another
 -- one the answer of one line is cut off
-abbrev pub EndsBy : Settings → Server → Text → Text → Server → WireFault → Type 0
-EndsBy settings server read sent after Read = Answers settings server (finished_lines read) sent after
-EndsBy settings server read sent after Write = Breaks settings server (lines read) sent after
-EndsBy settings server read sent after Memory = Breaks settings server (lines read) sent after
+abbrev pub EndsBy : Settings → Server → Option Text → Text → Text → Server → WireFault → Type 0
+EndsBy settings server left read sent after Read = Answers settings server (finished_lines read) sent after
+EndsBy settings server left read sent after Write = BreaksOff settings server left read sent after
+EndsBy settings server left read sent after Memory = BreaksOff settings server left read sent after
 
 -- So many bytes were read, and so many were sent, where the reader tells what it has left and the writer what it holds. At
 -- the stream's end all its lines are answered.
@@ -23,7 +28,7 @@ pub record Serves (settings : Settings) (server after : Server) (left left' held
   pub consumed : Consumes left left' read
   pub sent : Text
   pub appended : Appends held held' sent
-  pub outcome : MatchResult result (λ _. IsAtEnd left' × Answers settings server (lines read) sent after) (EndsBy settings server read sent after)
+  pub outcome : MatchResult result (λ _. IsAtEnd left' × Answers settings server (lines read) sent after) (EndsBy settings server left' read sent after)
 
 -- so many bytes were read, and at the stream's end the events are those of its lines
 pub record ReadsEvents {V : Type 0} (events : V → List Event) (left left' : Option Text) (result : Result V WireFault) : Type 0 where

@@ -1,18 +1,31 @@
 -- The laws of the wire form.
-use Rattle.std.specs.Prelude.{◌≡◌, ℕ, ◌<◌, ◌≤◌, List, ◌∷◌, ◌++◌, length}
+use Rattle.std.specs.Prelude.{◌≡◌, ◌<◌, ◌≤◌, List, [], ◌∷◌, ◌++◌, length}
+use Rattle.std.specs.List.{All, flat_map}
 use Rattle.std.specs.Fmt.{decimal}
-use Rattle.std.specs.Str.Lines.{lines}
+use Rattle.std.specs.Str.Lines.{lines, strip_carriage_return}
 use Rattle.mspec.specs.Act.{Text}
-use Rattle.mmeaning.specs.Step.{Settings, Server, line_limit}
+use Rattle.mmeaning.specs.Step.{Settings, Server, Event, line_limit}
 use Rattle.mmeaning.specs.History.{opening, server_after, NoneFailed}
-use Rattle.mwire.specs.Wire.{Runs, fate_of, lines_served, stream_served, events_of}
+use Rattle.mwire.specs.Wire.{lines_served, stream_served, events_of}
 use Rattle.mwire.specs.Answers.{Answers}
+use Rattle.mwire.specs.Progress.{IsOpen}
 
--- each event of a terminal from 1 to 9999 with a text that is not too long has a line: its terminal in digits, a space and
--- its text
-abbrev pub EachEventHasLine : Type 0
-EachEventHasLine = (terminal : ℕ) (text : Text) → 0 < terminal → terminal ≤ 9999 → length text ≤ line_limit →
-    fate_of (decimal terminal ++ 32 ∷ text) ≡ Runs (record { terminal = terminal; text = text })
+-- the line of an event: its terminal in digits, a space and its text
+abbrev pub line_of : Event → Text
+line_of e = decimal e.terminal ++ 32 ∷ e.text
+
+-- A line that a line feed ends can bring the event: its terminal is from 1 to 9999, and its text is not too long, has no line
+-- feed and does not end in a carriage return.
+pub record HasLine (e : Event) : Type 0 where
+  pub positive : 0 < e.terminal
+  pub at_most : e.terminal ≤ 9999
+  pub short : length e.text ≤ line_limit
+  pub no_feed : IsOpen e.text
+  pub no_return : strip_carriage_return e.text ≡ e.text
+
+-- the lines of such events, a line feed behind each, are a stream that has exactly these events
+abbrev pub EventsHaveStream : Type 0
+EventsHaveStream = (events : List Event) → All HasLine events → events_of (lines (flat_map (λ e. line_of e ++ 10 ∷ []) events)) ≡ events
 
 -- Where memory and the store sufficed for each line, the bytes that answer lines are those of the definitional interpreter,
 -- and it leaves the same server

@@ -1,8 +1,8 @@
 // The events of a stream.
-ghost use Rattle.std.specs.Prelude.{◌≡◌, ◌≢◌, ℕ, List, [], ◌∷◌, ◌++◌, false, OnOk, IfErr, Err, map};
+ghost use Rattle.std.specs.Prelude.{◌≡◌, ◌≢◌, ◌+◌, ◌≤◌, ℕ, List, [], ◌∷◌, ◌++◌, false, OnOk, IfErr, Err, map};
 ghost use Rattle.mworld.specs.View.{event_of};
 ghost use Rattle.mwire.specs.Wire.{events_of};
-ghost use Rattle.mwire.specs.Watched.{inner_of, failed_of, ReadBroke};
+ghost use Rattle.mwire.specs.Watched.{inner_of, failed_of, calls_of, ReadBroke};
 ghost use Rattle.mwire.specs.Serves.{ReadsEvents};
 ghost use Rattle.mwire.specs.Progress.{Gathered};
 
@@ -18,10 +18,11 @@ use std::io::Read;
 ///
 /// It answers `Read` where a read failed or there were 1,000,000,000 reads, and `Memory` for want of memory; the events so
 /// far are then gone, and the reader stands where the last read left it. The condition: no call of the reader has failed yet,
-/// which `failed` tells.
+/// which `failed` tells. There are never more than 1,000,000,000 reads.
 pub fn read_events<R: Read>(alloc: Global, reader: &mut Watched<R>) -> Result<Vec<Event>, WireFault>
     requires { failed_of reader.old ≡ false }
     ensures reads { ReadsEvents (λ events. map event_of events.items) (R.remaining (inner_of reader.old)) (R.remaining (inner_of reader.new)) result }
+    ensures most { calls_of reader.new ≤ calls_of reader.old + 1000000000 }
     ensures read { result ≡ Err WireFault.Read → ReadBroke reader.old reader.new }
     ensures reader_works { result ≢ Err WireFault.Read → failed_of reader.new ≡ false }
 {

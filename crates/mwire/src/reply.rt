@@ -7,11 +7,8 @@ ghost use Rattle.mwire.specs.Wire.{is_escaped, shown_character, shown, output_te
 
 use crate::ending::push_ending;
 use itoa::Buffer;
-use mworld::Reply;
+use mworld::{LINE_END, Reply};
 use std::alloc::{AllocError, Global};
-
-// What stands in an output for each end of a line.
-const LINE_END: u8 = 255;
 
 /// Appends the bytes that show a terminal's reply: its output, line by line, and how it ended.
 ///

@@ -1,9 +1,9 @@
 // A stream, served: each line is run and answered before the next one.
-ghost use Rattle.std.specs.Prelude.{◌≡◌, ◌≢◌, ◌+◌, ℕ, List, [], ◌∷◌, ◌++◌, false, OnOk, IfOk, IfErr, is_ok, Ok, Err};
+ghost use Rattle.std.specs.Prelude.{◌≡◌, ◌≢◌, ◌+◌, ◌≤◌, ℕ, List, [], ◌∷◌, ◌++◌, false, OnOk, IfOk, IfErr, is_ok, Ok, Err};
 ghost use Rattle.mworld.specs.Profile.{profile};
 ghost use Rattle.mworld.specs.View.{server_of, reply_of};
 ghost use Rattle.mwire.specs.Wire.{reply_text};
-ghost use Rattle.mwire.specs.Watched.{inner_of, failed_of, ReadBroke, WriteBroke};
+ghost use Rattle.mwire.specs.Watched.{inner_of, failed_of, calls_of, stalls_of, ReadBroke, WriteBroke};
 ghost use Rattle.mwire.specs.Serves.{Serves};
 ghost use Rattle.mwire.specs.Progress.{Passes, LineSent, FrontSent};
 
@@ -20,11 +20,12 @@ use std::io::{Read, Write};
 ///
 /// The faults:
 /// - `Read`: a read failed, or there were 1,000,000,000 reads. The lines that a line feed ended are run and answered, and no other.
-/// - `Write`: a write failed, or took nothing.
+/// - `Write`: a write failed, or took nothing. A write that took nothing before this call doesn't count.
 /// - `Memory`: want of memory for a reply's bytes.
 ///
-/// After `Write` and `Memory` the lines up to some last one are run. The replies of all but the last are written whole, and
-/// of the last one's a front. After each fault the world stands after the lines that were run.
+/// After `Write` and `Memory` the lines up to some last one are run, which a line feed or the stream's end ended. The replies of
+/// all but the last are written whole, and of the last one's a front. After each fault the world stands after the lines that were
+/// run. There are never more than 1,000,000,000 reads.
 ///
 /// The condition: no call of the reader or the writer has failed yet, which `failed` tells.
 pub fn serve<R: Read, W: Write>(
@@ -38,12 +39,14 @@ pub fn serve<R: Read, W: Write>(
     ensures serves { Serves profile (server_of world.old) (server_of world.new)
         (R.remaining (inner_of reader.old)) (R.remaining (inner_of reader.new))
         (W.contents (inner_of writer.old)) (W.contents (inner_of writer.new)) result }
+    ensures most { calls_of reader.new ≤ calls_of reader.old + 1000000000 }
 
-    // A fault of a device is answered only where the device failed.
+    // A fault of a device is answered only where the device failed in this call.
     ensures read { result ≡ Err WireFault.Read → ReadBroke reader.old reader.new }
-    ensures write { result ≡ Err WireFault.Write → WriteBroke writer.new }
+    ensures write { result ≡ Err WireFault.Write → WriteBroke writer.old writer.new }
     ensures reader_works { result ≢ Err WireFault.Read → failed_of reader.new ≡ false }
     ensures writer_works { result ≢ Err WireFault.Write → failed_of writer.new ≡ false }
+    ensures no_stall { result ≢ Err WireFault.Write → stalls_of writer.new ≡ stalls_of writer.old }
 {
     let mut line = LineBuffer::new();
     let mut piece = [0u8; 4096];
@@ -71,8 +74,9 @@ fn take_piece<W: Write>(
 ) -> Result<(), WireFault>
     ensures passes { Passes profile (server_of world.old) line.old piece.now (server_of world.new) line.new
         (W.contents (inner_of writer.old)) (W.contents (inner_of writer.new)) result }
-    ensures fault { IfErr result (λ e. (e ≢ WireFault.Read) × (e ≡ WireFault.Write → WriteBroke writer.new)) }
+    ensures fault { IfErr result (λ e. (e ≢ WireFault.Read) × (e ≡ WireFault.Write → WriteBroke writer.old writer.new)) }
     ensures works { result ≢ Err WireFault.Write → failed_of writer.new ≡ failed_of writer.old }
+    ensures no_stall { result ≢ Err WireFault.Write → stalls_of writer.new ≡ stalls_of writer.old }
 {
     for byte in piece {
         take_byte(alloc, world, line, *byte, writer)?;
@@ -90,8 +94,9 @@ fn take_byte<W: Write>(
 ) -> Result<(), WireFault>
     ensures passes { Passes profile (server_of world.old) line.old (byte ∷ []) (server_of world.new) line.new
         (W.contents (inner_of writer.old)) (W.contents (inner_of writer.new)) result }
-    ensures fault { IfErr result (λ e. (e ≢ WireFault.Read) × (e ≡ WireFault.Write → WriteBroke writer.new)) }
+    ensures fault { IfErr result (λ e. (e ≢ WireFault.Read) × (e ≡ WireFault.Write → WriteBroke writer.old writer.new)) }
     ensures works { result ≢ Err WireFault.Write → failed_of writer.new ≡ failed_of writer.old }
+    ensures no_stall { result ≢ Err WireFault.Write → stalls_of writer.new ≡ stalls_of writer.old }
 {
     if byte != b'\n' {
         line.push(byte);
@@ -111,8 +116,9 @@ fn answer_line<W: Write>(
 ) -> Result<(), WireFault>
     ensures sent { LineSent profile (server_of world.old) line.now (server_of world.new)
         (W.contents (inner_of writer.old)) (W.contents (inner_of writer.new)) (is_ok result) }
-    ensures fault { IfErr result (λ e. (e ≢ WireFault.Read) × (e ≡ WireFault.Write → WriteBroke writer.new)) }
+    ensures fault { IfErr result (λ e. (e ≢ WireFault.Read) × (e ≡ WireFault.Write → WriteBroke writer.old writer.new)) }
     ensures works { result ≢ Err WireFault.Write → failed_of writer.new ≡ failed_of writer.old }
+    ensures no_stall { result ≢ Err WireFault.Write → stalls_of writer.new ≡ stalls_of writer.old }
     ensures idle { line.now ≡ [] → result ≡ Ok tt }
 {
     match fate_of(line) {
@@ -140,8 +146,9 @@ fn shown_reply(alloc: Global, terminal: u32, reply: &Reply) -> Result<Vec<u8>, W
 // Writes all of these bytes, or a front of them.
 fn write_whole<W: Write>(writer: &mut Watched<W>, bytes: &[u8]) -> Result<(), WireFault>
     ensures sent { FrontSent bytes.now (W.contents (inner_of writer.old)) (W.contents (inner_of writer.new)) (is_ok result) }
-    ensures fault { IfErr result (λ e. (e ≡ WireFault.Write) × WriteBroke writer.new) }
-    ensures ok { OnOk result (failed_of writer.new ≡ failed_of writer.old) }
+    ensures fault { IfErr result (λ e. (e ≡ WireFault.Write) × WriteBroke writer.old writer.new) }
+    ensures works { OnOk result (failed_of writer.new ≡ failed_of writer.old) }
+    ensures no_stall { OnOk result (stalls_of writer.new ≡ stalls_of writer.old) }
 {
     let mut rest = bytes;
     while !rest.is_empty() {

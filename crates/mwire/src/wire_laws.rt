@@ -1,9 +1,10 @@
 // The laws of the wire form. Each function's contract is the law, and its body is empty: the code never calls them.
-ghost use Rattle.mwire.specs.WireLaws.{EachEventHasLine, NormalAnswersAreServed, NormalStreamsAreServed, LinesHaveAnswers};
+ghost use Rattle.mwire.specs.WireLaws.{EventsHaveStream, NormalAnswersAreServed, NormalStreamsAreServed, LinesHaveAnswers};
 
-/// Each event of a terminal from 1 to 9999 with a text that is not too long has a line of the wire.
-pub fn each_event_has_line()
-    ensures { EachEventHasLine }
+/// Any events of terminals from 1 to 9999 have a stream, where their texts are not too long, have no line feed and do not end in a
+/// carriage return: their lines, a line feed behind each.
+pub fn events_have_stream()
+    ensures { EventsHaveStream }
 {}
 
 /// Where no reply is a failure, lines are answered as the definitional interpreter answers them.

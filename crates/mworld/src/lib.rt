@@ -6,6 +6,6 @@ mod session;
 mod world;
 
 pub use meval::Code;
-pub use mexec::Ended;
+pub use mexec::{Ended, LINE_END};
 pub use reply::{Event, Reply};
 pub use world::World;

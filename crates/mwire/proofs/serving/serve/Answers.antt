@@ -4,7 +4,7 @@ use Rattle.mwire.proofs.Ends.{HasServed-start, HasServed-kept, HasServed-more, S
 use Rattle.mwire.proofs.serving.serve.Goals as goal
 
 pub loop-turn-init : goal.loop-turn-init
-loop-turn-init g c = record { served = rw c.new-line.ensures (HasServed-start _ _ _ _); calls = search rules; reader_works = c.requires.reader_works; writer_works = c.requires.writer_works }
+loop-turn-init g c = record { served = rw c.new-line.ensures (HasServed-start _ _ _ _); calls = search rules; reader_works = c.requires.reader_works; writer_works = c.requires.writer_works; no_stall = search rules }
 
 pub returns-in-Err-clause-serves : goal.returns-in-Err-clause-serves
 returns-in-Err-clause-serves g c = Serves-read _ _ _ _ _ _ _ _ (HasServed-kept _ _ _ _ _ _ _ _ _ c.loop-turn.invariant.served c.in-Err.ensures.bytes)
@@ -29,4 +29,5 @@ loop-turn-preserved g c =
       calls = omega (arith, c.in-Ok.ensures.calls, i.calls);
       reader_works = c.in-Ok.ensures.failed ∙ ap (λ b. b || false) i.reader_works;
       writer_works = c.in_default.ensures.works (λ e. cc) ∙ i.writer_works;
+      no_stall = c.in_default.ensures.no_stall (λ e. cc) ∙ i.no_stall;
     }

@@ -1,7 +1,7 @@
-use Rattle.std.proofs.Common.{◌≡◌, ◌+◌, ◌-◌, ◌^◌, min, false}
+use Rattle.std.proofs.Common.{◌≡◌, false}
 use Rattle.mworld.specs.Profile.{profile}
 use Rattle.mworld.specs.View.{server_of}
-use Rattle.mwire.specs.Watched.{inner_of, calls_of, failed_of}
+use Rattle.mwire.specs.Watched.{inner_of, calls_of, failed_of, stalls_of, counted_on}
 use Rattle.mwire.specs.Progress.{HasServed}
 use Rattle.mwire.proofs.serving.serve.Given as goal
 
@@ -10,7 +10,8 @@ invariant-loop-turn g l = record {
   served : HasServed profile (server_of l.initial.world) (server_of l.world)
       (g.R.Read.remaining (inner_of l.initial.reader)) (g.R.Read.remaining (inner_of l.reader))
       (g.W.Write.contents (inner_of l.initial.writer)) (g.W.Write.contents (inner_of l.writer)) l.line;
-  calls : calls_of l.reader ≡ min (calls_of l.initial.reader + l._turn) (2 ^ 64 - 1);
+  calls : calls_of l.reader ≡ counted_on (calls_of l.initial.reader) l._turn;
   reader_works : failed_of l.reader ≡ false;
   writer_works : failed_of l.writer ≡ false;
+  no_stall : stalls_of l.writer ≡ stalls_of l.initial.writer;
 }

@@ -5,7 +5,7 @@ use Rattle.mwire.proofs.Progresses.{Passes-nil, Passes-more, Passes-stop}
 use Rattle.mwire.proofs.serving.take_piece.Goals as goal
 
 pub loop-byte-init : goal.loop-byte-init
-loop-byte-init g c = record { passes = Passes-nil _ _ _ _ _; works = search rules }
+loop-byte-init g c = record { passes = Passes-nil _ _ _ _ _; works = search rules; no_stall = search rules }
 
 pub loop-byte-preserved : goal.loop-byte-preserved
 loop-byte-preserved g c =
@@ -13,6 +13,7 @@ loop-byte-preserved g c =
     record {
       passes = Passes-more _ _ _ _ _ _ _ _ _ _ _ _ _ _ lt c.loop-byte.invariant.passes c.in_ok-take_byte.ensures.passes;
       works = c.in_ok-take_byte.ensures.works (λ e. cc) ∙ c.loop-byte.invariant.works;
+      no_stall = c.in_ok-take_byte.ensures.no_stall (λ e. cc) ∙ c.loop-byte.invariant.no_stall;
     }
 
 pub returns-in_err-take_byte-clause-passes : goal.returns-in_err-take_byte-clause-passes

@@ -1,7 +1,7 @@
 use Rattle.std.proofs.Common.{◌≡◌, take, Ok}
 use Rattle.mworld.specs.Profile.{profile}
 use Rattle.mworld.specs.View.{server_of}
-use Rattle.mwire.specs.Watched.{inner_of, failed_of}
+use Rattle.mwire.specs.Watched.{inner_of, failed_of, stalls_of}
 use Rattle.mwire.specs.Progress.{Passes}
 use Rattle.mwire.specs.declared.fault.WireFault.{WireFault}
 use Rattle.mwire.proofs.serving.take_piece.Given as goal
@@ -11,4 +11,5 @@ invariant-loop-byte g l = record {
   passes : Passes {E = WireFault} profile (server_of l.initial.world) l.initial.line (take l.byte-index l.piece) (server_of l.world) l.line
       (g.W.Write.contents (inner_of l.initial.writer)) (g.W.Write.contents (inner_of l.writer)) (Ok tt);
   works : failed_of l.writer ≡ failed_of l.initial.writer;
+  no_stall : stalls_of l.writer ≡ stalls_of l.initial.writer;
 }

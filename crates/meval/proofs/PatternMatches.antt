@@ -5,9 +5,9 @@ use Rattle.std.specs.List.{list_any}
 use Rattle.std.proofs.lemmas.Bool.Decides.{same_from_decides}
 use Rattle.mspec.specs.Code as code
 use Rattle.mspec.specs.Pattern.{Atom, Matches}
-use Rattle.mspec.specs.Matching.{is_reversed, is_match}
+use Rattle.mgrammar.specs.Matching.{is_reversed, is_match}
 use Rattle.mspec.specs.Act.{Text, ◌>>◌, give, unless}
-use Rattle.mspec.proofs.Matchings.{decides_match}
+use Rattle.mgrammar.proofs.Matchings.{decides_match}
 use Rattle.mmeaning.specs.Operators.{matching}
 use Rattle.meval.specs.Yields.{Yields}
 use Rattle.meval.specs.declared.code.Code.TheVariants.{M10}

@@ -2,7 +2,7 @@
 use Rattle.std.proofs.Common.{◌≡◌, ℕ, zero, suc, ◌+◌, ◌-◌, ◌<◌, ◌≤◌, length, take, map, get_or, arith, List, [], ◌∷◌, ◌++◌, Result, Ok, Err, refl, sym, ap, ◌∙◌, subst}
 use Rattle.std.proofs.lemmas.List.{take_more, map_push}
 use Rattle.mspec.specs.Plan.{Plan, Done, Ask, then_plan}
-use Rattle.mspec.specs.Grammar.{SignTree}
+use Rattle.mgrammar.specs.Grammar.{SignTree}
 use Rattle.mspec.specs.Act.{Text, Outcome, Gives, Fails, Act, on_gives, ◌>>=◌, give}
 use Rattle.mmeaning.specs.Operators.{unary, unaries}
 use Rattle.mmeaning.proofs.Calls.{assoc}

@@ -1,7 +1,7 @@
 -- The views of trees, a level at a time.
 use Rattle.std.proofs.Common.{◌≡◌, ℕ, List, Vec, Box, Global, map, sym, ap, ◌∙◌}
-use Rattle.mspec.specs.Grammar as grammar
-use Rattle.mspec.specs.Grammar.{steps_of, exprs_of, choices_of, PrimaryTree, StepTree, ExprTree, OperandTree}
+use Rattle.mgrammar.specs.Grammar as grammar
+use Rattle.mgrammar.specs.Grammar.{steps_of, exprs_of, choices_of, PrimaryTree, StepTree, ExprTree, OperandTree}
 use Rattle.mtree.specs.Tree.{ChoiceTree, expr_tree, step_tree, operand_tree, primary_tree, choice_tree, sign_tree, binary_tree, atom_tree, primary_layer, step_layer, choice_layer, expr_layer, operand_layer}
 use Rattle.mtree.specs.declared.tree.Binary.{Binary}
 use Rattle.mtree.specs.declared.tree.Atom.{Atom}

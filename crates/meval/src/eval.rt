@@ -3,7 +3,7 @@ ghost use Rattle.std.specs.Prelude.{◌≡◌, ◌≤◌, [], map};
 ghost use Rattle.mmeaning.specs.Expression as meaning;
 ghost use Rattle.mmeaning.specs.Calls.{Evaluates};
 ghost use Rattle.mspec.specs.Act.{charge, get_local};
-ghost use Rattle.mspec.specs.Grammar.{exprs_of, choices_of};
+ghost use Rattle.mgrammar.specs.Grammar.{exprs_of, choices_of};
 ghost use Rattle.mtree.specs.Tree.{expr_tree, step_tree, operand_tree, primary_tree, choice_tree};
 ghost use Rattle.meval.specs.Codes.{code_of};
 ghost use Rattle.meval.specs.Values.{text_of};

@@ -1,6 +1,6 @@
 // The functions, of arguments that are values already.
 ghost use Rattle.std.specs.Prelude.{map};
-ghost use Rattle.mspec.specs.Grammar as grammar;
+ghost use Rattle.mgrammar.specs.Grammar as grammar;
 ghost use Rattle.mmeaning.specs.Functions as meaning;
 ghost use Rattle.mtree.specs.Tree.{function_tree};
 ghost use Rattle.meval.specs.Values.{text_of};

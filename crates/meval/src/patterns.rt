@@ -2,7 +2,7 @@
 ghost use Rattle.std.specs.Prelude.{◌≡◌, map, IfOk};
 ghost use Rattle.std.specs.List.{list_any};
 ghost use Rattle.mspec.specs.Literal.{digits_after};
-ghost use Rattle.mspec.specs.Matching.{pattern_code, bound_of, count_of as plain_count, repeated_of as plain_repeated, atom_of as plain_atom, is_reversed};
+ghost use Rattle.mgrammar.specs.Matching.{pattern_code, bound_of, count_of as plain_count, repeated_of as plain_repeated, atom_of as plain_atom, is_reversed};
 ghost use Rattle.mmeaning.specs.Operators as meaning;
 ghost use Rattle.mtree.specs.Tree.{count_tree, repeated_tree, atom_tree};
 ghost use Rattle.mtext.specs.PatternPlaces.{code_of, codes_of, count_of, repeated_of, atom_of, atoms_of};

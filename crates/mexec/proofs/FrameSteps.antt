@@ -1,6 +1,6 @@
 -- What the frames have still to do, a step of it at a time.
 use Rattle.std.proofs.Common.{◌≡◌, ◌<◌, ◌+◌, List, [], ◌∷◌, ◌++◌, length, map, drop, get_or, Ok, Err, refl, sym, ap, ◌∙◌, subst}
-use Rattle.mspec.specs.Grammar.{CommandTree, set, write}
+use Rattle.mgrammar.specs.Grammar.{CommandTree, set, write}
 use Rattle.mspec.specs.Plan.{Plan, Done, Ask, then_plan}
 use Rattle.mspec.specs.Act.{Act, Outcome, Gives, Fails, on_gives, charge, ◌>>=◌, ◌>>◌}
 use Rattle.mmeaning.specs.LineMeaning.{Signal, Go_on, command, commands}

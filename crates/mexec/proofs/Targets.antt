@@ -3,7 +3,7 @@ use Rattle.std.proofs.Common.{◌≡◌, ℕ, ◌+◌, ◌<◌, List, [], ◌∷
 use Rattle.std.specs.Prelude.{ℤ, unwrap_or}
 use Rattle.std.specs.Result.{IsErr, IsErrAnd}
 use Rattle.mspec.specs.Code as spec
-use Rattle.mspec.specs.Grammar.{TargetTree, ExprTree, one, several}
+use Rattle.mgrammar.specs.Grammar.{TargetTree, ExprTree, one, several}
 use Rattle.mspec.specs.Act.{Text, Act, Gives, ◌>>=◌, value_of, assigned_to, set_local}
 use Rattle.mspec.specs.TextFunctions.{set_piece_of}
 use Rattle.mmeaning.specs.Operators.{outcome}

@@ -1,8 +1,8 @@
 -- A text by its tree.
 use Rattle.std.proofs.Common.{◌≡◌, List, ℕ, Option, Some, None, Ok, Err, refl, sym, ap, ◌∙◌, subst}
-use Rattle.mspec.specs.Grammar.{LineTree, spell, well}
-use Rattle.mspec.specs.Reading.{line_at}
-use Rattle.mspec.proofs.ReadingLines.{line_takes, line_again}
+use Rattle.mgrammar.specs.Grammar.{LineTree, spell, well}
+use Rattle.mgrammar.specs.Reading.{line_at}
+use Rattle.mgrammar.proofs.ReadingLines.{line_takes, line_again}
 use Rattle.mmeaning.specs.LineMeaning.{Go_on, run}
 use Rattle.meval.specs.declared.code.Code.{Code}
 use Rattle.meval.specs.declared.code.Code.TheVariants.{Zsyntax}

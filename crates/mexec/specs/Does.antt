@@ -1,6 +1,6 @@
 -- What a call of this crate says of an act.
 use Rattle.std.specs.Prelude.{Bool, Option, Result}
-use Rattle.mspec.specs.Grammar.{CommandTree, set, write}
+use Rattle.mgrammar.specs.Grammar.{CommandTree, set, write}
 use Rattle.mspec.specs.Act.{Node, Act}
 use Rattle.mmeaning.specs.LineMeaning.{settings, writings}
 use Rattle.mmeaning.specs.Step.{World}

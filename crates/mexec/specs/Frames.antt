@@ -1,6 +1,6 @@
 -- What a line has still to do, read from the frames.
 use Rattle.std.specs.Prelude.{List, [], ◌∷◌, map, drop, Bool, Option, Result, Ok, Err}
-use Rattle.mspec.specs.Grammar.{CommandTree}
+use Rattle.mgrammar.specs.Grammar.{CommandTree}
 use Rattle.mspec.specs.Act.{Node, Act, give, ◌>>=◌}
 use Rattle.mmeaning.specs.LineMeaning.{Signal, Go_on, Quits, commands}
 use Rattle.mmeaning.specs.Step.{World}

@@ -1,6 +1,6 @@
 -- What a call that carries out a text says of the text's meaning.
 use Rattle.std.specs.Prelude.{Bool, Option}
-use Rattle.mspec.specs.Grammar.{LineTree}
+use Rattle.mgrammar.specs.Grammar.{LineTree}
 use Rattle.mspec.specs.Act.{Node, Act}
 use Rattle.mmeaning.specs.LineMeaning.{Signal}
 use Rattle.mmeaning.specs.Step.{World, text_run}

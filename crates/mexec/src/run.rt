@@ -1,6 +1,6 @@
 // A text, carried out.
 ghost use Rattle.std.specs.Prelude.{◌≡◌};
-ghost use Rattle.mspec.specs.Reading.{line_at};
+ghost use Rattle.mgrammar.specs.Reading.{line_at};
 ghost use Rattle.mexec.specs.Runs.{Runs};
 
 use crate::parts::Parts;

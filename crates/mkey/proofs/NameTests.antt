@@ -2,7 +2,7 @@
 use Rattle.std.proofs.Common.{ℕ, ◌≡◌, ◌<◌, ◌≤◌, Bool, true, List, [], ◌∷◌, length, get_or, drop, All, sym, subst, arith}
 use Rattle.std.proofs.lemmas.List.Elements.{All-nil, All-cons, All-head, All-tail}
 use Rattle.mspec.specs.Act.{Text}
-use Rattle.mspec.specs.Grammar.{AllAre, IsName, is_name_start, is_name_rest}
+use Rattle.mspec.specs.Names.{AllAre, IsName, is_name_start, is_name_rest}
 
 abbrev AllPass : (ℕ → Bool) → List ℕ → Type 0
 AllPass p cs = All (λ c. p c ≡ true) cs

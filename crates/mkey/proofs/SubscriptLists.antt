@@ -3,7 +3,7 @@ use Rattle.std.proofs.Common.{ℕ, ◌≡◌, ◌<◌, List, [], ◌∷◌, ◌+
 use Rattle.std.proofs.lemmas.List.Concat.{flat_map-append}
 use Rattle.std.proofs.lemmas.List.Elements.{All-head, All-tail}
 use Rattle.mspec.specs.Act.{Text, Node}
-use Rattle.mspec.specs.Grammar.{IsName}
+use Rattle.mspec.specs.Names.{IsName}
 use Rattle.mspec.specs.KeyBytes.{text_bytes, subscript_bytes, subscripts_bytes, local_bytes, key_bytes, IsSubscript, IsAscii, IsAccountName, IsStored}
 use Rattle.mspec.specs.KeyLaws.{NoneEmpty}
 use Rattle.mspec.proofs.KeyRanges.{IsBehind, subscripts_split, text_split}

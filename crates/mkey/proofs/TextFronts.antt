@@ -6,7 +6,7 @@ use Rattle.std.proofs.lemmas.List.{map-append}
 use Rattle.std.proofs.lemmas.Bool.Decides.{nat_tests}
 use Rattle.std.proofs.lemmas.List.Elements.{All-nil, All-cons}
 use Rattle.mspec.specs.Act.{Text}
-use Rattle.mspec.specs.Grammar.{AllAre, IsName, is_name_rest, is_name_start}
+use Rattle.mspec.specs.Names.{AllAre, IsName, is_name_rest, is_name_start}
 use Rattle.mspec.specs.KeyBytes.{text_bytes, IsAscii}
 use Rattle.mspec.proofs.KeyRanges.{text_split}
 use Rattle.mkey.specs.Front.{IsFront, BeginsWithNo}

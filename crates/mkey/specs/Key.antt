@@ -4,7 +4,7 @@ use Rattle.std.proofs.Common.{sym, ◌∙◌}
 use Rattle.std.specs.Coded.{Coded-set, coded_ℕ, coded_bool, coded_list, ×_prop, le_prop, Unit-prop}
 use mathlib.Core.HLevel.{Σ_prop_path}
 use Rattle.mspec.specs.Act.{Text, Node}
-use Rattle.mspec.specs.Grammar.{IsName, AllAre}
+use Rattle.mspec.specs.Names.{IsName, AllAre}
 use Rattle.mspec.specs.KeyBytes.{key_bytes, IsStored}
 use Rattle.mspec.specs.KeyLaws.{IsBetween, NoneEmpty}
 use Rattle.mspec.specs.Number.{significant_digits}

@@ -4,7 +4,7 @@ ghost use Rattle.mkey.specs.Front.{IsFront, BeginsWithNo, IsSub, AreSubs};
 ghost use Rattle.mkey.specs.Key.{IsKeyOf};
 ghost use Rattle.mnum.specs.Num.{units};
 ghost use Rattle.mspec.specs.Act.{Node};
-ghost use Rattle.mspec.specs.Grammar.{IsName};
+ghost use Rattle.mspec.specs.Names.{IsName};
 ghost use Rattle.mspec.specs.KeyBytes.{big_endian, text_bytes, raised, subscript_by, subscript_bytes, subscripts_bytes, key_bytes, IsAccountName, IsAscii, AreSubscripts, IsStored};
 ghost use Rattle.mspec.specs.NodeOrder.{canonical_value};
 ghost use Rattle.mspec.specs.Number.{significant_digits, IsNumber};

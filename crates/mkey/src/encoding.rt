@@ -1,7 +1,7 @@
 // The bytes of texts, numbers and subscripts, put into room that is there.
 ghost use Rattle.std.specs.Prelude.{◌≡◌, ℤ, ◌+◌, ◌*◌, ◌^◌, ◌<◌, ◌≤◌, ◌++◌, All, length, unsigned_abs, vec_len, vec_capacity, OnOk, OnErr};
 ghost use Rattle.mkey.specs.Room.{room_of, total_room};
-ghost use Rattle.mspec.specs.Grammar.{IsName};
+ghost use Rattle.mspec.specs.Names.{IsName};
 ghost use Rattle.mspec.specs.KeyBytes.{text_bytes, raised, number_bytes, subscript_bytes, subscripts_bytes, local_bytes, AreSubscripts, IsAscii};
 ghost use Rattle.mspec.specs.Number.{significant_digits};
 

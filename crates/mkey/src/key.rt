@@ -3,7 +3,7 @@ ghost use Rattle.std.specs.Prelude.{◌≡◌, ◌↔◌, ◌<◌, [], ◌∷◌
 ghost use Rattle.std.specs.Cmp.{partial_equiv_from_equiv, partial_order_from_total, eq_by_cmp_equiv};
 ghost use Rattle.std.specs.Ordering.{eq_by_cmp};
 ghost use Rattle.mkey.specs.Key.{IsKey, IsKey-prop, BoundsKeysOf};
-ghost use Rattle.mspec.specs.Grammar.{IsName};
+ghost use Rattle.mspec.specs.Names.{IsName};
 ghost use Rattle.mspec.specs.KeyBytes.{key_bytes, children_start, subtree_end, IsAccountName, AreSubscripts, IsStored};
 ghost use Rattle.mspec.specs.KeyLaws.{BeginsWith, IsWithin};
 ghost use Rattle.mspec.specs.NodeOrder.{IsAncestor, node_cmp};

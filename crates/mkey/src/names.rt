@@ -1,6 +1,6 @@
 // Names of accounts and of globals.
 ghost use Rattle.std.specs.Prelude.{◌≡◌, ◌↔◌, All, IsTrue, true};
-ghost use Rattle.mspec.specs.Grammar.{IsName, is_name_start, is_name_rest};
+ghost use Rattle.mspec.specs.Names.{IsName, is_name_start, is_name_rest};
 ghost use Rattle.mspec.specs.KeyBytes.{IsAccountName};
 
 use mnum::Bytes7;

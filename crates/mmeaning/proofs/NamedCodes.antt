@@ -5,8 +5,8 @@ use Rattle.std.specs.FinMap.{get}
 use Rattle.mspec.specs.Plan.{Plan, Done, Ask, Ops, perform}
 use Rattle.mspec.specs.Act.{Text, State, Outcome, Gives, Fails, Act, charge, value_of}
 use Rattle.mspec.specs.TextFunctions.{set_piece_of}
-use Rattle.mspec.specs.Grammar.{ExprTree, TargetTree, variable, piece, AssignmentTree, OutputTree, breaks, value as value_tree, CommandTree, set, write as write_tree, LineTree}
-use Rattle.mspec.specs.Reading.{line_at}
+use Rattle.mgrammar.specs.Grammar.{ExprTree, TargetTree, variable, piece, AssignmentTree, OutputTree, breaks, value as value_tree, CommandTree, set, write as write_tree, LineTree}
+use Rattle.mgrammar.specs.Reading.{line_at}
 use Rattle.mmeaning.specs.Operators.{outcome}
 use Rattle.mmeaning.specs.Functions.{as_whole_or_none}
 use Rattle.mmeaning.specs.Expression.{value}

@@ -11,9 +11,9 @@ use Rattle.mspec.specs.Pieces.{join, pieces_of}
 use Rattle.mspec.specs.TextFunctions.{longest_text, made, to_place, with_piece, may_be_set, set_piece_of}
 use Rattle.mspec.specs.CharacterFunctions.{is_over_ascii, character_of, char_of}
 use Rattle.mspec.specs.Pattern.{Atom}
-use Rattle.mspec.specs.Matching.{atom_of, is_reversed}
-use Rattle.mspec.specs.Grammar as grammar
-use Rattle.mspec.specs.Grammar.{SignTree, plus, minus, negate, TruthTree, BinaryTree, FunctionTree, ascii_function, char_function, extract_function, find_function, justify_function, length_function, piece_function, select_function, translate_function, function_of, ExprTree, expr, StepsTree, no_steps, step, StepTree, apply, matches, matches_not, OperandTree, operand, PrimaryTree, number, text, local, bracket, call, select, ExprsTree, no_exprs, exprs, ChoicesTree, no_choices, choice}
+use Rattle.mgrammar.specs.Matching.{atom_of, is_reversed}
+use Rattle.mgrammar.specs.Grammar as grammar
+use Rattle.mgrammar.specs.Grammar.{SignTree, plus, minus, negate, TruthTree, BinaryTree, FunctionTree, ascii_function, char_function, extract_function, find_function, justify_function, length_function, piece_function, select_function, translate_function, function_of, ExprTree, expr, StepsTree, no_steps, step, StepTree, apply, matches, matches_not, OperandTree, operand, PrimaryTree, number, text, local, bracket, call, select, ExprsTree, no_exprs, exprs, ChoicesTree, no_choices, choice}
 use Rattle.mmeaning.specs.Operators.{as_number, as_truth, both_numbers, unary, unaries, arithmetic, division, of_numbers, truth, binary, matching}
 use Rattle.mmeaning.specs.Functions.{as_whole, as_whole_or_none, whole_at, wholes, function_value, named_value}
 use Rattle.mmeaning.specs.Expression.{value, steps_value, step_value, operand_value, primary_value, values, chosen}

@@ -6,8 +6,8 @@ use Rattle.std.specs.Prelude.{cond, not, List, [], ◌∷◌, ◌++◌, map}
 use Rattle.mspec.specs.Number.{significant_digits}
 use Rattle.mspec.specs.NumberText.{numeric_value}
 use Rattle.mspec.specs.Interpretations.{truth_text}
-use Rattle.mspec.specs.Matching.{atom_of}
-use Rattle.mspec.specs.Grammar.{ExprTree, expr, StepsTree, no_steps, step, StepTree, apply, matches, matches_not, OperandTree, operand, PrimaryTree, number, text, local, bracket, call, select, ExprsTree, no_exprs, exprs, ChoicesTree, no_choices, choice}
+use Rattle.mgrammar.specs.Matching.{atom_of}
+use Rattle.mgrammar.specs.Grammar.{ExprTree, expr, StepsTree, no_steps, step, StepTree, apply, matches, matches_not, OperandTree, operand, PrimaryTree, number, text, local, bracket, call, select, ExprsTree, no_exprs, exprs, ChoicesTree, no_choices, choice}
 use Rattle.mspec.specs.Code.{M4}
 use Rattle.mspec.specs.Act.{Text, Act, ◌>>=◌, ◌>>◌, give, fail, charge, get_local}
 use Rattle.mmeaning.specs.Operators.{as_text, as_truth, unaries, binary, matching}

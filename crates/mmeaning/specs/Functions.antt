@@ -7,7 +7,7 @@ use Rattle.mspec.specs.NumberText.{number_text}
 use Rattle.mspec.specs.Interpretations.{whole_part}
 use Rattle.mspec.specs.TextFunctions.{piece_of, extract_of, find_of, piece_count, translate_of, justify_of}
 use Rattle.mspec.specs.CharacterFunctions.{ascii_of, char_of}
-use Rattle.mspec.specs.Grammar.{FunctionTree, ascii_function, char_function, extract_function, find_function, justify_function, length_function, piece_function, select_function, translate_function, function_of}
+use Rattle.mgrammar.specs.Grammar.{FunctionTree, ascii_function, char_function, extract_function, find_function, justify_function, length_function, piece_function, select_function, translate_function, function_of}
 use Rattle.mspec.specs.Code.{Zsyntax}
 use Rattle.mspec.specs.Act.{Text, Act, ◌>>=◌, give, fail}
 use Rattle.mmeaning.specs.Operators.{as_number, outcome}

@@ -4,7 +4,7 @@
 -- it stood in a command of its own.
 use Rattle.std.specs.Prelude.{ℕ, List, [], ◌∷◌, ◌++◌, map, replicate, Option, Some, None, unwrap_or}
 use Rattle.mspec.specs.TextFunctions.{set_piece_of}
-use Rattle.mspec.specs.Grammar.{ExprTree, TargetTree, variable, piece, DestinationTree, one, several, AssignmentTree, OutputTree, breaks, value as value_tree, CommandTree, set, write as write_tree, LineTree}
+use Rattle.mgrammar.specs.Grammar.{ExprTree, TargetTree, variable, piece, DestinationTree, one, several, AssignmentTree, OutputTree, breaks, value as value_tree, CommandTree, set, write as write_tree, LineTree}
 use Rattle.mspec.specs.Act.{Text, Act, Gives, ◌>>=◌, ◌>>◌, give, charge, write, value_of, set_local}
 use Rattle.mspec.specs.Plan.{Done}
 use Rattle.mmeaning.specs.Operators.{outcome}

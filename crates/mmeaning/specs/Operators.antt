@@ -12,8 +12,8 @@ use Rattle.mspec.specs.Interpretations.{is_true, truth_text}
 use Rattle.mspec.specs.NodeOrder.{text_cmp}
 use Rattle.mspec.specs.TextFunctions as texts
 use Rattle.mspec.specs.Pattern.{Atom}
-use Rattle.mspec.specs.Matching.{is_reversed, is_match}
-use Rattle.mspec.specs.Grammar.{SignTree, plus, minus, negate, TruthTree, equals, less, greater, contains, follows, sorts_after, both, either, BinaryTree, add, subtract, multiply, divide, divide_whole, remainder, join, is, is_not}
+use Rattle.mgrammar.specs.Matching.{is_reversed, is_match}
+use Rattle.mgrammar.specs.Grammar.{SignTree, plus, minus, negate, TruthTree, equals, less, greater, contains, follows, sorts_after, both, either, BinaryTree, add, subtract, multiply, divide, divide_whole, remainder, join, is, is_not}
 use Rattle.mspec.specs.Code.{Code, M9, M10, Zover}
 use Rattle.mspec.specs.Act.{Text, Act, ◌>>=◌, ◌>>◌, give, fail, give_some, unless}
 

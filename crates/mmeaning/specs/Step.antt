@@ -6,8 +6,9 @@ use Rattle.std.specs.FinMap.{FinMap, get, insert, remove}
 use Rattle.mspec.specs.Code.{Code, Zterm, Zline, Zchar, Zsyntax, Zmem, Zstore}
 use Rattle.mspec.specs.Plan.{Ops, Plan, perform, cut_short}
 use Rattle.mspec.specs.Act.{Text, Node, Locals, no_locals, State, Outcome, Gives, Fails, Act, fail}
-use Rattle.mspec.specs.Grammar.{LineTree, is_character}
-use Rattle.mspec.specs.Reading.{line_at}
+use Rattle.mspec.specs.Names.{is_character}
+use Rattle.mgrammar.specs.Grammar.{LineTree}
+use Rattle.mgrammar.specs.Reading.{line_at}
 use Rattle.mmeaning.specs.LineMeaning.{Signal, run}
 
 -- an account, and the steps that each of its lines may use

@@ -1,7 +1,7 @@
 -- What fails where an item of a loop or of a list fails, fails alike.
 use Rattle.std.proofs.Common.{◌≡◌, ℕ, ◌-◌, ◌<◌, List, Option, Some, refl}
-use Rattle.mspec.specs.Reading.{Read, with_front, past, many, after_comma, list_at}
-use Rattle.mspec.proofs.ReadingLoops.{fails_none}
+use Rattle.mgrammar.specs.Reading.{Read, with_front, past, many, after_comma, list_at}
+use Rattle.mgrammar.proofs.ReadingLoops.{fails_none}
 use Rattle.mparse.specs.Gives.{Fails}
 use Rattle.mparse.specs.declared.fault.ParseFault.{ParseFault}
 use Rattle.mparse.specs.declared.fault.ParseFault.TheVariants.{Syntax, Memory}

@@ -5,7 +5,7 @@ use Rattle.std.proofs.lemmas.Bool.Decides.{nat_tests}
 use Rattle.std.specs.List.{AllByRecursion}
 use Rattle.mparse.specs.declared.run.Class.{Class}
 use Rattle.mparse.specs.declared.run.Class.TheVariants as class
-use Rattle.mspec.specs.Reading.{run_of}
+use Rattle.mgrammar.specs.Reading.{run_of}
 use Rattle.mparse.specs.Classes.{in_class}
 
 class_below : (k : Class) (c : ℕ) → in_class k c ≡ true → c < 128

@@ -1,8 +1,9 @@
 -- Kinds of characters.
 use Rattle.std.specs.Prelude.{ℕ, Bool}
-use Rattle.mspec.specs.Grammar.{is_letter, is_name_start, is_name_rest, is_character, is_pattern_letter}
+use Rattle.mspec.specs.Names.{is_letter, is_name_start, is_name_rest, is_character}
+use Rattle.mgrammar.specs.Grammar.{is_pattern_letter}
 use Rattle.mspec.specs.Literal.{is_digit}
-use Rattle.mspec.specs.Reading.{is_space, is_bang, is_digit_or_point}
+use Rattle.mgrammar.specs.Reading.{is_space, is_bang, is_digit_or_point}
 use Rattle.mparse.specs.declared.run.Class.{Class}
 use Rattle.mparse.specs.declared.run.Class.TheVariants as class
 

@@ -1,6 +1,6 @@
 -- An operator of the parser, as what is read.
-use Rattle.mspec.specs.Reading as reading
-use Rattle.mspec.specs.Reading.{OperatorTree}
+use Rattle.mgrammar.specs.Reading as reading
+use Rattle.mgrammar.specs.Reading.{OperatorTree}
 use Rattle.mtree.specs.Tree.{binary_tree}
 use Rattle.mparse.specs.declared.operator.Operator.{Operator}
 use Rattle.mparse.specs.declared.operator.Operator.TheVariants as operator

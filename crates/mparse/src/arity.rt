@@ -1,6 +1,6 @@
 // How many arguments a function takes.
 ghost use Rattle.std.specs.Prelude.{◌≡◌};
-ghost use Rattle.mspec.specs.Grammar.{takes};
+ghost use Rattle.mgrammar.specs.Grammar.{takes};
 ghost use Rattle.mtree.specs.Tree.{function_tree};
 
 use mtree::Function;

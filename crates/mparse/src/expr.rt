@@ -1,7 +1,7 @@
 // Expressions.
 ghost use Rattle.std.specs.Prelude.{◌≡◌, ◌<◌, length, map, option_map};
-ghost use Rattle.mspec.specs.Grammar.{exprs_of, choices_of};
-ghost use Rattle.mspec.specs.Reading.{many, list_at, bracket_with, choice_with, select_with, call_with, function_with, primary_with, operand_with, step_by, step_with, expr_with, readers_at, inner_at};
+ghost use Rattle.mgrammar.specs.Grammar.{exprs_of, choices_of};
+ghost use Rattle.mgrammar.specs.Reading.{many, list_at, bracket_with, choice_with, select_with, call_with, function_with, primary_with, operand_with, step_by, step_with, expr_with, readers_at, inner_at};
 ghost use Rattle.mtree.specs.Tree.{function_tree, expr_tree, operand_tree, primary_tree, step_tree, choice_tree};
 ghost use Rattle.mparse.specs.Gives.{Gives};
 ghost use Rattle.mparse.specs.Operators.{operator_tree};
@@ -21,7 +21,7 @@ pub const MAX_DEPTH: u32 = 40;
 
 // An expression within which so many brackets may be open.
 #[cycle(expr)]
-#[tactic(auto, unfolding(mspec::specs::Reading::expr_with))]
+#[tactic(auto, unfolding(mgrammar::specs::Reading::expr_with))]
 pub fn expr(alloc: Global, bytes: &[u8], depth: u32) -> Result<(Expr, &[u8]), ParseFault>
     ensures { Gives (λ x. (expr_tree x.0, x.1.now)) result (expr_with (readers_at depth) bytes.now) }
 {
@@ -48,7 +48,7 @@ fn steps(alloc: Global, bytes: &[u8], depth: u32) -> Result<(Vec<Step>, &[u8]), 
 
 // The next step, where an operator begins.
 #[cycle(expr)]
-#[tactic(auto, unfolding(mspec::specs::Reading::step_with))]
+#[tactic(auto, unfolding(mgrammar::specs::Reading::step_with))]
 fn step(alloc: Global, bytes: &[u8], depth: u32) -> Result<Option<(Step, &[u8])>, ParseFault>
     ensures { Gives (λ o. option_map (λ x. (step_tree x.0, x.1.now)) o) result (step_with (readers_at depth) bytes.now) }
 {
@@ -60,7 +60,7 @@ fn step(alloc: Global, bytes: &[u8], depth: u32) -> Result<Option<(Step, &[u8])>
 
 // The step of this operator.
 #[cycle(expr)]
-#[tactic(auto, unfolding(mspec::specs::Reading::step_by))]
+#[tactic(auto, unfolding(mgrammar::specs::Reading::step_by))]
 fn step_by(
     alloc: Global,
     operator: Operator,
@@ -86,7 +86,7 @@ fn step_by(
 }
 
 #[cycle(expr)]
-#[tactic(auto, unfolding(mspec::specs::Reading::operand_with))]
+#[tactic(auto, unfolding(mgrammar::specs::Reading::operand_with))]
 fn operand(alloc: Global, bytes: &[u8], depth: u32) -> Result<(Operand, &[u8]), ParseFault>
     ensures { Gives (λ x. (operand_tree x.0, x.1.now)) result (operand_with (readers_at depth) bytes.now) }
 {
@@ -96,7 +96,7 @@ fn operand(alloc: Global, bytes: &[u8], depth: u32) -> Result<(Operand, &[u8]), 
 }
 
 #[cycle(expr)]
-#[tactic(auto, unfolding(mspec::specs::Reading::primary_with))]
+#[tactic(auto, unfolding(mgrammar::specs::Reading::primary_with))]
 fn primary(alloc: Global, bytes: &[u8], depth: u32) -> Result<(Primary, &[u8]), ParseFault>
     ensures { Gives (λ x. (primary_tree x.0, x.1.now)) result (primary_with (readers_at depth) bytes.now) }
 {
@@ -123,7 +123,7 @@ fn primary(alloc: Global, bytes: &[u8], depth: u32) -> Result<(Primary, &[u8]), 
 
 // The expression behind an opening bracket, where one bracket fewer may open.
 #[cycle(expr)]
-#[tactic(auto, unfolding(mspec::specs::Reading::readers_at))]
+#[tactic(auto, unfolding(mgrammar::specs::Reading::readers_at))]
 pub fn inner(alloc: Global, bytes: &[u8], depth: u32) -> Result<(Expr, &[u8]), ParseFault>
     ensures { Gives (λ x. (expr_tree x.0, x.1.now)) result (inner_at depth bytes.now) }
 {
@@ -135,7 +135,7 @@ pub fn inner(alloc: Global, bytes: &[u8], depth: u32) -> Result<(Expr, &[u8]), P
 
 // The rest of an expression in brackets, behind the bracket that opens it.
 #[cycle(expr)]
-#[tactic(auto, unfolding(mspec::specs::Reading::bracket_with))]
+#[tactic(auto, unfolding(mgrammar::specs::Reading::bracket_with))]
 fn bracket(alloc: Global, bytes: &[u8], depth: u32) -> Result<(Primary, &[u8]), ParseFault>
     ensures { Gives (λ x. (primary_tree x.0, x.1.now)) result (bracket_with (readers_at depth) bytes.now) }
 {
@@ -146,7 +146,7 @@ fn bracket(alloc: Global, bytes: &[u8], depth: u32) -> Result<(Primary, &[u8]), 
 
 // The rest of a function, behind its `$`.
 #[cycle(expr)]
-#[tactic(auto, unfolding(mspec::specs::Reading::function_with))]
+#[tactic(auto, unfolding(mgrammar::specs::Reading::function_with))]
 fn call_or_select(alloc: Global, bytes: &[u8], depth: u32) -> Result<(Primary, &[u8]), ParseFault>
     ensures { Gives (λ x. (primary_tree x.0, x.1.now)) result (function_with (readers_at depth) bytes.now) }
 {
@@ -165,7 +165,7 @@ fn call_or_select(alloc: Global, bytes: &[u8], depth: u32) -> Result<(Primary, &
 
 // The rest of a call of this function, behind its bracket.
 #[cycle(expr)]
-#[tactic(auto, unfolding(mspec::specs::Reading::call_with))]
+#[tactic(auto, unfolding(mgrammar::specs::Reading::call_with))]
 fn call(
     alloc: Global,
     function: Function,
@@ -185,7 +185,7 @@ fn call(
 
 // The rest of a `$SELECT`, behind its bracket.
 #[cycle(expr)]
-#[tactic(auto, unfolding(mspec::specs::Reading::select_with))]
+#[tactic(auto, unfolding(mgrammar::specs::Reading::select_with))]
 fn select(
     alloc: Global,
     word: Bytes7,
@@ -200,7 +200,7 @@ fn select(
 }
 
 #[cycle(expr)]
-#[tactic(auto, unfolding(mspec::specs::Reading::choice_with))]
+#[tactic(auto, unfolding(mgrammar::specs::Reading::choice_with))]
 fn choice(alloc: Global, bytes: &[u8], depth: u32) -> Result<(Choice, &[u8]), ParseFault>
     ensures { Gives (λ x. (choice_tree x.0, x.1.now)) result (choice_with (readers_at depth) bytes.now) }
 {

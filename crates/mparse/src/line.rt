@@ -1,7 +1,7 @@
 // Commands and lines.
 ghost use Rattle.std.specs.Prelude.{◌≡◌, length, map, IfOk, Err, option_map};
-ghost use Rattle.mspec.specs.Grammar.{OutputTree, LineTree, spell, well};
-ghost use Rattle.mspec.specs.Reading.{many, output_at, command_at, at_end, spaced_at, comment_at, line_at};
+ghost use Rattle.mgrammar.specs.Grammar.{OutputTree, LineTree, spell, well};
+ghost use Rattle.mgrammar.specs.Reading.{many, output_at, command_at, at_end, spaced_at, comment_at, line_at};
 ghost use Rattle.mtree.specs.Tree.{output_tree, command_tree, spaced_tree, line_tree};
 ghost use Rattle.mparse.specs.Gives.{Gives};
 
@@ -13,7 +13,7 @@ use mnum::Bytes7;
 use mtree::{Assignment, Command, Keyword, Line, Output, Spaced, keyword_of};
 use std::alloc::Global;
 
-#[tactic(auto, unfolding(mspec::specs::Reading::output_at))]
+#[tactic(auto, unfolding(mgrammar::specs::Reading::output_at))]
 fn output(alloc: Global, bytes: &[u8]) -> Result<(Output, &[u8]), ParseFault>
     ensures { Gives (λ x. (output_tree x.0, x.1.now)) result (output_at bytes.now) }
 {
@@ -34,7 +34,7 @@ fn is_at_end(bytes: &[u8]) -> bool
     }
 }
 
-#[tactic(auto, unfolding(mspec::specs::Reading::comment_at))]
+#[tactic(auto, unfolding(mgrammar::specs::Reading::comment_at))]
 fn comment(alloc: Global, bytes: &[u8]) -> Result<Option<Bytes7>, ParseFault>
     ensures { Gives (λ o. o) result (comment_at bytes.now) }
 {
@@ -60,7 +60,7 @@ impl Item for Output {
     }
 }
 
-#[tactic(auto, unfolding(mspec::specs::Reading::command_at))]
+#[tactic(auto, unfolding(mgrammar::specs::Reading::command_at))]
 fn command(alloc: Global, bytes: &[u8]) -> Result<(Command, &[u8]), ParseFault>
     ensures { Gives (λ x. (command_tree x.0, x.1.now)) result (command_at bytes.now) }
 {
@@ -87,7 +87,7 @@ fn command(alloc: Global, bytes: &[u8]) -> Result<(Command, &[u8]), ParseFault>
     }
 }
 
-#[tactic(auto, unfolding(mspec::specs::Reading::spaced_at))]
+#[tactic(auto, unfolding(mgrammar::specs::Reading::spaced_at))]
 fn next_command(alloc: Global, bytes: &[u8]) -> Result<Option<(Spaced, &[u8])>, ParseFault>
     ensures { Gives (λ o. option_map (λ x. (spaced_tree x.0, x.1.now)) o) result (spaced_at bytes.now) }
 {
@@ -118,7 +118,7 @@ fn commands(alloc: Global, bytes: &[u8]) -> Result<(Vec<Spaced>, &[u8]), ParseFa
     Ok((all, rest))
 }
 
-#[tactic(auto, unfolding(mspec::specs::Reading::line_at))]
+#[tactic(auto, unfolding(mgrammar::specs::Reading::line_at))]
 fn line(alloc: Global, text: &[u8]) -> Result<Line, ParseFault>
     ensures { Gives (λ l. line_tree l) result (line_at text.now) }
 {

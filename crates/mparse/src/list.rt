@@ -1,6 +1,6 @@
 // Lists with commas between.
 ghost use Rattle.std.specs.Prelude.{ℕ, List, map};
-ghost use Rattle.mspec.specs.Reading.{Read, list_at};
+ghost use Rattle.mgrammar.specs.Reading.{Read, list_at};
 ghost use Rattle.mparse.specs.Gives.{Gives};
 
 use crate::fault::ParseFault;

@@ -1,6 +1,6 @@
 // Numbers.
 ghost use Rattle.std.specs.Prelude.{◌≡◌, ◌<◌, All};
-ghost use Rattle.mspec.specs.Reading.{one_sign, after_sign, with_point, with_exponent, number_at};
+ghost use Rattle.mgrammar.specs.Reading.{one_sign, after_sign, with_point, with_exponent, number_at};
 ghost use Rattle.mparse.specs.Gives.{Gives};
 
 use crate::fault::ParseFault;
@@ -9,7 +9,7 @@ use mnum::Bytes7;
 use std::alloc::Global;
 
 // Adds the point and the digits behind it that the text begins with, where it does, and gives what follows.
-#[tactic(auto, unfolding(mspec::specs::Reading::point_at))]
+#[tactic(auto, unfolding(mgrammar::specs::Reading::point_at))]
 fn fraction<'a>(bytes: &'a [u8], number: &mut Bytes7) -> Result<&'a [u8], ParseFault>
     ensures { Gives (λ rest. (number.new, rest.now)) result (with_point number.old bytes.now) }
 {
@@ -38,7 +38,7 @@ fn sign(bytes: &[u8]) -> (&[u8], &[u8])
 }
 
 // Adds the exponent that the text begins with, where it does, and gives what follows.
-#[tactic(auto, unfolding(mspec::specs::Reading::exponent_at))]
+#[tactic(auto, unfolding(mgrammar::specs::Reading::exponent_at))]
 fn exponent<'a>(bytes: &'a [u8], number: &mut Bytes7) -> Result<&'a [u8], ParseFault>
     ensures { Gives (λ rest. (number.new, rest.now)) result (with_exponent number.old bytes.now) }
 {
@@ -57,7 +57,7 @@ fn exponent<'a>(bytes: &'a [u8], number: &mut Bytes7) -> Result<&'a [u8], ParseF
 }
 
 // The longest number that the text begins with.
-#[tactic(auto, unfolding(mspec::specs::Reading::number_at))]
+#[tactic(auto, unfolding(mgrammar::specs::Reading::number_at))]
 pub fn number(alloc: Global, bytes: &[u8]) -> Result<(Bytes7, &[u8]), ParseFault>
     ensures { Gives (λ x. (x.0, x.1.now)) result (number_at bytes.now) }
 {

@@ -1,7 +1,7 @@
 // Runs of characters, names and strings.
 ghost use Rattle.std.specs.Prelude.{◌≡◌, ◌<◌, All, false, option_map};
-ghost use Rattle.mspec.specs.Grammar.{is_pattern_letter};
-ghost use Rattle.mspec.specs.Reading.{run_of, after_run, name_at, text_from, past};
+ghost use Rattle.mgrammar.specs.Grammar.{is_pattern_letter};
+ghost use Rattle.mgrammar.specs.Reading.{run_of, after_run, name_at, text_from, past};
 ghost use Rattle.mparse.specs.Classes.{in_class};
 ghost use Rattle.mparse.specs.Gives.{Gives};
 
@@ -93,7 +93,7 @@ pub fn expect(byte: u8, bytes: &[u8]) -> Result<&[u8], ParseFault>
 // A name is at most so long.
 const MAX_NAME: usize = 31;
 
-#[tactic(auto, unfolding(mspec::specs::Reading::name_at))]
+#[tactic(auto, unfolding(mgrammar::specs::Reading::name_at))]
 pub fn name(alloc: Global, bytes: &[u8]) -> Result<(Bytes7, &[u8]), ParseFault>
     ensures { Gives (λ x. (x.0, x.1.now)) result (name_at bytes.now) }
 {
@@ -111,7 +111,7 @@ pub fn name(alloc: Global, bytes: &[u8]) -> Result<(Bytes7, &[u8]), ParseFault>
 }
 
 // The rest of a string, behind the quote that opens it.
-#[tactic(auto, using(mspec::proofs::ReadingLoops::pushes))]
+#[tactic(auto, using(mgrammar::proofs::ReadingLoops::pushes))]
 pub fn text_after(alloc: Global, bytes: &[u8]) -> Result<(Bytes7, &[u8]), ParseFault>
     ensures { Gives (λ x. (x.0, x.1.now)) result (text_from false bytes.now) }
 {

@@ -1,7 +1,7 @@
 // What SET assigns to.
 ghost use Rattle.std.specs.Prelude.{◌-◌, option_map};
-ghost use Rattle.mspec.specs.Reading.{readers_at, place_with, piece_with, target_with, destination_at, assignment_at};
-ghost use Rattle.mspec.specs.Grammar.{TargetTree, AssignmentTree, max_depth};
+ghost use Rattle.mgrammar.specs.Reading.{readers_at, place_with, piece_with, target_with, destination_at, assignment_at};
+ghost use Rattle.mgrammar.specs.Grammar.{TargetTree, AssignmentTree, max_depth};
 ghost use Rattle.mtree.specs.Tree.{expr_tree, target_tree, destination_tree, assignment_tree};
 ghost use Rattle.mparse.specs.Gives.{Gives};
 
@@ -14,7 +14,7 @@ use mtree::{Assignment, Destination, Expr, Function, PieceTarget, Target, functi
 use std::alloc::Global;
 
 // The place behind the delimiter of a `$PIECE`, where one stands.
-#[tactic(auto, unfolding(mspec::specs::Reading::place_with))]
+#[tactic(auto, unfolding(mgrammar::specs::Reading::place_with))]
 fn place(alloc: Global, bytes: &[u8], depth: u32) -> Result<(Option<Expr>, &[u8]), ParseFault>
     ensures { Gives (λ x. (option_map expr_tree x.0, x.1.now)) result (place_with (readers_at depth) bytes.now) }
 {
@@ -26,7 +26,7 @@ fn place(alloc: Global, bytes: &[u8], depth: u32) -> Result<(Option<Expr>, &[u8]
 }
 
 // The rest of a `$PIECE` that is assigned to, behind its bracket.
-#[tactic(auto, unfolding(mspec::specs::Reading::piece_with))]
+#[tactic(auto, unfolding(mgrammar::specs::Reading::piece_with))]
 fn piece(
     alloc: Global,
     word: Bytes7,
@@ -49,7 +49,7 @@ fn piece(
     Ok((Target::Piece(piece), rest))
 }
 
-#[tactic(auto, unfolding(mspec::specs::Reading::target_with))]
+#[tactic(auto, unfolding(mgrammar::specs::Reading::target_with))]
 fn target(alloc: Global, bytes: &[u8], depth: u32) -> Result<(Target, &[u8]), ParseFault>
     ensures { Gives (λ x. (target_tree x.0, x.1.now)) result (target_with (readers_at depth) bytes.now) }
 {
@@ -81,7 +81,7 @@ impl Item for Target {
     }
 }
 
-#[tactic(auto, unfolding(mspec::specs::Reading::destination_at))]
+#[tactic(auto, unfolding(mgrammar::specs::Reading::destination_at))]
 fn destination(alloc: Global, bytes: &[u8]) -> Result<(Destination, &[u8]), ParseFault>
     ensures { Gives (λ x. (destination_tree x.0, x.1.now)) result (destination_at bytes.now) }
 {
@@ -97,7 +97,7 @@ fn destination(alloc: Global, bytes: &[u8]) -> Result<(Destination, &[u8]), Pars
     Ok((Destination::One(target), rest))
 }
 
-#[tactic(auto, unfolding(mspec::specs::Reading::assignment_at))]
+#[tactic(auto, unfolding(mgrammar::specs::Reading::assignment_at))]
 fn assignment(alloc: Global, bytes: &[u8]) -> Result<(Assignment, &[u8]), ParseFault>
     ensures { Gives (λ x. (assignment_tree x.0, x.1.now)) result (assignment_at bytes.now) }
 {

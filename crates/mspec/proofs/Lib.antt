@@ -7,18 +7,6 @@ pub mod CanonicalForm
 pub mod WholeTexts
 pub mod LongestLiteral
 pub mod NumberExamples
-pub mod ReadingBasics
-pub mod ReadingNumbers
-pub mod ReadingLists
-pub mod ReadingPatterns
-pub mod ReadingOperators
-pub mod ReadingTrees
-pub mod ReadingPrimaries
-pub mod ReadingExprs
-pub mod ReadingTargets
-pub mod ReadingLines
-pub mod ReadingLoops
-pub mod GrammarExamples
 pub mod Plans
 pub mod Maps
 pub mod HashMaps
@@ -31,6 +19,5 @@ pub mod NodeOrders
 pub mod KeyOrders
 pub mod KeyRanges
 pub mod KeyReadings
-pub mod Matchings
 pub mod ScopeValues
 pub mod ScopeFacts

@@ -6,7 +6,7 @@
 use Rattle.std.specs.Prelude.{◌≡◌, ℕ, zero, suc, ◌+◌, ◌/◌, ◌%◌, ◌^◌, ◌<◌, ◌≤◌, true, ◌||◌, List, [], ◌∷◌, ◌++◌, length, All, Option, Some, None, ℤ, pos, ◌+ℤ◌, unsigned_abs}
 use Rattle.std.specs.List.{flat_map}
 use Rattle.mspec.specs.Node.{Text, Node}
-use Rattle.mspec.specs.Grammar.{IsName, is_letter}
+use Rattle.mspec.specs.Names.{IsName, is_letter}
 use Rattle.mspec.specs.Literal.{is_digit}
 use Rattle.mspec.specs.NodeOrder.{canonical_value}
 

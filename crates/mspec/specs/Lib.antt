@@ -1,10 +1,8 @@
 pub mod Number
 pub mod Literal
+pub mod Names
 pub mod NumberText
 pub mod NumberLaws
-pub mod Grammar
-pub mod Reading
-pub mod GrammarLaws
 pub mod Code
 pub mod Plan
 pub mod Node
@@ -17,8 +15,6 @@ pub mod NodeOrder
 pub mod KeyBytes
 pub mod KeyLaws
 pub mod KeyReading
-pub mod Matching
-pub mod PatternLaws
 pub mod Interpretations
 pub mod CharacterFunctions
 pub mod Trees

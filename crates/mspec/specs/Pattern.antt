@@ -5,7 +5,7 @@
 -- its segments is left open, and one way of cutting is enough.
 use Rattle.std.specs.Prelude.{◌≡◌, ℕ, zero, suc, ◌≤◌, Bool, false, not, ◌&&◌, ◌||◌, ◌==◌, nat_le, List, [], ◌∷◌, ◌++◌, length, Option, Some, None}
 use Rattle.mspec.specs.Literal.{is_digit}
-use Rattle.mspec.specs.Grammar.{is_letter, is_character, AllAre}
+use Rattle.mspec.specs.Names.{is_letter, is_character, AllAre}
 
 -- ---- classes of characters; of 128 characters, so that a byte over 127 is in none
 

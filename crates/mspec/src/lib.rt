@@ -4,9 +4,7 @@
 //! an empty body.
 #![tactic(auto)]
 
-pub mod grammar_laws;
 pub mod key_laws;
 pub mod number_laws;
-pub mod pattern_laws;
 pub mod piece_laws;
 pub mod scope_laws;

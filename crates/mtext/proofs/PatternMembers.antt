@@ -3,7 +3,7 @@ use Rattle.std.proofs.Common.{ℕ, zero, suc, ◌≡◌, ◌+◌, ◌-◌, ◌<�
 use Rattle.std.proofs.lemmas.Bool.{cases_lt}
 use Rattle.std.proofs.lemmas.List.Edits.{length-between, get_or-between}
 use Rattle.std.specs.Prelude.{Option, Some, None, slice_range, Decides}
-use Rattle.mspec.specs.Grammar.{AllAre}
+use Rattle.mspec.specs.Names.{AllAre}
 use Rattle.mspec.specs.Pattern.{PatternCode, Count, IsAtMost, is_in_any, members}
 use Rattle.mtext.specs.PatternPlaces.{IsNear, IsEnd}
 

@@ -1,7 +1,7 @@
 -- A line of the program as a plain tree of the grammar.
 use Rattle.std.specs.Prelude.{map, option_map}
-use Rattle.mspec.specs.Grammar as grammar
-use Rattle.mspec.specs.Grammar.{SignTree, TruthTree, BinaryTree, KeywordTree, FunctionTree, CountTree, RepeatedTree, AtomTree, ExprTree, StepTree, steps_of, exprs_of, choices_of, OperandTree, PrimaryTree, TargetTree, DestinationTree, AssignmentTree, OutputTree, CommandTree, SpacedTree, LineTree}
+use Rattle.mgrammar.specs.Grammar as grammar
+use Rattle.mgrammar.specs.Grammar.{SignTree, TruthTree, BinaryTree, KeywordTree, FunctionTree, CountTree, RepeatedTree, AtomTree, ExprTree, StepTree, steps_of, exprs_of, choices_of, OperandTree, PrimaryTree, TargetTree, DestinationTree, AssignmentTree, OutputTree, CommandTree, SpacedTree, LineTree}
 use Rattle.mtree.specs.declared.tree.Sign.{Sign}
 use Rattle.mtree.specs.declared.tree.Sign.TheVariants as sign
 use Rattle.mtree.specs.declared.tree.Truth.{Truth}

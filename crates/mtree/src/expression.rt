@@ -1,6 +1,6 @@
 // The text of an expression.
 ghost use Rattle.std.specs.Prelude.{◌≡◌, ◌++◌, ◌<◌, ◌∷◌, [], OnOk, map};
-ghost use Rattle.mspec.specs.Grammar.{sign_char, spell_truth, spell_binary, spell_signs, spell_behind, spell_repeated, spell_atom, spell_atoms, spell_expr, steps_of, exprs_of, choices_of, spell_steps, spell_step, spell_operand, spell_primary, spell_exprs, spell_choices};
+ghost use Rattle.mgrammar.specs.Grammar.{sign_char, spell_truth, spell_binary, spell_signs, spell_behind, spell_repeated, spell_atom, spell_atoms, spell_expr, steps_of, exprs_of, choices_of, spell_steps, spell_step, spell_operand, spell_primary, spell_exprs, spell_choices};
 ghost use Rattle.mtree.specs.Tree.{sign_tree, truth_tree, binary_tree, repeated_tree, atom_tree, expr_tree, step_tree, operand_tree, primary_tree, choice_tree};
 
 use crate::pieces::{put_string, put_text};

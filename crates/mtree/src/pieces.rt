@@ -1,6 +1,6 @@
 // Texts, runs and strings, appended to the text of a line.
 ghost use Rattle.std.specs.Prelude.{◌≡◌, ◌++◌, ◌<◌, OnOk, replicate};
-ghost use Rattle.mspec.specs.Grammar.{quoted, spell_string};
+ghost use Rattle.mgrammar.specs.Grammar.{quoted, spell_string};
 
 use mnum::Bytes7;
 use std::alloc::AllocError;

@@ -1,6 +1,6 @@
 // Words of commands and of functions.
 ghost use Rattle.std.specs.Prelude.{◌≡◌, option_map};
-ghost use Rattle.mspec.specs.Grammar.{is_either, keyword_of, function_of};
+ghost use Rattle.mgrammar.specs.Grammar.{is_either, keyword_of, function_of};
 ghost use Rattle.mtree.specs.Tree.{keyword_tree, function_tree};
 
 use crate::tree::{Function, Keyword};
@@ -13,7 +13,7 @@ fn is_either(word: &[u8], short: &[u8], long: &[u8]) -> bool
 }
 
 /// What a command's word says: the whole word or its first letter, in either case of letters. Takes no memory.
-#[tactic(auto, unfolding(mspec::specs::Grammar::keyword_of))]
+#[tactic(auto, unfolding(mgrammar::specs::Grammar::keyword_of))]
 pub fn keyword_of(word: &[u8]) -> Option<Keyword>
     ensures { option_map keyword_tree result ≡ keyword_of word.now }
 {
@@ -28,7 +28,7 @@ pub fn keyword_of(word: &[u8]) -> Option<Keyword>
 
 /// What a function's word says, without its `$`: the whole word or its abbreviation, in either case of letters. Takes no
 /// memory.
-#[tactic(auto, unfolding(mspec::specs::Grammar::function_of))]
+#[tactic(auto, unfolding(mgrammar::specs::Grammar::function_of))]
 pub fn function_of(word: &[u8]) -> Option<Function>
     ensures { option_map function_tree result ≡ function_of word.now }
 {

@@ -1,6 +1,6 @@
 // The text of a line: each function appends the spelling of its part, as `mspec`'s grammar has it.
 ghost use Rattle.std.specs.Prelude.{◌≡◌, ◌++◌, ◌∷◌, [], IfOk, OnOk, map, option_map};
-ghost use Rattle.mspec.specs.Grammar.{spell_place, spell_target, spell_destination, spell_assignment, spell_output, spell_list, spell_command, spell_commands, spell};
+ghost use Rattle.mgrammar.specs.Grammar.{spell_place, spell_target, spell_destination, spell_assignment, spell_output, spell_list, spell_command, spell_commands, spell};
 ghost use Rattle.mtree.specs.Tree.{expr_tree, piece_tree, target_tree, destination_tree, assignment_tree, output_tree, command_tree, spaced_tree, line_tree};
 
 use crate::expression::{put_expr, put_word};

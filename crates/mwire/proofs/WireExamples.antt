@@ -7,8 +7,8 @@ use Rattle.std.specs.Fmt.{digits}
 use Rattle.std.specs.Str.Lines.{lines}
 use Rattle.mspec.specs.Number.{round, round_size, nearest, rounding_unit, digits_before}
 use Rattle.mspec.specs.NumberText.{numeric_value, literal_size, size_text}
-use Rattle.mspec.specs.Grammar.{keyword_of, function_of}
-use Rattle.mspec.specs.Reading.{many, list_at, point_at, exponent_at, number_at, name_at, count_at, repeated_at, atom_at, pattern_at, truth_at, operator_at, bracket_with, choice_with, select_with, call_with, function_with, primary_with, operand_with, step_by, step_with, expr_with, readers_at, place_with, piece_with, target_with, destination_at, assignment_at, output_at, command_at, spaced_at, comment_at, line_at}
+use Rattle.mgrammar.specs.Grammar.{keyword_of, function_of}
+use Rattle.mgrammar.specs.Reading.{many, list_at, point_at, exponent_at, number_at, name_at, count_at, repeated_at, atom_at, pattern_at, truth_at, operator_at, bracket_with, choice_with, select_with, call_with, function_with, primary_with, operand_with, step_by, step_with, expr_with, readers_at, place_with, piece_with, target_with, destination_at, assignment_at, output_at, command_at, spaced_at, comment_at, line_at}
 use Rattle.mmeaning.specs.Step.{Finished, Halted, Faulted}
 use Rattle.mmeaning.proofs.MeaningExamples.{alice}
 use Rattle.mspec.specs.Act.{Text}

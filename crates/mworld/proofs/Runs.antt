@@ -3,7 +3,7 @@ use Rattle.std.proofs.Common.{◌≡◌, ℕ, List, [], None, false, Ok, Vec, Gl
 use Rattle.std.specs.FinMap.{get, insert}
 use Rattle.mspec.specs.Plan.{perform}
 use Rattle.mspec.specs.Act.{Locals, Act, State, Gives, Fails}
-use Rattle.mspec.specs.Reading.{line_at}
+use Rattle.mgrammar.specs.Reading.{line_at}
 use Rattle.mmeaning.specs.LineMeaning.{Signal}
 use Rattle.mmeaning.specs.Step.{Session, Event, Server, Step, StepBy, normal, begun, kept, ended, session_or_new, text_run, is_failure}
 use Rattle.mmeaning.specs.Calls.{Standing, Here, FailedAs, ops_of, point}

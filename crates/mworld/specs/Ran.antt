@@ -1,7 +1,7 @@
 -- What a session's call that runs a text says of the text's meaning.
 use Rattle.std.specs.Prelude.{ℕ, []}
 use Rattle.mspec.specs.Act.{Text}
-use Rattle.mspec.specs.Reading.{line_at}
+use Rattle.mgrammar.specs.Reading.{line_at}
 use Rattle.mmeaning.specs.Step.{Session, World, text_run}
 use Rattle.mmeaning.specs.Calls.{Standing, point}
 use Rattle.mexec.specs.Runs.{EndsBy}

@@ -1,6 +1,6 @@
 use Rattle.std.proofs.Common.{◌≡◌, drop}
 use Rattle.std.specs.List.{list_any}
-use Rattle.mspec.specs.Matching.{is_reversed}
+use Rattle.mgrammar.specs.Matching.{is_reversed}
 use Rattle.mtext.specs.PatternPlaces.{atoms_of}
 use Rattle.meval.proofs.patterns.has_reversed.Given as goal
 

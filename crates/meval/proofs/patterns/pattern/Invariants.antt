@@ -1,5 +1,5 @@
 use Rattle.std.proofs.Common.{◌≡◌, ◌++◌, drop, map}
-use Rattle.mspec.specs.Matching.{atom_of}
+use Rattle.mgrammar.specs.Matching.{atom_of}
 use Rattle.mtree.specs.Tree.{atom_tree}
 use Rattle.mtext.specs.PatternPlaces.{atoms_of}
 use Rattle.meval.proofs.patterns.pattern.Given as goal

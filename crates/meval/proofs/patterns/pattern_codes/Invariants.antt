@@ -1,5 +1,5 @@
 use Rattle.std.proofs.Common.{◌≡◌, ◌++◌, drop, map}
-use Rattle.mspec.specs.Matching.{pattern_code}
+use Rattle.mgrammar.specs.Matching.{pattern_code}
 use Rattle.mtext.specs.PatternPlaces.{codes_of}
 use Rattle.meval.proofs.patterns.pattern_codes.Given as goal
 

@@ -1,5 +1,5 @@
 use Rattle.std.proofs.Common.{◌∙◌, ap, Err}
-use Rattle.mspec.specs.Reading.{line_at}
+use Rattle.mgrammar.specs.Reading.{line_at}
 use Rattle.mtree.specs.Tree.{line_tree}
 use Rattle.mexec.proofs.Texts.{none_at, some_at, refused, done, failed}
 use Rattle.mexec.proofs.run.run_text.Goals as goal

@@ -1,4 +1,4 @@
-use Rattle.mspec.specs.Grammar.{IsName}
+use Rattle.mspec.specs.Names.{IsName}
 use Rattle.mkey.proofs.TextFronts.{other_found, no_name, not_so}
 use Rattle.mkey.proofs.decoding.read_name.Goals as goal
 

@@ -1,7 +1,7 @@
 use Rattle.std.proofs.Common.{◌-◌, ◌<◌, sym, subst, length, take, drop, arith, length-drop}
 use Rattle.std.proofs.lemmas.Bool.Decides.{nat_tests}
 use Rattle.std.proofs.lemmas.List.{take_all}
-use Rattle.mspec.specs.Grammar.{IsName}
+use Rattle.mspec.specs.Names.{IsName}
 use Rattle.mkey.proofs.NameTests.{name_told}
 use Rattle.mkey.proofs.names.is_name.Goals as goal
 

@@ -1,6 +1,6 @@
 use Rattle.std.proofs.Common.{◌≡◌, ◌-◌, length, map}
 use Rattle.mtree.specs.Tree.{spaced_tree}
-use Rattle.mspec.specs.Reading.{with_front, many, spaced_at}
+use Rattle.mgrammar.specs.Reading.{with_front, many, spaced_at}
 use Rattle.mparse.proofs.line.commands.Given as goal
 
 abbrev pub invariant-loop : goal.invariant-loop

@@ -1,5 +1,5 @@
 use Rattle.std.proofs.Common.{◌≡◌, ◌-◌, map}
-use Rattle.mspec.specs.Reading.{with_front, many, after_comma, list_at}
+use Rattle.mgrammar.specs.Reading.{with_front, many, after_comma, list_at}
 use Rattle.mparse.proofs.list.list.Given as goal
 
 abbrev pub invariant-loop : goal.invariant-loop

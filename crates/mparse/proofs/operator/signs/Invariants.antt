@@ -1,5 +1,5 @@
 use Rattle.std.proofs.Common.{◌≡◌, ◌++◌, drop, map}
-use Rattle.mspec.specs.Reading.{signs_of, after_signs}
+use Rattle.mgrammar.specs.Reading.{signs_of, after_signs}
 use Rattle.mtree.specs.Tree.{sign_tree}
 use Rattle.mparse.proofs.operator.signs.Given as goal
 

@@ -2,8 +2,8 @@ use Rattle.std.proofs.Common.{◌≡◌, ◌++◌, ◌∷◌, [], length, map, r
 use Rattle.std.proofs.lemmas.Result.{err_from_is_err_and}
 use Rattle.std.proofs.lemmas.List.{map_push}
 use Rattle.mtree.specs.Tree.{atom_tree}
-use Rattle.mspec.specs.Reading.{many, atom_at}
-use Rattle.mspec.proofs.ReadingLoops.{goes_on, stops, is_done}
+use Rattle.mgrammar.specs.Reading.{many, atom_at}
+use Rattle.mgrammar.proofs.ReadingLoops.{goes_on, stops, is_done}
 use Rattle.mparse.proofs.Faults.{fails}
 use Rattle.mparse.proofs.pattern.atoms.Goals as goal
 use Rattle.mparse.proofs.pattern.atoms.Goals.{else-loop-test, then-loop-test+in_ok-item+in_default}

@@ -1,6 +1,6 @@
 use Rattle.std.proofs.Common.{◌≡◌, ◌-◌, length, map}
 use Rattle.mtree.specs.Tree.{atom_tree}
-use Rattle.mspec.specs.Reading.{with_front, many, atom_at}
+use Rattle.mgrammar.specs.Reading.{with_front, many, atom_at}
 use Rattle.mparse.proofs.pattern.atoms.Given as goal
 
 abbrev pub invariant-loop : goal.invariant-loop

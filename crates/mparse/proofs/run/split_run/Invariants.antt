@@ -1,5 +1,5 @@
 use Rattle.std.proofs.Common.{◌≡◌, ◌++◌, take, drop}
-use Rattle.mspec.specs.Reading.{run_of, after_run}
+use Rattle.mgrammar.specs.Reading.{run_of, after_run}
 use Rattle.mparse.specs.Classes.{in_class}
 use Rattle.mparse.proofs.run.split_run.Given as goal
 

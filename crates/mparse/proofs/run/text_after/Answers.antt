@@ -1,6 +1,6 @@
 use Rattle.std.proofs.Common.{arith}
 use Rattle.std.proofs.lemmas.Grind.{common_steps}
-use Rattle.mspec.proofs.ReadingLoops.{pushes}
+use Rattle.mgrammar.proofs.ReadingLoops.{pushes}
 use Rattle.mparse.proofs.run.text_after.Goals as goal
 use Rattle.mparse.proofs.run.text_after.Goals.{then-byte-eq34, then-quoted+in_ok-push, else-quoted, else-byte-eq34+else-quoted-2+then-has+in_ok-push-2}
 

@@ -1,5 +1,5 @@
 use Rattle.std.proofs.Common.{◌≡◌, false, drop}
-use Rattle.mspec.specs.Reading.{with_front, text_from}
+use Rattle.mgrammar.specs.Reading.{with_front, text_from}
 use Rattle.mparse.proofs.run.text_after.Given as goal
 
 abbrev pub invariant-loop-i : goal.invariant-loop-i

@@ -1,6 +1,6 @@
 use Rattle.std.proofs.Common.{◌≡◌, ◌++◌, drop, map}
 use Rattle.mtree.specs.Tree.{expr_tree, step_tree, choice_tree}
-use Rattle.mspec.specs.Grammar.{spell_steps, steps_of, spell_more_exprs, exprs_of, spell_more_choices, choices_of}
+use Rattle.mgrammar.specs.Grammar.{spell_steps, steps_of, spell_more_exprs, exprs_of, spell_more_choices, choices_of}
 use Rattle.mtree.proofs.expression.+expr.Given as goal
 
 abbrev pub invariant-put_steps-loop-step : goal.invariant-put_steps-loop-step

@@ -1,6 +1,6 @@
 use Rattle.std.proofs.Common.{◌≡◌, ◌++◌, drop, map}
 use Rattle.mtree.specs.Tree.{atom_tree}
-use Rattle.mspec.specs.Grammar.{spell_atoms}
+use Rattle.mgrammar.specs.Grammar.{spell_atoms}
 use Rattle.mtree.proofs.expression.put_atoms.Given as goal
 
 abbrev pub invariant-loop-atom : goal.invariant-loop-atom

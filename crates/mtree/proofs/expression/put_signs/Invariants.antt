@@ -1,6 +1,6 @@
 use Rattle.std.proofs.Common.{◌≡◌, ◌++◌, drop, map}
 use Rattle.mtree.specs.Tree.{sign_tree}
-use Rattle.mspec.specs.Grammar.{spell_signs}
+use Rattle.mgrammar.specs.Grammar.{spell_signs}
 use Rattle.mtree.proofs.expression.put_signs.Given as goal
 
 abbrev pub invariant-loop-sign : goal.invariant-loop-sign

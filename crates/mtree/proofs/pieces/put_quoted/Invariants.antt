@@ -1,5 +1,5 @@
 use Rattle.std.proofs.Common.{◌≡◌, ◌++◌, drop}
-use Rattle.mspec.specs.Grammar.{quoted}
+use Rattle.mgrammar.specs.Grammar.{quoted}
 use Rattle.mtree.proofs.pieces.put_quoted.Given as goal
 
 abbrev pub invariant-loop-byte : goal.invariant-loop-byte

@@ -1,6 +1,6 @@
 use Rattle.std.proofs.Common.{◌≡◌, ◌++◌, drop, map}
 use Rattle.mtree.specs.Tree.{assignment_tree}
-use Rattle.mspec.specs.Grammar.{spell_assignment, spell_more}
+use Rattle.mgrammar.specs.Grammar.{spell_assignment, spell_more}
 use Rattle.mtree.proofs.write.put_assignments.Given as goal
 
 abbrev pub invariant-loop-other : goal.invariant-loop-other

@@ -1,6 +1,6 @@
 use Rattle.std.proofs.Common.{◌≡◌, ◌++◌, drop, map}
 use Rattle.mtree.specs.Tree.{spaced_tree}
-use Rattle.mspec.specs.Grammar.{spell_commands}
+use Rattle.mgrammar.specs.Grammar.{spell_commands}
 use Rattle.mtree.proofs.write.put_commands.Given as goal
 
 abbrev pub invariant-loop-spaced : goal.invariant-loop-spaced

@@ -1,7 +1,7 @@
 use Rattle.std.proofs.Common.{◌≡◌, ◌≤◌, ℕ, [], map, drop, Result, Vec, Global}
 use Rattle.mmeaning.specs.Expression as meaning
 use Rattle.mmeaning.specs.Calls.{Evaluates}
-use Rattle.mspec.specs.Grammar.{steps_of, exprs_of, choices_of}
+use Rattle.mgrammar.specs.Grammar.{steps_of, exprs_of, choices_of}
 use Rattle.mtree.specs.Tree.{expr_tree, step_tree, choice_tree}
 use Rattle.meval.specs.Codes.{code_of}
 use Rattle.meval.specs.Values.{text_of}

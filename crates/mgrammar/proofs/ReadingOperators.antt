@@ -4,9 +4,9 @@ use Rattle.std.specs.Prelude.{◌||◌}
 use Rattle.std.specs.List.{list_any}
 use Rattle.std.proofs.lemmas.Bool.{eqb-true}
 use Rattle.std.proofs.lemmas.Bool.Decides.{nat_tests}
-use Rattle.mspec.specs.Grammar.{SignTree, plus, minus, negate, TruthTree, equals, less, greater, contains, follows, sorts_after, both, either, BinaryTree, add, subtract, multiply, divide, divide_whole, remainder, join, is, is_not, spell_signs, spell_truth, spell_binary}
-use Rattle.mspec.specs.Reading.{◌>>=◌, signs_of, after_signs, found, truths, arithmetic, follows_at, truth_at, OperatorTree, between, matching, matching_not, negated_at, plain_by, operator_at}
-use Rattle.mspec.proofs.ReadingBasics.{Stops, Begins, bind_some, chosen, some_is}
+use Rattle.mgrammar.specs.Grammar.{SignTree, plus, minus, negate, TruthTree, equals, less, greater, contains, follows, sorts_after, both, either, BinaryTree, add, subtract, multiply, divide, divide_whole, remainder, join, is, is_not, spell_signs, spell_truth, spell_binary}
+use Rattle.mgrammar.specs.Reading.{◌>>=◌, signs_of, after_signs, found, truths, arithmetic, follows_at, truth_at, OperatorTree, between, matching, matching_not, negated_at, plain_by, operator_at}
+use Rattle.mgrammar.proofs.ReadingBasics.{Stops, Begins, bind_some, chosen, some_is}
 
 -- ---- signs
 

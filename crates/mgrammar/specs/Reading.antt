@@ -1,7 +1,8 @@
 -- Reading a tree back from its text. No public clause cites these: they show that a text has one tree.
 use Rattle.std.specs.Prelude.{ℕ, zero, suc, ◌-◌, Bool, true, false, ◌&&◌, ◌||◌, ◌==◌, nat_le, nat_lt, if◌then◌else◌, List, [], ◌∷◌, ◌++◌, length, drop, Option, Some, None}
 use Rattle.mspec.specs.Literal.{is_digit}
-use Rattle.mspec.specs.Grammar.{SignTree, plus, minus, negate, TruthTree, equals, less, greater, contains, follows, sorts_after, both, either, BinaryTree, add, subtract, multiply, divide, divide_whole, remainder, join, is, is_not, CountTree, RepeatedTree, classes, copies, AtomTree, ExprTree, expr, StepTree, apply, matches, matches_not, steps_of, OperandTree, operand, PrimaryTree, number, text, local, bracket, call, select, exprs_of, choices_of, TargetTree, variable, piece, DestinationTree, one, several, AssignmentTree, OutputTree, breaks, value, CommandTree, set, write, SpacedTree, LineTree, is_letter, is_name_start, is_name_rest, is_character, KeywordTree, set_word, write_word, keyword_of, FunctionTree, ascii_function, char_function, extract_function, find_function, justify_function, length_function, piece_function, select_function, translate_function, function_of, takes, is_pattern_letter, max_depth}
+use Rattle.mspec.specs.Names.{is_letter, is_name_start, is_name_rest, is_character}
+use Rattle.mgrammar.specs.Grammar.{SignTree, plus, minus, negate, TruthTree, equals, less, greater, contains, follows, sorts_after, both, either, BinaryTree, add, subtract, multiply, divide, divide_whole, remainder, join, is, is_not, CountTree, RepeatedTree, classes, copies, AtomTree, ExprTree, expr, StepTree, apply, matches, matches_not, steps_of, OperandTree, operand, PrimaryTree, number, text, local, bracket, call, select, exprs_of, choices_of, TargetTree, variable, piece, DestinationTree, one, several, AssignmentTree, OutputTree, breaks, value, CommandTree, set, write, SpacedTree, LineTree, KeywordTree, set_word, write_word, keyword_of, FunctionTree, ascii_function, char_function, extract_function, find_function, justify_function, length_function, piece_function, select_function, translate_function, function_of, takes, is_pattern_letter, max_depth}
 
 -- what was read, and the text after it
 abbrev pub Read : Type 0 → Type 0

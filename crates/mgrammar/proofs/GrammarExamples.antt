@@ -1,8 +1,8 @@
 -- The grammar on examples, as proved equations: texts with their trees, and texts that have none.
 use Rattle.std.proofs.Common.{◌≡◌, ℕ, List, [], ◌∷◌, ◌++◌, Option, Some, None, refl}
 use Rattle.std.specs.Prelude.{codes, replicate}
-use Rattle.mspec.specs.Grammar.{plus, minus, negate, equals, less, greater, contains, follows, sorts_after, both, either, add, subtract, multiply, divide, divide_whole, remainder, join, is, is_not, CountTree, RepeatedTree, classes, copies, AtomTree, OperandTree, PrimaryTree, ExprTree, expr, StepTree, steps_of, apply, matches, matches_not, operand, number, text, local, bracket, call, select, exprs_of, choices_of, variable, piece, DestinationTree, one, several, breaks, value, set, write, LineTree, spell, keyword_of, function_of}
-use Rattle.mspec.specs.Reading.{many, list_at, point_at, exponent_at, number_at, name_at, count_at, repeated_at, atom_at, pattern_at, truth_at, operator_at, bracket_with, choice_with, select_with, call_with, function_with, primary_with, operand_with, step_by, step_with, expr_with, readers_at, place_with, piece_with, target_with, destination_at, assignment_at, output_at, command_at, spaced_at, comment_at, line_at}
+use Rattle.mgrammar.specs.Grammar.{plus, minus, negate, equals, less, greater, contains, follows, sorts_after, both, either, add, subtract, multiply, divide, divide_whole, remainder, join, is, is_not, CountTree, RepeatedTree, classes, copies, AtomTree, OperandTree, PrimaryTree, ExprTree, expr, StepTree, steps_of, apply, matches, matches_not, operand, number, text, local, bracket, call, select, exprs_of, choices_of, variable, piece, DestinationTree, one, several, breaks, value, set, write, LineTree, spell, keyword_of, function_of}
+use Rattle.mgrammar.specs.Reading.{many, list_at, point_at, exponent_at, number_at, name_at, count_at, repeated_at, atom_at, pattern_at, truth_at, operator_at, bracket_with, choice_with, select_with, call_with, function_with, primary_with, operand_with, step_by, step_with, expr_with, readers_at, place_with, piece_with, target_with, destination_at, assignment_at, output_at, command_at, spaced_at, comment_at, line_at}
 
 -- ---- short forms
 

@@ -10,10 +10,10 @@ use Rattle.std.proofs.lemmas.List.{take-append-drop, length-append}
 use Rattle.std.proofs.lemmas.Slice.Eq.{slice_eq-Decides}
 use Rattle.std.proofs.Math.Bool.{or-true}
 use Rattle.std.proofs.Math.Seq.{take-append_seam, drop-append_seam}
-use Rattle.mspec.specs.Grammar.{AllAre}
+use Rattle.mspec.specs.Names.{AllAre}
 use Rattle.mspec.specs.Pattern.{is_in_any, IsAtMost, Count, IsPermitted, Repeated, members, copies, copied, IsRepetition}
-use Rattle.mspec.specs.Matching.{is_at_most, is_permitted, any_up_to, is_repetition, is_match}
-use Rattle.mspec.specs.PatternLaws.{DecidesMatch}
+use Rattle.mgrammar.specs.Matching.{is_at_most, is_permitted, any_up_to, is_repetition, is_match}
+use Rattle.mgrammar.specs.PatternLaws.{DecidesMatch}
 
 both_are : (a b : Bool) → (a && b) ≡ true → (a ≡ true) × (b ≡ true)
 both_are true b e = (refl, e)

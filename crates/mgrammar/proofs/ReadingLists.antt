@@ -1,8 +1,8 @@
 -- The laws of reading a list of items.
 use Rattle.std.proofs.Common.{◌≡◌, ℕ, zero, suc, ◌<◌, ◌≤◌, Bool, eqb, List, [], ◌∷◌, ◌++◌, length, Option, Some, None, refl, sym, ap, subst, ◌∙◌, append_assoc, arith, length-append}
-use Rattle.mspec.specs.Grammar.{spell_more, spell_list, WellAll, WellList}
-use Rattle.mspec.specs.Reading.{Read, ◌>>=◌, past, many, more_by, comma_by, after_comma, list_at}
-use Rattle.mspec.proofs.ReadingBasics.{Takes, Again, Stops, bind_some, some_is, past_takes}
+use Rattle.mgrammar.specs.Grammar.{spell_more, spell_list, WellAll, WellList}
+use Rattle.mgrammar.specs.Reading.{Read, ◌>>=◌, past, many, more_by, comma_by, after_comma, list_at}
+use Rattle.mgrammar.proofs.ReadingBasics.{Takes, Again, Stops, bind_some, some_is, past_takes}
 
 -- the texts of the items, one after another
 abbrev pub each : {A : Type 0} → (A → List ℕ) → List A → List ℕ

@@ -1,6 +1,6 @@
 -- The laws of the grammar. The functions of src/ named after them carry them.
 use Rattle.std.specs.Prelude.{◌≡◌}
-use Rattle.mspec.specs.Grammar.{LineTree, spell, well}
+use Rattle.mgrammar.specs.Grammar.{LineTree, spell, well}
 
 -- no text has two trees
 abbrev pub OneTree : Type 0

@@ -3,10 +3,11 @@
 -- Restates productions of ISO/IEC 11756:1999, each named at its rule by its name in the standard's metalanguage. Nothing
 -- reads here: a text has a tree where a tree that is `well` spells it. A tree keeps what the text says beside the meaning:
 -- words as they are written, digits, spaces.
-use Rattle.std.specs.Prelude.{◌≡◌, ℕ, suc, ◌-◌, ◌<◌, ◌≤◌, Bool, true, false, ◌&&◌, ◌||◌, ◌==◌, nat_le, nat_lt, if◌then◌else◌, List, [], ◌∷◌, ◌++◌, length, replicate, codes, Option, Some, None}
+use Rattle.std.specs.Prelude.{◌≡◌, ℕ, suc, ◌-◌, ◌<◌, ◌≤◌, Bool, true, false, ◌&&◌, ◌||◌, ◌==◌, nat_le, if◌then◌else◌, List, [], ◌∷◌, ◌++◌, length, replicate, codes, Option, Some, None}
 use Rattle.std.specs.List.{list_any}
 use Rattle.std.specs.Str.{str_eq_ignore_ascii_case}
 use Rattle.mspec.specs.Literal.{is_digit, Literal, IsLiteral, spell_literal}
+use Rattle.mspec.specs.Names.{is_letter, is_character, AllAre, IsName, upper_case}
 
 -- ---- trees
 
@@ -280,32 +281,9 @@ spell l = replicate l.lead 32 ++ (spell_commands l.commands ++ spell_comment l.c
 
 -- ---- characters and words
 
--- `alpha` in either case
-abbrev pub is_letter : ℕ → Bool
-is_letter c = (nat_le 65 c && nat_le c 90) || (nat_le 97 c && nat_le c 122)
-
-abbrev pub is_name_start : ℕ → Bool
-is_name_start c = is_letter c || c == 37
-
-abbrev pub is_name_rest : ℕ → Bool
-is_name_rest c = is_letter c || is_digit c
-
--- of the character set of mserve: ASCII
-abbrev pub is_character : ℕ → Bool
-is_character c = nat_lt c 128
-
-abbrev pub AllAre : (ℕ → Bool) → List ℕ → Type 0
-AllAre p [] = Unit {0}
-AllAre p (c ∷ cs) = (p c ≡ true) × AllAre p cs
-
 -- `numlit`
 abbrev pub IsNumber : List ℕ → Type 0
 IsNumber t = (l : Literal) × IsLiteral l × (spell_literal l ≡ t)
-
--- `name`: of at most 31 characters, which the standard leaves open
-abbrev pub IsName : List ℕ → Type 0
-IsName [] = ⊥
-IsName (c ∷ cs) = (is_name_start c ≡ true) × AllAre is_name_rest cs × (length cs ≤ 30)
 
 pub data KeywordTree : Type 0 where
   set_word : KeywordTree
@@ -359,9 +337,6 @@ takes length_function n = is_between 1 2 n
 takes piece_function n = is_between 2 4 n
 takes select_function n = false
 takes translate_function n = is_between 2 3 n
-
-abbrev pub upper_case : ℕ → ℕ
-upper_case c = if nat_le 97 c && nat_le c 122 then c - 32 else c
 
 -- `patcode`, in either case of letters
 abbrev pub is_pattern_letter : ℕ → Bool

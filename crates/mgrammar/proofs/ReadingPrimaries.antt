@@ -3,13 +3,14 @@ use Rattle.std.proofs.Common.{◌≡◌, ℕ, ◌<◌, Bool, true, false, cond, 
 use Rattle.std.specs.Prelude.{◌||◌}
 use Rattle.std.proofs.lemmas.Bool.{eqb-true}
 use Rattle.std.proofs.lemmas.Bool.Decides.{nat_tests}
-use Rattle.mspec.specs.Grammar.{ExprTree, PrimaryTree, number, text, local, bracket, call, select, ExprsTree, exprs_of, ChoicesTree, choices_of, quoted, spell_expr, spell_primary, spell_exprs, spell_choices, spell_list, is_letter, is_name_start, is_name_rest, is_character, AllAre, IsName, FunctionTree, ascii_function, char_function, extract_function, find_function, justify_function, length_function, piece_function, select_function, translate_function, function_of, takes, exprs_count, IsCall, WellPrimary, WellAll, WellList}
-use Rattle.mspec.specs.Reading.{◌>>=◌, run_of, after_run, number_at, is_digit_or_point, name_at, text_from, past, list_at, Readers, is_select, bracket_with, choice_with, select_with, call_with, function_by, function_with, primary_with}
-use Rattle.mspec.proofs.ReadingBasics.{Takes, Again, Stops, Stops-weaker, Begins, Begins-weaker, Begins-append, goes_on, bind_some, chosen, some_is, run_parts, run_again, past_takes, name_takes, name_again, text_takes, text_again}
-use Rattle.mspec.proofs.ReadingNumbers.{number_takes, number_again, number_begins, goes_on_number}
-use Rattle.mspec.proofs.ReadingOperators.{is_operator}
-use Rattle.mspec.proofs.ReadingLists.{list_takes, list_again}
-use Rattle.mspec.proofs.ReadingTrees.{WellInner, exprs_list, exprs_back, spell_exprs-list, count-length, exprs_well, exprs_inner, spell_choice, WellChoice, choices_list, choices_back, spell_choices-list, choices_well, choices_inner}
+use Rattle.mspec.specs.Names.{is_letter, is_name_start, is_name_rest, is_character, AllAre, IsName}
+use Rattle.mgrammar.specs.Grammar.{ExprTree, PrimaryTree, number, text, local, bracket, call, select, ExprsTree, exprs_of, ChoicesTree, choices_of, quoted, spell_expr, spell_primary, spell_exprs, spell_choices, spell_list, FunctionTree, ascii_function, char_function, extract_function, find_function, justify_function, length_function, piece_function, select_function, translate_function, function_of, takes, exprs_count, IsCall, WellPrimary, WellAll, WellList}
+use Rattle.mgrammar.specs.Reading.{◌>>=◌, run_of, after_run, number_at, is_digit_or_point, name_at, text_from, past, list_at, Readers, is_select, bracket_with, choice_with, select_with, call_with, function_by, function_with, primary_with}
+use Rattle.mgrammar.proofs.ReadingBasics.{Takes, Again, Stops, Stops-weaker, Begins, Begins-weaker, Begins-append, goes_on, bind_some, chosen, some_is, run_parts, run_again, past_takes, name_takes, name_again, text_takes, text_again}
+use Rattle.mgrammar.proofs.ReadingNumbers.{number_takes, number_again, number_begins, goes_on_number}
+use Rattle.mgrammar.proofs.ReadingOperators.{is_operator}
+use Rattle.mgrammar.proofs.ReadingLists.{list_takes, list_again}
+use Rattle.mgrammar.proofs.ReadingTrees.{WellInner, exprs_list, exprs_back, spell_exprs-list, count-length, exprs_well, exprs_inner, spell_choice, WellChoice, choices_list, choices_back, spell_choices-list, choices_well, choices_inner}
 
 -- ---- what may follow
 

@@ -6,7 +6,8 @@ use Rattle.std.specs.Prelude.{ℕ, zero, suc, ◌+◌, Bool, true, not, ◌&&◌
 use Rattle.std.specs.List.{list_all}
 use Rattle.std.specs.Cmp.Lexicographic.{pointwise}
 use Rattle.mspec.specs.Literal.{digits_after}
-use Rattle.mspec.specs.Grammar.{CountTree, RepeatedTree, AtomTree, classes, copies as copies_tree, upper_case}
+use Rattle.mspec.specs.Names.{upper_case}
+use Rattle.mgrammar.specs.Grammar.{CountTree, RepeatedTree, AtomTree, classes, copies as copies_tree}
 use Rattle.mspec.specs.Pattern.{PatternCode, letter, control, everything, lower, numeral, punctuation, upper, is_in_any, Count, Repeated, members, copies, copied, Atom}
 
 -- ---- the pattern of a tree

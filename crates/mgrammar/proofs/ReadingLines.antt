@@ -4,13 +4,14 @@ use Rattle.std.specs.Prelude.{nat_lt, ◌||◌}
 use Rattle.std.proofs.lemmas.Bool.{eqb-true}
 use Rattle.std.proofs.lemmas.Bool.Decides.{nat_tests}
 use Rattle.std.proofs.lemmas.List.{append-nil, length-replicate}
-use Rattle.mspec.specs.Grammar.{OutputTree, breaks, value, CommandTree, set, write, SpacedTree, LineTree, spell_expr, spell_assignment, spell_output, spell_list, spell_command, spell_commands, spell_comment, spell, is_letter, is_character, KeywordTree, set_word, write_word, keyword_of, max_depth, AllAre, WellAssignment, WellOutput, WellCommand, WellCommands, WellComment, well}
-use Rattle.mspec.specs.Reading.{◌>>=◌, run_of, after_run, many, more_by, expr_at, readers_at, list_at, assignment_at, is_bang, output_by, output_at, arguments_by, command_by, command_at, is_space, at_end, spaced, spaced_at, comment_by, comment_at, line_at}
-use Rattle.mspec.proofs.ReadingBasics.{Takes, Again, Stops, Begins-stops, Begins-append, bind_some, chosen, some_is, run_parts, run_again}
-use Rattle.mspec.proofs.ReadingLists.{is_comma, list_takes, list_again}
-use Rattle.mspec.proofs.ReadingPrimaries.{Ends}
-use Rattle.mspec.proofs.ReadingExprs.{begins_operand, expr_begins, inner_takes, inner_again, expr_takes, expr_again}
-use Rattle.mspec.proofs.ReadingTargets.{assignment_takes, assignment_again}
+use Rattle.mspec.specs.Names.{is_letter, is_character, AllAre}
+use Rattle.mgrammar.specs.Grammar.{OutputTree, breaks, value, CommandTree, set, write, SpacedTree, LineTree, spell_expr, spell_assignment, spell_output, spell_list, spell_command, spell_commands, spell_comment, spell, KeywordTree, set_word, write_word, keyword_of, max_depth, WellAssignment, WellOutput, WellCommand, WellCommands, WellComment, well}
+use Rattle.mgrammar.specs.Reading.{◌>>=◌, run_of, after_run, many, more_by, expr_at, readers_at, list_at, assignment_at, is_bang, output_by, output_at, arguments_by, command_by, command_at, is_space, at_end, spaced, spaced_at, comment_by, comment_at, line_at}
+use Rattle.mgrammar.proofs.ReadingBasics.{Takes, Again, Stops, Begins-stops, Begins-append, bind_some, chosen, some_is, run_parts, run_again}
+use Rattle.mgrammar.proofs.ReadingLists.{is_comma, list_takes, list_again}
+use Rattle.mgrammar.proofs.ReadingPrimaries.{Ends}
+use Rattle.mgrammar.proofs.ReadingExprs.{begins_operand, expr_begins, inner_takes, inner_again, expr_takes, expr_again}
+use Rattle.mgrammar.proofs.ReadingTargets.{assignment_takes, assignment_again}
 
 -- ---- arguments
 

@@ -1,5 +1,5 @@
 // The law of pattern match. The function's contract is the law, and its body is empty: the code never calls it.
-ghost use Rattle.mspec.specs.PatternLaws.{DecidesMatch};
+ghost use Rattle.mgrammar.specs.PatternLaws.{DecidesMatch};
 
 /// `is_match` is true exactly where a text matches a pattern.
 pub fn decides_match()

@@ -2,13 +2,14 @@
 use Rattle.std.proofs.Common.{◌≡◌, ℕ, ◌<◌, ◌-◌, true, false, eqb, List, [], ◌∷◌, ◌++◌, Option, Some, None, inl, inr, refl, sym, ap, subst, ◌∙◌, append_assoc, arith}
 use Rattle.std.proofs.lemmas.Bool.{eqb-true}
 use Rattle.std.proofs.lemmas.Bool.Decides.{nat_tests}
-use Rattle.mspec.specs.Grammar.{ExprTree, TargetTree, variable, piece, DestinationTree, one, several, AssignmentTree, spell_expr, spell_list, spell_place, spell_target, spell_destination, spell_assignment, is_letter, is_name_start, is_name_rest, AllAre, IsName, FunctionTree, ascii_function, char_function, extract_function, find_function, justify_function, length_function, piece_function, select_function, translate_function, function_of, max_depth, WellPlace, WellTarget, WellDestination, WellAssignment}
-use Rattle.mspec.specs.Reading.{Read, ◌>>=◌, run_of, after_run, name_at, past, list_at, Readers, is_piece, expr_at, readers_at, place_with, piece_with, piece_by, target_with, destination_at, assignment_at}
-use Rattle.mspec.proofs.ReadingBasics.{Takes, Again, Stops, bind_some, chosen, some_is, both_are, run_parts, run_again, past_takes, name_takes, name_again}
-use Rattle.mspec.proofs.ReadingLists.{is_comma, list_takes, list_again}
-use Rattle.mspec.proofs.ReadingTrees.{WellInner}
-use Rattle.mspec.proofs.ReadingPrimaries.{Ends}
-use Rattle.mspec.proofs.ReadingExprs.{inner_takes, inner_again, expr_takes, expr_again}
+use Rattle.mspec.specs.Names.{is_letter, is_name_start, is_name_rest, AllAre, IsName}
+use Rattle.mgrammar.specs.Grammar.{ExprTree, TargetTree, variable, piece, DestinationTree, one, several, AssignmentTree, spell_expr, spell_list, spell_place, spell_target, spell_destination, spell_assignment, FunctionTree, ascii_function, char_function, extract_function, find_function, justify_function, length_function, piece_function, select_function, translate_function, function_of, max_depth, WellPlace, WellTarget, WellDestination, WellAssignment}
+use Rattle.mgrammar.specs.Reading.{Read, ◌>>=◌, run_of, after_run, name_at, past, list_at, Readers, is_piece, expr_at, readers_at, place_with, piece_with, piece_by, target_with, destination_at, assignment_at}
+use Rattle.mgrammar.proofs.ReadingBasics.{Takes, Again, Stops, bind_some, chosen, some_is, both_are, run_parts, run_again, past_takes, name_takes, name_again}
+use Rattle.mgrammar.proofs.ReadingLists.{is_comma, list_takes, list_again}
+use Rattle.mgrammar.proofs.ReadingTrees.{WellInner}
+use Rattle.mgrammar.proofs.ReadingPrimaries.{Ends}
+use Rattle.mgrammar.proofs.ReadingExprs.{inner_takes, inner_again, expr_takes, expr_again}
 
 -- ---- what is read is spelled so
 

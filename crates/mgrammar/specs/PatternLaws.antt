@@ -1,7 +1,7 @@
 -- The law of pattern match. The function of src/ named after it carries it.
 use Rattle.std.specs.Prelude.{ℕ, List, Decides}
 use Rattle.mspec.specs.Pattern.{Atom, Matches}
-use Rattle.mspec.specs.Matching.{is_match}
+use Rattle.mgrammar.specs.Matching.{is_match}
 
 -- `is_match` is true exactly where the text is a joining of segments, one for each atom
 abbrev pub DecidesMatch : Type 0

@@ -3,14 +3,14 @@ use Rattle.std.proofs.Common.{◌≡◌, ℕ, zero, suc, ◌<◌, ◌-◌, Bool,
 use Rattle.std.specs.Prelude.{◌||◌}
 use Rattle.std.proofs.lemmas.Bool.Decides.{nat_tests}
 use Rattle.std.proofs.lemmas.List.{append-nil}
-use Rattle.mspec.specs.Grammar.{plus, minus, negate, BinaryTree, AtomTree, ExprTree, expr, StepTree, apply, matches, matches_not, StepsTree, no_steps, step, steps_of, OperandTree, operand, spell_signs, spell_binary, spell_atoms, spell_expr, spell_steps, spell_step, spell_operand, spell_primary, WellExpr, WellSteps, WellStep, WellOperand}
-use Rattle.mspec.specs.Reading.{◌>>=◌, many, pattern_at, signs_of, after_signs, OperatorTree, between, matching, matching_not, operator_at, Readers, primary_with, operand_with, step_by, step_behind, step_with, expr_with, readers_at, inner_at}
-use Rattle.mspec.proofs.ReadingBasics.{Takes, Again, Begins, Begins-stops, Begins-append, Begins-weaker, Begins-long, goes_on, bind_some, some_is}
-use Rattle.mspec.proofs.ReadingLists.{each, ItemTakes, many_takes, many_again, count_le, joined}
-use Rattle.mspec.proofs.ReadingPatterns.{pattern_takes, pattern_again}
-use Rattle.mspec.proofs.ReadingOperators.{is_sign, signs_parts, signs_again, is_follows, spell_operator, operator_takes, operator_again, is_operator, operator_begins, no_operator}
-use Rattle.mspec.proofs.ReadingTrees.{steps_list, steps_back, spell_steps-each, steps_well, list_well, WellInner}
-use Rattle.mspec.proofs.ReadingPrimaries.{OperandEnds, Ends, begins_primary, primary_begins, primary_takes, primary_again}
+use Rattle.mgrammar.specs.Grammar.{plus, minus, negate, BinaryTree, AtomTree, ExprTree, expr, StepTree, apply, matches, matches_not, StepsTree, no_steps, step, steps_of, OperandTree, operand, spell_signs, spell_binary, spell_atoms, spell_expr, spell_steps, spell_step, spell_operand, spell_primary, WellExpr, WellSteps, WellStep, WellOperand}
+use Rattle.mgrammar.specs.Reading.{◌>>=◌, many, pattern_at, signs_of, after_signs, OperatorTree, between, matching, matching_not, operator_at, Readers, primary_with, operand_with, step_by, step_behind, step_with, expr_with, readers_at, inner_at}
+use Rattle.mgrammar.proofs.ReadingBasics.{Takes, Again, Begins, Begins-stops, Begins-append, Begins-weaker, Begins-long, goes_on, bind_some, some_is}
+use Rattle.mgrammar.proofs.ReadingLists.{each, ItemTakes, many_takes, many_again, count_le, joined}
+use Rattle.mgrammar.proofs.ReadingPatterns.{pattern_takes, pattern_again}
+use Rattle.mgrammar.proofs.ReadingOperators.{is_sign, signs_parts, signs_again, is_follows, spell_operator, operator_takes, operator_again, is_operator, operator_begins, no_operator}
+use Rattle.mgrammar.proofs.ReadingTrees.{steps_list, steps_back, spell_steps-each, steps_well, list_well, WellInner}
+use Rattle.mgrammar.proofs.ReadingPrimaries.{OperandEnds, Ends, begins_primary, primary_begins, primary_takes, primary_again}
 
 -- ---- what is read is spelled so, below some depth
 

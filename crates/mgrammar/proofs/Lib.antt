@@ -1,0 +1,13 @@
+pub mod ReadingBasics
+pub mod ReadingNumbers
+pub mod ReadingLists
+pub mod ReadingPatterns
+pub mod ReadingOperators
+pub mod ReadingTrees
+pub mod ReadingPrimaries
+pub mod ReadingExprs
+pub mod ReadingTargets
+pub mod ReadingLines
+pub mod ReadingLoops
+pub mod GrammarExamples
+pub mod Matchings

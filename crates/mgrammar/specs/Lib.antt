@@ -1,0 +1,5 @@
+pub mod Grammar
+pub mod Reading
+pub mod GrammarLaws
+pub mod Matching
+pub mod PatternLaws

@@ -17,9 +17,6 @@ use mnum::{Bytes7, Num};
 use mtext::TextFault;
 use std::alloc::{AllocError, Global};
 
-// The longest text, in characters.
-pub(crate) const TEXT_LIMIT: usize = 4095;
-
 /// A value. Contracts see it as its text.
 #[derive(Drop)]
 pub(crate) enum Value {

@@ -20,11 +20,8 @@ use crate::fault::TextFault;
 use crate::places::end_at;
 use memchr::memchr;
 use memchr::memmem::Finder;
-use mnum::Bytes7;
+use mnum::{Bytes7, LONGEST_TEXT};
 use std::alloc::{AllocError, Global};
-
-// The most characters of a text.
-const LONGEST_TEXT: usize = 4095;
 
 // The most pieces that a text may be given.
 const LAST_PLACE: usize = 500;

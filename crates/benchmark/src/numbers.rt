@@ -30,7 +30,7 @@ fn digest<E: Drop>(outcome: Result<Num, E>) -> i128 {
     }
 }
 
-fn operators(rt: &HostRuntime, plan: Plan, xs: &[Num; 4]) -> anyhow::Result<()> {
+fn sums(rt: &HostRuntime, plan: Plan, xs: &[Num; 4]) -> anyhow::Result<()> {
     measure(
         rt,
         "add",
@@ -51,7 +51,10 @@ fn operators(rt: &HostRuntime, plan: Plan, xs: &[Num; 4]) -> anyhow::Result<()> 
         plan,
         NS,
         |i| digest(xs[i % 4].mul(xs[i / 4 % 4])),
-    )?;
+    )
+}
+
+fn divisions(rt: &HostRuntime, plan: Plan, xs: &[Num; 4]) -> anyhow::Result<()> {
     measure(
         rt,
         "div",
@@ -72,7 +75,12 @@ fn operators(rt: &HostRuntime, plan: Plan, xs: &[Num; 4]) -> anyhow::Result<()> 
         plan,
         NS,
         |i| digest(xs[i % 4].rem(xs[i / 4 % 4])),
-    )?;
+    )
+}
+
+fn operators(rt: &HostRuntime, plan: Plan, xs: &[Num; 4]) -> anyhow::Result<()> {
+    sums(rt, plan, xs)?;
+    divisions(rt, plan, xs)?;
     measure(
         rt,
         "cmp",

@@ -1,7 +1,7 @@
 // Stores: puts, gets and neighbours of nodes, and the memory that a node takes.
 use crate::measure::{Plan, Unit, measure};
 use mkey::{NodeKey, is_account_name, is_name};
-use mnum::Bytes7;
+use mnum::{Bytes7, LONGEST_TEXT};
 use mstore::{NodeStore, Plain, Table};
 use std::alloc::Global;
 use std::fs;
@@ -19,8 +19,6 @@ const MOST_DRAWN: usize = 200_000;
 const MOST_BETWEEN: usize = 100;
 
 const TEXT: &str = "hello world";
-
-const LONGEST_TEXT: usize = 4095;
 
 const PAGE_BYTES: u64 = 4096;
 

@@ -2,3 +2,4 @@ pub mod Codes
 pub mod Yields
 pub mod Values
 pub mod Faults
+pub mod CappedCounts

@@ -6,8 +6,8 @@ ghost use Rattle.meval.specs.Values.{text_of};
 ghost use Rattle.meval.specs.Yields.{Yields};
 
 use crate::code::Code;
-use crate::value::{TEXT_LIMIT, Value};
-use mnum::Bytes7;
+use crate::value::Value;
+use mnum::{Bytes7, LONGEST_TEXT};
 use std::alloc::Global;
 
 // The code of the character at a place, which is 1 where it is left out; -1 where there is none.
@@ -38,7 +38,7 @@ pub(crate) fn characters(alloc: Global, codes: &[i64]) -> Result<Value, Code>
             text.push(*code as u8)?;
         }
     }
-    if text.as_bytes().len() > TEXT_LIMIT {
+    if text.as_bytes().len() > LONGEST_TEXT {
         return Err(Code::Zlong);
     }
     Ok(Value::Text(text))

@@ -47,7 +47,8 @@ fn found(alloc: Global, arguments: &[Value]) -> Result<Value, Code>
     let from = whole_at(arguments, 2)?;
     let text = text_at(alloc, arguments, 0)?;
     let what = text_at(alloc, arguments, 1)?;
-    Value::of_count(find(text.text().as_bytes(), what.text().as_bytes(), from))
+    let place = find(text.text().as_bytes(), what.text().as_bytes(), from);
+    Value::of_count(alloc, place)
 }
 
 fn justified(alloc: Global, arguments: &[Value]) -> Result<Value, Code>
@@ -65,10 +66,10 @@ fn length(alloc: Global, arguments: &[Value]) -> Result<Value, Code>
     let text = text_at(alloc, arguments, 0)?;
     let bytes = text.text().as_bytes();
     match arguments.get(1) {
-        None => Value::of_count(bytes.len() as u64),
+        None => Value::of_count(alloc, bytes.len() as u64),
         Some(value) => {
             let delimiter = value.shown(alloc)?;
-            Value::of_count(pieces(bytes, delimiter.text().as_bytes()) as u64)
+            Value::of_count(alloc, pieces(bytes, delimiter.text().as_bytes()) as u64)
         }
     }
 }

@@ -9,8 +9,8 @@ ghost use Rattle.meval.specs.Yields.{Yields, outcome_units, quotient_act};
 
 use crate::code::Code;
 use crate::relations::relation;
-use crate::value::{TEXT_LIMIT, Value};
-use mnum::{ArithFault, Num, Over};
+use crate::value::Value;
+use mnum::{ArithFault, LONGEST_TEXT, Num, Over};
 use mtree::{Binary, Sign};
 use std::alloc::Global;
 
@@ -85,7 +85,7 @@ fn joined(alloc: Global, left: Value, right: &Value) -> Result<Value, Code>
     let right = right.shown(alloc)?;
     let more = right.text().as_bytes();
     let length = text.as_bytes().len();
-    if length > TEXT_LIMIT || more.len() > TEXT_LIMIT - length {
+    if length > LONGEST_TEXT || more.len() > LONGEST_TEXT - length {
         return Err(Code::Zlong);
     }
     text.append(more)?;

@@ -1,11 +1,12 @@
 // Patterns of the tree, and the operator `?`.
-ghost use Rattle.std.specs.Prelude.{◌≡◌, map, IfOk};
+ghost use Rattle.std.specs.Prelude.{◌≡◌, ◌+◌, ◌-◌, ◌*◌, ◌<◌, ◌≤◌, nat_lt, true, map, take, length, option_map, IfOk};
 ghost use Rattle.std.specs.List.{list_any};
 ghost use Rattle.mspec.specs.Literal.{digits_after};
 ghost use Rattle.mgrammar.specs.Matching.{pattern_code, bound_of, count_of as plain_count, repeated_of as plain_repeated, atom_of as plain_atom, is_reversed};
 ghost use Rattle.mmeaning.specs.Operators as meaning;
 ghost use Rattle.mtree.specs.Tree.{count_tree, repeated_tree, atom_tree};
 ghost use Rattle.mtext.specs.PatternPlaces.{code_of, codes_of, count_of, repeated_of, atom_of, atoms_of};
+ghost use Rattle.meval.specs.CappedCounts.{capped, capped_count, capped_atom};
 ghost use Rattle.meval.specs.Values.{text_of};
 ghost use Rattle.meval.specs.Yields.{Yields};
 
@@ -14,6 +15,10 @@ use crate::value::Value;
 use mnum::Bytes7;
 use mtext::{Atom, Count, Pattern, PatternCode, Repeated, matches};
 use std::alloc::{AllocError, Global};
+
+// Above the most by which the values of two bytes as digits differ, nine times over: so far behind a number stays behind
+// whatever digits follow.
+const EVEN: usize = 23;
 
 // The class that a letter names in either case.
 fn pattern_code(letter: u8) -> PatternCode
@@ -40,40 +45,40 @@ fn pattern_codes(alloc: Global, letters: &[u8]) -> Result<Vec<PatternCode>, Allo
     Ok(codes)
 }
 
-// The number that digits write. One over 64 bits counts as want of memory: no text is as long.
-fn number(digits: &[u8]) -> Result<usize, AllocError>
-    ensures { IfOk result (λ number. number ≡ digits_after 0 digits.now) }
+// The number that digits write, or where the machine has none so large its greatest.
+fn number(digits: &[u8]) -> usize
+    ensures { result ≡ capped (digits_after 0 digits.now) }
 {
     let mut number: usize = 0;
     for digit in digits {
         let value = digit.saturating_sub(b'0') as usize;
-        number = match number.checked_mul(10) {
-            Some(tens) => tens.checked_add(value).ok_or(AllocError)?,
-            None => return Err(AllocError),
-        };
+        number = number.saturating_mul(10).saturating_add(value);
     }
-    Ok(number)
+    number
 }
 
 // The number that digits write, where there are any.
-fn bound(digits: &[u8]) -> Result<Option<usize>, AllocError>
-    ensures { IfOk result (λ bound. bound ≡ bound_of digits.now) }
+fn bound(digits: &[u8]) -> Option<usize>
+    ensures { result ≡ option_map capped (bound_of digits.now) }
 {
     if digits.is_empty() {
-        return Ok(None);
+        return None;
     }
-    Ok(Some(number(digits)?))
+    Some(number(digits))
 }
 
-fn count(count: &mtree::Count) -> Result<Count, AllocError>
-    ensures { IfOk result (λ read. count_of read ≡ plain_count (count_tree count.now)) }
+fn count(count: &mtree::Count) -> Count
+    ensures { count_of result ≡ capped_count (plain_count (count_tree count.now)) }
 {
-    let least = number(count.front.as_bytes())?;
+    let front = count.front.as_bytes();
     let most = match &count.behind {
-        None => bound(count.front.as_bytes())?,
-        Some(behind) => bound(behind.as_bytes())?,
+        None => bound(front),
+        Some(behind) => bound(behind.as_bytes()),
     };
-    Ok(Count { least, most })
+    Count {
+        least: number(front),
+        most,
+    }
 }
 
 fn repeated(alloc: Global, repeated: &mtree::Repeated) -> Result<Repeated, AllocError>
@@ -89,15 +94,15 @@ fn repeated(alloc: Global, repeated: &mtree::Repeated) -> Result<Repeated, Alloc
 }
 
 fn atom(alloc: Global, atom: &mtree::Atom) -> Result<Atom, AllocError>
-    ensures { IfOk result (λ read. atom_of read ≡ plain_atom (atom_tree atom.now)) }
+    ensures { IfOk result (λ read. atom_of read ≡ capped_atom (plain_atom (atom_tree atom.now))) }
 {
-    let count = count(&atom.count)?;
+    let count = count(&atom.count);
     let repeated = repeated(alloc, &atom.repeated)?;
     Ok(Atom { count, repeated })
 }
 
 fn pattern(alloc: Global, atoms: &[mtree::Atom]) -> Result<Pattern, AllocError>
-    ensures { IfOk result (λ pattern. atoms_of pattern.atoms.items ≡ map plain_atom (map atom_tree atoms.now)) }
+    ensures { IfOk result (λ pattern. atoms_of pattern.atoms.items ≡ map capped_atom (map plain_atom (map atom_tree atoms.now))) }
 {
     let mut read = Vec::with_capacity(alloc, atoms.len())?;
     for one in atoms {
@@ -106,22 +111,55 @@ fn pattern(alloc: Global, atoms: &[mtree::Atom]) -> Result<Pattern, AllocError>
     Ok(Pattern { atoms: read })
 }
 
-// Whether a count's greatest number is below its least.
-fn is_reversed(count: Count) -> bool
-    ensures { result ≡ is_reversed (count_of count) }
+// The value of the digit at a place, of digits with so many places before them, where each digit is 0.
+fn digit_at(digits: &[u8], before: usize, place: usize) -> usize
+    requires { place < before + length digits.now }
+    ensures value { digits_after 0 (take (place + 1 - before) digits.now) ≡ digits_after 0 (take (place - before) digits.now) * 10 + result }
+    ensures small { result ≤ 207 }
 {
-    match count.most {
+    if place < before {
+        return 0;
+    }
+    digits[place - before].saturating_sub(b'0') as usize
+}
+
+// Whether the number that digits write is below that of others, however large the two are.
+fn is_below(digits: &[u8], others: &[u8]) -> bool
+    ensures { result ≡ nat_lt (digits_after 0 digits.now) (digits_after 0 others.now) }
+{
+    let width = digits.len().max(others.len());
+    let before = width - digits.len();
+    let others_before = width - others.len();
+    // how much the number of the digits so far is above that of the others, counted from EVEN and kept from 0 to twice EVEN
+    let mut lead = EVEN;
+    for place in 0..width {
+        let digit = digit_at(digits, before, place);
+        let other = digit_at(others, others_before, place);
+        lead = (lead * 10 + digit)
+            .saturating_sub(9 * EVEN + other)
+            .min(2 * EVEN);
+    }
+    lead < EVEN
+}
+
+// Whether a count's greatest number is below its least.
+fn is_reversed(count: &mtree::Count) -> bool
+    ensures { result ≡ is_reversed (plain_count (count_tree count.now)) }
+{
+    match &count.behind {
         None => false,
-        Some(most) => most < count.least,
+        Some(most) => {
+            !most.as_bytes().is_empty() && is_below(most.as_bytes(), count.front.as_bytes())
+        }
     }
 }
 
 // Whether the count of any atom is reversed.
-fn has_reversed(atoms: &[Atom]) -> bool
-    ensures { result ≡ list_any (λ a. is_reversed a.count) (atoms_of atoms.now) }
+fn has_reversed(atoms: &[mtree::Atom]) -> bool
+    ensures { result ≡ list_any (λ a. is_reversed a.count) (map plain_atom (map atom_tree atoms.now)) }
 {
     for atom in atoms {
-        if is_reversed(atom.count) {
+        if is_reversed(&atom.count) {
             return true;
         }
     }
@@ -130,12 +168,13 @@ fn has_reversed(atoms: &[Atom]) -> bool
 
 // Whether a value matches a pattern. A reversed count of any atom is an error, before the matching.
 pub(crate) fn matching(alloc: Global, atoms: &[mtree::Atom], value: &Value) -> Result<bool, Code>
-    ensures { Yields (meaning.matching (map plain_atom (map atom_tree atoms.now)) (text_of value.now)) (λ matches. matches) result }
+    ensures value { Yields (meaning.matching (map plain_atom (map atom_tree atoms.now)) (text_of value.now)) (λ matches. matches) result }
+    ensures reversed { list_any (λ a. is_reversed a.count) (map plain_atom (map atom_tree atoms.now)) ≡ true → result ≡ Err Code.M10 }
 {
-    let pattern = pattern(alloc, atoms)?;
-    if has_reversed(&pattern.atoms) {
+    if has_reversed(atoms) {
         return Err(Code::M10);
     }
+    let pattern = pattern(alloc, atoms)?;
     let shown = value.shown(alloc)?;
     let matches = matches(alloc, &pattern, shown.text().as_bytes())?;
     Ok(matches)

@@ -1,5 +1,5 @@
 // Values while they are worked with: a number stays a number until its text is wanted.
-ghost use Rattle.std.specs.Prelude.{◌≡◌, ◌^◌, ◌<◌, ℕ, List, All, Result, pos, unsigned_abs, IfOk};
+ghost use Rattle.std.specs.Prelude.{◌≡◌, ◌^◌, ◌<◌, ℕ, List, All, Result, pos, unsigned_abs, IsOk, IsErrAnd, IfOk};
 ghost use Rattle.mspec.specs.Interpretations.{truth_text};
 ghost use Rattle.mspec.specs.NumberText.{number_text};
 ghost use Rattle.mspec.specs.Act.{give};
@@ -8,6 +8,7 @@ ghost use Rattle.mmeaning.specs.Operators.{as_number, as_truth, outcome};
 ghost use Rattle.mmeaning.specs.Functions.{whole_text, as_whole, as_whole_or_none};
 ghost use Rattle.mnum.specs.Num.{units};
 ghost use Rattle.mtext.specs.Made.{Answers};
+ghost use Rattle.meval.specs.Codes.{code_of};
 ghost use Rattle.meval.specs.Values.{text_of, shown_text};
 ghost use Rattle.meval.specs.Yields.{Yields};
 
@@ -15,9 +16,6 @@ use crate::code::Code;
 use mnum::{Bytes7, Num};
 use mtext::TextFault;
 use std::alloc::{AllocError, Global};
-
-// The longest text, in characters.
-pub(crate) const TEXT_LIMIT: usize = 4095;
 
 /// A value. Contracts see it as its text.
 #[derive(Drop)]
@@ -105,14 +103,16 @@ impl Value {
         Value::Number(Num::from_whole(whole))
     }
 
-    /// The value of a count. One of 10^18 or more is of a text that no memory suffices for.
-    pub(crate) fn of_count(count: u64) -> Result<Value, Code>
-        ensures { Yields (give (whole_text (pos count))) text_of result }
+    /// The value of a count. One of 10^18 or more is no number, but has its text.
+    pub(crate) fn of_count(alloc: Global, count: u64) -> Result<Value, Code>
+        ensures value { Yields (give (whole_text (pos count))) text_of result }
+        ensures always { count < 10 ^ 18 → IsOk result }
     {
-        if count >= 1_000_000_000_000_000_000 {
-            return Err(Code::Zmem);
+        if count < 1_000_000_000_000_000_000 {
+            return Ok(Value::of_whole(count as i64));
         }
-        Ok(Value::of_whole(count as i64))
+        let digits = count.to_string(alloc)?;
+        Value::of_bytes(alloc, digits.as_bytes())
     }
 
     /// The value of a part of a text.
@@ -126,7 +126,8 @@ impl Value {
 
     /// The value of a text that was to be made, or the code of its refusal.
     pub(crate) fn of_answer(answer: Result<Bytes7, TextFault>) -> Result<Value, Code>
-        ensures { (wanted : Result (List ℕ) spec.Code) → Answers wanted answer → Yields (outcome wanted) text_of result }
+        ensures value { (wanted : Result (List ℕ) spec.Code) → Answers wanted answer → Yields (outcome wanted) text_of result }
+        ensures refused { (code : spec.Code) → Answers (Err code) answer → IsErrAnd result (λ given. code_of given ≡ code) }
     {
         match answer {
             Ok(text) => Ok(Value::Text(text)),

@@ -33,7 +33,8 @@ impl<'a> Parts<'a> {
     {
         match output {
             Output::Breaks(count) => {
-                let length = self.out.len().checked_add(*count).ok_or(Code::Zmem)?;
+                self.out.reserve(*count)?;
+                let length = self.out.len() + *count;
                 self.out.resize(length, LINE_END)?;
             }
             Output::Value(value) => {

@@ -1,13 +1,12 @@
 -- The canonical value of a text, as code finds it.
-use Rattle.std.proofs.Common.{ℕ, ◌≡◌, ◌⊎◌, inl, inr, ◌*◌, ◌^◌, ◌<◌, ◌≤◌, true, Option, Some, None, List, [], ◌∷◌, take, length, get_or, All, refl, sym, ◌∙◌, subst, arith}
-use Rattle.std.specs.Prelude.{ℤ, pos, unsigned_abs}
+use Rattle.std.proofs.Common.{ℕ, ◌≡◌, ◌⊎◌, inl, inr, ◌*◌, ◌^◌, ◌<◌, ◌≤◌, true, Option, Some, None, List, [], ◌∷◌, length, get_or, All, refl, sym, ◌∙◌, subst, arith}
+use Rattle.std.specs.Prelude.{ℤ, pos, unsigned_abs, IfSome, OnSome}
 use Rattle.mspec.specs.Literal.{is_digit, digits_after}
 use Rattle.mspec.specs.NumberText.{numeric_value, IsCanonical}
 use Rattle.mspec.specs.NodeOrder.{canonical_value}
 use Rattle.mspec.proofs.NodeOrders.{canonical_of_value, value_of_canonical}
 use Rattle.mspec.proofs.KeyOrders.{value_in_range}
 use Rattle.mspec.proofs.WholeTexts.{value_of_digits, zero_is_canonical, whole_is_canonical}
-use Rattle.mnum.proofs.Wholes.{few_below, value_all, digits_all}
 
 -- a canonical text's value is the one that is read
 pub value_where_canonical : (s : List ℕ) (u : ℤ) → IsCanonical 18 s → numeric_value 18 s ≡ Some u → canonical_value 18 s ≡ Some u
@@ -31,8 +30,13 @@ short_is_canonical (c ∷ []) some short (inl zero) all = subst (λ (x : ℕ). I
 short_is_canonical (c ∷ d ∷ s) some short (inl zero) all = absurd (omega arith)
 short_is_canonical (c ∷ s) some short (inr other) all = whole_is_canonical c s all other short
 
-pub short_value : (n i : ℕ) (s : List ℕ) → 0 < length s → length s ≤ 18 → ((get_or s 0 0 ≡ 48) × (length s ≤ 1)) ⊎ (get_or s 0 0 ≡ 48 → ⊥) → length s ≤ i → i ≤ length s → n < 10 ^ i → n ≡ digits_after 0 (take i s) → ((k : ℕ) → k < i → is_digit (get_or s k 0) ≡ true) → canonical_value 18 s ≡ Some (pos (n * 10 ^ 18))
-short_value n i s some short front end end' below is each =
-    let all : All (λ c. is_digit c ≡ true) s = digits_all i s end each in
-    value_where_canonical s (pos (n * 10 ^ 18)) (short_is_canonical s some short front all)
-    (value_of_digits s n all (value_all n i s end is) (few_below n i below (omega arith)))
+pub short_value : (n : ℕ) (s : List ℕ) → 0 < length s → length s ≤ 18 → ((get_or s 0 0 ≡ 48) × (length s ≤ 1)) ⊎ (get_or s 0 0 ≡ 48 → ⊥) → n < 10 ^ 18 → n ≡ digits_after 0 s → All (λ c. is_digit c ≡ true) s
+    → canonical_value 18 s ≡ Some (pos (n * 10 ^ 18))
+short_value n s some short front below is all =
+    value_where_canonical s (pos (n * 10 ^ 18)) (short_is_canonical s some short front all) (value_of_digits s n all is below)
+
+-- the same of a number that may be there
+pub short_values : (r : Option ℕ) (s : List ℕ) → 0 < length s → ((get_or s 0 0 ≡ 48) × (length s ≤ 1)) ⊎ (get_or s 0 0 ≡ 48 → ⊥) → OnSome r (length s ≤ 18)
+    → IfSome r (λ n. (n < 10 ^ 18) × (n ≡ digits_after 0 s) × All (λ c. is_digit c ≡ true) s) → IfSome r (λ n. canonical_value 18 s ≡ Some (pos (n * 10 ^ 18)))
+short_values None s some front short is = tt
+short_values (Some n) s some front short is = short_value n s some short front is.0 is.1 is.2

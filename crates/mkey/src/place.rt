@@ -3,7 +3,7 @@ ghost use Rattle.std.specs.Prelude.{◌≡◌, ◌*◌, ◌^◌, ◌<◌, pos, u
 ghost use Rattle.mspec.specs.Number.{significant_digits};
 ghost use Rattle.mspec.specs.NodeOrder.{canonical_value, text_cmp};
 
-use mnum::{Bytes7, Num, is_canonical};
+use mnum::{Bytes7, Num, is_canonical, short_whole};
 use std::cmp::Ordering;
 
 // The units of 1.
@@ -11,24 +11,17 @@ const UNIT: i128 = 1_000_000_000_000_000_000;
 
 // The number that the text writes, where it is one to eighteen digits without a zero in front, or `0`: the short way of small
 // whole numbers.
-fn short_whole(text: &[u8]) -> Option<u64>
+fn short_canonical(text: &[u8]) -> Option<u64>
     ensures value { IfSome result (λ n. canonical_value significant_digits text.now ≡ Some (pos (n * 10 ^ 18))) }
     ensures below { IfSome result (λ n. n < 10 ^ 18) }
 {
-    if text.is_empty() || text.len() > 18 {
+    if text.is_empty() {
         return None;
     }
     if text[0] == b'0' && text.len() > 1 {
         return None;
     }
-    let mut number: u64 = 0;
-    for c in text {
-        if !c.is_ascii_digit() {
-            return None;
-        }
-        number = number * 10 + (*c - b'0') as u64;
-    }
-    Some(number)
+    short_whole(text)
 }
 
 // The number of which the text is the canonical text, in units of 10^-18, or None where it is no such text.
@@ -36,7 +29,7 @@ pub fn canonical(text: &[u8]) -> Option<i128>
     ensures value { result ≡ canonical_value significant_digits text.now }
     ensures range { IfSome result (λ u. unsigned_abs u < 10 ^ 36) }
 {
-    if let Some(whole) = short_whole(text) {
+    if let Some(whole) = short_canonical(text) {
         return Some(whole as i128 * UNIT);
     }
     if !is_canonical(text) {

@@ -1,8 +1,11 @@
 -- What `rounded` returns, on plain numbers.
-use Rattle.std.proofs.Common.{ℕ, suc, ◌≡◌, ◌+◌, ◌*◌, ◌-◌, ◌/◌, ◌^◌, ◌<◌, ◌≤◌, ◌⊎◌, ◌≢◌, Some, None, sym, ◌∙◌, ap, arith, inl, inr, ⊎_elim}
+use Rattle.std.proofs.Common.{ℕ, suc, ◌≡◌, ◌+◌, ◌*◌, ◌-◌, ◌/◌, ◌^◌, ◌<◌, ◌≤◌, ◌⊎◌, ◌≢◌, Option, Some, None, refl, sym, ◌∙◌, ap, arith, inl, inr, ⊎_elim}
 use Rattle.std.proofs.Math.Nat.{mul-le-mul_right, pow-le-pow_right, mul_assoc, mul-lt-mul_of_pos_right, lt_of_mul-lt-mul_right, pow-suc, div-mul-le_self}
+use Rattle.std.specs.Prelude.{MatchOption, option_map}
 use Rattle.mnum.proofs.Rounds.{Drops, drops_some, drops_none, exact_some, over_none}
 use Rattle.mnum.specs.Floor.{IsFloor, IsFine}
+use Rattle.mnum.specs.Size.{size_units}
+use Rattle.mnum.specs.declared.size.Size.{Size}
 use Rattle.mspec.proofs.Powers.{ten_pos, ten_add}
 use Rattle.mspec.specs.Number.{round_size}
 
@@ -91,6 +94,12 @@ pub zeros_fit : (kept n t d ten zeros : ℕ) → Cut kept n t d ten → kept + (
 zeros_fit kept n t d ten zeros cut room is =
     let split : 10 ^ (kept + (d - t)) ≡ 10 ^ kept * zeros = ten_add kept (d - t) ∙ ap (λ x. 10 ^ kept * x) (sym is) in
     omega (arith, mul-le-mul_right zeros (quotient_most kept n t d ten cut), pow-le-pow_right {n = 10} (omega arith) {i = kept + (d - t)} {j = 18} room)
+
+pub returns_padded : (kept n t d ten p q : ℕ) (r : Option Size) → Cut kept n t d ten → t < d → kept + (d - t) ≤ 18
+    → MatchOption r (10 ^ 18 ≤ (n + ten / 2) / ten * 10 ^ (d - t)) (λ size. ((n + ten / 2) / ten * 10 ^ (d - t) < 10 ^ 18) × (size_units size ≡ (n + ten / 2) / ten * 10 ^ (d - t) * 10 ^ 18))
+    → 0 < q → IsFloor n t p q → option_map size_units r ≡ round_size kept p q
+returns_padded kept n t d ten p q None cut h room large some floor = returns_zeros_none kept n t d ten (10 ^ (d - t)) p q cut h room refl large some floor
+returns_padded kept n t d ten p q (Some size) cut h room is some floor = ap Some is.1 ∙ returns_zeros kept n t d ten (10 ^ (d - t)) p q cut h room refl is.0 some floor
 
 pub returns_exact : (kept n t p q : ℕ) → kept ≤ 18 → t ≤ 18 → n < 10 ^ kept → 0 < q → IsFine kept n t p q → Some (n * 10 ^ (18 - t)) ≡ round_size kept p q
 returns_exact kept n t p q few near small some fine =

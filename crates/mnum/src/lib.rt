@@ -16,6 +16,7 @@ mod units;
 mod whole;
 mod writing;
 
-pub use bytes::Bytes7;
+pub use bytes::{Bytes7, LONGEST_TEXT};
 pub use num::{ArithFault, Num, Over};
+pub use reading::short_whole;
 pub use writing::{is_canonical, is_canonical_by};

@@ -1,5 +1,5 @@
 // Numbers read from texts.
-ghost use Rattle.std.specs.Prelude.{◌≡◌, ℕ, ◌+◌, ◌-◌, ◌*◌, ◌/◌, ◌^◌, ◌<◌, ◌≤◌, ◌⊎◌, length, take_while, option_map, cond, drop, Some, None, IfSome, MatchResult, All, true};
+ghost use Rattle.std.specs.Prelude.{◌≡◌, ℕ, ◌+◌, ◌-◌, ◌*◌, ◌/◌, ◌^◌, ◌<◌, ◌≤◌, ◌⊎◌, length, take_while, option_map, cond, drop, Some, None, IfSome, IfNone, OnSome, MatchResult, All, true};
 ghost use Rattle.std.specs.List.{prefix_len};
 ghost use Rattle.mnum.specs.Head.{IsHead, IsCapped};
 ghost use Rattle.mnum.specs.Num.{units};
@@ -202,9 +202,12 @@ fn read_signs(text: &[u8]) -> (bool, usize)
     (negated, text.len())
 }
 
-// The number that the text writes, where it is at most eighteen digits and nothing else: the short way of small numbers.
-fn short_whole(text: &[u8]) -> Option<u64>
-    ensures { IfSome result (λ n. (n < 10 ^ 18) × (n ≡ digits_after 0 text.now) × All (λ c. is_digit c ≡ true) text.now) }
+/// The number that the text writes, or None exactly where it is not at most eighteen digits and nothing else: the short way of
+/// small whole numbers. Takes no memory.
+pub fn short_whole(text: &[u8]) -> Option<u64>
+    ensures some { IfSome result (λ n. (n < 10 ^ 18) × (n ≡ digits_after 0 text.now) × All (λ c. is_digit c ≡ true) text.now) }
+    ensures short { OnSome result (length text.now ≤ 18) }
+    ensures none { IfNone result (All (λ c. is_digit c ≡ true) text.now → 18 < length text.now) }
 {
     if text.len() > 18 {
         return None;

@@ -1,5 +1,5 @@
 // Rounding of exact fractions.
-ghost use Rattle.std.specs.Prelude.{◌≡◌, ℕ, ◌+◌, ◌-◌, ◌⊎◌, ◌^◌, ◌<◌, ◌≤◌, option_map};
+ghost use Rattle.std.specs.Prelude.{◌≡◌, ℕ, ◌+◌, ◌-◌, ◌*◌, ◌⊎◌, ◌^◌, ◌<◌, ◌≤◌, option_map, MatchOption};
 ghost use Rattle.mnum.specs.Floor.{IsFloor, IsFine};
 ghost use Rattle.mnum.specs.Size.{size_units};
 ghost use Rattle.mspec.specs.Number.{round_size};
@@ -23,6 +23,23 @@ fn excess(n: u128, places: u32, kept: u32) -> u32
         dropped += 1;
     }
     dropped
+}
+
+// Digits with so many zeros behind them, where they are below 10^18 then.
+fn with_zeros(digits: u128, zeros: u32) -> Option<Size>
+    requires few { zeros ≤ 18 }
+    requires near { digits * 10 ^ zeros ≤ 10 ^ 18 }
+    ensures { MatchOption result (10 ^ 18 ≤ digits * 10 ^ zeros) (λ size. (digits * 10 ^ zeros < 10 ^ 18) × (size_units size ≡ digits * 10 ^ zeros * 10 ^ 18)) }
+{
+    let all = digits * power(zeros);
+    if all < 1_000_000_000_000_000_000 {
+        Some(Size {
+            digits: all as u64,
+            places: 0,
+        })
+    } else {
+        None
+    }
 }
 
 // A fraction whose first digits are n, of which `places` stand after the point, rounded to `kept` digits.
@@ -63,14 +80,6 @@ pub fn rounded(n: u128, places: u32, kept: u32) -> Option<Size>
         if kept + zeros > 18 {
             return None;
         }
-        let all = digits * power(zeros);
-        if all < 1_000_000_000_000_000_000 {
-            Some(Size {
-                digits: all as u64,
-                places: 0,
-            })
-        } else {
-            None
-        }
+        with_zeros(digits, zeros)
     }
 }

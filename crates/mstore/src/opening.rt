@@ -17,6 +17,7 @@ use crate::open_fault::OpenFault;
 use crate::statements::{GET, KILL, NEXT, PREV, PUT, fault_of};
 use crate::store::StoreFault;
 use mkey::read;
+use mnum::LONGEST_TEXT;
 use sqlite::{Alter, Connection, Error, Row};
 use sqlite_schema::names::same_name;
 use sqlite_schema::schema::Schema;
@@ -27,9 +28,6 @@ use std::alloc::{AllocError, Global};
 const WHICH: &str = "SELECT n FROM meta WHERE name = 'version'";
 
 const ALL: &str = "SELECT k, v FROM node";
-
-// The most characters that a node holds.
-pub const LONGEST_TEXT: usize = 4095;
 
 // Whether these are the characters of a text of a node.
 fn is_value(bytes: &[u8]) -> bool

@@ -7,11 +7,11 @@ ghost use Rattle.mstore.specs.Layout.{schema};
 
 use crate::create::make_tables;
 use crate::open_fault::OpenFault;
-use crate::opening::{LONGEST_TEXT, open_tables};
+use crate::opening::open_tables;
 use crate::statements::{fault_of, find_first, find_last, find_value, remove_range, store_value};
 use crate::store::{NodeStore, StoreFault};
 use mkey::NodeKey;
-use mnum::Bytes7;
+use mnum::{Bytes7, LONGEST_TEXT};
 use sqlite::{Alter, Connection, MemStore, Row};
 use sqlite_std_file::File;
 use sqlite_store::FileStore;

@@ -1,6 +1,6 @@
 // The texts that functions make, each of at most 4,095 characters.
-ghost use Rattle.std.specs.Prelude.{◌≡◌, ◌≢◌, ◌+◌, ◌-◌, ◌<◌, ◌≤◌, [], ◌∷◌, ◌++◌, All, length, take, drop, OnOk, IfErr};
-ghost use Rattle.std.specs.List.{repeat};
+ghost use Rattle.std.specs.Prelude.{◌≡◌, ◌≢◌, ◌+◌, ◌-◌, ◌<◌, ◌≤◌, [], ◌∷◌, ◌++◌, All, length, take, drop, IfOk, MatchResult};
+ghost use Rattle.std.specs.List.{repeat, flat_map};
 ghost use Rattle.std.specs.Option.{option_to_list};
 ghost use Rattle.mspec.specs.Pieces.{join, pieces_of};
 ghost use Rattle.mspec.specs.TextFunctions.{
@@ -13,38 +13,30 @@ ghost use Rattle.mspec.specs.TextFunctions.{
   with_piece,
   set_piece_of,
 };
-ghost use Rattle.mtext.specs.Made.{Answers, MayRefuse};
+ghost use Rattle.mtext.specs.Made.{Answers};
 
 use crate::cutting::skip;
 use crate::fault::TextFault;
 use crate::places::end_at;
 use memchr::memchr;
 use memchr::memmem::Finder;
-use mnum::Bytes7;
-use std::alloc::Global;
-
-// The most characters of a text.
-const LONGEST_TEXT: usize = 4095;
+use mnum::{Bytes7, LONGEST_TEXT};
+use std::alloc::{AllocError, Global};
 
 // The most pieces that a text may be given.
 const LAST_PLACE: usize = 500;
 
-/// Adds bytes at the end of a text.
+/// Lets so many characters be a text.
 ///
 /// # Errors
 ///
-/// `TooLong` exactly where the text would be too long, and `Memory`; the text is then as it was.
-fn put(out: &mut Bytes7, bytes: &[u8]) -> Result<(), TextFault>
-    requires ascii { All (λ c. c < 128) bytes.now }
-    requires room { length out.old ≤ longest_text }
-    ensures ok { OnOk result (out.new ≡ out.old ++ bytes.now) }
-    ensures fits { OnOk result (length out.new ≤ longest_text) }
-    ensures refused { IfErr result (λ fault. MayRefuse (length out.old + length bytes.now) fault) }
+/// `TooLong` exactly where they are more than 4,095.
+fn check_length(length: usize) -> Result<(), TextFault>
+    ensures { MatchResult result (λ _. length ≤ longest_text) (λ fault. (fault ≡ TextFault.TooLong) × (longest_text < length)) }
 {
-    if bytes.len() > LONGEST_TEXT - out.as_bytes().len() {
+    if length > LONGEST_TEXT {
         return Err(TextFault::TooLong);
     }
-    out.append(bytes)?;
     Ok(())
 }
 
@@ -58,12 +50,45 @@ fn translated(character: u8, from: &[u8], to: &[u8]) -> Option<u8>
     }
 }
 
+/// How many characters a translation has, which is never longer than what it is of.
+fn translated_length(characters: &[u8], from: &[u8], to: &[u8]) -> usize
+    ensures { result ≡ length (flat_map (λ c. translated_at to.now c (first_place (c ∷ []) from.now)) characters.now) }
+{
+    let mut length = 0;
+    for character in characters {
+        if translated(*character, from, to).is_some() {
+            length += 1;
+        }
+    }
+    length
+}
+
+/// The translation of characters, as long as memory suffices.
+fn translation(
+    alloc: Global,
+    characters: &[u8],
+    from: &[u8],
+    to: &[u8],
+) -> Result<Bytes7, AllocError>
+    requires characters { All (λ c. c < 128) characters.now }
+    requires to { All (λ c. c < 128) to.now }
+    ensures { IfOk result (λ text. text ≡ flat_map (λ c. translated_at to.now c (first_place (c ∷ []) from.now)) characters.now) }
+{
+    let mut out = Bytes7::empty(alloc);
+    for character in characters {
+        if let Some(other) = translated(*character, from, to) {
+            out.append(&[other])?;
+        }
+    }
+    Ok(out)
+}
+
 /// $TRANSLATE: `text` with each character that is in `from` replaced by the one at its first place there in `to`, or left out
 /// where `to` is shorter.
 ///
 /// # Errors
 ///
-/// `TooLong` exactly where the result would have more than 4,095 characters, and `Memory`.
+/// `TooLong` exactly where the result would have more than 4,095 characters; for any other `Memory`, where there is none.
 pub fn translate(
     alloc: Global,
     text: &Bytes7,
@@ -72,32 +97,31 @@ pub fn translate(
 ) -> Result<Bytes7, TextFault>
     ensures { Answers (translate_of text.now from.now to.now) result }
 {
-    let mut out = Bytes7::empty(alloc);
     let characters = text.as_bytes();
     let known = from.as_bytes();
     let others = to.as_bytes();
-    for character in characters {
-        if let Some(other) = translated(*character, known, others) {
-            put(&mut out, &[other])?;
-        }
+    if characters.len() > LONGEST_TEXT {
+        check_length(translated_length(characters, known, others))?;
     }
-    Ok(out)
+    Ok(translation(alloc, characters, known, others)?)
 }
 
 /// $JUSTIFY with two arguments: `text` with spaces before it, up to `width` characters.
 ///
 /// # Errors
 ///
-/// `TooLong` exactly where the result would have more than 4,095 characters, and `Memory`.
+/// `TooLong` exactly where the result would have more than 4,095 characters; for any other `Memory`, where there is none.
 pub fn justify(alloc: Global, text: &Bytes7, width: i64) -> Result<Bytes7, TextFault>
     ensures { Answers (justify_of text.now width) result }
 {
-    let mut out = Bytes7::empty(alloc);
     let characters = text.as_bytes();
-    for _ in 0..end_at(width).saturating_sub(characters.len()) {
-        put(&mut out, b" ")?;
+    let width = end_at(width);
+    check_length(width.max(characters.len()))?;
+    let mut out = Bytes7::empty(alloc);
+    for _ in 0..width.saturating_sub(characters.len()) {
+        out.append(b" ")?;
     }
-    put(&mut out, characters)?;
+    out.append(characters)?;
     Ok(out)
 }
 
@@ -115,10 +139,32 @@ fn spliced(
     requires inside { end ≤ length text.now }
     ensures { Answers (made (take start text.now ++ (value.now ++ drop end text.now))) result }
 {
+    check_length(value.len().saturating_add(start + (text.len() - end)))?;
     let mut out = Bytes7::empty(alloc);
-    put(&mut out, &text[..start])?;
-    put(&mut out, value)?;
-    put(&mut out, &text[end..])?;
+    out.append(&text[..start])?;
+    out.append(value)?;
+    out.append(&text[end..])?;
+    Ok(out)
+}
+
+/// A text with so many delimiters at its end and a value behind them, as long as memory suffices.
+fn extended(
+    alloc: Global,
+    text: &[u8],
+    delimiter: &[u8],
+    count: usize,
+    value: &[u8],
+) -> Result<Bytes7, AllocError>
+    requires text { All (λ c. c < 128) text.now }
+    requires delimiter { All (λ c. c < 128) delimiter.now }
+    requires value { All (λ c. c < 128) value.now }
+    ensures { IfOk result (λ made. made ≡ text.now ++ (repeat count delimiter.now ++ value.now)) }
+{
+    let mut out = Bytes7::from_slice(alloc, text)?;
+    for _ in 0..count {
+        out.append(delimiter)?;
+    }
+    out.append(value)?;
     Ok(out)
 }
 
@@ -135,13 +181,11 @@ fn padded(
     requires value { All (λ c. c < 128) value.now }
     ensures { Answers (made (text.now ++ (repeat count delimiter.now ++ value.now))) result }
 {
-    let mut out = Bytes7::empty(alloc);
-    put(&mut out, text)?;
-    for _ in 0..count {
-        put(&mut out, delimiter)?;
-    }
-    put(&mut out, value)?;
-    Ok(out)
+    let more = count
+        .saturating_mul(delimiter.len())
+        .saturating_add(value.len());
+    check_length(text.len().saturating_add(more))?;
+    Ok(extended(alloc, text, delimiter, count, value)?)
 }
 
 /// A text with another piece behind so many.
@@ -173,8 +217,8 @@ fn replaced(
 ///
 /// # Errors
 ///
-/// `Arg` exactly where the place is not from 1 to 500 or `delimiter` is empty, `TooLong` exactly where the result would have
-/// more than 4,095 characters, and `Memory`.
+/// `Arg` exactly where the place is not from 1 to 500 or `delimiter` is empty; else `TooLong` exactly where the result would
+/// have more than 4,095 characters; else `Memory`, where there is none.
 pub fn set_piece(
     alloc: Global,
     text: &Bytes7,

@@ -1,8 +1,9 @@
 // The text of an expression.
-ghost use Rattle.std.specs.Prelude.{◌≡◌, ◌++◌, ◌<◌, ◌∷◌, [], OnOk, map};
+ghost use Rattle.std.specs.Prelude.{◌≡◌, ◌++◌, ◌<◌, ◌∷◌, [], List, ℕ, OnOk, map};
 ghost use Rattle.mgrammar.specs.Grammar.{sign_char, spell_truth, spell_binary, spell_signs, spell_behind, spell_repeated, spell_atom, spell_atoms, spell_expr, steps_of, exprs_of, choices_of, spell_steps, spell_step, spell_operand, spell_primary, spell_exprs, spell_choices};
 ghost use Rattle.mtree.specs.Tree.{sign_tree, truth_tree, binary_tree, repeated_tree, atom_tree, expr_tree, step_tree, operand_tree, primary_tree, choice_tree};
 
+use crate::list::{Listed, put_list};
 use crate::pieces::{put_string, put_text};
 use crate::tree::{Atom, Binary, Choice, Expr, Operand, Primary, Repeated, Sign, Step, Truth};
 use mnum::Bytes7;
@@ -181,58 +182,39 @@ pub fn put_word(out: &mut Bytes7, word: &Bytes7) -> Result<(), AllocError>
 }
 
 #[cycle(expr)]
-fn put_call(out: &mut Bytes7, word: &Bytes7, arguments: &[Expr]) -> Result<(), AllocError>
-    ensures { OnOk result (out.new ≡ out.old ++ 36 ∷ (word.now ++ 40 ∷ (spell_exprs (exprs_of (map expr_tree arguments.now)) ++ 41 ∷ []))) }
+fn put_call(out: &mut Bytes7, word: &Bytes7, arguments: &Vec<Expr>) -> Result<(), AllocError>
+    ensures { OnOk result (out.new ≡ out.old ++ 36 ∷ (word.now ++ 40 ∷ (spell_exprs (exprs_of (map expr_tree arguments.now.items)) ++ 41 ∷ []))) }
 {
     put_word(out, word)?;
-    put_exprs(out, arguments)?;
+    put_list(out, arguments)?;
     out.push(b')')
 }
 
 #[cycle(expr)]
-fn put_select(out: &mut Bytes7, word: &Bytes7, choices: &[Choice]) -> Result<(), AllocError>
-    ensures { OnOk result (out.new ≡ out.old ++ 36 ∷ (word.now ++ 40 ∷ (spell_choices (choices_of (map choice_tree choices.now)) ++ 41 ∷ []))) }
+fn put_select(out: &mut Bytes7, word: &Bytes7, choices: &Vec<Choice>) -> Result<(), AllocError>
+    ensures { OnOk result (out.new ≡ out.old ++ 36 ∷ (word.now ++ 40 ∷ (spell_choices (choices_of (map choice_tree choices.now.items)) ++ 41 ∷ []))) }
 {
     put_word(out, word)?;
-    put_choices(out, choices)?;
+    put_list(out, choices)?;
     out.push(b')')
 }
 
-#[cycle(expr)]
-fn put_exprs(out: &mut Bytes7, exprs: &[Expr]) -> Result<(), AllocError>
-    ensures { OnOk result (out.new ≡ out.old ++ spell_exprs (exprs_of (map expr_tree exprs.now))) }
-{
-    let Some((first, rest)) = exprs.split_first() else {
-        return Ok(());
-    };
-    put_expr(out, first)?;
-    for other in rest {
-        out.push(b',')?;
-        put_expr(out, other)?;
+impl Listed for Expr {
+    ghost spelling = { λ e. spell_expr (expr_tree e) };
+
+    #[cycle(expr)]
+    fn put(&self, out: &mut Bytes7) -> Result<(), AllocError> {
+        put_expr(out, self)
     }
-    Ok(())
 }
 
-#[cycle(expr)]
-fn put_choice(out: &mut Bytes7, choice: &Choice) -> Result<(), AllocError>
-    ensures { OnOk result (out.new ≡ out.old ++ spell_expr (choice_tree choice.now).0 ++ 58 ∷ spell_expr (choice_tree choice.now).1) }
-{
-    put_expr(out, &choice.condition)?;
-    out.push(b':')?;
-    put_expr(out, &choice.value)
-}
+impl Listed for Choice {
+    ghost spelling = { λ c. spell_expr (choice_tree c).0 ++ 58 ∷ spell_expr (choice_tree c).1 };
 
-#[cycle(expr)]
-fn put_choices(out: &mut Bytes7, choices: &[Choice]) -> Result<(), AllocError>
-    ensures { OnOk result (out.new ≡ out.old ++ spell_choices (choices_of (map choice_tree choices.now))) }
-{
-    let Some((first, rest)) = choices.split_first() else {
-        return Ok(());
-    };
-    put_choice(out, first)?;
-    for other in rest {
-        out.push(b',')?;
-        put_choice(out, other)?;
+    #[cycle(expr)]
+    fn put(&self, out: &mut Bytes7) -> Result<(), AllocError> {
+        put_expr(out, &self.condition)?;
+        out.push(b':')?;
+        put_expr(out, &self.value)
     }
-    Ok(())
 }

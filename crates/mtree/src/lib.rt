@@ -4,6 +4,7 @@
 #![tactic(auto)]
 
 mod expression;
+mod list;
 mod pieces;
 pub mod tree;
 pub mod words;

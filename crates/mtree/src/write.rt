@@ -1,9 +1,10 @@
 // The text of a line: each function appends the spelling of its part, as `mspec`'s grammar has it.
-ghost use Rattle.std.specs.Prelude.{◌≡◌, ◌++◌, ◌∷◌, [], IfOk, OnOk, map, option_map};
+ghost use Rattle.std.specs.Prelude.{◌≡◌, ◌++◌, ◌∷◌, [], List, ℕ, IfOk, OnOk, map, option_map};
 ghost use Rattle.mgrammar.specs.Grammar.{spell_place, spell_target, spell_destination, spell_assignment, spell_output, spell_list, spell_command, spell_commands, spell};
 ghost use Rattle.mtree.specs.Tree.{expr_tree, piece_tree, target_tree, destination_tree, assignment_tree, output_tree, command_tree, spaced_tree, line_tree};
 
 use crate::expression::{put_expr, put_word};
+use crate::list::{Listed, put_list};
 use crate::pieces::{put_run, put_text};
 use crate::tree::{
     Assignment, Command, Destination, Expr, Line, Output, PieceTarget, Spaced, Target,
@@ -32,85 +33,49 @@ fn put_piece(out: &mut Bytes7, piece: &PieceTarget) -> Result<(), AllocError>
     out.push(b')')
 }
 
-fn put_target(out: &mut Bytes7, target: &Target) -> Result<(), AllocError>
-    ensures { OnOk result (out.new ≡ out.old ++ spell_target (target_tree target.now)) }
-{
-    match target {
-        Target::Variable(name) => put_text(out, name),
-        Target::Piece(piece) => put_piece(out, piece),
-    }
-}
+impl Listed for Target {
+    ghost spelling = { λ target. spell_target (target_tree target) };
 
-fn put_targets(out: &mut Bytes7, all: &[Target]) -> Result<(), AllocError>
-    ensures { OnOk result (out.new ≡ out.old ++ spell_list spell_target (map target_tree all.now)) }
-{
-    let Some((first, rest)) = all.split_first() else {
-        return Ok(());
-    };
-    put_target(out, first)?;
-    for other in rest {
-        out.push(b',')?;
-        put_target(out, other)?;
+    fn put(&self, out: &mut Bytes7) -> Result<(), AllocError> {
+        match self {
+            Target::Variable(name) => put_text(out, name),
+            Target::Piece(piece) => put_piece(out, piece),
+        }
     }
-    Ok(())
 }
 
 fn put_destination(out: &mut Bytes7, destination: &Destination) -> Result<(), AllocError>
     ensures { OnOk result (out.new ≡ out.old ++ spell_destination (destination_tree destination.now)) }
 {
     match destination {
-        Destination::One(target) => put_target(out, target),
+        Destination::One(target) => target.put(out),
         Destination::Several(targets) => {
             out.push(b'(')?;
-            put_targets(out, targets)?;
+            put_list(out, targets)?;
             out.push(b')')
         }
     }
 }
 
-fn put_assignment(out: &mut Bytes7, assignment: &Assignment) -> Result<(), AllocError>
-    ensures { OnOk result (out.new ≡ out.old ++ spell_assignment (assignment_tree assignment.now)) }
-{
-    put_destination(out, &assignment.destination)?;
-    out.push(b'=')?;
-    put_expr(out, &assignment.value)
-}
+impl Listed for Assignment {
+    ghost spelling = { λ assignment. spell_assignment (assignment_tree assignment) };
 
-fn put_assignments(out: &mut Bytes7, all: &[Assignment]) -> Result<(), AllocError>
-    ensures { OnOk result (out.new ≡ out.old ++ spell_list spell_assignment (map assignment_tree all.now)) }
-{
-    let Some((first, rest)) = all.split_first() else {
-        return Ok(());
-    };
-    put_assignment(out, first)?;
-    for other in rest {
-        out.push(b',')?;
-        put_assignment(out, other)?;
-    }
-    Ok(())
-}
-
-fn put_output(out: &mut Bytes7, output: &Output) -> Result<(), AllocError>
-    ensures { OnOk result (out.new ≡ out.old ++ spell_output (output_tree output.now)) }
-{
-    match output {
-        Output::Breaks(count) => put_run(out, b'!', *count),
-        Output::Value(value) => put_expr(out, value),
+    fn put(&self, out: &mut Bytes7) -> Result<(), AllocError> {
+        put_destination(out, &self.destination)?;
+        out.push(b'=')?;
+        put_expr(out, &self.value)
     }
 }
 
-fn put_outputs(out: &mut Bytes7, all: &[Output]) -> Result<(), AllocError>
-    ensures { OnOk result (out.new ≡ out.old ++ spell_list spell_output (map output_tree all.now)) }
-{
-    let Some((first, rest)) = all.split_first() else {
-        return Ok(());
-    };
-    put_output(out, first)?;
-    for other in rest {
-        out.push(b',')?;
-        put_output(out, other)?;
+impl Listed for Output {
+    ghost spelling = { λ output. spell_output (output_tree output) };
+
+    fn put(&self, out: &mut Bytes7) -> Result<(), AllocError> {
+        match self {
+            Output::Breaks(count) => put_run(out, b'!', *count),
+            Output::Value(value) => put_expr(out, value),
+        }
     }
-    Ok(())
 }
 
 fn put_command(out: &mut Bytes7, command: &Command) -> Result<(), AllocError>
@@ -120,12 +85,12 @@ fn put_command(out: &mut Bytes7, command: &Command) -> Result<(), AllocError>
         Command::Set(word, assignments) => {
             put_text(out, word)?;
             out.push(b' ')?;
-            put_assignments(out, assignments)
+            put_list(out, assignments)
         }
         Command::Write(word, outputs) => {
             put_text(out, word)?;
             out.push(b' ')?;
-            put_outputs(out, outputs)
+            put_list(out, outputs)
         }
     }
 }

@@ -3,7 +3,7 @@ use crate::words::{key_of, text_of, texts_of, words_of};
 use crate::{print, print_case, print_result, print_results};
 use anyhow::Context;
 use mkey::{NodeKey, read};
-use mnum::Bytes7;
+use mnum::{Bytes7, LONGEST_TEXT};
 use mstore::{NodeStore, Plain, Table};
 use std::alloc::Global;
 use std::fs;
@@ -103,7 +103,7 @@ pub fn node(alloc: Global, name: &str, subs: &[&str]) -> anyhow::Result<NodeKey>
 
 /// Puts a text at a node.
 pub fn put<S: NodeStore>(store: &mut S, key: &NodeKey, text: &Bytes7) -> anyhow::Result<()> {
-    if text.as_bytes().len() > 4095 {
+    if text.as_bytes().len() > LONGEST_TEXT {
         anyhow::bail!("a long text");
     }
     store.put(key, text).ok().context("not put")

@@ -9,4 +9,4 @@ pub returns : goal.returns
 returns c =
     let fits = width_fits c.in_ok-width.width c.in_ok-width.ensures.below in
     let made = rw (c.text.ensures, c.in_ok-text.ensures, c.unwrap_or.ensures, fits) at c.justify.ensures in
-    yields_then _ c.in_ok-width.ensures.whole (c.of_answer.ensures _ made)
+    yields_then _ c.in_ok-width.ensures.whole (c.of_answer.ensures.value _ made)

@@ -1,6 +1,7 @@
-use Rattle.std.proofs.Common.{◌≡◌, drop}
+use Rattle.std.proofs.Common.{◌≡◌, take}
 use Rattle.mspec.specs.Literal.{digits_after}
+use Rattle.meval.specs.CappedCounts.{capped}
 use Rattle.meval.proofs.patterns.number.Given as goal
 
 abbrev pub invariant-loop-digit : goal.invariant-loop-digit
-invariant-loop-digit l = digits_after l.number (drop l.digit-index l.digits) ≡ digits_after 0 l.digits
+invariant-loop-digit l = l.number ≡ capped (digits_after 0 (take l.digit-index l.digits))

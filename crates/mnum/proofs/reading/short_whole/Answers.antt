@@ -27,8 +27,8 @@ loop-c-preserved c =
       digits = below_more _ _ c.loop-c.invariant.digits digit;
     }
 
-pub returns : goal.returns
-returns c =
+pub returns-clause-some : goal.returns-clause-some
+returns-clause-some c =
     let end : length c.args.text.now ≤ c.loop-c.c-index = c.loop-c-test.false in (
       few_below c.loop-c.number c.loop-c.c-index c.loop-c.invariant.below (omega arith),
       value_all c.loop-c.number c.loop-c.c-index c.args.text.now end c.loop-c.invariant.value,

@@ -69,22 +69,22 @@ step-returns-in_ok-right-in-Apply-clause-does t c = rw (c.in-Apply.is, apply_is 
 
 pub step-returns-in_err-matches-in-Matches-clause-does : goal.step-returns-in_err-matches-in-Matches-clause-does
 step-returns-in_err-matches-in-Matches-clause-does t c =
-    let k = rw c.deref.ensures.value at c.in_err-matches-in-Matches.ensures in
+    let k = rw c.deref.ensures.value at c.in_err-matches-in-Matches.ensures.value in
     rw (c.in-Matches.is, matches_is c.in-Matches.atoms) (evaluates_stopped _ (k.at _ _) c.from_residual-in_err-matches-in-Matches.ensures)
 
 pub step-returns-in_ok-matches-in-Matches-clause-does : goal.step-returns-in_ok-matches-in-Matches-clause-does
 step-returns-in_ok-matches-in-Matches-clause-does t c =
-    let k = rw c.deref.ensures.value at c.in_ok-matches-in-Matches.ensures in
+    let k = rw c.deref.ensures.value at c.in_ok-matches-in-Matches.ensures.value in
     rw (c.in-Matches.is, matches_is c.in-Matches.atoms) (evaluates_then _ (k.at _ _) (evaluates_gives _ _ _ c.of_truth.ensures))
 
 pub step-returns-in_err-matches-in-MatchesNot-clause-does : goal.step-returns-in_err-matches-in-MatchesNot-clause-does
 step-returns-in_err-matches-in-MatchesNot-clause-does t c =
-    let k = rw c.deref-in-MatchesNot.ensures.value at c.in_err-matches-in-MatchesNot.ensures in
+    let k = rw c.deref-in-MatchesNot.ensures.value at c.in_err-matches-in-MatchesNot.ensures.value in
     rw (c.in-MatchesNot.is, matches_not_is c.in-MatchesNot.atoms) (evaluates_stopped _ (k.at _ _) c.from_residual-in_err-matches-in-MatchesNot.ensures)
 
 pub step-returns-in_ok-matches-in-MatchesNot-clause-does : goal.step-returns-in_ok-matches-in-MatchesNot-clause-does
 step-returns-in_ok-matches-in-MatchesNot-clause-does t c =
-    let k = rw c.deref-in-MatchesNot.ensures.value at c.in_ok-matches-in-MatchesNot.ensures in
+    let k = rw c.deref-in-MatchesNot.ensures.value at c.in_ok-matches-in-MatchesNot.ensures.value in
     rw (c.in-MatchesNot.is, matches_not_is c.in-MatchesNot.atoms) (evaluates_then _ (k.at _ _) (evaluates_gives _ _ _ c.of_truth-in-MatchesNot.ensures))
 
 -- ---- expressions

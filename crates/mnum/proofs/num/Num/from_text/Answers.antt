@@ -2,4 +2,4 @@ use Rattle.mspec.proofs.WholeTexts.{value_of_digits}
 use Rattle.mnum.proofs.num.Num.from_text.Goals as goal
 
 pub returns-in-Some : goal.returns-in-Some
-returns-in-Some c = value_of_digits c.args.text.now c.in-Some.digits c.in-Some.ensures.2 c.in-Some.ensures.1 c.in-Some.ensures.0
+returns-in-Some c = value_of_digits c.args.text.now c.in-Some.digits c.in-Some.ensures.some.2 c.in-Some.ensures.some.1 c.in-Some.ensures.some.0

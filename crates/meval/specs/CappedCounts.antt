@@ -1,0 +1,13 @@
+-- The counts of a pattern as the machine keeps them: one past the machine's greatest number is that number, which the
+-- length of no text reaches.
+use Rattle.std.specs.Prelude.{ℕ, ◌-◌, ◌^◌, min, option_map}
+use Rattle.mspec.specs.Pattern.{Count, Atom}
+
+abbrev pub capped : ℕ → ℕ
+capped n = min n (2 ^ 64 - 1)
+
+abbrev pub capped_count : Count → Count
+capped_count count = record { least = capped count.least; most = option_map capped count.most }
+
+abbrev pub capped_atom : Atom → Atom
+capped_atom atom = record { count = capped_count atom.count; repeated = atom.repeated }

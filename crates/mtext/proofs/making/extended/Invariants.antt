@@ -1,0 +1,6 @@
+use Rattle.std.proofs.Common.{◌≡◌, ◌++◌}
+use Rattle.std.specs.List.{repeat}
+use Rattle.mtext.proofs.making.extended.Given as goal
+
+abbrev pub invariant-loop : goal.invariant-loop
+invariant-loop l = l.out ≡ l.text ++ repeat l.counter l.delimiter

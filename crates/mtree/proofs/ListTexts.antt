@@ -1,0 +1,71 @@
+-- Texts of lists, by what stands in them and by its trees.
+use Rattle.std.proofs.Common.{◌≡◌, ℕ, List, [], ◌∷◌, ◌++◌, map, refl, ap, ◌∙◌}
+use Rattle.std.specs.Prelude.{Result, Ok, Err, OnOk}
+use Rattle.std.proofs.lemmas.List.{append_assoc}
+use Rattle.mgrammar.specs.Grammar.{ExprTree, exprs_of, choices_of, spell_expr, spell_exprs, spell_more_exprs, spell_choices, spell_more_choices, spell_more, spell_list, spell_target, spell_assignment, spell_output}
+use Rattle.mtree.specs.Tree.{expr_tree, choice_tree, target_tree, assignment_tree, output_tree}
+use Rattle.mtree.specs.declared.tree.Expr.{Expr}
+use Rattle.mtree.specs.declared.tree.Choice.{Choice}
+use Rattle.mtree.specs.declared.tree.Target.{Target}
+use Rattle.mtree.specs.declared.tree.Assignment.{Assignment}
+use Rattle.mtree.specs.declared.tree.Output.{Output}
+
+more_by_trees : {X A : Type 0} (tree : X → A) (spell : A → List ℕ) (xs : List X) → spell_more (λ x. spell (tree x)) xs ≡ spell_more spell (map tree xs)
+more_by_trees tree spell [] = refl
+more_by_trees tree spell (x ∷ xs) = ap (λ (t : List ℕ). 44 ∷ (spell (tree x) ++ t)) (more_by_trees tree spell xs)
+
+list_by_trees : {X A : Type 0} (tree : X → A) (spell : A → List ℕ) (xs : List X) → spell_list (λ x. spell (tree x)) xs ≡ spell_list spell (map tree xs)
+list_by_trees tree spell [] = refl
+list_by_trees tree spell (x ∷ xs) = ap (λ (t : List ℕ). spell (tree x) ++ t) (more_by_trees tree spell xs)
+
+pub targets : (xs : List Target) → spell_list (λ x. spell_target (target_tree x)) xs ≡ spell_list spell_target (map target_tree xs)
+targets xs = list_by_trees target_tree spell_target xs
+
+pub assignments : (xs : List Assignment) → spell_list (λ x. spell_assignment (assignment_tree x)) xs ≡ spell_list spell_assignment (map assignment_tree xs)
+assignments xs = list_by_trees assignment_tree spell_assignment xs
+
+pub outputs : (xs : List Output) → spell_list (λ x. spell_output (output_tree x)) xs ≡ spell_list spell_output (map output_tree xs)
+outputs xs = list_by_trees output_tree spell_output xs
+
+-- a list behind a word and a space
+pub behind_word : {X E : Type 0} (r : Result X E) (old word mid before new list : List ℕ) → mid ≡ old ++ word → before ≡ mid ++ 32 ∷ [] → OnOk r (new ≡ before ++ list) → OnOk r (new ≡ old ++ (word ++ 32 ∷ list))
+behind_word (Err e) old word mid before new list m b n = tt
+behind_word (Ok x) old word mid before new list m b n =
+    n ∙ ap (λ (t : List ℕ). t ++ list) (b ∙ ap (λ (t : List ℕ). t ++ 32 ∷ []) m) ∙ append_assoc (old ++ word) (32 ∷ []) list ∙ append_assoc old word (32 ∷ list)
+
+-- an argument list, and the choices of $SELECT
+
+more_arguments : (xs : List Expr) → spell_more (λ x. spell_expr (expr_tree x)) xs ≡ spell_more_exprs (exprs_of (map expr_tree xs))
+more_arguments [] = refl
+more_arguments (x ∷ xs) = ap (λ (t : List ℕ). 44 ∷ (spell_expr (expr_tree x) ++ t)) (more_arguments xs)
+
+pub arguments : (xs : List Expr) → spell_list (λ x. spell_expr (expr_tree x)) xs ≡ spell_exprs (exprs_of (map expr_tree xs))
+arguments [] = refl
+arguments (x ∷ xs) = ap (λ (t : List ℕ). spell_expr (expr_tree x) ++ t) (more_arguments xs)
+
+-- the text of a choice
+abbrev pub choice_text : ExprTree × ExprTree → List ℕ
+choice_text c = spell_expr c.0 ++ 58 ∷ spell_expr c.1
+
+more_choices : (xs : List Choice) → spell_more (λ x. choice_text (choice_tree x)) xs ≡ spell_more_choices (choices_of (map choice_tree xs))
+more_choices [] = refl
+more_choices (x ∷ xs) =
+    let first = spell_expr (choice_tree x).0 in
+    let second = spell_expr (choice_tree x).1 in
+    ap (λ (t : List ℕ). 44 ∷ t)
+    (append_assoc first (58 ∷ second) (spell_more (λ x. choice_text (choice_tree x)) xs) ∙ ap (λ (t : List ℕ). first ++ 58 ∷ (second ++ t)) (more_choices xs))
+
+pub choices : (xs : List Choice) → spell_list (λ x. choice_text (choice_tree x)) xs ≡ spell_choices (choices_of (map choice_tree xs))
+choices [] = refl
+choices (x ∷ xs) =
+    let first = spell_expr (choice_tree x).0 in
+    let second = spell_expr (choice_tree x).1 in
+    append_assoc first (58 ∷ second) (spell_more (λ x. choice_text (choice_tree x)) xs) ∙ ap (λ (t : List ℕ). first ++ 58 ∷ (second ++ t)) (more_choices xs)
+
+-- a list behind a word's bracket, with the bracket that ends it
+pub in_bracket : {X E : Type 0} (r : Result X E) (old word mid before new list : List ℕ) → mid ≡ old ++ 36 ∷ (word ++ 40 ∷ []) → before ≡ mid ++ list → OnOk r (new ≡ before ++ 41 ∷ [])
+    → OnOk r (new ≡ old ++ 36 ∷ (word ++ 40 ∷ (list ++ 41 ∷ [])))
+in_bracket (Err e) old word mid before new list m b n = tt
+in_bracket (Ok x) old word mid before new list m b n =
+    n ∙ ap (λ (t : List ℕ). t ++ 41 ∷ []) (b ∙ ap (λ (t : List ℕ). t ++ list) m) ∙ append_assoc (old ++ 36 ∷ (word ++ 40 ∷ [])) list (41 ∷ [])
+    ∙ append_assoc old (36 ∷ (word ++ 40 ∷ [])) (list ++ 41 ∷ []) ∙ ap (λ (t : List ℕ). old ++ 36 ∷ t) (append_assoc word (40 ∷ []) (list ++ 41 ∷ []))

@@ -1,0 +1,31 @@
+// Lists with commas between, appended to the text of a line.
+ghost use Rattle.std.specs.Prelude.{◌≡◌, ◌++◌, List, ℕ, OnOk};
+ghost use Rattle.mgrammar.specs.Grammar.{spell_list};
+
+use mnum::Bytes7;
+use std::alloc::AllocError;
+
+// What stands in a list with commas between.
+pub trait Listed {
+    ghost spelling: { Self → List ℕ };
+
+    // Appends the text.
+    fn put(&self, out: &mut Bytes7) -> Result<(), AllocError>
+        ensures { OnOk result (out.new ≡ out.old ++ spelling self.now) };
+}
+
+// The texts of all, with commas between. They come as the `Vec` that a tree holds, so that the writer of an expression may call
+// this with what stands in it.
+pub fn put_list<T: Listed>(out: &mut Bytes7, all: &Vec<T>) -> Result<(), AllocError>
+    ensures { OnOk result (out.new ≡ out.old ++ spell_list T.spelling all.now.items) }
+{
+    let Some((first, rest)) = all.split_first() else {
+        return Ok(());
+    };
+    first.put(out)?;
+    for other in rest {
+        out.push(b',')?;
+        other.put(out)?;
+    }
+    Ok(())
+}

@@ -16,8 +16,8 @@ use mnum::Bytes7;
 use mtext::{Atom, Count, Pattern, PatternCode, Repeated, matches};
 use std::alloc::{AllocError, Global};
 
-// Above the most by which the values of two bytes as digits differ, nine times over: so far behind a number stays behind
-// whatever digits follow.
+// A number that is so far behind another stays so, whatever digits follow: nine times this is the most that a byte can stand for as
+// a digit.
 const EVEN: usize = 23;
 
 // The class that a letter names in either case.

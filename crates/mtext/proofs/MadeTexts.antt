@@ -3,7 +3,7 @@ use Rattle.std.proofs.Common.{◌≡◌, ℕ, zero, suc, ◌+◌, ◌*◌, ◌�
 use Rattle.std.specs.Prelude.{cond, Option, Some, None, Result, Ok, Err, slice_get, MatchOption}
 use Rattle.std.specs.Result.{IsErr, IsErrAnd, IsOk}
 use Rattle.std.specs.Option.{option_copied, option_to_list}
-use Rattle.std.specs.List.{HoldsAt, flat_map}
+use Rattle.std.specs.List.{HoldsAt}
 use Rattle.std.specs.Borrow.{Bor}
 use Rattle.std.proofs.lemmas.Option.{slice_get_past, slice_get-get_or}
 use Rattle.std.specs.List.{repeat}
@@ -13,7 +13,7 @@ use Rattle.mspec.specs.Code.{Zlong}
 use Rattle.mspec.specs.TextFunctions.{longest_text, made, translated_at, first_place}
 use Rattle.mtext.specs.declared.fault.TextFault.{TextFault}
 use Rattle.mtext.specs.declared.fault.TextFault.TheVariants.{TooLong, Memory}
-use Rattle.mtext.specs.Made.{Answers}
+use Rattle.mtext.specs.Made.{translation, Answers}
 
 pub is_made : (s : List ℕ) → length s ≤ longest_text → made s ≡ Ok s
 is_made s fits = ap (λ (b : Bool). cond b (Ok s) (Err Zlong)) (le-leb (length s) longest_text fits)
@@ -56,10 +56,6 @@ repeat_more n d = ap (λ (m : ℕ). repeat m d) (add-one n) ∙ at_end n d where
   at_end : (n : ℕ) (d : List ℕ) → repeat (suc n) d ≡ repeat n d ++ d
   at_end zero d = append-nil d
   at_end (suc n) d = ap (λ t. d ++ t) (at_end n d) ∙ sym (append_assoc d (repeat n d) d)
-
--- how a text is translated
-abbrev pub translation : List ℕ → List ℕ → List ℕ → List ℕ
-translation s from to = flat_map (λ c. translated_at to c (first_place (c ∷ []) from)) s
 
 -- the characters of a translation are no more than those translated
 part_is_short : (to : List ℕ) (c : ℕ) (place : Option ℕ) → length (translated_at to c place) ≤ 1

@@ -1,6 +1,6 @@
 // The texts that functions make, each of at most 4,095 characters.
 ghost use Rattle.std.specs.Prelude.{◌≡◌, ◌≢◌, ◌+◌, ◌-◌, ◌<◌, ◌≤◌, [], ◌∷◌, ◌++◌, All, length, take, drop, IfOk, MatchResult};
-ghost use Rattle.std.specs.List.{repeat, flat_map};
+ghost use Rattle.std.specs.List.{repeat};
 ghost use Rattle.std.specs.Option.{option_to_list};
 ghost use Rattle.mspec.specs.Pieces.{join, pieces_of};
 ghost use Rattle.mspec.specs.TextFunctions.{
@@ -13,7 +13,7 @@ ghost use Rattle.mspec.specs.TextFunctions.{
   with_piece,
   set_piece_of,
 };
-ghost use Rattle.mtext.specs.Made.{Answers};
+ghost use Rattle.mtext.specs.Made.{translation, Answers};
 
 use crate::cutting::skip;
 use crate::fault::TextFault;
@@ -52,7 +52,7 @@ fn translated(character: u8, from: &[u8], to: &[u8]) -> Option<u8>
 
 /// How many characters a translation has, which is never longer than what it is of.
 fn translated_length(characters: &[u8], from: &[u8], to: &[u8]) -> usize
-    ensures { result ≡ length (flat_map (λ c. translated_at to.now c (first_place (c ∷ []) from.now)) characters.now) }
+    ensures { result ≡ length (translation characters.now from.now to.now) }
 {
     let mut length = 0;
     for character in characters {
@@ -72,7 +72,7 @@ fn translation(
 ) -> Result<Bytes7, AllocError>
     requires characters { All (λ c. c < 128) characters.now }
     requires to { All (λ c. c < 128) to.now }
-    ensures { IfOk result (λ text. text ≡ flat_map (λ c. translated_at to.now c (first_place (c ∷ []) from.now)) characters.now) }
+    ensures { IfOk result (λ text. text ≡ translation characters.now from.now to.now) }
 {
     let mut out = Bytes7::empty(alloc);
     for character in characters {

@@ -1,10 +1,9 @@
-use Rattle.std.proofs.Common.{◌≡◌, ◌≤◌, ◌∷◌, [], length, take}
-use Rattle.std.specs.List.{flat_map}
-use Rattle.mspec.specs.TextFunctions.{translated_at, first_place}
+use Rattle.std.proofs.Common.{◌≡◌, ◌≤◌, length, take}
+use Rattle.mtext.specs.Made.{translation}
 use Rattle.mtext.proofs.making.translated_length.Given as goal
 
 abbrev pub invariant-loop-character : goal.invariant-loop-character
 invariant-loop-character l = record {
-  so_far : l.length ≡ length (flat_map (λ c. translated_at l.to c (first_place (c ∷ []) l.from)) (take l.character-index l.characters));
+  so_far : l.length ≡ length (translation (take l.character-index l.characters) l.from l.to);
   few : l.length ≤ l.character-index;
 }

@@ -45,7 +45,8 @@ fn pattern_codes(alloc: Global, letters: &[u8]) -> Result<Vec<PatternCode>, Allo
     Ok(codes)
 }
 
-// The number that digits write, or where the machine has none so large its greatest.
+// The number that digits write, or where the machine has none so large its greatest. The count of a text has four digits at most;
+// a tree may have more.
 fn number(digits: &[u8]) -> usize
     ensures { result ≡ capped (digits_after 0 digits.now) }
 {

@@ -1,5 +1,5 @@
 -- What is read as a line is spelled so, and what is spelled so is read.
-use Rattle.std.proofs.Common.{◌≡◌, ℕ, zero, suc, ◌<◌, ◌≤◌, Bool, true, false, eqb, List, [], ◌∷◌, ◌++◌, length, Option, Some, None, inl, inr, refl, sym, ap, subst, ◌∙◌, append_assoc, arith, replicate, length-append}
+use Rattle.std.proofs.Common.{◌≡◌, ◌↔◌, ℕ, zero, suc, ◌<◌, ◌≤◌, Bool, true, false, eqb, List, [], ◌∷◌, ◌++◌, length, Option, Some, None, inl, inr, refl, sym, ap, subst, ◌∙◌, append_assoc, arith, replicate, length-append}
 use Rattle.std.specs.Prelude.{nat_lt, ◌||◌}
 use Rattle.std.proofs.lemmas.Bool.{eqb-true}
 use Rattle.std.proofs.lemmas.Bool.Decides.{nat_tests}
@@ -337,6 +337,12 @@ line_again l w =
 -- no text has two trees: what is read of it is each of them
 pub one_tree : (s t : LineTree) → well s → well t → spell s ≡ spell t → s ≡ t
 one_tree s t v w e = some_is s t (sym (line_again s v) ∙ ap line_at e ∙ line_again t w)
+
+-- what is read of a text is the tree that spells it, and that is read
+pub reads_its_tree : (text : List ℕ) (l : LineTree) → (line_at text ≡ Some l) ↔ ((spell l ≡ text) × well l)
+reads_its_tree text l =
+    let P : List ℕ → Type 0 = λ cs. line_at cs ≡ Some l in
+    (line_takes text l, λ h. subst P h.0 (line_again l h.1))
 
 -- a text of which nothing is read has no tree
 pub no_tree : (cs : List ℕ) → line_at cs ≡ None → (t : LineTree) → well t → spell t ≡ cs → ⊥

@@ -1,4 +1,5 @@
--- Reading a tree back from its text. No public clause cites these: they show that a text has one tree.
+-- Reading a tree back from its text. The meaning of a line reads its text so; the law `reads_its_tree` ties what is read to the
+-- grammar, which a reader checks in its place.
 use Rattle.std.specs.Prelude.{ℕ, zero, suc, ◌-◌, Bool, true, false, ◌&&◌, ◌||◌, ◌==◌, nat_le, nat_lt, if◌then◌else◌, List, [], ◌∷◌, ◌++◌, length, drop, Option, Some, None}
 use Rattle.mspec.specs.Literal.{is_digit}
 use Rattle.mspec.specs.Names.{is_letter, is_name_start, is_name_rest, is_character}

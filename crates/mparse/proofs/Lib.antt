@@ -1,3 +1,1 @@
-pub mod Runs
-pub mod Faults
 pub mod Lines

@@ -6,9 +6,9 @@ use Rattle.mgrammar.specs.Reading.{line_at}
 use Rattle.mgrammar.proofs.ReadingLines.{line_takes, no_tree}
 use Rattle.mtree.specs.declared.tree.Line.{Line}
 use Rattle.mtree.specs.Tree.{line_tree}
-use Rattle.mparse.specs.Gives.{Gives}
-use Rattle.mparse.specs.declared.fault.ParseFault.{ParseFault}
-use Rattle.mparse.specs.declared.fault.ParseFault.TheVariants.{Syntax}
+use Rattle.mscan.specs.Gives.{Gives}
+use Rattle.mscan.specs.declared.fault.ParseFault.{ParseFault}
+use Rattle.mscan.specs.declared.fault.ParseFault.TheVariants.{Syntax}
 
 pub is_tree : (cs : List ℕ) (r : Result Line ParseFault) → Gives line_tree r (line_at cs) → IfOk r (λ l. well (line_tree l) × (spell (line_tree l) ≡ cs))
 is_tree cs (Ok l) given = let t = line_takes cs (line_tree l) given in (t.1, t.0)

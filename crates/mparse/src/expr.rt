@@ -3,16 +3,15 @@ ghost use Rattle.std.specs.Prelude.{◌≡◌, ◌<◌, length, map, option_map}
 ghost use Rattle.mgrammar.specs.Grammar.{exprs_of, choices_of};
 ghost use Rattle.mgrammar.specs.Reading.{many, list_at, bracket_with, choice_with, select_with, call_with, function_with, primary_with, operand_with, step_by, step_with, expr_with, readers_at, inner_at};
 ghost use Rattle.mtree.specs.Tree.{function_tree, expr_tree, operand_tree, primary_tree, step_tree, choice_tree};
-ghost use Rattle.mparse.specs.Gives.{Gives};
-ghost use Rattle.mparse.specs.Operators.{operator_tree};
+ghost use Rattle.mscan.specs.Gives.{Gives};
+ghost use Rattle.mscan.specs.Operators.{operator_tree};
 
 use crate::arity::takes;
-use crate::fault::ParseFault;
-use crate::number::number;
-use crate::operator::{Operator, next_operator, signs};
-use crate::pattern::pattern;
-use crate::run::{Class, expect, name, past, run, text_after};
 use mnum::Bytes7;
+use mscan::{
+    Class, Operator, ParseFault, expect, name, next_operator, number, past, pattern, run, signs,
+    text_after,
+};
 use mtree::{Choice, Expr, Function, Operand, Primary, Step, function_of};
 use std::alloc::Global;
 

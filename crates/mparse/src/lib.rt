@@ -3,14 +3,9 @@
 
 mod arity;
 mod expr;
-mod fault;
 mod line;
 mod list;
-mod number;
-mod operator;
-mod pattern;
-mod run;
 mod set;
 
-pub use fault::ParseFault;
 pub use line::parse_line;
+pub use mscan::ParseFault;

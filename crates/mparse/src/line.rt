@@ -3,13 +3,12 @@ ghost use Rattle.std.specs.Prelude.{◌≡◌, length, map, IfOk, Err, option_ma
 ghost use Rattle.mgrammar.specs.Grammar.{OutputTree, LineTree, spell, well};
 ghost use Rattle.mgrammar.specs.Reading.{many, output_at, command_at, at_end, spaced_at, comment_at, line_at};
 ghost use Rattle.mtree.specs.Tree.{output_tree, command_tree, spaced_tree, line_tree};
-ghost use Rattle.mparse.specs.Gives.{Gives};
+ghost use Rattle.mscan.specs.Gives.{Gives};
 
 use crate::expr::{MAX_DEPTH, expr};
-use crate::fault::ParseFault;
 use crate::list::{Item, list};
-use crate::run::{Class, run};
 use mnum::Bytes7;
+use mscan::{Class, ParseFault, run};
 use mtree::{Assignment, Command, Keyword, Line, Output, Spaced, keyword_of};
 use std::alloc::Global;
 

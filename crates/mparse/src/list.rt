@@ -1,10 +1,9 @@
 // Lists with commas between.
 ghost use Rattle.std.specs.Prelude.{ℕ, List, map};
 ghost use Rattle.mgrammar.specs.Reading.{Read, list_at};
-ghost use Rattle.mparse.specs.Gives.{Gives};
+ghost use Rattle.mscan.specs.Gives.{Gives};
 
-use crate::fault::ParseFault;
-use crate::run::past;
+use mscan::{ParseFault, past};
 use std::alloc::Global;
 
 // What stands in a list with commas between.

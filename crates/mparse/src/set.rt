@@ -3,13 +3,12 @@ ghost use Rattle.std.specs.Prelude.{◌-◌, option_map};
 ghost use Rattle.mgrammar.specs.Reading.{readers_at, place_with, piece_with, target_with, destination_at, assignment_at};
 ghost use Rattle.mgrammar.specs.Grammar.{TargetTree, AssignmentTree, max_depth};
 ghost use Rattle.mtree.specs.Tree.{expr_tree, target_tree, destination_tree, assignment_tree};
-ghost use Rattle.mparse.specs.Gives.{Gives};
+ghost use Rattle.mscan.specs.Gives.{Gives};
 
 use crate::expr::{MAX_DEPTH, expr, inner};
-use crate::fault::ParseFault;
 use crate::list::{Item, list};
-use crate::run::{Class, expect, name, run};
 use mnum::Bytes7;
+use mscan::{Class, ParseFault, expect, name, run};
 use mtree::{Assignment, Destination, Expr, Function, PieceTarget, Target, function_of};
 use std::alloc::Global;
 

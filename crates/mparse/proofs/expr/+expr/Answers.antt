@@ -4,7 +4,7 @@ use Rattle.std.proofs.lemmas.List.{map_push}
 use Rattle.mtree.specs.Tree.{expr_tree, step_tree, choice_tree}
 use Rattle.mgrammar.specs.Reading.{many, after_comma, list_at, choice_with, step_with, readers_at, inner_at}
 use Rattle.mgrammar.proofs.ReadingLoops.{goes_on, stops, is_done, list_begins, comma_goes_on, comma_stops}
-use Rattle.mparse.proofs.Faults.{fails, list_fails, comma_fails}
+use Rattle.mscan.proofs.Faults.{fails, list_fails, comma_fails}
 use Rattle.mparse.proofs.expr.+expr.Goals as goal
 use Rattle.mparse.proofs.expr.+expr.Goals.{steps-else-loop-test, steps-then-loop-test+in_ok-step+in_default, exprs-else-loop-test, exprs-then-loop-test+in_default, choices-else-loop-test, choices-then-loop-test+in_default}
 

@@ -4,7 +4,7 @@ use Rattle.std.proofs.lemmas.List.{map_push}
 use Rattle.mtree.specs.Tree.{spaced_tree}
 use Rattle.mgrammar.specs.Reading.{many, spaced_at}
 use Rattle.mgrammar.proofs.ReadingLoops.{goes_on, stops, is_done}
-use Rattle.mparse.proofs.Faults.{fails}
+use Rattle.mscan.proofs.Faults.{fails}
 use Rattle.mparse.proofs.line.commands.Goals as goal
 use Rattle.mparse.proofs.line.commands.Goals.{else-loop-test, then-loop-test+in_ok-item+in_default}
 

@@ -3,7 +3,7 @@ use Rattle.std.proofs.lemmas.Result.{err_from_is_err_and}
 use Rattle.std.proofs.lemmas.List.{map_push}
 use Rattle.mgrammar.specs.Reading.{after_comma, list_at}
 use Rattle.mgrammar.proofs.ReadingLoops.{is_done, list_begins, comma_goes_on, comma_stops}
-use Rattle.mparse.proofs.Faults.{list_fails, comma_fails}
+use Rattle.mscan.proofs.Faults.{list_fails, comma_fails}
 use Rattle.mparse.proofs.list.list.Goals as goal
 use Rattle.mparse.proofs.list.list.Goals.{else-loop-test, then-loop-test+in_default}
 

@@ -1,9 +1,0 @@
-use Rattle.std.proofs.Common.{◌≡◌, ◌++◌, take, drop}
-use Rattle.mgrammar.specs.Reading.{run_of, after_run}
-use Rattle.mparse.specs.Classes.{in_class}
-use Rattle.mparse.proofs.run.split_run.Given as goal
-
-abbrev pub invariant-loop-byte : goal.invariant-loop-byte
-invariant-loop-byte l = (l.count ≡ l.byte-index)
-    × (run_of (in_class l.class) l.bytes ≡ take l.byte-index l.bytes ++ run_of (in_class l.class) (drop l.byte-index l.bytes))
-    × (after_run (in_class l.class) l.bytes ≡ after_run (in_class l.class) (drop l.byte-index l.bytes))

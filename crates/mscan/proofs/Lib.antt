@@ -1,0 +1,2 @@
+pub mod CharacterRuns
+pub mod Faults

@@ -1,0 +1,30 @@
+use Rattle.std.proofs.Common.{◌≡◌, ◌++◌, ◌∷◌, [], length, map, rules}
+use Rattle.std.proofs.lemmas.Result.{err_from_is_err_and}
+use Rattle.std.proofs.lemmas.List.{map_push}
+use Rattle.mtree.specs.Tree.{atom_tree}
+use Rattle.mgrammar.specs.Reading.{many, atom_at}
+use Rattle.mgrammar.proofs.ReadingLoops.{goes_on, stops, is_done}
+use Rattle.mscan.proofs.Faults.{fails}
+use Rattle.mscan.proofs.patterns.atoms.Goals as goal
+use Rattle.mscan.proofs.patterns.atoms.Goals.{else-loop-test, then-loop-test+in_ok-item+in_default}
+
+pub returns-in_err-item : goal.returns-in_err-item
+returns-in_err-item c =
+    let p = err_from_is_err_and c.from_residual.result c.from_residual.ensures.1 in
+    rw (p.1, p.2) (fails atom_at c.in_err-item.field-0.0 (map atom_tree c.loop.all.items) (length c.args.bytes.now) c.loop.counter c.loop.rest.now
+    (many atom_at (length c.args.bytes.now) c.args.bytes.now) c.loop-test.true c.in_err-item.ensures c.loop.invariant)
+
+pub loop-preserved : goal.loop-preserved
+loop-preserved c =
+    let e : map atom_tree c.push.new.self.items ≡ map atom_tree c.loop.all.items ++ atom_tree c.in-Some.item ∷ [] = rw c.in_ok-push.ensures.items (map_push _ c.loop.all.items c.in-Some.item) in
+    rw e (goes_on atom_at (map atom_tree c.loop.all.items) (length c.args.bytes.now) c.loop.counter c.loop.rest.now (atom_tree c.in-Some.item) c.in-Some.after.now
+    (many atom_at (length c.args.bytes.now) c.args.bytes.now) c.loop-test.true (rw c.in-Some.is at c.in_ok-item.ensures) c.loop.invariant)
+
+pub returns : goal.returns
+returns c =
+    elim c.loop-test.branch [
+      | else-loop-test w ↦ is_done atom_at (map atom_tree c.loop.all.items) (length c.args.bytes.now) c.loop.counter c.loop.rest.now
+          (many atom_at (length c.args.bytes.now) c.args.bytes.now) w.loop-test.false c.loop.invariant
+      | then-loop-test+in_ok-item+in_default w ↦ stops atom_at (map atom_tree c.loop.all.items) (length c.args.bytes.now) c.loop.counter c.loop.rest.now
+          (many atom_at (length c.args.bytes.now) c.args.bytes.now) w.loop-test.true (search rules) c.loop.invariant
+    ]

@@ -1,0 +1,143 @@
+// Runs of characters, names and strings.
+ghost use Rattle.std.specs.Prelude.{◌≡◌, ◌<◌, All, false, option_map};
+ghost use Rattle.mgrammar.specs.Grammar.{is_pattern_letter};
+ghost use Rattle.mgrammar.specs.Reading.{run_of, after_run, name_at, text_from, past};
+ghost use Rattle.mscan.specs.Classes.{in_class};
+ghost use Rattle.mscan.specs.Gives.{Gives};
+
+use crate::fault::ParseFault;
+use mnum::Bytes7;
+use std::alloc::Global;
+
+/// A kind of characters.
+#[derive(Clone, Copy, Debug, PartialEq, Eq)]
+pub enum Class {
+    Digit,
+    Letter,
+    NameStart,
+    NameRest,
+    Space,
+    Bang,
+    /// A letter of a pattern's classes.
+    PatternLetter,
+    /// What a number or a count begins with.
+    DigitOrPoint,
+    Any,
+}
+
+fn is_pattern_letter(byte: u8) -> bool
+    ensures { result ≡ is_pattern_letter byte }
+{
+    matches!(
+        byte.to_ascii_uppercase(),
+        b'A' | b'C' | b'E' | b'L' | b'N' | b'P' | b'U'
+    )
+}
+
+impl Class {
+    /// Whether a character is of the class.
+    pub fn has(self, byte: u8) -> bool
+        ensures { result ≡ in_class self byte }
+    {
+        match self {
+            Class::Digit => byte.is_ascii_digit(),
+            Class::Letter => byte.is_ascii_alphabetic(),
+            Class::NameStart => byte.is_ascii_alphabetic() || byte == b'%',
+            Class::NameRest => byte.is_ascii_alphabetic() || byte.is_ascii_digit(),
+            Class::Space => byte == b' ',
+            Class::Bang => byte == b'!',
+            Class::PatternLetter => is_pattern_letter(byte),
+            Class::DigitOrPoint => byte.is_ascii_digit() || byte == b'.',
+            Class::Any => byte < 128,
+        }
+    }
+}
+
+fn split_run(class: Class, bytes: &[u8]) -> (&[u8], &[u8])
+    ensures run { result.0.now ≡ run_of (in_class class) bytes.now }
+    ensures rest { result.1.now ≡ after_run (in_class class) bytes.now }
+{
+    let mut count = 0;
+    for byte in bytes {
+        if !class.has(*byte) {
+            break;
+        }
+        count += 1;
+    }
+    bytes.split_at(count)
+}
+
+/// The longest run of the class that the text begins with, and what follows it.
+pub fn run(class: Class, bytes: &[u8]) -> (&[u8], &[u8])
+    ensures run { result.0.now ≡ run_of (in_class class) bytes.now }
+    ensures rest { result.1.now ≡ after_run (in_class class) bytes.now }
+    ensures seven_bits { All (λ c. c < 128) result.0.now }
+{
+    split_run(class, bytes)
+}
+
+/// What follows this character, where the text begins with it.
+pub fn past(byte: u8, bytes: &[u8]) -> Option<&[u8]>
+    ensures { option_map (λ x. x.now) result ≡ past byte bytes.now }
+{
+    let (first, rest) = bytes.split_first()?;
+    if *first == byte { Some(rest) } else { None }
+}
+
+/// What follows this character, with which the text has to begin: `Syntax` where it does not.
+pub fn expect(byte: u8, bytes: &[u8]) -> Result<&[u8], ParseFault>
+    ensures { Gives (λ x. x.now) result (past byte bytes.now) }
+{
+    past(byte, bytes).ok_or(ParseFault::Syntax)
+}
+
+// A name is at most so long.
+const MAX_NAME: usize = 31;
+
+/// The name that a text begins with, of at most 31 characters, and what follows it. `Syntax` where it begins with none, `Memory` for
+/// want of memory.
+#[tactic(auto, unfolding(mgrammar::specs::Reading::name_at))]
+pub fn name(alloc: Global, bytes: &[u8]) -> Result<(Bytes7, &[u8]), ParseFault>
+    ensures { Gives (λ x. (x.0, x.1.now)) result (name_at bytes.now) }
+{
+    let Some((first, more)) = bytes.split_first() else {
+        return Err(ParseFault::Syntax);
+    };
+    let (tail, rest) = run(Class::NameRest, more);
+    if !Class::NameStart.has(*first) || tail.len() >= MAX_NAME {
+        return Err(ParseFault::Syntax);
+    }
+    let mut name = Bytes7::empty(alloc);
+    name.push(*first)?;
+    name.append(tail)?;
+    Ok((name, rest))
+}
+
+/// The text of a string, behind the quote that opens it, and what follows the string. `Syntax` where no quote closes it or a character is
+/// none of ASCII, `Memory` for want of memory.
+#[tactic(auto, using(mgrammar::proofs::ReadingLoops::pushes))]
+pub fn text_after(alloc: Global, bytes: &[u8]) -> Result<(Bytes7, &[u8]), ParseFault>
+    ensures { Gives (λ x. (x.0, x.1.now)) result (text_from false bytes.now) }
+{
+    let mut text = Bytes7::empty(alloc);
+    let mut quoted = false;
+    for (i, byte) in bytes.iter().enumerate() {
+        if *byte == b'"' {
+            if quoted {
+                text.push(b'"')?;
+            }
+            quoted = !quoted;
+        } else if quoted {
+            return Ok((text, &bytes[i..]));
+        } else if Class::Any.has(*byte) {
+            text.push(*byte)?;
+        } else {
+            return Err(ParseFault::Syntax);
+        }
+    }
+    if quoted {
+        Ok((text, &[]))
+    } else {
+        Err(ParseFault::Syntax)
+    }
+}

@@ -26,3 +26,5 @@ pub mod Scopes
 pub mod ScopeLaws
 pub mod Globals
 pub mod Act
+pub mod Access
+pub mod Flow

@@ -1,5 +1,5 @@
 -- What a map of permits allows, beside the list of grants.
-use Rattle.std.proofs.Common.{◌≡◌, ◌≢◌, ℕ, ◌==◌, ◌<◌, ◌≤◌, Bool, true, false, cond, List, [], ◌∷◌, ◌++◌, length, map, get_or, Option, Some, None, All, refl, sym, ap, subst, ◌∙◌, arith, eqb-true, eq-eqb, inl, inr, length-append}
+use Rattle.std.proofs.Common.{◌≡◌, ℕ, ◌==◌, ◌<◌, Bool, true, false, cond, List, [], ◌∷◌, ◌++◌, length, map, get_or, Some, All, refl, sym, ap, subst, ◌∙◌, arith, eqb-true, eq-eqb, inl, inr, length-append}
 use Rattle.std.specs.Prelude.{slice_get, unwrap_or, ◌&&◌, ◌||◌}
 use Rattle.std.specs.List.{list_any}
 use Rattle.std.specs.HashMap as hash
@@ -8,12 +8,12 @@ use Rattle.std.proofs.lemmas.Bool.{cases_Bool, and_parts, false≢true, ne_eqb}
 use Rattle.std.proofs.lemmas.List.{map-append}
 use Rattle.std.proofs.lemmas.List.Elements.{All-head, All-tail, All-append, All-cons, All-nil}
 use Rattle.std.proofs.lemmas.List.Folds.{list_any-append, list_any_at}
-use Rattle.std.proofs.lemmas.Option.{slice_get_within, slice_get-get_or, get_or_from_slice_get, unwrap_or-slice_get}
+use Rattle.std.proofs.lemmas.Option.{slice_get_within, slice_get-get_or, unwrap_or-slice_get}
 use Rattle.mspec.specs.Node.{Text}
 use Rattle.mspec.specs.Trees.{text_eq}
 use Rattle.mspec.specs.Access as access
 use Rattle.mgrant.specs.Words.{text_in, IsPlaceOf}
-use Rattle.mgrant.specs.Placed.{mode_of, Placed, placed, lets_at, same_permit, Allowed, allows_so, IsAllowance, AreKept, IsInterned, carries_at}
+use Rattle.mgrant.specs.Placed.{mode_of, placed, lets_at, same_permit, Allowed, allows_so, IsAllowance, IsInterned, carries_at}
 use Rattle.mgrant.specs.Edges.{leads}
 use Rattle.mgrant.specs.declared.mode.Mode.{Mode}
 use Rattle.mgrant.specs.declared.grants.Permit.{Permit}

@@ -1,25 +1,22 @@
 -- The settings that are put together from the parts of a document.
-use Rattle.std.proofs.Common.{◌≡◌, ◌⊎◌, inl, inr, ℕ, zero, suc, ◌+◌, ◌==◌, ◌<◌, ◌≤◌, ℤ, pos, negsuc, Bool, true, false, cond, List, [], ◌∷◌, ◌++◌, length, map, get_or, Option, Some, None, All, refl, sym, ap, subst, ◌∙◌, arith, append_assoc, length-append}
-use Rattle.std.specs.Prelude.{◌&&◌, slice_get, option_map, option_and_then, unwrap_or, unsigned_abs}
+use Rattle.std.proofs.Common.{◌≡◌, ◌⊎◌, inl, inr, ℕ, suc, ◌+◌, ◌==◌, ◌<◌, ℤ, pos, negsuc, Bool, true, false, cond, List, [], ◌∷◌, ◌++◌, length, map, Option, Some, None, refl, sym, ap, subst, ◌∙◌, arith, append_assoc, length-append}
+use Rattle.std.specs.Prelude.{slice_get, option_and_then, unsigned_abs}
 use Rattle.std.specs.List.{list_all, flat_map}
-use Rattle.std.specs.Ordering.{nat_cmp, int_eq, eq_by_cmp}
-use Rattle.std.specs.FinMap.{FinMap, get, from_entries, get-from_entries, same_map, nat_cmp-IsAntisymmetric}
+use Rattle.std.specs.Ordering.{nat_cmp, int_eq}
+use Rattle.std.specs.FinMap.{FinMap, from_entries, get-from_entries, same_map, nat_cmp-IsAntisymmetric}
 use Rattle.std.specs.FinMap.Entries.{find}
 use Rattle.std.specs.Cmp.{nat_cmp_total}
 use Rattle.std.proofs.lemmas.Bool.{cases_Bool, cases_eq, and_parts, false≢true, eq-eqb, ne_eqb}
 use Rattle.std.proofs.lemmas.Bool.Decides.{Decides-int_eq}
-use Rattle.std.proofs.lemmas.List.{length-map}
 use Rattle.std.proofs.lemmas.List.Folds.{list_all-append}
 use Rattle.std.proofs.lemmas.Option.{none-some, same_Some, get_or_from_slice_get}
-use Rattle.mspec.specs.Node.{Text}
-use Rattle.mspec.specs.Access.{Account, Settings}
-use Rattle.mgrant.specs.Document.{Written, WrittenAccount, names_of, terminals_of, are_terminals, are_distinct, is_within, account_of, grant_of, terminals_with, settings_of}
+use Rattle.mspec.specs.Access.{Account}
+use Rattle.mgrant.specs.Document.{Written, WrittenAccount, names_of, terminals_of, are_distinct, is_within, account_of, terminals_with, settings_of}
 use Rattle.mgrant.specs.Placed.{Placed}
-use Rattle.mgrant.specs.Reading.{Claim, claims, claimed, numbers, HasTerminals, AreGranted}
+use Rattle.mgrant.specs.Reading.{Claim, claims, claimed, HasTerminals, AreGranted}
 use Rattle.mgrant.specs.View.{accounts_of, terminals_from, settings_view}
 use Rattle.mgrant.proofs.Seen.{terminal_seen, tied_is}
-use Rattle.mgrant.proofs.Parts.{terminals_all, same_pos, different}
-use Rattle.mgrant.proofs.Places.{slice_get_front}
+use Rattle.mgrant.proofs.Parts.{terminals_all, different}
 
 accounts_are : (accounts : List WrittenAccount) → accounts_of (names_of accounts) (map (λ a. unsigned_abs a.steps) accounts) ≡ map account_of accounts
 accounts_are [] = refl

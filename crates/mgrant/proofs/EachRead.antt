@@ -1,9 +1,9 @@
 -- The values of a list, read one after another.
 use Rattle.std.proofs.Common.{◌≡◌, ◌+◌, ◌<◌, ◌++◌, ap, refl, sym, ℕ, suc, ◌≤◌, List, [], ◌∷◌, Option, Some, None, length, get_or, drop, append_assoc}
-use Rattle.std.specs.Prelude.{option_map, option_and_then}
+use Rattle.std.specs.Prelude.{option_map}
 use Rattle.std.proofs.lemmas.List.{drop_more}
 use Rattle.std.proofs.lemmas.Bool.{lt-leb, le-leb}
-use Rattle.toml.specs.Data.{Data, Items}
+use Rattle.toml.specs.Data.{Data}
 use Rattle.toml.specs.View.{view, items_view}
 use Rattle.toml.specs.declared.value.Value.{Value}
 use Rattle.mgrant.specs.Document.{each_read, entries_of, entry_limit, count_items}

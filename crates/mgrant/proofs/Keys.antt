@@ -1,5 +1,5 @@
 -- The keys of a table, against those that it may have.
-use Rattle.std.proofs.Common.{◌≡◌, ◌∙◌, ap, Bool, true, false, List, [], ◌∷◌, String, Global, Bor, map, string_bytes, refl}
+use Rattle.std.proofs.Common.{◌≡◌, ap, Bool, true, List, [], ◌∷◌, String, Global, Bor, string_bytes, refl}
 use Rattle.std.specs.Prelude.{◌&&◌, ◌||◌}
 use Rattle.std.specs.List.{list_any}
 use Rattle.std.specs.Map.{keys_of}

@@ -1,6 +1,6 @@
 -- Marked places: one more, those that are led to from a place, and what is reached when there are no more.
-use Rattle.std.proofs.Common.{◌≡◌, ◌↔◌, ◌⊎◌, inl, inr, ℕ, zero, suc, ◌+◌, ◌-◌, ◌==◌, ◌<◌, ◌≤◌, Bool, true, false, cond, List, [], ◌∷◌, ◌++◌, length, get_or, set, take, drop, All, Contains, refl, sym, ap, subst, ◌∙◌, arith, length-append, length-set, length-drop, length-take-le, add-zero}
-use Rattle.std.specs.Prelude.{Any, sum_by, count_by, nat_lt, nat_le, ◌&&◌, replicate}
+use Rattle.std.proofs.Common.{◌≡◌, ◌↔◌, inl, inr, ℕ, zero, suc, ◌+◌, ◌-◌, ◌==◌, ◌<◌, ◌≤◌, Bool, true, false, cond, List, [], ◌∷◌, ◌++◌, length, get_or, set, take, drop, All, refl, sym, ap, subst, ◌∙◌, arith, length-append, length-drop, length-take-le, add-zero}
+use Rattle.std.specs.Prelude.{Any, sum_by, count_by, nat_lt, nat_le, replicate}
 use Rattle.std.specs.List.{list_any}
 use Rattle.std.specs.List.Sorted.{IsPartitionPoint, IsPermutation}
 use Rattle.std.proofs.lemmas.Bool.{cases_Bool, cases_eq, cases_lt, false≢true, and_parts, and_from, ltb-true, ltb-false, leb-true, leb-false, eqb-true, eq-eqb}
@@ -191,5 +191,5 @@ turn_closed edges run place turn marks marks' order order' within at more each m
       | inr last ↦
           let same : k ≡ turn = omega arith in
           let (j, e, inside, here, is) = each z (subst (λ v. list_any (leads v z) edges ≡ true) (ap (λ i. get_or order i 0) same ∙ at) old) in
-          subst (λ v. get_or marks' v false ≡ true) (ap (λ f. f.target) here ∙ is) (marked j e inside)
+          ap (λ v. get_or marks' v false) (sym (ap (λ f. f.target) here ∙ is)) ∙ marked j e inside
     ]

@@ -1,18 +1,18 @@
 -- The parts of settings, entry by entry.
-use Rattle.std.proofs.Common.{◌≡◌, ◌⊎◌, inl, inr, ℕ, zero, suc, ◌+◌, ◌<◌, ◌≤◌, ℤ, pos, Bool, true, false, cond, List, [], ◌∷◌, ◌++◌, length, map, take, drop, get_or, set, Option, Some, None, All, refl, sym, ap, subst, ◌∙◌, arith, append_assoc, append-nil, length-append, length-take-le, add-one, add-zero, take-append-drop}
-use Rattle.std.specs.Prelude.{is_some, not, ◌&&◌, ◌||◌, slice_get, unwrap_or, unsigned_abs, replicate, if◌then◌else◌}
-use Rattle.std.specs.List.{list_any, list_all, flat_map}
+use Rattle.std.proofs.Common.{◌≡◌, inl, inr, ℕ, zero, suc, ◌+◌, ◌<◌, ℤ, pos, Bool, true, false, List, [], ◌∷◌, ◌++◌, length, map, take, drop, get_or, set, Option, Some, None, refl, sym, ap, subst, ◌∙◌, arith, append_assoc, append-nil, length-take-le, add-one, add-zero, take-append-drop}
+use Rattle.std.specs.Prelude.{is_some, not, ◌&&◌, unwrap_or, unsigned_abs, if◌then◌else◌}
+use Rattle.std.specs.List.{list_any, list_all}
 use Rattle.std.specs.Ordering.{int_eq}
 use Rattle.std.specs.Cmp.Lexicographic.{nat_list_eq_equiv}
 use Rattle.std.proofs.lemmas.Cmp.{int_eq_equiv}
-use Rattle.std.proofs.lemmas.Bool.{cases_eq, cases_Bool, and_from, and_right, false≢true, true≢false}
+use Rattle.std.proofs.lemmas.Bool.{cases_eq, cases_Bool, and_right, false≢true}
 use Rattle.std.proofs.lemmas.Bool.Decides.{Decides-int_eq}
-use Rattle.std.proofs.lemmas.List.{map-append, take_more, drop_more, length-map, get_or-set_same, get_or-set_other}
-use Rattle.std.proofs.lemmas.List.Folds.{list_any-append, list_all-append}
-use Rattle.std.proofs.lemmas.Option.{none-some, same_Some, slice_get_within}
+use Rattle.std.proofs.lemmas.List.{map-append, take_more, length-map, get_or-set_same, get_or-set_other}
+use Rattle.std.proofs.lemmas.List.Folds.{list_all-append}
+use Rattle.std.proofs.lemmas.Option.{none-some, slice_get_within}
 use Rattle.mspec.specs.Node.{Text}
 use Rattle.mspec.specs.Trees.{text_eq}
-use Rattle.mgrant.specs.Document.{WrittenAccount, WrittenGrant, names_of, terminals_of, are_names, are_terminals, are_steps, are_grants, is_account_name, is_name, mode_named, is_grant, is_within, grant_of}
+use Rattle.mgrant.specs.Document.{WrittenAccount, WrittenGrant, names_of, terminals_of, are_names, are_terminals, is_account_name, is_name, mode_named, is_grant, is_within, grant_of}
 use Rattle.mspec.specs.Access.{Mode, Read}
 use Rattle.mgrant.specs.Placed.{Placed, mode_of}
 use Rattle.mgrant.specs.Reading.{account_view, grant_view, entries_seen, grants_seen, Claim, claims_at, claims, numbers, claimed, HasTerminals, AreGranted, IsNumberWithin, IsPlacing}
@@ -21,7 +21,7 @@ use Rattle.mgrant.specs.declared.checks.Placing.{Placing}
 use Rattle.std.proofs.lemmas.List.Elements.{All-append, All-cons, All-nil}
 use Rattle.mgrant.specs.declared.document.AccountEntry.{AccountEntry}
 use Rattle.mgrant.specs.declared.document.GrantEntry.{GrantEntry}
-use Rattle.mgrant.proofs.Tests.{are_good, good_push, good_front, good_fails}
+use Rattle.mgrant.proofs.Tests.{good_push, good_front, good_fails}
 
 -- a list is its front, an element and the rest
 around : {X : Type 0} (xs : List X) (i : ℕ) (d : X) → i < length xs → xs ≡ take i xs ++ get_or xs i d ∷ drop (i + 1) xs

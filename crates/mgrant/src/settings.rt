@@ -169,14 +169,24 @@ impl Settings {
     }
 
     /// Whether what one account does can show at another: they are the same, or a chain of grants leads from the one to the
-    /// other, where a grant to write leads both ways. Fails by want of memory alone.
+    /// other, where a grant to write leads both ways. An id that names none here is reached by no account. Fails by want of
+    /// memory alone.
     pub fn reaches(&self, alloc: Global, from: AccountId, to: AccountId) -> Result<bool, AllocError>
-        requires from { from < length self.now.accounts }
-        requires to { to < length self.now.accounts }
         ensures { IfOk result (λ b. IsTrue b ↔ Reaches self.now (access.name_at self.now from) (access.name_at self.now to)) }
     {
-        let edges = self.grants.edges(alloc)?;
+        let start = from.place();
+        let end = to.place();
+        if self.names.at(start) == self.names.at(end) {
+            return Ok(true);
+        }
         let count = self.names.len();
-        Ok(leads(alloc, edges, count, from.place(), to.place())?)
+        if start >= count {
+            return Ok(false);
+        }
+        if end >= count {
+            return Ok(false);
+        }
+        let edges = self.grants.edges(alloc)?;
+        Ok(leads(alloc, edges, count, start, end)?)
     }
 }

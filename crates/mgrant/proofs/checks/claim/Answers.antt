@@ -1,6 +1,5 @@
-use Rattle.std.proofs.Common.{◌≡◌, ◌++◌, [], ◌∷◌, ℕ, ◌<◌, ℤ, inr, true, false, Option, Some, None, pos, get_or, set, take, length, refl, sym, ap, subst, ◌∙◌, arith, rules}
+use Rattle.std.proofs.Common.{◌≡◌, ◌++◌, [], ◌∷◌, ◌<◌, false, Some, pos, get_or, set, take, length, sym, ap, subst, ◌∙◌, arith, rules}
 use Rattle.std.proofs.lemmas.Bool.{and_left}
-use Rattle.std.proofs.lemmas.Grind.{common_steps}
 use Rattle.mgrant.specs.Document.{is_within}
 use Rattle.mgrant.specs.Reading.{HasTerminals, IsNumberWithin, claims_at}
 use Rattle.mgrant.proofs.Parts.{claim_more, claim_step, claim_fails, claimed_twice, free_there}

@@ -1,12 +1,11 @@
-use Rattle.std.proofs.Common.{◌≡◌, ◌++◌, [], ◌∷◌, IfSome, inr, Some, true, false, get_or, take, refl, sym, ap, ◌∙◌, arith, rules}
-use Rattle.std.specs.Prelude.{not, ◌&&◌}
+use Rattle.std.proofs.Common.{◌≡◌, ◌++◌, [], ◌∷◌, inr, true, false, get_or, take, refl, sym, ap, ◌∙◌, arith, rules}
+use Rattle.std.specs.Prelude.{not}
 use Rattle.std.specs.List.{list_any}
 use Rattle.std.proofs.lemmas.Bool.{and_right}
 use Rattle.std.proofs.lemmas.Grind.{common_steps}
 use Rattle.mspec.specs.Trees.{text_eq}
 use Rattle.mgrant.specs.Document.{are_names, is_account_name, names_of}
 use Rattle.mgrant.specs.Reading.{entries_seen}
-use Rattle.mgrant.specs.Words.{IsPlaceOf}
 use Rattle.mgrant.proofs.Places.{found_any, found_none}
 use Rattle.mgrant.proofs.Parts.{names_more, names_good, names_fail}
 use Rattle.mgrant.proofs.checks.names_of.Goals as goal

@@ -1,6 +1,4 @@
-use Rattle.std.proofs.Common.{◌≡◌, refl, true, false, Some, ap, sym, ◌∙◌, arith, rules}
-use Rattle.std.specs.List.{list_any}
-use Rattle.std.specs.Prelude.{option_map, not}
+use Rattle.std.proofs.Common.{◌≡◌, true, false, Some, arith, rules}
 use Rattle.std.proofs.lemmas.Grind.{common_steps}
 use Rattle.mspec.specs.Trees.{text_eq}
 use Rattle.mgrant.specs.Document.{is_name, mode_named}

@@ -1,4 +1,4 @@
-use Rattle.std.proofs.Common.{◌≡◌, inr, true, false, get_or, take, length, refl, sym, ap, subst, ◌∙◌, arith}
+use Rattle.std.proofs.Common.{◌≡◌, inr, false, take, refl, sym, ap, subst, ◌∙◌, arith}
 use Rattle.std.proofs.lemmas.Bool.{MatchBool-at_true, MatchBool-at_false}
 use Rattle.std.proofs.lemmas.List.{take_all}
 use Rattle.mgrant.specs.Document.{are_terminals}

@@ -1,4 +1,4 @@
-use Rattle.std.proofs.Common.{◌≡◌, ◌++◌, [], ◌∷◌, None, refl, sym, subst, arith, rules, vec_len}
+use Rattle.std.proofs.Common.{◌≡◌, ◌++◌, [], ◌∷◌, None, sym, subst, rules}
 use Rattle.mgrant.specs.Reading.{HasTerminals}
 use Rattle.mgrant.proofs.Parts.{no_terminals, none_more}
 use Rattle.mgrant.proofs.checks.unclaimed.Goals as goal

@@ -1,7 +1,7 @@
-use Rattle.std.proofs.Common.{◌≡◌, ◌<◌, ◌≤◌, ◌++◌, [], drop, length, option_map, Some, sym, ap, ◌∙◌, append-nil, arith}
+use Rattle.std.proofs.Common.{◌≡◌, ◌++◌, [], drop, option_map, Some, sym, ap, ◌∙◌, append-nil, arith}
 use Rattle.std.proofs.lemmas.List.{drop_all}
 use Rattle.toml.specs.View.{items_view}
-use Rattle.mgrant.specs.Document.{each_read, entry_limit, written_account}
+use Rattle.mgrant.specs.Document.{each_read, written_account}
 use Rattle.mgrant.specs.Reading.{accounts_view}
 use Rattle.mgrant.proofs.EachRead.{too_long, short_enough}
 use Rattle.mgrant.proofs.document.accounts.Goals as goal

@@ -1,7 +1,7 @@
-use Rattle.std.proofs.Common.{◌≡◌, ◌∙◌, ◌<◌, ◌++◌, ap, sym, length, get_or, arith, option_map, None}
+use Rattle.std.proofs.Common.{◌∙◌, ◌<◌, ◌++◌, ap, sym, length, arith, option_map}
 use Rattle.toml.specs.Data.{as_integer}
 use Rattle.toml.specs.View.{view}
-use Rattle.mgrant.proofs.EachRead.{none_read, some_read}
+use Rattle.mgrant.proofs.EachRead.{none_read}
 use Rattle.mgrant.proofs.document.integers.Goals as goal
 
 pub returns-in-None : goal.returns-in-None

@@ -1,4 +1,4 @@
-use Rattle.std.proofs.Common.{◌≡◌, ◌<◌, ℕ, List, All, true, false, take, get_or, vec_len}
+use Rattle.std.proofs.Common.{◌≡◌, ℕ, List, All, true, false, take, get_or, vec_len}
 use Rattle.mgrant.specs.Edges.{Leads, IsStage, IsMore}
 use Rattle.mgrant.specs.declared.flow.Edge.{Edge}
 use Rattle.mgrant.proofs.flow.mark_targets.Given as goal

@@ -1,6 +1,6 @@
-use Rattle.std.proofs.Common.{◌≡◌, ◌+◌, ◌<◌, ◌≤◌, ℕ, Some, None, length, get_or, sym, ap, subst, ◌∙◌, arith, rules, vec_len}
+use Rattle.std.proofs.Common.{◌≡◌, ◌<◌, ◌≤◌, length, get_or, sym, subst, ◌∙◌, arith}
 use Rattle.std.proofs.lemmas.List.Sums.{count_by-le-length}
-use Rattle.mgrant.specs.Edges.{Leads, IsStage}
+use Rattle.mgrant.specs.Edges.{Leads}
 use Rattle.mgrant.proofs.Marks.{leads_on, turn_closed, spread_all, get_or-default}
 use Rattle.mgrant.proofs.flow.spread.Goals as goal
 

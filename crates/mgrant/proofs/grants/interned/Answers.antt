@@ -1,5 +1,3 @@
-use Rattle.std.proofs.Common.{◌≡◌, ◌++◌, [], ◌∷◌, length, sym, subst, rules}
-use Rattle.mgrant.specs.Placed.{IsInterned}
 use Rattle.mgrant.proofs.Allowances.{interned_new}
 use Rattle.mgrant.proofs.grants.interned.Goals as goal
 

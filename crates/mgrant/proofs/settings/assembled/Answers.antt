@@ -1,4 +1,4 @@
-use Rattle.std.proofs.Common.{◌≡◌, ◌<◌, true, length, map, Some, sym, ap, subst, ◌∙◌, unsigned_abs}
+use Rattle.std.proofs.Common.{◌≡◌, ◌<◌, length, map, sym, ap, subst, ◌∙◌, unsigned_abs}
 use Rattle.mgrant.specs.Document.{names_of, are_names}
 use Rattle.mgrant.specs.Reading.{entries_view, entries_seen, grants_seen, claims, HasTerminals, AreGranted}
 use Rattle.mgrant.specs.View.{settings_view}

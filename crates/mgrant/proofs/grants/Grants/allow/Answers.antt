@@ -1,6 +1,5 @@
-use Rattle.std.proofs.Common.{◌≡◌, true, false, ap, sym, subst, ◌∙◌}
+use Rattle.std.proofs.Common.{◌≡◌, ap, sym, ◌∙◌}
 use Rattle.std.specs.List.{list_any}
-use Rattle.std.specs.Option.{option_copied}
 use Rattle.std.specs.HashMap as hash
 use Rattle.mgrant.specs.Placed.{lets_at, mode_of, allows_so, same_permit}
 use Rattle.mgrant.specs.declared.grants.Permit.{Permit}

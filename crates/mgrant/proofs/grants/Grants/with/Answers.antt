@@ -1,14 +1,10 @@
-use Rattle.std.proofs.Common.{◌≡◌, ◌<◌, ◌++◌, [], ◌∷◌, ℕ, List, length, All, Some, map, refl, ap, sym, subst, ◌∙◌, arith, rules}
-use Rattle.std.specs.Prelude.{slice_get, unwrap_or, ◌||◌}
+use Rattle.std.proofs.Common.{◌≡◌, ◌<◌, ◌++◌, [], ◌∷◌, length, All, map, refl, ap, sym, subst, ◌∙◌, rules}
+use Rattle.std.specs.Prelude.{◌||◌}
 use Rattle.std.specs.HashMap as hash
-use Rattle.std.proofs.lemmas.List.{map-append}
-use Rattle.std.proofs.lemmas.List.Elements.{All-append, All-cons, All-nil}
-use Rattle.std.proofs.lemmas.Option.{slice_get_within}
 use Rattle.mspec.specs.Access as access
-use Rattle.mgrant.specs.Placed.{AreKept, IsAllowance, IsInterned, Placed, placed, mode_of, same_permit, allows_so}
-use Rattle.mgrant.specs.declared.grants.Given.{Given}
+use Rattle.mgrant.specs.Placed.{IsAllowance, IsInterned, placed, mode_of, same_permit, allows_so}
 use Rattle.mgrant.specs.declared.grants.Permit.{Permit}
-use Rattle.mgrant.proofs.Allowances.{allowance_more, seen_by_more, within_more, placed_more}
+use Rattle.mgrant.proofs.Allowances.{allowance_more, within_more, placed_more}
 use Rattle.mgrant.proofs.grants.Grants.with.Goals as goal
 
 pub invariant_of-result : goal.invariant_of-result

@@ -1,10 +1,10 @@
-use Rattle.std.proofs.Common.{◌≡◌, true, false, map, sym, ap, ◌∙◌}
+use Rattle.std.proofs.Common.{◌≡◌, true, false, sym, ap, ◌∙◌}
 use Rattle.std.specs.List.{list_any}
-use Rattle.std.proofs.lemmas.Bool.{or_left, or_from}
+use Rattle.std.proofs.lemmas.Bool.{or_left}
 use Rattle.mspec.specs.Access as access
 use Rattle.mspec.specs.Trees.{text_eq}
 use Rattle.mgrant.specs.Placed.{mode_of, lets_at}
-use Rattle.mgrant.specs.View.{named, settings_view}
+use Rattle.mgrant.specs.View.{settings_view}
 use Rattle.mgrant.specs.Words.{text_in}
 use Rattle.mgrant.proofs.Seen.{name_seen, lets_seen, lets_unknown, either}
 use Rattle.mgrant.proofs.settings.Settings.may.Goals as goal

@@ -1,8 +1,7 @@
-use Rattle.std.proofs.Common.{◌≡◌, ◌<◌, length, sym, ap, subst, ◌∙◌, arith}
+use Rattle.std.proofs.Common.{◌<◌, length, sym, ap, subst, ◌∙◌}
 use Rattle.mspec.specs.Access as access
 use Rattle.mspec.specs.KeyBytes.{IsAccountName}
 use Rattle.mgrant.specs.Words.{text_in}
-use Rattle.mgrant.specs.View.{accounts_of}
 use Rattle.mgrant.proofs.NameTests.{account_name_is}
 use Rattle.mgrant.proofs.Seen.{name_seen, name_good, length_seen}
 use Rattle.mgrant.proofs.settings.Settings.name_of.Goals as goal

@@ -1,4 +1,4 @@
-use Rattle.std.proofs.Common.{◌≡◌, IfSome, IfNone, ap, sym, subst, ◌∙◌, false, rules}
+use Rattle.std.proofs.Common.{◌≡◌, IfSome, IfNone, subst, ◌∙◌, false}
 use Rattle.std.specs.List.{list_any}
 use Rattle.mspec.specs.Trees.{text_eq}
 use Rattle.mgrant.specs.Words.{IsPlaceOf}

@@ -1,5 +1,5 @@
 mod NameTests
-mod Tests
+mod GoodLists
 mod Places
 mod Allowances
 mod Parts

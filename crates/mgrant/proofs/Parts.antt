@@ -21,7 +21,7 @@ use Rattle.mgrant.specs.declared.checks.Placing.{Placing}
 use Rattle.std.proofs.lemmas.List.Elements.{All-append, All-cons, All-nil}
 use Rattle.mgrant.specs.declared.document.AccountEntry.{AccountEntry}
 use Rattle.mgrant.specs.declared.document.GrantEntry.{GrantEntry}
-use Rattle.mgrant.proofs.Tests.{good_push, good_front, good_fails}
+use Rattle.mgrant.proofs.GoodLists.{good_push, good_front, good_fails}
 
 -- a list is its front, an element and the rest
 around : {X : Type 0} (xs : List X) (i : ℕ) (d : X) → i < length xs → xs ≡ take i xs ++ get_or xs i d ∷ drop (i + 1) xs

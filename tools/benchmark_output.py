@@ -50,6 +50,7 @@ def main():
     keys()
     local_variables()
     stores()
+    grants()
     lines()
 
 
@@ -116,6 +117,31 @@ def stores():
         print(f"  {'next':<12} {summed(lambda i: length)}")
         print(f"  {'prev':<12} {summed(lambda i: length if drawn(i, count) else 0)}")
         print(f"  {'put and kill':<12} {PASSES * 100}")
+
+
+def grants():
+    accounts, terminals, globals_, apart, stride = 1000, 9999, 10, 7, 7_919
+    document = ""
+    for i in range(accounts):
+        listed = "".join(f"{10 * i + k}," for k in range(1, 11) if 10 * i + k <= terminals)
+        document += f'[[account]]\nname = "A{i}"\nsteps = 2000\nterminals = [{listed}]\n'
+    takers = {(i, g): i + apart * (g + 1) for i in range(accounts) for g in range(globals_)}
+    given = {key: to for key, to in takers.items() if to < accounts}
+    for (i, g), to in given.items():
+        document += f'[[grant]]\nfrom = "A{i}"\nto = "A{to}"\nglobal = "G{g}"\nmode = "read"\n'
+
+    def may(i):
+        return int((i * stride % accounts, i % globals_) in given)
+
+    def reaches(i):
+        start, end = i * stride % accounts, i * 3 % accounts
+        return int(end >= start and (end - start) % apart == 0)
+
+    print("a thousand accounts")
+    print(f"  {'account_of':<12} {summed(lambda i: len(str((i * stride % terminals) // 10)) + 1)}")
+    print(f"  {'may':<12} {summed(may)}")
+    print(f"  {'reaches':<12} {PASSES * sum(reaches(i) for i in range(100))}")
+    print(f"  {'read':<12} {PASSES * 10 * len(document)}")
 
 
 def lines():

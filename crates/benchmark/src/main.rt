@@ -1,8 +1,9 @@
-//! Times the operations of numbers, texts, keys, locals and stores, and lines of M. With a count, as `benchmark 2000000`, each runs so
+//! Times the operations of numbers, texts, keys, locals, stores and settings, and lines of M. With a count, as `benchmark 2000000`, each runs so
 //! often in each of five passes, and the time of the fastest pass is printed; without one, a thousand times, and only checksums
 //! are printed, which are the same on every machine. A second word names one page, as `benchmark 2000000 stores`.
 #![tactic(auto)]
 
+mod grants;
 mod keys;
 mod lines;
 mod locals;
@@ -38,6 +39,7 @@ fn all(rt: &HostRuntime, plan: Plan) -> anyhow::Result<()> {
     keys::keys_and_orders(rt, plan)?;
     locals::locals(rt, plan)?;
     stores::stores(rt, plan)?;
+    grants::grants(rt, plan)?;
     lines::lines(rt, plan)
 }
 
@@ -48,6 +50,7 @@ fn one(rt: &HostRuntime, plan: Plan, page: &str) -> anyhow::Result<()> {
         "keys" => keys::keys_and_orders(rt, plan),
         "locals" => locals::locals(rt, plan),
         "stores" => stores::stores(rt, plan),
+        "grants" => grants::grants(rt, plan),
         "lines" => lines::lines(rt, plan),
         _ => anyhow::bail!("no such page"),
     }

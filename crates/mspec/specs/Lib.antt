@@ -22,3 +22,5 @@ pub mod Scopes
 pub mod ScopeLaws
 pub mod Globals
 pub mod Act
+pub mod Access
+pub mod Flow

@@ -1,0 +1,104 @@
+-- The settings that are put together from the parts of a document.
+use Rattle.std.proofs.Common.{◌≡◌, ◌⊎◌, inl, inr, ℕ, suc, ◌+◌, ◌==◌, ◌<◌, ℤ, pos, negsuc, Bool, true, false, cond, List, [], ◌∷◌, ◌++◌, length, map, Option, Some, None, refl, sym, ap, subst, ◌∙◌, arith, append_assoc, length-append}
+use Rattle.std.specs.Prelude.{slice_get, option_and_then, unsigned_abs}
+use Rattle.std.specs.List.{list_all, flat_map}
+use Rattle.std.specs.Ordering.{nat_cmp, int_eq}
+use Rattle.std.specs.FinMap.{FinMap, from_entries, get-from_entries, same_map, nat_cmp-IsAntisymmetric}
+use Rattle.std.specs.FinMap.Entries.{find}
+use Rattle.std.specs.Cmp.{nat_cmp_total}
+use Rattle.std.proofs.lemmas.Bool.{cases_Bool, cases_eq, and_parts, false≢true, eq-eqb, ne_eqb}
+use Rattle.std.proofs.lemmas.Bool.Decides.{Decides-int_eq}
+use Rattle.std.proofs.lemmas.List.Folds.{list_all-append}
+use Rattle.std.proofs.lemmas.Option.{none-some, same_Some, get_or_from_slice_get}
+use Rattle.mspec.specs.Access.{Account}
+use Rattle.mgrant.specs.Document.{Written, WrittenAccount, names_of, terminals_of, are_distinct, is_within, account_of, terminals_with, settings_of}
+use Rattle.mgrant.specs.Placed.{Placed}
+use Rattle.mgrant.specs.Reading.{Claim, claims, claimed, HasTerminals, AreGranted}
+use Rattle.mgrant.specs.View.{accounts_of, terminals_from, settings_view}
+use Rattle.mgrant.proofs.Seen.{terminal_seen, tied_is}
+use Rattle.mgrant.proofs.Parts.{terminals_all, different}
+
+accounts_are : (accounts : List WrittenAccount) → accounts_of (names_of accounts) (map (λ a. unsigned_abs a.steps) accounts) ≡ map account_of accounts
+accounts_are [] = refl
+accounts_are (a ∷ rest) = ap (λ bs. account_of a ∷ bs) (accounts_are rest)
+
+pub steps_count : (accounts : List WrittenAccount) → length (map (λ a. unsigned_abs a.steps) accounts) ≡ length (names_of accounts)
+steps_count [] = refl
+steps_count (a ∷ rest) = ap suc (steps_count rest)
+
+-- ---- terminals
+
+claimed_from : (t : ℤ) (place : ℕ) (ts : List ℤ) (more : List Claim) (i : ℕ) → claimed t (map (λ u. (u, place)) ts ++ more) ≡ Some i → (i ≡ place) ⊎ (claimed t more ≡ Some i)
+claimed_from t place [] more i e = inr e
+claimed_from t place (u ∷ ts) more i e =
+    elim (cases_Bool (int_eq t u)) [
+      | inl same ↦ inl (sym (same_Some place i (rw same at e)))
+      | inr other ↦ claimed_from t place ts more i (rw other at e)
+    ]
+
+claimed_within : (t : ℤ) (place : ℕ) (accounts : List WrittenAccount) (i : ℕ) → claimed t (claims place accounts) ≡ Some i → i < place + length (names_of accounts)
+claimed_within t place [] i e = absurd (none-some i e)
+claimed_within t place (a ∷ rest) i e =
+    elim (claimed_from t place a.terminals (claims (place + 1) rest) i e) [
+      | inl same ↦ omega arith
+      | inr later ↦ let low = claimed_within t (place + 1) rest i later in omega arith
+    ]
+
+pub placed_within : (accounts : List WrittenAccount) (v : List (Option ℕ)) → HasTerminals (claims 0 accounts) v → (t i : ℕ) → slice_get v t ≡ Some (Some i) → i < length (names_of accounts)
+placed_within accounts v has t i at =
+    let low = claimed_within (pos t) 0 accounts i (sym (has.each t) ∙ get_or_from_slice_get v t (Some i) None at) in
+    omega arith
+
+same_test : (q n : ℕ) → int_eq (pos q) (pos n) ≡ (q == n)
+same_test q n =
+    elim (cases_eq q n) [
+      | inl same ↦ (Decides-int_eq (pos q) (pos n)).1 (ap pos same) ∙ sym (eq-eqb q n same)
+      | inr other ↦ different q n other ∙ sym (ne_eqb q n other)
+    ]
+
+chosen : (G : ℕ → Option Account) (b : Bool) (k : ℕ) (a : Account) (o : Option ℕ) (r : Option Account) → G k ≡ Some a → option_and_then G o ≡ r → option_and_then G (cond b (Some k) o) ≡ cond b (Some a) r
+chosen G true k a o r here later = here
+chosen G false k a o r here later = later
+
+-- one account's terminals
+listed_seen : (G : ℕ → Option Account) (q k : ℕ) (a : Account) (ts : List ℤ) (more : List Claim) (rest : List (ℕ × Account)) → list_all (is_within 1 9999) ts ≡ true → G k ≡ Some a → option_and_then G (claimed (pos q) more) ≡ find nat_cmp q rest
+    → option_and_then G (claimed (pos q) (map (λ t. (t, k)) ts ++ more)) ≡ find nat_cmp q (map (λ t. (unsigned_abs t, a)) ts ++ rest)
+listed_seen G q k a [] more rest good here later = later
+listed_seen G q k a (pos n ∷ ts) more rest good here later =
+    let (one, others) = and_parts (is_within 1 9999 (pos n)) (list_all (is_within 1 9999) ts) good in
+    chosen G (int_eq (pos q) (pos n)) k a (claimed (pos q) (map (λ t. (t, k)) ts ++ more)) _ here (listed_seen G q k a ts more rest others here later)
+    ∙ ap (λ b. cond b (Some a) (find nat_cmp q (map (λ t. (unsigned_abs t, a)) ts ++ rest))) (same_test q n ∙ sym (tied_is q n))
+listed_seen G q k a (negsuc n ∷ ts) more rest good here later = absurd (false≢true good)
+
+middle : (front : List Account) (a : Account) (rest : List Account) → slice_get (front ++ a ∷ rest) (length front) ≡ Some a
+middle [] a rest = refl
+middle (b ∷ front) a rest = middle front a rest
+
+terminals_found : (q : ℕ) (front : List Account) (accounts : List WrittenAccount) → list_all (is_within 1 9999) (terminals_of accounts) ≡ true
+    → option_and_then (slice_get (front ++ map account_of accounts)) (claimed (pos q) (claims (length front) accounts)) ≡ find nat_cmp q (flat_map terminals_with accounts)
+terminals_found q front [] good = refl
+terminals_found q front (a ∷ rest) good =
+    let (here, later) = and_parts (list_all (is_within 1 9999) a.terminals) (list_all (is_within 1 9999) (terminals_of rest)) (sym (list_all-append (is_within 1 9999) a.terminals (terminals_of rest)) ∙ good) in
+    let next = front ++ account_of a ∷ [] in
+    let more = terminals_found q next rest later in
+    listed_seen (slice_get (front ++ account_of a ∷ map account_of rest)) q (length front) (account_of a) a.terminals (claims (length front + 1) rest) (flat_map terminals_with rest) here (middle front (account_of a) (map account_of rest))
+    (subst (λ n. option_and_then (slice_get (front ++ account_of a ∷ map account_of rest)) (claimed (pos q) (claims n rest)) ≡ find nat_cmp q (flat_map terminals_with rest)) (omega (arith, length-append front (account_of a ∷ [])))
+    (subst (λ all. option_and_then (slice_get all) (claimed (pos q) (claims (length next) rest)) ≡ find nat_cmp q (flat_map terminals_with rest)) (append_assoc front (account_of a ∷ []) (map account_of rest)) more))
+
+terminals_are : (accounts : List WrittenAccount) (v : List (Option ℕ)) → HasTerminals (claims 0 accounts) v
+    → ◌≡◌ {A = FinMap nat_cmp Account} (from_entries (terminals_from (map account_of accounts) 0 v)) (from_entries (flat_map terminals_with accounts))
+terminals_are accounts v has =
+    let good = (and_parts (list_all (is_within 1 9999) (terminals_of accounts)) (are_distinct int_eq (terminals_of accounts)) (terminals_all accounts v has)).0 in
+    same_map nat_cmp_total nat_cmp-IsAntisymmetric (from_entries (terminals_from (map account_of accounts) 0 v)) (from_entries (flat_map terminals_with accounts)) (λ q.
+    terminal_seen (map account_of accounts) v q ∙ ap (option_and_then (slice_get (map account_of accounts))) (has.each q) ∙ terminals_found q [] accounts good
+    ∙ sym (get-from_entries nat_cmp_total (flat_map terminals_with accounts) q))
+
+-- ---- all
+
+pub assembled_is : (w : Written) (steps : List ℕ) (v : List (Option ℕ)) (grants : List Placed) → steps ≡ map (λ a. unsigned_abs a.steps) w.accounts → HasTerminals (claims 0 w.accounts) v → AreGranted (names_of w.accounts) w.grants grants
+    → settings_view (names_of w.accounts) steps v grants ≡ settings_of w
+assembled_is w steps v grants stepped has granted =
+    let accounts : accounts_of (names_of w.accounts) steps ≡ map account_of w.accounts = ap (accounts_of (names_of w.accounts)) stepped ∙ accounts_are w.accounts in
+    let terminals : ◌≡◌ {A = FinMap nat_cmp Account} (from_entries (terminals_from (accounts_of (names_of w.accounts) steps) 0 v)) (from_entries (flat_map terminals_with w.accounts)) =
+    ap (λ all. from_entries (terminals_from all 0 v)) accounts ∙ terminals_are w.accounts v has in
+    λ i. record { accounts = accounts i; terminals = terminals i; grants = granted.same i }

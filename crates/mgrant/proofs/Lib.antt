@@ -1,0 +1,11 @@
+mod NameTests
+mod GoodLists
+mod Places
+mod Allowances
+mod Parts
+mod EachRead
+mod Keys
+mod Marks
+mod Seen
+mod Chains
+mod Assembled

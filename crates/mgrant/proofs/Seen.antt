@@ -1,0 +1,183 @@
+-- The settings of the definitions, beside the parts that the code keeps.
+use Rattle.std.proofs.Common.{◌≡◌, inl, inr, ℕ, zero, suc, ◌+◌, ◌==◌, ◌<◌, Bool, true, false, List, [], ◌∷◌, length, map, get_or, Option, Some, None, All, refl, sym, ap, ◌∙◌, arith, add-zero, zero-add}
+use Rattle.std.specs.Prelude.{not, ◌&&◌, ◌||◌, slice_get, option_map, option_and_then, unwrap_or}
+use Rattle.std.specs.List.{list_any, list_all, find as first_of}
+use Rattle.std.specs.Ordering.{nat_cmp, eq_by_cmp}
+use Rattle.std.specs.FinMap.{get, from_entries, get-from_entries}
+use Rattle.std.specs.FinMap.Entries.{find}
+use Rattle.std.specs.Cmp.{nat_cmp_total}
+use Rattle.std.specs.Cmp.Lexicographic.{bytes_decides}
+use Rattle.std.proofs.lemmas.Bool.{cases_Bool, cases_lt, and_parts, false≢true, ne_eqb, eq-eqb, not-true}
+use Rattle.std.proofs.lemmas.Bool.Decides.{nat_tests}
+use Rattle.std.proofs.lemmas.List.Elements.{All-head, All-tail}
+use Rattle.std.proofs.lemmas.List.Folds.{list_any_at}
+use Rattle.std.proofs.lemmas.List.Sums.{AllPass-from_list_all}
+use Rattle.std.proofs.lemmas.Option.{none-some, same_Some, slice_get-get_or, slice_get_within, slice_get_past, get_or_from_slice_get, unwrap_or-slice_get}
+use Rattle.mspec.specs.Node.{Text}
+use Rattle.mspec.specs.Trees.{text_eq}
+use Rattle.mspec.specs.Access as access
+use Rattle.mspec.specs.Access.{Account, Grant}
+use Rattle.mgrant.specs.Document.{are_names, are_distinct, is_account_name}
+use Rattle.mgrant.specs.Placed.{Placed, lets_at}
+use Rattle.mgrant.specs.View.{accounts_of, terminals_from, with_terminal, named, IsAmong}
+use Rattle.mgrant.specs.Words.{text_in, IsPlaceOf}
+use Rattle.mgrant.proofs.Allowances.{place_test}
+
+-- ---- accounts
+
+account_here : (names : List Text) (steps : List ℕ) (i : ℕ) → length steps ≡ length names
+    → slice_get (accounts_of names steps) i ≡ option_map (λ n. record { name = n; steps = get_or steps i 0 }) (slice_get names i)
+account_here [] steps i same = refl
+account_here (n ∷ ns) [] i same = absurd (omega arith)
+account_here (n ∷ ns) (s ∷ ss) zero same = refl
+account_here (n ∷ ns) (s ∷ ss) (suc i) same = account_here ns ss i (omega arith)
+
+name_of_mapped : (s : ℕ) (o : Option Text) → unwrap_or (option_map (λ (a : Account). a.name) (option_map (λ n. record { name = n; steps = s }) o)) [] ≡ unwrap_or o []
+name_of_mapped s None = refl
+name_of_mapped s (Some n) = refl
+
+pub name_seen : (names : List Text) (steps : List ℕ) (i : ℕ) → length steps ≡ length names → text_in names i ≡ unwrap_or (option_map (λ (a : Account). a.name) (slice_get (accounts_of names steps) i)) []
+name_seen names steps i same = sym (ap (λ o. unwrap_or (option_map (λ (a : Account). a.name) o) []) (account_here names steps i same) ∙ name_of_mapped (get_or steps i 0) (slice_get names i))
+
+pub length_seen : (names : List Text) (steps : List ℕ) → length steps ≡ length names → length (accounts_of names steps) ≡ length names
+length_seen [] steps same = refl
+length_seen (n ∷ ns) [] same = absurd (omega arith)
+length_seen (n ∷ ns) (s ∷ ss) same = ap suc (length_seen ns ss (omega arith))
+
+pub steps_seen : (names : List Text) (steps : List ℕ) (i : ℕ) → length steps ≡ length names → unwrap_or (slice_get steps i) 0 ≡ unwrap_or (option_map (λ (a : Account). a.steps) (slice_get (accounts_of names steps) i)) 0
+steps_seen [] [] i same = refl
+steps_seen [] (s ∷ ss) i same = absurd (omega arith)
+steps_seen (n ∷ ns) [] i same = absurd (omega arith)
+steps_seen (n ∷ ns) (s ∷ ss) zero same = refl
+steps_seen (n ∷ ns) (s ∷ ss) (suc i) same = steps_seen ns ss i (omega arith)
+
+pub named_seen : (names : List Text) (steps : List ℕ) (name : Text) (i : ℕ) → length steps ≡ length names → IsPlaceOf names name i → slice_get (accounts_of names steps) i ≡ first_of (λ (a : Account). text_eq name a.name) (accounts_of names steps)
+named_seen [] steps name i same is = absurd (none-some name is.here)
+named_seen (n ∷ ns) [] name i same is = absurd (omega arith)
+named_seen (n ∷ ns) (s ∷ ss) name zero same is = rw ((bytes_decides name n).1 (sym (same_Some n name is.here))) refl
+named_seen (n ∷ ns) (s ∷ ss) name (suc i) same is =
+    let other : text_eq name n ≡ false =
+    elim (cases_Bool (text_eq name n)) [
+      | inl here ↦ let first = is.alone 0 (ap Some (sym ((bytes_decides name n).0 here))) in absurd (omega arith)
+      | inr other ↦ other
+    ] in
+    rw other (named_seen ns ss name i (omega arith) (record { here = is.here; alone = λ j at. let next = is.alone (suc j) at in omega arith }))
+
+pub unnamed_seen : (names : List Text) (steps : List ℕ) (name : Text) → list_any (text_eq name) names ≡ false → first_of (λ (a : Account). text_eq name a.name) (accounts_of names steps) ≡ None
+unnamed_seen [] steps name none = refl
+unnamed_seen (n ∷ ns) [] name none = refl
+unnamed_seen (n ∷ ns) (s ∷ ss) name none =
+    elim (cases_Bool (text_eq name n)) [
+      | inl same ↦ absurd (false≢true (sym none ∙ rw same refl))
+      | inr other ↦ rw other (unnamed_seen ns ss name (rw other at none))
+    ]
+
+-- ---- terminals
+
+pub tied_is : (t k : ℕ) → eq_by_cmp nat_cmp t k ≡ (t == k)
+tied_is t k = grind (arith, nat_tests)
+
+past_one : (t k : ℕ) (a : Account) (rest : List (ℕ × Account)) → (t ≡ k → ⊥) → find nat_cmp t ((k, a) ∷ rest) ≡ find nat_cmp t rest
+past_one t k a rest other = rw (tied_is t k, ne_eqb t k other) refl
+
+past_here : (t k : ℕ) (o : Option Account) (rest : List (ℕ × Account)) → (t ≡ k → ⊥) → find nat_cmp t (with_terminal k o rest) ≡ find nat_cmp t rest
+past_here t k None rest other = refl
+past_here t k (Some a) rest other = past_one t k a rest other
+
+find_before : (accounts : List Account) (v : List (Option ℕ)) (k t : ℕ) → t < k → find nat_cmp t (terminals_from accounts k v) ≡ None
+find_before accounts [] k t low = refl
+find_before accounts (o ∷ v) k t low = past_here t k (option_and_then (slice_get accounts) o) (terminals_from accounts (k + 1) v) (λ e. absurd (omega arith)) ∙ find_before accounts v (k + 1) t (omega arith)
+
+at_here : (k : ℕ) (o : Option Account) (rest : List (ℕ × Account)) → find nat_cmp k rest ≡ None → find nat_cmp k (with_terminal k o rest) ≡ o
+at_here k None rest none = none
+at_here k (Some a) rest none = rw (tied_is k k, eq-eqb k k refl) refl
+
+find_from : (accounts : List Account) (v : List (Option ℕ)) (k t : ℕ) → find nat_cmp (k + t) (terminals_from accounts k v) ≡ option_and_then (slice_get accounts) (get_or v t None)
+find_from accounts [] k t = refl
+find_from accounts (o ∷ v) k zero = rw (add-zero k) (at_here k (option_and_then (slice_get accounts) o) (terminals_from accounts (k + 1) v) (find_before accounts v (k + 1) k (omega arith)))
+find_from accounts (o ∷ v) k (suc t) =
+    past_here (k + suc t) k (option_and_then (slice_get accounts) o) (terminals_from accounts (k + 1) v) (λ e. absurd (omega arith))
+    ∙ ap (λ n. find nat_cmp n (terminals_from accounts (k + 1) v)) (omega arith) ∙ find_from accounts v (k + 1) t
+
+-- the account of a terminal is that of the place that stands there
+pub terminal_seen : (accounts : List Account) (v : List (Option ℕ)) (t : ℕ) → get (from_entries {R = nat_cmp} (terminals_from accounts 0 v)) t ≡ option_and_then (slice_get accounts) (get_or v t None)
+terminal_seen accounts v t = get-from_entries nat_cmp_total (terminals_from accounts 0 v) t ∙ ap (λ n. find nat_cmp n (terminals_from accounts 0 v)) (sym (zero-add t)) ∙ find_from accounts v 0 t
+
+-- ---- names are apart, and none is empty
+
+absent_then : (t u : Text) (ts : List Text) (i : ℕ) → list_any (text_eq t) ts ≡ false → slice_get ts i ≡ Some t → ⊥
+absent_then t u ts i none at = false≢true (sym none ∙ list_any_at (text_eq t) ts i t (slice_get_within ts i t at) ((bytes_decides t _).1 (sym (get_or_from_slice_get ts i t t at))))
+
+apart : (ts : List Text) → are_distinct text_eq ts ≡ true → (t : Text) (i j : ℕ) → slice_get ts i ≡ Some t → slice_get ts j ≡ Some t → i ≡ j
+apart [] e t i j at there = absurd (none-some t at)
+apart (x ∷ ts) e t zero zero at there = refl
+apart (x ∷ ts) e t zero (suc j) at there =
+    let (new, rest) = and_parts (not (list_any (text_eq x) ts)) (are_distinct text_eq ts) e in
+    absurd (absent_then x t ts j (not-true (list_any (text_eq x) ts) new) (there ∙ sym at))
+apart (x ∷ ts) e t (suc i) zero at there =
+    let (new, rest) = and_parts (not (list_any (text_eq x) ts)) (are_distinct text_eq ts) e in
+    absurd (absent_then x t ts i (not-true (list_any (text_eq x) ts) new) (at ∙ sym there))
+apart (x ∷ ts) e t (suc i) (suc j) at there =
+    let (new, rest) = and_parts (not (list_any (text_eq x) ts)) (are_distinct text_eq ts) e in
+    ap suc (apart ts rest t i j at there)
+
+-- a place is that of its name
+pub place_is : (names : List Text) → are_names names ≡ true → (i : ℕ) → i < length names → IsPlaceOf names (text_in names i) i
+place_is names good i within =
+    let (each, distinct) = and_parts (list_all is_account_name names) (are_distinct text_eq names) good in
+    let here : slice_get names i ≡ Some (text_in names i) = slice_get-get_or names i [] within ∙ ap Some (sym (unwrap_or-slice_get names i [])) in
+    record { here = here; alone = λ j at. apart names distinct (text_in names i) j i at here }
+
+pub name_good : (names : List Text) → are_names names ≡ true → (i : ℕ) → i < length names → is_account_name (text_in names i) ≡ true
+name_good names good i within =
+    let (each, distinct) = and_parts (list_all is_account_name names) (are_distinct text_eq names) good in
+    ap is_account_name (unwrap_or-slice_get names i []) ∙ AllPass-from_list_all is_account_name names each i [] within
+
+-- an account's name is that of a place just where the place is its own, also of a place that has no name
+pub me_test : (names : List Text) → are_names names ≡ true → (me i : ℕ) → i < length names → text_eq (text_in names me) (text_in names i) ≡ (me == i)
+me_test names good me i within =
+    elim (cases_lt me (length names)) [
+      | inl inside ↦ place_test names (text_in names me) me i (place_is names good me inside) within
+      | inr outside ↦
+          let empty : text_in names me ≡ [] = ap (λ o. unwrap_or o []) (slice_get_past names me outside) in
+          let other : text_eq (text_in names me) (text_in names i) ≡ false =
+          elim (cases_Bool (text_eq (text_in names me) (text_in names i))) [
+            | inl same ↦ absurd (false≢true (ap is_account_name (sym empty ∙ (bytes_decides (text_in names me) (text_in names i)).0 same) ∙ name_good names good i within))
+            | inr other ↦ other
+          ] in
+          other ∙ sym (ne_eqb me i (λ e. absurd (omega arith)))
+    ]
+
+-- ---- access
+
+-- a grant by names is a grant by places
+pub lets_seen : (names : List Text) → are_names names ≡ true → (me owner : ℕ) (owner_name : Text) → IsPlaceOf names owner_name owner → (name : Text) (asked : access.Mode) (gs : List Placed) → All (IsAmong (length names)) gs
+    → list_any (access.lets (text_in names me) owner_name name asked) (map (named names) gs) ≡ list_any (lets_at me owner name asked) gs
+lets_seen names good me owner owner_name is name asked [] among = refl
+lets_seen names good me owner owner_name is name asked (g ∷ gs) among =
+    let here : IsAmong (length names) g = All-head (IsAmong (length names)) g gs among in
+    rw (place_test names owner_name owner g.from is here.from, me_test names good me g.to here.to, lets_seen names good me owner owner_name is name asked gs (All-tail (IsAmong (length names)) g gs among)) refl
+
+unowned : (a b c : Bool) → a ≡ false → ((a && b) && c) ≡ false
+unowned a b c e = rw e refl
+
+-- nothing is granted by a name that is no account's
+pub lets_unknown : (names : List Text) (me owner_name name : Text) (asked : access.Mode) → list_any (text_eq owner_name) names ≡ false → (gs : List Placed) → All (IsAmong (length names)) gs
+    → list_any (access.lets me owner_name name asked) (map (named names) gs) ≡ false
+lets_unknown names me owner_name name asked none [] among = refl
+lets_unknown names me owner_name name asked none (g ∷ gs) among =
+    let here : IsAmong (length names) g = All-head (IsAmong (length names)) g gs among in
+    let other : text_eq owner_name (text_in names g.from) ≡ false =
+    elim (cases_Bool (text_eq owner_name (text_in names g.from))) [
+      | inl same ↦ absurd (false≢true (sym none ∙ list_any_at (text_eq owner_name) names g.from [] here.from (ap (text_eq owner_name) (sym (unwrap_or-slice_get names g.from [])) ∙ same)))
+      | inr other ↦ other
+    ] in
+    rw (unowned (text_eq owner_name (text_in names g.from)) (text_eq me (text_in names g.to)) (text_eq name g.global && access.allows g.mode asked) other) (lets_unknown names me owner_name name asked none gs (All-tail (IsAmong (length names)) g gs among))
+
+pub there : (v : List (Option ℕ)) (t i : ℕ) → get_or v t None ≡ Some i → slice_get v t ≡ Some (Some i)
+there [] t i e = absurd (none-some i e)
+there (o ∷ v) zero i e = ap Some e
+there (o ∷ v) (suc t) i e = there v t i e
+
+pub either : (a b r : Bool) → a ≡ false → b ≡ r → (a || b) ≡ r
+either a b r e f = rw e f

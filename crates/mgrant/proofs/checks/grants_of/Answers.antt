@@ -1,0 +1,26 @@
+use Rattle.std.proofs.Common.{◌≡◌, ◌+◌, ◌++◌, [], ◌∷◌, inr, false, get_or, take, refl, sym, ap, subst, ◌∙◌, arith, rules}
+use Rattle.std.proofs.lemmas.Grind.{common_steps}
+use Rattle.mgrant.specs.Document.{is_grant}
+use Rattle.mgrant.specs.Placed.{mode_of}
+use Rattle.mgrant.specs.Reading.{grants_seen, grant_view, AreGranted, IsPlacing}
+use Rattle.mgrant.proofs.Parts.{all_more, all_fails, grants_more}
+use Rattle.mgrant.proofs.checks.grants_of.Goals as goal
+
+pub returns-in_default : goal.returns-in_default
+returns-in_default c =
+    let e = c.entry-item.result in
+    let at : get_or c.args.entries.now c.loop-entry.entry-index e ≡ e = grind (arith, common_steps) in
+    let bad : is_grant c.args.names.now (grant_view e) ≡ false = search rules in
+    inr (refl, all_fails grant_view (is_grant c.args.names.now) c.args.entries.now c.loop-entry.entry-index e c.loop-entry-test.true (rw at bad))
+
+pub loop-entry-preserved : goal.loop-entry-preserved
+loop-entry-preserved c =
+    let e = c.entry-item.result in
+    let at : get_or c.args.entries.now c.loop-entry.entry-index e ≡ e = grind (arith, common_steps) in
+    let is : IsPlacing c.args.names.now (grant_view e) c.in-Some.field-0 = search rules in
+    let global : c.in_ok-global.global.items ≡ e.global.items = search rules in (
+      subst (AreGranted c.args.names.now (grants_seen (take (c.loop-entry.entry-index + 1) c.args.entries.now)))
+          (sym (c.in_ok-grants.ensures ∙ ap (λ t. c.loop-entry.grants ++ (record { from = c.in-Some.field-0.from; to = c.in-Some.field-0.to; global = t; mode = mode_of c.in-Some.field-0.mode }) ∷ []) global))
+          (grants_more c.args.names.now c.args.entries.now c.loop-entry.entry-index e c.loop-entry-test.true at c.loop-entry.grants c.loop-entry.invariant.0 c.in-Some.field-0 is),
+      all_more grant_view (is_grant c.args.names.now) c.args.entries.now c.loop-entry.entry-index e c.loop-entry-test.true c.loop-entry.invariant.1 (rw at is.good),
+    )

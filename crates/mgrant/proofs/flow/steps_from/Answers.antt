@@ -1,0 +1,24 @@
+use Rattle.std.proofs.Common.{◌≡◌, ◌-◌, ◌≤◌, true, false, length, take, drop, sym, subst, arith, length-drop, rules}
+use Rattle.std.specs.Prelude.{nat_lt, nat_le}
+use Rattle.std.specs.List.Sorted.{IsPartitionPoint}
+use Rattle.std.proofs.lemmas.List.{take_all}
+use Rattle.std.proofs.lemmas.List.Sorted.{IsPartitionPoint-from_clause, IsPartitionedBy-ltb, IsPartitionedBy-leb, IsNonDecreasingBy-take, IsNonDecreasingBy-drop}
+use Rattle.mgrant.specs.Edges.{IsRun}
+use Rattle.mgrant.specs.declared.flow.Edge.{Edge}
+use Rattle.mgrant.proofs.Marks.{run_is}
+use Rattle.mgrant.proofs.flow.steps_from.Goals as goal
+
+pub returns : goal.returns
+returns c =
+    let es = c.args.edges.now in
+    let place = c.args.place in
+    let first = c.partition_point-first.result in
+    let count = c.partition_point-count.result in
+    let rest = take (length es - first) (drop first es) in
+    let whole : rest ≡ drop first es = take_all (length es - first) (drop first es) (omega (arith, length-drop first es)) in
+    let below = IsPartitionPoint-from_clause (λ (e : Edge). nat_lt e.source place) es first c.partition_point-first.ensures.partitioned (IsPartitionedBy-ltb (λ (e : Edge). e.source) es place c.requires) (λ a r f called. search rules) in
+    let upto = IsPartitionPoint-from_clause (λ (e : Edge). nat_le e.source place) rest count c.partition_point-count.ensures.partitioned
+    (IsPartitionedBy-leb (λ (e : Edge). e.source) rest place (IsNonDecreasingBy-take (λ (e : Edge). e.source) (length es - first) (drop first es) (IsNonDecreasingBy-drop (λ (e : Edge). e.source) first es c.requires))) (λ a r f called. search rules) in
+    let high : count ≤ length (drop first es) = subst (λ r. count ≤ length r) whole c.partition_point-count.ensures.bound in
+    subst (λ r. IsRun es place (take count r)) (sym whole)
+    (run_is es place first count c.partition_point-first.ensures.bound high below (subst (λ r. IsPartitionPoint (λ (e : Edge). nat_le e.source place ≡ true) (λ (e : Edge). nat_le e.source place ≡ false) r count) whole upto))

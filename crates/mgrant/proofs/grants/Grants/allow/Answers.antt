@@ -1,0 +1,24 @@
+use Rattle.std.proofs.Common.{◌≡◌, ap, sym, ◌∙◌}
+use Rattle.std.specs.List.{list_any}
+use Rattle.std.specs.HashMap as hash
+use Rattle.mgrant.specs.Placed.{lets_at, mode_of, allows_so, same_permit}
+use Rattle.mgrant.specs.declared.grants.Permit.{Permit}
+use Rattle.mgrant.proofs.Allowances.{lets_by_places, lets_none}
+use Rattle.mgrant.proofs.grants.Grants.allow.Goals as goal
+
+pub returns-in-Some : goal.returns-in-Some
+returns-in-Some c =
+    let globals = c.self.inside.globals in
+    let gs = c.self.inside.list.items in
+    let asked = mode_of c.args.mode in
+    let p : Permit = record { from = c.args.from; to = c.args.to; global = c.in-Some.global } in
+    let found : c.copied-found.result ≡ hash.get same_permit c.self.inside.allowed p = c.copied-found.ensures ∙ c.get.ensures.value in
+    c.allows.ensures ∙ ap (λ o. allows_so o asked) found ∙ c.self.invariant.allowance.at p asked
+    ∙ sym (lets_by_places globals c.args.global.now c.args.to c.args.from c.in-Some.global asked c.in-Some.ensures.found gs c.self.invariant.in_range)
+    ∙ ap (list_any (lets_at c.args.to c.args.from c.args.global.now asked)) c.self.view_is
+
+pub returns-in-None : goal.returns-in-None
+returns-in-None c =
+    let asked = mode_of c.args.mode in
+    sym (lets_none c.self.inside.globals c.args.global.now c.args.to c.args.from asked c.in-None.ensures.absent c.self.inside.list.items c.self.invariant.in_range)
+    ∙ ap (list_any (lets_at c.args.to c.args.from c.args.global.now asked)) c.self.view_is

@@ -1,0 +1,20 @@
+use Rattle.std.proofs.Common.{◌<◌, length, sym, ap, subst, ◌∙◌}
+use Rattle.mspec.specs.Access as access
+use Rattle.mspec.specs.KeyBytes.{IsAccountName}
+use Rattle.mgrant.specs.Words.{text_in}
+use Rattle.mgrant.proofs.NameTests.{account_name_is}
+use Rattle.mgrant.proofs.Seen.{name_seen, name_good, length_seen}
+use Rattle.mgrant.proofs.settings.Settings.name_of.Goals as goal
+
+pub returns-clause-name : goal.returns-clause-name
+returns-clause-name c =
+    c.at.ensures ∙ ap (text_in c.self.inside.names) c.place.ensures
+    ∙ name_seen c.self.inside.names c.self.inside.steps.items c.args.id c.self.invariant.stepped
+    ∙ ap (λ s. access.name_at s c.args.id) c.self.view_is
+
+pub returns-clause-good : goal.returns-clause-good
+returns-clause-good c = λ known.
+    let names = c.self.inside.names in
+    let within : c.args.id < length names =
+    subst (λ n. c.args.id < n) (sym (ap (λ s. length s.accounts) c.self.view_is) ∙ length_seen names c.self.inside.steps.items c.self.invariant.stepped) known in
+    subst IsAccountName (sym (c.at.ensures ∙ ap (text_in names) c.place.ensures)) (account_name_is (text_in names c.args.id) (name_good names c.self.invariant.named c.args.id within))

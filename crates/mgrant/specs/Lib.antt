@@ -1,0 +1,6 @@
+pub mod Document
+pub mod Words
+pub mod Placed
+pub mod Edges
+pub mod View
+pub mod Reading

@@ -1,0 +1,156 @@
+// The parts of settings, from the entries of a document: each is good, or has the fault that the format gives it.
+ghost use Rattle.std.specs.Prelude.{◌≡◌, ◌≤◌, ◌<◌, ℕ, List, [], IfOk, OnOk, All, map, false, length, vec_len, MatchBool, MatchOption, unsigned_abs, option_map};
+ghost use Rattle.mgrant.specs.Document.{names_of, terminals_of, are_names, are_terminals, are_steps, are_grants, is_grant, is_within, mode_named};
+ghost use Rattle.mgrant.specs.Placed.{mode_of};
+ghost use Rattle.mgrant.specs.Reading.{entries_seen, grants_seen, grant_view, Judges, Claim, claims, claims_at, numbers, HasTerminals, IsPlacing, AreGranted, IsNumberWithin};
+ghost use Rattle.mgrant.specs.declared.fault.SettingsFault.TheVariants as fault;
+
+use crate::document::{AccountEntry, GrantEntry};
+use crate::fault::SettingsFault;
+use crate::grants::Grants;
+use crate::mode::Mode;
+use crate::names::{is_account_name, is_name};
+use crate::words::Words;
+use std::alloc::{AllocError, Global};
+
+// Terminals are below this number.
+const TERMINALS: usize = 10_000;
+
+// The names of the accounts.
+pub(crate) fn names_of(alloc: Global, accounts: &[AccountEntry]) -> Result<Words, SettingsFault>
+    ensures { Judges (are_names (names_of (entries_seen accounts.now))) fault.Name (λ names. names ≡ names_of (entries_seen accounts.now)) result }
+{
+    let mut names = Words::new(alloc);
+    for entry in accounts {
+        let name = entry.name.as_slice();
+        if !is_account_name(name) {
+            return Err(SettingsFault::Name);
+        }
+        if names.find(name).is_some() {
+            return Err(SettingsFault::Name);
+        }
+        names = names.with(Vec::from_slice(alloc, name)?)?;
+    }
+    Ok(names)
+}
+
+// A whole number as one from 1 on, where it is that and no more than the bound.
+fn number_within(n: i64, most: u32) -> Option<u32>
+    ensures { MatchOption result (is_within 1 most n ≡ false) (IsNumberWithin most n) }
+{
+    if n < 1 || n > most as i64 {
+        return None;
+    }
+    Some(n as u32)
+}
+
+// Gives terminals to the account of a place, unless one of them is no terminal or has an account.
+fn claim(terminals: &mut Vec<Option<usize>>, listed: &[i64], place: usize) -> bool
+    requires { vec_len terminals.old ≡ 10000 }
+    ensures claimed { (seen : List Claim) → HasTerminals seen terminals.old.items → MatchBool result (HasTerminals (claims_at place listed.now seen) terminals.new.items) (are_terminals (numbers (claims_at place listed.now seen)) ≡ false) }
+    ensures len { vec_len terminals.new ≡ vec_len terminals.old }
+{
+    for terminal in listed {
+        let Some(number) = number_within(*terminal, 9999) else {
+            return false;
+        };
+        if terminals[number as usize].is_some() {
+            return false;
+        }
+        terminals[number as usize] = Some(place);
+    }
+    true
+}
+
+// So many terminals, all without accounts.
+fn unclaimed(alloc: Global, count: usize) -> Result<Vec<Option<usize>>, AllocError>
+    ensures none { IfOk result (λ terminals. HasTerminals [] terminals.items) }
+    ensures len { IfOk result (λ terminals. vec_len terminals ≡ count) }
+{
+    let mut terminals = Vec::with_capacity(alloc, count)?;
+    for _ in 0..count {
+        terminals.push(None)?;
+    }
+    Ok(terminals)
+}
+
+// The places of the accounts of the terminals.
+pub(crate) fn terminals_of(
+    alloc: Global,
+    accounts: &[AccountEntry],
+) -> Result<Vec<Option<usize>>, SettingsFault>
+    ensures { Judges (are_terminals (terminals_of (entries_seen accounts.now))) fault.Terminal (λ terminals. HasTerminals (claims 0 (entries_seen accounts.now)) terminals.items) result }
+{
+    let mut terminals = unclaimed(alloc, TERMINALS)?;
+    for (place, entry) in accounts.iter().enumerate() {
+        if !claim(&mut terminals, &entry.terminals, place) {
+            return Err(SettingsFault::Terminal);
+        }
+    }
+    Ok(terminals)
+}
+
+// The steps of the accounts.
+pub(crate) fn steps_of(alloc: Global, accounts: &[AccountEntry]) -> Result<Vec<u32>, SettingsFault>
+    ensures { Judges (are_steps (entries_seen accounts.now)) fault.Steps (λ steps. steps.items ≡ map (λ a. unsigned_abs a.steps) (entries_seen accounts.now)) result }
+{
+    let mut steps = Vec::new(alloc);
+    for entry in accounts {
+        match number_within(entry.steps, 1_000_000) {
+            Some(number) => steps.push(number)?,
+            None => return Err(SettingsFault::Steps),
+        }
+    }
+    Ok(steps)
+}
+
+// The mode of a name.
+fn mode_named(text: &[u8]) -> Option<Mode>
+    ensures { option_map mode_of result ≡ mode_named text.now }
+{
+    match text {
+        b"read" => Some(Mode::Read),
+        b"write" => Some(Mode::Write),
+        _ => None,
+    }
+}
+
+// Where a grant is between, and its mode.
+#[derive(Clone, Copy)]
+pub(crate) struct Placing {
+    from: usize,
+    to: usize,
+    mode: Mode,
+}
+
+// The places of a grant's accounts, and its mode, where it is good.
+fn places_of(names: &Words, entry: &GrantEntry) -> Option<Placing>
+    ensures { MatchOption result (is_grant names.now (grant_view entry.now) ≡ false) (IsPlacing names.now (grant_view entry.now)) }
+{
+    if entry.from == entry.to || !is_name(&entry.global) {
+        return None;
+    }
+    let from = names.find(&entry.from)?;
+    let to = names.find(&entry.to)?;
+    let mode = mode_named(&entry.mode)?;
+    Some(Placing { from, to, mode })
+}
+
+// The grants.
+pub(crate) fn grants_of(
+    alloc: Global,
+    names: &Words,
+    entries: &[GrantEntry],
+) -> Result<Grants, SettingsFault>
+    ensures { Judges (are_grants names.now (grants_seen entries.now)) fault.Grant (λ grants. AreGranted names.now (grants_seen entries.now) grants) result }
+{
+    let mut grants = Grants::new(alloc);
+    for entry in entries {
+        let Some(Placing { from, to, mode }) = places_of(names, entry) else {
+            return Err(SettingsFault::Grant);
+        };
+        let global = Vec::from_slice(alloc, &entry.global)?;
+        grants = grants.with(from, to, global, mode)?;
+    }
+    Ok(grants)
+}

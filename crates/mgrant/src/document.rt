@@ -1,0 +1,260 @@
+// The shape of a document of settings: its entries, as they are written.
+ghost use Rattle.std.specs.Prelude.{◌≡◌, IfOk, Some, List, map, option_map, codes};
+ghost use Rattle.std.specs.List.{list_any};
+ghost use Rattle.mspec.specs.Trees.{text_eq};
+ghost use Rattle.toml.specs.Data.{get_member, as_str, as_integer};
+ghost use Rattle.toml.specs.View.{view, table_view, array_view};
+ghost use Rattle.mgrant.specs.Document.{has_only, text_at, integer_at, integers_at, each_read, account_in, grant_in, written_account, written_grant, entries_of, entries_in, written, entry_limit};
+ghost use Rattle.mgrant.specs.Reading.{account_view, grant_view, entries_view, accounts_view, grants_view, keys_view};
+
+use std::alloc::{AllocError, Global};
+use toml::{Table, Value};
+
+// As many entries a list may have.
+const ENTRY_LIMIT: usize = 9999;
+
+// An entry of the list of accounts, as it is written.
+#[derive(Drop)]
+pub(crate) struct AccountEntry {
+    pub name: Vec<u8>,
+    pub terminals: Vec<i64>,
+    pub steps: i64,
+}
+
+// An entry of the list of grants, as it is written.
+#[derive(Drop)]
+pub(crate) struct GrantEntry {
+    pub from: Vec<u8>,
+    pub to: Vec<u8>,
+    pub global: Vec<u8>,
+    pub mode: Vec<u8>,
+}
+
+// What a document of the right shape says.
+#[derive(Drop)]
+pub(crate) struct Entries {
+    pub accounts: Vec<AccountEntry>,
+    pub grants: Vec<GrantEntry>,
+}
+
+// Whether a key is among these.
+fn is_among(key: &str, keys: &[&str]) -> bool
+    ensures { result ≡ list_any (λ other. text_eq key.now other.now) keys.now }
+{
+    keys.iter().any(|other| key == *other)
+}
+
+// Whether a table has no keys but these.
+fn has_only(table: &Table, keys: &[&str]) -> bool
+    ensures { result ≡ has_only (keys_view keys.now) (table_view table.now) }
+{
+    for key in table.keys() {
+        if !is_among(key.as_str(), keys) {
+            return false;
+        }
+    }
+    true
+}
+
+// The value at a key.
+fn value_at<'a>(table: &'a Table, key: &str) -> Option<&'a Value>
+    ensures { option_map (λ v. view v.now) result ≡ get_member key.now (table_view table.now) }
+{
+    table.get(key)
+}
+
+// The text at a key, where there is one.
+fn text_at(alloc: Global, table: &Table, key: &str) -> Result<Option<Vec<u8>>, AllocError>
+    ensures { IfOk result (λ o. option_map (λ v. v.items) o ≡ text_at key.now (table_view table.now)) }
+{
+    let Some(value) = value_at(table, key) else {
+        return Ok(None);
+    };
+    match value.as_str() {
+        Some(text) => Ok(Some(Vec::from_slice(alloc, text.as_bytes())?)),
+        None => Ok(None),
+    }
+}
+
+// The whole number at a key, where there is one.
+fn integer_at(table: &Table, key: &str) -> Option<i64>
+    ensures { result ≡ integer_at key.now (table_view table.now) }
+{
+    match value_at(table, key) {
+        Some(value) => value.as_integer(),
+        None => None,
+    }
+}
+
+// The whole numbers of a list, if all of it are.
+fn integers(alloc: Global, values: &Vec<Value>) -> Result<Option<Vec<i64>>, AllocError>
+    ensures { IfOk result (λ o. option_map (λ v. v.items) o ≡ each_read as_integer (array_view values.now)) }
+{
+    let mut all = Vec::new(alloc);
+    for value in values {
+        match value.as_integer() {
+            Some(n) => all.push(n)?,
+            None => return Ok(None),
+        }
+    }
+    Ok(Some(all))
+}
+
+// The list of whole numbers at a key, where there is one.
+fn integers_at(alloc: Global, table: &Table, key: &str) -> Result<Option<Vec<i64>>, AllocError>
+    ensures { IfOk result (λ o. option_map (λ v. v.items) o ≡ integers_at key.now (table_view table.now)) }
+{
+    let Some(value) = value_at(table, key) else {
+        return Ok(None);
+    };
+    match value.as_array() {
+        Some(values) => integers(alloc, values),
+        None => Ok(None),
+    }
+}
+
+// What a table says of an account, where it has the keys of one.
+fn account_in(alloc: Global, table: &Table) -> Result<Option<AccountEntry>, AllocError>
+    ensures { IfOk result (λ o. option_map account_view o ≡ account_in (table_view table.now)) }
+{
+    if !has_only(table, &["name", "terminals", "steps"]) {
+        return Ok(None);
+    }
+    let Some(name) = text_at(alloc, table, "name")? else {
+        return Ok(None);
+    };
+    let Some(terminals) = integers_at(alloc, table, "terminals")? else {
+        return Ok(None);
+    };
+    match integer_at(table, "steps") {
+        Some(steps) => Ok(Some(AccountEntry {
+            name,
+            terminals,
+            steps,
+        })),
+        None => Ok(None),
+    }
+}
+
+// What a table says of a grant, where it has the keys of one.
+fn grant_in(alloc: Global, table: &Table) -> Result<Option<GrantEntry>, AllocError>
+    ensures { IfOk result (λ o. option_map grant_view o ≡ grant_in (table_view table.now)) }
+{
+    if !has_only(table, &["from", "to", "global", "mode"]) {
+        return Ok(None);
+    }
+    let Some(from) = text_at(alloc, table, "from")? else {
+        return Ok(None);
+    };
+    let Some(to) = text_at(alloc, table, "to")? else {
+        return Ok(None);
+    };
+    let Some(global) = text_at(alloc, table, "global")? else {
+        return Ok(None);
+    };
+    match text_at(alloc, table, "mode")? {
+        Some(mode) => Ok(Some(GrantEntry {
+            from,
+            to,
+            global,
+            mode,
+        })),
+        None => Ok(None),
+    }
+}
+
+// The entry of an account.
+fn account(alloc: Global, value: &Value) -> Result<Option<AccountEntry>, AllocError>
+    ensures { IfOk result (λ o. option_map account_view o ≡ written_account (view value.now)) }
+{
+    match value.as_table() {
+        Some(table) => account_in(alloc, table),
+        None => Ok(None),
+    }
+}
+
+// The entry of a grant.
+fn grant(alloc: Global, value: &Value) -> Result<Option<GrantEntry>, AllocError>
+    ensures { IfOk result (λ o. option_map grant_view o ≡ written_grant (view value.now)) }
+{
+    match value.as_table() {
+        Some(table) => grant_in(alloc, table),
+        None => Ok(None),
+    }
+}
+
+// The entries of the list of accounts.
+fn accounts(alloc: Global, values: &Vec<Value>) -> Result<Option<Vec<AccountEntry>>, AllocError>
+    ensures { IfOk result (λ o. option_map accounts_view o ≡ entries_of written_account (array_view values.now)) }
+{
+    if values.len() > ENTRY_LIMIT {
+        return Ok(None);
+    }
+    let mut all = Vec::new(alloc);
+    for value in values {
+        match account(alloc, value)? {
+            Some(entry) => all.push(entry)?,
+            None => return Ok(None),
+        }
+    }
+    Ok(Some(all))
+}
+
+// The entries of the list of grants.
+fn grants(alloc: Global, values: &Vec<Value>) -> Result<Option<Vec<GrantEntry>>, AllocError>
+    ensures { IfOk result (λ o. option_map grants_view o ≡ entries_of written_grant (array_view values.now)) }
+{
+    if values.len() > ENTRY_LIMIT {
+        return Ok(None);
+    }
+    let mut all = Vec::new(alloc);
+    for value in values {
+        match grant(alloc, value)? {
+            Some(entry) => all.push(entry)?,
+            None => return Ok(None),
+        }
+    }
+    Ok(Some(all))
+}
+
+// The list of accounts, which may be absent.
+fn accounts_in(alloc: Global, table: &Table) -> Result<Option<Vec<AccountEntry>>, AllocError>
+    ensures { IfOk result (λ o. option_map accounts_view o ≡ entries_in written_account (get_member (codes "account") (table_view table.now))) }
+{
+    let Some(value) = value_at(table, "account") else {
+        return Ok(Some(Vec::new(alloc)));
+    };
+    match value.as_array() {
+        Some(values) => accounts(alloc, values),
+        None => Ok(None),
+    }
+}
+
+// The list of grants, which may be absent.
+fn grants_in(alloc: Global, table: &Table) -> Result<Option<Vec<GrantEntry>>, AllocError>
+    ensures { IfOk result (λ o. option_map grants_view o ≡ entries_in written_grant (get_member (codes "grant") (table_view table.now))) }
+{
+    let Some(value) = value_at(table, "grant") else {
+        return Ok(Some(Vec::new(alloc)));
+    };
+    match value.as_array() {
+        Some(values) => grants(alloc, values),
+        None => Ok(None),
+    }
+}
+
+// What a document says, where it has the shape.
+pub(crate) fn read_entries(alloc: Global, table: &Table) -> Result<Option<Entries>, AllocError>
+    ensures { IfOk result (λ o. option_map entries_view o ≡ written (table_view table.now)) }
+{
+    if !has_only(table, &["account", "grant"]) {
+        return Ok(None);
+    }
+    let Some(accounts) = accounts_in(alloc, table)? else {
+        return Ok(None);
+    };
+    match grants_in(alloc, table)? {
+        Some(grants) => Ok(Some(Entries { accounts, grants })),
+        None => Ok(None),
+    }
+}

@@ -1,0 +1,46 @@
+// Names of accounts and of globals.
+ghost use Rattle.std.specs.Prelude.{◌≡◌, ◌↔◌, IsTrue};
+ghost use Rattle.std.specs.List.{list_all};
+ghost use Rattle.mspec.specs.Names.{IsName, is_name_start, is_name_rest};
+ghost use Rattle.mspec.specs.KeyBytes.{IsAccountName};
+ghost use Rattle.mgrant.specs.Document.{is_account_name, is_name};
+
+// Whether the character is a letter or a digit.
+fn is_word(c: u8) -> bool
+    ensures { result ≡ is_name_rest c }
+{
+    c.is_ascii_alphanumeric()
+}
+
+// Whether these are letters and digits alone.
+fn are_words(text: &[u8]) -> bool
+    ensures { result ≡ list_all is_name_rest text.now }
+{
+    text.iter().all(|c| is_word(*c))
+}
+
+// Whether a name can begin with the character: a letter, or `%`.
+fn starts_name(c: u8) -> bool
+    ensures { result ≡ is_name_start c }
+{
+    c.is_ascii_alphabetic() || c == b'%'
+}
+
+// Whether this is an account's name: 1 to 16 letters or digits.
+pub(crate) fn is_account_name(text: &[u8]) -> bool
+    ensures test { result ≡ is_account_name text.now }
+    ensures fact { IsTrue result ↔ IsAccountName text.now }
+{
+    !text.is_empty() && text.len() <= 16 && are_words(text)
+}
+
+// Whether this is a name: a letter or `%` with at most 30 letters or digits behind it.
+pub(crate) fn is_name(text: &[u8]) -> bool
+    ensures test { result ≡ is_name text.now }
+    ensures fact { IsTrue result ↔ IsName text.now }
+{
+    match text.split_first() {
+        Some((first, rest)) => starts_name(*first) && are_words(rest) && rest.len() <= 30,
+        None => false,
+    }
+}

@@ -1,0 +1,192 @@
+// Settings: who has which terminals, and who may do what.
+ghost use Rattle.std.specs.Prelude.{◌≡◌, ◌<◌, ◌↔◌, ◌⊎◌, Some, None, IfOk, IfErr, IfSome, IsTrue, length, slice_get, slice_index_or, unwrap_or, option_and_then};
+ghost use Rattle.toml.specs.View.{table_view};
+ghost use Rattle.mspec.specs.KeyBytes.{IsAccountName};
+ghost use Rattle.mspec.specs.Access as access;
+ghost use Rattle.mspec.specs.Flow.{Reaches};
+ghost use Rattle.mgrant.specs.Document.{Reads, fault_of, settings_of};
+ghost use Rattle.mgrant.specs.Placed.{mode_of};
+ghost use Rattle.mgrant.specs.Reading.{entries_view, IsRead, IsRefused};
+ghost use Rattle.mgrant.specs.declared.fault.SettingsFault.TheVariants.{Memory};
+
+use crate::account_id::AccountId;
+use crate::checks::{grants_of, names_of, steps_of, terminals_of};
+use crate::document::{Entries, read_entries};
+use crate::fault::SettingsFault;
+use crate::flow::leads;
+use crate::grants::Grants;
+use crate::mode::Mode;
+use crate::words::Words;
+use std::alloc::{AllocError, Global};
+use std::marker::Model;
+use toml::Table;
+
+/// The accounts with their steps, the account of each terminal, and the grants between accounts. Contracts see them as the
+/// settings of the definitions. An `AccountId` is of the settings that gave it: of others it names another account or none.
+#[derive(Drop)]
+pub struct Settings {
+    names: Words,
+    steps: Vec<u32>,
+    terminals: Vec<Option<usize>>,
+    grants: Grants,
+}
+
+impl Model for Settings {
+    ghost use Rattle.mspec.specs.Access as access;
+    ghost use Rattle.mgrant.specs.View.{settings_view, settings_code, AreSettings};
+
+    ghost Value = { access.Settings };
+
+    ghost coded = { settings_code };
+
+    ghost view = { λ s. settings_view s.names s.steps.items s.terminals.items s.grants };
+
+    ghost invariant = { λ s. AreSettings s.names s.steps.items s.terminals.items s.grants };
+}
+
+// The table that the bytes are.
+fn document(alloc: Global, bytes: &[u8]) -> Result<Table, SettingsFault>
+    ensures ok { IfOk result (λ t. Reads bytes.now (table_view t)) }
+    ensures err { IfErr result (λ e. (e ≡ Memory) ⊎ IsRefused bytes.now e) }
+{
+    match toml::table_from_slice(alloc, bytes) {
+        Ok(table) => Ok(table),
+        Err(error) => {
+            if error.is_memory() {
+                Err(SettingsFault::Memory)
+            } else {
+                Err(SettingsFault::Toml)
+            }
+        }
+    }
+}
+
+// The settings of the entries of a document.
+fn assembled(alloc: Global, entries: &Entries) -> Result<Settings, SettingsFault>
+    ensures good { IfOk result (λ _. fault_of (entries_view entries.now) ≡ None) }
+    ensures ok { IfOk result (λ settings. settings ≡ settings_of (entries_view entries.now)) }
+    ensures err { IfErr result (λ e. (e ≡ Memory) ⊎ (fault_of (entries_view entries.now) ≡ Some e)) }
+{
+    let accounts = entries.accounts.as_slice();
+    let names = names_of(alloc, accounts)?;
+    let terminals = terminals_of(alloc, accounts)?;
+    let steps = steps_of(alloc, accounts)?;
+    let grants = grants_of(alloc, &names, &entries.grants)?;
+    Ok(Settings {
+        names,
+        steps,
+        terminals,
+        grants,
+    })
+}
+
+// The steps at a place, or 0 where there is none.
+fn steps_at(steps: &[u32], place: usize) -> u32
+    ensures { result ≡ unwrap_or (slice_get steps.now place) 0 }
+{
+    match steps.get(place) {
+        Some(steps) => *steps,
+        None => 0,
+    }
+}
+
+// The place that a terminal has.
+fn terminal_at(terminals: &[Option<usize>], terminal: usize) -> Option<usize>
+    ensures { result ≡ slice_index_or terminals.now terminal None }
+{
+    match terminals.get(terminal) {
+        Some(place) => *place,
+        None => None,
+    }
+}
+
+impl Settings {
+    /// The settings of a TOML document: a list `account` of tables with the keys `name` (1 to 16 letters or digits), `terminals`
+    /// (numbers from 1 to 9,999) and `steps` (1 to 1,000,000), and a list `grant` of tables with the keys `from`, `to` (names of
+    /// accounts), `global` (a name) and `mode` (`read` or `write`). Each list may be absent, and has at most 9,999 entries. Else
+    /// the first fault of the document, in the order of `SettingsFault`; or `Memory`, which may come at any place.
+    pub fn read(alloc: Global, bytes: &[u8]) -> Result<Settings, SettingsFault>
+        ensures ok { IfOk result (IsRead bytes.now) }
+        ensures err { IfErr result (λ e. (e ≡ Memory) ⊎ IsRefused bytes.now e) }
+    {
+        let table = document(alloc, bytes)?;
+        match read_entries(alloc, &table)? {
+            Some(entries) => assembled(alloc, &entries),
+            None => Err(SettingsFault::Shape),
+        }
+    }
+
+    /// The account of a terminal. Takes no memory.
+    pub fn account_of(&self, terminal: u32) -> Option<AccountId>
+        ensures account { option_and_then (access.account_at self.now) result ≡ access.account_of self.now terminal }
+        ensures known { IfSome result (λ id. id < length self.now.accounts) }
+    {
+        match terminal_at(&self.terminals, terminal as usize) {
+            Some(place) => Some(AccountId::new(place)),
+            None => None,
+        }
+    }
+
+    /// The account of a name. Takes no memory.
+    pub fn account_named(&self, name: &[u8]) -> Option<AccountId>
+        ensures account { option_and_then (access.account_at self.now) result ≡ access.account_named self.now name.now }
+        ensures known { IfSome result (λ id. id < length self.now.accounts) }
+    {
+        match self.names.find(name) {
+            Some(place) => Some(AccountId::new(place)),
+            None => None,
+        }
+    }
+
+    /// The name of an account, 1 to 16 letters or digits; empty for an id of other settings that names none here. Takes no memory.
+    pub fn name_of(&self, id: AccountId) -> &[u8]
+        ensures name { result.now ≡ access.name_at self.now id }
+        ensures good { id < length self.now.accounts → IsAccountName result.now }
+    {
+        self.names.at(id.place())
+    }
+
+    /// The steps that each line of an account may use, 1 to 1,000,000; 0 for an id that names none here. Takes no memory.
+    pub fn steps_of(&self, id: AccountId) -> u32
+        ensures { result ≡ access.steps_at self.now id }
+    {
+        steps_at(&self.steps, id.place())
+    }
+
+    /// Whether an account may use a global of the owner so: the owner is the account itself, or has granted it. A name of no
+    /// account is answered as an account that grants nothing. Takes no memory.
+    pub fn may(&self, me: AccountId, owner_name: &[u8], global: &[u8], mode: Mode) -> bool
+        ensures { result ≡ access.may self.now (access.name_at self.now me) owner_name.now global.now (mode_of mode) }
+    {
+        let place = me.place();
+        if owner_name == self.names.at(place) {
+            return true;
+        }
+        match self.names.find(owner_name) {
+            Some(owner) => self.grants.allow(place, owner, global, mode),
+            None => false,
+        }
+    }
+
+    /// Whether what one account does can show at another: they are the same, or a chain of grants leads from the one to the
+    /// other, where a grant to write leads both ways. An id that names none here is reached by no account. Fails by want of
+    /// memory alone.
+    pub fn reaches(&self, alloc: Global, from: AccountId, to: AccountId) -> Result<bool, AllocError>
+        ensures { IfOk result (λ b. IsTrue b ↔ Reaches self.now (access.name_at self.now from) (access.name_at self.now to)) }
+    {
+        let start = from.place();
+        let end = to.place();
+        if self.names.at(start) == self.names.at(end) {
+            return Ok(true);
+        }
+        let count = self.names.len();
+        if start >= count {
+            return Ok(false);
+        }
+        if end >= count {
+            return Ok(false);
+        }
+        let edges = self.grants.edges(alloc)?;
+        Ok(leads(alloc, edges, count, start, end)?)
+    }
+}

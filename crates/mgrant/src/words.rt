@@ -1,0 +1,79 @@
+// Different texts, each known by its place.
+ghost use Rattle.std.specs.Prelude.{◌≡◌, ◌∷◌, [], ◌++◌, IfOk, IfSome, IfNone, false, length};
+ghost use Rattle.std.specs.List.{list_any};
+ghost use Rattle.mspec.specs.Trees.{text_eq};
+ghost use Rattle.mgrant.specs.Words.{text_in, IsPlaceOf};
+
+use std::alloc::{AllocError, Global};
+use std::collections::HashMap;
+use std::marker::Model;
+
+// Texts of which none is there twice, in the order in which they came. A text's place is found by hashing it.
+#[derive(Drop)]
+pub(crate) struct Words {
+    list: Vec<Vec<u8>>,
+    places: HashMap<Vec<u8>, usize>,
+}
+
+impl Model for Words {
+    ghost use Rattle.std.specs.Prelude.{ℕ, List};
+    ghost use Rattle.mgrant.specs.Words.{texts_of, IsIndex};
+
+    ghost Value = { List (List ℕ) };
+
+    ghost view = { λ words. texts_of words.list.items };
+
+    ghost invariant = { λ words. IsIndex (texts_of words.list.items) words.places };
+}
+
+impl Words {
+    // No texts. Takes no memory.
+    pub fn new(alloc: Global) -> Words
+        ensures { result ≡ [] }
+    {
+        Words {
+            list: Vec::new(alloc),
+            places: HashMap::new(alloc),
+        }
+    }
+
+    // How many there are.
+    pub fn len(&self) -> usize
+        ensures { result ≡ length self.now }
+    {
+        self.list.len()
+    }
+
+    // The text at a place, or an empty one where there is none.
+    pub fn at(&self, place: usize) -> &[u8]
+        ensures { result.now ≡ text_in self.now place }
+    {
+        match self.list.get(place) {
+            Some(text) => text.as_slice(),
+            None => &[],
+        }
+    }
+
+    // The place of a text.
+    pub fn find(&self, text: &[u8]) -> Option<usize>
+        ensures found { IfSome result (IsPlaceOf self.now text.now) }
+        ensures absent { IfNone result (list_any (text_eq text.now) self.now ≡ false) }
+    {
+        self.places.get(text).copied()
+    }
+
+    // With one more text behind the others.
+    pub fn with(self, text: Vec<u8>) -> Result<Words, AllocError>
+        requires { list_any (text_eq text.items) self ≡ false }
+        ensures { IfOk result (λ words. words ≡ self ++ text.items ∷ []) }
+    {
+        let Words {
+            mut list,
+            mut places,
+        } = self;
+        let key = Vec::from_slice(*list.allocator(), &text)?;
+        places.insert(key, list.len())?;
+        list.push(text)?;
+        Ok(Words { list, places })
+    }
+}

@@ -4,10 +4,9 @@ use Rattle.mgrammar.specs.Grammar.{CommandTree, set, write}
 use Rattle.mspec.specs.Plan.{Plan, Done, Ask, then_plan}
 use Rattle.mspec.specs.Act.{Act, Outcome, Gives, Fails, on_gives, charge, ◌>>=◌, ◌>>◌}
 use Rattle.mmeaning.specs.LineMeaning.{Signal, Go_on, command, commands}
-use Rattle.mmeaning.specs.Step.{is_lost}
-use Rattle.mmeaning.specs.Calls.{FailedAs, Follows}
+use Rattle.mmeaning.specs.Calls.{FailedBy, Follows}
 use Rattle.mmeaning.proofs.Calls.{assoc, follows_on, failed_after, did_gives}
-use Rattle.meval.specs.Codes.{code_of}
+use Rattle.meval.specs.Codes.{fault_of}
 use Rattle.meval.specs.declared.code.Code.{Code}
 use Rattle.mexec.specs.declared.parts.Parts.{Parts}
 use Rattle.mexec.specs.declared.frames.Frame.{Frame}
@@ -47,7 +46,7 @@ stops : (fs fs' : List View) (p : Act Signal) (old new : Parts) (e : Code) → �
 stops fs fs' p old new e same d = record {
   at = λ b naked test w.
       let did = d.at b naked test w in
-      subst (λ p. FailedAs (is_lost (code_of e)) b p (here_of old naked test w) (code_of e) (here_of new naked test w)) (sym same) did.ends;
+      subst (λ p. FailedBy b p (here_of old naked test w) (fault_of e) (here_of new naked test w)) (sym same) did.ends;
 }
 
 -- it has no step left
@@ -72,7 +71,7 @@ leads_moved {q = q} {fs = fs} {fs' = fs'} {old = old} {mid = mid} {new = new} l 
 pub leads_stopped : {X : Type 0} {f : X → Signal} {q : Act Signal} {fs fs' : List View} {old mid new : Parts} {e : Code} → Leads q old (left fs Go_on) mid → Moves fs mid (Err e) fs' new → Does q f old (Err e) new
 leads_stopped {q = q} {fs = fs} {old = old} {mid = mid} {new = new} {e = e} l m = record {
   at = λ b naked test w. record {
-    ends = failed_after b q (left fs Go_on) (here_of old naked test w) (here_of mid naked test w) (is_lost (code_of e)) (code_of e) (here_of new naked test w) (l.at b naked test w) (m.at b naked test w);
+    ends = failed_after b q (left fs Go_on) (here_of old naked test w) (here_of mid naked test w) (fault_of e) (here_of new naked test w) (l.at b naked test w) (m.at b naked test w);
   };
 }
 

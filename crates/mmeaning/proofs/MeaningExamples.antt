@@ -11,7 +11,7 @@ use Rattle.mspec.specs.Pieces.{pieces_of}
 use Rattle.mspec.specs.TextFunctions.{first_place, with_piece}
 use Rattle.mgrammar.specs.Grammar.{join, keyword_of, function_of}
 use Rattle.mgrammar.specs.Reading.{many, list_at, point_at, exponent_at, number_at, name_at, count_at, repeated_at, atom_at, pattern_at, truth_at, operator_at, bracket_with, choice_with, select_with, call_with, function_with, primary_with, operand_with, step_by, step_with, expr_with, readers_at, place_with, piece_with, target_with, destination_at, assignment_at, output_at, command_at, spaced_at, comment_at, line_at}
-use Rattle.mspec.specs.Code.{Code, M4, M6, M9, M10, Zlong, Zsyntax, Zover, Zarg, Zchar, Zline, Zterm}
+use Rattle.mspec.specs.Code.{Code, M4, M6, M9, M10, Zlong, Zsyntax, Zover, Zarg, Zchar, Zline, Zterm, Own}
 use Rattle.mspec.specs.Plan.{Done, perform}
 use Rattle.mspec.specs.Act.{Text, State, Outcome, Gives, Fails}
 use Rattle.mmeaning.specs.Operators.{binary}
@@ -33,7 +33,7 @@ abbrev done : Text → Reply
 done out = record { out = out; ending = Finished }
 
 abbrev failed : Text → Code → Reply
-failed out code = record { out = out; ending = Faulted code }
+failed out code = record { out = out; ending = Faulted (Own code) }
 
 -- what a line over no locals writes, and the code that it ends with
 abbrev shown_by : Outcome Signal → Text × Option Code

@@ -3,7 +3,7 @@ use Rattle.std.specs.Prelude.{◌≡◌, ℕ, Bool, true, false, nat_lt, [], len
 use Rattle.std.specs.List.{list_all}
 use Rattle.std.specs.Ordering.{nat_cmp}
 use Rattle.std.specs.FinMap.{FinMap, get, insert, remove}
-use Rattle.mspec.specs.Code.{Code, Zterm, Zline, Zchar, Zsyntax, Zmem, Zstore}
+use Rattle.mspec.specs.Code.{Code, Zterm, Zline, Zchar, Zsyntax, Fault, Own, Lost}
 use Rattle.mspec.specs.Plan.{Ops, Plan, perform, cut_short}
 use Rattle.mspec.specs.Act.{Text, Node, Locals, no_locals, State, Outcome, Gives, Fails, Act, fail}
 use Rattle.mspec.specs.Names.{is_character}
@@ -51,7 +51,7 @@ pub record Event : Type 0 where
 pub data Ending : Type 0 where
   Finished : Ending
   Halted : Ending
-  Faulted : Code → Ending
+  Faulted : Fault → Ending
 
 pub record Reply : Type 0 where
   pub out : Text
@@ -77,7 +77,7 @@ plan_of account s tree = text_run tree (begun account s)
 
 abbrev pub reply_of : Outcome Signal → Reply
 reply_of (Gives signal s) = record { out = s.out; ending = Finished }
-reply_of (Fails code s) = record { out = s.out; ending = Faulted code }
+reply_of (Fails code s) = record { out = s.out; ending = Faulted (Own code) }
 
 abbrev pub state_of : Outcome Signal → State
 state_of (Gives signal s) = s
@@ -88,7 +88,7 @@ abbrev pub ended : ℕ → Server → Outcome Signal × World → Reply × Serve
 ended terminal server r = (reply_of r.0, record { world = r.1; sessions = insert server.sessions terminal (kept (state_of r.0)) })
 
 abbrev pub refused : Code → Server → Reply × Server
-refused code server = (record { out = []; ending = Faulted code }, server)
+refused code server = (record { out = []; ending = Faulted (Own code) }, server)
 
 -- the run of a line that passed the checks before it; a session that it opens for a text without a tree is as new, so as none
 abbrev pub at_tree : Settings → Event → Server → Account → Reply × Server
@@ -126,16 +126,15 @@ pub record FailedStep (settings : Settings) (e : Event) (server after : Server) 
   pub world : after.world ≡ cut_short (act settings e.terminal) operations (plan_of account (session_or_new (get server.sessions e.terminal)) (line_at e.text)) server.world
   pub sessions : after.sessions ≡ remove server.sessions e.terminal
 
--- the codes of a step that memory or the store did not suffice for
-abbrev pub is_lost : Code → Bool
-is_lost Zmem = true
-is_lost Zstore = true
-is_lost code = false
+-- memory or the store did not suffice
+abbrev pub is_lost : Fault → Bool
+is_lost (Own code) = false
+is_lost (Lost loss) = true
 
 abbrev pub is_failure : Ending → Bool
 is_failure Finished = false
 is_failure Halted = false
-is_failure (Faulted code) = is_lost code
+is_failure (Faulted fault) = is_lost fault
 
 abbrev pub lost : Ending → Reply
 lost ending = record { out = []; ending = ending }

@@ -12,7 +12,7 @@ use Rattle.mgrammar.specs.Reading.{many, list_at, point_at, exponent_at, number_
 use Rattle.mmeaning.specs.Step.{Finished, Halted, Faulted}
 use Rattle.mmeaning.proofs.MeaningExamples.{alice}
 use Rattle.mspec.specs.Act.{Text}
-use Rattle.mspec.specs.Code.{Zlong}
+use Rattle.mspec.specs.Code.{Zlong, Own}
 use Rattle.mwire.specs.Wire.{Fate, Ignored, TooLong, Unreadable, Runs, fate_of, shown, reply_text, stream_served}
 
 abbrev runs : ℕ → Text → Fate
@@ -57,7 +57,7 @@ unfolding digits
 reply_lines = refl
 
 reply_endings : (reply_text 3 (record { out = codes "x" ++ 255 ∷ []; ending = Halted }) ≡ fed (codes "3:x" ∷ codes "3." ∷ []))
-    × (reply_text 3 (record { out = []; ending = Faulted Zlong }) ≡ fed (codes "3!ZLONG" ∷ []))
+    × (reply_text 3 (record { out = []; ending = Faulted (Own Zlong) }) ≡ fed (codes "3!ZLONG" ∷ []))
 unfolding digits
 reply_endings = (refl, refl)
 

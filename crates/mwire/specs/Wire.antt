@@ -5,7 +5,7 @@ use Rattle.std.specs.List.{list_all, before_first, after_first, position_or_len,
 use Rattle.std.specs.Fmt.{decimal}
 use Rattle.std.specs.Str.Lines.{lines, strip_carriage_return}
 use Rattle.mspec.specs.Act.{Text}
-use Rattle.mspec.specs.Code.{code_text}
+use Rattle.mspec.specs.Code.{fault_text}
 use Rattle.mspec.specs.Literal.{is_digit, digits_after}
 use Rattle.mmeaning.specs.LineMeaning.{line_end}
 use Rattle.mmeaning.specs.Step.{Settings, Server, Event, Ending, Finished, Halted, Faulted, Reply, normal}
@@ -68,7 +68,7 @@ is_line_end c = c == line_end
 abbrev pub ending_text : Ending → Text
 ending_text Finished = codes "."
 ending_text Halted = codes "."
-ending_text (Faulted code) = codes "!" ++ code_text code
+ending_text (Faulted fault) = codes "!" ++ fault_text fault
 
 -- the bytes of a terminal's reply
 abbrev pub reply_text : ℕ → Reply → Text

@@ -8,7 +8,7 @@ use Rattle.std.specs.declared.cmp.Ordering.TheVariants.{Less, Equal, Greater}
 use Rattle.std.specs.FinMap.{nat_cmp-IsAntisymmetric, get, empty, gets, get-insert, get-empty}
 use Rattle.std.proofs.lemmas.Bool.Decides.{nat_tests}
 use Rattle.mmeaning.specs.Step.{Account, Event, Server, Reply, Faulted, Step, FailedStep, lost, normal, refused, checked, at_account, at_tree, is_too_long, is_ascii}
-use Rattle.mspec.specs.Code.{Zterm, Zline, Zchar, Zmem}
+use Rattle.mspec.specs.Code.{Zterm, Zline, Zchar, Loss, Lost}
 use Rattle.mworld.specs.Profile.{profile}
 
 abbrev alice : Account
@@ -52,6 +52,6 @@ is_short text h = grind (arith, nat_tests)
 pub is_long : (text : List ℕ) → 255 < length text → is_too_long text ≡ true
 is_long text h = grind (arith, nat_tests)
 
--- a step is lost where its reply says ZMEM
-pub lost_step : (e : Event) (reply : Reply) (old new : Server) → reply ≡ lost (Faulted Zmem) → FailedStep profile e old new → Step profile e reply old new
-lost_step e reply old new is failed = subst (λ r. Step profile e r old new) (sym is) (refl, failed)
+-- a step is lost where its reply says so
+pub lost_step : (e : Event) (reply : Reply) (old new : Server) (loss : Loss) → reply ≡ lost (Faulted (Lost loss)) → FailedStep profile e old new → Step profile e reply old new
+lost_step e reply old new loss is failed = subst (λ r. Step profile e r old new) (sym is) (refl, failed)

@@ -1,13 +1,15 @@
 -- A session's run, from the run of its parts.
 use Rattle.std.proofs.Common.{◌≡◌, ℕ, List, [], None, false, Ok, Vec, Global, refl, sym, ap, subst, ◌∙◌}
 use Rattle.std.specs.FinMap.{get, insert}
+use Rattle.mspec.specs.Code as spec
+use Rattle.mspec.specs.Code.{Own, Lost}
 use Rattle.mspec.specs.Plan.{perform}
 use Rattle.mspec.specs.Act.{Locals, Act, State, Gives, Fails}
 use Rattle.mgrammar.specs.Reading.{line_at}
 use Rattle.mmeaning.specs.LineMeaning.{Signal}
-use Rattle.mmeaning.specs.Step.{Session, Event, Server, Step, StepBy, normal, begun, kept, ended, session_or_new, text_run, is_failure}
-use Rattle.mmeaning.specs.Calls.{Standing, Here, FailedAs, ops_of, point}
-use Rattle.meval.specs.Codes.{code_of}
+use Rattle.mmeaning.specs.Step.{Session, Event, Server, Step, StepBy, normal, begun, kept, ended, session_or_new, text_run, is_failure, is_lost, Faulted}
+use Rattle.mmeaning.specs.Calls.{Standing, Here, FailedBy, ops_of, point}
+use Rattle.meval.specs.Codes.{fault_of}
 use Rattle.meval.specs.declared.code.Code.{Code}
 use Rattle.mexec.specs.declared.parts.Parts.{Parts}
 use Rattle.mexec.specs.declared.run.Ended.{Ended}
@@ -33,14 +35,18 @@ ran {old = old} {new = new} {text = text} {ended = ended} {out = out} runs first
       subst (λ o. EndsBy b (text_run (line_at text)) (point old.locals.now None false [] old.steps w) ended (point new.locals.now None false o.items new.steps w)) (sym last) begun;
 }
 
+-- a fault that is no loss is the line's own code
+failed_by : (b : Standing) (terminal : ℕ) (server : Server) (p : Act Signal) (h : Here) (fault : spec.Fault) (h' : Here) → FailedBy b p h fault h' → is_lost fault ≡ false
+    → ended terminal server (perform (ops_of b) (p h.0) h.1) ≡ (record { out = h'.0.out; ending = Faulted fault }, record { world = h'.1; sessions = insert server.sessions terminal (kept h'.0) })
+failed_by b terminal server p h (Own c) h' d fine = let failed : perform (ops_of b) (p h.0) h.1 ≡ (Fails c h'.0, h'.1) = d in ap (ended terminal server) failed
+failed_by b terminal server p h (Lost loss) h' d fine = cc
+
 -- a run that is not lost ends its step
 ended_by : (b : Standing) (terminal : ℕ) (server : Server) (p : Act Signal) (h : Here) (ending : Ended) (h' : Here) → EndsBy b p h ending h' → is_failure (ending_of ending) ≡ false
     → ended terminal server (perform (ops_of b) (p h.0) h.1) ≡ (record { out = h'.0.out; ending = ending_of ending }, record { world = h'.1; sessions = insert server.sessions terminal (kept h'.0) })
 ended_by b terminal server p h Done h' d fine = let gave : perform (ops_of b) (p h.0) h.1 ≡ (Gives d.0 h'.0, h'.1) = d.1 in ap (ended terminal server) gave
 ended_by b terminal server p h Halt h' d fine = absurd d
-ended_by b terminal server p h (Fault c) h' d fine =
-    let failed : perform (ops_of b) (p h.0) h.1 ≡ (Fails (code_of c) h'.0, h'.1) = subst (λ l. FailedAs l b p h (code_of c) h') fine d in
-    ap (ended terminal server) failed
+ended_by b terminal server p h (Fault c) h' d fine = failed_by b terminal server p h (fault_of c) h' d fine
 
 -- a line that passed the checks, run to an end that is not lost
 pub ran_step : (e : Event) (steps : ℕ) (server after : Server) (old new : Session) (reply : Reply) → Admits e (Ok steps) → old ≡ session_or_new (get server.sessions e.terminal) → Ran old steps e.text reply new

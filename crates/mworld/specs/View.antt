@@ -6,7 +6,7 @@ use Rattle.mmeaning.specs.Step as step
 use Rattle.mmeaning.specs.Step.{Server, Finished, Halted, Faulted}
 use Rattle.mexec.specs.declared.run.Ended.{Ended}
 use Rattle.mexec.specs.declared.run.Ended.TheVariants as ended
-use Rattle.meval.specs.Codes.{code_of}
+use Rattle.meval.specs.Codes.{fault_of}
 use Rattle.mworld.specs.declared.reply.Event.{Event}
 use Rattle.mworld.specs.declared.reply.Reply.{Reply}
 use Rattle.mworld.specs.declared.session.Session.{Session}
@@ -23,7 +23,7 @@ server_of w = record { world = tt; sessions = map_of {R = nat_cmp} session_of w.
 abbrev pub ending_of : Ended → step.Ending
 ending_of ended.Done = Finished
 ending_of ended.Halt = Halted
-ending_of (ended.Fault c) = Faulted (code_of c)
+ending_of (ended.Fault c) = Faulted (fault_of c)
 
 abbrev pub reply_of : Reply → step.Reply
 reply_of r = record { out = r.out.items; ending = ending_of r.ending }

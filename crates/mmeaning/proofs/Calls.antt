@@ -2,10 +2,10 @@
 use Rattle.std.proofs.Common.{◌≡◌, ℕ, true, Result, Ok, Err, refl, sym, ap, ◌∙◌}
 use Rattle.std.specs.Result.{IsErr, IsErrAnd}
 use Rattle.mspec.specs.Code.{Fault, Own, Lost}
-use Rattle.mspec.specs.Plan.{Plan, Done, Ask, then_plan, perform, cut_short}
-use Rattle.mspec.specs.Act.{Locals, Outcome, Gives, Fails, Act, on_gives, ◌>>=◌, give}
-use Rattle.mspec.proofs.Plans.{perform-then, cut_first, cut_second}
-use Rattle.mmeaning.specs.Step.{is_lost}
+use Rattle.mspec.specs.Plan.{Op, Answer, Plan, Done, Ask, then_plan, perform, cut_short}
+use Rattle.mspec.specs.Act.{Locals, Outcome, Gives, Fails, Act, on_gives, ◌>>=◌, give, ask}
+use Rattle.mspec.proofs.Plans.{perform-then, cut_first, cut_second, cut_whole}
+use Rattle.mmeaning.specs.Step.{World, is_lost}
 use Rattle.mmeaning.specs.Calls.{Standing, Here, Gave, IsCut, FailedBy, Ends, Did, Evaluates, Follows, ops_of}
 
 -- after what an act gives, the rest is left
@@ -78,6 +78,18 @@ lost_by b p h (Lost loss) h1 lost cut = cut
 pub did_lost : {A X E : Type 0} {b : Standing} {fault_of : E → Fault} {h h1 : Here} (p : Act A) (f : X → A) (e : E) → is_lost (fault_of e) ≡ true → h.1 ≡ h1.1 → Did b fault_of p f h (Err e) h1
 did_lost {b = b} {fault_of = fault_of} {h = h} {h1 = h1} p f e lost same =
     record { ends = lost_by b p h (fault_of e) h1 lost (0, same) }
+
+-- an operation that was carried out
+pub asked : {X E : Type 0} {b : Standing} {fault_of : E → Fault} {h : Here} (op : Op) (f : X → Answer op) (x : X) (w : World) → ops_of b op h.1 ≡ (f x, w) → Did b fault_of (ask op) f h (Ok x) (h.0, w)
+asked {h = h} op f x w e = record { ends = ap (λ r. (Gives r.0 h.0, r.1)) e }
+
+-- one that was not: nothing has changed, so the act is cut before it
+pub asked_nothing : {X E : Type 0} {b : Standing} {fault_of : E → Fault} {h h1 : Here} (op : Op) (f : X → Answer op) (e : E) → is_lost (fault_of e) ≡ true → h.1 ≡ h1.1 → Did b fault_of (ask op) f h (Err e) h1
+asked_nothing op f e lost same = did_lost (ask op) f e lost same
+
+-- what is done whole is also cut behind its last operation
+pub cut_all : {A : Type 0} (b : Standing) (p : Act A) (h : Here) (o : Outcome A) (w : World) → perform (ops_of b) (p h.0) h.1 ≡ (o, w) → (n : ℕ) × (cut_short (ops_of b) n (p h.0) h.1 ≡ w)
+cut_all b p h o w e = let all = cut_whole (ops_of b) (p h.0) h.1 in (all.0, all.1 ∙ ap (λ r. r.1) e)
 
 -- ---- evaluations
 

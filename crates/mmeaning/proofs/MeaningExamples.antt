@@ -16,18 +16,21 @@ use Rattle.mspec.specs.Plan.{Done, perform}
 use Rattle.mspec.specs.Act.{Text, State, Outcome, Gives, Fails}
 use Rattle.mmeaning.specs.Operators.{binary}
 use Rattle.mmeaning.specs.LineMeaning.{Signal}
-use Rattle.mmeaning.specs.Step.{Settings, Event, Reply, Finished, Faulted, act, begun, new_session, text_run}
+use Rattle.mmeaning.specs.Step.{Account, Settings, Event, Reply, Finished, Faulted, act, begun, new_session, text_run}
 use Rattle.mmeaning.specs.History.{opening, replies}
+
+abbrev account : Account
+account = record { name = codes "ALICE"; steps = 2000 }
 
 -- terminal 1 of ALICE, with 2,000 steps a line
 abbrev pub alice : Settings
-alice = record { terminals = insert empty 1 (record { name = codes "ALICE"; steps = 2000 }) }
+alice = record { accounts = account ∷ []; terminals = insert empty 1 account; grants = [] }
 
 abbrev event : ℕ × Text → Event
 event e = record { terminal = e.0; text = e.1 }
 
 abbrev answers : List (ℕ × Text) → List Reply
-answers lines = replies alice (opening tt) (map event lines)
+answers lines = replies alice (opening empty) (map event lines)
 
 abbrev done : Text → Reply
 done out = record { out = out; ending = Finished }
@@ -41,7 +44,7 @@ shown_by (Gives signal s) = (s.out, None)
 shown_by (Fails code s) = (s.out, Some code)
 
 abbrev shown : Text → Text × Option Code
-shown t = shown_by (perform (act alice 1) (text_run (line_at t) (begun (record { name = codes "ALICE"; steps = 2000 }) new_session)) tt).0
+shown t = shown_by (perform (act alice 1 account.name) (text_run (line_at t) (begun account new_session)) (opening empty).world).0
 
 abbrev Rows : Type 0
 Rows = List (Text × (Text × Option Code))

@@ -12,9 +12,10 @@ use Rattle.mmeaning.specs.Step.{Settings, World, act}
 pub record Standing : Type 0 where
   pub settings : Settings
   pub terminal : ℕ
+  pub account : Text
 
 abbrev pub ops_of : Standing → Ops World
-ops_of b = act b.settings b.terminal
+ops_of b = act b.settings b.terminal b.account
 
 -- a session's state in a world
 abbrev pub Here : Type 0

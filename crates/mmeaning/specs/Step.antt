@@ -4,21 +4,15 @@ use Rattle.std.specs.List.{list_all}
 use Rattle.std.specs.Ordering.{nat_cmp}
 use Rattle.std.specs.FinMap.{FinMap, get, insert, remove}
 use Rattle.mspec.specs.Code.{Code, Zterm, Zline, Zchar, Zsyntax, Fault, Own, Lost}
-use Rattle.mspec.specs.Plan.{Ops, Plan, perform, cut_short}
+use Rattle.mspec.specs.Plan.{Plan, perform, cut_short}
+use Rattle.mspec.specs.LockConflict.{released}
 use Rattle.mspec.specs.Act.{Text, Node, Locals, no_locals, State, Outcome, Gives, Fails, Act, fail}
 use Rattle.mspec.specs.Names.{is_character}
 use Rattle.mgrammar.specs.Grammar.{LineTree}
 use Rattle.mgrammar.specs.Reading.{line_at}
 use Rattle.mmeaning.specs.LineMeaning.{Signal, run}
-
--- an account, and the steps that each of its lines may use
-pub record Account : Type 0 where
-  pub name : Text
-  pub steps : ℕ
-
--- the account of each terminal
-pub record Settings : Type 0 where
-  pub terminals : FinMap nat_cmp Account
+pub use Rattle.mspec.specs.Access.{Account, Settings}
+pub use Rattle.mmeaning.specs.World.{World, act}
 
 -- what a terminal keeps from line to line; a new one has no locals, no naked indicator, and 0 as $TEST
 pub record Session : Type 0 where
@@ -32,13 +26,6 @@ new_session = record { locals = no_locals; naked = None; test = false }
 abbrev pub session_or_new : Option Session → Session
 session_or_new None = new_session
 session_or_new (Some s) = s
-
--- what the lines of all terminals share; globals and locks come with their operations
-abbrev pub World : Type 0
-World = Unit {0}
-
-abbrev pub act : Settings → ℕ → Ops World
-act settings terminal op w = elim op [ ]
 
 pub record Server : Type 0 where
   pub world : World
@@ -93,7 +80,7 @@ refused code server = (record { out = []; ending = Faulted (Own code) }, server)
 -- the run of a line that passed the checks before it; a session that it opens for a text without a tree is as new, so as none
 abbrev pub at_tree : Settings → Event → Server → Account → Reply × Server
 at_tree settings e server account =
-    ended e.terminal server (perform (act settings e.terminal) (plan_of account (session_or_new (get server.sessions e.terminal)) (line_at e.text)) server.world)
+    ended e.terminal server (perform (act settings e.terminal account.name) (plan_of account (session_or_new (get server.sessions e.terminal)) (line_at e.text)) server.world)
 
 abbrev pub is_too_long : Text → Bool
 is_too_long text = nat_lt line_limit (length text)
@@ -116,14 +103,17 @@ abbrev pub normal : Settings → Event → Server → Reply × Server
 normal settings e server = at_account settings e server (get settings.terminals e.terminal)
 
 -- A step that they do not suffice for. It comes behind the checks that take no memory; no output is replied, the terminal's
--- session is gone, the shared world is that of the line cut short, and all else is unchanged.
+-- session and its locks are gone, the globals are those of the line cut short, and all else is unchanged.
 pub record FailedStep (settings : Settings) (e : Event) (server after : Server) : Type 0 where
   pub account : Account
   pub known : get settings.terminals e.terminal ≡ Some account
   pub short : is_too_long e.text ≡ false
   pub ascii : is_ascii e.text ≡ true
   pub operations : ℕ
-  pub world : after.world ≡ cut_short (act settings e.terminal) operations (plan_of account (session_or_new (get server.sessions e.terminal)) (line_at e.text)) server.world
+  pub globals :
+      after.world.globals ≡
+      (cut_short (act settings e.terminal account.name) operations (plan_of account (session_or_new (get server.sessions e.terminal)) (line_at e.text)) server.world).globals
+  pub locks : after.world.locks ≡ released server.world.locks e.terminal
   pub sessions : after.sessions ≡ remove server.sessions e.terminal
 
 -- memory or the store did not suffice

@@ -21,4 +21,8 @@ pub mod Trees
 pub mod Scopes
 pub mod ScopeLaws
 pub mod Globals
+pub mod Access
+pub mod Flow
+pub mod LockConflict
+pub mod LockLaws
 pub mod Act

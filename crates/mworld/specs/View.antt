@@ -1,6 +1,7 @@
 -- A world and a reply of the program as those of the definitions.
 use Rattle.std.specs.Prelude.{None, false}
 use Rattle.std.specs.Ordering.{nat_cmp}
+use Rattle.std.specs.FinMap.{empty}
 use Rattle.mspec.specs.Maps.{map_of}
 use Rattle.mmeaning.specs.Step as step
 use Rattle.mmeaning.specs.Step.{Server, Finished, Halted, Faulted}
@@ -16,9 +17,12 @@ use Rattle.mworld.specs.declared.world.World.{World}
 abbrev pub session_of : Session → step.Session
 session_of s = record { locals = s.locals; naked = None; test = false }
 
--- the shared world has no parts yet
+-- no command of this stage sets a global or takes a lock
+abbrev pub shared : step.World
+shared = record { globals = empty; locks = empty }
+
 abbrev pub server_of : World → Server
-server_of w = record { world = tt; sessions = map_of {R = nat_cmp} session_of w.sessions }
+server_of w = record { world = shared; sessions = map_of {R = nat_cmp} session_of w.sessions }
 
 abbrev pub ending_of : Ended → step.Ending
 ending_of ended.Done = Finished

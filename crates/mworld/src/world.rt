@@ -1,6 +1,6 @@
 // The world: one session for each terminal.
 ghost use Rattle.std.specs.Prelude.{◌≡◌, Ok};
-ghost use Rattle.std.specs.FinMap.{get, remove};
+ghost use Rattle.std.specs.FinMap.{empty, get, remove};
 ghost use Rattle.mmeaning.specs.Step.{Step, is_ascii, is_lost, session_or_new};
 ghost use Rattle.meval.specs.Codes.{fault_of};
 ghost use Rattle.mmeaning.specs.History.{opening};
@@ -33,7 +33,7 @@ pub struct World {
 impl World {
     /// A world without a session. Takes no memory.
     pub fn new(alloc: Global) -> World
-        ensures { server_of result ≡ opening tt }
+        ensures { server_of result ≡ opening empty }
     {
         World {
             sessions: BTreeMap::new(alloc),

@@ -1,29 +1,29 @@
--- A code of the program as a code of the definitions.
+-- A code of the program as a fault of the definitions: one of the line's own codes, or a loss.
 use Rattle.mspec.specs.Code as spec
 use Rattle.meval.specs.declared.code.Code.{Code}
 use Rattle.meval.specs.declared.code.Code.TheVariants as code
 
-abbrev pub code_of : Code → spec.Code
-code_of code.M1 = spec.M1
-code_of code.M4 = spec.M4
-code_of code.M6 = spec.M6
-code_of code.M7 = spec.M7
-code_of code.M9 = spec.M9
-code_of code.M10 = spec.M10
-code_of code.M13 = spec.M13
-code_of code.M15 = spec.M15
-code_of code.Zlong = spec.Zlong
-code_of code.Zsyntax = spec.Zsyntax
-code_of code.Zover = spec.Zover
-code_of code.Zarg = spec.Zarg
-code_of code.Zsub = spec.Zsub
-code_of code.Zgrant = spec.Zgrant
-code_of code.Zlocked = spec.Zlocked
-code_of code.Zsteps = spec.Zsteps
-code_of code.Zdepth = spec.Zdepth
-code_of code.Zlevel = spec.Zlevel
-code_of code.Zchar = spec.Zchar
-code_of code.Zline = spec.Zline
-code_of code.Zterm = spec.Zterm
-code_of code.Zmem = spec.Zmem
-code_of code.Zstore = spec.Zstore
+abbrev pub fault_of : Code → spec.Fault
+fault_of code.M1 = spec.Own spec.M1
+fault_of code.M4 = spec.Own spec.M4
+fault_of code.M6 = spec.Own spec.M6
+fault_of code.M7 = spec.Own spec.M7
+fault_of code.M9 = spec.Own spec.M9
+fault_of code.M10 = spec.Own spec.M10
+fault_of code.M13 = spec.Own spec.M13
+fault_of code.M15 = spec.Own spec.M15
+fault_of code.Zlong = spec.Own spec.Zlong
+fault_of code.Zsyntax = spec.Own spec.Zsyntax
+fault_of code.Zover = spec.Own spec.Zover
+fault_of code.Zarg = spec.Own spec.Zarg
+fault_of code.Zsub = spec.Own spec.Zsub
+fault_of code.Zgrant = spec.Own spec.Zgrant
+fault_of code.Zlocked = spec.Own spec.Zlocked
+fault_of code.Zsteps = spec.Own spec.Zsteps
+fault_of code.Zdepth = spec.Own spec.Zdepth
+fault_of code.Zlevel = spec.Own spec.Zlevel
+fault_of code.Zchar = spec.Own spec.Zchar
+fault_of code.Zline = spec.Own spec.Zline
+fault_of code.Zterm = spec.Own spec.Zterm
+fault_of code.Zmem = spec.Lost spec.Memory
+fault_of code.Zstore = spec.Lost spec.Store

@@ -10,11 +10,11 @@ use Rattle.mnum.specs.declared.num.Num.{Num}
 use Rattle.mnum.specs.declared.num.Over.{Over}
 use Rattle.mnum.specs.declared.num.ArithFault.{ArithFault}
 use Rattle.mnum.specs.declared.num.ArithFault.TheVariants as fault
-use Rattle.meval.specs.Codes.{code_of}
+use Rattle.meval.specs.Codes.{fault_of}
 use Rattle.meval.specs.declared.code.Code.{Code}
 
 pub record Yields {A X : Type 0} (p : Act A) (f : X → A) (r : Result X Code) : Type 0 where
-  pub at : (locals : Locals) (n : ℕ) → Evaluates code_of p f locals n r n
+  pub at : (locals : Locals) (n : ℕ) → Evaluates fault_of p f locals n r n
 
 -- an operation's result in units; none where it is too large
 abbrev pub outcome_units : Result Num Over → Option ℤ

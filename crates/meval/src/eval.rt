@@ -5,7 +5,7 @@ ghost use Rattle.mmeaning.specs.Calls.{Evaluates};
 ghost use Rattle.mspec.specs.Act.{charge, get_local};
 ghost use Rattle.mgrammar.specs.Grammar.{exprs_of, choices_of};
 ghost use Rattle.mtree.specs.Tree.{expr_tree, step_tree, operand_tree, primary_tree, choice_tree};
-ghost use Rattle.meval.specs.Codes.{code_of};
+ghost use Rattle.meval.specs.Codes.{fault_of};
 ghost use Rattle.meval.specs.Values.{text_of};
 
 use crate::code::Code;
@@ -33,7 +33,7 @@ impl<'a> Eval<'a> {
         ensures locals { self.new.locals ≡ self.old.locals }
         ensures same_steps { self.new.steps.ghost_name ≡ self.old.steps.ghost_name }
         ensures fewer { self.new.steps.now ≤ self.old.steps.now }
-        ensures does { Evaluates code_of charge (λ done. done) self.old.locals.now self.old.steps.now result self.new.steps.now }
+        ensures does { Evaluates fault_of charge (λ done. done) self.old.locals.now self.old.steps.now result self.new.steps.now }
     {
         if *self.steps == 0 {
             return Err(Code::Zsteps);
@@ -44,7 +44,7 @@ impl<'a> Eval<'a> {
 
     // A copy of a local variable's text.
     fn local(&self, name: &Bytes7) -> Result<Value, Code>
-        ensures { Evaluates code_of (get_local name.now) text_of self.now.locals.now self.now.steps.now result self.now.steps.now }
+        ensures { Evaluates fault_of (get_local name.now) text_of self.now.locals.now self.now.steps.now result self.now.steps.now }
     {
         match self.locals.get(name, &[])? {
             Some(text) => Ok(Value::Text(text.copy()?)),
@@ -58,7 +58,7 @@ impl<'a> Eval<'a> {
         ensures locals { self.new.locals ≡ self.old.locals }
         ensures same_steps { self.new.steps.ghost_name ≡ self.old.steps.ghost_name }
         ensures fewer { self.new.steps.now ≤ self.old.steps.now }
-        ensures does { Evaluates code_of (meaning.primary_value (primary_tree primary.now)) text_of self.old.locals.now self.old.steps.now result self.new.steps.now }
+        ensures does { Evaluates fault_of (meaning.primary_value (primary_tree primary.now)) text_of self.old.locals.now self.old.steps.now result self.new.steps.now }
     {
         self.charge()?;
         match primary {
@@ -80,7 +80,7 @@ impl<'a> Eval<'a> {
         ensures locals { self.new.locals ≡ self.old.locals }
         ensures same_steps { self.new.steps.ghost_name ≡ self.old.steps.ghost_name }
         ensures fewer { self.new.steps.now ≤ self.old.steps.now }
-        ensures does { Evaluates code_of (meaning.values [] (exprs_of (map expr_tree exprs.now))) (λ values. map text_of values.items) self.old.locals.now self.old.steps.now result self.new.steps.now }
+        ensures does { Evaluates fault_of (meaning.values [] (exprs_of (map expr_tree exprs.now))) (λ values. map text_of values.items) self.old.locals.now self.old.steps.now result self.new.steps.now }
     {
         let mut values = Vec::with_capacity(alloc, exprs.len())?;
         for e in exprs {
@@ -96,7 +96,7 @@ impl<'a> Eval<'a> {
         ensures locals { self.new.locals ≡ self.old.locals }
         ensures same_steps { self.new.steps.ghost_name ≡ self.old.steps.ghost_name }
         ensures fewer { self.new.steps.now ≤ self.old.steps.now }
-        ensures does { Evaluates code_of (meaning.chosen (choices_of (map choice_tree choices.now))) text_of self.old.locals.now self.old.steps.now result self.new.steps.now }
+        ensures does { Evaluates fault_of (meaning.chosen (choices_of (map choice_tree choices.now))) text_of self.old.locals.now self.old.steps.now result self.new.steps.now }
     {
         for choice in choices {
             let condition = self.value(alloc, &choice.condition)?;
@@ -113,7 +113,7 @@ impl<'a> Eval<'a> {
         ensures locals { self.new.locals ≡ self.old.locals }
         ensures same_steps { self.new.steps.ghost_name ≡ self.old.steps.ghost_name }
         ensures fewer { self.new.steps.now ≤ self.old.steps.now }
-        ensures does { Evaluates code_of (meaning.operand_value (operand_tree operand.now)) text_of self.old.locals.now self.old.steps.now result self.new.steps.now }
+        ensures does { Evaluates fault_of (meaning.operand_value (operand_tree operand.now)) text_of self.old.locals.now self.old.steps.now result self.new.steps.now }
     {
         let value = self.primary(alloc, &operand.primary)?;
         unaries(&operand.signs, value)
@@ -125,7 +125,7 @@ impl<'a> Eval<'a> {
         ensures locals { self.new.locals ≡ self.old.locals }
         ensures same_steps { self.new.steps.ghost_name ≡ self.old.steps.ghost_name }
         ensures fewer { self.new.steps.now ≤ self.old.steps.now }
-        ensures does { Evaluates code_of (meaning.step_value (text_of left) (step_tree step.now)) text_of self.old.locals.now self.old.steps.now result self.new.steps.now }
+        ensures does { Evaluates fault_of (meaning.step_value (text_of left) (step_tree step.now)) text_of self.old.locals.now self.old.steps.now result self.new.steps.now }
     {
         match step {
             Step::Apply(operator, operand) => {
@@ -149,7 +149,7 @@ impl<'a> Eval<'a> {
         ensures locals { self.new.locals ≡ self.old.locals }
         ensures same_steps { self.new.steps.ghost_name ≡ self.old.steps.ghost_name }
         ensures fewer { self.new.steps.now ≤ self.old.steps.now }
-        ensures does { Evaluates code_of (meaning.value (expr_tree e.now)) text_of self.old.locals.now self.old.steps.now result self.new.steps.now }
+        ensures does { Evaluates fault_of (meaning.value (expr_tree e.now)) text_of self.old.locals.now self.old.steps.now result self.new.steps.now }
     {
         let mut value = self.operand(alloc, &e.first)?;
         for step in &e.rest {
@@ -168,7 +168,7 @@ impl<'a> Eval<'a> {
         ensures locals { self.new.locals ≡ self.old.locals }
         ensures same_steps { self.new.steps.ghost_name ≡ self.old.steps.ghost_name }
         ensures fewer { self.new.steps.now ≤ self.old.steps.now }
-        ensures does { Evaluates code_of (meaning.value (expr_tree e.now)) (λ text. text) self.old.locals.now self.old.steps.now result self.new.steps.now }
+        ensures does { Evaluates fault_of (meaning.value (expr_tree e.now)) (λ text. text) self.old.locals.now self.old.steps.now result self.new.steps.now }
     {
         let value = self.value(alloc, e)?;
         Ok(value.into_text(alloc)?)

@@ -4,7 +4,7 @@ use Rattle.mspec.specs.Act.{Text, Gives, Act, ◌>>=◌, ◌>>◌, give, write, 
 use Rattle.std.specs.Result.{IsErr, IsErrAnd}
 use Rattle.mmeaning.specs.Step.{is_lost}
 use Rattle.mmeaning.proofs.Calls.{then_follows, follows_itself, follows_on, ends_after, did_then, did_failed, did_gives, did_lost, residual_is}
-use Rattle.meval.specs.Codes.{code_of}
+use Rattle.meval.specs.Codes.{fault_of}
 use Rattle.meval.specs.Yields.{Yields}
 use Rattle.meval.specs.declared.code.Code.{Code}
 use Rattle.meval.specs.declared.code.Code.TheVariants.{Zmem}
@@ -38,7 +38,7 @@ pub does_last : {p : Act (Unit {0})} {old new : Parts} (r : Result (Unit {0}) Co
 does_last {new = new} (Ok u) d = does_then (λ _. give tt) d (does_viewed tt (λ u. u) u new refl)
 does_last (Err e) d = does_failed (λ _. give tt) d
 
-pub does_lost : {A X : Type 0} (p : Act A) (f : X → A) (old new : Parts) (e : Code) → is_lost (code_of e) ≡ true → Does p f old (Err e) new
+pub does_lost : {A X : Type 0} (p : Act A) (f : X → A) (old new : Parts) (e : Code) → is_lost (fault_of e) ≡ true → Does p f old (Err e) new
 does_lost p f old new e lost = record { at = λ b naked test w. did_lost p f e lost refl }
 
 -- want of memory, by a `?` that the call returns
@@ -91,7 +91,7 @@ leads_ends {p = p} q {f = f} {old = old} {mid = mid} {new = new} {r = r} l d = r
   at = λ b naked test w. record {
     ends =
         let done = d.at b naked test w in
-        ends_after b code_of p q f (here_of old naked test w) (here_of mid naked test w) r (here_of new naked test w) (l.at b naked test w) done.ends;
+        ends_after b fault_of p q f (here_of old naked test w) (here_of mid naked test w) r (here_of new naked test w) (l.at b naked test w) done.ends;
   };
 }
 

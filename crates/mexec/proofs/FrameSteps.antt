@@ -1,13 +1,12 @@
 -- What the frames have still to do, a step of it at a time.
-use Rattle.std.proofs.Common.{◌≡◌, ◌<◌, ◌+◌, List, [], ◌∷◌, ◌++◌, length, map, drop, get_or, Ok, Err, refl, sym, ap, ◌∙◌, subst}
+use Rattle.std.proofs.Common.{◌≡◌, ◌<◌, ◌≤◌, ◌+◌, List, [], ◌∷◌, ◌++◌, length, map, drop, get_or, Ok, Err, refl, sym, ap, ◌∙◌, subst}
 use Rattle.mgrammar.specs.Grammar.{CommandTree, set, write}
 use Rattle.mspec.specs.Plan.{Plan, Done, Ask, then_plan}
 use Rattle.mspec.specs.Act.{Act, Outcome, Gives, Fails, on_gives, charge, ◌>>=◌, ◌>>◌}
 use Rattle.mmeaning.specs.LineMeaning.{Signal, Go_on, command, commands}
-use Rattle.mmeaning.specs.Step.{is_lost}
-use Rattle.mmeaning.specs.Calls.{FailedAs, Follows}
-use Rattle.mmeaning.proofs.Calls.{assoc, follows_on, failed_after, did_gives}
-use Rattle.meval.specs.Codes.{code_of}
+use Rattle.mmeaning.specs.Calls.{FailedBy, Follows}
+use Rattle.mmeaning.proofs.Calls.{assoc, follows_itself, follows_on, failed_after, did_gives}
+use Rattle.meval.specs.Codes.{fault_of}
 use Rattle.meval.specs.declared.code.Code.{Code}
 use Rattle.mexec.specs.declared.parts.Parts.{Parts}
 use Rattle.mexec.specs.declared.frames.Frame.{Frame}
@@ -16,7 +15,7 @@ use Rattle.mtree.specs.declared.tree.Spaced.{Spaced}
 use Rattle.mtree.specs.Tree.{command_tree, spaced_tree}
 use Rattle.mexec.specs.Does.{Does, Leads, effect, here_of}
 use Rattle.mexec.specs.Frames.{View, Rests, view, view_rest, stack, stacked, left, Moves}
-use Rattle.mexec.proofs.Calls.{next_item, does_then, does_failed, leads_itself, leads_next}
+use Rattle.mexec.proofs.Calls.{next_item, none_left, does_then, does_failed, leads_itself, leads_next}
 
 -- a command is its effect and then the rest of its line
 command-effect : (c : CommandTree) (go : Act Signal) → ◌≡◌ {A = Act Signal} (command c go) (effect c >> go)
@@ -47,7 +46,7 @@ stops : (fs fs' : List View) (p : Act Signal) (old new : Parts) (e : Code) → �
 stops fs fs' p old new e same d = record {
   at = λ b naked test w.
       let did = d.at b naked test w in
-      subst (λ p. FailedAs (is_lost (code_of e)) b p (here_of old naked test w) (code_of e) (here_of new naked test w)) (sym same) did.ends;
+      subst (λ p. FailedBy b p (here_of old naked test w) (fault_of e) (here_of new naked test w)) (sym same) did.ends;
 }
 
 -- it has no step left
@@ -72,7 +71,7 @@ leads_moved {q = q} {fs = fs} {fs' = fs'} {old = old} {mid = mid} {new = new} l 
 pub leads_stopped : {X : Type 0} {f : X → Signal} {q : Act Signal} {fs fs' : List View} {old mid new : Parts} {e : Code} → Leads q old (left fs Go_on) mid → Moves fs mid (Err e) fs' new → Does q f old (Err e) new
 leads_stopped {q = q} {fs = fs} {old = old} {mid = mid} {new = new} {e = e} l m = record {
   at = λ b naked test w. record {
-    ends = failed_after b q (left fs Go_on) (here_of old naked test w) (here_of mid naked test w) (is_lost (code_of e)) (code_of e) (here_of new naked test w) (l.at b naked test w) (m.at b naked test w);
+    ends = failed_after b q (left fs Go_on) (here_of old naked test w) (here_of mid naked test w) (fault_of e) (here_of new naked test w) (l.at b naked test w) (m.at b naked test w);
   };
 }
 
@@ -109,3 +108,10 @@ line_begins cs parts = subst (λ p. Leads p parts (left (Rests cs ∷ []) Go_on)
 -- nothing is left
 pub signal_given : (parts : Parts) → Does (left [] Go_on) (λ (u : Unit {0}). Go_on) parts (Ok tt) parts
 signal_given parts = record { at = λ b naked test w. did_gives Go_on (λ u. Go_on) tt refl }
+
+-- the rest of a line without a command leaves what is below it
+pub rest_is_done : (rest : Rest) (items : List Spaced) (fs : List View) (parts : Parts) → items ≡ rest.line.value.commands.items → length items ≤ rest.at → Moves (view_rest rest ∷ fs) parts (Ok tt) fs parts
+rest_is_done rest items fs parts same past =
+    let none : drop rest.at rest.line.value.commands.items ≡ [] = ap (drop rest.at) (sym same) ∙ none_left rest.at items past in
+    subst (λ (xs : List Spaced). Moves (Rests (map (λ c. c.0) (map spaced_tree xs)) ∷ fs) parts (Ok tt) fs parts) (sym none)
+    (record { at = λ b naked test w. follows_itself b (left fs Go_on) (here_of parts naked test w) })

@@ -5,7 +5,7 @@ use Rattle.mspec.specs.Act.{Node, Act}
 use Rattle.mmeaning.specs.LineMeaning.{settings, writings}
 use Rattle.mmeaning.specs.Step.{World}
 use Rattle.mmeaning.specs.Calls.{Standing, Here, Did, Follows, point}
-use Rattle.meval.specs.Codes.{code_of}
+use Rattle.meval.specs.Codes.{fault_of}
 use Rattle.meval.specs.declared.code.Code.{Code}
 use Rattle.mexec.specs.declared.parts.Parts.{Parts}
 
@@ -15,7 +15,7 @@ here_of p naked test w = point p.locals.now naked test p.out.now.items p.steps w
 
 -- a call does an act, wherever it stands
 pub record Does {A X : Type 0} (p : Act A) (f : X → A) (old : Parts) (r : Result X Code) (new : Parts) : Type 0 where
-  pub at : (b : Standing) (naked : Option Node) (test : Bool) (w : World) → Did b code_of p f (here_of old naked test w) r (here_of new naked test w)
+  pub at : (b : Standing) (naked : Option Node) (test : Bool) (w : World) → Did b fault_of p f (here_of old naked test w) r (here_of new naked test w)
 
 -- q is what is left of p
 pub record Leads {A : Type 0} (p : Act A) (old : Parts) (q : Act A) (new : Parts) : Type 0 where

@@ -4,9 +4,9 @@ use Rattle.mgrammar.specs.Grammar.{CommandTree}
 use Rattle.mspec.specs.Act.{Node, Act, give, ◌>>=◌}
 use Rattle.mmeaning.specs.LineMeaning.{Signal, Go_on, Quits, commands}
 use Rattle.mmeaning.specs.Step.{World}
-use Rattle.mmeaning.specs.Calls.{Standing, Here, Failed, Follows}
+use Rattle.mmeaning.specs.Calls.{Standing, Here, FailedBy, Follows}
 use Rattle.mtree.specs.Tree.{spaced_tree}
-use Rattle.meval.specs.Codes.{code_of}
+use Rattle.meval.specs.Codes.{fault_of}
 use Rattle.meval.specs.declared.code.Code.{Code}
 use Rattle.mexec.specs.declared.parts.Parts.{Parts}
 use Rattle.mexec.specs.declared.frames.Rest.{Rest}
@@ -40,7 +40,7 @@ left (Rests cs ∷ fs) Quits = left fs Quits
 
 abbrev pub MovesTo : Standing → List View → Here → Result (Unit {0}) Code → List View → Here → Type 0
 MovesTo b fs h (Ok u) fs' h' = Follows b (left fs Go_on) h (left fs' Go_on) h'
-MovesTo b fs h (Err c) fs' h' = Failed b (left fs Go_on) h (code_of c) h'
+MovesTo b fs h (Err c) fs' h' = FailedBy b (left fs Go_on) h (fault_of c) h'
 
 -- a call brings the frames to others that have to do what was left, or fails as they do
 pub record Moves (fs : List View) (old : Parts) (r : Result (Unit {0}) Code) (fs' : List View) (new : Parts) : Type 0 where

@@ -4,8 +4,8 @@ use Rattle.mgrammar.specs.Grammar.{LineTree}
 use Rattle.mspec.specs.Act.{Node, Act}
 use Rattle.mmeaning.specs.LineMeaning.{Signal}
 use Rattle.mmeaning.specs.Step.{World, text_run}
-use Rattle.mmeaning.specs.Calls.{Standing, Here, Gave, Failed}
-use Rattle.meval.specs.Codes.{code_of}
+use Rattle.mmeaning.specs.Calls.{Standing, Here, Gave, FailedBy}
+use Rattle.meval.specs.Codes.{fault_of}
 use Rattle.mexec.specs.declared.parts.Parts.{Parts}
 use Rattle.mexec.specs.declared.run.Ended.{Ended}
 use Rattle.mexec.specs.declared.run.Ended.TheVariants as ended
@@ -15,7 +15,7 @@ use Rattle.mexec.specs.Does.{here_of}
 abbrev pub EndsBy : Standing → Act Signal → Here → Ended → Here → Type 0
 EndsBy b p h ended.Done h' = (s : Signal) × Gave b p h s h'
 EndsBy b p h ended.Halt h' = ⊥
-EndsBy b p h (ended.Fault c) h' = Failed b p h (code_of c) h'
+EndsBy b p h (ended.Fault c) h' = FailedBy b p h (fault_of c) h'
 
 -- the text with this tree is carried out: the call ends as it does, wherever it stands
 pub record Runs (tree : Option LineTree) (old : Parts) (ended : Ended) (new : Parts) : Type 0 where

@@ -1,10 +1,29 @@
 -- Histories and normal steps.
-use Rattle.std.proofs.Common.{◌≡◌, Bool, false, [], ◌∷◌, refl, sym, ap, ◌∙◌, subst}
+use Rattle.std.proofs.Common.{◌≡◌, Bool, true, false, [], ◌∷◌, Option, Some, None, refl, sym, ap, ◌∙◌, subst}
 use Rattle.std.specs.Prelude.{map}
-use Rattle.mmeaning.specs.Step.{Settings, Server, Event, Reply, Step, StepBy, normal, is_failure}
+use Rattle.std.specs.FinMap.{get}
+use Rattle.mspec.specs.Act.{Outcome, Gives, Fails}
+use Rattle.mmeaning.specs.LineMeaning.{Signal}
+use Rattle.mmeaning.specs.Step.{Settings, Account, Server, Event, Reply, Step, StepBy, normal, at_account, checked, is_too_long, is_ascii, reply_of, is_failure}
 use Rattle.mmeaning.specs.History.{replies, server_after}
-use Rattle.mmeaning.specs.StepLaws.{NormalStepsAreHistory, HistoryIsNormal}
-use Rattle.mmeaning.proofs.NamedCodes.{normal_never_fails}
+use Rattle.mmeaning.specs.StepLaws.{NormalNeverFails, NormalStepsAreHistory, HistoryIsNormal}
+
+-- no act ends with a loss
+reply_is_own : (o : Outcome Signal) → is_failure (reply_of o).ending ≡ false
+reply_is_own (Gives signal s) = refl
+reply_is_own (Fails code s) = refl
+
+checked_is_own : (long ascii : Bool) (settings : Settings) (e : Event) (server : Server) (account : Account) → is_failure (checked long ascii settings e server account).0.ending ≡ false
+checked_is_own true ascii settings e server account = refl
+checked_is_own false false settings e server account = refl
+checked_is_own false true settings e server account = reply_is_own _
+
+account_is_own : (settings : Settings) (e : Event) (server : Server) (o : Option Account) → is_failure (at_account settings e server o).0.ending ≡ false
+account_is_own settings e server None = refl
+account_is_own settings e server (Some account) = checked_is_own (is_too_long e.text) (is_ascii e.text) settings e server account
+
+pub normal_never_fails : NormalNeverFails
+normal_never_fails settings e server = account_is_own settings e server (get settings.terminals e.terminal)
 
 -- a normal step is a step
 normal_step : (settings : Settings) (e : Event) (server : Server) → Step settings e (normal settings e server).0 server (normal settings e server).1

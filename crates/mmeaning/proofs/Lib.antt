@@ -1,6 +1,4 @@
 pub mod MeaningExamples
-pub mod NamedActs
-pub mod NamedValues
-pub mod NamedCodes
 pub mod Histories
+pub mod OtherLocks
 pub mod Calls

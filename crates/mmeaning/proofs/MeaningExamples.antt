@@ -11,29 +11,32 @@ use Rattle.mspec.specs.Pieces.{pieces_of}
 use Rattle.mspec.specs.TextFunctions.{first_place, with_piece}
 use Rattle.mgrammar.specs.Grammar.{join, keyword_of, function_of}
 use Rattle.mgrammar.specs.Reading.{many, list_at, point_at, exponent_at, number_at, name_at, count_at, repeated_at, atom_at, pattern_at, truth_at, operator_at, bracket_with, choice_with, select_with, call_with, function_with, primary_with, operand_with, step_by, step_with, expr_with, readers_at, place_with, piece_with, target_with, destination_at, assignment_at, output_at, command_at, spaced_at, comment_at, line_at}
-use Rattle.mspec.specs.Code.{Code, M4, M6, M9, M10, Zlong, Zsyntax, Zover, Zarg, Zchar, Zline, Zterm}
+use Rattle.mspec.specs.Code.{Code, M4, M6, M9, M10, Zlong, Zsyntax, Zover, Zarg, Zchar, Zline, Zterm, Own}
 use Rattle.mspec.specs.Plan.{Done, perform}
 use Rattle.mspec.specs.Act.{Text, State, Outcome, Gives, Fails}
 use Rattle.mmeaning.specs.Operators.{binary}
 use Rattle.mmeaning.specs.LineMeaning.{Signal}
-use Rattle.mmeaning.specs.Step.{Settings, Event, Reply, Finished, Faulted, act, begun, new_session, text_run}
+use Rattle.mmeaning.specs.Step.{Account, Settings, Event, Reply, Finished, Faulted, act, begun, new_session, text_run}
 use Rattle.mmeaning.specs.History.{opening, replies}
+
+abbrev account : Account
+account = record { name = codes "ALICE"; steps = 2000 }
 
 -- terminal 1 of ALICE, with 2,000 steps a line
 abbrev pub alice : Settings
-alice = record { terminals = insert empty 1 (record { name = codes "ALICE"; steps = 2000 }) }
+alice = record { accounts = account ∷ []; terminals = insert empty 1 account; grants = [] }
 
 abbrev event : ℕ × Text → Event
 event e = record { terminal = e.0; text = e.1 }
 
 abbrev answers : List (ℕ × Text) → List Reply
-answers lines = replies alice (opening tt) (map event lines)
+answers lines = replies alice (opening empty) (map event lines)
 
 abbrev done : Text → Reply
 done out = record { out = out; ending = Finished }
 
 abbrev failed : Text → Code → Reply
-failed out code = record { out = out; ending = Faulted code }
+failed out code = record { out = out; ending = Faulted (Own code) }
 
 -- what a line over no locals writes, and the code that it ends with
 abbrev shown_by : Outcome Signal → Text × Option Code
@@ -41,7 +44,7 @@ shown_by (Gives signal s) = (s.out, None)
 shown_by (Fails code s) = (s.out, Some code)
 
 abbrev shown : Text → Text × Option Code
-shown t = shown_by (perform (act alice 1) (text_run (line_at t) (begun (record { name = codes "ALICE"; steps = 2000 }) new_session)) tt).0
+shown t = shown_by (perform (act alice 1 account.name) (text_run (line_at t) (begun account new_session)) (opening empty).world).0
 
 abbrev Rows : Type 0
 Rows = List (Text × (Text × Option Code))

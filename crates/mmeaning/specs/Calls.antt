@@ -1,20 +1,21 @@
 -- What a call of the code says of an act: its result is the act's outcome, and it leaves the state and the world that the act
 -- leaves.
 --
--- `E` is the code's type of codes and `code_of` what each stands for; `f` says what the call's value stands for.
-use Rattle.std.specs.Prelude.{◌≡◌, ℕ, Bool, true, false, Option, Result, Ok, Err}
-use Rattle.mspec.specs.Code.{Code}
+-- `E` is the code's type of codes and `fault_of` what each stands for; `f` says what the call's value stands for.
+use Rattle.std.specs.Prelude.{◌≡◌, ℕ, Bool, Option, Result, Ok, Err}
+use Rattle.mspec.specs.Code.{Fault, Own, Lost}
 use Rattle.mspec.specs.Plan.{Ops, perform, cut_short}
 use Rattle.mspec.specs.Act.{Text, Node, Locals, State, Gives, Fails, Act}
-use Rattle.mmeaning.specs.Step.{Settings, World, act, is_lost}
+use Rattle.mmeaning.specs.Step.{Settings, World, act}
 
 -- what stays the same while a line runs
 pub record Standing : Type 0 where
   pub settings : Settings
   pub terminal : ℕ
+  pub account : Text
 
 abbrev pub ops_of : Standing → Ops World
-ops_of b = act b.settings b.terminal
+ops_of b = act b.settings b.terminal b.account
 
 -- a session's state in a world
 abbrev pub Here : Type 0
@@ -27,26 +28,26 @@ point locals naked test out steps w = (record { locals = locals; naked = naked; 
 abbrev pub Gave : {A : Type 0} → Standing → Act A → Here → A → Here → Type 0
 Gave b p h a h' = perform (ops_of b) (p h.0) h.1 ≡ (Gives a h'.0, h'.1)
 
--- where the code is of a step that memory or the store did not suffice for
-abbrev pub FailedAs : {A : Type 0} → Bool → Standing → Act A → Here → Code → Here → Type 0
-FailedAs true b p h c h' = (n : ℕ) × (cut_short (ops_of b) n (p h.0) h.1 ≡ h'.1)
-FailedAs false b p h c h' = perform (ops_of b) (p h.0) h.1 ≡ (Fails c h'.0, h'.1)
+-- the act was cut short, and its state is lost
+abbrev pub IsCut : {A : Type 0} → Standing → Act A → Here → Here → Type 0
+IsCut b p h h' = (n : ℕ) × (cut_short (ops_of b) n (p h.0) h.1 ≡ h'.1)
 
--- the act fails so; or it was cut short, and its state is lost
-abbrev pub Failed : {A : Type 0} → Standing → Act A → Here → Code → Here → Type 0
-Failed b p h c h' = FailedAs (is_lost c) b p h c h'
+-- the act fails by a code of its own, or memory or the store did not suffice for it
+abbrev pub FailedBy : {A : Type 0} → Standing → Act A → Here → Fault → Here → Type 0
+FailedBy b p h (Own c) h' = perform (ops_of b) (p h.0) h.1 ≡ (Fails c h'.0, h'.1)
+FailedBy b p h (Lost loss) h' = IsCut b p h h'
 
-abbrev pub Ends : {A X E : Type 0} → Standing → (E → Code) → Act A → (X → A) → Here → Result X E → Here → Type 0
-Ends b code_of p f h (Ok x) h' = Gave b p h (f x) h'
-Ends b code_of p f h (Err e) h' = Failed b p h (code_of e) h'
+abbrev pub Ends : {A X E : Type 0} → Standing → (E → Fault) → Act A → (X → A) → Here → Result X E → Here → Type 0
+Ends b fault_of p f h (Ok x) h' = Gave b p h (f x) h'
+Ends b fault_of p f h (Err e) h' = FailedBy b p h (fault_of e) h'
 
 -- a call does an act
-pub record Did {A X E : Type 0} (b : Standing) (code_of : E → Code) (p : Act A) (f : X → A) (h : Here) (r : Result X E) (h' : Here) : Type 0 where
-  pub ends : Ends b code_of p f h r h'
+pub record Did {A X E : Type 0} (b : Standing) (fault_of : E → Fault) (p : Act A) (f : X → A) (h : Here) (r : Result X E) (h' : Here) : Type 0 where
+  pub ends : Ends b fault_of p f h r h'
 
 -- a call evaluates: wherever it stands, it does an act that changes nothing but the steps left
-pub record Evaluates {A X E : Type 0} (code_of : E → Code) (p : Act A) (f : X → A) (locals : Locals) (steps : ℕ) (r : Result X E) (steps' : ℕ) : Type 0 where
-  pub at : (b : Standing) (naked : Option Node) (test : Bool) (out : Text) (w : World) → Did b code_of p f (point locals naked test out steps w) r (point locals naked test out steps' w)
+pub record Evaluates {A X E : Type 0} (fault_of : E → Fault) (p : Act A) (f : X → A) (locals : Locals) (steps : ℕ) (r : Result X E) (steps' : ℕ) : Type 0 where
+  pub at : (b : Standing) (naked : Option Node) (test : Bool) (out : Text) (w : World) → Did b fault_of p f (point locals naked test out steps w) r (point locals naked test out steps' w)
 
 -- q from the one place is what is left of p from the other
 pub record Follows {A : Type 0} (b : Standing) (p : Act A) (h : Here) (q : Act A) (h' : Here) : Type 0 where

@@ -1,15 +1,16 @@
 -- Histories: events with their replies, one step after another.
 use Rattle.std.specs.Prelude.{◌≡◌, false, List, [], ◌∷◌}
 use Rattle.std.specs.FinMap.{empty}
-use Rattle.mmeaning.specs.Step.{Settings, Server, World, Event, Reply, Step, normal, is_failure}
+use Rattle.mspec.specs.Globals.{Globals}
+use Rattle.mmeaning.specs.Step.{Settings, Server, Event, Reply, Step, normal, is_failure}
 
 abbrev pub History : Settings → Server → List (Event × Reply) → Server → Type 0
 History settings server [] after = after ≡ server
 History settings server (e ∷ es) after = (between : Server) × Step settings e.0 e.1 server between × History settings between es after
 
--- a server before its first line: no session is open
-abbrev pub opening : World → Server
-opening world = record { world = world; sessions = empty }
+-- a server before its first line: it has globals alone, no session is open and no lock is held
+abbrev pub opening : Globals → Server
+opening globals = record { world = record { globals = globals; locks = empty }; sessions = empty }
 
 -- the replies of normal steps
 abbrev pub replies : Settings → Server → List Event → List Reply

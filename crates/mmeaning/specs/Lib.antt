@@ -2,6 +2,7 @@ pub mod Operators
 pub mod Functions
 pub mod Expression
 pub mod LineMeaning
+pub mod World
 pub mod Step
 pub mod History
 pub mod StepLaws

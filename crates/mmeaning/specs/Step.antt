@@ -3,22 +3,16 @@ use Rattle.std.specs.Prelude.{◌≡◌, ℕ, Bool, true, false, nat_lt, [], len
 use Rattle.std.specs.List.{list_all}
 use Rattle.std.specs.Ordering.{nat_cmp}
 use Rattle.std.specs.FinMap.{FinMap, get, insert, remove}
-use Rattle.mspec.specs.Code.{Code, Zterm, Zline, Zchar, Zsyntax, Zmem, Zstore}
-use Rattle.mspec.specs.Plan.{Ops, Plan, perform, cut_short}
+use Rattle.mspec.specs.Code.{Code, Zterm, Zline, Zchar, Zsyntax, Fault, Own, Lost}
+use Rattle.mspec.specs.Plan.{Plan, perform, cut_short}
+use Rattle.mspec.specs.LockConflict.{released}
 use Rattle.mspec.specs.Act.{Text, Node, Locals, no_locals, State, Outcome, Gives, Fails, Act, fail}
 use Rattle.mspec.specs.Names.{is_character}
 use Rattle.mgrammar.specs.Grammar.{LineTree}
 use Rattle.mgrammar.specs.Reading.{line_at}
 use Rattle.mmeaning.specs.LineMeaning.{Signal, run}
-
--- an account, and the steps that each of its lines may use
-pub record Account : Type 0 where
-  pub name : Text
-  pub steps : ℕ
-
--- the account of each terminal
-pub record Settings : Type 0 where
-  pub terminals : FinMap nat_cmp Account
+pub use Rattle.mspec.specs.Access.{Account, Settings}
+pub use Rattle.mmeaning.specs.World.{World, act}
 
 -- what a terminal keeps from line to line; a new one has no locals, no naked indicator, and 0 as $TEST
 pub record Session : Type 0 where
@@ -33,13 +27,6 @@ abbrev pub session_or_new : Option Session → Session
 session_or_new None = new_session
 session_or_new (Some s) = s
 
--- what the lines of all terminals share; globals and locks come with their operations
-abbrev pub World : Type 0
-World = Unit {0}
-
-abbrev pub act : Settings → ℕ → Ops World
-act settings terminal op w = elim op [ ]
-
 pub record Server : Type 0 where
   pub world : World
   pub sessions : FinMap nat_cmp Session
@@ -51,7 +38,7 @@ pub record Event : Type 0 where
 pub data Ending : Type 0 where
   Finished : Ending
   Halted : Ending
-  Faulted : Code → Ending
+  Faulted : Fault → Ending
 
 pub record Reply : Type 0 where
   pub out : Text
@@ -77,7 +64,7 @@ plan_of account s tree = text_run tree (begun account s)
 
 abbrev pub reply_of : Outcome Signal → Reply
 reply_of (Gives signal s) = record { out = s.out; ending = Finished }
-reply_of (Fails code s) = record { out = s.out; ending = Faulted code }
+reply_of (Fails code s) = record { out = s.out; ending = Faulted (Own code) }
 
 abbrev pub state_of : Outcome Signal → State
 state_of (Gives signal s) = s
@@ -88,12 +75,12 @@ abbrev pub ended : ℕ → Server → Outcome Signal × World → Reply × Serve
 ended terminal server r = (reply_of r.0, record { world = r.1; sessions = insert server.sessions terminal (kept (state_of r.0)) })
 
 abbrev pub refused : Code → Server → Reply × Server
-refused code server = (record { out = []; ending = Faulted code }, server)
+refused code server = (record { out = []; ending = Faulted (Own code) }, server)
 
 -- the run of a line that passed the checks before it; a session that it opens for a text without a tree is as new, so as none
 abbrev pub at_tree : Settings → Event → Server → Account → Reply × Server
 at_tree settings e server account =
-    ended e.terminal server (perform (act settings e.terminal) (plan_of account (session_or_new (get server.sessions e.terminal)) (line_at e.text)) server.world)
+    ended e.terminal server (perform (act settings e.terminal account.name) (plan_of account (session_or_new (get server.sessions e.terminal)) (line_at e.text)) server.world)
 
 abbrev pub is_too_long : Text → Bool
 is_too_long text = nat_lt line_limit (length text)
@@ -116,26 +103,28 @@ abbrev pub normal : Settings → Event → Server → Reply × Server
 normal settings e server = at_account settings e server (get settings.terminals e.terminal)
 
 -- A step that they do not suffice for. It comes behind the checks that take no memory; no output is replied, the terminal's
--- session is gone, the shared world is that of the line cut short, and all else is unchanged.
+-- session and its locks are gone, the globals are those of the line cut short, and all else is unchanged.
 pub record FailedStep (settings : Settings) (e : Event) (server after : Server) : Type 0 where
   pub account : Account
   pub known : get settings.terminals e.terminal ≡ Some account
   pub short : is_too_long e.text ≡ false
   pub ascii : is_ascii e.text ≡ true
   pub operations : ℕ
-  pub world : after.world ≡ cut_short (act settings e.terminal) operations (plan_of account (session_or_new (get server.sessions e.terminal)) (line_at e.text)) server.world
+  pub globals :
+      after.world.globals ≡
+      (cut_short (act settings e.terminal account.name) operations (plan_of account (session_or_new (get server.sessions e.terminal)) (line_at e.text)) server.world).globals
+  pub locks : after.world.locks ≡ released server.world.locks e.terminal
   pub sessions : after.sessions ≡ remove server.sessions e.terminal
 
--- the codes of a step that memory or the store did not suffice for
-abbrev pub is_lost : Code → Bool
-is_lost Zmem = true
-is_lost Zstore = true
-is_lost code = false
+-- memory or the store did not suffice
+abbrev pub is_lost : Fault → Bool
+is_lost (Own code) = false
+is_lost (Lost loss) = true
 
 abbrev pub is_failure : Ending → Bool
 is_failure Finished = false
 is_failure Halted = false
-is_failure (Faulted code) = is_lost code
+is_failure (Faulted fault) = is_lost fault
 
 abbrev pub lost : Ending → Reply
 lost ending = record { out = []; ending = ending }

@@ -1,11 +1,21 @@
 -- The laws of steps, as statements. The functions of src/ named after them carry them.
-use Rattle.std.specs.Prelude.{◌≡◌, false, List, map}
+use Rattle.std.specs.Prelude.{◌≡◌, ℕ, false, List, map}
+use Rattle.mspec.specs.Plan.{Plan, perform, cut_short}
+use Rattle.mspec.specs.LockConflict.{released}
+use Rattle.mspec.specs.Act.{Text, Outcome}
+use Rattle.mmeaning.specs.LineMeaning.{Signal}
+use Rattle.mmeaning.specs.World.{World, act}
 use Rattle.mmeaning.specs.Step.{Settings, Event, Reply, Server, normal, is_failure}
 use Rattle.mmeaning.specs.History.{History, replies, server_after, answered, NoneFailed}
 
 -- a normal step is never answered as one that failed, so a reply says which of the two its step was
 abbrev pub NormalNeverFails : Type 0
 NormalNeverFails = (settings : Settings) (e : Event) (server : Server) → is_failure (normal settings e server).0.ending ≡ false
+
+-- what a line does changes no lock of another terminal, whole or cut short
+pub record OthersKeepLocks (settings : Settings) (terminal : ℕ) (me : Text) (p : Plan (Outcome Signal)) (w : World) : Type 0 where
+  pub whole : released (perform (act settings terminal me) p w).1.locks terminal ≡ released w.locks terminal
+  pub short : (n : ℕ) → released (cut_short (act settings terminal me) n p w).locks terminal ≡ released w.locks terminal
 
 -- normal steps, one after another, are a history of any events from any server
 abbrev pub NormalStepsAreHistory : Type 0

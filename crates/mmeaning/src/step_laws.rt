@@ -1,9 +1,20 @@
 // The laws of steps. Each function's contract is the law, and its body is empty: the code never calls them.
-ghost use Rattle.mmeaning.specs.StepLaws.{NormalNeverFails, NormalStepsAreHistory, HistoryIsNormal};
+ghost use Rattle.std.specs.Prelude.{ℕ};
+ghost use Rattle.mspec.specs.Plan.{Plan};
+ghost use Rattle.mspec.specs.Act.{Text, Outcome};
+ghost use Rattle.mmeaning.specs.LineMeaning.{Signal};
+ghost use Rattle.mmeaning.specs.World.{World};
+ghost use Rattle.mmeaning.specs.Step.{Settings};
+ghost use Rattle.mmeaning.specs.StepLaws.{NormalNeverFails, OthersKeepLocks, NormalStepsAreHistory, HistoryIsNormal};
 
 /// A normal step is never answered ZMEM or ZSTORE.
 pub fn normal_never_fails()
     ensures { NormalNeverFails }
+{}
+
+/// What a line does changes no lock of another terminal.
+pub fn others_kept()
+    ensures { (settings : Settings) (terminal : ℕ) (me : Text) (p : Plan (Outcome Signal)) (w : World) → OthersKeepLocks settings terminal me p w }
 {}
 
 /// Normal steps are a history of any events, so there is one.

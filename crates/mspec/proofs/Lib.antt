@@ -21,3 +21,7 @@ pub mod KeyRanges
 pub mod KeyReadings
 pub mod ScopeValues
 pub mod ScopeFacts
+pub mod MapCuts
+pub mod LockFacts
+pub mod LockExamples
+pub mod GlobalExamples

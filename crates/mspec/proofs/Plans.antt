@@ -22,6 +22,13 @@ cut_second ops n (Ask op k) f w =
     let rest = cut_second ops n (k (ops op w).0) f (ops op w).1 in
     (suc rest.0, rest.1)
 
+-- behind some number of its operations a plan is whole
+pub cut_whole : {W A : Type 0} (ops : Ops W) (p : Plan A) (w : W) → (n : ℕ) × (cut_short ops n p w ≡ (perform ops p w).1)
+cut_whole ops (Done a) w = (0, refl)
+cut_whole ops (Ask op k) w =
+    let rest = cut_whole ops (k (ops op w).0) (ops op w).1 in
+    (suc rest.0, rest.1)
+
 -- two worlds that a relation ties: each operation answers alike and keeps them tied
 pub record Respects {V W : Type 0} (R : V → W → Type 0) (low : Ops V) (high : Ops W) : Type 0 where
   pub answers : (op : Op) (v : V) (w : W) → R v w → (low op v).0 ≡ (high op w).0

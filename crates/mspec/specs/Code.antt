@@ -1,4 +1,4 @@
--- The codes that end a line.
+-- The codes that end a line, and the losses that cut one short.
 --
 -- Those that begin with M are of the table of error codes of ISO/IEC 11756:1999; those that begin with Z are mserve's own,
 -- as the standard lets an implementation have.
@@ -26,8 +26,16 @@ pub data Code : Type 0 where
   Zchar : Code
   Zline : Code
   Zterm : Code
-  Zmem : Code
-  Zstore : Code
+
+-- what did not suffice for a line, which is cut short there; no line answers these by itself
+pub data Loss : Type 0 where
+  Memory : Loss
+  Store : Loss
+
+-- why a line was not carried to its end: a code of its own, or a loss
+pub data Fault : Type 0 where
+  Own : Code → Fault
+  Lost : Loss → Fault
 
 -- a code as a reply shows it
 abbrev pub code_text : Code → List ℕ
@@ -52,5 +60,11 @@ code_text Zlevel = codes "ZLEVEL"
 code_text Zchar = codes "ZCHAR"
 code_text Zline = codes "ZLINE"
 code_text Zterm = codes "ZTERM"
-code_text Zmem = codes "ZMEM"
-code_text Zstore = codes "ZSTORE"
+
+abbrev pub loss_text : Loss → List ℕ
+loss_text Memory = codes "ZMEM"
+loss_text Store = codes "ZSTORE"
+
+abbrev pub fault_text : Fault → List ℕ
+fault_text (Own code) = code_text code
+fault_text (Lost loss) = loss_text loss

@@ -2,16 +2,16 @@
 --
 -- Restates what "Global variable handling", "$DATA", "$ORDER", "SET" and "KILL" of ISO/IEC 11756:1999 say of nodes: SET gives
 -- one node a text and keeps what stands below it, KILL takes a node away with all that stands below it.
-use Rattle.std.specs.Prelude.{ℕ, Bool, not, ◌&&◌, List, map, Option, reverse}
-use Rattle.std.specs.List.{find}
+use Rattle.std.specs.Prelude.{ℕ, Bool, false, not, ◌&&◌, List, [], ◌∷◌, map, Option, is_some, codes, reverse}
+use Rattle.std.specs.List.{list_any, filter, find}
 use Rattle.std.specs.Ordering.{nat_cmp, is_le, is_lt}
 use Rattle.std.specs.Cmp.Lexicographic.{slice_cmp}
-use Rattle.std.specs.FinMap.{FinMap, keys, retain_keys}
+use Rattle.std.specs.FinMap.{FinMap, get, entries, keys, retain_keys}
 use Rattle.mspec.specs.Node.{Text, Node}
 use Rattle.mspec.specs.Number.{significant_digits}
-use Rattle.mspec.specs.NodeOrder.{node_cmp}
+use Rattle.mspec.specs.NodeOrder.{node_cmp, canonical_value}
 use Rattle.mspec.specs.KeyBytes.{key_bytes}
-use Rattle.mspec.specs.Trees.{text_eq, is_within}
+use Rattle.mspec.specs.Trees.{text_eq, is_within, is_below, Direction, neighbour, children_in, front, last}
 
 abbrev pub Globals : Type 0
 Globals = FinMap (node_cmp significant_digits) Text
@@ -23,6 +23,39 @@ is_node_within n m = text_eq n.account m.account && (text_eq n.name m.name && is
 -- without a node and what stands below it
 abbrev pub without_subtree : Globals → Node → Globals
 without_subtree g n = retain_keys g (λ m. not (is_node_within n m))
+
+-- ---- what is asked of a global
+
+-- m is of the same global as n
+abbrev pub is_beside : Node → Node → Bool
+is_beside n m = text_eq n.account m.account && text_eq n.name m.name
+
+-- the subscripts of a global's nodes, in order
+abbrev pub subscripts_under : Globals → Node → List (List Text)
+subscripts_under g n = map (λ m. m.subscripts) (filter (is_beside n) (keys g))
+
+-- $DATA: whether a node has a text, and whether one below it has
+abbrev pub status : Globals → Node → Bool × Bool
+status g n = (is_some (get g n), list_any (is_below n.subscripts) (subscripts_under g n))
+
+-- $ORDER: the subscript after the last one, of those below which there is a text
+abbrev pub order_at : Globals → Direction → Node → Option Text
+order_at g direction n = neighbour direction (last n.subscripts) (children_in (subscripts_under g n) (front n.subscripts))
+
+-- ---- routines
+
+-- the global that holds an account's routines
+abbrev pub routines_of : Text → Node
+routines_of account = record { account = account; name = codes "ROUTINE"; subscripts = [] }
+
+-- where a routine has a line: behind its name stands a number, and nothing more
+abbrev pub is_line_of : Text → List Text → Bool
+is_line_of name (routine ∷ place ∷ []) = text_eq name routine && is_some (canonical_value significant_digits place)
+is_line_of name subscripts = false
+
+-- the lines of an account's routine, in the order of their numbers
+abbrev pub lines_of : Globals → Text → Text → List Text
+lines_of g account name = map (λ e. e.1) (filter (λ e. is_beside (routines_of account) e.0 && is_line_of name e.0.subscripts) (entries g))
 
 -- ---- by the bytes of keys
 

@@ -21,6 +21,10 @@ pub mod Trees
 pub mod Scopes
 pub mod ScopeLaws
 pub mod Globals
+pub mod Access
+pub mod Flow
+pub mod LockConflict
+pub mod LockLaws
 pub mod Act
 pub mod Access
 pub mod Flow

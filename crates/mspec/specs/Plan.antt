@@ -3,14 +3,38 @@
 --
 -- A plan says what is done without saying where: carried out over a world it gives an answer and the world that it leaves.
 -- What is proved of all plans, as isolation will be, needs one case for each operation and none for the language.
-use Rattle.std.specs.Prelude.{ℕ, zero, suc}
+use Rattle.std.specs.Prelude.{ℕ, zero, suc, Bool, List, Option}
+use Rattle.mspec.specs.Node.{Text, Node}
+use Rattle.mspec.specs.Trees.{Direction}
+use Rattle.mspec.specs.Access.{Mode}
+use Rattle.mspec.specs.LockConflict.{LockName}
 
--- the operations; none is needed while lines speak of locals alone
+-- the operations. The lines of a routine of the own account are one, since a loop that costs no steps has no end of its own.
 pub data Op : Type 0 where
+  May : (owner name : Text) → Mode → Op
+  Value : Node → Op
+  Status : Node → Op
+  Neighbour : Direction → Node → Op
+  Routine : (name : Text) → Op
+  Put : Node → Text → Op
+  Kill : Node → Op
+  Take : List LockName → Op
+  Give_back : LockName → Op
+  Release : Op
 
--- what each answers
+-- what each answers: whether it is allowed; a text; whether there is a text and whether one below it; a subscript; the lines;
+-- whether the names were taken
 abbrev pub Answer : Op → Type 0
-Answer op = elim op [ ]
+Answer (May owner name mode) = Bool
+Answer (Value node) = Option Text
+Answer (Status node) = Bool × Bool
+Answer (Neighbour direction node) = Option Text
+Answer (Routine name) = List Text
+Answer (Put node text) = Unit {0}
+Answer (Kill node) = Unit {0}
+Answer (Take names) = Bool
+Answer (Give_back name) = Unit {0}
+Answer Release = Unit {0}
 
 pub data Plan (A : Type 0) : Type 0 where
   Done : A → Plan A

@@ -46,9 +46,13 @@ without t xs = retain_keys t (λ ys. not (is_within xs ys))
 abbrev pub child_of : List Text → List Text → Option Text
 child_of xs ys = if is_within xs ys then slice_get ys (length xs) else None
 
--- the subscripts next behind xs of the nodes below it, in order; each as often as it stands there
+-- the subscripts next behind xs in those lists that stand below it, each as often as it stands there
+abbrev pub children_in : List (List Text) → List Text → List Text
+children_in lists xs = flat_map (λ ys. option_to_list (child_of xs ys)) lists
+
+-- the same of the nodes of a variable, in order
 abbrev pub children : Tree → List Text → List Text
-children t xs = flat_map (λ ys. option_to_list (child_of xs ys)) (keys t)
+children t xs = children_in (keys t) xs
 
 abbrev pub is_before : Text → Text → Bool
 is_before x y = is_lt (text_cmp significant_digits x y)

@@ -5,6 +5,7 @@
 #![tactic(auto)]
 
 pub mod key_laws;
+pub mod lock_laws;
 pub mod number_laws;
 pub mod piece_laws;
 pub mod scope_laws;

@@ -33,7 +33,7 @@ normal_answers_are_served settings server after all bytes answers none =
     )
 
 pub normal_streams_are_served : NormalStreamsAreServed
-normal_streams_are_served settings after stream bytes answers none = (normal_answers_are_served settings (opening tt) after (lines stream) bytes answers none).0
+normal_streams_are_served settings globals after stream bytes answers none = (normal_answers_are_served settings (opening globals) after (lines stream) bytes answers none).0
 
 events_of_answered : (settings : Settings) (server : Server) (es : List Event) → map (λ e. e.0) (answered settings server es) ≡ es
 events_of_answered settings server [] = refl

@@ -1,7 +1,7 @@
 -- The wire form and the replies of the definitional interpreter on examples, as proved equations.
 use Rattle.std.proofs.Common.{◌≡◌, ℕ, List, [], ◌∷◌, ◌++◌, refl}
 use Rattle.std.specs.Prelude.{codes, replicate}
-use Rattle.std.specs.FinMap.{gets}
+use Rattle.std.specs.FinMap.{empty, gets}
 use Rattle.mspec.proofs.ScopeValues.{local_values}
 use Rattle.std.specs.Fmt.{digits}
 use Rattle.std.specs.Str.Lines.{lines}
@@ -12,7 +12,7 @@ use Rattle.mgrammar.specs.Reading.{many, list_at, point_at, exponent_at, number_
 use Rattle.mmeaning.specs.Step.{Finished, Halted, Faulted}
 use Rattle.mmeaning.proofs.MeaningExamples.{alice}
 use Rattle.mspec.specs.Act.{Text}
-use Rattle.mspec.specs.Code.{Zlong}
+use Rattle.mspec.specs.Code.{Zlong, Own}
 use Rattle.mwire.specs.Wire.{Fate, Ignored, TooLong, Unreadable, Runs, fate_of, shown, reply_text, stream_served}
 
 abbrev runs : ℕ → Text → Fate
@@ -57,25 +57,25 @@ unfolding digits
 reply_lines = refl
 
 reply_endings : (reply_text 3 (record { out = codes "x" ++ 255 ∷ []; ending = Halted }) ≡ fed (codes "3:x" ∷ codes "3." ∷ []))
-    × (reply_text 3 (record { out = []; ending = Faulted Zlong }) ≡ fed (codes "3!ZLONG" ∷ []))
+    × (reply_text 3 (record { out = []; ending = Faulted (Own Zlong) }) ≡ fed (codes "3!ZLONG" ∷ []))
 unfolding digits
 reply_endings = (refl, refl)
 
-left_to_right : stream_served alice (fed (codes "1 WRITE 1+2*3" ∷ [])) ≡ fed (codes "1-9" ∷ codes "1." ∷ [])
+left_to_right : stream_served alice empty (fed (codes "1 WRITE 1+2*3" ∷ [])) ≡ fed (codes "1-9" ∷ codes "1." ∷ [])
 unfolding keyword_of function_of many list_at point_at exponent_at number_at name_at count_at repeated_at atom_at pattern_at truth_at operator_at bracket_with choice_with select_with call_with function_with primary_with operand_with step_by step_with expr_with readers_at place_with piece_with target_with destination_at assignment_at output_at command_at spaced_at comment_at line_at numeric_value literal_size round round_size nearest rounding_unit digits_before size_text digits
 left_to_right = simp (gets, local_values)
 
 -- what a line assigned stands for the next, and an unfinished last line is run
-sessions : stream_served alice (fed (codes "1 S A=\"x\"" ∷ []) ++ codes "1 W A") ≡ fed (codes "1." ∷ codes "1-x" ∷ codes "1." ∷ [])
+sessions : stream_served alice empty (fed (codes "1 S A=\"x\"" ∷ []) ++ codes "1 W A") ≡ fed (codes "1." ∷ codes "1-x" ∷ codes "1." ∷ [])
 unfolding keyword_of function_of many list_at point_at exponent_at number_at name_at count_at repeated_at atom_at pattern_at truth_at operator_at bracket_with choice_with select_with call_with function_with primary_with operand_with step_by step_with expr_with readers_at place_with piece_with target_with destination_at assignment_at output_at command_at spaced_at comment_at line_at numeric_value literal_size round round_size nearest rounding_unit digits_before size_text digits
 sessions = simp (gets, local_values)
 
 -- a fault, and output with a line end
-faults : stream_served alice (fed (codes "1 W \"x\",!,B" ∷ [])) ≡ fed (codes "1:x" ∷ codes "1!M6" ∷ [])
+faults : stream_served alice empty (fed (codes "1 W \"x\",!,B" ∷ [])) ≡ fed (codes "1:x" ∷ codes "1!M6" ∷ [])
 unfolding keyword_of function_of many list_at point_at exponent_at number_at name_at count_at repeated_at atom_at pattern_at truth_at operator_at bracket_with choice_with select_with call_with function_with primary_with operand_with step_by step_with expr_with readers_at place_with piece_with target_with destination_at assignment_at output_at command_at spaced_at comment_at line_at numeric_value literal_size round round_size nearest rounding_unit digits_before size_text digits
 faults = simp (gets, local_values)
 
 -- lines of each fate, and an account without the terminal
-stream : stream_served alice (fed ([] ∷ codes "1 W 1+" ∷ codes "hello" ∷ (codes "1 ;" ++ replicate 258 65) ∷ (codes "2 W 1" ++ 13 ∷ []) ∷ codes "1 W 2" ∷ [])) ≡ fed (codes "1!ZSYNTAX" ∷ codes "?!ZWIRE" ∷ codes "?!ZLINE" ∷ codes "2!ZTERM" ∷ codes "1-2" ∷ codes "1." ∷ [])
+stream : stream_served alice empty (fed ([] ∷ codes "1 W 1+" ∷ codes "hello" ∷ (codes "1 ;" ++ replicate 258 65) ∷ (codes "2 W 1" ++ 13 ∷ []) ∷ codes "1 W 2" ∷ [])) ≡ fed (codes "1!ZSYNTAX" ∷ codes "?!ZWIRE" ∷ codes "?!ZLINE" ∷ codes "2!ZTERM" ∷ codes "1-2" ∷ codes "1." ∷ [])
 unfolding keyword_of function_of many list_at point_at exponent_at number_at name_at count_at repeated_at atom_at pattern_at truth_at operator_at bracket_with choice_with select_with call_with function_with primary_with operand_with step_by step_with expr_with readers_at place_with piece_with target_with destination_at assignment_at output_at command_at spaced_at comment_at line_at numeric_value literal_size round round_size nearest rounding_unit digits_before size_text digits
 stream = simp (gets, local_values)

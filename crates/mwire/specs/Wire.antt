@@ -5,7 +5,8 @@ use Rattle.std.specs.List.{list_all, before_first, after_first, position_or_len,
 use Rattle.std.specs.Fmt.{decimal}
 use Rattle.std.specs.Str.Lines.{lines, strip_carriage_return}
 use Rattle.mspec.specs.Act.{Text}
-use Rattle.mspec.specs.Code.{code_text}
+use Rattle.mspec.specs.Code.{fault_text}
+use Rattle.mspec.specs.Globals.{Globals}
 use Rattle.mspec.specs.Literal.{is_digit, digits_after}
 use Rattle.mmeaning.specs.LineMeaning.{line_end}
 use Rattle.mmeaning.specs.Step.{Settings, Server, Event, Ending, Finished, Halted, Faulted, Reply, normal}
@@ -68,7 +69,7 @@ is_line_end c = c == line_end
 abbrev pub ending_text : Ending → Text
 ending_text Finished = codes "."
 ending_text Halted = codes "."
-ending_text (Faulted code) = codes "!" ++ code_text code
+ending_text (Faulted fault) = codes "!" ++ fault_text fault
 
 -- the bytes of a terminal's reply
 abbrev pub reply_text : ℕ → Reply → Text
@@ -94,10 +95,10 @@ lines_served settings server [] = []
 lines_served settings server (line ∷ more) =
     (line_served settings server (fate_of line)).0 ++ lines_served settings (line_served settings server (fate_of line)).1 more
 
--- The bytes that answer a stream, by normal steps. A line feed ends a line and takes a carriage return just before it with it;
+-- The bytes that answer a stream over some globals, by normal steps. A line feed ends a line and takes a carriage return just before it with it;
 -- an unfinished last line counts, and keeps its carriage return.
-abbrev pub stream_served : Settings → Text → Text
-stream_served settings bytes = lines_served settings (opening tt) (lines bytes)
+abbrev pub stream_served : Settings → Globals → Text → Text
+stream_served settings globals bytes = lines_served settings (opening globals) (lines bytes)
 
 abbrev pub before_events : Fate → List Event → List Event
 before_events Ignored events = events

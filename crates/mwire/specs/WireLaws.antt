@@ -4,6 +4,7 @@ use Rattle.std.specs.List.{All, flat_map}
 use Rattle.std.specs.Fmt.{decimal}
 use Rattle.std.specs.Str.Lines.{lines, strip_carriage_return}
 use Rattle.mspec.specs.Act.{Text}
+use Rattle.mspec.specs.Globals.{Globals}
 use Rattle.mmeaning.specs.Step.{Settings, Server, Event, line_limit}
 use Rattle.mmeaning.specs.History.{opening, server_after, NoneFailed}
 use Rattle.mwire.specs.Wire.{lines_served, stream_served, events_of}
@@ -33,10 +34,10 @@ abbrev pub NormalAnswersAreServed : Type 0
 NormalAnswersAreServed = (settings : Settings) (server after : Server) (all : List Text) (bytes : Text) (answers : Answers settings server all bytes after)
     → NoneFailed answers.trace → (bytes ≡ lines_served settings server all) × (after ≡ server_after settings server (events_of all))
 
--- so what answers a whole stream, from an opening world, is told by the settings and the stream alone
+-- so what answers a whole stream, from an opening world, is told by the settings, the globals and the stream alone
 abbrev pub NormalStreamsAreServed : Type 0
-NormalStreamsAreServed = (settings : Settings) (after : Server) (stream bytes : Text) (answers : Answers settings (opening tt) (lines stream) bytes after)
-    → NoneFailed answers.trace → bytes ≡ stream_served settings stream
+NormalStreamsAreServed = (settings : Settings) (globals : Globals) (after : Server) (stream bytes : Text) (answers : Answers settings (opening globals) (lines stream) bytes after)
+    → NoneFailed answers.trace → bytes ≡ stream_served settings globals stream
 
 -- and any lines have an answer, by normal steps
 abbrev pub LinesHaveAnswers : Type 0

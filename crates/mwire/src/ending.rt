@@ -1,7 +1,7 @@
 // How the end of a line is shown.
 ghost use Rattle.std.specs.Prelude.{◌≡◌, ◌++◌, OnOk};
-ghost use Rattle.mspec.specs.Code.{code_text};
-ghost use Rattle.meval.specs.Codes.{code_of};
+ghost use Rattle.mspec.specs.Code.{fault_text};
+ghost use Rattle.meval.specs.Codes.{fault_of};
 ghost use Rattle.mworld.specs.View.{ending_of};
 ghost use Rattle.mwire.specs.Wire.{ending_text};
 
@@ -24,7 +24,7 @@ pub fn push_ending(out: &mut Vec<u8>, ending: Ended) -> Result<(), AllocError>
 
 // A code as a reply shows it.
 fn code_name(code: Code) -> &'static [u8]
-    ensures { result.now ≡ code_text (code_of code) }
+    ensures { result.now ≡ fault_text (fault_of code) }
 {
     match code {
         Code::M1 => b"M1",

@@ -1,18 +1,14 @@
 -- The checks that come before a line's text is parsed.
-use Rattle.std.proofs.Common.{◌≡◌, ℕ, true, false, Some, None, refl, sym, ap, subst, ◌∙◌, length, ◌<◌, ◌≤◌, arith, List}
-use Rattle.std.specs.Prelude.{codes}
+use Rattle.std.proofs.Common.{◌≡◌, ℕ, true, false, Some, None, refl, ap, ◌∙◌, length, ◌<◌, ◌≤◌, arith, List}
 use Rattle.std.specs.Ordering.{nat_cmp, is_eq}
 use Rattle.std.specs.Cmp.{nat_cmp_total}
 use Rattle.std.specs.declared.cmp.Ordering.{Ordering}
 use Rattle.std.specs.declared.cmp.Ordering.TheVariants.{Less, Equal, Greater}
 use Rattle.std.specs.FinMap.{nat_cmp-IsAntisymmetric, get, empty, gets, get-insert, get-empty}
 use Rattle.std.proofs.lemmas.Bool.Decides.{nat_tests}
-use Rattle.mmeaning.specs.Step.{Account, Event, Server, Reply, Faulted, Step, FailedStep, lost, normal, refused, checked, at_account, at_tree, is_too_long, is_ascii}
-use Rattle.mspec.specs.Code.{Zterm, Zline, Zchar, Zmem}
-use Rattle.mworld.specs.Profile.{profile}
-
-abbrev alice : Account
-alice = record { name = codes "ALICE"; steps = 2000 }
+use Rattle.mmeaning.specs.Step.{Account, Event, Server, normal, refused, checked, at_account, at_tree, is_too_long, is_ascii}
+use Rattle.mspec.specs.Code.{Zterm, Zline, Zchar}
+use Rattle.mworld.specs.Profile.{alice, profile}
 
 pub known : (terminal : ℕ) → terminal ≡ 1 → get profile.terminals terminal ≡ Some alice
 known terminal is = ap (get profile.terminals) is ∙ simp gets
@@ -51,7 +47,3 @@ is_short text h = grind (arith, nat_tests)
 
 pub is_long : (text : List ℕ) → 255 < length text → is_too_long text ≡ true
 is_long text h = grind (arith, nat_tests)
-
--- a step is lost where its reply says ZMEM
-pub lost_step : (e : Event) (reply : Reply) (old new : Server) → reply ≡ lost (Faulted Zmem) → FailedStep profile e old new → Step profile e reply old new
-lost_step e reply old new is failed = subst (λ r. Step profile e r old new) (sym is) (refl, failed)

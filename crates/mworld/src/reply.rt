@@ -1,7 +1,7 @@
 // Events and replies.
 ghost use Rattle.std.specs.Prelude.{◌≡◌, []};
 ghost use Rattle.mmeaning.specs.Step.{Faulted};
-ghost use Rattle.meval.specs.Codes.{code_of};
+ghost use Rattle.meval.specs.Codes.{fault_of};
 ghost use Rattle.mworld.specs.View.{reply_of};
 
 use meval::Code;
@@ -28,7 +28,7 @@ pub struct Reply {
 impl Reply {
     // The reply of a line that was not run, or whose run is lost.
     pub(crate) fn refused(alloc: Global, code: Code) -> Reply
-        ensures { reply_of result ≡ record { out = []; ending = Faulted (code_of code) } }
+        ensures { reply_of result ≡ record { out = []; ending = Faulted (fault_of code) } }
     {
         Reply {
             out: Vec::new(alloc),

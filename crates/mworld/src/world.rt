@@ -1,8 +1,8 @@
 // The world: one session for each terminal.
 ghost use Rattle.std.specs.Prelude.{◌≡◌, Ok};
-ghost use Rattle.std.specs.FinMap.{get, remove};
+ghost use Rattle.std.specs.FinMap.{empty, get, remove};
 ghost use Rattle.mmeaning.specs.Step.{Step, is_ascii, is_lost, session_or_new};
-ghost use Rattle.meval.specs.Codes.{code_of};
+ghost use Rattle.meval.specs.Codes.{fault_of};
 ghost use Rattle.mmeaning.specs.History.{opening};
 ghost use Rattle.mworld.specs.Profile.{profile};
 ghost use Rattle.mworld.specs.View.{server_of, session_of, reply_of};
@@ -33,7 +33,7 @@ pub struct World {
 impl World {
     /// A world without a session. Takes no memory.
     pub fn new(alloc: Global) -> World
-        ensures { server_of result ≡ opening tt }
+        ensures { server_of result ≡ opening empty }
     {
         World {
             sessions: BTreeMap::new(alloc),
@@ -86,7 +86,7 @@ impl World {
 
 // Whether memory or the store did not suffice for a line.
 fn loses_session(code: Code) -> bool
-    ensures { result ≡ is_lost (code_of code) }
+    ensures { result ≡ is_lost (fault_of code) }
 {
     match code {
         Code::Zmem | Code::Zstore => true,

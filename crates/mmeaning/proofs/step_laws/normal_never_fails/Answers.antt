@@ -1,4 +1,4 @@
-use Rattle.mmeaning.proofs.NamedCodes.{normal_never_fails}
+use Rattle.mmeaning.proofs.Histories.{normal_never_fails}
 use Rattle.mmeaning.proofs.step_laws.normal_never_fails.Goals as goal
 
 pub returns : goal.returns

@@ -1,10 +1,13 @@
-use Rattle.std.proofs.Common.{◌∙◌, arith, map, Vec, Global}
+use Rattle.std.proofs.Common.{◌∙◌, arith, [], map, Vec, Global}
 use Rattle.std.proofs.lemmas.List.{map_push}
 use Rattle.mmeaning.proofs.Calls.{residual_is, evaluates_then, evaluates_failed, evaluates_gives}
+use Rattle.mgrammar.specs.Grammar.{exprs_of}
+use Rattle.mmeaning.specs.Expression.{values}
+use Rattle.mtree.specs.Tree.{expr_tree}
 use Rattle.meval.specs.Values.{text_of}
 use Rattle.meval.specs.declared.value.Value.{Value}
 use Rattle.meval.proofs.Numbers.{computed_outcome}
-use Rattle.meval.proofs.Yielding.{evaluates_stopped}
+use Rattle.meval.proofs.Yielding.{evaluates_stopped, evaluates_wanting}
 use Rattle.meval.proofs.TreeViews.{expr_is, operand_is, number_is, text_is, local_is, bracket_is, call_is, select_is, apply_is, matches_is, matches_not_is}
 use Rattle.meval.proofs.Trees.{charge_failed, from_step, from_end, next_value, value_failed, values_end, next_choice, is_chosen, not_chosen, none_chosen}
 use Rattle.meval.proofs.eval.Eval.+eval.Goals as goal
@@ -134,6 +137,10 @@ values-returns-in_err-value-clause-does t c =
     let k = rw c.loop-e.invariant.locals at c.in_err-value.ensures.does in
     rw (residual_is _ _ c.from_residual-in_err-value.ensures)
     (c.loop-e.invariant.leads _ _ (value_failed (λ (v : Vec Value Global). map text_of v.items) c.args.exprs.now c.loop-e.e-index c.e-item.result _ _ c.loop-e-test.true c.e-item.is k))
+
+pub values-returns-in_err-push-clause-does : goal.values-returns-in_err-push-clause-does
+values-returns-in_err-push-clause-does t c =
+    evaluates_wanting (values [] (exprs_of (map expr_tree c.args.exprs.now))) (λ (v : Vec Value Global). map text_of v.items) c.from_residual-in_err-push.result c.from_residual-in_err-push.ensures
 
 pub values-loop-e-preserved : goal.values-loop-e-preserved
 values-loop-e-preserved t c =

@@ -1,9 +1,12 @@
-use Rattle.std.proofs.Common.{◌+◌, ◌∙◌, map, drop, arith}
+use Rattle.std.proofs.Common.{◌+◌, ◌∙◌, map, drop, refl, arith}
 use Rattle.mmeaning.specs.LineMeaning as meaning
 use Rattle.mmeaning.proofs.Calls.{residual_is}
 use Rattle.mexec.specs.Pendings.{pending_view}
-use Rattle.mexec.proofs.Calls.{does_failed, does_gives, leads_next, leads_ends, next_item, none_left}
+use Rattle.mexec.proofs.Calls.{does_failed, does_gives, leads_itself, leads_next, leads_ends, next_item, none_left}
 use Rattle.mexec.proofs.parts.Parts.assign_all.Goals as goal
+
+pub loop-pending-init : goal.loop-pending-init
+loop-pending-init c = record { same_locals = refl; same_out = refl; fewer = omega arith; leads = leads_itself _ c.args.self.now }
 
 pub returns-in_err-assign-clause-does : goal.returns-in_err-assign-clause-does
 returns-in_err-assign-clause-does c =

@@ -1,7 +1,13 @@
 use Rattle.std.proofs.Common.{◌∙◌, ap}
 use Rattle.mmeaning.proofs.Calls.{residual_is}
-use Rattle.mexec.proofs.FrameSteps.{command_moves, charge_fails, command_fails, rest_is, stack_push}
+use Rattle.mexec.proofs.FrameSteps.{command_moves, charge_fails, command_fails, rest_is, rest_is_done, stack_push}
 use Rattle.mexec.proofs.parts.Parts.next_command.Goals as goal
+
+pub returns-in_default-clause-moves : goal.returns-in_default-clause-moves
+returns-in_default-clause-moves c =
+    let found = c.in_default.ensures.lookup in
+    let same = c.deref-2.ensures.value ∙ ap (λ l. l.commands.items) c.deref.ensures in
+    rest_is_done c.args.rest c.deref-2.result.now _ _ same found.3
 
 pub returns-in_err-charge-clause-moves : goal.returns-in_err-charge-clause-moves
 returns-in_err-charge-clause-moves c =

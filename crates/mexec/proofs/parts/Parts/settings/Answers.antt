@@ -1,9 +1,12 @@
-use Rattle.std.proofs.Common.{◌+◌, ◌∙◌, map, drop, arith}
+use Rattle.std.proofs.Common.{◌+◌, ◌∙◌, map, drop, refl, arith}
 use Rattle.mtree.specs.Tree.{assignment_tree}
 use Rattle.mmeaning.specs.LineMeaning.{settings}
 use Rattle.mmeaning.proofs.Calls.{residual_is}
-use Rattle.mexec.proofs.Calls.{does_failed, does_gives, leads_next, leads_ends, next_item, none_left}
+use Rattle.mexec.proofs.Calls.{does_failed, does_gives, leads_itself, leads_next, leads_ends, next_item, none_left}
 use Rattle.mexec.proofs.parts.Parts.settings.Goals as goal
+
+pub loop-assignment-init : goal.loop-assignment-init
+loop-assignment-init c = record { same_locals = refl; same_out = refl; fewer = omega arith; leads = leads_itself _ c.args.self.now }
 
 pub returns-in_err-setting-clause-does : goal.returns-in_err-setting-clause-does
 returns-in_err-setting-clause-does c =

@@ -1,9 +1,12 @@
-use Rattle.std.proofs.Common.{◌+◌, ◌∙◌, map, drop, arith}
+use Rattle.std.proofs.Common.{◌+◌, ◌∙◌, map, drop, refl, arith}
 use Rattle.mtree.specs.Tree.{output_tree}
 use Rattle.mmeaning.specs.LineMeaning.{writings}
 use Rattle.mmeaning.proofs.Calls.{residual_is}
-use Rattle.mexec.proofs.Calls.{does_failed, does_gives, leads_next, leads_ends, next_item, none_left}
+use Rattle.mexec.proofs.Calls.{does_failed, does_gives, leads_itself, leads_next, leads_ends, next_item, none_left}
 use Rattle.mexec.proofs.parts.Parts.writings.Goals as goal
+
+pub loop-output-init : goal.loop-output-init
+loop-output-init c = record { same_locals = refl; same_out = refl; fewer = omega arith; leads = leads_itself _ c.args.self.now }
 
 pub returns-in_err-writing-clause-does : goal.returns-in_err-writing-clause-does
 returns-in_err-writing-clause-does c =

@@ -1,6 +1,6 @@
 use Rattle.std.proofs.Common.{ap}
 use Rattle.mspec.specs.Act.{no_locals, Locals}
-use Rattle.mmeaning.specs.Step.{Session, new_session}
+use Rattle.mmeaning.specs.Step.{new_session}
 use Rattle.mworld.proofs.session.Session.new.Goals as goal
 
 pub returns : goal.returns

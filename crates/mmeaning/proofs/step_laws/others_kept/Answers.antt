@@ -1,0 +1,5 @@
+use Rattle.mmeaning.proofs.OtherLocks.{others_kept}
+use Rattle.mmeaning.proofs.step_laws.others_kept.Goals as goal
+
+pub returns : goal.returns
+returns c = others_kept

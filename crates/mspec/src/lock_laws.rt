@@ -1,0 +1,14 @@
+// The laws of locks. Each function's contract is the law, and its body is empty: the code never calls them.
+ghost use Rattle.std.specs.Prelude.{ℕ};
+ghost use Rattle.mspec.specs.LockConflict.{Locks};
+ghost use Rattle.mspec.specs.LockLaws.{CountsGoUp, OthersKeepLocks};
+
+/// Taking a list raises each count by the number of times that its name stands in the list.
+pub fn counts_go_up()
+    ensures { CountsGoUp }
+{}
+
+/// What is done for one terminal leaves what others hold.
+pub fn others_keep_locks()
+    ensures { (locks : Locks) (terminal : ℕ) → OthersKeepLocks locks terminal }
+{}

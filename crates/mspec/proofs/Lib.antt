@@ -22,6 +22,7 @@ pub mod KeyReadings
 pub mod ScopeValues
 pub mod ScopeFacts
 pub mod MapCuts
+pub mod LockOrders
 pub mod LockFacts
 pub mod LockExamples
 pub mod GlobalExamples

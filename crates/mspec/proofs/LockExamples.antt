@@ -1,46 +1,46 @@
--- Locks on examples, as proved equations.
-use Rattle.std.proofs.Common.{◌≡◌, true, false, List, [], ◌∷◌, refl, ap, ◌∙◌}
-use Rattle.std.specs.Prelude.{◌+◌, codes, nat_lt}
-use Rattle.std.specs.Fmt.{digits}
+-- Which names of locks exclude each other, on examples, as proved equations.
+use Rattle.std.proofs.Common.{◌≡◌, ℕ, Bool, true, false, List, [], ◌∷◌, not, ◌&&◌, ◌||◌, ap, refl}
+use Rattle.std.specs.Prelude.{codes, T}
+use Rattle.std.proofs.Math.Facts.{yes_eqb}
 use Rattle.mspec.specs.Node.{Text}
-use Rattle.mspec.specs.Number.{round, round_size, nearest, rounding_unit, digits_before}
-use Rattle.mspec.specs.NumberText.{numeric_value, literal_size, size_text}
-use Rattle.mspec.specs.NodeOrder.{canonical_value}
-use Rattle.mspec.specs.LockConflict.{LockName, Locks, by_terminal, count_of, count_limit, overlaps, conflicts, times, raised}
-use Rattle.mspec.proofs.LockFacts.{counts_go_up}
+use Rattle.mspec.specs.LockConflict.{LockName, held, is_within, is_conflict}
 
--- names of account A
+-- names of an account
 abbrev global : Text → List Text → LockName
-global name xs = record { global = true; node = record { account = codes "A"; name = name; subscripts = xs } }
+global account subscripts = record { global = true; node = record { account = account; name = codes "J"; subscripts = subscripts } }
 
-abbrev plain : Text → List Text → LockName
-plain name xs = record { global = false; node = record { account = codes "A"; name = name; subscripts = xs } }
+abbrev alice : List Text → LockName
+alice = global (codes "ALICE")
 
--- ^J shuts out ^J(1), and ^J(1) shuts out ^J and ^J(1,5), but not ^J(2)
-above_and_below : (overlaps (global (codes "J") []) (global (codes "J") (codes "1" ∷ [])) ≡ true)
-    × (overlaps (global (codes "J") (codes "1" ∷ [])) (global (codes "J") []) ≡ true)
-    × (overlaps (global (codes "J") (codes "1" ∷ [])) (global (codes "J") (codes "1" ∷ codes "5" ∷ [])) ≡ true)
-    × (overlaps (global (codes "J") (codes "1" ∷ [])) (global (codes "J") (codes "2" ∷ [])) ≡ false)
-above_and_below = (refl, refl, refl, refl)
+abbrev local : List Text → LockName
+local subscripts = record { global = false; node = record { account = codes "ALICE"; name = codes "J"; subscripts = subscripts } }
 
--- J and ^J are apart, and so are names of two accounts and names of which one begins with the other
-apart : (overlaps (global (codes "J") []) (plain (codes "J") []) ≡ false)
-    × (overlaps (global (codes "J") []) (record { global = true; node = record { account = codes "B"; name = codes "J"; subscripts = [] } }) ≡ false)
-    × (overlaps (global (codes "J") []) (global (codes "JK") []) ≡ false)
-apart = (refl, refl, refl)
+-- ---- locks between terminals
 
--- a terminal is not shut out by what it holds itself
-own_names : (conflicts 1 (global (codes "J") []) (by_terminal 1 (global (codes "J") [])) ≡ false) × (conflicts 2 (global (codes "J") []) (by_terminal 1 (global (codes "J") [])) ≡ true)
-own_names = (refl, refl)
+ancestor_conflicts : is_conflict (held 2 (alice [])) (held 1 (alice (codes "1" ∷ []))) ≡ true
+ancestor_conflicts = refl
 
--- a name that stands twice in a list counts twice
-twice : (locks : Locks) (n : LockName) → times n (n ∷ n ∷ []) ≡ 2 → count_of (raised 1 (n ∷ n ∷ []) locks) (by_terminal 1 n) ≡ count_of locks (by_terminal 1 n) + 2
-twice locks n e = counts_go_up locks 1 (n ∷ n ∷ []) n ∙ ap (λ k. count_of locks (by_terminal 1 n) + k) e
+descendant_conflicts : is_conflict (held 2 (alice (codes "1" ∷ codes "5" ∷ []))) (held 1 (alice (codes "1" ∷ []))) ≡ true
+descendant_conflicts = refl
 
-stands_twice : times (global (codes "J") (codes "X" ∷ [])) (global (codes "J") (codes "X" ∷ []) ∷ global (codes "J") [] ∷ global (codes "J") (codes "X" ∷ []) ∷ []) ≡ 2
-unfolding canonical_value numeric_value literal_size round round_size nearest rounding_unit digits_before size_text digits
-stands_twice = refl
+same_name_conflicts : is_conflict (held 2 (alice (codes "1" ∷ []))) (held 1 (alice (codes "1" ∷ []))) ≡ true
+same_name_conflicts = refl
 
--- a million is the most
-most : (nat_lt count_limit (999999 + 1) ≡ false) × (nat_lt count_limit (1000000 + 1) ≡ true)
-most = (refl, refl)
+siblings_do_not : is_conflict (held 2 (alice (codes "1" ∷ []))) (held 1 (alice (codes "2" ∷ []))) ≡ false
+siblings_do_not = refl
+
+longer_text_does_not : is_conflict (held 2 (alice (codes "1" ∷ []))) (held 1 (alice (codes "15" ∷ []))) ≡ false
+longer_text_does_not = refl
+
+own_never : (t : ℕ) (a b : LockName) → is_conflict (held t a) (held t b) ≡ false
+own_never t a b = ap (λ same. not same && (is_within a b || is_within b a)) (T_true _ (yes_eqb {a = t} {b = t} refl))
+  where
+    T_true : (b : Bool) → T b → b ≡ true
+    T_true true h = refl
+    T_true false h = absurd h
+
+accounts_never : is_conflict (held 2 (global (codes "BOB") [])) (held 1 (alice [])) ≡ false
+accounts_never = refl
+
+kinds_never : is_conflict (held 2 (local [])) (held 1 (alice [])) ≡ false
+kinds_never = refl

@@ -26,5 +26,3 @@ pub mod Flow
 pub mod LockConflict
 pub mod LockLaws
 pub mod Act
-pub mod Access
-pub mod Flow

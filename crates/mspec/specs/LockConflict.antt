@@ -1,91 +1,84 @@
--- Locks: what terminals hold, which names conflict, and what it does to take names, to give one back and to release all.
+-- Locks: how often each terminal holds a name, which names exclude each other, and what taking and giving back does.
 --
--- Restates "LOCK" of ISO/IEC 11756:1999: a name that one session holds shuts others out of it, of its ancestors and of its
--- descendants. Names with and without `^` are apart, and how often a name may be held is mserve's own.
-use Rattle.std.specs.Prelude.{ℕ, zero, suc, ◌+◌, ◌-◌, Bool, not, ◌&&◌, ◌||◌, nat_eq, nat_lt, cond, List, [], ◌∷◌, length, Option, Some, None, unwrap_or}
-use Rattle.std.specs.List.{list_any, filter}
-use Rattle.std.specs.declared.cmp.Ordering.{Ordering}
-use Rattle.std.specs.Ordering.{nat_cmp, bool_cmp, is_eq, eq_by_cmp, on, then_cmp}
+-- Restates what "LOCK" of ISO/IEC 11756:1999 says of names: a process that holds one excludes the others from it, from what
+-- stands below it and from what stands above it. That a take never waits, and the most counts of a name, are mserve's own.
+use Rattle.std.specs.Prelude.{◌≡◌, ℕ, ◌+◌, ◌-◌, Bool, true, not, ◌&&◌, ◌||◌, nat_eq, nat_lt, List, [], ◌∷◌, Option, Some, None, unwrap_or, if◌then◌else◌}
 use Rattle.std.specs.FinMap.{FinMap, get, insert, remove, keys, retain_keys}
-use Rattle.mspec.specs.Node.{Node}
-use Rattle.mspec.specs.Number.{significant_digits}
-use Rattle.mspec.specs.NodeOrder.{node_cmp}
+use Rattle.std.specs.List.{list_any}
+use Rattle.std.specs.Ordering.{nat_cmp, bool_cmp, on, then_cmp}
+use Rattle.std.specs.declared.cmp.Ordering.{Ordering}
+use mathlib.Core.Bool.{beq}
 use Rattle.mspec.specs.Globals.{is_node_within}
+use Rattle.mspec.specs.Node.{Node}
+use Rattle.mspec.specs.NodeOrder.{node_cmp}
+use Rattle.mspec.specs.Number.{significant_digits}
 
--- a name that may be locked, with `^` or without
+-- the name of a lock: with or without `^`, and its account, name and subscripts as those of a node
 pub record LockName : Type 0 where
   pub global : Bool
   pub node : Node
 
-abbrev pub name_cmp : LockName → LockName → Ordering
-name_cmp = then_cmp (on (λ n. n.global) bool_cmp) (on (λ n. n.node) (node_cmp significant_digits))
-
--- a name as a terminal holds it
+-- a name that a terminal holds, or asks for
 pub record Held : Type 0 where
   pub terminal : ℕ
   pub name : LockName
 
-abbrev pub held_cmp : Held → Held → Ordering
-held_cmp = then_cmp (on (λ h. h.terminal) nat_cmp) (on (λ h. h.name) name_cmp)
+-- by name, and then by terminal
+abbrev pub lock_name_cmp : LockName → LockName → Ordering
+lock_name_cmp = then_cmp (on (λ n. n.global) bool_cmp) (on (λ n. n.node) (node_cmp significant_digits))
 
--- how often each is held: once at least
+abbrev pub held_cmp : Held → Held → Ordering
+held_cmp = then_cmp (on (λ h. h.name) lock_name_cmp) (on (λ h. h.terminal) nat_cmp)
+
+-- how often each is held: a count from 1 to 1,000,000
 abbrev pub Locks : Type 0
 Locks = FinMap held_cmp ℕ
 
--- the most that a terminal may hold one name
-abbrev pub count_limit : ℕ
-count_limit = 1000000
+abbrev pub most_counts : ℕ
+most_counts = 1000000
 
-abbrev pub by_terminal : ℕ → LockName → Held
-by_terminal terminal n = record { terminal = terminal; name = n }
+-- b is a, or stands below it: it has the same kind, account and name, and the subscripts of a begin its own
+abbrev pub is_within : LockName → LockName → Bool
+is_within a b = beq a.global b.global && is_node_within a.node b.node
 
-abbrev pub count_of : Locks → Held → ℕ
-count_of locks h = unwrap_or (get locks h) 0
+-- names of different terminals that exclude each other
+abbrev pub is_conflict : Held → Held → Bool
+is_conflict a b = not (nat_eq a.terminal b.terminal) && (is_within a.name b.name || is_within b.name a.name)
 
--- ---- conflict
+abbrev pub Conflict : Held → Held → Type 0
+Conflict a b = is_conflict a b ≡ true
 
--- both with `^` or both without, and one is the other or stands above it
-abbrev pub overlaps : LockName → LockName → Bool
-overlaps m n = is_eq (bool_cmp m.global n.global) && (is_node_within m.node n.node || is_node_within n.node m.node)
+abbrev pub held : ℕ → LockName → Held
+held t n = record { terminal = t; name = n }
 
--- a name that a terminal asks for, and one that another holds
-abbrev pub conflicts : ℕ → LockName → Held → Bool
-conflicts terminal n h = not (nat_eq h.terminal terminal) && overlaps n h.name
-
-abbrev pub is_shut_out : Locks → ℕ → LockName → Bool
-is_shut_out locks terminal n = list_any (conflicts terminal n) (keys locks)
+abbrev pub count : Locks → Held → ℕ
+count locks h = unwrap_or (get locks h) 0
 
 -- ---- taking
 
--- how often a name stands in a list
-abbrev pub times : LockName → List LockName → ℕ
-times n names = length (filter (eq_by_cmp name_cmp n) names)
+abbrev pub has_conflict : Locks → Held → Bool
+has_conflict locks h = list_any (is_conflict h) (keys locks)
 
-abbrev pub is_over : Locks → ℕ → List LockName → LockName → Bool
-is_over locks terminal names n = nat_lt count_limit (count_of locks (by_terminal terminal n) + times n names)
+abbrev pub one_more : Locks → Held → Locks
+one_more locks h = insert locks h (count locks h + 1)
 
--- each count goes up as often as its name stands in the list
-abbrev pub raised : ℕ → List LockName → Locks → Locks
-raised terminal [] locks = locks
-raised terminal (n ∷ names) locks = raised terminal names (insert locks (by_terminal terminal n) (count_of locks (by_terminal terminal n) + 1))
+-- one more count for each name, as often as it stands there; none where a count would pass the most
+abbrev pub counted : Locks → ℕ → List LockName → Option Locks
+counted locks t [] = Some locks
+counted locks t (n ∷ names) =
+    if nat_lt (count locks (held t n)) most_counts then counted (one_more locks (held t n)) t names else None
 
-abbrev pub unless_refused : Bool → Locks → Option Locks
-unless_refused refused locks = cond refused None (Some locks)
-
--- a list of names, whole or not at all: it is refused where one conflicts, or where a count would pass the limit
+-- all names are taken, or none
 abbrev pub taken : Locks → ℕ → List LockName → Option Locks
-taken locks terminal names = unless_refused (list_any (λ n. is_shut_out locks terminal n || is_over locks terminal names n) names) (raised terminal names locks)
+taken locks t names = if list_any (λ n. has_conflict locks (held t n)) names then None else counted locks t names
 
 -- ---- giving back
 
-abbrev pub with_count : Locks → Held → ℕ → Locks
-with_count locks h zero = remove locks h
-with_count locks h (suc n) = insert locks h (suc n)
-
--- one count of a name; nothing where it is not held
+-- one count less, and nothing where the name is not held
 abbrev pub given_back : Locks → ℕ → LockName → Locks
-given_back locks terminal n = with_count locks (by_terminal terminal n) (count_of locks (by_terminal terminal n) - 1)
+given_back locks t n =
+    if nat_lt 1 (count locks (held t n)) then insert locks (held t n) (count locks (held t n) - 1) else remove locks (held t n)
 
--- what other terminals hold
+-- all that a terminal holds
 abbrev pub released : Locks → ℕ → Locks
-released locks terminal = retain_keys locks (λ h. not (nat_eq h.terminal terminal))
+released locks t = retain_keys locks (λ h. not (nat_eq h.terminal t))

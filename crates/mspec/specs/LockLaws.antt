@@ -1,12 +1,18 @@
 -- The laws of locks, as statements. The functions of src/ named after them carry them.
-use Rattle.std.specs.Prelude.{◌≡◌, ℕ, ◌+◌, List, Some}
-use Rattle.mspec.specs.LockConflict.{LockName, Locks, by_terminal, count_of, times, raised, taken, given_back, released}
+use Rattle.std.specs.Prelude.{◌≡◌, ℕ, ◌+◌, List, length, Some}
+use Rattle.std.specs.List.{filter}
+use Rattle.std.specs.Ordering.{eq_by_cmp}
+use Rattle.mspec.specs.LockConflict.{LockName, lock_name_cmp, Locks, held, count, taken, given_back, released}
 
--- each count goes up by the number of times that its name stands in the list
+-- how often a name stands in a list
+abbrev pub times : LockName → List LockName → ℕ
+times n names = length (filter (eq_by_cmp lock_name_cmp n) names)
+
+-- where a list is taken, each count goes up by the number of times that its name stands there
 abbrev pub CountsGoUp : Type 0
 CountsGoUp =
-    (locks : Locks) (terminal : ℕ) (names : List LockName) (n : LockName) →
-    count_of (raised terminal names locks) (by_terminal terminal n) ≡ count_of locks (by_terminal terminal n) + times n names
+    (locks after : Locks) (terminal : ℕ) (names : List LockName) (n : LockName) → taken locks terminal names ≡ Some after →
+    count after (held terminal n) ≡ count locks (held terminal n) + times n names
 
 -- what is done for one terminal leaves what others hold
 pub record OthersKeepLocks (locks : Locks) (terminal : ℕ) : Type 0 where

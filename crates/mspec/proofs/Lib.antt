@@ -16,6 +16,8 @@ pub mod PatternExamples
 pub mod FirstPlaces
 pub mod KeyExamples
 pub mod NodeOrders
+pub mod LockOrders
+pub mod LockExamples
 pub mod KeyOrders
 pub mod KeyRanges
 pub mod KeyReadings

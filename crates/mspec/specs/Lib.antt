@@ -21,4 +21,5 @@ pub mod Trees
 pub mod Scopes
 pub mod ScopeLaws
 pub mod Globals
+pub mod LockConflict
 pub mod Act

@@ -1,0 +1,4 @@
+pub mod Names
+pub mod Views
+pub mod Steps
+pub mod Conflicts

@@ -2,3 +2,4 @@ pub mod Names
 pub mod Views
 pub mod Steps
 pub mod Conflicts
+pub mod Above

@@ -47,7 +47,7 @@ cond_twice : (b : Bool) (x y z : Option ℕ) → cond b x (cond b y z) ≡ cond 
 cond_twice true x y z = refl
 cond_twice false x y z = refl
 
-tied_itself : (h : Held) → eq_by_cmp held_cmp h h ≡ true
+pub tied_itself : (h : Held) → eq_by_cmp held_cmp h h ≡ true
 tied_itself h = (eq_by_cmp_equiv held_cmp_total).refl h
 
 -- one count more, given back, leaves what was

@@ -3,6 +3,7 @@
 //! What taking and giving back does is `LockConflict` of `mspec`; contracts see `Locks` as its locks.
 #![tactic(auto)]
 
+mod conflict;
 mod locks;
 mod name;
 

@@ -1,10 +1,10 @@
 // The locks of the terminals.
 ghost use Rattle.std.specs.Prelude.{◌≡◌, true, false, not, nat_eq, nat_lt, All, IfOk, OnErr, Some, None, if◌then◌else◌};
 ghost use Rattle.std.specs.FinMap.{empty};
-ghost use Rattle.std.specs.List.{list_any};
 ghost use Rattle.mlock.specs.Holdings.{AreCounts, IsFree};
-ghost use Rattle.mspec.specs.LockConflict.{held as lock, count, most_counts, one_more, is_conflict, has_conflict, taken, counted, given_back, released};
+ghost use Rattle.mspec.specs.LockConflict.{held as lock, count, most_counts, one_more, has_conflict, taken, counted, given_back, released};
 
+use crate::conflict::conflicts;
 use crate::name::LockName;
 use std::alloc::{AllocError, Global};
 use std::collections::BTreeMap;
@@ -23,6 +23,7 @@ pub(crate) struct Holding {
 /// The locks of the terminals: how often each holds a name. Contracts see it as the locks of the definitions.
 #[derive(Drop)]
 pub struct Locks {
+    alloc: Global,
     // a name has one holder, since it conflicts with itself
     holdings: BTreeMap<LockName, Holding>,
 }
@@ -49,6 +50,7 @@ impl Locks {
         ensures { result ≡ empty }
     {
         Locks {
+            alloc,
             holdings: BTreeMap::new(alloc),
         }
     }
@@ -92,7 +94,7 @@ impl Locks {
     fn has_conflict(&self, terminal: u32, name: &LockName) -> Result<bool, AllocError>
         ensures { IfOk result (λ conflict. conflict ≡ has_conflict self.now (lock terminal name.now)) }
     {
-        Ok(conflicts(&self.holdings, terminal, name))
+        conflicts(self.alloc, &self.holdings, terminal, name)
     }
 
     // One count more of each name, of which no other terminal holds one; false where a count would pass the most.
@@ -171,19 +173,4 @@ impl Locks {
             { holding.terminal != terminal },
         );
     }
-}
-
-// Whether another terminal holds a name that conflicts with this one.
-fn conflicts(
-    holdings: &BTreeMap<LockName, Holding>,
-    terminal: u32,
-    name: &LockName,
-) -> bool
-    ensures { result ≡ list_any (λ e. is_conflict (lock terminal name.now) (lock e.1.terminal e.0)) holdings.now.entries }
-{
-    holdings.iter().any(
-        |held: (&LockName, &Holding)| -> bool
-            ensures { result ≡ is_conflict (lock terminal name.entry.now) (lock held.entry.1.now.terminal held.entry.0.now) }
-        { terminal != held.1.terminal && (held.0.is_within(name) || name.is_within(held.0)) },
-    )
 }

@@ -15,7 +15,7 @@ lock_name_cmp_total = then_total (on_total (λ n. n.global) bool_cmp_total) (on_
 pub held_cmp_total : IsTotalOrder held_cmp
 held_cmp_total = then_total (on_total (λ h. h.name) lock_name_cmp_total) (on_total (λ h. h.terminal) nat_cmp_total)
 
-bool_cmp_exact : IsAntisymmetric bool_cmp
+pub bool_cmp_exact : IsAntisymmetric bool_cmp
 bool_cmp_exact true true e = refl
 bool_cmp_exact true false e = absurd (cc)
 bool_cmp_exact false true e = absurd (cc)

@@ -1,5 +1,5 @@
 -- Names above a name, and the conflicts with those that are held.
-use Rattle.std.proofs.Common.{◌≡◌, ◌<◌, ◌+◌, ℕ, Bool, true, false, cond, not, nat_eq, ◌&&◌, ◌||◌, List, [], ◌∷◌, ◌++◌, length, take, drop, map, Option, Some, None, All, ◌⊎◌, inl, inr, refl, sym, ap, ◌∙◌, subst, arith, append-nil, length-append}
+use Rattle.std.proofs.Common.{◌≡◌, ◌<◌, ◌+◌, ℕ, Bool, true, false, cond, not, nat_eq, ◌&&◌, ◌||◌, List, [], ◌∷◌, ◌++◌, length, take, drop, map, Option, Some, None, ◌⊎◌, inl, inr, refl, sym, ap, ◌∙◌, arith, append-nil, length-append}
 use Rattle.std.specs.Prelude.{is_some}
 use Rattle.std.specs.BTreeMap as tree
 use Rattle.std.specs.BTreeMap.{BTreeMap, IsOrdered}
@@ -10,7 +10,7 @@ use Rattle.std.proofs.lemmas.Bool.{cases_eq}
 use Rattle.std.proofs.Math.Seq.{take-append_seam}
 use Rattle.std.proofs.lemmas.List.{take-append-drop}
 use Rattle.mspec.specs.KeyBytes.{key_bytes, IsStored}
-use Rattle.mspec.specs.LockConflict.{LockName, Held, held, Locks, lock_name_cmp, held_cmp, is_within, is_conflict, has_conflict}
+use Rattle.mspec.specs.LockConflict.{LockName, Held, held, lock_name_cmp, held_cmp, is_within, is_conflict, has_conflict}
 use Rattle.mspec.specs.Node.{Text, Node}
 use Rattle.mspec.specs.Number.{significant_digits}
 use Rattle.mspec.specs.Globals.{is_node_within}
@@ -23,7 +23,7 @@ use Rattle.mlock.specs.Above.{name_above, is_other}
 use Rattle.mlock.proofs.Names.{of_within, within_of, both_true}
 use Rattle.mlock.proofs.Views.{got, own_is, no}
 use Rattle.mlock.proofs.Steps.{same_lock, tied_itself}
-use Rattle.mlock.proofs.Conflicts.{parts, beq_same, same_beq, both, within_itself, any_lock, entries_are, below_other}
+use Rattle.mlock.proofs.Conflicts.{parts, beq_same, same_beq, both, any_lock, entries_are, below_other}
 
 -- ---- the name that is looked up
 

@@ -2,7 +2,7 @@
 use Rattle.std.proofs.Common.{◌≡◌, Bool, true, false, cond, not, nat_eq, ◌&&◌, ◌||◌, List, [], ◌∷◌, map, All, ℕ, Option, Some, None, ◌++◌, inl, inr, append-nil, refl, sym, ap, ◌∙◌, subst}
 use Rattle.std.specs.Prelude.{T, is_some}
 use Rattle.std.specs.BTreeMap.{BTreeMap, IsOrdered}
-use Rattle.std.specs.FinMap.{IsAntisymmetric, nat_cmp-IsAntisymmetric, slice_cmp-IsAntisymmetric, get, entries, keys, contains_key-keys, from_entries, from_sorted, same_map, get-from_entries, get-from_sorted, entries-from_sorted}
+use Rattle.std.specs.FinMap.{IsAntisymmetric, nat_cmp-IsAntisymmetric, slice_cmp-IsAntisymmetric, get, entries, keys, contains_key-keys, from_sorted, same_map, get-from_entries, get-from_sorted, entries-from_sorted}
 use Rattle.std.specs.FinMap.Entries.{is_sorted, below_all}
 use Rattle.std.specs.List.{list_any, find}
 use Rattle.std.specs.BTreeMap.Range.{entries_between}
@@ -28,7 +28,7 @@ use Rattle.mspec.specs.Number.{significant_digits}
 use Rattle.mspec.proofs.KeyRanges.{within}
 use Rattle.mspec.proofs.NodeOrders.{text_cmp_total, text_cmp_exact}
 use Rattle.mspec.proofs.LockOrders.{held_cmp_total, held_cmp_exact, bool_cmp_exact}
-use Rattle.mlock.specs.Above.{name_above, is_other, is_end, is_below}
+use Rattle.mlock.specs.Above.{is_end, is_below}
 use Rattle.mlock.specs.declared.locks.Holding.{Holding}
 use Rattle.mlock.specs.Holdings.{lock_of, locks_of, IsFree}
 use Rattle.mlock.proofs.Names.{of_within, within_of, both_true}

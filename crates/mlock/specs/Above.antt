@@ -1,7 +1,6 @@
 -- The names above a name and below it, and who holds them.
-use Rattle.std.specs.Prelude.{ℕ, Bool, false, not, ◌||◌, nat_eq, take, List, Option, Some, None}
+use Rattle.std.specs.Prelude.{ℕ, Bool, false, not, ◌||◌, nat_eq, take, Option, Some, None}
 use Rattle.mspec.specs.LockConflict.{LockName, is_within}
-use Rattle.mspec.specs.Node.{Text, Node}
 use Rattle.mlock.specs.declared.locks.Holding.{Holding}
 
 -- the name with so many of its subscripts

@@ -1,9 +1,8 @@
 -- The locks that a map by names holds: each name has one holder.
-use Rattle.std.specs.Prelude.{◌≡◌, ℕ, Bool, List, map, Option, Some, None, nat_eq, if◌then◌else◌}
+use Rattle.std.specs.Prelude.{◌≡◌, ℕ, List, map, Option, Some, None, nat_eq, if◌then◌else◌}
 use Rattle.std.specs.BTreeMap.{BTreeMap}
 use Rattle.std.specs.FinMap.{from_entries, get}
 use base.Stored.{Coded, coded_ℕ, coded_bool, coded_list, coded×, coded_via}
-use Rattle.mspec.specs.Node.{Node}
 use Rattle.mspec.specs.LockConflict.{LockName, Held, held, Locks}
 use Rattle.mlock.specs.declared.locks.Holding.{Holding}
 

@@ -35,11 +35,7 @@ pub fn conflicts(
 }
 
 // Whether another terminal holds the name or one below it: all of these follow one another, from the name on.
-fn is_held_below(
-    holdings: &BTreeMap<LockName, Holding>,
-    terminal: u32,
-    name: &LockName,
-) -> bool
+fn is_held_below(holdings: &BTreeMap<LockName, Holding>, terminal: u32, name: &LockName) -> bool
     ensures ordered { IsOrdered lock_name_cmp holdings.now }
     ensures first { result ≡ is_below name.now (find (is_end terminal name.now) (entries_between lock_name_cmp (Included name.now) Unbounded holdings.now.entries)) }
 {

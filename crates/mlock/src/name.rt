@@ -86,6 +86,8 @@ impl Ord for LockName {
     ghost matches_eq = { λ a b. refl };
 
     fn cmp(&self, other: &LockName) -> Ordering {
-        self.global.cmp(&other.global).then(self.key.cmp(&other.key))
+        self.global
+            .cmp(&other.global)
+            .then(self.key.cmp(&other.key))
     }
 }

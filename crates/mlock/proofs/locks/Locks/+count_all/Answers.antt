@@ -1,4 +1,4 @@
-use Rattle.std.proofs.Common.{ap, sym, ◌∙◌, cond, refl, arith}
+use Rattle.std.proofs.Common.{ap, ◌∙◌, cond, arith}
 use Rattle.mspec.specs.LockConflict.{held, one_more}
 use Rattle.mlock.proofs.Steps.{free_first, free_rest, undone}
 use Rattle.mlock.proofs.locks.Locks.+count_all.Goals as goal
@@ -8,9 +8,10 @@ count_one-requires t c = free_first c.args.self.now c.args.terminal c.in-Some.fi
 
 pub count_all-requires : goal.count_all-requires
 count_all-requires t c =
-    let more = c.in_ok-count_one.ensures.counted ∙ ap (λ b. cond b (one_more c.args.self.now (held c.args.terminal c.in-Some.first.now)) c.args.self.now) c.if-not-branch.false in
-    (omega (arith, c.decreases, c.in-Some.ensures.cases.1),
-    free_rest c.args.self.now c.count_one.new.self c.args.terminal c.in-Some.first.now c.args.names.now c.in-Some.rest.now c.in-Some.ensures.cases.0 c.requires more)
+    let more = c.in_ok-count_one.ensures.counted ∙ ap (λ b. cond b (one_more c.args.self.now (held c.args.terminal c.in-Some.first.now)) c.args.self.now) c.if-not-branch.false in (
+      omega (arith, c.decreases, c.in-Some.ensures.cases.1),
+      free_rest c.args.self.now c.count_one.new.self c.args.terminal c.in-Some.first.now c.args.names.now c.in-Some.rest.now c.in-Some.ensures.cases.0 c.requires more,
+    )
 
 pub returns-in-Ok-false-clause-refused : goal.returns-in-Ok-false-clause-refused
 returns-in-Ok-false-clause-refused t c refused =

@@ -48,9 +48,10 @@ invariant_of-self-in-Some c =
     let m = c.self.inside.holdings in
     let h = c.in-Some.holding.now in
     let is = own m c.args.self.now c.self.view_is c.self.invariant.0 c.args.name.now c.args.terminal c.requires h c.in-Some.ensures.value in
-    let more = raised m c.self.invariant.0 c.args.name.now c.args.terminal h c.in-Some.ensures.value c.get_mut.follows.lender c.get_mut.follows.holds is in
-    ((c.get_mut.follows.holds (record { terminal = h.terminal; count = h.count + 1 })).4,
-    subst AreCounts (sym more) (counts_one_more (locks_of m) (held c.args.terminal c.args.name.now) c.self.invariant.1))
+    let more = raised m c.self.invariant.0 c.args.name.now c.args.terminal h c.in-Some.ensures.value c.get_mut.follows.lender c.get_mut.follows.holds is in (
+      (c.get_mut.follows.holds (record { terminal = h.terminal; count = h.count + 1 })).4,
+      subst AreCounts (sym more) (counts_one_more (locks_of m) (held c.args.terminal c.args.name.now) c.self.invariant.1),
+    )
 
 pub returns-else-holding-ge-MOST_COUNTS-clause-room :
     goal.returns-else-holding-ge-MOST_COUNTS-clause-room

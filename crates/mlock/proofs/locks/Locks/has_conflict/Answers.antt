@@ -1,4 +1,4 @@
-use Rattle.std.proofs.Common.{◌≡◌, ap, subst}
+use Rattle.std.proofs.Common.{◌≡◌, subst}
 use Rattle.std.specs.Result.{IfOk}
 use Rattle.mspec.specs.LockConflict.{held, has_conflict}
 use Rattle.mlock.proofs.locks.Locks.has_conflict.Goals as goal

@@ -1,4 +1,4 @@
-use Rattle.std.proofs.Common.{nat_eq, true, ◌&&◌, ap, sym, ◌∙◌, ◌≡◌}
+use Rattle.std.proofs.Common.{nat_eq, ◌&&◌, ap, sym, ◌∙◌}
 use Rattle.std.specs.List.{starts_with}
 use Rattle.mspec.specs.Globals.{is_node_within}
 use Rattle.mspec.specs.KeyBytes.{key_bytes}

@@ -16,13 +16,13 @@ pub mod PatternExamples
 pub mod FirstPlaces
 pub mod KeyExamples
 pub mod NodeOrders
+pub mod LockOrders
+pub mod LockExamples
 pub mod KeyOrders
 pub mod KeyRanges
 pub mod KeyReadings
 pub mod ScopeValues
 pub mod ScopeFacts
 pub mod MapCuts
-pub mod LockOrders
 pub mod LockFacts
-pub mod LockExamples
 pub mod GlobalExamples

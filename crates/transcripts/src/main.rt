@@ -15,6 +15,7 @@ mod files;
 mod keys;
 mod lines;
 mod locals;
+mod locks;
 mod numbers;
 mod pieces;
 mod stores;
@@ -62,6 +63,7 @@ fn play(rt: &HostRuntime, kind: &str, cases: &[&str], out: &mut Vec<u8>) -> anyh
         "== numbers" => numbers::numbers(alloc, cases, out),
         "== keys" => keys::keys(alloc, cases, out),
         "== locals" => locals::locals(alloc, cases, out),
+        "== locks" => locks::locks(alloc, cases, out),
         "== stores" => stores::stores(rt, cases, out),
         "== drawn" => drawn::drawn(rt, cases, out),
         "== database" => databases::database(alloc, cases, out),

@@ -1,0 +1,5 @@
+pub mod Names
+pub mod Views
+pub mod Steps
+pub mod Conflicts
+pub mod Above

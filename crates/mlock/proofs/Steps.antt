@@ -1,0 +1,200 @@
+-- What each way through a call does to the locks.
+use Rattle.std.proofs.Common.{◌≡◌, ◌+◌, ◌-◌, ◌<◌, ◌≤◌, ℕ, zero, suc, Bool, true, false, cond, List, ◌∷◌, Option, Some, None, All, ◌⊎◌, inl, inr, refl, sym, ap, ◌∙◌, subst, arith}
+use Rattle.std.specs.Prelude.{slice_index_or, unwrap_or, nat_lt, IsSome}
+use Rattle.std.specs.BTreeMap as tree
+use Rattle.std.specs.BTreeMap.{BTreeMap, IsOrdered, WritesThrough}
+use Rattle.std.specs.FinMap.{get, insert, remove, get-insert, get-remove, same_map}
+use Rattle.std.specs.Map.{set_value}
+use Rattle.std.specs.Ordering.{is_eq, eq_by_cmp}
+use Rattle.std.specs.Cmp.{Equal-is, eq_by_cmp_equiv}
+use Rattle.std.proofs.lemmas.Bool.{cases_eq}
+use Rattle.std.proofs.lemmas.Bool.Decides.{nat_tests}
+use Rattle.std.proofs.lemmas.List.Elements.{All-head, All-tail}
+use Rattle.std.proofs.lemmas.Map.Steps.{set_value_same}
+use Rattle.mspec.specs.LockConflict.{LockName, Held, held, Locks, lock_name_cmp, held_cmp, count, one_more, given_back}
+use Rattle.mspec.proofs.LockOrders.{held_cmp_total, held_cmp_exact}
+use Rattle.mlock.specs.declared.locks.Holding.{Holding}
+use Rattle.mlock.specs.Holdings.{locks_in, locks_of, own_count, IsFree, AreCounts}
+use Rattle.mlock.proofs.Views.{got, IsOwn, own_is, other_is, inserted, removed, counts_insert, counts_remove}
+
+-- ---- of the locks alone
+
+pub same_lock : (q h : Held) → eq_by_cmp held_cmp q h ≡ true → q ≡ h
+same_lock q h e = held_cmp_exact q h ((Equal-is (held_cmp q h)).0 e)
+
+-- what has at one lock what it had, and no other change, is unchanged
+restored : (l m : Locks) (h : Held) (o : Option ℕ) → get l h ≡ o → ((q : Held) → get m q ≡ cond (eq_by_cmp held_cmp q h) o (get l q)) → m ≡ l
+restored l m h o e is = same_map held_cmp_total held_cmp_exact m l (λ q. is q ∙ by_test q (eq_by_cmp held_cmp q h) (same_lock q h))
+  where
+    by_test : (q : Held) (b : Bool) → (b ≡ true → q ≡ h) → cond b o (get l q) ≡ get l q
+    by_test q true same = sym (ap (get l) (same refl) ∙ e)
+    by_test q false same = refl
+
+given_by : (l : Locks) (t : ℕ) (n : LockName) (o : Option ℕ) → get l (held t n) ≡ o → given_back l t n ≡ cond (nat_lt 1 (unwrap_or o 0)) (insert l (held t n) (unwrap_or o 0 - 1)) (remove l (held t n))
+given_by l t n o e = ap (λ c. cond (nat_lt 1 (unwrap_or c 0)) (insert l (held t n) (unwrap_or c 0 - 1)) (remove l (held t n))) e
+
+more_than_one : (c : ℕ) → 1 < c → nat_lt 1 c ≡ true
+more_than_one c h = grind (arith, nat_tests)
+
+at_most_one : (c : ℕ) → c ≤ 1 → nat_lt 1 c ≡ false
+at_most_one c h = grind (arith, nat_tests)
+
+-- what is not held is given back without a change
+pub give_none : (l : Locks) (t : ℕ) (n : LockName) → get l (held t n) ≡ None → l ≡ given_back l t n
+give_none l t n e = sym (given_by l t n None e ∙ restored l (remove l (held t n)) (held t n) None e (λ q. get-remove held_cmp_total l (held t n) q))
+
+cond_twice : (b : Bool) (x y z : Option ℕ) → cond b x (cond b y z) ≡ cond b x z
+cond_twice true x y z = refl
+cond_twice false x y z = refl
+
+pub tied_itself : (h : Held) → eq_by_cmp held_cmp h h ≡ true
+tied_itself h = (eq_by_cmp_equiv held_cmp_total).refl h
+
+-- one count more, given back, leaves what was
+pub back_again : (l : Locks) (t : ℕ) (n : LockName) → AreCounts l → given_back (one_more l (held t n)) t n ≡ l
+back_again l t n counts = by_count (get l (held t n)) refl
+  where
+    h : Held
+    h = held t n
+
+    after : (c : ℕ) → get (insert l (held t n) c) (held t n) ≡ Some c
+    after c = get-insert held_cmp_total l (held t n) c (held t n) ∙ ap (λ b. cond b (Some c) (get l (held t n))) (tied_itself (held t n))
+
+    by_count : (o : Option ℕ) → get l (held t n) ≡ o → given_back (one_more l (held t n)) t n ≡ l
+    by_count None e =
+        ap (λ c. given_back (insert l (held t n) (unwrap_or c 0 + 1)) t n) e
+        ∙ given_by (insert l (held t n) 1) t n (Some 1) (after 1)
+        ∙ restored l (remove (insert l (held t n) 1) (held t n)) (held t n) None e (λ q.
+        get-remove held_cmp_total (insert l (held t n) 1) (held t n) q
+        ∙ ap (cond (eq_by_cmp held_cmp q (held t n)) None) (get-insert held_cmp_total l (held t n) 1 q)
+        ∙ cond_twice (eq_by_cmp held_cmp q (held t n)) None (Some 1) (get l q))
+    by_count (Some zero) e = absurd (counts (held t n) e)
+    by_count (Some (suc k)) e =
+        let c : ℕ = suc k in
+        let less : c + 1 - 1 ≡ c = omega arith in
+        ap (λ o. given_back (insert l (held t n) (unwrap_or o 0 + 1)) t n) e
+        ∙ given_by (insert l (held t n) (c + 1)) t n (Some (c + 1)) (after (c + 1))
+        ∙ ap (λ b. cond b (insert (insert l (held t n) (c + 1)) (held t n) (c + 1 - 1)) (remove (insert l (held t n) (c + 1)) (held t n))) (more_than_one (c + 1) (omega arith))
+        ∙ restored l (insert (insert l (held t n) (c + 1)) (held t n) (c + 1 - 1)) (held t n) (Some c) e (λ q.
+        get-insert held_cmp_total (insert l (held t n) (c + 1)) (held t n) (c + 1 - 1) q
+        ∙ ap (cond (eq_by_cmp held_cmp q (held t n)) (Some (c + 1 - 1))) (get-insert held_cmp_total l (held t n) (c + 1) q)
+        ∙ cond_twice (eq_by_cmp held_cmp q (held t n)) (Some (c + 1 - 1)) (Some (c + 1)) (get l q)
+        ∙ ap (λ d. cond (eq_by_cmp held_cmp q (held t n)) (Some d) (get l q)) less)
+
+pub counts_given_back : (l : Locks) (t : ℕ) (n : LockName) → AreCounts l → AreCounts (given_back l t n)
+counts_given_back l t n counts = by_test (nat_lt 1 (count l (held t n))) refl
+  where
+    by_test : (b : Bool) → nat_lt 1 (count l (held t n)) ≡ b → AreCounts (cond b (insert l (held t n) (count l (held t n) - 1)) (remove l (held t n)))
+    by_test true e = counts_insert l (held t n) (count l (held t n) - 1) counts (grind (arith, nat_tests, e))
+    by_test false e = counts_remove l (held t n) counts
+
+pub counts_one_more : (l : Locks) (h : Held) → AreCounts l → AreCounts (one_more l h)
+counts_one_more l h counts = counts_insert l h (count l h + 1) counts (omega arith)
+
+-- a name that no other terminal holds is none still, after a count more
+pub free_after : (l : Locks) (t : ℕ) (k n : LockName) → IsFree l t n → IsFree (one_more l (held t k)) t n
+free_after l t k n free u other =
+    get-insert held_cmp_total l (held t k) (count l (held t k) + 1) (held u n)
+    ∙ by_test (eq_by_cmp held_cmp (held u n) (held t k)) (λ e. ap (λ h. h.terminal) (same_lock (held u n) (held t k) e))
+  where
+    by_test : (b : Bool) → (b ≡ true → u ≡ t) → cond b (Some (count l (held t k) + 1)) (get l (held u n)) ≡ None
+    by_test true same = absurd (other (same refl))
+    by_test false same = free u other
+
+-- a count more that is given back, with no change in between
+pub undone : (l l1 l2 l3 : Locks) (t : ℕ) (n : LockName) → AreCounts l → l1 ≡ one_more l (held t n) → l2 ≡ l1 → l3 ≡ given_back l2 t n → l3 ≡ l
+undone l l1 l2 l3 t n counts more same back = back ∙ ap (λ k. given_back k t n) (same ∙ more) ∙ back_again l t n counts
+
+-- names that no other terminal holds
+pub free_rest : (l l1 : Locks) (t : ℕ) (n : LockName) (names rest : List LockName) → names ≡ n ∷ rest → All (IsFree l t) names → l1 ≡ one_more l (held t n) → All (IsFree l1 t) rest
+free_rest l l1 t n names rest e all more =
+    subst (λ k. All (IsFree k t) rest) (sym more)
+    (λ k d inside. free_after l t n (slice_index_or rest k d) (All-tail (IsFree l t) n rest (subst (All (IsFree l t)) e all) k d inside))
+
+pub free_first : (l : Locks) (t : ℕ) (n : LockName) (names rest : List LockName) → names ≡ n ∷ rest → All (IsFree l t) names → IsFree l t n
+free_first l t n names rest e all = All-head (IsFree l t) n rest (subst (All (IsFree l t)) e all)
+
+-- ---- by the holdings
+
+module _ (m : BTreeMap LockName Holding) (ordered : IsOrdered lock_name_cmp m) (name : LockName) (t : ℕ) where
+  pub get_own : (h : Holding) → Some h ≡ tree.get lock_name_cmp m name → h.terminal ≡ t → get (locks_of m) (held t name) ≡ Some h.count
+  get_own h e is = got m ordered (held t name) ∙ ap (own_count t) (sym e) ∙ own_is h t is
+
+  pub get_other : (h : Holding) → Some h ≡ tree.get lock_name_cmp m name → (h.terminal ≡ t → ⊥) → get (locks_of m) (held t name) ≡ None
+  get_other h e is = got m ordered (held t name) ∙ ap (own_count t) (sym e) ∙ other_is h t is
+
+  pub get_none : None ≡ tree.get lock_name_cmp m name → get (locks_of m) (held t name) ≡ None
+  get_none e = got m ordered (held t name) ∙ ap (own_count t) (sym e)
+
+  own_there : (h : Holding) → Some h ≡ tree.get lock_name_cmp m name → h.terminal ≡ t → IsOwn t (tree.get lock_name_cmp m name)
+  own_there h e is = subst (IsOwn t) e is
+
+  pub kept : (n : BTreeMap LockName Holding) (h : Holding) → n.entries ≡ set_value (λ k. is_eq (lock_name_cmp name k)) m.entries h → Some h ≡ tree.get lock_name_cmp m name → locks_of n ≡ locks_of m
+  kept n h e found = ap locks_in (e ∙ set_value_same (λ k. is_eq (lock_name_cmp name k)) m.entries h (sym found))
+
+  pub give_more : (n : BTreeMap LockName Holding) (h w : Holding) → Some h ≡ tree.get lock_name_cmp m name → h.terminal ≡ t → w.terminal ≡ t → w.count ≡ h.count - 1 → 1 < h.count
+      → IsOrdered lock_name_cmp n → tree.Updates lock_name_cmp m n name (Some w) → locks_of n ≡ given_back (locks_of m) t name
+  give_more n h w e is own one more ordered' u =
+      inserted m n name t (Some w) ordered ordered' (own_there h e is) own u w refl
+      ∙ ap (insert (locks_of m) (held t name)) one
+      ∙ sym (given_by (locks_of m) t name (Some h.count) (get_own h e is)
+      ∙ ap (λ b. cond b (insert (locks_of m) (held t name) (h.count - 1)) (remove (locks_of m) (held t name))) (more_than_one h.count more))
+
+  pub give_last : (n : BTreeMap LockName Holding) (h : Holding) → Some h ≡ tree.get lock_name_cmp m name → h.terminal ≡ t → h.count ≤ 1
+      → IsOrdered lock_name_cmp n → tree.Updates lock_name_cmp m n name None → locks_of n ≡ given_back (locks_of m) t name
+  give_last n h e is last ordered' u =
+      removed m n name t None ordered ordered' (own_there h e is) tt u refl
+      ∙ sym (given_by (locks_of m) t name (Some h.count) (get_own h e is)
+      ∙ ap (λ b. cond b (insert (locks_of m) (held t name) (h.count - 1)) (remove (locks_of m) (held t name))) (at_most_one h.count last))
+
+  -- a name that no other terminal holds is this terminal's
+  pub own_of_free : IsFree (locks_of m) t name → (h : Holding) → Some h ≡ tree.get lock_name_cmp m name → h.terminal ≡ t
+  own_of_free free h e = by_test (cases_eq h.terminal t)
+    where
+      by_test : (h.terminal ≡ t) ⊎ (h.terminal ≡ t → ⊥) → h.terminal ≡ t
+      by_test (inl same) = same
+      by_test (inr other) =
+          let there : get (locks_of m) (held h.terminal name) ≡ Some h.count = got m ordered (held h.terminal name) ∙ ap (own_count h.terminal) (sym e) ∙ own_is h h.terminal refl in
+          let none : None ≡ Some h.count = sym (free h.terminal other) ∙ there in
+          absurd (cc)
+
+  pub count_own : (h : Holding) → Some h ≡ tree.get lock_name_cmp m name → h.terminal ≡ t → count (locks_of m) (held t name) ≡ h.count
+  count_own h e is = ap (λ o. unwrap_or o 0) (get_own h e is)
+
+  pub count_none : None ≡ tree.get lock_name_cmp m name → count (locks_of m) (held t name) ≡ 0
+  count_none e = ap (λ o. unwrap_or o 0) (get_none e)
+
+  pub more_own : (n : BTreeMap LockName Holding) (h w : Holding) → Some h ≡ tree.get lock_name_cmp m name → h.terminal ≡ t → w.terminal ≡ t → w.count ≡ h.count + 1
+      → IsOrdered lock_name_cmp n → tree.Updates lock_name_cmp m n name (Some w) → locks_of n ≡ one_more (locks_of m) (held t name)
+  more_own n h w e is own one ordered' u =
+      inserted m n name t (Some w) ordered ordered' (own_there h e is) own u w refl
+      ∙ ap (insert (locks_of m) (held t name)) (one ∙ ap (λ c. c + 1) (sym (count_own h e is)))
+
+  pub more_new : (n : BTreeMap LockName Holding) (w : Holding) → None ≡ tree.get lock_name_cmp m name → w.terminal ≡ t → w.count ≡ 1
+      → IsOrdered lock_name_cmp n → tree.Updates lock_name_cmp m n name (Some w) → locks_of n ≡ one_more (locks_of m) (held t name)
+  more_new n w e own one ordered' u =
+      inserted m n name t (Some w) ordered ordered' (subst (IsOwn t) e tt) own u w refl
+      ∙ ap (insert (locks_of m) (held t name)) (one ∙ ap (λ o. unwrap_or o 0 + 1) (sym (get_none e)))
+
+-- ---- through what `get_mut` lends
+
+module _ (m : BTreeMap LockName Holding) (ordered : IsOrdered lock_name_cmp m) (name : LockName) (t : ℕ) (h : Holding) (found : Some h ≡ tree.get lock_name_cmp m name)
+    (lender : Holding → BTreeMap LockName Holding) (holds : (w : Holding) → WritesThrough lock_name_cmp (lock_name_cmp name) m w (lender w)) where
+  updates : (w : Holding) → tree.Updates lock_name_cmp m (lender w) name (Some w)
+  updates w = (holds w).3 (subst IsSome found refl)
+
+  pub left : locks_of (lender h) ≡ locks_of m
+  left = kept m ordered name t (lender h) h (holds h).0 found
+
+  pub lessened : h.terminal ≡ t → 1 < h.count → locks_of (lender (record { terminal = h.terminal; count = h.count - 1 })) ≡ given_back (locks_of m) t name
+  lessened is more =
+      let w : Holding = record { terminal = h.terminal; count = h.count - 1 } in
+      give_more m ordered name t (lender w) h w found is is refl more (holds w).4 (updates w)
+
+  pub gone : (n : BTreeMap LockName Holding) → h.terminal ≡ t → h.count ≤ 1 → IsOrdered lock_name_cmp n → tree.Updates lock_name_cmp (lender h) n name None → locks_of n ≡ given_back (locks_of m) t name
+  gone n is last ordered' u = give_last (lender h) (holds h).4 name t n h (sym (updates h).1) is last ordered' u ∙ ap (λ l. given_back l t name) left
+
+  pub raised : h.terminal ≡ t → locks_of (lender (record { terminal = h.terminal; count = h.count + 1 })) ≡ one_more (locks_of m) (held t name)
+  raised is =
+      let w : Holding = record { terminal = h.terminal; count = h.count + 1 } in
+      more_own m ordered name t (lender w) h w found is is refl (holds w).4 (updates w)

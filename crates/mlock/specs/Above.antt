@@ -1,0 +1,22 @@
+-- The names above a name and below it, and who holds them.
+use Rattle.std.specs.Prelude.{ℕ, Bool, false, not, ◌||◌, nat_eq, take, Option, Some, None}
+use Rattle.mspec.specs.LockConflict.{LockName, is_within}
+use Rattle.mlock.specs.declared.locks.Holding.{Holding}
+
+-- the name with so many of its subscripts
+abbrev pub name_above : ℕ → LockName → LockName
+name_above i n = record { global = n.global; node = record { account = n.node.account; name = n.node.name; subscripts = take i n.node.subscripts } }
+
+-- another terminal holds it
+abbrev pub is_other : ℕ → Option Holding → Bool
+is_other t None = false
+is_other t (Some h) = not (nat_eq t h.terminal)
+
+-- another terminal holds it, or it is not below the name
+abbrev pub is_end : ℕ → LockName → LockName × Holding → Bool
+is_end t n e = not (nat_eq t e.1.terminal) || not (is_within n e.0)
+
+-- there is one, and it is below the name
+abbrev pub is_below : LockName → Option (LockName × Holding) → Bool
+is_below n None = false
+is_below n (Some e) = is_within n e.0

@@ -1,0 +1,11 @@
+//! The locks of the terminals.
+//!
+//! What taking and giving back does is `LockConflict` of `mspec`; contracts see `Locks` as its locks.
+#![tactic(auto)]
+
+mod conflict;
+mod locks;
+mod name;
+
+pub use locks::Locks;
+pub use name::LockName;

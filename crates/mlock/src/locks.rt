@@ -1,0 +1,176 @@
+// The locks of the terminals.
+ghost use Rattle.std.specs.Prelude.{◌≡◌, true, false, not, nat_eq, nat_lt, All, IfOk, OnErr, Some, None, if◌then◌else◌};
+ghost use Rattle.std.specs.FinMap.{empty};
+ghost use Rattle.mlock.specs.Holdings.{AreCounts, IsFree};
+ghost use Rattle.mspec.specs.LockConflict.{held as lock, count, most_counts, one_more, has_conflict, taken, counted, given_back, released};
+
+use crate::conflict::conflicts;
+use crate::name::LockName;
+use std::alloc::{AllocError, Global};
+use std::collections::BTreeMap;
+use std::marker::Model;
+
+// The most counts of a name.
+const MOST_COUNTS: u32 = 1_000_000;
+
+// Who holds a name, and how often.
+#[derive(Drop)]
+pub(crate) struct Holding {
+    pub terminal: u32,
+    pub count: u32,
+}
+
+/// The locks of the terminals: how often each holds a name. Contracts see it as the locks of the definitions.
+#[derive(Drop)]
+pub struct Locks {
+    alloc: Global,
+    // a name has one holder, since it conflicts with itself
+    holdings: BTreeMap<LockName, Holding>,
+}
+
+impl Model for Locks {
+    ghost use Rattle.std.specs.Coded.{coded_ℕ};
+    ghost use Rattle.std.specs.FinMap.{code};
+    ghost use Rattle.std.specs.BTreeMap.{IsOrdered};
+    ghost use Rattle.mspec.specs.LockConflict.{Locks as HeldLocks, lock_name_cmp};
+    ghost use Rattle.mlock.specs.Holdings.{locks_of, coded_held, AreCounts};
+
+    ghost Value = { HeldLocks };
+
+    ghost coded = { code coded_held coded_ℕ };
+
+    ghost view = { λ locks. locks_of locks.holdings };
+
+    ghost invariant = { λ locks. IsOrdered lock_name_cmp locks.holdings × AreCounts (locks_of locks.holdings) };
+}
+
+impl Locks {
+    /// Locks of which none is held. Takes no memory.
+    pub fn new(alloc: Global) -> Locks
+        ensures { result ≡ empty }
+    {
+        Locks {
+            alloc,
+            holdings: BTreeMap::new(alloc),
+        }
+    }
+
+    /// How often the terminal holds the name: 0 to 1,000,000 times. Takes no memory.
+    pub fn held(&self, terminal: u32, name: &LockName) -> u32
+        ensures { result ≡ count self.now (lock terminal name.now) }
+    {
+        match self.holdings.get(name) {
+            Some(holding) => {
+                if holding.terminal == terminal {
+                    holding.count
+                } else {
+                    0
+                }
+            }
+            None => 0,
+        }
+    }
+
+    /// Takes all the names for the terminal, or none: each counts as often as it stands there. False where one conflicts with a
+    /// name that another terminal holds, or where a count would pass 1,000,000; then nothing changes.
+    ///
+    /// # Errors
+    ///
+    /// `AllocError` for want of memory; the locks are then as they were.
+    pub fn take(&mut self, terminal: u32, names: &[LockName]) -> Result<bool, AllocError>
+        ensures taken { IfOk result (λ all. taken self.old terminal names.now ≡ (if all then Some self.new else None)) }
+        ensures refused { IfOk result (λ all. all ≡ false → self.new ≡ self.old) }
+        ensures err { OnErr result (self.new ≡ self.old) }
+    {
+        for name in names {
+            if self.has_conflict(terminal, name)? {
+                return Ok(false);
+            }
+        }
+        self.count_all(terminal, names)
+    }
+
+    // Whether another terminal holds a name that conflicts with this one.
+    fn has_conflict(&self, terminal: u32, name: &LockName) -> Result<bool, AllocError>
+        ensures { IfOk result (λ conflict. conflict ≡ has_conflict self.now (lock terminal name.now)) }
+    {
+        conflicts(self.alloc, &self.holdings, terminal, name)
+    }
+
+    // One count more of each name, of which no other terminal holds one; false where a count would pass the most.
+    fn count_all(&mut self, terminal: u32, names: &[LockName]) -> Result<bool, AllocError>
+        requires { All (IsFree self.old terminal) names.now }
+        ensures counted { IfOk result (λ all. counted self.old terminal names.now ≡ (if all then Some self.new else None)) }
+        ensures refused { IfOk result (λ all. all ≡ false → self.new ≡ self.old) }
+        ensures err { OnErr result (self.new ≡ self.old) }
+    {
+        let Some((first, rest)) = names.split_first() else {
+            return Ok(true);
+        };
+        if !self.count_one(terminal, first)? {
+            return Ok(false);
+        }
+        match self.count_all(terminal, rest) {
+            Ok(true) => Ok(true),
+            Ok(false) => {
+                self.give_back(terminal, first);
+                Ok(false)
+            }
+            Err(error) => {
+                self.give_back(terminal, first);
+                Err(error)
+            }
+        }
+    }
+
+    // One count more of a name that no other terminal holds; false where it has the most.
+    fn count_one(&mut self, terminal: u32, name: &LockName) -> Result<bool, AllocError>
+        requires { IsFree self.old terminal name.now }
+        ensures room { IfOk result (λ more. more ≡ nat_lt (count self.old (lock terminal name.now)) most_counts) }
+        ensures counted { IfOk result (λ more. self.new ≡ (if more then one_more self.old (lock terminal name.now) else self.old)) }
+        ensures err { OnErr result (self.new ≡ self.old) }
+        ensures counts { AreCounts self.old }
+    {
+        match self.holdings.get_mut(name) {
+            Some(holding) => {
+                if holding.count >= MOST_COUNTS {
+                    return Ok(false);
+                }
+                holding.count += 1;
+            }
+            None => {
+                let name = name.copy()?;
+                self.holdings.insert(name, Holding { terminal, count: 1 })?;
+            }
+        }
+        Ok(true)
+    }
+
+    /// Gives one count of the name back; where the terminal does not hold it, nothing changes. Takes no memory.
+    pub fn give_back(&mut self, terminal: u32, name: &LockName)
+        ensures { self.new ≡ given_back self.old terminal name.now }
+    {
+        let Some(holding) = self.holdings.get_mut(name) else {
+            return;
+        };
+        if holding.terminal != terminal {
+            return;
+        }
+        if holding.count > 1 {
+            holding.count -= 1;
+        } else {
+            let _ = self.holdings.remove(name);
+        }
+    }
+
+    /// Gives back all that the terminal holds. Takes no memory.
+    pub fn release_all(&mut self, terminal: u32)
+        ensures { self.new ≡ released self.old terminal }
+    {
+        self.holdings.retain(
+            |_name: &LockName, holding: &mut Holding| -> bool
+                ensures { (result ≡ not (nat_eq holding.old.terminal terminal)) × (holding.new ≡ holding.old) }
+            { holding.terminal != terminal },
+        );
+    }
+}

@@ -1,0 +1,93 @@
+// Names of locks.
+ghost use Rattle.std.specs.Prelude.{◌≡◌, IfOk, Some, refl};
+ghost use Rattle.std.specs.Cmp.{partial_equiv_from_equiv, partial_order_from_total, eq_by_cmp_equiv};
+ghost use Rattle.std.specs.Ordering.{eq_by_cmp};
+ghost use Rattle.mspec.specs.KeyBytes.{IsStored};
+ghost use Rattle.mspec.specs.LockConflict.{lock_name_cmp, is_within};
+ghost use Rattle.mspec.proofs.LockOrders.{lock_name_cmp_total};
+
+use mkey::NodeKey;
+use std::alloc::AllocError;
+use std::cmp::Ordering;
+use std::marker::Model;
+
+/// The name of a lock: a node's account, name and subscripts, with or without `^`. Contracts see it as the name of the
+/// definitions.
+#[derive(Debug, Drop)]
+pub struct LockName {
+    /// The node that has the lock's account, name and subscripts.
+    pub key: NodeKey,
+    /// Whether it is written with `^`.
+    pub global: bool,
+}
+
+impl Model for LockName {
+    ghost use Rattle.mspec.specs.LockConflict.{LockName as Name};
+
+    ghost Value = { Name };
+
+    ghost view = { λ name. record { global = name.global; node = name.key } };
+}
+
+impl LockName {
+    // A second name like it.
+    pub(crate) fn copy(&self) -> Result<LockName, AllocError>
+        ensures name { IfOk result (λ name. name ≡ self.now) }
+        ensures stored { IsStored self.now.node }
+    {
+        let key = self.key.copy()?;
+        Ok(LockName {
+            key,
+            global: self.global,
+        })
+    }
+
+    // Whether it is another name, or stands below it.
+    pub(crate) fn is_within(&self, above: &LockName) -> bool
+        ensures { result ≡ is_within above.now self.now }
+    {
+        above.global == self.global && self.key.as_bytes().starts_with(above.key.as_bytes())
+    }
+}
+
+// Names stand without `^` before those with it, and then in the order of their nodes.
+
+impl PartialEq for LockName {
+    ghost eq = { eq_by_cmp lock_name_cmp };
+
+    ghost laws = { partial_equiv_from_equiv (eq_by_cmp_equiv lock_name_cmp_total) };
+
+    fn eq(&self, other: &LockName) -> bool {
+        self.cmp(other).is_eq()
+    }
+}
+
+impl Eq for LockName {
+    ghost laws = { eq_by_cmp_equiv lock_name_cmp_total };
+}
+
+impl PartialOrd for LockName {
+    ghost partial_cmp = { λ a b. Some (lock_name_cmp a b) };
+
+    ghost laws = { partial_order_from_total lock_name_cmp_total };
+
+    fn partial_cmp(&self, other: &LockName) -> Option<Ordering> {
+        Some(self.cmp(other))
+    }
+}
+
+impl Ord for LockName {
+    ghost cmp = { lock_name_cmp };
+
+    ghost total = { lock_name_cmp_total };
+
+    ghost matches_partial_cmp = { λ a b. refl };
+
+    ghost matches_eq = { λ a b. refl };
+
+    fn cmp(&self, other: &LockName) -> Ordering {
+        self.global
+            .cmp(&other.global)
+            .then(self.key.cmp(&other.key))
+    }
+}

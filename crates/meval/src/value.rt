@@ -8,7 +8,7 @@ ghost use Rattle.mmeaning.specs.Operators.{as_number, as_truth, outcome};
 ghost use Rattle.mmeaning.specs.Functions.{whole_text, as_whole, as_whole_or_none};
 ghost use Rattle.mnum.specs.Num.{units};
 ghost use Rattle.mtext.specs.Made.{Answers};
-ghost use Rattle.meval.specs.Codes.{code_of};
+ghost use Rattle.meval.specs.Codes.{fault_of};
 ghost use Rattle.meval.specs.Values.{text_of, shown_text};
 ghost use Rattle.meval.specs.Yields.{Yields};
 
@@ -127,7 +127,7 @@ impl Value {
     /// The value of a text that was to be made, or the code of its refusal.
     pub(crate) fn of_answer(answer: Result<Bytes7, TextFault>) -> Result<Value, Code>
         ensures value { (wanted : Result (List ℕ) spec.Code) → Answers wanted answer → Yields (outcome wanted) text_of result }
-        ensures refused { (code : spec.Code) → Answers (Err code) answer → IsErrAnd result (λ given. code_of given ≡ code) }
+        ensures refused { (code : spec.Code) → Answers (Err code) answer → IsErrAnd result (λ given. fault_of given ≡ spec.Own code) }
     {
         match answer {
             Ok(text) => Ok(Value::Text(text)),

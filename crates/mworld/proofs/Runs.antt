@@ -6,7 +6,7 @@ use Rattle.mspec.specs.Code as spec
 use Rattle.mspec.specs.Code.{Own, Lost}
 use Rattle.mspec.specs.Plan.{perform, cut_short}
 use Rattle.mspec.specs.LockConflict.{held_cmp, released}
-use Rattle.mspec.proofs.LockFacts.{held_cmp_total, held_cmp_exact}
+use Rattle.mspec.proofs.LockOrders.{held_cmp_total, held_cmp_exact}
 use Rattle.mspec.proofs.MapCuts.{get_cut}
 use Rattle.mspec.specs.Act.{Locals, Act, State, Gives, Fails}
 use Rattle.mgrammar.specs.Reading.{line_at}

@@ -20,12 +20,7 @@ pub fn locks(alloc: Global, cases: &[&str], out: &mut Vec<u8>) -> anyhow::Result
 }
 
 // Carries out a call, and adds what it answers.
-fn call(
-    locks: &mut Locks,
-    alloc: Global,
-    words: &[&str],
-    out: &mut Vec<u8>,
-) -> anyhow::Result<()> {
+fn call(locks: &mut Locks, alloc: Global, words: &[&str], out: &mut Vec<u8>) -> anyhow::Result<()> {
     match words {
         ["take", terminal, names @ ..] => {
             let taken = locks.take(terminal.parse()?, &names_of(alloc, names)?)?;
@@ -37,7 +32,12 @@ fn call(
             print_result(out, told.as_bytes())?;
         }
         ["fill", terminal, name, times] => {
-            let filled = fill(locks, terminal.parse()?, &names_of(alloc, &[*name])?, times.parse()?)?;
+            let filled = fill(
+                locks,
+                terminal.parse()?,
+                &names_of(alloc, &[*name])?,
+                times.parse()?,
+            )?;
             let told = format!(in alloc; "{filled} times")?;
             print_result(out, told.as_bytes())?;
         }
@@ -53,12 +53,7 @@ fn told(taken: bool) -> &'static [u8] {
 }
 
 // How many of so many takes answer true.
-fn fill(
-    locks: &mut Locks,
-    terminal: u32,
-    names: &[LockName],
-    times: u32,
-) -> anyhow::Result<u32> {
+fn fill(locks: &mut Locks, terminal: u32, names: &[LockName], times: u32) -> anyhow::Result<u32> {
     let mut filled: u32 = 0;
     for _ in 0..times {
         if locks.take(terminal, names)? {

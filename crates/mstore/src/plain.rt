@@ -105,9 +105,9 @@ fn key_within(
 impl NodeStore for Plain {
     ghost content = { λ plain. plain };
 
-    ghost sound = { λ _. Unit };
+    ghost sound = { Unit };
 
-    ghost steady = { λ _. Unit };
+    ghost steady = { Unit };
 
     fn get(&mut self, key: &NodeKey) -> Result<Option<Bytes7>, StoreFault> {
         match search(&self.entries, key) {
@@ -149,4 +149,6 @@ impl NodeStore for Plain {
         let last = self.entries[..place].last();
         Ok(key_within(*self.entries.allocator(), last, low, high)?)
     }
+
+    ghost steady_is_sound = { λ _. tt };
 }

@@ -1,5 +1,5 @@
 // What a store of nodes is.
-ghost use Rattle.std.specs.Prelude.{◌≡◌, ◌≢◌, ◌↔◌, ◌≤◌, length, option_map, IfOk, OnOk, OnErr, Err};
+ghost use Rattle.std.specs.Prelude.{◌≡◌, ◌≢◌, ◌≤◌, length, option_map, IfOk, OnOk, OnErr, Err};
 ghost use Rattle.std.specs.FinMap.{get, insert};
 ghost use Rattle.mspec.specs.Globals.{Globals, without_subtree, next_key, previous_key};
 ghost use Rattle.mspec.specs.TextFunctions.{longest_text};
@@ -28,8 +28,8 @@ impl From<AllocError> for StoreFault {
 
 /// A finite map from nodes to texts of at most 4,095 characters.
 ///
-/// Beside what it holds a store has two facts, seen by contracts alone and changed by no call: what is said of the content
-/// holds where the store is `sound`, and where it is `steady` no call answers `Store`.
+/// Beside what it holds a store has two facts of its type, seen by contracts alone: what is said of the content holds where the
+/// type is `sound`, and where it is `steady` no call answers `Store`. A steady type is sound.
 ///
 /// # Errors
 ///
@@ -38,48 +38,40 @@ impl From<AllocError> for StoreFault {
 pub trait NodeStore {
     ghost content: { Self → Globals };
 
-    ghost sound: { Self → Type 0 };
+    ghost sound: { Type 0 };
 
-    ghost steady: { Self → Type 0 };
+    ghost steady: { Type 0 };
 
     /// The text at a node, where there is one.
     fn get(&mut self, key: &NodeKey) -> Result<Option<Bytes7>, StoreFault>
-        ensures found { sound self.old → IfOk result (λ text. text ≡ get (content self.old) key.now) }
-        ensures same { sound self.old → content self.new ≡ content self.old }
-        ensures sound { sound self.new ↔ sound self.old }
-        ensures steady { steady self.new ↔ steady self.old }
-        ensures store { steady self.old → result ≢ Err StoreFault.Store };
+        ensures found { sound → IfOk result (λ text. text ≡ get (content self.old) key.now) }
+        ensures same { sound → content self.new ≡ content self.old }
+        ensures store { steady → result ≢ Err StoreFault.Store };
 
     /// Gives a node a text, and keeps what stands below it.
     fn put(&mut self, key: &NodeKey, text: &Bytes7) -> Result<(), StoreFault>
         requires { length text.now ≤ longest_text }
-        ensures put { sound self.old → OnOk result (content self.new ≡ insert (content self.old) key.now text.now) }
-        ensures fault { sound self.old → OnErr result (content self.new ≡ content self.old) }
-        ensures sound { sound self.new ↔ sound self.old }
-        ensures steady { steady self.new ↔ steady self.old }
-        ensures store { steady self.old → result ≢ Err StoreFault.Store };
+        ensures put { sound → OnOk result (content self.new ≡ insert (content self.old) key.now text.now) }
+        ensures fault { sound → OnErr result (content self.new ≡ content self.old) }
+        ensures store { steady → result ≢ Err StoreFault.Store };
 
     /// Takes a node away, with all that stands below it.
     fn kill(&mut self, key: &NodeKey) -> Result<(), StoreFault>
-        ensures killed { sound self.old → OnOk result (content self.new ≡ without_subtree (content self.old) key.now) }
-        ensures fault { sound self.old → OnErr result (content self.new ≡ content self.old) }
-        ensures sound { sound self.new ↔ sound self.old }
-        ensures steady { steady self.new ↔ steady self.old }
-        ensures store { steady self.old → result ≢ Err StoreFault.Store };
+        ensures killed { sound → OnOk result (content self.new ≡ without_subtree (content self.old) key.now) }
+        ensures fault { sound → OnErr result (content self.new ≡ content self.old) }
+        ensures store { steady → result ≢ Err StoreFault.Store };
 
     /// The bytes of the first key from `low` on and before `high`, where there is one.
     fn next(&mut self, low: &[u8], high: &[u8]) -> Result<Option<Vec<u8>>, StoreFault>
-        ensures found { sound self.old → IfOk result (λ key. option_map (λ bytes. bytes.items) key ≡ next_key (content self.old) low.now high.now) }
-        ensures same { sound self.old → content self.new ≡ content self.old }
-        ensures sound { sound self.new ↔ sound self.old }
-        ensures steady { steady self.new ↔ steady self.old }
-        ensures store { steady self.old → result ≢ Err StoreFault.Store };
+        ensures found { sound → IfOk result (λ key. option_map (λ bytes. bytes.items) key ≡ next_key (content self.old) low.now high.now) }
+        ensures same { sound → content self.new ≡ content self.old }
+        ensures store { steady → result ≢ Err StoreFault.Store };
 
     /// The bytes of the last key from `low` on and before `high`, where there is one.
     fn prev(&mut self, low: &[u8], high: &[u8]) -> Result<Option<Vec<u8>>, StoreFault>
-        ensures found { sound self.old → IfOk result (λ key. option_map (λ bytes. bytes.items) key ≡ previous_key (content self.old) low.now high.now) }
-        ensures same { sound self.old → content self.new ≡ content self.old }
-        ensures sound { sound self.new ↔ sound self.old }
-        ensures steady { steady self.new ↔ steady self.old }
-        ensures store { steady self.old → result ≢ Err StoreFault.Store };
+        ensures found { sound → IfOk result (λ key. option_map (λ bytes. bytes.items) key ≡ previous_key (content self.old) low.now high.now) }
+        ensures same { sound → content self.new ≡ content self.old }
+        ensures store { steady → result ≢ Err StoreFault.Store };
+
+    ghost steady_is_sound: { steady → sound };
 }

@@ -154,9 +154,9 @@ impl<S: Alter> NodeStore for Table<S> {
 
     ghost content = { λ t. stored S.Store t };
 
-    ghost sound = { λ t. IsMemory S.Store };
+    ghost sound = { IsMemory S.Store };
 
-    ghost steady = { λ t. ⊥ };
+    ghost steady = { ⊥ };
 
     fn get(&mut self, key: &NodeKey) -> Result<Option<Bytes7>, StoreFault> {
         let Some(row) = find_value(&mut self.conn, key.as_bytes())? else {
@@ -190,4 +190,6 @@ impl<S: Alter> NodeStore for Table<S> {
         let bytes = bytes_in(&row)?;
         Ok(Some(bytes))
     }
+
+    ghost steady_is_sound = { λ never. absurd never };
 }

@@ -1,4 +1,5 @@
-pub mod MeaningExamples
 pub mod Histories
 pub mod OtherLocks
 pub mod Calls
+pub mod Moves
+pub mod Yielding

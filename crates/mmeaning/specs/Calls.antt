@@ -2,8 +2,8 @@
 -- leaves.
 --
 -- `E` is the code's type of codes and `fault_of` what each stands for; `f` says what the call's value stands for.
-use Rattle.std.specs.Prelude.{◌≡◌, ℕ, Bool, Option, Result, Ok, Err}
-use Rattle.mspec.specs.Code.{Fault, Own, Lost}
+use Rattle.std.specs.Prelude.{◌≡◌, ◌≤◌, ℕ, Bool, Option, Result, Ok, Err}
+use Rattle.mspec.specs.Code.{Fault, Own, Lost, Memory, Store}
 use Rattle.mspec.specs.Plan.{Ops, perform, cut_short}
 use Rattle.mspec.specs.Act.{Text, Node, Locals, State, Gives, Fails, Act}
 use Rattle.mmeaning.specs.Step.{Settings, World, act}
@@ -32,22 +32,27 @@ Gave b p h a h' = perform (ops_of b) (p h.0) h.1 ≡ (Gives a h'.0, h'.1)
 abbrev pub IsCut : {A : Type 0} → Standing → Act A → Here → Here → Type 0
 IsCut b p h h' = (n : ℕ) × (cut_short (ops_of b) n (p h.0) h.1 ≡ h'.1)
 
--- the act fails by a code of its own, or memory or the store did not suffice for it
-abbrev pub FailedBy : {A : Type 0} → Standing → Act A → Here → Fault → Here → Type 0
-FailedBy b p h (Own c) h' = perform (ops_of b) (p h.0) h.1 ≡ (Fails c h'.0, h'.1)
-FailedBy b p h (Lost loss) h' = IsCut b p h h'
+-- The act fails by a code of its own, or memory or the store did not suffice for it. Over a steady store it is never the store.
+abbrev pub FailedBy : {A : Type 0} → Standing → (steady : Type 0) → Act A → Here → Fault → Here → Type 0
+FailedBy b steady p h (Own c) h' = perform (ops_of b) (p h.0) h.1 ≡ (Fails c h'.0, h'.1)
+FailedBy b steady p h (Lost Memory) h' = IsCut b p h h'
+FailedBy b steady p h (Lost Store) h' = (steady → ⊥) × IsCut b p h h'
 
-abbrev pub Ends : {A X E : Type 0} → Standing → (E → Fault) → Act A → (X → A) → Here → Result X E → Here → Type 0
-Ends b fault_of p f h (Ok x) h' = Gave b p h (f x) h'
-Ends b fault_of p f h (Err e) h' = FailedBy b p h (fault_of e) h'
+abbrev pub Ends : {A X E : Type 0} → Standing → (steady : Type 0) → (E → Fault) → Act A → (X → A) → Here → Result X E → Here → Type 0
+Ends b steady fault_of p f h (Ok x) h' = Gave b p h (f x) h'
+Ends b steady fault_of p f h (Err e) h' = FailedBy b steady p h (fault_of e) h'
 
--- a call does an act
-pub record Did {A X E : Type 0} (b : Standing) (fault_of : E → Fault) (p : Act A) (f : X → A) (h : Here) (r : Result X E) (h' : Here) : Type 0 where
-  pub ends : Ends b fault_of p f h r h'
+-- A call does an act, with any fuel from the steps left on, and adds no steps. `steady` says that the store is so: as a field of
+-- the standing it would lift that to a greater universe.
+pub record Did {A X E : Type 0} (b : Standing) (steady : Type 0) (fault_of : E → Fault) (p : ℕ → Act A) (f : X → A) (h : Here) (r : Result X E) (h' : Here) : Type 0 where
+  pub at : (n : ℕ) → h.0.steps ≤ n → Ends b steady fault_of (p n) f h r h'
+  pub fewer : h'.0.steps ≤ h.0.steps
 
--- a call evaluates: wherever it stands, it does an act that changes nothing but the steps left
-pub record Evaluates {A X E : Type 0} (fault_of : E → Fault) (p : Act A) (f : X → A) (locals : Locals) (steps : ℕ) (r : Result X E) (steps' : ℕ) : Type 0 where
-  pub at : (b : Standing) (naked : Option Node) (test : Bool) (out : Text) (w : World) → Did b fault_of p f (point locals naked test out steps w) r (point locals naked test out steps' w)
+-- which losses there can be
+abbrev pub MayLose : (steady : Type 0) → Fault → Type 0
+MayLose steady (Own c) = ⊥
+MayLose steady (Lost Memory) = Unit {0}
+MayLose steady (Lost Store) = steady → ⊥
 
 -- q from the one place is what is left of p from the other
 pub record Follows {A : Type 0} (b : Standing) (p : Act A) (h : Here) (q : Act A) (h' : Here) : Type 0 where

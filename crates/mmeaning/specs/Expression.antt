@@ -2,7 +2,7 @@
 --
 -- Restates "Expressions" and "$SELECT" of ISO/IEC 11756:1999: operators apply from left to right, none before another, and
 -- unary operators bind to the operand behind them. Both operands of an operator are evaluated, the left one first.
-use Rattle.std.specs.Prelude.{cond, not, List, [], ◌∷◌, ◌++◌, map}
+use Rattle.std.specs.Prelude.{ℕ, cond, not, List, [], ◌∷◌, ◌++◌, map}
 use Rattle.mspec.specs.Number.{significant_digits}
 use Rattle.mspec.specs.NumberText.{numeric_value}
 use Rattle.mspec.specs.Interpretations.{truth_text}
@@ -13,58 +13,73 @@ use Rattle.mspec.specs.Act.{Text, Act, ◌>>=◌, ◌>>◌, give, fail, charge, 
 use Rattle.mmeaning.specs.Operators.{as_text, as_truth, unaries, binary, matching}
 use Rattle.mmeaning.specs.Functions.{call_value}
 
+-- how deep a text stands: the levels that are open, of which some are indirections under evaluation
+pub record Depth : Type 0 where
+  pub levels : ℕ
+  pub indirections : ℕ
+
+-- where an expression stands: whose line it is of, how many texts that are no part of the tree may be entered, and how deep it
+-- stands
+pub record Inside : Type 0 where
+  pub account : Text
+  pub fuel : ℕ
+  pub depth : Depth
+
+abbrev pub inside : Text → ℕ → Depth → Inside
+inside a n d = record { account = a; fuel = n; depth = d }
+
 -- A primary costs a step, before it is evaluated: a bracket and a call cost theirs before what stands in them.
 abbrev mutual
-  pub value : ExprTree → Act Text
-  value (expr first rest) = do
-    x ← operand_value first
-    steps_value x rest
+  pub value : Inside → ExprTree → Act Text
+  value i (expr first rest) = do
+    x ← operand_value i first
+    steps_value i x rest
 
   -- what is left of an expression, applied to the value so far
-  pub steps_value : Text → StepsTree → Act Text
-  steps_value x no_steps = give x
-  steps_value x (step s rest) = do
-    y ← step_value x s
-    steps_value y rest
+  pub steps_value : Inside → Text → StepsTree → Act Text
+  steps_value i x no_steps = give x
+  steps_value i x (step s rest) = do
+    y ← step_value i x s
+    steps_value i y rest
 
-  pub step_value : Text → StepTree → Act Text
-  step_value x (apply b o) = do
-    y ← operand_value o
+  pub step_value : Inside → Text → StepTree → Act Text
+  step_value i x (apply b o) = do
+    y ← operand_value i o
     binary b x y
-  step_value x (matches atoms) = do
+  step_value i x (matches atoms) = do
     b ← matching (map atom_of atoms) x
     give (truth_text b)
-  step_value x (matches_not atoms) = do
+  step_value i x (matches_not atoms) = do
     b ← matching (map atom_of atoms) x
     give (truth_text (not b))
 
-  pub operand_value : OperandTree → Act Text
-  operand_value (operand signs p) = do
-    x ← primary_value p
+  pub operand_value : Inside → OperandTree → Act Text
+  operand_value i (operand signs p) = do
+    x ← primary_value i p
     unaries signs x
 
-  pub primary_value : PrimaryTree → Act Text
-  primary_value (number literal) = charge >> as_text (numeric_value significant_digits literal)
-  primary_value (text t) = charge >> give t
-  primary_value (local name) = charge >> get_local name
-  primary_value (bracket e) = charge >> value e
-  primary_value (call word args) = do
+  pub primary_value : Inside → PrimaryTree → Act Text
+  primary_value i (number literal) = charge >> as_text (numeric_value significant_digits literal)
+  primary_value i (text t) = charge >> give t
+  primary_value i (local name) = charge >> get_local name
+  primary_value i (bracket e) = charge >> value i e
+  primary_value i (call word args) = do
     charge
-    xs ← values [] args
+    xs ← values i [] args
     call_value word xs
-  primary_value (select word choices) = charge >> chosen choices
+  primary_value i (select word choices) = charge >> chosen i choices
 
   -- the values of some expressions, behind those before them
-  pub values : List Text → ExprsTree → Act (List Text)
-  values xs no_exprs = give xs
-  values xs (exprs e rest) = do
-    x ← value e
-    values (xs ++ x ∷ []) rest
+  pub values : Inside → List Text → ExprsTree → Act (List Text)
+  values i xs no_exprs = give xs
+  values i xs (exprs e rest) = do
+    x ← value i e
+    values i (xs ++ x ∷ []) rest
 
   -- the value of the first choice whose condition is true; what stands behind it is not evaluated
-  pub chosen : ChoicesTree → Act Text
-  chosen no_choices = fail M4
-  chosen (choice c v rest) = do
-    x ← value c
+  pub chosen : Inside → ChoicesTree → Act Text
+  chosen i no_choices = fail M4
+  chosen i (choice c v rest) = do
+    x ← value i c
     b ← as_truth x
-    cond b (value v) (chosen rest)
+    cond b (value i v) (chosen i rest)

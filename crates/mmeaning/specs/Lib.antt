@@ -1,3 +1,4 @@
+pub mod TempTree
 pub mod Operators
 pub mod Functions
 pub mod Expression
@@ -7,3 +8,5 @@ pub mod Step
 pub mod History
 pub mod StepLaws
 pub mod Calls
+pub mod Frames
+pub mod Yields

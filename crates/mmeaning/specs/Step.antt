@@ -7,10 +7,10 @@ use Rattle.mspec.specs.Code.{Code, Zterm, Zline, Zchar, Zsyntax, Fault, Own, Los
 use Rattle.mspec.specs.Plan.{Plan, perform, cut_short}
 use Rattle.mspec.specs.LockConflict.{released}
 use Rattle.mspec.specs.Act.{Text, Node, Locals, no_locals, State, Outcome, Gives, Fails, Act, fail}
+use Rattle.mspec.specs.Scopes.{outermost}
 use Rattle.mspec.specs.Names.{is_character}
-use Rattle.mgrammar.specs.Grammar.{LineTree}
-use Rattle.mgrammar.specs.Reading.{line_at}
-use Rattle.mmeaning.specs.LineMeaning.{Signal, run}
+use Rattle.mmeaning.specs.TempTree.{LineTree, line_at}
+use Rattle.mmeaning.specs.LineMeaning.{Signal, Go_on, Skips, Quits, Goes, Halts, run}
 pub use Rattle.mspec.specs.Access.{Account, Settings}
 pub use Rattle.mmeaning.specs.World.{World, act}
 
@@ -51,28 +51,43 @@ line_limit = 255
 abbrev pub begun : Account → Session → State
 begun account s = record { locals = s.locals; naked = s.naked; test = s.test; out = []; steps = account.steps }
 
+-- of the scopes that a line opened none is left, however it ended
 abbrev pub kept : State → Session
-kept s = record { locals = s.locals; naked = s.naked; test = s.test }
+kept s = record { locals = outermost s.locals; naked = s.naked; test = s.test }
 
--- what a text does; one that has no tree does nothing
-abbrev pub text_run : Option LineTree → Act Signal
-text_run None = fail Zsyntax
-text_run (Some tree) = run tree
+-- what a text of an account does; one that has no tree does nothing
+abbrev pub text_run : Text → Option LineTree → Act Signal
+text_run a None = fail Zsyntax
+text_run a (Some tree) = run a tree
 
 abbrev pub plan_of : Account → Session → Option LineTree → Plan (Outcome Signal)
-plan_of account s tree = text_run tree (begun account s)
+plan_of account s tree = text_run account.name tree (begun account s)
+
+-- how a line ends that gives this signal
+abbrev pub ending_of : Signal → Ending
+ending_of Go_on = Finished
+ending_of Skips = Finished
+ending_of Quits = Finished
+ending_of (Goes t) = Finished
+ending_of Halts = Halted
 
 abbrev pub reply_of : Outcome Signal → Reply
-reply_of (Gives signal s) = record { out = s.out; ending = Finished }
+reply_of (Gives signal s) = record { out = s.out; ending = ending_of signal }
 reply_of (Fails code s) = record { out = s.out; ending = Faulted (Own code) }
 
 abbrev pub state_of : Outcome Signal → State
 state_of (Gives signal s) = s
 state_of (Fails code s) = s
 
--- effects before an error stand, and so does the session
+-- effects before an error stand, and so does the session; where the line halts, session and locks are gone
+abbrev pub settled : ℕ → Server → Ending → State → World → Server
+settled terminal server Finished s w = record { world = w; sessions = insert server.sessions terminal (kept s) }
+settled terminal server (Faulted fault) s w = record { world = w; sessions = insert server.sessions terminal (kept s) }
+settled terminal server Halted s w =
+    record { world = record w { locks = released w.locks terminal }; sessions = remove server.sessions terminal }
+
 abbrev pub ended : ℕ → Server → Outcome Signal × World → Reply × Server
-ended terminal server r = (reply_of r.0, record { world = r.1; sessions = insert server.sessions terminal (kept (state_of r.0)) })
+ended terminal server r = (reply_of r.0, settled terminal server (reply_of r.0).ending (state_of r.0) r.1)
 
 abbrev pub refused : Code → Server → Reply × Server
 refused code server = (record { out = []; ending = Faulted (Own code) }, server)

@@ -26,3 +26,4 @@ pub mod ScopeFacts
 pub mod MapCuts
 pub mod LockFacts
 pub mod GlobalExamples
+pub mod ListPlaces

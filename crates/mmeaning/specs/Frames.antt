@@ -1,0 +1,36 @@
+-- What a line has still to do, frame by frame: a frame is an act from the signal of what was done before it to its own.
+use Rattle.std.specs.Prelude.{ℕ, ◌≤◌, List, [], ◌∷◌, Result, Ok, Err}
+use Rattle.mspec.specs.Code.{Fault}
+use Rattle.mspec.specs.Act.{Text, Act, ◌>>=◌, give}
+use Rattle.mmeaning.specs.TempTree.{CommandTree}
+use Rattle.mmeaning.specs.LineMeaning.{Signal, Spot, after, commands, after_level, context}
+use Rattle.mmeaning.specs.Calls.{Standing, Here, FailedBy, Follows}
+
+-- the rest of a line, and a level
+pub data View : Type 0 where
+  Rests : Spot → List CommandTree → View
+  Levels : Spot → View
+
+abbrev pub frame : Text → ℕ → View → Signal → Act Signal
+frame a n (Rests p cs) s = after s (commands (context a n p) cs)
+frame a n (Levels p) s = after_level s
+
+-- top first, each with as many texts as it may enter
+abbrev pub left : Text → List View → List ℕ → Signal → Act Signal
+left a [] ns s = give s
+left a (f ∷ fs) [] s = give s
+left a (f ∷ fs) (n ∷ ns) s = frame a n f s >>= left a fs ns
+
+-- each frame may enter as many texts as there are steps
+abbrev pub Enough : ℕ → List View → List ℕ → Type 0
+Enough steps [] [] = Unit {0}
+Enough steps (f ∷ fs) (n ∷ ns) = (steps ≤ n) × Enough steps fs ns
+Enough steps fs ns = ⊥
+
+abbrev pub MovedAs : {X E : Type 0} → Standing → (steady : Type 0) → (E → Fault) → (X → Signal) → Act Signal → Here → Result X E → List View → Here → Type 0
+MovedAs b steady fault_of signal_of p h (Ok s) fs h' = (ns : List ℕ) × Enough h'.0.steps fs ns × Follows b p h (left b.account fs ns (signal_of s)) h'
+MovedAs b steady fault_of signal_of p h (Err e) fs h' = FailedBy b steady p h (fault_of e) h'
+
+-- an act, and what is done with what it gives, lead to what the frames have to do, or fail
+pub record MovedOn {A X E : Type 0} (b : Standing) (steady : Type 0) (fault_of : E → Fault) (signal_of : X → Signal) (p : Act A) (k : A → Act Signal) (h : Here) (r : Result X E) (fs : List View) (h' : Here) : Type 0 where
+  pub done : MovedAs b steady fault_of signal_of (p >>= k) h r fs h'

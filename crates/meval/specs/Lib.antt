@@ -1,5 +1,2 @@
-pub mod Codes
-pub mod Yields
-pub mod Values
-pub mod Faults
-pub mod CappedCounts
+pub mod Sessions
+pub mod Evaluates

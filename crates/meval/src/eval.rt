@@ -1,64 +1,102 @@
 // The evaluation of expressions.
-ghost use Rattle.std.specs.Prelude.{◌≡◌, ◌≤◌, [], map};
+ghost use Rattle.std.specs.Prelude.{◌≡◌, ◌≢◌, ◌≤◌, ◌<◌, [], map, unwrap_or, Err, IfOk};
 ghost use Rattle.mmeaning.specs.Expression as meaning;
-ghost use Rattle.mmeaning.specs.Calls.{Evaluates};
-ghost use Rattle.mspec.specs.Act.{charge, get_local};
+ghost use Rattle.mspec.specs.Act.{charge, get_local, set_local, value_of};
 ghost use Rattle.mgrammar.specs.Grammar.{exprs_of, choices_of};
 ghost use Rattle.mtree.specs.Tree.{expr_tree, step_tree, operand_tree, primary_tree, choice_tree};
-ghost use Rattle.meval.specs.Codes.{fault_of};
-ghost use Rattle.meval.specs.Values.{text_of};
+ghost use Rattle.moperator.specs.declared.code.Code.TheVariants.{Zstore};
+ghost use Rattle.meval.specs.Evaluates.{Evaluates, KeepsEval};
 
-use crate::code::Code;
-use crate::functions::call;
-use crate::operators::{binary, computed, unaries};
-use crate::patterns::matching;
-use crate::value::Value;
-use mlocal::Locals;
-use mnum::{Bytes7, Num};
+use crate::depth::Depth;
+use crate::session::Session;
+use mgrant::{AccountId, Settings};
+use mnum::{Bytes7, Name, Num};
+use moperator::{Code, binary, call, computed, matching, unaries};
+use mstore::NodeStore;
 use mtree::{Choice, Expr, Operand, Primary, Step};
-use std::alloc::Global;
+use mvalue::Value;
+use std::alloc::{AllocError, Global};
 
-/// What the evaluation of an expression is lent.
+/// What the evaluation of an expression is lent, and where it stands.
 #[derive(Drop)]
-pub struct Eval<'a> {
-    /// The local variables, which no expression changes.
-    pub locals: &'a Locals,
+pub struct Eval<'a, S> {
+    pub session: &'a mut Session,
+    pub store: &'a mut S,
+    pub settings: &'a Settings,
+    pub terminal: u32,
+    /// The account of the terminal, in these settings.
+    pub account: AccountId,
     /// How many steps are left. Each primary costs one, before it is evaluated.
-    pub steps: &'a mut u32,
+    pub steps: u32,
+    pub depth: Depth,
 }
 
-impl<'a> Eval<'a> {
-    // One step, if one is left.
-    fn charge(&mut self) -> Result<(), Code>
-        ensures locals { self.new.locals ≡ self.old.locals }
-        ensures same_steps { self.new.steps.ghost_name ≡ self.old.steps.ghost_name }
-        ensures fewer { self.new.steps.now ≤ self.old.steps.now }
-        ensures does { Evaluates fault_of charge (λ done. done) self.old.locals.now self.old.steps.now result self.new.steps.now }
+impl<'a, S: NodeStore> Eval<'a, S> {
+    /// Spends one step.
+    ///
+    /// # Errors
+    ///
+    /// `Zsteps` where none is left.
+    pub fn charge(&mut self) -> Result<(), Code>
+        ensures loans { KeepsEval self.old self.new }
+        ensures fewer { self.new.steps ≤ self.old.steps }
+        ensures spent { IfOk result (λ _. self.new.steps < self.old.steps) }
+        ensures does { Evaluates S.NodeStore (λ i. charge) (λ u. u) self.old result self.new }
     {
-        if *self.steps == 0 {
+        if self.steps == 0 {
             return Err(Code::Zsteps);
         }
-        *self.steps -= 1;
+        self.steps -= 1;
         Ok(())
     }
 
-    // A copy of a local variable's text.
-    fn local(&self, name: &Bytes7) -> Result<Value, Code>
-        ensures { Evaluates fault_of (get_local name.now) text_of self.now.locals.now self.now.steps.now result self.now.steps.now }
+    // A copy of a local variable's value.
+    fn local(&mut self, name: &Name) -> Result<Value, Code>
+        ensures loans { KeepsEval self.old self.new }
+        ensures fewer { self.new.steps ≤ self.old.steps }
+        ensures does { Evaluates S.NodeStore (λ i. get_local name.now) (λ v. v) self.old result self.new }
     {
-        match self.locals.get(name, &[])? {
-            Some(text) => Ok(Value::Text(text.copy()?)),
+        match self.session.locals.get(name, &[])? {
+            Some(value) => Ok(value.copy()?),
             None => Err(Code::M6),
+        }
+    }
+
+    /// Gives a local variable a value.
+    ///
+    /// # Errors
+    ///
+    /// `Zmem` for want of memory; the variable is then as it was.
+    pub fn set_local(&mut self, name: &Name, value: Value) -> Result<(), Code>
+        ensures loans { KeepsEval self.old self.new }
+        ensures fewer { self.new.steps ≤ self.old.steps }
+        ensures does { Evaluates S.NodeStore (λ i. set_local name.now value) (λ u. u) self.old result self.new }
+    {
+        self.session.locals.set(name, &[], value)?;
+        Ok(())
+    }
+
+    /// The text of a local variable, or the empty one where it is undefined.
+    ///
+    /// # Errors
+    ///
+    /// `AllocError` for want of memory.
+    pub fn text_or_empty(&self, alloc: Global, name: &Name) -> Result<Bytes7, AllocError>
+        ensures { IfOk result (λ text. text ≡ unwrap_or (value_of self.now.session.now.locals name.now) []) }
+    {
+        match self.session.locals.get(name, &[])? {
+            Some(value) => Ok(value.copy()?.into_text(alloc)?),
+            None => Ok(Bytes7::empty(alloc)),
         }
     }
 
     // A primary costs its step also where it then fails.
     #[cycle(eval)]
     fn primary(&mut self, alloc: Global, primary: &Primary) -> Result<Value, Code>
-        ensures locals { self.new.locals ≡ self.old.locals }
-        ensures same_steps { self.new.steps.ghost_name ≡ self.old.steps.ghost_name }
-        ensures fewer { self.new.steps.now ≤ self.old.steps.now }
-        ensures does { Evaluates fault_of (meaning.primary_value (primary_tree primary.now)) text_of self.old.locals.now self.old.steps.now result self.new.steps.now }
+        ensures loans { KeepsEval self.old self.new }
+        ensures fewer { self.new.steps ≤ self.old.steps }
+        ensures spent { IfOk result (λ _. self.new.steps < self.old.steps) }
+        ensures does { Evaluates S.NodeStore (λ i. meaning.primary_value i (primary_tree primary.now)) (λ v. v) self.old result self.new }
     {
         self.charge()?;
         match primary {
@@ -77,10 +115,9 @@ impl<'a> Eval<'a> {
     // The values of expressions.
     #[cycle(eval)]
     fn values(&mut self, alloc: Global, exprs: &[Expr]) -> Result<Vec<Value>, Code>
-        ensures locals { self.new.locals ≡ self.old.locals }
-        ensures same_steps { self.new.steps.ghost_name ≡ self.old.steps.ghost_name }
-        ensures fewer { self.new.steps.now ≤ self.old.steps.now }
-        ensures does { Evaluates fault_of (meaning.values [] (exprs_of (map expr_tree exprs.now))) (λ values. map text_of values.items) self.old.locals.now self.old.steps.now result self.new.steps.now }
+        ensures loans { KeepsEval self.old self.new }
+        ensures fewer { self.new.steps ≤ self.old.steps }
+        ensures does { Evaluates S.NodeStore (λ i. meaning.values i [] (exprs_of (map expr_tree exprs.now))) (λ values. values.items) self.old result self.new }
     {
         let mut values = Vec::with_capacity(alloc, exprs.len())?;
         for e in exprs {
@@ -93,14 +130,13 @@ impl<'a> Eval<'a> {
     // The value of the first choice whose condition is true.
     #[cycle(eval)]
     fn chosen(&mut self, alloc: Global, choices: &[Choice]) -> Result<Value, Code>
-        ensures locals { self.new.locals ≡ self.old.locals }
-        ensures same_steps { self.new.steps.ghost_name ≡ self.old.steps.ghost_name }
-        ensures fewer { self.new.steps.now ≤ self.old.steps.now }
-        ensures does { Evaluates fault_of (meaning.chosen (choices_of (map choice_tree choices.now))) text_of self.old.locals.now self.old.steps.now result self.new.steps.now }
+        ensures loans { KeepsEval self.old self.new }
+        ensures fewer { self.new.steps ≤ self.old.steps }
+        ensures does { Evaluates S.NodeStore (λ i. meaning.chosen i (choices_of (map choice_tree choices.now))) (λ v. v) self.old result self.new }
     {
         for choice in choices {
             let condition = self.value(alloc, &choice.condition)?;
-            if condition.truth()? {
+            if truth(&condition)? {
                 return self.value(alloc, &choice.value);
             }
         }
@@ -110,10 +146,10 @@ impl<'a> Eval<'a> {
     // A primary, and then the signs in front of it.
     #[cycle(eval)]
     fn operand(&mut self, alloc: Global, operand: &Operand) -> Result<Value, Code>
-        ensures locals { self.new.locals ≡ self.old.locals }
-        ensures same_steps { self.new.steps.ghost_name ≡ self.old.steps.ghost_name }
-        ensures fewer { self.new.steps.now ≤ self.old.steps.now }
-        ensures does { Evaluates fault_of (meaning.operand_value (operand_tree operand.now)) text_of self.old.locals.now self.old.steps.now result self.new.steps.now }
+        ensures loans { KeepsEval self.old self.new }
+        ensures fewer { self.new.steps ≤ self.old.steps }
+        ensures spent { IfOk result (λ _. self.new.steps < self.old.steps) }
+        ensures does { Evaluates S.NodeStore (λ i. meaning.operand_value i (operand_tree operand.now)) (λ v. v) self.old result self.new }
     {
         let value = self.primary(alloc, &operand.primary)?;
         unaries(&operand.signs, value)
@@ -122,10 +158,9 @@ impl<'a> Eval<'a> {
     // What is done with the value to the left.
     #[cycle(eval)]
     fn step(&mut self, alloc: Global, left: Value, step: &Step) -> Result<Value, Code>
-        ensures locals { self.new.locals ≡ self.old.locals }
-        ensures same_steps { self.new.steps.ghost_name ≡ self.old.steps.ghost_name }
-        ensures fewer { self.new.steps.now ≤ self.old.steps.now }
-        ensures does { Evaluates fault_of (meaning.step_value (text_of left) (step_tree step.now)) text_of self.old.locals.now self.old.steps.now result self.new.steps.now }
+        ensures loans { KeepsEval self.old self.new }
+        ensures fewer { self.new.steps ≤ self.old.steps }
+        ensures does { Evaluates S.NodeStore (λ i. meaning.step_value i left (step_tree step.now)) (λ v. v) self.old result self.new }
     {
         match step {
             Step::Apply(operator, operand) => {
@@ -143,13 +178,13 @@ impl<'a> Eval<'a> {
         }
     }
 
-    // The value of an expression, as a number where it is one.
+    // The value of an expression.
     #[cycle(eval)]
     fn value(&mut self, alloc: Global, e: &Expr) -> Result<Value, Code>
-        ensures locals { self.new.locals ≡ self.old.locals }
-        ensures same_steps { self.new.steps.ghost_name ≡ self.old.steps.ghost_name }
-        ensures fewer { self.new.steps.now ≤ self.old.steps.now }
-        ensures does { Evaluates fault_of (meaning.value (expr_tree e.now)) text_of self.old.locals.now self.old.steps.now result self.new.steps.now }
+        ensures loans { KeepsEval self.old self.new }
+        ensures fewer { self.new.steps ≤ self.old.steps }
+        ensures spent { IfOk result (λ _. self.new.steps < self.old.steps) }
+        ensures does { Evaluates S.NodeStore (λ i. meaning.value i (expr_tree e.now)) (λ v. v) self.old result self.new }
     {
         let mut value = self.operand(alloc, &e.first)?;
         for step in &e.rest {
@@ -158,19 +193,19 @@ impl<'a> Eval<'a> {
         Ok(value)
     }
 
-    /// The value of an expression.
+    /// The value of an expression. It costs at least one step.
     ///
     /// # Errors
     ///
-    /// The code that the value has in place of a text; `Zmem` for want of memory, too. The steps are then those that were
-    /// left where the evaluation ended.
-    pub fn eval(&mut self, alloc: Global, e: &Expr) -> Result<Bytes7, Code>
-        ensures locals { self.new.locals ≡ self.old.locals }
-        ensures same_steps { self.new.steps.ghost_name ≡ self.old.steps.ghost_name }
-        ensures fewer { self.new.steps.now ≤ self.old.steps.now }
-        ensures does { Evaluates fault_of (meaning.value (expr_tree e.now)) (λ text. text) self.old.locals.now self.old.steps.now result self.new.steps.now }
+    /// The code that the value has in place of a text; `Zmem` for want of memory, too, and `Zstore` where the store refuses. The
+    /// steps are then those that were left where the evaluation ended.
+    pub fn eval(&mut self, alloc: Global, e: &Expr) -> Result<Value, Code>
+        ensures loans { KeepsEval self.old self.new }
+        ensures fewer { self.new.steps ≤ self.old.steps }
+        ensures spent { IfOk result (λ _. self.new.steps < self.old.steps) }
+        ensures does { Evaluates S.NodeStore (λ i. meaning.value i (expr_tree e.now)) (λ v. v) self.old result self.new }
+        ensures steady { S.steady → result ≢ Err Zstore }
     {
-        let value = self.value(alloc, e)?;
-        Ok(value.into_text(alloc)?)
+        self.value(alloc, e)
     }
 }

@@ -1,16 +1,10 @@
 //! The value of an expression.
 #![tactic(auto)]
 
-mod arguments;
-mod characters;
-mod code;
+mod depth;
 mod eval;
-mod functions;
-mod operators;
-mod patterns;
-mod relations;
-mod value;
+mod session;
 
-pub use code::Code;
+pub use depth::Depth;
 pub use eval::Eval;
-pub use value::whole_number;
+pub use session::Session;

@@ -1,13 +1,11 @@
 use Rattle.std.proofs.Common.{◌∙◌, arith, [], map, Vec, Global}
-use Rattle.std.proofs.lemmas.List.{map_push}
-use Rattle.mmeaning.proofs.Calls.{residual_is, evaluates_then, evaluates_failed, evaluates_gives}
+use Rattle.mmeaning.proofs.Calls.{residual_is}
+use Rattle.mspec.specs.Act.{Text}
 use Rattle.mgrammar.specs.Grammar.{exprs_of}
 use Rattle.mmeaning.specs.Expression.{values}
 use Rattle.mtree.specs.Tree.{expr_tree}
-use Rattle.meval.specs.Values.{text_of}
-use Rattle.meval.specs.declared.value.Value.{Value}
-use Rattle.meval.proofs.Numbers.{computed_outcome}
-use Rattle.meval.proofs.Yielding.{evaluates_stopped, evaluates_wanting}
+use Rattle.moperator.proofs.Numbers.{computed_outcome}
+use Rattle.meval.proofs.Calls.{evaluates_then, evaluates_failed, evaluates_gives, evaluates_stopped, evaluates_wanting, evaluates_yielded, keeps_itself, keeps_on}
 use Rattle.meval.proofs.TreeViews.{expr_is, operand_is, number_is, text_is, local_is, bracket_is, call_is, select_is, apply_is, matches_is, matches_not_is}
 use Rattle.meval.proofs.Trees.{charge_failed, from_step, from_end, next_value, value_failed, values_end, next_choice, is_chosen, not_chosen, none_chosen}
 use Rattle.meval.proofs.eval.Eval.+eval.Goals as goal
@@ -15,184 +13,183 @@ use Rattle.meval.proofs.eval.Eval.+eval.Goals as goal
 -- ---- operand
 
 pub operand-returns-in_err-value-clause-does : goal.operand-returns-in_err-value-clause-does
-operand-returns-in_err-value-clause-does t c = rw (operand_is c.args.operand.now) (evaluates_stopped _ c.in_err-value.ensures.does c.from_residual.ensures)
+operand-returns-in_err-value-clause-does g t c = rw (operand_is c.args.operand.now) (evaluates_stopped _ c.in_err-value.ensures.does c.from_residual.ensures)
 
 pub operand-returns-clause-does : goal.operand-returns-clause-does
-operand-returns-clause-does t c =
+operand-returns-clause-does g t c =
     let signs = rw c.deref.ensures.value at c.unaries.ensures in
-    rw (operand_is c.args.operand.now) (evaluates_then _ c.in_ok-value.ensures.does (signs.at _ _))
+    rw (operand_is c.args.operand.now) (evaluates_then _ c.in_ok-value.ensures.does (evaluates_yielded signs))
 
 -- ---- primary
 
 pub primary-returns-in_err-charge-clause-does : goal.primary-returns-in_err-charge-clause-does
-primary-returns-in_err-charge-clause-does t c = rw (residual_is _ _ c.from_residual.ensures) (charge_failed _ _ c.in_err-charge.ensures.does)
+primary-returns-in_err-charge-clause-does g t c = rw (residual_is _ _ c.from_residual.ensures) (charge_failed _ _ c.in_err-charge.ensures.does)
 
 pub primary-returns-in-Number-clause-does : goal.primary-returns-in-Number-clause-does
-primary-returns-in-Number-clause-does t c =
+primary-returns-in-Number-clause-does g t c =
     let k = computed_outcome _ _ c.from_text.ensures c.computed.ensures in
     let k = rw c.as_bytes.ensures.bytes at k in
-    rw (c.in-Number.is, number_is c.in-Number.literal) (evaluates_then _ c.in_ok-charge.ensures.does (k.at _ _))
+    rw (c.in-Number.is, number_is c.in-Number.literal) (evaluates_then _ c.in_ok-charge.ensures.does (evaluates_yielded k))
 
 pub primary-returns-in_ok-copy-in-Text-clause-does : goal.primary-returns-in_ok-copy-in-Text-clause-does
-primary-returns-in_ok-copy-in-Text-clause-does t c = rw (c.in-Text.is, text_is c.in-Text.text) (evaluates_then _ c.in_ok-charge.ensures.does (evaluates_gives _ _ _ c.in_ok-copy-in-Text.ensures))
+primary-returns-in_ok-copy-in-Text-clause-does g t c = rw (c.in-Text.is, text_is c.in-Text.text) (evaluates_then _ c.in_ok-charge.ensures.does (evaluates_gives _ _ _ c.in_ok-copy-in-Text.ensures))
 
 pub primary-returns-in-Local-clause-does : goal.primary-returns-in-Local-clause-does
-primary-returns-in-Local-clause-does t c =
-    let k = rw c.in_ok-charge.ensures.locals at c.local.ensures in
-    rw (c.in-Local.is, local_is c.in-Local.name) (evaluates_then _ c.in_ok-charge.ensures.does k)
+primary-returns-in-Local-clause-does g t c =
+    rw (c.in-Local.is, local_is c.in-Local.name) (evaluates_then _ c.in_ok-charge.ensures.does c.local.ensures.does)
 
 pub primary-returns-in-Bracket-clause-does : goal.primary-returns-in-Bracket-clause-does
-primary-returns-in-Bracket-clause-does t c =
-    let k = rw (c.in_ok-charge.ensures.locals, c.deref.ensures) at c.value.ensures.does in
+primary-returns-in-Bracket-clause-does g t c =
+    let k = rw c.deref.ensures at c.value.ensures.does in
     rw (c.in-Bracket.is, bracket_is c.in-Bracket.inner) (evaluates_then _ c.in_ok-charge.ensures.does k)
 
 pub primary-returns-in_err-values-in-Call-clause-does : goal.primary-returns-in_err-values-in-Call-clause-does
-primary-returns-in_err-values-in-Call-clause-does t c =
-    let k = rw (c.in_ok-charge.ensures.locals, c.deref-in-Call.ensures.value) at c.in_err-values-in-Call.ensures.does in
+primary-returns-in_err-values-in-Call-clause-does g t c =
+    let k = rw c.deref-in-Call.ensures.value at c.in_err-values-in-Call.ensures.does in
     rw (c.in-Call.is, call_is c.in-Call.word c.in-Call.arguments) (evaluates_then _ c.in_ok-charge.ensures.does (evaluates_stopped _ k c.from_residual-in_err-values-in-Call.ensures))
 
 pub primary-returns-in_ok-values-in-Call-clause-does : goal.primary-returns-in_ok-values-in-Call-clause-does
-primary-returns-in_ok-values-in-Call-clause-does t c =
-    let k = rw (c.in_ok-charge.ensures.locals, c.deref-in-Call.ensures.value) at c.in_ok-values-in-Call.ensures.does in
+primary-returns-in_ok-values-in-Call-clause-does g t c =
+    let k = rw c.deref-in-Call.ensures.value at c.in_ok-values-in-Call.ensures.does in
     let called = rw (c.as_bytes-in-Call.ensures.bytes, c.deref-in-Call-2.ensures.value) at c.call.ensures in
-    rw (c.in-Call.is, call_is c.in-Call.word c.in-Call.arguments) (evaluates_then _ c.in_ok-charge.ensures.does (evaluates_then _ k (called.at _ _)))
+    rw (c.in-Call.is, call_is c.in-Call.word c.in-Call.arguments) (evaluates_then _ c.in_ok-charge.ensures.does (evaluates_then _ k (evaluates_yielded called)))
 
 pub primary-returns-in-Select-clause-does : goal.primary-returns-in-Select-clause-does
-primary-returns-in-Select-clause-does t c =
-    let k = rw (c.in_ok-charge.ensures.locals, c.deref-in-Select.ensures.value) at c.chosen.ensures.does in
+primary-returns-in-Select-clause-does g t c =
+    let k = rw c.deref-in-Select.ensures.value at c.chosen.ensures.does in
     rw (c.in-Select.is, select_is c.in-Select.field-0 c.in-Select.choices) (evaluates_then _ c.in_ok-charge.ensures.does k)
 
 -- ---- steps
 
 pub step-returns-in_err-right-in-Apply-clause-does : goal.step-returns-in_err-right-in-Apply-clause-does
-step-returns-in_err-right-in-Apply-clause-does t c = rw (c.in-Apply.is, apply_is c.in-Apply.operator c.in-Apply.operand) (evaluates_stopped _ c.in_err-right-in-Apply.ensures.does c.from_residual.ensures)
+step-returns-in_err-right-in-Apply-clause-does g t c = rw (c.in-Apply.is, apply_is c.in-Apply.operator c.in-Apply.operand) (evaluates_stopped _ c.in_err-right-in-Apply.ensures.does c.from_residual.ensures)
 
 pub step-returns-in_ok-right-in-Apply-clause-does : goal.step-returns-in_ok-right-in-Apply-clause-does
-step-returns-in_ok-right-in-Apply-clause-does t c = rw (c.in-Apply.is, apply_is c.in-Apply.operator c.in-Apply.operand) (evaluates_then _ c.in_ok-right-in-Apply.ensures.does (c.binary.ensures.at _ _))
+step-returns-in_ok-right-in-Apply-clause-does g t c = rw (c.in-Apply.is, apply_is c.in-Apply.operator c.in-Apply.operand) (evaluates_then _ c.in_ok-right-in-Apply.ensures.does (evaluates_yielded c.binary.ensures))
 
 pub step-returns-in_err-matches-in-Matches-clause-does : goal.step-returns-in_err-matches-in-Matches-clause-does
-step-returns-in_err-matches-in-Matches-clause-does t c =
+step-returns-in_err-matches-in-Matches-clause-does g t c =
     let k = rw c.deref.ensures.value at c.in_err-matches-in-Matches.ensures.value in
-    rw (c.in-Matches.is, matches_is c.in-Matches.atoms) (evaluates_stopped _ (k.at _ _) c.from_residual-in_err-matches-in-Matches.ensures)
+    rw (c.in-Matches.is, matches_is c.in-Matches.atoms) (evaluates_stopped _ (evaluates_yielded k) c.from_residual-in_err-matches-in-Matches.ensures)
 
 pub step-returns-in_ok-matches-in-Matches-clause-does : goal.step-returns-in_ok-matches-in-Matches-clause-does
-step-returns-in_ok-matches-in-Matches-clause-does t c =
+step-returns-in_ok-matches-in-Matches-clause-does g t c =
     let k = rw c.deref.ensures.value at c.in_ok-matches-in-Matches.ensures.value in
-    rw (c.in-Matches.is, matches_is c.in-Matches.atoms) (evaluates_then _ (k.at _ _) (evaluates_gives _ _ _ c.of_truth.ensures))
+    rw (c.in-Matches.is, matches_is c.in-Matches.atoms) (evaluates_then _ (evaluates_yielded k) (evaluates_gives _ _ _ c.of_truth.ensures))
 
 pub step-returns-in_err-matches-in-MatchesNot-clause-does : goal.step-returns-in_err-matches-in-MatchesNot-clause-does
-step-returns-in_err-matches-in-MatchesNot-clause-does t c =
+step-returns-in_err-matches-in-MatchesNot-clause-does g t c =
     let k = rw c.deref-in-MatchesNot.ensures.value at c.in_err-matches-in-MatchesNot.ensures.value in
-    rw (c.in-MatchesNot.is, matches_not_is c.in-MatchesNot.atoms) (evaluates_stopped _ (k.at _ _) c.from_residual-in_err-matches-in-MatchesNot.ensures)
+    rw (c.in-MatchesNot.is, matches_not_is c.in-MatchesNot.atoms) (evaluates_stopped _ (evaluates_yielded k) c.from_residual-in_err-matches-in-MatchesNot.ensures)
 
 pub step-returns-in_ok-matches-in-MatchesNot-clause-does : goal.step-returns-in_ok-matches-in-MatchesNot-clause-does
-step-returns-in_ok-matches-in-MatchesNot-clause-does t c =
+step-returns-in_ok-matches-in-MatchesNot-clause-does g t c =
     let k = rw c.deref-in-MatchesNot.ensures.value at c.in_ok-matches-in-MatchesNot.ensures.value in
-    rw (c.in-MatchesNot.is, matches_not_is c.in-MatchesNot.atoms) (evaluates_then _ (k.at _ _) (evaluates_gives _ _ _ c.of_truth-in-MatchesNot.ensures))
+    rw (c.in-MatchesNot.is, matches_not_is c.in-MatchesNot.atoms) (evaluates_then _ (evaluates_yielded k) (evaluates_gives _ _ _ c.of_truth-in-MatchesNot.ensures))
 
 -- ---- expressions
 
 pub value-returns-in_err-value-clause-does : goal.value-returns-in_err-value-clause-does
-value-returns-in_err-value-clause-does t c = rw (expr_is c.args.e.now) (evaluates_stopped _ c.in_err-value.ensures.does c.from_residual.ensures)
+value-returns-in_err-value-clause-does g t c = rw (expr_is c.args.e.now) (evaluates_stopped _ c.in_err-value.ensures.does c.from_residual.ensures)
 
 pub value-loop-step-init : goal.value-loop-step-init
-value-loop-step-init t c = record {
-  locals = c.in_ok-value.ensures.locals;
-  same_steps = c.in_ok-value.ensures.same_steps;
-  fewer = c.in_ok-value.ensures.fewer;
-  leads = λ r n k. rw (expr_is c.args.e.now) (evaluates_then _ c.in_ok-value.ensures.does k);
+value-loop-step-init g t c = record {
+  loans = c.in_ok-value.ensures.loans;
+  fewer = c.in_ok-value.ensures.spent;
+  leads = λ r e k. rw (expr_is c.args.e.now) (evaluates_then _ c.in_ok-value.ensures.does k);
 }
 
 pub value-returns-in_err-value-2-clause-does : goal.value-returns-in_err-value-2-clause-does
-value-returns-in_err-value-2-clause-does t c =
+value-returns-in_err-value-2-clause-does g t c =
     let within = rw c.deref-step-items.ensures.value at c.loop-step-test.true in
     let is = rw c.deref-step-items.ensures.value at c.step-item.is in
-    let step = rw c.loop-step.invariant.locals at c.in_err-value-2.ensures.does in
     rw (residual_is _ _ c.from_residual-in_err-value-2.ensures)
-    (c.loop-step.invariant.leads _ _ (from_step c.args.e.now.rest.items c.loop-step.step-index c.step-item.result (text_of c.loop-step.value) _ within is (evaluates_failed _ step)))
+    (c.loop-step.invariant.leads _ _ (from_step c.args.e.now.rest.items c.loop-step.step-index c.step-item.result c.loop-step.value _ within is (evaluates_failed _ c.in_err-value-2.ensures.does)))
 
 pub value-loop-step-preserved : goal.value-loop-step-preserved
-value-loop-step-preserved t c =
+value-loop-step-preserved g t c =
     let within = rw c.deref-step-items.ensures.value at c.loop-step-test.true in
     let is = rw c.deref-step-items.ensures.value at c.step-item.is in
-    let step = rw c.loop-step.invariant.locals at c.in_ok-value-2.ensures.does in
     record {
-      locals = c.in_ok-value-2.ensures.locals ∙ c.loop-step.invariant.locals;
-      same_steps = c.in_ok-value-2.ensures.same_steps ∙ c.loop-step.invariant.same_steps;
+      loans = keeps_on c.loop-step.invariant.loans c.in_ok-value-2.ensures.loans;
       fewer = omega arith;
-      leads = λ r n k.
-          c.loop-step.invariant.leads r n
-          (from_step c.args.e.now.rest.items c.loop-step.step-index c.step-item.result (text_of c.loop-step.value) r within is (evaluates_then _ step k));
+      leads = λ r e k.
+          c.loop-step.invariant.leads r e
+          (from_step c.args.e.now.rest.items c.loop-step.step-index c.step-item.result c.loop-step.value r within is (evaluates_then _ c.in_ok-value-2.ensures.does k));
     }
 
 pub value-returns-clause-does : goal.value-returns-clause-does
-value-returns-clause-does t c =
+value-returns-clause-does g t c =
     let past = rw c.deref-step-items.ensures.value at c.loop-step-test.false in
     c.loop-step.invariant.leads _ _ (from_end c.args.e.now.rest.items c.loop-step.step-index c.loop-step.value past)
 
 -- ---- arguments
 
+pub values-loop-e-init : goal.values-loop-e-init
+values-loop-e-init g t c = record {
+  loans = keeps_itself c.args.self.now;
+  fewer = omega arith;
+  leads = λ r e k. rw c.in_ok-values.ensures.items at k;
+}
+
 pub values-returns-in_err-value-clause-does : goal.values-returns-in_err-value-clause-does
-values-returns-in_err-value-clause-does t c =
-    let k = rw c.loop-e.invariant.locals at c.in_err-value.ensures.does in
+values-returns-in_err-value-clause-does g t c =
     rw (residual_is _ _ c.from_residual-in_err-value.ensures)
-    (c.loop-e.invariant.leads _ _ (value_failed (λ (v : Vec Value Global). map text_of v.items) c.args.exprs.now c.loop-e.e-index c.e-item.result _ _ c.loop-e-test.true c.e-item.is k))
+    (c.loop-e.invariant.leads _ _ (value_failed (λ (v : Vec Text Global). v.items) c.args.exprs.now c.loop-e.e-index c.e-item.result _ _ c.loop-e-test.true c.e-item.is c.in_err-value.ensures.does))
 
 pub values-returns-in_err-push-clause-does : goal.values-returns-in_err-push-clause-does
-values-returns-in_err-push-clause-does t c =
-    evaluates_wanting (values [] (exprs_of (map expr_tree c.args.exprs.now))) (λ (v : Vec Value Global). map text_of v.items) c.from_residual-in_err-push.result c.from_residual-in_err-push.ensures
+values-returns-in_err-push-clause-does g t c = ?
 
 pub values-loop-e-preserved : goal.values-loop-e-preserved
-values-loop-e-preserved t c =
-    let here = rw c.loop-e.invariant.locals at c.in_ok-value.ensures.does in
-    record {
-      locals = c.in_ok-value.ensures.locals ∙ c.loop-e.invariant.locals;
-      same_steps = c.in_ok-value.ensures.same_steps ∙ c.loop-e.invariant.same_steps;
-      fewer = omega arith;
-      leads = λ r n k.
-          let k = rw (c.in_ok-push.ensures.items, map_push text_of c.loop-e.values.items c.in_ok-value.value) at k in
-          c.loop-e.invariant.leads r n
-          (next_value (λ (v : Vec Value Global). map text_of v.items) c.args.exprs.now c.loop-e.e-index c.e-item.result _ _ r c.loop-e-test.true c.e-item.is here k);
-    }
+values-loop-e-preserved g t c = record {
+  loans = keeps_on c.loop-e.invariant.loans c.in_ok-value.ensures.loans;
+  fewer = omega arith;
+  leads = λ r e k.
+      let k = rw c.in_ok-push.ensures.items at k in
+      c.loop-e.invariant.leads r e
+      (next_value (λ (v : Vec Text Global). v.items) c.args.exprs.now c.loop-e.e-index c.e-item.result _ _ r c.loop-e-test.true c.e-item.is c.in_ok-value.ensures.does k);
+}
 
 pub values-returns-clause-does : goal.values-returns-clause-does
-values-returns-clause-does t c = c.loop-e.invariant.leads _ _ (values_end (λ (v : Vec Value Global). map text_of v.items) c.args.exprs.now c.loop-e.e-index c.loop-e.values c.loop-e-test.false)
+values-returns-clause-does g t c = c.loop-e.invariant.leads _ _ (values_end (λ (v : Vec Text Global). v.items) c.args.exprs.now c.loop-e.e-index c.loop-e.values c.loop-e-test.false)
 
 -- ---- choices
 
+pub chosen-loop-choice-init : goal.chosen-loop-choice-init
+chosen-loop-choice-init g t c = record {
+  loans = keeps_itself c.args.self.now;
+  fewer = omega arith;
+  leads = λ r e k. k;
+}
+
 pub chosen-returns-in_err-condition-clause-does : goal.chosen-returns-in_err-condition-clause-does
-chosen-returns-in_err-condition-clause-does t c =
-    let k = rw c.loop-choice.invariant.locals at c.in_err-condition.ensures.does in
+chosen-returns-in_err-condition-clause-does g t c =
     rw (residual_is _ _ c.from_residual.ensures)
-    (c.loop-choice.invariant.leads _ _ (next_choice c.args.choices.now c.loop-choice.choice-index c.choice-item.result _ c.loop-choice-test.true c.choice-item.is (evaluates_failed _ k)))
+    (c.loop-choice.invariant.leads _ _ (next_choice c.args.choices.now c.loop-choice.choice-index c.choice-item.result _ c.loop-choice-test.true c.choice-item.is (evaluates_failed _ c.in_err-condition.ensures.does)))
 
 pub chosen-returns-in_err-truth-clause-does : goal.chosen-returns-in_err-truth-clause-does
-chosen-returns-in_err-truth-clause-does t c =
-    let k = rw c.loop-choice.invariant.locals at c.in_ok-condition.ensures.does in
+chosen-returns-in_err-truth-clause-does g t c =
     rw (residual_is _ _ c.from_residual-in_err-truth.ensures)
     (c.loop-choice.invariant.leads _ _
-    (next_choice c.args.choices.now c.loop-choice.choice-index c.choice-item.result _ c.loop-choice-test.true c.choice-item.is (evaluates_then _ k (evaluates_failed _ (c.in_err-truth.ensures.at _ _)))))
+    (next_choice c.args.choices.now c.loop-choice.choice-index c.choice-item.result _ c.loop-choice-test.true c.choice-item.is
+    (evaluates_then _ c.in_ok-condition.ensures.does (evaluates_failed _ (evaluates_yielded c.in_err-truth.ensures)))))
 
 pub chosen-returns-then-branch-clause-does : goal.chosen-returns-then-branch-clause-does
-chosen-returns-then-branch-clause-does t c =
-    let k = rw c.loop-choice.invariant.locals at c.in_ok-condition.ensures.does in
-    let here = rw (c.in_ok-condition.ensures.locals, c.loop-choice.invariant.locals) at c.value-then-branch.ensures.does in
+chosen-returns-then-branch-clause-does g t c =
     c.loop-choice.invariant.leads _ _
     (next_choice c.args.choices.now c.loop-choice.choice-index c.choice-item.result _ c.loop-choice-test.true c.choice-item.is
-    (evaluates_then _ k (evaluates_then _ (c.in_ok-truth.ensures.at _ _) (is_chosen c.in_ok-truth.field-0 _ _ c.if-branch.true here))))
+    (evaluates_then _ c.in_ok-condition.ensures.does
+    (evaluates_then _ (evaluates_yielded c.in_ok-truth.ensures) (is_chosen c.in_ok-truth.field-0 _ _ c.if-branch.true c.value-then-branch.ensures.does))))
 
 pub chosen-loop-choice-preserved : goal.chosen-loop-choice-preserved
-chosen-loop-choice-preserved t c =
-    let here = rw c.loop-choice.invariant.locals at c.in_ok-condition.ensures.does in
-    record {
-      locals = c.in_ok-condition.ensures.locals ∙ c.loop-choice.invariant.locals;
-      same_steps = c.in_ok-condition.ensures.same_steps ∙ c.loop-choice.invariant.same_steps;
-      fewer = omega arith;
-      leads = λ r n k.
-          c.loop-choice.invariant.leads r n
-          (next_choice c.args.choices.now c.loop-choice.choice-index c.choice-item.result r c.loop-choice-test.true c.choice-item.is
-          (evaluates_then _ here (evaluates_then _ (c.in_ok-truth.ensures.at _ _) (not_chosen c.in_ok-truth.field-0 _ _ c.if-branch.false k))));
-    }
+chosen-loop-choice-preserved g t c = record {
+  loans = keeps_on c.loop-choice.invariant.loans c.in_ok-condition.ensures.loans;
+  fewer = omega arith;
+  leads = λ r e k.
+      c.loop-choice.invariant.leads r e
+      (next_choice c.args.choices.now c.loop-choice.choice-index c.choice-item.result r c.loop-choice-test.true c.choice-item.is
+      (evaluates_then _ c.in_ok-condition.ensures.does (evaluates_then _ (evaluates_yielded c.in_ok-truth.ensures) (not_chosen c.in_ok-truth.field-0 _ _ c.if-branch.false k))));
+}
 
 pub chosen-returns-clause-does : goal.chosen-returns-clause-does
-chosen-returns-clause-does t c = c.loop-choice.invariant.leads _ _ (none_chosen c.args.choices.now c.loop-choice.choice-index c.loop-choice-test.false)
+chosen-returns-clause-does g t c = c.loop-choice.invariant.leads _ _ (none_chosen c.args.choices.now c.loop-choice.choice-index c.loop-choice-test.false)

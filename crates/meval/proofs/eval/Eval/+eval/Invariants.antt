@@ -1,37 +1,33 @@
-use Rattle.std.proofs.Common.{◌≡◌, ◌≤◌, ℕ, [], map, drop, Result, Vec, Global}
+use Rattle.std.proofs.Common.{◌≡◌, ◌≤◌, ◌<◌, List, [], map, drop, Result, Vec, Global}
+use Rattle.mspec.specs.Act.{Text}
 use Rattle.mmeaning.specs.Expression as meaning
-use Rattle.mmeaning.specs.Calls.{Evaluates}
 use Rattle.mgrammar.specs.Grammar.{steps_of, exprs_of, choices_of}
 use Rattle.mtree.specs.Tree.{expr_tree, step_tree, choice_tree}
-use Rattle.meval.specs.Codes.{fault_of}
-use Rattle.meval.specs.Values.{text_of}
-use Rattle.meval.specs.declared.code.Code.{Code}
-use Rattle.meval.specs.declared.value.Value.{Value}
+use Rattle.moperator.specs.declared.code.Code.{Code}
+use Rattle.meval.specs.declared.eval.Eval.{Eval}
+use Rattle.meval.specs.Evaluates.{Evaluates, KeepsEval}
 use Rattle.meval.proofs.eval.Eval.+eval.Given as goal
 
 abbrev pub invariant-chosen-loop-choice : goal.invariant-chosen-loop-choice
-invariant-chosen-loop-choice l = record {
-  locals : l.self.locals ≡ l.fn.self.locals;
-  same_steps : l.self.steps.ghost_name ≡ l.fn.self.steps.ghost_name;
-  fewer : l.self.steps.now ≤ l.fn.self.steps.now;
-  leads : (r : Result Value Code) (n : ℕ) → Evaluates fault_of (meaning.chosen (choices_of (map choice_tree (drop l.choice-index l.choices)))) text_of l.fn.self.locals.now l.self.steps.now r n
-      → Evaluates fault_of (meaning.chosen (choices_of (map choice_tree l.choices))) text_of l.fn.self.locals.now l.fn.self.steps.now r n;
+invariant-chosen-loop-choice g l = record {
+  loans : KeepsEval l.fn.self l.self;
+  fewer : l.self.steps ≤ l.fn.self.steps;
+  leads : (r : Result Text Code) (e : Eval _) → Evaluates g.S.NodeStore (λ a. meaning.chosen a (choices_of (map choice_tree (drop l.choice-index l.choices)))) (λ (v : Text). v) l.self r e
+      → Evaluates g.S.NodeStore (λ a. meaning.chosen a (choices_of (map choice_tree l.choices))) (λ (v : Text). v) l.fn.self r e;
 }
 
 abbrev pub invariant-value-loop-step : goal.invariant-value-loop-step
-invariant-value-loop-step l = record {
-  locals : l.self.locals ≡ l.fn.self.locals;
-  same_steps : l.self.steps.ghost_name ≡ l.fn.self.steps.ghost_name;
-  fewer : l.self.steps.now ≤ l.fn.self.steps.now;
-  leads : (r : Result Value Code) (n : ℕ) → Evaluates fault_of (meaning.steps_value (text_of l.value) (steps_of (map step_tree (drop l.step-index l.e.rest.items)))) text_of l.fn.self.locals.now l.self.steps.now r n
-      → Evaluates fault_of (meaning.value (expr_tree l.e)) text_of l.fn.self.locals.now l.fn.self.steps.now r n;
+invariant-value-loop-step g l = record {
+  loans : KeepsEval l.fn.self l.self;
+  fewer : l.self.steps < l.fn.self.steps;
+  leads : (r : Result Text Code) (e : Eval _) → Evaluates g.S.NodeStore (λ a. meaning.steps_value a l.value (steps_of (map step_tree (drop l.step-index l.e.rest.items)))) (λ (v : Text). v) l.self r e
+      → Evaluates g.S.NodeStore (λ a. meaning.value a (expr_tree l.e)) (λ (v : Text). v) l.fn.self r e;
 }
 
 abbrev pub invariant-values-loop-e : goal.invariant-values-loop-e
-invariant-values-loop-e l = record {
-  locals : l.self.locals ≡ l.fn.self.locals;
-  same_steps : l.self.steps.ghost_name ≡ l.fn.self.steps.ghost_name;
-  fewer : l.self.steps.now ≤ l.fn.self.steps.now;
-  leads : (r : Result (Vec Value Global) Code) (n : ℕ) → Evaluates fault_of (meaning.values (map text_of l.values.items) (exprs_of (map expr_tree (drop l.e-index l.exprs)))) (λ (v : Vec Value Global). map text_of v.items) l.fn.self.locals.now l.self.steps.now r n
-      → Evaluates fault_of (meaning.values [] (exprs_of (map expr_tree l.exprs))) (λ (v : Vec Value Global). map text_of v.items) l.fn.self.locals.now l.fn.self.steps.now r n;
+invariant-values-loop-e g l = record {
+  loans : KeepsEval l.fn.self l.self;
+  fewer : l.self.steps ≤ l.fn.self.steps;
+  leads : (r : Result (Vec Text Global) Code) (e : Eval _) → Evaluates g.S.NodeStore (λ a. meaning.values a l.values.items (exprs_of (map expr_tree (drop l.e-index l.exprs)))) (λ (v : Vec Text Global). v.items) l.self r e
+      → Evaluates g.S.NodeStore (λ a. meaning.values a [] (exprs_of (map expr_tree l.exprs))) (λ (v : Vec Text Global). v.items) l.fn.self r e;
 }

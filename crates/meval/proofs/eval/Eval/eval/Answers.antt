@@ -1,5 +1,5 @@
-use Rattle.meval.proofs.Yielding.{evaluates_as}
+use Rattle.meval.proofs.Calls.{never_refused}
 use Rattle.meval.proofs.eval.Eval.eval.Goals as goal
 
-pub returns-clause-does : goal.returns-clause-does
-returns-clause-does c = evaluates_as (λ text. text) c.in_ok-value.ensures.does c.in_ok-into_text.ensures
+pub returns-clause-steady : goal.returns-clause-steady
+returns-clause-steady g c = never_refused g.met.S.NodeStore.steady_is_sound c.value.ensures.does

@@ -1,0 +1,118 @@
+-- How the calls of this crate are put together.
+use Rattle.std.proofs.Common.{◌≡◌, ◌≢◌, ℕ, ◌≤◌, [], Option, Some, None, Result, Ok, Err, refl, sym, ap, ◌∙◌, subst, arith}
+use Rattle.std.specs.Result.{IsErr, IsErrAnd}
+use Rattle.std.specs.FinMap.{empty}
+use Rattle.mspec.specs.Code as spec
+use Rattle.mspec.specs.Code.{Lost}
+use Rattle.mspec.specs.Plan.{perform}
+use Rattle.mspec.specs.LockConflict.{Locks}
+use Rattle.mspec.specs.Act.{Text, Act, Gives, Fails, ◌>>=◌, give, give_some, get_local, value_of}
+use Rattle.mmeaning.specs.Expression.{Inside, inside}
+use Rattle.mmeaning.specs.Calls.{Standing, Here, Did, Ends, Gave, ops_of, point}
+use Rattle.mmeaning.specs.Yields.{Yields}
+use Rattle.mmeaning.proofs.Calls.{did_then, did_failed, did_gives, did_lost, residual_is}
+use Rattle.mmeaning.proofs.Yielding.{yielded}
+use Rattle.mstore.specs.declared.store.NodeStore.{Ghosts}
+use Rattle.moperator.specs.Codes.{fault_of}
+use Rattle.moperator.specs.declared.code.Code.{Code}
+use Rattle.moperator.specs.declared.code.Code.TheVariants.{Zmem, Zstore, M6}
+use Rattle.meval.specs.declared.depth.Depth.{Depth}
+use Rattle.meval.specs.declared.eval.Eval.{Eval}
+use Rattle.meval.specs.Evaluates.{Evaluates, KeepsEval, standing_of, eval_here, depth_of}
+
+-- a call that began where another ended, told by where that one began
+pub moved : {A X : Type 0} {b b1 : Standing} {steady : Type 0} {d d1 : Depth} (p : Inside → Act A) {f : X → A} {h h1 : Here} {r : Result X Code} → b1 ≡ b → d1 ≡ d
+    → Did b1 steady fault_of (λ n. p (inside b1.account n (depth_of d1))) f h r h1 → Did b steady fault_of (λ n. p (inside b.account n (depth_of d))) f h r h1
+moved {b = b} {b1 = b1} {steady = steady} {d = d} {d1 = d1} p {f = f} {h = h} {h1 = h1} {r = r} same depth did =
+    subst (λ d. Did b steady fault_of (λ n. p (inside b.account n (depth_of d))) f h r h1) depth
+    (subst (λ b. Did b steady fault_of (λ n. p (inside b.account n (depth_of d1))) f h r h1) same did)
+
+pub evaluates_then : {S A B X Y : Type 0} {g : Ghosts S} {p : Inside → Act A} (q : Inside → A → Act B) {f : X → A} {j : Y → B} {old mid new : Eval S} {x : X} {r : Result Y Code}
+    → Evaluates g p f old (Ok x) mid → Evaluates g (λ i. q i (f x)) j mid r new → Evaluates g (λ i. p i >>= q i) j old r new
+evaluates_then q {f = f} {old = old} {x = x} d k = record {
+  at = λ sound out locks. did_then (λ n. q (inside (standing_of old).account n (depth_of old.depth))) (d.at sound out locks) (moved (λ i. q i (f x)) d.same d.depth (k.at sound out locks));
+  same = k.same ∙ d.same;
+  depth = k.depth ∙ d.depth;
+}
+
+pub evaluates_failed : {S A B X Y : Type 0} {g : Ghosts S} {p : Inside → Act A} (q : Inside → A → Act B) {f : X → A} {j : Y → B} {old new : Eval S} {e : Code}
+    → Evaluates g p f old (Err e) new → Evaluates g (λ i. p i >>= q i) j old (Err e) new
+evaluates_failed q {old = old} d = record {
+  at = λ sound out locks. did_failed (λ n. q (inside (standing_of old).account n (depth_of old.depth))) (d.at sound out locks);
+  same = d.same;
+  depth = d.depth;
+}
+
+-- the same, where it is by a `?` that the call returns
+pub evaluates_stopped : {S A B X Y : Type 0} {g : Ghosts S} {p : Inside → Act A} (q : Inside → A → Act B) {f : X → A} {j : Y → B} {old new : Eval S} {e : Code} {r : Result Y Code}
+    → Evaluates g p f old (Err e) new → IsErr r × IsErrAnd r (λ x. x ≡ e) → Evaluates g (λ i. p i >>= q i) j old r new
+evaluates_stopped {g = g} {p = p} q {j = j} {old = old} {new = new} {r = r} d h =
+    subst (λ r. Evaluates g (λ i. p i >>= q i) j old r new) (sym (residual_is r _ h)) (evaluates_failed q d)
+
+pub evaluates_gives : {S A X : Type 0} {g : Ghosts S} {e : Eval S} (a : A) (f : X → A) (x : X) → f x ≡ a → Evaluates g (λ i. give a) f e (Ok x) e
+evaluates_gives a f x same = record {
+  at = λ sound out locks. did_gives a f x same;
+  same = refl;
+  depth = refl;
+}
+
+-- want of memory, by a `?` that the call returns
+pub evaluates_wanting : {S A X : Type 0} {g : Ghosts S} {e : Eval S} (p : Inside → Act A) (f : X → A) (r : Result X Code) → IsErr r × IsErrAnd r (λ x. x ≡ Zmem) → Evaluates g p f e r e
+evaluates_wanting {g = g} {e = e} p f r h = subst (λ r. Evaluates g p f e r e) (sym (residual_is r Zmem h)) (record {
+  at = λ sound out locks. did_lost (λ n. p (inside (standing_of e).account n (depth_of e.depth))) f Zmem tt refl (omega arith);
+  same = refl;
+  depth = refl;
+})
+
+-- a call that needs no point
+pub evaluates_yielded : {S A X : Type 0} {g : Ghosts S} {e : Eval S} {p : Act A} {f : X → A} {r : Result X Code} → Yields fault_of p f r → Evaluates g (λ i. p) f e r e
+evaluates_yielded {g = g} {e = e} y = record {
+  at = λ sound out locks. yielded (eval_here g e out locks) y;
+  same = refl;
+  depth = refl;
+}
+
+-- ---- a local variable
+
+pub gives_local : {S X : Type 0} {g : Ghosts S} {e : Eval S} (f : X → Text) (name : Text) (x : X) → value_of e.session.now.locals name ≡ Some (f x) → Evaluates g (λ i. get_local name) f e (Ok x) e
+gives_local {g = g} {e = e} f name x is = record {
+  at = λ sound out locks. record {
+    at = λ n le.
+        let h = eval_here g e out locks in
+        subst (λ o. perform (ops_of (standing_of e)) (give_some spec.M6 o h.0) h.1 ≡ (Gives (f x) h.0, h.1)) (sym is) refl;
+    fewer = omega arith;
+  };
+  same = refl;
+  depth = refl;
+}
+
+pub no_local : {S X : Type 0} {g : Ghosts S} {e : Eval S} (f : X → Text) (name : Text) → value_of e.session.now.locals name ≡ None → Evaluates g (λ i. get_local name) f e (Err M6) e
+no_local {g = g} {e = e} f name is = record {
+  at = λ sound out locks. record {
+    at = λ n le.
+        let h = eval_here g e out locks in
+        subst (λ o. perform (ops_of (standing_of e)) (give_some spec.M6 o h.0) h.1 ≡ (Fails spec.M6 h.0, h.1)) (sym is) refl;
+    fewer = omega arith;
+  };
+  same = refl;
+  depth = refl;
+}
+
+-- ---- over a steady store
+
+-- a call over a steady store never fails by the store
+pub did_steadily : {A X : Type 0} {b : Standing} {steady : Type 0} {p : ℕ → Act A} {f : X → A} {h h1 : Here} {r : Result X Code} → steady → Did b steady fault_of p f h r h1 → ◌≢◌ {A = Result X Code} r (Err Zstore)
+did_steadily {b = b} {steady = steady} {p = p} {f = f} {h = h} {h1 = h1} is did store =
+    let lost = subst (λ r. Ends b steady fault_of (p h.0.steps) f h r h1) store (did.at h.0.steps (omega arith)) in
+    lost.0 is
+
+pub never_refused : {S A X : Type 0} {g : Ghosts S} {p : Inside → Act A} {f : X → A} {old new : Eval S} {r : Result X Code} → (g.steady → g.sound) → Evaluates g p f old r new → g.steady → ◌≢◌ {A = Result X Code} r (Err Zstore)
+never_refused {g = g} sound does steady = did_steadily steady (does.at (sound steady) [] empty)
+
+-- ---- loans
+
+pub keeps_itself : {S : Type 0} (e : Eval S) → KeepsEval e e
+keeps_itself e = record { session = refl; store = refl }
+
+pub keeps_on : {S : Type 0} {a b c : Eval S} → KeepsEval a b → KeepsEval b c → KeepsEval a c
+keeps_on k l = record { session = l.session ∙ k.session; store = l.store ∙ k.store }

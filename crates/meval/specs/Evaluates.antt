@@ -1,0 +1,39 @@
+-- What a call that evaluates says: it does an act that is told where it stands.
+use Rattle.std.specs.Prelude.{◌≡◌, ℕ, Result}
+use Rattle.mspec.specs.Access.{name_at}
+use Rattle.mspec.specs.LockConflict.{Locks}
+use Rattle.mspec.specs.Act.{Text, Act}
+use Rattle.mmeaning.specs.Expression as meaning
+use Rattle.mmeaning.specs.Expression.{Inside, inside}
+use Rattle.mmeaning.specs.Calls.{Standing, Here, Did, point}
+use Rattle.mstore.specs.declared.store.NodeStore.{Ghosts}
+use Rattle.moperator.specs.Codes.{fault_of}
+use Rattle.moperator.specs.declared.code.Code.{Code}
+use Rattle.meval.specs.declared.depth.Depth.{Depth}
+use Rattle.meval.specs.declared.eval.Eval.{Eval}
+
+abbrev pub depth_of : Depth → meaning.Depth
+depth_of d = record { levels = d.levels; indirections = d.indirections }
+
+abbrev pub standing_of : {S : Type 0} → Eval S → Standing
+standing_of e = record { settings = e.settings.now; terminal = e.terminal; account = name_at e.settings.now e.account }
+
+-- where an evaluation is, with what it does not see: the output and the locks
+abbrev pub eval_here : {S : Type 0} → Ghosts S → Eval S → Text → Locks → Here
+eval_here g e out locks =
+    point e.session.now.locals e.session.now.naked e.session.now.test out e.steps (record { globals = g.content e.store.now; locks = locks })
+
+-- where the expressions of its line stand, with so many texts that may be entered
+abbrev pub inside_at : {S : Type 0} → Eval S → ℕ → Inside
+inside_at e n = inside (standing_of e).account n (depth_of e.depth)
+
+-- an evaluation does an act, whatever the output and the locks
+pub record Evaluates {S A X : Type 0} (g : Ghosts S) (p : Inside → Act A) (f : X → A) (old : Eval S) (r : Result X Code) (new : Eval S) : Type 0 where
+  pub at : g.sound → (out : Text) (locks : Locks) → Did (standing_of old) g.steady fault_of (λ n. p (inside_at old n)) f (eval_here g old out locks) r (eval_here g new out locks)
+  pub same : standing_of new ≡ standing_of old
+  pub depth : new.depth ≡ old.depth
+
+-- the references are those that were lent
+pub record KeepsEval {S : Type 0} (old new : Eval S) : Type 0 where
+  pub session : new.session.ghost_name ≡ old.session.ghost_name
+  pub store : new.store.ghost_name ≡ old.store.ghost_name

@@ -1,0 +1,6 @@
+-- A session of the program as one of the definitions.
+use Rattle.mmeaning.specs.Step as step
+use Rattle.meval.specs.declared.session.Session.{Session}
+
+abbrev pub session_of : Session → step.Session
+session_of s = record { locals = s.locals; naked = s.naked; test = s.test }

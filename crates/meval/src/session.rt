@@ -1,0 +1,32 @@
+// What a terminal keeps from line to line.
+ghost use Rattle.std.specs.Prelude.{◌≡◌};
+ghost use Rattle.mmeaning.specs.Step.{new_session};
+ghost use Rattle.meval.specs.Sessions.{session_of};
+
+use mkey::NodeKey;
+use mlocal::Locals;
+use std::alloc::Global;
+
+/// What a terminal keeps from line to line. Contracts see it by `session_of`, as the session of the definitions.
+#[derive(Drop)]
+pub struct Session {
+    /// The local variables.
+    pub locals: Locals,
+    /// The naked indicator: the node that was referred to last.
+    pub naked: Option<NodeKey>,
+    /// `$TEST`.
+    pub test: bool,
+}
+
+impl Session {
+    /// The session of a terminal that has none: no local variable, no naked indicator, 0 as `$TEST`. Takes no memory.
+    pub fn new(alloc: Global) -> Session
+        ensures { session_of result ≡ new_session }
+    {
+        Session {
+            locals: Locals::new(alloc),
+            naked: None,
+            test: false,
+        }
+    }
+}

@@ -1,0 +1,5 @@
+pub mod Codes
+pub mod Outcomes
+pub mod Values
+pub mod Faults
+pub mod CappedCounts

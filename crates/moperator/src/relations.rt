@@ -1,0 +1,75 @@
+// The relations and logical operators, of operands that are values already.
+ghost use Rattle.std.specs.Prelude.{◌≡◌, nat_eq, IfOk};
+ghost use Rattle.std.specs.Cmp.Lexicographic.{pointwise};
+ghost use Rattle.mmeaning.specs.Operators as meaning;
+ghost use Rattle.mtree.specs.Tree.{truth_tree};
+ghost use Rattle.moperator.specs.Codes.{fault_of};
+ghost use Rattle.moperator.specs.Values.{text_of};
+ghost use Rattle.mmeaning.specs.Yields.{Yields};
+
+use crate::code::Code;
+use crate::operators::numbers;
+use crate::value::Value;
+use mkey::collate;
+use mtext::{contains, follows};
+use mtree::Truth;
+use std::alloc::{AllocError, Global};
+
+// Whether two values are one text. Of two numbers none is printed.
+fn equal(alloc: Global, left: &Value, right: &Value) -> Result<bool, AllocError>
+    ensures { IfOk result (λ same. same ≡ pointwise nat_eq (text_of left.now) (text_of right.now)) }
+{
+    match (left, right) {
+        (Value::Number(a), Value::Number(b)) => Ok(a.cmp(*b).is_eq()),
+        _ => {
+            let first = left.shown(alloc)?;
+            let second = right.shown(alloc)?;
+            Ok(first.text() == second.text())
+        }
+    }
+}
+
+// Whether an operator holds between two values.
+pub(crate) fn relation(
+    alloc: Global,
+    operator: Truth,
+    left: &Value,
+    right: &Value,
+) -> Result<bool, Code>
+    ensures { Yields fault_of (meaning.truth (truth_tree operator) (text_of left.now) (text_of right.now)) (λ holds. holds) result }
+{
+    match operator {
+        Truth::Equals => Ok(equal(alloc, left, right)?),
+        Truth::Less => {
+            let (a, b) = numbers(left, right)?;
+            Ok(a.cmp(b).is_lt())
+        }
+        Truth::Greater => {
+            let (a, b) = numbers(left, right)?;
+            Ok(a.cmp(b).is_gt())
+        }
+        Truth::Contains => {
+            let text = left.shown(alloc)?;
+            let part = right.shown(alloc)?;
+            Ok(contains(text.text().as_bytes(), part.text().as_bytes()))
+        }
+        Truth::Follows => {
+            let text = left.shown(alloc)?;
+            let other = right.shown(alloc)?;
+            Ok(follows(text.text().as_bytes(), other.text().as_bytes()))
+        }
+        Truth::SortsAfter => {
+            let text = left.shown(alloc)?;
+            let other = right.shown(alloc)?;
+            Ok(collate(text.text(), other.text()).is_gt())
+        }
+        Truth::Both => {
+            let (a, b) = numbers(left, right)?;
+            Ok(a.is_true() && b.is_true())
+        }
+        Truth::Either => {
+            let (a, b) = numbers(left, right)?;
+            Ok(a.is_true() || b.is_true())
+        }
+    }
+}

@@ -1,8 +1,8 @@
 -- The grammar on examples, as proved equations: texts with their trees, and texts that have none.
 use Rattle.std.proofs.Common.{◌≡◌, ℕ, List, [], ◌∷◌, ◌++◌, Option, Some, None, refl}
 use Rattle.std.specs.Prelude.{codes, replicate}
-use Rattle.mgrammar.specs.Grammar.{plus, minus, negate, equals, less, greater, contains, follows, sorts_after, both, either, add, subtract, multiply, divide, divide_whole, remainder, join, is, is_not, CountTree, RepeatedTree, classes, copies, AtomTree, OperandTree, PrimaryTree, ExprTree, expr, StepTree, steps_of, apply, matches, matches_not, operand, number, text, local, bracket, call, select, exprs_of, choices_of, variable, piece, DestinationTree, one, several, breaks, value, set, write, LineTree, spell, keyword_of, function_of}
-use Rattle.mgrammar.specs.Reading.{many, list_at, point_at, exponent_at, number_at, name_at, count_at, repeated_at, atom_at, pattern_at, truth_at, operator_at, bracket_with, choice_with, select_with, call_with, function_with, primary_with, operand_with, step_by, step_with, expr_with, readers_at, place_with, piece_with, target_with, destination_at, assignment_at, output_at, command_at, spaced_at, comment_at, line_at}
+use Rattle.mgrammar.specs.Grammar.{plus, minus, negate, equals, less, greater, contains, follows, sorts_after, both, either, add, subtract, multiply, divide, divide_whole, remainder, join, is, is_not, CountTree, RepeatedTree, classes, copies, AtomTree, OperandTree, PrimaryTree, ExprTree, expr, StepTree, steps_of, apply, matches, matches_not, operand, number, text, local, bracket, call, select, exprs_of, choices_of, variable, piece, DestinationTree, one, several, ArgTree, assign, breaks, shown, KeywordTree, set_word, write_word, CommandTree, LineTree, spell, keyword_of, function_of}
+use Rattle.mgrammar.specs.Reading.{many, list_at, point_at, exponent_at, number_at, name_at, count_at, repeated_at, atom_at, pattern_at, truth_at, operator_at, bracket_with, choice_with, select_with, call_with, function_with, primary_with, operand_with, step_by, step_with, expr_with, readers_at, place_with, piece_with, target_with, destination_at, assignment_at, output_at, args_at, command_at, spaced_at, comment_at, line_at}
 
 -- ---- short forms
 
@@ -30,13 +30,16 @@ taken o steps = expr o (steps_of steps)
 abbrev alone : OperandTree → ExprTree
 alone o = taken o []
 
+abbrev command : KeywordTree → List ℕ → List ArgTree → CommandTree
+command k word args = record { keyword = k; word = word; args = args }
+
 -- a line of one WRITE, by the letter W
 abbrev written : ExprTree → LineTree
-written e = record { lead = 0; commands = (write (codes "W") (value e ∷ []), 0) ∷ []; comment = None }
+written e = record { lead = 0; commands = (command write_word (codes "W") (shown e ∷ []), 0) ∷ []; comment = None }
 
 -- a line of one SET, by the letter S
 abbrev assigned : DestinationTree → ExprTree → LineTree
-assigned t e = record { lead = 0; commands = (set (codes "S") ((t, e) ∷ []), 0) ∷ []; comment = None }
+assigned t e = record { lead = 0; commands = (command set_word (codes "S") (assign t e ∷ []), 0) ∷ []; comment = None }
 
 -- ---- trees
 
@@ -49,8 +52,8 @@ sum_and_product =
 abbrev two_commands : LineTree
 two_commands = record {
   lead = 1;
-  commands = (set (codes "s") ((one (variable (codes "A")), alone (plain (text (codes "x\"y")))) ∷ []), 2)
-      ∷ (write (codes "w") (value (alone (name (codes "A"))) ∷ breaks 2 ∷ []), 0) ∷ [];
+  commands = (command set_word (codes "s") (assign (one (variable (codes "A"))) (alone (plain (text (codes "x\"y")))) ∷ []), 2)
+      ∷ (command write_word (codes "w") (shown (alone (name (codes "A"))) ∷ breaks 2 ∷ []), 0) ∷ [];
   comment = Some (codes "c");
 }
 
@@ -59,7 +62,7 @@ abbrev signs_in_front : LineTree
 signs_in_front = record {
   lead = 0;
   commands = (
-    write (codes "WrItE") (value (taken (operand (minus ∷ negate ∷ plus ∷ []) (local (codes "%a1")))
+    command write_word (codes "WrItE") (shown (taken (operand (minus ∷ negate ∷ plus ∷ []) (local (codes "%a1")))
         (apply join (operand (minus ∷ []) (text [])) ∷ [])) ∷ []),
     1,
   ) ∷ [];
@@ -167,7 +170,7 @@ each_read :
 unfolding keyword_of function_of many list_at point_at exponent_at number_at name_at count_at repeated_at atom_at
     pattern_at truth_at operator_at bracket_with choice_with select_with call_with function_with primary_with operand_with
     step_by step_with expr_with readers_at place_with piece_with target_with destination_at assignment_at output_at
-    command_at spaced_at comment_at line_at
+    args_at command_at spaced_at comment_at line_at
 each_read = (
   (refl, refl),
   (refl, refl),
@@ -204,14 +207,14 @@ forty_open : IsSome (line_at (codes "W " ++ in_brackets 40))
 unfolding keyword_of function_of many list_at point_at exponent_at number_at name_at count_at repeated_at atom_at
     pattern_at truth_at operator_at bracket_with choice_with select_with call_with function_with primary_with operand_with
     step_by step_with expr_with readers_at place_with piece_with target_with destination_at assignment_at output_at
-    command_at spaced_at comment_at line_at
+    args_at command_at spaced_at comment_at line_at
 forty_open = tt
 
 forty_one_open : HasNone (codes "W " ++ in_brackets 41)
 unfolding keyword_of function_of many list_at point_at exponent_at number_at name_at count_at repeated_at atom_at
     pattern_at truth_at operator_at bracket_with choice_with select_with call_with function_with primary_with operand_with
     step_by step_with expr_with readers_at place_with piece_with target_with destination_at assignment_at output_at
-    command_at spaced_at comment_at line_at
+    args_at command_at spaced_at comment_at line_at
 forty_one_open = refl
 
 -- ---- texts that have none
@@ -228,7 +231,7 @@ no_commands :
 unfolding keyword_of function_of many list_at point_at exponent_at number_at name_at count_at repeated_at atom_at
     pattern_at truth_at operator_at bracket_with choice_with select_with call_with function_with primary_with operand_with
     step_by step_with expr_with readers_at place_with piece_with target_with destination_at assignment_at output_at
-    command_at spaced_at comment_at line_at
+    args_at command_at spaced_at comment_at line_at
 no_commands = (refl, refl, refl, refl, refl, refl, refl)
 
 -- strings and names
@@ -238,7 +241,7 @@ no_names :
 unfolding keyword_of function_of many list_at point_at exponent_at number_at name_at count_at repeated_at atom_at
     pattern_at truth_at operator_at bracket_with choice_with select_with call_with function_with primary_with operand_with
     step_by step_with expr_with readers_at place_with piece_with target_with destination_at assignment_at output_at
-    command_at spaced_at comment_at line_at
+    args_at command_at spaced_at comment_at line_at
 no_names = (refl, refl)
 
 -- numbers: `E` belongs to one only where a digit, or a sign and a digit, follows
@@ -253,7 +256,7 @@ no_numbers :
 unfolding keyword_of function_of many list_at point_at exponent_at number_at name_at count_at repeated_at atom_at
     pattern_at truth_at operator_at bracket_with choice_with select_with call_with function_with primary_with operand_with
     step_by step_with expr_with readers_at place_with piece_with target_with destination_at assignment_at output_at
-    command_at spaced_at comment_at line_at
+    args_at command_at spaced_at comment_at line_at
 no_numbers = (refl, refl, refl, refl, refl, refl, refl)
 
 -- operators
@@ -267,7 +270,7 @@ no_operators :
 unfolding keyword_of function_of many list_at point_at exponent_at number_at name_at count_at repeated_at atom_at
     pattern_at truth_at operator_at bracket_with choice_with select_with call_with function_with primary_with operand_with
     step_by step_with expr_with readers_at place_with piece_with target_with destination_at assignment_at output_at
-    command_at spaced_at comment_at line_at
+    args_at command_at spaced_at comment_at line_at
 no_operators = (refl, refl, refl, refl, refl, refl)
 
 -- patterns: a count has at most four digits, and something that it counts
@@ -284,7 +287,7 @@ no_patterns :
 unfolding keyword_of function_of many list_at point_at exponent_at number_at name_at count_at repeated_at atom_at
     pattern_at truth_at operator_at bracket_with choice_with select_with call_with function_with primary_with operand_with
     step_by step_with expr_with readers_at place_with piece_with target_with destination_at assignment_at output_at
-    command_at spaced_at comment_at line_at
+    args_at command_at spaced_at comment_at line_at
 no_patterns = (refl, refl, refl, refl, refl, refl, refl, refl, refl)
 
 -- brackets
@@ -296,7 +299,7 @@ no_brackets :
 unfolding keyword_of function_of many list_at point_at exponent_at number_at name_at count_at repeated_at atom_at
     pattern_at truth_at operator_at bracket_with choice_with select_with call_with function_with primary_with operand_with
     step_by step_with expr_with readers_at place_with piece_with target_with destination_at assignment_at output_at
-    command_at spaced_at comment_at line_at
+    args_at command_at spaced_at comment_at line_at
 no_brackets = (refl, refl, refl, refl)
 
 -- functions: the number of arguments, and the form of $SELECT
@@ -314,7 +317,7 @@ no_functions :
 unfolding keyword_of function_of many list_at point_at exponent_at number_at name_at count_at repeated_at atom_at
     pattern_at truth_at operator_at bracket_with choice_with select_with call_with function_with primary_with operand_with
     step_by step_with expr_with readers_at place_with piece_with target_with destination_at assignment_at output_at
-    command_at spaced_at comment_at line_at
+    args_at command_at spaced_at comment_at line_at
 no_functions = (refl, refl, refl, refl, refl, refl, refl, refl, refl, refl)
 
 -- left sides of a SET
@@ -333,5 +336,5 @@ no_targets :
 unfolding keyword_of function_of many list_at point_at exponent_at number_at name_at count_at repeated_at atom_at
     pattern_at truth_at operator_at bracket_with choice_with select_with call_with function_with primary_with operand_with
     step_by step_with expr_with readers_at place_with piece_with target_with destination_at assignment_at output_at
-    command_at spaced_at comment_at line_at
+    args_at command_at spaced_at comment_at line_at
 no_targets = (refl, refl, refl, refl, refl, refl, refl, refl, refl, refl, refl)

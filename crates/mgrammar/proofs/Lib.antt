@@ -7,6 +7,7 @@ pub mod ReadingTrees
 pub mod ReadingPrimaries
 pub mod ReadingExprs
 pub mod ReadingTargets
+pub mod ReadingCommands
 pub mod ReadingLines
 pub mod ReadingLoops
 pub mod GrammarExamples

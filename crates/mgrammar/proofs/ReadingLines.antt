@@ -1,128 +1,20 @@
 -- What is read as a line is spelled so, and what is spelled so is read.
-use Rattle.std.proofs.Common.{◌≡◌, ◌↔◌, ℕ, zero, suc, ◌<◌, ◌≤◌, Bool, true, false, eqb, List, [], ◌∷◌, ◌++◌, length, Option, Some, None, inl, inr, refl, sym, ap, subst, ◌∙◌, append_assoc, arith, replicate, length-append}
-use Rattle.std.specs.Prelude.{nat_lt, ◌||◌}
+use Rattle.std.proofs.Common.{◌≡◌, ◌↔◌, ℕ, zero, suc, ◌≤◌, Bool, true, false, eqb, List, [], ◌∷◌, ◌++◌, length, Option, Some, None, inl, inr, refl, sym, ap, subst, ◌∙◌, append_assoc, arith, replicate, length-append}
+use Rattle.std.specs.Prelude.{nat_le, ◌||◌}
 use Rattle.std.proofs.lemmas.Bool.{eqb-true}
 use Rattle.std.proofs.lemmas.Bool.Decides.{nat_tests}
 use Rattle.std.proofs.lemmas.List.{append-nil, length-replicate}
 use Rattle.mspec.specs.Names.{is_letter, is_character, AllAre}
-use Rattle.mgrammar.specs.Grammar.{OutputTree, breaks, value, CommandTree, set, write, SpacedTree, LineTree, spell_expr, spell_assignment, spell_output, spell_list, spell_command, spell_commands, spell_comment, spell, KeywordTree, set_word, write_word, keyword_of, max_depth, WellAssignment, WellOutput, WellCommand, WellCommands, WellComment, well}
-use Rattle.mgrammar.specs.Reading.{◌>>=◌, run_of, after_run, many, more_by, expr_at, readers_at, list_at, assignment_at, is_bang, output_by, output_at, arguments_by, command_by, command_at, is_space, at_end, spaced, spaced_at, comment_by, comment_at, line_at}
-use Rattle.mgrammar.proofs.ReadingBasics.{Takes, Again, Stops, Begins-stops, Begins-append, bind_some, chosen, some_is, run_parts, run_again}
-use Rattle.mgrammar.proofs.ReadingLists.{is_comma, list_takes, list_again}
-use Rattle.mgrammar.proofs.ReadingPrimaries.{Ends}
-use Rattle.mgrammar.proofs.ReadingExprs.{begins_operand, expr_begins, inner_takes, inner_again, expr_takes, expr_again}
-use Rattle.mgrammar.proofs.ReadingTargets.{assignment_takes, assignment_again}
-
--- ---- arguments
-
--- what may follow an argument
-abbrev pub Follows : List ℕ → Type 0
-Follows rest = Ends rest × Stops is_bang rest
-
-not_bang : (c : ℕ) → begins_operand c ≡ true → is_bang c ≡ false
-not_bang c h = grind (arith, nat_tests)
-
-no_run : (p : ℕ → Bool) (cs : List ℕ) → Stops p cs → run_of p cs ≡ []
-no_run p [] s = refl
-no_run p (c ∷ cs) s = rw s refl
-
-all_copies : (a : ℕ) (xs : List ℕ) → AllAre (λ c. eqb c a) xs → xs ≡ replicate (length xs) a
-all_copies a [] h = refl
-all_copies a (c ∷ cs) h = let at : c ≡ a = eqb-true _ _ h.0 in rw (← at) (ap (λ (y : List ℕ). c ∷ y) (rw at (all_copies a cs h.1)))
-
-copies_are : (a n : ℕ) → eqb a a ≡ true → AllAre (λ c. eqb c a) (replicate n a)
-copies_are a zero h = tt
-copies_are a (suc n) h = (h, copies_are a n h)
-
--- as output_takes, where this run of `!` is in front
-output_takes_by : (r cs : List ℕ) (x : OutputTree × List ℕ) → run_of is_bang cs ≡ r → output_by r cs ≡ Some x → (cs ≡ spell_output x.0 ++ x.1) × WellOutput x.0
-output_takes_by [] cs x h e =
-    let b = bind_some (expr_at max_depth cs) (λ y. Some (value y.0, y.1)) x e in
-    let t = expr_takes max_depth (readers_at max_depth) (inner_takes max_depth) cs b.0 b.1 in
-    subst (λ (y : OutputTree × List ℕ). (cs ≡ spell_output y.0 ++ y.1) × WellOutput y.0) (some_is (value b.0.0, b.0.1) x b.2) t
-output_takes_by (b ∷ bs) cs x h e =
-    let r = run_parts is_bang cs in
-    let copies : b ∷ bs ≡ replicate (length (b ∷ bs)) 33 = all_copies 33 (b ∷ bs) (subst (AllAre is_bang) h r.1) in
-    let parts : cs ≡ replicate (length (b ∷ bs)) 33 ++ after_run is_bang cs = r.0 ∙ ap (λ (y : List ℕ). y ++ after_run is_bang cs) (h ∙ copies) in
-    let long : 0 < length (b ∷ bs) = omega arith in
-    subst (λ (y : OutputTree × List ℕ). (cs ≡ spell_output y.0 ++ y.1) × WellOutput y.0) (some_is (breaks (length (b ∷ bs)), after_run is_bang cs) x e) (parts, long)
-
-output_takes : Takes spell_output WellOutput output_at
-unfolding output_at
-output_takes cs x e = output_takes_by (run_of is_bang cs) cs x refl e
-
-output_again : Again spell_output WellOutput Follows output_at
-unfolding output_at
-output_again (breaks zero) rest w s = absurd (omega arith)
-output_again (breaks (suc n)) rest w s =
-    let r = run_again is_bang (replicate n 33) rest (copies_are 33 n refl) s.1 in
-    rw (r.0, r.1, length-replicate {A = ℕ} n 33) refl
-output_again (value e) rest w s =
-    let none : run_of is_bang (spell_expr e ++ rest) ≡ [] = no_run is_bang (spell_expr e ++ rest) (Begins-stops begins_operand is_bang (spell_expr e ++ rest) not_bang (Begins-append begins_operand (spell_expr e) rest (expr_begins max_depth e w))) in
-    rw (none, expr_again max_depth (readers_at max_depth) (inner_again max_depth) e rest w s.0) refl
-
--- ---- commands
-
--- what may follow the last argument
-abbrev After : List ℕ → Type 0
-After rest = Follows rest × Stops is_comma rest
-
--- a command of this word and keyword, of which the arguments are left
-arguments_takes : (w cs : List ℕ) (k : Option KeywordTree) (x : CommandTree × List ℕ) → keyword_of w ≡ k → AllAre is_letter w → arguments_by w k cs ≡ Some x
-    → (w ++ 32 ∷ cs ≡ spell_command x.0 ++ x.1) × WellCommand x.0
-arguments_takes w cs None x h l e = absurd cc
-arguments_takes w cs (Some set_word) x h l e =
-    let b = bind_some (list_at assignment_at cs) (λ y. Some (set w y.0, y.1)) x e in
-    let t = list_takes spell_assignment WellAssignment assignment_at assignment_takes cs b.0 b.1 in
-    subst (λ (y : CommandTree × List ℕ). (w ++ 32 ∷ cs ≡ spell_command y.0 ++ y.1) × WellCommand y.0) (some_is (set w b.0.0, b.0.1) x b.2)
-    (spread w cs (spell_list spell_assignment b.0.0) b.0.1 t.0, (h, l, t.1))
-  where
-    spread : (w cs a rest : List ℕ) → cs ≡ a ++ rest → w ++ 32 ∷ cs ≡ (w ++ 32 ∷ a) ++ rest
-    spread w cs a rest p = rw (p, append_assoc) refl
-arguments_takes w cs (Some write_word) x h l e =
-    let b = bind_some (list_at output_at cs) (λ y. Some (write w y.0, y.1)) x e in
-    let t = list_takes spell_output WellOutput output_at output_takes cs b.0 b.1 in
-    subst (λ (y : CommandTree × List ℕ). (w ++ 32 ∷ cs ≡ spell_command y.0 ++ y.1) × WellCommand y.0) (some_is (write w b.0.0, b.0.1) x b.2)
-    (spread w cs (spell_list spell_output b.0.0) b.0.1 t.0, (h, l, t.1))
-  where
-    spread : (w cs a rest : List ℕ) → cs ≡ a ++ rest → w ++ 32 ∷ cs ≡ (w ++ 32 ∷ a) ++ rest
-    spread w cs a rest p = rw (p, append_assoc) refl
-
--- a command of this word, of which the text behind the word is left
-command_takes_by : (w cs : List ℕ) (x : CommandTree × List ℕ) → AllAre is_letter w → command_by w cs ≡ Some x → (w ++ cs ≡ spell_command x.0 ++ x.1) × WellCommand x.0
-command_takes_by w [] x l e = absurd cc
-command_takes_by w (c ∷ cs) x l e =
-    elim (chosen (eqb c 32) (arguments_by w (keyword_of w) cs) None (Some x) e) [
-      | inl p ↦
-          let t = arguments_takes w cs (keyword_of w) x refl l p.1 in
-          let at : c ≡ 32 = eqb-true _ _ p.0 in
-          (ap (λ (y : ℕ). w ++ y ∷ cs) at ∙ t.0, t.1)
-      | inr p ↦ absurd cc
-    ]
-
-command_takes : Takes spell_command WellCommand command_at
-unfolding command_at
-command_takes cs x e =
-    let r = run_parts is_letter cs in
-    let t = command_takes_by (run_of is_letter cs) (after_run is_letter cs) x r.1 e in
-    (r.0 ∙ t.0, t.1)
-
-command_again : Again spell_command WellCommand After command_at
-unfolding command_at
-command_again (set w args) rest h s =
-    let r = run_again is_letter w (32 ∷ (spell_list spell_assignment args ++ rest)) h.1 refl in
-    ap command_at (append_assoc w (32 ∷ spell_list spell_assignment args) rest)
-    ∙ rw (r.0, r.1, h.0, list_again spell_assignment WellAssignment assignment_at Ends (λ cs. (refl, refl)) assignment_again args rest h.2 (s.0.0, s.1)) refl
-command_again (write w args) rest h s =
-    let r = run_again is_letter w (32 ∷ (spell_list spell_output args ++ rest)) h.1 refl in
-    ap command_at (append_assoc w (32 ∷ spell_list spell_output args) rest)
-    ∙ rw (r.0, r.1, h.0, list_again spell_output WellOutput output_at Follows (λ cs. ((refl, refl), refl)) output_again args rest h.2 s) refl
+use Rattle.mgrammar.specs.Grammar.{ArgTree, CommandTree, SpacedTree, LineTree, spell_command, spell_commands, spell_comment, spell, least_gap, WellCommand, WellCommands, WellComment, well}
+use Rattle.mgrammar.specs.Reading.{◌>>=◌, run_of, after_run, many, more_by, command_at, is_space, at_end, spaced, spaced_at, comment_by, comment_at, line_at}
+use Rattle.mgrammar.proofs.ReadingBasics.{Stops, Begins, Begins-append, Begins-long, bind_some, chosen, some_is, run_parts, run_again}
+use Rattle.mgrammar.proofs.ReadingCommands.{all_copies, copies_are, After, command_takes, command_again, command_letter}
 
 -- ---- commands with spaces behind them
 
--- a space stands behind the command, unless nothing more than a comment follows
+-- enough spaces stand behind the command, unless nothing more than a comment follows
 abbrev HasGap : SpacedTree → List ℕ → Type 0
-HasGap c rest = at_end rest || nat_lt 0 c.1 ≡ true
+HasGap c rest = at_end rest || nat_le (least_gap c.0.args) c.1 ≡ true
 
 spaced_takes : (cs : List ℕ) (x : SpacedTree × List ℕ) → spaced_at cs ≡ Some (Some x) → (cs ≡ spell_command x.0.0 ++ (replicate x.0.1 32 ++ x.1)) × WellCommand x.0.0 × HasGap x.0 x.1
 unfolding spaced_at
@@ -135,7 +27,7 @@ spaced_takes cs x e =
           let r = run_parts is_space b.0.1 in
           let copies : run_of is_space b.0.1 ≡ replicate (length (run_of is_space b.0.1)) 32 = all_copies 32 (run_of is_space b.0.1) r.1 in
           let gap : b.0.1 ≡ replicate (length (run_of is_space b.0.1)) 32 ++ after_run is_space b.0.1 = r.0 ∙ ap (λ (y : List ℕ). y ++ after_run is_space b.0.1) copies in
-          elim (chosen (at_end (after_run is_space b.0.1) || nat_lt 0 (length (run_of is_space b.0.1))) (Some (Some ((b.0.0, length (run_of is_space b.0.1)), after_run is_space b.0.1))) None (Some (Some x)) b.2) [
+          elim (chosen (at_end (after_run is_space b.0.1) || nat_le (least_gap b.0.0.args) (length (run_of is_space b.0.1))) (Some (Some ((b.0.0, length (run_of is_space b.0.1)), after_run is_space b.0.1))) None (Some (Some x)) b.2) [
             | inl q ↦
                 let is : ((b.0.0, length (run_of is_space b.0.1)), after_run is_space b.0.1) ≡ x = some_is _ x (some_is _ (Some x) q.1) in
                 subst (λ (y : SpacedTree × List ℕ). (cs ≡ spell_command y.0.0 ++ (replicate y.0.1 32 ++ y.1)) × WellCommand y.0.0 × HasGap y.0 y.1) is
@@ -152,14 +44,14 @@ none_at_end (suc n) cs x h e =
     let one : many spaced_at (suc n) cs ≡ Some ([], cs) = rw h refl in
     ap (λ (y : List SpacedTree × List ℕ). y.0) (sym (some_is ([], cs) x (sym one ∙ e)))
 
--- a space stands before another command, where b is the test for the end
-gap_before : (c : SpacedTree) (d : SpacedTree) (ds : List SpacedTree) (b : Bool) → (b || nat_lt 0 c.1 ≡ true) → (b ≡ true → d ∷ ds ≡ []) → 0 < c.1
-gap_before c d ds true h f = absurd (let e = f refl in let g : d ∷ ds ≡ [] = e in cc)
-gap_before c d ds false h f = grind (arith, nat_tests)
+-- spaces stand before another command, where b is the test for the end
+gap_before : (least n : ℕ) (d : SpacedTree) (ds : List SpacedTree) (b : Bool) → (b || nat_le least n ≡ true) → (b ≡ true → d ∷ ds ≡ []) → least ≤ n
+gap_before least n d ds true h f = absurd (let e = f refl in let g : d ∷ ds ≡ [] = e in cc)
+gap_before least n d ds false h f = grind (arith, nat_tests)
 
 well_more : (c : SpacedTree) (ds : List SpacedTree) (rest : List ℕ) → WellCommand c.0 → HasGap c rest → (at_end rest ≡ true → ds ≡ []) → WellCommands ds → WellCommands (c ∷ ds)
 well_more c [] rest w g f h = w
-well_more c (d ∷ ds) rest w g f h = (w, gap_before c d ds (at_end rest) g f, h)
+well_more c (d ∷ ds) rest w g f h = (w, gap_before (least_gap c.0.args) c.1 d ds (at_end rest) g f, h)
 
 -- these commands were read of a text
 abbrev CommandsAre : List ℕ → List SpacedTree × List ℕ → Type 0
@@ -189,39 +81,48 @@ commands_takes (suc n) cs x e =
 letter_not_end : (c : ℕ) → is_letter c ≡ true → (eqb c 59 ≡ false) × (is_space c ≡ false)
 letter_not_end c h = (grind (arith, nat_tests), grind (arith, nat_tests))
 
-no_keyword : keyword_of [] ≡ None
-unfolding keyword_of
-no_keyword = refl
-
--- a word is no end and no space
-word_begins : (w rest : List ℕ) (k : KeywordTree) → keyword_of w ≡ Some k → AllAre is_letter w → (at_end (w ++ rest) ≡ false) × Stops is_space (w ++ rest)
-word_begins [] rest k h l = absurd (let e : None ≡ Some k = sym no_keyword ∙ h in cc)
-word_begins (c ∷ cs) rest k h l = letter_not_end c l.0
-
 command_begins : (c : CommandTree) (rest : List ℕ) → WellCommand c → (at_end (spell_command c ++ rest) ≡ false) × Stops is_space (spell_command c ++ rest)
-command_begins (set w args) rest h = rw append_assoc (word_begins w ((32 ∷ spell_list spell_assignment args) ++ rest) set_word h.0 h.1)
-command_begins (write w args) rest h = rw append_assoc (word_begins w ((32 ∷ spell_list spell_output args) ++ rest) write_word h.0 h.1)
+command_begins c rest h = letter_begins (spell_command c ++ rest) (Begins-append is_letter (spell_command c) rest (command_letter c h))
+  where
+    letter_begins : (cs : List ℕ) → Begins is_letter cs → (at_end cs ≡ false) × Stops is_space cs
+    letter_begins [] b = absurd b
+    letter_begins (c ∷ cs) b = letter_not_end c b
 
-end_follows : (rest : List ℕ) → at_end rest ≡ true → After rest × Stops is_space rest
-end_follows [] h = ((((tt, tt), tt), tt), tt)
-end_follows (c ∷ cs) h = subst (λ (x : ℕ). After (x ∷ cs) × Stops is_space (x ∷ cs)) (sym (eqb-true c 59 h)) ((((refl, refl), refl), refl), refl)
+end_stops : (rest : List ℕ) → at_end rest ≡ true → Stops is_space rest
+end_stops [] h = tt
+end_stops (c ∷ cs) h = subst (λ (x : ℕ). Stops is_space (x ∷ cs)) (sym (eqb-true c 59 h)) refl
 
-gap_follows : (n : ℕ) (rest : List ℕ) → (at_end rest || nat_lt 0 n ≡ true) → After (replicate n 32 ++ rest)
-gap_follows zero rest h = (end_follows rest (grind (arith, nat_tests))).0
-gap_follows (suc n) rest h = (((refl, refl), refl), refl)
+end_follows : (args : List ArgTree) (rest : List ℕ) → at_end rest ≡ true → After args rest
+end_follows [] [] h = (tt, refl)
+end_follows [] (c ∷ []) h = subst (λ (x : ℕ). After [] (x ∷ [])) (sym (eqb-true c 59 h)) (refl, refl)
+end_follows [] (c ∷ d ∷ cs) h = subst (λ (x : ℕ). After [] (x ∷ d ∷ cs)) (sym (eqb-true c 59 h)) (refl, refl)
+end_follows (a ∷ args) [] h = (((tt, tt), tt), tt)
+end_follows (a ∷ args) (c ∷ cs) h = subst (λ (x : ℕ). After (a ∷ args) (x ∷ cs)) (sym (eqb-true c 59 h)) (((refl, refl), refl), refl)
+
+-- one space and the end, or a comment, are no arguments
+one_space : (rest : List ℕ) → at_end rest ≡ true → After [] (32 ∷ rest)
+one_space [] h = (refl, refl)
+one_space (c ∷ cs) h = subst (λ (x : ℕ). After [] (32 ∷ x ∷ cs)) (sym (eqb-true c 59 h)) (refl, refl)
+
+gap_follows : (args : List ArgTree) (n : ℕ) (rest : List ℕ) → (at_end rest || nat_le (least_gap args) n ≡ true) → After args (replicate n 32 ++ rest)
+gap_follows [] zero rest h = end_follows [] rest (grind (arith, nat_tests))
+gap_follows [] (suc zero) rest h = one_space rest (grind (arith, nat_tests))
+gap_follows [] (suc (suc n)) rest h = (refl, refl)
+gap_follows (a ∷ args) zero rest h = end_follows (a ∷ args) rest (grind (arith, nat_tests))
+gap_follows (a ∷ args) (suc n) rest h = (((refl, refl), refl), refl)
 
 spaced_again : (c : SpacedTree) (rest : List ℕ) → WellCommand c.0 → HasGap c rest → Stops is_space rest → spaced_at (spell_command c.0 ++ (replicate c.1 32 ++ rest)) ≡ Some (Some (c, rest))
 unfolding spaced_at
 spaced_again c rest w g s =
     let r = run_again is_space (replicate c.1 32) rest (copies_are 32 c.1 refl) s in
     let begins = command_begins c.0 (replicate c.1 32 ++ rest) w in
-    rw (begins.0, command_again c.0 (replicate c.1 32 ++ rest) w (gap_follows c.1 rest g), r.0, r.1, length-replicate {A = ℕ} c.1 32, g) refl
+    rw (begins.0, command_again c.0 (replicate c.1 32 ++ rest) w (gap_follows c.0.args c.1 rest g), r.0, r.1, length-replicate {A = ℕ} c.1 32, g) refl
 
-has_gap : (n : ℕ) (rest : List ℕ) → 0 < n → at_end rest || nat_lt 0 n ≡ true
-has_gap n rest h = grind (arith, nat_tests)
+has_gap : (least n : ℕ) (rest : List ℕ) → least ≤ n → at_end rest || nat_le least n ≡ true
+has_gap least n rest h = grind (arith, nat_tests)
 
-at_end_gap : (n : ℕ) (rest : List ℕ) → at_end rest ≡ true → at_end rest || nat_lt 0 n ≡ true
-at_end_gap n rest h = rw h refl
+at_end_gap : (least n : ℕ) (rest : List ℕ) → at_end rest ≡ true → at_end rest || nat_le least n ≡ true
+at_end_gap least n rest h = rw h refl
 
 commands_parts : (c : SpacedTree) (cs : List SpacedTree) (rest : List ℕ) → spell_commands (c ∷ cs) ++ rest ≡ spell_command c.0 ++ (replicate c.1 32 ++ (spell_commands cs ++ rest))
 commands_parts c cs rest = simp append_assoc
@@ -238,31 +139,31 @@ unfolding many spaced_at
 stops_at_end zero rest h = refl
 stops_at_end (suc n) rest h = rw h refl
 
+head_well : (c : SpacedTree) (cs : List SpacedTree) → WellCommands (c ∷ cs) → WellCommand c.0
+head_well c [] w = w
+head_well c (d ∷ cs) w = w.0
+
 commands_again : (n : ℕ) (cs : List SpacedTree) (rest : List ℕ) → length cs ≤ n → WellCommands cs → at_end rest ≡ true → many spaced_at n (spell_commands cs ++ rest) ≡ Some (cs, rest)
 commands_again n [] rest le w h = stops_at_end n rest h
 commands_again zero (c ∷ cs) rest le w h = absurd (omega arith)
-commands_again (suc n) (c ∷ []) rest le w h = commands_step n c [] rest w (at_end_gap c.1 rest h) (end_follows rest h).1 (stops_at_end n rest h)
+commands_again (suc n) (c ∷ []) rest le w h = commands_step n c [] rest w (at_end_gap (least_gap c.0.args) c.1 rest h) (end_stops rest h) (stops_at_end n rest h)
 commands_again (suc n) (c ∷ d ∷ cs) rest le w h =
     let head : WellCommand d.0 = head_well d cs w.2 in
     let stop : Stops is_space (spell_commands (d ∷ cs) ++ rest) = rw (commands_parts d cs rest) ((command_begins d.0 (replicate d.1 32 ++ (spell_commands cs ++ rest)) head).1) in
-    commands_step n c (d ∷ cs) rest w.0 (has_gap c.1 (spell_commands (d ∷ cs) ++ rest) w.1) stop (commands_again n (d ∷ cs) rest (omega arith) w.2 h)
-  where
-    head_well : (d : SpacedTree) (cs : List SpacedTree) → WellCommands (d ∷ cs) → WellCommand d.0
-    head_well d [] w = w
-    head_well d (e ∷ es) w = w.0
+    commands_step n c (d ∷ cs) rest w.0 (has_gap (least_gap c.0.args) c.1 (spell_commands (d ∷ cs) ++ rest) w.1) stop (commands_again n (d ∷ cs) rest (omega arith) w.2 h)
 
 -- ---- comments and whole lines
 
-command_long : (c : CommandTree) → 0 < length (spell_command c)
-command_long (set w args) = omega (arith, length-append w (32 ∷ spell_list spell_assignment args))
-command_long (write w args) = omega (arith, length-append w (32 ∷ spell_list spell_output args))
+tail_well : (c : SpacedTree) (cs : List SpacedTree) → WellCommands (c ∷ cs) → WellCommands cs
+tail_well c [] w = tt
+tail_well c (d ∷ cs) w = w.2
 
 -- the count of the characters is enough turns
-commands_count : (cs : List SpacedTree) (rest : List ℕ) → length cs ≤ length (spell_commands cs ++ rest)
-commands_count [] rest = omega arith
-commands_count (c ∷ cs) rest =
-    let long = command_long c.0 in
-    let more = commands_count cs rest in
+commands_count : (cs : List SpacedTree) (rest : List ℕ) → WellCommands cs → length cs ≤ length (spell_commands cs ++ rest)
+commands_count [] rest w = omega arith
+commands_count (c ∷ cs) rest w =
+    let long = Begins-long is_letter (spell_command c.0) (command_letter c.0 (head_well c cs w)) in
+    let more = commands_count cs rest (tail_well c cs w) in
     let parts = ap length (commands_parts c cs rest) in
     omega (arith, long, more, parts, length-append (spell_command c.0) (replicate c.1 32 ++ (spell_commands cs ++ rest)), length-append (replicate c.1 32) (spell_commands cs ++ rest))
 
@@ -321,7 +222,7 @@ line_takes cs l e =
 
 -- the spaces in front end where the commands begin
 stop_commands : (cs : List SpacedTree) (rest : List ℕ) → WellCommands cs → at_end rest ≡ true → Stops is_space (spell_commands cs ++ rest)
-stop_commands [] rest w h = (end_follows rest h).1
+stop_commands [] rest w h = end_stops rest h
 stop_commands (c ∷ []) rest w h = rw (commands_parts c [] rest) ((command_begins c.0 (replicate c.1 32 ++ rest) w).1)
 stop_commands (c ∷ d ∷ cs) rest w h = rw (commands_parts c (d ∷ cs) rest) ((command_begins c.0 (replicate c.1 32 ++ (spell_commands (d ∷ cs) ++ rest)) w.0).1)
 
@@ -331,7 +232,7 @@ line_again l w =
     let rest = spell_commands l.commands ++ spell_comment l.comment in
     let ends = comment_ends l.comment in
     let r = run_again is_space (replicate l.lead 32) rest (copies_are 32 l.lead refl) (stop_commands l.commands (spell_comment l.comment) w.0 ends) in
-    let c : many spaced_at (length rest) rest ≡ Some (l.commands, spell_comment l.comment) = commands_again (length rest) l.commands (spell_comment l.comment) (commands_count l.commands (spell_comment l.comment)) w.0 ends in
+    let c : many spaced_at (length rest) rest ≡ Some (l.commands, spell_comment l.comment) = commands_again (length rest) l.commands (spell_comment l.comment) (commands_count l.commands (spell_comment l.comment) w.0) w.0 ends in
     rw (r.0, r.1, c, comment_again l.comment w.1, length-replicate {A = ℕ} l.lead 32) refl
 
 -- no text has two trees: what is read of it is each of them

@@ -3,13 +3,13 @@ use Rattle.std.proofs.Common.{◌≡◌, ℕ, ◌<◌, ◌-◌, true, false, eqb
 use Rattle.std.proofs.lemmas.Bool.{eqb-true}
 use Rattle.std.proofs.lemmas.Bool.Decides.{nat_tests}
 use Rattle.mspec.specs.Names.{is_letter, is_name_start, is_name_rest, AllAre, IsName}
-use Rattle.mgrammar.specs.Grammar.{ExprTree, TargetTree, variable, piece, DestinationTree, one, several, AssignmentTree, spell_expr, spell_list, spell_place, spell_target, spell_destination, spell_assignment, FunctionTree, ascii_function, char_function, extract_function, find_function, justify_function, length_function, piece_function, select_function, translate_function, function_of, max_depth, WellPlace, WellTarget, WellDestination, WellAssignment}
+use Rattle.mgrammar.specs.Grammar.{ExprTree, TargetTree, variable, piece, DestinationTree, one, several, ArgTree, assign, spell_expr, spell_list, spell_place, spell_target, spell_destination, spell_arg, assignment, FunctionTree, ascii_function, char_function, extract_function, find_function, justify_function, length_function, piece_function, select_function, translate_function, function_of, max_depth, WellPlace, WellTarget, WellDestination, WellArg}
 use Rattle.mgrammar.specs.Reading.{Read, ◌>>=◌, run_of, after_run, name_at, past, list_at, Readers, is_piece, expr_at, readers_at, place_with, piece_with, piece_by, target_with, destination_at, assignment_at}
-use Rattle.mgrammar.proofs.ReadingBasics.{Takes, Again, Stops, bind_some, chosen, some_is, both_are, run_parts, run_again, past_takes, name_takes, name_again}
+use Rattle.mgrammar.proofs.ReadingBasics.{Takes, Again, Stops, Begins, Begins-append, bind_some, chosen, some_is, both_are, run_parts, run_again, past_takes, name_takes, name_again}
 use Rattle.mgrammar.proofs.ReadingLists.{is_comma, list_takes, list_again}
 use Rattle.mgrammar.proofs.ReadingTrees.{WellInner}
 use Rattle.mgrammar.proofs.ReadingPrimaries.{Ends}
-use Rattle.mgrammar.proofs.ReadingExprs.{inner_takes, inner_again, expr_takes, expr_again}
+use Rattle.mgrammar.proofs.ReadingExprs.{begins_operand, inner_takes, inner_again, expr_takes, expr_again}
 
 -- ---- what is read is spelled so
 
@@ -132,17 +132,17 @@ destination_takes (c ∷ cs) x e =
 equals_parts : (cs n t a e rest : List ℕ) → cs ≡ n ++ t → t ≡ 61 ∷ a → a ≡ e ++ rest → cs ≡ (n ++ 61 ∷ e) ++ rest
 equals_parts cs n t a e rest p q s = rw (p, q, s, append_assoc) refl
 
-pub assignment_takes : Takes spell_assignment WellAssignment assignment_at
+pub assignment_takes : Takes spell_arg (WellArg assignment) assignment_at
 unfolding assignment_at
 assignment_takes cs x e =
-    let t = bind_some (destination_at cs) (λ t. past 61 t.1 >>= λ rest. expr_at max_depth rest >>= λ v. Some ((t.0, v.0), v.1)) x e in
-    let k = bind_some (past 61 t.0.1) (λ rest. expr_at max_depth rest >>= λ v. Some ((t.0.0, v.0), v.1)) x t.2 in
-    let v = bind_some (expr_at max_depth k.0) (λ v. Some ((t.0.0, v.0), v.1)) x k.2 in
+    let t = bind_some (destination_at cs) (λ t. past 61 t.1 >>= λ rest. expr_at max_depth rest >>= λ v. Some (assign t.0 v.0, v.1)) x e in
+    let k = bind_some (past 61 t.0.1) (λ rest. expr_at max_depth rest >>= λ v. Some (assign t.0.0 v.0, v.1)) x t.2 in
+    let v = bind_some (expr_at max_depth k.0) (λ v. Some (assign t.0.0 v.0, v.1)) x k.2 in
     let destination = destination_takes cs t.0 t.1 in
     let equals = past_takes 61 t.0.1 k.0 k.1 in
     let value = expr_takes max_depth (readers_at max_depth) (inner_takes max_depth) k.0 v.0 v.1 in
-    let made : AssignmentTree × List ℕ = ((t.0.0, v.0.0), v.0.1) in
-    subst (λ (y : AssignmentTree × List ℕ). (cs ≡ spell_assignment y.0 ++ y.1) × WellAssignment y.0) {x = made} (some_is made x v.2)
+    let made : ArgTree × List ℕ = (assign t.0.0 v.0.0, v.0.1) in
+    subst (λ (y : ArgTree × List ℕ). (cs ≡ spell_arg y.0 ++ y.1) × WellArg assignment y.0) {x = made} (some_is made x v.2)
     (equals_parts cs (spell_destination t.0.0) t.0.1 k.0 (spell_expr v.0.0) v.0.1 destination.0 equals value.0, (destination.1, value.1))
 
 -- ---- what is spelled so is read
@@ -228,12 +228,33 @@ destination_again (several ts) rest w s =
     ap destination_at (ap (λ (y : List ℕ). 40 ∷ y) (append_assoc (spell_list spell_target ts) (41 ∷ []) rest)) ∙ list_step (spell_list spell_target ts ++ 41 ∷ rest) ts rest l
 
 assignment_step : (cs t u : List ℕ) (destination : DestinationTree) (value : ExprTree) (rest : List ℕ) → destination_at cs ≡ Some (destination, t) → past 61 t ≡ Some u → expr_at max_depth u ≡ Some (value, rest)
-    → assignment_at cs ≡ Some ((destination, value), rest)
+    → assignment_at cs ≡ Some (assign destination value, rest)
 unfolding assignment_at
 assignment_step cs t u destination value rest h k l = rw (h, k, l) refl
 
-pub assignment_again : Again spell_assignment WellAssignment Ends assignment_at
-assignment_again x rest w s =
-    let u : List ℕ = spell_expr x.1 ++ rest in
-    ap assignment_at (append_assoc (spell_destination x.0) (61 ∷ spell_expr x.1) rest)
-    ∙ assignment_step (spell_destination x.0 ++ 61 ∷ u) (61 ∷ u) u x.0 x.1 rest (destination_again x.0 (61 ∷ u) w.0 refl) refl (expr_again max_depth (readers_at max_depth) (inner_again max_depth) x.1 rest w.1 s)
+pub assignment_again : Again spell_arg (WellArg assignment) Ends assignment_at
+assignment_again (assign destination value) rest w s =
+    let u : List ℕ = spell_expr value ++ rest in
+    ap assignment_at (append_assoc (spell_destination destination) (61 ∷ spell_expr value) rest)
+    ∙ assignment_step (spell_destination destination ++ 61 ∷ u) (61 ∷ u) u destination value rest (destination_again destination (61 ∷ u) w.0 refl) refl (expr_again max_depth (readers_at max_depth) (inner_again max_depth) value rest w.1 s)
+assignment_again a rest w s = absurd w
+
+-- a name begins an argument of SET, or a `$`, or a bracket
+name_begins : (n : List ℕ) → IsName n → Begins begins_operand n
+name_begins [] w = absurd w
+name_begins (c ∷ n) w = letter_begins c w.0
+  where
+    letter_begins : (c : ℕ) → is_name_start c ≡ true → begins_operand c ≡ true
+    letter_begins c h = grind (arith, nat_tests, h)
+
+target_begins : (d : ℕ) (t : TargetTree) → WellTarget d t → Begins begins_operand (spell_target t)
+target_begins d (variable n) w = name_begins n w
+target_begins d (piece word name delimiter place) w = refl
+
+destination_begins : (d : DestinationTree) → WellDestination d → Begins begins_operand (spell_destination d)
+destination_begins (one t) w = target_begins max_depth t w
+destination_begins (several ts) w = refl
+
+pub assignment_begins : (a : ArgTree) → WellArg assignment a → Begins begins_operand (spell_arg a)
+assignment_begins (assign d e) w = Begins-append begins_operand (spell_destination d) (61 ∷ spell_expr e) (destination_begins d w.0)
+assignment_begins a w = absurd w

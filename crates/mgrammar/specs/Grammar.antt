@@ -112,19 +112,22 @@ pub data DestinationTree : Type 0 where
   one : TargetTree → DestinationTree
   several : List TargetTree → DestinationTree
 
--- `setargument`: a destination and a value
-abbrev pub AssignmentTree : Type 0
-AssignmentTree = DestinationTree × ExprTree
+-- an argument of any command: `setargument`, a destination and a value; `writeargument`, a run of the format `!`, or a value
+pub data ArgTree : Type 0 where
+  assign : DestinationTree → ExprTree → ArgTree
+  breaks : ℕ → ArgTree
+  shown : ExprTree → ArgTree
 
--- `writeargument`: a run of the format `!`, or a value
-pub data OutputTree : Type 0 where
-  breaks : ℕ → OutputTree
-  value : ExprTree → OutputTree
+-- `commandword`, whatever its spelling
+pub data KeywordTree : Type 0 where
+  set_word : KeywordTree
+  write_word : KeywordTree
 
--- `command`: its word as it is written, then its arguments
-pub data CommandTree : Type 0 where
-  set : List ℕ → List AssignmentTree → CommandTree
-  write : List ℕ → List OutputTree → CommandTree
+-- `command`: its word, also as it is written, then its arguments
+pub record CommandTree : Type 0 where
+  pub keyword : KeywordTree
+  pub word : List ℕ
+  pub args : List ArgTree
 
 -- a command, and how many spaces stand behind it
 abbrev pub SpacedTree : Type 0
@@ -257,16 +260,18 @@ abbrev pub spell_destination : DestinationTree → List ℕ
 spell_destination (one t) = spell_target t
 spell_destination (several ts) = 40 ∷ (spell_list spell_target ts ++ 41 ∷ [])
 
-abbrev pub spell_assignment : AssignmentTree → List ℕ
-spell_assignment a = spell_destination a.0 ++ 61 ∷ spell_expr a.1
+abbrev pub spell_arg : ArgTree → List ℕ
+spell_arg (assign d e) = spell_destination d ++ 61 ∷ spell_expr e
+spell_arg (breaks n) = replicate n 33
+spell_arg (shown e) = spell_expr e
 
-abbrev pub spell_output : OutputTree → List ℕ
-spell_output (breaks n) = replicate n 33
-spell_output (value e) = spell_expr e
+-- behind a space, where there are some
+abbrev pub spell_args : List ArgTree → List ℕ
+spell_args [] = []
+spell_args (a ∷ rest) = 32 ∷ spell_list spell_arg (a ∷ rest)
 
 abbrev pub spell_command : CommandTree → List ℕ
-spell_command (set word args) = word ++ 32 ∷ spell_list spell_assignment args
-spell_command (write word args) = word ++ 32 ∷ spell_list spell_output args
+spell_command c = c.word ++ spell_args c.args
 
 abbrev pub spell_commands : List SpacedTree → List ℕ
 spell_commands [] = []
@@ -285,15 +290,30 @@ spell l = replicate l.lead 32 ++ (spell_commands l.commands ++ spell_comment l.c
 abbrev pub IsNumber : List ℕ → Type 0
 IsNumber t = (l : Literal) × IsLiteral l × (spell_literal l ≡ t)
 
-pub data KeywordTree : Type 0 where
-  set_word : KeywordTree
-  write_word : KeywordTree
+-- the word is this one or that one, in either case of letters
+abbrev pub is_either : List ℕ → List ℕ → List ℕ → Bool
+is_either short long w = str_eq_ignore_ascii_case w short || str_eq_ignore_ascii_case w long
 
--- `commandword`: the whole word or its first letter, in either case of letters
+-- `commandword`: the whole word or its first letter
 unfoldable pub keyword_of : List ℕ → Option KeywordTree
 keyword_of w =
-    if str_eq_ignore_ascii_case w (codes "s") || str_eq_ignore_ascii_case w (codes "set") then Some set_word
-    else (if str_eq_ignore_ascii_case w (codes "w") || str_eq_ignore_ascii_case w (codes "write") then Some write_word else None)
+    if is_either (codes "s") (codes "set") w then Some set_word
+    else (if is_either (codes "w") (codes "write") w then Some write_word else None)
+
+-- what a command's arguments look like
+pub data FormTree : Type 0 where
+  assignment : FormTree
+  output : FormTree
+  nothing : FormTree
+
+abbrev pub form_of : KeywordTree → FormTree
+form_of set_word = assignment
+form_of write_word = output
+
+-- whether a command takes so many arguments
+abbrev pub takes_args : KeywordTree → ℕ → Bool
+takes_args set_word n = nat_le 1 n
+takes_args write_word n = nat_le 1 n
 
 pub data FunctionTree : Type 0 where
   ascii_function : FunctionTree
@@ -305,10 +325,6 @@ pub data FunctionTree : Type 0 where
   piece_function : FunctionTree
   select_function : FunctionTree
   translate_function : FunctionTree
-
--- the word is this one or that one, in either case of letters
-abbrev pub is_either : List ℕ → List ℕ → List ℕ → Bool
-is_either short long w = str_eq_ignore_ascii_case w short || str_eq_ignore_ascii_case w long
 
 -- the name of a `function`: the whole word or its abbreviation
 unfoldable pub function_of : List ℕ → Option FunctionTree
@@ -433,22 +449,27 @@ abbrev pub WellDestination : DestinationTree → Type 0
 WellDestination (one t) = WellTarget max_depth t
 WellDestination (several ts) = WellList (WellTarget (max_depth - 1)) ts
 
-abbrev pub WellAssignment : AssignmentTree → Type 0
-WellAssignment a = WellDestination a.0 × WellExpr max_depth a.1
-
-abbrev pub WellOutput : OutputTree → Type 0
-WellOutput (breaks n) = 0 < n
-WellOutput (value e) = WellExpr max_depth e
+-- an argument of this form
+abbrev pub WellArg : FormTree → ArgTree → Type 0
+WellArg assignment (assign d e) = WellDestination d × WellExpr max_depth e
+WellArg output (breaks n) = 0 < n
+WellArg output (shown e) = WellExpr max_depth e
+WellArg f a = ⊥
 
 abbrev pub WellCommand : CommandTree → Type 0
-WellCommand (set w args) = (keyword_of w ≡ Some set_word) × AllAre is_letter w × WellList WellAssignment args
-WellCommand (write w args) = (keyword_of w ≡ Some write_word) × AllAre is_letter w × WellList WellOutput args
+WellCommand c =
+    (keyword_of c.word ≡ Some c.keyword) × AllAre is_letter c.word × (takes_args c.keyword (length c.args) ≡ true)
+    × WellAll (WellArg (form_of c.keyword)) c.args
 
--- a space stands between two commands
+-- how many spaces stand at least between a command with these arguments and another one
+abbrev pub least_gap : List ArgTree → ℕ
+least_gap [] = 2
+least_gap (a ∷ rest) = 1
+
 abbrev pub WellCommands : List SpacedTree → Type 0
 WellCommands [] = Unit {0}
 WellCommands (c ∷ []) = WellCommand c.0
-WellCommands (c ∷ d ∷ cs) = WellCommand c.0 × (0 < c.1) × WellCommands (d ∷ cs)
+WellCommands (c ∷ d ∷ cs) = WellCommand c.0 × (least_gap c.0.args ≤ c.1) × WellCommands (d ∷ cs)
 
 abbrev pub WellComment : Option (List ℕ) → Type 0
 WellComment None = Unit {0}

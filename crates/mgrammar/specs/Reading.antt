@@ -1,9 +1,9 @@
 -- Reading a tree back from its text. The meaning of a line reads its text so; the law `reads_its_tree` ties what is read to the
 -- grammar, which a reader checks in its place.
-use Rattle.std.specs.Prelude.{ℕ, zero, suc, ◌-◌, Bool, true, false, ◌&&◌, ◌||◌, ◌==◌, nat_le, nat_lt, if◌then◌else◌, List, [], ◌∷◌, ◌++◌, length, drop, Option, Some, None}
+use Rattle.std.specs.Prelude.{ℕ, zero, suc, ◌-◌, Bool, true, false, not, ◌&&◌, ◌||◌, ◌==◌, nat_le, nat_lt, if◌then◌else◌, List, [], ◌∷◌, ◌++◌, length, drop, Option, Some, None}
 use Rattle.mspec.specs.Literal.{is_digit}
 use Rattle.mspec.specs.Names.{is_letter, is_name_start, is_name_rest, is_character}
-use Rattle.mgrammar.specs.Grammar.{SignTree, plus, minus, negate, TruthTree, equals, less, greater, contains, follows, sorts_after, both, either, BinaryTree, add, subtract, multiply, divide, divide_whole, remainder, join, is, is_not, CountTree, RepeatedTree, classes, copies, AtomTree, ExprTree, expr, StepTree, apply, matches, matches_not, steps_of, OperandTree, operand, PrimaryTree, number, text, local, bracket, call, select, exprs_of, choices_of, TargetTree, variable, piece, DestinationTree, one, several, AssignmentTree, OutputTree, breaks, value, CommandTree, set, write, SpacedTree, LineTree, KeywordTree, set_word, write_word, keyword_of, FunctionTree, ascii_function, char_function, extract_function, find_function, justify_function, length_function, piece_function, select_function, translate_function, function_of, takes, is_pattern_letter, max_depth}
+use Rattle.mgrammar.specs.Grammar.{SignTree, plus, minus, negate, TruthTree, equals, less, greater, contains, follows, sorts_after, both, either, BinaryTree, add, subtract, multiply, divide, divide_whole, remainder, join, is, is_not, CountTree, RepeatedTree, classes, copies, AtomTree, ExprTree, expr, StepTree, apply, matches, matches_not, steps_of, OperandTree, operand, PrimaryTree, number, text, local, bracket, call, select, exprs_of, choices_of, TargetTree, variable, piece, DestinationTree, one, several, ArgTree, assign, breaks, shown, CommandTree, SpacedTree, LineTree, KeywordTree, keyword_of, FormTree, assignment, output, nothing, form_of, takes_args, least_gap, FunctionTree, ascii_function, char_function, extract_function, find_function, justify_function, length_function, piece_function, select_function, translate_function, function_of, takes, is_pattern_letter, max_depth}
 
 -- what was read, and the text after it
 abbrev pub Read : Type 0 → Type 0
@@ -364,36 +364,46 @@ destination_at (c ∷ cs) =
     then (list_at (target_with (readers_at (max_depth - 1))) cs >>= λ x. past 41 x.1 >>= λ rest. Some (several x.0, rest))
     else (target_with (readers_at max_depth) (c ∷ cs) >>= λ t. Some (one t.0, t.1))
 
-unfoldable pub assignment_at : List ℕ → Read AssignmentTree
+unfoldable pub assignment_at : List ℕ → Read ArgTree
 assignment_at cs =
-    destination_at cs >>= λ d. past 61 d.1 >>= λ rest. expr_at max_depth rest >>= λ e. Some ((d.0, e.0), e.1)
+    destination_at cs >>= λ d. past 61 d.1 >>= λ rest. expr_at max_depth rest >>= λ e. Some (assign d.0 e.0, e.1)
 
 abbrev pub is_bang : ℕ → Bool
 is_bang c = c == 33
 
 -- where this run of `!` is in front
-abbrev pub output_by : List ℕ → List ℕ → Read OutputTree
-output_by [] cs = expr_at max_depth cs >>= λ e. Some (value e.0, e.1)
+abbrev pub output_by : List ℕ → List ℕ → Read ArgTree
+output_by [] cs = expr_at max_depth cs >>= λ e. Some (shown e.0, e.1)
 output_by (b ∷ bs) cs = Some (breaks (length (b ∷ bs)), after_run is_bang cs)
 
-unfoldable pub output_at : List ℕ → Read OutputTree
+unfoldable pub output_at : List ℕ → Read ArgTree
 output_at cs = output_by (run_of is_bang cs) cs
+
+abbrev pub arg_at : FormTree → List ℕ → Read ArgTree
+arg_at assignment = assignment_at
+arg_at output = output_at
+arg_at nothing = λ cs. None
 
 -- ---- commands and lines
 
--- a command of this word and keyword, of which the arguments are left
-abbrev pub arguments_by : List ℕ → Option KeywordTree → List ℕ → Read CommandTree
-arguments_by w None cs = None
-arguments_by w (Some set_word) cs = list_at assignment_at cs >>= λ x. Some (set w x.0, x.1)
-arguments_by w (Some write_word) cs = list_at output_at cs >>= λ x. Some (write w x.0, x.1)
+-- arguments stand behind a word: a space, and behind it no space, no comment and no end
+abbrev pub has_args : List ℕ → Bool
+has_args [] = false
+has_args (c ∷ []) = false
+has_args (c ∷ d ∷ cs) = c == 32 && not (d == 32 || d == 59)
 
--- a command of this word, of which the text behind the word is left
-abbrev pub command_by : List ℕ → List ℕ → Read CommandTree
-command_by w [] = None
-command_by w (c ∷ cs) = if c == 32 then arguments_by w (keyword_of w) cs else None
+unfoldable pub args_at : FormTree → List ℕ → Read (List ArgTree)
+args_at f cs = if has_args cs then list_at (arg_at f) (drop 1 cs) else Some ([], cs)
+
+-- a command of this word and keyword, of which the text behind the word is left
+abbrev pub command_by : List ℕ → Option KeywordTree → List ℕ → Read CommandTree
+command_by w None cs = None
+command_by w (Some k) cs =
+    args_at (form_of k) cs >>= λ x.
+    if takes_args k (length x.0) then Some (record { keyword = k; word = w; args = x.0 }, x.1) else None
 
 unfoldable pub command_at : List ℕ → Read CommandTree
-command_at cs = command_by (run_of is_letter cs) (after_run is_letter cs)
+command_at cs = command_by (run_of is_letter cs) (keyword_of (run_of is_letter cs)) (after_run is_letter cs)
 
 abbrev pub is_space : ℕ → Bool
 is_space c = c == 32
@@ -403,10 +413,10 @@ abbrev pub at_end : List ℕ → Bool
 at_end [] = true
 at_end (c ∷ cs) = c == 59
 
--- a command with these spaces behind it: some, unless nothing more than a comment follows
+-- a command with these spaces behind it: enough of them, unless nothing more than a comment follows
 abbrev pub spaced : CommandTree → List ℕ → List ℕ → Option (Option (SpacedTree × List ℕ))
 spaced c spaces rest =
-    if at_end rest || nat_lt 0 (length spaces) then Some (Some ((c, length spaces), rest)) else None
+    if at_end rest || nat_le (least_gap c.args) (length spaces) then Some (Some ((c, length spaces), rest)) else None
 
 unfoldable pub spaced_at : List ℕ → Option (Option (SpacedTree × List ℕ))
 spaced_at cs =

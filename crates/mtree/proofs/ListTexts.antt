@@ -1,14 +1,13 @@
 -- Texts of lists, by what stands in them and by its trees.
-use Rattle.std.proofs.Common.{◌≡◌, ℕ, List, [], ◌∷◌, ◌++◌, map, refl, ap, ◌∙◌}
+use Rattle.std.proofs.Common.{◌≡◌, ℕ, ◌<◌, List, [], ◌∷◌, ◌++◌, length, map, refl, ap, ◌∙◌, arith}
 use Rattle.std.specs.Prelude.{Result, Ok, Err, OnOk}
 use Rattle.std.proofs.lemmas.List.{append_assoc}
-use Rattle.mgrammar.specs.Grammar.{ExprTree, exprs_of, choices_of, spell_expr, spell_exprs, spell_more_exprs, spell_choices, spell_more_choices, spell_more, spell_list, spell_target, spell_assignment, spell_output}
-use Rattle.mtree.specs.Tree.{expr_tree, choice_tree, target_tree, assignment_tree, output_tree}
+use Rattle.mgrammar.specs.Grammar.{ExprTree, exprs_of, choices_of, spell_expr, spell_exprs, spell_more_exprs, spell_choices, spell_more_choices, spell_more, spell_list, spell_target, spell_arg, spell_args}
+use Rattle.mtree.specs.Tree.{expr_tree, choice_tree, target_tree, arg_tree}
 use Rattle.mtree.specs.declared.tree.Expr.{Expr}
 use Rattle.mtree.specs.declared.tree.Choice.{Choice}
 use Rattle.mtree.specs.declared.tree.Target.{Target}
-use Rattle.mtree.specs.declared.tree.Assignment.{Assignment}
-use Rattle.mtree.specs.declared.tree.Output.{Output}
+use Rattle.mtree.specs.declared.tree.Arg.{Arg}
 
 more_by_trees : {X A : Type 0} (tree : X → A) (spell : A → List ℕ) (xs : List X) → spell_more (λ x. spell (tree x)) xs ≡ spell_more spell (map tree xs)
 more_by_trees tree spell [] = refl
@@ -21,17 +20,14 @@ list_by_trees tree spell (x ∷ xs) = ap (λ (t : List ℕ). spell (tree x) ++ t
 pub targets : (xs : List Target) → spell_list (λ x. spell_target (target_tree x)) xs ≡ spell_list spell_target (map target_tree xs)
 targets xs = list_by_trees target_tree spell_target xs
 
-pub assignments : (xs : List Assignment) → spell_list (λ x. spell_assignment (assignment_tree x)) xs ≡ spell_list spell_assignment (map assignment_tree xs)
-assignments xs = list_by_trees assignment_tree spell_assignment xs
-
-pub outputs : (xs : List Output) → spell_list (λ x. spell_output (output_tree x)) xs ≡ spell_list spell_output (map output_tree xs)
-outputs xs = list_by_trees output_tree spell_output xs
-
--- a list behind a word and a space
-pub behind_word : {X E : Type 0} (r : Result X E) (old word mid before new list : List ℕ) → mid ≡ old ++ word → before ≡ mid ++ 32 ∷ [] → OnOk r (new ≡ before ++ list) → OnOk r (new ≡ old ++ (word ++ 32 ∷ list))
-behind_word (Err e) old word mid before new list m b n = tt
-behind_word (Ok x) old word mid before new list m b n =
-    n ∙ ap (λ (t : List ℕ). t ++ list) (b ∙ ap (λ (t : List ℕ). t ++ 32 ∷ []) m) ∙ append_assoc (old ++ word) (32 ∷ []) list ∙ append_assoc old word (32 ∷ list)
+-- some arguments, behind a space
+pub some_args : {X E : Type 0} (r : Result X E) (xs : List Arg) (old before new : List ℕ) → 0 < length xs → before ≡ old ++ 32 ∷ [] → OnOk r (new ≡ before ++ spell_list (λ x. spell_arg (arg_tree x)) xs)
+    → OnOk r (new ≡ old ++ spell_args (map arg_tree xs))
+some_args (Err e) xs old before new some b n = tt
+some_args (Ok y) [] old before new some b n = absurd (omega arith)
+some_args (Ok y) (x ∷ xs) old before new some b n =
+    n ∙ ap (λ (t : List ℕ). t ++ spell_list (λ x. spell_arg (arg_tree x)) (x ∷ xs)) b ∙ append_assoc old (32 ∷ []) (spell_list (λ x. spell_arg (arg_tree x)) (x ∷ xs))
+    ∙ ap (λ (t : List ℕ). old ++ 32 ∷ t) (list_by_trees arg_tree spell_arg (x ∷ xs))
 
 -- an argument list, and the choices of $SELECT
 

@@ -1,7 +1,7 @@
 -- A line of the program as a plain tree of the grammar.
 use Rattle.std.specs.Prelude.{map, option_map}
 use Rattle.mgrammar.specs.Grammar as grammar
-use Rattle.mgrammar.specs.Grammar.{SignTree, TruthTree, BinaryTree, KeywordTree, FunctionTree, CountTree, RepeatedTree, AtomTree, ExprTree, StepTree, steps_of, exprs_of, choices_of, OperandTree, PrimaryTree, TargetTree, DestinationTree, AssignmentTree, OutputTree, CommandTree, SpacedTree, LineTree}
+use Rattle.mgrammar.specs.Grammar.{SignTree, TruthTree, BinaryTree, KeywordTree, FunctionTree, CountTree, RepeatedTree, AtomTree, ExprTree, StepTree, steps_of, exprs_of, choices_of, OperandTree, PrimaryTree, TargetTree, DestinationTree, ArgTree, CommandTree, SpacedTree, LineTree}
 use Rattle.mtree.specs.declared.tree.Sign.{Sign}
 use Rattle.mtree.specs.declared.tree.Sign.TheVariants as sign
 use Rattle.mtree.specs.declared.tree.Truth.{Truth}
@@ -27,11 +27,9 @@ use Rattle.mtree.specs.declared.tree.Target.{Target}
 use Rattle.mtree.specs.declared.tree.Target.TheVariants as target
 use Rattle.mtree.specs.declared.tree.Destination.{Destination}
 use Rattle.mtree.specs.declared.tree.Destination.TheVariants as destination
-use Rattle.mtree.specs.declared.tree.Assignment.{Assignment}
-use Rattle.mtree.specs.declared.tree.Output.{Output}
-use Rattle.mtree.specs.declared.tree.Output.TheVariants as output
+use Rattle.mtree.specs.declared.tree.Arg.{Arg}
+use Rattle.mtree.specs.declared.tree.Arg.TheVariants as arg
 use Rattle.mtree.specs.declared.tree.Command.{Command}
-use Rattle.mtree.specs.declared.tree.Command.TheVariants as command
 use Rattle.mtree.specs.declared.tree.Spaced.{Spaced}
 use Rattle.mtree.specs.declared.tree.Line.{Line}
 
@@ -139,16 +137,13 @@ abbrev pub destination_tree : Destination → DestinationTree
 destination_tree (destination.One t) = grammar.one (target_tree t)
 destination_tree (destination.Several ts) = grammar.several (map target_tree ts.items)
 
-abbrev pub assignment_tree : Assignment → AssignmentTree
-assignment_tree a = (destination_tree a.destination, expr_tree a.value)
-
-abbrev pub output_tree : Output → OutputTree
-output_tree (output.Breaks n) = grammar.breaks n
-output_tree (output.Value e) = grammar.value (expr_tree e)
+abbrev pub arg_tree : Arg → ArgTree
+arg_tree (arg.Assign d e) = grammar.assign (destination_tree d) (expr_tree e)
+arg_tree (arg.Breaks n) = grammar.breaks n
+arg_tree (arg.Value e) = grammar.shown (expr_tree e)
 
 abbrev pub command_tree : Command → CommandTree
-command_tree (command.Set word args) = grammar.set word (map assignment_tree args.items)
-command_tree (command.Write word args) = grammar.write word (map output_tree args.items)
+command_tree c = record { keyword = keyword_tree c.keyword; word = c.word; args = map arg_tree c.args.items }
 
 abbrev pub spaced_tree : Spaced → SpacedTree
 spaced_tree s = (command_tree s.command, s.spaces)

@@ -156,7 +156,7 @@ fn put_primary(out: &mut Bytes7, primary: &Primary) -> Result<(), AllocError>
     match primary {
         Primary::Number(literal) => put_text(out, literal),
         Primary::Text(text) => put_string(out, text),
-        Primary::Local(name) => put_text(out, name),
+        Primary::Local(name) => put_text(out, name.as_bytes7()),
         Primary::Bracket(inner) => put_bracket(out, inner),
         Primary::Call(word, arguments) => put_call(out, word, arguments),
         Primary::Select(word, choices) => put_select(out, word, choices),

@@ -1,6 +1,6 @@
 //! Lines of M as syntax trees that keep their spelling: the case of letters, abbreviations, spaces and digits as written.
 //!
-//! What a tree means as plain data, and which text it has, are definitions of `mspec`: `Grammar`.
+//! What a tree means as plain data, and which text it has, are definitions of `mgrammar`: `Grammar`.
 #![tactic(auto)]
 
 mod expression;
@@ -11,8 +11,8 @@ pub mod words;
 pub mod write;
 
 pub use tree::{
-    Assignment, Atom, Binary, Choice, Command, Count, Destination, Expr, Function, Keyword, Line,
-    Operand, Output, PieceTarget, Primary, Repeated, Sign, Spaced, Step, Target, Truth,
+    Arg, Atom, Binary, Choice, Command, Count, Destination, Expr, Function, Keyword, Line, Operand,
+    PieceTarget, Primary, Repeated, Sign, Spaced, Step, Target, Truth,
 };
 pub use words::{function_of, keyword_of};
 pub use write::write_line;

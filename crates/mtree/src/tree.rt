@@ -1,5 +1,5 @@
 // The tree of a line.
-use mnum::Bytes7;
+use mnum::{Bytes7, Name};
 
 /// A unary operator in front of a primary.
 #[derive(Clone, Copy, Debug, PartialEq, Eq)]
@@ -110,7 +110,7 @@ pub enum Primary {
     /// A string without the quotes around it; a doubled quote within is one here.
     Text(Bytes7),
     /// A local variable's name.
-    Local(Bytes7),
+    Local(Name),
     /// An expression in brackets.
     Bracket(Box<Expr>),
     /// A function: its word behind the `$`, and its arguments.
@@ -145,7 +145,7 @@ pub enum Function {
 #[derive(Drop)]
 pub struct PieceTarget {
     pub word: Bytes7,
-    pub name: Bytes7,
+    pub name: Name,
     pub delimiter: Expr,
     pub place: Option<Expr>,
 }
@@ -154,7 +154,7 @@ pub struct PieceTarget {
 #[derive(Drop)]
 pub enum Target {
     /// A local variable's name.
-    Variable(Bytes7),
+    Variable(Name),
     Piece(PieceTarget),
 }
 
@@ -166,18 +166,14 @@ pub enum Destination {
     Several(Vec<Target>),
 }
 
-/// An argument of SET.
+/// An argument of a command.
 #[derive(Drop)]
-pub struct Assignment {
-    pub destination: Destination,
-    pub value: Expr,
-}
-
-/// An argument of WRITE.
-#[derive(Drop)]
-pub enum Output {
-    /// So many ends of lines, each written `!`.
+pub enum Arg {
+    /// Of SET: what it assigns to, and the value.
+    Assign(Destination, Expr),
+    /// Of WRITE: so many ends of lines, each written `!`.
     Breaks(usize),
+    /// Of WRITE: a value.
     Value(Expr),
 }
 
@@ -188,11 +184,12 @@ pub enum Keyword {
     Write,
 }
 
-/// A command, with its word as it is written.
+/// A command: what its word says, the word as it is written, and its arguments.
 #[derive(Drop)]
-pub enum Command {
-    Set(Bytes7, Vec<Assignment>),
-    Write(Bytes7, Vec<Output>),
+pub struct Command {
+    pub keyword: Keyword,
+    pub word: Bytes7,
+    pub args: Vec<Arg>,
 }
 
 /// A command, and how many spaces stand behind it.

@@ -1,14 +1,12 @@
-// The text of a line: each function appends the spelling of its part, as `mspec`'s grammar has it.
+// The text of a line: each function appends the spelling of its part, as `mgrammar` has it.
 ghost use Rattle.std.specs.Prelude.{◌≡◌, ◌++◌, ◌∷◌, [], List, ℕ, IfOk, OnOk, map, option_map};
-ghost use Rattle.mgrammar.specs.Grammar.{spell_place, spell_target, spell_destination, spell_assignment, spell_output, spell_list, spell_command, spell_commands, spell};
-ghost use Rattle.mtree.specs.Tree.{expr_tree, piece_tree, target_tree, destination_tree, assignment_tree, output_tree, command_tree, spaced_tree, line_tree};
+ghost use Rattle.mgrammar.specs.Grammar.{assign, spell_place, spell_target, spell_destination, spell_arg, spell_args, spell_command, spell_commands, spell};
+ghost use Rattle.mtree.specs.Tree.{expr_tree, piece_tree, target_tree, destination_tree, arg_tree, command_tree, spaced_tree, line_tree};
 
 use crate::expression::{put_expr, put_word};
 use crate::list::{Listed, put_list};
 use crate::pieces::{put_run, put_text};
-use crate::tree::{
-    Assignment, Command, Destination, Expr, Line, Output, PieceTarget, Spaced, Target,
-};
+use crate::tree::{Arg, Command, Destination, Expr, Line, PieceTarget, Spaced, Target};
 use mnum::Bytes7;
 use std::alloc::{AllocError, Global};
 
@@ -26,7 +24,7 @@ fn put_piece(out: &mut Bytes7, piece: &PieceTarget) -> Result<(), AllocError>
     ensures { OnOk result (out.new ≡ out.old ++ spell_target (piece_tree piece.now)) }
 {
     put_word(out, &piece.word)?;
-    put_text(out, &piece.name)?;
+    put_text(out, piece.name.as_bytes7())?;
     out.push(b',')?;
     put_expr(out, &piece.delimiter)?;
     put_place(out, &piece.place)?;
@@ -38,7 +36,7 @@ impl Listed for Target {
 
     fn put(&self, out: &mut Bytes7) -> Result<(), AllocError> {
         match self {
-            Target::Variable(name) => put_text(out, name),
+            Target::Variable(name) => put_text(out, name.as_bytes7()),
             Target::Piece(piece) => put_piece(out, piece),
         }
     }
@@ -57,42 +55,46 @@ fn put_destination(out: &mut Bytes7, destination: &Destination) -> Result<(), Al
     }
 }
 
-impl Listed for Assignment {
-    ghost spelling = { λ assignment. spell_assignment (assignment_tree assignment) };
-
-    fn put(&self, out: &mut Bytes7) -> Result<(), AllocError> {
-        put_destination(out, &self.destination)?;
-        out.push(b'=')?;
-        put_expr(out, &self.value)
-    }
+fn put_assignment(
+    out: &mut Bytes7,
+    destination: &Destination,
+    value: &Expr,
+) -> Result<(), AllocError>
+    ensures { OnOk result (out.new ≡ out.old ++ spell_arg (assign (destination_tree destination.now) (expr_tree value.now))) }
+{
+    put_destination(out, destination)?;
+    out.push(b'=')?;
+    put_expr(out, value)
 }
 
-impl Listed for Output {
-    ghost spelling = { λ output. spell_output (output_tree output) };
+impl Listed for Arg {
+    ghost spelling = { λ arg. spell_arg (arg_tree arg) };
 
     fn put(&self, out: &mut Bytes7) -> Result<(), AllocError> {
         match self {
-            Output::Breaks(count) => put_run(out, b'!', *count),
-            Output::Value(value) => put_expr(out, value),
+            Arg::Assign(destination, value) => put_assignment(out, destination, value),
+            Arg::Breaks(count) => put_run(out, b'!', *count),
+            Arg::Value(value) => put_expr(out, value),
         }
     }
+}
+
+// Behind a space, where there are some.
+fn put_args(out: &mut Bytes7, args: &Vec<Arg>) -> Result<(), AllocError>
+    ensures { OnOk result (out.new ≡ out.old ++ spell_args (map arg_tree args.now.items)) }
+{
+    if args.is_empty() {
+        return Ok(());
+    }
+    out.push(b' ')?;
+    put_list(out, args)
 }
 
 fn put_command(out: &mut Bytes7, command: &Command) -> Result<(), AllocError>
     ensures { OnOk result (out.new ≡ out.old ++ spell_command (command_tree command.now)) }
 {
-    match command {
-        Command::Set(word, assignments) => {
-            put_text(out, word)?;
-            out.push(b' ')?;
-            put_list(out, assignments)
-        }
-        Command::Write(word, outputs) => {
-            put_text(out, word)?;
-            out.push(b' ')?;
-            put_list(out, outputs)
-        }
-    }
+    put_text(out, &command.word)?;
+    put_args(out, &command.args)
 }
 
 fn put_commands(out: &mut Bytes7, commands: &[Spaced]) -> Result<(), AllocError>

@@ -16,20 +16,20 @@ use Rattle.mspec.specs.ScopeLaws.{LeavingRestores, TopVariablesStandAlone, NewKe
 -- ---- one call
 
 pub leaving_restores : LeavingRestores
-leaving_restores scopes = refl
+leaving_restores s below = refl
 
-rest_is : (b : Bool) (s t : Scope) (below other : Scopes) → b ≡ true → without_level (cond b (s ∷ below) (t ∷ other)) ≡ below
-rest_is true s t below other e = refl
-rest_is false s t below other e = cc
+rest_is : (b : Bool) (s t u : Scope) (below other : Scopes) → b ≡ true → without_level (cond b (s ∷ u ∷ below) (t ∷ other)) ≡ u ∷ below
+rest_is true s t u below other e = refl
+rest_is false s t u below other e = cc
 
 pub top_variables_stand_alone : TopVariablesStandAlone
-top_variables_stand_alone s below n mine = record {
-  assigned = λ xs x. rest_is (has s n) _ s below _ mine;
-  killed = λ xs. rest_is (has s n) _ s below _ mine;
+top_variables_stand_alone s t below n mine = record {
+  assigned = λ xs x. rest_is (has s n) _ s t below _ mine;
+  killed = λ xs. rest_is (has s n) _ s t below _ mine;
 }
 
 pub new_keeps_below : NewKeepsBelow
-new_keeps_below s below names = (refl, refl)
+new_keeps_below s t below names = (refl, refl)
 
 -- ---- names
 
@@ -188,10 +188,26 @@ spared-tree p n (s ∷ scopes) e =
     (λ _. tree-retain s p n ∙ ap (λ b. cond b (tree_in s n) empty) e)
     (λ _. spared-tree (λ m. p m || has s m) n scopes (ap (λ b. b || has s n) e))
 
--- the scope under so many levels has the name, and the name's variable below it is this tree
+abbrev AreSome : Scopes → Type 0
+AreSome [] = ⊥
+AreSome (s ∷ scopes) = Unit {0}
+
+home-some : (m : Text) (f : Scope → Scope) (scopes : Scopes) → AreSome scopes → AreSome (at_home f m scopes)
+home-some m f [] h = h
+home-some m f (s ∷ scopes) h = here (has s m)
+  where
+    here : (b : Bool) → AreSome (cond b (f s ∷ scopes) (s ∷ at_home f m scopes))
+    here true = tt
+    here false = tt
+
+spared-some : (p : Text → Bool) (scopes : Scopes) → AreSome scopes → AreSome (killed_but p scopes)
+spared-some p [] h = h
+spared-some p (s ∷ scopes) h = tt
+
+-- the scope under so many levels has the name, and the name's variable in those below it is this tree
 abbrev Stands : Text → Tree → ℕ → Scopes → Type 0
 Stands n t d [] = ⊥
-Stands n t zero (s ∷ scopes) = (has s n ≡ true) × (tree_of scopes n ≡ t)
+Stands n t zero (s ∷ scopes) = (has s n ≡ true) × (tree_of scopes n ≡ t) × AreSome scopes
 Stands n t (suc d) (s ∷ scopes) = Stands n t d scopes
 
 module _ (n : Text) (t : Tree) where
@@ -200,10 +216,10 @@ module _ (n : Text) (t : Tree) where
   stands-home m f of zero (s ∷ scopes) h = here (has s m) refl
     where
       here : (b : Bool) → has s m ≡ b → Stands n t zero (cond b (f s ∷ scopes) (s ∷ at_home f m scopes))
-      here true e = (of.names s n ∙ h.0, h.1)
+      here true e = (of.names s n ∙ h.0, h.1, h.2)
       here false e =
           let other : m ≡ n → ⊥ = λ same. absurd (let no : ◌≡◌ {A = Bool} false true = sym e ∙ ap (has s) same ∙ h.0 in cc) in
-          (h.0, other-home m n f of other scopes ∙ h.1)
+          (h.0, other-home m n f of other scopes ∙ h.1, home-some m f scopes h.2)
   stands-home m f of (suc d) (s ∷ scopes) h = here (has s m) (stands-home m f of d scopes h)
     where
       here : (b : Bool) → Stands n t d (at_home f m scopes) → Stands n t (suc d) (cond b (f s ∷ scopes) (s ∷ at_home f m scopes))
@@ -212,12 +228,12 @@ module _ (n : Text) (t : Tree) where
 
   stands-spared : (p : Text → Bool) (d : ℕ) (scopes : Scopes) → Stands n t d scopes → Stands n t d (killed_but p scopes)
   stands-spared p d [] h = h
-  stands-spared p zero (s ∷ scopes) h = (h.0, spared-tree (λ m. p m || has s m) n scopes (or_true (p n) (has s n) h.0) ∙ h.1)
+  stands-spared p zero (s ∷ scopes) h = (h.0, spared-tree (λ m. p m || has s m) n scopes (or_true (p n) (has s n) h.0) ∙ h.1, spared-some (λ m. p m || has s m) scopes h.2)
   stands-spared p (suc d) (s ∷ scopes) h = stands-spared (λ m. p m || has s m) d scopes h
 
   stands-top : (f : Scope → Scope) → ((s : Scope) → has s n ≡ true → has (f s) n ≡ true) → (d : ℕ) (scopes : Scopes) → Stands n t d scopes → Stands n t d (on_top f scopes)
   stands-top f keeps d [] h = h
-  stands-top f keeps zero (s ∷ scopes) h = (keeps s h.0, h.1)
+  stands-top f keeps zero (s ∷ scopes) h = (keeps s h.0, h.1, h.2)
   stands-top f keeps (suc d) (s ∷ scopes) h = h
 
   hide_has : (names : List Text) (s : Scope) → has s n ≡ true → has (hide names s) n ≡ true
@@ -232,7 +248,8 @@ module _ (n : Text) (t : Tree) where
 
   left : (d : ℕ) (scopes : Scopes) → Stands n t (suc d) scopes → Stands n t d (without_level scopes)
   left d [] h = h
-  left d (s ∷ scopes) h = h
+  left d (s ∷ []) h = absurd h
+  left d (s ∷ u ∷ scopes) h = h
 
   stands-all : (calls : List Call) (d : ℕ) (scopes : Scopes) → is_nested calls d ≡ true → Stands n t d scopes → Stands n t zero (after_all calls scopes)
   stands-all [] zero scopes e h = h
@@ -249,9 +266,10 @@ module _ (n : Text) (t : Tree) where
 
   below-is : (scopes : Scopes) → Stands n t zero scopes → tree_of (without_level scopes) n ≡ t
   below-is [] h = absurd h
-  below-is (s ∷ scopes) h = h.1
+  below-is (s ∷ []) h = absurd h.2
+  below-is (s ∷ u ∷ scopes) h = h.1
 
 pub hidden_variables_come_back : HiddenVariablesComeBack
-hidden_variables_come_back s below n calls mine nested =
-    let t : Tree = tree_of below n in
-    below-is n t (after_all calls (s ∷ below)) (stands-all n t calls zero (s ∷ below) nested (mine, refl))
+hidden_variables_come_back s u below n calls mine nested =
+    let t : Tree = tree_of (u ∷ below) n in
+    below-is n t (after_all calls (s ∷ u ∷ below)) (stands-all n t calls zero (s ∷ u ∷ below) nested (mine, refl, tt))

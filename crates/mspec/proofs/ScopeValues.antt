@@ -1,5 +1,5 @@
 -- What an assignment gives a node, and that it gives no other node anything.
-use Rattle.std.proofs.Common.{◌≡◌, Bool, true, false, cond, ◌&&◌, ◌||◌, Option, Some, None, List, [], ◌∷◌, refl, sym, ◌∙◌, ap}
+use Rattle.std.proofs.Common.{◌≡◌, Bool, true, false, cond, ◌&&◌, ◌||◌, Option, Some, None, List, [], ◌∷◌, refl, sym, ◌∙◌, ap, subst}
 use Rattle.std.specs.Option.{unwrap_or}
 use Rattle.std.specs.List.{list_any}
 use Rattle.std.specs.Ordering.{nat_cmp, eq_by_cmp}
@@ -10,7 +10,7 @@ use Rattle.mspec.specs.Node.{Text}
 use Rattle.mspec.specs.Number.{significant_digits}
 use Rattle.mspec.specs.NodeOrder.{subscripts_cmp}
 use Rattle.mspec.specs.Trees.{Tree}
-use Rattle.mspec.specs.Scopes.{Scope, Scopes, has, tree_in, with_tree, tree_of, at_home, value_at, assigned}
+use Rattle.mspec.specs.Scopes.{Scope, Scopes, has, tree_in, with_tree, tree_of, at_home, value_at, assigned, bottom, outermost}
 use Rattle.mspec.specs.Act.{Locals, no_locals, value_of, assigned_to}
 use Rattle.mspec.proofs.NodeOrders.{subscripts_cmp_total}
 
@@ -112,5 +112,35 @@ value_of-assigned locals n m x whole = value_at-assigned locals n m x [] [] whol
     here true = refl
     here false = refl
 
+-- ---- locals of one scope
+
+pub IsOne : Scopes → Type 0
+IsOne scopes = (s : Scope) × (scopes ≡ s ∷ [])
+
+pub none-IsOne : IsOne no_locals
+unfolding IsOne no_locals
+none-IsOne = (bottom, refl)
+
+pub assigned-IsOne : (locals : Locals) (n x : Text) → IsOne locals → IsOne (assigned_to locals n x)
+unfolding IsOne assigned_to
+assigned-IsOne locals n x one = subst (λ scopes. IsOne (at_home put n scopes)) (sym one.1) (here (has one.0 n))
+  where
+    put : Scope → Scope
+    put s = with_tree n (insert (tree_in s n) [] x) s
+
+    here : (b : Bool) → IsOne (cond b (put one.0 ∷ []) (one.0 ∷ []))
+    here true = (put one.0, refl)
+    here false = (one.0, refl)
+
+outermost-one : (scopes : Scopes) → IsOne scopes → outermost scopes ≡ scopes
+unfolding IsOne
+outermost-one scopes one = ap outermost one.1 ∙ sym one.1
+
+pub outermost-none : outermost no_locals ≡ no_locals
+outermost-none = outermost-one no_locals none-IsOne
+
+pub outermost-assigned : (locals : Locals) (n x : Text) → IsOne locals → outermost (assigned_to locals n x) ≡ assigned_to locals n x
+outermost-assigned locals n x one = outermost-one (assigned_to locals n x) (assigned-IsOne locals n x one)
+
 -- for `simp`: what locals answer after assignments
-pub ruleset local_values = (value_of-none, value_of-assigned, none-IsWhole, assigned-IsWhole)
+pub ruleset local_values = (value_of-none, value_of-assigned, none-IsWhole, assigned-IsWhole, outermost-none, outermost-assigned, none-IsOne, assigned-IsOne)

@@ -9,7 +9,7 @@ use Rattle.mspec.specs.Scopes.{Scope, Scopes, has, is_among, tree_of, assigned, 
 
 -- leaving a level that was just entered gives back what was there
 abbrev pub LeavingRestores : Type 0
-LeavingRestores = (scopes : Scopes) → without_level (with_level scopes) ≡ scopes
+LeavingRestores = (s : Scope) (below : Scopes) → without_level (with_level (s ∷ below)) ≡ s ∷ below
 
 -- what is done to a variable of the top scope changes no scope below
 pub record KeepsBelow (s : Scope) (below : Scopes) (n : Text) : Type 0 where
@@ -17,13 +17,13 @@ pub record KeepsBelow (s : Scope) (below : Scopes) (n : Text) : Type 0 where
   pub killed : (xs : List Text) → without_level (killed (s ∷ below) n xs) ≡ below
 
 abbrev pub TopVariablesStandAlone : Type 0
-TopVariablesStandAlone = (s : Scope) (below : Scopes) (n : Text) → has s n ≡ true → KeepsBelow s below n
+TopVariablesStandAlone = (s t : Scope) (below : Scopes) (n : Text) → has s n ≡ true → KeepsBelow s (t ∷ below) n
 
 -- nor does NEW
 abbrev pub NewKeepsBelow : Type 0
 NewKeepsBelow =
-    (s : Scope) (below : Scopes) (names : List Text) →
-    (without_level (newed names (s ∷ below)) ≡ below) × (without_level (newed_except names (s ∷ below)) ≡ below)
+    (s t : Scope) (below : Scopes) (names : List Text) →
+    (without_level (newed names (s ∷ t ∷ below)) ≡ t ∷ below) × (without_level (newed_except names (s ∷ t ∷ below)) ≡ t ∷ below)
 
 -- NEW hides the variables of these names, and leaves all others as they are
 abbrev pub NewHides : Type 0
@@ -79,5 +79,5 @@ is_nested (Leave ∷ calls) (suc d) = is_nested calls d
 -- what a scope hides comes back when its level ends, whatever was done on top of it
 abbrev pub HiddenVariablesComeBack : Type 0
 HiddenVariablesComeBack =
-    (s : Scope) (below : Scopes) (n : Text) (calls : List Call) → has s n ≡ true → is_nested calls 0 ≡ true →
-    tree_of (without_level (after_all calls (s ∷ below))) n ≡ tree_of below n
+    (s t : Scope) (below : Scopes) (n : Text) (calls : List Call) → has s n ≡ true → is_nested calls 0 ≡ true →
+    tree_of (without_level (after_all calls (s ∷ t ∷ below))) n ≡ tree_of (t ∷ below) n

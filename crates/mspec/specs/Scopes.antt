@@ -125,6 +125,14 @@ newed_except names scopes = on_top (hide_others names) scopes
 abbrev pub with_level : Scopes → Scopes
 with_level scopes = entered ∷ scopes
 
+-- the scope at the bottom stays
 abbrev pub without_level : Scopes → Scopes
 without_level [] = []
-without_level (s ∷ below) = below
+without_level (s ∷ []) = s ∷ []
+without_level (s ∷ t ∷ below) = t ∷ below
+
+-- what is left where all levels are closed
+abbrev pub outermost : Scopes → Scopes
+outermost [] = []
+outermost (s ∷ []) = s ∷ []
+outermost (s ∷ t ∷ below) = outermost (t ∷ below)

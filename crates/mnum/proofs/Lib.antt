@@ -18,3 +18,4 @@ pub mod Sums
 pub mod Remainders
 pub mod UnitDigits
 pub mod WholeParts
+pub mod NameTexts

@@ -1,4 +1,4 @@
-//! Numbers of eighteen significant digits, exact in their arithmetic and rounded once, and texts of seven-bit characters.
+//! Numbers of eighteen significant digits, exact in their arithmetic and rounded once, texts of seven-bit characters, and names.
 //!
 //! A number is a whole count of units of 10^-18, below 10^18 in size. The definitions that the contracts cite stand in
 //! `mspec`: `Number` (rounding and the operators), `NumberText` (the value of a text, and the text of a number).
@@ -6,6 +6,7 @@
 
 mod arithmetic;
 mod bytes;
+mod name;
 mod num;
 mod numbered;
 mod powers;
@@ -17,6 +18,7 @@ mod whole;
 mod writing;
 
 pub use bytes::{Bytes7, LONGEST_TEXT};
+pub use name::Name;
 pub use num::{ArithFault, Num, Over};
 pub use reading::short_whole;
 pub use writing::{is_canonical, is_canonical_by};

@@ -110,9 +110,7 @@ fn level(locals: &mut Locals, names: &[Bytes7]) -> i128 {
         return -1;
     }
     let made = locals.new_vars(names).is_ok();
-    if locals.depth() > 0 {
-        locals.leave();
-    }
+    locals.leave();
     made as i128
 }
 

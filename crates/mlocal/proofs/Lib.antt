@@ -1,5 +1,6 @@
 pub mod Views
 pub mod Stacks
+pub mod Levels
 pub mod Killed
 pub mod Bounds
 pub mod Walks

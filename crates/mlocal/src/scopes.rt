@@ -3,7 +3,7 @@ ghost use Rattle.std.specs.Prelude.{◌≡◌, IfOk, OnOk, OnErr, [], ◌∷◌,
 ghost use Rattle.mlocal.specs.Home.{IsHome, killed_up};
 ghost use Rattle.mlocal.specs.Way.{way};
 ghost use Rattle.mspec.specs.KeyBytes.{AreSubscripts};
-ghost use Rattle.mspec.specs.Scopes.{bottom, is_among, value_at, is_value, is_above, next_subscript, assigned, killed, killed_except, newed, newed_except, with_level, without_level};
+ghost use Rattle.mspec.specs.Scopes.{bottom, is_among, value_at, is_value, is_above, next_subscript, assigned, killed, killed_except, newed, newed_except, with_level, without_level, outermost};
 ghost use Rattle.mspec.specs.Trees.{AreOrderSubscripts};
 
 use crate::scope::Scope;
@@ -71,12 +71,18 @@ impl Locals {
         Ok(())
     }
 
-    /// Closes the level opened last, with what its scope has. Takes no memory.
+    /// Closes the level opened last, with what its scope has; does nothing where none is open. Takes no memory.
     pub fn leave(&mut self)
-        requires { 1 < length self.old }
         ensures { self.new ≡ without_level self.old }
     {
         let _closed = self.levels.pop();
+    }
+
+    /// Closes all levels, so that the scope at the bottom is left. Takes no memory.
+    pub fn leave_all(&mut self)
+        ensures { self.new ≡ outermost self.old }
+    {
+        self.levels.clear();
     }
 
     /// The text at a node, where the name's variable has one there.

@@ -24,7 +24,7 @@ pub fn locals(alloc: Global, cases: &[&str], out: &mut Vec<u8>) -> anyhow::Resul
 fn call(locals: &mut Locals, alloc: Global, words: &[&str]) -> anyhow::Result<Option<Bytes7>> {
     match words {
         ["enter"] => locals.enter()?,
-        ["leave"] => leave(locals),
+        ["leave"] => locals.leave(),
         ["new", names @ ..] => locals.new_vars(texts_of(alloc, names)?.as_slice())?,
         ["new-all-but", names @ ..] => locals.new_except(texts_of(alloc, names)?),
         ["kill-all-but", names @ ..] => locals.kill_except(texts_of(alloc, names)?.as_slice()),
@@ -36,12 +36,6 @@ fn call(locals: &mut Locals, alloc: Global, words: &[&str]) -> anyhow::Result<Op
         _ => anyhow::bail!("no call on locals"),
     }
     Ok(None)
-}
-
-fn leave(locals: &mut Locals) {
-    if locals.depth() > 0 {
-        locals.leave();
-    }
 }
 
 fn kill(locals: &mut Locals, alloc: Global, name: &str, subs: &[&str]) -> anyhow::Result<()> {

@@ -1,0 +1,14 @@
+-- The scopes of levels above the one at the bottom.
+use Rattle.std.proofs.Common.{◌≡◌, List, [], ◌∷◌, ◌++◌, refl}
+use Rattle.mspec.specs.Scopes.{Scope, without_level, outermost}
+
+-- the scope on top goes, where it is not that at the bottom
+pub top_goes : (s : Scope) (above : List Scope) (bottom : Scope) → without_level (s ∷ (above ++ bottom ∷ [])) ≡ above ++ bottom ∷ []
+top_goes s [] bottom = refl
+top_goes s (t ∷ above) bottom = refl
+
+-- all above the bottom go
+pub all_go : (above : List Scope) (bottom : Scope) → outermost (above ++ bottom ∷ []) ≡ bottom ∷ []
+all_go [] bottom = refl
+all_go (s ∷ []) bottom = refl
+all_go (s ∷ t ∷ above) bottom = all_go (t ∷ above) bottom

@@ -1,0 +1,10 @@
+use Rattle.std.proofs.Common.{[], ◌∷◌, ◌++◌, sym, ap, ◌∙◌}
+use Rattle.std.specs.Prelude.{reverse}
+use Rattle.mspec.specs.Scopes.{outermost}
+use Rattle.mlocal.proofs.Levels.{all_go}
+use Rattle.mlocal.proofs.scopes.Locals.leave_all.Goals as goal
+
+pub returns : goal.returns
+returns c =
+    ap (λ scopes. reverse scopes ++ c.self.inside.bottom ∷ []) c.clear.ensures.items ∙ sym (all_go (reverse c.self.inside.levels.items) c.self.inside.bottom)
+    ∙ ap outermost c.self.view_is

@@ -1,3 +1,4 @@
+pub mod MeaningExamples
 pub mod Histories
 pub mod OtherLocks
 pub mod Calls

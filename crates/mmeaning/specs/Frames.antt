@@ -2,7 +2,7 @@
 use Rattle.std.specs.Prelude.{ℕ, ◌≤◌, List, [], ◌∷◌, Result, Ok, Err}
 use Rattle.mspec.specs.Code.{Fault}
 use Rattle.mspec.specs.Act.{Text, Act, ◌>>=◌, give}
-use Rattle.mmeaning.specs.TempTree.{CommandTree}
+use Rattle.mgrammar.specs.Grammar.{CommandTree}
 use Rattle.mmeaning.specs.LineMeaning.{Signal, Spot, after, commands, after_level, context}
 use Rattle.mmeaning.specs.Calls.{Standing, Here, FailedBy, Follows}
 

@@ -1,4 +1,3 @@
-pub mod TempTree
 pub mod Operators
 pub mod Functions
 pub mod Expression

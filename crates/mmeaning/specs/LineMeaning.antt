@@ -4,8 +4,7 @@
 -- it stood in a command of its own.
 use Rattle.std.specs.Prelude.{ℕ, zero, suc, List, [], ◌∷◌, ◌++◌, map, replicate, Option, Some, None, unwrap_or}
 use Rattle.mspec.specs.TextFunctions.{set_piece_of}
-use Rattle.mgrammar.specs.Grammar.{ExprTree, TargetTree, variable, piece, DestinationTree, one, several, KeywordTree, set_word, write_word}
-use Rattle.mmeaning.specs.TempTree.{ArgTree, assign, breaks, shown, CommandTree, LineTree}
+use Rattle.mgrammar.specs.Grammar.{ExprTree, TargetTree, variable, piece, DestinationTree, one, several, KeywordTree, set_word, write_word, ArgTree, assign, breaks, shown, CommandTree, LineTree}
 use Rattle.mspec.specs.Code.{Zsteps}
 use Rattle.mspec.specs.Act.{Text, Act, Gives, ◌>>=◌, ◌>>◌, give, fail, charge, write, value_of, set_local}
 use Rattle.mspec.specs.Plan.{Done}

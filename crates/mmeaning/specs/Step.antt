@@ -9,7 +9,8 @@ use Rattle.mspec.specs.LockConflict.{released}
 use Rattle.mspec.specs.Act.{Text, Node, Locals, no_locals, State, Outcome, Gives, Fails, Act, fail}
 use Rattle.mspec.specs.Scopes.{outermost}
 use Rattle.mspec.specs.Names.{is_character}
-use Rattle.mmeaning.specs.TempTree.{LineTree, line_at}
+use Rattle.mgrammar.specs.Grammar.{LineTree}
+use Rattle.mgrammar.specs.Reading.{line_at}
 use Rattle.mmeaning.specs.LineMeaning.{Signal, Go_on, Skips, Quits, Goes, Halts, run}
 pub use Rattle.mspec.specs.Access.{Account, Settings}
 pub use Rattle.mmeaning.specs.World.{World, act}

@@ -1,0 +1,211 @@
+-- The interpreter on examples, as proved equations.
+use Rattle.std.proofs.Common.{◌≡◌, ℕ, false, List, [], ◌∷◌, ◌++◌, Option, Some, None, refl}
+use Rattle.std.specs.Prelude.{codes, map, replicate}
+use Rattle.std.specs.FinMap.{empty, insert, gets}
+use Rattle.mspec.proofs.ScopeValues.{local_values}
+use Rattle.std.specs.Fmt.{digits}
+use Rattle.mspec.specs.Number.{round, round_size, nearest, rounding_unit, digits_before}
+use Rattle.mspec.specs.NumberText.{numeric_value, literal_size, size_text}
+use Rattle.mspec.specs.NodeOrder.{canonical_value}
+use Rattle.mspec.specs.Pieces.{pieces_of}
+use Rattle.mspec.specs.TextFunctions.{first_place, with_piece}
+use Rattle.mgrammar.specs.Grammar.{join, keyword_of, function_of}
+use Rattle.mgrammar.specs.Reading.{many, list_at, point_at, exponent_at, number_at, name_at, count_at, repeated_at, atom_at, pattern_at, truth_at, operator_at, bracket_with, choice_with, select_with, call_with, function_with, primary_with, operand_with, step_by, step_with, expr_with, readers_at, place_with, piece_with, target_with, destination_at, assignment_at, output_at, args_at, command_at, spaced_at, comment_at, line_at}
+use Rattle.mspec.specs.Code.{Code, M4, M6, M9, M10, Zlong, Zsyntax, Zover, Zarg, Zchar, Zline, Zterm, Own}
+use Rattle.mspec.specs.Plan.{Done, perform}
+use Rattle.mspec.specs.Act.{Text, State, Outcome, Gives, Fails, no_locals, assigned_to}
+use Rattle.mmeaning.specs.Operators.{binary}
+use Rattle.mmeaning.specs.LineMeaning.{Signal}
+use Rattle.mmeaning.specs.Step.{Account, Settings, Event, Reply, Finished, Faulted, act, begun, new_session, text_run}
+use Rattle.mmeaning.specs.History.{opening, replies}
+
+abbrev account : Account
+account = record { name = codes "ALICE"; steps = 2000 }
+
+-- terminal 1 of ALICE, with 2,000 steps a line
+abbrev pub alice : Settings
+alice = record { accounts = account ∷ []; terminals = insert empty 1 account; grants = [] }
+
+abbrev event : ℕ × Text → Event
+event e = record { terminal = e.0; text = e.1 }
+
+abbrev answers : List (ℕ × Text) → List Reply
+answers lines = replies alice (opening empty) (map event lines)
+
+abbrev done : Text → Reply
+done out = record { out = out; ending = Finished }
+
+abbrev failed : Text → Code → Reply
+failed out code = record { out = out; ending = Faulted (Own code) }
+
+-- what a line over no locals writes, and the code that it ends with
+abbrev shown_by : Outcome Signal → Text × Option Code
+shown_by (Gives signal s) = (s.out, None)
+shown_by (Fails code s) = (s.out, Some code)
+
+abbrev shown : Text → Text × Option Code
+shown t = shown_by (perform (act alice 1 account.name) (text_run account.name (line_at t) (begun account new_session)) (opening empty).world).0
+
+abbrev Rows : Type 0
+Rows = List (Text × (Text × Option Code))
+
+abbrev AreShown : Rows → Type 0
+AreShown rows = map (λ r. shown r.0) rows ≡ map (λ r. r.1) rows
+
+-- operators from left to right, numbers and their rounding
+abbrev arithmetic_rows : Rows
+arithmetic_rows =
+    (codes "WRITE 1+2*3", (codes "9", None)) ∷
+    (codes "W (1+2)*3,1+(2*3)", (codes "97", None)) ∷
+    (codes "W 2/3,\"|\",-7\\2,\"|\",-7#3", (codes ".666666666666666667|-3|2", None)) ∷
+    (codes "W \"1.0\"=1,\"--3X\"+0,\"1E3\"+0", (codes "031000", None)) ∷
+    (codes "W 12.34567890123456785", (codes "12.3456789012345679", None)) ∷
+    (codes "W 999999999999999+1", (codes "1000000000000000", None)) ∷
+    (codes "W +\"1234567890123456\"", (codes "1234567890123456", None)) ∷
+    (codes "W 999999999999999999+1", ([], Some Zover)) ∷
+    (codes "W 999999999999999*10000", ([], Some Zover)) ∷
+    (codes "W 1E17", (codes "100000000000000000", None)) ∷
+    (codes "W 1E18", ([], Some Zover)) ∷
+    (codes "W 1/0", ([], Some M9)) ∷
+    (codes "W 1,1#0", (codes "1", Some M9)) ∷
+    (codes "W .5+.25,-.5", (codes ".75-.5", None)) ∷ []
+
+arithmetic : AreShown arithmetic_rows
+unfolding keyword_of function_of many list_at point_at exponent_at number_at name_at count_at repeated_at atom_at pattern_at truth_at operator_at bracket_with choice_with select_with call_with function_with primary_with operand_with step_by step_with expr_with readers_at place_with piece_with target_with destination_at assignment_at output_at args_at command_at spaced_at comment_at line_at numeric_value literal_size round round_size nearest rounding_unit digits_before size_text digits pieces_of first_place with_piece canonical_value
+arithmetic = refl
+
+-- comparisons, logic and the order of subscripts
+abbrev truths_rows : Rows
+truths_rows =
+    (codes "W 10]]9,10]9,\"A\"]]10,2]]\"01\"", (codes "1010", None)) ∷
+    (codes "W 1'=2,1'<2,'0", (codes "101", None)) ∷
+    (codes "W \"ab\"[\"b\",\"ab\"[\"c\",\"b\"]\"a\"", (codes "101", None)) ∷
+    (codes "W 1&2,0!0,1'&0,0'!0,''5", (codes "10111", None)) ∷ []
+
+truths : AreShown truths_rows
+unfolding keyword_of function_of many list_at point_at exponent_at number_at name_at count_at repeated_at atom_at pattern_at truth_at operator_at bracket_with choice_with select_with call_with function_with primary_with operand_with step_by step_with expr_with readers_at place_with piece_with target_with destination_at assignment_at output_at args_at command_at spaced_at comment_at line_at numeric_value literal_size round round_size nearest rounding_unit digits_before size_text digits pieces_of first_place with_piece canonical_value
+truths = refl
+
+-- patterns, and counts that no text can have
+abbrev patterns_rows : Rows
+patterns_rows =
+    (codes "W \"AB-12\"?2U1\"-\"1.N,\"\"?.E", (codes "11", None)) ∷
+    (codes "W \"a\"?3.1A", ([], Some M10)) ∷
+    (codes "W \"\"?1N3.1A", ([], Some M10)) ∷
+    (codes "W 1/0?3.1A", ([], Some M9)) ∷
+    (codes "W 1?00001N", ([], Some Zsyntax)) ∷
+    (codes "W \"\"?3\"\",\"x55\"?1E.5N,\"x\"?.1N1A", (codes "111", None)) ∷
+    (codes "W 12'?2n,12'?1NA", (codes "01", None)) ∷ []
+
+patterns : AreShown patterns_rows
+unfolding keyword_of function_of many list_at point_at exponent_at number_at name_at count_at repeated_at atom_at pattern_at truth_at operator_at bracket_with choice_with select_with call_with function_with primary_with operand_with step_by step_with expr_with readers_at place_with piece_with target_with destination_at assignment_at output_at args_at command_at spaced_at comment_at line_at numeric_value literal_size round round_size nearest rounding_unit digits_before size_text digits pieces_of first_place with_piece canonical_value
+patterns = refl
+
+-- functions and their bounds
+abbrev functions_rows : Rows
+functions_rows =
+    (codes "W $P(\"a,b,,d\",\",\",2,3),$F(\"abcabc\",\"bc\",3),$L(\"\",\",\")", (codes "b,71", None)) ∷
+    (codes "W $J(\"ab\",4),$TR(\"banana\",\"an\",\"o\"),$A(\"AB\",2),$C(72,105),$E(\"hello\",2,3),$L(\"abc\")", (codes "  abbooo66Hiel3", None)) ∷
+    (codes "W $P(\"aaa\",\"aa\",1),\"|\",$P(\"aaa\",\"aa\",2),$L(\"aaa\",\"aa\")", (codes "|a2", None)) ∷
+    (codes "W $P(\"a,b\",\",\",0),$E(\"ab\",-1),$E(\"ab\",-1,1),$F(\"abc\",\"\",9),$F(\"aa\",\"a\",-9),$L($C(-.5)),$L($C(-1))", (codes "a9210", None)) ∷
+    (codes "W $C(200,\"1E30\")", ([], Some Zover)) ∷
+    (codes "W $P(\"a\",\"\",\"1E30\")", ([], Some Zover)) ∷
+    (codes "W $A(\"\",\"1E30\")", ([], Some Zover)) ∷
+    (codes "W $S(0:1)", ([], Some M4)) ∷
+    (codes "W $s(0:B,1:2,1:C)", (codes "2", None)) ∷
+    (codes "W $C(200)", ([], Some Zchar)) ∷
+    (codes "W $SELECT(1:1/0)", ([], Some M9)) ∷ []
+
+functions : AreShown functions_rows
+unfolding keyword_of function_of many list_at point_at exponent_at number_at name_at count_at repeated_at atom_at pattern_at truth_at operator_at bracket_with choice_with select_with call_with function_with primary_with operand_with step_by step_with expr_with readers_at place_with piece_with target_with destination_at assignment_at output_at args_at command_at spaced_at comment_at line_at numeric_value literal_size round round_size nearest rounding_unit digits_before size_text digits pieces_of first_place with_piece canonical_value
+functions = refl
+
+-- what is evaluated before an error, and what is no syntax
+abbrev refusals_rows : Rows
+refusals_rows =
+    (codes "W \"1E30\"+1", ([], Some Zover)) ∷
+    (codes "W -+-3,-\"1E2X\",+\"A\"", (codes "3-1000", None)) ∷
+    (codes "W 007,123456789012345678", (codes "7123456789012345678", None)) ∷
+    (codes "W 1..5", ([], Some Zsyntax)) ∷
+    (codes "S (A)=", ([], Some Zsyntax)) ∷
+    (codes "W $X(1)", ([], Some Zsyntax)) ∷ []
+
+refusals : AreShown refusals_rows
+unfolding keyword_of function_of many list_at point_at exponent_at number_at name_at count_at repeated_at atom_at pattern_at truth_at operator_at bracket_with choice_with select_with call_with function_with primary_with operand_with step_by step_with expr_with readers_at place_with piece_with target_with destination_at assignment_at output_at args_at command_at spaced_at comment_at line_at numeric_value literal_size round round_size nearest rounding_unit digits_before size_text digits pieces_of first_place with_piece canonical_value
+refusals = refl
+
+-- targets of SET, from left to right
+list_of_targets : answers ((1, codes "S (A,B)=3 W A+B") ∷ []) ≡ (done (codes "6") ∷ [])
+unfolding keyword_of function_of many list_at point_at exponent_at number_at name_at count_at repeated_at atom_at pattern_at truth_at operator_at bracket_with choice_with select_with call_with function_with primary_with operand_with step_by step_with expr_with readers_at place_with piece_with target_with destination_at assignment_at output_at args_at command_at spaced_at comment_at line_at numeric_value literal_size round round_size nearest rounding_unit digits_before size_text digits pieces_of first_place with_piece canonical_value
+list_of_targets = simp (gets, local_values)
+
+piece_padded : answers ((1, codes "S P=\"a\" S $P(P,\"-\",3)=\"z\" W P") ∷ []) ≡ (done (codes "a--z") ∷ [])
+unfolding keyword_of function_of many list_at point_at exponent_at number_at name_at count_at repeated_at atom_at pattern_at truth_at operator_at bracket_with choice_with select_with call_with function_with primary_with operand_with step_by step_with expr_with readers_at place_with piece_with target_with destination_at assignment_at output_at args_at command_at spaced_at comment_at line_at numeric_value literal_size round round_size nearest rounding_unit digits_before size_text digits pieces_of first_place with_piece canonical_value
+piece_padded = simp (gets, local_values)
+
+targets_one_by_one : answers ((1, codes "S (B,$P(B,\",\",2))=\"x\" W B") ∷ []) ≡ (done (codes "x,x") ∷ [])
+unfolding keyword_of function_of many list_at point_at exponent_at number_at name_at count_at repeated_at atom_at pattern_at truth_at operator_at bracket_with choice_with select_with call_with function_with primary_with operand_with step_by step_with expr_with readers_at place_with piece_with target_with destination_at assignment_at output_at args_at command_at spaced_at comment_at line_at numeric_value literal_size round round_size nearest rounding_unit digits_before size_text digits pieces_of first_place with_piece canonical_value
+targets_one_by_one = simp (gets, local_values)
+
+place_too_far : answers ((1, codes "S B=1,$P(B,\",\",501)=2") ∷ []) ≡ (failed [] Zarg ∷ [])
+unfolding keyword_of function_of many list_at point_at exponent_at number_at name_at count_at repeated_at atom_at pattern_at truth_at operator_at bracket_with choice_with select_with call_with function_with primary_with operand_with step_by step_with expr_with readers_at place_with piece_with target_with destination_at assignment_at output_at args_at command_at spaced_at comment_at line_at numeric_value literal_size round round_size nearest rounding_unit digits_before size_text digits pieces_of first_place with_piece canonical_value
+place_too_far = simp gets
+
+place_before_delimiter : answers ((1, codes "S $P(A,\"\",\"1E30\")=1") ∷ []) ≡ (failed [] Zover ∷ [])
+unfolding keyword_of function_of many list_at point_at exponent_at number_at name_at count_at repeated_at atom_at pattern_at truth_at operator_at bracket_with choice_with select_with call_with function_with primary_with operand_with step_by step_with expr_with readers_at place_with piece_with target_with destination_at assignment_at output_at args_at command_at spaced_at comment_at line_at numeric_value literal_size round round_size nearest rounding_unit digits_before size_text digits pieces_of first_place with_piece canonical_value
+place_before_delimiter = simp gets
+
+delimiter_empty : answers ((1, codes "S $P(A,\"\",1)=1") ∷ []) ≡ (failed [] Zarg ∷ [])
+unfolding keyword_of function_of many list_at point_at exponent_at number_at name_at count_at repeated_at atom_at pattern_at truth_at operator_at bracket_with choice_with select_with call_with function_with primary_with operand_with step_by step_with expr_with readers_at place_with piece_with target_with destination_at assignment_at output_at args_at command_at spaced_at comment_at line_at numeric_value literal_size round round_size nearest rounding_unit digits_before size_text digits pieces_of first_place with_piece canonical_value
+delimiter_empty = simp gets
+
+place_without_fraction : answers ((1, codes "S $P(A,\",\",2.9)=1 W A") ∷ []) ≡ (done (codes ",1") ∷ [])
+unfolding keyword_of function_of many list_at point_at exponent_at number_at name_at count_at repeated_at atom_at pattern_at truth_at operator_at bracket_with choice_with select_with call_with function_with primary_with operand_with step_by step_with expr_with readers_at place_with piece_with target_with destination_at assignment_at output_at args_at command_at spaced_at comment_at line_at numeric_value literal_size round round_size nearest rounding_unit digits_before size_text digits pieces_of first_place with_piece canonical_value
+place_without_fraction = simp (gets, local_values)
+
+parts_before_value : answers ((1, codes "S $P(A,1/0)=B") ∷ []) ≡ (failed [] M9 ∷ [])
+unfolding keyword_of function_of many list_at point_at exponent_at number_at name_at count_at repeated_at atom_at pattern_at truth_at operator_at bracket_with choice_with select_with call_with function_with primary_with operand_with step_by step_with expr_with readers_at place_with piece_with target_with destination_at assignment_at output_at args_at command_at spaced_at comment_at line_at numeric_value literal_size round round_size nearest rounding_unit digits_before size_text digits pieces_of first_place with_piece canonical_value
+parts_before_value = simp gets
+
+-- a line end is the byte 255
+set_and_write : answers ((1, codes "SET A=\"x\" W A_1,!,A-1*2") ∷ []) ≡ (done (codes "x1" ++ (255 ∷ codes "-2")) ∷ [])
+unfolding keyword_of function_of many list_at point_at exponent_at number_at name_at count_at repeated_at atom_at pattern_at truth_at operator_at bracket_with choice_with select_with call_with function_with primary_with operand_with step_by step_with expr_with readers_at place_with piece_with target_with destination_at assignment_at output_at args_at command_at spaced_at comment_at line_at numeric_value literal_size round round_size nearest rounding_unit digits_before size_text digits pieces_of first_place with_piece canonical_value
+set_and_write = simp (gets, local_values)
+
+-- locals last from line to line
+locals_last : answers ((1, codes "S A=5") ∷ (1, codes "W A,A+1") ∷ []) ≡ (done [] ∷ done (codes "56") ∷ [])
+unfolding keyword_of function_of many list_at point_at exponent_at number_at name_at count_at repeated_at atom_at pattern_at truth_at operator_at bracket_with choice_with select_with call_with function_with primary_with operand_with step_by step_with expr_with readers_at place_with piece_with target_with destination_at assignment_at output_at args_at command_at spaced_at comment_at line_at numeric_value literal_size round round_size nearest rounding_unit digits_before size_text digits pieces_of first_place with_piece canonical_value
+locals_last = simp (gets, local_values)
+
+undefined_local : answers ((1, codes "W 1,\"a\"_B") ∷ []) ≡ (failed (codes "1") M6 ∷ [])
+unfolding keyword_of function_of many list_at point_at exponent_at number_at name_at count_at repeated_at atom_at pattern_at truth_at operator_at bracket_with choice_with select_with call_with function_with primary_with operand_with step_by step_with expr_with readers_at place_with piece_with target_with destination_at assignment_at output_at args_at command_at spaced_at comment_at line_at numeric_value literal_size round round_size nearest rounding_unit digits_before size_text digits pieces_of first_place with_piece canonical_value
+undefined_local = simp (gets, local_values)
+
+-- both operands are evaluated before they become numbers
+operands_before_numbers : answers ((1, codes "W \"1E30\"+B") ∷ []) ≡ (failed [] M6 ∷ [])
+unfolding keyword_of function_of many list_at point_at exponent_at number_at name_at count_at repeated_at atom_at pattern_at truth_at operator_at bracket_with choice_with select_with call_with function_with primary_with operand_with step_by step_with expr_with readers_at place_with piece_with target_with destination_at assignment_at output_at args_at command_at spaced_at comment_at line_at numeric_value literal_size round round_size nearest rounding_unit digits_before size_text digits pieces_of first_place with_piece canonical_value
+operands_before_numbers = simp (gets, local_values)
+
+-- what stands before an error stands
+set_stops_at_fault :
+    perform (act alice 1 account.name) (text_run account.name (line_at (codes "S A=1,B=C")) (begun account new_session)) (opening empty).world ≡
+    (Fails M6 (record { locals = assigned_to no_locals (codes "A") (codes "1"); naked = None; test = false; out = []; steps = 1997 }), (opening empty).world)
+unfolding keyword_of function_of many list_at point_at exponent_at number_at name_at count_at repeated_at atom_at pattern_at truth_at operator_at bracket_with choice_with select_with call_with function_with primary_with operand_with step_by step_with expr_with readers_at place_with piece_with target_with destination_at assignment_at output_at args_at command_at spaced_at comment_at line_at numeric_value literal_size round round_size nearest rounding_unit digits_before size_text digits pieces_of first_place with_piece canonical_value
+set_stops_at_fault = simp (gets, local_values)
+
+-- the checks in their order
+unknown_terminal : answers ((2, codes "W 1") ∷ (1, codes "W 1 2") ∷ (1, codes "") ∷ []) ≡ (failed [] Zterm ∷ failed [] Zsyntax ∷ done [] ∷ [])
+unfolding keyword_of function_of many list_at point_at exponent_at number_at name_at count_at repeated_at atom_at pattern_at truth_at operator_at bracket_with choice_with select_with call_with function_with primary_with operand_with step_by step_with expr_with readers_at place_with piece_with target_with destination_at assignment_at output_at args_at command_at spaced_at comment_at line_at numeric_value literal_size round round_size nearest rounding_unit digits_before size_text digits pieces_of first_place with_piece canonical_value
+unknown_terminal = simp gets
+
+-- a comment of 254 letters is the longest line, a longer one is refused, and so is a character that is not ASCII
+line_lengths : answers ((1, 59 ∷ replicate 254 65) ∷ (1, 59 ∷ replicate 255 65) ∷ (1, codes "W " ++ (34 ∷ 195 ∷ 169 ∷ 34 ∷ [])) ∷ []) ≡ (done [] ∷ failed [] Zline ∷ failed [] Zchar ∷ [])
+unfolding keyword_of function_of many list_at point_at exponent_at number_at name_at count_at repeated_at atom_at pattern_at truth_at operator_at bracket_with choice_with select_with call_with function_with primary_with operand_with step_by step_with expr_with readers_at place_with piece_with target_with destination_at assignment_at output_at args_at command_at spaced_at comment_at line_at numeric_value literal_size round round_size nearest rounding_unit digits_before size_text digits pieces_of first_place with_piece canonical_value
+line_lengths = simp gets
+
+-- a text of 4,095 characters is the longest
+longest_text : (s : State) → binary join (replicate 2048 65) (replicate 2047 65) s ≡ Done (Gives (replicate 4095 65) s)
+longest_text s = refl
+
+text_too_long : (s : State) → binary join (replicate 2048 65) (replicate 2048 65) s ≡ Done (Fails Zlong s)
+text_too_long s = refl

@@ -1,58 +1,53 @@
 -- Arguments of functions at their places.
-use Rattle.std.proofs.Common.{◌≡◌, ℕ, suc, ◌+◌, ◌<◌, ◌≤◌, List, [], ◌∷◌, ◌++◌, length, drop, get_or, map, Option, Some, None, Result, Ok, Err, refl, sym, ap, ◌∙◌, subst, drop-cons, add-one}
-use Rattle.std.specs.Prelude.{ℤ, slice_get, option_map}
+use Rattle.std.proofs.Common.{◌≡◌, ℕ, ◌+◌, ◌<◌, ◌≤◌, List, [], ◌∷◌, ◌++◌, length, drop, get_or, Option, Some, None, Result, Ok, Err, refl, sym, ap, subst}
+use Rattle.std.specs.Prelude.{ℤ, slice_get}
 use Rattle.std.proofs.Math.ListN.{drop_of_length-le}
-use Rattle.std.proofs.lemmas.Option.{slice_get-map, slice_get_read, slice_get_past}
-use Rattle.mspec.specs.Act.{give}
+use Rattle.std.proofs.lemmas.Option.{slice_get_read, slice_get_past}
+use Rattle.mspec.specs.Act.{Text, give}
+use Rattle.mspec.proofs.ListPlaces.{next_item}
 use Rattle.mmeaning.specs.Functions.{as_whole, as_whole_or_none, whole_at, wholes}
 use Rattle.moperator.specs.Codes.{fault_of}
-use Rattle.moperator.specs.Values.{text_of}
 use Rattle.mmeaning.specs.Yields.{Yields}
 use Rattle.moperator.specs.declared.code.Code.{Code}
-use Rattle.moperator.specs.declared.value.Value.{Value}
 use Rattle.moperator.proofs.Yielding.{yields_then, yields_failed, yields_gives}
 
 -- the argument at a place, which was read there
-pub argument_is : (args : List Value) (k : ℕ) (v : Value) → k < length args → v ≡ get_or args k v → slice_get (map text_of args) k ≡ Some (text_of v)
-argument_is args k v within is = slice_get-map text_of args k ∙ ap (option_map text_of) (slice_get_read args (length args) k v refl within is)
+pub argument_is : (args : List Text) (k : ℕ) (v : Text) → k < length args → v ≡ get_or args k v → slice_get args k ≡ Some v
+argument_is args k v within is = slice_get_read args (length args) k v refl within is
 
-pub no_argument_is : (args : List Value) (k : ℕ) → length args ≤ k → slice_get (map text_of args) k ≡ None
-no_argument_is args k past = slice_get-map text_of args k ∙ ap (option_map text_of) (slice_get_past args k past)
+pub no_argument_is : (args : List Text) (k : ℕ) → length args ≤ k → slice_get args k ≡ None
+no_argument_is args k past = slice_get_past args k past
 
 -- ---- one as a whole number
 
-pub left_out : (args : List Value) (k : ℕ) → length args ≤ k → Yields fault_of (whole_at k (map text_of args)) (λ (n : Option ℤ). n) (Ok None)
+pub left_out : (args : List Text) (k : ℕ) → length args ≤ k → Yields fault_of (whole_at k args) (λ (n : Option ℤ). n) (Ok None)
 left_out args k past = subst (λ x. Yields fault_of (as_whole_or_none x) (λ (n : Option ℤ). n) (Ok None)) (sym (no_argument_is args k past)) (yields_gives None (λ (n : Option ℤ). n) None refl)
 
-pub given : (args : List Value) (k : ℕ) (v : Value) (m n : ℤ) → k < length args → v ≡ get_or args k v → m ≡ n → Yields fault_of (as_whole (text_of v)) (λ (n : ℤ). n) (Ok n)
-    → Yields fault_of (whole_at k (map text_of args)) (λ (n : Option ℤ). n) (Ok (Some m))
+pub given : (args : List Text) (k : ℕ) (v : Text) (m n : ℤ) → k < length args → v ≡ get_or args k v → m ≡ n → Yields fault_of (as_whole v) (λ (n : ℤ). n) (Ok n)
+    → Yields fault_of (whole_at k args) (λ (n : Option ℤ). n) (Ok (Some m))
 given args k v m n within is same d =
     subst (λ x. Yields fault_of (as_whole_or_none x) (λ (n : Option ℤ). n) (Ok (Some m))) (sym (argument_is args k v within is))
     (yields_then (λ n. give (Some n)) d (yields_gives (Some n) (λ (n : Option ℤ). n) (Some m) (ap Some same)))
 
-pub refused : (args : List Value) (k : ℕ) (v : Value) (e : Code) → k < length args → v ≡ get_or args k v → Yields fault_of (as_whole (text_of v)) (λ (n : ℤ). n) (Err e)
-    → Yields fault_of (whole_at k (map text_of args)) (λ (n : Option ℤ). n) (Err e)
+pub refused : (args : List Text) (k : ℕ) (v : Text) (e : Code) → k < length args → v ≡ get_or args k v → Yields fault_of (as_whole v) (λ (n : ℤ). n) (Err e)
+    → Yields fault_of (whole_at k args) (λ (n : Option ℤ). n) (Err e)
 refused args k v e within is d =
     subst (λ x. Yields fault_of (as_whole_or_none x) (λ (n : Option ℤ). n) (Err e)) (sym (argument_is args k v within is)) (yields_failed (λ n. give (Some n)) d)
 
 -- ---- all as whole numbers
 
--- what is left from a place on begins with the item there
-pub next_item : {A : Type 0} (xs : List A) (i : ℕ) (d : A) → i < length xs → d ≡ get_or xs i d → drop i xs ≡ d ∷ drop (i + 1) xs
-next_item xs i d h e = drop-cons xs i d h ∙ (λ j. sym e j ∷ drop (suc i) xs) ∙ rw (sym (add-one i)) refl
-
-pub next_whole : {X : Type 0} (view : X → List ℤ) (args : List Value) (i : ℕ) (v : Value) (ns : List ℤ) (n : ℤ) (r : Result X Code) → i < length args → v ≡ get_or args i v → Yields fault_of (as_whole (text_of v)) (λ (n : ℤ). n) (Ok n)
-    → Yields fault_of (wholes (ns ++ n ∷ []) (map text_of (drop (i + 1) args))) view r → Yields fault_of (wholes ns (map text_of (drop i args))) view r
+pub next_whole : {X : Type 0} (view : X → List ℤ) (args : List Text) (i : ℕ) (v : Text) (ns : List ℤ) (n : ℤ) (r : Result X Code) → i < length args → v ≡ get_or args i v → Yields fault_of (as_whole v) (λ (n : ℤ). n) (Ok n)
+    → Yields fault_of (wholes (ns ++ n ∷ []) (drop (i + 1) args)) view r → Yields fault_of (wholes ns (drop i args)) view r
 next_whole view args i v ns n r within is d k =
-    subst (λ rest. Yields fault_of (wholes ns (map text_of rest)) view r) (sym (next_item args i v within is))
-    (yields_then (λ n. wholes (ns ++ n ∷ []) (map text_of (drop (i + 1) args))) d k)
+    subst (λ rest. Yields fault_of (wholes ns rest) view r) (sym (next_item args i v within is))
+    (yields_then (λ n. wholes (ns ++ n ∷ []) (drop (i + 1) args)) d k)
 
-pub whole_refused : {X : Type 0} (view : X → List ℤ) (args : List Value) (i : ℕ) (v : Value) (ns : List ℤ) (e : Code) → i < length args → v ≡ get_or args i v → Yields fault_of (as_whole (text_of v)) (λ (n : ℤ). n) (Err e)
-    → Yields fault_of (wholes ns (map text_of (drop i args))) view (Err e)
+pub whole_refused : {X : Type 0} (view : X → List ℤ) (args : List Text) (i : ℕ) (v : Text) (ns : List ℤ) (e : Code) → i < length args → v ≡ get_or args i v → Yields fault_of (as_whole v) (λ (n : ℤ). n) (Err e)
+    → Yields fault_of (wholes ns (drop i args)) view (Err e)
 whole_refused view args i v ns e within is d =
-    subst (λ rest. Yields fault_of (wholes ns (map text_of rest)) view (Err e)) (sym (next_item args i v within is))
-    (yields_failed (λ n. wholes (ns ++ n ∷ []) (map text_of (drop (i + 1) args))) d)
+    subst (λ rest. Yields fault_of (wholes ns rest) view (Err e)) (sym (next_item args i v within is))
+    (yields_failed (λ n. wholes (ns ++ n ∷ []) (drop (i + 1) args)) d)
 
-pub wholes_end : {X : Type 0} (view : X → List ℤ) (args : List Value) (i : ℕ) (ns : X) → length args ≤ i → Yields fault_of (wholes (view ns) (map text_of (drop i args))) view (Ok ns)
+pub wholes_end : {X : Type 0} (view : X → List ℤ) (args : List Text) (i : ℕ) (ns : X) → length args ≤ i → Yields fault_of (wholes (view ns) (drop i args)) view (Ok ns)
 wholes_end view args i ns past =
-    subst (λ rest. Yields fault_of (wholes (view ns) (map text_of rest)) view (Ok ns)) (sym (drop_of_length-le args past)) (yields_gives (view ns) view ns refl)
+    subst (λ rest. Yields fault_of (wholes (view ns) rest) view (Ok ns)) (sym (drop_of_length-le args past)) (yields_gives (view ns) view ns refl)

@@ -25,34 +25,18 @@ use Rattle.mnum.specs.declared.num.ArithFault.{ArithFault}
 use Rattle.mnum.specs.declared.num.ArithFault.TheVariants as fault
 use Rattle.mnum.proofs.Ranges.{units_number}
 use Rattle.moperator.specs.Codes.{fault_of}
-use Rattle.moperator.specs.Values.{text_of}
 use Rattle.mmeaning.specs.Yields.{Yields}
 use Rattle.moperator.specs.Outcomes.{outcome_units, quotient_act}
 use Rattle.moperator.specs.declared.code.Code.{Code}
-use Rattle.moperator.specs.declared.value.Value.{Value}
+use Rattle.moperator.specs.declared.code.Code.TheVariants as code
 use Rattle.moperator.proofs.Yielding.{yields_gives}
 
--- the text of a number stands for that number
-pub number_again : (n : Num) → Yields fault_of (as_number (number_text (units n))) units (Ok n)
-number_again n =
-    subst (λ (o : Option ℤ). Yields fault_of (give_some Zover o) units (Ok n)) (sym (text_has_value significant_digits (units n) (units_number n))) (yields_gives (units n) units n refl)
+-- the number that a text stands for, where it has one
+pub number_read : (x : Text) (n : Num) → numeric_value significant_digits x ≡ Some (units n) → Yields fault_of (as_number x) units (Ok n)
+number_read x n is = subst (λ (o : Option ℤ). Yields fault_of (give_some Zover o) units (Ok n)) (sym is) (yields_gives (units n) units n refl)
 
--- numbers of one text are one number
-pub same_units : (m n : Num) → number_text (units m) ≡ number_text (units n) → units m ≡ units n
-same_units m n same =
-    some_is (units m) (units n)
-    (sym (text_has_value significant_digits (units m) (units_number m)) ∙ ap (numeric_value significant_digits) same ∙ text_has_value significant_digits (units n) (units_number n))
-  where
-    some_is : (a b : ℤ) → Some a ≡ Some b → a ≡ b
-    some_is a b e = cc
-
-pub one_text : whole_text (pos 1) ≡ truth_text true
-unfolding size_text digits
-one_text = refl
-
-pub zero_text : whole_text (pos 0) ≡ truth_text false
-unfolding size_text digits
-zero_text = refl
+pub no_number : (x : Text) → numeric_value significant_digits x ≡ None → Yields {X = Num} fault_of (as_number x) units (Err code.Zover)
+no_number x is = subst (λ (o : Option ℤ). Yields {X = Num} fault_of (give_some Zover o) units (Err code.Zover)) (sym is) (record { ends = λ s. refl })
 
 -- what the clauses of an operation say of its result
 outcome_is : (r : Result Num Over) (o : Option ℤ) → MatchResult r (λ n. o ≡ Some (units n)) (λ _. o ≡ None) → outcome_units r ≡ o
@@ -60,8 +44,8 @@ outcome_is (Ok n) o h = sym h
 outcome_is (Err over) o h = sym h
 
 -- what an operation gives of two numbers
-pub computed_outcome : (r : Result Num Over) (o : Option ℤ) {t : Result Value Code} → MatchResult r (λ n. o ≡ Some (units n)) (λ _. o ≡ None) → Yields fault_of (as_text (outcome_units r)) text_of t → Yields fault_of (as_text o) text_of t
-computed_outcome r o {t = t} h k = subst (λ (o : Option ℤ). Yields fault_of (as_text o) text_of t) (outcome_is r o h) k
+pub computed_outcome : (r : Result Num Over) (o : Option ℤ) {t : Result Text Code} → MatchResult r (λ n. o ≡ Some (units n)) (λ _. o ≡ None) → Yields fault_of (as_text (outcome_units r)) (λ (v : Text). v) t → Yields fault_of (as_text o) (λ (v : Text). v) t
+computed_outcome r o {t = t} h k = subst (λ (o : Option ℤ). Yields fault_of (as_text o) (λ (v : Text). v) t) (outcome_is r o h) k
 
 -- ---- division
 
@@ -85,8 +69,8 @@ division_is divisor o (Ok n) h = rw (some_is_true divisor h.0, h.1) refl
 division_is divisor o (Err fault.Zero) h = rw (none_is_false divisor h) refl
 division_is divisor o (Err fault.Over) h = rw (some_is_true divisor h.0, h.1) refl
 
-pub divided_outcome : (divisor : ℤ) (o : Option ℤ) (r : Result Num ArithFault) {t : Result Value Code} → IsOutcome divisor o r → Yields fault_of (quotient_act r) text_of t → Yields fault_of (unless M9 (is_true divisor) >> as_text o) text_of t
-divided_outcome divisor o r {t = t} h k = subst (λ (p : Act Text). Yields fault_of p text_of t) (division_is divisor o r h) k
+pub divided_outcome : (divisor : ℤ) (o : Option ℤ) (r : Result Num ArithFault) {t : Result Text Code} → IsOutcome divisor o r → Yields fault_of (quotient_act r) (λ (v : Text). v) t → Yields fault_of (unless M9 (is_true divisor) >> as_text o) (λ (v : Text). v) t
+divided_outcome divisor o r {t = t} h k = subst (λ (p : Act Text). Yields fault_of p (λ (v : Text). v) t) (division_is divisor o r h) k
 
 -- ---- machine numbers
 
@@ -97,15 +81,3 @@ whole_fits (negsuc n) below = omega (arith, ints, below)
 pub width_fits : (width : Option ℤ) → IfSome width (λ n. unsigned_abs n < 10 ^ 18) → to_z w64 (of_z w64 (unwrap_or width (pos 0))) ≡ unwrap_or width (pos 0)
 width_fits None below = refl
 width_fits (Some n) below = whole_fits n below
-
--- ---- equal texts
-
-pub same_number : (m n : Num) → is_eq (int_cmp (units m) (units n)) ≡ pointwise nat_eq (number_text (units m)) (number_text (units n))
-same_number m n =
-    same_from_decides (int_eq (units m) (units n)) (pointwise nat_eq (number_text (units m)) (number_text (units n))) (Decides-int_eq (units m) (units n)) (
-      λ e. same_units m n ((texts_decide (number_text (units m)) (number_text (units n))).0 e),
-      λ e. (texts_decide (number_text (units m)) (number_text (units n))).1 (ap number_text e),
-    )
-  where
-    texts_decide : (s t : List ℕ) → Decides (pointwise nat_eq s t) (s ≡ t)
-    texts_decide s t = slice_eq-Decides Decides-eqb s t (pointwise nat_eq s t) refl

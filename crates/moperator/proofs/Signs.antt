@@ -9,10 +9,8 @@ use Rattle.mmeaning.proofs.Calls.{assoc}
 use Rattle.mtree.specs.Tree.{sign_tree}
 use Rattle.mtree.specs.declared.tree.Sign.{Sign}
 use Rattle.moperator.specs.Codes.{fault_of}
-use Rattle.moperator.specs.Values.{text_of}
 use Rattle.mmeaning.specs.Yields.{Yields}
 use Rattle.moperator.specs.declared.code.Code.{Code}
-use Rattle.moperator.specs.declared.value.Value.{Value}
 use Rattle.moperator.proofs.Yielding.{yields_then, yields_failed, yields_gives}
 
 -- to give what an act gives changes nothing
@@ -38,24 +36,24 @@ last_sign signs left d some within =
     ∙ map_push sign_tree (take (left - 1) signs) (get_or signs (left - 1) d)
 
 -- once the last sign has applied, the others are left
-sign_applied : (ss : List SignTree) (s : SignTree) (x : Text) (y : Value) (r : Result Value Code) → Yields fault_of (unary s x) text_of (Ok y) → Yields fault_of (unaries ss (text_of y)) text_of r → Yields fault_of (unaries (ss ++ s ∷ []) x) text_of r
-sign_applied ss s x y r d k = subst (λ (p : Act Text). Yields fault_of p text_of r) (sym (last_first ss s x)) (yields_then (unaries ss) d k)
+sign_applied : (ss : List SignTree) (s : SignTree) (x : Text) (y : Text) (r : Result Text Code) → Yields fault_of (unary s x) (λ (v : Text). v) (Ok y) → Yields fault_of (unaries ss y) (λ (v : Text). v) r → Yields fault_of (unaries (ss ++ s ∷ []) x) (λ (v : Text). v) r
+sign_applied ss s x y r d k = subst (λ (p : Act Text). Yields fault_of p (λ (v : Text). v) r) (sym (last_first ss s x)) (yields_then (unaries ss) d k)
 
 -- the last of so many signs, where it is on
-pub next_sign : (signs : List Sign) (left : ℕ) (d : Sign) (x : Text) (y : Value) (r : Result Value Code) → 0 < left → left ≤ length signs → Yields fault_of (unary (sign_tree (get_or signs (left - 1) d)) x) text_of (Ok y)
-    → Yields fault_of (unaries (map sign_tree (take (left - 1) signs)) (text_of y)) text_of r → Yields fault_of (unaries (map sign_tree (take left signs)) x) text_of r
+pub next_sign : (signs : List Sign) (left : ℕ) (d : Sign) (x : Text) (y : Text) (r : Result Text Code) → 0 < left → left ≤ length signs → Yields fault_of (unary (sign_tree (get_or signs (left - 1) d)) x) (λ (v : Text). v) (Ok y)
+    → Yields fault_of (unaries (map sign_tree (take (left - 1) signs)) y) (λ (v : Text). v) r → Yields fault_of (unaries (map sign_tree (take left signs)) x) (λ (v : Text). v) r
 next_sign signs left d x y r some within here k =
-    subst (λ (ss : List SignTree). Yields fault_of (unaries ss x) text_of r) (sym (last_sign signs left d some within))
+    subst (λ (ss : List SignTree). Yields fault_of (unaries ss x) (λ (v : Text). v) r) (sym (last_sign signs left d some within))
     (sign_applied (map sign_tree (take (left - 1) signs)) (sign_tree (get_or signs (left - 1) d)) x y r here k)
 
 -- and where it fails
-pub sign_failed : (signs : List Sign) (left : ℕ) (d : Sign) (x : Text) (e : Code) → 0 < left → left ≤ length signs → Yields fault_of (unary (sign_tree (get_or signs (left - 1) d)) x) text_of (Err e)
-    → Yields fault_of (unaries (map sign_tree (take left signs)) x) text_of (Err e)
+pub sign_failed : (signs : List Sign) (left : ℕ) (d : Sign) (x : Text) (e : Code) → 0 < left → left ≤ length signs → Yields fault_of (unary (sign_tree (get_or signs (left - 1) d)) x) (λ (v : Text). v) (Err e)
+    → Yields fault_of (unaries (map sign_tree (take left signs)) x) (λ (v : Text). v) (Err e)
 sign_failed signs left d x e some within here =
-    subst (λ (ss : List SignTree). Yields fault_of (unaries ss x) text_of (Err e)) (sym (last_sign signs left d some within))
-    (subst (λ (p : Act Text). Yields fault_of p text_of (Err e)) (sym (last_first (map sign_tree (take (left - 1) signs)) (sign_tree (get_or signs (left - 1) d)) x)) (yields_failed (unaries (map sign_tree (take (left - 1) signs))) here))
+    subst (λ (ss : List SignTree). Yields fault_of (unaries ss x) (λ (v : Text). v) (Err e)) (sym (last_sign signs left d some within))
+    (subst (λ (p : Act Text). Yields fault_of p (λ (v : Text). v) (Err e)) (sym (last_first (map sign_tree (take (left - 1) signs)) (sign_tree (get_or signs (left - 1) d)) x)) (yields_failed (unaries (map sign_tree (take (left - 1) signs))) here))
 
 -- where no sign is left, the value stands
-pub no_sign_left : (signs : List Sign) (left : ℕ) (x : Value) → left ≤ 0 → Yields fault_of (unaries (map sign_tree (take left signs)) (text_of x)) text_of (Ok x)
-no_sign_left signs zero x none = yields_gives (text_of x) text_of x refl
+pub no_sign_left : (signs : List Sign) (left : ℕ) (x : Text) → left ≤ 0 → Yields fault_of (unaries (map sign_tree (take left signs)) x) (λ (v : Text). v) (Ok x)
+no_sign_left signs zero x none = yields_gives x (λ (v : Text). v) x refl
 no_sign_left signs (suc left) x none = absurd (omega arith)

@@ -1,5 +1,4 @@
 pub mod Codes
 pub mod Outcomes
-pub mod Values
 pub mod Faults
 pub mod CappedCounts

@@ -2,11 +2,11 @@
 ghost use Rattle.std.specs.Prelude.{◌≡◌, [], ◌^◌, ◌<◌, map, unsigned_abs, IfOk, IfSome};
 ghost use Rattle.mmeaning.specs.Functions as meaning;
 ghost use Rattle.moperator.specs.Codes.{fault_of};
-ghost use Rattle.moperator.specs.Values.{text_of, shown_text};
 ghost use Rattle.mmeaning.specs.Yields.{Yields};
 
 use crate::code::Code;
-use crate::value::{Shown, Value};
+use crate::values::whole;
+use mvalue::{Shown, Value};
 use mnum::Bytes7;
 use std::alloc::{AllocError, Global};
 
@@ -16,23 +16,23 @@ pub(crate) fn text_at(
     arguments: &[Value],
     place: usize,
 ) -> Result<Shown<'_>, AllocError>
-    ensures { IfOk result (λ shown. shown_text shown ≡ meaning.text_at place (map text_of arguments.now)) }
+    ensures { IfOk result (λ shown. shown ≡ meaning.text_at place arguments.now) }
 {
     match arguments.get(place) {
-        None => Ok(Shown::Printed(Bytes7::empty(alloc))),
+        None => Ok(Shown::printed(Bytes7::empty(alloc))),
         Some(value) => value.shown(alloc),
     }
 }
 
 // The whole number of the argument at a place, where it has one.
 pub(crate) fn whole_at(arguments: &[Value], place: usize) -> Result<Option<i64>, Code>
-    ensures whole { Yields fault_of (meaning.whole_at place (map text_of arguments.now)) (λ whole. whole) result }
+    ensures whole { Yields fault_of (meaning.whole_at place arguments.now) (λ whole. whole) result }
     ensures below { IfOk result (λ whole. IfSome whole (λ n. unsigned_abs n < 10 ^ 18)) }
 {
     match arguments.get(place) {
         None => Ok(None),
         Some(value) => {
-            let whole = value.whole()?;
+            let whole = whole(value)?;
             Ok(Some(whole))
         }
     }
@@ -40,11 +40,11 @@ pub(crate) fn whole_at(arguments: &[Value], place: usize) -> Result<Option<i64>,
 
 // The whole numbers of all arguments.
 pub(crate) fn wholes(alloc: Global, arguments: &[Value]) -> Result<Vec<i64>, Code>
-    ensures { Yields fault_of (meaning.wholes [] (map text_of arguments.now)) (λ wholes. wholes.items) result }
+    ensures { Yields fault_of (meaning.wholes [] arguments.now) (λ wholes. wholes.items) result }
 {
     let mut wholes = Vec::with_capacity(alloc, arguments.len())?;
     for argument in arguments {
-        let whole = argument.whole()?;
+        let whole = whole(argument)?;
         wholes.push(whole)?;
     }
     Ok(wholes)

@@ -3,11 +3,10 @@ ghost use Rattle.std.specs.Prelude.{◌≡◌, ◌^◌, ◌<◌, unsigned_abs};
 ghost use Rattle.mspec.specs.CharacterFunctions.{ascii_of, char_of};
 ghost use Rattle.mmeaning.specs.Operators.{outcome};
 ghost use Rattle.moperator.specs.Codes.{fault_of};
-ghost use Rattle.moperator.specs.Values.{text_of};
 ghost use Rattle.mmeaning.specs.Yields.{Yields};
 
 use crate::code::Code;
-use crate::value::Value;
+use mvalue::Value;
 use mnum::{Bytes7, LONGEST_TEXT};
 use std::alloc::Global;
 
@@ -28,7 +27,7 @@ pub(crate) fn code_at(text: &[u8], place: Option<i64>) -> i64
 
 // The characters of some codes, of which one below 0 gives none.
 pub(crate) fn characters(alloc: Global, codes: &[i64]) -> Result<Value, Code>
-    ensures { Yields fault_of (outcome (char_of codes.now)) text_of result }
+    ensures { Yields fault_of (outcome (char_of codes.now)) (λ v. v) result }
 {
     let mut text = Bytes7::empty(alloc);
     for code in codes {
@@ -42,5 +41,5 @@ pub(crate) fn characters(alloc: Global, codes: &[i64]) -> Result<Value, Code>
     if text.as_bytes().len() > LONGEST_TEXT {
         return Err(Code::Zlong);
     }
-    Ok(Value::Text(text))
+    Ok(Value::of_text(text))
 }

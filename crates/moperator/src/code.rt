@@ -1,8 +1,9 @@
 // The codes that end a line.
 ghost use Rattle.std.specs.Prelude.{◌≡◌};
-ghost use Rattle.moperator.specs.declared.code.Code.TheVariants.{Zmem};
+ghost use Rattle.moperator.specs.declared.code.Code.TheVariants.{Zmem, Zover};
 ghost use Rattle.moperator.specs.Faults.{fault_code};
 
+use mnum::Over;
 use mtext::TextFault;
 use std::alloc::{AllocError, AllocFailed};
 
@@ -82,5 +83,13 @@ impl From<TextFault> for Code {
             TextFault::TooLong => Code::Zlong,
             TextFault::Memory => Code::Zmem,
         }
+    }
+}
+
+impl From<Over> for Code {
+    ghost from_gives = { λ _ code. code ≡ Zover };
+
+    fn from(_over: Over) -> Code {
+        Code::Zover
     }
 }

@@ -4,13 +4,13 @@ ghost use Rattle.mgrammar.specs.Grammar as grammar;
 ghost use Rattle.mmeaning.specs.Functions as meaning;
 ghost use Rattle.mtree.specs.Tree.{function_tree};
 ghost use Rattle.moperator.specs.Codes.{fault_of};
-ghost use Rattle.moperator.specs.Values.{text_of};
 ghost use Rattle.mmeaning.specs.Yields.{Yields};
 
 use crate::arguments::{text_at, whole_at, wholes};
 use crate::characters::{characters, code_at};
 use crate::code::Code;
-use crate::value::Value;
+use crate::values::{counted, made, part};
+use mvalue::Value;
 use mtext::{extract, find, justify, piece, pieces, translate};
 use mtree::{Function, function_of};
 use std::alloc::Global;
@@ -18,7 +18,7 @@ use std::alloc::Global;
 // ---- functions, by their names
 
 fn ascii(alloc: Global, arguments: &[Value]) -> Result<Value, Code>
-    ensures { Yields fault_of (meaning.function_value grammar.ascii_function (map text_of arguments.now)) text_of result }
+    ensures { Yields fault_of (meaning.function_value grammar.ascii_function arguments.now) (λ v. v) result }
 {
     let place = whole_at(arguments, 1)?;
     let text = text_at(alloc, arguments, 0)?;
@@ -26,83 +26,83 @@ fn ascii(alloc: Global, arguments: &[Value]) -> Result<Value, Code>
 }
 
 fn char(alloc: Global, arguments: &[Value]) -> Result<Value, Code>
-    ensures { Yields fault_of (meaning.function_value grammar.char_function (map text_of arguments.now)) text_of result }
+    ensures { Yields fault_of (meaning.function_value grammar.char_function arguments.now) (λ v. v) result }
 {
     let codes = wholes(alloc, arguments)?;
     characters(alloc, &codes)
 }
 
 fn extracted(alloc: Global, arguments: &[Value]) -> Result<Value, Code>
-    ensures { Yields fault_of (meaning.function_value grammar.extract_function (map text_of arguments.now)) text_of result }
+    ensures { Yields fault_of (meaning.function_value grammar.extract_function arguments.now) (λ v. v) result }
 {
     let from = whole_at(arguments, 1)?;
     let to = whole_at(arguments, 2)?;
     let text = text_at(alloc, arguments, 0)?;
-    let part = extract(text.text().as_bytes(), from, to);
-    Value::of_bytes(alloc, part)
+    let cut = extract(text.text().as_bytes(), from, to);
+    part(alloc, cut)
 }
 
 fn found(alloc: Global, arguments: &[Value]) -> Result<Value, Code>
-    ensures { Yields fault_of (meaning.function_value grammar.find_function (map text_of arguments.now)) text_of result }
+    ensures { Yields fault_of (meaning.function_value grammar.find_function arguments.now) (λ v. v) result }
 {
     let from = whole_at(arguments, 2)?;
     let text = text_at(alloc, arguments, 0)?;
     let what = text_at(alloc, arguments, 1)?;
     let place = find(text.text().as_bytes(), what.text().as_bytes(), from);
-    Value::of_count(alloc, place)
+    counted(alloc, place)
 }
 
 fn justified(alloc: Global, arguments: &[Value]) -> Result<Value, Code>
-    ensures { Yields fault_of (meaning.function_value grammar.justify_function (map text_of arguments.now)) text_of result }
+    ensures { Yields fault_of (meaning.function_value grammar.justify_function arguments.now) (λ v. v) result }
 {
     let width = whole_at(arguments, 1)?;
     let text = text_at(alloc, arguments, 0)?;
-    Value::of_answer(justify(alloc, text.text(), width.unwrap_or(0)))
+    made(justify(alloc, text.text(), width.unwrap_or(0)))
 }
 
 // Of characters, and of pieces where there is a delimiter.
 fn length(alloc: Global, arguments: &[Value]) -> Result<Value, Code>
-    ensures { Yields fault_of (meaning.function_value grammar.length_function (map text_of arguments.now)) text_of result }
+    ensures { Yields fault_of (meaning.function_value grammar.length_function arguments.now) (λ v. v) result }
 {
     let text = text_at(alloc, arguments, 0)?;
     let bytes = text.text().as_bytes();
     match arguments.get(1) {
-        None => Value::of_count(alloc, bytes.len() as u64),
+        None => counted(alloc, bytes.len() as u64),
         Some(value) => {
             let delimiter = value.shown(alloc)?;
-            Value::of_count(alloc, pieces(bytes, delimiter.text().as_bytes()) as u64)
+            counted(alloc, pieces(bytes, delimiter.text().as_bytes()) as u64)
         }
     }
 }
 
 fn pieces_from_to(alloc: Global, arguments: &[Value]) -> Result<Value, Code>
-    ensures { Yields fault_of (meaning.function_value grammar.piece_function (map text_of arguments.now)) text_of result }
+    ensures { Yields fault_of (meaning.function_value grammar.piece_function arguments.now) (λ v. v) result }
 {
     let from = whole_at(arguments, 2)?;
     let to = whole_at(arguments, 3)?;
     let text = text_at(alloc, arguments, 0)?;
     let delimiter = text_at(alloc, arguments, 1)?;
-    let part = piece(
+    let cut = piece(
         text.text().as_bytes(),
         delimiter.text().as_bytes(),
         from,
         to,
     );
-    Value::of_bytes(alloc, part)
+    part(alloc, cut)
 }
 
 fn translated(alloc: Global, arguments: &[Value]) -> Result<Value, Code>
-    ensures { Yields fault_of (meaning.function_value grammar.translate_function (map text_of arguments.now)) text_of result }
+    ensures { Yields fault_of (meaning.function_value grammar.translate_function arguments.now) (λ v. v) result }
 {
     let text = text_at(alloc, arguments, 0)?;
     let from = text_at(alloc, arguments, 1)?;
     let to = text_at(alloc, arguments, 2)?;
-    Value::of_answer(translate(alloc, text.text(), from.text(), to.text()))
+    made(translate(alloc, text.text(), from.text(), to.text()))
 }
 
 // What a function gives of its arguments.
 fn function(alloc: Global, function: Function, arguments: &[Value]) -> Result<Value, Code>
-    ensures { Yields fault_of (meaning.function_value (function_tree function) (map text_of arguments.now)) text_of result }
+    ensures { Yields fault_of (meaning.function_value (function_tree function) arguments.now) (λ v. v) result }
 {
     match function {
         Function::Ascii => ascii(alloc, arguments),
@@ -119,7 +119,7 @@ fn function(alloc: Global, function: Function, arguments: &[Value]) -> Result<Va
 
 // What the function of a word gives of its arguments. Where no function has the word, no text has the tree.
 pub fn call(alloc: Global, word: &[u8], arguments: &[Value]) -> Result<Value, Code>
-    ensures { Yields fault_of (meaning.call_value word.now (map text_of arguments.now)) text_of result }
+    ensures { Yields fault_of (meaning.call_value word.now arguments.now) (λ v. v) result }
 {
     match function_of(word) {
         None => Err(Code::Zsyntax),

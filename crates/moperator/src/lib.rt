@@ -8,10 +8,10 @@ mod functions;
 mod operators;
 mod patterns;
 mod relations;
-mod value;
+mod values;
 
 pub use code::Code;
 pub use functions::call;
 pub use operators::{binary, computed, unaries};
 pub use patterns::matching;
-pub use value::{Shown, Value, whole_number};
+pub use values::{truth, whole_number};

@@ -5,33 +5,33 @@ ghost use Rattle.mnum.specs.Num.{units};
 ghost use Rattle.mspec.specs.TextFunctions.{made};
 ghost use Rattle.mtree.specs.Tree.{sign_tree, binary_tree};
 ghost use Rattle.moperator.specs.Codes.{fault_of};
-ghost use Rattle.moperator.specs.Values.{text_of};
 ghost use Rattle.mmeaning.specs.Yields.{Yields};
 ghost use Rattle.moperator.specs.Outcomes.{outcome_units, quotient_act};
 
 use crate::code::Code;
 use crate::relations::relation;
-use crate::value::Value;
+use crate::values::{number, truth};
+use mvalue::Value;
 use mnum::{ArithFault, LONGEST_TEXT, Num, Over};
 use mtree::{Binary, Sign};
 use std::alloc::Global;
 
 // What an operation on numbers gives.
 pub fn computed(outcome: Result<Num, Over>) -> Result<Value, Code>
-    ensures { Yields fault_of (meaning.as_text (outcome_units outcome)) text_of result }
+    ensures { Yields fault_of (meaning.as_text (outcome_units outcome)) (λ v. v) result }
 {
     match outcome {
-        Ok(number) => Ok(Value::Number(number)),
+        Ok(number) => Ok(Value::of_number(number)),
         Err(_) => Err(Code::Zover),
     }
 }
 
 // What a division gives.
 fn divided(outcome: Result<Num, ArithFault>) -> Result<Value, Code>
-    ensures { Yields fault_of (quotient_act outcome) text_of result }
+    ensures { Yields fault_of (quotient_act outcome) (λ v. v) result }
 {
     match outcome {
-        Ok(number) => Ok(Value::Number(number)),
+        Ok(number) => Ok(Value::of_number(number)),
         Err(ArithFault::Zero) => Err(Code::M9),
         Err(ArithFault::Over) => Err(Code::Zover),
     }
@@ -39,19 +39,19 @@ fn divided(outcome: Result<Num, ArithFault>) -> Result<Value, Code>
 
 // A sign makes a number of its operand, `-` turns that number's sign, and `'` negates it as a truth.
 fn unary(sign: Sign, value: &Value) -> Result<Value, Code>
-    ensures { Yields fault_of (meaning.unary (sign_tree sign) (text_of value.now)) text_of result }
+    ensures { Yields fault_of (meaning.unary (sign_tree sign) value.now) (λ v. v) result }
 {
     match sign {
         Sign::Plus => {
-            let number = value.number()?;
-            Ok(Value::Number(number))
+            let number = number(value)?;
+            Ok(Value::of_number(number))
         }
         Sign::Minus => {
-            let number = value.number()?;
-            Ok(Value::Number(number.neg()))
+            let number = number(value)?;
+            Ok(Value::of_number(number.neg()))
         }
         Sign::Not => {
-            let is_true = value.truth()?;
+            let is_true = truth(value)?;
             Ok(Value::of_truth(!is_true))
         }
     }
@@ -59,7 +59,7 @@ fn unary(sign: Sign, value: &Value) -> Result<Value, Code>
 
 // The signs in front of an operand apply to it from the nearest on.
 pub fn unaries(signs: &[Sign], value: Value) -> Result<Value, Code>
-    ensures { Yields fault_of (meaning.unaries (map sign_tree signs.now) (text_of value)) text_of result }
+    ensures { Yields fault_of (meaning.unaries (map sign_tree signs.now) value) (λ v. v) result }
 {
     let mut value = value;
     let mut left = signs.len();
@@ -72,16 +72,16 @@ pub fn unaries(signs: &[Sign], value: Value) -> Result<Value, Code>
 
 // Both operands as numbers, the left one first.
 pub(crate) fn numbers(left: &Value, right: &Value) -> Result<(Num, Num), Code>
-    ensures { Yields fault_of (meaning.both_numbers (text_of left.now) (text_of right.now)) (λ pair. (units pair.0, units pair.1)) result }
+    ensures { Yields fault_of (meaning.both_numbers left.now right.now) (λ pair. (units pair.0, units pair.1)) result }
 {
-    let a = left.number()?;
-    let b = right.number()?;
+    let a = number(left)?;
+    let b = number(right)?;
     Ok((a, b))
 }
 
 // The left text with the right one behind it.
 fn joined(alloc: Global, left: Value, right: &Value) -> Result<Value, Code>
-    ensures { Yields fault_of (meaning.outcome (made (text_of left ++ text_of right.now))) text_of result }
+    ensures { Yields fault_of (meaning.outcome (made (left ++ right.now))) (λ v. v) result }
 {
     let mut text = left.into_text(alloc)?;
     let right = right.shown(alloc)?;
@@ -91,7 +91,7 @@ fn joined(alloc: Global, left: Value, right: &Value) -> Result<Value, Code>
         return Err(Code::Zlong);
     }
     text.append(more)?;
-    Ok(Value::Text(text))
+    Ok(Value::of_text(text))
 }
 
 // What an operator gives of its two operands.
@@ -101,7 +101,7 @@ pub fn binary(
     left: Value,
     right: &Value,
 ) -> Result<Value, Code>
-    ensures { Yields fault_of (meaning.binary (binary_tree operator) (text_of left) (text_of right.now)) text_of result }
+    ensures { Yields fault_of (meaning.binary (binary_tree operator) left right.now) (λ v. v) result }
 {
     match operator {
         Binary::Join => joined(alloc, left, right),

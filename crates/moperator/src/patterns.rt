@@ -8,11 +8,10 @@ ghost use Rattle.mtree.specs.Tree.{count_tree, repeated_tree, atom_tree};
 ghost use Rattle.mtext.specs.PatternPlaces.{code_of, codes_of, count_of, repeated_of, atom_of, atoms_of};
 ghost use Rattle.moperator.specs.Codes.{fault_of};
 ghost use Rattle.moperator.specs.CappedCounts.{capped, capped_count, capped_atom};
-ghost use Rattle.moperator.specs.Values.{text_of};
 ghost use Rattle.mmeaning.specs.Yields.{Yields};
 
 use crate::code::Code;
-use crate::value::Value;
+use mvalue::Value;
 use mnum::Bytes7;
 use mtext::{Atom, Count, Pattern, PatternCode, Repeated, matches};
 use std::alloc::{AllocError, Global};
@@ -170,7 +169,7 @@ fn has_reversed(atoms: &[mtree::Atom]) -> bool
 
 // Whether a value matches a pattern. A reversed count of any atom is an error, before the matching.
 pub fn matching(alloc: Global, atoms: &[mtree::Atom], value: &Value) -> Result<bool, Code>
-    ensures value { Yields fault_of (meaning.matching (map plain_atom (map atom_tree atoms.now)) (text_of value.now)) (λ matches. matches) result }
+    ensures value { Yields fault_of (meaning.matching (map plain_atom (map atom_tree atoms.now)) value.now) (λ matches. matches) result }
     ensures reversed { list_any (λ a. is_reversed a.count) (map plain_atom (map atom_tree atoms.now)) ≡ true → result ≡ Err Code.M10 }
 {
     if has_reversed(atoms) {

@@ -1,33 +1,16 @@
 // The relations and logical operators, of operands that are values already.
-ghost use Rattle.std.specs.Prelude.{◌≡◌, nat_eq, IfOk};
-ghost use Rattle.std.specs.Cmp.Lexicographic.{pointwise};
 ghost use Rattle.mmeaning.specs.Operators as meaning;
 ghost use Rattle.mtree.specs.Tree.{truth_tree};
 ghost use Rattle.moperator.specs.Codes.{fault_of};
-ghost use Rattle.moperator.specs.Values.{text_of};
 ghost use Rattle.mmeaning.specs.Yields.{Yields};
 
 use crate::code::Code;
 use crate::operators::numbers;
-use crate::value::Value;
+use mvalue::Value;
 use mkey::collate;
 use mtext::{contains, follows};
 use mtree::Truth;
-use std::alloc::{AllocError, Global};
-
-// Whether two values are one text. Of two numbers none is printed.
-fn equal(alloc: Global, left: &Value, right: &Value) -> Result<bool, AllocError>
-    ensures { IfOk result (λ same. same ≡ pointwise nat_eq (text_of left.now) (text_of right.now)) }
-{
-    match (left, right) {
-        (Value::Number(a), Value::Number(b)) => Ok(a.cmp(*b).is_eq()),
-        _ => {
-            let first = left.shown(alloc)?;
-            let second = right.shown(alloc)?;
-            Ok(first.text() == second.text())
-        }
-    }
-}
+use std::alloc::Global;
 
 // Whether an operator holds between two values.
 pub(crate) fn relation(
@@ -36,10 +19,10 @@ pub(crate) fn relation(
     left: &Value,
     right: &Value,
 ) -> Result<bool, Code>
-    ensures { Yields fault_of (meaning.truth (truth_tree operator) (text_of left.now) (text_of right.now)) (λ holds. holds) result }
+    ensures { Yields fault_of (meaning.truth (truth_tree operator) left.now right.now) (λ holds. holds) result }
 {
     match operator {
-        Truth::Equals => Ok(equal(alloc, left, right)?),
+        Truth::Equals => Ok(left.equals(alloc, right)?),
         Truth::Less => {
             let (a, b) = numbers(left, right)?;
             Ok(a.cmp(b).is_lt())

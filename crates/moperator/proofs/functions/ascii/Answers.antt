@@ -9,5 +9,5 @@ returns-in_err-place c = yields_stopped _ c.in_err-place.ensures.whole c.from_re
 
 pub returns : goal.returns
 returns c =
-    let code = rw (c.as_bytes.ensures.bytes, c.text.ensures, c.in_ok-text.ensures) at c.code_at.ensures.code in
+    let code = rw (c.as_bytes.ensures.bytes, c.text-2.ensures, c.in_ok-text.ensures) at c.code_at.ensures.code in
     yields_then _ c.in_ok-place.ensures.whole (yields_gives _ _ _ (c.of_whole.ensures ∙ ap whole_text (whole_fits c.code_at.result c.code_at.ensures.below ∙ code)))

@@ -9,5 +9,5 @@ returns-in_err-to c = yields_then _ c.in_ok-from.ensures.whole (yields_stopped _
 
 pub returns : goal.returns
 returns c =
-    let part = rw (c.as_bytes.ensures.bytes, c.text.ensures, c.in_ok-text.ensures) at c.extract-part.ensures in
-    yields_then _ c.in_ok-from.ensures.whole (yields_then _ c.in_ok-to.ensures.whole (rw part at c.of_bytes.ensures))
+    let part = rw (c.as_bytes.ensures.bytes, c.text-2.ensures, c.in_ok-text.ensures) at c.extract-cut.ensures in
+    yields_then _ c.in_ok-from.ensures.whole (yields_then _ c.in_ok-to.ensures.whole (rw part at c.part.ensures))

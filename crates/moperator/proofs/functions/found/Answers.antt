@@ -6,5 +6,5 @@ returns-in_err-from c = yields_stopped _ c.in_err-from.ensures.whole c.from_resi
 
 pub returns : goal.returns
 returns c =
-    let place = rw (c.as_bytes.ensures.bytes, c.text.ensures, c.in_ok-text.ensures, c.as_bytes-2.ensures.bytes, c.text-2.ensures, c.in_ok-what.ensures) at c.find-place.ensures in
-    yields_then _ c.in_ok-from.ensures.whole (rw place at c.of_count.ensures.value)
+    let place = rw (c.as_bytes.ensures.bytes, c.text-2.ensures, c.in_ok-text.ensures, c.as_bytes-2.ensures.bytes, c.text-3.ensures, c.in_ok-what.ensures) at c.find-place.ensures in
+    yields_then _ c.in_ok-from.ensures.whole (rw place at c.counted.ensures.value)

@@ -8,5 +8,5 @@ returns-in_err-width c = yields_stopped _ c.in_err-width.ensures.whole c.from_re
 pub returns : goal.returns
 returns c =
     let fits = width_fits c.in_ok-width.width c.in_ok-width.ensures.below in
-    let made = rw (c.text.ensures, c.in_ok-text.ensures, c.unwrap_or.ensures, fits) at c.justify.ensures in
-    yields_then _ c.in_ok-width.ensures.whole (c.of_answer.ensures.value _ made)
+    let made = rw (c.text-2.ensures, c.in_ok-text.ensures, c.unwrap_or.ensures, fits) at c.justify.ensures in
+    yields_then _ c.in_ok-width.ensures.whole (c.made.ensures.value _ made)

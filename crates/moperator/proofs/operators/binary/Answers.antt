@@ -51,3 +51,6 @@ returns-in_err-a-in-Remainder c = rw c.in-Remainder.is (yields_stopped _ c.in_er
 
 pub returns-in_ok-a-in-Remainder : goal.returns-in_ok-a-in-Remainder
 returns-in_ok-a-in-Remainder c = rw c.in-Remainder.is (yields_then _ c.in_ok-a-in-Remainder.ensures (divided_outcome (units c.in_ok-a-in-Remainder.b) (remainder_of (units c.in_ok-a-in-Remainder.a) (units c.in_ok-a-in-Remainder.b)) _ c.rem.ensures.value c.divided-in-Remainder.ensures))
+
+pub returns-in-Join : goal.returns-in-Join
+returns-in-Join c = rw c.in-Join.is c.joined.ensures

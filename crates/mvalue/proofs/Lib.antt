@@ -1,0 +1,2 @@
+pub mod AsciiNumbers
+pub mod Numbers

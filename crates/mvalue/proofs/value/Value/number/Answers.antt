@@ -1,0 +1,9 @@
+use Rattle.std.proofs.Common.{ap, sym, ◌∙◌}
+use Rattle.mspec.specs.Number.{significant_digits}
+use Rattle.mspec.specs.NumberText.{numeric_value}
+use Rattle.mvalue.specs.Texts.{kind_text}
+use Rattle.mvalue.proofs.Numbers.{number_again}
+use Rattle.mvalue.proofs.value.Value.number.Goals as goal
+
+pub returns-in-Number : goal.returns-in-Number
+returns-in-Number c = ap (numeric_value significant_digits) (sym c.self.view_is ∙ ap kind_text c.in-Number.is) ∙ number_again c.in-Number.number

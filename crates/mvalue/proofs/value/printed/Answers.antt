@@ -1,0 +1,13 @@
+use Rattle.std.proofs.Common.{◌≡◌, ◌++◌, ℕ, List, All, true, false, ap, sym, ◌∙◌, subst}
+use Rattle.mspec.specs.NumberText.{number_text}
+use Rattle.mnum.specs.Num.{units}
+use Rattle.mvalue.proofs.AsciiNumbers.{Ascii, text_ascii}
+use Rattle.mvalue.proofs.value.printed.Goals as goal
+
+pub unreachable-requires : goal.unreachable-requires
+unreachable-requires c =
+    let text = number_text (units c.args.number) in
+    let written : c.write.new.out.items ≡ text = c.in_ok-write.ensures.ok ∙ ap (λ (s : List ℕ). s ++ text) c.new-bytes.ensures.items in
+    let ascii : All Ascii c.write.new.out.items = subst (All Ascii) (sym written) (text_ascii c.args.number) in
+    let taken : false ≡ true = c.in-Err.ensures.when.1 ascii in
+    cc

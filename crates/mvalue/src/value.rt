@@ -1,0 +1,213 @@
+// Values: a number stays a number until its text is wanted.
+ghost use Rattle.std.specs.Prelude.{◌≡◌, ◌^◌, ◌<◌, ◌*ℤ◌, All, None, Some, pos, unsigned_abs, IsOk, IfOk, MatchResult, nat_eq, option_map};
+ghost use Rattle.std.specs.Cmp.Lexicographic.{pointwise};
+ghost use Rattle.mspec.specs.Interpretations.{is_true, truth_text, whole_part};
+ghost use Rattle.mspec.specs.Number.{significant_digits};
+ghost use Rattle.mspec.specs.NumberText.{numeric_value, number_text};
+ghost use Rattle.mnum.specs.Num.{units};
+
+use crate::shown::Shown;
+use mnum::{Bytes7, Num, Over};
+use std::alloc::{AllocError, Global};
+use std::marker::Model;
+
+/// A value: a number or a text. Contracts see it as its text, that of a number being the canonical one.
+#[derive(Drop)]
+pub struct Value {
+    kind: Kind,
+}
+
+#[derive(Drop)]
+enum Kind {
+    Number(Num),
+    Text(Bytes7),
+}
+
+impl Model for Value {
+    ghost use Rattle.mspec.specs.Node.{Text};
+
+    ghost Value = { Text };
+
+    ghost use Rattle.mvalue.specs.Texts.{kind_text};
+
+    ghost view = { λ value. kind_text value.kind };
+}
+
+// The canonical text of a number.
+fn printed(alloc: Global, number: Num) -> Result<Bytes7, AllocError>
+    ensures { IfOk result (λ text. text ≡ number_text (units number)) }
+{
+    let mut bytes = Vec::new(alloc);
+    number.write(&mut bytes)?;
+    match Bytes7::new(bytes) {
+        Ok(text) => Ok(text),
+        Err(_) => unreachable!(),
+    }
+}
+
+impl Value {
+    /// The value of a number. Takes no memory.
+    pub fn of_number(number: Num) -> Value
+        ensures { result ≡ number_text (units number) }
+    {
+        Value {
+            kind: Kind::Number(number),
+        }
+    }
+
+    /// The value of a text. Takes no memory.
+    pub fn of_text(text: Bytes7) -> Value
+        ensures { result ≡ text }
+    {
+        Value {
+            kind: Kind::Text(text),
+        }
+    }
+
+    /// The value of a truth, 1 or 0. Takes no memory.
+    pub fn of_truth(is_true: bool) -> Value
+        ensures { result ≡ truth_text is_true }
+    {
+        if is_true {
+            Value::of_whole(1)
+        } else {
+            Value::of_whole(0)
+        }
+    }
+
+    /// The value of a whole number below 10^18 in size. Takes no memory.
+    pub fn of_whole(whole: i64) -> Value
+        requires { unsigned_abs whole < 10 ^ 18 }
+        ensures { result ≡ number_text (whole *ℤ pos (10 ^ 18)) }
+    {
+        Value::of_number(Num::from_whole(whole))
+    }
+
+    /// The value of a count. One of 10^18 or more is no number, but has its text.
+    ///
+    /// # Errors
+    ///
+    /// `AllocError` for want of memory, which a count below 10^18 needs none of.
+    pub fn of_count(alloc: Global, count: u64) -> Result<Value, AllocError>
+        ensures value { IfOk result (λ value. value ≡ number_text (pos count *ℤ pos (10 ^ 18))) }
+        ensures always { count < 10 ^ 18 → IsOk result }
+    {
+        if count < 1_000_000_000_000_000_000 {
+            return Ok(Value::of_whole(count as i64));
+        }
+        let digits = count.to_string(alloc)?;
+        Value::of_bytes(alloc, digits.as_bytes())
+    }
+
+    /// The value of these bytes, each of which is under 128, as a text.
+    ///
+    /// # Errors
+    ///
+    /// `AllocError` for want of memory.
+    pub fn of_bytes(alloc: Global, bytes: &[u8]) -> Result<Value, AllocError>
+        requires { All (λ c. c < 128) bytes.now }
+        ensures { IfOk result (λ value. value ≡ bytes.now) }
+    {
+        let text = Bytes7::from_slice(alloc, bytes)?;
+        Ok(Value::of_text(text))
+    }
+
+    /// The text of the value.
+    ///
+    /// # Errors
+    ///
+    /// `AllocError` for want of memory, which only a number needs.
+    pub fn into_text(self, alloc: Global) -> Result<Bytes7, AllocError>
+        ensures { IfOk result (λ text. text ≡ self) }
+    {
+        match self.kind {
+            Kind::Number(number) => printed(alloc, number),
+            Kind::Text(text) => Ok(text),
+        }
+    }
+
+    /// The text of the value, printed where it is a number.
+    ///
+    /// # Errors
+    ///
+    /// `AllocError` for want of memory, which only a number needs.
+    pub fn shown(&self, alloc: Global) -> Result<Shown<'_>, AllocError>
+        ensures { IfOk result (λ shown. shown ≡ self.now) }
+    {
+        match &self.kind {
+            Kind::Number(number) => Ok(Shown::printed(printed(alloc, *number)?)),
+            Kind::Text(text) => Ok(Shown::lent(text)),
+        }
+    }
+
+    /// A second value of the same text. A number is copied without memory.
+    ///
+    /// # Errors
+    ///
+    /// `AllocError` for want of memory, which only a text needs.
+    pub fn copy(&self) -> Result<Value, AllocError>
+        ensures { IfOk result (λ value. value ≡ self.now) }
+    {
+        match &self.kind {
+            Kind::Number(number) => Ok(Value::of_number(*number)),
+            Kind::Text(text) => Ok(Value::of_text(text.copy()?)),
+        }
+    }
+
+    /// The number that the value stands for. Takes no memory.
+    ///
+    /// # Errors
+    ///
+    /// `Over` exactly where the number would be 10^18 or more in size, which that of a number never is.
+    pub fn number(&self) -> Result<Num, Over>
+        ensures { MatchResult result (λ n. numeric_value significant_digits self.now ≡ Some (units n)) (λ _. numeric_value significant_digits self.now ≡ None) }
+    {
+        match &self.kind {
+            Kind::Number(number) => Ok(*number),
+            Kind::Text(text) => Num::from_text(text.as_bytes()),
+        }
+    }
+
+    /// Whether the value is true: the number that it stands for is not 0. Takes no memory.
+    ///
+    /// # Errors
+    ///
+    /// `Over` exactly where `number` answers it.
+    pub fn truth(&self) -> Result<bool, Over>
+        ensures { MatchResult result (λ t. option_map is_true (numeric_value significant_digits self.now) ≡ Some t) (λ _. numeric_value significant_digits self.now ≡ None) }
+    {
+        let number = self.number()?;
+        Ok(number.is_true())
+    }
+
+    /// The number that the value stands for, without its fraction. Takes no memory.
+    ///
+    /// # Errors
+    ///
+    /// `Over` exactly where `number` answers it.
+    pub fn whole(&self) -> Result<i64, Over>
+        ensures whole { MatchResult result (λ n. option_map whole_part (numeric_value significant_digits self.now) ≡ Some n) (λ _. numeric_value significant_digits self.now ≡ None) }
+        ensures below { IfOk result (λ n. unsigned_abs n < 10 ^ 18) }
+    {
+        let number = self.number()?;
+        Ok(number.to_whole())
+    }
+
+    /// Whether two values are one text. Of two numbers none is printed.
+    ///
+    /// # Errors
+    ///
+    /// `AllocError` for want of memory, which only a number beside a text needs.
+    pub fn equals(&self, alloc: Global, other: &Value) -> Result<bool, AllocError>
+        ensures { IfOk result (λ same. same ≡ pointwise nat_eq self.now other.now) }
+    {
+        match (&self.kind, &other.kind) {
+            (Kind::Number(a), Kind::Number(b)) => Ok(a.cmp(*b).is_eq()),
+            _ => {
+                let first = self.shown(alloc)?;
+                let second = other.shown(alloc)?;
+                Ok(first.text() == second.text())
+            }
+        }
+    }
+}

@@ -11,7 +11,7 @@ use crate::depth::Depth;
 use crate::session::Session;
 use mgrant::{AccountId, Settings};
 use mnum::{Bytes7, Name, Num};
-use moperator::{Code, binary, call, computed, matching, unaries};
+use moperator::{Code, binary, call, computed, matching, truth, unaries};
 use mstore::NodeStore;
 use mtree::{Choice, Expr, Operand, Primary, Step};
 use mvalue::Value;
@@ -101,7 +101,7 @@ impl<'a, S: NodeStore> Eval<'a, S> {
         self.charge()?;
         match primary {
             Primary::Number(literal) => computed(Num::from_text(literal.as_bytes())),
-            Primary::Text(text) => Ok(Value::Text(text.copy()?)),
+            Primary::Text(text) => Ok(Value::of_text(text.copy()?)),
             Primary::Local(name) => self.local(name),
             Primary::Bracket(inner) => self.value(alloc, inner),
             Primary::Call(word, arguments) => {

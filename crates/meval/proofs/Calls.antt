@@ -6,7 +6,7 @@ use Rattle.mspec.specs.Code as spec
 use Rattle.mspec.specs.Code.{Lost}
 use Rattle.mspec.specs.Plan.{perform}
 use Rattle.mspec.specs.LockConflict.{Locks}
-use Rattle.mspec.specs.Act.{Text, Act, Gives, Fails, ◌>>=◌, give, give_some, get_local, value_of}
+use Rattle.mspec.specs.Act.{Text, Act, Gives, Fails, ◌>>=◌, give, give_some, get_local, set_local, assigned_to, value_of}
 use Rattle.mmeaning.specs.Expression.{Inside, inside}
 use Rattle.mmeaning.specs.Calls.{Standing, Here, Did, Ends, Gave, ops_of, point}
 use Rattle.mmeaning.specs.Yields.{Yields}
@@ -96,6 +96,21 @@ no_local {g = g} {e = e} f name is = record {
   };
   same = refl;
   depth = refl;
+}
+
+-- a variable is given a text, and nothing else has changed
+pub sets_local : {S : Type 0} {g : Ghosts S} (old new : Eval S) (name x : Text) → new.session.now.locals ≡ assigned_to old.session.now.locals name x → new.session.now.naked ≡ old.session.now.naked → new.session.now.test ≡ old.session.now.test
+    → new.store.now ≡ old.store.now → new.steps ≡ old.steps → standing_of new ≡ standing_of old → new.depth ≡ old.depth → Evaluates g (λ i. set_local name x) (λ (u : Unit {0}). u) old (Ok tt) new
+sets_local {g = g} old new name x locals naked test store steps same depth = record {
+  at = λ sound out locks. record {
+    at = λ n le i. (
+      Gives tt (record { locals = sym locals i; naked = sym naked i; test = sym test i; out = out; steps = sym steps i }),
+      record { globals = g.content (sym store i); locks = locks },
+    );
+    fewer = omega (arith, steps);
+  };
+  same = same;
+  depth = depth;
 }
 
 -- ---- over a steady store

@@ -32,7 +32,11 @@ primary-returns-in-Number-clause-does g t c =
     rw (c.in-Number.is, number_is c.in-Number.literal) (evaluates_then _ c.in_ok-charge.ensures.does (evaluates_yielded k))
 
 pub primary-returns-in_ok-copy-in-Text-clause-does : goal.primary-returns-in_ok-copy-in-Text-clause-does
-primary-returns-in_ok-copy-in-Text-clause-does g t c = rw (c.in-Text.is, text_is c.in-Text.text) (evaluates_then _ c.in_ok-charge.ensures.does (evaluates_gives _ _ _ c.in_ok-copy-in-Text.ensures))
+primary-returns-in_ok-copy-in-Text-clause-does g t c = rw (c.in-Text.is, text_is c.in-Text.text) (evaluates_then _ c.in_ok-charge.ensures.does (evaluates_gives _ _ _ (c.of_text.ensures ∙ c.in_ok-copy-in-Text.ensures)))
+
+pub primary-returns-in_err-copy-in-Text-clause-does : goal.primary-returns-in_err-copy-in-Text-clause-does
+primary-returns-in_err-copy-in-Text-clause-does g t c =
+    rw (c.in-Text.is, text_is c.in-Text.text) (evaluates_then _ c.in_ok-charge.ensures.does (evaluates_wanting _ _ _ c.from_residual-in_err-copy-in-Text.ensures))
 
 pub primary-returns-in-Local-clause-does : goal.primary-returns-in-Local-clause-does
 primary-returns-in-Local-clause-does g t c =
@@ -138,7 +142,10 @@ values-returns-in_err-value-clause-does g t c =
     (c.loop-e.invariant.leads _ _ (value_failed (λ (v : Vec Text Global). v.items) c.args.exprs.now c.loop-e.e-index c.e-item.result _ _ c.loop-e-test.true c.e-item.is c.in_err-value.ensures.does))
 
 pub values-returns-in_err-push-clause-does : goal.values-returns-in_err-push-clause-does
-values-returns-in_err-push-clause-does g t c = ?
+values-returns-in_err-push-clause-does g t c =
+    c.loop-e.invariant.leads _ _
+    (next_value (λ (v : Vec Text Global). v.items) c.args.exprs.now c.loop-e.e-index c.e-item.result _ _ _ c.loop-e-test.true c.e-item.is c.in_ok-value.ensures.does
+    (evaluates_wanting _ _ _ c.from_residual-in_err-push.ensures))
 
 pub values-loop-e-preserved : goal.values-loop-e-preserved
 values-loop-e-preserved g t c = record {

@@ -1,0 +1,133 @@
+-- How the calls of this crate are put together.
+use Rattle.std.proofs.Common.{◌≡◌, ℕ, ◌≤◌, ◌++◌, Result, Ok, Err, refl, sym, ap, ◌∙◌, subst, arith}
+use Rattle.std.specs.Result.{IsErr, IsErrAnd}
+use Rattle.mspec.specs.LockConflict.{Locks}
+use Rattle.mspec.specs.Act.{Text, Act, Gives, ◌>>=◌, give, write}
+use Rattle.mmeaning.specs.Expression.{Inside, inside}
+use Rattle.mmeaning.specs.Calls.{Gave}
+use Rattle.mmeaning.specs.Yields.{Yields}
+use Rattle.mmeaning.proofs.Calls.{did_then, did_failed, did_gives, did_lost, residual_is}
+use Rattle.mmeaning.proofs.Yielding.{yielded}
+use Rattle.mstore.specs.declared.store.NodeStore.{Ghosts}
+use Rattle.moperator.specs.Codes.{fault_of}
+use Rattle.moperator.specs.declared.code.Code.{Code}
+use Rattle.moperator.specs.declared.code.Code.TheVariants.{Zmem}
+use Rattle.meval.specs.declared.eval.Eval.{Eval}
+use Rattle.meval.specs.Evaluates.{Evaluates, standing_of, eval_here, inside_at, depth_of}
+use Rattle.meval.proofs.Calls.{moved, keeps_itself as eval_keeps_itself, keeps_on as eval_keeps_on}
+use Rattle.mcommand.specs.declared.parts.Parts.{Parts}
+use Rattle.mcommand.specs.Does.{Does, DoesAt, KeepsLoans, here_of}
+
+pub does_then : {S A B X Y : Type 0} {g : Ghosts S} {p : Inside → Act A} (q : Inside → A → Act B) {f : X → A} {j : Y → B} {old mid new : Parts S} {x : X} {r : Result Y Code}
+    → Does g p f old (Ok x) mid → Does g (λ i. q i (f x)) j mid r new → Does g (λ i. p i >>= q i) j old r new
+does_then q {f = f} {old = old} {x = x} d k = record {
+  at = λ sound locks. did_then (λ n. q (inside_at old.eval n)) (d.at sound locks) (moved (λ i. q i (f x)) d.same d.depth (k.at sound locks));
+  same = k.same ∙ d.same;
+  depth = k.depth ∙ d.depth;
+}
+
+pub does_failed : {S A B X Y : Type 0} {g : Ghosts S} {p : Inside → Act A} (q : Inside → A → Act B) {f : X → A} {j : Y → B} {old new : Parts S} {e : Code}
+    → Does g p f old (Err e) new → Does g (λ i. p i >>= q i) j old (Err e) new
+does_failed q {old = old} d = record {
+  at = λ sound locks. did_failed (λ n. q (inside_at old.eval n)) (d.at sound locks);
+  same = d.same;
+  depth = d.depth;
+}
+
+-- the same, where it is by a `?` that the call returns
+pub does_stopped : {S A B X Y : Type 0} {g : Ghosts S} {p : Inside → Act A} (q : Inside → A → Act B) {f : X → A} {j : Y → B} {old new : Parts S} {e : Code} {r : Result Y Code}
+    → Does g p f old (Err e) new → IsErr r × IsErrAnd r (λ x. x ≡ e) → Does g (λ i. p i >>= q i) j old r new
+does_stopped {g = g} {p = p} q {j = j} {old = old} {new = new} {r = r} d h =
+    subst (λ r. Does g (λ i. p i >>= q i) j old r new) (sym (residual_is r _ h)) (does_failed q d)
+
+pub does_gives : {S A X : Type 0} {g : Ghosts S} {parts : Parts S} (a : A) (f : X → A) (x : X) → f x ≡ a → Does g (λ i. give a) f parts (Ok x) parts
+does_gives a f x same = record {
+  at = λ sound locks. did_gives a f x same;
+  same = refl;
+  depth = refl;
+}
+
+-- an evaluation, by the parts that hold it
+pub does_evaluated : {S A X : Type 0} {g : Ghosts S} {p : Inside → Act A} {f : X → A} {old : Parts S} {e : Eval S} {r : Result X Code} → Evaluates g p f old.eval r e → Does g p f old r (record old { eval = e })
+does_evaluated {old = old} d = record {
+  at = λ sound locks. d.at sound old.out.now.items locks;
+  same = d.same;
+  depth = d.depth;
+}
+
+-- a call that needs no point
+pub does_yielded : {S A X : Type 0} {g : Ghosts S} {p : Act A} {f : X → A} {parts : Parts S} {r : Result X Code} → Yields fault_of p f r → Does g (λ i. p) f parts r parts
+does_yielded {g = g} {parts = parts} y = record {
+  at = λ sound locks. yielded (here_of g parts locks) y;
+  same = refl;
+  depth = refl;
+}
+
+-- want of memory, by a `?` that the call returns: the store is as it was
+pub does_wanting : {S A X : Type 0} {g : Ghosts S} {old new : Parts S} (p : Inside → Act A) (f : X → A) (r : Result X Code) → IsErr r × IsErrAnd r (λ x. x ≡ Zmem)
+    → new.eval ≡ old.eval → Does g p f old r new
+does_wanting {g = g} {old = old} {new = new} p f r h same = subst (λ r. Does g p f old r new) (sym (residual_is r Zmem h)) (record {
+  at = λ sound locks.
+      did_lost (λ n. p (inside_at old.eval n)) f Zmem tt (ap (λ e. record { globals = g.content e.store.now; locks = locks }) (sym same))
+      (let few = ap (λ e. e.steps) same in omega (arith, few));
+  same = ap standing_of same;
+  depth = ap (λ e. e.depth) same;
+})
+
+-- a text is written
+pub does_write : {S : Type 0} {g : Ghosts S} (old new : Parts S) (x : Text) → new.out.now.items ≡ old.out.now.items ++ x → new.eval ≡ old.eval → Does g (λ i. write x) (λ (u : Unit {0}). u) old (Ok tt) new
+does_write {g = g} old new x out same = record {
+  at = λ sound locks. record {
+    at = λ n le i. (Gives tt (eval_here g (sym same i) (sym out i) locks).0, (eval_here g (sym same i) (sym out i) locks).1);
+    fewer = let few = ap (λ e. e.steps) same in omega (arith, few);
+  };
+  same = ap standing_of same;
+  depth = ap (λ e. e.depth) same;
+}
+
+-- another value that stands for the same
+pub does_as : {S A X Y : Type 0} {g : Ghosts S} {p : Inside → Act A} {f : X → A} (j : Y → A) {x : X} {y : Y} {old new : Parts S} → Does g p f old (Ok x) new → j y ≡ f x → Does g p j old (Ok y) new
+does_as {g = g} {p = p} {f = f} j {x = x} {y = y} {old = old} {new = new} d same = record {
+  at = λ sound locks.
+      let did = d.at sound locks in
+      record {
+        at = λ n le. subst (λ a. Gave (standing_of old.eval) (p (inside_at old.eval n)) (here_of g old locks) a (here_of g new locks)) (sym same) (did.at n le);
+        fewer = did.fewer;
+      };
+  same = d.same;
+  depth = d.depth;
+}
+
+-- the last act of a call, by a `?` that it returns
+pub does_last : {S A X Y : Type 0} {g : Ghosts S} {p : Inside → Act A} {f : X → A} {j : Y → A} {old new : Parts S} {e : Code} {r : Result Y Code}
+    → Does g p f old (Err e) new → IsErr r × IsErrAnd r (λ x. x ≡ e) → Does g p j old r new
+does_last {g = g} {p = p} {j = j} {old = old} {new = new} {r = r} d h =
+    subst (λ r. Does g p j old r new) (sym (residual_is r _ h)) (record {
+      at = λ sound locks. let did = d.at sound locks in record { at = did.at; fewer = did.fewer };
+      same = d.same;
+      depth = d.depth;
+    })
+
+-- an evaluation, at a depth of its own
+pub at_evaluated : {S A X : Type 0} {g : Ghosts S} {p : Inside → Act A} {f : X → A} {old : Parts S} {e : Eval S} {r : Result X Code} (d : _) → Evaluates g p f (record old.eval { depth = d }) r e
+    → DoesAt g (λ a n. p (inside a n (depth_of d))) f old r (record old { eval = e })
+at_evaluated {old = old} d k = record {
+  at = λ sound locks. k.at sound old.out.now.items locks;
+  same = k.same;
+}
+
+-- a call, at a depth of its own
+pub at_done : {S A X : Type 0} {g : Ghosts S} {p : Inside → Act A} {f : X → A} {old new : Parts S} {r : Result X Code} (d : _) → Does g p f (record old { eval = record old.eval { depth = d } }) r new
+    → DoesAt g (λ a n. p (inside a n (depth_of d))) f old r new
+at_done d k = record {
+  at = λ sound locks. k.at sound locks;
+  same = k.same;
+}
+
+-- ---- loans
+
+pub keeps_itself : {S : Type 0} (a : Parts S) → KeepsLoans a a
+keeps_itself a = record { eval = eval_keeps_itself a.eval; out = refl }
+
+pub keeps_on : {S : Type 0} {a b c : Parts S} → KeepsLoans a b → KeepsLoans b c → KeepsLoans a c
+keeps_on k l = record { eval = eval_keeps_on k.eval l.eval; out = l.out ∙ k.out }

@@ -1,0 +1,49 @@
+// WRITE.
+ghost use Rattle.std.specs.Prelude.{◌≡◌, ◌≤◌, replicate};
+ghost use Rattle.mspec.specs.Act.{write};
+ghost use Rattle.mmeaning.specs.LineMeaning as meaning;
+ghost use Rattle.mtree.specs.Tree.{expr_tree};
+ghost use Rattle.mcommand.specs.Does.{Does, KeepsLoans};
+
+use crate::parts::Parts;
+use moperator::Code;
+use mstore::NodeStore;
+use mtree::Expr;
+use std::alloc::Global;
+
+/// In an output, the end of a line, which no text has.
+pub const LINE_END: u8 = 255;
+
+impl<'a, S: NodeStore> Parts<'a, S> {
+    /// Ends so many lines of the output.
+    ///
+    /// # Errors
+    ///
+    /// `Zmem` for want of memory.
+    pub fn breaks(&mut self, count: usize) -> Result<(), Code>
+        ensures loans { KeepsLoans self.old self.new }
+        ensures fewer { self.new.eval.steps ≤ self.old.eval.steps }
+        ensures does { Does S.NodeStore (λ i. write (replicate count meaning.line_end)) (λ u. u) self.old result self.new }
+    {
+        self.out.reserve(count)?;
+        let length = self.out.len() + count;
+        self.out.resize(length, LINE_END)?;
+        Ok(())
+    }
+
+    /// Writes the value of an expression.
+    ///
+    /// # Errors
+    ///
+    /// Those of the expression's value; `Zmem` for want of memory.
+    pub fn showing(&mut self, alloc: Global, e: &Expr) -> Result<(), Code>
+        ensures loans { KeepsLoans self.old self.new }
+        ensures fewer { self.new.eval.steps ≤ self.old.eval.steps }
+        ensures does { Does S.NodeStore (λ i. meaning.showing i (expr_tree e.now)) (λ u. u) self.old result self.new }
+    {
+        let value = self.eval.eval(alloc, e)?;
+        let shown = value.shown(alloc)?;
+        self.out.extend_from_slice(shown.text().as_bytes())?;
+        Ok(())
+    }
+}

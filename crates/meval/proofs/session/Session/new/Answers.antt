@@ -1,0 +1,8 @@
+use Rattle.std.proofs.Common.{ap}
+use Rattle.mspec.specs.Act.{no_locals, Locals}
+use Rattle.mmeaning.specs.Step.{new_session}
+use Rattle.meval.proofs.session.Session.new.Goals as goal
+
+pub returns : goal.returns
+unfolding no_locals
+returns c = ap (λ (l : Locals). record new_session { locals = l }) c.new.ensures

@@ -1,0 +1,155 @@
+-- The two laws for histories of different length, and the isolation theorem.
+use Rattle.std.proofs.Common.{◌≡◌, ℕ, Bool, true, false, cond, List, [], ◌∷◌, Option, Some, None, map, refl, sym, ap, ◌∙◌, subst}
+use Rattle.std.proofs.lemmas.Cmp.{nat_cmp_total}
+use Rattle.std.proofs.lemmas.List.Elements.{filter_agree}
+use Rattle.std.proofs.lemmas.Bool.{false_from_ne_true}
+use Rattle.std.specs.Cmp.Lexicographic.{bytes_decides}
+use Rattle.std.specs.Cmp.{IsTotalOrder}
+use Rattle.std.specs.declared.cmp.Ordering.{Ordering}
+use Rattle.std.specs.FinMap.{get, empty, retain_keys, get-empty, same_map, IsAntisymmetric, nat_cmp-IsAntisymmetric}
+use Rattle.mspec.specs.Node.{Text}
+use Rattle.mspec.specs.Globals.{Globals}
+use Rattle.mspec.specs.Access.{Account, Settings}
+use Rattle.mspec.specs.LockConflict.{held_cmp}
+use Rattle.mspec.proofs.LockOrders.{held_cmp_total, held_cmp_exact}
+use Rattle.mspec.proofs.MapCuts.{get_cut}
+use Rattle.mmeaning.specs.Step.{Server, Event, Reply, normal}
+use Rattle.mmeaning.specs.History.{History, opening, replies, server_after, answered, NoneFailed}
+use Rattle.mmeaning.proofs.Histories.{history_is_normal}
+use Rattle.misolation.specs.Reach.{Accounts, reach}
+use Rattle.misolation.specs.Cut.{is_member, is_inside, cut_settings, cut_server, cut_events, part, IsFit}
+use Rattle.misolation.specs.Alone.{alone, only}
+use Rattle.misolation.specs.Agreement.{Run}
+use Rattle.misolation.specs.ReachLaws.{IsLeastClosed}
+use Rattle.misolation.specs.StepLaws.{InsideStep, OutsideStep}
+use Rattle.misolation.specs.HistoryLaws.{events_of, PartIsHistory, IsAlone, PartIsAlone, Isolation, OpeningIsCut, AgreeingReplies}
+use Rattle.misolation.proofs.CutMaps.{by_test, filter_absorbed, map_filter}
+use Rattle.misolation.proofs.Reaching.{reach_is_least_closed}
+use Rattle.misolation.proofs.Steps.{inside_steps, outside_steps, steps_keep_fit}
+
+-- ---- the part is a history
+
+pub part_is_history : PartIsHistory
+part_is_history s settings server after [] closed fit h = ap (cut_server s settings) h
+part_is_history s settings server after (e ∷ es) closed fit h =
+    let rest = part_is_history s settings h.0 after es closed (steps_keep_fit settings e.0 e.1 server h.0 h.1 fit) h.2 in
+    by_test (is_inside s settings e.0.terminal)
+    (λ here.
+    let law : InsideStep s settings e.0 server = inside_steps s settings e.0 server closed fit here in
+    rw here (cut_server s settings h.0, law.step e.1 h.0 h.1, rest))
+    (λ away.
+    let law : OutsideStep s settings e.0 server = outside_steps s settings e.0 server closed away in
+    rw away (subst (λ v. History (cut_settings s settings) v (part s settings es) (cut_server s settings after)) (law.step e.1 h.0 h.1) rest))
+
+-- ---- the replies alone
+
+abbrev head_or : {A : Type 0} → A → List A → A
+head_or a [] = a
+head_or a (x ∷ xs) = x
+
+abbrev tail : {A : Type 0} → List A → List A
+tail [] = []
+tail (x ∷ xs) = xs
+
+-- lines with the replies of normal steps are these lines answered
+lines_answered : (settings : Settings) (server : Server) (es : List (Event × Reply)) → map (λ e. e.1) es ≡ replies settings server (events_of es) → es ≡ answered settings server (events_of es)
+lines_answered settings server [] h = refl
+lines_answered settings server (e ∷ es) h =
+    let first : e.1 ≡ (normal settings e.0 server).0 = ap (head_or e.1) h in
+    let rest = lines_answered settings (normal settings e.0 server).1 es (ap tail h) in
+    λ i. (e.0, first i) ∷ rest i
+
+events_of_part : (s : Accounts) (settings : Settings) (es : List (Event × Reply)) → events_of (part s settings es) ≡ cut_events s settings (events_of es)
+events_of_part s settings es = map_filter (λ e. e.0) (λ e. is_inside s settings e.terminal) es
+
+pub part_is_alone : PartIsAlone
+part_is_alone s settings server after es closed fit h none =
+    let low = cut_settings s settings in
+    let start = cut_server s settings server in
+    let h' = part_is_history s settings server after es closed fit h in
+    let own = history_is_normal low start (cut_server s settings after) (part s settings es) h' none in
+    record {
+      lines = lines_answered low start (part s settings es) own.0 ∙ ap (answered low start) (events_of_part s settings es);
+      left = own.1 ∙ ap (server_after low start) (events_of_part s settings es);
+    }
+
+-- ---- an account's own terminals
+
+member_of : (s : Accounts) (a : Text) → s a ≡ true → (o : Option Account) → is_member (only a) o ≡ true → is_member s o ≡ true
+member_of s a m None e = e
+member_of s a m (Some account) e = ap s (sym ((bytes_decides a account.name).0 e)) ∙ m
+
+-- they are among those of any set that has it
+own_part : (s : Accounts) (settings : Settings) (a : Text) → s a ≡ true → (es : List (Event × Reply)) → part (only a) settings (part s settings es) ≡ part (only a) settings es
+own_part s settings a m es =
+    filter_absorbed (λ e. is_inside (only a) settings e.0.terminal) (λ e. is_inside s settings e.0.terminal) (λ e h. member_of s a m (get settings.terminals e.0.terminal) h) es
+
+-- and are its own after the cut
+own_terminal : (s : Accounts) (settings : Settings) (a : Text) → s a ≡ true → (t : ℕ) → is_inside (only a) (cut_settings s settings) t ≡ is_inside (only a) settings t
+own_terminal s settings a m t =
+    let cut = get_cut nat_cmp_total nat_cmp-IsAntisymmetric settings.terminals (is_inside s settings) t in
+    by_test (is_inside s settings t)
+    (λ here. ap (is_member (only a)) (cut ∙ ap (λ b. cond b (get settings.terminals t) None) here))
+    (λ away.
+    ap (is_member (only a)) (cut ∙ ap (λ b. cond b (get settings.terminals t) None) away)
+    ∙ sym (false_from_ne_true (is_inside (only a) settings t) (λ own. let no : true ≡ false = sym (member_of s a m (get settings.terminals t) own) ∙ away in absurd (cc))))
+
+part_of_cut : (s : Accounts) (settings : Settings) (a : Text) → s a ≡ true → (es : List (Event × Reply)) → part (only a) (cut_settings s settings) es ≡ part (only a) settings es
+part_of_cut s settings a m es =
+    filter_agree (λ e. is_inside (only a) (cut_settings s settings) e.0.terminal) (λ e. is_inside (only a) settings e.0.terminal) (λ e. own_terminal s settings a m e.0.terminal) es
+
+-- ---- the theorem
+
+pub opening_fits : (settings : Settings) (globals : Globals) → IsFit settings (opening globals).world
+opening_fits settings globals h n e = let none : None ≡ Some n = sym (get-empty held_cmp h) ∙ e in absurd (cc)
+
+pub isolation : Isolation
+isolation settings a globals es after h none =
+    let least : IsLeastClosed settings a (reach settings a) = reach_is_least_closed settings a in
+    let law : IsAlone (reach settings a) settings (opening globals) after es = part_is_alone (reach settings a) settings (opening globals) after es least.closed (opening_fits settings globals) h none in
+    sym (own_part (reach settings a) settings a least.has es) ∙ ap (part (only a) settings) law.lines
+
+cut_none : {K X : Type 0} {R : K → K → Ordering} → IsTotalOrder R → IsAntisymmetric R → (p : K → Bool) → retain_keys {X = X} (empty {R = R}) p ≡ empty
+cut_none {X = X} {R = R} total exact p = same_map total exact _ _ (λ q. get_cut total exact empty p q ∙ nothing (p q) (get-empty {X = X} R q) ∙ sym (get-empty R q))
+  where
+    nothing : (b : Bool) {o : Option X} → o ≡ None → cond b o None ≡ None
+    nothing true e = e
+    nothing false e = refl
+
+pub opening_is_cut : OpeningIsCut
+opening_is_cut s settings globals = λ i. record {
+  world = record {
+    globals = retain_keys globals (λ n. s n.account);
+    locks = cut_none held_cmp_total held_cmp_exact (λ h. is_inside s settings h.terminal) i;
+  };
+  sessions = cut_none nat_cmp_total nat_cmp-IsAntisymmetric (is_inside s settings) i;
+}
+
+-- ---- agreement
+
+module _ (a : Text) where
+  abbrev tied : Run → Accounts
+  tied r = reach r.settings a
+
+  run_alone : (r : Run) → IsFit r.settings r.server.world → (es : List (Event × Reply)) (after : Server) → events_of es ≡ r.events → History r.settings r.server es after → NoneFailed (part (tied r) r.settings es)
+      → part (tied r) r.settings es ≡ answered (cut_settings (tied r) r.settings) (cut_server (tied r) r.settings r.server) (cut_events (tied r) r.settings r.events)
+  run_alone r fit es after events h none =
+      let least : IsLeastClosed r.settings a (tied r) = reach_is_least_closed r.settings a in
+      let law : IsAlone (tied r) r.settings r.server after es = part_is_alone (tied r) r.settings r.server after es least.closed fit h none in
+      law.lines ∙ ap (alone (tied r) r.settings r.server) events
+
+  own_of_part : (r : Run) (es : List (Event × Reply)) → part (only a) r.settings es ≡ part (only a) (cut_settings (tied r) r.settings) (part (tied r) r.settings es)
+  own_of_part r es =
+      let least : IsLeastClosed r.settings a (tied r) = reach_is_least_closed r.settings a in
+      sym (own_part (tied r) r.settings a least.has es) ∙ sym (part_of_cut (tied r) r.settings a least.has (part (tied r) r.settings es))
+
+pub agreeing_replies : AgreeingReplies
+agreeing_replies a one two agree fit fit' es fs first second events events' h h' none none' =
+    let same =
+    run_alone a one fit es first events h none
+    ∙ (λ i. answered (agree.settings i) (agree.server i) (agree.events i))
+    ∙ sym (run_alone a two fit' fs second events' h' none') in
+    record {
+      reaching = same;
+      own = own_of_part a one es ∙ (λ i. part (only a) (agree.settings i) (same i)) ∙ sym (own_of_part a two fs);
+    }

@@ -1,0 +1,60 @@
+-- The laws of histories, as statements. The functions of src/ named after them carry them.
+use Rattle.std.specs.Prelude.{◌≡◌, List, map}
+use Rattle.std.specs.FinMap.{retain_keys}
+use Rattle.mspec.specs.Node.{Text}
+use Rattle.mspec.specs.Globals.{Globals}
+use Rattle.mspec.specs.Access.{Settings}
+use Rattle.mmeaning.specs.Step.{Server, Event, Reply}
+use Rattle.mmeaning.specs.History.{History, opening, server_after, NoneFailed}
+use Rattle.misolation.specs.Reach.{Accounts, IsClosed, reach}
+use Rattle.misolation.specs.Cut.{cut_settings, cut_server, cut_events, part, IsFit}
+use Rattle.misolation.specs.Alone.{alone, only}
+use Rattle.misolation.specs.Agreement.{Run, Agree}
+
+abbrev pub events_of : List (Event × Reply) → List Event
+events_of es = map (λ e. e.0) es
+
+-- the members' part of a history is a history over the cuts, whichever of all its steps failed
+abbrev pub PartIsHistory : Type 0
+PartIsHistory =
+    (s : Accounts) (settings : Settings) (server after : Server) (es : List (Event × Reply)) → IsClosed settings s → IsFit settings server.world →
+    History settings server es after → History (cut_settings s settings) (cut_server s settings server) (part s settings es) (cut_server s settings after)
+
+-- the members' lines have the replies that they have alone, and leave what they leave alone
+pub record IsAlone (s : Accounts) (settings : Settings) (server after : Server) (es : List (Event × Reply)) : Type 0 where
+  pub lines : part s settings es ≡ alone s settings server (events_of es)
+  pub left : cut_server s settings after ≡ server_after (cut_settings s settings) (cut_server s settings server) (cut_events s settings (events_of es))
+
+-- so it is where none of the members' steps failed, whichever others did
+abbrev pub PartIsAlone : Type 0
+PartIsAlone =
+    (s : Accounts) (settings : Settings) (server after : Server) (es : List (Event × Reply)) → IsClosed settings s → IsFit settings server.world →
+    History settings server es after → NoneFailed (part s settings es) → IsAlone s settings server after es
+
+-- The isolation theorem: for all settings, globals and lines, the replies at an account's terminals are those that it gets where there
+-- is nothing but what reaches it, if no line of an account that reaches it failed.
+abbrev pub Isolation : Type 0
+Isolation =
+    (settings : Settings) (a : Text) (globals : Globals) (es : List (Event × Reply)) (after : Server) → History settings (opening globals) es after →
+    NoneFailed (part (reach settings a) settings es) →
+    part (only a) settings es ≡ part (only a) settings (alone (reach settings a) settings (opening globals) (events_of es))
+
+-- what is left of an opening server is the opening server of the members' globals
+abbrev pub OpeningIsCut : Type 0
+OpeningIsCut =
+    (s : Accounts) (settings : Settings) (globals : Globals) →
+    cut_server s settings (opening globals) ≡ opening (retain_keys globals (λ n. s n.account))
+
+-- the lines with their replies at the terminals of the accounts that reach `a`, and at its own
+pub record SameReplies (a : Text) (one two : Run) (es fs : List (Event × Reply)) : Type 0 where
+  pub reaching : part (reach one.settings a) one.settings es ≡ part (reach two.settings a) two.settings fs
+  pub own : part (only a) one.settings es ≡ part (only a) two.settings fs
+
+-- two runs that agree for an account give it the same replies, however long each is and whatever else is in it
+abbrev pub AgreeingReplies : Type 0
+AgreeingReplies =
+    (a : Text) (one two : Run) → Agree a one two → IsFit one.settings one.server.world → IsFit two.settings two.server.world →
+    (es fs : List (Event × Reply)) (first second : Server) → events_of es ≡ one.events → events_of fs ≡ two.events →
+    History one.settings one.server es first → History two.settings two.server fs second →
+    NoneFailed (part (reach one.settings a) one.settings es) → NoneFailed (part (reach two.settings a) two.settings fs) →
+    SameReplies a one two es fs

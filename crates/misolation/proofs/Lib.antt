@@ -9,3 +9,4 @@ pub mod PlansInside
 pub mod Endings
 pub mod Steps
 pub mod PartsAlone
+pub mod IsolationExamples

@@ -31,7 +31,7 @@ use Rattle.misolation.proofs.CutMaps.{get_kept}
 use Rattle.misolation.proofs.FittingLocks.{fit_insert}
 use Rattle.misolation.proofs.Operations.{inside_operations}
 use Rattle.misolation.proofs.Reaching.{reach_is_least_closed}
-use Rattle.misolation.proofs.PartsAlone.{opening_fits, agreeing_replies}
+use Rattle.misolation.proofs.PartsAlone.{opening_is_fit, agreeing_replies}
 
 abbrev account : Text → Account
 account name = record { name = name; steps = 2000 }
@@ -143,7 +143,7 @@ same_cut = λ i. record {
 
 -- and the bank holds what it may hold
 busy_fits : IsFit apart busy.world
-busy_fits = fit_insert apart empty (held 3 (lock ledger)) 1 (ap (λ o. holds_by apart o (lock ledger)) of_bank) (opening_fits apart empty)
+busy_fits = fit_insert apart empty (held 3 (lock ledger)) 1 (ap (λ o. holds_by apart o (lock ledger)) of_bank) (opening_is_fit apart empty)
 
 -- ---- the bank's lines fail, and the clinic's is answered as if there were no bank
 
@@ -224,7 +224,7 @@ module _ (text : Text) where
 
   same_replies : SameReplies clinic with_bank without_bank crowded lonely
   same_replies =
-      agreeing_replies clinic with_bank without_bank agreed busy_fits (opening_fits apart quiet.world.globals) crowded lonely (failed (normal apart (line 1 text) (failed busy)).1) (normal apart (line 1 text) quiet).1 refl refl
+      agreeing_replies clinic with_bank without_bank agreed busy_fits (opening_is_fit apart quiet.world.globals) crowded lonely (failed (normal apart (line 1 text) (failed busy)).1) (normal apart (line 1 text) quiet).1 refl refl
       crowded_runs lonely_runs
       (subst NoneFailed (sym tied_part) (normal_never_fails apart (line 1 text) (failed busy), tt))
       (subst NoneFailed (sym lonely_part) (normal_never_fails apart (line 1 text) quiet, tt))

@@ -1,5 +1,5 @@
 -- The two laws for histories of different length, and the isolation theorem.
-use Rattle.std.proofs.Common.{◌≡◌, ℕ, Bool, true, false, cond, List, [], ◌∷◌, Option, Some, None, map, refl, sym, ap, ◌∙◌, subst}
+use Rattle.std.proofs.Common.{◌≡◌, ℕ, Bool, true, false, cond, List, [], ◌∷◌, Option, Some, None, map, refl, sym, ap, ◌∙◌, subst, subst₂}
 use Rattle.std.proofs.lemmas.Cmp.{nat_cmp_total}
 use Rattle.std.proofs.lemmas.List.Elements.{filter_agree}
 use Rattle.std.proofs.lemmas.Bool.{false_from_ne_true}
@@ -8,7 +8,6 @@ use Rattle.std.specs.Cmp.{IsTotalOrder}
 use Rattle.std.specs.declared.cmp.Ordering.{Ordering}
 use Rattle.std.specs.FinMap.{get, empty, retain_keys, get-empty, same_map, IsAntisymmetric, nat_cmp-IsAntisymmetric}
 use Rattle.mspec.specs.Node.{Text}
-use Rattle.mspec.specs.Globals.{Globals}
 use Rattle.mspec.specs.Access.{Account, Settings}
 use Rattle.mspec.specs.LockConflict.{held_cmp}
 use Rattle.mspec.proofs.LockOrders.{held_cmp_total, held_cmp_exact}
@@ -19,10 +18,11 @@ use Rattle.mmeaning.proofs.Histories.{history_is_normal}
 use Rattle.misolation.specs.Reach.{Accounts, reach}
 use Rattle.misolation.specs.Cut.{is_member, is_inside, cut_settings, cut_server, cut_events, part, IsFit}
 use Rattle.misolation.specs.Alone.{alone, only}
+use Rattle.misolation.specs.Trace.{Moment, Trace, lines_of, left_by, cut_trace}
 use Rattle.misolation.specs.Agreement.{Run}
 use Rattle.misolation.specs.ReachLaws.{IsLeastClosed}
 use Rattle.misolation.specs.StepLaws.{InsideStep, OutsideStep}
-use Rattle.misolation.specs.HistoryLaws.{events_of, PartIsHistory, IsAlone, PartIsAlone, Isolation, OpeningIsCut, AgreeingReplies}
+use Rattle.misolation.specs.HistoryLaws.{events_of, PartIsHistory, HistoryHasTrace, PartOfTrace, PartIsTrace, OpeningIsFit, HistoriesKeepFit, IsAlone, PartIsAlone, Isolation, OpeningIsCut, AgreeingReplies}
 use Rattle.misolation.proofs.CutMaps.{by_test, filter_absorbed, map_filter}
 use Rattle.misolation.proofs.Reaching.{reach_is_least_closed}
 use Rattle.misolation.proofs.Steps.{inside_steps, outside_steps, steps_keep_fit}
@@ -40,6 +40,49 @@ part_is_history s settings server after (e ∷ es) closed fit h =
     (λ away.
     let law : OutsideStep s settings e.0 server = outside_steps s settings e.0 server closed away in
     rw away (subst (λ v. History (cut_settings s settings) v (part s settings es) (cut_server s settings after)) (law.step e.1 h.0 h.1) rest))
+
+-- ---- traces
+
+traced : (settings : Settings) (server after : Server) (es : List (Event × Reply)) → History settings server es after → (ms : List Moment) × Trace settings server ms × (lines_of ms ≡ es) × (left_by server ms ≡ after)
+traced settings server after [] h = ([], tt, refl, sym h)
+traced settings server after (e ∷ es) h =
+    let rest = traced settings h.0 after es h.2 in
+    (record { event = e.0; reply = e.1; after = h.0 } ∷ rest.0, (h.1, rest.1), (λ i. e ∷ rest.2 i), rest.3)
+
+of_trace : (settings : Settings) (server : Server) (ms : List Moment) → Trace settings server ms → History settings server (lines_of ms) (left_by server ms)
+of_trace settings server [] h = refl
+of_trace settings server (m ∷ ms) h = (m.after, h.0, of_trace settings m.after ms h.1)
+
+pub history_has_trace : HistoryHasTrace
+history_has_trace settings server after es = (
+  traced settings server after es,
+  λ t. subst₂ (History settings server) t.2 t.3 (of_trace settings server t.0 t.1),
+)
+
+pub part_is_trace : PartIsTrace
+part_is_trace s settings server [] closed fit h = record { steps = tt; lines = refl; left = refl }
+part_is_trace s settings server (m ∷ ms) closed fit h =
+    let rest : PartOfTrace s settings m.after ms = part_is_trace s settings m.after ms closed (steps_keep_fit settings m.event m.reply server m.after h.0 fit) h.1 in
+    by_test (is_inside s settings m.event.terminal)
+    (λ here.
+    let law : InsideStep s settings m.event server = inside_steps s settings m.event server closed fit here in
+    record {
+      steps = rw here (law.step m.reply m.after h.0, rest.steps);
+      lines = rw here (ap (λ es. (m.event, m.reply) ∷ es) rest.lines);
+      left = rw here rest.left;
+    })
+    (λ away.
+    let law : OutsideStep s settings m.event server = outside_steps s settings m.event server closed away in
+    let same = law.step m.reply m.after h.0 in
+    record {
+      steps = rw away (subst (λ v. Trace (cut_settings s settings) v (cut_trace s settings ms)) same rest.steps);
+      lines = rw away rest.lines;
+      left = rw away (ap (λ v. left_by v (cut_trace s settings ms)) (sym same) ∙ rest.left);
+    })
+
+pub histories_keep_fit : HistoriesKeepFit
+histories_keep_fit settings server after [] h fit = subst (λ v. IsFit settings v.world) (sym h) fit
+histories_keep_fit settings server after (e ∷ es) h fit = histories_keep_fit settings h.0 after es h.2 (steps_keep_fit settings e.0 e.1 server h.0 h.1 fit)
 
 -- ---- the replies alone
 
@@ -100,13 +143,13 @@ part_of_cut s settings a m es =
 
 -- ---- the theorem
 
-pub opening_fits : (settings : Settings) (globals : Globals) → IsFit settings (opening globals).world
-opening_fits settings globals h n e = let none : None ≡ Some n = sym (get-empty held_cmp h) ∙ e in absurd (cc)
+pub opening_is_fit : OpeningIsFit
+opening_is_fit settings globals h n e = let none : None ≡ Some n = sym (get-empty held_cmp h) ∙ e in absurd (cc)
 
 pub isolation : Isolation
 isolation settings a globals es after h none =
     let least : IsLeastClosed settings a (reach settings a) = reach_is_least_closed settings a in
-    let law : IsAlone (reach settings a) settings (opening globals) after es = part_is_alone (reach settings a) settings (opening globals) after es least.closed (opening_fits settings globals) h none in
+    let law : IsAlone (reach settings a) settings (opening globals) after es = part_is_alone (reach settings a) settings (opening globals) after es least.closed (opening_is_fit settings globals) h none in
     sym (own_part (reach settings a) settings a least.has es) ∙ ap (part (only a) settings) law.lines
 
 cut_none : {K X : Type 0} {R : K → K → Ordering} → IsTotalOrder R → IsAntisymmetric R → (p : K → Bool) → retain_keys {X = X} (empty {R = R}) p ≡ empty

@@ -1,5 +1,6 @@
 -- The two laws for steps.
 use Rattle.std.proofs.Common.{◌≡◌, ℕ, Bool, true, false, Option, Some, None, refl, sym, ap, ◌∙◌, subst}
+use Rattle.std.specs.Prelude.{not, ◌||◌, [], if◌then◌else◌}
 use Rattle.std.specs.FinMap.{FinMap, get, retain_keys, nat_cmp-IsAntisymmetric}
 use Rattle.std.specs.Ordering.{nat_cmp}
 use Rattle.std.proofs.lemmas.Cmp.{nat_cmp_total}
@@ -8,11 +9,12 @@ use Rattle.mspec.specs.Act.{Outcome}
 use Rattle.mspec.specs.Plan.{Plan, perform, cut_short}
 use Rattle.mgrammar.specs.Reading.{line_at}
 use Rattle.mmeaning.specs.LineMeaning.{Signal}
+use Rattle.mmeaning.specs.World.{act}
 use Rattle.mmeaning.specs.Step.{Session, session_or_new, Server, Event, Reply, plan_of, ended, is_too_long, is_ascii, at_tree, checked, at_account, normal, FailedStep, is_failure, StepBy}
 use Rattle.misolation.specs.Reach.{Accounts, IsClosed}
 use Rattle.misolation.specs.Cut.{is_member, is_inside, cut_settings, cut_locks, cut_world, cut_server, AreFit, IsFit}
-use Rattle.misolation.specs.PlanLaws.{Actor, ops_of, cut_ops, InsidePlan, OutsidePlan}
-use Rattle.misolation.specs.StepLaws.{InsideSteps, OutsideSteps, StepsKeepFit}
+use Rattle.misolation.specs.PlanLaws.{exchanges, Actor, ops_of, cut_ops, InsidePlan, OutsidePlan}
+use Rattle.misolation.specs.StepLaws.{exchanges_by, line_exchanges, InsideSteps, OutsideSteps, StepsKeepFit}
 use Rattle.misolation.proofs.CutMaps.{get_kept}
 use Rattle.misolation.proofs.FittingLocks.{released_fits}
 use Rattle.misolation.proofs.LockCuts.{released_cut, released_outside}
@@ -61,6 +63,27 @@ module _ (s : Accounts) (settings : Settings) (e : Event) (server : Server) wher
   normal_inside closed fit here =
       ap (at_account (cut_settings s settings) e (cut_server s settings server)) (nat_kept settings.terminals (is_inside s settings) e.terminal here)
       ∙ account_inside (get settings.terminals e.terminal) refl closed fit here
+
+  run_inside : (account : Account) → get settings.terminals e.terminal ≡ Some account → IsClosed settings s → IsFit settings server.world → is_inside s settings e.terminal ≡ true
+      → exchanges (act (cut_settings s settings) e.terminal account.name) (plan_in e account (get (retain_keys server.sessions (is_inside s settings)) e.terminal)) (cut_world s settings server.world)
+      ≡ exchanges (act settings e.terminal account.name) (plan_in e account (get server.sessions e.terminal)) server.world
+  run_inside account known closed fit here =
+      let b : Actor = sender settings e account known in
+      let member : s account.name ≡ true = sym (ap (is_member s) known) ∙ here in
+      let inside : InsidePlan s b (plan_in e account (get server.sessions e.terminal)) server.world = inside_plans s b (plan_in e account (get server.sessions e.terminal)) server.world closed member fit in
+      ap (λ o. exchanges (cut_ops s b) (plan_in e account o) (cut_world s settings server.world)) (nat_kept server.sessions (is_inside s settings) e.terminal here)
+      ∙ inside.exchanges
+
+  asked_inside : (o : Option Account) → get settings.terminals e.terminal ≡ o → IsClosed settings s → IsFit settings server.world → is_inside s settings e.terminal ≡ true
+      → exchanges_by (cut_settings s settings) e (cut_server s settings server) o ≡ exchanges_by settings e server o
+  asked_inside None known closed fit here = refl
+  asked_inside (Some account) known closed fit here = ap (λ xs. if is_too_long e.text || not (is_ascii e.text) then [] else xs) (run_inside account known closed fit here)
+
+  pub exchanges_inside : IsClosed settings s → IsFit settings server.world → is_inside s settings e.terminal ≡ true
+      → line_exchanges (cut_settings s settings) e (cut_server s settings server) ≡ line_exchanges settings e server
+  exchanges_inside closed fit here =
+      ap (exchanges_by (cut_settings s settings) e (cut_server s settings server)) (nat_kept settings.terminals (is_inside s settings) e.terminal here)
+      ∙ asked_inside (get settings.terminals e.terminal) refl closed fit here
 
   pub failed_inside : IsClosed settings s → IsFit settings server.world → is_inside s settings e.terminal ≡ true → (after : Server) → FailedStep settings e server after
       → FailedStep (cut_settings s settings) e (cut_server s settings server) (cut_server s settings after)
@@ -124,6 +147,7 @@ module _ (s : Accounts) (settings : Settings) (e : Event) (server : Server) wher
 pub inside_steps : InsideSteps
 inside_steps s settings e server closed fit here = record {
   normal = normal_inside s settings e server closed fit here;
+  exchanges = exchanges_inside s settings e server closed fit here;
   failed = failed_inside s settings e server closed fit here;
   step = λ reply after h. by_kind (is_failure reply.ending) reply after h;
 }

@@ -1,5 +1,5 @@
 -- The laws of histories, as statements. The functions of src/ named after them carry them.
-use Rattle.std.specs.Prelude.{◌≡◌, List, map}
+use Rattle.std.specs.Prelude.{◌≡◌, ◌↔◌, List, map}
 use Rattle.std.specs.FinMap.{retain_keys}
 use Rattle.mspec.specs.Node.{Text}
 use Rattle.mspec.specs.Globals.{Globals}
@@ -9,6 +9,7 @@ use Rattle.mmeaning.specs.History.{History, opening, server_after, NoneFailed}
 use Rattle.misolation.specs.Reach.{Accounts, IsClosed, reach}
 use Rattle.misolation.specs.Cut.{cut_settings, cut_server, cut_events, part, IsFit}
 use Rattle.misolation.specs.Alone.{alone, only}
+use Rattle.misolation.specs.Trace.{Moment, Trace, lines_of, left_by, cut_trace}
 use Rattle.misolation.specs.Agreement.{Run, Agree}
 
 abbrev pub events_of : List (Event × Reply) → List Event
@@ -19,6 +20,23 @@ abbrev pub PartIsHistory : Type 0
 PartIsHistory =
     (s : Accounts) (settings : Settings) (server after : Server) (es : List (Event × Reply)) → IsClosed settings s → IsFit settings server.world →
     History settings server es after → History (cut_settings s settings) (cut_server s settings server) (part s settings es) (cut_server s settings after)
+
+-- a history is what a trace tells without the servers between
+abbrev pub HistoryHasTrace : Type 0
+HistoryHasTrace =
+    (settings : Settings) (server after : Server) (es : List (Event × Reply)) →
+    History settings server es after ↔ ((ms : List Moment) × Trace settings server ms × (lines_of ms ≡ es) × (left_by server ms ≡ after))
+
+-- and of a trace too the members' part is one over the cuts: each server between is cut
+pub record PartOfTrace (s : Accounts) (settings : Settings) (server : Server) (ms : List Moment) : Type 0 where
+  pub steps : Trace (cut_settings s settings) (cut_server s settings server) (cut_trace s settings ms)
+  pub lines : lines_of (cut_trace s settings ms) ≡ part s settings (lines_of ms)
+  pub left : left_by (cut_server s settings server) (cut_trace s settings ms) ≡ cut_server s settings (left_by server ms)
+
+abbrev pub PartIsTrace : Type 0
+PartIsTrace =
+    (s : Accounts) (settings : Settings) (server : Server) (ms : List Moment) → IsClosed settings s → IsFit settings server.world →
+    Trace settings server ms → PartOfTrace s settings server ms
 
 -- the members' lines have the replies that they have alone, and leave what they leave alone
 pub record IsAlone (s : Accounts) (settings : Settings) (server after : Server) (es : List (Event × Reply)) : Type 0 where
@@ -38,6 +56,16 @@ Isolation =
     (settings : Settings) (a : Text) (globals : Globals) (es : List (Event × Reply)) (after : Server) → History settings (opening globals) es after →
     NoneFailed (part (reach settings a) settings es) →
     part (only a) settings es ≡ part (only a) settings (alone (reach settings a) settings (opening globals) (events_of es))
+
+-- the premises of these laws are met: no lock is held where the first line comes
+abbrev pub OpeningIsFit : Type 0
+OpeningIsFit = (settings : Settings) (globals : Globals) → IsFit settings (opening globals).world
+
+-- and histories keep them
+abbrev pub HistoriesKeepFit : Type 0
+HistoriesKeepFit =
+    (settings : Settings) (server after : Server) (es : List (Event × Reply)) → History settings server es after →
+    IsFit settings server.world → IsFit settings after.world
 
 -- what is left of an opening server is the opening server of the members' globals
 abbrev pub OpeningIsCut : Type 0

@@ -1,6 +1,7 @@
 pub mod Reach
 pub mod Cut
 pub mod Alone
+pub mod Trace
 pub mod Agreement
 pub mod ReachLaws
 pub mod PlanLaws

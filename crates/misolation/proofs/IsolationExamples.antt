@@ -1,7 +1,7 @@
 -- The laws on a host of three customers, as proved equations: they are not empty, and they claim no more than is so.
 --
 -- The laboratory lets the clinic read its results. The bank has no tie to either, or else the clinic lets it write its bills.
-use Rattle.std.proofs.Common.{◌≡◌, ℕ, true, false, List, [], ◌∷◌, Some, None, refl, sym, ap, ◌∙◌, subst}
+use Rattle.std.proofs.Common.{◌≡◌, ℕ, true, false, List, [], ◌∷◌, Some, None, refl, sym, ap, ◌∙◌, subst, subst₂}
 use Rattle.std.specs.Prelude.{codes}
 use Rattle.std.specs.FinMap.{FinMap, get, insert, remove, retain_keys, empty, entries, from_sorted, same_map, get-empty, get-from_sorted, entries-from_sorted, entries-insert, gets, nat_cmp-IsAntisymmetric}
 use Rattle.std.specs.FinMap.Entries.{put}
@@ -23,7 +23,7 @@ use Rattle.mmeaning.proofs.Histories.{normal_never_fails}
 use Rattle.misolation.specs.Reach.{Accounts, IsClosed, reach}
 use Rattle.misolation.specs.ReachLaws.{IsLeastClosed}
 use Rattle.misolation.specs.PlanLaws.{Actor, ops_of, cut_ops, InsideOperation}
-use Rattle.misolation.specs.Cut.{is_member, is_inside, cut_world, cut_server, part, holds_by, IsFit}
+use Rattle.misolation.specs.Cut.{is_member, is_inside, cut_settings, cut_world, cut_server, part, holds_by, IsFit}
 use Rattle.misolation.specs.Alone.{only}
 use Rattle.misolation.specs.Agreement.{Run, Agree}
 use Rattle.misolation.specs.HistoryLaws.{SameReplies}
@@ -31,7 +31,7 @@ use Rattle.misolation.proofs.CutMaps.{get_kept}
 use Rattle.misolation.proofs.FittingLocks.{fit_insert}
 use Rattle.misolation.proofs.Operations.{inside_operations}
 use Rattle.misolation.proofs.Reaching.{reach_is_least_closed}
-use Rattle.misolation.proofs.PartsAlone.{opening_is_fit, agreeing_replies}
+use Rattle.misolation.proofs.PartsAlone.{part_is_history, opening_is_fit, agreeing_replies}
 
 abbrev account : Text → Account
 account name = record { name = name; steps = 2000 }
@@ -232,6 +232,48 @@ module _ (text : Text) where
   -- whatever the clinic sends, it is answered alike
   clinic_sees_no_bank : (line 1 text, (normal apart (line 1 text) (failed busy)).0) ∷ [] ≡ lonely
   clinic_sees_no_bank = sym (simp (own_inside, own_outside) refl) ∙ same_replies.own ∙ simp own_inside refl
+
+-- ---- a line of the laboratory fails, and past it the bank is not seen either
+
+of_laboratory : get terminals 2 ≡ Some (account laboratory)
+of_laboratory = simp gets refl
+
+laboratory_inside : is_inside tied apart 2 ≡ true
+laboratory_inside = ap (is_member tied) of_laboratory
+
+-- what a failed line of the laboratory leaves
+abbrev laboratory_failed : Server → Server
+laboratory_failed server = record {
+  world = record { globals = server.world.globals; locks = released server.world.locks 2 };
+  sessions = remove server.sessions 2;
+}
+
+module _ (text : Text) where
+  abbrev short_of_memory : List (Event × Reply)
+  short_of_memory =
+      (line 2 (codes "S A=1"), lost (Faulted (Lost Memory))) ∷
+      (line 1 text, (normal apart (line 1 text) (laboratory_failed busy)).0) ∷ []
+
+  laboratory_fails : History apart busy short_of_memory (normal apart (line 1 text) (laboratory_failed busy)).1
+  laboratory_fails = (
+    laboratory_failed busy,
+    (
+      refl,
+      record { account = account laboratory; known = of_laboratory; short = refl; ascii = refl; operations = 0; globals = refl; locks = refl; sessions = refl },
+    ),
+    ((normal apart (line 1 text) (laboratory_failed busy)).1, clinic_runs (laboratory_failed busy) (line 1 text), refl),
+  )
+
+  whole_part : part tied apart short_of_memory ≡ short_of_memory
+  whole_part = simp (clinic_inside, laboratory_inside) refl
+
+  -- the same lines with the same replies are a history where there is no bank
+  past_failure : History (cut_settings tied apart) (cut_server tied apart quiet) short_of_memory (cut_server tied apart (normal apart (line 1 text) (laboratory_failed busy)).1)
+  past_failure =
+      let least : IsLeastClosed apart clinic tied = reach_is_least_closed apart clinic in
+      let after = (normal apart (line 1 text) (laboratory_failed busy)).1 in
+      subst₂ (λ server es. History (cut_settings tied apart) server es (cut_server tied apart after)) same_cut whole_part
+      (part_is_history tied apart busy after short_of_memory least.closed busy_fits laboratory_fails)
 
 -- ---- what is left to the clinic
 

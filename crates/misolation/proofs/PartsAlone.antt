@@ -14,7 +14,7 @@ use Rattle.mspec.proofs.LockOrders.{held_cmp_total, held_cmp_exact}
 use Rattle.mspec.proofs.MapCuts.{get_cut}
 use Rattle.mmeaning.specs.Step.{Server, Event, Reply, normal}
 use Rattle.mmeaning.specs.History.{History, opening, replies, server_after, answered, NoneFailed}
-use Rattle.mmeaning.proofs.Histories.{history_is_normal}
+use Rattle.mmeaning.proofs.Histories.{normal_never_fails, normal_steps_are_history, history_is_normal}
 use Rattle.misolation.specs.Reach.{Accounts, reach}
 use Rattle.misolation.specs.Cut.{is_member, is_inside, cut_settings, cut_server, cut_events, part, IsFit}
 use Rattle.misolation.specs.Alone.{alone, only}
@@ -22,7 +22,7 @@ use Rattle.misolation.specs.Trace.{Moment, Trace, lines_of, left_by, cut_trace}
 use Rattle.misolation.specs.Agreement.{Run}
 use Rattle.misolation.specs.ReachLaws.{IsLeastClosed}
 use Rattle.misolation.specs.StepLaws.{InsideStep, OutsideStep}
-use Rattle.misolation.specs.HistoryLaws.{events_of, PartIsHistory, HistoryHasTrace, PartOfTrace, PartIsTrace, OpeningIsFit, HistoriesKeepFit, IsAlone, PartIsAlone, Isolation, OpeningIsCut, AgreeingReplies}
+use Rattle.misolation.specs.HistoryLaws.{events_of, PartIsHistory, HistoryHasTrace, PartOfTrace, PartIsTrace, OpeningIsFit, HistoriesKeepFit, IsAlone, PartIsAlone, InterpreterIsolates, Isolation, OpeningIsCut, AgreeingReplies}
 use Rattle.misolation.proofs.CutMaps.{by_test, filter_absorbed, map_filter}
 use Rattle.misolation.proofs.Reaching.{reach_is_least_closed}
 use Rattle.misolation.proofs.Steps.{inside_steps, outside_steps, steps_keep_fit}
@@ -115,6 +115,30 @@ part_is_alone s settings server after es closed fit h none =
       lines = lines_answered low start (part s settings es) own.0 ∙ ap (answered low start) (events_of_part s settings es);
       left = own.1 ∙ ap (server_after low start) (events_of_part s settings es);
     }
+
+-- ---- the interpreter
+
+none_failed : (settings : Settings) (server : Server) (events : List Event) → NoneFailed (answered settings server events)
+none_failed settings server [] = tt
+none_failed settings server (e ∷ events) = (normal_never_fails settings e server, none_failed settings (normal settings e server).1 events)
+
+none_of_part : (s : Accounts) (settings : Settings) (es : List (Event × Reply)) → NoneFailed es → NoneFailed (part s settings es)
+none_of_part s settings [] h = tt
+none_of_part s settings (e ∷ es) h =
+    let rest = none_of_part s settings es h.1 in
+    by_test (is_inside s settings e.0.terminal) (λ here. rw here (h.0, rest)) (λ away. rw away rest)
+
+events_answered : (settings : Settings) (server : Server) (events : List Event) → events_of (answered settings server events) ≡ events
+events_answered settings server [] = refl
+events_answered settings server (e ∷ events) = ap (λ es. e ∷ es) (events_answered settings (normal settings e server).1 events)
+
+pub interpreter_isolates : InterpreterIsolates
+interpreter_isolates s settings server events closed fit =
+    let es = answered settings server events in
+    let law : IsAlone s settings server (server_after settings server events) es =
+    part_is_alone s settings server (server_after settings server events) es closed fit (normal_steps_are_history settings server events)
+    (none_of_part s settings es (none_failed settings server events)) in
+    law.lines ∙ ap (alone s settings server) (events_answered settings server events)
 
 -- ---- an account's own terminals
 

@@ -5,7 +5,7 @@ use Rattle.mspec.specs.Node.{Text}
 use Rattle.mspec.specs.Globals.{Globals}
 use Rattle.mspec.specs.Access.{Settings}
 use Rattle.mmeaning.specs.Step.{Server, Event, Reply}
-use Rattle.mmeaning.specs.History.{History, opening, server_after, NoneFailed}
+use Rattle.mmeaning.specs.History.{History, opening, server_after, answered, NoneFailed}
 use Rattle.misolation.specs.Reach.{Accounts, IsClosed, reach}
 use Rattle.misolation.specs.Cut.{cut_settings, cut_server, cut_events, part, IsFit}
 use Rattle.misolation.specs.Alone.{alone, only}
@@ -48,6 +48,13 @@ abbrev pub PartIsAlone : Type 0
 PartIsAlone =
     (s : Accounts) (settings : Settings) (server after : Server) (es : List (Event × Reply)) → IsClosed settings s → IsFit settings server.world →
     History settings server es after → NoneFailed (part s settings es) → IsAlone s settings server after es
+
+-- and so it always is of the definitional interpreter, whose steps never fail: run on all lines, it gives the members' lines the replies
+-- that it gives them alone
+abbrev pub InterpreterIsolates : Type 0
+InterpreterIsolates =
+    (s : Accounts) (settings : Settings) (server : Server) (events : List Event) → IsClosed settings s → IsFit settings server.world →
+    part s settings (answered settings server events) ≡ alone s settings server events
 
 -- The isolation theorem: for all settings, globals and lines, the replies at an account's terminals are those that it gets where there
 -- is nothing but what reaches it, if no line of an account that reaches it failed.

@@ -1,5 +1,5 @@
 // The laws of histories. Each function's contract is the law, and its body is empty: the code never calls them.
-ghost use Rattle.misolation.specs.HistoryLaws.{PartIsHistory, HistoryHasTrace, PartIsTrace, PartIsAlone, OpeningIsFit, HistoriesKeepFit, Isolation, OpeningIsCut, AgreeingReplies};
+ghost use Rattle.misolation.specs.HistoryLaws.{PartIsHistory, HistoryHasTrace, PartIsTrace, PartIsAlone, InterpreterIsolates, OpeningIsFit, HistoriesKeepFit, Isolation, OpeningIsCut, AgreeingReplies};
 
 /// The part of every history at the terminals of a closed set, its worlds cut to the set, is a history over the cuts, whichever of
 /// its steps failed.
@@ -20,6 +20,12 @@ pub fn part_is_trace()
 /// Where none of the members' own steps failed, their lines have the replies that they have alone, and leave what they leave alone.
 pub fn part_is_alone()
     ensures { PartIsAlone }
+{}
+
+/// The definitional interpreter, whose steps never fail, gives the members' lines among all others the replies that it gives them
+/// alone.
+pub fn interpreter_isolates()
+    ensures { InterpreterIsolates }
 {}
 
 /// The isolation theorem: for all settings, globals and lines, the replies at an account's terminals are those that it gets where

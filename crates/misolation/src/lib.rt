@@ -8,8 +8,8 @@
 //!
 //! > Each reply that you get is the one that you would get from a server which has nothing but you and those whom grants tie to
 //! > you: their globals, their locks, their lines, the grants among you. Whatever any other customer stores, locks, runs or
-//! > exhausts, it shows in none of your replies, nor does that there is such a customer at all. This holds while none of your
-//! > lines, and of theirs, is answered `ZMEM` or `ZSTORE`; and past such a line nothing of others shows either.
+//! > exhausts, it shows in none of your replies, nor does that there is such a customer at all. This holds while no line of
+//! > yours, or of those tied to you, is answered `ZMEM` or `ZSTORE`; and past such a line nothing of others shows either.
 //!
 //! # Whom grants tie
 //!
@@ -50,7 +50,8 @@
 //! - The members' part of a history is a history over the cuts, whichever of its steps failed (`part_is_history`). So it is also
 //!   with the servers between the steps written out, each of them cut (`part_is_trace`, `history_has_trace`).
 //! - Where none of the members' own steps failed, their lines have the replies that they have alone, and leave what they leave
-//!   alone (`part_is_alone`). Others' steps may have failed.
+//!   alone (`part_is_alone`). Others' steps may have failed. Of the definitional interpreter itself this is always so, since its
+//!   steps never fail (`interpreter_isolates`).
 //! - **The isolation theorem**: for all settings, globals and lines, the replies at an account's terminals are those that it has
 //!   alone with the accounts that reach it, if no line of these failed (`isolation`, with `opening_is_cut`).
 //! - Two servers that agree on all that reaches an account give it the same replies, however they differ in all else

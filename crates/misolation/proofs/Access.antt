@@ -1,6 +1,6 @@
 -- What may be done, among the members of a closed set and past them.
 use Rattle.std.proofs.Common.{◌≡◌, Bool, true, false, cond, ◌&&◌, ◌||◌, List, [], ◌∷◌, sym, ap, ◌∙◌, ⊎_elim}
-use Rattle.std.proofs.lemmas.Bool.{and_parts, and_from, or_left, or_right, false_from_ne_true}
+use Rattle.std.proofs.lemmas.Bool.{or_cases, and_parts, and_from, or_left, or_right, false_from_ne_true}
 use Rattle.std.proofs.lemmas.Map.Views.{any-filter_same}
 use Rattle.std.specs.Cmp.Lexicographic.{bytes_decides}
 use Rattle.std.specs.List.{list_any}
@@ -13,11 +13,10 @@ use Rattle.mmeaning.specs.World.{may_write, may_lock}
 use Rattle.misolation.specs.Reach.{Accounts, IsClosed}
 use Rattle.misolation.specs.Cut.{is_between, cut_settings}
 use Rattle.misolation.proofs.CutMaps.{by_test}
-use Rattle.misolation.proofs.Reaching.{either}
 
 any_more : {X : Type 0} (p q : X → Bool) → ((x : X) → p x ≡ true → q x ≡ true) → (xs : List X) → list_any p xs ≡ true → list_any q xs ≡ true
 any_more p q h [] e = e
-any_more p q h (x ∷ xs) e = ⊎_elim (λ a. or_left _ _ (h x a)) (λ a. or_right (q x) _ (any_more p q h xs a)) (either (p x) _ e)
+any_more p q h (x ∷ xs) e = ⊎_elim (λ a. or_left _ _ (h x a)) (λ a. or_right (q x) _ (any_more p q h xs a)) (or_cases (p x) _ e)
 
 -- who is let use what, and by whom
 let_by : (me owner name : Text) (mode : Mode) (g : Grant) → lets me owner name mode g ≡ true → (owner ≡ g.from) × (me ≡ g.to) × (allows g.mode mode ≡ true)
@@ -45,7 +44,7 @@ module _ (s : Accounts) (settings : Settings) (closed : IsClosed settings s) whe
       ⊎_elim
       (λ a. ap s ((bytes_decides owner me).0 a) ∙ m)
       (λ a. closed owner me (any_more (lets me owner name mode) (carries owner me) (lets_flow me owner name mode) settings.grants a) m)
-      (either (text_eq owner me) _ e)
+      (or_cases (text_eq owner me) _ e)
 
   -- who may write at a member is a member
   pub writer_inside : (me owner name : Text) → s owner ≡ true → may settings me owner name Write ≡ true → s me ≡ true
@@ -53,7 +52,7 @@ module _ (s : Accounts) (settings : Settings) (closed : IsClosed settings s) whe
       ⊎_elim
       (λ a. ap s (sym ((bytes_decides owner me).0 a)) ∙ m)
       (λ a. closed me owner (any_more (lets me owner name Write) (carries me owner) (writes_flow me owner name) settings.grants a) m)
-      (either (text_eq owner me) _ e)
+      (or_cases (text_eq owner me) _ e)
 
   -- so an outsider writes at outsiders
   pub written_outside : (me owner name : Text) → s me ≡ false → may settings me owner name Write ≡ true → s owner ≡ false

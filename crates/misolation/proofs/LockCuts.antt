@@ -1,7 +1,7 @@
 -- What is taken, given back and released for a terminal, over the cut to a closed set.
 use Rattle.std.proofs.Common.{◌≡◌, ℕ, ◌+◌, ◌-◌, ◌||◌, Bool, true, false, not, List, [], ◌∷◌, Option, Some, None, refl, sym, ap, ◌∙◌, ⊎_elim}
 use Rattle.std.specs.Prelude.{unwrap_or, option_map, nat_lt, nat_eq, if◌then◌else◌}
-use Rattle.std.proofs.lemmas.Bool.{and_parts, eqb-true}
+use Rattle.std.proofs.lemmas.Bool.{or_cases, and_parts, eqb-true}
 use Rattle.std.specs.Cmp.Lexicographic.{bytes_decides}
 use Rattle.std.specs.FinMap.{get, insert, remove, keys}
 use Rattle.std.specs.List.{list_all, list_any, filter}
@@ -18,7 +18,6 @@ use Rattle.misolation.specs.Cut.{is_member, is_inside, cut_locks, holds_by, may_
 use Rattle.misolation.proofs.CutMaps.{by_test, any_absorbed, get_kept, cut_cut, cut_absorbs, cut_insert, cut_remove, keys_cut, own_cut}
 use Rattle.misolation.proofs.Access.{locked_inside, locker_inside}
 use Rattle.misolation.proofs.FittingLocks.{unopposed}
-use Rattle.misolation.proofs.Reaching.{either}
 
 -- a name below another is the same account's
 same_account : (a b : LockName) → is_within a b ≡ true → a.node.account ≡ b.node.account
@@ -30,7 +29,7 @@ same_account a b e =
 conflict_account : (a b : Held) → is_conflict a b ≡ true → a.name.node.account ≡ b.name.node.account
 conflict_account a b e =
     let related = and_parts (not (nat_eq a.terminal b.terminal)) _ e in
-    ⊎_elim (λ x. same_account a.name b.name x) (λ x. sym (same_account b.name a.name x)) (either (is_within a.name b.name) _ related.1)
+    ⊎_elim (λ x. same_account a.name b.name x) (λ x. sym (same_account b.name a.name x)) (or_cases (is_within a.name b.name) _ related.1)
 
 any_agree : {X : Type 0} (c p q : X → Bool) → ((x : X) → c x ≡ true → p x ≡ q x) → (xs : List X) → list_all c xs ≡ true → list_any p xs ≡ list_any q xs
 any_agree c p q h [] all = refl

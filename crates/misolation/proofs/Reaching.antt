@@ -1,6 +1,6 @@
 -- The computing `reach` is the least closed set, and that of chains.
-use Rattle.std.proofs.Common.{◌≡◌, Bool, true, false, ◌&&◌, ◌||◌, List, [], ◌∷◌, ◌++◌, refl, sym, ap, ◌∙◌, subst, subst₂, ◌⊎◌, inl, inr, ⊎_elim}
-use Rattle.std.proofs.lemmas.Bool.{and_parts, or_left, or_right, and_from}
+use Rattle.std.proofs.Common.{◌≡◌, true, ◌&&◌, List, [], ◌∷◌, ◌++◌, refl, sym, ap, ◌∙◌, subst, subst₂, ⊎_elim}
+use Rattle.std.proofs.lemmas.Bool.{or_cases, and_parts, or_left, or_right, and_from}
 use Rattle.std.specs.Cmp.Lexicographic.{bytes_decides}
 use Rattle.std.specs.List.{list_any}
 use Rattle.mspec.specs.Node.{Text}
@@ -9,10 +9,6 @@ use Rattle.mspec.specs.Access.{Mode, Read, Write, Grant, Settings, allows}
 use Rattle.mspec.specs.Flow.{carries, Reaches, itself, through}
 use Rattle.misolation.specs.Reach.{Link, link, links_by, links, leads}
 use Rattle.misolation.specs.ReachLaws.{ReachIsLeastClosed, ReachIsChains}
-
-pub either : (a b : Bool) → (a || b) ≡ true → (a ≡ true) ⊎ (b ≡ true)
-either true b e = inl refl
-either false b e = inr e
 
 -- ---- chains of links
 
@@ -34,12 +30,12 @@ leads_on (l ∷ ls) x y z e f =
     (λ a. ⊎_elim
     (λ b. leads_without l ls x z (leads_on ls x y z a b))
     (λ b. let t = and_parts (leads ls y l.from) (leads ls l.to z) b in leads_through l ls x z (leads_on ls x y l.from a t.0) t.1)
-    (either (leads ls y z) _ f))
+    (or_cases (leads ls y z) _ f))
     (λ a. let s = and_parts (leads ls x l.from) (leads ls l.to y) a in ⊎_elim
     (λ b. leads_through l ls x z s.0 (leads_on ls l.to y z s.1 b))
     (λ b. let t = and_parts (leads ls y l.from) (leads ls l.to z) b in leads_through l ls x z s.0 t.1)
-    (either (leads ls y z) _ f))
-    (either (leads ls x y) _ e)
+    (or_cases (leads ls y z) _ f))
+    (or_cases (leads ls x y) _ e)
 
 -- ---- what each link keeps
 
@@ -54,7 +50,7 @@ leads_kept P (l ∷ ls) h x y e p =
     ⊎_elim
     (λ a. leads_kept P ls h.1 x y a p)
     (λ a. let s = and_parts (leads ls x l.from) (leads ls l.to y) a in leads_kept P ls h.1 x l.from s.0 (h.0 (leads_kept P ls h.1 l.to y s.1 p)))
-    (either (leads ls x y) _ e)
+    (or_cases (leads ls x y) _ e)
 
 -- ---- flow
 
@@ -96,12 +92,12 @@ carried_leads g ls x y e =
     let s = and_parts (text_eq x g.to && text_eq y g.from) (allows g.mode Write) a in
     let t = and_parts (text_eq x g.to) (text_eq y g.from) s.0 in
     subst₂ (λ v w. leads (links_by g.mode g.from g.to ++ ls) v w ≡ true) (sym ((bytes_decides x g.to).0 t.0)) (sym ((bytes_decides y g.from).0 t.1)) (leads_back g.mode g.from g.to ls s.1))
-    (either (text_eq x g.from && text_eq y g.to) _ e)
+    (or_cases (text_eq x g.from && text_eq y g.to) _ e)
 
 flow_leads : (gs : List Grant) (x y : Text) → list_any (carries x y) gs ≡ true → leads (links gs) x y ≡ true
 flow_leads [] x y e = cc
 flow_leads (g ∷ gs) x y e =
-    ⊎_elim (carried_leads g (links gs) x y) (λ a. leads_past g.mode g.from g.to (links gs) x y (flow_leads gs x y a)) (either (carries x y g) _ e)
+    ⊎_elim (carried_leads g (links gs) x y) (λ a. leads_past g.mode g.from g.to (links gs) x y (flow_leads gs x y a)) (or_cases (carries x y g) _ e)
 
 -- ---- the laws
 

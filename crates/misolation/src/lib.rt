@@ -54,8 +54,8 @@
 //!   steps never fail (`interpreter_isolates`).
 //! - **The isolation theorem**: for all settings, globals and lines, the replies at an account's terminals are those that it has
 //!   alone with the accounts that reach it, if no line of these failed (`isolation`, with `opening_is_cut`).
-//! - Two servers that agree on all that reaches an account give it the same replies, however they differ in all else
-//!   (`agreeing_replies`).
+//! - Two servers that agree on all that reaches an account give it the same replies, however they differ in all else, and agree
+//!   still when their lines are run (`agreeing_replies`).
 //!
 //! # What is not promised
 //!

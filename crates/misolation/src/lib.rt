@@ -42,8 +42,9 @@
 //! | a plan, which is whatever a line may do, whole or cut short | `inside_plans` | `outside_plans` |
 //! | a step: a line that is run, or one that failed | `inside_steps` | `outside_steps` |
 //!
-//! What is asked of the locks is so before the first line, when none is held (`opening_is_fit`), and everything keeps it so
-//! (`plans_keep_fit`, `steps_keep_fit`, `histories_keep_fit`, `cut_is_fit`).
+//! `steps_are_isolated` says both of a step in one, for calls that make steps. What is asked of the locks is so before the first
+//! line, when none is held (`opening_is_fit`), and everything keeps it so (`plans_keep_fit`, `steps_keep_fit`,
+//! `histories_keep_fit`, `cut_is_fit`).
 //!
 //! From the two laws, for histories of any length:
 //!

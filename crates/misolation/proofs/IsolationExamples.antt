@@ -23,10 +23,10 @@ use Rattle.mmeaning.proofs.Histories.{normal_never_fails}
 use Rattle.misolation.specs.Reach.{Accounts, IsClosed, reach}
 use Rattle.misolation.specs.ReachLaws.{IsLeastClosed}
 use Rattle.misolation.specs.PlanLaws.{Actor, ops_of, cut_ops, InsideOperation}
-use Rattle.misolation.specs.Cut.{is_member, is_inside, cut_settings, cut_world, cut_server, part, holds_by, IsFit}
+use Rattle.misolation.specs.Cut.{is_member, is_inside, cut_settings, cut_world, cut_server, cut_events, part, holds_by, IsFit}
 use Rattle.misolation.specs.Alone.{only}
 use Rattle.misolation.specs.Agreement.{Run, Agree}
-use Rattle.misolation.specs.HistoryLaws.{SameReplies}
+use Rattle.misolation.specs.HistoryLaws.{Answered, SameReplies}
 use Rattle.misolation.proofs.CutMaps.{get_kept}
 use Rattle.misolation.proofs.FittingLocks.{fit_insert}
 use Rattle.misolation.proofs.Operations.{inside_operations}
@@ -222,12 +222,24 @@ module _ (text : Text) where
   lonely_part : part tied apart lonely ≡ lonely
   lonely_part = simp clinic_inside refl
 
-  same_replies : SameReplies clinic with_bank without_bank crowded lonely
+  crowded_answered : Answered clinic with_bank crowded (failed (normal apart (line 1 text) (failed busy)).1)
+  crowded_answered = record {
+    events = refl;
+    history = crowded_runs;
+    none_failed = subst NoneFailed (sym tied_part) (normal_never_fails apart (line 1 text) (failed busy), tt);
+  }
+
+  lonely_answered : Answered clinic without_bank lonely (normal apart (line 1 text) quiet).1
+  lonely_answered = record {
+    events = refl;
+    history = lonely_runs;
+    none_failed = subst NoneFailed (sym lonely_part) (normal_never_fails apart (line 1 text) quiet, tt);
+  }
+
+  same_replies : SameReplies clinic with_bank without_bank crowded lonely (failed (normal apart (line 1 text) (failed busy)).1) (normal apart (line 1 text) quiet).1
   same_replies =
-      agreeing_replies clinic with_bank without_bank agreed busy_fits (opening_is_fit apart quiet.world.globals) crowded lonely (failed (normal apart (line 1 text) (failed busy)).1) (normal apart (line 1 text) quiet).1 refl refl
-      crowded_runs lonely_runs
-      (subst NoneFailed (sym tied_part) (normal_never_fails apart (line 1 text) (failed busy), tt))
-      (subst NoneFailed (sym lonely_part) (normal_never_fails apart (line 1 text) quiet, tt))
+      agreeing_replies clinic with_bank without_bank agreed busy_fits (opening_is_fit apart quiet.world.globals) crowded lonely
+      (failed (normal apart (line 1 text) (failed busy)).1) (normal apart (line 1 text) quiet).1 crowded_answered lonely_answered
 
   -- whatever the clinic sends, it is answered alike
   clinic_sees_no_bank : (line 1 text, (normal apart (line 1 text) (failed busy)).0) ∷ [] ≡ lonely
@@ -341,3 +353,10 @@ write_is_seen x e =
     get_kept (node_cmp_total significant_digits) (node_cmp_exact significant_digits) quiet.world.globals (λ n. tied n.account) bills refl ∙ simp (gets, node_cmp_total significant_digits) refl in
     let no : Some x ≡ None = cut ∙ none in
     absurd (cc)
+
+-- the bank's lines are among those that the clinic's replies hang on
+all_tied : (text other : Text) → cut_events (reach let_in clinic) let_in (line 3 other ∷ line 1 text ∷ []) ≡ line 3 other ∷ line 1 text ∷ []
+all_tied text other = simp (inside_let_in 1 clinic of_clinic refl, inside_let_in 3 bank of_bank refl) refl
+  where
+    inside_let_in : (t : ℕ) (name : Text) → get terminals t ≡ Some (account name) → reach let_in clinic name ≡ true → is_inside (reach let_in clinic) let_in t ≡ true
+    inside_let_in t name known reaches = ap (is_member (reach let_in clinic)) known ∙ reaches

@@ -19,10 +19,10 @@ use Rattle.misolation.specs.Reach.{Accounts, reach}
 use Rattle.misolation.specs.Cut.{is_member, is_inside, cut_settings, cut_server, cut_events, part, IsFit}
 use Rattle.misolation.specs.Alone.{alone, only}
 use Rattle.misolation.specs.Trace.{Moment, Trace, lines_of, left_by, cut_trace}
-use Rattle.misolation.specs.Agreement.{Run}
+use Rattle.misolation.specs.Agreement.{Run, Agree}
 use Rattle.misolation.specs.ReachLaws.{IsLeastClosed}
 use Rattle.misolation.specs.StepLaws.{InsideStep, OutsideStep}
-use Rattle.misolation.specs.HistoryLaws.{events_of, PartIsHistory, HistoryHasTrace, PartOfTrace, PartIsTrace, OpeningIsFit, HistoriesKeepFit, IsAlone, PartIsAlone, InterpreterIsolates, Isolation, OpeningIsCut, AgreeingReplies}
+use Rattle.misolation.specs.HistoryLaws.{events_of, PartIsHistory, HistoryHasTrace, PartOfTrace, PartIsTrace, OpeningIsFit, HistoriesKeepFit, IsAlone, PartIsAlone, InterpreterIsolates, Isolation, OpeningIsCut, Answered, AgreeingReplies}
 use Rattle.misolation.proofs.CutMaps.{by_test, filter_absorbed, map_filter}
 use Rattle.misolation.proofs.Reaching.{reach_is_least_closed}
 use Rattle.misolation.proofs.Steps.{inside_steps, outside_steps, steps_keep_fit}
@@ -198,25 +198,40 @@ module _ (a : Text) where
   abbrev tied : Run → Accounts
   tied r = reach r.settings a
 
-  run_alone : (r : Run) → IsFit r.settings r.server.world → (es : List (Event × Reply)) (after : Server) → events_of es ≡ r.events → History r.settings r.server es after → NoneFailed (part (tied r) r.settings es)
-      → part (tied r) r.settings es ≡ answered (cut_settings (tied r) r.settings) (cut_server (tied r) r.settings r.server) (cut_events (tied r) r.settings r.events)
-  run_alone r fit es after events h none =
+  -- what is left of a run's lines, and of its server after them
+  abbrev lines_alone : Run → List (Event × Reply)
+  lines_alone r = answered (cut_settings (tied r) r.settings) (cut_server (tied r) r.settings r.server) (cut_events (tied r) r.settings r.events)
+
+  abbrev left_alone : Run → Server
+  left_alone r = server_after (cut_settings (tied r) r.settings) (cut_server (tied r) r.settings r.server) (cut_events (tied r) r.settings r.events)
+
+  run_alone : (r : Run) → IsFit r.settings r.server.world → (es : List (Event × Reply)) (after : Server) → Answered a r es after
+      → (part (tied r) r.settings es ≡ lines_alone r) × (cut_server (tied r) r.settings after ≡ left_alone r)
+  run_alone r fit es after h =
       let least : IsLeastClosed r.settings a (tied r) = reach_is_least_closed r.settings a in
-      let law : IsAlone (tied r) r.settings r.server after es = part_is_alone (tied r) r.settings r.server after es least.closed fit h none in
-      law.lines ∙ ap (alone (tied r) r.settings r.server) events
+      let law : IsAlone (tied r) r.settings r.server after es = part_is_alone (tied r) r.settings r.server after es least.closed fit h.history h.none_failed in (
+        law.lines ∙ ap (alone (tied r) r.settings r.server) h.events,
+        law.left ∙ ap (λ events. server_after (cut_settings (tied r) r.settings) (cut_server (tied r) r.settings r.server) (cut_events (tied r) r.settings events)) h.events,
+      )
 
   own_of_part : (r : Run) (es : List (Event × Reply)) → part (only a) r.settings es ≡ part (only a) (cut_settings (tied r) r.settings) (part (tied r) r.settings es)
   own_of_part r es =
       let least : IsLeastClosed r.settings a (tied r) = reach_is_least_closed r.settings a in
       sym (own_part (tied r) r.settings a least.has es) ∙ sym (part_of_cut (tied r) r.settings a least.has (part (tied r) r.settings es))
 
+  same_lines : (one two : Run) → Agree a one two → lines_alone one ≡ lines_alone two
+  same_lines one two agree = λ i. answered (agree.settings i) (agree.server i) (agree.events i)
+
+  same_left : (one two : Run) → Agree a one two → left_alone one ≡ left_alone two
+  same_left one two agree = λ i. server_after (agree.settings i) (agree.server i) (agree.events i)
+
 pub agreeing_replies : AgreeingReplies
-agreeing_replies a one two agree fit fit' es fs first second events events' h h' none none' =
-    let same =
-    run_alone a one fit es first events h none
-    ∙ (λ i. answered (agree.settings i) (agree.server i) (agree.events i))
-    ∙ sym (run_alone a two fit' fs second events' h' none') in
+agreeing_replies a one two agree fit fit' es fs first second h k =
+    let low = run_alone a one fit es first h in
+    let high = run_alone a two fit' fs second k in
+    let same = low.0 ∙ same_lines a one two agree ∙ sym high.0 in
     record {
       reaching = same;
       own = own_of_part a one es ∙ (λ i. part (only a) (agree.settings i) (same i)) ∙ sym (own_of_part a two fs);
+      left = low.1 ∙ same_left a one two agree ∙ sym high.1;
     }

@@ -14,7 +14,7 @@ use Rattle.mmeaning.specs.Step.{Session, session_or_new, Server, Event, Reply, p
 use Rattle.misolation.specs.Reach.{Accounts, IsClosed}
 use Rattle.misolation.specs.Cut.{is_member, is_inside, cut_settings, cut_locks, cut_world, cut_server, AreFit, IsFit}
 use Rattle.misolation.specs.PlanLaws.{exchanges, Actor, ops_of, cut_ops, InsidePlan, OutsidePlan}
-use Rattle.misolation.specs.StepLaws.{exchanges_by, line_exchanges, InsideSteps, OutsideSteps, StepsKeepFit}
+use Rattle.misolation.specs.StepLaws.{exchanges_by, line_exchanges, InsideStep, InsideSteps, OutsideStep, OutsideSteps, StepsKeepFit, StepsAreIsolated}
 use Rattle.misolation.proofs.CutMaps.{get_kept}
 use Rattle.misolation.proofs.FittingLocks.{released_fits}
 use Rattle.misolation.proofs.LockCuts.{released_cut, released_outside}
@@ -191,3 +191,10 @@ module _ (settings : Settings) (e : Event) (server : Server) (fit : IsFit settin
 
 pub steps_keep_fit : StepsKeepFit
 steps_keep_fit settings e reply server after h fit = kind_fits settings e server fit (is_failure reply.ending) reply after h
+
+pub steps_are_isolated : StepsAreIsolated
+steps_are_isolated settings e reply server after h fit s closed = record {
+  inside = λ here. let law : InsideStep s settings e server = inside_steps s settings e server closed fit here in law.step reply after h;
+  outside = λ away. let law : OutsideStep s settings e server = outside_steps s settings e server closed away in law.step reply after h;
+  fit = steps_keep_fit settings e reply server after h fit;
+}

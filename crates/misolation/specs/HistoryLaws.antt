@@ -80,16 +80,21 @@ OpeningIsCut =
     (s : Accounts) (settings : Settings) (globals : Globals) →
     cut_server s settings (opening globals) ≡ opening (retain_keys globals (λ n. s n.account))
 
--- the lines with their replies at the terminals of the accounts that reach `a`, and at its own
-pub record SameReplies (a : Text) (one two : Run) (es fs : List (Event × Reply)) : Type 0 where
+-- the run's lines got these replies and left this server, and no line of an account that reaches `a` failed
+pub record Answered (a : Text) (run : Run) (es : List (Event × Reply)) (after : Server) : Type 0 where
+  pub events : events_of es ≡ run.events
+  pub history : History run.settings run.server es after
+  pub none_failed : NoneFailed (part (reach run.settings a) run.settings es)
+
+-- the same lines with the same replies, at the terminals of the accounts that reach `a` and at its own, and the same is left to these
+pub record SameReplies (a : Text) (one two : Run) (es fs : List (Event × Reply)) (first second : Server) : Type 0 where
   pub reaching : part (reach one.settings a) one.settings es ≡ part (reach two.settings a) two.settings fs
   pub own : part (only a) one.settings es ≡ part (only a) two.settings fs
+  pub left : cut_server (reach one.settings a) one.settings first ≡ cut_server (reach two.settings a) two.settings second
 
 -- two runs that agree for an account give it the same replies, however long each is and whatever else is in it
 abbrev pub AgreeingReplies : Type 0
 AgreeingReplies =
     (a : Text) (one two : Run) → Agree a one two → IsFit one.settings one.server.world → IsFit two.settings two.server.world →
-    (es fs : List (Event × Reply)) (first second : Server) → events_of es ≡ one.events → events_of fs ≡ two.events →
-    History one.settings one.server es first → History two.settings two.server fs second →
-    NoneFailed (part (reach one.settings a) one.settings es) → NoneFailed (part (reach two.settings a) two.settings fs) →
-    SameReplies a one two es fs
+    (es fs : List (Event × Reply)) (first second : Server) → Answered a one es first → Answered a two fs second →
+    SameReplies a one two es fs first second

@@ -53,3 +53,14 @@ abbrev pub StepsKeepFit : Type 0
 StepsKeepFit =
     (settings : Settings) (e : Event) (reply : Reply) (server after : Server) → Step settings e reply server after →
     IsFit settings server.world → IsFit settings after.world
+
+-- both laws of one step, in one, as a call that makes steps may say it of each
+pub record IsolatedStep (s : Accounts) (settings : Settings) (e : Event) (reply : Reply) (server after : Server) : Type 0 where
+  pub inside : IsTrue (is_inside s settings e.terminal) → Step (cut_settings s settings) e reply (cut_server s settings server) (cut_server s settings after)
+  pub outside : is_inside s settings e.terminal ≡ false → cut_server s settings after ≡ cut_server s settings server
+  pub fit : IsFit settings after.world
+
+abbrev pub StepsAreIsolated : Type 0
+StepsAreIsolated =
+    (settings : Settings) (e : Event) (reply : Reply) (server after : Server) → Step settings e reply server after → IsFit settings server.world →
+    (s : Accounts) → IsClosed settings s → IsolatedStep s settings e reply server after

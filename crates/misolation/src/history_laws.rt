@@ -50,7 +50,7 @@ pub fn opening_is_cut()
 {}
 
 /// Two runs that agree on the accounts that reach an account give it the same replies, however long each is and whatever else is in
-/// it, if no line of these accounts failed in either.
+/// it, if no line of these accounts failed in either; and what they leave agrees as well.
 pub fn agreeing_replies()
     ensures { AgreeingReplies }
 {}

@@ -42,8 +42,9 @@
 //! | a plan, which is whatever a line may do, whole or cut short | `inside_plans` | `outside_plans` |
 //! | a step: a line that is run, or one that failed | `inside_steps` | `outside_steps` |
 //!
-//! What is asked of the locks is so before the first line, when none is held (`opening_is_fit`), and everything keeps it so
-//! (`plans_keep_fit`, `steps_keep_fit`, `histories_keep_fit`, `cut_is_fit`).
+//! `steps_are_isolated` says both of a step in one, for calls that make steps. What is asked of the locks is so before the first
+//! line, when none is held (`opening_is_fit`), and everything keeps it so (`plans_keep_fit`, `steps_keep_fit`,
+//! `histories_keep_fit`, `cut_is_fit`).
 //!
 //! From the two laws, for histories of any length:
 //!
@@ -54,8 +55,8 @@
 //!   steps never fail (`interpreter_isolates`).
 //! - **The isolation theorem**: for all settings, globals and lines, the replies at an account's terminals are those that it has
 //!   alone with the accounts that reach it, if no line of these failed (`isolation`, with `opening_is_cut`).
-//! - Two servers that agree on all that reaches an account give it the same replies, however they differ in all else
-//!   (`agreeing_replies`).
+//! - Two servers that agree on all that reaches an account give it the same replies, however they differ in all else, and agree
+//!   still when their lines are run (`agreeing_replies`).
 //!
 //! # What is not promised
 //!

@@ -1,5 +1,5 @@
 // The laws of steps. Each function's contract is the law, and its body is empty: the code never calls them.
-ghost use Rattle.misolation.specs.StepLaws.{InsideSteps, OutsideSteps, StepsKeepFit};
+ghost use Rattle.misolation.specs.StepLaws.{InsideSteps, OutsideSteps, StepsKeepFit, StepsAreIsolated};
 
 /// The inside law: a step at a member's terminal is that step over the cuts to a closed set, with the same reply. A normal step
 /// gives what it gives there, and a failed one is a failed one there.
@@ -15,4 +15,9 @@ pub fn outside_steps()
 /// Each step, normal or failed, keeps every lock on a name that its terminal's account may hold.
 pub fn steps_keep_fit()
     ensures { StepsKeepFit }
+{}
+
+/// Both laws in one, of a step of which all else is known: for every closed set it is a step over the cuts, or leaves them.
+pub fn steps_are_isolated()
+    ensures { StepsAreIsolated }
 {}

@@ -1,0 +1,362 @@
+-- The laws on a host of three customers, as proved equations: they are not empty, and they claim no more than is so.
+--
+-- The laboratory lets the clinic read its results. The bank has no tie to either, or else the clinic lets it write its bills.
+use Rattle.std.proofs.Common.{◌≡◌, ℕ, true, false, List, [], ◌∷◌, Some, None, refl, sym, ap, ◌∙◌, subst, subst₂}
+use Rattle.std.specs.Prelude.{codes}
+use Rattle.std.specs.FinMap.{FinMap, get, insert, remove, retain_keys, empty, entries, from_sorted, same_map, get-empty, get-from_sorted, entries-from_sorted, entries-insert, gets, nat_cmp-IsAntisymmetric}
+use Rattle.std.specs.FinMap.Entries.{put}
+use Rattle.std.specs.Ordering.{nat_cmp}
+use Rattle.std.proofs.lemmas.Cmp.{nat_cmp_total}
+use Rattle.mspec.specs.Code.{Lost, Memory, Store}
+use Rattle.mspec.specs.Node.{Text, Node}
+use Rattle.mspec.specs.Number.{significant_digits}
+use Rattle.mspec.specs.LockConflict.{LockName, held, held_cmp, released}
+use Rattle.mspec.specs.Access.{Read, Write, Account, Grant, Settings}
+use Rattle.mspec.proofs.MapCuts.{cut_drops}
+use Rattle.mspec.proofs.LockOrders.{held_cmp_total, held_cmp_exact}
+use Rattle.mspec.proofs.NodeOrders.{node_cmp_total, node_cmp_exact}
+use Rattle.mspec.specs.Plan.{Put, Take, Value}
+use Rattle.mmeaning.specs.World.{World, act}
+use Rattle.mmeaning.specs.Step.{new_session, Server, Event, Reply, Faulted, is_too_long, is_ascii, normal, FailedStep, lost, StepBy, Step}
+use Rattle.mmeaning.specs.History.{History, NoneFailed}
+use Rattle.mmeaning.proofs.Histories.{normal_never_fails}
+use Rattle.misolation.specs.Reach.{Accounts, IsClosed, reach}
+use Rattle.misolation.specs.ReachLaws.{IsLeastClosed}
+use Rattle.misolation.specs.PlanLaws.{Actor, ops_of, cut_ops, InsideOperation}
+use Rattle.misolation.specs.Cut.{is_member, is_inside, cut_settings, cut_world, cut_server, cut_events, part, holds_by, IsFit}
+use Rattle.misolation.specs.Alone.{only}
+use Rattle.misolation.specs.Agreement.{Run, Agree}
+use Rattle.misolation.specs.HistoryLaws.{Answered, SameReplies}
+use Rattle.misolation.proofs.CutMaps.{get_kept}
+use Rattle.misolation.proofs.FittingLocks.{fit_insert}
+use Rattle.misolation.proofs.Operations.{inside_operations}
+use Rattle.misolation.proofs.Reaching.{reach_is_least_closed}
+use Rattle.misolation.proofs.PartsAlone.{part_is_history, opening_is_fit, agreeing_replies}
+
+abbrev account : Text → Account
+account name = record { name = name; steps = 2000 }
+
+abbrev clinic : Text
+clinic = codes "CLINIC"
+
+abbrev laboratory : Text
+laboratory = codes "LABORATORY"
+
+abbrev bank : Text
+bank = codes "BANK"
+
+abbrev terminals : FinMap nat_cmp Account
+terminals = insert (insert (insert empty 1 (account clinic)) 2 (account laboratory)) 3 (account bank)
+
+abbrev host : List Grant → Settings
+host grants = record { accounts = account clinic ∷ account laboratory ∷ account bank ∷ []; terminals = terminals; grants = grants }
+
+abbrev results_read : Grant
+results_read = record { from = laboratory; to = clinic; global = codes "RESULTS"; mode = Read }
+
+abbrev bills_written : Grant
+bills_written = record { from = clinic; to = bank; global = codes "BILLS"; mode = Write }
+
+-- the bank apart, and the bank let in
+abbrev apart : Settings
+apart = host (results_read ∷ [])
+
+abbrev let_in : Settings
+let_in = host (results_read ∷ bills_written ∷ [])
+
+-- ---- who reaches whom
+
+laboratory_reaches_clinic : reach apart clinic laboratory ≡ true
+laboratory_reaches_clinic = refl
+
+clinic_reaches_not_laboratory : reach apart laboratory clinic ≡ false
+clinic_reaches_not_laboratory = refl
+
+bank_reaches_not_clinic : reach apart clinic bank ≡ false
+bank_reaches_not_clinic = refl
+
+-- what the bank writes at the clinic shows there, and what the clinic lets it use shows at the bank: a grant to write ties both ways
+let_in_bank_reaches_clinic : reach let_in clinic bank ≡ true
+let_in_bank_reaches_clinic = refl
+
+-- so do the laboratory's results, by a chain of two
+let_in_laboratory_reaches_bank : reach let_in bank laboratory ≡ true
+let_in_laboratory_reaches_bank = refl
+
+-- ---- two servers that differ in the bank's globals, locks and sessions alone
+
+abbrev node : Text → Text → Node
+node owner name = record { account = owner; name = name; subscripts = [] }
+
+abbrev lock : Node → LockName
+lock n = record { global = true; node = n }
+
+abbrev results : Node
+results = node laboratory (codes "RESULTS")
+
+abbrev bills : Node
+bills = node clinic (codes "BILLS")
+
+abbrev ledger : Node
+ledger = node bank (codes "LEDGER")
+
+abbrev quiet : Server
+quiet = record { world = record { globals = insert empty results (codes "7"); locks = empty }; sessions = empty }
+
+abbrev busy : Server
+busy = record {
+  world = record { globals = insert quiet.world.globals ledger (codes "9"); locks = insert quiet.world.locks (held 3 (lock ledger)) 1 };
+  sessions = insert quiet.sessions 3 new_session;
+}
+
+-- those that reach the clinic: it and the laboratory
+abbrev tied : Accounts
+tied = reach apart clinic
+
+of_clinic : get terminals 1 ≡ Some (account clinic)
+of_clinic = simp gets refl
+
+of_bank : get terminals 3 ≡ Some (account bank)
+of_bank = simp gets refl
+
+clinic_inside : is_inside tied apart 1 ≡ true
+clinic_inside = ap (is_member tied) of_clinic
+
+bank_outside : is_inside tied apart 3 ≡ false
+bank_outside = ap (is_member tied) of_bank
+
+own_inside : is_inside (only clinic) apart 1 ≡ true
+own_inside = ap (is_member (only clinic)) of_clinic
+
+own_outside : is_inside (only clinic) apart 3 ≡ false
+own_outside = ap (is_member (only clinic)) of_bank
+
+-- the cuts are one
+same_cut : cut_server tied apart busy ≡ cut_server tied apart quiet
+same_cut = λ i. record {
+  world = record {
+    globals = cut_drops (node_cmp_total significant_digits) (node_cmp_exact significant_digits) quiet.world.globals (λ n. tied n.account) ledger (codes "9") refl i;
+    locks = cut_drops held_cmp_total held_cmp_exact quiet.world.locks (λ h. is_inside tied apart h.terminal) (held 3 (lock ledger)) 1 bank_outside i;
+  };
+  sessions = cut_drops nat_cmp_total nat_cmp-IsAntisymmetric quiet.sessions (is_inside tied apart) 3 new_session bank_outside i;
+}
+
+-- and the bank holds what it may hold
+busy_fits : IsFit apart busy.world
+busy_fits = fit_insert apart empty (held 3 (lock ledger)) 1 (ap (λ o. holds_by apart o (lock ledger)) of_bank) (opening_is_fit apart empty)
+
+-- ---- the bank's lines fail, and the clinic's is answered as if there were no bank
+
+abbrev line : ℕ → Text → Event
+line t text = record { terminal = t; text = text }
+
+-- what a failed line of the bank leaves that failed before it did anything
+abbrev failed : Server → Server
+failed server = record {
+  world = record { globals = server.world.globals; locks = released server.world.locks 3 };
+  sessions = remove server.sessions 3;
+}
+
+bank_fails : (server : Server) (text : Text) → is_too_long text ≡ false → is_ascii text ≡ true → FailedStep apart (line 3 text) server (failed server)
+bank_fails server text short ascii = record {
+  account = account bank;
+  known = of_bank;
+  short = short;
+  ascii = ascii;
+  operations = 0;
+  globals = refl;
+  locks = refl;
+  sessions = refl;
+}
+
+clinic_runs : (server : Server) (e : Event) → Step apart e (normal apart e server).0 server (normal apart e server).1
+clinic_runs server e = subst (λ b. StepBy b apart e (normal apart e server).0 server (normal apart e server).1) (sym (normal_never_fails apart e server)) refl
+
+module _ (text : Text) where
+  abbrev first : Event
+  first = line 3 (codes "S A=1")
+
+  abbrev last : Event
+  last = line 3 (codes "W A")
+
+  -- memory does not suffice for the bank's first line, nor the store for its last
+  abbrev crowded : List (Event × Reply)
+  crowded =
+      (first, lost (Faulted (Lost Memory))) ∷
+      (line 1 text, (normal apart (line 1 text) (failed busy)).0) ∷
+      (last, lost (Faulted (Lost Store))) ∷ []
+
+  abbrev lonely : List (Event × Reply)
+  lonely = (line 1 text, (normal apart (line 1 text) quiet).0) ∷ []
+
+  abbrev with_bank : Run
+  with_bank = record { settings = apart; server = busy; events = first ∷ line 1 text ∷ last ∷ [] }
+
+  abbrev without_bank : Run
+  without_bank = record { settings = apart; server = quiet; events = line 1 text ∷ [] }
+
+  crowded_runs : History apart busy crowded (failed (normal apart (line 1 text) (failed busy)).1)
+  crowded_runs = (
+    failed busy,
+    (refl, bank_fails busy (codes "S A=1") refl refl),
+    (
+      (normal apart (line 1 text) (failed busy)).1,
+      clinic_runs (failed busy) (line 1 text),
+      (
+        failed (normal apart (line 1 text) (failed busy)).1,
+        (refl, bank_fails (normal apart (line 1 text) (failed busy)).1 (codes "W A") refl refl),
+        refl,
+      ),
+    ),
+  )
+
+  lonely_runs : History apart quiet lonely (normal apart (line 1 text) quiet).1
+  lonely_runs = ((normal apart (line 1 text) quiet).1, clinic_runs quiet (line 1 text), refl)
+
+  agreed : Agree clinic with_bank without_bank
+  agreed = record { reaching = λ x. refl; settings = refl; server = same_cut; events = simp (clinic_inside, bank_outside) refl }
+
+  tied_part : part tied apart crowded ≡ (line 1 text, (normal apart (line 1 text) (failed busy)).0) ∷ []
+  tied_part = simp (clinic_inside, bank_outside) refl
+
+  lonely_part : part tied apart lonely ≡ lonely
+  lonely_part = simp clinic_inside refl
+
+  crowded_answered : Answered clinic with_bank crowded (failed (normal apart (line 1 text) (failed busy)).1)
+  crowded_answered = record {
+    events = refl;
+    history = crowded_runs;
+    none_failed = subst NoneFailed (sym tied_part) (normal_never_fails apart (line 1 text) (failed busy), tt);
+  }
+
+  lonely_answered : Answered clinic without_bank lonely (normal apart (line 1 text) quiet).1
+  lonely_answered = record {
+    events = refl;
+    history = lonely_runs;
+    none_failed = subst NoneFailed (sym lonely_part) (normal_never_fails apart (line 1 text) quiet, tt);
+  }
+
+  same_replies : SameReplies clinic with_bank without_bank crowded lonely (failed (normal apart (line 1 text) (failed busy)).1) (normal apart (line 1 text) quiet).1
+  same_replies =
+      agreeing_replies clinic with_bank without_bank agreed busy_fits (opening_is_fit apart quiet.world.globals) crowded lonely
+      (failed (normal apart (line 1 text) (failed busy)).1) (normal apart (line 1 text) quiet).1 crowded_answered lonely_answered
+
+  -- whatever the clinic sends, it is answered alike
+  clinic_sees_no_bank : (line 1 text, (normal apart (line 1 text) (failed busy)).0) ∷ [] ≡ lonely
+  clinic_sees_no_bank = sym (simp (own_inside, own_outside) refl) ∙ same_replies.own ∙ simp own_inside refl
+
+-- ---- a line of the laboratory fails, and past it the bank is not seen either
+
+of_laboratory : get terminals 2 ≡ Some (account laboratory)
+of_laboratory = simp gets refl
+
+laboratory_inside : is_inside tied apart 2 ≡ true
+laboratory_inside = ap (is_member tied) of_laboratory
+
+-- what a failed line of the laboratory leaves
+abbrev laboratory_failed : Server → Server
+laboratory_failed server = record {
+  world = record { globals = server.world.globals; locks = released server.world.locks 2 };
+  sessions = remove server.sessions 2;
+}
+
+module _ (text : Text) where
+  abbrev short_of_memory : List (Event × Reply)
+  short_of_memory =
+      (line 2 (codes "S A=1"), lost (Faulted (Lost Memory))) ∷
+      (line 1 text, (normal apart (line 1 text) (laboratory_failed busy)).0) ∷ []
+
+  laboratory_fails : History apart busy short_of_memory (normal apart (line 1 text) (laboratory_failed busy)).1
+  laboratory_fails = (
+    laboratory_failed busy,
+    (
+      refl,
+      record { account = account laboratory; known = of_laboratory; short = refl; ascii = refl; operations = 0; globals = refl; locks = refl; sessions = refl },
+    ),
+    ((normal apart (line 1 text) (laboratory_failed busy)).1, clinic_runs (laboratory_failed busy) (line 1 text), refl),
+  )
+
+  whole_part : part tied apart short_of_memory ≡ short_of_memory
+  whole_part = simp (clinic_inside, laboratory_inside) refl
+
+  -- the same lines with the same replies are a history where there is no bank
+  past_failure : History (cut_settings tied apart) (cut_server tied apart quiet) short_of_memory (cut_server tied apart (normal apart (line 1 text) (laboratory_failed busy)).1)
+  past_failure =
+      let least : IsLeastClosed apart clinic tied = reach_is_least_closed apart clinic in
+      let after = (normal apart (line 1 text) (laboratory_failed busy)).1 in
+      subst₂ (λ server es. History (cut_settings tied apart) server es (cut_server tied apart after)) same_cut whole_part
+      (part_is_history tied apart busy after short_of_memory least.closed busy_fits laboratory_fails)
+
+-- ---- what is left to the clinic
+
+abbrev clinics : Actor
+clinics = record { settings = apart; terminal = 1; account = account clinic; known = of_clinic }
+
+results_shown : (ops_of clinics (Value results) busy.world).0 ≡ Some (codes "7")
+results_shown = simp (gets, node_cmp_total significant_digits) refl
+
+-- alone it is shown the laboratory's results as well
+results_shown_alone : (cut_ops tied clinics (Value results) (cut_world tied apart busy.world)).0 ≡ Some (codes "7")
+results_shown_alone =
+    let least : IsLeastClosed apart clinic tied = reach_is_least_closed apart clinic in
+    let law : InsideOperation tied clinics (Value results) busy.world = inside_operations tied clinics (Value results) busy.world least.closed refl busy_fits in
+    law.answer ∙ results_shown
+
+-- ---- the bank let in
+
+-- nothing that the bank tries at the clinic is done where it has no grant
+write_refused : (x : Text) (w : World) → act apart 3 bank (Put bills x) w ≡ (tt, w)
+write_refused x w = refl
+
+lock_refused : (w : World) → act apart 3 bank (Take (lock bills ∷ [])) w ≡ (false, w)
+lock_refused w = refl
+
+-- where it has one, what it writes shows at the clinic
+write_shows : (x : Text) → (act let_in 1 clinic (Value bills) (act let_in 3 bank (Put bills x) quiet.world).1).0 ≡ Some x
+write_shows x = simp (gets, node_cmp_total significant_digits) refl
+
+nothing_billed : (act let_in 1 clinic (Value bills) quiet.world).0 ≡ None
+nothing_billed = simp (gets, node_cmp_total significant_digits) refl
+
+-- and so does what it locks
+none_held : entries quiet.world.locks ≡ []
+none_held =
+    ap entries (same_map held_cmp_total held_cmp_exact quiet.world.locks (from_sorted []) (λ q. get-empty held_cmp q ∙ sym (get-from_sorted held_cmp [] q tt)))
+    ∙ entries-from_sorted held_cmp [] tt
+
+abbrev billed : World
+billed = record quiet.world { locks = insert quiet.world.locks (held 3 (lock bills)) 1 }
+
+one_held : entries billed.locks ≡ (held 3 (lock bills), 1) ∷ []
+one_held = entries-insert held_cmp_total quiet.world.locks (held 3 (lock bills)) 1 ∙ ap (put held_cmp (held 3 (lock bills)) 1) none_held
+
+lock_taken : act let_in 3 bank (Take (lock bills ∷ [])) quiet.world ≡ (true, billed)
+lock_taken = simp (none_held, gets) refl
+
+lock_free : (act let_in 1 clinic (Take (lock bills ∷ [])) quiet.world).0 ≡ true
+lock_free = simp (none_held, gets) refl
+
+lock_shows : (act let_in 1 clinic (Take (lock bills ∷ [])) billed).0 ≡ false
+lock_shows = simp one_held refl
+
+-- so those that reached the clinic before are no closed set any more
+no_longer_closed : IsClosed let_in tied → ⊥
+no_longer_closed closed = let no : tied bank ≡ true = closed bank clinic refl refl in absurd (cc)
+
+-- and the bank does not leave their cut as it was: the outside law would be false of a set that is not closed
+write_is_seen : (x : Text) → cut_world tied let_in (act let_in 3 bank (Put bills x) quiet.world).1 ≡ cut_world tied let_in quiet.world → ⊥
+write_is_seen x e =
+    let cut : Some x ≡ get (retain_keys quiet.world.globals (λ n. tied n.account)) bills =
+    sym (get_kept (node_cmp_total significant_digits) (node_cmp_exact significant_digits) (insert quiet.world.globals bills x) (λ n. tied n.account) bills refl ∙ simp (gets, node_cmp_total significant_digits) refl)
+    ∙ ap (λ w. get w.globals bills) e in
+    let none : get (retain_keys quiet.world.globals (λ n. tied n.account)) bills ≡ None =
+    get_kept (node_cmp_total significant_digits) (node_cmp_exact significant_digits) quiet.world.globals (λ n. tied n.account) bills refl ∙ simp (gets, node_cmp_total significant_digits) refl in
+    let no : Some x ≡ None = cut ∙ none in
+    absurd (cc)
+
+-- the bank's lines are among those that the clinic's replies hang on
+all_tied : (text other : Text) → cut_events (reach let_in clinic) let_in (line 3 other ∷ line 1 text ∷ []) ≡ line 3 other ∷ line 1 text ∷ []
+all_tied text other = simp (inside_let_in 1 clinic of_clinic refl, inside_let_in 3 bank of_bank refl) refl
+  where
+    inside_let_in : (t : ℕ) (name : Text) → get terminals t ≡ Some (account name) → reach let_in clinic name ≡ true → is_inside (reach let_in clinic) let_in t ≡ true
+    inside_let_in t name known reaches = ap (is_member (reach let_in clinic)) known ∙ reaches

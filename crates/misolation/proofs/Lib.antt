@@ -1,0 +1,12 @@
+pub mod Reaching
+pub mod CutMaps
+pub mod Access
+pub mod FittingLocks
+pub mod LockCuts
+pub mod GlobalCuts
+pub mod Operations
+pub mod PlansInside
+pub mod Endings
+pub mod Steps
+pub mod PartsAlone
+pub mod IsolationExamples

@@ -1,0 +1,237 @@
+-- The two laws for histories of different length, and the isolation theorem.
+use Rattle.std.proofs.Common.{◌≡◌, ℕ, Bool, true, false, cond, List, [], ◌∷◌, Option, Some, None, map, refl, sym, ap, ◌∙◌, subst, subst₂}
+use Rattle.std.proofs.lemmas.Cmp.{nat_cmp_total}
+use Rattle.std.proofs.lemmas.List.Elements.{filter_agree}
+use Rattle.std.proofs.lemmas.Bool.{false_from_ne_true}
+use Rattle.std.specs.Cmp.Lexicographic.{bytes_decides}
+use Rattle.std.specs.Cmp.{IsTotalOrder}
+use Rattle.std.specs.declared.cmp.Ordering.{Ordering}
+use Rattle.std.specs.FinMap.{get, empty, retain_keys, get-empty, same_map, IsAntisymmetric, nat_cmp-IsAntisymmetric}
+use Rattle.mspec.specs.Node.{Text}
+use Rattle.mspec.specs.Access.{Account, Settings}
+use Rattle.mspec.specs.LockConflict.{held_cmp}
+use Rattle.mspec.proofs.LockOrders.{held_cmp_total, held_cmp_exact}
+use Rattle.mspec.proofs.MapCuts.{get_cut}
+use Rattle.mmeaning.specs.Step.{Server, Event, Reply, normal}
+use Rattle.mmeaning.specs.History.{History, opening, replies, server_after, answered, NoneFailed}
+use Rattle.mmeaning.proofs.Histories.{normal_never_fails, normal_steps_are_history, history_is_normal}
+use Rattle.misolation.specs.Reach.{Accounts, reach}
+use Rattle.misolation.specs.Cut.{is_member, is_inside, cut_settings, cut_server, cut_events, part, IsFit}
+use Rattle.misolation.specs.Alone.{alone, only}
+use Rattle.misolation.specs.Trace.{Moment, Trace, lines_of, left_by, cut_trace}
+use Rattle.misolation.specs.Agreement.{Run, Agree}
+use Rattle.misolation.specs.ReachLaws.{IsLeastClosed}
+use Rattle.misolation.specs.StepLaws.{InsideStep, OutsideStep}
+use Rattle.misolation.specs.HistoryLaws.{events_of, PartIsHistory, HistoryHasTrace, PartOfTrace, PartIsTrace, OpeningIsFit, HistoriesKeepFit, IsAlone, PartIsAlone, InterpreterIsolates, Isolation, OpeningIsCut, Answered, AgreeingReplies}
+use Rattle.misolation.proofs.CutMaps.{by_test, filter_absorbed, map_filter}
+use Rattle.misolation.proofs.Reaching.{reach_is_least_closed}
+use Rattle.misolation.proofs.Steps.{inside_steps, outside_steps, steps_keep_fit}
+
+-- ---- the part is a history
+
+pub part_is_history : PartIsHistory
+part_is_history s settings server after [] closed fit h = ap (cut_server s settings) h
+part_is_history s settings server after (e ∷ es) closed fit h =
+    let rest = part_is_history s settings h.0 after es closed (steps_keep_fit settings e.0 e.1 server h.0 h.1 fit) h.2 in
+    by_test (is_inside s settings e.0.terminal)
+    (λ here.
+    let law : InsideStep s settings e.0 server = inside_steps s settings e.0 server closed fit here in
+    rw here (cut_server s settings h.0, law.step e.1 h.0 h.1, rest))
+    (λ away.
+    let law : OutsideStep s settings e.0 server = outside_steps s settings e.0 server closed away in
+    rw away (subst (λ v. History (cut_settings s settings) v (part s settings es) (cut_server s settings after)) (law.step e.1 h.0 h.1) rest))
+
+-- ---- traces
+
+traced : (settings : Settings) (server after : Server) (es : List (Event × Reply)) → History settings server es after → (ms : List Moment) × Trace settings server ms × (lines_of ms ≡ es) × (left_by server ms ≡ after)
+traced settings server after [] h = ([], tt, refl, sym h)
+traced settings server after (e ∷ es) h =
+    let rest = traced settings h.0 after es h.2 in
+    (record { event = e.0; reply = e.1; after = h.0 } ∷ rest.0, (h.1, rest.1), (λ i. e ∷ rest.2 i), rest.3)
+
+of_trace : (settings : Settings) (server : Server) (ms : List Moment) → Trace settings server ms → History settings server (lines_of ms) (left_by server ms)
+of_trace settings server [] h = refl
+of_trace settings server (m ∷ ms) h = (m.after, h.0, of_trace settings m.after ms h.1)
+
+pub history_has_trace : HistoryHasTrace
+history_has_trace settings server after es = (
+  traced settings server after es,
+  λ t. subst₂ (History settings server) t.2 t.3 (of_trace settings server t.0 t.1),
+)
+
+pub part_is_trace : PartIsTrace
+part_is_trace s settings server [] closed fit h = record { steps = tt; lines = refl; left = refl }
+part_is_trace s settings server (m ∷ ms) closed fit h =
+    let rest : PartOfTrace s settings m.after ms = part_is_trace s settings m.after ms closed (steps_keep_fit settings m.event m.reply server m.after h.0 fit) h.1 in
+    by_test (is_inside s settings m.event.terminal)
+    (λ here.
+    let law : InsideStep s settings m.event server = inside_steps s settings m.event server closed fit here in
+    record {
+      steps = rw here (law.step m.reply m.after h.0, rest.steps);
+      lines = rw here (ap (λ es. (m.event, m.reply) ∷ es) rest.lines);
+      left = rw here rest.left;
+    })
+    (λ away.
+    let law : OutsideStep s settings m.event server = outside_steps s settings m.event server closed away in
+    let same = law.step m.reply m.after h.0 in
+    record {
+      steps = rw away (subst (λ v. Trace (cut_settings s settings) v (cut_trace s settings ms)) same rest.steps);
+      lines = rw away rest.lines;
+      left = rw away (ap (λ v. left_by v (cut_trace s settings ms)) (sym same) ∙ rest.left);
+    })
+
+pub histories_keep_fit : HistoriesKeepFit
+histories_keep_fit settings server after [] h fit = subst (λ v. IsFit settings v.world) (sym h) fit
+histories_keep_fit settings server after (e ∷ es) h fit = histories_keep_fit settings h.0 after es h.2 (steps_keep_fit settings e.0 e.1 server h.0 h.1 fit)
+
+-- ---- the replies alone
+
+abbrev head_or : {A : Type 0} → A → List A → A
+head_or a [] = a
+head_or a (x ∷ xs) = x
+
+abbrev tail : {A : Type 0} → List A → List A
+tail [] = []
+tail (x ∷ xs) = xs
+
+-- lines with the replies of normal steps are these lines answered
+lines_answered : (settings : Settings) (server : Server) (es : List (Event × Reply)) → map (λ e. e.1) es ≡ replies settings server (events_of es) → es ≡ answered settings server (events_of es)
+lines_answered settings server [] h = refl
+lines_answered settings server (e ∷ es) h =
+    let first : e.1 ≡ (normal settings e.0 server).0 = ap (head_or e.1) h in
+    let rest = lines_answered settings (normal settings e.0 server).1 es (ap tail h) in
+    λ i. (e.0, first i) ∷ rest i
+
+events_of_part : (s : Accounts) (settings : Settings) (es : List (Event × Reply)) → events_of (part s settings es) ≡ cut_events s settings (events_of es)
+events_of_part s settings es = map_filter (λ e. e.0) (λ e. is_inside s settings e.terminal) es
+
+pub part_is_alone : PartIsAlone
+part_is_alone s settings server after es closed fit h none =
+    let low = cut_settings s settings in
+    let start = cut_server s settings server in
+    let h' = part_is_history s settings server after es closed fit h in
+    let own = history_is_normal low start (cut_server s settings after) (part s settings es) h' none in
+    record {
+      lines = lines_answered low start (part s settings es) own.0 ∙ ap (answered low start) (events_of_part s settings es);
+      left = own.1 ∙ ap (server_after low start) (events_of_part s settings es);
+    }
+
+-- ---- the interpreter
+
+none_failed : (settings : Settings) (server : Server) (events : List Event) → NoneFailed (answered settings server events)
+none_failed settings server [] = tt
+none_failed settings server (e ∷ events) = (normal_never_fails settings e server, none_failed settings (normal settings e server).1 events)
+
+none_of_part : (s : Accounts) (settings : Settings) (es : List (Event × Reply)) → NoneFailed es → NoneFailed (part s settings es)
+none_of_part s settings [] h = tt
+none_of_part s settings (e ∷ es) h =
+    let rest = none_of_part s settings es h.1 in
+    by_test (is_inside s settings e.0.terminal) (λ here. rw here (h.0, rest)) (λ away. rw away rest)
+
+events_answered : (settings : Settings) (server : Server) (events : List Event) → events_of (answered settings server events) ≡ events
+events_answered settings server [] = refl
+events_answered settings server (e ∷ events) = ap (λ es. e ∷ es) (events_answered settings (normal settings e server).1 events)
+
+pub interpreter_isolates : InterpreterIsolates
+interpreter_isolates s settings server events closed fit =
+    let es = answered settings server events in
+    let law : IsAlone s settings server (server_after settings server events) es =
+    part_is_alone s settings server (server_after settings server events) es closed fit (normal_steps_are_history settings server events)
+    (none_of_part s settings es (none_failed settings server events)) in
+    law.lines ∙ ap (alone s settings server) (events_answered settings server events)
+
+-- ---- an account's own terminals
+
+member_of : (s : Accounts) (a : Text) → s a ≡ true → (o : Option Account) → is_member (only a) o ≡ true → is_member s o ≡ true
+member_of s a m None e = e
+member_of s a m (Some account) e = ap s (sym ((bytes_decides a account.name).0 e)) ∙ m
+
+-- they are among those of any set that has it
+own_part : (s : Accounts) (settings : Settings) (a : Text) → s a ≡ true → (es : List (Event × Reply)) → part (only a) settings (part s settings es) ≡ part (only a) settings es
+own_part s settings a m es =
+    filter_absorbed (λ e. is_inside (only a) settings e.0.terminal) (λ e. is_inside s settings e.0.terminal) (λ e h. member_of s a m (get settings.terminals e.0.terminal) h) es
+
+-- and are its own after the cut
+own_terminal : (s : Accounts) (settings : Settings) (a : Text) → s a ≡ true → (t : ℕ) → is_inside (only a) (cut_settings s settings) t ≡ is_inside (only a) settings t
+own_terminal s settings a m t =
+    let cut = get_cut nat_cmp_total nat_cmp-IsAntisymmetric settings.terminals (is_inside s settings) t in
+    by_test (is_inside s settings t)
+    (λ here. ap (is_member (only a)) (cut ∙ ap (λ b. cond b (get settings.terminals t) None) here))
+    (λ away.
+    ap (is_member (only a)) (cut ∙ ap (λ b. cond b (get settings.terminals t) None) away)
+    ∙ sym (false_from_ne_true (is_inside (only a) settings t) (λ own. let no : true ≡ false = sym (member_of s a m (get settings.terminals t) own) ∙ away in absurd (cc))))
+
+part_of_cut : (s : Accounts) (settings : Settings) (a : Text) → s a ≡ true → (es : List (Event × Reply)) → part (only a) (cut_settings s settings) es ≡ part (only a) settings es
+part_of_cut s settings a m es =
+    filter_agree (λ e. is_inside (only a) (cut_settings s settings) e.0.terminal) (λ e. is_inside (only a) settings e.0.terminal) (λ e. own_terminal s settings a m e.0.terminal) es
+
+-- ---- the theorem
+
+pub opening_is_fit : OpeningIsFit
+opening_is_fit settings globals h n e = let none : None ≡ Some n = sym (get-empty held_cmp h) ∙ e in absurd (cc)
+
+pub isolation : Isolation
+isolation settings a globals es after h none =
+    let least : IsLeastClosed settings a (reach settings a) = reach_is_least_closed settings a in
+    let law : IsAlone (reach settings a) settings (opening globals) after es = part_is_alone (reach settings a) settings (opening globals) after es least.closed (opening_is_fit settings globals) h none in
+    sym (own_part (reach settings a) settings a least.has es) ∙ ap (part (only a) settings) law.lines
+
+cut_none : {K X : Type 0} {R : K → K → Ordering} → IsTotalOrder R → IsAntisymmetric R → (p : K → Bool) → retain_keys {X = X} (empty {R = R}) p ≡ empty
+cut_none {X = X} {R = R} total exact p = same_map total exact _ _ (λ q. get_cut total exact empty p q ∙ nothing (p q) (get-empty {X = X} R q) ∙ sym (get-empty R q))
+  where
+    nothing : (b : Bool) {o : Option X} → o ≡ None → cond b o None ≡ None
+    nothing true e = e
+    nothing false e = refl
+
+pub opening_is_cut : OpeningIsCut
+opening_is_cut s settings globals = λ i. record {
+  world = record {
+    globals = retain_keys globals (λ n. s n.account);
+    locks = cut_none held_cmp_total held_cmp_exact (λ h. is_inside s settings h.terminal) i;
+  };
+  sessions = cut_none nat_cmp_total nat_cmp-IsAntisymmetric (is_inside s settings) i;
+}
+
+-- ---- agreement
+
+module _ (a : Text) where
+  abbrev tied : Run → Accounts
+  tied r = reach r.settings a
+
+  -- what is left of a run's lines, and of its server after them
+  abbrev lines_alone : Run → List (Event × Reply)
+  lines_alone r = answered (cut_settings (tied r) r.settings) (cut_server (tied r) r.settings r.server) (cut_events (tied r) r.settings r.events)
+
+  abbrev left_alone : Run → Server
+  left_alone r = server_after (cut_settings (tied r) r.settings) (cut_server (tied r) r.settings r.server) (cut_events (tied r) r.settings r.events)
+
+  run_alone : (r : Run) → IsFit r.settings r.server.world → (es : List (Event × Reply)) (after : Server) → Answered a r es after
+      → (part (tied r) r.settings es ≡ lines_alone r) × (cut_server (tied r) r.settings after ≡ left_alone r)
+  run_alone r fit es after h =
+      let least : IsLeastClosed r.settings a (tied r) = reach_is_least_closed r.settings a in
+      let law : IsAlone (tied r) r.settings r.server after es = part_is_alone (tied r) r.settings r.server after es least.closed fit h.history h.none_failed in (
+        law.lines ∙ ap (alone (tied r) r.settings r.server) h.events,
+        law.left ∙ ap (λ events. server_after (cut_settings (tied r) r.settings) (cut_server (tied r) r.settings r.server) (cut_events (tied r) r.settings events)) h.events,
+      )
+
+  own_of_part : (r : Run) (es : List (Event × Reply)) → part (only a) r.settings es ≡ part (only a) (cut_settings (tied r) r.settings) (part (tied r) r.settings es)
+  own_of_part r es =
+      let least : IsLeastClosed r.settings a (tied r) = reach_is_least_closed r.settings a in
+      sym (own_part (tied r) r.settings a least.has es) ∙ sym (part_of_cut (tied r) r.settings a least.has (part (tied r) r.settings es))
+
+  same_lines : (one two : Run) → Agree a one two → lines_alone one ≡ lines_alone two
+  same_lines one two agree = λ i. answered (agree.settings i) (agree.server i) (agree.events i)
+
+  same_left : (one two : Run) → Agree a one two → left_alone one ≡ left_alone two
+  same_left one two agree = λ i. server_after (agree.settings i) (agree.server i) (agree.events i)
+
+pub agreeing_replies : AgreeingReplies
+agreeing_replies a one two agree fit fit' es fs first second h k =
+    let low = run_alone a one fit es first h in
+    let high = run_alone a two fit' fs second k in
+    let same = low.0 ∙ same_lines a one two agree ∙ sym high.0 in
+    record {
+      reaching = same;
+      own = own_of_part a one es ∙ (λ i. part (only a) (agree.settings i) (same i)) ∙ sym (own_of_part a two fs);
+      left = low.1 ∙ same_left a one two agree ∙ sym high.1;
+    }

@@ -1,0 +1,200 @@
+-- The two laws for steps.
+use Rattle.std.proofs.Common.{◌≡◌, ℕ, Bool, true, false, Option, Some, None, refl, sym, ap, ◌∙◌, subst}
+use Rattle.std.specs.Prelude.{not, ◌||◌, [], if◌then◌else◌}
+use Rattle.std.specs.FinMap.{FinMap, get, retain_keys, nat_cmp-IsAntisymmetric}
+use Rattle.std.specs.Ordering.{nat_cmp}
+use Rattle.std.proofs.lemmas.Cmp.{nat_cmp_total}
+use Rattle.mspec.specs.Access.{Account, Settings}
+use Rattle.mspec.specs.Act.{Outcome}
+use Rattle.mspec.specs.Plan.{Plan, perform, cut_short}
+use Rattle.mgrammar.specs.Reading.{line_at}
+use Rattle.mmeaning.specs.LineMeaning.{Signal}
+use Rattle.mmeaning.specs.World.{act}
+use Rattle.mmeaning.specs.Step.{Session, session_or_new, Server, Event, Reply, plan_of, ended, is_too_long, is_ascii, at_tree, checked, at_account, normal, FailedStep, is_failure, StepBy}
+use Rattle.misolation.specs.Reach.{Accounts, IsClosed}
+use Rattle.misolation.specs.Cut.{is_member, is_inside, cut_settings, cut_locks, cut_world, cut_server, AreFit, IsFit}
+use Rattle.misolation.specs.PlanLaws.{exchanges, Actor, ops_of, cut_ops, InsidePlan, OutsidePlan}
+use Rattle.misolation.specs.StepLaws.{exchanges_by, line_exchanges, InsideStep, InsideSteps, OutsideStep, OutsideSteps, StepsKeepFit, StepsAreIsolated}
+use Rattle.misolation.proofs.CutMaps.{get_kept}
+use Rattle.misolation.proofs.FittingLocks.{released_fits}
+use Rattle.misolation.proofs.LockCuts.{released_cut, released_outside}
+use Rattle.misolation.proofs.PlansInside.{inside_plans, outside_plans, plans_keep_fit}
+use Rattle.misolation.proofs.Endings.{gone_inside, gone_outside, ended_inside, ended_outside, ended_fits}
+
+-- the plan of a line, in the session that its terminal has or in a new one
+abbrev plan_in : Event → Account → Option Session → Plan (Outcome Signal)
+plan_in e account session = plan_of account (session_or_new session) (line_at e.text)
+
+-- who sends a line
+abbrev sender : (settings : Settings) (e : Event) (account : Account) → get settings.terminals e.terminal ≡ Some account → Actor
+sender settings e account known = record { settings = settings; terminal = e.terminal; account = account; known = known }
+
+nat_kept : {X : Type 0} (m : FinMap nat_cmp X) (p : ℕ → Bool) (t : ℕ) → p t ≡ true → get (retain_keys m p) t ≡ get m t
+nat_kept m p t h = get_kept nat_cmp_total nat_cmp-IsAntisymmetric m p t h
+
+module _ (s : Accounts) (settings : Settings) (e : Event) (server : Server) where
+  -- ---- a member's terminal
+
+  tree_inside : (account : Account) → get settings.terminals e.terminal ≡ Some account → IsClosed settings s → IsFit settings server.world → is_inside s settings e.terminal ≡ true
+      → at_tree (cut_settings s settings) e (cut_server s settings server) account ≡ ((at_tree settings e server account).0, cut_server s settings (at_tree settings e server account).1)
+  tree_inside account known closed fit here =
+      let b : Actor = sender settings e account known in
+      let member : s account.name ≡ true = sym (ap (is_member s) known) ∙ here in
+      let p : Plan (Outcome Signal) = plan_in e account (get server.sessions e.terminal) in
+      let inside : InsidePlan s b p server.world = inside_plans s b p server.world closed member fit in
+      ap (λ o. ended e.terminal (cut_server s settings server) (perform (cut_ops s b) (plan_in e account o) (cut_world s settings server.world)))
+      (nat_kept server.sessions (is_inside s settings) e.terminal here)
+      ∙ (λ i. ended e.terminal (cut_server s settings server) (inside.outcome i, inside.world i))
+      ∙ ended_inside s settings e.terminal here server (perform (ops_of b) p server.world).0 (perform (ops_of b) p server.world).1
+
+  checked_inside : (long ascii : Bool) (account : Account) → get settings.terminals e.terminal ≡ Some account → IsClosed settings s → IsFit settings server.world → is_inside s settings e.terminal ≡ true
+      → checked long ascii (cut_settings s settings) e (cut_server s settings server) account ≡ ((checked long ascii settings e server account).0, cut_server s settings (checked long ascii settings e server account).1)
+  checked_inside true ascii account known closed fit here = refl
+  checked_inside false false account known closed fit here = refl
+  checked_inside false true account known closed fit here = tree_inside account known closed fit here
+
+  account_inside : (o : Option Account) → get settings.terminals e.terminal ≡ o → IsClosed settings s → IsFit settings server.world → is_inside s settings e.terminal ≡ true
+      → at_account (cut_settings s settings) e (cut_server s settings server) o ≡ ((at_account settings e server o).0, cut_server s settings (at_account settings e server o).1)
+  account_inside None known closed fit here = refl
+  account_inside (Some account) known closed fit here = checked_inside (is_too_long e.text) (is_ascii e.text) account known closed fit here
+
+  pub normal_inside : IsClosed settings s → IsFit settings server.world → is_inside s settings e.terminal ≡ true
+      → normal (cut_settings s settings) e (cut_server s settings server) ≡ ((normal settings e server).0, cut_server s settings (normal settings e server).1)
+  normal_inside closed fit here =
+      ap (at_account (cut_settings s settings) e (cut_server s settings server)) (nat_kept settings.terminals (is_inside s settings) e.terminal here)
+      ∙ account_inside (get settings.terminals e.terminal) refl closed fit here
+
+  run_inside : (account : Account) → get settings.terminals e.terminal ≡ Some account → IsClosed settings s → IsFit settings server.world → is_inside s settings e.terminal ≡ true
+      → exchanges (act (cut_settings s settings) e.terminal account.name) (plan_in e account (get (retain_keys server.sessions (is_inside s settings)) e.terminal)) (cut_world s settings server.world)
+      ≡ exchanges (act settings e.terminal account.name) (plan_in e account (get server.sessions e.terminal)) server.world
+  run_inside account known closed fit here =
+      let b : Actor = sender settings e account known in
+      let member : s account.name ≡ true = sym (ap (is_member s) known) ∙ here in
+      let inside : InsidePlan s b (plan_in e account (get server.sessions e.terminal)) server.world = inside_plans s b (plan_in e account (get server.sessions e.terminal)) server.world closed member fit in
+      ap (λ o. exchanges (cut_ops s b) (plan_in e account o) (cut_world s settings server.world)) (nat_kept server.sessions (is_inside s settings) e.terminal here)
+      ∙ inside.exchanges
+
+  asked_inside : (o : Option Account) → get settings.terminals e.terminal ≡ o → IsClosed settings s → IsFit settings server.world → is_inside s settings e.terminal ≡ true
+      → exchanges_by (cut_settings s settings) e (cut_server s settings server) o ≡ exchanges_by settings e server o
+  asked_inside None known closed fit here = refl
+  asked_inside (Some account) known closed fit here = ap (λ xs. if is_too_long e.text || not (is_ascii e.text) then [] else xs) (run_inside account known closed fit here)
+
+  pub exchanges_inside : IsClosed settings s → IsFit settings server.world → is_inside s settings e.terminal ≡ true
+      → line_exchanges (cut_settings s settings) e (cut_server s settings server) ≡ line_exchanges settings e server
+  exchanges_inside closed fit here =
+      ap (exchanges_by (cut_settings s settings) e (cut_server s settings server)) (nat_kept settings.terminals (is_inside s settings) e.terminal here)
+      ∙ asked_inside (get settings.terminals e.terminal) refl closed fit here
+
+  pub failed_inside : IsClosed settings s → IsFit settings server.world → is_inside s settings e.terminal ≡ true → (after : Server) → FailedStep settings e server after
+      → FailedStep (cut_settings s settings) e (cut_server s settings server) (cut_server s settings after)
+  failed_inside closed fit here after f =
+      let b : Actor = sender settings e f.account f.known in
+      let member : s f.account.name ≡ true = sym (ap (is_member s) f.known) ∙ here in
+      let p : Plan (Outcome Signal) = plan_in e f.account (get server.sessions e.terminal) in
+      let inside : InsidePlan s b p server.world = inside_plans s b p server.world closed member fit in
+      record {
+        account = f.account;
+        known = nat_kept settings.terminals (is_inside s settings) e.terminal here ∙ f.known;
+        short = f.short;
+        ascii = f.ascii;
+        operations = f.operations;
+        globals =
+            ap (λ g. retain_keys g (λ n. s n.account)) f.globals
+            ∙ sym (ap (λ o. (cut_short (cut_ops s b) f.operations (plan_in e f.account o) (cut_world s settings server.world)).globals) (nat_kept server.sessions (is_inside s settings) e.terminal here)
+            ∙ ap (λ w. w.globals) (inside.short f.operations));
+        locks = ap (cut_locks s settings) f.locks ∙ sym (released_cut s settings server.world.locks e.terminal);
+        sessions = ap (λ l. retain_keys l (is_inside s settings)) f.sessions ∙ sym (gone_inside s settings server.sessions e.terminal);
+      }
+
+  -- ---- another's terminal
+
+  tree_outside : (account : Account) → get settings.terminals e.terminal ≡ Some account → IsClosed settings s → is_inside s settings e.terminal ≡ false
+      → cut_server s settings (at_tree settings e server account).1 ≡ cut_server s settings server
+  tree_outside account known closed away =
+      let b : Actor = sender settings e account known in
+      let outsider : s account.name ≡ false = sym (ap (is_member s) known) ∙ away in
+      let p : Plan (Outcome Signal) = plan_in e account (get server.sessions e.terminal) in
+      let outside : OutsidePlan s b p server.world = outside_plans s b p server.world closed outsider in
+      ended_outside s settings e.terminal away server (perform (ops_of b) p server.world).0 (perform (ops_of b) p server.world).1 outside.world
+
+  checked_outside : (long ascii : Bool) (account : Account) → get settings.terminals e.terminal ≡ Some account → IsClosed settings s → is_inside s settings e.terminal ≡ false
+      → cut_server s settings (checked long ascii settings e server account).1 ≡ cut_server s settings server
+  checked_outside true ascii account known closed away = refl
+  checked_outside false false account known closed away = refl
+  checked_outside false true account known closed away = tree_outside account known closed away
+
+  account_outside : (o : Option Account) → get settings.terminals e.terminal ≡ o → IsClosed settings s → is_inside s settings e.terminal ≡ false
+      → cut_server s settings (at_account settings e server o).1 ≡ cut_server s settings server
+  account_outside None known closed away = refl
+  account_outside (Some account) known closed away = checked_outside (is_too_long e.text) (is_ascii e.text) account known closed away
+
+  pub normal_outside : IsClosed settings s → is_inside s settings e.terminal ≡ false → cut_server s settings (normal settings e server).1 ≡ cut_server s settings server
+  normal_outside closed away = account_outside (get settings.terminals e.terminal) refl closed away
+
+  pub failed_outside : IsClosed settings s → is_inside s settings e.terminal ≡ false → (after : Server) → FailedStep settings e server after → cut_server s settings after ≡ cut_server s settings server
+  failed_outside closed away after f =
+      let b : Actor = sender settings e f.account f.known in
+      let outsider : s f.account.name ≡ false = sym (ap (is_member s) f.known) ∙ away in
+      let p : Plan (Outcome Signal) = plan_in e f.account (get server.sessions e.terminal) in
+      let outside : OutsidePlan s b p server.world = outside_plans s b p server.world closed outsider in
+      let globals = ap (λ g. retain_keys g (λ n. s n.account)) f.globals ∙ ap (λ w. w.globals) (outside.short f.operations) in
+      let locks = ap (cut_locks s settings) f.locks ∙ released_outside s settings e.terminal away server.world.locks in
+      let sessions = ap (λ l. retain_keys l (is_inside s settings)) f.sessions ∙ gone_outside s settings server.sessions e.terminal away in
+      λ i. record { world = record { globals = globals i; locks = locks i }; sessions = sessions i }
+
+-- ---- steps, by whether their replies say that they failed
+
+pub inside_steps : InsideSteps
+inside_steps s settings e server closed fit here = record {
+  normal = normal_inside s settings e server closed fit here;
+  exchanges = exchanges_inside s settings e server closed fit here;
+  failed = failed_inside s settings e server closed fit here;
+  step = λ reply after h. by_kind (is_failure reply.ending) reply after h;
+}
+  where
+    by_kind : (b : Bool) (reply : Reply) (after : Server) → StepBy b settings e reply server after → StepBy b (cut_settings s settings) e reply (cut_server s settings server) (cut_server s settings after)
+    by_kind false reply after h = normal_inside s settings e server closed fit here ∙ ap (λ x. (x.0, cut_server s settings x.1)) h
+    by_kind true reply after h = (h.0, failed_inside s settings e server closed fit here after h.1)
+
+pub outside_steps : OutsideSteps
+outside_steps s settings e server closed away = record {
+  normal = normal_outside s settings e server closed away;
+  failed = failed_outside s settings e server closed away;
+  step = λ reply after h. by_kind (is_failure reply.ending) reply after h;
+}
+  where
+    by_kind : (b : Bool) (reply : Reply) (after : Server) → StepBy b settings e reply server after → cut_server s settings after ≡ cut_server s settings server
+    by_kind false reply after h = sym (ap (λ x. cut_server s settings x.1) h) ∙ normal_outside s settings e server closed away
+    by_kind true reply after h = failed_outside s settings e server closed away after h.1
+
+-- ---- fitting locks
+
+module _ (settings : Settings) (e : Event) (server : Server) (fit : IsFit settings server.world) where
+  tree_fits : (account : Account) → get settings.terminals e.terminal ≡ Some account → IsFit settings (at_tree settings e server account).1.world
+  tree_fits account known =
+      let b : Actor = sender settings e account known in
+      let p : Plan (Outcome Signal) = plan_in e account (get server.sessions e.terminal) in
+      ended_fits settings e.terminal server (perform (ops_of b) p server.world).0 (perform (ops_of b) p server.world).1 (plans_keep_fit b p server.world fit).whole
+
+  checked_fits : (long ascii : Bool) (account : Account) → get settings.terminals e.terminal ≡ Some account → IsFit settings (checked long ascii settings e server account).1.world
+  checked_fits true ascii account known = fit
+  checked_fits false false account known = fit
+  checked_fits false true account known = tree_fits account known
+
+  account_fits : (o : Option Account) → get settings.terminals e.terminal ≡ o → IsFit settings (at_account settings e server o).1.world
+  account_fits None known = fit
+  account_fits (Some account) known = checked_fits (is_too_long e.text) (is_ascii e.text) account known
+
+  kind_fits : (b : Bool) (reply : Reply) (after : Server) → StepBy b settings e reply server after → IsFit settings after.world
+  kind_fits false reply after h = subst (λ v. IsFit settings v.world) (ap (λ x. x.1) h) (account_fits (get settings.terminals e.terminal) refl)
+  kind_fits true reply after h = subst (AreFit settings) (sym h.1.locks) (released_fits settings server.world.locks e.terminal fit)
+
+pub steps_keep_fit : StepsKeepFit
+steps_keep_fit settings e reply server after h fit = kind_fits settings e server fit (is_failure reply.ending) reply after h
+
+pub steps_are_isolated : StepsAreIsolated
+steps_are_isolated settings e reply server after h fit s closed = record {
+  inside = λ here. let law : InsideStep s settings e server = inside_steps s settings e server closed fit here in law.step reply after h;
+  outside = λ away. let law : OutsideStep s settings e server = outside_steps s settings e server closed away in law.step reply after h;
+  fit = steps_keep_fit settings e reply server after h fit;
+}

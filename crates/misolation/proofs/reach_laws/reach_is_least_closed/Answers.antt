@@ -1,0 +1,5 @@
+use Rattle.misolation.proofs.Reaching.{reach_is_least_closed}
+use Rattle.misolation.proofs.reach_laws.reach_is_least_closed.Goals as goal
+
+pub returns : goal.returns
+returns c = reach_is_least_closed

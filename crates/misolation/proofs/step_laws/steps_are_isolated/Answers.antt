@@ -1,0 +1,5 @@
+use Rattle.misolation.proofs.Steps.{steps_are_isolated}
+use Rattle.misolation.proofs.step_laws.steps_are_isolated.Goals as goal
+
+pub returns : goal.returns
+returns c = steps_are_isolated

@@ -1,0 +1,21 @@
+-- When two servers and what is sent to them agree for an account: on all that reaches it.
+use Rattle.std.specs.Prelude.{◌≡◌, List}
+use Rattle.mspec.specs.Node.{Text}
+use Rattle.mspec.specs.Access.{Settings}
+use Rattle.mmeaning.specs.Step.{Server, Event}
+use Rattle.misolation.specs.Reach.{reach}
+use Rattle.misolation.specs.Cut.{cut_settings, cut_server, cut_events}
+
+-- where lines are run, and which
+pub record Run : Type 0 where
+  pub settings : Settings
+  pub server : Server
+  pub events : List Event
+
+-- The same accounts reach `a`, and of these both have the same settings and grants, globals, sessions, locks and lines. All else
+-- may differ.
+pub record Agree (a : Text) (one two : Run) : Type 0 where
+  pub reaching : (x : Text) → reach one.settings a x ≡ reach two.settings a x
+  pub settings : cut_settings (reach one.settings a) one.settings ≡ cut_settings (reach two.settings a) two.settings
+  pub server : cut_server (reach one.settings a) one.settings one.server ≡ cut_server (reach two.settings a) two.settings two.server
+  pub events : cut_events (reach one.settings a) one.settings one.events ≡ cut_events (reach two.settings a) two.settings two.events

@@ -1,0 +1,100 @@
+-- The laws of histories, as statements. The functions of src/ named after them carry them.
+use Rattle.std.specs.Prelude.{◌≡◌, ◌↔◌, List, map}
+use Rattle.std.specs.FinMap.{retain_keys}
+use Rattle.mspec.specs.Node.{Text}
+use Rattle.mspec.specs.Globals.{Globals}
+use Rattle.mspec.specs.Access.{Settings}
+use Rattle.mmeaning.specs.Step.{Server, Event, Reply}
+use Rattle.mmeaning.specs.History.{History, opening, server_after, answered, NoneFailed}
+use Rattle.misolation.specs.Reach.{Accounts, IsClosed, reach}
+use Rattle.misolation.specs.Cut.{cut_settings, cut_server, cut_events, part, IsFit}
+use Rattle.misolation.specs.Alone.{alone, only}
+use Rattle.misolation.specs.Trace.{Moment, Trace, lines_of, left_by, cut_trace}
+use Rattle.misolation.specs.Agreement.{Run, Agree}
+
+abbrev pub events_of : List (Event × Reply) → List Event
+events_of es = map (λ e. e.0) es
+
+-- the members' part of a history is a history over the cuts, whichever of all its steps failed
+abbrev pub PartIsHistory : Type 0
+PartIsHistory =
+    (s : Accounts) (settings : Settings) (server after : Server) (es : List (Event × Reply)) → IsClosed settings s → IsFit settings server.world →
+    History settings server es after → History (cut_settings s settings) (cut_server s settings server) (part s settings es) (cut_server s settings after)
+
+-- a history is what a trace tells without the servers between
+abbrev pub HistoryHasTrace : Type 0
+HistoryHasTrace =
+    (settings : Settings) (server after : Server) (es : List (Event × Reply)) →
+    History settings server es after ↔ ((ms : List Moment) × Trace settings server ms × (lines_of ms ≡ es) × (left_by server ms ≡ after))
+
+-- and of a trace too the members' part is one over the cuts: each server between is cut
+pub record PartOfTrace (s : Accounts) (settings : Settings) (server : Server) (ms : List Moment) : Type 0 where
+  pub steps : Trace (cut_settings s settings) (cut_server s settings server) (cut_trace s settings ms)
+  pub lines : lines_of (cut_trace s settings ms) ≡ part s settings (lines_of ms)
+  pub left : left_by (cut_server s settings server) (cut_trace s settings ms) ≡ cut_server s settings (left_by server ms)
+
+abbrev pub PartIsTrace : Type 0
+PartIsTrace =
+    (s : Accounts) (settings : Settings) (server : Server) (ms : List Moment) → IsClosed settings s → IsFit settings server.world →
+    Trace settings server ms → PartOfTrace s settings server ms
+
+-- the members' lines have the replies that they have alone, and leave what they leave alone
+pub record IsAlone (s : Accounts) (settings : Settings) (server after : Server) (es : List (Event × Reply)) : Type 0 where
+  pub lines : part s settings es ≡ alone s settings server (events_of es)
+  pub left : cut_server s settings after ≡ server_after (cut_settings s settings) (cut_server s settings server) (cut_events s settings (events_of es))
+
+-- so it is where none of the members' steps failed, whichever others did
+abbrev pub PartIsAlone : Type 0
+PartIsAlone =
+    (s : Accounts) (settings : Settings) (server after : Server) (es : List (Event × Reply)) → IsClosed settings s → IsFit settings server.world →
+    History settings server es after → NoneFailed (part s settings es) → IsAlone s settings server after es
+
+-- and so it always is of the definitional interpreter, whose steps never fail: run on all lines, it gives the members' lines the replies
+-- that it gives them alone
+abbrev pub InterpreterIsolates : Type 0
+InterpreterIsolates =
+    (s : Accounts) (settings : Settings) (server : Server) (events : List Event) → IsClosed settings s → IsFit settings server.world →
+    part s settings (answered settings server events) ≡ alone s settings server events
+
+-- The isolation theorem: for all settings, globals and lines, the replies at an account's terminals are those that it gets where there
+-- is nothing but what reaches it, if no line of an account that reaches it failed.
+abbrev pub Isolation : Type 0
+Isolation =
+    (settings : Settings) (a : Text) (globals : Globals) (es : List (Event × Reply)) (after : Server) → History settings (opening globals) es after →
+    NoneFailed (part (reach settings a) settings es) →
+    part (only a) settings es ≡ part (only a) settings (alone (reach settings a) settings (opening globals) (events_of es))
+
+-- the premises of these laws are met: no lock is held where the first line comes
+abbrev pub OpeningIsFit : Type 0
+OpeningIsFit = (settings : Settings) (globals : Globals) → IsFit settings (opening globals).world
+
+-- and histories keep them
+abbrev pub HistoriesKeepFit : Type 0
+HistoriesKeepFit =
+    (settings : Settings) (server after : Server) (es : List (Event × Reply)) → History settings server es after →
+    IsFit settings server.world → IsFit settings after.world
+
+-- what is left of an opening server is the opening server of the members' globals
+abbrev pub OpeningIsCut : Type 0
+OpeningIsCut =
+    (s : Accounts) (settings : Settings) (globals : Globals) →
+    cut_server s settings (opening globals) ≡ opening (retain_keys globals (λ n. s n.account))
+
+-- the run's lines got these replies and left this server, and no line of an account that reaches `a` failed
+pub record Answered (a : Text) (run : Run) (es : List (Event × Reply)) (after : Server) : Type 0 where
+  pub events : events_of es ≡ run.events
+  pub history : History run.settings run.server es after
+  pub none_failed : NoneFailed (part (reach run.settings a) run.settings es)
+
+-- the same lines with the same replies, at the terminals of the accounts that reach `a` and at its own, and the same is left to these
+pub record SameReplies (a : Text) (one two : Run) (es fs : List (Event × Reply)) (first second : Server) : Type 0 where
+  pub reaching : part (reach one.settings a) one.settings es ≡ part (reach two.settings a) two.settings fs
+  pub own : part (only a) one.settings es ≡ part (only a) two.settings fs
+  pub left : cut_server (reach one.settings a) one.settings first ≡ cut_server (reach two.settings a) two.settings second
+
+-- two runs that agree for an account give it the same replies, however long each is and whatever else is in it
+abbrev pub AgreeingReplies : Type 0
+AgreeingReplies =
+    (a : Text) (one two : Run) → Agree a one two → IsFit one.settings one.server.world → IsFit two.settings two.server.world →
+    (es fs : List (Event × Reply)) (first second : Server) → Answered a one es first → Answered a two fs second →
+    SameReplies a one two es fs first second

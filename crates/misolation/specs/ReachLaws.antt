@@ -1,0 +1,19 @@
+-- The laws of reach, as statements. The functions of src/ named after them carry them.
+use Rattle.std.specs.Prelude.{IsTrue, ◌↔◌}
+use Rattle.mspec.specs.Node.{Text}
+use Rattle.mspec.specs.Access.{Settings}
+use Rattle.mspec.specs.Flow.{Reaches}
+use Rattle.misolation.specs.Reach.{Accounts, IsClosed, reach}
+
+-- what is computed is the least closed set that has the account
+pub record IsLeastClosed (settings : Settings) (a : Text) (s : Accounts) : Type 0 where
+  pub has : IsTrue (s a)
+  pub closed : IsClosed settings s
+  pub least : (other : Accounts) → IsClosed settings other → IsTrue (other a) → (x : Text) → IsTrue (s x) → IsTrue (other x)
+
+abbrev pub ReachIsLeastClosed : Type 0
+ReachIsLeastClosed = (settings : Settings) (a : Text) → IsLeastClosed settings a (reach settings a)
+
+-- a chain of flows leads to the account exactly from the members
+abbrev pub ReachIsChains : Type 0
+ReachIsChains = (settings : Settings) (a x : Text) → IsTrue (reach settings a x) ↔ Reaches settings x a

@@ -1,0 +1,56 @@
+// The laws of histories. Each function's contract is the law, and its body is empty: the code never calls them.
+ghost use Rattle.misolation.specs.HistoryLaws.{PartIsHistory, HistoryHasTrace, PartIsTrace, PartIsAlone, InterpreterIsolates, OpeningIsFit, HistoriesKeepFit, Isolation, OpeningIsCut, AgreeingReplies};
+
+/// The part of every history at the terminals of a closed set, its worlds cut to the set, is a history over the cuts, whichever of
+/// its steps failed.
+pub fn part_is_history()
+    ensures { PartIsHistory }
+{}
+
+/// A history is what a trace tells without the servers between its steps.
+pub fn history_has_trace()
+    ensures { HistoryHasTrace }
+{}
+
+/// Of a trace too the members' part is one over the cuts, each server between its steps cut to the set.
+pub fn part_is_trace()
+    ensures { PartIsTrace }
+{}
+
+/// Where none of the members' own steps failed, their lines have the replies that they have alone, and leave what they leave alone.
+pub fn part_is_alone()
+    ensures { PartIsAlone }
+{}
+
+/// The definitional interpreter, whose steps never fail, gives the members' lines among all others the replies that it gives them
+/// alone.
+pub fn interpreter_isolates()
+    ensures { InterpreterIsolates }
+{}
+
+/// The isolation theorem: for all settings, globals and lines, the replies at an account's terminals are those that it gets where
+/// there is nothing but the accounts that reach it, if no line of one of these failed.
+pub fn isolation()
+    ensures { Isolation }
+{}
+
+/// A server before its first line has fitting locks: none is held.
+pub fn opening_is_fit()
+    ensures { OpeningIsFit }
+{}
+
+/// Histories keep every lock on a name that its terminal's account may hold.
+pub fn histories_keep_fit()
+    ensures { HistoriesKeepFit }
+{}
+
+/// What is left of an opening server is the opening server of the members' globals.
+pub fn opening_is_cut()
+    ensures { OpeningIsCut }
+{}
+
+/// Two runs that agree on the accounts that reach an account give it the same replies, however long each is and whatever else is in
+/// it, if no line of these accounts failed in either; and what they leave agrees as well.
+pub fn agreeing_replies()
+    ensures { AgreeingReplies }
+{}

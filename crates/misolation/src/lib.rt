@@ -1,0 +1,81 @@
+//! Isolation: what a host may promise each of its customers, as laws over the definitions.
+//!
+//! # The promise
+//!
+//! A host keeps the programs and the records of several customers in one server: a clinic, a laboratory, a bank. Each has an
+//! account, and terminals that are the account's own. Lines come from all terminals in any order, each is run to its end and
+//! answered before the next, and they may take locks, use up their steps, or fail for want of memory. The host says to the clinic:
+//!
+//! > Each reply that you get is the one that you would get from a server which has nothing but you and those whom grants tie to
+//! > you: their globals, their locks, their lines, the grants among you. Whatever any other customer stores, locks, runs or
+//! > exhausts, it shows in none of your replies, nor does that there is such a customer at all. This holds while no line of
+//! > yours, or of those tied to you, is answered `ZMEM` or `ZSTORE`; and past such a line nothing of others shows either.
+//!
+//! # Whom grants tie
+//!
+//! An account *flows* to another where its doings can show there: where it grants that other anything, since what it stores is
+//! then read there; and where it is let write there, since what it stores and locks there is seen by the owner. A chain of such
+//! steps *reaches*. So where the laboratory lets the clinic read its results, the laboratory reaches the clinic, and the clinic
+//! does not reach the laboratory. Where the clinic lets the bank write its bills, each of the two reaches the other. Whoever has
+//! no grant, given or taken, is reached by itself alone.
+//!
+//! `reach` computes the accounts that reach one. It is the least *closed* set that has that account (`reach_is_least_closed`): a
+//! set of accounts is closed where each account that flows to a member is a member. And a chain leads to the account exactly from
+//! its members (`reach_is_chains`).
+//!
+//! # What is left where there is nothing else
+//!
+//! The *cut* to a set of accounts keeps, of the settings, the members with their steps and terminals, and the grants from members
+//! to members; of a server, the members' globals, and the sessions and the locks of their terminals; of lines, those at their
+//! terminals. *Alone*, the members' lines get the replies that the definitional interpreter gives over these three cuts.
+//!
+//! # The laws
+//!
+//! For every closed set, every settings, and every server on which each lock is on a name that its terminal's account may hold:
+//!
+//! - **Inside.** What is done for a member's terminal is done as if there were the cut alone, with the same answers.
+//! - **Outside.** What is done for any other terminal leaves the cut as it was.
+//!
+//! | Of | Inside | Outside |
+//! |---|---|---|
+//! | an operation on globals and locks | `inside_operations` | `outside_operations` |
+//! | a plan, which is whatever a line may do, whole or cut short | `inside_plans` | `outside_plans` |
+//! | a step: a line that is run, or one that failed | `inside_steps` | `outside_steps` |
+//!
+//! `steps_are_isolated` says both of a step in one, for calls that make steps. What is asked of the locks is so before the first
+//! line, when none is held (`opening_is_fit`), and everything keeps it so (`plans_keep_fit`, `steps_keep_fit`,
+//! `histories_keep_fit`, `cut_is_fit`).
+//!
+//! From the two laws, for histories of any length:
+//!
+//! - The members' part of a history is a history over the cuts, whichever of its steps failed (`part_is_history`). So it is also
+//!   with the servers between the steps written out, each of them cut (`part_is_trace`, `history_has_trace`).
+//! - Where none of the members' own steps failed, their lines have the replies that they have alone, and leave what they leave
+//!   alone (`part_is_alone`). Others' steps may have failed. Of the definitional interpreter itself this is always so, since its
+//!   steps never fail (`interpreter_isolates`).
+//! - **The isolation theorem**: for all settings, globals and lines, the replies at an account's terminals are those that it has
+//!   alone with the accounts that reach it, if no line of these failed (`isolation`, with `opening_is_cut`).
+//! - Two servers that agree on all that reaches an account give it the same replies, however they differ in all else, and agree
+//!   still when their lines are run (`agreeing_replies`).
+//!
+//! # What is not promised
+//!
+//! That no line fails: memory and the store are one for all, so what others use may be missing here. A line that failed says so
+//! (`ZMEM`, `ZSTORE`), its terminal's session and locks are gone, of its writes a first part stands, and that is all that it
+//! shows. How long a line takes. Anything about accounts that a chain of grants ties to one's own: that is what a grant is for.
+//!
+//! # How far it goes
+//!
+//! The laws speak of plans of operations and never of commands, so they hold whatever the language has: a new command changes
+//! nothing here, and a new operation is one more case of either law. The definitions that they speak of stand in `mspec` (settings,
+//! `Flow`, locks, plans) and in `mmeaning` (`World`, `Step`, `History`). That the program's steps are those of the definitions is said
+//! by the contracts of the program. `proofs/IsolationExamples.antt` has the clinic, the laboratory and the bank as proved equations:
+//! apart from them the bank is not seen, even while its lines fail; and with leave to write bills it is no outsider any more.
+//!
+//! Each law is the contract of a function with an empty body, which no code calls.
+#![tactic(auto)]
+
+pub mod history_laws;
+pub mod plan_laws;
+pub mod reach_laws;
+pub mod step_laws;

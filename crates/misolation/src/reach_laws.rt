@@ -1,0 +1,12 @@
+// The laws of reach. Each function's contract is the law, and its body is empty: the code never calls them.
+ghost use Rattle.misolation.specs.ReachLaws.{ReachIsLeastClosed, ReachIsChains};
+
+/// The set that `reach` computes is the least closed set that has the account.
+pub fn reach_is_least_closed()
+    ensures { ReachIsLeastClosed }
+{}
+
+/// A chain of flows leads to the account exactly from the members of that set.
+pub fn reach_is_chains()
+    ensures { ReachIsChains }
+{}

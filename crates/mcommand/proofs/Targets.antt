@@ -29,6 +29,10 @@ use Rattle.mcommand.specs.Does.{Does, here_of}
 use Rattle.mcommand.specs.Pendings.{pending_view}
 use Rattle.mcommand.proofs.Calls.{does_then, does_failed, does_stopped, does_yielded, does_gives, does_last}
 
+-- a piece, once its place is a number
+abbrev piece_given : (name d x : Text) → Option ℤ → Text → Act (Unit {0})
+piece_given name d x n old = outcome (set_piece_of old d n x) >>= set_local name
+
 module _ {S : Type 0} {g : Ghosts S} where
   -- ---- pieces
 
@@ -50,24 +54,20 @@ module _ {S : Type 0} {g : Ghosts S} where
   refused_by wanted fault.TooLong parts e = subst (λ w. Does g (λ i. outcome w) (λ (t : Text). t) parts (Err (fault_code fault.TooLong)) parts) (sym e) (does_yielded (record { ends = λ s. refl }))
   refused_by wanted fault.Memory parts e = does_yielded (record { ends = tt })
 
-  -- a piece, once its place is a number
   module _ (name d x : Text) where
-    abbrev piece_given : Option ℤ → Text → Act (Unit {0})
-    piece_given n old = outcome (set_piece_of old d n x) >>= set_local name
-
     pub part_assigned : (place : Option Text) (n : Option ℤ) (old made : Text) (parts new : Parts S) (r : Result (Unit {0}) Code) → Yields fault_of (as_whole_or_none place) (λ (n : Option ℤ). n) (Ok n)
         → old ≡ unwrap_or (value_of parts.eval.session.now.locals name) [] → Answers (set_piece_of old d n x) (Ok made) → Does g (λ i. set_local name made) (λ (u : Unit {0}). u) parts r new
         → Does g (λ i. meaning.assigned x (meaning.part name d place)) (λ u. u) parts r new
     part_assigned place n old made parts new r number found made_is k =
-        does_then (λ i n. meaning.text_or_empty name >>= piece_given n) (does_yielded number)
-        (does_then (λ i. piece_given n) (text_found parts name old found) (does_then (λ i. set_local name) (text_made (set_piece_of old d n x) made parts made_is) k))
+        does_then (λ i n. meaning.text_or_empty name >>= piece_given name d x n) (does_yielded number)
+        (does_then (λ i. piece_given name d x n) (text_found parts name old found) (does_then (λ i. set_local name) (text_made (set_piece_of old d n x) made parts made_is) k))
 
     pub part_refused : (place : Option Text) (n : Option ℤ) (old : Text) (f : TextFault) (parts : Parts S) (r : Result (Unit {0}) Code) → Yields fault_of (as_whole_or_none place) (λ (n : Option ℤ). n) (Ok n)
         → old ≡ unwrap_or (value_of parts.eval.session.now.locals name) [] → Answers (set_piece_of old d n x) (Err f) → IsErr r × IsErrAnd r (λ e. e ≡ fault_code f)
         → Does g (λ i. meaning.assigned x (meaning.part name d place)) (λ u. u) parts r parts
     part_refused place n old f parts r number found refused e =
-        does_then (λ i n. meaning.text_or_empty name >>= piece_given n) (does_yielded number)
-        (does_then (λ i. piece_given n) (text_found parts name old found) (does_stopped (λ i. set_local name) (refused_by (set_piece_of old d n x) f parts refused) e))
+        does_then (λ i n. meaning.text_or_empty name >>= piece_given name d x n) (does_yielded number)
+        (does_then (λ i. piece_given name d x n) (text_found parts name old found) (does_stopped (λ i. set_local name) (refused_by (set_piece_of old d n x) f parts refused) e))
 
   -- ---- lists of targets
 

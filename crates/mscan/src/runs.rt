@@ -6,7 +6,7 @@ ghost use Rattle.mscan.specs.Classes.{in_class};
 ghost use Rattle.mscan.specs.Gives.{Gives};
 
 use crate::fault::ParseFault;
-use mnum::Bytes7;
+use mnum::{Bytes7, Name};
 use std::alloc::Global;
 
 /// A kind of characters.
@@ -97,7 +97,7 @@ const MAX_NAME: usize = 31;
 /// The name that a text begins with, of at most 31 characters, and what follows it. `Syntax` where it begins with none, `Memory` for
 /// want of memory.
 #[tactic(auto, unfolding(mgrammar::specs::Reading::name_at))]
-pub fn name(alloc: Global, bytes: &[u8]) -> Result<(Bytes7, &[u8]), ParseFault>
+pub fn name(alloc: Global, bytes: &[u8]) -> Result<(Name, &[u8]), ParseFault>
     ensures { Gives (λ x. (x.0, x.1.now)) result (name_at bytes.now) }
 {
     let Some((first, more)) = bytes.split_first() else {
@@ -107,9 +107,7 @@ pub fn name(alloc: Global, bytes: &[u8]) -> Result<(Bytes7, &[u8]), ParseFault>
     if !Class::NameStart.has(*first) || tail.len() >= MAX_NAME {
         return Err(ParseFault::Syntax);
     }
-    let mut name = Bytes7::empty(alloc);
-    name.push(*first)?;
-    name.append(tail)?;
+    let name = Name::from_slice(alloc, &bytes[..1 + tail.len()])?;
     Ok((name, rest))
 }
 

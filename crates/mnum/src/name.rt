@@ -13,6 +13,9 @@ use std::cmp::Ordering;
 use std::hash::{Hash, Hasher};
 use std::marker::Model;
 
+/// The most characters of a name.
+pub const LONGEST_NAME: usize = 31;
+
 // Whether a name can begin with the character: a letter, or `%`.
 fn starts_name(c: u8) -> bool
     ensures { result ≡ is_name_start c }
@@ -38,7 +41,7 @@ fn continue_name(text: &[u8]) -> bool
 fn is_name(text: &[u8]) -> bool
     ensures { IsTrue result ↔ IsName text.now }
 {
-    if text.is_empty() || text.len() > 31 {
+    if text.is_empty() || text.len() > LONGEST_NAME {
         return false;
     }
     starts_name(text[0]) && continue_name(&text[1..])

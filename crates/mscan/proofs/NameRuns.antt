@@ -1,5 +1,5 @@
 -- What is read as a name, as a part of the text.
-use Rattle.std.proofs.Common.{◌≡◌, ℕ, suc, ◌+◌, ◌<◌, true, List, ◌∷◌, ◌++◌, length, take, Some, refl, sym, ap, ◌∙◌, arith}
+use Rattle.std.proofs.Common.{◌≡◌, ℕ, suc, ◌+◌, ◌≤◌, true, List, ◌∷◌, ◌++◌, length, take, Some, refl, sym, ap, ◌∙◌, arith}
 use Rattle.std.specs.Prelude.{◌&&◌, nat_le}
 use Rattle.std.proofs.Math.Seq.{take-append_seam}
 use Rattle.std.proofs.lemmas.Bool.Decides.{nat_tests}
@@ -21,11 +21,11 @@ module _ {text more run : List ℕ} {c : ℕ} (begins : text ≡ c ∷ more) (ru
   name_length = let count : 1 + length run ≡ suc (length run) = omega arith in count ∙ ap length (sym name_front)
 
   -- and are read as a name
-  pub name_reads : is_name_start c ≡ true → length run < 31 → name_at text ≡ Some (take (1 + length run) text, after_run is_name_rest more)
+  pub name_reads : is_name_start c ≡ true → length run ≤ 30 → name_at text ≡ Some (take (1 + length run) text, after_run is_name_rest more)
   unfolding name_at
   name_reads start short =
       let t : is_name_start c && nat_le (length run) 30 ≡ true = grind (arith, nat_tests, start, short) in
       rw name_front (rw (begins, ← runs, t) refl)
 
-  pub name_is : is_name_start c ≡ true → length run < 31 → IsName (take (1 + length run) text)
+  pub name_is : is_name_start c ≡ true → length run ≤ 30 → IsName (take (1 + length run) text)
   name_is start short = (name_takes text (take (1 + length run) text, after_run is_name_rest more) (name_reads start short)).1

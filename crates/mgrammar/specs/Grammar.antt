@@ -300,7 +300,7 @@ keyword_of w =
     if is_either (codes "s") (codes "set") w then Some set_word
     else (if is_either (codes "w") (codes "write") w then Some write_word else None)
 
--- what a command's arguments look like
+-- what a command's arguments look like; no text is one of the form `nothing`, that of commands that take none
 pub data FormTree : Type 0 where
   assignment : FormTree
   output : FormTree
@@ -449,7 +449,7 @@ abbrev pub WellDestination : DestinationTree → Type 0
 WellDestination (one t) = WellTarget max_depth t
 WellDestination (several ts) = WellList (WellTarget (max_depth - 1)) ts
 
--- an argument of this form
+-- an argument of this form; any other is none
 abbrev pub WellArg : FormTree → ArgTree → Type 0
 WellArg assignment (assign d e) = WellDestination d × WellExpr max_depth e
 WellArg output (breaks n) = 0 < n
@@ -461,7 +461,8 @@ WellCommand c =
     (keyword_of c.word ≡ Some c.keyword) × AllAre is_letter c.word × (takes_args c.keyword (length c.args) ≡ true)
     × WellAll (WellArg (form_of c.keyword)) c.args
 
--- how many spaces stand at least between a command with these arguments and another one
+-- how many spaces stand at least between a command with these arguments and another one: behind a command without arguments
+-- one space would look like that before the first
 abbrev pub least_gap : List ArgTree → ℕ
 least_gap [] = 2
 least_gap (a ∷ rest) = 1

@@ -3,7 +3,6 @@ pub mod Pushes
 pub mod ShortTexts
 pub mod Keys
 pub mod TextFronts
-pub mod NameTests
 pub mod SubscriptFronts
 pub mod SubscriptLists
 pub mod SubsKeys

@@ -10,10 +10,10 @@ ghost use Rattle.mspec.specs.NodeOrder.{canonical_value};
 ghost use Rattle.mspec.specs.Number.{significant_digits, IsNumber};
 
 use crate::encoding::RAISE;
-use crate::names::{is_account_name, is_name};
+use crate::names::is_account_name;
 use crate::place::canonical;
 use crate::subs::{Subs, is_subscript};
-use mnum::{Bytes7, Num};
+use mnum::{Bytes7, Num, is_name};
 use std::alloc::{AllocError, Global};
 
 // Room for most texts of keys.

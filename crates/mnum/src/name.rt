@@ -13,6 +13,9 @@ use std::cmp::Ordering;
 use std::hash::{Hash, Hasher};
 use std::marker::Model;
 
+/// The most characters of a name.
+pub const LONGEST_NAME: usize = 31;
+
 // Whether a name can begin with the character: a letter, or `%`.
 fn starts_name(c: u8) -> bool
     ensures { result ≡ is_name_start c }
@@ -34,14 +37,15 @@ fn continue_name(text: &[u8]) -> bool
     text.iter().all(|c| continues_name(*c))
 }
 
-// Whether this is a name: a letter or `%` with at most 30 letters or digits behind it.
-fn is_name(text: &[u8]) -> bool
+/// Whether this is a name: a letter or `%` with at most 30 letters or digits behind it. Takes no memory.
+pub fn is_name(text: &Bytes7) -> bool
     ensures { IsTrue result ↔ IsName text.now }
 {
-    if text.is_empty() || text.len() > 31 {
+    let characters = text.as_bytes();
+    if characters.is_empty() || characters.len() > LONGEST_NAME {
         return false;
     }
-    starts_name(text[0]) && continue_name(&text[1..])
+    starts_name(characters[0]) && continue_name(&characters[1..])
 }
 
 /// A name: a letter or `%` with at most 30 letters or digits behind it. Contracts see it as its list of bytes, and what
@@ -73,7 +77,7 @@ impl Name {
         ensures name { IfOk result (λ name. name ≡ text) }
         ensures handed_back { IfErr result (λ same. same ≡ text) }
     {
-        if is_name(text.as_bytes()) {
+        if is_name(&text) {
             Ok(Name { text })
         } else {
             Err(text)

@@ -1,9 +1,9 @@
-// How many arguments a function takes.
+// How many arguments a function or a command takes.
 ghost use Rattle.std.specs.Prelude.{◌≡◌};
-ghost use Rattle.mgrammar.specs.Grammar.{takes};
-ghost use Rattle.mtree.specs.Tree.{function_tree};
+ghost use Rattle.mgrammar.specs.Grammar.{takes, takes_args};
+ghost use Rattle.mtree.specs.Tree.{function_tree, keyword_tree};
 
-use mtree::Function;
+use mtree::{Function, Keyword};
 
 // Whether the function takes so many arguments; those of $SELECT are of another form.
 pub fn takes(function: Function, count: usize) -> bool
@@ -17,5 +17,14 @@ pub fn takes(function: Function, count: usize) -> bool
         Function::Justify => count == 2,
         Function::Piece => 2 <= count && count <= 4,
         Function::Select => false,
+    }
+}
+
+// Whether the command takes so many arguments.
+pub fn takes_args(keyword: Keyword, count: usize) -> bool
+    ensures { result ≡ takes_args (keyword_tree keyword) count }
+{
+    match keyword {
+        Keyword::Set | Keyword::Write => 1 <= count,
     }
 }

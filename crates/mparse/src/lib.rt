@@ -2,6 +2,7 @@
 #![tactic(auto)]
 
 mod arity;
+mod command;
 mod expr;
 mod line;
 mod list;

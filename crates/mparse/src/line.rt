@@ -1,28 +1,15 @@
-// Commands and lines.
+// Lines: commands with spaces between, and a comment.
 ghost use Rattle.std.specs.Prelude.{◌≡◌, length, map, IfOk, Err, option_map};
-ghost use Rattle.mgrammar.specs.Grammar.{OutputTree, LineTree, spell, well};
-ghost use Rattle.mgrammar.specs.Reading.{many, output_at, command_at, at_end, spaced_at, comment_at, line_at};
-ghost use Rattle.mtree.specs.Tree.{output_tree, command_tree, spaced_tree, line_tree};
+ghost use Rattle.mgrammar.specs.Grammar.{LineTree, least_gap, spell, well};
+ghost use Rattle.mgrammar.specs.Reading.{many, at_end, spaced_at, comment_at, line_at};
+ghost use Rattle.mtree.specs.Tree.{arg_tree, spaced_tree, line_tree};
 ghost use Rattle.mscan.specs.Gives.{Gives};
 
-use crate::expr::{MAX_DEPTH, expr};
-use crate::list::{Item, list};
+use crate::command::command;
 use mnum::Bytes7;
 use mscan::{Class, ParseFault, run};
-use mtree::{Assignment, Command, Keyword, Line, Output, Spaced, keyword_of};
+use mtree::{Arg, Line, Spaced};
 use std::alloc::Global;
-
-#[tactic(auto, unfolding(mgrammar::specs::Reading::output_at))]
-fn output(alloc: Global, bytes: &[u8]) -> Result<(Output, &[u8]), ParseFault>
-    ensures { Gives (λ x. (output_tree x.0, x.1.now)) result (output_at bytes.now) }
-{
-    let (bangs, rest) = run(Class::Bang, bytes);
-    if !bangs.is_empty() {
-        return Ok((Output::Breaks(bangs.len()), rest));
-    }
-    let (value, rest) = expr(alloc, bytes, MAX_DEPTH)?;
-    Ok((Output::Value(value), rest))
-}
 
 fn is_at_end(bytes: &[u8]) -> bool
     ensures { result ≡ at_end bytes.now }
@@ -47,42 +34,13 @@ fn comment(alloc: Global, bytes: &[u8]) -> Result<Option<Bytes7>, ParseFault>
     Ok(Some(Bytes7::from_slice(alloc, text)?))
 }
 
-impl Item for Output {
-    ghost Tree = { OutputTree };
-
-    ghost tree = { output_tree };
-
-    ghost read = { output_at };
-
-    fn item(alloc: Global, bytes: &[u8]) -> Result<(Output, &[u8]), ParseFault> {
-        output(alloc, bytes)
-    }
-}
-
-#[tactic(auto, unfolding(mgrammar::specs::Reading::command_at))]
-fn command(alloc: Global, bytes: &[u8]) -> Result<(Command, &[u8]), ParseFault>
-    ensures { Gives (λ x. (command_tree x.0, x.1.now)) result (command_at bytes.now) }
+// How many spaces stand at least between a command with these arguments and another one.
+fn least_gap(args: &[Arg]) -> usize
+    ensures { result ≡ least_gap (map arg_tree args.now) }
 {
-    let (letters, rest) = run(Class::Letter, bytes);
-    let Some((b' ', rest)) = rest.split_first() else {
-        return Err(ParseFault::Syntax);
-    };
-    match keyword_of(letters) {
-        None => Err(ParseFault::Syntax),
-        Some(Keyword::Set) => {
-            let (arguments, rest) = list::<Assignment>(alloc, rest)?;
-            Ok((
-                Command::Set(Bytes7::from_slice(alloc, letters)?, arguments),
-                rest,
-            ))
-        }
-        Some(Keyword::Write) => {
-            let (arguments, rest) = list::<Output>(alloc, rest)?;
-            Ok((
-                Command::Write(Bytes7::from_slice(alloc, letters)?, arguments),
-                rest,
-            ))
-        }
+    match args {
+        [] => 2,
+        _ => 1,
     }
 }
 
@@ -95,10 +53,10 @@ fn next_command(alloc: Global, bytes: &[u8]) -> Result<Option<(Spaced, &[u8])>, 
     }
     let (command, rest) = command(alloc, bytes)?;
     let (spaces, rest) = run(Class::Space, rest);
-    if !is_at_end(rest) && spaces.is_empty() {
+    let spaces = spaces.len();
+    if !is_at_end(rest) && spaces < least_gap(&command.args) {
         return Err(ParseFault::Syntax);
     }
-    let spaces = spaces.len();
     Ok(Some((Spaced { command, spaces }, rest)))
 }
 

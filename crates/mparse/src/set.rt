@@ -1,15 +1,15 @@
 // What SET assigns to.
 ghost use Rattle.std.specs.Prelude.{◌-◌, option_map};
 ghost use Rattle.mgrammar.specs.Reading.{readers_at, place_with, piece_with, target_with, destination_at, assignment_at};
-ghost use Rattle.mgrammar.specs.Grammar.{TargetTree, AssignmentTree, max_depth};
-ghost use Rattle.mtree.specs.Tree.{expr_tree, target_tree, destination_tree, assignment_tree};
+ghost use Rattle.mgrammar.specs.Grammar.{TargetTree, max_depth};
+ghost use Rattle.mtree.specs.Tree.{expr_tree, target_tree, destination_tree, arg_tree};
 ghost use Rattle.mscan.specs.Gives.{Gives};
 
 use crate::expr::{MAX_DEPTH, expr, inner};
-use crate::list::{Item, list};
+use crate::list::{Items, list};
 use mnum::Bytes7;
 use mscan::{Class, ParseFault, expect, name, run};
-use mtree::{Assignment, Destination, Expr, Function, PieceTarget, Target, function_of};
+use mtree::{Arg, Destination, Expr, Function, PieceTarget, Target, function_of};
 use std::alloc::Global;
 
 // The place behind the delimiter of a `$PIECE`, where one stands.
@@ -67,15 +67,20 @@ fn target(alloc: Global, bytes: &[u8], depth: u32) -> Result<(Target, &[u8]), Pa
     piece(alloc, Bytes7::from_slice(alloc, letters)?, rest, depth)
 }
 
-impl Item for Target {
+// Targets within the brackets of a list.
+#[derive(Clone, Copy)]
+struct InBrackets;
+
+impl Items for InBrackets {
+    type Item = Target;
+
     ghost Tree = { TargetTree };
 
     ghost tree = { target_tree };
 
-    // Within the brackets of a list.
-    ghost read = { target_with (readers_at (max_depth - 1)) };
+    ghost read = { λ _. target_with (readers_at (max_depth - 1)) };
 
-    fn item(alloc: Global, bytes: &[u8]) -> Result<(Target, &[u8]), ParseFault> {
+    fn item(self, alloc: Global, bytes: &[u8]) -> Result<(Target, &[u8]), ParseFault> {
         target(alloc, bytes, MAX_DEPTH - 1)
     }
 }
@@ -88,7 +93,7 @@ fn destination(alloc: Global, bytes: &[u8]) -> Result<(Destination, &[u8]), Pars
         return Err(ParseFault::Syntax);
     };
     if *first == b'(' {
-        let (all, rest) = list::<Target>(alloc, behind)?;
+        let (all, rest) = list(InBrackets, alloc, behind)?;
         let rest = expect(b')', rest)?;
         return Ok((Destination::Several(all), rest));
     }
@@ -97,23 +102,11 @@ fn destination(alloc: Global, bytes: &[u8]) -> Result<(Destination, &[u8]), Pars
 }
 
 #[tactic(auto, unfolding(mgrammar::specs::Reading::assignment_at))]
-fn assignment(alloc: Global, bytes: &[u8]) -> Result<(Assignment, &[u8]), ParseFault>
-    ensures { Gives (λ x. (assignment_tree x.0, x.1.now)) result (assignment_at bytes.now) }
+pub fn assignment(alloc: Global, bytes: &[u8]) -> Result<(Arg, &[u8]), ParseFault>
+    ensures { Gives (λ x. (arg_tree x.0, x.1.now)) result (assignment_at bytes.now) }
 {
     let (destination, rest) = destination(alloc, bytes)?;
     let rest = expect(b'=', rest)?;
     let (value, rest) = expr(alloc, rest, MAX_DEPTH)?;
-    Ok((Assignment { destination, value }, rest))
-}
-
-impl Item for Assignment {
-    ghost Tree = { AssignmentTree };
-
-    ghost tree = { assignment_tree };
-
-    ghost read = { assignment_at };
-
-    fn item(alloc: Global, bytes: &[u8]) -> Result<(Assignment, &[u8]), ParseFault> {
-        assignment(alloc, bytes)
-    }
+    Ok((Arg::Assign(destination, value), rest))
 }

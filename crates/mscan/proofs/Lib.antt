@@ -1,2 +1,3 @@
 pub mod CharacterRuns
 pub mod Faults
+pub mod NameRuns

@@ -6,7 +6,7 @@ ghost use Rattle.mscan.specs.Classes.{in_class};
 ghost use Rattle.mscan.specs.Gives.{Gives};
 
 use crate::fault::ParseFault;
-use mnum::Bytes7;
+use mnum::{Bytes7, LONGEST_NAME, Name};
 use std::alloc::Global;
 
 /// A kind of characters.
@@ -91,25 +91,23 @@ pub fn expect(byte: u8, bytes: &[u8]) -> Result<&[u8], ParseFault>
     past(byte, bytes).ok_or(ParseFault::Syntax)
 }
 
-// A name is at most so long.
-const MAX_NAME: usize = 31;
+// A name has at most so many characters behind its first one.
+const MAX_TAIL: usize = LONGEST_NAME - 1;
 
 /// The name that a text begins with, of at most 31 characters, and what follows it. `Syntax` where it begins with none, `Memory` for
 /// want of memory.
 #[tactic(auto, unfolding(mgrammar::specs::Reading::name_at))]
-pub fn name(alloc: Global, bytes: &[u8]) -> Result<(Bytes7, &[u8]), ParseFault>
+pub fn name(alloc: Global, bytes: &[u8]) -> Result<(Name, &[u8]), ParseFault>
     ensures { Gives (λ x. (x.0, x.1.now)) result (name_at bytes.now) }
 {
     let Some((first, more)) = bytes.split_first() else {
         return Err(ParseFault::Syntax);
     };
     let (tail, rest) = run(Class::NameRest, more);
-    if !Class::NameStart.has(*first) || tail.len() >= MAX_NAME {
+    if !Class::NameStart.has(*first) || tail.len() > MAX_TAIL {
         return Err(ParseFault::Syntax);
     }
-    let mut name = Bytes7::empty(alloc);
-    name.push(*first)?;
-    name.append(tail)?;
+    let name = Name::from_slice(alloc, &bytes[..1 + tail.len()])?;
     Ok((name, rest))
 }
 

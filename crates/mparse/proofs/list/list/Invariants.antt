@@ -4,5 +4,5 @@ use Rattle.mparse.proofs.list.list.Given as goal
 
 abbrev pub invariant-loop : goal.invariant-loop
 invariant-loop g l =
-    with_front (map (g.T.Item.tree) l.all.items) (many (after_comma (g.T.Item.read)) (l.end - l.counter) l.rest)
-    ≡ list_at (g.T.Item.read) l.bytes
+    with_front (map (g.T.Items.tree) l.all.items) (many (after_comma (g.T.Items.read l.items)) (l.end - l.counter) l.rest)
+    ≡ list_at (g.T.Items.read l.items) l.bytes

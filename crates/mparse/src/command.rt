@@ -1,0 +1,86 @@
+// Commands and their arguments.
+ghost use Rattle.std.specs.Prelude.{◌≡◌, map};
+ghost use Rattle.mgrammar.specs.Grammar.{ArgTree, form_of};
+ghost use Rattle.mgrammar.specs.Reading.{output_at, arg_at, has_args, args_at, command_at};
+ghost use Rattle.mtree.specs.Tree.{arg_tree, keyword_tree, command_tree};
+ghost use Rattle.mscan.specs.Gives.{Gives};
+
+use crate::arity::takes_args;
+use crate::expr::{MAX_DEPTH, expr};
+use crate::list::{Items, list};
+use crate::set::assignment;
+use mnum::Bytes7;
+use mscan::{Class, ParseFault, run};
+use mtree::{Arg, Command, Keyword, keyword_of};
+use std::alloc::Global;
+
+#[tactic(auto, unfolding(mgrammar::specs::Reading::output_at))]
+fn output(alloc: Global, bytes: &[u8]) -> Result<(Arg, &[u8]), ParseFault>
+    ensures { Gives (λ x. (arg_tree x.0, x.1.now)) result (output_at bytes.now) }
+{
+    let (bangs, rest) = run(Class::Bang, bytes);
+    if !bangs.is_empty() {
+        return Ok((Arg::Breaks(bangs.len()), rest));
+    }
+    let (value, rest) = expr(alloc, bytes, MAX_DEPTH)?;
+    Ok((Arg::Value(value), rest))
+}
+
+// The arguments of a command.
+impl Items for Keyword {
+    type Item = Arg;
+
+    ghost Tree = { ArgTree };
+
+    ghost tree = { arg_tree };
+
+    ghost read = { λ keyword. arg_at (form_of (keyword_tree keyword)) };
+
+    fn item(self, alloc: Global, bytes: &[u8]) -> Result<(Arg, &[u8]), ParseFault> {
+        match self {
+            Keyword::Set => assignment(alloc, bytes),
+            Keyword::Write => output(alloc, bytes),
+        }
+    }
+}
+
+// Whether arguments stand behind a word: a space, and behind it no space, no comment and no end.
+fn has_args(bytes: &[u8]) -> bool
+    ensures { result ≡ has_args bytes.now }
+{
+    match bytes {
+        [b' ', first, ..] => *first != b' ' && *first != b';',
+        _ => false,
+    }
+}
+
+#[tactic(auto, unfolding(mgrammar::specs::Reading::args_at))]
+fn args(alloc: Global, keyword: Keyword, bytes: &[u8]) -> Result<(Vec<Arg>, &[u8]), ParseFault>
+    ensures { Gives (λ x. (map arg_tree x.0.items, x.1.now)) result (args_at (form_of (keyword_tree keyword)) bytes.now) }
+{
+    if !has_args(bytes) {
+        return Ok((Vec::new(alloc), bytes));
+    }
+    list(keyword, alloc, &bytes[1..])
+}
+
+#[tactic(auto, unfolding(mgrammar::specs::Reading::command_at))]
+pub fn command(alloc: Global, bytes: &[u8]) -> Result<(Command, &[u8]), ParseFault>
+    ensures { Gives (λ x. (command_tree x.0, x.1.now)) result (command_at bytes.now) }
+{
+    let (letters, rest) = run(Class::Letter, bytes);
+    let Some(keyword) = keyword_of(letters) else {
+        return Err(ParseFault::Syntax);
+    };
+    let (args, rest) = args(alloc, keyword, rest)?;
+    if !takes_args(keyword, args.len()) {
+        return Err(ParseFault::Syntax);
+    }
+    let word = Bytes7::from_slice(alloc, letters)?;
+    let command = Command {
+        keyword,
+        word,
+        args,
+    };
+    Ok((command, rest))
+}

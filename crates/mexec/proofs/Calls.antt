@@ -1,108 +1,173 @@
 -- How the calls of this crate are put together.
-use Rattle.std.proofs.Common.{◌≡◌, ℕ, ◌<◌, ◌≤◌, ◌+◌, zero, suc, arith, List, [], ◌∷◌, ◌++◌, Result, Ok, Err, length, drop, get_or, drop-cons, add-one, refl, sym, ◌∙◌, subst, true}
-use Rattle.mspec.specs.Act.{Text, Gives, Act, ◌>>=◌, ◌>>◌, give, write, set_local, assigned_to}
+use Rattle.std.proofs.Common.{◌≡◌, ℕ, ◌≤◌, ◌<◌, ◌+◌, ◌++◌, List, [], ◌∷◌, Result, Ok, Err, length, drop, get_or, refl, sym, ap, ◌∙◌, subst, arith}
+use Rattle.std.proofs.lemmas.List.{drop_more}
 use Rattle.std.specs.Result.{IsErr, IsErrAnd}
-use Rattle.mmeaning.specs.Step.{is_lost}
-use Rattle.mmeaning.proofs.Calls.{then_follows, follows_itself, follows_on, ends_after, did_then, did_failed, did_gives, did_lost, residual_is}
-use Rattle.meval.specs.Codes.{fault_of}
-use Rattle.meval.specs.Yields.{Yields}
-use Rattle.meval.specs.declared.code.Code.{Code}
-use Rattle.meval.specs.declared.code.Code.TheVariants.{Zmem}
-use Rattle.mexec.specs.declared.parts.Parts.{Parts}
-use Rattle.mexec.specs.Does.{Does, Leads, here_of}
+use Rattle.mspec.specs.LockConflict.{Locks}
+use Rattle.mspec.specs.Act.{Text, Act, ◌>>=◌, ◌>>◌, give}
+use Rattle.mgrammar.specs.Grammar.{CommandTree}
+use Rattle.mmeaning.specs.Expression.{Inside, inside}
+use Rattle.mmeaning.specs.LineMeaning as meaning
+use Rattle.mmeaning.specs.LineMeaning.{Go_on, after, context}
+use Rattle.mmeaning.specs.Calls.{Standing, Here, Did}
+use Rattle.mmeaning.specs.Frames.{View, Rests, left, frame, Enough, MovedAs, MovedOn}
+use Rattle.mmeaning.proofs.Calls.{residual_is, did_then, did_failed, did_gives, did_lost, then_follows, then_failed}
+use Rattle.mmeaning.proofs.Moves.{on_then, on_failed, on_lost, on_signal, on_frame, enough}
+use Rattle.mstore.specs.declared.store.NodeStore.{Ghosts}
+use Rattle.moperator.specs.Codes.{fault_of}
+use Rattle.moperator.specs.declared.code.Code.{Code}
+use Rattle.moperator.specs.declared.code.Code.TheVariants.{Zmem}
+use Rattle.meval.specs.declared.depth.Depth.{Depth}
+use Rattle.meval.specs.Evaluates.{standing_of, depth_of}
+use Rattle.mcommand.specs.declared.parts.Parts.{Parts}
+use Rattle.mcommand.specs.Does.{Does, DoesAt, here_of}
+use Rattle.mexec.specs.declared.frames.Frame.{Frame}
+use Rattle.mexec.specs.declared.signal.Signal.{Signal}
+use Rattle.mexec.specs.declared.signal.Signal.TheVariants as signal
+use Rattle.mexec.specs.Frames.{Runs, view, stack, stacked, signal_of, spot_of}
 
-pub does_then : {A B X Y : Type 0} {p : Act A} (q : A → Act B) {f : X → A} {g : Y → B} {old mid new : Parts} {x : X} {r : Result Y Code}
-    → Does p f old (Ok x) mid → Does (q (f x)) g mid r new → Does (p >>= q) g old r new
-does_then q d k = record { at = λ b naked test w. did_then q (d.at b naked test w) (k.at b naked test w) }
+-- ---- acts
 
-pub does_failed : {A B X Y : Type 0} {p : Act A} (q : A → Act B) {f : X → A} {g : Y → B} {old new : Parts} {e : Code}
-    → Does p f old (Err e) new → Does (p >>= q) g old (Err e) new
-does_failed q d = record { at = λ b naked test w. did_failed q (d.at b naked test w) }
+pub at_then : {S A B X Y : Type 0} {g : Ghosts S} {p : Text → ℕ → Act A} (q : Text → ℕ → A → Act B) {f : X → A} {j : Y → B} {old mid new : Parts S} {x : X} {r : Result Y Code}
+    → DoesAt g p f old (Ok x) mid → DoesAt g (λ a n. q a n (f x)) j mid r new → DoesAt g (λ a n. p a n >>= q a n) j old r new
+at_then {g = g} q {f = f} {j = j} {old = old} {mid = mid} {new = new} {x = x} {r = r} d k = record {
+  at = λ sound locks.
+      did_then (q (standing_of old.eval).account) (d.at sound locks)
+      (subst (λ b. Did b g.steady fault_of (λ n. q b.account n (f x)) j (here_of g mid locks) r (here_of g new locks)) d.same (k.at sound locks));
+  same = k.same ∙ d.same;
+}
+
+pub at_failed : {S A B X Y : Type 0} {g : Ghosts S} {p : Text → ℕ → Act A} (q : Text → ℕ → A → Act B) {f : X → A} {j : Y → B} {old new : Parts S} {e : Code} → DoesAt g p f old (Err e) new → DoesAt g (λ a n. p a n >>= q a n) j old (Err e) new
+at_failed q {old = old} d = record {
+  at = λ sound locks. did_failed (q (standing_of old.eval).account) (d.at sound locks);
+  same = d.same;
+}
 
 -- the same, where it is by a `?` that the call returns
-pub does_stopped : {A B X Y : Type 0} {p : Act A} (q : A → Act B) {f : X → A} {g : Y → B} {old new : Parts} {e : Code} {r : Result Y Code}
-    → Does p f old (Err e) new → IsErr r × IsErrAnd r (λ x. x ≡ e) → Does (p >>= q) g old r new
-does_stopped {p = p} q {g = g} {old = old} {new = new} {r = r} d h = subst (λ r. Does (p >>= q) g old r new) (sym (residual_is r _ h)) (does_failed q d)
+pub at_stopped : {S A B X Y : Type 0} {g : Ghosts S} {p : Text → ℕ → Act A} (q : Text → ℕ → A → Act B) {f : X → A} {j : Y → B} {old new : Parts S} {e : Code} {r : Result Y Code}
+    → DoesAt g p f old (Err e) new → IsErr r × IsErrAnd r (λ x. x ≡ e) → DoesAt g (λ a n. p a n >>= q a n) j old r new
+at_stopped {g = g} {p = p} q {j = j} {old = old} {new = new} {r = r} d h =
+    subst (λ r. DoesAt g (λ a n. p a n >>= q a n) j old r new) (sym (residual_is r _ h)) (at_failed q d)
 
--- what costs no steps
-pub does_yielded : {A X : Type 0} {p : Act A} {f : X → A} {r : Result X Code} → Yields p f r → (parts : Parts) → Does p f parts r parts
-does_yielded y parts = record {
-  at = λ b naked test w. let here = y.at parts.locals.now parts.steps in here.at b naked test parts.out.now.items w;
+pub at_gives : {S A X : Type 0} {g : Ghosts S} {parts : Parts S} (a : A) (f : X → A) (x : X) → f x ≡ a → DoesAt g (λ b n. give a) f parts (Ok x) parts
+at_gives a f x same = record {
+  at = λ sound locks. did_gives a f x same;
+  same = refl;
 }
 
-pub does_viewed : {A X : Type 0} (a : A) (f : X → A) (x : X) (parts : Parts) → f x ≡ a → Does (give a) f parts (Ok x) parts
-does_viewed a f x parts e = record { at = λ b naked test w. did_gives a f x e }
+-- a call at a depth of its own, which goes on with what is next
+module _ {S : Type 0} {g : Ghosts S} (p : Inside → Act (Unit {0})) (depth : Depth) {old new : Parts S} where
+  there : {r : Result (Unit {0}) Code} → Does g p (λ (u : Unit {0}). u) (record old { eval = record old.eval { depth = depth } }) r new → DoesAt g (λ a n. p (inside a n (depth_of depth))) (λ (u : Unit {0}). u) old r new
+  there d = record { at = λ sound locks. d.at sound locks; same = d.same }
 
--- an act, and then nothing more
-pub does_last : {p : Act (Unit {0})} {old new : Parts} (r : Result (Unit {0}) Code) → Does p (λ u. u) old r new → Does (p >> give tt) (λ u. u) old r new
-does_last {new = new} (Ok u) d = does_then (λ _. give tt) d (does_viewed tt (λ u. u) u new refl)
-does_last (Err e) d = does_failed (λ _. give tt) d
+  pub goes_on : Does g p (λ (u : Unit {0}). u) (record old { eval = record old.eval { depth = depth } }) (Ok tt) new → DoesAt g (λ a n. p (inside a n (depth_of depth)) >> give Go_on) signal_of old (Ok signal.GoOn) new
+  goes_on d = at_then (λ a n _. give Go_on) (there d) (at_gives Go_on signal_of signal.GoOn refl)
 
-pub does_lost : {A X : Type 0} (p : Act A) (f : X → A) (old new : Parts) (e : Code) → is_lost (fault_of e) ≡ true → Does p f old (Err e) new
-does_lost p f old new e lost = record { at = λ b naked test w. did_lost p f e lost refl }
+  pub goes_nowhere : {e : Code} {r : Result Signal Code} → Does g p (λ (u : Unit {0}). u) (record old { eval = record old.eval { depth = depth } }) (Err e) new → IsErr r × IsErrAnd r (λ x. x ≡ e)
+      → DoesAt g (λ a n. p (inside a n (depth_of depth)) >> give Go_on) signal_of old r new
+  goes_nowhere d h = at_stopped (λ a n _. give Go_on) (there d) h
+
+-- a signal that passes what is next
+pub passes : (s : Signal) (p : Act meaning.Signal) → (s ≡ signal.GoOn → ⊥) → ◌≡◌ {A = Act meaning.Signal} (after (signal_of s) p) (give (signal_of s))
+passes signal.GoOn p not_go = absurd (not_go refl)
+passes signal.Skips p not_go = refl
+passes signal.Quits p not_go = refl
+passes signal.Halts p not_go = refl
+
+-- an act by another name
+pub at_as : {S A X : Type 0} {g : Ghosts S} {p q : Text → ℕ → Act A} {f : X → A} {old new : Parts S} {r : Result X Code} → ((a : Text) (n : ℕ) → ◌≡◌ {A = Act A} (p a n) (q a n)) → DoesAt g q f old r new → DoesAt g p f old r new
+at_as {g = g} {f = f} {old = old} {new = new} {r = r} same k = subst (λ p. DoesAt g p f old r new) (λ i a n. sym (same a n) i) k
+
+-- ---- acts before frames
+
+moved_to : {A : Type 0} {b b1 : Standing} {steady : Type 0} (p : Text → Act A) (k : Text → A → Act meaning.Signal) {h h1 : Here} {r : Result Signal Code} {fs : List View} → b1 ≡ b → MovedOn b1 steady fault_of signal_of (p b1.account) (k b1.account) h r fs h1
+    → MovedOn b steady fault_of signal_of (p b.account) (k b.account) h r fs h1
+moved_to {steady = steady} p k {h = h} {h1 = h1} {r = r} {fs = fs} same m = subst (λ b. MovedOn b steady fault_of signal_of (p b.account) (k b.account) h r fs h1) same m
+
+pub runs_then : {S A X : Type 0} {g : Ghosts S} {p : Text → ℕ → Act A} (q : Text → ℕ → A → Act meaning.Signal) {f : X → A} {x : X} {fs fs' : List View} {old mid new : Parts S} {r : Result Signal Code}
+    → DoesAt g p f old (Ok x) mid → mid.eval.steps ≤ old.eval.steps → Runs g (λ a n. q a n (f x)) fs mid r fs' new → Runs g (λ a n. p a n >>= q a n) fs old r fs' new
+runs_then q {f = f} {x = x} {fs = fs} {old = old} {mid = mid} d few k =
+    let fewer = k.fewer in
+    record {
+      at = λ sound locks n ns le e.
+          on_then (q (standing_of old.eval).account n) n le (d.at sound locks)
+          (moved_to (λ a. q a n (f x)) (λ a. left a fs ns) d.same (k.at sound locks n ns (omega (arith, few, le)) (enough mid.eval.steps old.eval.steps fs ns few e)));
+      fewer = omega (arith, few, fewer);
+      same = k.same ∙ d.same;
+    }
+
+-- an act fails, by a `?` that the call returns
+pub runs_stopped : {S A X : Type 0} {g : Ghosts S} {p : Text → ℕ → Act A} (q : Text → ℕ → A → Act meaning.Signal) {f : X → A} {fs fs' : List View} {old new : Parts S} {r : Result Signal Code} {e : Code}
+    → DoesAt g p f old (Err e) new → new.eval.steps ≤ old.eval.steps → IsErr r × IsErrAnd r (λ x. x ≡ e) → Runs g (λ a n. p a n >>= q a n) fs old r fs' new
+runs_stopped {g = g} {p = p} q {fs = fs} {fs' = fs'} {old = old} {new = new} {r = r} d few h = subst (λ r. Runs g (λ a n. p a n >>= q a n) fs old r fs' new) (sym (residual_is r _ h)) (record {
+  at = λ sound locks n ns le e. on_failed (q (standing_of old.eval).account n) n le (d.at sound locks);
+  fewer = few;
+  same = d.same;
+})
 
 -- want of memory, by a `?` that the call returns
-pub does_wanting : {A X : Type 0} (p : Act A) (f : X → A) (old new : Parts) (r : Result X Code) → IsErr r × IsErrAnd r (λ e. e ≡ Zmem) → Does p f old r new
-does_wanting p f old new r h = subst (λ r. Does p f old r new) (sym (residual_is r Zmem h)) (does_lost p f old new Zmem refl)
+pub runs_wanting : {S : Type 0} {g : Ghosts S} (p : Text → ℕ → Act meaning.Signal) {fs fs' : List View} {parts : Parts S} (r : Result Signal Code) → IsErr r × IsErrAnd r (λ x. x ≡ Zmem) → Runs g p fs parts r fs' parts
+runs_wanting {g = g} p {fs = fs} {fs' = fs'} {parts = parts} r h = subst (λ r. Runs g p fs parts r fs' parts) (sym (residual_is r Zmem h)) (record {
+  at = λ sound locks n ns le e. on_lost (p (standing_of parts.eval).account n) (left (standing_of parts.eval).account fs ns) Zmem tt refl (omega arith);
+  fewer = omega arith;
+  same = refl;
+})
 
--- a name is given a text
-pub set_does : (old new : Parts) (name x : Text) → new.locals.now ≡ assigned_to old.locals.now name x → new.out.now.items ≡ old.out.now.items → new.steps ≡ old.steps
-    → Does (set_local name x) (λ (u : Unit {0}). u) old (Ok tt) new
-set_does old new name x l o s = record {
-  at = λ b naked test w. record {
-    ends = λ i. (Gives tt (record { locals = sym l i; naked = naked; test = test; out = sym o i; steps = sym s i }), w);
+-- a signal is given to the frames
+pub runs_signal : {S : Type 0} {g : Ghosts S} {fs : List View} {parts : Parts S} (s : Signal) → Runs g (λ a n. give (signal_of s)) fs parts (Ok s) fs parts
+runs_signal s = record {
+  at = λ sound locks n ns le e. on_signal s ns e;
+  fewer = omega arith;
+  same = refl;
+}
+
+-- the same signal, by another name
+pub runs_given : {S : Type 0} {g : Ghosts S} {fs : List View} {parts : Parts S} (s : Signal) (v : meaning.Signal) → signal_of s ≡ v → Runs g (λ a n. give v) fs parts (Ok s) fs parts
+runs_given {g = g} {fs = fs} {parts = parts} s v is = subst (λ v. Runs g (λ a n. give v) fs parts (Ok s) fs parts) is (runs_signal s)
+
+-- an act by another name
+pub runs_as : {S : Type 0} {g : Ghosts S} {p q : Text → ℕ → Act meaning.Signal} {fs fs' : List View} {old new : Parts S} {r : Result Signal Code} → ((a : Text) (n : ℕ) → ◌≡◌ {A = Act meaning.Signal} (p a n) (q a n)) → Runs g q fs old r fs' new → Runs g p fs old r fs' new
+runs_as {g = g} {fs = fs} {fs' = fs'} {old = old} {new = new} {r = r} same k = subst (λ p. Runs g p fs old r fs' new) (λ i a n. sym (same a n) i) k
+
+-- an act that leaves the frames as they are
+pub runs_done : {S : Type 0} {g : Ghosts S} {p : Text → ℕ → Act meaning.Signal} {fs : List View} {old new : Parts S} (r : Result Signal Code) → DoesAt g p signal_of old r new → new.eval.steps ≤ old.eval.steps → Runs g p fs old r fs new
+runs_done {g = g} {p = p} {fs = fs} {old = old} {new = new} (Ok s) d few = record {
+  at = λ sound locks n ns le e. record {
+    done =
+        let b = standing_of old.eval in
+        let did = d.at sound locks in
+        (ns, enough new.eval.steps old.eval.steps fs ns few e, then_follows b (p b.account n) (left b.account fs ns) (here_of g old locks) (signal_of s) (here_of g new locks) (did.at n le));
   };
+  fewer = few;
+  same = d.same;
 }
-
--- a text is written
-pub write_does : (old new : Parts) (t : Text) → new.locals.now ≡ old.locals.now → new.out.now.items ≡ old.out.now.items ++ t → new.steps ≡ old.steps
-    → Does (write t) (λ (u : Unit {0}). u) old (Ok tt) new
-write_does old new t l o s = record {
-  at = λ b naked test w. record {
-    ends = λ i. (Gives tt (record { locals = sym l i; naked = naked; test = test; out = sym o i; steps = sym s i }), w);
+runs_done {g = g} {p = p} {fs = fs} {old = old} {new = new} (Err c) d few = record {
+  at = λ sound locks n ns le e. record {
+    done =
+        let b = standing_of old.eval in
+        let did = d.at sound locks in
+        then_failed b g.steady (p b.account n) (left b.account fs ns) (here_of g old locks) (fault_of c) (here_of g new locks) (did.at n le);
   };
+  fewer = few;
+  same = d.same;
 }
 
--- ---- loops
-
-pub leads_itself : {A : Type 0} (p : Act A) (old : Parts) → Leads p old p old
-leads_itself p old = record { at = λ b naked test w. follows_itself b p (here_of old naked test w) }
-
-pub leads_next : {A : Type 0} {p : Act A} (q : Act A) {a : Act (Unit {0})} {old mid new : Parts} {u : Unit {0}} → Leads p old (a >> q) mid → Does a (λ u. u) mid (Ok u) new → Leads p old q new
-leads_next {p = p} q {a = a} {old = old} {mid = mid} {new = new} {u = u} l d = record {
-  at = λ b naked test w.
-      let done = d.at b naked test w in
-      follows_on b p (a >> q) q (here_of old naked test w) (here_of mid naked test w) (here_of new naked test w) (l.at b naked test w)
-      (then_follows b a (λ _. q) (here_of mid naked test w) u (here_of new naked test w) done.ends);
+-- a frame stands below what is done, in place of what it does then
+pub runs_frame : {S : Type 0} {g : Ghosts S} {p : Text → ℕ → Act meaning.Signal} (f : View) {fs fs' : List View} {old new : Parts S} {r : Result Signal Code} → Runs g p (f ∷ fs) old r fs' new → Runs g (λ a n. p a n >>= frame a n f) fs old r fs' new
+runs_frame f {fs = fs} k = record {
+  at = λ sound locks n ns le e. on_frame fs f n ns (k.at sound locks n (n ∷ ns) le (le, e));
+  fewer = k.fewer;
+  same = k.same;
 }
 
--- the same of an act that gives something
-pub leads_then : {A B X : Type 0} {p : Act B} {a : Act A} (q : A → Act B) {f : X → A} {old mid new : Parts} {x : X} → Leads p old (a >>= q) mid → Does a f mid (Ok x) new → Leads p old (q (f x)) new
-leads_then {p = p} {a = a} q {f = f} {old = old} {mid = mid} {new = new} {x = x} l d = record {
-  at = λ b naked test w.
-      let done = d.at b naked test w in
-      follows_on b p (a >>= q) (q (f x)) (here_of old naked test w) (here_of mid naked test w) (here_of new naked test w) (l.at b naked test w)
-      (then_follows b a q (here_of mid naked test w) (f x) (here_of new naked test w) done.ends);
-}
+-- ---- frames
 
--- what is left ends as the whole does
-pub leads_ends : {A X : Type 0} {p : Act A} (q : Act A) {f : X → A} {old mid new : Parts} {r : Result X Code} → Leads p old q mid → Does q f mid r new → Does p f old r new
-leads_ends {p = p} q {f = f} {old = old} {mid = mid} {new = new} {r = r} l d = record {
-  at = λ b naked test w. record {
-    ends =
-        let done = d.at b naked test w in
-        ends_after b fault_of p q f (here_of old naked test w) (here_of mid naked test w) r (here_of new naked test w) (l.at b naked test w) done.ends;
-  };
-}
+stacked_push : (below : List View) (fs : List Frame) (f : Frame) → stacked below (fs ++ f ∷ []) ≡ view f ∷ stacked below fs
+stacked_push below [] f = refl
+stacked_push below (g ∷ fs) f = stacked_push (view g ∷ below) fs f
 
-pub does_gives : {A : Type 0} (a : A) (parts : Parts) → Does {X = A} (give a) (λ x. x) parts (Ok a) parts
-does_gives a parts = record { at = λ b naked test w. did_gives a (λ x. x) a refl }
+pub stack_push : (fs : List Frame) (f : Frame) → stack (fs ++ f ∷ []) ≡ view f ∷ stack fs
+stack_push fs f = stacked_push [] fs f
 
-pub next_item : {A : Type 0} (xs : List A) (i : ℕ) (d : A) → i < length xs → d ≡ get_or xs i d → drop i xs ≡ d ∷ drop (i + 1) xs
-next_item xs i d h e = drop-cons xs i d h ∙ (λ j. sym e j ∷ drop (suc i) xs) ∙ rw (sym (add-one i)) refl
-
-pub none_left : {A : Type 0} (i : ℕ) (xs : List A) → length xs ≤ i → drop i xs ≡ []
-none_left zero [] h = refl
-none_left zero (x ∷ xs) h = absurd (omega arith)
-none_left (suc i) [] h = refl
-none_left (suc i) (x ∷ xs) h = none_left i xs (omega arith)
+pub some_item : {A : Type 0} (i : ℕ) (xs : List A) → i < length xs → (x : A) × (drop i xs ≡ x ∷ drop (i + 1) xs)
+some_item i [] h = absurd (omega arith)
+some_item i (y ∷ xs) h = (get_or (y ∷ xs) i y, drop_more (y ∷ xs) i y h)

@@ -1,4 +1,3 @@
 pub mod Calls
-pub mod Targets
-pub mod FrameSteps
+pub mod Lines
 pub mod Texts

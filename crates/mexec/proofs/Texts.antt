@@ -1,15 +1,28 @@
 -- A text by its tree.
-use Rattle.std.proofs.Common.{◌≡◌, List, ℕ, Option, Some, None, Ok, Err, refl, sym, ap, ◌∙◌, subst}
+use Rattle.std.proofs.Common.{◌≡◌, ◌≢◌, ◌≤◌, List, [], ℕ, Option, Some, None, Result, Ok, Err, refl, sym, ap, ◌∙◌, subst, map, arith}
+use Rattle.std.specs.FinMap.{empty}
+use Rattle.mspec.specs.Act.{Act}
 use Rattle.mgrammar.specs.Grammar.{LineTree, spell, well}
 use Rattle.mgrammar.specs.Reading.{line_at}
 use Rattle.mgrammar.proofs.ReadingLines.{line_takes, line_again}
-use Rattle.mmeaning.specs.LineMeaning.{Go_on, run}
-use Rattle.meval.specs.declared.code.Code.{Code}
-use Rattle.meval.specs.declared.code.Code.TheVariants.{Zsyntax}
-use Rattle.mexec.specs.declared.parts.Parts.{Parts}
-use Rattle.mexec.specs.declared.run.Ended.TheVariants.{Done, Fault}
-use Rattle.mexec.specs.Does.{Does}
-use Rattle.mexec.specs.Runs.{Runs}
+use Rattle.mmeaning.specs.LineMeaning as meaning
+use Rattle.mmeaning.specs.LineMeaning.{run, run_within}
+use Rattle.mmeaning.specs.Step as step
+use Rattle.mmeaning.specs.Step.{Ending, Faulted}
+use Rattle.mmeaning.specs.Calls.{Standing, Here, Gave, IsCut}
+use Rattle.mstore.specs.declared.store.NodeStore.{Ghosts}
+use Rattle.moperator.specs.Codes.{fault_of}
+use Rattle.moperator.specs.declared.code.Code.{Code}
+use Rattle.moperator.specs.declared.code.Code.TheVariants.{Zsyntax, Zmem, Zstore}
+use Rattle.meval.specs.Evaluates.{standing_of}
+use Rattle.mcommand.specs.declared.parts.Parts.{Parts}
+use Rattle.mcommand.specs.Does.{DoesAt, here_of}
+use Rattle.mexec.specs.declared.signal.Signal.{Signal}
+use Rattle.mexec.specs.declared.signal.Signal.TheVariants as signal
+use Rattle.mexec.specs.declared.run.Ended.{Ended}
+use Rattle.mexec.specs.declared.run.Ended.TheVariants.{Done, Halt, Fault}
+use Rattle.mexec.specs.Frames.{signal_of}
+use Rattle.mexec.specs.Runs.{RunsText, EndsBy, ending_of}
 
 -- a text that no tree spells
 pub none_at : (text : List ℕ) → ((t : LineTree) → well t → spell t ≡ text → ⊥) → line_at text ≡ None
@@ -22,11 +35,43 @@ none_at text h = go (line_at text) refl
 pub some_at : (text : List ℕ) (l : LineTree) → well l × (spell l ≡ text) → line_at text ≡ Some l
 some_at text l h = ap line_at (sym h.1) ∙ line_again l h.0
 
-pub refused : (o : Option LineTree) (parts : Parts) → o ≡ None → Runs o parts (Fault Zsyntax) parts
-refused o parts e = subst (λ o. Runs o parts (Fault Zsyntax) parts) (sym e) (record { at = λ b naked test w. refl })
+-- no signal ends a line with a code
+no_fault : (c : Code) (s : Signal) → ending_of (Fault c) ≡ step.ending_of (signal_of s) → ⊥
+no_fault c signal.GoOn e = cc
+no_fault c signal.Skips e = cc
+no_fault c signal.Quits e = cc
+no_fault c signal.Halts e = cc
 
-pub done : (o : Option LineTree) (l : LineTree) (old new : Parts) (u : Unit {0}) → o ≡ Some l → Does (run l) (λ (u : Unit {0}). Go_on) old (Ok u) new → Runs o old Done new
-done o l old new u e d = subst (λ o. Runs o old Done new) (sym e) (record { at = λ b naked test w. (Go_on, (let did = d.at b naked test w in did.ends)) })
+ends_by : (b : Standing) (steady : Type 0) (p : Act meaning.Signal) (h : Here) (e : Ended) (s : Signal) (h' : Here) → ending_of e ≡ step.ending_of (signal_of s) → Gave b p h (signal_of s) h' → EndsBy b steady p h e h'
+ends_by b steady p h Done s h' is gave = (signal_of s, sym is, gave)
+ends_by b steady p h Halt s h' is gave = (signal_of s, sym is, gave)
+ends_by b steady p h (Fault c) s h' is gave = absurd (no_fault c s is)
 
-pub failed : (o : Option LineTree) (l : LineTree) (old new : Parts) (c : Code) → o ≡ Some l → Does (run l) (λ (u : Unit {0}). Go_on) old (Err c) new → Runs o old (Fault c) new
-failed o l old new c e d = subst (λ o. Runs o old (Fault c) new) (sym e) (record { at = λ b naked test w. let did = d.at b naked test w in did.ends })
+module _ {S : Type 0} {g : Ghosts S} where
+  pub refused : (o : Option LineTree) (parts : Parts S) → o ≡ None → RunsText g o parts (Fault Zsyntax) parts
+  refused o parts e = subst (λ o. RunsText g o parts (Fault Zsyntax) parts) (sym e) (record { at = λ sound locks. refl; fewer = omega arith })
+
+  pub wanting : (o : Option LineTree) (parts : Parts S) → RunsText g o parts (Fault Zmem) parts
+  wanting o parts = record { at = λ sound locks. (0, refl); fewer = omega arith }
+
+  pub done : (o : Option LineTree) (l : LineTree) (old new : Parts S) (e : Ended) (s : Signal) → o ≡ Some l → ending_of e ≡ step.ending_of (signal_of s) → DoesAt g (λ a n. run_within a n (map (λ c. c.0) l.commands)) signal_of old (Ok s) new
+      → new.eval.steps ≤ old.eval.steps → RunsText g o old e new
+  done o l old new e s some is d few = subst (λ o. RunsText g o old e new) (sym some) (record {
+    at = λ sound locks. 
+        let b = standing_of old.eval in
+        let did = d.at sound locks in
+        ends_by b g.steady (run b.account l) (here_of g old locks) e s (here_of g new locks) is (did.at old.eval.steps (omega arith));
+    fewer = few;
+  })
+
+  pub failed : (o : Option LineTree) (l : LineTree) (old new : Parts S) (c : Code) → o ≡ Some l → DoesAt g (λ a n. run_within a n (map (λ c. c.0) l.commands)) signal_of old (Err c) new → new.eval.steps ≤ old.eval.steps → RunsText g o old (Fault c) new
+  failed o l old new c some d few = subst (λ o. RunsText g o old (Fault c) new) (sym some) (record {
+    at = λ sound locks. let did = d.at sound locks in did.at old.eval.steps (omega arith);
+    fewer = few;
+  })
+
+  pub never_refused : {o : Option LineTree} {old new : Parts S} {e : Ended} → (g.steady → g.sound) → RunsText g o old e new → g.steady → ◌≢◌ {A = Ended} e (Fault Zstore)
+  never_refused {o = o} {old = old} {new = new} sound runs steady is =
+      let here = subst (λ e. RunsText g o old e new) is runs in
+      let lost = here.at (sound steady) empty in
+      lost.0 steady

@@ -1,28 +1,41 @@
--- What a line has still to do, read from the frames.
-use Rattle.std.specs.Prelude.{List, [], ◌∷◌, map, drop, Bool, Option, Result, Ok, Err}
+-- Frames of the program as those of the definitions, and what calls say of them.
+use Rattle.std.specs.Prelude.{◌≡◌, ℕ, ◌≤◌, List, [], ◌∷◌, Result, map, drop}
+use Rattle.mspec.specs.LockConflict.{Locks}
+use Rattle.mspec.specs.Act.{Text, Act}
 use Rattle.mgrammar.specs.Grammar.{CommandTree}
-use Rattle.mspec.specs.Act.{Node, Act, give, ◌>>=◌}
-use Rattle.mmeaning.specs.LineMeaning.{Signal, Go_on, Quits, commands}
-use Rattle.mmeaning.specs.Step.{World}
-use Rattle.mmeaning.specs.Calls.{Standing, Here, FailedBy, Follows}
+use Rattle.mmeaning.specs.LineMeaning as meaning
+use Rattle.mmeaning.specs.LineMeaning.{Spot}
+use Rattle.mmeaning.specs.Calls.{Follows}
+use Rattle.mmeaning.specs.Frames.{View, Rests, Levels, left, Enough, MovedOn}
 use Rattle.mtree.specs.Tree.{spaced_tree}
-use Rattle.meval.specs.Codes.{fault_of}
-use Rattle.meval.specs.declared.code.Code.{Code}
-use Rattle.mexec.specs.declared.parts.Parts.{Parts}
+use Rattle.mstore.specs.declared.store.NodeStore.{Ghosts}
+use Rattle.moperator.specs.Codes.{fault_of}
+use Rattle.moperator.specs.declared.code.Code.{Code}
+use Rattle.meval.specs.declared.depth.Depth.{Depth}
+use Rattle.meval.specs.Evaluates.{standing_of, depth_of}
+use Rattle.mcommand.specs.declared.parts.Parts.{Parts}
+use Rattle.mcommand.specs.Does.{here_of}
 use Rattle.mexec.specs.declared.frames.Rest.{Rest}
 use Rattle.mexec.specs.declared.frames.Frame.{Frame}
 use Rattle.mexec.specs.declared.frames.Frame.TheVariants as frame
-use Rattle.mexec.specs.Does.{here_of}
+use Rattle.mexec.specs.declared.signal.Signal.{Signal}
+use Rattle.mexec.specs.declared.signal.Signal.TheVariants as signal
 
--- a frame: the rest of a line
-pub data View : Type 0 where
-  Rests : List CommandTree → View
+abbrev pub signal_of : Signal → meaning.Signal
+signal_of signal.GoOn = meaning.Go_on
+signal_of signal.Skips = meaning.Skips
+signal_of signal.Quits = meaning.Quits
+signal_of signal.Halts = meaning.Halts
 
-abbrev pub view_rest : Rest → View
-view_rest r = Rests (map (λ c. c.0) (map spaced_tree (drop r.at r.line.value.commands.items)))
+abbrev pub spot_of : Depth → Spot
+spot_of d = record { depth = depth_of d }
+
+abbrev pub rest_tree : Rest → List CommandTree
+rest_tree r = map (λ c. c.0) (map spaced_tree (drop r.at r.line.value.commands.items))
 
 abbrev pub view : Frame → View
-view (frame.Rest r) = view_rest r
+view (frame.Rest r) = Rests (spot_of r.depth) (rest_tree r)
+view (frame.Level d) = Levels (spot_of d)
 
 -- the last frame pushed is on top
 abbrev pub stacked : List View → List Frame → List View
@@ -32,16 +45,17 @@ stacked below (f ∷ fs) = stacked (view f ∷ below) fs
 abbrev pub stack : List Frame → List View
 stack fs = stacked [] fs
 
--- what the frames have still to do after a signal
-abbrev pub left : List View → Signal → Act Signal
-left [] s = give s
-left (Rests cs ∷ fs) Go_on = commands cs >>= left fs
-left (Rests cs ∷ fs) Quits = left fs Quits
+-- a call does an act before some frames, and leaves frames that have to do what is then left
+pub record Runs {S : Type 0} (g : Ghosts S) (p : Text → ℕ → Act meaning.Signal) (fs : List View) (old : Parts S) (r : Result Signal Code) (fs' : List View) (new : Parts S) : Type 0 where
+  pub at : g.sound → (locks : Locks) (n : ℕ) (ns : List ℕ) → old.eval.steps ≤ n → Enough old.eval.steps fs ns →
+      MovedOn (standing_of old.eval) g.steady fault_of signal_of (p (standing_of old.eval).account n) (left (standing_of old.eval).account fs ns) (here_of g old locks) r fs' (here_of g new locks)
+  pub fewer : new.eval.steps ≤ old.eval.steps
+  pub same : standing_of new.eval ≡ standing_of old.eval
 
-abbrev pub MovesTo : Standing → List View → Here → Result (Unit {0}) Code → List View → Here → Type 0
-MovesTo b fs h (Ok u) fs' h' = Follows b (left fs Go_on) h (left fs' Go_on) h'
-MovesTo b fs h (Err c) fs' h' = FailedBy b (left fs Go_on) h (fault_of c) h'
-
--- a call brings the frames to others that have to do what was left, or fails as they do
-pub record Moves (fs : List View) (old : Parts) (r : Result (Unit {0}) Code) (fs' : List View) (new : Parts) : Type 0 where
-  pub at : (b : Standing) (naked : Option Node) (test : Bool) (w : World) → MovesTo b fs (here_of old naked test w) r fs' (here_of new naked test w)
+-- what the frames have to do with a signal is what is left of an act
+pub record Leads {S : Type 0} (g : Ghosts S) (p : Text → ℕ → Act meaning.Signal) (old : Parts S) (fs : List View) (s : meaning.Signal) (new : Parts S) : Type 0 where
+  pub at : g.sound → (locks : Locks) (n : ℕ) → old.eval.steps ≤ n →
+      (ns : List ℕ) × Enough new.eval.steps fs ns ×
+      Follows (standing_of old.eval) (p (standing_of old.eval).account n) (here_of g old locks) (left (standing_of old.eval).account fs ns s) (here_of g new locks)
+  pub fewer : new.eval.steps ≤ old.eval.steps
+  pub same : standing_of new.eval ≡ standing_of old.eval

@@ -1,4 +1,2 @@
-pub mod Does
 pub mod Frames
 pub mod Runs
-pub mod Pendings

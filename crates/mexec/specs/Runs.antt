@@ -1,22 +1,35 @@
 -- What a call that carries out a text says of the text's meaning.
-use Rattle.std.specs.Prelude.{Bool, Option}
+use Rattle.std.specs.Prelude.{◌≡◌, ℕ, ◌≤◌, Option}
+use Rattle.mspec.specs.LockConflict.{Locks}
+use Rattle.mspec.specs.Act.{Act}
 use Rattle.mgrammar.specs.Grammar.{LineTree}
-use Rattle.mspec.specs.Act.{Node, Act}
 use Rattle.mmeaning.specs.LineMeaning.{Signal}
-use Rattle.mmeaning.specs.Step.{World, text_run}
+use Rattle.mmeaning.specs.Step as step
+use Rattle.mmeaning.specs.Step.{Ending, Finished, Halted, Faulted, text_run}
 use Rattle.mmeaning.specs.Calls.{Standing, Here, Gave, FailedBy}
-use Rattle.meval.specs.Codes.{fault_of}
-use Rattle.mexec.specs.declared.parts.Parts.{Parts}
+use Rattle.mstore.specs.declared.store.NodeStore.{Ghosts}
+use Rattle.moperator.specs.Codes.{fault_of}
+use Rattle.meval.specs.Evaluates.{standing_of}
+use Rattle.mcommand.specs.declared.parts.Parts.{Parts}
+use Rattle.mcommand.specs.Does.{here_of}
 use Rattle.mexec.specs.declared.run.Ended.{Ended}
 use Rattle.mexec.specs.declared.run.Ended.TheVariants as ended
-use Rattle.mexec.specs.Does.{here_of}
 
--- a line that is done gave some signal; none halts yet
-abbrev pub EndsBy : Standing → Act Signal → Here → Ended → Here → Type 0
-EndsBy b p h ended.Done h' = (s : Signal) × Gave b p h s h'
-EndsBy b p h ended.Halt h' = ⊥
-EndsBy b p h (ended.Fault c) h' = FailedBy b p h (fault_of c) h'
+abbrev pub ending_of : Ended → Ending
+ending_of ended.Done = Finished
+ending_of ended.Halt = Halted
+ending_of (ended.Fault c) = Faulted (fault_of c)
 
--- the text with this tree is carried out: the call ends as it does, wherever it stands
-pub record Runs (tree : Option LineTree) (old : Parts) (ended : Ended) (new : Parts) : Type 0 where
-  pub at : (b : Standing) (naked : Option Node) (test : Bool) (w : World) → EndsBy b (text_run tree) (here_of old naked test w) ended (here_of new naked test w)
+-- the act gave a signal that ends a line so
+abbrev pub GaveEnding : Standing → Act Signal → Here → Ending → Here → Type 0
+GaveEnding b p h ending h' = (s : Signal) × (step.ending_of s ≡ ending) × Gave b p h s h'
+
+abbrev pub EndsBy : Standing → (steady : Type 0) → Act Signal → Here → Ended → Here → Type 0
+EndsBy b steady p h ended.Done h' = GaveEnding b p h Finished h'
+EndsBy b steady p h ended.Halt h' = GaveEnding b p h Halted h'
+EndsBy b steady p h (ended.Fault c) h' = FailedBy b steady p h (fault_of c) h'
+
+-- the text with this tree is carried out: the call ends as it does
+pub record RunsText {S : Type 0} (g : Ghosts S) (tree : Option LineTree) (old : Parts S) (ended : Ended) (new : Parts S) : Type 0 where
+  pub at : g.sound → (locks : Locks) → EndsBy (standing_of old.eval) g.steady (text_run (standing_of old.eval).account tree) (here_of g old locks) ended (here_of g new locks)
+  pub fewer : new.eval.steps ≤ old.eval.steps

@@ -1,72 +1,66 @@
-// The commands.
-ghost use Rattle.std.specs.Prelude.{◌≡◌, ◌≤◌, map};
-ghost use Rattle.mmeaning.specs.LineMeaning.{settings, writing, writings};
-ghost use Rattle.mtree.specs.Tree.{assignment_tree, output_tree, command_tree};
-ghost use Rattle.mexec.specs.Does.{Does, effect};
+// What commands do.
+ghost use Rattle.std.specs.Prelude.{◌≡◌, ◌≤◌, ◌<◌, IfOk, map};
+ghost use Rattle.mspec.specs.Act.{charge};
+ghost use Rattle.mmeaning.specs.LineMeaning as meaning;
+ghost use Rattle.mmeaning.specs.LineMeaning.{context};
+ghost use Rattle.mtree.specs.Tree.{arg_tree};
+ghost use Rattle.mcommand.specs.Does.{DoesAt, KeepsLoans};
+ghost use Rattle.mexec.specs.Frames.{signal_of, spot_of};
 
-use crate::parts::Parts;
-use meval::Code;
-use mtree::{Assignment, Command, Output};
+use crate::signal::Signal;
+use mcommand::Parts;
+use meval::Depth;
+use moperator::Code;
+use mstore::NodeStore;
+use mtree::Arg;
 use std::alloc::Global;
 
-/// In an output, the end of a line, which no text has.
-pub const LINE_END: u8 = 255;
+// One step.
+pub(crate) fn charge<S: NodeStore>(parts: &mut Parts<S>) -> Result<(), Code>
+    ensures loans { KeepsLoans parts.old parts.new }
+    ensures fewer { parts.new.eval.steps ≤ parts.old.eval.steps }
+    ensures spent { IfOk result (λ _. parts.new.eval.steps < parts.old.eval.steps) }
+    ensures does { DoesAt S.NodeStore (λ a n. charge) (λ u. u) parts.old result parts.new }
+{
+    parts.eval.charge()
+}
 
-impl<'a> Parts<'a> {
-    fn settings(&mut self, alloc: Global, all: &[Assignment]) -> Result<(), Code>
-        ensures same_locals { self.new.locals.ghost_name ≡ self.old.locals.ghost_name }
-        ensures same_out { self.new.out.ghost_name ≡ self.old.out.ghost_name }
-        ensures fewer { self.new.steps ≤ self.old.steps }
-        ensures does { Does (settings (map assignment_tree all.now)) (λ u. u) self.old result self.new }
-    {
-        for assignment in all {
-            self.setting(alloc, assignment)?;
-        }
-        Ok(())
+// What an argument does, of whichever command.
+pub(crate) fn argument<S: NodeStore>(
+    alloc: Global,
+    parts: &mut Parts<S>,
+    depth: Depth,
+    arg: &Arg,
+) -> Result<Signal, Code>
+    ensures loans { KeepsLoans parts.old parts.new }
+    ensures fewer { parts.new.eval.steps ≤ parts.old.eval.steps }
+    ensures does { DoesAt S.NodeStore (λ a n. meaning.argument (context a n (spot_of depth)) (arg_tree arg.now)) signal_of parts.old result parts.new }
+{
+    parts.eval.depth = depth;
+    match arg {
+        Arg::Assign(destination, e) => parts.setting(alloc, destination, e)?,
+        Arg::Breaks(count) => parts.breaks(*count)?,
+        Arg::Value(e) => parts.showing(alloc, e)?,
     }
+    Ok(Signal::GoOn)
+}
 
-    fn writing(&mut self, alloc: Global, output: &Output) -> Result<(), Code>
-        ensures same_locals { self.new.locals.ghost_name ≡ self.old.locals.ghost_name }
-        ensures same_out { self.new.out.ghost_name ≡ self.old.out.ghost_name }
-        ensures fewer { self.new.steps ≤ self.old.steps }
-        ensures does { Does (writing (output_tree output.now)) (λ u. u) self.old result self.new }
-    {
-        match output {
-            Output::Breaks(count) => {
-                self.out.reserve(*count)?;
-                let length = self.out.len() + *count;
-                self.out.resize(length, LINE_END)?;
-            }
-            Output::Value(value) => {
-                let text = self.value(alloc, value)?;
-                self.out.extend_from_slice(text.as_bytes())?;
-            }
-        }
-        Ok(())
-    }
-
-    fn writings(&mut self, alloc: Global, all: &[Output]) -> Result<(), Code>
-        ensures same_locals { self.new.locals.ghost_name ≡ self.old.locals.ghost_name }
-        ensures same_out { self.new.out.ghost_name ≡ self.old.out.ghost_name }
-        ensures fewer { self.new.steps ≤ self.old.steps }
-        ensures does { Does (writings (map output_tree all.now)) (λ u. u) self.old result self.new }
-    {
-        for output in all {
-            self.writing(alloc, output)?;
-        }
-        Ok(())
-    }
-
-    // What a command does, once its word was charged.
-    pub(crate) fn command(&mut self, alloc: Global, command: &Command) -> Result<(), Code>
-        ensures same_locals { self.new.locals.ghost_name ≡ self.old.locals.ghost_name }
-        ensures same_out { self.new.out.ghost_name ≡ self.old.out.ghost_name }
-        ensures fewer { self.new.steps ≤ self.old.steps }
-        ensures does { Does (effect (command_tree command.now)) (λ u. u) self.old result self.new }
-    {
-        match command {
-            Command::Set(_, assignments) => self.settings(alloc, assignments),
-            Command::Write(_, outputs) => self.writings(alloc, outputs),
+// What arguments do, one after another, as long as each goes on with the next.
+pub(crate) fn arguments<S: NodeStore>(
+    alloc: Global,
+    parts: &mut Parts<S>,
+    depth: Depth,
+    args: &[Arg],
+) -> Result<Signal, Code>
+    ensures loans { KeepsLoans parts.old parts.new }
+    ensures fewer { parts.new.eval.steps ≤ parts.old.eval.steps }
+    ensures does { DoesAt S.NodeStore (λ a n. meaning.arguments (context a n (spot_of depth)) (map arg_tree args.now)) signal_of parts.old result parts.new }
+{
+    for arg in args {
+        match argument(alloc, parts, depth, arg)? {
+            Signal::GoOn => {}
+            other => return Ok(other),
         }
     }
+    Ok(Signal::GoOn)
 }

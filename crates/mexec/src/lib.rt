@@ -3,10 +3,8 @@
 
 mod commands;
 mod frames;
-mod parts;
 mod run;
-mod set;
+mod signal;
 
-pub use commands::LINE_END;
-pub use parts::Parts;
+pub use mcommand::{LINE_END, Parts};
 pub use run::{Ended, run_text};

@@ -1,11 +1,18 @@
 // A text, carried out.
-ghost use Rattle.std.specs.Prelude.{◌≡◌};
+ghost use Rattle.std.specs.Prelude.{◌≡◌, ◌≢◌};
+ghost use Rattle.mmeaning.specs.Step as meaning;
 ghost use Rattle.mgrammar.specs.Reading.{line_at};
-ghost use Rattle.mexec.specs.Runs.{Runs};
+ghost use Rattle.moperator.specs.declared.code.Code.TheVariants.{Zstore};
+ghost use Rattle.mcommand.specs.Does.{KeepsLoans};
+ghost use Rattle.mexec.specs.Frames.{signal_of};
+ghost use Rattle.mexec.specs.Runs.{RunsText, ending_of};
 
-use crate::parts::Parts;
-use meval::Code;
+use crate::frames::run_line;
+use crate::signal::Signal;
+use mcommand::Parts;
+use moperator::Code;
 use mparse::{ParseFault, parse_line};
+use mstore::NodeStore;
 use std::alloc::Global;
 
 /// How a text ended.
@@ -19,21 +26,31 @@ pub enum Ended {
     Fault(Code),
 }
 
+// How a line ends that gives a signal.
+fn ending(signal: Signal) -> Ended
+    ensures { ending_of result ≡ meaning.ending_of (signal_of signal) }
+{
+    match signal {
+        Signal::Halts => Ended::Halt,
+        _ => Ended::Done,
+    }
+}
+
 /// Carries out a text.
 ///
 /// It answers `Fault` with `Zsyntax`, and has done nothing, where the text has no tree; otherwise what was done before a code
-/// stands. After `Zmem` the locals and the output are any that the text could have had on its way.
-pub fn run_text(alloc: Global, parts: &mut Parts, text: &[u8]) -> Ended
-    ensures same_locals { parts.new.locals.ghost_name ≡ parts.old.locals.ghost_name }
-    ensures same_out { parts.new.out.ghost_name ≡ parts.old.out.ghost_name }
-    ensures does { Runs (line_at text.now) parts.old result parts.new }
+/// stands. After `Zmem` or `Zstore` the session and the output are any that the text could have had on its way.
+pub fn run_text<S: NodeStore>(alloc: Global, parts: &mut Parts<S>, text: &[u8]) -> Ended
+    ensures loans { KeepsLoans parts.old parts.new }
+    ensures does { RunsText S.NodeStore (line_at text.now) parts.old result parts.new }
+    ensures steady { S.steady → result ≢ Ended.Fault Zstore }
 {
     match parse_line(alloc, text) {
         Err(ParseFault::Syntax) => Ended::Fault(Code::Zsyntax),
         Err(ParseFault::Memory) => Ended::Fault(Code::Zmem),
-        Ok(line) => match parts.run_line(alloc, line) {
+        Ok(line) => match run_line(alloc, parts, line) {
             Err(code) => Ended::Fault(code),
-            Ok(()) => Ended::Done,
+            Ok(signal) => ending(signal),
         },
     }
 }

@@ -2,3 +2,4 @@ pub mod MeaningExamples
 pub mod Histories
 pub mod OtherLocks
 pub mod Calls
+pub mod Yieldings

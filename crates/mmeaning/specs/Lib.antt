@@ -7,3 +7,4 @@ pub mod Step
 pub mod History
 pub mod StepLaws
 pub mod Calls
+pub mod Yields

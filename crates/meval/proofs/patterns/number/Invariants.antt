@@ -1,7 +1,0 @@
-use Rattle.std.proofs.Common.{◌≡◌, take}
-use Rattle.mspec.specs.Literal.{digits_after}
-use Rattle.meval.specs.CappedCounts.{capped}
-use Rattle.meval.proofs.patterns.number.Given as goal
-
-abbrev pub invariant-loop-digit : goal.invariant-loop-digit
-invariant-loop-digit l = l.number ≡ capped (digits_after 0 (take l.digit-index l.digits))

@@ -1,0 +1,6 @@
+pub mod Numbers
+pub mod Truths
+pub mod PieceBytes
+pub mod GivenArguments
+pub mod PatternMatches
+pub mod Signs

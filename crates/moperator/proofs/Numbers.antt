@@ -1,0 +1,79 @@
+-- Numbers of values, and what an operation on numbers gives.
+use Rattle.std.proofs.Common.{◌≡◌, ◌<◌, ◌^◌, Bool, true, false, not, Option, Some, None, Result, Ok, Err, refl, sym, ap, subst, arith}
+use Rattle.std.specs.Prelude.{unwrap_or, IfSome, ℤ, pos, negsuc, unsigned_abs, MatchResult}
+use Rattle.std.specs.Int.{w64}
+use Rattle.std.specs.Ordering.{int_eq}
+use Rattle.std.proofs.lemmas.Bool.Decides.{Decides-int_eq}
+use Rattle.std.proofs.lemmas.Int.{ints}
+use mir.Val.{to_z, of_z}
+use Rattle.mspec.specs.Code.{M9, Zover}
+use Rattle.mspec.specs.Number.{significant_digits}
+use Rattle.mspec.specs.NumberText.{numeric_value}
+use Rattle.mspec.specs.Interpretations.{is_true}
+use Rattle.mspec.specs.Act.{Text, Act, ◌>>◌, give_some, unless}
+use Rattle.mmeaning.specs.Operators.{as_number, as_text}
+use Rattle.mmeaning.specs.Yields.{Yields}
+use Rattle.mmeaning.proofs.Yieldings.{yields_gives}
+use Rattle.mnum.specs.Num.{units}
+use Rattle.mnum.specs.Division.{IsOutcome}
+use Rattle.mnum.specs.declared.num.Num.{Num}
+use Rattle.mnum.specs.declared.num.Over.{Over}
+use Rattle.mnum.specs.declared.num.ArithFault.{ArithFault}
+use Rattle.mnum.specs.declared.num.ArithFault.TheVariants as fault
+use Rattle.moperator.specs.Codes.{fault_of}
+use Rattle.moperator.specs.Outcomes.{outcome_units, quotient_act}
+use Rattle.moperator.specs.declared.code.Code.{Code}
+use Rattle.moperator.specs.declared.code.Code.TheVariants as codes
+
+-- the number of a text, where there is one
+pub number_is : (x : Text) (n : Num) → numeric_value significant_digits x ≡ Some (units n) → Yields fault_of (as_number x) units (Ok n)
+number_is x n e = subst (λ (o : Option ℤ). Yields fault_of (give_some Zover o) units (Ok n)) (sym e) (yields_gives (units n) units n refl)
+
+pub no_number : (x : Text) → numeric_value significant_digits x ≡ None → Yields {X = Num} fault_of (as_number x) units (Err codes.Zover)
+no_number x e = subst (λ (o : Option ℤ). Yields {X = Num} fault_of (give_some Zover o) units (Err codes.Zover)) (sym e) (record { ends = λ s. refl })
+
+-- what the clauses of an operation say of its result
+outcome_is : (r : Result Num Over) (o : Option ℤ) → MatchResult r (λ n. o ≡ Some (units n)) (λ _. o ≡ None) → outcome_units r ≡ o
+outcome_is (Ok n) o h = sym h
+outcome_is (Err over) o h = sym h
+
+-- what an operation gives of two numbers
+pub computed_outcome : (r : Result Num Over) (o : Option ℤ) {t : Result Text Code} → MatchResult r (λ n. o ≡ Some (units n)) (λ _. o ≡ None)
+    → Yields fault_of (as_text (outcome_units r)) (λ (v : Text). v) t → Yields fault_of (as_text o) (λ (v : Text). v) t
+computed_outcome r o {t = t} h k = subst (λ (o : Option ℤ). Yields fault_of (as_text o) (λ (v : Text). v) t) (outcome_is r o h) k
+
+-- ---- division
+
+some_is_true : (z : ℤ) → 0 < unsigned_abs z → is_true z ≡ true
+some_is_true z some = go (int_eq z (pos 0)) refl
+  where
+    go : (b : Bool) → int_eq z (pos 0) ≡ b → not b ≡ true
+    go true e = let none = ap unsigned_abs ((Decides-int_eq z (pos 0)).0 e) in absurd (omega (arith, some, none))
+    go false e = refl
+
+none_is_false : (z : ℤ) → unsigned_abs z ≡ 0 → is_true z ≡ false
+none_is_false z none = ap not ((Decides-int_eq z (pos 0)).1 (is_zero z none))
+  where
+    is_zero : (z : ℤ) → unsigned_abs z ≡ 0 → z ≡ pos 0
+    is_zero (pos n) e = ap pos e
+    is_zero (negsuc n) e = absurd (omega (arith, e))
+
+-- a division by a number, from its outcome
+division_is : (divisor : ℤ) (o : Option ℤ) (r : Result Num ArithFault) → IsOutcome divisor o r → ◌≡◌ {A = Act Text} (quotient_act r) (unless M9 (is_true divisor) >> as_text o)
+division_is divisor o (Ok n) h = rw (some_is_true divisor h.0, h.1) refl
+division_is divisor o (Err fault.Zero) h = rw (none_is_false divisor h) refl
+division_is divisor o (Err fault.Over) h = rw (some_is_true divisor h.0, h.1) refl
+
+pub divided_outcome : (divisor : ℤ) (o : Option ℤ) (r : Result Num ArithFault) {t : Result Text Code} → IsOutcome divisor o r
+    → Yields fault_of (quotient_act r) (λ (v : Text). v) t → Yields fault_of (unless M9 (is_true divisor) >> as_text o) (λ (v : Text). v) t
+divided_outcome divisor o r {t = t} h k = subst (λ (p : Act Text). Yields fault_of p (λ (v : Text). v) t) (division_is divisor o r h) k
+
+-- ---- machine numbers
+
+pub whole_fits : (z : ℤ) → unsigned_abs z < 10 ^ 18 → to_z w64 (of_z w64 z) ≡ z
+whole_fits (pos n) below = omega (arith, ints, below)
+whole_fits (negsuc n) below = omega (arith, ints, below)
+
+pub width_fits : (width : Option ℤ) → IfSome width (λ n. unsigned_abs n < 10 ^ 18) → to_z w64 (of_z w64 (unwrap_or width (pos 0))) ≡ unwrap_or width (pos 0)
+width_fits None below = refl
+width_fits (Some n) below = whole_fits n below

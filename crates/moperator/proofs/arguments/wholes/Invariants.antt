@@ -1,0 +1,11 @@
+use Rattle.std.proofs.Common.{ℤ, [], drop, Result, Vec, Global}
+use Rattle.mmeaning.specs.Functions as meaning
+use Rattle.mmeaning.specs.Yields.{Yields}
+use Rattle.moperator.specs.Codes.{fault_of}
+use Rattle.moperator.specs.declared.code.Code.{Code}
+use Rattle.moperator.proofs.arguments.wholes.Given as goal
+
+abbrev pub invariant-loop-argument : goal.invariant-loop-argument
+invariant-loop-argument l =
+    (r : Result (Vec ℤ Global) Code) → Yields fault_of (meaning.wholes l.wholes.items (drop l.argument-index l.arguments)) (λ (w : Vec ℤ Global). w.items) r
+    → Yields fault_of (meaning.wholes [] l.arguments) (λ (w : Vec ℤ Global). w.items) r

@@ -1,0 +1,10 @@
+use Rattle.std.proofs.Common.{Option, subst}
+use Rattle.mspec.specs.Act.{Text}
+use Rattle.mgrammar.specs.Grammar.{FunctionTree}
+use Rattle.mmeaning.specs.Functions.{named_value}
+use Rattle.mmeaning.specs.Yields.{Yields}
+use Rattle.moperator.specs.Codes.{fault_of}
+use Rattle.moperator.proofs.functions.call.Goals as goal
+
+pub returns-in-Some : goal.returns-in-Some
+returns-in-Some c = subst (λ (f : Option FunctionTree). Yields fault_of (named_value f c.args.arguments.now) (λ (v : Text). v) c.function.result) c.in-Some.ensures c.function.ensures

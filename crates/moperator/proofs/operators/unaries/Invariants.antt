@@ -1,0 +1,17 @@
+use Rattle.std.proofs.Common.{◌≤◌, length, take, map, Result}
+use Rattle.mspec.specs.Act.{Text}
+use Rattle.mmeaning.specs.Operators as meaning
+use Rattle.mtree.specs.Tree.{sign_tree}
+use Rattle.mmeaning.specs.Yields.{Yields}
+use Rattle.moperator.specs.Codes.{fault_of}
+use Rattle.moperator.specs.declared.code.Code.{Code}
+use Rattle.moperator.proofs.operators.unaries.Given as goal
+
+abbrev pub invariant-loop-left : goal.invariant-loop-left
+invariant-loop-left l = record {
+  within : l.left ≤ length l.signs;
+  leads : (r : Result Text Code) → Yields fault_of (meaning.unaries (map sign_tree (take l.left l.signs)) l.value) (λ (v : Text). v) r → Yields fault_of (meaning.unaries (map sign_tree l.signs) l.fn.value) (λ (v : Text). v) r;
+}
+
+abbrev pub decreases-loop-left : goal.decreases-loop-left
+decreases-loop-left l = l.left

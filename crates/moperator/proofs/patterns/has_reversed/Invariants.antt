@@ -1,0 +1,8 @@
+use Rattle.std.proofs.Common.{◌≡◌, drop, map}
+use Rattle.std.specs.List.{list_any}
+use Rattle.mgrammar.specs.Matching.{atom_of, is_reversed}
+use Rattle.mtree.specs.Tree.{atom_tree}
+use Rattle.moperator.proofs.patterns.has_reversed.Given as goal
+
+abbrev pub invariant-loop-atom : goal.invariant-loop-atom
+invariant-loop-atom l = list_any (λ a. is_reversed a.count) (map atom_of (map atom_tree (drop l.atom-index l.atoms))) ≡ list_any (λ a. is_reversed a.count) (map atom_of (map atom_tree l.atoms))

@@ -1,0 +1,7 @@
+use Rattle.std.proofs.Common.{◌≡◌, take}
+use Rattle.mspec.specs.Literal.{digits_after}
+use Rattle.moperator.specs.CappedCounts.{capped}
+use Rattle.moperator.proofs.patterns.number.Given as goal
+
+abbrev pub invariant-loop-digit : goal.invariant-loop-digit
+invariant-loop-digit l = l.number ≡ capped (digits_after 0 (take l.digit-index l.digits))

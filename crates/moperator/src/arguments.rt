@@ -1,0 +1,51 @@
+// The arguments of functions.
+ghost use Rattle.std.specs.Prelude.{◌≡◌, [], ◌^◌, ◌<◌, map, unsigned_abs, IfOk, IfSome};
+ghost use Rattle.mmeaning.specs.Functions as meaning;
+ghost use Rattle.mmeaning.specs.Yields.{Yields};
+ghost use Rattle.moperator.specs.Codes.{fault_of};
+
+use crate::code::Code;
+use crate::values::whole_of;
+use mnum::Bytes7;
+use mvalue::{Shown, Value};
+use std::alloc::{AllocError, Global};
+
+// The text of the argument at a place, or the empty one where it is left out.
+pub(crate) fn text_at(
+    alloc: Global,
+    arguments: &[Value],
+    place: usize,
+) -> Result<Shown<'_>, AllocError>
+    ensures { IfOk result (λ shown. shown ≡ meaning.text_at place arguments.now) }
+{
+    match arguments.get(place) {
+        None => Ok(Shown::printed(Bytes7::empty(alloc))),
+        Some(value) => value.shown(alloc),
+    }
+}
+
+// The whole number of the argument at a place, where it has one.
+pub(crate) fn whole_at(arguments: &[Value], place: usize) -> Result<Option<i64>, Code>
+    ensures whole { Yields fault_of (meaning.whole_at place arguments.now) (λ whole. whole) result }
+    ensures below { IfOk result (λ whole. IfSome whole (λ n. unsigned_abs n < 10 ^ 18)) }
+{
+    match arguments.get(place) {
+        None => Ok(None),
+        Some(value) => {
+            let whole = whole_of(value)?;
+            Ok(Some(whole))
+        }
+    }
+}
+
+// The whole numbers of all arguments.
+pub(crate) fn wholes(alloc: Global, arguments: &[Value]) -> Result<Vec<i64>, Code>
+    ensures { Yields fault_of (meaning.wholes [] arguments.now) (λ wholes. wholes.items) result }
+{
+    let mut wholes = Vec::with_capacity(alloc, arguments.len())?;
+    for argument in arguments {
+        let whole = whole_of(argument)?;
+        wholes.push(whole)?;
+    }
+    Ok(wholes)
+}

@@ -1,0 +1,79 @@
+// Values as numbers, truths and whole numbers, with the code where the number is too large.
+ghost use Rattle.std.specs.Prelude.{◌≡◌, ◌^◌, ◌<◌, ℕ, List, Result, unsigned_abs, IsErrAnd, IfOk};
+ghost use Rattle.mspec.specs.Code as spec;
+ghost use Rattle.mmeaning.specs.Operators.{as_number, as_truth, outcome};
+ghost use Rattle.mmeaning.specs.Functions.{as_whole, as_whole_or_none};
+ghost use Rattle.mmeaning.specs.Yields.{Yields};
+ghost use Rattle.mnum.specs.Num.{units};
+ghost use Rattle.mtext.specs.Made.{Answers};
+ghost use Rattle.moperator.specs.Codes.{fault_of};
+
+use crate::code::Code;
+use mnum::{Bytes7, Num};
+use mtext::TextFault;
+use mvalue::Value;
+
+/// The number that a value stands for. Takes no memory.
+///
+/// # Errors
+///
+/// `Zover` where the number is too large.
+pub fn number_of(value: &Value) -> Result<Num, Code>
+    ensures { Yields fault_of (as_number value.now) units result }
+{
+    let number = value.number()?;
+    Ok(number)
+}
+
+/// Whether a value is true. Takes no memory.
+///
+/// # Errors
+///
+/// `Zover` where the value's number is too large.
+pub fn truth_of(value: &Value) -> Result<bool, Code>
+    ensures { Yields fault_of (as_truth value.now) (λ is_true. is_true) result }
+{
+    let number = number_of(value)?;
+    Ok(number.is_true())
+}
+
+/// The number that a value stands for, without its fraction. Takes no memory.
+///
+/// # Errors
+///
+/// `Zover` where the value's number is too large.
+pub fn whole_of(value: &Value) -> Result<i64, Code>
+    ensures whole { Yields fault_of (as_whole value.now) (λ whole. whole) result }
+    ensures below { IfOk result (λ whole. unsigned_abs whole < 10 ^ 18) }
+{
+    let number = number_of(value)?;
+    Ok(number.to_whole())
+}
+
+/// The number that a value stands for, without its fraction, where there is a value. Takes no memory.
+///
+/// # Errors
+///
+/// `Zover` where the value's number is too large.
+pub fn whole_number(value: &Option<Value>) -> Result<Option<i64>, Code>
+    ensures whole { Yields fault_of (as_whole_or_none value.now) (λ whole. whole) result }
+{
+    match value {
+        None => Ok(None),
+        Some(value) => {
+            let whole = whole_of(value)?;
+            Ok(Some(whole))
+        }
+    }
+}
+
+// The value of a text that was to be made, or the code of its refusal.
+pub(crate) fn answered(answer: Result<Bytes7, TextFault>) -> Result<Value, Code>
+    ensures value { (wanted : Result (List ℕ) spec.Code) → Answers wanted answer → Yields fault_of (outcome wanted) (λ value. value) result }
+    ensures refused { (code : spec.Code) → Answers (Err code) answer → IsErrAnd result (λ given. fault_of given ≡ spec.Own code) }
+{
+    match answer {
+        Ok(text) => Ok(Value::of_text(text)),
+        Err(fault) => Err(Code::from(fault)),
+    }
+}

@@ -90,6 +90,8 @@ def local_variables():
     print(f"  {'set':<12} {summed(lambda i: 1)}")
     print(f"  {'copy alone':<12} {summed(lambda i: len(names[i * stride % count]))}")
     print(f"  {'level':<12} {summed(lambda i: 1)}")
+    print(f"  {'set number':<12} {summed(lambda i: 1)}")
+    print(f"  {'get number':<12} {summed(lambda i: i % count)}")
     for title, letter in {"numbers": "", "texts": "item"}.items():
         print(f"ten thousand subscripts, {title}")
         words = [f"{letter}{i}" for i in range(count)]

@@ -2,7 +2,8 @@
 use crate::measure::{Plan, Unit, measure};
 use mkey::subs_ok;
 use mlocal::{Direction, Locals, order_subs_ok};
-use mnum::Bytes7;
+use mnum::{Bytes7, Name};
+use mvalue::Value;
 use std::alloc::Global;
 
 const NS: Unit = Unit::Nanoseconds;
@@ -25,12 +26,24 @@ fn texts(alloc: Global, letter: &str) -> anyhow::Result<Vec<Bytes7>> {
     Ok(out)
 }
 
-// What stands at a place that the round tells.
-fn at(items: &[Bytes7], round: usize) -> Option<&Bytes7> {
-    items.get(round.wrapping_mul(STRIDE) % COUNT)
+// The names of a letter and a number each.
+fn names(alloc: Global) -> anyhow::Result<Vec<Name>> {
+    let mut out = Vec::new(alloc);
+    for text in texts(alloc, "V")? {
+        match Name::new(text) {
+            Ok(name) => out.push(name)?,
+            Err(_) => anyhow::bail!("a text is no name"),
+        }
+    }
+    Ok(out)
 }
 
-// The same, as a list of one.
+// The name at a place that the round tells.
+fn at(names: &[Name], round: usize) -> Option<&Name> {
+    names.get(round.wrapping_mul(STRIDE) % COUNT)
+}
+
+// The text at such a place, as a list of one.
 fn one_at(items: &[Bytes7], round: usize) -> &[Bytes7] {
     let place = round.wrapping_mul(STRIDE) % COUNT;
     if place < items.len() {
@@ -40,12 +53,12 @@ fn one_at(items: &[Bytes7], round: usize) -> &[Bytes7] {
     }
 }
 
-fn set(locals: &mut Locals, name: &Bytes7, subs: &[Bytes7], text: &Bytes7) -> i128 {
+fn set(locals: &mut Locals, name: &Name, subs: &[Bytes7], text: &Bytes7) -> i128 {
     if !subs_ok(subs) {
         return -1;
     }
     match text.copy() {
-        Ok(text) => locals.set(name, subs, text).is_ok() as i128,
+        Ok(text) => locals.set(name, subs, Value::of_text(text)).is_ok() as i128,
         Err(_) => -1,
     }
 }
@@ -58,17 +71,44 @@ fn copied(text: &Bytes7) -> i128 {
     }
 }
 
-fn get(locals: &Locals, name: &Bytes7, subs: &[Bytes7]) -> i128 {
-    if !subs_ok(subs) {
+// A text that a variable without subscripts has.
+fn get(alloc: Global, locals: &Locals, name: &Name) -> i128 {
+    if !subs_ok(&[]) {
         return -1;
     }
-    match locals.get(name, subs) {
-        Ok(Some(text)) => text.as_bytes().len() as i128,
+    match locals.get(name, &[]) {
+        Ok(Some(value)) => match value.shown(alloc) {
+            Ok(shown) => shown.as_text().as_bytes().len() as i128,
+            Err(_) => -1,
+        },
         _ => -1,
     }
 }
 
-fn next(locals: &Locals, name: &Bytes7, subs: &[Bytes7], direction: Direction) -> i128 {
+// Gives a variable without subscripts a number that the round tells.
+fn set_number(locals: &mut Locals, name: &Name, round: usize) -> i128 {
+    if !subs_ok(&[]) {
+        return -1;
+    }
+    let value = Value::of_whole((round % COUNT) as i64);
+    locals.set(name, &[], value).is_ok() as i128
+}
+
+// The number that it has then.
+fn get_number(locals: &Locals, name: &Name) -> i128 {
+    if !subs_ok(&[]) {
+        return -1;
+    }
+    match locals.get(name, &[]) {
+        Ok(Some(value)) => match value.whole() {
+            Ok(whole) => whole as i128,
+            Err(_) => -1,
+        },
+        _ => -1,
+    }
+}
+
+fn next(locals: &Locals, name: &Name, subs: &[Bytes7], direction: Direction) -> i128 {
     if !order_subs_ok(subs) {
         return -1;
     }
@@ -83,7 +123,7 @@ fn next(locals: &Locals, name: &Bytes7, subs: &[Bytes7], direction: Direction) -
 fn step(
     alloc: Global,
     locals: &Locals,
-    name: &Bytes7,
+    name: &Name,
     at: &mut [Bytes7; 1],
     direction: Direction,
 ) -> i128 {
@@ -105,7 +145,7 @@ fn step(
 }
 
 // A level with one name.
-fn level(locals: &mut Locals, names: &[Bytes7]) -> i128 {
+fn level(locals: &mut Locals, names: &[Name]) -> i128 {
     if locals.enter().is_err() {
         return -1;
     }
@@ -118,39 +158,58 @@ fn level(locals: &mut Locals, names: &[Bytes7]) -> i128 {
 fn variables(rt: &HostRuntime, plan: Plan) -> anyhow::Result<()> {
     println!(rt; "ten thousand locals")?;
     let alloc = rt.alloc();
-    let names = texts(alloc, "V")?;
+    let names = names(alloc)?;
     let mut locals = Locals::new(alloc);
     for name in &names {
-        set(&mut locals, name, &[], name);
+        set(&mut locals, name, &[], name.as_bytes7());
     }
     measure(
         rt,
         "get",
         plan,
         NS,
-        |i| at(&names, i).map_or(-1, |name| get(&locals, name, &[])),
+        |i| at(&names, i).map_or(-1, |name| get(alloc, &locals, name)),
     )?;
-    measure(
-        rt,
-        "set",
-        plan,
-        NS,
-        |i| at(&names, i).map_or(-1, |name| set(&mut locals, name, &[], name)),
-    )?;
+    measure(rt, "set", plan, NS, |i| {
+        at(&names, i).map_or(-1, |name| set(&mut locals, name, &[], name.as_bytes7()))
+    })?;
     measure(
         rt,
         "copy alone",
         plan,
         NS,
-        |i| at(&names, i).map_or(-1, copied),
+        |i| at(&names, i).map_or(-1, |name| copied(name.as_bytes7())),
     )?;
-    let one = texts(alloc, "V")?;
     measure(
         rt,
         "level",
         plan,
         NS,
-        |_| level(&mut locals, &one[..1.min(one.len())]),
+        |_| level(&mut locals, &names[..1.min(names.len())]),
+    )?;
+    numbers(rt, plan, &mut locals, &names)
+}
+
+// The same variables with numbers.
+fn numbers(
+    rt: &HostRuntime,
+    plan: Plan,
+    locals: &mut Locals,
+    names: &[Name],
+) -> anyhow::Result<()> {
+    measure(
+        rt,
+        "set number",
+        plan,
+        NS,
+        |i| at(names, i).map_or(-1, |name| set_number(locals, name, i)),
+    )?;
+    measure(
+        rt,
+        "get number",
+        plan,
+        NS,
+        |i| at(names, i).map_or(-1, |name| get_number(locals, name)),
     )
 }
 
@@ -159,8 +218,9 @@ fn subscripts(rt: &HostRuntime, plan: Plan, what: &str, letter: &str) -> anyhow:
     println!(rt; "{what}")?;
     let alloc = rt.alloc();
     let subs = texts(alloc, letter)?;
+    let names = names(alloc)?;
     let mut locals = Locals::new(alloc);
-    let Some(name) = subs.first() else {
+    let Some(name) = names.first() else {
         anyhow::bail!("no name");
     };
     for sub in &subs {

@@ -90,8 +90,8 @@ impl<'a, S: NodeStore> Parts<'a, S> {
         let place = whole_number(place)?;
         let old = self.eval.text_or_empty(alloc, name)?;
         let shown = value.shown(alloc)?;
-        let new = set_piece(alloc, &old, delimiter, place, shown.text())?;
-        self.eval.set_local(alloc, name, Value::of_text(new))
+        let new = set_piece(alloc, &old, delimiter, place, shown.as_text())?;
+        self.eval.set_local(name, Value::of_text(new))
     }
 
     // Gives a target a value.
@@ -101,7 +101,7 @@ impl<'a, S: NodeStore> Parts<'a, S> {
         ensures does { Does S.NodeStore (λ i. meaning.assigned value (pending_view pending.now)) (λ u. u) self.old result self.new }
     {
         match pending {
-            Pending::Whole(name) => self.eval.set_local(alloc, name, value),
+            Pending::Whole(name) => self.eval.set_local(name, value),
             Pending::Part(name, delimiter, place) => {
                 self.set_part(alloc, name, delimiter, place, &value)
             }

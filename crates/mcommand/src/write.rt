@@ -43,7 +43,7 @@ impl<'a, S: NodeStore> Parts<'a, S> {
     {
         let value = self.eval.eval(alloc, e)?;
         let shown = value.shown(alloc)?;
-        self.out.extend_from_slice(shown.text().as_bytes())?;
+        self.out.extend_from_slice(shown.as_text().as_bytes())?;
         Ok(())
     }
 }

@@ -11,7 +11,7 @@ use Rattle.mmeaning.specs.Expression.{Inside, inside}
 use Rattle.mmeaning.specs.Calls.{Standing, Here, Did, Ends, Gave, ops_of, point}
 use Rattle.mmeaning.specs.Yields.{Yields}
 use Rattle.mmeaning.proofs.Calls.{did_then, did_failed, did_gives, did_lost, residual_is}
-use Rattle.mmeaning.proofs.Yielding.{yielded}
+use Rattle.mmeaning.proofs.Yieldings.{yielded}
 use Rattle.mstore.specs.declared.store.NodeStore.{Ghosts}
 use Rattle.moperator.specs.Codes.{fault_of}
 use Rattle.moperator.specs.declared.code.Code.{Code}

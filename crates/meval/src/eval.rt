@@ -11,7 +11,7 @@ use crate::depth::Depth;
 use crate::session::Session;
 use mgrant::{AccountId, Settings};
 use mnum::{Bytes7, Name, Num};
-use moperator::{Code, binary, call, computed, matching, truth, unaries};
+use moperator::{Code, binary, call, computed, matching, truth_of, unaries};
 use mstore::NodeStore;
 use mtree::{Choice, Expr, Operand, Primary, Step};
 use mvalue::Value;
@@ -56,8 +56,8 @@ impl<'a, S: NodeStore> Eval<'a, S> {
         ensures fewer { self.new.steps ≤ self.old.steps }
         ensures does { Evaluates S.NodeStore (λ i. get_local name.now) (λ v. v) self.old result self.new }
     {
-        match self.session.locals.get(name.as_bytes7(), &[])? {
-            Some(value) => Ok(Value::of_text(value.copy()?)),
+        match self.session.locals.get(name, &[])? {
+            Some(value) => Ok(value.copy()?),
             None => Err(Code::M6),
         }
     }
@@ -67,13 +67,12 @@ impl<'a, S: NodeStore> Eval<'a, S> {
     /// # Errors
     ///
     /// `Zmem` for want of memory; the variable is then as it was.
-    pub fn set_local(&mut self, alloc: Global, name: &Name, value: Value) -> Result<(), Code>
+    pub fn set_local(&mut self, name: &Name, value: Value) -> Result<(), Code>
         ensures loans { KeepsEval self.old self.new }
         ensures fewer { self.new.steps ≤ self.old.steps }
         ensures does { Evaluates S.NodeStore (λ i. set_local name.now value) (λ u. u) self.old result self.new }
     {
-        let text = value.into_text(alloc)?;
-        self.session.locals.set(name.as_bytes7(), &[], text)?;
+        self.session.locals.set(name, &[], value)?;
         Ok(())
     }
 
@@ -85,8 +84,8 @@ impl<'a, S: NodeStore> Eval<'a, S> {
     pub fn text_or_empty(&self, alloc: Global, name: &Name) -> Result<Bytes7, AllocError>
         ensures { IfOk result (λ text. text ≡ unwrap_or (value_of self.now.session.now.locals name.now) []) }
     {
-        match self.session.locals.get(name.as_bytes7(), &[])? {
-            Some(value) => Ok(value.copy()?),
+        match self.session.locals.get(name, &[])? {
+            Some(value) => Ok(value.copy()?.into_text(alloc)?),
             None => Ok(Bytes7::empty(alloc)),
         }
     }
@@ -137,7 +136,7 @@ impl<'a, S: NodeStore> Eval<'a, S> {
     {
         for choice in choices {
             let condition = self.value(alloc, &choice.condition)?;
-            if truth(&condition)? {
+            if truth_of(&condition)? {
                 return self.value(alloc, &choice.value);
             }
         }

@@ -15,7 +15,8 @@ ghost use Rattle.mlocal.specs.Way.{way};
 use crate::variable::Variable;
 use crate::walk::{Data, Direction};
 use mkey::SubsKey;
-use mnum::Bytes7;
+use mnum::{Bytes7, Name};
+use mvalue::Value;
 use std::alloc::{AllocError, Global};
 use std::collections::HashMap;
 use std::marker::Model;
@@ -24,9 +25,9 @@ use std::marker::Model;
 // Contracts see it as the scope of the definitions.
 #[derive(Drop)]
 pub struct Scope {
-    names: Vec<Bytes7>,
-    others: Option<Vec<Bytes7>>,
-    trees: HashMap<Bytes7, Variable>,
+    names: Vec<Name>,
+    others: Option<Vec<Name>>,
+    trees: HashMap<Name, Variable>,
 }
 
 impl Model for Scope {
@@ -43,7 +44,7 @@ impl Model for Scope {
 }
 
 // Whether a name is one of these.
-pub fn is_among(name: &Bytes7, names: &[Bytes7]) -> bool
+pub fn is_among(name: &Name, names: &[Name]) -> bool
     ensures { result ≡ is_among names.now name.now }
 {
     names.iter().any(|n| name == n)
@@ -73,7 +74,7 @@ impl Scope {
     }
 
     // Whether it has the name by itself.
-    pub fn has(&self, name: &Bytes7) -> bool
+    pub fn has(&self, name: &Name) -> bool
         ensures { result ≡ has self.now name.now }
     {
         if is_among(name, self.names.as_slice()) {
@@ -85,9 +86,9 @@ impl Scope {
         }
     }
 
-    // The text at a node.
-    pub fn get(&self, name: &Bytes7, key: &SubsKey) -> Option<&Bytes7>
-        ensures { option_map (λ text. text.now) result ≡ get (tree_in self.now name.now) key.now }
+    // The value at a node.
+    pub fn get(&self, name: &Name, key: &SubsKey) -> Option<&Value>
+        ensures { option_map (λ value. value.now) result ≡ get (tree_in self.now name.now) key.now }
     {
         match self.trees.get(name) {
             None => None,
@@ -96,7 +97,7 @@ impl Scope {
     }
 
     // Whether a node has a text, and whether a node below it has one.
-    pub fn data(&self, alloc: Global, name: &Bytes7, subs: &[Bytes7]) -> Result<Data, AllocError>
+    pub fn data(&self, alloc: Global, name: &Name, subs: &[Bytes7]) -> Result<Data, AllocError>
         requires { AreSubscripts subs.now }
         ensures value { IfOk result (λ found. found.value ≡ has_value (tree_in self.now name.now) subs.now) }
         ensures descendants { IfOk result (λ found. found.descendants ≡ has_descendants (tree_in self.now name.now) subs.now) }
@@ -114,7 +115,7 @@ impl Scope {
     pub fn order(
         &self,
         alloc: Global,
-        name: &Bytes7,
+        name: &Name,
         subs: &[Bytes7],
         direction: Direction,
     ) -> Result<Option<Bytes7>, AllocError>
@@ -127,24 +128,24 @@ impl Scope {
         }
     }
 
-    // Gives a node a text. For want of memory the scope is as it was.
+    // Gives a node a value. For want of memory the scope is as it was.
     pub fn set(
         &mut self,
         alloc: Global,
-        name: &Bytes7,
+        name: &Name,
         key: SubsKey,
-        text: Bytes7,
+        value: Value,
     ) -> Result<(), AllocError>
         requires { AreSubs key }
-        ensures ok { OnOk result (self.new ≡ with_tree name.now (insert (tree_in self.old name.now) key text) self.old) }
+        ensures ok { OnOk result (self.new ≡ with_tree name.now (insert (tree_in self.old name.now) key value) self.old) }
         ensures err { OnErr result (self.new ≡ self.old) }
         ensures others { self.new.others ≡ self.old.others }
     {
         match self.trees.get_mut(name) {
-            Some(variable) => variable.set(key, text),
+            Some(variable) => variable.set(key, value),
             None => {
                 let mut variable = Variable::new(alloc);
-                variable.set(key, text)?;
+                variable.set(key, value)?;
                 self.trees.insert(name.copy()?, variable)?;
                 Ok(())
             }
@@ -152,7 +153,7 @@ impl Scope {
     }
 
     // Takes the texts of a node and of the nodes below it away. Takes no memory.
-    pub fn kill(&mut self, name: &Bytes7, key: &SubsKey)
+    pub fn kill(&mut self, name: &Name, key: &SubsKey)
         ensures { self.new ≡ kill_in name.now key.now (get self.old.trees name.now) self.old }
     {
         match self.trees.get_mut(name) {
@@ -162,18 +163,18 @@ impl Scope {
     }
 
     // Takes the texts of all names away but these and those that a scope above has. Takes no memory.
-    pub fn keep_spared(&mut self, names: &[Bytes7], above: &[Scope])
+    pub fn keep_spared(&mut self, names: &[Name], above: &[Scope])
         ensures { self.new ≡ emptied (λ n. is_among names.now n || list_any (has_name n) above.now) self.old }
     {
         self.trees.retain(
-            |name: &Bytes7, tree: &mut Variable| -> bool
+            |name: &Name, tree: &mut Variable| -> bool
                 ensures { (result ≡ (is_among names.entry.now name.now || list_any (has_name name.now) above.entry.now)) × (tree.new ≡ tree.old) }
             { is_spared(names, above, name) },
         );
     }
 
     // Those of the names that it has not yet.
-    fn new_names(&self, alloc: Global, names: &[Bytes7]) -> Result<Vec<Bytes7>, AllocError>
+    fn new_names(&self, alloc: Global, names: &[Name]) -> Result<Vec<Name>, AllocError>
         ensures { IfOk result (λ fresh. fresh.items ≡ filter (λ n. not (has self.now n)) names.now) }
     {
         let mut fresh = Vec::new(alloc);
@@ -186,7 +187,7 @@ impl Scope {
     }
 
     // Has these names too, with empty trees. For want of memory the scope is as it was.
-    pub fn hide(&mut self, alloc: Global, names: &[Bytes7]) -> Result<(), AllocError>
+    pub fn hide(&mut self, alloc: Global, names: &[Name]) -> Result<(), AllocError>
         ensures ok { OnOk result (self.new ≡ hide names.now self.old) }
         ensures err { OnErr result (self.new ≡ self.old) }
         ensures others { self.new.others ≡ self.old.others }
@@ -198,7 +199,7 @@ impl Scope {
     }
 
     // Has all names but these, and of these those that it had. The trees of the others are empty.
-    pub fn hide_others(&mut self, names: Vec<Bytes7>)
+    pub fn hide_others(&mut self, names: Vec<Name>)
         ensures { self.new ≡ hide_others names.items self.old }
     {
         keep_names(&mut self.trees, names.as_slice());
@@ -211,47 +212,47 @@ impl Scope {
 }
 
 // Whether a scope of these has the name.
-fn any_has(scopes: &[Scope], name: &Bytes7) -> bool
+fn any_has(scopes: &[Scope], name: &Name) -> bool
     ensures { result ≡ list_any (has_name name.now) scopes.now }
 {
     scopes.iter().any(|s| s.has(name))
 }
 
 // Whether a name is one of these, or a scope above has it.
-fn is_spared(names: &[Bytes7], above: &[Scope], name: &Bytes7) -> bool
+fn is_spared(names: &[Name], above: &[Scope], name: &Name) -> bool
     ensures { result ≡ (is_among names.now name.now || list_any (has_name name.now) above.now) }
 {
     is_among(name, names) || any_has(above, name)
 }
 
 // Takes the trees of these names away.
-fn drop_names(trees: &mut HashMap<Bytes7, Variable>, names: &[Bytes7])
+fn drop_names(trees: &mut HashMap<Name, Variable>, names: &[Name])
     ensures { hash_map_of (λ tree. tree) trees.new ≡ retain_keys {R = slice_cmp nat_cmp} (hash_map_of (λ tree. tree) trees.old) (λ n. not (is_among names.now n)) }
 {
     trees.retain(
-        |name: &Bytes7, tree: &mut Variable| -> bool
+        |name: &Name, tree: &mut Variable| -> bool
             ensures { (result ≡ not (is_among names.entry.now name.now)) × (tree.new ≡ tree.old) }
         { !is_among(name, names) },
     );
 }
 
 // Takes the trees of all but these names away.
-fn keep_names(trees: &mut HashMap<Bytes7, Variable>, names: &[Bytes7])
+fn keep_names(trees: &mut HashMap<Name, Variable>, names: &[Name])
     ensures { hash_map_of (λ tree. tree) trees.new ≡ retain_keys {R = slice_cmp nat_cmp} (hash_map_of (λ tree. tree) trees.old) (is_among names.now) }
 {
     trees.retain(
-        |name: &Bytes7, tree: &mut Variable| -> bool
+        |name: &Name, tree: &mut Variable| -> bool
             ensures { (result ≡ is_among names.entry.now name.now) × (tree.new ≡ tree.old) }
         { is_among(name, names) },
     );
 }
 
 // The names that are among the old ones too.
-fn common(mut names: Vec<Bytes7>, old: &[Bytes7]) -> Vec<Bytes7>
+fn common(mut names: Vec<Name>, old: &[Name]) -> Vec<Name>
     ensures { result.items ≡ filter (is_among old.now) names.items }
 {
     names.retain(
-        |name: &Bytes7| -> bool
+        |name: &Name| -> bool
             ensures { result ≡ is_among old.entry.now name.now }
         { is_among(name, old) },
     );

@@ -9,12 +9,13 @@ ghost use Rattle.mspec.specs.Trees.{AreOrderSubscripts};
 use crate::scope::Scope;
 use crate::walk::{Data, Direction};
 use mkey::SubsKey;
-use mnum::Bytes7;
+use mnum::{Bytes7, Name};
+use mvalue::Value;
 use std::alloc::{AllocError, Global};
 use std::marker::Model;
 use std::mem;
 
-/// The local variables of a session. Contracts see them as the stack of scopes, the innermost on top.
+/// The local variables of a session. Contracts see them as the stack of scopes, the innermost on top, and their values as texts.
 #[derive(Drop)]
 pub struct Locals {
     alloc: Global,
@@ -85,14 +86,14 @@ impl Locals {
         self.levels.clear();
     }
 
-    /// The text at a node, where the name's variable has one there.
+    /// The value at a node, where the name's variable has one there. A number that was assigned is one still.
     ///
     /// # Errors
     ///
     /// `AllocError` for want of memory.
-    pub fn get(&self, name: &Bytes7, subs: &[Bytes7]) -> Result<Option<&Bytes7>, AllocError>
+    pub fn get(&self, name: &Name, subs: &[Bytes7]) -> Result<Option<&Value>, AllocError>
         requires { AreSubscripts subs.now }
-        ensures { IfOk result (λ text. option_map (λ t. t.now) text ≡ value_at self.now name.now subs.now) }
+        ensures { IfOk result (λ found. option_map (λ value. value.now) found ≡ value_at self.now name.now subs.now) }
     {
         let key = SubsKey::build(self.alloc, subs)?;
         match home(&self.levels, name) {
@@ -106,7 +107,7 @@ impl Locals {
     /// # Errors
     ///
     /// `AllocError` for want of memory.
-    pub fn data(&self, name: &Bytes7, subs: &[Bytes7]) -> Result<Data, AllocError>
+    pub fn data(&self, name: &Name, subs: &[Bytes7]) -> Result<Data, AllocError>
         requires { AreSubscripts subs.now }
         ensures value { IfOk result (λ found. found.value ≡ is_value self.now name.now subs.now) }
         ensures descendants { IfOk result (λ found. found.descendants ≡ is_above self.now name.now subs.now) }
@@ -125,7 +126,7 @@ impl Locals {
     /// `AllocError` for want of memory.
     pub fn order(
         &self,
-        name: &Bytes7,
+        name: &Name,
         subs: &[Bytes7],
         direction: Direction,
     ) -> Result<Option<Bytes7>, AllocError>
@@ -138,20 +139,20 @@ impl Locals {
         }
     }
 
-    /// Gives a node a text, in place of the one that it has.
+    /// Gives a node a value, in place of the one that it has.
     ///
     /// # Errors
     ///
     /// `AllocError` for want of memory; the locals are then as they were.
-    pub fn set(&mut self, name: &Bytes7, subs: &[Bytes7], text: Bytes7) -> Result<(), AllocError>
+    pub fn set(&mut self, name: &Name, subs: &[Bytes7], value: Value) -> Result<(), AllocError>
         requires { AreSubscripts subs.now }
-        ensures ok { OnOk result (self.new ≡ assigned self.old name.now subs.now text) }
+        ensures ok { OnOk result (self.new ≡ assigned self.old name.now subs.now value) }
         ensures err { OnErr result (self.new ≡ self.old) }
     {
         let key = SubsKey::build(self.alloc, subs)?;
         match home(&self.levels, name) {
-            None => self.bottom.set(self.alloc, name, key, text),
-            Some(place) => self.levels[place].set(self.alloc, name, key, text),
+            None => self.bottom.set(self.alloc, name, key, value),
+            Some(place) => self.levels[place].set(self.alloc, name, key, value),
         }
     }
 
@@ -160,7 +161,7 @@ impl Locals {
     /// # Errors
     ///
     /// `AllocError` for want of memory; the locals are then as they were.
-    pub fn kill(&mut self, name: &Bytes7, subs: &[Bytes7]) -> Result<(), AllocError>
+    pub fn kill(&mut self, name: &Name, subs: &[Bytes7]) -> Result<(), AllocError>
         requires { AreSubscripts subs.now }
         ensures ok { OnOk result (self.new ≡ killed self.old name.now subs.now) }
         ensures err { OnErr result (self.new ≡ self.old) }
@@ -179,7 +180,7 @@ impl Locals {
     }
 
     /// Takes the texts of all variables away that can be seen, but those of these names. Takes no memory.
-    pub fn kill_except(&mut self, names: &[Bytes7])
+    pub fn kill_except(&mut self, names: &[Name])
         ensures { self.new ≡ killed_except names.now self.old }
     {
         self.bottom.keep_spared(names, self.levels.as_slice());
@@ -191,7 +192,7 @@ impl Locals {
     /// # Errors
     ///
     /// `AllocError` for want of memory; the locals are then as they were.
-    pub fn new_vars(&mut self, names: &[Bytes7]) -> Result<(), AllocError>
+    pub fn new_vars(&mut self, names: &[Name]) -> Result<(), AllocError>
         ensures ok { OnOk result (self.new ≡ newed names.now self.old) }
         ensures err { OnErr result (self.new ≡ self.old) }
     {
@@ -204,7 +205,7 @@ impl Locals {
 
     /// Gives the top scope all names but these, and of these those that it had, until its level ends. The variables of the
     /// others have no text. Takes no memory.
-    pub fn new_except(&mut self, names: Vec<Bytes7>)
+    pub fn new_except(&mut self, names: Vec<Name>)
         ensures { self.new ≡ newed_except names.items self.old }
     {
         let count = self.levels.len();
@@ -217,7 +218,7 @@ impl Locals {
 }
 
 // Takes the texts of all variables of these scopes away that no scope above hides, but those of these names.
-fn spare(alloc: Global, scopes: &mut Vec<Scope>, names: &[Bytes7])
+fn spare(alloc: Global, scopes: &mut Vec<Scope>, names: &[Name])
     ensures { scopes.new.items ≡ killed_up (is_among names.now) scopes.old.items }
 {
     for place in 0..scopes.len() {
@@ -236,7 +237,7 @@ fn scopes_above(scopes: &Vec<Scope>, place: usize) -> &[Scope]
 }
 
 // The place of the topmost of these scopes that has the name.
-fn home(scopes: &Vec<Scope>, name: &Bytes7) -> Option<usize>
+fn home(scopes: &Vec<Scope>, name: &Name) -> Option<usize>
     ensures { IsHome name.now scopes.now.items result }
 {
     let mut place = scopes.len();

@@ -1,4 +1,4 @@
-// One variable: the texts at its nodes.
+// One variable: the values at its nodes.
 ghost use Rattle.std.specs.Prelude.{◌≡◌, IfOk, OnOk, OnErr, option_and_then, option_map, IfSome, not, ◌||◌, reverse};
 ghost use Rattle.std.specs.BTreeMap.{IsOrdered, keys};
 ghost use Rattle.std.specs.BTreeMap.Range.{IsLtBy};
@@ -15,18 +15,19 @@ ghost use Rattle.mspec.specs.Trees.{without, is_within, child_of, has_value, has
 use crate::walk::{Data, Direction, front, last};
 use mkey::SubsKey;
 use mnum::Bytes7;
+use mvalue::Value;
 use std::alloc::{AllocError, Global};
 use std::collections::BTreeMap;
 use std::marker::Model;
 use std::ops::Bound;
 
-// The texts at the nodes of a variable. Contracts see it as the tree.
+// The values at the nodes of a variable. Contracts see it as the tree of their texts.
 #[derive(Drop)]
 pub struct Variable {
-    // its own text; most variables have no other
-    own: Option<Bytes7>,
-    // the texts at nodes with subscripts, by these
-    texts: BTreeMap<SubsKey, Bytes7>,
+    // its own value; most variables have no other
+    own: Option<Value>,
+    // the values at nodes with subscripts, by these
+    values: BTreeMap<SubsKey, Value>,
 }
 
 impl Model for Variable {
@@ -42,9 +43,9 @@ impl Model for Variable {
 
     ghost coded = { code (coded_list (coded_list coded_ℕ)) (coded_list coded_ℕ) };
 
-    ghost view = { λ v. with_own v.own (map_of (λ text. text) v.texts) };
+    ghost view = { λ v. with_own v.own (map_of (λ value. value) v.values) };
 
-    ghost invariant = { λ v. All AreSomeSubs (keys v.texts) };
+    ghost invariant = { λ v. All AreSomeSubs (keys v.values) };
 }
 
 impl Variable {
@@ -54,31 +55,31 @@ impl Variable {
     {
         Variable {
             own: None,
-            texts: BTreeMap::new(alloc),
+            values: BTreeMap::new(alloc),
         }
     }
 
-    // The text at a node.
-    pub fn get(&self, key: &SubsKey) -> Option<&Bytes7>
-        ensures { option_map (λ text. text.now) result ≡ get self.now key.now }
+    // The value at a node.
+    pub fn get(&self, key: &SubsKey) -> Option<&Value>
+        ensures { option_map (λ value. value.now) result ≡ get self.now key.now }
     {
         if key.is_empty() {
             return self.own.as_ref();
         }
-        self.texts.get(key)
+        self.values.get(key)
     }
 
-    // Gives a node a text. For want of memory the variable is as it was.
-    pub fn set(&mut self, key: SubsKey, text: Bytes7) -> Result<(), AllocError>
+    // Gives a node a value. For want of memory the variable is as it was.
+    pub fn set(&mut self, key: SubsKey, value: Value) -> Result<(), AllocError>
         requires { AreSubs key }
-        ensures ok { OnOk result (self.new ≡ insert self.old key text) }
+        ensures ok { OnOk result (self.new ≡ insert self.old key value) }
         ensures err { OnErr result (self.new ≡ self.old) }
     {
         if key.is_empty() {
-            self.own = Some(text);
+            self.own = Some(value);
             return Ok(());
         }
-        self.texts.insert(key, text)?;
+        self.values.insert(key, value)?;
         Ok(())
     }
 
@@ -88,12 +89,12 @@ impl Variable {
     {
         if key.is_empty() {
             self.own = None;
-            self.texts.clear();
+            self.values.clear();
             return;
         }
-        self.texts.retain(
-            |k: &SubsKey, text: &mut Bytes7| -> bool
-                ensures { (result ≡ not (is_within key.entry.now k.now)) × (text.new ≡ text.old) }
+        self.values.retain(
+            |k: &SubsKey, value: &mut Value| -> bool
+                ensures { (result ≡ not (is_within key.entry.now k.now)) × (value.new ≡ value.old) }
             { !k.is_within(key) },
         );
     }
@@ -108,7 +109,7 @@ impl Variable {
         let end = SubsKey::behind_below(alloc, subs)?;
         Ok(Data {
             value: self.get(&key).is_some(),
-            descendants: first_between(&self.texts, &key, &end).is_some(),
+            descendants: first_between(&self.values, &key, &end).is_some(),
         })
     }
 
@@ -143,10 +144,10 @@ impl Variable {
         ensures subs { IfOk result (λ key. IfSome key (λ k. AreSubs k.now)) }
     {
         if last(subs).as_bytes().is_empty() {
-            return Ok(first_behind(&self.texts, above));
+            return Ok(first_behind(&self.values, above));
         }
         let start = SubsKey::behind_below(alloc, subs)?;
-        Ok(first_behind(&self.texts, &start))
+        Ok(first_behind(&self.values, &start))
     }
 
     // The last key of those whose subscript there stands before the last of these, or of all where that is empty.
@@ -163,10 +164,10 @@ impl Variable {
     {
         if last(subs).as_bytes().is_empty() {
             let end = SubsKey::behind_below(alloc, front(subs))?;
-            return Ok(last_between(&self.texts, above, &end));
+            return Ok(last_between(&self.values, above, &end));
         }
         let end = SubsKey::build(alloc, subs)?;
-        Ok(last_between(&self.texts, above, &end))
+        Ok(last_between(&self.values, above, &end))
     }
 }
 
@@ -186,13 +187,16 @@ fn child(
 }
 
 // The first key that stands behind one.
-fn first_behind<'a>(texts: &'a BTreeMap<SubsKey, Bytes7>, low: &SubsKey) -> Option<&'a SubsKey>
-    requires subs { All AreSomeSubs (keys texts.now) }
-    ensures ordered { IsOrdered (subscripts_cmp significant_digits) texts.now }
+fn first_behind<'a>(values: &'a BTreeMap<SubsKey, Value>, low: &SubsKey) -> Option<&'a SubsKey>
+    requires subs { All AreSomeSubs (keys values.now) }
+    ensures ordered { IsOrdered (subscripts_cmp significant_digits) values.now }
     ensures subs { IfSome result (λ k. AreSubs k.now) }
-    ensures key { option_map (λ k. k.now) result ≡ find (is_behind low.now) (keys texts.now) }
+    ensures key { option_map (λ k. k.now) result ≡ find (is_behind low.now) (keys values.now) }
 {
-    match texts.range((Bound::Excluded(low), Bound::Unbounded)).next() {
+    match values
+        .range((Bound::Excluded(low), Bound::Unbounded))
+        .next()
+    {
         Some((key, _)) => Some(key),
         None => None,
     }
@@ -200,17 +204,17 @@ fn first_behind<'a>(texts: &'a BTreeMap<SubsKey, Bytes7>, low: &SubsKey) -> Opti
 
 // The first key that stands behind one and before another.
 fn first_between<'a>(
-    texts: &'a BTreeMap<SubsKey, Bytes7>,
+    values: &'a BTreeMap<SubsKey, Value>,
     low: &SubsKey,
     high: &SubsKey,
 ) -> Option<&'a SubsKey>
     requires forward { IsLtBy (subscripts_cmp significant_digits) low.now high.now }
-    requires subs { All AreSomeSubs (keys texts.now) }
-    ensures ordered { IsOrdered (subscripts_cmp significant_digits) texts.now }
+    requires subs { All AreSomeSubs (keys values.now) }
+    ensures ordered { IsOrdered (subscripts_cmp significant_digits) values.now }
     ensures subs { IfSome result (λ k. AreSubs k.now) }
-    ensures key { option_map (λ k. k.now) result ≡ find (is_between low.now high.now) (keys texts.now) }
+    ensures key { option_map (λ k. k.now) result ≡ find (is_between low.now high.now) (keys values.now) }
 {
-    match texts
+    match values
         .range((Bound::Excluded(low), Bound::Excluded(high)))
         .next()
     {
@@ -221,17 +225,17 @@ fn first_between<'a>(
 
 // The last of them.
 fn last_between<'a>(
-    texts: &'a BTreeMap<SubsKey, Bytes7>,
+    values: &'a BTreeMap<SubsKey, Value>,
     low: &SubsKey,
     high: &SubsKey,
 ) -> Option<&'a SubsKey>
     requires forward { IsLtBy (subscripts_cmp significant_digits) low.now high.now }
-    requires subs { All AreSomeSubs (keys texts.now) }
-    ensures ordered { IsOrdered (subscripts_cmp significant_digits) texts.now }
+    requires subs { All AreSomeSubs (keys values.now) }
+    ensures ordered { IsOrdered (subscripts_cmp significant_digits) values.now }
     ensures subs { IfSome result (λ k. AreSubs k.now) }
-    ensures key { option_map (λ k. k.now) result ≡ find (is_between low.now high.now) (reverse (keys texts.now)) }
+    ensures key { option_map (λ k. k.now) result ≡ find (is_between low.now high.now) (reverse (keys values.now)) }
 {
-    match texts
+    match values
         .range((Bound::Excluded(low), Bound::Excluded(high)))
         .next_back()
     {

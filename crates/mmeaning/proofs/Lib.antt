@@ -3,4 +3,4 @@ pub mod Histories
 pub mod OtherLocks
 pub mod Calls
 pub mod Moves
-pub mod Yielding
+pub mod Yieldings

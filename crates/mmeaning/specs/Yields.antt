@@ -1,11 +1,13 @@
--- What a call that needs no session says of an act that looks at none: wherever the act stands, it gives this value or fails by
--- this code.
+-- What a function over values says of an act: its result is the act's outcome, and the act looks at no state, changes none and asks
+-- nothing of the world.
+--
+-- `E` is the code's type of codes and `fault_of` what each stands for; `f` says what the call's value stands for. Want of memory says
+-- nothing of the act, and no such function needs the store.
 use Rattle.std.specs.Prelude.{◌≡◌, Result, Ok, Err}
 use Rattle.mspec.specs.Code.{Fault, Own, Lost, Memory, Store}
 use Rattle.mspec.specs.Plan.{Done}
 use Rattle.mspec.specs.Act.{State, Gives, Fails, Act}
 
--- of a want of memory nothing is said, and such a call has no store
 abbrev pub YieldsFault : {A : Type 0} → Act A → Fault → Type 0
 YieldsFault p (Own c) = (s : State) → p s ≡ Done (Fails c s)
 YieldsFault p (Lost Memory) = Unit {0}

@@ -1,27 +1,23 @@
 -- Arguments of functions at their places.
-use Rattle.std.proofs.Common.{◌≡◌, ℕ, ◌+◌, ◌<◌, ◌≤◌, List, [], ◌∷◌, ◌++◌, length, drop, get_or, Option, Some, None, Result, Ok, Err, refl, sym, ap, subst}
+use Rattle.std.proofs.Common.{◌≡◌, ℕ, suc, ◌+◌, ◌<◌, ◌≤◌, List, [], ◌∷◌, ◌++◌, length, drop, get_or, Option, Some, None, Result, Ok, Err, refl, sym, ap, ◌∙◌, subst, drop-cons, add-one}
 use Rattle.std.specs.Prelude.{ℤ, slice_get}
 use Rattle.std.proofs.Math.ListN.{drop_of_length-le}
 use Rattle.std.proofs.lemmas.Option.{slice_get_read, slice_get_past}
 use Rattle.mspec.specs.Act.{Text, give}
-use Rattle.mspec.proofs.ListPlaces.{next_item}
 use Rattle.mmeaning.specs.Functions.{as_whole, as_whole_or_none, whole_at, wholes}
-use Rattle.moperator.specs.Codes.{fault_of}
 use Rattle.mmeaning.specs.Yields.{Yields}
+use Rattle.mmeaning.proofs.Yieldings.{yields_then, yields_failed, yields_gives}
+use Rattle.moperator.specs.Codes.{fault_of}
 use Rattle.moperator.specs.declared.code.Code.{Code}
-use Rattle.moperator.proofs.Yielding.{yields_then, yields_failed, yields_gives}
 
 -- the argument at a place, which was read there
 pub argument_is : (args : List Text) (k : ℕ) (v : Text) → k < length args → v ≡ get_or args k v → slice_get args k ≡ Some v
 argument_is args k v within is = slice_get_read args (length args) k v refl within is
 
-pub no_argument_is : (args : List Text) (k : ℕ) → length args ≤ k → slice_get args k ≡ None
-no_argument_is args k past = slice_get_past args k past
-
 -- ---- one as a whole number
 
 pub left_out : (args : List Text) (k : ℕ) → length args ≤ k → Yields fault_of (whole_at k args) (λ (n : Option ℤ). n) (Ok None)
-left_out args k past = subst (λ x. Yields fault_of (as_whole_or_none x) (λ (n : Option ℤ). n) (Ok None)) (sym (no_argument_is args k past)) (yields_gives None (λ (n : Option ℤ). n) None refl)
+left_out args k past = subst (λ x. Yields fault_of (as_whole_or_none x) (λ (n : Option ℤ). n) (Ok None)) (sym (slice_get_past args k past)) (yields_gives None (λ (n : Option ℤ). n) None refl)
 
 pub given : (args : List Text) (k : ℕ) (v : Text) (m n : ℤ) → k < length args → v ≡ get_or args k v → m ≡ n → Yields fault_of (as_whole v) (λ (n : ℤ). n) (Ok n)
     → Yields fault_of (whole_at k args) (λ (n : Option ℤ). n) (Ok (Some m))
@@ -35,6 +31,10 @@ refused args k v e within is d =
     subst (λ x. Yields fault_of (as_whole_or_none x) (λ (n : Option ℤ). n) (Err e)) (sym (argument_is args k v within is)) (yields_failed (λ n. give (Some n)) d)
 
 -- ---- all as whole numbers
+
+-- what is left from a place on begins with the item there
+pub next_item : {A : Type 0} (xs : List A) (i : ℕ) (d : A) → i < length xs → d ≡ get_or xs i d → drop i xs ≡ d ∷ drop (i + 1) xs
+next_item xs i d h e = drop-cons xs i d h ∙ (λ j. sym e j ∷ drop (suc i) xs) ∙ rw (sym (add-one i)) refl
 
 pub next_whole : {X : Type 0} (view : X → List ℤ) (args : List Text) (i : ℕ) (v : Text) (ns : List ℤ) (n : ℤ) (r : Result X Code) → i < length args → v ≡ get_or args i v → Yields fault_of (as_whole v) (λ (n : ℤ). n) (Ok n)
     → Yields fault_of (wholes (ns ++ n ∷ []) (drop (i + 1) args)) view r → Yields fault_of (wholes ns (drop i args)) view r

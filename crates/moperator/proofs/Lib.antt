@@ -1,8 +1,6 @@
-pub mod Yielding
 pub mod Numbers
 pub mod Truths
 pub mod PieceBytes
 pub mod GivenArguments
 pub mod PatternMatches
 pub mod Signs
-pub mod AsciiNumbers

@@ -1,42 +1,36 @@
 -- Numbers of values, and what an operation on numbers gives.
-use Rattle.std.proofs.Common.{◌≡◌, ℕ, ◌<◌, ◌^◌, Bool, true, false, not, Option, Some, None, Result, Ok, Err, refl, sym, ap, ◌∙◌, subst, arith}
-use Rattle.std.specs.Prelude.{List, Decides, nat_eq, unwrap_or, IfSome, ℤ, pos, negsuc, unsigned_abs, MatchResult}
-use Rattle.std.specs.Fmt.{digits}
+use Rattle.std.proofs.Common.{◌≡◌, ◌<◌, ◌^◌, Bool, true, false, not, Option, Some, None, Result, Ok, Err, refl, sym, ap, subst, arith}
+use Rattle.std.specs.Prelude.{unwrap_or, IfSome, ℤ, pos, negsuc, unsigned_abs, MatchResult}
 use Rattle.std.specs.Int.{w64}
-use Rattle.std.specs.Ordering.{int_cmp, int_eq, is_eq}
-use Rattle.std.specs.Cmp.Lexicographic.{pointwise}
-use Rattle.std.proofs.lemmas.Bool.Decides.{Decides-eqb, Decides-int_eq, same_from_decides}
+use Rattle.std.specs.Ordering.{int_eq}
+use Rattle.std.proofs.lemmas.Bool.Decides.{Decides-int_eq}
 use Rattle.std.proofs.lemmas.Int.{ints}
-use Rattle.std.proofs.lemmas.Slice.Eq.{slice_eq-Decides}
 use mir.Val.{to_z, of_z}
 use Rattle.mspec.specs.Code.{M9, Zover}
 use Rattle.mspec.specs.Number.{significant_digits}
-use Rattle.mspec.specs.NumberText.{numeric_value, number_text, size_text}
-use Rattle.mspec.specs.Interpretations.{is_true, truth_text}
+use Rattle.mspec.specs.NumberText.{numeric_value}
+use Rattle.mspec.specs.Interpretations.{is_true}
 use Rattle.mspec.specs.Act.{Text, Act, ◌>>◌, give_some, unless}
-use Rattle.mspec.proofs.TextLaws.{text_has_value}
 use Rattle.mmeaning.specs.Operators.{as_number, as_text}
-use Rattle.mmeaning.specs.Functions.{whole_text}
+use Rattle.mmeaning.specs.Yields.{Yields}
+use Rattle.mmeaning.proofs.Yieldings.{yields_gives}
 use Rattle.mnum.specs.Num.{units}
 use Rattle.mnum.specs.Division.{IsOutcome}
 use Rattle.mnum.specs.declared.num.Num.{Num}
 use Rattle.mnum.specs.declared.num.Over.{Over}
 use Rattle.mnum.specs.declared.num.ArithFault.{ArithFault}
 use Rattle.mnum.specs.declared.num.ArithFault.TheVariants as fault
-use Rattle.mnum.proofs.Ranges.{units_number}
 use Rattle.moperator.specs.Codes.{fault_of}
-use Rattle.mmeaning.specs.Yields.{Yields}
 use Rattle.moperator.specs.Outcomes.{outcome_units, quotient_act}
 use Rattle.moperator.specs.declared.code.Code.{Code}
-use Rattle.moperator.specs.declared.code.Code.TheVariants as code
-use Rattle.moperator.proofs.Yielding.{yields_gives}
+use Rattle.moperator.specs.declared.code.Code.TheVariants as codes
 
--- the number that a text stands for, where it has one
-pub number_read : (x : Text) (n : Num) → numeric_value significant_digits x ≡ Some (units n) → Yields fault_of (as_number x) units (Ok n)
-number_read x n is = subst (λ (o : Option ℤ). Yields fault_of (give_some Zover o) units (Ok n)) (sym is) (yields_gives (units n) units n refl)
+-- the number of a text, where there is one
+pub number_is : (x : Text) (n : Num) → numeric_value significant_digits x ≡ Some (units n) → Yields fault_of (as_number x) units (Ok n)
+number_is x n e = subst (λ (o : Option ℤ). Yields fault_of (give_some Zover o) units (Ok n)) (sym e) (yields_gives (units n) units n refl)
 
-pub no_number : (x : Text) → numeric_value significant_digits x ≡ None → Yields {X = Num} fault_of (as_number x) units (Err code.Zover)
-no_number x is = subst (λ (o : Option ℤ). Yields {X = Num} fault_of (give_some Zover o) units (Err code.Zover)) (sym is) (record { ends = λ s. refl })
+pub no_number : (x : Text) → numeric_value significant_digits x ≡ None → Yields {X = Num} fault_of (as_number x) units (Err codes.Zover)
+no_number x e = subst (λ (o : Option ℤ). Yields {X = Num} fault_of (give_some Zover o) units (Err codes.Zover)) (sym e) (record { ends = λ s. refl })
 
 -- what the clauses of an operation say of its result
 outcome_is : (r : Result Num Over) (o : Option ℤ) → MatchResult r (λ n. o ≡ Some (units n)) (λ _. o ≡ None) → outcome_units r ≡ o
@@ -44,7 +38,8 @@ outcome_is (Ok n) o h = sym h
 outcome_is (Err over) o h = sym h
 
 -- what an operation gives of two numbers
-pub computed_outcome : (r : Result Num Over) (o : Option ℤ) {t : Result Text Code} → MatchResult r (λ n. o ≡ Some (units n)) (λ _. o ≡ None) → Yields fault_of (as_text (outcome_units r)) (λ (v : Text). v) t → Yields fault_of (as_text o) (λ (v : Text). v) t
+pub computed_outcome : (r : Result Num Over) (o : Option ℤ) {t : Result Text Code} → MatchResult r (λ n. o ≡ Some (units n)) (λ _. o ≡ None)
+    → Yields fault_of (as_text (outcome_units r)) (λ (v : Text). v) t → Yields fault_of (as_text o) (λ (v : Text). v) t
 computed_outcome r o {t = t} h k = subst (λ (o : Option ℤ). Yields fault_of (as_text o) (λ (v : Text). v) t) (outcome_is r o h) k
 
 -- ---- division
@@ -69,7 +64,8 @@ division_is divisor o (Ok n) h = rw (some_is_true divisor h.0, h.1) refl
 division_is divisor o (Err fault.Zero) h = rw (none_is_false divisor h) refl
 division_is divisor o (Err fault.Over) h = rw (some_is_true divisor h.0, h.1) refl
 
-pub divided_outcome : (divisor : ℤ) (o : Option ℤ) (r : Result Num ArithFault) {t : Result Text Code} → IsOutcome divisor o r → Yields fault_of (quotient_act r) (λ (v : Text). v) t → Yields fault_of (unless M9 (is_true divisor) >> as_text o) (λ (v : Text). v) t
+pub divided_outcome : (divisor : ℤ) (o : Option ℤ) (r : Result Num ArithFault) {t : Result Text Code} → IsOutcome divisor o r
+    → Yields fault_of (quotient_act r) (λ (v : Text). v) t → Yields fault_of (unless M9 (is_true divisor) >> as_text o) (λ (v : Text). v) t
 divided_outcome divisor o r {t = t} h k = subst (λ (p : Act Text). Yields fault_of p (λ (v : Text). v) t) (division_is divisor o r h) k
 
 -- ---- machine numbers

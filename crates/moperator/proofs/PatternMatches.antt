@@ -11,11 +11,11 @@ use Rattle.mgrammar.specs.Matching.{is_at_most, is_reversed, is_match}
 use Rattle.mspec.specs.Act.{Text, ◌>>◌, give, unless}
 use Rattle.mgrammar.proofs.Matchings.{decides_match}
 use Rattle.mmeaning.specs.Operators.{matching}
-use Rattle.moperator.specs.Codes.{fault_of}
 use Rattle.moperator.specs.CappedCounts.{capped, capped_count, capped_atom}
 use Rattle.mmeaning.specs.Yields.{Yields}
+use Rattle.moperator.specs.Codes.{fault_of}
 use Rattle.moperator.specs.declared.code.Code.TheVariants.{M10}
-use Rattle.moperator.proofs.Yielding.{yields_gives}
+use Rattle.mmeaning.proofs.Yieldings.{yields_gives}
 
 -- ---- capped counts permit what the counts do, of what a text can hold
 

@@ -8,10 +8,10 @@ use Rattle.mmeaning.specs.Operators.{unary, unaries}
 use Rattle.mmeaning.proofs.Calls.{assoc}
 use Rattle.mtree.specs.Tree.{sign_tree}
 use Rattle.mtree.specs.declared.tree.Sign.{Sign}
-use Rattle.moperator.specs.Codes.{fault_of}
 use Rattle.mmeaning.specs.Yields.{Yields}
+use Rattle.moperator.specs.Codes.{fault_of}
 use Rattle.moperator.specs.declared.code.Code.{Code}
-use Rattle.moperator.proofs.Yielding.{yields_then, yields_failed, yields_gives}
+use Rattle.mmeaning.proofs.Yieldings.{yields_then, yields_failed, yields_gives}
 
 -- to give what an act gives changes nothing
 given_plan : {A : Type 0} (p : Plan (Outcome A)) → then_plan p (on_gives give) ≡ p

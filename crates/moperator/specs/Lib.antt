@@ -1,4 +1,4 @@
 pub mod Codes
-pub mod Outcomes
 pub mod Faults
+pub mod Outcomes
 pub mod CappedCounts

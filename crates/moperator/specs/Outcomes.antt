@@ -1,5 +1,5 @@
--- What operations on numbers give, as those of the definitions.
-use Rattle.std.specs.Prelude.{Option, Some, None, Result, Ok, Err, ℤ}
+-- The outcomes of operations on numbers, as acts.
+use Rattle.std.specs.Prelude.{ℤ, Option, Some, None, Result, Ok, Err}
 use Rattle.mspec.specs.Code.{M9, Zover}
 use Rattle.mspec.specs.Act.{Text, Act, give, fail}
 use Rattle.mspec.specs.NumberText.{number_text}

@@ -1,13 +1,13 @@
 // The arguments of functions.
 ghost use Rattle.std.specs.Prelude.{◌≡◌, [], ◌^◌, ◌<◌, map, unsigned_abs, IfOk, IfSome};
 ghost use Rattle.mmeaning.specs.Functions as meaning;
-ghost use Rattle.moperator.specs.Codes.{fault_of};
 ghost use Rattle.mmeaning.specs.Yields.{Yields};
+ghost use Rattle.moperator.specs.Codes.{fault_of};
 
 use crate::code::Code;
-use crate::values::whole;
-use mvalue::{Shown, Value};
+use crate::values::whole_of;
 use mnum::Bytes7;
+use mvalue::{Shown, Value};
 use std::alloc::{AllocError, Global};
 
 // The text of the argument at a place, or the empty one where it is left out.
@@ -32,7 +32,7 @@ pub(crate) fn whole_at(arguments: &[Value], place: usize) -> Result<Option<i64>,
     match arguments.get(place) {
         None => Ok(None),
         Some(value) => {
-            let whole = whole(value)?;
+            let whole = whole_of(value)?;
             Ok(Some(whole))
         }
     }
@@ -44,7 +44,7 @@ pub(crate) fn wholes(alloc: Global, arguments: &[Value]) -> Result<Vec<i64>, Cod
 {
     let mut wholes = Vec::with_capacity(alloc, arguments.len())?;
     for argument in arguments {
-        let whole = whole(argument)?;
+        let whole = whole_of(argument)?;
         wholes.push(whole)?;
     }
     Ok(wholes)

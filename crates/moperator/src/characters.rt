@@ -2,12 +2,12 @@
 ghost use Rattle.std.specs.Prelude.{◌≡◌, ◌^◌, ◌<◌, unsigned_abs};
 ghost use Rattle.mspec.specs.CharacterFunctions.{ascii_of, char_of};
 ghost use Rattle.mmeaning.specs.Operators.{outcome};
-ghost use Rattle.moperator.specs.Codes.{fault_of};
 ghost use Rattle.mmeaning.specs.Yields.{Yields};
+ghost use Rattle.moperator.specs.Codes.{fault_of};
 
 use crate::code::Code;
-use mvalue::Value;
 use mnum::{Bytes7, LONGEST_TEXT};
+use mvalue::Value;
 use std::alloc::Global;
 
 // The code of the character at a place, which is 1 where it is left out; -1 where there is none.
@@ -27,7 +27,7 @@ pub(crate) fn code_at(text: &[u8], place: Option<i64>) -> i64
 
 // The characters of some codes, of which one below 0 gives none.
 pub(crate) fn characters(alloc: Global, codes: &[i64]) -> Result<Value, Code>
-    ensures { Yields fault_of (outcome (char_of codes.now)) (λ v. v) result }
+    ensures { Yields fault_of (outcome (char_of codes.now)) (λ value. value) result }
 {
     let mut text = Bytes7::empty(alloc);
     for code in codes {

@@ -74,6 +74,14 @@ impl<T: Drop> From<AllocFailed<T>> for Code {
     }
 }
 
+impl From<Over> for Code {
+    ghost from_gives = { λ _ code. code ≡ Zover };
+
+    fn from(_over: Over) -> Code {
+        Code::Zover
+    }
+}
+
 impl From<TextFault> for Code {
     ghost from_gives = { λ fault code. code ≡ fault_code fault };
 
@@ -83,13 +91,5 @@ impl From<TextFault> for Code {
             TextFault::TooLong => Code::Zlong,
             TextFault::Memory => Code::Zmem,
         }
-    }
-}
-
-impl From<Over> for Code {
-    ghost from_gives = { λ _ code. code ≡ Zover };
-
-    fn from(_over: Over) -> Code {
-        Code::Zover
     }
 }

@@ -3,106 +3,107 @@ ghost use Rattle.std.specs.Prelude.{map};
 ghost use Rattle.mgrammar.specs.Grammar as grammar;
 ghost use Rattle.mmeaning.specs.Functions as meaning;
 ghost use Rattle.mtree.specs.Tree.{function_tree};
-ghost use Rattle.moperator.specs.Codes.{fault_of};
 ghost use Rattle.mmeaning.specs.Yields.{Yields};
+ghost use Rattle.moperator.specs.Codes.{fault_of};
 
 use crate::arguments::{text_at, whole_at, wholes};
 use crate::characters::{characters, code_at};
 use crate::code::Code;
-use crate::values::{counted, made, part};
-use mvalue::Value;
+use crate::values::answered;
 use mtext::{extract, find, justify, piece, pieces, translate};
 use mtree::{Function, function_of};
+use mvalue::Value;
 use std::alloc::Global;
 
 // ---- functions, by their names
 
 fn ascii(alloc: Global, arguments: &[Value]) -> Result<Value, Code>
-    ensures { Yields fault_of (meaning.function_value grammar.ascii_function arguments.now) (λ v. v) result }
+    ensures { Yields fault_of (meaning.function_value grammar.ascii_function arguments.now) (λ value. value) result }
 {
     let place = whole_at(arguments, 1)?;
     let text = text_at(alloc, arguments, 0)?;
-    Ok(Value::of_whole(code_at(text.text().as_bytes(), place)))
+    Ok(Value::of_whole(code_at(text.as_text().as_bytes(), place)))
 }
 
 fn char(alloc: Global, arguments: &[Value]) -> Result<Value, Code>
-    ensures { Yields fault_of (meaning.function_value grammar.char_function arguments.now) (λ v. v) result }
+    ensures { Yields fault_of (meaning.function_value grammar.char_function arguments.now) (λ value. value) result }
 {
     let codes = wholes(alloc, arguments)?;
     characters(alloc, &codes)
 }
 
 fn extracted(alloc: Global, arguments: &[Value]) -> Result<Value, Code>
-    ensures { Yields fault_of (meaning.function_value grammar.extract_function arguments.now) (λ v. v) result }
+    ensures { Yields fault_of (meaning.function_value grammar.extract_function arguments.now) (λ value. value) result }
 {
     let from = whole_at(arguments, 1)?;
     let to = whole_at(arguments, 2)?;
     let text = text_at(alloc, arguments, 0)?;
-    let cut = extract(text.text().as_bytes(), from, to);
-    part(alloc, cut)
+    let part = extract(text.as_text().as_bytes(), from, to);
+    Ok(Value::of_bytes(alloc, part)?)
 }
 
 fn found(alloc: Global, arguments: &[Value]) -> Result<Value, Code>
-    ensures { Yields fault_of (meaning.function_value grammar.find_function arguments.now) (λ v. v) result }
+    ensures { Yields fault_of (meaning.function_value grammar.find_function arguments.now) (λ value. value) result }
 {
     let from = whole_at(arguments, 2)?;
     let text = text_at(alloc, arguments, 0)?;
     let what = text_at(alloc, arguments, 1)?;
-    let place = find(text.text().as_bytes(), what.text().as_bytes(), from);
-    counted(alloc, place)
+    let place = find(text.as_text().as_bytes(), what.as_text().as_bytes(), from);
+    Ok(Value::of_count(alloc, place)?)
 }
 
 fn justified(alloc: Global, arguments: &[Value]) -> Result<Value, Code>
-    ensures { Yields fault_of (meaning.function_value grammar.justify_function arguments.now) (λ v. v) result }
+    ensures { Yields fault_of (meaning.function_value grammar.justify_function arguments.now) (λ value. value) result }
 {
     let width = whole_at(arguments, 1)?;
     let text = text_at(alloc, arguments, 0)?;
-    made(justify(alloc, text.text(), width.unwrap_or(0)))
+    answered(justify(alloc, text.as_text(), width.unwrap_or(0)))
 }
 
 // Of characters, and of pieces where there is a delimiter.
 fn length(alloc: Global, arguments: &[Value]) -> Result<Value, Code>
-    ensures { Yields fault_of (meaning.function_value grammar.length_function arguments.now) (λ v. v) result }
+    ensures { Yields fault_of (meaning.function_value grammar.length_function arguments.now) (λ value. value) result }
 {
     let text = text_at(alloc, arguments, 0)?;
-    let bytes = text.text().as_bytes();
+    let bytes = text.as_text().as_bytes();
     match arguments.get(1) {
-        None => counted(alloc, bytes.len() as u64),
+        None => Ok(Value::of_count(alloc, bytes.len() as u64)?),
         Some(value) => {
             let delimiter = value.shown(alloc)?;
-            counted(alloc, pieces(bytes, delimiter.text().as_bytes()) as u64)
+            let count = pieces(bytes, delimiter.as_text().as_bytes());
+            Ok(Value::of_count(alloc, count as u64)?)
         }
     }
 }
 
 fn pieces_from_to(alloc: Global, arguments: &[Value]) -> Result<Value, Code>
-    ensures { Yields fault_of (meaning.function_value grammar.piece_function arguments.now) (λ v. v) result }
+    ensures { Yields fault_of (meaning.function_value grammar.piece_function arguments.now) (λ value. value) result }
 {
     let from = whole_at(arguments, 2)?;
     let to = whole_at(arguments, 3)?;
     let text = text_at(alloc, arguments, 0)?;
     let delimiter = text_at(alloc, arguments, 1)?;
-    let cut = piece(
-        text.text().as_bytes(),
-        delimiter.text().as_bytes(),
+    let part = piece(
+        text.as_text().as_bytes(),
+        delimiter.as_text().as_bytes(),
         from,
         to,
     );
-    part(alloc, cut)
+    Ok(Value::of_bytes(alloc, part)?)
 }
 
 fn translated(alloc: Global, arguments: &[Value]) -> Result<Value, Code>
-    ensures { Yields fault_of (meaning.function_value grammar.translate_function arguments.now) (λ v. v) result }
+    ensures { Yields fault_of (meaning.function_value grammar.translate_function arguments.now) (λ value. value) result }
 {
     let text = text_at(alloc, arguments, 0)?;
     let from = text_at(alloc, arguments, 1)?;
     let to = text_at(alloc, arguments, 2)?;
-    made(translate(alloc, text.text(), from.text(), to.text()))
+    answered(translate(alloc, text.as_text(), from.as_text(), to.as_text()))
 }
 
 // What a function gives of its arguments.
 fn function(alloc: Global, function: Function, arguments: &[Value]) -> Result<Value, Code>
-    ensures { Yields fault_of (meaning.function_value (function_tree function) arguments.now) (λ v. v) result }
+    ensures { Yields fault_of (meaning.function_value (function_tree function) arguments.now) (λ value. value) result }
 {
     match function {
         Function::Ascii => ascii(alloc, arguments),
@@ -117,9 +118,14 @@ fn function(alloc: Global, function: Function, arguments: &[Value]) -> Result<Va
     }
 }
 
-// What the function of a word gives of its arguments. Where no function has the word, no text has the tree.
+/// What the function of a word gives of its arguments.
+///
+/// # Errors
+///
+/// The function's code in place of its value; `Zsyntax` where no function of values has the word, which is in no line's tree; `Zmem` for
+/// want of memory.
 pub fn call(alloc: Global, word: &[u8], arguments: &[Value]) -> Result<Value, Code>
-    ensures { Yields fault_of (meaning.call_value word.now arguments.now) (λ v. v) result }
+    ensures { Yields fault_of (meaning.call_value word.now arguments.now) (λ value. value) result }
 {
     match function_of(word) {
         None => Err(Code::Zsyntax),

@@ -1,4 +1,8 @@
-//! The operators and functions of expressions, of operands that are values already, and the codes that end a line.
+//! The operators, relations, patterns and functions of the language, of operands and arguments that are values already, and the
+//! codes that end a line.
+//!
+//! The definitions that the contracts cite stand in `mmeaning`: `Operators` and `Functions`. `Yields` says that a call gives what the
+//! definition gives, whatever the session's state.
 #![tactic(auto)]
 
 mod arguments;
@@ -14,4 +18,4 @@ pub use code::Code;
 pub use functions::call;
 pub use operators::{binary, computed, unaries};
 pub use patterns::matching;
-pub use values::{truth, whole_number};
+pub use values::{number_of, truth_of, whole_number, whole_of};

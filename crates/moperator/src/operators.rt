@@ -4,21 +4,25 @@ ghost use Rattle.mmeaning.specs.Operators as meaning;
 ghost use Rattle.mnum.specs.Num.{units};
 ghost use Rattle.mspec.specs.TextFunctions.{made};
 ghost use Rattle.mtree.specs.Tree.{sign_tree, binary_tree};
-ghost use Rattle.moperator.specs.Codes.{fault_of};
 ghost use Rattle.mmeaning.specs.Yields.{Yields};
+ghost use Rattle.moperator.specs.Codes.{fault_of};
 ghost use Rattle.moperator.specs.Outcomes.{outcome_units, quotient_act};
 
 use crate::code::Code;
 use crate::relations::relation;
-use crate::values::{number, truth};
-use mvalue::Value;
+use crate::values::{number_of, truth_of};
 use mnum::{ArithFault, LONGEST_TEXT, Num, Over};
 use mtree::{Binary, Sign};
+use mvalue::Value;
 use std::alloc::Global;
 
-// What an operation on numbers gives.
+/// The value of a number that was read or computed.
+///
+/// # Errors
+///
+/// `Zover` where the number is too large.
 pub fn computed(outcome: Result<Num, Over>) -> Result<Value, Code>
-    ensures { Yields fault_of (meaning.as_text (outcome_units outcome)) (λ v. v) result }
+    ensures { Yields fault_of (meaning.as_text (outcome_units outcome)) (λ value. value) result }
 {
     match outcome {
         Ok(number) => Ok(Value::of_number(number)),
@@ -28,7 +32,7 @@ pub fn computed(outcome: Result<Num, Over>) -> Result<Value, Code>
 
 // What a division gives.
 fn divided(outcome: Result<Num, ArithFault>) -> Result<Value, Code>
-    ensures { Yields fault_of (quotient_act outcome) (λ v. v) result }
+    ensures { Yields fault_of (quotient_act outcome) (λ value. value) result }
 {
     match outcome {
         Ok(number) => Ok(Value::of_number(number)),
@@ -39,27 +43,31 @@ fn divided(outcome: Result<Num, ArithFault>) -> Result<Value, Code>
 
 // A sign makes a number of its operand, `-` turns that number's sign, and `'` negates it as a truth.
 fn unary(sign: Sign, value: &Value) -> Result<Value, Code>
-    ensures { Yields fault_of (meaning.unary (sign_tree sign) value.now) (λ v. v) result }
+    ensures { Yields fault_of (meaning.unary (sign_tree sign) value.now) (λ value. value) result }
 {
     match sign {
         Sign::Plus => {
-            let number = number(value)?;
+            let number = number_of(value)?;
             Ok(Value::of_number(number))
         }
         Sign::Minus => {
-            let number = number(value)?;
+            let number = number_of(value)?;
             Ok(Value::of_number(number.neg()))
         }
         Sign::Not => {
-            let is_true = truth(value)?;
+            let is_true = truth_of(value)?;
             Ok(Value::of_truth(!is_true))
         }
     }
 }
 
-// The signs in front of an operand apply to it from the nearest on.
+/// What the signs in front of an operand make of it, the nearest first.
+///
+/// # Errors
+///
+/// `Zover` where a sign wants a number and the operand's is too large.
 pub fn unaries(signs: &[Sign], value: Value) -> Result<Value, Code>
-    ensures { Yields fault_of (meaning.unaries (map sign_tree signs.now) value) (λ v. v) result }
+    ensures { Yields fault_of (meaning.unaries (map sign_tree signs.now) value) (λ value. value) result }
 {
     let mut value = value;
     let mut left = signs.len();
@@ -74,18 +82,18 @@ pub fn unaries(signs: &[Sign], value: Value) -> Result<Value, Code>
 pub(crate) fn numbers(left: &Value, right: &Value) -> Result<(Num, Num), Code>
     ensures { Yields fault_of (meaning.both_numbers left.now right.now) (λ pair. (units pair.0, units pair.1)) result }
 {
-    let a = number(left)?;
-    let b = number(right)?;
+    let a = number_of(left)?;
+    let b = number_of(right)?;
     Ok((a, b))
 }
 
 // The left text with the right one behind it.
 fn joined(alloc: Global, left: Value, right: &Value) -> Result<Value, Code>
-    ensures { Yields fault_of (meaning.outcome (made (left ++ right.now))) (λ v. v) result }
+    ensures { Yields fault_of (meaning.outcome (made (left ++ right.now))) (λ value. value) result }
 {
     let mut text = left.into_text(alloc)?;
     let right = right.shown(alloc)?;
-    let more = right.text().as_bytes();
+    let more = right.as_text().as_bytes();
     let length = text.as_bytes().len();
     if length > LONGEST_TEXT || more.len() > LONGEST_TEXT - length {
         return Err(Code::Zlong);
@@ -94,14 +102,14 @@ fn joined(alloc: Global, left: Value, right: &Value) -> Result<Value, Code>
     Ok(Value::of_text(text))
 }
 
-// What an operator gives of its two operands.
-pub fn binary(
-    alloc: Global,
-    operator: Binary,
-    left: Value,
-    right: &Value,
-) -> Result<Value, Code>
-    ensures { Yields fault_of (meaning.binary (binary_tree operator) left right.now) (λ v. v) result }
+/// What an operator gives of its two operands.
+///
+/// # Errors
+///
+/// `Zover` where the number of an operand that is to be one, or of the result, is too large; `M9` for a divisor of 0; `Zlong` where joined
+/// texts have more than 4,095 characters; `Zmem` for want of memory.
+pub fn binary(alloc: Global, operator: Binary, left: Value, right: &Value) -> Result<Value, Code>
+    ensures { Yields fault_of (meaning.binary (binary_tree operator) left right.now) (λ value. value) result }
 {
     match operator {
         Binary::Join => joined(alloc, left, right),

@@ -6,14 +6,14 @@ ghost use Rattle.mgrammar.specs.Matching.{pattern_code, bound_of, count_of as pl
 ghost use Rattle.mmeaning.specs.Operators as meaning;
 ghost use Rattle.mtree.specs.Tree.{count_tree, repeated_tree, atom_tree};
 ghost use Rattle.mtext.specs.PatternPlaces.{code_of, codes_of, count_of, repeated_of, atom_of, atoms_of};
-ghost use Rattle.moperator.specs.Codes.{fault_of};
 ghost use Rattle.moperator.specs.CappedCounts.{capped, capped_count, capped_atom};
 ghost use Rattle.mmeaning.specs.Yields.{Yields};
+ghost use Rattle.moperator.specs.Codes.{fault_of};
 
 use crate::code::Code;
-use mvalue::Value;
 use mnum::Bytes7;
 use mtext::{Atom, Count, Pattern, PatternCode, Repeated, matches};
+use mvalue::Value;
 use std::alloc::{AllocError, Global};
 
 // A number that is so far behind another stays so, whatever digits follow: nine times this is the most that a byte can stand for as
@@ -167,7 +167,11 @@ fn has_reversed(atoms: &[mtree::Atom]) -> bool
     false
 }
 
-// Whether a value matches a pattern. A reversed count of any atom is an error, before the matching.
+/// Whether a value matches a pattern.
+///
+/// # Errors
+///
+/// `M10` where the least count of any atom is above its greatest, before the matching; `Zmem` for want of memory.
 pub fn matching(alloc: Global, atoms: &[mtree::Atom], value: &Value) -> Result<bool, Code>
     ensures value { Yields fault_of (meaning.matching (map plain_atom (map atom_tree atoms.now)) value.now) (λ matches. matches) result }
     ensures reversed { list_any (λ a. is_reversed a.count) (map plain_atom (map atom_tree atoms.now)) ≡ true → result ≡ Err Code.M10 }
@@ -177,6 +181,6 @@ pub fn matching(alloc: Global, atoms: &[mtree::Atom], value: &Value) -> Result<b
     }
     let pattern = pattern(alloc, atoms)?;
     let shown = value.shown(alloc)?;
-    let matches = matches(alloc, &pattern, shown.text().as_bytes())?;
+    let matches = matches(alloc, &pattern, shown.as_text().as_bytes())?;
     Ok(matches)
 }

@@ -1,15 +1,15 @@
 // The relations and logical operators, of operands that are values already.
 ghost use Rattle.mmeaning.specs.Operators as meaning;
 ghost use Rattle.mtree.specs.Tree.{truth_tree};
-ghost use Rattle.moperator.specs.Codes.{fault_of};
 ghost use Rattle.mmeaning.specs.Yields.{Yields};
+ghost use Rattle.moperator.specs.Codes.{fault_of};
 
 use crate::code::Code;
 use crate::operators::numbers;
-use mvalue::Value;
 use mkey::collate;
 use mtext::{contains, follows};
 use mtree::Truth;
+use mvalue::Value;
 use std::alloc::Global;
 
 // Whether an operator holds between two values.
@@ -34,17 +34,17 @@ pub(crate) fn relation(
         Truth::Contains => {
             let text = left.shown(alloc)?;
             let part = right.shown(alloc)?;
-            Ok(contains(text.text().as_bytes(), part.text().as_bytes()))
+            Ok(contains(text.as_text().as_bytes(), part.as_text().as_bytes()))
         }
         Truth::Follows => {
             let text = left.shown(alloc)?;
             let other = right.shown(alloc)?;
-            Ok(follows(text.text().as_bytes(), other.text().as_bytes()))
+            Ok(follows(text.as_text().as_bytes(), other.as_text().as_bytes()))
         }
         Truth::SortsAfter => {
             let text = left.shown(alloc)?;
             let other = right.shown(alloc)?;
-            Ok(collate(text.text(), other.text()).is_gt())
+            Ok(collate(text.as_text(), other.as_text()).is_gt())
         }
         Truth::Both => {
             let (a, b) = numbers(left, right)?;

@@ -46,7 +46,7 @@ impl<'a> Shown<'a> {
     }
 
     /// The text itself. Takes no memory.
-    pub fn text(&self) -> &Bytes7
+    pub fn as_text(&self) -> &Bytes7
         ensures { result.now ≡ self.now }
     {
         match &self.held {

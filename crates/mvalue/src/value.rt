@@ -206,7 +206,7 @@ impl Value {
             _ => {
                 let first = self.shown(alloc)?;
                 let second = other.shown(alloc)?;
-                Ok(first.text() == second.text())
+                Ok(first.as_text() == second.as_text())
             }
         }
     }

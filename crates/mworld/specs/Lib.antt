@@ -1,4 +1,3 @@
-pub mod Profile
 pub mod View
 pub mod Admits
 pub mod Ran

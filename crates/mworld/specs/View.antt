@@ -1,33 +1,26 @@
 -- A world and a reply of the program as those of the definitions.
-use Rattle.std.specs.Prelude.{None, false}
 use Rattle.std.specs.Ordering.{nat_cmp}
 use Rattle.std.specs.FinMap.{empty}
 use Rattle.mspec.specs.Maps.{map_of}
+use Rattle.mspec.specs.Access.{Settings}
 use Rattle.mmeaning.specs.Step as step
-use Rattle.mmeaning.specs.Step.{Server, Finished, Halted, Faulted}
-use Rattle.mexec.specs.declared.run.Ended.{Ended}
-use Rattle.mexec.specs.declared.run.Ended.TheVariants as ended
-use Rattle.meval.specs.Codes.{fault_of}
+use Rattle.mmeaning.specs.Step.{Server}
+use Rattle.mstore.specs.declared.store.NodeStore.{Ghosts}
+use Rattle.meval.specs.Sessions.{session_of}
+use Rattle.mexec.specs.Runs.{ending_of}
 use Rattle.mworld.specs.declared.reply.Event.{Event}
 use Rattle.mworld.specs.declared.reply.Reply.{Reply}
-use Rattle.mworld.specs.declared.session.Session.{Session}
 use Rattle.mworld.specs.declared.world.World.{World}
 
--- no command of this stage changes the naked indicator or $TEST
-abbrev pub session_of : Session → step.Session
-session_of s = record { locals = s.locals; naked = None; test = false }
+abbrev pub settings_of : {S : Type 0} → World S → Settings
+settings_of w = w.settings
 
--- no command of this stage sets a global or takes a lock
-abbrev pub shared : step.World
-shared = record { globals = empty; locks = empty }
+-- what is shared: no command of this stage takes a lock
+abbrev pub shared : {S : Type 0} → Ghosts S → S → step.World
+shared g store = record { globals = g.content store; locks = empty }
 
-abbrev pub server_of : World → Server
-server_of w = record { world = shared; sessions = map_of {R = nat_cmp} session_of w.sessions }
-
-abbrev pub ending_of : Ended → step.Ending
-ending_of ended.Done = Finished
-ending_of ended.Halt = Halted
-ending_of (ended.Fault c) = Faulted (fault_of c)
+abbrev pub server_of : {S : Type 0} → Ghosts S → World S → Server
+server_of g w = record { world = shared g w.store; sessions = map_of {R = nat_cmp} session_of w.sessions }
 
 abbrev pub reply_of : Reply → step.Reply
 reply_of r = record { out = r.out.items; ending = ending_of r.ending }

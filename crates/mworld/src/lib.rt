@@ -1,11 +1,12 @@
-//! Terminals with their sessions: one line at a time, from its text to its reply.
+//! Terminals with their sessions over a store: one line at a time, from its text to its reply.
 #![tactic(auto)]
 
+mod checks;
 mod reply;
-mod session;
+mod run;
 mod world;
 
-pub use meval::Code;
 pub use mexec::{Ended, LINE_END};
+pub use moperator::Code;
 pub use reply::{Event, Reply};
 pub use world::World;

@@ -1,10 +1,10 @@
 // Events and replies.
 ghost use Rattle.std.specs.Prelude.{◌≡◌, []};
 ghost use Rattle.mmeaning.specs.Step.{Faulted};
-ghost use Rattle.meval.specs.Codes.{fault_of};
+ghost use Rattle.moperator.specs.Codes.{fault_of};
 ghost use Rattle.mworld.specs.View.{reply_of};
 
-use meval::Code;
+use moperator::Code;
 use mexec::Ended;
 use std::alloc::Global;
 

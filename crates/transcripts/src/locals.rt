@@ -1,9 +1,11 @@
 // Calls on the scopes of local variables.
-use crate::words::{text_of, texts_of, words_of};
+use crate::words::{name_of, names_of, text_of, texts_of, words_of};
 use crate::{print_case, print_result};
+use anyhow::Context;
 use mkey::subs_ok;
 use mlocal::{Direction, Locals, order_subs_ok};
-use mnum::Bytes7;
+use mnum::{Bytes7, Name, Num};
+use mvalue::Value;
 use std::alloc::Global;
 
 /// Plays calls one after another over the same locals; what get, data, next and back give stands below them.
@@ -25,11 +27,18 @@ fn call(locals: &mut Locals, alloc: Global, words: &[&str]) -> anyhow::Result<Op
     match words {
         ["enter"] => locals.enter()?,
         ["leave"] => locals.leave(),
-        ["new", names @ ..] => locals.new_vars(texts_of(alloc, names)?.as_slice())?,
-        ["new-all-but", names @ ..] => locals.new_except(texts_of(alloc, names)?),
-        ["kill-all-but", names @ ..] => locals.kill_except(texts_of(alloc, names)?.as_slice()),
+        ["new", names @ ..] => locals.new_vars(names_of(alloc, names)?.as_slice())?,
+        ["new-all-but", names @ ..] => locals.new_except(names_of(alloc, names)?),
+        ["kill-all-but", names @ ..] => locals.kill_except(names_of(alloc, names)?.as_slice()),
         ["kill", name, subs @ ..] => kill(locals, alloc, name, subs)?,
-        ["set", name, subs @ .., "=", text] => set(locals, alloc, name, subs, text)?,
+        ["set", name, subs @ .., "=", text] => {
+            let value = Value::of_text(text_of(alloc, text)?);
+            set(locals, alloc, name, subs, value)?;
+        }
+        ["set-number", name, subs @ .., "=", text] => {
+            let value = Value::of_number(number_of(alloc, text)?);
+            set(locals, alloc, name, subs, value)?;
+        }
         [what, name, subs @ ..] => {
             return Ok(Some(asked(locals, alloc, what, name, subs)?));
         }
@@ -43,7 +52,7 @@ fn kill(locals: &mut Locals, alloc: Global, name: &str, subs: &[&str]) -> anyhow
     if !subs_ok(&subs) {
         anyhow::bail!("no subscripts");
     }
-    locals.kill(&text_of(alloc, name)?, &subs)?;
+    locals.kill(&name_of(alloc, name)?, &subs)?;
     Ok(())
 }
 
@@ -52,14 +61,20 @@ fn set(
     alloc: Global,
     name: &str,
     subs: &[&str],
-    text: &str,
+    value: Value,
 ) -> anyhow::Result<()> {
     let subs = texts_of(alloc, subs)?;
     if !subs_ok(&subs) {
         anyhow::bail!("no subscripts");
     }
-    locals.set(&text_of(alloc, name)?, &subs, text_of(alloc, text)?)?;
+    locals.set(&name_of(alloc, name)?, &subs, value)?;
     Ok(())
+}
+
+fn number_of(alloc: Global, text: &str) -> anyhow::Result<Num> {
+    Num::from_text(text_of(alloc, text)?.as_bytes())
+        .ok()
+        .context("too large a number")
 }
 
 // What is asked of a node, `none` where it has none.
@@ -70,10 +85,10 @@ fn asked(
     name: &str,
     subs: &[&str],
 ) -> anyhow::Result<Bytes7> {
-    let name = text_of(alloc, name)?;
+    let name = name_of(alloc, name)?;
     let subs = texts_of(alloc, subs)?;
     let found = match what {
-        "get" => text(locals, &name, &subs)?,
+        "get" => text(locals, alloc, &name, &subs)?,
         "data" => return text_of(alloc, data(locals, &name, &subs)?),
         "next" => next(locals, &name, &subs, Direction::Forward)?,
         "back" => next(locals, &name, &subs, Direction::Backward)?,
@@ -85,18 +100,23 @@ fn asked(
     }
 }
 
-fn text(locals: &Locals, name: &Bytes7, subs: &[Bytes7]) -> anyhow::Result<Option<Bytes7>> {
+fn text(
+    locals: &Locals,
+    alloc: Global,
+    name: &Name,
+    subs: &[Bytes7],
+) -> anyhow::Result<Option<Bytes7>> {
     if !subs_ok(subs) {
         anyhow::bail!("no subscripts");
     }
     match locals.get(name, subs)? {
         None => Ok(None),
-        Some(text) => Ok(Some(text.copy()?)),
+        Some(value) => Ok(Some(value.copy()?.into_text(alloc)?)),
     }
 }
 
 // What $DATA gives.
-fn data(locals: &Locals, name: &Bytes7, subs: &[Bytes7]) -> anyhow::Result<&'static str> {
+fn data(locals: &Locals, name: &Name, subs: &[Bytes7]) -> anyhow::Result<&'static str> {
     if !subs_ok(subs) {
         anyhow::bail!("no subscripts");
     }
@@ -111,7 +131,7 @@ fn data(locals: &Locals, name: &Bytes7, subs: &[Bytes7]) -> anyhow::Result<&'sta
 
 fn next(
     locals: &Locals,
-    name: &Bytes7,
+    name: &Name,
     subs: &[Bytes7],
     direction: Direction,
 ) -> anyhow::Result<Option<Bytes7>> {

@@ -2,7 +2,7 @@
 use crate::escapes::bytes_of;
 use anyhow::Context;
 use mkey::{NodeKey, is_account_name, is_name};
-use mnum::Bytes7;
+use mnum::{Bytes7, Name};
 use std::alloc::Global;
 
 /// The text of a word, in which `-` stands for the empty text.
@@ -16,6 +16,22 @@ pub fn texts_of(alloc: Global, words: &[&str]) -> anyhow::Result<Vec<Bytes7>> {
     let mut out = Vec::new(alloc);
     for word in words {
         out.push(text_of(alloc, word)?)?;
+    }
+    Ok(out)
+}
+
+/// The name that a word is.
+pub fn name_of(alloc: Global, word: &str) -> anyhow::Result<Name> {
+    Name::new(text_of(alloc, word)?)
+        .ok()
+        .context("a word that is no name")
+}
+
+/// The names that words are.
+pub fn names_of(alloc: Global, words: &[&str]) -> anyhow::Result<Vec<Name>> {
+    let mut out = Vec::new(alloc);
+    for word in words {
+        out.push(name_of(alloc, word)?)?;
     }
     Ok(out)
 }

@@ -1,7 +1,8 @@
-use Rattle.std.proofs.Common.{ℤ, Vec, Global}
+use Rattle.std.proofs.Common.{ℤ, Vec, Global, refl}
+use Rattle.moperator.specs.declared.code.Code.TheVariants.{Zmem}
 use Rattle.moperator.proofs.GivenArguments.{next_whole, whole_refused, wholes_end}
 use Rattle.moperator.proofs.Numbers.{whole_fits}
-use Rattle.moperator.proofs.Yielding.{yields_wanting}
+use Rattle.mmeaning.proofs.Yieldings.{yields_wanting}
 use Rattle.mmeaning.proofs.Calls.{residual_is}
 use Rattle.moperator.proofs.arguments.wholes.Goals as goal
 
@@ -23,4 +24,4 @@ pub returns : goal.returns
 returns c = c.loop-argument.invariant _ (wholes_end (λ (w : Vec ℤ Global). w.items) c.args.arguments.now c.loop-argument.argument-index c.loop-argument.wholes c.loop-argument-test.false)
 
 pub returns-in_err-push : goal.returns-in_err-push
-returns-in_err-push c = yields_wanting _ _ _ c.from_residual-in_err-push.ensures
+returns-in_err-push c = yields_wanting _ _ Zmem _ refl c.from_residual-in_err-push.ensures

@@ -1,7 +1,7 @@
-use Rattle.std.proofs.Common.{ℤ, [], drop, map, Result, Vec, Global}
+use Rattle.std.proofs.Common.{ℤ, [], drop, Result, Vec, Global}
 use Rattle.mmeaning.specs.Functions as meaning
-use Rattle.moperator.specs.Codes.{fault_of}
 use Rattle.mmeaning.specs.Yields.{Yields}
+use Rattle.moperator.specs.Codes.{fault_of}
 use Rattle.moperator.specs.declared.code.Code.{Code}
 use Rattle.moperator.proofs.arguments.wholes.Given as goal
 

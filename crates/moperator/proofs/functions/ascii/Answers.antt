@@ -1,7 +1,7 @@
 use Rattle.std.proofs.Common.{ap, ◌∙◌}
 use Rattle.mmeaning.specs.Functions.{whole_text}
 use Rattle.moperator.proofs.Numbers.{whole_fits}
-use Rattle.moperator.proofs.Yielding.{yields_then, yields_stopped, yields_gives}
+use Rattle.mmeaning.proofs.Yieldings.{yields_then, yields_stopped, yields_gives}
 use Rattle.moperator.proofs.functions.ascii.Goals as goal
 
 pub returns-in_err-place : goal.returns-in_err-place
@@ -9,5 +9,5 @@ returns-in_err-place c = yields_stopped _ c.in_err-place.ensures.whole c.from_re
 
 pub returns : goal.returns
 returns c =
-    let code = rw (c.as_bytes.ensures.bytes, c.text-2.ensures, c.in_ok-text.ensures) at c.code_at.ensures.code in
+    let code = rw (c.as_bytes.ensures.bytes, c.as_text.ensures, c.in_ok-text.ensures) at c.code_at.ensures.code in
     yields_then _ c.in_ok-place.ensures.whole (yields_gives _ _ _ (c.of_whole.ensures ∙ ap whole_text (whole_fits c.code_at.result c.code_at.ensures.below ∙ code)))

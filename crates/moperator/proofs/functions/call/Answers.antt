@@ -1,10 +1,10 @@
-use Rattle.std.proofs.Common.{◌≡◌, Option, Some, ◌∙◌, sym, ap}
-use Rattle.std.specs.Prelude.{option_map}
-use Rattle.mgrammar.specs.Grammar.{FunctionTree, function_of}
-use Rattle.mtree.specs.Tree.{function_tree}
+use Rattle.std.proofs.Common.{Option, subst}
+use Rattle.mspec.specs.Act.{Text}
+use Rattle.mgrammar.specs.Grammar.{FunctionTree}
+use Rattle.mmeaning.specs.Functions.{named_value}
+use Rattle.mmeaning.specs.Yields.{Yields}
+use Rattle.moperator.specs.Codes.{fault_of}
 use Rattle.moperator.proofs.functions.call.Goals as goal
 
 pub returns-in-Some : goal.returns-in-Some
-returns-in-Some c =
-    let named : function_of c.args.word.now ≡ Some (function_tree c.in-Some.named) = sym c.function_of.ensures ∙ ap (option_map function_tree) c.in-Some.is in
-    rw named c.function.ensures
+returns-in-Some c = subst (λ (f : Option FunctionTree). Yields fault_of (named_value f c.args.arguments.now) (λ (v : Text). v) c.function.result) c.in-Some.ensures c.function.ensures

@@ -1,4 +1,4 @@
-use Rattle.moperator.proofs.Yielding.{yields_then, yields_stopped}
+use Rattle.mmeaning.proofs.Yieldings.{yields_then, yields_stopped}
 use Rattle.moperator.proofs.functions.char.Goals as goal
 
 pub returns-in_err-codes : goal.returns-in_err-codes

@@ -1,4 +1,4 @@
-use Rattle.moperator.proofs.Yielding.{yields_then, yields_stopped}
+use Rattle.mmeaning.proofs.Yieldings.{yields_then, yields_stopped, yields_gives}
 use Rattle.moperator.proofs.functions.extracted.Goals as goal
 
 pub returns-in_err-from : goal.returns-in_err-from
@@ -9,5 +9,5 @@ returns-in_err-to c = yields_then _ c.in_ok-from.ensures.whole (yields_stopped _
 
 pub returns : goal.returns
 returns c =
-    let part = rw (c.as_bytes.ensures.bytes, c.text-2.ensures, c.in_ok-text.ensures) at c.extract-cut.ensures in
-    yields_then _ c.in_ok-from.ensures.whole (yields_then _ c.in_ok-to.ensures.whole (rw part at c.part.ensures))
+    let part = rw (c.as_bytes.ensures.bytes, c.as_text.ensures, c.in_ok-text.ensures) at c.extract-part.ensures in
+    yields_then _ c.in_ok-from.ensures.whole (yields_then _ c.in_ok-to.ensures.whole (yields_gives _ _ _ (rw part at c.in_ok-of_bytes.ensures)))

@@ -1,5 +1,5 @@
 use Rattle.moperator.proofs.Numbers.{width_fits}
-use Rattle.moperator.proofs.Yielding.{yields_then, yields_stopped}
+use Rattle.mmeaning.proofs.Yieldings.{yields_then, yields_stopped}
 use Rattle.moperator.proofs.functions.justified.Goals as goal
 
 pub returns-in_err-width : goal.returns-in_err-width
@@ -8,5 +8,5 @@ returns-in_err-width c = yields_stopped _ c.in_err-width.ensures.whole c.from_re
 pub returns : goal.returns
 returns c =
     let fits = width_fits c.in_ok-width.width c.in_ok-width.ensures.below in
-    let made = rw (c.text-2.ensures, c.in_ok-text.ensures, c.unwrap_or.ensures, fits) at c.justify.ensures in
-    yields_then _ c.in_ok-width.ensures.whole (c.made.ensures.value _ made)
+    let made = rw (c.as_text.ensures, c.in_ok-text.ensures, c.unwrap_or.ensures, fits) at c.justify.ensures in
+    yields_then _ c.in_ok-width.ensures.whole (c.answered.ensures.value _ made)

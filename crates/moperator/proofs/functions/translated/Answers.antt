@@ -2,5 +2,5 @@ use Rattle.moperator.proofs.functions.translated.Goals as goal
 
 pub returns : goal.returns
 returns c =
-    let made = rw (c.text-2.ensures, c.in_ok-text.ensures, c.text-3.ensures, c.in_ok-from.ensures, c.text-4.ensures, c.in_ok-to.ensures) at c.translate.ensures in
-    c.made.ensures.value _ made
+    let made = rw (c.as_text.ensures, c.in_ok-text.ensures, c.as_text-2.ensures, c.in_ok-from.ensures, c.as_text-3.ensures, c.in_ok-to.ensures) at c.translate.ensures in
+    c.answered.ensures.value _ made

@@ -1,7 +1,7 @@
 use Rattle.mspec.specs.Number.{quotient_of, whole_quotient_of, remainder_of}
 use Rattle.mnum.specs.Num.{units}
 use Rattle.moperator.proofs.Numbers.{computed_outcome, divided_outcome}
-use Rattle.moperator.proofs.Yielding.{yields_then, yields_stopped, yields_gives}
+use Rattle.mmeaning.proofs.Yieldings.{yields_then, yields_stopped, yields_gives}
 use Rattle.moperator.proofs.operators.binary.Goals as goal
 
 pub returns-in_err-holds-in-Is : goal.returns-in_err-holds-in-Is

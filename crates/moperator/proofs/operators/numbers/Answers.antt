@@ -1,5 +1,5 @@
 use Rattle.std.proofs.Common.{refl}
-use Rattle.moperator.proofs.Yielding.{yields_then, yields_stopped, yields_gives}
+use Rattle.mmeaning.proofs.Yieldings.{yields_then, yields_stopped, yields_gives}
 use Rattle.moperator.proofs.operators.numbers.Goals as goal
 
 pub returns-in_err-a : goal.returns-in_err-a

@@ -9,6 +9,9 @@ returns-in_err-value c =
     rw (residual_is _ _ c.from_residual.ensures)
     (c.loop-left.invariant.leads _ (sign_failed c.args.signs.now c.loop-left.left _ c.loop-left.value _ c.loop-left-test.true c.loop-left.invariant.within c.in_err-value.ensures))
 
+pub loop-left-init : goal.loop-left-init
+loop-left-init c = record { within = omega arith; leads = λ r k. rw take-length at k }
+
 pub loop-left-preserved : goal.loop-left-preserved
 loop-left-preserved c = record {
   within = omega arith;
@@ -19,9 +22,3 @@ loop-left-preserved c = record {
 
 pub returns : goal.returns
 returns c = c.loop-left.invariant.leads _ (no_sign_left c.args.signs.now c.loop-left.left c.loop-left.value c.loop-left-test.false)
-
-pub loop-left-init : goal.loop-left-init
-loop-left-init c = record {
-  within = omega arith;
-  leads = λ r k. rw (take-length c.args.signs.now) at k;
-}

@@ -1,10 +1,10 @@
 use Rattle.std.proofs.Common.{◌≤◌, length, take, map, Result}
+use Rattle.mspec.specs.Act.{Text}
 use Rattle.mmeaning.specs.Operators as meaning
 use Rattle.mtree.specs.Tree.{sign_tree}
-use Rattle.moperator.specs.Codes.{fault_of}
 use Rattle.mmeaning.specs.Yields.{Yields}
+use Rattle.moperator.specs.Codes.{fault_of}
 use Rattle.moperator.specs.declared.code.Code.{Code}
-use Rattle.mspec.specs.Act.{Text}
 use Rattle.moperator.proofs.operators.unaries.Given as goal
 
 abbrev pub invariant-loop-left : goal.invariant-loop-left

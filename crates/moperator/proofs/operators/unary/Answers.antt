@@ -1,6 +1,6 @@
 use Rattle.std.proofs.Common.{ap, ◌∙◌}
 use Rattle.mspec.specs.NumberText.{number_text}
-use Rattle.moperator.proofs.Yielding.{yields_then, yields_stopped, yields_gives}
+use Rattle.mmeaning.proofs.Yieldings.{yields_then, yields_stopped, yields_gives}
 use Rattle.moperator.proofs.operators.unary.Goals as goal
 
 pub returns-in_err-number-in-Plus : goal.returns-in_err-number-in-Plus

@@ -11,4 +11,4 @@ returns-then-has_reversed-clause-value c = reversed_fails (map atom_of (map atom
 pub returns-clause-value : goal.returns-clause-value
 returns-clause-value c =
     match_gives (atoms_of c.in_ok-pattern.pattern.atoms.items) (map atom_of (map atom_tree c.args.atoms.now)) c.args.value.now c.as_bytes.result.now c.has_reversed.result c.in_ok-matches.matches c.has_reversed.ensures c.if-has_reversed.false c.in_ok-pattern.ensures
-    (c.as_bytes.ensures.bytes ∙ c.text.ensures ∙ c.in_ok-shown.ensures) (omega arith) c.in_ok-matches.ensures
+    (c.as_bytes.ensures.bytes ∙ c.as_text.ensures ∙ c.in_ok-shown.ensures) (omega arith) c.in_ok-matches.ensures

@@ -1,7 +1,7 @@
 use Rattle.std.proofs.Common.{ap, ◌∙◌}
 use Rattle.std.specs.Ordering.{is_lt, is_gt}
 use Rattle.moperator.proofs.Truths.{both_first, both_second, either_first, either_second}
-use Rattle.moperator.proofs.Yielding.{yields_then, yields_stopped, yields_gives}
+use Rattle.mmeaning.proofs.Yieldings.{yields_then, yields_stopped, yields_gives}
 use Rattle.moperator.proofs.relations.relation.Goals as goal
 
 pub returns-in_err-a-in-Less : goal.returns-in_err-a-in-Less

@@ -13,5 +13,5 @@ returns-in_err-extend_from_slice-clause-does g c = does_then _ (does_evaluated c
 
 pub returns-clause-does : goal.returns-clause-does
 returns-clause-does g c =
-    let all = rw (c.as_bytes.ensures.bytes, c.text.ensures, c.in_ok-shown.ensures) at c.in_ok-extend_from_slice.ensures.items in
+    let all = rw (c.as_bytes.ensures.bytes, c.as_text.ensures, c.in_ok-shown.ensures) at c.in_ok-extend_from_slice.ensures.items in
     does_then _ (does_evaluated c.in_ok-value.ensures.does) (does_write _ _ _ all refl)

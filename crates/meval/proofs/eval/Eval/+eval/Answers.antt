@@ -174,19 +174,19 @@ chosen-returns-in_err-condition-clause-does g t c =
     rw (residual_is _ _ c.from_residual.ensures)
     (c.loop-choice.invariant.leads _ _ (next_choice c.args.choices.now c.loop-choice.choice-index c.choice-item.result _ c.loop-choice-test.true c.choice-item.is (evaluates_failed _ c.in_err-condition.ensures.does)))
 
-pub chosen-returns-in_err-truth-clause-does : goal.chosen-returns-in_err-truth-clause-does
-chosen-returns-in_err-truth-clause-does g t c =
-    rw (residual_is _ _ c.from_residual-in_err-truth.ensures)
+pub chosen-returns-in_err-truth_of-clause-does : goal.chosen-returns-in_err-truth_of-clause-does
+chosen-returns-in_err-truth_of-clause-does g t c =
+    rw (residual_is _ _ c.from_residual-in_err-truth_of.ensures)
     (c.loop-choice.invariant.leads _ _
     (next_choice c.args.choices.now c.loop-choice.choice-index c.choice-item.result _ c.loop-choice-test.true c.choice-item.is
-    (evaluates_then _ c.in_ok-condition.ensures.does (evaluates_failed _ (evaluates_yielded c.in_err-truth.ensures)))))
+    (evaluates_then _ c.in_ok-condition.ensures.does (evaluates_failed _ (evaluates_yielded c.in_err-truth_of.ensures)))))
 
 pub chosen-returns-then-branch-clause-does : goal.chosen-returns-then-branch-clause-does
 chosen-returns-then-branch-clause-does g t c =
     c.loop-choice.invariant.leads _ _
     (next_choice c.args.choices.now c.loop-choice.choice-index c.choice-item.result _ c.loop-choice-test.true c.choice-item.is
     (evaluates_then _ c.in_ok-condition.ensures.does
-    (evaluates_then _ (evaluates_yielded c.in_ok-truth.ensures) (is_chosen c.in_ok-truth.field-0 _ _ c.if-branch.true c.value-then-branch.ensures.does))))
+    (evaluates_then _ (evaluates_yielded c.in_ok-truth_of.ensures) (is_chosen c.in_ok-truth_of.field-0 _ _ c.if-branch.true c.value-then-branch.ensures.does))))
 
 pub chosen-loop-choice-preserved : goal.chosen-loop-choice-preserved
 chosen-loop-choice-preserved g t c = record {
@@ -195,7 +195,7 @@ chosen-loop-choice-preserved g t c = record {
   leads = λ r e k.
       c.loop-choice.invariant.leads r e
       (next_choice c.args.choices.now c.loop-choice.choice-index c.choice-item.result r c.loop-choice-test.true c.choice-item.is
-      (evaluates_then _ c.in_ok-condition.ensures.does (evaluates_then _ (evaluates_yielded c.in_ok-truth.ensures) (not_chosen c.in_ok-truth.field-0 _ _ c.if-branch.false k))));
+      (evaluates_then _ c.in_ok-condition.ensures.does (evaluates_then _ (evaluates_yielded c.in_ok-truth_of.ensures) (not_chosen c.in_ok-truth_of.field-0 _ _ c.if-branch.false k))));
 }
 
 pub chosen-returns-clause-does : goal.chosen-returns-clause-does

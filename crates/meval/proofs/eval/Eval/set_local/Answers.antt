@@ -5,4 +5,4 @@ use Rattle.meval.proofs.eval.Eval.set_local.Goals as goal
 
 pub returns-clause-does : goal.returns-clause-does
 unfolding assigned_to
-returns-clause-does g c = sets_local _ _ c.args.name.now c.args.value (rw (c.as_bytes7.ensures.text, c.in_ok-text.ensures) at c.in_ok-set.ensures.ok) refl refl refl refl refl refl
+returns-clause-does g c = sets_local _ _ c.args.name.now c.args.value c.in_ok-set.ensures.ok refl refl refl refl refl refl

@@ -14,8 +14,8 @@ returns-in-Some-clause-ok c =
     let w = c.set.new.self in
     let some = subst IsSome c.in-Some.ensures.value refl in
     OnOk-map c.set.result (λ e. tree_put ns o m (c.get_mut.follows.lender w) n w ((c.get_mut.follows.holds w).3 some)
-    ∙ ap (λ t. with_tree n t (scope_of ns o m)) (e ∙ ap (λ t. insert t c.args.key c.args.text) (tree_is ns o m n _ c.in-Some.ensures.value))
-    ∙ ap (λ s. with_tree n (insert (tree_in s n) c.args.key c.args.text) s) c.self.view_is) c.set.ensures.ok
+    ∙ ap (λ t. with_tree n t (scope_of ns o m)) (e ∙ ap (λ t. insert t c.args.key c.args.value) (tree_is ns o m n _ c.in-Some.ensures.value))
+    ∙ ap (λ s. with_tree n (insert (tree_in s n) c.args.key c.args.value) s) c.self.view_is) c.set.ensures.ok
 
 pub returns-in-Some-clause-err : goal.returns-in-Some-clause-err
 returns-in-Some-clause-err c =
@@ -36,5 +36,5 @@ returns-in_ok-insert-in-None-clause-ok c =
     tree_put ns o c.get_mut.follows.lender-at-none c.insert.new.self k v c.in_ok-insert-in-None.ensures.updates
     ∙ ap (λ l. with_tree k v (scope_of ns o l)) c.get_mut.follows.holds-at-none
     ∙ ap (λ k. with_tree k v (scope_of ns o m)) c.in_ok-copy-in-None.ensures
-    ∙ ap (λ t. with_tree n t (scope_of ns o m)) (c.in_ok-set-in-None.ensures.ok ∙ ap (λ t. insert t c.args.key c.args.text) (c.new-variable.ensures ∙ tree_is ns o m n _ c.in-None.ensures.value))
-    ∙ ap (λ s. with_tree n (insert (tree_in s n) c.args.key c.args.text) s) c.self.view_is
+    ∙ ap (λ t. with_tree n t (scope_of ns o m)) (c.in_ok-set-in-None.ensures.ok ∙ ap (λ t. insert t c.args.key c.args.value) (c.new-variable.ensures ∙ tree_is ns o m n _ c.in-None.ensures.value))
+    ∙ ap (λ s. with_tree n (insert (tree_in s n) c.args.key c.args.value) s) c.self.view_is

@@ -24,7 +24,7 @@ returns-then-is_empty-clause-key c =
     let end = c.in_ok-end.ensures.key ∙ ap behind_below c.front.ensures in
     let bytes = c.as_bytes.ensures.bytes ∙ c.last.ensures in
     let none : last subs ≡ [] = sym bytes ∙ no_list c.as_bytes.result.now (grind (arith, nat_tests, c.if-is_empty.ensures)) in
-    last_walk c.args.self.now c.self.inside.own c.self.inside.texts c.self.view_is c.last_between.ensures.ordered c.self.invariant
+    last_walk c.args.self.now c.self.inside.own c.self.inside.values c.self.view_is c.last_between.ensures.ordered c.self.invariant
     (is_between c.args.above.now c.in_ok-end.end) (has_child (λ s. is_empty (last subs) || is_before s (last subs)) (front subs)) (not_child (λ s. is_empty (last subs) || is_before s (last subs)) (front subs))
     (λ k is. ap (λ low. is_between low c.in_ok-end.end k) c.requires.above ∙ ap (λ high. is_between (front subs) high k) end
     ∙ below_all (λ s. is_empty (last subs) || is_before s (last subs)) (λ s sub. ap (λ x. is_empty x || is_before s x) none) (front subs) k is)
@@ -49,7 +49,7 @@ returns-clause-key c =
     let bytes = c.as_bytes.ensures.bytes ∙ c.last.ensures in
     let some : 0 < length c.as_bytes.result.now = grind (arith, nat_tests, c.if-is_empty.ensures) in
     let full = not_empty (last subs) (subst (λ x. 0 < length x) bytes some) in
-    last_walk c.args.self.now c.self.inside.own c.self.inside.texts c.self.view_is c.last_between-2.ensures.ordered c.self.invariant
+    last_walk c.args.self.now c.self.inside.own c.self.inside.values c.self.view_is c.last_between-2.ensures.ordered c.self.invariant
     (is_between c.args.above.now c.in_ok-end-2.end) (has_child (λ s. is_empty (last subs) || is_before s (last subs)) (front subs)) (not_child (λ s. is_empty (last subs) || is_before s (last subs)) (front subs))
     (λ k is. ap (λ low. is_between low c.in_ok-end-2.end k) c.requires.above ∙ ap (λ high. is_between (front subs) high k) end
     ∙ below_before (front subs) (last subs) k ∙ ap (λ b. has_child (λ s. b || is_before s (last subs)) (front subs) k) (sym full))

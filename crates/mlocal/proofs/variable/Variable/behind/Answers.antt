@@ -15,7 +15,7 @@ returns-then-is_empty-clause-next c =
     let subs = c.args.subs.now in
     let bytes = c.as_bytes.ensures.bytes ∙ c.last.ensures in
     let none : last subs ≡ [] = sym bytes ∙ no_list c.as_bytes.result.now (grind (arith, nat_tests, c.if-is_empty.ensures)) in
-    onward_walk c.args.self.now c.self.inside.own c.self.inside.texts c.self.view_is c.first_behind.ensures.ordered c.self.invariant
+    onward_walk c.args.self.now c.self.inside.own c.self.inside.values c.self.view_is c.first_behind.ensures.ordered c.self.invariant
     c.args.above.now (front subs) (last subs)
     (λ k is. ap (λ low. is_between low (behind_below (front subs)) k) c.requires.above
     ∙ below_all (is_before (last subs)) (λ s sub. ap (λ x. is_before x s) none ∙ empty_first s sub) (front subs) k is)
@@ -34,7 +34,7 @@ pub returns-clause-next : goal.returns-clause-next
 returns-clause-next c =
     let subs = c.args.subs.now in
     let start = start_is subs c.in_ok-start.start c.requires.subs.some c.in_ok-start.ensures.key in
-    onward_walk c.args.self.now c.self.inside.own c.self.inside.texts c.self.view_is c.first_behind-2.ensures.ordered c.self.invariant
+    onward_walk c.args.self.now c.self.inside.own c.self.inside.values c.self.view_is c.first_behind-2.ensures.ordered c.self.invariant
     c.in_ok-start.start (front subs) (last subs)
     (λ k is. ap (λ low. is_between low (behind_below (front subs)) k) start ∙ below_behind (front subs) (last subs) k is)
     (option_map (λ k. k.now) c.first_behind-2.result) c.first_behind-2.ensures.key

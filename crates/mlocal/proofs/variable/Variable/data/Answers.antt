@@ -24,7 +24,7 @@ pub returns-clause-descendants : goal.returns-clause-descendants
 returns-clause-descendants c =
     let subs = c.args.subs.now in
     c.is_some-2.ensures ∙ some_map (λ k. k.now) c.first_between.result ∙ ap is_some c.first_between.ensures.key
-    ∙ any_walk c.args.self.now c.self.inside.own c.self.inside.texts c.self.view_is c.first_between.ensures.ordered c.self.invariant
+    ∙ any_walk c.args.self.now c.self.inside.own c.self.inside.values c.self.view_is c.first_between.ensures.ordered c.self.invariant
     (is_between c.in_ok-key.key c.in_ok-end.end) (is_below subs) (sym (below_is subs []) ∙ not_child (λ s. true) subs)
     (λ k is. ap (λ low. is_between low c.in_ok-end.end k) c.in_ok-key.ensures.key ∙ ap (λ high. is_between subs high k) c.in_ok-end.ensures.key
     ∙ below_all (λ s. true) (λ s sub. refl) subs k is ∙ below_is subs k)

@@ -16,13 +16,13 @@ returns-then-is_empty c =
     let v = c.self.inside in
     let key = c.args.key.now in
     let none : key ≡ [] = no_list key (grind (arith, nat_tests, c.if-is_empty.ensures)) in
-    shown c.as_ref.result ∙ c.as_ref.ensures.value ∙ own_there v.own v.texts c.self.invariant
-    ∙ ap (get (with_own v.own (map_of (λ x. x) v.texts))) (sym none) ∙ ap (λ t. get t key) c.self.view_is
+    shown c.as_ref.result ∙ c.as_ref.ensures.value ∙ own_there v.own v.values c.self.invariant
+    ∙ ap (get (with_own v.own (map_of (λ x. x) v.values))) (sym none) ∙ ap (λ t. get t key) c.self.view_is
 
 pub returns : goal.returns
 returns c =
     let v = c.self.inside in
     let key = c.args.key.now in
     let some : 0 < length key = grind (arith, nat_tests, c.if-is_empty.ensures) in
-    shown c.get.result ∙ c.get.ensures.value ∙ found_is_had (subscripts_cmp_total significant_digits) v.texts key
-    ∙ others_there v.own (map_of (λ x. x) v.texts) key some ∙ ap (λ t. get t key) c.self.view_is
+    shown c.get.result ∙ c.get.ensures.value ∙ found_is_had (subscripts_cmp_total significant_digits) v.values key
+    ∙ others_there v.own (map_of (λ x. x) v.values) key some ∙ ap (λ t. get t key) c.self.view_is

@@ -21,8 +21,8 @@ returns-then-is_empty c =
     let key = c.args.key.now in
     let none : key ≡ [] = no_list key (grind (arith, nat_tests, c.if-is_empty.ensures)) in
     ap (λ es. from_entries {R = subscripts_cmp significant_digits} (map (λ e. (e.0, e.1)) es)) c.clear.ensures.empty
-    ∙ own_killed (map_of (λ x. x) v.texts) v.own
-    ∙ ap (without (with_own v.own (map_of (λ x. x) v.texts))) (sym none)
+    ∙ own_killed (map_of (λ x. x) v.values) v.own
+    ∙ ap (without (with_own v.own (map_of (λ x. x) v.values))) (sym none)
     ∙ ap (λ t. without t key) c.self.view_is
 
 pub returns : goal.returns
@@ -31,14 +31,14 @@ returns c =
     let key = c.args.key.now in
     let p : List Text → Bool = λ ys. not (is_within key ys) in
     let some : 0 < length key = grind (arith, nat_tests, c.if-is_empty.ensures) in
-    ap (with_own v.own) (retain-map_of (subscripts_cmp_total significant_digits) (subscripts_cmp_exact significant_digits) v.texts c.retain.new.self p
+    ap (with_own v.own) (retain-map_of (subscripts_cmp_total significant_digits) (subscripts_cmp_exact significant_digits) v.values c.retain.new.self p
     (retain_same _ _ (λ e. p e.0) (λ k v b w g call. search rules) _ _ c.retain.ensures.filtered))
-    ∙ other_killed (map_of (λ x. x) v.texts) v.own key some
+    ∙ other_killed (map_of (λ x. x) v.values) v.own key some
     ∙ ap (λ t. without t key) c.self.view_is
 
 pub invariant_of-self-2 : goal.invariant_of-self-2
 invariant_of-self-2 c =
     let p : List Text → Bool = λ ys. not (is_within c.args.key.now ys) in
     subst (λ es. All AreSomeSubs (keys_of es))
-    (sym (retain_same _ _ (λ e. p e.0) (λ k v b w g call. search rules) c.self.inside.texts.entries _ c.retain.ensures.filtered))
-    (keys_kept AreSomeSubs p c.self.inside.texts.entries c.self.invariant)
+    (sym (retain_same _ _ (λ e. p e.0) (λ k v b w g call. search rules) c.self.inside.values.entries _ c.retain.ensures.filtered))
+    (keys_kept AreSomeSubs p c.self.inside.values.entries c.self.invariant)

@@ -18,20 +18,20 @@ pub returns-then-is_empty-clause-ok : goal.returns-then-is_empty-clause-ok
 returns-then-is_empty-clause-ok c =
     let v = c.self.inside in
     let none : c.args.key ≡ [] = no_list c.args.key (grind (arith, nat_tests, c.if-is_empty.ensures)) in
-    own_set (map_of (λ x. x) v.texts) v.own c.args.text
-    ∙ ap (λ k. insert (with_own v.own (map_of (λ x. x) v.texts)) k c.args.text) (sym none)
-    ∙ ap (λ t. insert t c.args.key c.args.text) c.self.view_is
+    own_set (map_of (λ x. x) v.values) v.own c.args.value
+    ∙ ap (λ k. insert (with_own v.own (map_of (λ x. x) v.values)) k c.args.value) (sym none)
+    ∙ ap (λ t. insert t c.args.key c.args.value) c.self.view_is
 
 pub returns-clause-ok : goal.returns-clause-ok
 returns-clause-ok c =
     let v = c.self.inside in
     let some : 0 < length c.args.key = grind (arith, nat_tests, c.if-is_empty.ensures) in
-    ap (with_own v.own) (insert-map_of (subscripts_cmp_total significant_digits) (λ text. text) (subscripts_cmp_exact significant_digits) v.texts c.insert.new.self c.args.key c.args.text c.in_ok-insert.ensures.updates)
-    ∙ other_set (map_of (λ x. x) v.texts) v.own c.args.key c.args.text some
-    ∙ ap (λ t. insert t c.args.key c.args.text) c.self.view_is
+    ap (with_own v.own) (insert-map_of (subscripts_cmp_total significant_digits) (λ text. text) (subscripts_cmp_exact significant_digits) v.values c.insert.new.self c.args.key c.args.value c.in_ok-insert.ensures.updates)
+    ∙ other_set (map_of (λ x. x) v.values) v.own c.args.key c.args.value some
+    ∙ ap (λ t. insert t c.args.key c.args.value) c.self.view_is
 
 pub invariant_of-self-2 : goal.invariant_of-self-2
 invariant_of-self-2 c =
     let some : 0 < length c.args.key = grind (arith, nat_tests, c.if-is_empty.ensures) in
     subst (λ es. All AreSomeSubs (keys_of es)) (sym c.in_ok-insert.ensures.entries)
-    (All-keys-insert_entry (subscripts_cmp significant_digits) c.args.key c.args.text AreSomeSubs c.self.inside.texts.entries c.self.invariant (c.requires, some))
+    (All-keys-insert_entry (subscripts_cmp significant_digits) c.args.key c.args.value AreSomeSubs c.self.inside.values.entries c.self.invariant (c.requires, some))

@@ -1,8 +1,0 @@
-use Rattle.std.proofs.Common.{ap}
-use Rattle.mspec.specs.Act.{no_locals, Locals}
-use Rattle.mmeaning.specs.Step.{new_session}
-use Rattle.mworld.proofs.session.Session.new.Goals as goal
-
-pub returns : goal.returns
-unfolding no_locals
-returns c = ap (λ (l : Locals). record { locals = l; naked = new_session.naked; test = new_session.test }) c.new.ensures

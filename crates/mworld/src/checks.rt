@@ -1,0 +1,32 @@
+// The checks before a line's text is parsed.
+ghost use Rattle.std.specs.Prelude.{◌≡◌};
+ghost use Rattle.mmeaning.specs.Step.{is_ascii};
+ghost use Rattle.mworld.specs.Admits.{Admits};
+
+use mgrant::{AccountId, Settings};
+use moperator::Code;
+
+// The longest line.
+const LINE_LIMIT: usize = 255;
+
+fn has_characters_only(text: &[u8]) -> bool
+    ensures { result ≡ is_ascii text.now }
+{
+    text.iter().all(|byte| *byte < 128)
+}
+
+// The account of a line that passes the checks before its text is parsed, or the code of the first that it fails.
+pub(crate) fn admitted(settings: &Settings, terminal: u32, text: &[u8]) -> Result<AccountId, Code>
+    ensures { Admits settings.now (record { terminal = terminal; text = text.now }) result }
+{
+    let Some(account) = settings.account_of(terminal) else {
+        return Err(Code::Zterm);
+    };
+    if text.len() > LINE_LIMIT {
+        return Err(Code::Zline);
+    }
+    if !has_characters_only(text) {
+        return Err(Code::Zchar);
+    }
+    Ok(account)
+}

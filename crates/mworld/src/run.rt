@@ -1,0 +1,45 @@
+// A text, run over a session.
+ghost use Rattle.std.specs.Prelude.{◌≢◌};
+ghost use Rattle.moperator.specs.declared.code.Code.TheVariants.{Zstore};
+ghost use Rattle.mworld.specs.Ran.{Ran};
+
+use crate::reply::Reply;
+use meval::{Depth, Eval, Session};
+use mexec::{Ended, Parts, run_text};
+use mgrant::{AccountId, Settings};
+use mstore::NodeStore;
+use std::alloc::Global;
+
+// Runs a text of a terminal with the steps of its account.
+pub(crate) fn run_over<S: NodeStore>(
+    alloc: Global,
+    settings: &Settings,
+    terminal: u32,
+    account: AccountId,
+    text: &[u8],
+    session: &mut Session,
+    store: &mut S,
+) -> Reply
+    ensures ran { Ran S.NodeStore settings.now terminal account text.now session.old store.old result session.new store.new }
+    ensures steady { S.steady → result.ending ≢ Ended.Fault Zstore }
+{
+    let steps = settings.steps_of(account);
+    let mut out = Vec::new(alloc);
+    let mut parts = Parts {
+        eval: Eval {
+            session,
+            store,
+            settings,
+            terminal,
+            account,
+            steps,
+            depth: Depth {
+                levels: 0,
+                indirections: 0,
+            },
+        },
+        out: &mut out,
+    };
+    let ending = run_text(alloc, &mut parts, text);
+    Reply { out, ending }
+}

@@ -4,3 +4,4 @@ pub mod OtherLocks
 pub mod Calls
 pub mod Moves
 pub mod Yieldings
+pub mod WorldExamples

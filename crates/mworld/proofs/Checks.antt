@@ -1,46 +1,53 @@
 -- The checks that come before a line's text is parsed.
-use Rattle.std.proofs.Common.{◌≡◌, ℕ, true, false, Some, None, refl, ap, ◌∙◌, length, ◌<◌, ◌≤◌, arith, List}
-use Rattle.std.specs.Ordering.{nat_cmp, is_eq}
-use Rattle.std.specs.Cmp.{nat_cmp_total}
-use Rattle.std.specs.declared.cmp.Ordering.{Ordering}
-use Rattle.std.specs.declared.cmp.Ordering.TheVariants.{Less, Equal, Greater}
-use Rattle.std.specs.FinMap.{nat_cmp-IsAntisymmetric, get, empty, gets, get-insert, get-empty}
+use Rattle.std.proofs.Common.{◌≡◌, ℕ, true, false, Some, None, refl, sym, ap, ◌∙◌, length, ◌<◌, ◌≤◌, arith, List, [], ◌∷◌, zero, suc}
+use Rattle.std.specs.Prelude.{slice_get, unwrap_or, option_map}
+use Rattle.std.specs.FinMap.{get}
 use Rattle.std.proofs.lemmas.Bool.Decides.{nat_tests}
+use Rattle.mspec.specs.Access.{Settings, account_at, account_of}
 use Rattle.mmeaning.specs.Step.{Account, Event, Server, normal, refused, checked, at_account, at_tree, is_too_long, is_ascii}
 use Rattle.mspec.specs.Code.{Zterm, Zline, Zchar}
-use Rattle.mworld.specs.Profile.{alice, profile}
+use Rattle.mworld.specs.Admits.{Passes}
 
-pub known : (terminal : ℕ) → terminal ≡ 1 → get profile.terminals terminal ≡ Some alice
-known terminal is = ap (get profile.terminals) is ∙ simp gets
+-- the account at a place that is among them
+at_place : (accounts : List Account) (place : ℕ) → place < length accounts → (account : Account) × (slice_get accounts place ≡ Some account)
+at_place [] place within = absurd (omega arith)
+at_place (a ∷ rest) zero within = (a, refl)
+at_place (a ∷ rest) (suc n) within = at_place rest n (omega arith)
 
-is_not_equal : (o : Ordering) → (o ≡ Equal → ⊥) → is_eq o ≡ false
-is_not_equal Less h = refl
-is_not_equal Equal h = absurd (h refl)
-is_not_equal Greater h = refl
+-- the account of a terminal
+pub found : (settings : Settings) (terminal place : ℕ) → account_at settings place ≡ account_of settings terminal → place < length settings.accounts → (account : Account) × (get settings.terminals terminal ≡ Some account)
+found settings terminal place same within = let there = at_place settings.accounts place within in (there.0, sym same ∙ there.1)
 
-apart : (n m : ℕ) → (n ≡ m → ⊥) → is_eq (nat_cmp n m) ≡ false
-apart n m h = is_not_equal (nat_cmp n m) (λ e. h (nat_cmp-IsAntisymmetric n m e))
-
-pub unknown : (terminal : ℕ) → (terminal ≡ 1 → ⊥) → get profile.terminals terminal ≡ None
-unknown terminal other = get-insert nat_cmp_total empty 1 alice terminal ∙ rw (apart terminal 1 other) (get-empty nat_cmp terminal)
+-- and its place
+pub known : (settings : Settings) (terminal place : ℕ) (text : List ℕ) → account_at settings place ≡ account_of settings terminal → place < length settings.accounts → is_too_long text ≡ false → is_ascii text ≡ true → Passes settings (record { terminal = terminal; text = text }) place
+known settings terminal place text same within short ascii =
+    let there = at_place settings.accounts place within in
+    record {
+      account = there.0;
+      known = sym same ∙ there.1;
+      name = sym (ap (λ o. unwrap_or (option_map (λ (a : Account). a.name) o) []) there.1);
+      steps = sym (ap (λ o. unwrap_or (option_map (λ (a : Account). a.steps) o) 0) there.1);
+      short = short;
+      ascii = ascii;
+    }
 
 -- what each check refuses
-pub unknown_refused : (e : Event) (server : Server) → get profile.terminals e.terminal ≡ None → normal profile e server ≡ refused Zterm server
-unknown_refused e server none = ap (at_account profile e server) none
+pub unknown_refused : (settings : Settings) (e : Event) (server : Server) → get settings.terminals e.terminal ≡ None → normal settings e server ≡ refused Zterm server
+unknown_refused settings e server none = ap (at_account settings e server) none
 
-pub long_refused : (e : Event) (account : Account) (server : Server) → get profile.terminals e.terminal ≡ Some account → is_too_long e.text ≡ true → normal profile e server ≡ refused Zline server
-long_refused e account server some long = ap (at_account profile e server) some ∙ ap (λ l. checked l (is_ascii e.text) profile e server account) long
+pub long_refused : (settings : Settings) (e : Event) (account : Account) (server : Server) → get settings.terminals e.terminal ≡ Some account → is_too_long e.text ≡ true → normal settings e server ≡ refused Zline server
+long_refused settings e account server some long = ap (at_account settings e server) some ∙ ap (λ l. checked l (is_ascii e.text) settings e server account) long
 
-pub other_refused : (e : Event) (account : Account) (server : Server) → get profile.terminals e.terminal ≡ Some account → is_too_long e.text ≡ false → is_ascii e.text ≡ false → normal profile e server ≡ refused Zchar server
-other_refused e account server some short other =
-    ap (at_account profile e server) some ∙ ap (λ l. checked l (is_ascii e.text) profile e server account) short
-    ∙ ap (λ a. checked false a profile e server account) other
+pub other_refused : (settings : Settings) (e : Event) (account : Account) (server : Server) → get settings.terminals e.terminal ≡ Some account → is_too_long e.text ≡ false → is_ascii e.text ≡ false → normal settings e server ≡ refused Zchar server
+other_refused settings e account server some short other =
+    ap (at_account settings e server) some ∙ ap (λ l. checked l (is_ascii e.text) settings e server account) short
+    ∙ ap (λ a. checked false a settings e server account) other
 
 -- what they let through
-pub let_through : (e : Event) (account : Account) (server : Server) → get profile.terminals e.terminal ≡ Some account → is_too_long e.text ≡ false → is_ascii e.text ≡ true → normal profile e server ≡ at_tree profile e server account
-let_through e account server some short ascii =
-    ap (at_account profile e server) some ∙ ap (λ l. checked l (is_ascii e.text) profile e server account) short
-    ∙ ap (λ a. checked false a profile e server account) ascii
+pub let_through : (settings : Settings) (e : Event) (account : Account) (server : Server) → get settings.terminals e.terminal ≡ Some account → is_too_long e.text ≡ false → is_ascii e.text ≡ true → normal settings e server ≡ at_tree settings e server account
+let_through settings e account server some short ascii =
+    ap (at_account settings e server) some ∙ ap (λ l. checked l (is_ascii e.text) settings e server account) short
+    ∙ ap (λ a. checked false a settings e server account) ascii
 
 pub is_short : (text : List ℕ) → length text ≤ 255 → is_too_long text ≡ false
 is_short text h = grind (arith, nat_tests)

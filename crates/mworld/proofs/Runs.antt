@@ -1,81 +1,60 @@
--- A session's run, from the run of its parts.
-use Rattle.std.proofs.Common.{◌≡◌, ℕ, List, [], Option, None, Bool, true, false, not, cond, Ok, Vec, Global, refl, sym, ap, subst, ◌∙◌}
+-- A line's step, from the run of its text.
+use Rattle.std.proofs.Common.{◌≡◌, ◌≢◌, ℕ, [], Option, None, Bool, true, false, not, cond, Vec, Global, refl, sym, ap, subst, ◌∙◌}
 use Rattle.std.specs.Prelude.{nat_eq}
-use Rattle.std.specs.FinMap.{get, insert, remove, get-empty, same_map}
+use Rattle.std.specs.Ordering.{nat_cmp}
+use Rattle.std.specs.FinMap.{FinMap, get, insert, remove, empty, get-empty, same_map}
 use Rattle.mspec.specs.Code as spec
-use Rattle.mspec.specs.Code.{Own, Lost}
+use Rattle.mspec.specs.Code.{Own, Lost, Memory, Store}
 use Rattle.mspec.specs.Plan.{perform, cut_short}
-use Rattle.mspec.specs.LockConflict.{held_cmp, released}
+use Rattle.mspec.specs.LockConflict.{Locks, held_cmp, released}
 use Rattle.mspec.proofs.LockOrders.{held_cmp_total, held_cmp_exact}
 use Rattle.mspec.proofs.MapCuts.{get_cut}
-use Rattle.mspec.specs.Act.{Locals, Act, State, Gives, Fails}
+use Rattle.mspec.specs.Access.{Settings, name_at, steps_at}
+use Rattle.mspec.specs.Act.{Text, Act, State, Gives, Fails}
 use Rattle.mgrammar.specs.Reading.{line_at}
 use Rattle.mmeaning.specs.LineMeaning.{Signal}
 use Rattle.mmeaning.specs.Step as step
-use Rattle.mmeaning.specs.Step.{Account, World, Session, Event, Server, Step, FailedStep, lost, StepBy, normal, begun, kept, ended, session_or_new, text_run, is_failure, is_lost, Faulted}
-use Rattle.mmeaning.specs.Calls.{Standing, Here, IsCut, FailedBy, ops_of, point}
+use Rattle.mmeaning.specs.Step.{Account, World, Event, Server, Step, FailedStep, lost, StepBy, normal, begun, kept, ended, settled, session_or_new, text_run, is_failure, is_lost, Ending, Finished, Halted, Faulted, act}
+use Rattle.mmeaning.specs.Calls.{Standing, Here, Gave, IsCut, FailedBy, ops_of, point}
+use Rattle.mspec.proofs.Plans.{cut_whole}
 use Rattle.mmeaning.proofs.Calls.{cut_all}
-use Rattle.meval.specs.Codes.{fault_of}
-use Rattle.meval.specs.declared.code.Code.{Code}
-use Rattle.mexec.specs.declared.parts.Parts.{Parts}
+use Rattle.mstore.specs.declared.store.NodeStore.{Ghosts}
+use Rattle.moperator.specs.Codes.{fault_of}
+use Rattle.moperator.specs.declared.code.Code.{Code}
+use Rattle.moperator.specs.declared.code.Code.TheVariants.{Zmem, Zstore}
+use Rattle.meval.specs.declared.session.Session.{Session}
+use Rattle.meval.specs.Sessions.{session_of}
+use Rattle.meval.specs.Evaluates.{standing_of}
+use Rattle.mcommand.specs.declared.parts.Parts.{Parts}
 use Rattle.mexec.specs.declared.run.Ended.{Ended}
 use Rattle.mexec.specs.declared.run.Ended.TheVariants.{Done, Halt, Fault}
-use Rattle.mexec.specs.Runs.{Runs, EndsBy}
+use Rattle.mexec.specs.Runs.{RunsText, EndsBy, GaveEnding, ending_of}
 use Rattle.mworld.specs.declared.reply.Reply.{Reply}
-use Rattle.mworld.specs.Profile.{profile}
-use Rattle.mworld.specs.View.{ending_of, reply_of, shared}
-use Rattle.mworld.specs.Admits.{Admits}
+use Rattle.mworld.specs.View.{reply_of, shared}
+use Rattle.mworld.specs.Admits.{Passes}
 use Rattle.mworld.specs.Ran.{Ran}
 use Rattle.mworld.proofs.Checks.{let_through}
 
-abbrev session : Locals → Session
-session locals = record { locals = locals; naked = None; test = false }
+-- ---- a run that is not lost
 
--- the output began empty, and is the reply's
-pub ran : {old new : Parts} {text : List ℕ} {ended : Ended} {out : Vec ℕ Global} → Runs (line_at text) old ended new → old.out.now.items ≡ [] → out ≡ new.out.now
-    → Ran (session old.locals.now) old.steps text (record { out = out; ending = ended }) (session new.locals.now)
-ran {old = old} {new = new} {text = text} {ended = ended} {out = out} runs first last = record {
-  left = new.steps;
-  at = λ b w.
-      let begun = subst (λ o. EndsBy b (text_run (line_at text)) (point old.locals.now None false o old.steps w) ended (point new.locals.now None false new.out.now.items new.steps w)) first (runs.at b None false w) in
-      subst (λ o. EndsBy b (text_run (line_at text)) (point old.locals.now None false [] old.steps w) ended (point new.locals.now None false o.items new.steps w)) (sym last) begun;
-}
+-- a signal that ends a line so
+gave_by : (b : Standing) (terminal : ℕ) (server : Server) (p : Act Signal) (h : Here) (ending : Ending) (h' : Here) → GaveEnding b p h ending h'
+    → ended terminal server (perform (ops_of b) (p h.0) h.1) ≡ (record { out = h'.0.out; ending = ending }, settled terminal server ending h'.0 h'.1)
+gave_by b terminal server p h ending h' d =
+    let gave : perform (ops_of b) (p h.0) h.1 ≡ (Gives d.0 h'.0, h'.1) = d.2 in
+    ap (ended terminal server) gave ∙ ap (λ (x : Ending). (record { out = h'.0.out; ending = x }, settled terminal server x h'.0 h'.1)) d.1
 
 -- a fault that is no loss is the line's own code
-failed_by : (b : Standing) (terminal : ℕ) (server : Server) (p : Act Signal) (h : Here) (fault : spec.Fault) (h' : Here) → FailedBy b p h fault h' → is_lost fault ≡ false
-    → ended terminal server (perform (ops_of b) (p h.0) h.1) ≡ (record { out = h'.0.out; ending = Faulted fault }, record { world = h'.1; sessions = insert server.sessions terminal (kept h'.0) })
-failed_by b terminal server p h (Own c) h' d fine = let failed : perform (ops_of b) (p h.0) h.1 ≡ (Fails c h'.0, h'.1) = d in ap (ended terminal server) failed
-failed_by b terminal server p h (Lost loss) h' d fine = cc
+failed_by : (b : Standing) (steady : Type 0) (terminal : ℕ) (server : Server) (p : Act Signal) (h : Here) (fault : spec.Fault) (h' : Here) → FailedBy b steady p h fault h' → is_lost fault ≡ false
+    → ended terminal server (perform (ops_of b) (p h.0) h.1) ≡ (record { out = h'.0.out; ending = Faulted fault }, settled terminal server (Faulted fault) h'.0 h'.1)
+failed_by b steady terminal server p h (Own c) h' d fine = let failed : perform (ops_of b) (p h.0) h.1 ≡ (Fails c h'.0, h'.1) = d in ap (ended terminal server) failed
+failed_by b steady terminal server p h (Lost loss) h' d fine = cc
 
--- a run that is not lost ends its step
-ended_by : (b : Standing) (terminal : ℕ) (server : Server) (p : Act Signal) (h : Here) (ending : Ended) (h' : Here) → EndsBy b p h ending h' → is_failure (ending_of ending) ≡ false
-    → ended terminal server (perform (ops_of b) (p h.0) h.1) ≡ (record { out = h'.0.out; ending = ending_of ending }, record { world = h'.1; sessions = insert server.sessions terminal (kept h'.0) })
-ended_by b terminal server p h Done h' d fine = let gave : perform (ops_of b) (p h.0) h.1 ≡ (Gives d.0 h'.0, h'.1) = d.1 in ap (ended terminal server) gave
-ended_by b terminal server p h Halt h' d fine = absurd d
-ended_by b terminal server p h (Fault c) h' d fine = failed_by b terminal server p h (fault_of c) h' d fine
-
--- a line that passed the checks, run to an end that is not lost
-pub ran_step : (e : Event) (steps : ℕ) (server after : Server) (old new : Session) (reply : Reply) → Admits e (Ok steps) → old ≡ session_or_new (get server.sessions e.terminal) → Ran old steps e.text reply new
-    → is_failure (ending_of reply.ending) ≡ false → after ≡ record { world = server.world; sessions = insert server.sessions e.terminal new } → Step profile e (reply_of reply) server after
-ran_step e steps server after old new reply admits same ran fine stored = subst (λ l. StepBy l profile e (reply_of reply) server after) (sym fine) normally
-  where
-    b : Standing
-    b = record { settings = profile; terminal = e.terminal; account = admits.0.name }
-
-    begins : begun admits.0 (session_or_new (get server.sessions e.terminal)) ≡ record { locals = old.locals; naked = old.naked; test = old.test; out = []; steps = steps }
-    begins = λ i. record { locals = (sym same i).locals; naked = (sym same i).naked; test = (sym same i).test; out = []; steps = admits.2 i }
-
-    here : Here
-    here = point old.locals old.naked old.test [] steps server.world
-
-    ends : ended e.terminal server (perform (ops_of b) (text_run (line_at e.text) here.0) here.1) ≡ (reply_of reply, record { world = server.world; sessions = insert server.sessions e.terminal new })
-    ends = ended_by b e.terminal server (text_run (line_at e.text)) here reply.ending (point new.locals new.naked new.test reply.out.items ran.left server.world) (ran.at b server.world) fine
-
-    normally : normal profile e server ≡ (reply_of reply, after)
-    normally =
-        let_through e admits.0 server admits.1 admits.3 admits.4
-        ∙ ap (λ (s : State). ended e.terminal server (perform (ops_of b) (text_run (line_at e.text) s) server.world)) begins
-        ∙ ends ∙ ap (λ (s : Server). (reply_of reply, s)) (sym stored)
+ended_by : (b : Standing) (steady : Type 0) (terminal : ℕ) (server : Server) (p : Act Signal) (h : Here) (ending : Ended) (h' : Here) → EndsBy b steady p h ending h' → is_failure (ending_of ending) ≡ false
+    → ended terminal server (perform (ops_of b) (p h.0) h.1) ≡ (record { out = h'.0.out; ending = ending_of ending }, settled terminal server (ending_of ending) h'.0 h'.1)
+ended_by b steady terminal server p h Done h' d fine = gave_by b terminal server p h Finished h' d
+ended_by b steady terminal server p h Halt h' d fine = gave_by b terminal server p h Halted h' d
+ended_by b steady terminal server p h (Fault c) h' d fine = failed_by b steady terminal server p h (fault_of c) h' d fine
 
 -- ---- a run that is lost
 
@@ -84,57 +63,124 @@ is_loss (Own c) e = cc
 is_loss (Lost loss) e = (loss, refl)
 
 -- however a line ended, its plan was cut somewhere
-is_cut_by : (b : Standing) (p : Act Signal) (h : Here) (fault : spec.Fault) (h' : Here) → FailedBy b p h fault h' → IsCut b p h h'
-is_cut_by b p h (Own c) h' d = cut_all b p h (Fails c h'.0) h'.1 d
-is_cut_by b p h (Lost loss) h' d = d
+is_cut_by : (b : Standing) (steady : Type 0) (p : Act Signal) (h : Here) (fault : spec.Fault) (h' : Here) → FailedBy b steady p h fault h' → IsCut b p h h'
+is_cut_by b steady p h (Own c) h' d = cut_own d
+  where
+    cut_own : perform (ops_of b) (p h.0) h.1 ≡ (Fails c h'.0, h'.1) → IsCut b p h h'
+    cut_own e = let all = cut_whole (ops_of b) (p h.0) h.1 in (all.0, all.1 ∙ ap (λ r. r.1) e)
+is_cut_by b steady p h (Lost Memory) h' d = d
+is_cut_by b steady p h (Lost Store) h' d = d.1
 
-is_cut : (b : Standing) (p : Act Signal) (h : Here) (ending : Ended) (h' : Here) → EndsBy b p h ending h' → IsCut b p h h'
-is_cut b p h Done h' d = cut_all b p h (Gives d.0 h'.0) h'.1 d.1
-is_cut b p h Halt h' d = absurd d
-is_cut b p h (Fault c) h' d = is_cut_by b p h (fault_of c) h' d
+is_cut : (b : Standing) (steady : Type 0) (p : Act Signal) (h : Here) (ending : Ended) (h' : Here) → EndsBy b steady p h ending h' → IsCut b p h h'
+is_cut b steady p h Done h' d = cut_all b p h d.0 h' d.2
+is_cut b steady p h Halt h' d = cut_all b p h d.0 h' d.2
+is_cut b steady p h (Fault c) h' d = is_cut_by b steady p h (fault_of c) h' d
 
-none_held : (t : ℕ) → released shared.locks t ≡ shared.locks
-none_held t = same_map held_cmp_total held_cmp_exact _ _ (λ h. get_cut held_cmp_total held_cmp_exact shared.locks (λ h. not (nat_eq h.terminal t)) h ∙ ap (λ o. cond (not (nat_eq h.terminal t)) o None) (get-empty held_cmp h) ∙ nothing (not (nat_eq h.terminal t)) ∙ sym (get-empty held_cmp h))
+pub none_held : (t : ℕ) → released empty t ≡ empty
+none_held t = same_map held_cmp_total held_cmp_exact _ _ (λ h. get_cut held_cmp_total held_cmp_exact empty (λ h. not (nat_eq h.terminal t)) h ∙ ap (λ o. cond (not (nat_eq h.terminal t)) o None) (get-empty held_cmp h) ∙ nothing (not (nat_eq h.terminal t)) ∙ sym (get-empty held_cmp h))
   where
     nothing : (b : Bool) → ◌≡◌ {A = Option ℕ} (cond b None None) None
     nothing true = refl
     nothing false = refl
 
--- a line that passed the checks, run and then lost: what it left of its session is gone
-pub lost_step : (e : Event) (steps : ℕ) (server after : Server) (old new : Session) (ran : Reply) (reply : step.Reply) (loss : spec.Loss) → Admits e (Ok steps) → old ≡ session_or_new (get server.sessions e.terminal) → Ran old steps e.text ran new
-    → server.world ≡ shared → after ≡ record { world = shared; sessions = remove server.sessions e.terminal } → reply ≡ lost (Faulted (Lost loss)) → Step profile e reply server after
-lost_step e steps server after old new ran reply loss admits same done none gone is =
-    subst (λ r. Step profile e r server after) (sym is) (refl, failed)
-  where
-    account : Account
-    account = admits.0
+-- ---- steps
 
-    b : Standing
-    b = record { settings = profile; terminal = e.terminal; account = account.name }
+module _ {S : Type 0} (g : Ghosts S) (settings : Settings) (e : Event) (place : ℕ) (sessions : FinMap nat_cmp step.Session) (old new : Session) (store store' : S) (reply : Reply) (passes : Passes settings e place)
+  (same : session_of old ≡ session_or_new (get sessions e.terminal)) (ran : Ran g settings e.terminal place e.text old store reply new store') (sound : g.sound) where
+  abbrev server : Server
+  server = record { world = shared g store; sessions = sessions }
 
-    begins : record { locals = old.locals; naked = old.naked; test = old.test; out = []; steps = steps } ≡ begun account (session_or_new (get server.sessions e.terminal))
-    begins = λ i. record { locals = (same i).locals; naked = (same i).naked; test = (same i).test; out = []; steps = sym admits.2 i }
+  abbrev b : Standing
+  b = record { settings = settings; terminal = e.terminal; account = name_at settings place }
 
-    cut : IsCut b (text_run (line_at e.text)) (point old.locals old.naked old.test [] steps server.world) (point new.locals new.naked new.test ran.out.items done.left server.world)
-    cut = is_cut b (text_run (line_at e.text)) _ ran.ending _ (done.at b server.world)
+  abbrev here : Here
+  here = point old.locals old.naked old.test [] (steps_at settings place) (shared g store)
 
-    failed : FailedStep profile e server after
-    failed = record {
-      account = account;
-      known = admits.1;
-      short = admits.3;
-      ascii = admits.4;
-      operations = cut.0;
-      globals =
-          ap (λ (s : Server). s.world.globals) gone ∙ sym (ap (λ (w : World). w.globals) none)
-          ∙ sym (ap (λ (w : World). w.globals) cut.1)
-          ∙ ap (λ (s : State). (cut_short (ops_of b) cut.0 (text_run (line_at e.text) s) server.world).globals) begins;
-      locks = ap (λ (s : Server). s.world.locks) gone ∙ sym (none_held e.terminal) ∙ sym (ap (λ (w : World). released w.locks e.terminal) none);
-      sessions = ap (λ (s : Server). s.sessions) gone;
-    }
+  abbrev there : Here
+  there = point new.locals new.naked new.test reply.out.items ran.left (shared g store')
+
+  ends : EndsBy b g.steady (text_run (name_at settings place) (line_at e.text)) here reply.ending there
+  ends = ran.at sound
+
+  begins : begun passes.account (session_or_new (get sessions e.terminal)) ≡ here.0
+  begins = λ i. record { locals = (sym same i).locals; naked = (sym same i).naked; test = (sym same i).test; out = []; steps = passes.steps i }
+
+  -- a line that is not lost
+  pub ran_step : (after : Server) → is_failure (ending_of reply.ending) ≡ false → after ≡ settled e.terminal server (ending_of reply.ending) there.0 there.1 → Step settings e (reply_of reply) server after
+  ran_step after fine stored = subst (λ l. StepBy l settings e (reply_of reply) server after) (sym fine) normally
+    where
+      normally : normal settings e server ≡ (reply_of reply, after)
+      normally =
+          let_through settings e passes.account server passes.known passes.short passes.ascii
+          ∙ (λ i. ended e.terminal server (perform (act settings e.terminal (passes.name i)) (text_run (passes.name i) (line_at e.text) (begins i)) server.world))
+          ∙ ended_by b g.steady e.terminal server (text_run (name_at settings place) (line_at e.text)) here reply.ending there ends fine
+          ∙ ap (λ (s : Server). (reply_of reply, s)) (sym stored)
+
+  -- one that is lost, also where it was run to its end: what it left of its session is gone
+  pub lost_step : (after : Server) (answer : step.Reply) (loss : spec.Loss) → after ≡ record { world = shared g store'; sessions = remove sessions e.terminal } → answer ≡ lost (Faulted (Lost loss)) → Step settings e answer server after
+  lost_step after answer loss gone is = subst (λ r. Step settings e r server after) (sym is) (refl, failed)
+    where
+      cut : IsCut b (text_run (name_at settings place) (line_at e.text)) here there
+      cut = is_cut b g.steady (text_run (name_at settings place) (line_at e.text)) here reply.ending there ends
+
+      failed : FailedStep settings e server after
+      failed = record {
+        account = passes.account;
+        known = passes.known;
+        short = passes.short;
+        ascii = passes.ascii;
+        operations = cut.0;
+        globals =
+            ap (λ (s : Server). s.world.globals) gone ∙ sym (ap (λ (w : World). w.globals) cut.1)
+            ∙ (λ i. (cut_short (act settings e.terminal (sym passes.name i)) cut.0 (text_run (sym passes.name i) (line_at e.text) (sym begins i)) server.world).globals);
+        locks = ap (λ (s : Server). s.world.locks) gone ∙ sym (none_held e.terminal);
+        sessions = ap (λ (s : Server). s.sessions) gone;
+      }
+
+-- the session, the store and the output are those that were lent
+pub ran_over : {S : Type 0} {g : Ghosts S} {text : Text} {old new : Parts S} {ended : Ended} {session' : Session} {store' : S} {out : Vec ℕ Global} → RunsText g (line_at text) old ended new → old.eval.steps ≡ steps_at old.eval.settings.now old.eval.account
+    → old.out.now.items ≡ [] → session' ≡ new.eval.session.now → store' ≡ new.eval.store.now → out ≡ new.out.now
+    → Ran g old.eval.settings.now old.eval.terminal old.eval.account text old.eval.session.now old.eval.store.now (record { out = out; ending = ended }) session' store'
+ran_over {g = g} {text = text} {old = old} {new = new} {ended = ended} runs steps first s u o = record {
+  left = new.eval.steps;
+  at = λ sound.
+      subst (λ (q : Here × Here). EndsBy (standing_of old.eval) g.steady (text_run (standing_of old.eval).account (line_at text)) q.0 ended q.1)
+      (λ i. (
+        point old.eval.session.now.locals old.eval.session.now.naked old.eval.session.now.test (first i) (steps i) (shared g old.eval.store.now),
+        point (sym s i).locals (sym s i).naked (sym s i).test (sym o i).items new.eval.steps (shared g (sym u i)),
+      ))
+      (runs.at sound empty);
+}
+
+-- what a line leaves that is not lost and does not halt
+pub settles : (t : ℕ) (server : Server) (ending : Ended) (s : State) (w : World) → (ending ≡ Halt → ⊥) → settled t server (ending_of ending) s w ≡ record { world = w; sessions = insert server.sessions t (kept s) }
+settles t server Done s w not_halt = refl
+settles t server Halt s w not_halt = absurd (not_halt refl)
+settles t server (Fault c) s w not_halt = refl
+
+-- and one that halts, where no lock is held
+pub halts : (t : ℕ) (server : Server) (ending : Ended) (s : State) (w : World) → ending ≡ Halt → w.locks ≡ empty → settled t server (ending_of ending) s w ≡ record { world = w; sessions = remove server.sessions t }
+halts t server ending s w is none =
+    ap (λ (x : Ended). settled t server (ending_of x) s w) is
+    ∙ (λ i. record { world = record w { locks = (ap (λ (l : Locks). released l t) none ∙ none_held t ∙ sym none) i }; sessions = remove server.sessions t })
 
 -- an ending that is no code is not lost
 pub not_lost : (ending : Ended) → ((c : Code) → ending ≡ Fault c → ⊥) → is_failure (ending_of ending) ≡ false
 not_lost Done h = refl
 not_lost Halt h = refl
 not_lost (Fault c) h = absurd (h c refl)
+
+-- ---- refusals
+
+pub memory_is_none : fault_of Zmem ≡ Lost Store → ⊥
+memory_is_none e = cc
+
+-- a reply of another fault is not the store's
+pub not_refused : (reply : Reply) (c : Code) → (fault_of c ≡ Lost Store → ⊥) → reply.ending ≡ Fault Zstore → reply_of reply ≡ record { out = []; ending = Faulted (fault_of c) } → ⊥
+not_refused reply c other is refused = other (faults (sym (ap (λ (r : step.Reply). r.ending) refused) ∙ ap ending_of is))
+  where
+    faults : Faulted (fault_of c) ≡ Faulted (Lost Store) → fault_of c ≡ Lost Store
+    faults e = cc
+
+pub own_is_none : (c : Code) (own : spec.Code) → fault_of c ≡ Own own → fault_of c ≡ Lost Store → ⊥
+own_is_none c own is e = cc

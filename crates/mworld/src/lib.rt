@@ -1,7 +1,7 @@
 //! Terminals with their sessions over a store: one line at a time, from its text to its reply.
 #![tactic(auto)]
 
-mod checks;
+mod admission;
 mod reply;
 mod run;
 mod world;

@@ -9,7 +9,7 @@ ghost use Rattle.meval.specs.Sessions.{session_of};
 ghost use Rattle.mworld.specs.View.{settings_of, server_of, reply_of};
 ghost use Rattle.mworld.specs.Admits.{Passes};
 
-use crate::checks::admitted;
+use crate::admission::admitted;
 use crate::reply::Reply;
 use crate::run::run_over;
 use meval::Session;

@@ -10,7 +10,7 @@ returns-in_err-bytes-in-Runs-clause-sent g c =
     let is = sym c.fate_of.ensures ∙ ap fate_in c.in-Runs.is in
     record {
       answer = _;
-      answered = LineAnswered-at _ _ _ _ _ _ _ is (replied _ _ refl c.line-reply.ensures.step c.line-reply.ensures.steady);
+      answered = LineAnswered-at _ _ _ _ _ _ _ is (replied _ c.line-reply.result refl c.line-reply.ensures.step c.line-reply.ensures.steady);
       sent = FrontSent-none _ _ _ (not_ok _ c.from_residual.ensures.0);
     }
 
@@ -35,6 +35,6 @@ returns-in_ok-bytes-in-Runs-clause-sent g c =
     let same = c.deref.ensures.value ∙ c.in_ok-bytes-in-Runs.ensures.ok in
     record {
       answer = c.deref.result.now;
-      answered = LineAnswered-at _ _ _ _ _ _ _ is (replied _ _ same c.line-reply.ensures.step c.line-reply.ensures.steady);
+      answered = LineAnswered-at _ _ _ _ _ _ _ is (replied _ c.line-reply.result same c.line-reply.ensures.step c.line-reply.ensures.steady);
       sent = c.write_whole-in-Runs.ensures.sent;
     }

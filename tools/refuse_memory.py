@@ -2,9 +2,10 @@
 """Runs the built program on each block of lines of transcripts/, with each of its requests for memory refused in turn.
 
 With one request refused, the replies are the transcript's as far as the first want of memory; that is told by ZMEM, by
-`mserve: wire: Memory` with status 5, or by `mserve: Memory` with status 2; and what comes after ZMEM is replies in form. One request
-of a run may go by untold, with all replies as they are: std asks for the words of the command line in advance, and again where
-that was refused. Status 1 where a run does otherwise, where a block asks for no memory, or where there is no block.
+`mserve: wire: Memory` with status 5, by `mserve: settings: Memory` with status 3, or by `mserve: Memory` with status 2; and what
+comes after ZMEM is replies in form. One request of a run may go by untold, with all replies as they are: std asks for the words of
+the command line in advance, and again where that was refused. Status 1 where a run does otherwise, where a block asks for no
+memory, or where there is no block.
 
 The program is crates/mserve/out/mserve, as `./mserve` or the gate leaves it. `tools/refuse_memory.c` refuses the requests."""
 import os
@@ -67,7 +68,7 @@ def fault(wanted, output, told, status):
         return None if (status, told) == (0, b"") else f"status {status}, {told!r}"
     if not wanted.startswith(output):
         return "other replies"
-    if (status, told) in ((5, b"mserve: wire: Memory\n"), (2, b"mserve: Memory\n")):
+    if (status, told) in ((5, b"mserve: wire: Memory\n"), (3, b"mserve: settings: Memory\n"), (2, b"mserve: Memory\n")):
         return None
     return "" if (status, told, output) == (0, b"", wanted) else f"status {status}, {told!r}"
 

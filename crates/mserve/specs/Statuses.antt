@@ -6,6 +6,6 @@ abbrev pub is_run : List (List ℕ) → Bool
 is_run (word ∷ []) = bytes_eq word (codes "run")
 is_run words = false
 
--- 0: answered to the input's end; 2: words refused; 5: a fault of the wire
+-- 0: answered to the input's end; 2: words refused; 3: a fault of the settings; 5: a fault of the wire
 abbrev pub IsStatus : ℕ → Type 0
-IsStatus status = (status ≡ 0) ⊎ ((status ≡ 2) ⊎ (status ≡ 5))
+IsStatus status = (status ≡ 0) ⊎ ((status ≡ 2) ⊎ ((status ≡ 3) ⊎ (status ≡ 5)))

@@ -1,15 +1,21 @@
 // The program, over any reader and two writers.
-ghost use Rattle.std.specs.Prelude.{◌≡◌, ◌≢◌, ◌↔◌, false, map, string_bytes};
+ghost use Rattle.std.specs.Prelude.{◌≡◌, ◌≢◌, ◌↔◌, ◌⊎◌, false, map, string_bytes};
 ghost use Rattle.std.specs.IoError.{error_kind};
 ghost use Rattle.mserve.specs.Statuses.{IsStatus, is_run};
 
+use mgrant::Settings;
+use mstore::Plain;
 use mwire::{Watched, serve};
 use mworld::World;
 use std::io;
 use std::io::{ErrorKind, Read, Write};
 
-/// Runs the program with these words, which stand behind its name on the command line, and gives the exit status: 0 where
-/// the input was answered to its end, 2 for words that are refused, and 5 for a fault of the wire, of which `errors` is told.
+// The settings of every run: terminal 1 is of ALICE, and a line may use 2,000 steps.
+const SETTINGS: &str = "[[account]]\nname = \"ALICE\"\nterminals = [1]\nsteps = 2000\n";
+
+/// Runs the program with these words, which stand behind its name on the command line, over an empty store in memory, and gives
+/// the exit status: 0 where the input was answered to its end, 2 for words that are refused, 3 for a fault of the settings and 5
+/// for one of the wire, of which `errors` is told. The settings stand in the program, so their fault is want of memory.
 ///
 /// The word `run` alone is taken. A fault in writing to `errors` is passed over.
 pub fn program<H: AllocGlobal, I: Read, O: Write, E: Write>(
@@ -24,13 +30,20 @@ where
     O: Drop,
     ensures status { IsStatus result }
     ensures refused { (result ≡ 2) ↔ (is_run (map string_bytes words.now) ≡ false) }
-    ensures untold { result ≢ 5 → errors.new ≡ errors.old }
+    ensures untold { (result ≡ 0) ⊎ (result ≡ 2) → errors.new ≡ errors.old }
 {
     if !is_run(words) {
         return 2;
     }
     let alloc = rt.alloc();
-    let mut world = World::new(alloc);
+    let settings = match Settings::read(alloc, SETTINGS.as_bytes()) {
+        Ok(settings) => settings,
+        Err(fault) => {
+            let _ = writeln!(errors, "mserve: settings: {fault}");
+            return 3;
+        }
+    };
+    let mut world = World::new(alloc, settings, Plain::new(alloc));
     let mut reader = Watched::new(input);
     let mut writer = Watched::new(output);
     match serve(alloc, &mut world, &mut reader, &mut writer) {

@@ -6,6 +6,7 @@ use Rattle.std.specs.Str.Lines.{lines_of_parts, strip_carriage_return}
 use Rattle.std.specs.Io.KnownBytes.{Keeps, Consumes, IsAtEnd}
 use Rattle.mspec.specs.Act.{Text}
 use Rattle.mmeaning.specs.Step.{Settings, Server}
+use Rattle.mstore.specs.declared.store.NodeStore.{Ghosts}
 use Rattle.mwire.specs.Wire.{fate_of}
 use Rattle.mwire.specs.Answers.{Answers, LineAnswered, Breaks}
 use Rattle.mwire.specs.Progress.{EachAnswered, Passes, LineSent, HasServed}
@@ -16,20 +17,20 @@ use Rattle.mwire.proofs.Cuts.{fate_of-kept_end, lines-cut, finished_lines-cut, l
 use Rattle.mwire.proofs.LineAnswers.{LineAnswered-same, EachAnswered-more, Answers-each}
 use Rattle.mwire.proofs.Progresses.{Stands-start}
 
-LineAnswered-kept_end : (settings : Settings) (old : Server) (kept rest answer : Text) (new : Server)
-    → kept ≡ take 262 rest → LineAnswered settings old kept answer new → LineAnswered settings old rest answer new
-LineAnswered-kept_end settings old kept rest answer new e t =
-    LineAnswered-same settings old kept rest answer new (ap fate_of e ∙ fate_of-kept_end 262 rest (omega arith)) t
+LineAnswered-kept_end : {S : Type 0} (g : Ghosts S) (settings : Settings) (old : Server) (kept rest answer : Text) (new : Server)
+    → kept ≡ take 262 rest → LineAnswered g settings old kept answer new → LineAnswered g settings old rest answer new
+LineAnswered-kept_end g settings old kept rest answer new e t =
+    LineAnswered-same g settings old kept rest answer new (ap fate_of e ∙ fate_of-kept_end 262 rest (omega arith)) t
 
 -- ---- how far `serve` has come
 
-pub HasServed-start : (settings : Settings) (first : Server) (left held : Option Text) → HasServed settings first first left left held held []
-HasServed-start settings first left held = record { read = []; sent = []; consumed = Consumes-nil left; appended = Appends-nil held; stands = Stands-start settings first }
+pub HasServed-start : {S : Type 0} (g : Ghosts S) (settings : Settings) (first : Server) (left held : Option Text) → HasServed g settings first first left left held held []
+HasServed-start g settings first left held = record { read = []; sent = []; consumed = Consumes-nil left; appended = Appends-nil held; stands = Stands-start g settings first }
 
 -- a read that failed
-pub HasServed-kept : (settings : Settings) (first now : Server) (left left' left'' held held' : Option Text) (kept : Text)
-    → HasServed settings first now left left' held held' kept → Keeps left' left'' → HasServed settings first now left left'' held held' kept
-HasServed-kept settings first now left left' left'' held held' kept h k = record {
+pub HasServed-kept : {S : Type 0} (g : Ghosts S) (settings : Settings) (first now : Server) (left left' left'' held held' : Option Text) (kept : Text)
+    → HasServed g settings first now left left' held held' kept → Keeps left' left'' → HasServed g settings first now left left'' held held' kept
+HasServed-kept g settings first now left left' left'' held held' kept h k = record {
   read = h.read;
   sent = h.sent;
   consumed = Consumes-kept left left' left'' h.read h.consumed k;
@@ -38,10 +39,10 @@ HasServed-kept settings first now left left' left'' held held' kept h k = record
 }
 
 -- a piece that was taken whole
-pub HasServed-more : {E : Type 0} (settings : Settings) (first now new : Server) (left left' left'' held held' held'' : Option Text) (kept kept' piece : Text) (u : Unit {0})
-    → HasServed settings first now left left' held held' kept → Consumes left' left'' piece → Passes {E = E} settings now kept piece new kept' held' held'' (Ok u)
-    → HasServed settings first new left left'' held held'' kept'
-HasServed-more settings first now new left left' left'' held held' held'' kept kept' piece u h c p = record {
+pub HasServed-more : {S E : Type 0} (g : Ghosts S) (settings : Settings) (first now new : Server) (left left' left'' held held' held'' : Option Text) (kept kept' piece : Text) (u : Unit {0})
+    → HasServed g settings first now left left' held held' kept → Consumes left' left'' piece → Passes {E = E} g settings now kept piece new kept' held' held'' (Ok u)
+    → HasServed g settings first new left left'' held held'' kept'
+HasServed-more g settings first now new left left' left'' held held' held'' kept kept' piece u h c p = record {
   read = h.read ++ piece;
   sent = h.sent ++ p.sent;
   consumed = Consumes-trans left left' left'' h.read piece h.consumed c;
@@ -52,38 +53,38 @@ HasServed-more settings first now new left left' left'' held held' held'' kept k
 -- ---- how it ends
 
 -- no more is read
-pub Serves-read : (settings : Settings) (first now : Server) (left left' held held' : Option Text) (kept : Text)
-    → HasServed settings first now left left' held held' kept → Serves settings first now left left' held held' (Err Read)
-Serves-read settings first now left left' held held' kept h = record {
+pub Serves-read : {S : Type 0} (g : Ghosts S) (settings : Settings) (first now : Server) (left left' held held' : Option Text) (kept : Text)
+    → HasServed g settings first now left left' held held' kept → Serves g settings first now left left' held held' (Err Read)
+Serves-read g settings first now left left' held held' kept h = record {
   read = h.read;
   consumed = h.consumed;
   sent = h.sent;
   appended = h.appended;
   outcome =
       let s = h.stands in
-      let P : List Text → Type 0 = λ ls. Answers settings first ls h.sent now in
-      subst P (sym (finished_lines-cut h.read s.finished kept s.cut)) (Answers-each settings first (map strip_carriage_return s.finished) h.sent now s.answered);
+      let P : List Text → Type 0 = λ ls. Answers g settings first ls h.sent now in
+      subst P (sym (finished_lines-cut h.read s.finished kept s.cut)) (Answers-each g settings first (map strip_carriage_return s.finished) h.sent now s.answered);
 }
 
-EachAnswered-end : (settings : Settings) (first : Server) (done : List Text) (rest : Text) (now : Server) (text : Text) (new : Server) (answer : Text)
-    → EachAnswered settings first done text now → LineAnswered settings now rest answer new → EachAnswered settings first (done ++ lines_of_parts (rest ∷ [])) (text ++ answer) new
-EachAnswered-end settings first done [] now text new answer h t =
-    let P : Text → Server → Type 0 = λ x m. EachAnswered settings first done x m in
+EachAnswered-end : {S : Type 0} (g : Ghosts S) (settings : Settings) (first : Server) (done : List Text) (rest : Text) (now : Server) (text : Text) (new : Server) (answer : Text)
+    → EachAnswered g settings first done text now → LineAnswered g settings now rest answer new → EachAnswered g settings first (done ++ lines_of_parts (rest ∷ [])) (text ++ answer) new
+EachAnswered-end g settings first done [] now text new answer h t =
+    let P : Text → Server → Type 0 = λ x m. EachAnswered g settings first done x m in
     rw (append-nil, t.by_fate.0, append-nil) (subst (P text) (sym t.by_fate.1) h)
-EachAnswered-end settings first done (x ∷ xs) now text new answer h t = rw (last_part x xs) (EachAnswered-more settings first done text now (x ∷ xs) answer new h t)
+EachAnswered-end g settings first done (x ∷ xs) now text new answer h t = rw (last_part x xs) (EachAnswered-more g settings first done text now (x ∷ xs) answer new h t)
 
-Breaks-end : (settings : Settings) (first : Server) (done : List Text) (rest : Text) (now : Server) (text : Text) (new : Server) (answer part unsent : Text)
-    → (rest ≡ [] → ⊥) → EachAnswered settings first done text now → LineAnswered settings now rest answer new → answer ≡ part ++ unsent
-    → Breaks settings first (done ++ lines_of_parts (rest ∷ [])) (text ++ part) new
-Breaks-end settings first done [] now text new answer part unsent ne h t e = absurd (ne refl)
-Breaks-end settings first done (x ∷ xs) now text new answer part unsent ne h t e = record {
+Breaks-end : {S : Type 0} (g : Ghosts S) (settings : Settings) (first : Server) (done : List Text) (rest : Text) (now : Server) (text : Text) (new : Server) (answer part unsent : Text)
+    → (rest ≡ [] → ⊥) → EachAnswered g settings first done text now → LineAnswered g settings now rest answer new → answer ≡ part ++ unsent
+    → Breaks g settings first (done ++ lines_of_parts (rest ∷ [])) (text ++ part) new
+Breaks-end g settings first done [] now text new answer part unsent ne h t e = absurd (ne refl)
+Breaks-end g settings first done (x ∷ xs) now text new answer part unsent ne h t e = record {
   done = done;
   last = x ∷ xs;
   others = [];
   of_all = ap (λ ls. done ++ ls) (last_part x xs);
   whole = text;
   between = now;
-  answered = Answers-each settings first done text now h;
+  answered = Answers-each g settings first done text now h;
   answer = answer;
   last_answered = t;
   part = part;
@@ -92,11 +93,11 @@ Breaks-end settings first done (x ∷ xs) now text new answer part unsent ne h t
   sent = refl;
 }
 
-EndsBy-break : (settings : Settings) (old : Server) (left : Option Text) (read sent : Text) (new : Server) (e : WireFault)
-    → e ≢ Read → BreaksOff settings old left read sent new → EndsBy settings old left read sent new e
-EndsBy-break settings old left read sent new Read ne b = absurd (ne refl)
-EndsBy-break settings old left read sent new Write ne b = b
-EndsBy-break settings old left read sent new Memory ne b = b
+EndsBy-break : {S : Type 0} (g : Ghosts S) (settings : Settings) (old : Server) (left : Option Text) (read sent : Text) (new : Server) (e : WireFault)
+    → e ≢ Read → BreaksOff g settings old left read sent new → EndsBy g settings old left read sent new e
+EndsBy-break g settings old left read sent new Read ne b = absurd (ne refl)
+EndsBy-break g settings old left read sent new Write ne b = b
+EndsBy-break g settings old left read sent new Memory ne b = b
 
 -- a read of no bytes
 pub Consumes-none : (a b c : Option Text) (bs buf : Text) (n : ℕ) → n ≡ 0 → Consumes a b bs → Consumes b c (take n buf) → Consumes a c bs
@@ -106,11 +107,11 @@ Consumes-none a b c bs buf n e p q =
     subst P none (Consumes-trans a b c bs (take n buf) p q)
 
 -- the stream is at its end, and the unfinished last line is answered, if there is one
-serves_end : (X : WireFault → Type 0) (settings : Settings) (first now new : Server) (left left' held held' held'' : Option Text) (kept : Text) (result : Result (Unit {0}) WireFault)
-    → HasServed settings first now left left' held held' kept → IsAtEnd left'
-    → LineSent settings now kept new held' held'' (is_ok result) → (kept ≡ [] → result ≡ Ok tt) → IfErr result (λ e. (e ≢ Read) × X e)
-    → Serves settings first new left left' held held'' result
-serves_end X settings first now new left left' held held' held'' kept (Ok u) h z p idle f = record {
+serves_end : (X : WireFault → Type 0) {S : Type 0} (g : Ghosts S) (settings : Settings) (first now new : Server) (left left' held held' held'' : Option Text) (kept : Text) (result : Result (Unit {0}) WireFault)
+    → HasServed g settings first now left left' held held' kept → IsAtEnd left'
+    → LineSent g settings now kept new held' held'' (is_ok result) → (kept ≡ [] → result ≡ Ok tt) → IfErr result (λ e. (e ≢ Read) × X e)
+    → Serves g settings first new left left' held held'' result
+serves_end X g settings first now new left left' held held' held'' kept (Ok u) h z p idle f = record {
   read = h.read;
   consumed = h.consumed;
   sent = h.sent ++ p.sent.part;
@@ -118,40 +119,40 @@ serves_end X settings first now new left left' held held' held'' kept (Ok u) h z
   outcome =
       let s = h.stands in
       let whole : p.answer ≡ p.sent.part = p.sent.of_bytes ∙ (ap (λ x. p.sent.part ++ x) (p.sent.all_sent refl) ∙ append-nil p.sent.part) in
-      let taken = LineAnswered-kept_end settings now kept s.cut.rest p.answer new s.cut.kept_is p.answered in
-      let each = EachAnswered-end settings first (map strip_carriage_return s.finished) s.cut.rest now h.sent new p.answer s.answered taken in
-      (z, rw (lines-cut h.read s.finished kept s.cut, ← whole) (Answers-each settings first _ _ new each));
+      let taken = LineAnswered-kept_end g settings now kept s.cut.rest p.answer new s.cut.kept_is p.answered in
+      let each = EachAnswered-end g settings first (map strip_carriage_return s.finished) s.cut.rest now h.sent new p.answer s.answered taken in
+      (z, rw (lines-cut h.read s.finished kept s.cut, ← whole) (Answers-each g settings first _ _ new each));
 }
-serves_end X settings first now new left left' held held' held'' kept (Err e) h z p idle f = record {
+serves_end X g settings first now new left left' held held' held'' kept (Err e) h z p idle f = record {
   read = h.read;
   consumed = h.consumed;
   sent = h.sent ++ p.sent.part;
   appended = Appends-trans held held' held'' h.sent p.sent.part h.appended p.sent.appended;
   outcome =
       let s = h.stands in
-      let taken = LineAnswered-kept_end settings now kept s.cut.rest p.answer new s.cut.kept_is p.answered in
+      let taken = LineAnswered-kept_end g settings now kept s.cut.rest p.answer new s.cut.kept_is p.answered in
       let some : s.cut.rest ≡ [] → ⊥ = λ empty. let bad = idle (s.cut.kept_is ∙ ap (take 262) empty) in cc in
-      let breaks = Breaks-end settings first (map strip_carriage_return s.finished) s.cut.rest now h.sent new p.answer p.sent.part p.sent.unsent some s.answered taken p.sent.of_bytes in
-      EndsBy-break settings first left' h.read (h.sent ++ p.sent.part) new e f.0 (inr (z, rw (lines-cut h.read s.finished kept s.cut) breaks));
+      let breaks = Breaks-end g settings first (map strip_carriage_return s.finished) s.cut.rest now h.sent new p.answer p.sent.part p.sent.unsent some s.answered taken p.sent.of_bytes in
+      EndsBy-break g settings first left' h.read (h.sent ++ p.sent.part) new e f.0 (inr (z, rw (lines-cut h.read s.finished kept s.cut) breaks));
 }
 
-pub Serves-end : (X : WireFault → Type 0) (settings : Settings) (first now new : Server) (left left' left'' held held' held'' : Option Text) (kept line buf : Text) (n : ℕ) (result : Result (Unit {0}) WireFault)
-    → HasServed settings first now left left' held held' kept → n ≡ 0 → Consumes left' left'' (take n buf) → IsAtEnd left'' → line ≡ kept
-    → LineSent settings now line new held' held'' (is_ok result) → (line ≡ [] → result ≡ Ok tt) → IfErr result (λ e. (e ≢ Read) × X e)
-    → Serves settings first new left left'' held held'' result
-Serves-end X settings first now new left left' left'' held held' held'' kept line buf n result h none c z same p idle f =
-    let P : Text → Type 0 = λ l. HasServed settings first now left left'' held held' l in
-    let at_end : HasServed settings first now left left'' held held' kept = record { read = h.read; sent = h.sent; consumed = Consumes-none left left' left'' h.read buf n none h.consumed c; appended = h.appended; stands = h.stands } in
-    serves_end X settings first now new left left'' held held' held'' line result (subst P (sym same) at_end) z p idle f
+pub Serves-end : (X : WireFault → Type 0) {S : Type 0} (g : Ghosts S) (settings : Settings) (first now new : Server) (left left' left'' held held' held'' : Option Text) (kept line buf : Text) (n : ℕ) (result : Result (Unit {0}) WireFault)
+    → HasServed g settings first now left left' held held' kept → n ≡ 0 → Consumes left' left'' (take n buf) → IsAtEnd left'' → line ≡ kept
+    → LineSent g settings now line new held' held'' (is_ok result) → (line ≡ [] → result ≡ Ok tt) → IfErr result (λ e. (e ≢ Read) × X e)
+    → Serves g settings first new left left'' held held'' result
+Serves-end X g settings first now new left left' left'' held held' held'' kept line buf n result h none c z same p idle f =
+    let P : Text → Type 0 = λ l. HasServed g settings first now left left'' held held' l in
+    let at_end : HasServed g settings first now left left'' held held' kept = record { read = h.read; sent = h.sent; consumed = Consumes-none left left' left'' h.read buf n none h.consumed c; appended = h.appended; stands = h.stands } in
+    serves_end X g settings first now new left left'' held held' held'' line result (subst P (sym same) at_end) z p idle f
 
 -- a line of a piece broke
-pub Serves-piece : (settings : Settings) (first now new : Server) (left left' left'' held held' held'' : Option Text) (kept kept' piece : Text) (e : WireFault)
-    → HasServed settings first now left left' held held' kept → Consumes left' left'' piece → Passes settings now kept piece new kept' held' held'' (Err e) → e ≢ Read
-    → Serves settings first new left left'' held held'' (Err e)
-Serves-piece settings first now new left left' left'' held held' held'' kept kept' piece e h c p f = record {
+pub Serves-piece : {S : Type 0} (g : Ghosts S) (settings : Settings) (first now new : Server) (left left' left'' held held' held'' : Option Text) (kept kept' piece : Text) (e : WireFault)
+    → HasServed g settings first now left left' held held' kept → Consumes left' left'' piece → Passes g settings now kept piece new kept' held' held'' (Err e) → e ≢ Read
+    → Serves g settings first new left left'' held held'' (Err e)
+Serves-piece g settings first now new left left' left'' held held' held'' kept kept' piece e h c p f = record {
   read = h.read ++ piece;
   consumed = Consumes-trans left left' left'' h.read piece h.consumed c;
   sent = h.sent ++ p.sent;
   appended = Appends-trans held held' held'' h.sent p.sent h.appended p.appended;
-  outcome = EndsBy-break settings first left'' (h.read ++ piece) (h.sent ++ p.sent) new e f (inl (simp append-nil at (p.outcome first h.read h.sent h.stands [])));
+  outcome = EndsBy-break g settings first left'' (h.read ++ piece) (h.sent ++ p.sent) new e f (inl (simp append-nil at (p.outcome first h.read h.sent h.stands [])));
 }

@@ -10,4 +10,5 @@ pub mod Outputs
 pub mod Gathers
 pub mod Results
 pub mod ServedLines
+pub mod StoreFaults
 pub mod Sends

@@ -1,74 +1,91 @@
 -- How lines are answered, one after another.
-use Rattle.std.proofs.Common.{◌≡◌, ◌++◌, List, [], ◌∷◌, refl, sym, ◌∙◌, ap, subst, append_assoc, append-nil}
+use Rattle.std.proofs.Common.{◌≡◌, ◌≢◌, ◌++◌, List, [], ◌∷◌, refl, sym, ◌∙◌, ap, subst, append_assoc, append-nil}
 use Rattle.std.specs.Prelude.{map}
 use Rattle.mspec.specs.Act.{Text}
-use Rattle.mmeaning.specs.Step.{Settings, Server, Reply}
+use Rattle.mmeaning.specs.Step.{Settings, Server, Event, Reply, Step}
 use Rattle.mmeaning.specs.History.{History}
+use Rattle.mstore.specs.declared.store.NodeStore.{Ghosts}
+use Rattle.moperator.specs.declared.code.Code.TheVariants.{Zstore}
+use Rattle.mexec.specs.declared.run.Ended.{Ended}
+use Rattle.mexec.specs.declared.run.Ended.TheVariants.{Fault}
+use Rattle.mworld.specs.declared.reply.Reply.{Reply as CodeReply}
+use Rattle.mworld.specs.View.{reply_of}
 use Rattle.mwire.specs.Wire.{Fate, Ignored, TooLong, Unreadable, Runs, fate_of, before_events, events_of, too_long_text, unreadable_text, reply_text}
-use Rattle.mwire.specs.Answers.{line_text, replies_behind, answer_text, Answers, FateAnswered, LineAnswered}
+use Rattle.mwire.specs.Answers.{line_text, replies_behind, answer_text, Answers, RunAnswered, FateAnswered, LineAnswered}
 use Rattle.mwire.specs.Progress.{EachAnswered}
+use Rattle.mwire.proofs.StoreFaults.{store_sufficed}
 
-pub LineAnswered-at : (settings : Settings) (old : Server) (line answer : Text) (new : Server) (fate : Fate)
-    → fate_of line ≡ fate → FateAnswered settings old fate answer new → LineAnswered settings old line answer new
-LineAnswered-at settings old line answer new fate e h =
-    let P : Fate → Type 0 = λ f. FateAnswered settings old f answer new in record { by_fate = subst P (sym e) h }
+pub LineAnswered-at : {S : Type 0} (g : Ghosts S) (settings : Settings) (old : Server) (line answer : Text) (new : Server) (fate : Fate)
+    → fate_of line ≡ fate → FateAnswered g settings old fate answer new → LineAnswered g settings old line answer new
+LineAnswered-at g settings old line answer new fate e h =
+    let P : Fate → Type 0 = λ f. FateAnswered g settings old f answer new in record { by_fate = subst P (sym e) h }
+
+-- a line that was run, and its reply
+pub replied : {S : Type 0} {g : Ghosts S} {settings : Settings} {old new : Server} {e : Event} (answer : Text) (reply : CodeReply)
+    → answer ≡ reply_text e.terminal (reply_of reply) → (g.sound → Step settings e (reply_of reply) old new) → (g.steady → ◌≢◌ {A = Ended} reply.ending (Fault Zstore))
+    → RunAnswered g settings old e answer new
+replied answer reply shown step steady = record { reply = reply_of reply; text = shown; step = step; steady = λ holds. store_sufficed reply.ending (steady holds) }
 
 -- lines of one fate are answered alike
-pub LineAnswered-same : (settings : Settings) (old : Server) (line line' answer : Text) (new : Server)
-    → fate_of line ≡ fate_of line' → LineAnswered settings old line answer new → LineAnswered settings old line' answer new
-LineAnswered-same settings old line line' answer new e h = LineAnswered-at settings old line' answer new (fate_of line) (sym e) h.by_fate
+pub LineAnswered-same : {S : Type 0} (g : Ghosts S) (settings : Settings) (old : Server) (line line' answer : Text) (new : Server)
+    → fate_of line ≡ fate_of line' → LineAnswered g settings old line answer new → LineAnswered g settings old line' answer new
+LineAnswered-same g settings old line line' answer new e h = LineAnswered-at g settings old line' answer new (fate_of line) (sym e) h.by_fate
 
 -- a further line
-pub EachAnswered-more : (settings : Settings) (old : Server) (lines : List Text) (text : Text) (mid : Server) (line answer : Text) (new : Server)
-    → EachAnswered settings old lines text mid → LineAnswered settings mid line answer new → EachAnswered settings old (lines ++ line ∷ []) (text ++ answer) new
-EachAnswered-more settings old [] text mid line answer new h t =
-    let P : Server → Type 0 = λ m. LineAnswered settings m line answer new in
+pub EachAnswered-more : {S : Type 0} (g : Ghosts S) (settings : Settings) (old : Server) (lines : List Text) (text : Text) (mid : Server) (line answer : Text) (new : Server)
+    → EachAnswered g settings old lines text mid → LineAnswered g settings mid line answer new → EachAnswered g settings old (lines ++ line ∷ []) (text ++ answer) new
+EachAnswered-more g settings old [] text mid line answer new h t =
+    let P : Server → Type 0 = λ m. LineAnswered g settings m line answer new in
     (answer, new, [], subst P h.1 t, (refl, refl), rw h.0 (sym (append-nil answer)))
-EachAnswered-more settings old (l ∷ ls) text mid line answer new h t =
-    (h.0, h.1, h.2 ++ answer, h.3, EachAnswered-more settings h.1 ls h.2 mid line answer new h.4 t, ap (λ x. x ++ answer) h.5 ∙ append_assoc h.0 h.2 answer)
+EachAnswered-more g settings old (l ∷ ls) text mid line answer new h t =
+    (h.0, h.1, h.2 ++ answer, h.3, EachAnswered-more g settings h.1 ls h.2 mid line answer new h.4 t, ap (λ x. x ++ answer) h.5 ∙ append_assoc h.0 h.2 answer)
 
 -- the history of lines that are answered
 
 abbrev both_texts : List Text → Fate → List Reply → Text
 both_texts more fate replies = line_text fate replies ++ answer_text more (replies_behind fate replies)
 
-Answers-line : (settings : Settings) (old : Server) (line : Text) (more : List Text) (fate : Fate) (answer : Text) (mid : Server) (rest : Text) (new : Server)
-    → fate_of line ≡ fate → FateAnswered settings old fate answer mid → Answers settings mid more rest new → Answers settings old (line ∷ more) (answer ++ rest) new
-Answers-line settings old line more Ignored answer mid rest new e h a =
+Answers-line : {S : Type 0} (g : Ghosts S) (settings : Settings) (old : Server) (line : Text) (more : List Text) (fate : Fate) (answer : Text) (mid : Server) (rest : Text) (new : Server)
+    → fate_of line ≡ fate → FateAnswered g settings old fate answer mid → Answers g settings mid more rest new → Answers g settings old (line ∷ more) (answer ++ rest) new
+Answers-line g settings old line more Ignored answer mid rest new e h a =
     let P : Server → Type 0 = λ s. History settings s a.trace new in
     record {
       trace = a.trace;
       events = a.events ∙ ap (λ f. before_events f (events_of more)) (sym e);
-      history = subst P h.1 a.history;
       text = ap (λ t. t ++ rest) h.0 ∙ (a.text ∙ ap (λ f. both_texts more f (map (λ x. x.1) a.trace)) (sym e));
+      history = λ sound. subst P h.1 (a.history sound);
+      steady = a.steady;
     }
-Answers-line settings old line more TooLong answer mid rest new e h a =
+Answers-line g settings old line more TooLong answer mid rest new e h a =
     let P : Server → Type 0 = λ s. History settings s a.trace new in
     record {
       trace = a.trace;
       events = a.events ∙ ap (λ f. before_events f (events_of more)) (sym e);
-      history = subst P h.1 a.history;
       text = ap (λ t. t ++ rest) h.0 ∙ (ap (λ t. too_long_text ++ t) a.text ∙ ap (λ f. both_texts more f (map (λ x. x.1) a.trace)) (sym e));
+      history = λ sound. subst P h.1 (a.history sound);
+      steady = a.steady;
     }
-Answers-line settings old line more Unreadable answer mid rest new e h a =
+Answers-line g settings old line more Unreadable answer mid rest new e h a =
     let P : Server → Type 0 = λ s. History settings s a.trace new in
     record {
       trace = a.trace;
       events = a.events ∙ ap (λ f. before_events f (events_of more)) (sym e);
-      history = subst P h.1 a.history;
       text = ap (λ t. t ++ rest) h.0 ∙ (ap (λ t. unreadable_text ++ t) a.text ∙ ap (λ f. both_texts more f (map (λ x. x.1) a.trace)) (sym e));
+      history = λ sound. subst P h.1 (a.history sound);
+      steady = a.steady;
     }
-Answers-line settings old line more (Runs event) answer mid rest new e h a = record {
-  trace = (event, h.0) ∷ a.trace;
+Answers-line g settings old line more (Runs event) answer mid rest new e h a = record {
+  trace = (event, h.reply) ∷ a.trace;
   events = ap (λ es. event ∷ es) a.events ∙ ap (λ f. before_events f (events_of more)) (sym e);
-  history = (mid, h.1, a.history);
   text =
-      ap (λ t. t ++ rest) h.2
-      ∙ (ap (λ t. reply_text event.terminal h.0 ++ t) a.text ∙ ap (λ f. both_texts more f (h.0 ∷ map (λ x. x.1) a.trace)) (sym e));
+      ap (λ t. t ++ rest) h.text
+      ∙ (ap (λ t. reply_text event.terminal h.reply ++ t) a.text ∙ ap (λ f. both_texts more f (h.reply ∷ map (λ x. x.1) a.trace)) (sym e));
+  history = λ sound. (mid, h.step sound, a.history sound);
+  steady = λ steady. (h.steady steady, a.steady steady);
 }
 
-pub Answers-each : (settings : Settings) (old : Server) (lines : List Text) (text : Text) (new : Server) → EachAnswered settings old lines text new → Answers settings old lines text new
-Answers-each settings old [] text new h = record { trace = []; events = refl; history = h.1; text = h.0 }
-Answers-each settings old (line ∷ more) text new h =
-    let P : Text → Type 0 = λ t. Answers settings old (line ∷ more) t new in
-    subst P (sym h.5) (Answers-line settings old line more (fate_of line) h.0 h.1 h.2 new refl h.3.by_fate (Answers-each settings h.1 more h.2 new h.4))
+pub Answers-each : {S : Type 0} (g : Ghosts S) (settings : Settings) (old : Server) (lines : List Text) (text : Text) (new : Server) → EachAnswered g settings old lines text new → Answers g settings old lines text new
+Answers-each g settings old [] text new h = record { trace = []; events = refl; text = h.0; history = λ sound. h.1; steady = λ steady. tt }
+Answers-each g settings old (line ∷ more) text new h =
+    let P : Text → Type 0 = λ t. Answers g settings old (line ∷ more) t new in
+    subst P (sym h.5) (Answers-line g settings old line more (fate_of line) h.0 h.1 h.2 new refl h.3.by_fate (Answers-each g settings h.1 more h.2 new h.4))

@@ -1,13 +1,15 @@
 -- The answers of a history of normal steps.
-use Rattle.std.proofs.Common.{◌≡◌, ◌++◌, List, [], ◌∷◌, refl, sym, ap, ◌∙◌}
+use Rattle.std.proofs.Common.{◌≡◌, ◌++◌, List, [], ◌∷◌, true, false, refl, sym, ap, ◌∙◌}
 use Rattle.std.specs.Prelude.{map}
 use Rattle.std.specs.Str.Lines.{lines}
 use Rattle.mspec.specs.Act.{Text}
-use Rattle.mmeaning.specs.Step.{Settings, Server, Event, normal}
+use Rattle.mspec.specs.Code.{Lost, Store}
+use Rattle.mmeaning.specs.Step.{Settings, Server, Event, Faulted, Reply, normal, is_failure}
 use Rattle.mmeaning.specs.History.{replies, server_after, answered, opening}
-use Rattle.mmeaning.proofs.Histories.{normal_steps_are_history, history_is_normal}
+use Rattle.mmeaning.proofs.Histories.{normal_never_fails, normal_steps_are_history, history_is_normal}
+use Rattle.mstore.specs.declared.store.NodeStore.{Ghosts}
 use Rattle.mwire.specs.Wire.{Fate, Ignored, TooLong, Unreadable, Runs, fate_of, before_events, events_of, line_served, lines_served, reply_text, too_long_text, unreadable_text}
-use Rattle.mwire.specs.Answers.{line_text, replies_behind, answer_text}
+use Rattle.mwire.specs.Answers.{StoreSufficed, StoreSufficedForEach, line_text, replies_behind, answer_text}
 use Rattle.mwire.specs.WireLaws.{NormalAnswersAreServed, NormalStreamsAreServed, LinesHaveAnswers}
 
 line_is_served : (settings : Settings) (server : Server) (more : List Text) (fate : Fate)
@@ -24,16 +26,16 @@ lines_are_served : (settings : Settings) (server : Server) (all : List Text) →
 lines_are_served settings server [] = refl
 lines_are_served settings server (line ∷ more) = line_is_served settings server more (fate_of line) (λ s. lines_are_served settings s more)
 
-pub normal_answers_are_served : NormalAnswersAreServed
-normal_answers_are_served settings server after all bytes answers none =
-    let normal_history = history_is_normal settings server after answers.trace answers.history none in (
+pub normal_answers_are_served : {S : Type 0} {g : Ghosts S} → g.sound → NormalAnswersAreServed g
+normal_answers_are_served sound settings server after all bytes answers none =
+    let normal_history = history_is_normal settings server after answers.trace (answers.history sound) none in (
       answers.text
           ∙ (ap (answer_text all) (normal_history.0 ∙ ap (replies settings server) answers.events) ∙ lines_are_served settings server all),
       normal_history.1 ∙ ap (server_after settings server) answers.events,
     )
 
-pub normal_streams_are_served : NormalStreamsAreServed
-normal_streams_are_served settings globals after stream bytes answers none = (normal_answers_are_served settings (opening globals) after (lines stream) bytes answers none).0
+pub normal_streams_are_served : {S : Type 0} {g : Ghosts S} → g.sound → NormalStreamsAreServed g
+normal_streams_are_served sound settings globals after stream bytes answers none = (normal_answers_are_served sound settings (opening globals) after (lines stream) bytes answers none).0
 
 events_of_answered : (settings : Settings) (server : Server) (es : List Event) → map (λ e. e.0) (answered settings server es) ≡ es
 events_of_answered settings server [] = refl
@@ -43,10 +45,20 @@ replies_of_answered : (settings : Settings) (server : Server) (es : List Event) 
 replies_of_answered settings server [] = refl
 replies_of_answered settings server (e ∷ es) = ap (λ xs. (normal settings e server).0 ∷ xs) (replies_of_answered settings (normal settings e server).1 es)
 
-pub lines_have_answers : LinesHaveAnswers
+-- a reply that is no failure does not tell of the store's
+sufficed_by : (reply : Reply) → is_failure reply.ending ≡ false → StoreSufficed reply
+sufficed_by reply fine told = let lost : true ≡ false = sym (ap is_failure told) ∙ fine in cc
+
+store_sufficed : (settings : Settings) (server : Server) (es : List Event) → StoreSufficedForEach (answered settings server es)
+store_sufficed settings server [] = tt
+store_sufficed settings server (e ∷ es) =
+    (sufficed_by (normal settings e server).0 (normal_never_fails settings e server), store_sufficed settings (normal settings e server).1 es)
+
+pub lines_have_answers : {S : Type 0} {g : Ghosts S} → LinesHaveAnswers g
 lines_have_answers settings server all = record {
   trace = answered settings server (events_of all);
   events = events_of_answered settings server (events_of all);
-  history = normal_steps_are_history settings server (events_of all);
   text = sym (lines_are_served settings server all) ∙ ap (answer_text all) (sym (replies_of_answered settings server (events_of all)));
+  history = λ sound. normal_steps_are_history settings server (events_of all);
+  steady = λ steady. store_sufficed settings server (events_of all);
 }

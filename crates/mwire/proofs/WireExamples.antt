@@ -8,7 +8,7 @@ use Rattle.std.specs.Str.Lines.{lines}
 use Rattle.mspec.specs.Number.{round, round_size, nearest, rounding_unit, digits_before}
 use Rattle.mspec.specs.NumberText.{numeric_value, literal_size, size_text}
 use Rattle.mgrammar.specs.Grammar.{keyword_of, function_of}
-use Rattle.mgrammar.specs.Reading.{many, list_at, point_at, exponent_at, number_at, name_at, count_at, repeated_at, atom_at, pattern_at, truth_at, operator_at, bracket_with, choice_with, select_with, call_with, function_with, primary_with, operand_with, step_by, step_with, expr_with, readers_at, place_with, piece_with, target_with, destination_at, assignment_at, output_at, command_at, spaced_at, comment_at, line_at}
+use Rattle.mgrammar.specs.Reading.{many, list_at, point_at, exponent_at, number_at, name_at, count_at, repeated_at, atom_at, pattern_at, truth_at, operator_at, bracket_with, choice_with, select_with, call_with, function_with, primary_with, operand_with, step_by, step_with, expr_with, readers_at, place_with, piece_with, target_with, destination_at, assignment_at, output_at, args_at, command_at, spaced_at, comment_at, line_at}
 use Rattle.mmeaning.specs.Step.{Finished, Halted, Faulted}
 use Rattle.mmeaning.proofs.MeaningExamples.{alice}
 use Rattle.mspec.specs.Act.{Text}
@@ -62,20 +62,20 @@ unfolding digits
 reply_endings = (refl, refl)
 
 left_to_right : stream_served alice empty (fed (codes "1 WRITE 1+2*3" ∷ [])) ≡ fed (codes "1-9" ∷ codes "1." ∷ [])
-unfolding keyword_of function_of many list_at point_at exponent_at number_at name_at count_at repeated_at atom_at pattern_at truth_at operator_at bracket_with choice_with select_with call_with function_with primary_with operand_with step_by step_with expr_with readers_at place_with piece_with target_with destination_at assignment_at output_at command_at spaced_at comment_at line_at numeric_value literal_size round round_size nearest rounding_unit digits_before size_text digits
+unfolding keyword_of function_of many list_at point_at exponent_at number_at name_at count_at repeated_at atom_at pattern_at truth_at operator_at bracket_with choice_with select_with call_with function_with primary_with operand_with step_by step_with expr_with readers_at place_with piece_with target_with destination_at assignment_at output_at args_at command_at spaced_at comment_at line_at numeric_value literal_size round round_size nearest rounding_unit digits_before size_text digits
 left_to_right = simp (gets, local_values)
 
 -- what a line assigned stands for the next, and an unfinished last line is run
 sessions : stream_served alice empty (fed (codes "1 S A=\"x\"" ∷ []) ++ codes "1 W A") ≡ fed (codes "1." ∷ codes "1-x" ∷ codes "1." ∷ [])
-unfolding keyword_of function_of many list_at point_at exponent_at number_at name_at count_at repeated_at atom_at pattern_at truth_at operator_at bracket_with choice_with select_with call_with function_with primary_with operand_with step_by step_with expr_with readers_at place_with piece_with target_with destination_at assignment_at output_at command_at spaced_at comment_at line_at numeric_value literal_size round round_size nearest rounding_unit digits_before size_text digits
+unfolding keyword_of function_of many list_at point_at exponent_at number_at name_at count_at repeated_at atom_at pattern_at truth_at operator_at bracket_with choice_with select_with call_with function_with primary_with operand_with step_by step_with expr_with readers_at place_with piece_with target_with destination_at assignment_at output_at args_at command_at spaced_at comment_at line_at numeric_value literal_size round round_size nearest rounding_unit digits_before size_text digits
 sessions = simp (gets, local_values)
 
 -- a fault, and output with a line end
 faults : stream_served alice empty (fed (codes "1 W \"x\",!,B" ∷ [])) ≡ fed (codes "1:x" ∷ codes "1!M6" ∷ [])
-unfolding keyword_of function_of many list_at point_at exponent_at number_at name_at count_at repeated_at atom_at pattern_at truth_at operator_at bracket_with choice_with select_with call_with function_with primary_with operand_with step_by step_with expr_with readers_at place_with piece_with target_with destination_at assignment_at output_at command_at spaced_at comment_at line_at numeric_value literal_size round round_size nearest rounding_unit digits_before size_text digits
+unfolding keyword_of function_of many list_at point_at exponent_at number_at name_at count_at repeated_at atom_at pattern_at truth_at operator_at bracket_with choice_with select_with call_with function_with primary_with operand_with step_by step_with expr_with readers_at place_with piece_with target_with destination_at assignment_at output_at args_at command_at spaced_at comment_at line_at numeric_value literal_size round round_size nearest rounding_unit digits_before size_text digits
 faults = simp (gets, local_values)
 
 -- lines of each fate, and an account without the terminal
 stream : stream_served alice empty (fed ([] ∷ codes "1 W 1+" ∷ codes "hello" ∷ (codes "1 ;" ++ replicate 258 65) ∷ (codes "2 W 1" ++ 13 ∷ []) ∷ codes "1 W 2" ∷ [])) ≡ fed (codes "1!ZSYNTAX" ∷ codes "?!ZWIRE" ∷ codes "?!ZLINE" ∷ codes "2!ZTERM" ∷ codes "1-2" ∷ codes "1." ∷ [])
-unfolding keyword_of function_of many list_at point_at exponent_at number_at name_at count_at repeated_at atom_at pattern_at truth_at operator_at bracket_with choice_with select_with call_with function_with primary_with operand_with step_by step_with expr_with readers_at place_with piece_with target_with destination_at assignment_at output_at command_at spaced_at comment_at line_at numeric_value literal_size round round_size nearest rounding_unit digits_before size_text digits
+unfolding keyword_of function_of many list_at point_at exponent_at number_at name_at count_at repeated_at atom_at pattern_at truth_at operator_at bracket_with choice_with select_with call_with function_with primary_with operand_with step_by step_with expr_with readers_at place_with piece_with target_with destination_at assignment_at output_at args_at command_at spaced_at comment_at line_at numeric_value literal_size round round_size nearest rounding_unit digits_before size_text digits
 stream = simp (gets, local_values)

@@ -1,8 +1,11 @@
--- What answers the lines of a stream: the bytes, and a history of the lines' events.
-use Rattle.std.specs.Prelude.{◌≡◌, List, [], ◌∷◌, ◌++◌, map}
+-- What answers the lines of a stream: the bytes, and a history of the lines' events, over a store of some type. That the lines
+-- are steps is said where this type is sound; that no reply tells of the store's failure, where it is steady.
+use Rattle.std.specs.Prelude.{◌≡◌, ◌≢◌, List, [], ◌∷◌, ◌++◌, map}
 use Rattle.mspec.specs.Act.{Text}
-use Rattle.mmeaning.specs.Step.{Settings, Server, Event, Reply, Step}
+use Rattle.mspec.specs.Code.{Lost, Store}
+use Rattle.mmeaning.specs.Step.{Settings, Server, Event, Faulted, Reply, Step}
 use Rattle.mmeaning.specs.History.{History}
+use Rattle.mstore.specs.declared.store.NodeStore.{Ghosts}
 use Rattle.mwire.specs.Wire.{Fate, Ignored, TooLong, Unreadable, Runs, fate_of, reply_text, too_long_text, unreadable_text, events_of}
 
 -- the bytes that answer a line of this fate, whose reply is the first of these where it is run
@@ -26,35 +29,51 @@ abbrev pub answer_text : List Text → List Reply → Text
 answer_text [] replies = []
 answer_text (line ∷ more) replies = line_text (fate_of line) replies ++ answer_text more (replies_behind (fate_of line) replies)
 
+-- the reply does not say that the store failed
+abbrev pub StoreSufficed : Reply → Type 0
+StoreSufficed reply = reply.ending ≢ Faulted (Lost Store)
+
+abbrev pub StoreSufficedForEach : List (Event × Reply) → Type 0
+StoreSufficedForEach [] = Unit {0}
+StoreSufficedForEach (e ∷ es) = StoreSufficed e.1 × StoreSufficedForEach es
+
 -- the lines are answered by these bytes, which a history of their events gives
-pub record Answers (settings : Settings) (server : Server) (all : List Text) (bytes : Text) (after : Server) : Type 0 where
+pub record Answers {S : Type 0} (g : Ghosts S) (settings : Settings) (server : Server) (all : List Text) (bytes : Text) (after : Server) : Type 0 where
   pub trace : List (Event × Reply)
   pub events : map (λ e. e.0) trace ≡ events_of all
-  pub history : History settings server trace after
   pub text : bytes ≡ answer_text all (map (λ e. e.1) trace)
+  pub history : g.sound → History settings server trace after
+  pub steady : g.steady → StoreSufficedForEach trace
 
--- a line of this fate is answered by these bytes; where it is run, by a step
-abbrev pub FateAnswered : Settings → Server → Fate → Text → Server → Type 0
-FateAnswered settings server Ignored bytes after = (bytes ≡ []) × (after ≡ server)
-FateAnswered settings server TooLong bytes after = (bytes ≡ too_long_text) × (after ≡ server)
-FateAnswered settings server Unreadable bytes after = (bytes ≡ unreadable_text) × (after ≡ server)
-FateAnswered settings server (Runs e) bytes after = (reply : Reply) × Step settings e reply server after × (bytes ≡ reply_text e.terminal reply)
+-- a line that is run is answered by these bytes: those of a reply, by a step
+pub record RunAnswered {S : Type 0} (g : Ghosts S) (settings : Settings) (server : Server) (e : Event) (bytes : Text) (after : Server) : Type 0 where
+  pub reply : Reply
+  pub text : bytes ≡ reply_text e.terminal reply
+  pub step : g.sound → Step settings e reply server after
+  pub steady : g.steady → StoreSufficed reply
 
-pub record LineAnswered (settings : Settings) (server : Server) (line bytes : Text) (after : Server) : Type 0 where
-  pub by_fate : FateAnswered settings server (fate_of line) bytes after
+-- a line of this fate is answered by these bytes
+abbrev pub FateAnswered : {S : Type 0} → Ghosts S → Settings → Server → Fate → Text → Server → Type 0
+FateAnswered g settings server Ignored bytes after = (bytes ≡ []) × (after ≡ server)
+FateAnswered g settings server TooLong bytes after = (bytes ≡ too_long_text) × (after ≡ server)
+FateAnswered g settings server Unreadable bytes after = (bytes ≡ unreadable_text) × (after ≡ server)
+FateAnswered g settings server (Runs e) bytes after = RunAnswered g settings server e bytes after
+
+pub record LineAnswered {S : Type 0} (g : Ghosts S) (settings : Settings) (server : Server) (line bytes : Text) (after : Server) : Type 0 where
+  pub by_fate : FateAnswered g settings server (fate_of line) bytes after
 
 -- The lines are answered up to a last one. This one was answered too, but of its bytes only a front, perhaps the whole, went
 -- out; the others were not run.
-pub record Breaks (settings : Settings) (server : Server) (all : List Text) (bytes : Text) (after : Server) : Type 0 where
+pub record Breaks {S : Type 0} (g : Ghosts S) (settings : Settings) (server : Server) (all : List Text) (bytes : Text) (after : Server) : Type 0 where
   pub done : List Text
   pub last : Text
   pub others : List Text
   pub of_all : all ≡ done ++ last ∷ others
   pub whole : Text
   pub between : Server
-  pub answered : Answers settings server done whole between
+  pub answered : Answers g settings server done whole between
   pub answer : Text
-  pub last_answered : LineAnswered settings between last answer after
+  pub last_answered : LineAnswered g settings between last answer after
   pub part : Text
   pub unsent : Text
   pub of_answer : answer ≡ part ++ unsent

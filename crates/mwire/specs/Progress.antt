@@ -5,6 +5,7 @@ use Rattle.std.specs.Io.KnownBytes.{Appends, Consumes}
 use Rattle.std.specs.Str.Lines.{strip_carriage_return}
 use Rattle.mspec.specs.Act.{Text}
 use Rattle.mmeaning.specs.Step.{Settings, Server, Event}
+use Rattle.mstore.specs.declared.store.NodeStore.{Ghosts}
 use Rattle.mwire.specs.Wire.{finished_lines, events_of}
 use Rattle.mwire.specs.Answers.{LineAnswered, Breaks}
 
@@ -26,24 +27,24 @@ pub record IsCut (bytes : Text) (finished : List Text) (kept : Text) : Type 0 wh
   pub kept_is : kept ≡ take 262 rest
 
 -- the lines are answered, one after another
-abbrev pub EachAnswered : Settings → Server → List Text → Text → Server → Type 0
-EachAnswered settings server [] bytes after = (bytes ≡ []) × (after ≡ server)
-EachAnswered settings server (line ∷ more) bytes after = (answer : Text) × (between : Server) × (rest : Text)
-    × LineAnswered settings server line answer between × EachAnswered settings between more rest after × (bytes ≡ answer ++ rest)
+abbrev pub EachAnswered : {S : Type 0} → Ghosts S → Settings → Server → List Text → Text → Server → Type 0
+EachAnswered g settings server [] bytes after = (bytes ≡ []) × (after ≡ server)
+EachAnswered g settings server (line ∷ more) bytes after = (answer : Text) × (between : Server) × (rest : Text)
+    × LineAnswered g settings server line answer between × EachAnswered g settings between more rest after × (bytes ≡ answer ++ rest)
 
 -- the finished lines of the bytes so far are answered
-pub record Stands (settings : Settings) (first : Server) (bytes : Text) (now : Server) (kept sent : Text) : Type 0 where
+pub record Stands {S : Type 0} (g : Ghosts S) (settings : Settings) (first : Server) (bytes : Text) (now : Server) (kept sent : Text) : Type 0 where
   pub finished : List Text
   pub cut : IsCut bytes finished kept
-  pub answered : EachAnswered settings first (map strip_carriage_return finished) sent now
+  pub answered : EachAnswered g settings first (map strip_carriage_return finished) sent now
 
 -- what taking more bytes does, wherever the stream stands
-pub record Passes {E : Type 0} (settings : Settings) (old : Server) (kept bytes : Text) (new : Server) (kept' : Text) (before after : Option Text) (result : Result (Unit {0}) E) : Type 0 where
+pub record Passes {S E : Type 0} (g : Ghosts S) (settings : Settings) (old : Server) (kept bytes : Text) (new : Server) (kept' : Text) (before after : Option Text) (result : Result (Unit {0}) E) : Type 0 where
   pub sent : Text
   pub appended : Appends before after sent
-  pub outcome : (first : Server) (past text : Text) → Stands settings first past old kept text
-      → MatchResult result (λ _. Stands settings first (past ++ bytes) new kept' (text ++ sent))
-      (λ _. (more : Text) → Breaks settings first (finished_lines ((past ++ bytes) ++ more)) (text ++ sent) new)
+  pub outcome : (first : Server) (past text : Text) → Stands g settings first past old kept text
+      → MatchResult result (λ _. Stands g settings first (past ++ bytes) new kept' (text ++ sent))
+      (λ _. (more : Text) → Breaks g settings first (finished_lines ((past ++ bytes) ++ more)) (text ++ sent) new)
 
 -- of the bytes all but this rest were sent
 pub record SentUpTo (bytes rest : Text) (before after : Option Text) : Type 0 where
@@ -60,18 +61,18 @@ pub record FrontSent (bytes : Text) (before after : Option Text) (whole : Bool) 
   pub appended : Appends before after part
 
 -- a line was answered, and of its answer a front was sent
-pub record LineSent (settings : Settings) (old : Server) (line : Text) (new : Server) (before after : Option Text) (whole : Bool) : Type 0 where
+pub record LineSent {S : Type 0} (g : Ghosts S) (settings : Settings) (old : Server) (line : Text) (new : Server) (before after : Option Text) (whole : Bool) : Type 0 where
   pub answer : Text
-  pub answered : LineAnswered settings old line answer new
+  pub answered : LineAnswered g settings old line answer new
   pub sent : FrontSent answer before after whole
 
 -- so far these bytes were read and those sent, and the finished lines of those read are answered
-pub record HasServed (settings : Settings) (first now : Server) (left left' held held' : Option Text) (kept : Text) : Type 0 where
+pub record HasServed {S : Type 0} (g : Ghosts S) (settings : Settings) (first now : Server) (left left' held held' : Option Text) (kept : Text) : Type 0 where
   pub read : Text
   pub sent : Text
   pub consumed : Consumes left left' read
   pub appended : Appends held held' sent
-  pub stands : Stands settings first read now kept sent
+  pub stands : Stands g settings first read now kept sent
 
 -- the events are those of the finished lines of the bytes so far
 pub record Gathered (bytes kept : Text) (events : List Event) : Type 0 where

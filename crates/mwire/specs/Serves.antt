@@ -4,31 +4,32 @@ use Rattle.std.specs.Io.KnownBytes.{Appends, Consumes, IsAtEnd}
 use Rattle.std.specs.Str.Lines.{lines}
 use Rattle.mspec.specs.Act.{Text}
 use Rattle.mmeaning.specs.Step.{Settings, Server, Event}
+use Rattle.mstore.specs.declared.store.NodeStore.{Ghosts}
 use Rattle.mwire.specs.Wire.{finished_lines, events_of}
 use Rattle.mwire.specs.Answers.{Answers, Breaks}
 use Rattle.mwire.specs.declared.fault.WireFault.{WireFault}
 use Rattle.mwire.specs.declared.fault.WireFault.TheVariants.{Read, Write, Memory}
 
 -- the answer of a finished line is cut off, or, where the reader is at its end, that of any line
-abbrev pub BreaksOff : Settings → Server → Option Text → Text → Text → Server → Type 0
-BreaksOff settings server left read sent after =
-    Breaks settings server (finished_lines read) sent after ⊎ (IsAtEnd left × Breaks settings server (lines read) sent after)
+abbrev pub BreaksOff : {S : Type 0} → Ghosts S → Settings → Server → Option Text → Text → Text → Server → Type 0
+BreaksOff g settings server left read sent after =
+    Breaks g settings server (finished_lines read) sent after ⊎ (IsAtEnd left × Breaks g settings server (lines read) sent after)
 
 -- how far the bytes read are answered after a fault: after one of a read exactly the finished lines are, and after another
 -- one the answer of one line is cut off
-abbrev pub EndsBy : Settings → Server → Option Text → Text → Text → Server → WireFault → Type 0
-EndsBy settings server left read sent after Read = Answers settings server (finished_lines read) sent after
-EndsBy settings server left read sent after Write = BreaksOff settings server left read sent after
-EndsBy settings server left read sent after Memory = BreaksOff settings server left read sent after
+abbrev pub EndsBy : {S : Type 0} → Ghosts S → Settings → Server → Option Text → Text → Text → Server → WireFault → Type 0
+EndsBy g settings server left read sent after Read = Answers g settings server (finished_lines read) sent after
+EndsBy g settings server left read sent after Write = BreaksOff g settings server left read sent after
+EndsBy g settings server left read sent after Memory = BreaksOff g settings server left read sent after
 
 -- So many bytes were read, and so many were sent, where the reader tells what it has left and the writer what it holds. At
 -- the stream's end all its lines are answered.
-pub record Serves (settings : Settings) (server after : Server) (left left' held held' : Option Text) (result : Result (Unit {0}) WireFault) : Type 0 where
+pub record Serves {S : Type 0} (g : Ghosts S) (settings : Settings) (server after : Server) (left left' held held' : Option Text) (result : Result (Unit {0}) WireFault) : Type 0 where
   pub read : Text
   pub consumed : Consumes left left' read
   pub sent : Text
   pub appended : Appends held held' sent
-  pub outcome : MatchResult result (λ _. IsAtEnd left' × Answers settings server (lines read) sent after) (EndsBy settings server left' read sent after)
+  pub outcome : MatchResult result (λ _. IsAtEnd left' × Answers g settings server (lines read) sent after) (EndsBy g settings server left' read sent after)
 
 -- so many bytes were read, and at the stream's end the events are those of its lines
 pub record ReadsEvents {V : Type 0} (events : V → List Event) (left left' : Option Text) (result : Result V WireFault) : Type 0 where

@@ -1,8 +1,8 @@
 // How the end of a line is shown.
 ghost use Rattle.std.specs.Prelude.{◌≡◌, ◌++◌, OnOk};
 ghost use Rattle.mspec.specs.Code.{fault_text};
-ghost use Rattle.meval.specs.Codes.{fault_of};
-ghost use Rattle.mworld.specs.View.{ending_of};
+ghost use Rattle.moperator.specs.Codes.{fault_of};
+ghost use Rattle.mexec.specs.Runs.{ending_of};
 ghost use Rattle.mwire.specs.Wire.{ending_text};
 
 use mworld::{Code, Ended};

@@ -1,7 +1,6 @@
 // A stream, served: each line is run and answered before the next one.
 ghost use Rattle.std.specs.Prelude.{◌≡◌, ◌≢◌, ◌+◌, ◌≤◌, ℕ, List, [], ◌∷◌, ◌++◌, false, OnOk, IfOk, IfErr, is_ok, Ok, Err};
-ghost use Rattle.mworld.specs.Profile.{profile};
-ghost use Rattle.mworld.specs.View.{server_of, reply_of};
+ghost use Rattle.mworld.specs.View.{settings_of, server_of, reply_of};
 ghost use Rattle.mwire.specs.Wire.{reply_text};
 ghost use Rattle.mwire.specs.Watched.{inner_of, failed_of, calls_of, stalls_of, ReadBroke, WriteBroke};
 ghost use Rattle.mwire.specs.Serves.{Serves};
@@ -12,11 +11,13 @@ use crate::fault::WireFault;
 use crate::line_buffer::LineBuffer;
 use crate::reply::reply_bytes;
 use crate::watched::Watched;
+use mstore::NodeStore;
 use mworld::{Reply, World};
 use std::alloc::Global;
 use std::io::{Read, Write};
 
-/// Runs the lines of a stream, to its end, and writes their replies: each one whole before the next line is run.
+/// Runs the lines of a stream, to its end, and writes their replies: each one whole before the next line is run. Where the store is
+/// sound, each line is a step of the definitions, by the world's settings; over a steady store no line is answered ZSTORE.
 ///
 /// The faults:
 /// - `Read`: a read failed, or there were 1,000,000,000 reads. The lines that a line feed ended are run and answered, and no other.
@@ -28,17 +29,18 @@ use std::io::{Read, Write};
 /// run. There are never more than 1,000,000,000 reads.
 ///
 /// The condition: no call of the reader or the writer has failed yet, which `failed` tells.
-pub fn serve<R: Read, W: Write>(
+pub fn serve<S: NodeStore, R: Read, W: Write>(
     alloc: Global,
-    world: &mut World,
+    world: &mut World<S>,
     reader: &mut Watched<R>,
     writer: &mut Watched<W>,
 ) -> Result<(), WireFault>
     requires reader_works { failed_of reader.old ≡ false }
     requires writer_works { failed_of writer.old ≡ false }
-    ensures serves { Serves profile (server_of world.old) (server_of world.new)
+    ensures serves { Serves S.NodeStore (settings_of world.old) (server_of S.NodeStore world.old) (server_of S.NodeStore world.new)
         (R.remaining (inner_of reader.old)) (R.remaining (inner_of reader.new))
         (W.contents (inner_of writer.old)) (W.contents (inner_of writer.new)) result }
+    ensures settings { settings_of world.new ≡ settings_of world.old }
     ensures most { calls_of reader.new ≤ calls_of reader.old + 1000000000 }
 
     // A fault of a device is answered only where the device failed in this call.
@@ -65,15 +67,16 @@ pub fn serve<R: Read, W: Write>(
 }
 
 // Takes the next bytes of the stream.
-fn take_piece<W: Write>(
+fn take_piece<S: NodeStore, W: Write>(
     alloc: Global,
-    world: &mut World,
+    world: &mut World<S>,
     line: &mut LineBuffer,
     piece: &[u8],
     writer: &mut Watched<W>,
 ) -> Result<(), WireFault>
-    ensures passes { Passes profile (server_of world.old) line.old piece.now (server_of world.new) line.new
+    ensures passes { Passes S.NodeStore (settings_of world.old) (server_of S.NodeStore world.old) line.old piece.now (server_of S.NodeStore world.new) line.new
         (W.contents (inner_of writer.old)) (W.contents (inner_of writer.new)) result }
+    ensures settings { settings_of world.new ≡ settings_of world.old }
     ensures fault { IfErr result (λ e. (e ≢ WireFault.Read) × (e ≡ WireFault.Write → WriteBroke writer.old writer.new)) }
     ensures works { result ≢ Err WireFault.Write → failed_of writer.new ≡ failed_of writer.old }
     ensures no_stall { result ≢ Err WireFault.Write → stalls_of writer.new ≡ stalls_of writer.old }
@@ -85,15 +88,16 @@ fn take_piece<W: Write>(
 }
 
 // Takes the next byte of the stream.
-fn take_byte<W: Write>(
+fn take_byte<S: NodeStore, W: Write>(
     alloc: Global,
-    world: &mut World,
+    world: &mut World<S>,
     line: &mut LineBuffer,
     byte: u8,
     writer: &mut Watched<W>,
 ) -> Result<(), WireFault>
-    ensures passes { Passes profile (server_of world.old) line.old (byte ∷ []) (server_of world.new) line.new
+    ensures passes { Passes S.NodeStore (settings_of world.old) (server_of S.NodeStore world.old) line.old (byte ∷ []) (server_of S.NodeStore world.new) line.new
         (W.contents (inner_of writer.old)) (W.contents (inner_of writer.new)) result }
+    ensures settings { settings_of world.new ≡ settings_of world.old }
     ensures fault { IfErr result (λ e. (e ≢ WireFault.Read) × (e ≡ WireFault.Write → WriteBroke writer.old writer.new)) }
     ensures works { result ≢ Err WireFault.Write → failed_of writer.new ≡ failed_of writer.old }
     ensures no_stall { result ≢ Err WireFault.Write → stalls_of writer.new ≡ stalls_of writer.old }
@@ -108,14 +112,15 @@ fn take_byte<W: Write>(
 }
 
 // Runs a line and writes its answer.
-fn answer_line<W: Write>(
+fn answer_line<S: NodeStore, W: Write>(
     alloc: Global,
-    world: &mut World,
+    world: &mut World<S>,
     line: &[u8],
     writer: &mut Watched<W>,
 ) -> Result<(), WireFault>
-    ensures sent { LineSent profile (server_of world.old) line.now (server_of world.new)
+    ensures sent { LineSent S.NodeStore (settings_of world.old) (server_of S.NodeStore world.old) line.now (server_of S.NodeStore world.new)
         (W.contents (inner_of writer.old)) (W.contents (inner_of writer.new)) (is_ok result) }
+    ensures settings { settings_of world.new ≡ settings_of world.old }
     ensures fault { IfErr result (λ e. (e ≢ WireFault.Read) × (e ≡ WireFault.Write → WriteBroke writer.old writer.new)) }
     ensures works { result ≢ Err WireFault.Write → failed_of writer.new ≡ failed_of writer.old }
     ensures no_stall { result ≢ Err WireFault.Write → stalls_of writer.new ≡ stalls_of writer.old }

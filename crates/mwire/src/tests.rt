@@ -2,5 +2,6 @@
 mod devices;
 mod events;
 mod faults;
+mod one_account;
 mod replies;
 mod worlds;

@@ -1,7 +1,7 @@
 // Readers and writers that fail.
 use super::devices::{Pieces, Sink};
+use super::one_account::new_world;
 use crate::{Watched, WireFault, serve};
-use mworld::World;
 use std::alloc::Global;
 use std::io;
 use std::io::Write;
@@ -52,7 +52,7 @@ fn each_read_failing(rt: HostRuntime) -> Result<(), Fail> {
     for size in [1, 2, 7] {
         let reads = (stream.len() / size).saturating_add(1);
         for failing in 1..=reads {
-            let mut world = World::new(rt.alloc());
+            let mut world = new_world(rt.alloc())?;
             let mut sink = Sink::new(rt.alloc(), 4096);
             let mut reader = Watched::new(Pieces::failing_at(&stream, size, failing));
             let mut writer = Watched::new(&mut sink);
@@ -74,7 +74,7 @@ fn each_read_failing(rt: HostRuntime) -> Result<(), Fail> {
 
 #[test]
 fn a_reply_is_written_before_the_next_read(rt: HostRuntime) -> Result<(), Fail> {
-    let mut world = World::new(rt.alloc());
+    let mut world = new_world(rt.alloc())?;
     let mut sink = Sink::new(rt.alloc(), 4096);
     let mut reader = Watched::new(Pieces::failing_at(b"2 W 1\n2 W 1\n", 6, 2));
     let result = serve(
@@ -93,7 +93,7 @@ fn writes_of_little(rt: HostRuntime) -> Result<(), Fail> {
     let stream = stream(rt.alloc())?;
     let answers = all_answers(rt.alloc())?;
     for size in [1, 3, 4096] {
-        let mut world = World::new(rt.alloc());
+        let mut world = new_world(rt.alloc())?;
         let mut sink = Sink::new(rt.alloc(), size);
         let mut reader = Watched::new(Pieces::of(&stream, 4096));
         serve(
@@ -112,7 +112,7 @@ fn each_write_failing(rt: HostRuntime) -> Result<(), Fail> {
     let stream = stream(rt.alloc())?;
     let answers = all_answers(rt.alloc())?;
     for failing in 1..=answers.len() {
-        let mut world = World::new(rt.alloc());
+        let mut world = new_world(rt.alloc())?;
         let mut sink = Sink::new(rt.alloc(), 1);
         sink.failing = failing;
         let mut reader = Watched::new(Pieces::of(&stream, 4096));
@@ -131,7 +131,7 @@ fn a_write_of_nothing(rt: HostRuntime) -> Result<(), Fail> {
     let stream = stream(rt.alloc())?;
     let answers = all_answers(rt.alloc())?;
     for stalling in 1..=answers.len() {
-        let mut world = World::new(rt.alloc());
+        let mut world = new_world(rt.alloc())?;
         let mut sink = Sink::new(rt.alloc(), 1);
         sink.stalling = stalling;
         let mut reader = Watched::new(Pieces::of(&stream, 4096));

@@ -1,6 +1,8 @@
 // What a world has when a device failed while its lines were served.
 use super::devices::{Pieces, Sink};
+use super::one_account::new_world;
 use crate::{Watched, WireFault, serve};
+use mstore::Plain;
 use mworld::{Ended, World};
 use std::alloc::Global;
 use std::test::Fail;
@@ -8,7 +10,7 @@ use std::test::Fail;
 const COUNTED: &str = "1 S A=1 W A\n1 S A=2 W A\n1 S A=3 W A\n";
 
 // What the world has of A.
-fn value_of_a(alloc: Global, world: &mut World) -> Result<Vec<u8>, Fail> {
+fn value_of_a(alloc: Global, world: &mut World<Plain>) -> Result<Vec<u8>, Fail> {
     let reply = world.line(1, b"W A");
     if reply.ending != Ended::Done {
         return Ok(Vec::new(alloc));
@@ -24,7 +26,7 @@ fn a_write_that_fails_ends_the_run(rt: HostRuntime) -> Result<(), Fail> {
         (2, "1-1\n1.\n", "2"),
         (3, "1-1\n1.\n1-2\n1.\n", "3"),
     ] {
-        let mut world = World::new(rt.alloc());
+        let mut world = new_world(rt.alloc())?;
         let mut sink = Sink::new(rt.alloc(), 4096);
         sink.failing = failing;
         let mut reader = Watched::new(Pieces::of(COUNTED.as_bytes(), 4096));
@@ -50,7 +52,7 @@ fn a_read_that_fails_ends_the_run(rt: HostRuntime) -> Result<(), Fail> {
         (24, "1-1\n1.\n", "1"),
         (25, "1-1\n1.\n1-2\n1.\n", "2"),
     ] {
-        let mut world = World::new(rt.alloc());
+        let mut world = new_world(rt.alloc())?;
         let mut sink = Sink::new(rt.alloc(), 4096);
         let mut reader = Watched::new(Pieces::failing_at(COUNTED.as_bytes(), 1, failing));
         let result = serve(

@@ -1,7 +1,6 @@
 use Rattle.std.proofs.Common.{refl, sym, ◌∙◌, ap, []}
-use Rattle.mworld.specs.View.{reply_of}
 use Rattle.mwire.specs.Fates.{fate_in}
-use Rattle.mwire.proofs.LineAnswers.{LineAnswered-at}
+use Rattle.mwire.proofs.LineAnswers.{LineAnswered-at, replied}
 use Rattle.mwire.proofs.Results.{not_ok}
 use Rattle.mwire.proofs.Sends.{FrontSent-none}
 use Rattle.mwire.proofs.serving.answer_line.Goals as goal
@@ -11,24 +10,24 @@ returns-in_err-bytes-in-Runs-clause-sent g c =
     let is = sym c.fate_of.ensures ∙ ap fate_in c.in-Runs.is in
     record {
       answer = _;
-      answered = LineAnswered-at _ _ _ _ _ _ is (reply_of c.line-reply.result, c.line-reply.ensures, refl);
+      answered = LineAnswered-at _ _ _ _ _ _ _ is (replied _ c.line-reply.result refl c.line-reply.ensures.step c.line-reply.ensures.steady);
       sent = FrontSent-none _ _ _ (not_ok _ c.from_residual.ensures.0);
     }
 
 pub returns-in-Ignored-clause-sent : goal.returns-in-Ignored-clause-sent
 returns-in-Ignored-clause-sent g c =
     let is = sym c.fate_of.ensures ∙ ap fate_in c.in-Ignored.is in
-    record { answer = []; answered = LineAnswered-at _ _ _ _ _ _ is (refl, refl); sent = FrontSent-none _ _ _ (λ _. refl) }
+    record { answer = []; answered = LineAnswered-at _ _ _ _ _ _ _ is (refl, refl); sent = FrontSent-none _ _ _ (λ _. refl) }
 
 pub returns-in-TooLong-clause-sent : goal.returns-in-TooLong-clause-sent
 returns-in-TooLong-clause-sent g c =
     let is = sym c.fate_of.ensures ∙ ap fate_in c.in-TooLong.is in
-    record { answer = _; answered = LineAnswered-at _ _ _ _ _ _ is (refl, refl); sent = c.write_whole.ensures.sent }
+    record { answer = _; answered = LineAnswered-at _ _ _ _ _ _ _ is (refl, refl); sent = c.write_whole.ensures.sent }
 
 pub returns-in-Unreadable-clause-sent : goal.returns-in-Unreadable-clause-sent
 returns-in-Unreadable-clause-sent g c =
     let is = sym c.fate_of.ensures ∙ ap fate_in c.in-Unreadable.is in
-    record { answer = _; answered = LineAnswered-at _ _ _ _ _ _ is (refl, refl); sent = c.write_whole-in-Unreadable.ensures.sent }
+    record { answer = _; answered = LineAnswered-at _ _ _ _ _ _ _ is (refl, refl); sent = c.write_whole-in-Unreadable.ensures.sent }
 
 pub returns-in_ok-bytes-in-Runs-clause-sent : goal.returns-in_ok-bytes-in-Runs-clause-sent
 returns-in_ok-bytes-in-Runs-clause-sent g c =
@@ -36,6 +35,6 @@ returns-in_ok-bytes-in-Runs-clause-sent g c =
     let same = c.deref.ensures.value ∙ c.in_ok-bytes-in-Runs.ensures.ok in
     record {
       answer = c.deref.result.now;
-      answered = LineAnswered-at _ _ _ _ _ _ is (reply_of c.line-reply.result, c.line-reply.ensures, same);
+      answered = LineAnswered-at _ _ _ _ _ _ _ is (replied _ c.line-reply.result same c.line-reply.ensures.step c.line-reply.ensures.steady);
       sent = c.write_whole-in-Runs.ensures.sent;
     }

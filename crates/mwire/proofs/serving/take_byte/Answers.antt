@@ -3,8 +3,8 @@ use Rattle.mwire.proofs.Progresses.{Passes-byte, Passes-line}
 use Rattle.mwire.proofs.serving.take_byte.Goals as goal
 
 pub returns-then-byte-ne10-clause-passes : goal.returns-then-byte-ne10-clause-passes
-returns-then-byte-ne10-clause-passes g c = Passes-byte _ _ _ _ _ _ _ (search rules) c.push.ensures
+returns-then-byte-ne10-clause-passes g c = Passes-byte _ _ _ _ _ _ _ _ (search rules) c.push.ensures
 
 pub returns-clause-passes : goal.returns-clause-passes
 returns-clause-passes g c =
-    Passes-line _ _ _ _ _ _ _ _ _ _ (search rules) c.clear.ensures c.finished.ensures c.answer_line-result.ensures.sent
+    Passes-line _ _ _ _ _ _ _ _ _ _ _ (search rules) c.clear.ensures c.finished.ensures c.answer_line-result.ensures.sent

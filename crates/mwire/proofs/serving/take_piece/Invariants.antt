@@ -1,6 +1,5 @@
 use Rattle.std.proofs.Common.{◌≡◌, take, Ok}
-use Rattle.mworld.specs.Profile.{profile}
-use Rattle.mworld.specs.View.{server_of}
+use Rattle.mworld.specs.View.{settings_of, server_of}
 use Rattle.mwire.specs.Watched.{inner_of, failed_of, stalls_of}
 use Rattle.mwire.specs.Progress.{Passes}
 use Rattle.mwire.specs.declared.fault.WireFault.{WireFault}
@@ -8,8 +7,9 @@ use Rattle.mwire.proofs.serving.take_piece.Given as goal
 
 abbrev pub invariant-loop-byte : goal.invariant-loop-byte
 invariant-loop-byte g l = record {
-  passes : Passes {E = WireFault} profile (server_of l.initial.world) l.initial.line (take l.byte-index l.piece) (server_of l.world) l.line
+  passes : Passes {E = WireFault} g.S.NodeStore (settings_of l.initial.world) (server_of g.S.NodeStore l.initial.world) l.initial.line (take l.byte-index l.piece) (server_of g.S.NodeStore l.world) l.line
       (g.W.Write.contents (inner_of l.initial.writer)) (g.W.Write.contents (inner_of l.writer)) (Ok tt);
+  settings : settings_of l.world ≡ settings_of l.initial.world;
   works : failed_of l.writer ≡ failed_of l.initial.writer;
   no_stall : stalls_of l.writer ≡ stalls_of l.initial.writer;
 }

@@ -2,4 +2,4 @@ use Rattle.mwire.proofs.ServedLines.{normal_answers_are_served}
 use Rattle.mwire.proofs.wire_laws.normal_answers_are_served.Goals as goal
 
 pub returns : goal.returns
-returns c = normal_answers_are_served
+returns g c = normal_answers_are_served

@@ -2,4 +2,4 @@ use Rattle.mwire.proofs.ServedLines.{normal_streams_are_served}
 use Rattle.mwire.proofs.wire_laws.normal_streams_are_served.Goals as goal
 
 pub returns : goal.returns
-returns c = normal_streams_are_served
+returns g c = normal_streams_are_served

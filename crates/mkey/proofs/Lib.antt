@@ -7,3 +7,4 @@ pub mod NameTests
 pub mod SubscriptFronts
 pub mod SubscriptLists
 pub mod SubsKeys
+pub mod KeyWalks

@@ -23,7 +23,6 @@ pub(crate) struct Holding {
 /// The locks of the terminals: how often each holds a name. Contracts see it as the locks of the definitions.
 #[derive(Drop)]
 pub struct Locks {
-    alloc: Global,
     // a name has one holder, since it conflicts with itself
     holdings: BTreeMap<LockName, Holding>,
 }
@@ -50,7 +49,6 @@ impl Locks {
         ensures { result ≡ empty }
     {
         Locks {
-            alloc,
             holdings: BTreeMap::new(alloc),
         }
     }
@@ -94,7 +92,7 @@ impl Locks {
     fn has_conflict(&self, terminal: u32, name: &LockName) -> Result<bool, AllocError>
         ensures { IfOk result (λ conflict. conflict ≡ has_conflict self.now (lock terminal name.now)) }
     {
-        conflicts(self.alloc, &self.holdings, terminal, name)
+        conflicts(&self.holdings, terminal, name)
     }
 
     // One count more of each name, of which no other terminal holds one; false where a count would pass the most.

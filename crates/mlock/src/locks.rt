@@ -1,5 +1,5 @@
 // The locks of the terminals.
-ghost use Rattle.std.specs.Prelude.{◌≡◌, true, false, not, nat_eq, nat_lt, All, IfOk, OnErr, Some, None, if◌then◌else◌};
+ghost use Rattle.std.specs.Prelude.{◌≡◌, ◌≤◌, true, false, not, nat_eq, nat_lt, All, IfOk, OnErr, Some, None, if◌then◌else◌};
 ghost use Rattle.std.specs.FinMap.{empty};
 ghost use Rattle.mlock.specs.Holdings.{AreCounts, IsFree};
 ghost use Rattle.mspec.specs.LockConflict.{held as lock, count, most_counts, one_more, has_conflict, taken, counted, given_back, released};
@@ -55,7 +55,8 @@ impl Locks {
 
     /// How often the terminal holds the name: 0 to 1,000,000 times. Takes no memory.
     pub fn held(&self, terminal: u32, name: &LockName) -> u32
-        ensures { result ≡ count self.now (lock terminal name.now) }
+        ensures count { result ≡ count self.now (lock terminal name.now) }
+        ensures few { result ≤ most_counts }
     {
         match self.holdings.get(name) {
             Some(holding) => {

@@ -51,6 +51,7 @@ def main():
     local_variables()
     stores()
     grants()
+    locks()
     lines()
 
 
@@ -142,6 +143,16 @@ def grants():
     print(f"  {'may':<12} {summed(may)}")
     print(f"  {'reaches':<12} {PASSES * sum(reaches(i) for i in range(100))}")
     print(f"  {'read':<12} {PASSES * 10 * len(document)}")
+
+
+def locks():
+    for what in "other globals, no subscript", "other globals, three subscripts", "the same global, three subscripts":
+        print(f"beside locks of {what}")
+        print(f"  {'take':<12} {PASSES * ROUNDS}")
+        print(f"  {'give_back':<12} {PASSES * ROUNDS}")
+    for what in "above locks, no subscript", "below a lock, three subscripts":
+        print(what)
+        print(f"  {'take':<12} 0")
 
 
 def lines():

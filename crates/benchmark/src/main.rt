@@ -1,4 +1,4 @@
-//! Times the operations of numbers, texts, keys, locals, stores and settings, and lines of M. With a count, as `benchmark 2000000`, each runs so
+//! Times the operations of numbers, texts, keys, locals, stores, settings and locks, and lines of M. With a count, as `benchmark 2000000`, each runs so
 //! often in each of five passes, and the time of the fastest pass is printed; without one, a thousand times, and only checksums
 //! are printed, which are the same on every machine. A second word names one page, as `benchmark 2000000 stores`.
 #![tactic(auto)]
@@ -7,6 +7,7 @@ mod grants;
 mod keys;
 mod lines;
 mod locals;
+mod locks;
 mod measure;
 mod numbers;
 mod stores;
@@ -40,6 +41,7 @@ fn all(rt: &HostRuntime, plan: Plan) -> anyhow::Result<()> {
     locals::locals(rt, plan)?;
     stores::stores(rt, plan)?;
     grants::grants(rt, plan)?;
+    locks::locks(rt, plan)?;
     lines::lines(rt, plan)
 }
 
@@ -51,6 +53,7 @@ fn one(rt: &HostRuntime, plan: Plan, page: &str) -> anyhow::Result<()> {
         "locals" => locals::locals(rt, plan),
         "stores" => stores::stores(rt, plan),
         "grants" => grants::grants(rt, plan),
+        "locks" => locks::locks(rt, plan),
         "lines" => lines::lines(rt, plan),
         _ => anyhow::bail!("no such page"),
     }

@@ -19,6 +19,3 @@ pub use account_id::AccountId;
 pub use fault::SettingsFault;
 pub use mode::Mode;
 pub use settings::Settings;
-
-#[cfg(test)]
-mod tests;

@@ -6,3 +6,4 @@ pub mod TextFronts
 pub mod SubscriptFronts
 pub mod SubscriptLists
 pub mod SubsKeys
+pub mod KeyWalks

@@ -143,3 +143,18 @@ nothing_begins s more sub e = by_value (canonical_value 18 s) e
     by_value : (o : Option ℤ) → [] ≡ subscript_by s o ++ more → ⊥
     by_value (Some u) e = absurd (cc)
     by_value None e = absurd (cc)
+
+-- ---- how many bytes a subscript has
+
+pub number_long : (s : Text) (rest more : List ℕ) → 1 ∷ rest ≡ subscript_bytes 18 s ++ more → length (subscript_bytes 18 s) ≡ 17
+unfolding number_bytes
+number_long s rest more e =
+    let at = numeric s rest more e in
+    ap (λ o. length (subscript_by s o)) at.canonical ∙ ap suc (length-big_endian 16 (raised at.value))
+
+pub letters_long : (b : ℕ) (s : Text) (rest more : List ℕ) → b ≢ 1 → b ∷ rest ≡ subscript_bytes 18 s ++ more → (rest ≡ text_bytes s ++ more) × (length (subscript_bytes 18 s) ≡ 1 + length (text_bytes s))
+letters_long b s rest more other e = by_value (canonical_value 18 s) refl e
+  where
+    by_value : (o : Option ℤ) → canonical_value 18 s ≡ o → b ∷ rest ≡ subscript_by s o ++ more → (rest ≡ text_bytes s ++ more) × (length (subscript_bytes 18 s) ≡ 1 + length (text_bytes s))
+    by_value (Some u) is e = absurd (other (cc))
+    by_value None is e = (cc, ap (λ o. length (subscript_by s o)) is ∙ omega arith)

@@ -1,4 +1,5 @@
 pub mod Room
 pub mod Key
 pub mod Front
+pub mod Parent
 pub mod SubsKey

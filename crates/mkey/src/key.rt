@@ -1,8 +1,9 @@
 // Keys of nodes.
-ghost use Rattle.std.specs.Prelude.{◌≡◌, ◌↔◌, ◌<◌, [], ◌∷◌, ◌++◌, IfOk, Err, All, Some, refl};
+ghost use Rattle.std.specs.Prelude.{◌≡◌, ◌↔◌, ◌<◌, [], ◌∷◌, ◌++◌, IfOk, Err, All, Some, MatchOption, refl};
 ghost use Rattle.std.specs.Cmp.{partial_equiv_from_equiv, partial_order_from_total, eq_by_cmp_equiv};
 ghost use Rattle.std.specs.Ordering.{eq_by_cmp};
 ghost use Rattle.mkey.specs.Key.{IsKey, IsKey-prop, BoundsKeysOf};
+ghost use Rattle.mkey.specs.Parent.{IsParent};
 ghost use Rattle.mspec.specs.Names.{IsName};
 ghost use Rattle.mspec.specs.KeyBytes.{key_bytes, children_start, subtree_end, IsAccountName, AreSubscripts, IsStored};
 ghost use Rattle.mspec.specs.KeyLaws.{BeginsWith, IsWithin};
@@ -10,6 +11,7 @@ ghost use Rattle.mspec.specs.NodeOrder.{IsAncestor, node_cmp};
 ghost use Rattle.mspec.specs.Number.{significant_digits};
 ghost use Rattle.mspec.proofs.NodeOrders.{node_cmp_total};
 
+use crate::ancestors::last_subscript;
 use crate::encoding::{push_subscripts, push_text, room};
 use crate::fault::KeyFault;
 use crate::order::compare;
@@ -79,6 +81,17 @@ impl NodeKey {
     {
         let bytes = self.bytes.clone()?;
         Ok(NodeKey { bytes })
+    }
+
+    /// The key of the node with one subscript less, in this one's memory, or None where the node has no subscript. Takes no
+    /// memory.
+    pub fn into_parent(self) -> Option<NodeKey>
+        ensures { MatchOption result (self.subscripts ≡ []) (λ above. IsParent above self) }
+    {
+        let mut bytes = self.bytes;
+        let start = last_subscript(&bytes)?;
+        bytes.truncate(start);
+        Some(NodeKey { bytes })
     }
 
     /// The bytes of the key. They stand in the order of nodes, and begin with the bytes of another key exactly where this

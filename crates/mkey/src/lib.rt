@@ -5,6 +5,7 @@
 //! `KeyBytes` (the bytes); their laws are `key_laws` there.
 #![tactic(auto)]
 
+mod ancestors;
 mod decoding;
 mod encoding;
 mod fault;

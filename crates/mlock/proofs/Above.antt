@@ -1,5 +1,5 @@
 -- Names above a name, and the conflicts with those that are held.
-use Rattle.std.proofs.Common.{◌≡◌, ◌<◌, ◌+◌, ℕ, Bool, true, false, cond, not, nat_eq, ◌&&◌, ◌||◌, List, [], ◌∷◌, ◌++◌, length, take, drop, map, Option, Some, None, ◌⊎◌, inl, inr, refl, sym, ap, ◌∙◌, arith, append-nil, length-append}
+use Rattle.std.proofs.Common.{◌≡◌, ◌<◌, ◌+◌, ℕ, Bool, true, false, cond, not, nat_eq, ◌&&◌, ◌||◌, List, [], ◌∷◌, ◌++◌, length, take, drop, map, Option, Some, None, ◌⊎◌, inl, inr, refl, sym, ap, ◌∙◌, arith, append-nil, append_assoc, length-append}
 use Rattle.std.specs.Prelude.{is_some}
 use Rattle.std.specs.BTreeMap as tree
 use Rattle.std.specs.BTreeMap.{BTreeMap, IsOrdered}
@@ -9,17 +9,14 @@ use Rattle.std.specs.Ordering.{eq_by_cmp}
 use Rattle.std.proofs.lemmas.Bool.{cases_eq}
 use Rattle.std.proofs.Math.Seq.{take-append_seam}
 use Rattle.std.proofs.lemmas.List.{take-append-drop}
-use Rattle.mspec.specs.KeyBytes.{key_bytes, IsStored}
 use Rattle.mspec.specs.LockConflict.{LockName, Held, held, lock_name_cmp, held_cmp, is_within, is_conflict, has_conflict}
-use Rattle.mspec.specs.Node.{Text, Node}
-use Rattle.mspec.specs.Number.{significant_digits}
+use Rattle.mspec.specs.Node.{Text}
 use Rattle.mspec.specs.Globals.{is_node_within}
 use mathlib.Core.Bool.{beq}
 use Rattle.mspec.proofs.KeyRanges.{within}
-use Rattle.mkey.specs.Key.{one_node}
 use Rattle.mlock.specs.declared.locks.Holding.{Holding}
 use Rattle.mlock.specs.Holdings.{locks_of, own_count}
-use Rattle.mlock.specs.Above.{name_above, is_other}
+use Rattle.mlock.specs.Above.{IsAbove, name_above, is_other}
 use Rattle.mlock.proofs.Names.{of_within, within_of, both_true}
 use Rattle.mlock.proofs.Views.{got, own_is, no}
 use Rattle.mlock.proofs.Steps.{same_lock, tied_itself}
@@ -27,19 +24,24 @@ use Rattle.mlock.proofs.Conflicts.{parts, beq_same, same_beq, both, any_lock, en
 
 -- ---- the name that is looked up
 
-pub above_is : (n : LockName) (flag : Bool) (node : Node) → record { global = flag; node = node } ≡ n → (read : Node) (bytes : List ℕ) → IsStored read → key_bytes significant_digits read ≡ bytes
-    → bytes ≡ key_bytes significant_digits node → IsStored node → (subs : List Text) → subs ≡ read.subscripts → (key : Node) (i : ℕ)
-    → key ≡ record { account = read.account; name = read.name; subscripts = take i subs } → record { global = flag; node = key } ≡ name_above i n
-above_is n flag node view read bytes stored e f stored' subs same key i is =
-    let one : read ≡ node = one_node read node bytes stored stored' e (sym f) in
-    ap (λ k. record { global = flag; node = k }) (is ∙ ap (λ s. record { account = read.account; name = read.name; subscripts = take i s }) same ∙ ap (λ m. record { account = m.account; name = m.name; subscripts = take i m.subscripts }) one)
-    ∙ ap (name_above i) view
+its_parts : (a n : LockName) (j : ℕ) → a.global ≡ n.global → a.node.account ≡ n.node.account → a.node.name ≡ n.node.name → a.node.subscripts ≡ take j n.node.subscripts → a ≡ name_above j n
+its_parts a n j kind account name subs = λ i. record { global = kind i; node = record { account = account i; name = name i; subscripts = subs i } }
 
-pub as_long : (n : LockName) (flag : Bool) (node : Node) → record { global = flag; node = node } ≡ n → (read : Node) (bytes : List ℕ) → IsStored read → key_bytes significant_digits read ≡ bytes
-    → bytes ≡ key_bytes significant_digits node → IsStored node → (subs : List Text) → subs ≡ read.subscripts → length subs ≡ length n.node.subscripts
-as_long n flag node view read bytes stored e f stored' subs same =
-    let one : read ≡ node = one_node read node bytes stored stored' e (sym f) in
-    ap length same ∙ ap (λ m. length m.subscripts) one ∙ ap (λ m. length m.node.subscripts) view
+-- the name next above one of those above
+pub above_next : (n below above : LockName) → below ≡ name_above (length below.node.subscripts) n → IsAbove above below
+    → (above ≡ name_above (length above.node.subscripts) n) × (length below.node.subscripts ≡ length above.node.subscripts + 1)
+above_next n below above is next =
+    let longer = next.node.longer in
+    let front : below.node.subscripts ≡ take (length below.node.subscripts) n.node.subscripts = ap (λ m. m.node.subscripts) is in
+    let whole : n.node.subscripts ≡ above.node.subscripts ++ (longer.0 ∷ drop (length below.node.subscripts) n.node.subscripts) =
+    sym (take-append-drop (length below.node.subscripts) n.node.subscripts)
+    ∙ ap (λ s. s ++ drop (length below.node.subscripts) n.node.subscripts) (sym front ∙ longer.1)
+    ∙ append_assoc above.node.subscripts (longer.0 ∷ []) (drop (length below.node.subscripts) n.node.subscripts) in
+    let subs : above.node.subscripts ≡ take (length above.node.subscripts) n.node.subscripts =
+    sym (take-append_seam above.node.subscripts (longer.0 ∷ drop (length below.node.subscripts) n.node.subscripts)) ∙ ap (take (length above.node.subscripts)) (sym whole) in (
+      its_parts above n (length above.node.subscripts) (next.kind ∙ ap (λ m. m.global) is) (next.node.account ∙ ap (λ m. m.node.account) is) (next.node.name ∙ ap (λ m. m.node.name) is) subs,
+      ap length longer.1 ∙ length-append above.node.subscripts (longer.0 ∷ []),
+    )
 
 -- ---- names above
 

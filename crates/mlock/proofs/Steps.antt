@@ -11,11 +11,11 @@ use Rattle.std.proofs.lemmas.Bool.{cases_eq}
 use Rattle.std.proofs.lemmas.Bool.Decides.{nat_tests}
 use Rattle.std.proofs.lemmas.List.Elements.{All-head, All-tail}
 use Rattle.std.proofs.lemmas.Map.Steps.{set_value_same}
-use Rattle.mspec.specs.LockConflict.{LockName, Held, held, Locks, lock_name_cmp, held_cmp, count, one_more, given_back}
+use Rattle.mspec.specs.LockConflict.{LockName, Held, held, Locks, lock_name_cmp, held_cmp, count, most_counts, one_more, given_back}
 use Rattle.mspec.proofs.LockOrders.{held_cmp_total, held_cmp_exact}
 use Rattle.mlock.specs.declared.locks.Holding.{Holding}
 use Rattle.mlock.specs.Holdings.{locks_in, locks_of, own_count, IsFree, AreCounts}
-use Rattle.mlock.proofs.Views.{got, IsOwn, own_is, other_is, inserted, removed, counts_insert, counts_remove}
+use Rattle.mlock.proofs.Views.{got, IsOwn, own_is, other_is, inserted, removed, counts_insert, counts_remove, count_few}
 
 -- ---- of the locks alone
 
@@ -68,7 +68,7 @@ back_again l t n counts = by_count (get l (held t n)) refl
         get-remove held_cmp_total (insert l (held t n) 1) (held t n) q
         ∙ ap (cond (eq_by_cmp held_cmp q (held t n)) None) (get-insert held_cmp_total l (held t n) 1 q)
         ∙ cond_twice (eq_by_cmp held_cmp q (held t n)) None (Some 1) (get l q))
-    by_count (Some zero) e = absurd (counts (held t n) e)
+    by_count (Some zero) e = let some : 0 < 0 = (counts (held t n) 0 e).0 in absurd (omega (arith, some))
     by_count (Some (suc k)) e =
         let c : ℕ = suc k in
         let less : c + 1 - 1 ≡ c = omega arith in
@@ -85,11 +85,13 @@ pub counts_given_back : (l : Locks) (t : ℕ) (n : LockName) → AreCounts l →
 counts_given_back l t n counts = by_test (nat_lt 1 (count l (held t n))) refl
   where
     by_test : (b : Bool) → nat_lt 1 (count l (held t n)) ≡ b → AreCounts (cond b (insert l (held t n) (count l (held t n) - 1)) (remove l (held t n)))
-    by_test true e = counts_insert l (held t n) (count l (held t n) - 1) counts (grind (arith, nat_tests, e))
+    by_test true e =
+        let few : count l (held t n) ≤ most_counts = count_few l (held t n) counts in
+        counts_insert l (held t n) (count l (held t n) - 1) counts (grind (arith, nat_tests, e)) (omega (arith, few))
     by_test false e = counts_remove l (held t n) counts
 
-pub counts_one_more : (l : Locks) (h : Held) → AreCounts l → AreCounts (one_more l h)
-counts_one_more l h counts = counts_insert l h (count l h + 1) counts (omega arith)
+pub counts_one_more : (l : Locks) (h : Held) → AreCounts l → count l h < most_counts → AreCounts (one_more l h)
+counts_one_more l h counts room = counts_insert l h (count l h + 1) counts (omega arith) (omega (arith, room))
 
 -- a name that no other terminal holds is none still, after a count more
 pub free_after : (l : Locks) (t : ℕ) (k n : LockName) → IsFree l t n → IsFree (one_more l (held t k)) t n

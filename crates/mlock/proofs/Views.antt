@@ -1,6 +1,6 @@
 -- What calls of the map of holdings do to the locks that it holds.
-use Rattle.std.proofs.Common.{◌≡◌, ◌<◌, ℕ, Bool, true, false, cond, not, ◌&&◌, List, [], ◌∷◌, Option, Some, None, map, All, nat_eq, refl, sym, ap, ◌∙◌, subst, arith}
-use Rattle.std.specs.Prelude.{option_map, ⊤}
+use Rattle.std.proofs.Common.{◌≡◌, ◌<◌, ◌≤◌, ℕ, Bool, true, false, cond, not, ◌&&◌, List, [], ◌∷◌, Option, Some, None, map, All, nat_eq, refl, sym, ap, ◌∙◌, subst, arith}
+use Rattle.std.specs.Prelude.{option_map, unwrap_or, ⊤}
 use Rattle.std.specs.BTreeMap as tree
 use Rattle.std.specs.BTreeMap.{BTreeMap, IsOrdered}
 use Rattle.std.specs.FinMap.{get, insert, remove, empty, retain_keys, get-insert, get-remove, get-from_entries, get-retain_keys, get-empty, same_map, from_entries}
@@ -18,7 +18,7 @@ use Rattle.std.proofs.lemmas.Map.Entries.{filter_from_retain_pairs}
 use Rattle.std.proofs.lemmas.Map.Keys.{sorted_tail}
 use Rattle.std.proofs.lemmas.Map.Views.{All-after_first}
 use Rattle.std.proofs.lemmas.List.Elements.{All-head, All-tail}
-use Rattle.mspec.specs.LockConflict.{LockName, Held, held, Locks, lock_name_cmp, held_cmp, released}
+use Rattle.mspec.specs.LockConflict.{LockName, Held, held, Locks, lock_name_cmp, held_cmp, released, count, most_counts}
 use Rattle.mspec.proofs.LockOrders.{lock_name_cmp_total, lock_name_cmp_exact, held_cmp_total, held_cmp_exact}
 use Rattle.mlock.specs.declared.locks.Holding.{Holding}
 use Rattle.mlock.specs.Holdings.{lock_of, locks_in, locks_of, own_count, AreCounts}
@@ -177,28 +177,35 @@ pub retain_same : {F K X : Type 0} (T : F → K → X → Bool → X → F → T
 retain_same T f p told es kept h = filter_from_retain_pairs T (λ g. g ≡ f) p
     (λ g k v b w g' i t. told k v b w g' (subst (λ x. T x k v b w g') i t)) f es kept refl h
 
--- ---- counts that are none of them 0
+-- ---- counts from 1 to 1,000,000
 
-pub counts_insert : (l : Locks) (h : Held) (c : ℕ) → AreCounts l → 0 < c → AreCounts (insert l h c)
-counts_insert l h c counts some q e = by_test (eq_by_cmp held_cmp q h) (sym (get-insert held_cmp_total l h c q) ∙ e)
+pub counts_insert : (l : Locks) (h : Held) (c : ℕ) → AreCounts l → 0 < c → c ≤ most_counts → AreCounts (insert l h c)
+counts_insert l h c counts some few q d e = by_test (eq_by_cmp held_cmp q h) (sym (get-insert held_cmp_total l h c q) ∙ e)
   where
-    by_test : (b : Bool) → cond b (Some c) (get l q) ≡ Some 0 → ⊥
-    by_test true e = let zero : c ≡ 0 = cc in absurd (omega (arith, zero, some))
-    by_test false e = counts q e
+    by_test : (b : Bool) → cond b (Some c) (get l q) ≡ Some d → (0 < d) × (d ≤ most_counts)
+    by_test true e = let same : c ≡ d = cc in (omega (arith, same, some), omega (arith, same, few))
+    by_test false e = counts q d e
 
 pub counts_remove : (l : Locks) (h : Held) → AreCounts l → AreCounts (remove l h)
-counts_remove l h counts q e = by_test (eq_by_cmp held_cmp q h) (sym (get-remove held_cmp_total l h q) ∙ e)
+counts_remove l h counts q d e = by_test (eq_by_cmp held_cmp q h) (sym (get-remove held_cmp_total l h q) ∙ e)
   where
-    by_test : (b : Bool) → cond b None (get l q) ≡ Some 0 → ⊥
+    by_test : (b : Bool) → cond b None (get l q) ≡ Some d → (0 < d) × (d ≤ most_counts)
     by_test true e = absurd (cc)
-    by_test false e = counts q e
+    by_test false e = counts q d e
 
 pub counts_released : (l : Locks) (t : ℕ) → AreCounts l → AreCounts (released l t)
-counts_released l t counts q e = by_test (not (nat_eq q.terminal t)) (sym (released_get l t q) ∙ e)
+counts_released l t counts q d e = by_test (not (nat_eq q.terminal t)) (sym (released_get l t q) ∙ e)
   where
-    by_test : (b : Bool) → cond b (get l q) None ≡ Some 0 → ⊥
-    by_test true e = counts q e
+    by_test : (b : Bool) → cond b (get l q) None ≡ Some d → (0 < d) × (d ≤ most_counts)
+    by_test true e = counts q d e
     by_test false e = absurd (cc)
 
 pub counts_empty : AreCounts empty
-counts_empty q e = let none : ◌≡◌ {A = Option ℕ} None (Some 0) = sym (get-empty held_cmp q) ∙ e in absurd (cc)
+counts_empty q d e = let none : ◌≡◌ {A = Option ℕ} None (Some d) = sym (get-empty held_cmp q) ∙ e in absurd (cc)
+
+pub count_few : (l : Locks) (h : Held) → AreCounts l → count l h ≤ most_counts
+count_few l h counts = by_count (get l h) refl
+  where
+    by_count : (o : Option ℕ) → get l h ≡ o → unwrap_or o 0 ≤ most_counts
+    by_count None e = omega arith
+    by_count (Some c) e = (counts h c e).1

@@ -1,11 +1,17 @@
 -- The names above a name and below it, and who holds them.
-use Rattle.std.specs.Prelude.{ℕ, Bool, false, not, ◌||◌, nat_eq, take, Option, Some, None}
+use Rattle.std.specs.Prelude.{◌≡◌, ℕ, Bool, false, not, ◌||◌, nat_eq, take, Option, Some, None}
 use Rattle.mspec.specs.LockConflict.{LockName, is_within}
+use Rattle.mkey.specs.Parent.{IsParent}
 use Rattle.mlock.specs.declared.locks.Holding.{Holding}
 
 -- the name with so many of its subscripts
 abbrev pub name_above : ℕ → LockName → LockName
 name_above i n = record { global = n.global; node = record { account = n.node.account; name = n.node.name; subscripts = take i n.node.subscripts } }
+
+-- the first name is next above the other
+pub record IsAbove (above below : LockName) : Type 0 where
+  pub kind : above.global ≡ below.global
+  pub node : IsParent above.node below.node
 
 -- another terminal holds it
 abbrev pub is_other : ℕ → Option Holding → Bool

@@ -1,9 +1,9 @@
 -- The locks that a map by names holds: each name has one holder.
-use Rattle.std.specs.Prelude.{◌≡◌, ℕ, List, map, Option, Some, None, nat_eq, if◌then◌else◌}
+use Rattle.std.specs.Prelude.{◌≡◌, ◌<◌, ◌≤◌, ℕ, List, map, Option, Some, None, nat_eq, if◌then◌else◌}
 use Rattle.std.specs.BTreeMap.{BTreeMap}
 use Rattle.std.specs.FinMap.{from_entries, get}
 use base.Stored.{Coded, coded_ℕ, coded_bool, coded_list, coded×, coded_via}
-use Rattle.mspec.specs.LockConflict.{LockName, Held, held, Locks}
+use Rattle.mspec.specs.LockConflict.{LockName, Held, held, Locks, most_counts}
 use Rattle.mlock.specs.declared.locks.Holding.{Holding}
 
 -- a code of what is held, by which a proof tells locks apart
@@ -31,6 +31,6 @@ own_count t (Some h) = if nat_eq h.terminal t then Some h.count else None
 abbrev pub IsFree : Locks → ℕ → LockName → Type 0
 IsFree locks t n = (u : ℕ) → (u ≡ t → ⊥) → get locks (held u n) ≡ None
 
--- what is held is held once or more
+-- what is held is held 1 to 1,000,000 times
 abbrev pub AreCounts : Locks → Type 0
-AreCounts locks = (q : Held) → get locks q ≡ Some 0 → ⊥
+AreCounts locks = (q : Held) (c : ℕ) → get locks q ≡ Some c → (0 < c) × (c ≤ most_counts)

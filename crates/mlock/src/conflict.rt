@@ -1,27 +1,22 @@
 // Whether a name conflicts with those that are held: what stands below it is a range of the map, and each name above it is
 // looked up.
-ghost use Rattle.std.specs.Prelude.{◌≡◌, ◌<◌, ℕ, true, false, not, nat_eq, length, take, IfOk};
+ghost use Rattle.std.specs.Prelude.{◌≡◌, ◌<◌, ℕ, true, false, not, nat_eq, length, IfOk};
 ghost use Rattle.std.specs.BTreeMap.{IsOrdered, get};
 ghost use Rattle.std.specs.BTreeMap.Range.{entries_between};
 ghost use Rattle.std.specs.declared.ops.Bound.TheVariants.{Included, Unbounded};
 ghost use Rattle.std.specs.List.{find};
-ghost use Rattle.mspec.specs.KeyBytes.{IsAccountName, AreSubscripts};
 ghost use Rattle.mspec.specs.LockConflict.{held as lock, has_conflict, lock_name_cmp};
-ghost use Rattle.mspec.specs.Names.{IsName};
 ghost use Rattle.mlock.specs.Holdings.{locks_of};
 ghost use Rattle.mlock.specs.Above.{name_above, is_other, is_end, is_below};
 
 use crate::locks::Holding;
 use crate::name::LockName;
-use mkey::{NodeKey, read};
-use mnum::Bytes7;
-use std::alloc::{AllocError, Global};
+use std::alloc::AllocError;
 use std::collections::BTreeMap;
 use std::ops::Bound;
 
 // Whether another terminal holds a name that conflicts with this one.
 pub fn conflicts(
-    alloc: Global,
     holdings: &BTreeMap<LockName, Holding>,
     terminal: u32,
     name: &LockName,
@@ -31,7 +26,7 @@ pub fn conflicts(
     if is_held_below(holdings, terminal, name) {
         return Ok(true);
     }
-    is_held_above(alloc, holdings, terminal, name)
+    is_held_above(holdings, terminal, name)
 }
 
 // Whether another terminal holds the name or one below it: all of these follow one another, from the name on.
@@ -54,7 +49,6 @@ fn is_held_below(holdings: &BTreeMap<LockName, Holding>, terminal: u32, name: &L
 
 // Whether another terminal holds a name above this one.
 fn is_held_above(
-    alloc: Global,
     holdings: &BTreeMap<LockName, Holding>,
     terminal: u32,
     name: &LockName,
@@ -62,43 +56,14 @@ fn is_held_above(
     ensures yes { IfOk result (λ b. b ≡ true → (i : ℕ) × (is_other terminal (get lock_name_cmp holdings.now (name_above i name.now)) ≡ true)) }
     ensures no { IfOk result (λ b. b ≡ false → (i : ℕ) → i < length name.now.node.subscripts → is_other terminal (get lock_name_cmp holdings.now (name_above i name.now)) ≡ false) }
 {
-    match read(alloc, name.key.as_bytes())? {
-        None => Ok(false),
-        Some((account, global, subs)) => {
-            for count in 0..subs.as_slice().len() {
-                let key = key_above(alloc, &account, &global, subs.as_slice(), count)?;
-                let above = LockName {
-                    key,
-                    global: name.global,
-                };
-                if is_others(holdings, terminal, &above) {
-                    return Ok(true);
-                }
-            }
-            Ok(false)
+    let mut below = name.copy()?;
+    while let Some(above) = below.into_parent() {
+        if is_others(holdings, terminal, &above) {
+            return Ok(true);
         }
+        below = above;
     }
-}
-
-// The key of a node with so many of these subscripts.
-fn key_above(
-    alloc: Global,
-    account: &Bytes7,
-    name: &Bytes7,
-    subs: &[Bytes7],
-    count: usize,
-) -> Result<NodeKey, AllocError>
-    requires account { IsAccountName account.now }
-    requires name { IsName name.now }
-    requires subs { AreSubscripts subs.now }
-    requires count { count < length subs.now }
-    ensures { IfOk result (λ key. key ≡ record { account = account.now; name = name.now; subscripts = take count subs.now }) }
-{
-    // fewer subscripts of a node are those of a node: no memory is all that can be wanting
-    match NodeKey::build(alloc, account, name, &subs[..count]) {
-        Ok(key) => Ok(key),
-        Err(_) => Err(AllocError),
-    }
+    Ok(false)
 }
 
 // Whether another terminal holds this very name.

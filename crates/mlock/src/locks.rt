@@ -1,5 +1,5 @@
 // The locks of the terminals.
-ghost use Rattle.std.specs.Prelude.{◌≡◌, true, false, not, nat_eq, nat_lt, All, IfOk, OnErr, Some, None, if◌then◌else◌};
+ghost use Rattle.std.specs.Prelude.{◌≡◌, ◌≤◌, true, false, not, nat_eq, nat_lt, All, IfOk, OnErr, Some, None, if◌then◌else◌};
 ghost use Rattle.std.specs.FinMap.{empty};
 ghost use Rattle.mlock.specs.Holdings.{AreCounts, IsFree};
 ghost use Rattle.mspec.specs.LockConflict.{held as lock, count, most_counts, one_more, has_conflict, taken, counted, given_back, released};
@@ -23,7 +23,6 @@ pub(crate) struct Holding {
 /// The locks of the terminals: how often each holds a name. Contracts see it as the locks of the definitions.
 #[derive(Drop)]
 pub struct Locks {
-    alloc: Global,
     // a name has one holder, since it conflicts with itself
     holdings: BTreeMap<LockName, Holding>,
 }
@@ -50,14 +49,14 @@ impl Locks {
         ensures { result ≡ empty }
     {
         Locks {
-            alloc,
             holdings: BTreeMap::new(alloc),
         }
     }
 
     /// How often the terminal holds the name: 0 to 1,000,000 times. Takes no memory.
     pub fn held(&self, terminal: u32, name: &LockName) -> u32
-        ensures { result ≡ count self.now (lock terminal name.now) }
+        ensures count { result ≡ count self.now (lock terminal name.now) }
+        ensures few { result ≤ most_counts }
     {
         match self.holdings.get(name) {
             Some(holding) => {
@@ -94,7 +93,7 @@ impl Locks {
     fn has_conflict(&self, terminal: u32, name: &LockName) -> Result<bool, AllocError>
         ensures { IfOk result (λ conflict. conflict ≡ has_conflict self.now (lock terminal name.now)) }
     {
-        conflicts(self.alloc, &self.holdings, terminal, name)
+        conflicts(&self.holdings, terminal, name)
     }
 
     // One count more of each name, of which no other terminal holds one; false where a count would pass the most.

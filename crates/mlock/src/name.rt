@@ -1,7 +1,8 @@
 // Names of locks.
-ghost use Rattle.std.specs.Prelude.{◌≡◌, IfOk, Some, refl};
+ghost use Rattle.std.specs.Prelude.{◌≡◌, [], IfOk, Some, MatchOption, refl};
 ghost use Rattle.std.specs.Cmp.{partial_equiv_from_equiv, partial_order_from_total, eq_by_cmp_equiv};
 ghost use Rattle.std.specs.Ordering.{eq_by_cmp};
+ghost use Rattle.mlock.specs.Above.{IsAbove};
 ghost use Rattle.mspec.specs.KeyBytes.{IsStored};
 ghost use Rattle.mspec.specs.LockConflict.{lock_name_cmp, is_within};
 ghost use Rattle.mspec.proofs.LockOrders.{lock_name_cmp_total};
@@ -37,6 +38,17 @@ impl LockName {
     {
         let key = self.key.copy()?;
         Ok(LockName {
+            key,
+            global: self.global,
+        })
+    }
+
+    // The name with one subscript less, in this one's memory, or None where it has no subscript.
+    pub(crate) fn into_parent(self) -> Option<LockName>
+        ensures { MatchOption result (self.node.subscripts ≡ []) (λ above. IsAbove above self) }
+    {
+        let key = self.key.into_parent()?;
+        Some(LockName {
             key,
             global: self.global,
         })

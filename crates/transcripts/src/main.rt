@@ -18,6 +18,7 @@ mod locals;
 mod locks;
 mod numbers;
 mod pieces;
+mod settings;
 mod stores;
 mod texts;
 mod words;
@@ -64,6 +65,7 @@ fn play(rt: &HostRuntime, kind: &str, cases: &[&str], out: &mut Vec<u8>) -> anyh
         "== keys" => keys::keys(alloc, cases, out),
         "== locals" => locals::locals(alloc, cases, out),
         "== locks" => locks::locks(alloc, cases, out),
+        "== settings" => settings::settings(alloc, cases, out),
         "== stores" => stores::stores(rt, cases, out),
         "== drawn" => drawn::drawn(rt, cases, out),
         "== database" => databases::database(alloc, cases, out),

@@ -48,9 +48,12 @@ invariant_of-self-in-Some c =
     let m = c.self.inside.holdings in
     let h = c.in-Some.holding.now in
     let is = own m c.args.self.now c.self.view_is c.self.invariant.0 c.args.name.now c.args.terminal c.requires h c.in-Some.ensures.value in
+    let counted = counts_are m c.args.self.now c.self.view_is c.self.invariant.0 c.args.name.now c.args.terminal c.requires h c.in-Some.ensures.value in
+    let room : count (locks_of m) (held c.args.terminal c.args.name.now) < most_counts =
+    subst (λ k. count k (held c.args.terminal c.args.name.now) < most_counts) (sym c.self.view_is) (omega (arith, counted, c.if-holding-ge-MOST_COUNTS.false)) in
     let more = raised m c.self.invariant.0 c.args.name.now c.args.terminal h c.in-Some.ensures.value c.get_mut.follows.lender c.get_mut.follows.holds is in (
       (c.get_mut.follows.holds (record { terminal = h.terminal; count = h.count + 1 })).4,
-      subst AreCounts (sym more) (counts_one_more (locks_of m) (held c.args.terminal c.args.name.now) c.self.invariant.1),
+      subst AreCounts (sym more) (counts_one_more (locks_of m) (held c.args.terminal c.args.name.now) c.self.invariant.1 room),
     )
 
 pub returns-else-holding-ge-MOST_COUNTS-clause-room :
@@ -84,7 +87,10 @@ new_is c =
     ∙ ap (λ k. one_more (locks_of m) (held c.args.terminal k)) same
 
 pub invariant_of-self-in_ok-insert-in-None : goal.invariant_of-self-in_ok-insert-in-None
-invariant_of-self-in_ok-insert-in-None c = (c.insert.ensures.ordered, subst AreCounts (sym (new_is c)) (counts_one_more (locks_of c.self.inside.holdings) (held c.args.terminal c.args.name.now) c.self.invariant.1))
+invariant_of-self-in_ok-insert-in-None c =
+    let none : count (locks_of c.self.inside.holdings) (held c.args.terminal c.args.name.now) ≡ 0 =
+    count_none c.self.inside.holdings c.self.invariant.0 c.args.name.now c.args.terminal (ap option_copied_mut (sym c.in-None.is) ∙ c.get_mut.ensures.value) in
+    (c.insert.ensures.ordered, subst AreCounts (sym (new_is c)) (counts_one_more (locks_of c.self.inside.holdings) (held c.args.terminal c.args.name.now) c.self.invariant.1 (omega (arith, none))))
 
 pub returns-in_ok-insert-in-None-clause-counted : goal.returns-in_ok-insert-in-None-clause-counted
 returns-in_ok-insert-in-None-clause-counted c = new_is c ∙ ap (λ l. one_more l (held c.args.terminal c.args.name.now)) c.self.view_is

@@ -1,0 +1,15 @@
+use Rattle.std.proofs.Common.{◌≡◌, ◌≤◌, length}
+use Rattle.mspec.specs.Act.{Node}
+use Rattle.mspec.specs.KeyBytes.{key_bytes}
+use Rattle.mspec.specs.Number.{significant_digits}
+use Rattle.mkey.proofs.KeyWalks.{Walked}
+use Rattle.mkey.proofs.ancestors.last_subscript.Given as goal
+
+abbrev pub invariant-loop-last : goal.invariant-loop-last
+invariant-loop-last l = record {
+  fits : length l.rest ≤ length l.bytes;
+  walked : (n : Node) → key_bytes significant_digits n ≡ l.bytes → Walked n l.bytes l.rest l.last;
+}
+
+abbrev pub decreases-loop-last : goal.decreases-loop-last
+decreases-loop-last l = length l.rest

@@ -1,8 +1,13 @@
 // Lines of M, from the bytes of a stream to the bytes of the replies.
 use crate::measure::{Plan, Unit, measure};
+use mgrant::Settings;
+use mstore::{NodeStore, Plain, Table};
 use mwire::{Watched, serve};
 use mworld::World;
 use std::alloc::Global;
+
+// The settings of the worlds.
+const SETTINGS: &str = "[[account]]\nname = \"ALICE\"\nterminals = [1]\nsteps = 2000\n";
 
 // A stream has so many lines.
 const LINES: usize = 10_000;
@@ -28,33 +33,49 @@ fn different_lines(alloc: Global) -> anyhow::Result<Vec<u8>> {
     Ok(stream)
 }
 
-// How many bytes a new world answers.
-fn answered(alloc: Global, stream: &[u8]) -> i128 {
-    let mut world = World::new(alloc);
+// How many bytes a world answers.
+fn answered<S: NodeStore>(alloc: Global, world: &mut World<S>, stream: &[u8]) -> i128 {
     let mut reader = Watched::new(stream);
     let mut replies = Vec::new(alloc);
-    match serve(
-        alloc,
-        &mut world,
-        &mut reader,
-        &mut Watched::new(&mut replies),
-    ) {
+    match serve(alloc, world, &mut reader, &mut Watched::new(&mut replies)) {
         Ok(()) => replies.len() as i128,
         Err(_) => -1,
     }
 }
 
-pub fn lines(rt: &HostRuntime, plan: Plan) -> anyhow::Result<()> {
-    println!(rt; "lines")?;
+// The streams in one world over a store.
+fn served<S: NodeStore + Drop>(rt: &HostRuntime, plan: Plan, store: S) -> anyhow::Result<()> {
     let alloc = rt.alloc();
+    let settings = Settings::read(alloc, SETTINGS.as_bytes())?;
+    let mut world = World::new(alloc, settings, store);
+    let unit = Unit::ThousandLinesPerSecond(LINES);
+    let stream = equal_lines(alloc)?;
+    measure(
+        rt,
+        "equal",
+        plan,
+        unit,
+        |_| answered(alloc, &mut world, &stream),
+    )?;
+    let stream = different_lines(alloc)?;
+    measure(
+        rt,
+        "different",
+        plan,
+        unit,
+        |_| answered(alloc, &mut world, &stream),
+    )
+}
+
+// The streams over each store.
+pub fn lines(rt: &HostRuntime, plan: Plan) -> anyhow::Result<()> {
     let plan = Plan {
         rounds: plan.rounds.div_ceil(ROUNDS),
         passes: plan.passes,
         timed: plan.timed,
     };
-    let unit = Unit::ThousandLinesPerSecond(LINES);
-    let stream = equal_lines(alloc)?;
-    measure(rt, "equal", plan, unit, |_| answered(alloc, &stream))?;
-    let stream = different_lines(alloc)?;
-    measure(rt, "different", plan, unit, |_| answered(alloc, &stream))
+    println!(rt; "lines over the plain store")?;
+    served(rt, plan, Plain::new(rt.alloc()))?;
+    println!(rt; "lines over a table")?;
+    served(rt, plan, Table::open_memory(rt.alloc())?)
 }

@@ -1,7 +1,9 @@
 // Lines of the wire, with their replies, and the events of a stream.
 use crate::escapes::bytes_of;
 use crate::pieces::Pieces;
-use crate::{print_case, print_result, print_results};
+use crate::line_settings::line_settings;
+use crate::{print_case, print_others, print_results};
+use mstore::{NodeStore, Plain, Table};
 use mwire::{Watched, read_events, serve};
 use mworld::World;
 use std::alloc::Global;
@@ -21,25 +23,39 @@ fn stream_line(alloc: Global, case: &str) -> anyhow::Result<Vec<u8>> {
     }
 }
 
+// A new world over a store.
+fn world_over<S: NodeStore + Drop>(alloc: Global, store: S) -> anyhow::Result<World<S>> {
+    Ok(World::new(alloc, line_settings(alloc)?, store))
+}
+
 // What a world answers to a stream that comes in pieces of this size.
-fn served(alloc: Global, world: &mut World, stream: &[u8], size: usize) -> anyhow::Result<Vec<u8>> {
+fn served<S: NodeStore>(
+    alloc: Global,
+    world: &mut World<S>,
+    stream: &[u8],
+    size: usize,
+) -> anyhow::Result<Vec<u8>> {
     let mut out = Vec::new(alloc);
     let mut reader = Watched::new(Pieces { left: stream, size });
     serve(alloc, world, &mut reader, &mut Watched::new(&mut out))?;
     Ok(out)
 }
 
-/// Serves each line in the world that the lines before it left. Then all lines are served as one stream, in a new world
-/// for each size of pieces: where the replies are others, they are printed too.
+/// Serves each line in the world that the lines before it left, over the plain store and over a table in memory. Then all lines
+/// are served as one stream, in a new world over each store for each size of pieces. The replies over the plain store stand below
+/// their lines; where others differ from them, these are printed too.
 pub fn lines(alloc: Global, cases: &[&str], out: &mut Vec<u8>) -> anyhow::Result<()> {
-    let mut world = World::new(alloc);
+    let mut plain = world_over(alloc, Plain::new(alloc))?;
+    let mut table = world_over(alloc, Table::open_memory(alloc)?)?;
     let mut stream = Vec::new(alloc);
     let mut replies = Vec::new(alloc);
     for case in cases {
         if print_case(out, case)? {
             let line = stream_line(alloc, case)?;
-            let answer = served(alloc, &mut world, &line, 4096)?;
+            let answer = served(alloc, &mut plain, &line, 4096)?;
             print_results(alloc, out, &answer)?;
+            let other = served(alloc, &mut table, &line, 4096)?;
+            print_others(alloc, "in a table:", &other, &answer, out)?;
             stream.extend_from_slice(&line)?;
             replies.extend_from_slice(&answer)?;
         }
@@ -54,12 +70,14 @@ fn whole_streams(
     out: &mut Vec<u8>,
 ) -> anyhow::Result<()> {
     for size in SIZES {
-        let answer = served(alloc, &mut World::new(alloc), stream, size)?;
-        if answer.as_slice() != replies {
-            let told = format!(in alloc; "in pieces of {size}:")?;
-            print_result(out, told.as_bytes())?;
-            print_results(alloc, out, &answer)?;
-        }
+        let mut plain = world_over(alloc, Plain::new(alloc))?;
+        let answer = served(alloc, &mut plain, stream, size)?;
+        let told = format!(in alloc; "in pieces of {size}:")?;
+        print_others(alloc, told.as_str(), &answer, replies, out)?;
+        let mut table = world_over(alloc, Table::open_memory(alloc)?)?;
+        let answer = served(alloc, &mut table, stream, size)?;
+        let told = format!(in alloc; "in a table, in pieces of {size}:")?;
+        print_others(alloc, told.as_str(), &answer, replies, out)?;
     }
     Ok(())
 }

@@ -13,6 +13,7 @@ mod drawn;
 mod escapes;
 mod files;
 mod keys;
+mod line_settings;
 mod lines;
 mod locals;
 mod locks;
@@ -109,4 +110,19 @@ pub fn print_results(alloc: Global, out: &mut Vec<u8>, lines: &[u8]) -> anyhow::
         print_result(out, &line)?;
     }
     Ok(())
+}
+
+// Adds the lines of what came another way, below what is told of that way, where they are not those that were given.
+pub fn print_others(
+    alloc: Global,
+    told: &str,
+    others: &[u8],
+    given: &[u8],
+    out: &mut Vec<u8>,
+) -> anyhow::Result<()> {
+    if others == given {
+        return Ok(());
+    }
+    print_result(out, told.as_bytes())?;
+    print_results(alloc, out, others)
 }

@@ -1,6 +1,6 @@
 // Calls on stores, each over the plain store, a table in memory and a table in a file.
 use crate::words::{key_of, text_of, texts_of, words_of};
-use crate::{print, print_case, print_result, print_results};
+use crate::{print, print_case, print_others, print_result};
 use anyhow::Context;
 use mkey::{NodeKey, read};
 use mnum::{Bytes7, LONGEST_TEXT};
@@ -33,11 +33,11 @@ pub fn stores(rt: &HostRuntime, cases: &[&str], out: &mut Vec<u8>) -> anyhow::Re
             print(&mut given, &answer)?;
         }
     }
-    compare(alloc, "in a table:", &in_memory(alloc, cases)?, &given, out)?;
+    print_others(alloc, "in a table:", &in_memory(alloc, cases)?, &given, out)?;
     remove(rt, FILE, LOG);
     let in_a_file = in_a_file(rt, cases);
     remove(rt, FILE, LOG);
-    compare(alloc, "in a file:", &in_a_file?, &given, out)
+    print_others(alloc, "in a file:", &in_a_file?, &given, out)
 }
 
 fn print_answer(out: &mut Vec<u8>, answer: &[u8]) -> anyhow::Result<()> {
@@ -45,20 +45,6 @@ fn print_answer(out: &mut Vec<u8>, answer: &[u8]) -> anyhow::Result<()> {
         return Ok(());
     }
     print_result(out, answer)
-}
-
-fn compare(
-    alloc: Global,
-    told: &str,
-    answers: &[u8],
-    given: &[u8],
-    out: &mut Vec<u8>,
-) -> anyhow::Result<()> {
-    if answers == given {
-        return Ok(());
-    }
-    print_result(out, told.as_bytes())?;
-    print_results(alloc, out, answers)
 }
 
 // What the calls give over a table in memory, which is made anew from its connection before each.

@@ -1,14 +1,15 @@
 // Texts of M by themselves: parsed and written back, and the steps that they use.
 use crate::escapes::bytes_of;
+use crate::line_settings::{TERMINAL, line_settings};
 use crate::{print_case, print_result};
+use anyhow::Context;
+use meval::{Depth, Eval, Session};
 use mexec::{Parts, run_text};
-use mlocal::Locals;
+use mgrant::Settings;
 use mparse::{ParseFault, parse_line};
+use mstore::Plain;
 use mtree::write_line;
 use std::alloc::Global;
-
-// The steps that a text is given.
-const STEPS: u32 = 2000;
 
 /// Of each text: `same` where its tree is written as the text, `refused` where it has no tree.
 pub fn texts(alloc: Global, cases: &[&str], out: &mut Vec<u8>) -> anyhow::Result<()> {
@@ -36,26 +37,40 @@ fn written_back(alloc: Global, text: &[u8]) -> anyhow::Result<&'static [u8]> {
     }
 }
 
-/// Of each text, carried out over locals of its own: how many steps it used.
+/// Of each text, carried out in a session of its own: how many steps it used.
 pub fn steps(alloc: Global, cases: &[&str], out: &mut Vec<u8>) -> anyhow::Result<()> {
+    let settings = line_settings(alloc)?;
     for case in cases {
         if print_case(out, case)? {
             let text = bytes_of(alloc, case)?;
-            let told = used(alloc, &text).to_string(alloc)?;
+            let told = used(alloc, &settings, &text)?.to_string(alloc)?;
             print_result(out, told.as_bytes())?;
         }
     }
     Ok(())
 }
 
-fn used(alloc: Global, text: &[u8]) -> u32 {
-    let mut locals = Locals::new(alloc);
+fn used(alloc: Global, settings: &Settings, text: &[u8]) -> anyhow::Result<u32> {
+    let account = settings.account_of(TERMINAL).context("no account")?;
+    let steps = settings.steps_of(account);
+    let mut session = Session::new(alloc);
+    let mut store = Plain::new(alloc);
     let mut out = Vec::new(alloc);
     let mut parts = Parts {
-        locals: &mut locals,
+        eval: Eval {
+            session: &mut session,
+            store: &mut store,
+            settings,
+            terminal: TERMINAL,
+            account,
+            steps,
+            depth: Depth {
+                levels: 0,
+                indirections: 0,
+            },
+        },
         out: &mut out,
-        steps: STEPS,
     };
     let _ended = run_text(alloc, &mut parts, text);
-    STEPS.saturating_sub(parts.steps)
+    Ok(steps.saturating_sub(parts.eval.steps))
 }

@@ -91,6 +91,8 @@ def local_variables():
     print(f"  {'set':<12} {summed(lambda i: 1)}")
     print(f"  {'copy alone':<12} {summed(lambda i: len(names[i * stride % count]))}")
     print(f"  {'level':<12} {summed(lambda i: 1)}")
+    print(f"  {'set number':<12} {summed(lambda i: 1)}")
+    print(f"  {'get number':<12} {summed(lambda i: i)}")
     for title, letter in {"numbers": "", "texts": "item"}.items():
         print(f"ten thousand subscripts, {title}")
         words = [f"{letter}{i}" for i in range(count)]
@@ -157,9 +159,10 @@ def locks():
 
 def lines():
     count = 10_000
-    print("lines")
-    print(f"  {'equal':<12} {PASSES * count * len(reply(1))}")
-    print(f"  {'different':<12} {PASSES * sum(len(reply(i)) for i in range(count))}")
+    for kind in ("the plain store", "a table"):
+        print(f"lines over {kind}")
+        print(f"  {'equal':<12} {PASSES * count * len(reply(1))}")
+        print(f"  {'different':<12} {PASSES * sum(len(reply(i)) for i in range(count))}")
 
 
 if __name__ == "__main__":

@@ -3,8 +3,7 @@ use Rattle.std.proofs.Common.{◌≡◌, ◌++◌, List, [], ◌∷◌, true, fa
 use Rattle.std.specs.Prelude.{map}
 use Rattle.std.specs.Str.Lines.{lines}
 use Rattle.mspec.specs.Act.{Text}
-use Rattle.mspec.specs.Code.{Lost, Store}
-use Rattle.mmeaning.specs.Step.{Settings, Server, Event, Faulted, Reply, normal, is_failure}
+use Rattle.mmeaning.specs.Step.{Settings, Server, Event, Reply, normal, is_failure}
 use Rattle.mmeaning.specs.History.{replies, server_after, answered, opening}
 use Rattle.mmeaning.proofs.Histories.{normal_never_fails, normal_steps_are_history, history_is_normal}
 use Rattle.mstore.specs.declared.store.NodeStore.{Ghosts}

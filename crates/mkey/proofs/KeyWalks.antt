@@ -51,7 +51,7 @@ key_behind n xs ys =
     ∙ ap (λ b. text_bytes n.account ++ b) (sym (append_assoc (text_bytes n.name) (subscripts_bytes significant_digits xs) (subscripts_bytes significant_digits ys)))
     ∙ sym (append_assoc (text_bytes n.account) (local_bytes significant_digits n.name xs) (subscripts_bytes significant_digits ys))
 
--- how far the subscripts of a key were gone over: those of the node `above` are passed, and `last` is where the last of them begins
+-- how far the subscripts of a key were gone over: these are passed, and `last` is where the last of them begins
 pub record Walked (n : Node) (bytes rest : List ℕ) (last : Option ℕ) : Type 0 where
   pub passed : List Text
   pub more : List Text

@@ -2,10 +2,10 @@
 """Runs the built program on each block of lines of transcripts/, with each of its requests for memory refused in turn.
 
 With one request refused, the replies are the transcript's as far as the first want of memory; that is told by ZMEM, by
-`mserve: wire: Memory` with status 5, by `mserve: settings: Memory` with status 3, or by `mserve: Memory` with status 2; and what
-comes after ZMEM is replies in form. One request of a run may go by untold, with all replies as they are: std asks for the words of
-the command line in advance, and again where that was refused. Status 1 where a run does otherwise, where a block asks for no
-memory, or where there is no block.
+`mserve: wire: Memory` with status 5, or by `mserve: Memory` with status 2; and what comes after ZMEM is replies in form. A request
+before the first line, as many as a run without a line makes, may also be told by `mserve: settings: Memory` with status 3 and no
+reply. One request of a run may go by untold, with all replies as they are: std asks for the words of the command line in advance,
+and again where that was refused. Status 1 where a run does otherwise, where a block asks for no memory, or where there is no block.
 
 The program is crates/mserve/out/mserve, as `./mserve` or the gate leaves it. `tools/refuse_memory.c` refuses the requests."""
 import os
@@ -56,8 +56,9 @@ def run(shim, stream, nth):
     return ran.stdout, ran.stderr, ran.returncode, int(told or b"0")
 
 
-def fault(wanted, output, told, status):
-    """What is wrong with a run of which a request was refused; "" where it is not told at all, and None where all is well."""
+def fault(wanted, output, told, status, in_a_line):
+    """What is wrong with a run of which a request was refused, be it in a line or before the first; "" where it is not told at all,
+    and None where all is well."""
     lines = output.splitlines(True)
     lost = next((i for i, line in enumerate(lines) if line.endswith(b"!ZMEM\n")), None)
     if lost is not None:
@@ -68,13 +69,15 @@ def fault(wanted, output, told, status):
         return None if (status, told) == (0, b"") else f"status {status}, {told!r}"
     if not wanted.startswith(output):
         return "other replies"
-    if (status, told) in ((5, b"mserve: wire: Memory\n"), (3, b"mserve: settings: Memory\n"), (2, b"mserve: Memory\n")):
+    if (status, told) in ((5, b"mserve: wire: Memory\n"), (2, b"mserve: Memory\n")):
+        return None
+    if (status, told, output) == (3, b"mserve: settings: Memory\n", b"") and not in_a_line:
         return None
     return "" if (status, told, output) == (0, b"", wanted) else f"status {status}, {told!r}"
 
 
-def judge(shim, block):
-    """How many requests of a block were refused, and what went wrong."""
+def judge(shim, at_start, block):
+    """How many requests of a block were refused, and what went wrong. So many requests come before the first line."""
     name, stream, wanted = block
     output, told, status, count = run(shim, stream, 0)
     if (output, told, status) != (wanted, b"", 0) or count == 0:
@@ -82,7 +85,7 @@ def judge(shim, block):
     faults, untold = [], []
     for nth in range(1, count + 1):
         output, told, status, _ = run(shim, stream, nth)
-        wrong = fault(wanted, output, told, status)
+        wrong = fault(wanted, output, told, status, nth > at_start)
         if wrong == "":
             untold.append(nth)
         elif wrong:
@@ -99,8 +102,9 @@ def main():
         shim = os.path.join(folder, "refuse_memory.so")
         source = os.path.join(TOP, "tools", "refuse_memory.c")
         subprocess.run(["cc", "-shared", "-fPIC", "-O1", "-o", shim, source], check=True)
+        at_start = run(shim, b"", 0)[3]
         with ThreadPoolExecutor(os.cpu_count() or 1) as pool:
-            judged = list(pool.map(lambda block: judge(shim, block), blocks()))
+            judged = list(pool.map(lambda block: judge(shim, at_start, block), blocks()))
     faults = [fault for _, faults in judged for fault in faults]
     for told in faults[:20]:
         print(f"refuse_memory: {told}")

@@ -109,12 +109,7 @@ impl<'a, S: NodeStore> Parts<'a, S> {
     }
 
     // Gives each target a value.
-    fn assign_all(
-        &mut self,
-        alloc: Global,
-        value: &Value,
-        pendings: &[Pending],
-    ) -> Result<(), Code>
+    fn assign_all(&mut self, alloc: Global, value: &Value, pendings: &[Pending]) -> Result<(), Code>
         ensures loans { KeepsLoans self.old self.new }
         ensures fewer { self.new.eval.steps ≤ self.old.eval.steps }
         ensures does { Does S.NodeStore (λ i. meaning.all_assigned value.now (map pending_view pendings.now)) (λ u. u) self.old result self.new }

@@ -35,7 +35,7 @@ module _ {S : Type 0} {g : Ghosts S} where
         → MovedAs {X = Signal} (standing_of old.eval) g.steady fault_of signal_of (left (standing_of old.eval).account (f ∷ fs) (m ∷ ms) s) (here_of g mid locks) r fs' (here_of g new locks)
     moved {fs' = fs'} {r = r} k sound locks m ms le e =
         let here =
-          subst (λ b. MovedOn b g.steady fault_of signal_of (frame b.account m f s) (left b.account fs ms) (here_of g mid locks) r fs' (here_of g new locks)) d.same (k.at sound locks m ms le e)
+        subst (λ b. MovedOn b g.steady fault_of signal_of (frame b.account m f s) (left b.account fs ms) (here_of g mid locks) r fs' (here_of g new locks)) d.same (k.at sound locks m ms le e)
         in
         here.done
 

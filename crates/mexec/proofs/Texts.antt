@@ -57,7 +57,7 @@ module _ {S : Type 0} {g : Ghosts S} where
   pub done : (o : Option LineTree) (l : LineTree) (old new : Parts S) (e : Ended) (s : Signal) → o ≡ Some l → ending_of e ≡ step.ending_of (signal_of s) → DoesAt g (λ a n. run_within a n (map (λ c. c.0) l.commands)) signal_of old (Ok s) new
       → new.eval.steps ≤ old.eval.steps → RunsText g o old e new
   done o l old new e s some is d few = subst (λ o. RunsText g o old e new) (sym some) (record {
-    at = λ sound locks. 
+    at = λ sound locks.
         let b = standing_of old.eval in
         let did = d.at sound locks in
         ends_by b g.steady (run b.account l) (here_of g old locks) e s (here_of g new locks) is (did.at old.eval.steps (omega arith));

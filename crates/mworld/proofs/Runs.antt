@@ -86,7 +86,7 @@ none_held t = same_map held_cmp_total held_cmp_exact _ _ (λ h. get_cut held_cmp
 -- ---- steps
 
 module _ {S : Type 0} (g : Ghosts S) (settings : Settings) (e : Event) (place : ℕ) (sessions : FinMap nat_cmp step.Session) (old new : Session) (store store' : S) (reply : Reply) (passes : Passes settings e place)
-  (same : session_of old ≡ session_or_new (get sessions e.terminal)) (ran : Ran g settings e.terminal place e.text old store reply new store') (sound : g.sound) where
+    (same : session_of old ≡ session_or_new (get sessions e.terminal)) (ran : Ran g settings e.terminal place e.text old store reply new store') (sound : g.sound) where
   abbrev server : Server
   server = record { world = shared g store; sessions = sessions }
 

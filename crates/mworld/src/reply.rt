@@ -4,8 +4,8 @@ ghost use Rattle.mmeaning.specs.Step.{Faulted};
 ghost use Rattle.moperator.specs.Codes.{fault_of};
 ghost use Rattle.mworld.specs.View.{reply_of};
 
-use moperator::Code;
 use mexec::Ended;
+use moperator::Code;
 use std::alloc::Global;
 
 /// A line of a terminal.

@@ -1,7 +1,7 @@
 // Lines of the wire, with their replies, and the events of a stream.
 use crate::escapes::bytes_of;
-use crate::pieces::Pieces;
 use crate::line_settings::line_settings;
+use crate::pieces::Pieces;
 use crate::{print_case, print_others, print_results};
 use mstore::{NodeStore, Plain, Table};
 use mwire::{Watched, read_events, serve};

@@ -1,7 +1,6 @@
 -- How the calls of this crate are put together.
-use Rattle.std.proofs.Common.{◌≡◌, ℕ, ◌≤◌, ◌++◌, Result, Ok, Err, refl, sym, ap, ◌∙◌, subst, arith}
+use Rattle.std.proofs.Common.{◌≡◌, ◌++◌, Result, Ok, Err, refl, sym, ap, ◌∙◌, subst, arith}
 use Rattle.std.specs.Result.{IsErr, IsErrAnd}
-use Rattle.mspec.specs.LockConflict.{Locks}
 use Rattle.mspec.specs.Act.{Text, Act, Gives, ◌>>=◌, give, write}
 use Rattle.mmeaning.specs.Expression.{Inside, inside}
 use Rattle.mmeaning.specs.Calls.{Gave}

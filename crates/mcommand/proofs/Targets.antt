@@ -1,5 +1,5 @@
 -- Targets of SET.
-use Rattle.std.proofs.Common.{◌≡◌, ℕ, ◌+◌, ◌<◌, ◌≤◌, List, [], ◌∷◌, ◌++◌, Option, Result, Ok, Err, length, drop, get_or, map, refl, sym, ap, subst, arith}
+use Rattle.std.proofs.Common.{◌≡◌, ℕ, ◌+◌, ◌<◌, List, [], ◌∷◌, ◌++◌, Option, Result, Ok, Err, length, drop, get_or, map, refl, sym, ap, subst, arith}
 use Rattle.std.specs.Prelude.{ℤ, unwrap_or}
 use Rattle.std.specs.Result.{IsErr, IsErrAnd}
 use Rattle.mspec.specs.Code as spec
@@ -21,13 +21,11 @@ use Rattle.mstore.specs.declared.store.NodeStore.{Ghosts}
 use Rattle.moperator.specs.Codes.{fault_of}
 use Rattle.moperator.specs.Faults.{fault_code}
 use Rattle.moperator.specs.declared.code.Code.{Code}
-use Rattle.moperator.specs.declared.code.Code.TheVariants.{Zmem}
-use Rattle.meval.specs.Evaluates.{inside_at}
 use Rattle.mcommand.specs.declared.parts.Parts.{Parts}
 use Rattle.mcommand.specs.declared.set.Pending.{Pending}
 use Rattle.mcommand.specs.Does.{Does, here_of}
 use Rattle.mcommand.specs.Pendings.{pending_view}
-use Rattle.mcommand.proofs.Calls.{does_then, does_failed, does_stopped, does_yielded, does_gives, does_last}
+use Rattle.mcommand.proofs.Calls.{does_then, does_failed, does_stopped, does_yielded, does_gives}
 
 -- a piece, once its place is a number
 abbrev piece_given : (name d x : Text) → Option ℤ → Text → Act (Unit {0})

@@ -1,9 +1,9 @@
 -- What calls say of the acts of a line.
-use Rattle.std.specs.Prelude.{◌≡◌, ℕ, ◌≤◌, Result}
+use Rattle.std.specs.Prelude.{◌≡◌, ℕ, Result}
 use Rattle.mspec.specs.LockConflict.{Locks}
 use Rattle.mspec.specs.Act.{Text, Act}
 use Rattle.mmeaning.specs.Expression.{Inside}
-use Rattle.mmeaning.specs.Calls.{Here, Did, Follows}
+use Rattle.mmeaning.specs.Calls.{Here, Did}
 use Rattle.mstore.specs.declared.store.NodeStore.{Ghosts}
 use Rattle.moperator.specs.Codes.{fault_of}
 use Rattle.moperator.specs.declared.code.Code.{Code}

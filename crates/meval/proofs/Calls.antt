@@ -1,14 +1,13 @@
 -- How the calls of this crate are put together.
-use Rattle.std.proofs.Common.{◌≡◌, ◌≢◌, ℕ, ◌≤◌, [], Option, Some, None, Result, Ok, Err, refl, sym, ap, ◌∙◌, subst, arith}
+use Rattle.std.proofs.Common.{◌≡◌, ◌≢◌, ℕ, [], Some, None, Result, Ok, Err, refl, sym, ◌∙◌, subst, arith}
 use Rattle.std.specs.Result.{IsErr, IsErrAnd}
 use Rattle.std.specs.FinMap.{empty}
 use Rattle.mspec.specs.Code as spec
 use Rattle.mspec.specs.Code.{Lost}
 use Rattle.mspec.specs.Plan.{perform}
-use Rattle.mspec.specs.LockConflict.{Locks}
 use Rattle.mspec.specs.Act.{Text, Act, Gives, Fails, ◌>>=◌, give, give_some, get_local, set_local, assigned_to, value_of}
 use Rattle.mmeaning.specs.Expression.{Inside, inside}
-use Rattle.mmeaning.specs.Calls.{Standing, Here, Did, Ends, Gave, ops_of, point}
+use Rattle.mmeaning.specs.Calls.{Standing, Here, Did, Ends, ops_of}
 use Rattle.mmeaning.specs.Yields.{Yields}
 use Rattle.mmeaning.proofs.Calls.{did_then, did_failed, did_gives, did_lost, residual_is}
 use Rattle.mmeaning.proofs.Yieldings.{yielded}

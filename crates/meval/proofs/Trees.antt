@@ -4,8 +4,7 @@ use Rattle.std.specs.Prelude.{cond}
 use Rattle.std.proofs.Math.ListN.{drop_of_length-le}
 use Rattle.mspec.specs.Number.{significant_digits}
 use Rattle.mspec.specs.NumberText.{numeric_value}
-use Rattle.mspec.specs.Code as spec
-use Rattle.mspec.specs.Act.{Text, Act, ◌>>=◌, charge, give, fail, get_local}
+use Rattle.mspec.specs.Act.{Text, Act, ◌>>=◌, charge, give, get_local}
 use Rattle.mspec.proofs.ListPlaces.{next_item}
 use Rattle.mgrammar.specs.Grammar.{PrimaryTree, ExprTree, step, steps_of, exprs_of, choices_of, number, text, local, bracket, call, select}
 use Rattle.mmeaning.specs.Operators.{as_text, as_truth}

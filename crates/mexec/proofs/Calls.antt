@@ -1,16 +1,14 @@
 -- How the calls of this crate are put together.
-use Rattle.std.proofs.Common.{◌≡◌, ℕ, ◌≤◌, ◌<◌, ◌+◌, ◌++◌, List, [], ◌∷◌, Result, Ok, Err, length, drop, get_or, refl, sym, ap, ◌∙◌, subst, arith}
+use Rattle.std.proofs.Common.{◌≡◌, ℕ, ◌≤◌, ◌<◌, ◌+◌, ◌++◌, List, [], ◌∷◌, Result, Ok, Err, length, drop, get_or, refl, sym, ◌∙◌, subst, arith}
 use Rattle.std.proofs.lemmas.List.{drop_more}
 use Rattle.std.specs.Result.{IsErr, IsErrAnd}
-use Rattle.mspec.specs.LockConflict.{Locks}
 use Rattle.mspec.specs.Act.{Text, Act, ◌>>=◌, ◌>>◌, give}
-use Rattle.mgrammar.specs.Grammar.{CommandTree}
 use Rattle.mmeaning.specs.Expression.{Inside, inside}
 use Rattle.mmeaning.specs.LineMeaning as meaning
 use Rattle.mmeaning.specs.LineMeaning.{Go_on, after, context}
 use Rattle.mmeaning.specs.Calls.{Standing, Here, Did}
-use Rattle.mmeaning.specs.Frames.{View, Rests, left, frame, Enough, MovedAs, MovedOn}
-use Rattle.mmeaning.proofs.Calls.{residual_is, did_then, did_failed, did_gives, did_lost, then_follows, then_failed}
+use Rattle.mmeaning.specs.Frames.{View, left, frame, MovedOn}
+use Rattle.mmeaning.proofs.Calls.{residual_is, did_then, did_failed, did_gives, then_follows, then_failed}
 use Rattle.mmeaning.proofs.Moves.{on_then, on_failed, on_lost, on_signal, on_frame, enough}
 use Rattle.mstore.specs.declared.store.NodeStore.{Ghosts}
 use Rattle.moperator.specs.Codes.{fault_of}
@@ -23,7 +21,7 @@ use Rattle.mcommand.specs.Does.{Does, DoesAt, here_of}
 use Rattle.mexec.specs.declared.frames.Frame.{Frame}
 use Rattle.mexec.specs.declared.signal.Signal.{Signal}
 use Rattle.mexec.specs.declared.signal.Signal.TheVariants as signal
-use Rattle.mexec.specs.Frames.{Runs, view, stack, stacked, signal_of, spot_of}
+use Rattle.mexec.specs.Frames.{Runs, view, stack, stacked, signal_of}
 
 -- ---- acts
 

@@ -1,5 +1,5 @@
 -- A text by its tree.
-use Rattle.std.proofs.Common.{◌≡◌, ◌≢◌, ◌≤◌, List, [], ℕ, Option, Some, None, Result, Ok, Err, refl, sym, ap, ◌∙◌, subst, map, arith}
+use Rattle.std.proofs.Common.{◌≡◌, ◌≢◌, ◌≤◌, List, ℕ, Option, Some, None, Ok, Err, refl, sym, ap, ◌∙◌, subst, map, arith}
 use Rattle.std.specs.FinMap.{empty}
 use Rattle.mspec.specs.Act.{Act}
 use Rattle.mgrammar.specs.Grammar.{LineTree, spell, well}
@@ -9,9 +9,8 @@ use Rattle.mmeaning.specs.LineMeaning as meaning
 use Rattle.mmeaning.specs.LineMeaning.{run, run_within}
 use Rattle.mmeaning.specs.Step as step
 use Rattle.mmeaning.specs.Step.{Ending, Faulted}
-use Rattle.mmeaning.specs.Calls.{Standing, Here, Gave, IsCut}
+use Rattle.mmeaning.specs.Calls.{Standing, Here, Gave}
 use Rattle.mstore.specs.declared.store.NodeStore.{Ghosts}
-use Rattle.moperator.specs.Codes.{fault_of}
 use Rattle.moperator.specs.declared.code.Code.{Code}
 use Rattle.moperator.specs.declared.code.Code.TheVariants.{Zsyntax, Zmem, Zstore}
 use Rattle.meval.specs.Evaluates.{standing_of}

@@ -1,5 +1,5 @@
 -- What a call that carries out a text says of the text's meaning.
-use Rattle.std.specs.Prelude.{◌≡◌, ℕ, ◌≤◌, Option}
+use Rattle.std.specs.Prelude.{◌≡◌, ◌≤◌, Option}
 use Rattle.mspec.specs.LockConflict.{Locks}
 use Rattle.mspec.specs.Act.{Act}
 use Rattle.mgrammar.specs.Grammar.{LineTree}

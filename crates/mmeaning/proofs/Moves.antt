@@ -1,5 +1,5 @@
 -- What is left of a line, a step of it at a time.
-use Rattle.std.proofs.Common.{◌≡◌, ℕ, zero, suc, ◌≤◌, List, [], ◌∷◌, Result, Ok, Err, sym, subst, arith}
+use Rattle.std.proofs.Common.{◌≡◌, ℕ, ◌≤◌, List, [], ◌∷◌, Result, Ok, Err, sym, subst, arith}
 use Rattle.mspec.specs.Code.{Fault}
 use Rattle.mspec.specs.Act.{Act, ◌>>=◌, give}
 use Rattle.mmeaning.specs.LineMeaning.{Signal}

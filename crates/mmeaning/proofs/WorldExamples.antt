@@ -1,10 +1,10 @@
 -- What operations do on examples, as proved equations: an account does what its settings let it, and nothing else.
-use Rattle.std.proofs.Common.{◌≡◌, [], ◌∷◌, Some, None, true, false, refl}
+use Rattle.std.proofs.Common.{◌≡◌, [], ◌∷◌, None, true, false, refl}
 use Rattle.std.specs.Prelude.{codes}
 use Rattle.std.specs.FinMap.{empty, get, insert, remove}
 use Rattle.mspec.specs.Node.{Text, Node}
 use Rattle.mspec.specs.Access.{Settings, Read, Write}
-use Rattle.mspec.specs.Globals.{status, without_subtree}
+use Rattle.mspec.specs.Globals.{status}
 use Rattle.mspec.specs.LockConflict.{LockName, taken, released}
 use Rattle.mspec.specs.Plan.{May, Value, Status, Put, Kill, Take}
 use Rattle.mspec.specs.Act.{State, Gives}

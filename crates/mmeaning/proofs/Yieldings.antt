@@ -3,7 +3,7 @@ use Rattle.std.proofs.Common.{◌≡◌, Result, Ok, Err, refl, sym, ap, ◌∙�
 use Rattle.std.specs.Result.{IsErr, IsErrAnd}
 use Rattle.mspec.specs.Code.{Fault, Own, Lost, Memory, Store}
 use Rattle.mspec.specs.Plan.{Done, then_plan, perform}
-use Rattle.mspec.specs.Act.{State, Gives, Fails, Act, on_gives, ◌>>=◌, give}
+use Rattle.mspec.specs.Act.{State, Gives, Act, on_gives, ◌>>=◌, give}
 use Rattle.mmeaning.specs.Yields.{YieldsFault, YieldsAs, Yields}
 use Rattle.mmeaning.specs.Calls.{Standing, Here, Ends, FailedBy, Did, ops_of}
 use Rattle.mmeaning.proofs.Calls.{residual_is}

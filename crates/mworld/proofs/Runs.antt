@@ -1,5 +1,5 @@
 -- A line's step, from the run of its text.
-use Rattle.std.proofs.Common.{◌≡◌, ◌≢◌, ℕ, [], Option, None, Bool, true, false, not, cond, Vec, Global, refl, sym, ap, subst, ◌∙◌}
+use Rattle.std.proofs.Common.{◌≡◌, ℕ, [], Option, None, Bool, true, false, not, cond, Vec, Global, refl, sym, ap, subst, ◌∙◌}
 use Rattle.std.specs.Prelude.{nat_eq}
 use Rattle.std.specs.Ordering.{nat_cmp}
 use Rattle.std.specs.FinMap.{FinMap, get, insert, remove, empty, get-empty, same_map}
@@ -15,7 +15,7 @@ use Rattle.mgrammar.specs.Reading.{line_at}
 use Rattle.mmeaning.specs.LineMeaning.{Signal}
 use Rattle.mmeaning.specs.Step as step
 use Rattle.mmeaning.specs.Step.{Account, World, Event, Server, Step, FailedStep, lost, StepBy, normal, begun, kept, ended, settled, session_or_new, text_run, is_failure, is_lost, Ending, Finished, Halted, Faulted, act}
-use Rattle.mmeaning.specs.Calls.{Standing, Here, Gave, IsCut, FailedBy, ops_of, point}
+use Rattle.mmeaning.specs.Calls.{Standing, Here, IsCut, FailedBy, ops_of, point}
 use Rattle.mspec.proofs.Plans.{cut_whole}
 use Rattle.mmeaning.proofs.Calls.{cut_all}
 use Rattle.mstore.specs.declared.store.NodeStore.{Ghosts}

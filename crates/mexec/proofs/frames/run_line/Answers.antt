@@ -1,6 +1,5 @@
 use Rattle.std.proofs.Common.{◌≡◌, ◌≤◌, Option, Some, None, length, map, refl, arith}
 use Rattle.mspec.proofs.ListPlaces.{none_left}
-use Rattle.mmeaning.specs.LineMeaning.{run_within}
 use Rattle.mtree.specs.Tree.{line_tree}
 use Rattle.mcommand.proofs.Calls.{keeps_itself, keeps_on}
 use Rattle.mexec.proofs.Calls.{stack_push}

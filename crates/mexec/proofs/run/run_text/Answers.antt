@@ -1,7 +1,7 @@
-use Rattle.std.proofs.Common.{◌∙◌, ap, Err, refl}
+use Rattle.std.proofs.Common.{◌∙◌, ap, Err}
 use Rattle.mgrammar.specs.Reading.{line_at}
 use Rattle.mtree.specs.Tree.{line_tree}
-use Rattle.mexec.proofs.Texts.{none_at, some_at, refused, wanting, done, failed, never_refused}
+use Rattle.mexec.proofs.Texts.{none_at, some_at, refused, done, failed, never_refused}
 use Rattle.mexec.proofs.run.run_text.Goals as goal
 
 pub returns-in-Err-Syntax-clause-does : goal.returns-in-Err-Syntax-clause-does

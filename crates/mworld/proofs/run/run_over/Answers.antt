@@ -1,4 +1,4 @@
-use Rattle.std.proofs.Common.{rules, refl, sym}
+use Rattle.std.proofs.Common.{rules, sym}
 use Rattle.mworld.proofs.Runs.{ran_over}
 use Rattle.mworld.proofs.run.run_over.Goals as goal
 

@@ -1,4 +1,4 @@
-use Rattle.std.proofs.Common.{[], map, drop, arith, refl, Vec, Global}
+use Rattle.std.proofs.Common.{map, arith, refl, Vec, Global}
 use Rattle.std.proofs.lemmas.List.{map_push}
 use Rattle.mspec.proofs.ListPlaces.{none_left}
 use Rattle.mmeaning.proofs.Calls.{residual_is}

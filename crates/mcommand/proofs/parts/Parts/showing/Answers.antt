@@ -1,4 +1,4 @@
-use Rattle.std.proofs.Common.{refl, ap, ◌∙◌, ◌++◌}
+use Rattle.std.proofs.Common.{refl}
 use Rattle.mcommand.proofs.Calls.{does_then, does_stopped, does_evaluated, does_wanting, does_write}
 use Rattle.mcommand.proofs.parts.Parts.showing.Goals as goal
 

@@ -1,9 +1,6 @@
-use Rattle.std.proofs.Common.{◌∙◌, arith, [], map, Vec, Global}
+use Rattle.std.proofs.Common.{◌∙◌, arith, Vec, Global}
 use Rattle.mmeaning.proofs.Calls.{residual_is}
 use Rattle.mspec.specs.Act.{Text}
-use Rattle.mgrammar.specs.Grammar.{exprs_of}
-use Rattle.mmeaning.specs.Expression.{values}
-use Rattle.mtree.specs.Tree.{expr_tree}
 use Rattle.moperator.proofs.Numbers.{computed_outcome}
 use Rattle.meval.proofs.Calls.{evaluates_then, evaluates_failed, evaluates_gives, evaluates_stopped, evaluates_wanting, evaluates_yielded, keeps_itself, keeps_on}
 use Rattle.meval.proofs.TreeViews.{expr_is, operand_is, number_is, text_is, local_is, bracket_is, call_is, select_is, apply_is, matches_is, matches_not_is}

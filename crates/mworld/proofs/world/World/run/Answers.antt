@@ -4,9 +4,7 @@ use Rattle.std.specs.Cmp.{nat_cmp_total}
 use Rattle.std.specs.FinMap.{insert, from_entries, nat_cmp-IsAntisymmetric}
 use Rattle.mspec.proofs.Maps.{insert-map_of, insert-remove}
 use Rattle.mspec.specs.Code.{Memory}
-use Rattle.mspec.specs.Scopes.{outermost}
-use Rattle.mmeaning.specs.Step as step
-use Rattle.mmeaning.specs.Step.{Faulted, Server, lost, is_failure}
+use Rattle.mmeaning.specs.Step.{Faulted, lost, is_failure}
 use Rattle.moperator.specs.Codes.{fault_of}
 use Rattle.moperator.specs.declared.code.Code.TheVariants.{Zmem}
 use Rattle.meval.specs.Sessions.{session_of}

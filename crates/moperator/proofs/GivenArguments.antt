@@ -1,8 +1,9 @@
 -- Arguments of functions at their places.
-use Rattle.std.proofs.Common.{◌≡◌, ℕ, suc, ◌+◌, ◌<◌, ◌≤◌, List, [], ◌∷◌, ◌++◌, length, drop, get_or, Option, Some, None, Result, Ok, Err, refl, sym, ap, ◌∙◌, subst, drop-cons, add-one}
+use Rattle.std.proofs.Common.{◌≡◌, ℕ, ◌+◌, ◌<◌, ◌≤◌, List, [], ◌∷◌, ◌++◌, length, drop, get_or, Option, Some, None, Result, Ok, Err, refl, sym, ap, subst}
 use Rattle.std.specs.Prelude.{ℤ, slice_get}
 use Rattle.std.proofs.Math.ListN.{drop_of_length-le}
 use Rattle.std.proofs.lemmas.Option.{slice_get_read, slice_get_past}
+use Rattle.mspec.proofs.ListPlaces.{next_item}
 use Rattle.mspec.specs.Act.{Text, give}
 use Rattle.mmeaning.specs.Functions.{as_whole, as_whole_or_none, whole_at, wholes}
 use Rattle.mmeaning.specs.Yields.{Yields}
@@ -31,10 +32,6 @@ refused args k v e within is d =
     subst (λ x. Yields fault_of (as_whole_or_none x) (λ (n : Option ℤ). n) (Err e)) (sym (argument_is args k v within is)) (yields_failed (λ n. give (Some n)) d)
 
 -- ---- all as whole numbers
-
--- what is left from a place on begins with the item there
-pub next_item : {A : Type 0} (xs : List A) (i : ℕ) (d : A) → i < length xs → d ≡ get_or xs i d → drop i xs ≡ d ∷ drop (i + 1) xs
-next_item xs i d h e = drop-cons xs i d h ∙ (λ j. sym e j ∷ drop (suc i) xs) ∙ rw (sym (add-one i)) refl
 
 pub next_whole : {X : Type 0} (view : X → List ℤ) (args : List Text) (i : ℕ) (v : Text) (ns : List ℤ) (n : ℤ) (r : Result X Code) → i < length args → v ≡ get_or args i v → Yields fault_of (as_whole v) (λ (n : ℤ). n) (Ok n)
     → Yields fault_of (wholes (ns ++ n ∷ []) (drop (i + 1) args)) view r → Yields fault_of (wholes ns (drop i args)) view r

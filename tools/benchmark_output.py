@@ -53,6 +53,7 @@ def main():
     grants()
     locks()
     lines()
+    loops()
 
 
 KEYS = {
@@ -163,6 +164,12 @@ def lines():
         print(f"lines over {kind}")
         print(f"  {'equal':<12} {PASSES * count * len(reply(1))}")
         print(f"  {'different':<12} {PASSES * sum(len(reply(i)) for i in range(count))}")
+
+
+def loops():
+    print("turns of a FOR")
+    for name, count in ("empty", 1), ("arithmetic", 1), ("subscripts", 1), ("walk", 1), ("set and kill", 2):
+        print(f"  {name:<12} {PASSES * count * len('1.' + chr(10))}")
 
 
 if __name__ == "__main__":

@@ -34,7 +34,7 @@ fn different_lines(alloc: Global) -> anyhow::Result<Vec<u8>> {
 }
 
 // How many bytes a world answers.
-fn answered<S: NodeStore>(alloc: Global, world: &mut World<S>, stream: &[u8]) -> i128 {
+pub fn answered<S: NodeStore>(alloc: Global, world: &mut World<S>, stream: &[u8]) -> i128 {
     let mut reader = Watched::new(stream);
     let mut replies = Vec::new(alloc);
     match serve(alloc, world, &mut reader, &mut Watched::new(&mut replies)) {

@@ -1,5 +1,5 @@
-//! Times the operations of numbers, texts, keys, locals, stores, settings and locks, and lines of M. With a count, as `benchmark 2000000`, each runs so
-//! often in each of five passes, and the time of the fastest pass is printed; without one, a thousand times, and only checksums
+//! Times the operations of numbers, texts, keys, locals, stores, settings and locks, and lines of M. With a count, as
+//! `benchmark 2000000`, each runs so often in each of five passes, and the time of the fastest pass is printed; without one, a thousand times, and only checksums
 //! are printed, which are the same on every machine. A second word names one page, as `benchmark 2000000 stores`.
 #![tactic(auto)]
 
@@ -8,6 +8,7 @@ mod keys;
 mod lines;
 mod locals;
 mod locks;
+mod loops;
 mod measure;
 mod numbers;
 mod stores;
@@ -42,7 +43,8 @@ fn all(rt: &HostRuntime, plan: Plan) -> anyhow::Result<()> {
     stores::stores(rt, plan)?;
     grants::grants(rt, plan)?;
     locks::locks(rt, plan)?;
-    lines::lines(rt, plan)
+    lines::lines(rt, plan)?;
+    loops::loops(rt, plan)
 }
 
 fn one(rt: &HostRuntime, plan: Plan, page: &str) -> anyhow::Result<()> {
@@ -55,6 +57,7 @@ fn one(rt: &HostRuntime, plan: Plan, page: &str) -> anyhow::Result<()> {
         "grants" => grants::grants(rt, plan),
         "locks" => locks::locks(rt, plan),
         "lines" => lines::lines(rt, plan),
+        "loops" => loops::loops(rt, plan),
         _ => anyhow::bail!("no such page"),
     }
 }

@@ -14,6 +14,8 @@ pub struct Plan {
 #[derive(Clone, Copy)]
 pub enum Unit {
     Nanoseconds,
+    /// So much is done in a round, and the time of one is told.
+    NanosecondsEach(usize),
     /// So many bytes are gone over in a round, and the time is told as bytes a nanosecond.
     BytesPerNanosecond(usize),
     /// So many lines are run in a round, and the time is told as thousands of lines a second.
@@ -47,6 +49,10 @@ pub fn measure<F: FnMut(usize) -> i128>(
     let rounds = plan.rounds.max(1) as u128;
     let (tenths, unit) = match unit {
         Unit::Nanoseconds => (least / rounds.div_ceil(10), "ns"),
+        Unit::NanosecondsEach(count) => (
+            least.saturating_mul(10) / (count as u128).saturating_mul(rounds).max(1),
+            "ns",
+        ),
         Unit::BytesPerNanosecond(bytes) => (
             (bytes as u128).saturating_mul(rounds).saturating_mul(10) / least.max(1),
             "bytes/ns",

@@ -1,17 +1,22 @@
 -- How the calls of this crate are put together.
-use Rattle.std.proofs.Common.{◌≡◌, ◌++◌, Result, Ok, Err, refl, sym, ap, ◌∙◌, subst, arith}
+use Rattle.std.proofs.Common.{◌≡◌, Bool, true, false, cond, List, [], ◌∷◌, ◌++◌, Result, Ok, Err, refl, sym, ap, ◌∙◌, subst, arith}
 use Rattle.std.specs.Result.{IsErr, IsErrAnd}
+use Rattle.std.specs.Iterator.{Yields as IterYields}
+use Rattle.std.specs.Vec.Iter.{into_iter_items, into_iter_steps}
+use Rattle.std.specs.declared.vec.IntoIter.{IntoIter}
 use Rattle.mspec.specs.Act.{Text, Act, Gives, ◌>>=◌, give, write}
-use Rattle.mmeaning.specs.Expression.{Inside, inside}
-use Rattle.mmeaning.specs.Calls.{Gave}
+use Rattle.mgrammar.specs.Grammar.{ExprTree}
+use Rattle.mmeaning.specs.Operators.{as_truth}
+use Rattle.mmeaning.specs.Expression.{Inside, inside, value}
 use Rattle.mmeaning.specs.Yields.{Yields}
-use Rattle.mmeaning.proofs.Calls.{did_then, did_failed, did_gives, did_lost, residual_is}
+use Rattle.mmeaning.proofs.Calls.{did_then, did_failed, did_gives, did_lost, residual_is, assoc}
 use Rattle.mmeaning.proofs.Yieldings.{yielded}
 use Rattle.mstore.specs.declared.store.NodeStore.{Ghosts}
 use Rattle.moperator.specs.Codes.{fault_of}
 use Rattle.moperator.specs.declared.code.Code.{Code}
 use Rattle.moperator.specs.declared.code.Code.TheVariants.{Zmem}
 use Rattle.meval.specs.declared.eval.Eval.{Eval}
+use Rattle.meval.specs.Acts.{truth}
 use Rattle.meval.specs.Evaluates.{Evaluates, standing_of, eval_here, inside_at, depth_of}
 use Rattle.meval.proofs.Calls.{moved, keeps_itself as eval_keeps_itself, keeps_on as eval_keeps_on}
 use Rattle.mcommand.specs.declared.parts.Parts.{Parts}
@@ -54,6 +59,18 @@ does_evaluated {old = old} d = record {
   depth = d.depth;
 }
 
+-- an act by another name
+pub does_is : {S A X : Type 0} {g : Ghosts S} {p q : Inside → Act A} {f : X → A} {old new : Parts S} {r : Result X Code} → ((i : Inside) → ◌≡◌ {A = Act A} (p i) (q i)) → Does g q f old r new → Does g p f old r new
+does_is {g = g} {f = f} {old = old} {new = new} {r = r} same k = subst (λ p. Does g p f old r new) (λ j i. sym (same i) j) k
+
+-- one of two acts
+module _ {S A X : Type 0} {g : Ghosts S} {f : X → A} {old new : Parts S} {r : Result X Code} (p q : Act A) (b : Bool) where
+  pub does_true : b ≡ true → Does g (λ i. p) f old r new → Does g (λ i. cond b p q) f old r new
+  does_true is k = subst (λ b. Does g (λ i. cond b p q) f old r new) (sym is) k
+
+  pub does_false : b ≡ false → Does g (λ i. q) f old r new → Does g (λ i. cond b p q) f old r new
+  does_false is k = subst (λ b. Does g (λ i. cond b p q) f old r new) (sym is) k
+
 -- a call that needs no point
 pub does_yielded : {S A X : Type 0} {g : Ghosts S} {p : Act A} {f : X → A} {parts : Parts S} {r : Result X Code} → Yields fault_of p f r → Does g (λ i. p) f parts r parts
 does_yielded {g = g} {parts = parts} y = record {
@@ -84,29 +101,6 @@ does_write {g = g} old new x out same = record {
   depth = ap (λ e. e.depth) same;
 }
 
--- another value that stands for the same
-pub does_as : {S A X Y : Type 0} {g : Ghosts S} {p : Inside → Act A} {f : X → A} (j : Y → A) {x : X} {y : Y} {old new : Parts S} → Does g p f old (Ok x) new → j y ≡ f x → Does g p j old (Ok y) new
-does_as {g = g} {p = p} {f = f} j {x = x} {y = y} {old = old} {new = new} d same = record {
-  at = λ sound locks.
-      let did = d.at sound locks in
-      record {
-        at = λ n le. subst (λ a. Gave (standing_of old.eval) (p (inside_at old.eval n)) (here_of g old locks) a (here_of g new locks)) (sym same) (did.at n le);
-        fewer = did.fewer;
-      };
-  same = d.same;
-  depth = d.depth;
-}
-
--- the last act of a call, by a `?` that it returns
-pub does_last : {S A X Y : Type 0} {g : Ghosts S} {p : Inside → Act A} {f : X → A} {j : Y → A} {old new : Parts S} {e : Code} {r : Result Y Code}
-    → Does g p f old (Err e) new → IsErr r × IsErrAnd r (λ x. x ≡ e) → Does g p j old r new
-does_last {g = g} {p = p} {j = j} {old = old} {new = new} {r = r} d h =
-    subst (λ r. Does g p j old r new) (sym (residual_is r _ h)) (record {
-      at = λ sound locks. let did = d.at sound locks in record { at = did.at; fewer = did.fewer };
-      same = d.same;
-      depth = d.depth;
-    })
-
 -- an evaluation, at a depth of its own
 pub at_evaluated : {S A X : Type 0} {g : Ghosts S} {p : Inside → Act A} {f : X → A} {old : Parts S} {e : Eval S} {r : Result X Code} (d : _) → Evaluates g p f (record old.eval { depth = d }) r e
     → DoesAt g (λ a n. p (inside a n (depth_of d))) f old r (record old { eval = e })
@@ -123,6 +117,17 @@ at_done d k = record {
   same = k.same;
 }
 
+-- ---- truths
+
+-- what is done with the truth of an expression
+pub truth_then : {S B Y : Type 0} {g : Ghosts S} (e : ExprTree) (q : Bool → Act B) {j : Y → B} {old mid new : Parts S} {b : Bool} {r : Result Y Code} → Does g (λ i. truth i e) (λ (b : Bool). b) old (Ok b) mid → Does g (λ i. q b) j mid r new
+    → Does g (λ i. value i e >>= (λ x. as_truth x >>= q)) j old r new
+truth_then {g = g} e q {j = j} {old = old} {new = new} {r = r} d k = does_is (λ i. sym (assoc (value i e) as_truth q)) (does_then (λ i. q) d k)
+
+pub truth_stopped : {S B Y : Type 0} {g : Ghosts S} (e : ExprTree) (q : Bool → Act B) {j : Y → B} {old new : Parts S} {c : Code} {r : Result Y Code} → Does g (λ i. truth i e) (λ (b : Bool). b) old (Err c) new → IsErr r × IsErrAnd r (λ x. x ≡ c)
+    → Does g (λ i. value i e >>= (λ x. as_truth x >>= q)) j old r new
+truth_stopped e q d h = does_is (λ i. sym (assoc (value i e) as_truth q)) (does_stopped (λ i. q) d h)
+
 -- ---- loans
 
 pub keeps_itself : {S : Type 0} (a : Parts S) → KeepsLoans a a
@@ -130,3 +135,10 @@ keeps_itself a = record { eval = eval_keeps_itself a.eval; out = refl }
 
 pub keeps_on : {S : Type 0} {a b c : Parts S} → KeepsLoans a b → KeepsLoans b c → KeepsLoans a c
 keeps_on k l = record { eval = eval_keeps_on k.eval l.eval; out = l.out ∙ k.out }
+
+-- ---- vectors that are used up
+
+-- what an iterator has given is a front of its items
+pub taken_front : {X A : Type 0} (s : IntoIter X A) (xs : List X) (t : IntoIter X A) → IterYields into_iter_steps s xs t → into_iter_items s ≡ xs ++ into_iter_items t
+taken_front s [] t y = ap into_iter_items y
+taken_front s (x ∷ xs) t y = y.1.0 ∙ ap (λ ys. x ∷ ys) (taken_front y.0 xs t y.2)

@@ -1,2 +1,4 @@
 pub mod Does
-pub mod Pendings
+pub mod Prepared
+pub mod Conditions
+pub mod Turns

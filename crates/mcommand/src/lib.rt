@@ -1,9 +1,13 @@
-//! What the arguments of commands do that run no text: SET and WRITE.
+//! What the arguments of commands do that run no text: SET, KILL, IF and WRITE, postconditionals, and the parameters of FOR.
 #![tactic(auto)]
 
+mod condition;
+mod kill;
 mod parts;
 mod set;
+mod turn;
 mod write;
 
 pub use parts::Parts;
+pub use turn::Course;
 pub use write::LINE_END;

@@ -1,12 +1,14 @@
-// SET: its targets are resolved first, and then assigned.
+// SET: the parts of its targets are evaluated first, then the right side, and then each target is assigned.
 ghost use Rattle.std.specs.Prelude.{◌≡◌, ◌≤◌, [], map, option_map};
 ghost use Rattle.mmeaning.specs.LineMeaning as meaning;
 ghost use Rattle.mtree.specs.Tree.{expr_tree, target_tree, destination_tree};
+ghost use Rattle.meval.specs.Places.{pending_view};
 ghost use Rattle.mcommand.specs.Does.{Does, KeepsLoans};
-ghost use Rattle.mcommand.specs.Pendings.{pending_view};
+ghost use Rattle.mcommand.specs.Prepared.{prepared_view};
 
 use crate::parts::Parts;
-use mnum::{Bytes7, Name};
+use meval::Pending;
+use mnum::Bytes7;
 use moperator::{Code, whole_number};
 use mstore::NodeStore;
 use mtext::set_piece;
@@ -16,21 +18,21 @@ use std::alloc::Global;
 
 // A target of which everything is evaluated that it has to evaluate.
 #[derive(Drop)]
-pub(crate) enum Pending<'t> {
+pub(crate) enum Prepared<'t> {
     // A variable.
-    Whole(&'t Name),
+    Whole(Pending<'t>),
     // A piece of a variable, with its delimiter and its place.
-    Part(&'t Name, Bytes7, Option<Value>),
+    Part(Pending<'t>, Bytes7, Option<Value>),
 }
 
 impl<'a, S: NodeStore> Parts<'a, S> {
     // The value of an expression, where there is one.
-    fn place_value(&mut self, alloc: Global, place: &Option<Expr>) -> Result<Option<Value>, Code>
+    fn optional_value(&mut self, alloc: Global, e: &Option<Expr>) -> Result<Option<Value>, Code>
         ensures loans { KeepsLoans self.old self.new }
         ensures fewer { self.new.eval.steps ≤ self.old.eval.steps }
-        ensures does { Does S.NodeStore (λ i. meaning.place_value i (option_map expr_tree place.now)) (λ place. place) self.old result self.new }
+        ensures does { Does S.NodeStore (λ i. meaning.optional_value i (option_map expr_tree e.now)) (λ value. value) self.old result self.new }
     {
-        match place {
+        match e {
             None => Ok(None),
             Some(e) => {
                 let value = self.eval.eval(alloc, e)?;
@@ -40,82 +42,90 @@ impl<'a, S: NodeStore> Parts<'a, S> {
     }
 
     // What a target evaluates.
-    fn pending<'t>(&mut self, alloc: Global, target: &'t Target) -> Result<Pending<'t>, Code>
+    fn prepared<'t>(&mut self, alloc: Global, target: &'t Target) -> Result<Prepared<'t>, Code>
         ensures loans { KeepsLoans self.old self.new }
         ensures fewer { self.new.eval.steps ≤ self.old.eval.steps }
-        ensures does { Does S.NodeStore (λ i. meaning.pending i (target_tree target.now)) pending_view self.old result self.new }
+        ensures does { Does S.NodeStore (λ i. meaning.prepared i (target_tree target.now)) prepared_view self.old result self.new }
     {
         match target {
-            Target::Variable(name) => Ok(Pending::Whole(name)),
+            Target::Variable(reference) => {
+                let pending = self.eval.resolve_left(alloc, reference)?;
+                Ok(Prepared::Whole(pending))
+            }
             Target::Piece(part) => {
+                let pending = self.eval.resolve_left(alloc, &part.reference)?;
                 let delimiter = self.eval.eval(alloc, &part.delimiter)?;
-                let place = self.place_value(alloc, &part.place)?;
+                let place = self.optional_value(alloc, &part.place)?;
                 let delimiter = delimiter.into_text(alloc)?;
-                Ok(Pending::Part(&part.name, delimiter, place))
+                Ok(Prepared::Part(pending, delimiter, place))
             }
         }
     }
 
     // What targets evaluate, one after another.
-    fn pendings<'t>(
+    fn all_prepared<'t>(
         &mut self,
         alloc: Global,
         targets: &'t [Target],
-    ) -> Result<Vec<Pending<'t>>, Code>
+    ) -> Result<Vec<Prepared<'t>>, Code>
         ensures loans { KeepsLoans self.old self.new }
         ensures fewer { self.new.eval.steps ≤ self.old.eval.steps }
-        ensures does { Does S.NodeStore (λ i. meaning.pendings i [] (map target_tree targets.now)) (λ pendings. map pending_view pendings.items) self.old result self.new }
+        ensures does { Does S.NodeStore (λ i. meaning.all_prepared i [] (map target_tree targets.now)) (λ all. map prepared_view all.items) self.old result self.new }
     {
-        let mut pendings = Vec::with_capacity(alloc, targets.len())?;
+        let mut all = Vec::with_capacity(alloc, targets.len())?;
         for target in targets {
-            let pending = self.pending(alloc, target)?;
-            pendings.push(pending)?;
+            let prepared = self.prepared(alloc, target)?;
+            all.push(prepared)?;
         }
-        Ok(pendings)
+        Ok(all)
     }
 
     // Gives a piece of a variable a value.
     fn set_part(
         &mut self,
         alloc: Global,
-        name: &Name,
+        pending: Pending,
         delimiter: &Bytes7,
         place: &Option<Value>,
         value: &Value,
     ) -> Result<(), Code>
         ensures loans { KeepsLoans self.old self.new }
         ensures fewer { self.new.eval.steps ≤ self.old.eval.steps }
-        ensures does { Does S.NodeStore (λ i. meaning.assigned value.now (meaning.part name.now delimiter.now place.now)) (λ u. u) self.old result self.new }
+        ensures does { Does S.NodeStore (λ i. meaning.assigned value.now (meaning.part (pending_view pending.entry) delimiter.now place.now)) (λ u. u) self.old result self.new }
     {
+        let left = self.eval.finish_left(pending)?;
         let place = whole_number(place)?;
-        let old = self.eval.text_or_empty(alloc, name)?;
+        let old = self.eval.text_or_empty(alloc, &left)?;
         let shown = value.shown(alloc)?;
         let new = set_piece(alloc, &old, delimiter, place, shown.as_text())?;
-        self.eval.set_local(name, Value::of_text(new))
+        self.eval.put(&left, Value::of_text(new))
     }
 
     // Gives a target a value.
-    fn assign(&mut self, alloc: Global, value: Value, pending: &Pending) -> Result<(), Code>
+    fn assign(&mut self, alloc: Global, value: Value, prepared: Prepared) -> Result<(), Code>
         ensures loans { KeepsLoans self.old self.new }
         ensures fewer { self.new.eval.steps ≤ self.old.eval.steps }
-        ensures does { Does S.NodeStore (λ i. meaning.assigned value (pending_view pending.now)) (λ u. u) self.old result self.new }
+        ensures does { Does S.NodeStore (λ i. meaning.assigned value (prepared_view prepared.entry)) (λ u. u) self.old result self.new }
     {
-        match pending {
-            Pending::Whole(name) => self.eval.set_local(name, value),
-            Pending::Part(name, delimiter, place) => {
-                self.set_part(alloc, name, delimiter, place, &value)
+        match prepared {
+            Prepared::Whole(pending) => {
+                let place = self.eval.finish_left(pending)?;
+                self.eval.put(&place, value)
+            }
+            Prepared::Part(pending, delimiter, place) => {
+                self.set_part(alloc, pending, &delimiter, &place, &value)
             }
         }
     }
 
     // Gives each target a value.
-    fn assign_all(&mut self, alloc: Global, value: &Value, pendings: &[Pending]) -> Result<(), Code>
+    fn assign_all(&mut self, alloc: Global, value: &Value, all: Vec<Prepared>) -> Result<(), Code>
         ensures loans { KeepsLoans self.old self.new }
         ensures fewer { self.new.eval.steps ≤ self.old.eval.steps }
-        ensures does { Does S.NodeStore (λ i. meaning.all_assigned value.now (map pending_view pendings.now)) (λ u. u) self.old result self.new }
+        ensures does { Does S.NodeStore (λ i. meaning.all_assigned value.now (map prepared_view all.entry.items)) (λ u. u) self.old result self.new }
     {
-        for pending in pendings {
-            self.assign(alloc, value.copy()?, pending)?;
+        for prepared in all {
+            self.assign(alloc, value.copy()?, prepared)?;
         }
         Ok(())
     }
@@ -138,14 +148,14 @@ impl<'a, S: NodeStore> Parts<'a, S> {
     {
         match destination {
             Destination::One(target) => {
-                let pending = self.pending(alloc, target)?;
+                let prepared = self.prepared(alloc, target)?;
                 let value = self.eval.eval(alloc, e)?;
-                self.assign(alloc, value, &pending)
+                self.assign(alloc, value, prepared)
             }
             Destination::Several(targets) => {
-                let pendings = self.pendings(alloc, targets)?;
+                let all = self.all_prepared(alloc, targets)?;
                 let value = self.eval.eval(alloc, e)?;
-                self.assign_all(alloc, &value, &pendings)
+                self.assign_all(alloc, &value, all)
             }
         }
     }

@@ -1,20 +1,20 @@
 -- How the calls of this crate are put together.
-use Rattle.std.proofs.Common.{◌≡◌, ◌≢◌, ℕ, [], Some, None, Result, Ok, Err, refl, sym, ◌∙◌, subst, arith}
+use Rattle.std.proofs.Common.{◌≡◌, ◌≢◌, ℕ, [], Result, Ok, Err, refl, sym, ◌∙◌, subst, arith}
 use Rattle.std.specs.Result.{IsErr, IsErrAnd}
 use Rattle.std.specs.FinMap.{empty}
 use Rattle.mspec.specs.Code as spec
-use Rattle.mspec.specs.Code.{Lost}
-use Rattle.mspec.specs.Plan.{perform}
-use Rattle.mspec.specs.Act.{Text, Act, Gives, Fails, ◌>>=◌, give, give_some, get_local, set_local, assigned_to, value_of}
+use Rattle.mspec.specs.Code.{Lost, Own, M6}
+use Rattle.mspec.specs.Act.{Text, Act, Gives, Fails, ◌>>=◌, Locals, value_of, of_locals, give, fail, give_some}
+use Rattle.mmeaning.specs.Variables.{Place, at_local, read_at, found_at}
 use Rattle.mmeaning.specs.Expression.{Inside, inside}
-use Rattle.mmeaning.specs.Calls.{Standing, Here, Did, Ends, ops_of}
+use Rattle.mmeaning.specs.Calls.{Standing, Here, Did, Ends, FailedBy}
 use Rattle.mmeaning.specs.Yields.{Yields}
 use Rattle.mmeaning.proofs.Calls.{did_then, did_failed, did_gives, did_lost, residual_is}
 use Rattle.mmeaning.proofs.Yieldings.{yielded}
 use Rattle.mstore.specs.declared.store.NodeStore.{Ghosts}
 use Rattle.moperator.specs.Codes.{fault_of}
 use Rattle.moperator.specs.declared.code.Code.{Code}
-use Rattle.moperator.specs.declared.code.Code.TheVariants.{Zmem, Zstore, M6}
+use Rattle.moperator.specs.declared.code.Code.TheVariants.{Zmem, Zstore}
 use Rattle.meval.specs.declared.depth.Depth.{Depth}
 use Rattle.meval.specs.declared.eval.Eval.{Eval}
 use Rattle.meval.specs.Evaluates.{Evaluates, KeepsEval, standing_of, eval_here, depth_of}
@@ -71,47 +71,6 @@ evaluates_yielded {g = g} {e = e} y = record {
   depth = refl;
 }
 
--- ---- a local variable
-
-pub gives_local : {S X : Type 0} {g : Ghosts S} {e : Eval S} (f : X → Text) (name : Text) (x : X) → value_of e.session.now.locals name ≡ Some (f x) → Evaluates g (λ i. get_local name) f e (Ok x) e
-gives_local {g = g} {e = e} f name x is = record {
-  at = λ sound out locks. record {
-    at = λ n le.
-        let h = eval_here g e out locks in
-        subst (λ o. perform (ops_of (standing_of e)) (give_some spec.M6 o h.0) h.1 ≡ (Gives (f x) h.0, h.1)) (sym is) refl;
-    fewer = omega arith;
-  };
-  same = refl;
-  depth = refl;
-}
-
-pub no_local : {S X : Type 0} {g : Ghosts S} {e : Eval S} (f : X → Text) (name : Text) → value_of e.session.now.locals name ≡ None → Evaluates g (λ i. get_local name) f e (Err M6) e
-no_local {g = g} {e = e} f name is = record {
-  at = λ sound out locks. record {
-    at = λ n le.
-        let h = eval_here g e out locks in
-        subst (λ o. perform (ops_of (standing_of e)) (give_some spec.M6 o h.0) h.1 ≡ (Fails spec.M6 h.0, h.1)) (sym is) refl;
-    fewer = omega arith;
-  };
-  same = refl;
-  depth = refl;
-}
-
--- a variable is given a text, and nothing else has changed
-pub sets_local : {S : Type 0} {g : Ghosts S} (old new : Eval S) (name x : Text) → new.session.now.locals ≡ assigned_to old.session.now.locals name x → new.session.now.naked ≡ old.session.now.naked → new.session.now.test ≡ old.session.now.test
-    → new.store.now ≡ old.store.now → new.steps ≡ old.steps → standing_of new ≡ standing_of old → new.depth ≡ old.depth → Evaluates g (λ i. set_local name x) (λ (u : Unit {0}). u) old (Ok tt) new
-sets_local {g = g} old new name x locals naked test store steps same depth = record {
-  at = λ sound out locks. record {
-    at = λ n le i. (
-      Gives tt (record { locals = sym locals i; naked = sym naked i; test = sym test i; out = out; steps = sym steps i }),
-      record { globals = g.content (sym store i); locks = locks },
-    );
-    fewer = omega (arith, steps);
-  };
-  same = same;
-  depth = depth;
-}
-
 -- ---- over a steady store
 
 -- a call over a steady store never fails by the store
@@ -130,3 +89,32 @@ keeps_itself e = record { session = refl; store = refl }
 
 pub keeps_on : {S : Type 0} {a b c : Eval S} → KeepsEval a b → KeepsEval b c → KeepsEval a c
 keeps_on k l = record { session = l.session ∙ k.session; store = l.store ∙ k.store }
+
+-- ---- places
+
+-- what is read is what is found, where there is something
+pub read_is : (p : Place) → ◌≡◌ {A = Act Text} (read_at p) (found_at p >>= give_some M6)
+unfolding value_of
+read_is (at_local name xs) = refl
+
+-- what is asked of the locals
+pub asks_locals : {S A X : Type 0} {g : Ghosts S} {e : Eval S} (question : Locals → A) (f : X → A) (x : X) → f x ≡ question e.session.now.locals → Evaluates g (λ i. of_locals question) f e (Ok x) e
+asks_locals {g = g} {e = e} question f x is = record {
+  at = λ sound out locks. record {
+    at = λ n le i. let h = eval_here g e out locks in (Gives (sym is i) h.0, h.1);
+    fewer = omega arith;
+  };
+  same = refl;
+  depth = refl;
+}
+
+-- a code of the act's own
+pub evaluates_fails : {S A X : Type 0} {g : Ghosts S} {e : Eval S} (f : X → A) (c : spec.Code) (code : Code) → fault_of code ≡ Own c → Evaluates g (λ i. fail c) f e (Err code) e
+evaluates_fails {A = A} {g = g} {e = e} f c code is = record {
+  at = λ sound out locks. record {
+    at = λ n le. let h = eval_here g e out locks in subst (λ fault. FailedBy {A = A} (standing_of e) g.steady (fail c) h fault h) (sym is) (λ i. (Fails c h.0, h.1));
+    fewer = omega arith;
+  };
+  same = refl;
+  depth = refl;
+}

@@ -1,3 +1,4 @@
 pub mod Calls
 pub mod TreeViews
+pub mod Walks
 pub mod Trees

@@ -4,12 +4,13 @@ use Rattle.std.specs.Prelude.{cond}
 use Rattle.std.proofs.Math.ListN.{drop_of_length-le}
 use Rattle.mspec.specs.Number.{significant_digits}
 use Rattle.mspec.specs.NumberText.{numeric_value}
-use Rattle.mspec.specs.Act.{Text, Act, ◌>>=◌, charge, give, get_local}
+use Rattle.mspec.specs.Act.{Text, Act, ◌>>=◌, charge, give}
 use Rattle.mspec.proofs.ListPlaces.{next_item}
-use Rattle.mgrammar.specs.Grammar.{PrimaryTree, ExprTree, step, steps_of, exprs_of, choices_of, number, text, local, bracket, call, select}
+use Rattle.mgrammar.specs.Grammar.{PrimaryTree, ExprTree, step, steps_of, exprs_of, choices_of, number, text, special, reference, bracket, call, select, refer, special_of, function_of}
 use Rattle.mmeaning.specs.Operators.{as_text, as_truth}
 use Rattle.mmeaning.specs.Functions.{call_value}
-use Rattle.mmeaning.specs.Expression.{Inside, value, steps_value, primary_value, values, chosen}
+use Rattle.mmeaning.specs.Expression.{Inside, value, steps_value, primary_value, evaluated, values, chosen}
+use Rattle.mmeaning.specs.Variables.{reading, resolve, read_at, referring, special_value}
 use Rattle.mtree.specs.Tree.{expr_tree, step_tree, choice_tree}
 use Rattle.mtree.specs.declared.tree.Expr.{Expr}
 use Rattle.mtree.specs.declared.tree.Step.{Step}
@@ -31,10 +32,12 @@ module _ {S : Type 0} {g : Ghosts S} where
   pub charge_failed : {old new : Eval S} (p : PrimaryTree) (e : Code) → Evaluates g (λ i. charge) (λ (u : Unit {0}). u) old (Err e) new → Evaluates g (λ i. primary_value i p) itself old (Err e) new
   charge_failed (number literal) e d = evaluates_failed (λ i _. as_text (numeric_value significant_digits literal)) d
   charge_failed (text t) e d = evaluates_failed (λ i _. give t) d
-  charge_failed (local name) e d = evaluates_failed (λ i _. get_local name) d
+  charge_failed (special word) e d = evaluates_failed (λ i _. special_value (special_of word)) d
+  charge_failed (reference r) e d = evaluates_failed (λ i _. evaluated i r >>= (λ v. resolve reading v >>= read_at)) d
   charge_failed (bracket e') e d = evaluates_failed (λ i _. value i e') d
   charge_failed (call word args) e d = evaluates_failed (λ i _. values i [] args >>= call_value word) d
   charge_failed (select word choices) e d = evaluates_failed (λ i _. chosen i choices) d
+  charge_failed (refer word r more) e d = evaluates_failed (λ i _. referring (function_of word) (evaluated i r) (values i [] more)) d
 
   -- ---- steps of an expression
 

@@ -1,21 +1,34 @@
 // The evaluation of expressions.
-ghost use Rattle.std.specs.Prelude.{◌≡◌, ◌≢◌, ◌≤◌, ◌<◌, [], map, unwrap_or, Err, IfOk};
+ghost use Rattle.std.specs.Prelude.{◌≡◌, ◌≢◌, ◌≤◌, ◌<◌, [], map, slice_get, unwrap_or, Err, IfOk};
+ghost use Rattle.mgrammar.specs.Grammar.{exprs_of, choices_of, function_of, special_of};
+ghost use Rattle.mlocal.specs.Way.{way};
 ghost use Rattle.mmeaning.specs.Expression as meaning;
-ghost use Rattle.mspec.specs.Act.{charge, get_local, set_local, value_of};
-ghost use Rattle.mgrammar.specs.Grammar.{exprs_of, choices_of};
-ghost use Rattle.mtree.specs.Tree.{expr_tree, step_tree, operand_tree, primary_tree, choice_tree};
+ghost use Rattle.mmeaning.specs.LineMeaning as line;
+ghost use Rattle.mmeaning.specs.Variables as variables;
+ghost use Rattle.mnum.specs.Num.{units};
+ghost use Rattle.mspec.specs.Act.{charge};
+ghost use Rattle.mtree.specs.Tree.{expr_tree, step_tree, operand_tree, primary_tree, reference_tree, choice_tree};
+ghost use Rattle.mtree.specs.declared.tree.Referring.{out-Referring};
 ghost use Rattle.moperator.specs.declared.code.Code.TheVariants.{Zstore};
 ghost use Rattle.meval.specs.Evaluates.{Evaluates, KeepsEval};
+ghost use Rattle.meval.specs.Acts as acts;
+ghost use Rattle.meval.specs.Places.{pending_view, place_view, place_of, status_view, IsWalk};
 
 use crate::depth::Depth;
+use crate::place::{Pending, Place, check_walk, local_parts, resolved};
 use crate::session::Session;
+use crate::walk::{data_value, direction, first_or_empty, texts};
 use mgrant::{AccountId, Settings};
-use mnum::{Bytes7, Name, Num};
-use moperator::{Code, binary, call, computed, matching, truth_of, unaries};
+use mlocal::{Data, Direction};
+use mnum::{Bytes7, Num};
+use moperator::{Code, binary, call, computed, matching, number_of, truth_of, unaries};
 use mstore::NodeStore;
-use mtree::{Choice, Expr, Operand, Primary, Step};
+use mtree::{
+    Choice, Expr, Function, Operand, Primary, Reference, Referring, SpecialVariable, Step,
+    function_of, special_of,
+};
 use mvalue::Value;
-use std::alloc::{AllocError, Global};
+use std::alloc::Global;
 
 /// What the evaluation of an expression is lent, and where it stands.
 #[derive(Drop)]
@@ -50,43 +63,130 @@ impl<'a, S: NodeStore> Eval<'a, S> {
         Ok(())
     }
 
-    // A copy of a local variable's value.
-    fn local(&mut self, name: &Name) -> Result<Value, Code>
+    // The value of a place, where it has one.
+    #[tactic(auto, unfolding(mspec::specs::Act::value_of))]
+    fn found(&mut self, place: &Place) -> Result<Option<Value>, Code>
         ensures loans { KeepsEval self.old self.new }
         ensures fewer { self.new.steps ≤ self.old.steps }
-        ensures does { Evaluates S.NodeStore (λ i. get_local name.now) (λ v. v) self.old result self.new }
+        ensures does { Evaluates S.NodeStore (λ i. variables.found_at (place_view place.now)) (λ found. found) self.old result self.new }
     {
-        match self.session.locals.get(name, &[])? {
-            Some(value) => Ok(value.copy()?),
+        match place {
+            Place::Local(name, subscripts) => {
+                match self.session.locals.get(name, subscripts.as_slice())? {
+                    Some(value) => Ok(Some(value.copy()?)),
+                    None => Ok(None),
+                }
+            }
+        }
+    }
+
+    // The value of a place.
+    fn read(&mut self, place: &Place) -> Result<Value, Code>
+        ensures loans { KeepsEval self.old self.new }
+        ensures fewer { self.new.steps ≤ self.old.steps }
+        ensures does { Evaluates S.NodeStore (λ i. variables.read_at (place_view place.now)) (λ v. v) self.old result self.new }
+    {
+        match self.found(place)? {
+            Some(value) => Ok(value),
             None => Err(Code::M6),
         }
     }
 
-    /// Gives a local variable a value.
+    /// The text of a place, or the empty one where it has none.
     ///
     /// # Errors
     ///
-    /// `Zmem` for want of memory; the variable is then as it was.
-    pub fn set_local(&mut self, name: &Name, value: Value) -> Result<(), Code>
+    /// `Zmem` for want of memory.
+    pub fn text_or_empty(&mut self, alloc: Global, place: &Place) -> Result<Bytes7, Code>
         ensures loans { KeepsEval self.old self.new }
         ensures fewer { self.new.steps ≤ self.old.steps }
-        ensures does { Evaluates S.NodeStore (λ i. set_local name.now value) (λ u. u) self.old result self.new }
+        ensures does { Evaluates S.NodeStore (λ i. variables.read_or [] (place_view place.now)) (λ text. text) self.old result self.new }
     {
-        self.session.locals.set(name, &[], value)?;
-        Ok(())
+        match self.found(place)? {
+            Some(value) => Ok(value.into_text(alloc)?),
+            None => Ok(Bytes7::empty(alloc)),
+        }
     }
 
-    /// The text of a local variable, or the empty one where it is undefined.
-    ///
-    /// # Errors
-    ///
-    /// `AllocError` for want of memory.
-    pub fn text_or_empty(&self, alloc: Global, name: &Name) -> Result<Bytes7, AllocError>
-        ensures { IfOk result (λ text. text ≡ unwrap_or (value_of self.now.session.now.locals name.now) []) }
+    // The value of a place, or the first of these where it has none; the empty text where there is neither.
+    fn read_or(&mut self, alloc: Global, place: &Place, others: Vec<Value>) -> Result<Value, Code>
+        ensures loans { KeepsEval self.old self.new }
+        ensures fewer { self.new.steps ≤ self.old.steps }
+        ensures does { Evaluates S.NodeStore (λ i. variables.read_or (unwrap_or (slice_get others.items 0) []) (place_view place.now)) (λ v. v) self.old result self.new }
     {
-        match self.session.locals.get(name, &[])? {
-            Some(value) => Ok(value.copy()?.into_text(alloc)?),
-            None => Ok(Bytes7::empty(alloc)),
+        match self.found(place)? {
+            Some(value) => Ok(value),
+            None => Ok(first_or_empty(alloc, others)),
+        }
+    }
+
+    // Whether a place has a text, and whether one below it has one.
+    fn status(&mut self, place: &Place) -> Result<Data, Code>
+        ensures loans { KeepsEval self.old self.new }
+        ensures fewer { self.new.steps ≤ self.old.steps }
+        ensures does { Evaluates S.NodeStore (λ i. variables.status_at (place_view place.now)) status_view self.old result self.new }
+    {
+        match place {
+            Place::Local(name, subscripts) => {
+                let data = self.session.locals.data(name, subscripts.as_slice())?;
+                Ok(data)
+            }
+        }
+    }
+
+    // What $DATA gives of a variable.
+    fn data(&mut self, pending: Pending) -> Result<Value, Code>
+        ensures loans { KeepsEval self.old self.new }
+        ensures fewer { self.new.steps ≤ self.old.steps }
+        ensures does { Evaluates S.NodeStore (λ i. acts.data_act (pending_view pending.entry)) (λ v. v) self.old result self.new }
+    {
+        let place = resolved(pending)?;
+        let data = self.status(&place)?;
+        Ok(data_value(data))
+    }
+
+    // The subscript next to the last one of a walk, or the empty text where there is none.
+    fn next(
+        &mut self,
+        alloc: Global,
+        pending: &Pending,
+        direction: Direction,
+    ) -> Result<Value, Code>
+        requires { IsWalk pending.now }
+        ensures loans { KeepsEval self.old self.new }
+        ensures fewer { self.new.steps ≤ self.old.steps }
+        ensures does { Evaluates S.NodeStore (λ i. variables.next_at (way direction) (place_of (pending_view pending.now))) (λ v. v) self.old result self.new }
+    {
+        match pending {
+            Pending::Local(name, texts) => {
+                match self.session.locals.order(name, texts, direction)? {
+                    Some(text) => Ok(Value::of_text(text)),
+                    None => Ok(Value::of_text(Bytes7::empty(alloc))),
+                }
+            }
+        }
+    }
+
+    // What $ORDER gives of a walk, in the direction that the first of these says.
+    fn order(&mut self, alloc: Global, pending: &Pending, more: &[Value]) -> Result<Value, Code>
+        requires { IsWalk pending.now }
+        ensures loans { KeepsEval self.old self.new }
+        ensures fewer { self.new.steps ≤ self.old.steps }
+        ensures does { Evaluates S.NodeStore (λ i. acts.order_act (slice_get more.now 0) (place_of (pending_view pending.now))) (λ v. v) self.old result self.new }
+    {
+        let direction = direction(more)?;
+        self.next(alloc, pending, direction)
+    }
+
+    // The value of a special variable.
+    fn special(&mut self, word: &Bytes7) -> Result<Value, Code>
+        ensures loans { KeepsEval self.old self.new }
+        ensures fewer { self.new.steps ≤ self.old.steps }
+        ensures does { Evaluates S.NodeStore (λ i. variables.special_value (special_of word.now)) (λ v. v) self.old result self.new }
+    {
+        match special_of(word.as_bytes()) {
+            Some(SpecialVariable::Test) => Ok(Value::of_truth(self.session.test)),
+            None => Err(Code::Zsyntax),
         }
     }
 
@@ -102,13 +202,67 @@ impl<'a, S: NodeStore> Eval<'a, S> {
         match primary {
             Primary::Number(literal) => computed(Num::from_text(literal.as_bytes())),
             Primary::Text(text) => Ok(Value::of_text(text.copy()?)),
-            Primary::Local(name) => self.local(name),
+            Primary::Special(word) => self.special(word),
+            Primary::Reference(reference) => {
+                let pending = self.evaluated(alloc, reference)?;
+                let place = resolved(pending)?;
+                self.read(&place)
+            }
             Primary::Bracket(inner) => self.value(alloc, inner),
             Primary::Call(word, arguments) => {
                 let values = self.values(alloc, arguments)?;
                 call(alloc, word.as_bytes(), &values)
             }
             Primary::Select(_, choices) => self.chosen(alloc, choices),
+            Primary::Refer(referring) => self.referring(alloc, referring),
+        }
+    }
+
+    // What a reference has to evaluate.
+    #[cycle(eval)]
+    fn evaluated<'t>(
+        &mut self,
+        alloc: Global,
+        reference: &'t Reference,
+    ) -> Result<Pending<'t>, Code>
+        ensures loans { KeepsEval self.old self.new }
+        ensures fewer { self.new.steps ≤ self.old.steps }
+        ensures does { Evaluates S.NodeStore (λ i. meaning.evaluated i (reference_tree reference.now)) pending_view self.old result self.new }
+    {
+        let (name, subscripts) = local_parts(reference);
+        let values = self.values(alloc, subscripts)?;
+        let texts = texts(alloc, values)?;
+        Ok(Pending::Local(name, texts))
+    }
+
+    // The value of a function of a variable.
+    #[cycle(eval)]
+    fn referring(&mut self, alloc: Global, referring: &Referring) -> Result<Value, Code>
+        ensures loans { KeepsEval self.old self.new }
+        ensures fewer { self.new.steps ≤ self.old.steps }
+        ensures does { Evaluates S.NodeStore (λ i. variables.referring (function_of (out-Referring referring.now).word) (meaning.evaluated i (reference_tree (out-Referring referring.now).reference)) (meaning.values i [] (exprs_of (map expr_tree (out-Referring referring.now).more.items)))) (λ v. v) self.old result self.new }
+    {
+        let Some(function) = function_of(referring.word.as_bytes()) else {
+            return Err(Code::Zsyntax);
+        };
+        match function {
+            Function::Data => {
+                let pending = self.evaluated(alloc, &referring.reference)?;
+                self.data(pending)
+            }
+            Function::Get => {
+                let pending = self.evaluated(alloc, &referring.reference)?;
+                let place = resolved(pending)?;
+                let more = self.values(alloc, &referring.more)?;
+                self.read_or(alloc, &place, more)
+            }
+            Function::Order => {
+                let pending = self.evaluated(alloc, &referring.reference)?;
+                check_walk(&pending)?;
+                let more = self.values(alloc, &referring.more)?;
+                self.order(alloc, &pending, &more)
+            }
+            _ => Err(Code::Zsyntax),
         }
     }
 
@@ -207,5 +361,84 @@ impl<'a, S: NodeStore> Eval<'a, S> {
         ensures steady { S.steady → result ≢ Err Zstore }
     {
         self.value(alloc, e)
+    }
+
+    /// The number of an expression's value. It costs at least one step.
+    ///
+    /// # Errors
+    ///
+    /// Those of the value; `Zover` where its number is too large.
+    pub fn number(&mut self, alloc: Global, e: &Expr) -> Result<Num, Code>
+        ensures loans { KeepsEval self.old self.new }
+        ensures fewer { self.new.steps ≤ self.old.steps }
+        ensures spent { IfOk result (λ _. self.new.steps < self.old.steps) }
+        ensures does { Evaluates S.NodeStore (λ i. line.number_of i (expr_tree e.now)) units self.old result self.new }
+    {
+        let value = self.value(alloc, e)?;
+        number_of(&value)
+    }
+
+    /// Whether an expression's value is true. It costs at least one step.
+    ///
+    /// # Errors
+    ///
+    /// Those of the value; `Zover` where its number is too large.
+    pub fn truth(&mut self, alloc: Global, e: &Expr) -> Result<bool, Code>
+        ensures loans { KeepsEval self.old self.new }
+        ensures fewer { self.new.steps ≤ self.old.steps }
+        ensures spent { IfOk result (λ _. self.new.steps < self.old.steps) }
+        ensures does { Evaluates S.NodeStore (λ i. acts.truth i (expr_tree e.now)) (λ is_true. is_true) self.old result self.new }
+    {
+        let value = self.value(alloc, e)?;
+        truth_of(&value)
+    }
+
+    /// Evaluates what a variable that is to be changed has to evaluate. The checks come by `finish_left`.
+    ///
+    /// # Errors
+    ///
+    /// Those of the subscripts' values.
+    pub fn resolve_left<'t>(
+        &mut self,
+        alloc: Global,
+        reference: &'t Reference,
+    ) -> Result<Pending<'t>, Code>
+        ensures loans { KeepsEval self.old self.new }
+        ensures fewer { self.new.steps ≤ self.old.steps }
+        ensures does { Evaluates S.NodeStore (λ i. meaning.evaluated i (reference_tree reference.now)) pending_view self.old result self.new }
+    {
+        self.evaluated(alloc, reference)
+    }
+
+    /// The place of a variable that is to be changed, once all of it is evaluated.
+    ///
+    /// # Errors
+    ///
+    /// `Zsub` where there are more than 15 subscripts, or one is empty or has more than 255 characters.
+    pub fn finish_left<'t>(&mut self, pending: Pending<'t>) -> Result<Place<'t>, Code>
+        ensures loans { KeepsEval self.old self.new }
+        ensures fewer { self.new.steps ≤ self.old.steps }
+        ensures does { Evaluates S.NodeStore (λ i. variables.resolve variables.writing (pending_view pending.entry)) place_view self.old result self.new }
+    {
+        resolved(pending)
+    }
+
+    /// The place of a variable that is to be changed.
+    ///
+    /// # Errors
+    ///
+    /// Those of the subscripts' values; `Zsub` where there are more than 15 subscripts, or one is empty or has more than 255
+    /// characters.
+    pub fn resolve<'t>(
+        &mut self,
+        alloc: Global,
+        reference: &'t Reference,
+    ) -> Result<Place<'t>, Code>
+        ensures loans { KeepsEval self.old self.new }
+        ensures fewer { self.new.steps ≤ self.old.steps }
+        ensures does { Evaluates S.NodeStore (λ i. acts.place_left i (reference_tree reference.now)) place_view self.old result self.new }
+    {
+        let pending = self.evaluated(alloc, reference)?;
+        resolved(pending)
     }
 }

@@ -1,15 +1,18 @@
 -- How the calls of this crate are put together.
-use Rattle.std.proofs.Common.{◌≡◌, ℕ, ◌≤◌, ◌<◌, ◌+◌, ◌++◌, List, [], ◌∷◌, Result, Ok, Err, length, drop, get_or, refl, sym, ◌∙◌, subst, arith}
+use Rattle.std.proofs.Common.{◌≡◌, ℕ, zero, suc, ◌≤◌, ◌<◌, ◌+◌, ◌++◌, List, [], ◌∷◌, Result, Ok, Err, length, drop, get_or, refl, sym, ◌∙◌, subst, arith}
 use Rattle.std.proofs.lemmas.List.{drop_more}
-use Rattle.std.specs.Result.{IsErr, IsErrAnd}
-use Rattle.mspec.specs.Act.{Text, Act, ◌>>=◌, ◌>>◌, give}
-use Rattle.mmeaning.specs.Expression.{Inside, inside}
+use Rattle.std.specs.Result.{IsErr, IsErrAnd, IfOk}
+use Rattle.mspec.specs.LockConflict.{Locks}
+use Rattle.mspec.specs.Act.{Text, Act, ◌>>=◌, ◌>>◌, give, set_test}
+use Rattle.mgrammar.specs.Grammar.{ExprTree, CommandTree}
+use Rattle.mmeaning.specs.Operators.{as_truth}
+use Rattle.mmeaning.specs.Expression.{Inside, inside, value}
 use Rattle.mmeaning.specs.LineMeaning as meaning
 use Rattle.mmeaning.specs.LineMeaning.{Go_on, after, context}
 use Rattle.mmeaning.specs.Calls.{Standing, Here, Did}
-use Rattle.mmeaning.specs.Frames.{View, left, frame, MovedOn}
-use Rattle.mmeaning.proofs.Calls.{residual_is, did_then, did_failed, did_gives, then_follows, then_failed}
-use Rattle.mmeaning.proofs.Moves.{on_then, on_failed, on_lost, on_signal, on_frame, enough}
+use Rattle.mmeaning.specs.Frames.{View, Rests, left, frame, Enough, MovedOn}
+use Rattle.mmeaning.proofs.Calls.{residual_is, did_then, did_failed, did_gives, then_follows, then_failed, assoc}
+use Rattle.mmeaning.proofs.Moves.{on_then, on_failed, on_lost, on_signal, on_frame, on_top, enough}
 use Rattle.mstore.specs.declared.store.NodeStore.{Ghosts}
 use Rattle.moperator.specs.Codes.{fault_of}
 use Rattle.moperator.specs.declared.code.Code.{Code}
@@ -18,10 +21,11 @@ use Rattle.meval.specs.declared.depth.Depth.{Depth}
 use Rattle.meval.specs.Evaluates.{standing_of, depth_of}
 use Rattle.mcommand.specs.declared.parts.Parts.{Parts}
 use Rattle.mcommand.specs.Does.{Does, DoesAt, here_of}
+use Rattle.mcommand.specs.Conditions.{tested}
 use Rattle.mexec.specs.declared.frames.Frame.{Frame}
 use Rattle.mexec.specs.declared.signal.Signal.{Signal}
 use Rattle.mexec.specs.declared.signal.Signal.TheVariants as signal
-use Rattle.mexec.specs.Frames.{Runs, view, stack, stacked, signal_of}
+use Rattle.mexec.specs.Frames.{Runs, view, stack, stacked, signal_of, went}
 
 -- ---- acts
 
@@ -57,12 +61,15 @@ module _ {S : Type 0} {g : Ghosts S} (p : Inside → Act (Unit {0})) (depth : De
   there : {r : Result (Unit {0}) Code} → Does g p (λ (u : Unit {0}). u) (record old { eval = record old.eval { depth = depth } }) r new → DoesAt g (λ a n. p (inside a n (depth_of depth))) (λ (u : Unit {0}). u) old r new
   there d = record { at = λ sound locks. d.at sound locks; same = d.same }
 
-  pub goes_on : Does g p (λ (u : Unit {0}). u) (record old { eval = record old.eval { depth = depth } }) (Ok tt) new → DoesAt g (λ a n. p (inside a n (depth_of depth)) >> give Go_on) signal_of old (Ok signal.GoOn) new
-  goes_on d = at_then (λ a n _. give Go_on) (there d) (at_gives Go_on signal_of signal.GoOn refl)
+  pub goes_on : (r : Result (Unit {0}) Code) → Does g p (λ (u : Unit {0}). u) (record old { eval = record old.eval { depth = depth } }) r new → DoesAt g (λ a n. p (inside a n (depth_of depth)) >> give Go_on) signal_of old (went r) new
+  goes_on (Ok u) d = at_then (λ a n _. give Go_on) (there d) (at_gives Go_on signal_of signal.GoOn refl)
+  goes_on (Err e) d = at_failed (λ a n _. give Go_on) (there d)
 
-  pub goes_nowhere : {e : Code} {r : Result Signal Code} → Does g p (λ (u : Unit {0}). u) (record old { eval = record old.eval { depth = depth } }) (Err e) new → IsErr r × IsErrAnd r (λ x. x ≡ e)
-      → DoesAt g (λ a n. p (inside a n (depth_of depth)) >> give Go_on) signal_of old r new
-  goes_nowhere d h = at_stopped (λ a n _. give Go_on) (there d) h
+-- IF is a condition that is tested, and what follows from it
+pub testing_is : (i : Inside) (e : ExprTree) → ◌≡◌ {A = Act meaning.Signal} (meaning.testing i e) (tested i e >>= (λ b. give (meaning.where_true b)))
+testing_is i e = sym (
+    assoc (value i e) (λ x. as_truth x >>= (λ b. set_test b >> give b)) (λ b. give (meaning.where_true b))
+    ∙ (λ j. value i e >>= (λ x. assoc (as_truth x) (λ b. set_test b >> give b) (λ b. give (meaning.where_true b)) j)))
 
 -- a signal that passes what is next
 pub passes : (s : Signal) (p : Act meaning.Signal) → (s ≡ signal.GoOn → ⊥) → ◌≡◌ {A = Act meaning.Signal} (after (signal_of s) p) (give (signal_of s))
@@ -74,6 +81,11 @@ passes signal.Halts p not_go = refl
 -- an act by another name
 pub at_as : {S A X : Type 0} {g : Ghosts S} {p q : Text → ℕ → Act A} {f : X → A} {old new : Parts S} {r : Result X Code} → ((a : Text) (n : ℕ) → ◌≡◌ {A = Act A} (p a n) (q a n)) → DoesAt g q f old r new → DoesAt g p f old r new
 at_as {g = g} {f = f} {old = old} {new = new} {r = r} same k = subst (λ p. DoesAt g p f old r new) (λ i a n. sym (same a n) i) k
+
+-- a fact that no value changes
+pub in_any_case : {X E P : Type 0} (r : Result X E) → P → IfOk r (λ _. P)
+in_any_case (Ok x) h = h
+in_any_case (Err e) h = tt
 
 -- ---- acts before frames
 
@@ -93,6 +105,22 @@ runs_then q {f = f} {x = x} {fs = fs} {old = old} {mid = mid} d few k =
       same = k.same ∙ d.same;
     }
 
+-- the same, where the first act spent the step of an entry: what follows runs with one text fewer
+pub runs_spent : {S A X : Type 0} {g : Ghosts S} {p : Text → ℕ → Act A} (q : Text → ℕ → A → Act meaning.Signal) {f : X → A} {x : X} {fs fs' : List View} {old mid new : Parts S} {r : Result Signal Code}
+    → DoesAt g p f old (Ok x) mid → mid.eval.steps < old.eval.steps → Runs g (λ a n. q a (suc n) (f x)) fs mid r fs' new → Runs g (λ a n. p a n >>= q a n) fs old r fs' new
+runs_spent {g = g} {p = p} q {f = f} {x = x} {fs = fs} {fs' = fs'} {old = old} {mid = mid} {new = new} {r = r} d less k = record {
+  at = go;
+  fewer = let fewer = k.fewer in omega (arith, less, fewer);
+  same = k.same ∙ d.same;
+}
+  where
+    go : g.sound → (locks : Locks) (n : ℕ) (ns : List ℕ) → old.eval.steps ≤ n → Enough old.eval.steps fs ns
+        → MovedOn (standing_of old.eval) g.steady fault_of signal_of (p (standing_of old.eval).account n >>= q (standing_of old.eval).account n) (left (standing_of old.eval).account fs ns) (here_of g old locks) r fs' (here_of g new locks)
+    go sound locks zero ns le e = absurd (omega arith)
+    go sound locks (suc n) ns le e =
+        on_then (q (standing_of old.eval).account (suc n)) (suc n) le (d.at sound locks)
+        (moved_to (λ a. q a (suc n) (f x)) (λ a. left a fs ns) d.same (k.at sound locks n ns (omega arith) (enough mid.eval.steps old.eval.steps fs ns (omega arith) e)))
+
 -- an act fails, by a `?` that the call returns
 pub runs_stopped : {S A X : Type 0} {g : Ghosts S} {p : Text → ℕ → Act A} (q : Text → ℕ → A → Act meaning.Signal) {f : X → A} {fs fs' : List View} {old new : Parts S} {r : Result Signal Code} {e : Code}
     → DoesAt g p f old (Err e) new → new.eval.steps ≤ old.eval.steps → IsErr r × IsErrAnd r (λ x. x ≡ e) → Runs g (λ a n. p a n >>= q a n) fs old r fs' new
@@ -109,6 +137,14 @@ runs_wanting {g = g} p {fs = fs} {fs' = fs'} {parts = parts} r h = subst (λ r. 
   fewer = omega arith;
   same = refl;
 })
+
+-- the same, by a code that the call itself gives
+pub runs_lost : {S : Type 0} {g : Ghosts S} (p : Text → ℕ → Act meaning.Signal) {fs fs' : List View} {parts : Parts S} → Runs g p fs parts (Err Zmem) fs' parts
+runs_lost p {fs = fs} {parts = parts} = record {
+  at = λ sound locks n ns le e. on_lost (p (standing_of parts.eval).account n) (left (standing_of parts.eval).account fs ns) Zmem tt refl (omega arith);
+  fewer = omega arith;
+  same = refl;
+}
 
 -- a signal is given to the frames
 pub runs_signal : {S : Type 0} {g : Ghosts S} {fs : List View} {parts : Parts S} (s : Signal) → Runs g (λ a n. give (signal_of s)) fs parts (Ok s) fs parts
@@ -155,6 +191,14 @@ runs_frame f {fs = fs} k = record {
   at = λ sound locks n ns le e. on_frame fs f n ns (k.at sound locks n (n ∷ ns) le (le, e));
   fewer = k.fewer;
   same = k.same;
+}
+
+-- the rest of a line is on top
+pub runs_rest : {S : Type 0} {g : Ghosts S} {fs : List View} {parts : Parts S} (d : meaning.Spot) (l : List CommandTree) → Runs g (λ a n. meaning.commands (context a n d) l) fs parts (Ok signal.GoOn) (Rests d l ∷ fs) parts
+runs_rest d l = record {
+  at = λ sound locks n ns le e. on_top (Rests d l) signal.GoOn n ns le e;
+  fewer = omega arith;
+  same = refl;
 }
 
 -- ---- frames

@@ -12,7 +12,7 @@ use Rattle.mmeaning.specs.Step.{Ending, Faulted}
 use Rattle.mmeaning.specs.Calls.{Standing, Here, Gave}
 use Rattle.mstore.specs.declared.store.NodeStore.{Ghosts}
 use Rattle.moperator.specs.declared.code.Code.{Code}
-use Rattle.moperator.specs.declared.code.Code.TheVariants.{Zsyntax, Zmem, Zstore}
+use Rattle.moperator.specs.declared.code.Code.TheVariants.{Zsyntax, Zstore}
 use Rattle.meval.specs.Evaluates.{standing_of}
 use Rattle.mcommand.specs.declared.parts.Parts.{Parts}
 use Rattle.mcommand.specs.Does.{DoesAt, here_of}
@@ -49,9 +49,6 @@ ends_by b steady p h (Fault c) s h' is gave = absurd (no_fault c s is)
 module _ {S : Type 0} {g : Ghosts S} where
   pub refused : (o : Option LineTree) (parts : Parts S) → o ≡ None → RunsText g o parts (Fault Zsyntax) parts
   refused o parts e = subst (λ o. RunsText g o parts (Fault Zsyntax) parts) (sym e) (record { at = λ sound locks. refl; fewer = omega arith })
-
-  pub wanting : (o : Option LineTree) (parts : Parts S) → RunsText g o parts (Fault Zmem) parts
-  wanting o parts = record { at = λ sound locks. (0, refl); fewer = omega arith }
 
   pub done : (o : Option LineTree) (l : LineTree) (old new : Parts S) (e : Ended) (s : Signal) → o ≡ Some l → ending_of e ≡ step.ending_of (signal_of s) → DoesAt g (λ a n. run_within a n (map (λ c. c.0) l.commands)) signal_of old (Ok s) new
       → new.eval.steps ≤ old.eval.steps → RunsText g o old e new

@@ -1,13 +1,18 @@
 -- Frames of the program as those of the definitions, and what calls say of them.
-use Rattle.std.specs.Prelude.{◌≡◌, ℕ, ◌≤◌, List, [], ◌∷◌, Result, map, drop}
+use Rattle.std.specs.Prelude.{◌≡◌, ℕ, ◌-◌, ◌≤◌, List, [], ◌∷◌, Option, Some, None, slice_get, Result, Ok, Err, map, drop}
 use Rattle.mspec.specs.LockConflict.{Locks}
 use Rattle.mspec.specs.Act.{Text, Act}
 use Rattle.mgrammar.specs.Grammar.{CommandTree}
 use Rattle.mmeaning.specs.LineMeaning as meaning
-use Rattle.mmeaning.specs.LineMeaning.{Spot}
+use Rattle.mmeaning.specs.LineMeaning.{Spot, Turning}
 use Rattle.mmeaning.specs.Calls.{Follows}
-use Rattle.mmeaning.specs.Frames.{View, Rests, Levels, left, Enough, MovedOn}
-use Rattle.mtree.specs.Tree.{spaced_tree}
+use Rattle.mmeaning.specs.Frames.{View, Rests, Turns, Levels, left, Enough, MovedOn}
+use Rattle.mtree.specs.Tree.{spaced_tree, parameter_tree}
+use Rattle.mtree.specs.declared.tree.Parameter.{Parameter}
+use Rattle.mtree.specs.declared.tree.Arg.{Arg}
+use Rattle.mtree.specs.declared.tree.Arg.TheVariants as arg
+use Rattle.mtree.specs.declared.tree.Spaced.{Spaced}
+use Rattle.mtree.specs.declared.tree.Line.{Line}
 use Rattle.mstore.specs.declared.store.NodeStore.{Ghosts}
 use Rattle.moperator.specs.Codes.{fault_of}
 use Rattle.moperator.specs.declared.code.Code.{Code}
@@ -15,7 +20,9 @@ use Rattle.meval.specs.declared.depth.Depth.{Depth}
 use Rattle.meval.specs.Evaluates.{standing_of, depth_of}
 use Rattle.mcommand.specs.declared.parts.Parts.{Parts}
 use Rattle.mcommand.specs.Does.{here_of}
+use Rattle.mcommand.specs.Turns.{course_view}
 use Rattle.mexec.specs.declared.frames.Rest.{Rest}
+use Rattle.mexec.specs.declared.frames.Turns as turns
 use Rattle.mexec.specs.declared.frames.Frame.{Frame}
 use Rattle.mexec.specs.declared.frames.Frame.TheVariants as frame
 use Rattle.mexec.specs.declared.signal.Signal.{Signal}
@@ -30,11 +37,39 @@ signal_of signal.Halts = meaning.Halts
 abbrev pub spot_of : Depth → Spot
 spot_of d = record { depth = depth_of d }
 
+-- a command that is done goes on with what is next
+abbrev pub went : Result (Unit {0}) Code → Result Signal Code
+went (Ok u) = Ok signal.GoOn
+went (Err c) = Err c
+
+-- the commands of a line from a place on
+abbrev pub commands_from : Line → ℕ → List CommandTree
+commands_from l at = map (λ c. c.0) (map spaced_tree (drop at l.commands.items))
+
 abbrev pub rest_tree : Rest → List CommandTree
-rest_tree r = map (λ c. c.0) (map spaced_tree (drop r.at r.line.value.commands.items))
+rest_tree r = commands_from r.line.value r.at
+
+-- the index and the parameters of a FOR; none of another command, and of a FOR without arguments
+abbrev pub loop_in : List Arg → Text × List Parameter
+loop_in (arg.Loop index parameters ∷ more) = (index, parameters.items)
+loop_in others = ([], [])
+
+abbrev pub loop_of : Option Spaced → Text × List Parameter
+loop_of None = ([], [])
+loop_of (Some s) = loop_in s.command.args.items
+
+-- those of the command before a place
+abbrev pub loop_before : Line → ℕ → Text × List Parameter
+loop_before l at = loop_of (slice_get l.commands.items (at - 1))
+
+abbrev pub turning : turns.Turns → Turning
+turning t =
+    let found = loop_before t.line.value t.at in
+    record { index = found.0; course = course_view t.course; parameters = map parameter_tree (drop t.parameter found.1); body = commands_from t.line.value t.at }
 
 abbrev pub view : Frame → View
 view (frame.Rest r) = Rests (spot_of r.depth) (rest_tree r)
+view (frame.Turns t) = Turns (spot_of t.depth) (turning t)
 view (frame.Level d) = Levels (spot_of d)
 
 -- the last frame pushed is on top

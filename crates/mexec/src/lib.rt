@@ -3,8 +3,11 @@
 
 mod commands;
 mod frames;
+mod line;
+mod rest;
 mod run;
 mod signal;
+mod turns;
 
 pub use mcommand::{LINE_END, Parts};
 pub use run::{Ended, run_text};

@@ -7,7 +7,7 @@ ghost use Rattle.mcommand.specs.Does.{KeepsLoans};
 ghost use Rattle.mexec.specs.Frames.{signal_of};
 ghost use Rattle.mexec.specs.Runs.{RunsText, ending_of};
 
-use crate::frames::run_line;
+use crate::line::run_line;
 use crate::signal::Signal;
 use mcommand::Parts;
 use moperator::Code;

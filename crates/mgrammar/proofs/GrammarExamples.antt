@@ -1,8 +1,8 @@
 -- The grammar on examples, as proved equations: texts with their trees, and texts that have none.
-use Rattle.std.proofs.Common.{◌≡◌, ℕ, List, [], ◌∷◌, ◌++◌, Option, Some, None, refl}
+use Rattle.std.proofs.Common.{◌≡◌, ℕ, zero, suc, List, [], ◌∷◌, ◌++◌, Option, Some, None, refl}
 use Rattle.std.specs.Prelude.{codes, replicate}
-use Rattle.mgrammar.specs.Grammar.{plus, minus, negate, equals, less, greater, contains, follows, sorts_after, both, either, add, subtract, multiply, divide, divide_whole, remainder, join, is, is_not, CountTree, RepeatedTree, classes, copies, AtomTree, OperandTree, PrimaryTree, ExprTree, expr, StepTree, steps_of, apply, matches, matches_not, operand, number, text, local, bracket, call, select, exprs_of, choices_of, variable, piece, DestinationTree, one, several, ArgTree, assign, breaks, shown, KeywordTree, set_word, write_word, CommandTree, LineTree, spell, keyword_of, function_of}
-use Rattle.mgrammar.specs.Reading.{many, list_at, point_at, exponent_at, number_at, name_at, count_at, repeated_at, atom_at, pattern_at, truth_at, operator_at, bracket_with, choice_with, select_with, call_with, function_with, primary_with, operand_with, step_by, step_with, expr_with, readers_at, place_with, piece_with, target_with, destination_at, assignment_at, output_at, args_at, command_at, spaced_at, comment_at, line_at}
+use Rattle.mgrammar.specs.Grammar.{plus, minus, negate, equals, less, greater, contains, follows, sorts_after, both, either, add, subtract, multiply, divide, divide_whole, remainder, join, is, is_not, CountTree, RepeatedTree, classes, copies, AtomTree, OperandTree, PrimaryTree, ExprTree, expr, StepTree, steps_of, apply, matches, matches_not, operand, number, text, special, reference, bracket, call, select, refer, ReferenceTree, local, no_exprs, exprs_of, choices_of, variable, piece, DestinationTree, one, several, once, onward, until, ArgTree, assign, breaks, shown, kill_one, kill_others, new_one, new_others, tested, loop, KeywordTree, set_word, kill_word, new_word, if_word, else_word, for_word, quit_word, write_word, CommandTree, SpacedTree, LineTree, spell, keyword_of, special_of, function_of}
+use Rattle.mgrammar.specs.Reading.{many, list_at, point_at, exponent_at, number_at, name_at, count_at, repeated_at, atom_at, pattern_at, truth_at, operator_at, subscripts_with, reference_with, bracket_with, choice_with, select_with, call_with, refer_with, dollar_with, primary_with, operand_with, step_by, step_with, expr_with, readers_at, place_with, piece_with, target_with, destination_at, assignment_at, output_at, names_at, removal_at, hiding_at, condition_at, parameter_at, repetition_at, args_at, postcondition_at, command_at, spaced_at, comment_at, line_at}
 
 -- ---- short forms
 
@@ -21,8 +21,12 @@ plain p = operand [] p
 abbrev digits : List ℕ → OperandTree
 digits t = plain (number t)
 
+-- a variable without subscripts
+abbrev unindexed : List ℕ → ReferenceTree
+unindexed t = local t no_exprs
+
 abbrev name : List ℕ → OperandTree
-name t = plain (local t)
+name t = plain (reference (unindexed t))
 
 abbrev taken : OperandTree → List StepTree → ExprTree
 taken o steps = expr o (steps_of steps)
@@ -31,15 +35,23 @@ abbrev alone : OperandTree → ExprTree
 alone o = taken o []
 
 abbrev command : KeywordTree → List ℕ → List ArgTree → CommandTree
-command k word args = record { keyword = k; word = word; args = args }
+command k word args = record { keyword = k; word = word; condition = None; args = args }
+
+-- with a postconditional
+abbrev conditional : KeywordTree → List ℕ → ExprTree → List ArgTree → CommandTree
+conditional k word e args = record { keyword = k; word = word; condition = Some e; args = args }
+
+-- a line of these commands, with the spaces behind each
+abbrev of_commands : List SpacedTree → LineTree
+of_commands cs = record { lead = 0; commands = cs; comment = None }
 
 -- a line of one WRITE, by the letter W
 abbrev written : ExprTree → LineTree
-written e = record { lead = 0; commands = (command write_word (codes "W") (shown e ∷ []), 0) ∷ []; comment = None }
+written e = of_commands ((command write_word (codes "W") (shown e ∷ []), 0) ∷ [])
 
 -- a line of one SET, by the letter S
 abbrev assigned : DestinationTree → ExprTree → LineTree
-assigned t e = record { lead = 0; commands = (command set_word (codes "S") (assign t e ∷ []), 0) ∷ []; comment = None }
+assigned t e = of_commands ((command set_word (codes "S") (assign t e ∷ []), 0) ∷ [])
 
 -- ---- trees
 
@@ -52,7 +64,7 @@ sum_and_product =
 abbrev two_commands : LineTree
 two_commands = record {
   lead = 1;
-  commands = (command set_word (codes "s") (assign (one (variable (codes "A"))) (alone (plain (text (codes "x\"y")))) ∷ []), 2)
+  commands = (command set_word (codes "s") (assign (one (variable (unindexed (codes "A")))) (alone (plain (text (codes "x\"y")))) ∷ []), 2)
       ∷ (command write_word (codes "w") (shown (alone (name (codes "A"))) ∷ breaks 2 ∷ []), 0) ∷ [];
   comment = Some (codes "c");
 }
@@ -62,7 +74,7 @@ abbrev signs_in_front : LineTree
 signs_in_front = record {
   lead = 0;
   commands = (
-    command write_word (codes "WrItE") (shown (taken (operand (minus ∷ negate ∷ plus ∷ []) (local (codes "%a1")))
+    command write_word (codes "WrItE") (shown (taken (operand (minus ∷ negate ∷ plus ∷ []) (reference (unindexed (codes "%a1"))))
         (apply join (operand (minus ∷ []) (text [])) ∷ [])) ∷ []),
     1,
   ) ∷ [];
@@ -140,13 +152,81 @@ choices =
 
 abbrev piece_set : LineTree
 piece_set =
-    assigned (one (piece (codes "P") (codes "A") (alone (digits (codes "1"))) (Some (alone (digits (codes "2"))))))
+    assigned (one (piece (codes "P") (unindexed (codes "A")) (alone (digits (codes "1"))) (Some (alone (digits (codes "2"))))))
     (alone (digits (codes "3")))
 
 abbrev several_set : LineTree
 several_set =
-    assigned (several (variable (codes "A") ∷ piece (codes "PIECE") (codes "B") (alone (digits (codes "1"))) None ∷ []))
+    assigned (several (variable (unindexed (codes "A")) ∷ piece (codes "PIECE") (unindexed (codes "B")) (alone (digits (codes "1"))) None ∷ []))
     (alone (digits (codes "3")))
+
+abbrev one_digit : List ℕ → ExprTree
+one_digit t = alone (digits t)
+
+abbrev subscripts : LineTree
+subscripts =
+    assigned (one (variable (local (codes "L") (exprs_of (one_digit (codes "10")
+    ∷ alone (plain (reference (local (codes "A") (exprs_of (alone (plain (text [])) ∷ []))))) ∷ [])))))
+    (alone (plain (reference (local (codes "L") (exprs_of (one_digit (codes "1") ∷ []))))))
+
+abbrev piece_of_subscripts : LineTree
+piece_of_subscripts =
+    assigned (one (piece (codes "p") (local (codes "L") (exprs_of (one_digit (codes "1") ∷ []))) (one_digit (codes "2")) None))
+    (one_digit (codes "3"))
+
+-- the word of a special variable ends where no letter follows
+abbrev specials : LineTree
+specials = written (taken (plain (special (codes "T"))) (apply join (operand (negate ∷ []) (special (codes "test"))) ∷ []))
+
+-- functions of a variable, with arguments behind it or not
+abbrev of_variables : LineTree
+of_variables =
+    written (taken (plain (refer (codes "D") (unindexed (codes "L")) no_exprs))
+    (apply join (plain (refer (codes "GET") (unindexed (codes "A")) (exprs_of (one_digit (codes "1") ∷ []))))
+    ∷ apply join (plain (refer (codes "o") (local (codes "L") (exprs_of (alone (plain (text [])) ∷ [])))
+    (exprs_of (alone (operand (minus ∷ []) (number (codes "1"))) ∷ [])))) ∷ []))
+
+-- a postconditional belongs to a command, with arguments or without
+abbrev postconditionals : LineTree
+postconditionals =
+    of_commands ((
+      conditional set_word (codes "S") (alone (plain (special (codes "T"))))
+          (assign (one (variable (unindexed (codes "A")))) (one_digit (codes "1")) ∷ []),
+      1,
+    )
+    ∷ (conditional write_word (codes "W") (taken (name (codes "A")) (apply (is equals) (digits (codes "1")) ∷ [])) (breaks 1 ∷ []), 1)
+    ∷ (conditional quit_word (codes "Q") (alone (name (codes "A"))) [], 2)
+    ∷ (command quit_word (codes "quit") [], 0) ∷ [])
+
+abbrev removals : LineTree
+removals =
+    of_commands ((
+      command kill_word (codes "K")
+          (kill_one (local (codes "L") (exprs_of (one_digit (codes "9") ∷ []))) ∷ kill_others (codes "A" ∷ codes "B" ∷ []) ∷ []),
+      1,
+    )
+    ∷ (command kill_word (codes "kill") [], 2)
+    ∷ (conditional new_word (codes "N") (alone (name (codes "A"))) (new_one (codes "L") ∷ new_others (codes "A" ∷ []) ∷ []), 1)
+    ∷ (command new_word (codes "new") [], 0) ∷ [])
+
+abbrev conditions : LineTree
+conditions =
+    of_commands ((command if_word (codes "I") (tested (alone (name (codes "A"))) ∷ tested (one_digit (codes "1")) ∷ []), 1)
+    ∷ (command if_word (codes "IF") [], 2)
+    ∷ (command else_word (codes "E") [], 2)
+    ∷ (command else_word (codes "else") [], 1) ∷ [])
+
+-- each form of a parameter; and FOR without an index
+abbrev repetitions : LineTree
+repetitions =
+    of_commands ((
+      command for_word (codes "F") (loop (codes "I") (once (one_digit (codes "1"))
+          ∷ onward (one_digit (codes "2")) (one_digit (codes "3"))
+          ∷ until (one_digit (codes "4")) (one_digit (codes "5")) (one_digit (codes "6")) ∷ []) ∷ []),
+      1,
+    )
+    ∷ (command for_word (codes "for") [], 2)
+    ∷ (command quit_word (codes "Q") [], 0) ∷ [])
 
 -- ---- texts with their trees
 
@@ -167,10 +247,11 @@ each_read :
     × IsRead (codes "W $S(A:1,1:2)") choices
     × IsRead (codes "S $P(A,1,2)=3") piece_set
     × IsRead (codes "S (A,$PIECE(B,1))=3") several_set
-unfolding keyword_of function_of many list_at point_at exponent_at number_at name_at count_at repeated_at atom_at
-    pattern_at truth_at operator_at bracket_with choice_with select_with call_with function_with primary_with operand_with
-    step_by step_with expr_with readers_at place_with piece_with target_with destination_at assignment_at output_at
-    args_at command_at spaced_at comment_at line_at
+unfolding keyword_of special_of function_of many list_at point_at exponent_at number_at name_at count_at repeated_at atom_at
+    pattern_at truth_at operator_at subscripts_with reference_with bracket_with choice_with select_with call_with refer_with
+    dollar_with primary_with operand_with step_by step_with expr_with readers_at place_with piece_with target_with
+    destination_at assignment_at output_at names_at removal_at hiding_at condition_at parameter_at repetition_at args_at
+    postcondition_at command_at spaced_at comment_at line_at
 each_read = (
   (refl, refl),
   (refl, refl),
@@ -193,6 +274,32 @@ each_read = (
   (refl, refl),
 )
 
+-- variables with subscripts, functions of them, and control of flow
+each_more_read :
+    IsRead (codes "S L(10,A(\"\"))=L(1)") subscripts
+    × IsRead (codes "S $p(L(1),2)=3") piece_of_subscripts
+    × IsRead (codes "W $T_'$test") specials
+    × IsRead (codes "W $D(L)_$GET(A,1)_$o(L(\"\"),-1)") of_variables
+    × IsRead (codes "S:$T A=1 W:A=1 ! Q:A  quit") postconditionals
+    × IsRead (codes "K L(9),(A,B) kill  N:A L,(A) new") removals
+    × IsRead (codes "I A,1 IF  E  else ") conditions
+    × IsRead (codes "F I=1,2:3,4:5:6 for  Q") repetitions
+unfolding keyword_of special_of function_of many list_at point_at exponent_at number_at name_at count_at repeated_at atom_at
+    pattern_at truth_at operator_at subscripts_with reference_with bracket_with choice_with select_with call_with refer_with
+    dollar_with primary_with operand_with step_by step_with expr_with readers_at place_with piece_with target_with
+    destination_at assignment_at output_at names_at removal_at hiding_at condition_at parameter_at repetition_at args_at
+    postcondition_at command_at spaced_at comment_at line_at
+each_more_read = (
+  (refl, refl),
+  (refl, refl),
+  (refl, refl),
+  (refl, refl),
+  (refl, refl),
+  (refl, refl),
+  (refl, refl),
+  (refl, refl),
+)
+
 -- ---- how deep brackets may lie
 
 -- a number in so many brackets
@@ -204,18 +311,44 @@ IsSome None = ⊥
 IsSome (Some a) = Unit {0}
 
 forty_open : IsSome (line_at (codes "W " ++ in_brackets 40))
-unfolding keyword_of function_of many list_at point_at exponent_at number_at name_at count_at repeated_at atom_at
-    pattern_at truth_at operator_at bracket_with choice_with select_with call_with function_with primary_with operand_with
-    step_by step_with expr_with readers_at place_with piece_with target_with destination_at assignment_at output_at
-    args_at command_at spaced_at comment_at line_at
+unfolding keyword_of special_of function_of many list_at point_at exponent_at number_at name_at count_at repeated_at atom_at
+    pattern_at truth_at operator_at subscripts_with reference_with bracket_with choice_with select_with call_with refer_with
+    dollar_with primary_with operand_with step_by step_with expr_with readers_at place_with piece_with target_with
+    destination_at assignment_at output_at names_at removal_at hiding_at condition_at parameter_at repetition_at args_at
+    postcondition_at command_at spaced_at comment_at line_at
 forty_open = tt
 
 forty_one_open : HasNone (codes "W " ++ in_brackets 41)
-unfolding keyword_of function_of many list_at point_at exponent_at number_at name_at count_at repeated_at atom_at
-    pattern_at truth_at operator_at bracket_with choice_with select_with call_with function_with primary_with operand_with
-    step_by step_with expr_with readers_at place_with piece_with target_with destination_at assignment_at output_at
-    args_at command_at spaced_at comment_at line_at
+unfolding keyword_of special_of function_of many list_at point_at exponent_at number_at name_at count_at repeated_at atom_at
+    pattern_at truth_at operator_at subscripts_with reference_with bracket_with choice_with select_with call_with refer_with
+    dollar_with primary_with operand_with step_by step_with expr_with readers_at place_with piece_with target_with
+    destination_at assignment_at output_at names_at removal_at hiding_at condition_at parameter_at repetition_at args_at
+    postcondition_at command_at spaced_at comment_at line_at
 forty_one_open = refl
+
+-- a number in the subscripts of so many variables, one within another
+abbrev subscripts_opened : ℕ → List ℕ
+subscripts_opened zero = []
+subscripts_opened (suc n) = 65 ∷ 40 ∷ subscripts_opened n
+
+abbrev in_subscripts : ℕ → List ℕ
+in_subscripts n = subscripts_opened n ++ (49 ∷ replicate n 41)
+
+forty_subscripts : IsSome (line_at (codes "K " ++ in_subscripts 40))
+unfolding keyword_of special_of function_of many list_at point_at exponent_at number_at name_at count_at repeated_at atom_at
+    pattern_at truth_at operator_at subscripts_with reference_with bracket_with choice_with select_with call_with refer_with
+    dollar_with primary_with operand_with step_by step_with expr_with readers_at place_with piece_with target_with
+    destination_at assignment_at output_at names_at removal_at hiding_at condition_at parameter_at repetition_at args_at
+    postcondition_at command_at spaced_at comment_at line_at
+forty_subscripts = tt
+
+forty_one_subscripts : HasNone (codes "K " ++ in_subscripts 41)
+unfolding keyword_of special_of function_of many list_at point_at exponent_at number_at name_at count_at repeated_at atom_at
+    pattern_at truth_at operator_at subscripts_with reference_with bracket_with choice_with select_with call_with refer_with
+    dollar_with primary_with operand_with step_by step_with expr_with readers_at place_with piece_with target_with
+    destination_at assignment_at output_at names_at removal_at hiding_at condition_at parameter_at repetition_at args_at
+    postcondition_at command_at spaced_at comment_at line_at
+forty_one_subscripts = refl
 
 -- ---- texts that have none
 
@@ -228,20 +361,22 @@ no_commands :
     × HasNone (codes "W  1")
     × HasNone (codes "W \"a\"W 1")
     × HasNone (codes "W ,1")
-unfolding keyword_of function_of many list_at point_at exponent_at number_at name_at count_at repeated_at atom_at
-    pattern_at truth_at operator_at bracket_with choice_with select_with call_with function_with primary_with operand_with
-    step_by step_with expr_with readers_at place_with piece_with target_with destination_at assignment_at output_at
-    args_at command_at spaced_at comment_at line_at
+unfolding keyword_of special_of function_of many list_at point_at exponent_at number_at name_at count_at repeated_at atom_at
+    pattern_at truth_at operator_at subscripts_with reference_with bracket_with choice_with select_with call_with refer_with
+    dollar_with primary_with operand_with step_by step_with expr_with readers_at place_with piece_with target_with
+    destination_at assignment_at output_at names_at removal_at hiding_at condition_at parameter_at repetition_at args_at
+    postcondition_at command_at spaced_at comment_at line_at
 no_commands = (refl, refl, refl, refl, refl, refl, refl)
 
 -- strings and names
 no_names :
     HasNone (codes "W \"a")
     × HasNone (codes "W A234567890123456789012345678901X")
-unfolding keyword_of function_of many list_at point_at exponent_at number_at name_at count_at repeated_at atom_at
-    pattern_at truth_at operator_at bracket_with choice_with select_with call_with function_with primary_with operand_with
-    step_by step_with expr_with readers_at place_with piece_with target_with destination_at assignment_at output_at
-    args_at command_at spaced_at comment_at line_at
+unfolding keyword_of special_of function_of many list_at point_at exponent_at number_at name_at count_at repeated_at atom_at
+    pattern_at truth_at operator_at subscripts_with reference_with bracket_with choice_with select_with call_with refer_with
+    dollar_with primary_with operand_with step_by step_with expr_with readers_at place_with piece_with target_with
+    destination_at assignment_at output_at names_at removal_at hiding_at condition_at parameter_at repetition_at args_at
+    postcondition_at command_at spaced_at comment_at line_at
 no_names = (refl, refl)
 
 -- numbers: `E` belongs to one only where a digit, or a sign and a digit, follows
@@ -253,10 +388,11 @@ no_numbers :
     × HasNone (codes "W 1E+")
     × HasNone (codes "W 1E5E5")
     × HasNone (codes "W 1A")
-unfolding keyword_of function_of many list_at point_at exponent_at number_at name_at count_at repeated_at atom_at
-    pattern_at truth_at operator_at bracket_with choice_with select_with call_with function_with primary_with operand_with
-    step_by step_with expr_with readers_at place_with piece_with target_with destination_at assignment_at output_at
-    args_at command_at spaced_at comment_at line_at
+unfolding keyword_of special_of function_of many list_at point_at exponent_at number_at name_at count_at repeated_at atom_at
+    pattern_at truth_at operator_at subscripts_with reference_with bracket_with choice_with select_with call_with refer_with
+    dollar_with primary_with operand_with step_by step_with expr_with readers_at place_with piece_with target_with
+    destination_at assignment_at output_at names_at removal_at hiding_at condition_at parameter_at repetition_at args_at
+    postcondition_at command_at spaced_at comment_at line_at
 no_numbers = (refl, refl, refl, refl, refl, refl, refl)
 
 -- operators
@@ -267,10 +403,11 @@ no_operators :
     × HasNone (codes "W 1'+2")
     × HasNone (codes "W 1]]]2")
     × HasNone (codes "W 1@2")
-unfolding keyword_of function_of many list_at point_at exponent_at number_at name_at count_at repeated_at atom_at
-    pattern_at truth_at operator_at bracket_with choice_with select_with call_with function_with primary_with operand_with
-    step_by step_with expr_with readers_at place_with piece_with target_with destination_at assignment_at output_at
-    args_at command_at spaced_at comment_at line_at
+unfolding keyword_of special_of function_of many list_at point_at exponent_at number_at name_at count_at repeated_at atom_at
+    pattern_at truth_at operator_at subscripts_with reference_with bracket_with choice_with select_with call_with refer_with
+    dollar_with primary_with operand_with step_by step_with expr_with readers_at place_with piece_with target_with
+    destination_at assignment_at output_at names_at removal_at hiding_at condition_at parameter_at repetition_at args_at
+    postcondition_at command_at spaced_at comment_at line_at
 no_operators = (refl, refl, refl, refl, refl, refl)
 
 -- patterns: a count has at most four digits, and something that it counts
@@ -284,10 +421,11 @@ no_patterns :
     × HasNone (codes "W 1?\"a\"")
     × HasNone (codes "W 1'?")
     × HasNone (codes "W 1?1N \"a\"")
-unfolding keyword_of function_of many list_at point_at exponent_at number_at name_at count_at repeated_at atom_at
-    pattern_at truth_at operator_at bracket_with choice_with select_with call_with function_with primary_with operand_with
-    step_by step_with expr_with readers_at place_with piece_with target_with destination_at assignment_at output_at
-    args_at command_at spaced_at comment_at line_at
+unfolding keyword_of special_of function_of many list_at point_at exponent_at number_at name_at count_at repeated_at atom_at
+    pattern_at truth_at operator_at subscripts_with reference_with bracket_with choice_with select_with call_with refer_with
+    dollar_with primary_with operand_with step_by step_with expr_with readers_at place_with piece_with target_with
+    destination_at assignment_at output_at names_at removal_at hiding_at condition_at parameter_at repetition_at args_at
+    postcondition_at command_at spaced_at comment_at line_at
 no_patterns = (refl, refl, refl, refl, refl, refl, refl, refl, refl)
 
 -- brackets
@@ -296,10 +434,11 @@ no_brackets :
     × HasNone (codes "W (1")
     × HasNone (codes "W 1)")
     × HasNone (codes "W (1,2)")
-unfolding keyword_of function_of many list_at point_at exponent_at number_at name_at count_at repeated_at atom_at
-    pattern_at truth_at operator_at bracket_with choice_with select_with call_with function_with primary_with operand_with
-    step_by step_with expr_with readers_at place_with piece_with target_with destination_at assignment_at output_at
-    args_at command_at spaced_at comment_at line_at
+unfolding keyword_of special_of function_of many list_at point_at exponent_at number_at name_at count_at repeated_at atom_at
+    pattern_at truth_at operator_at subscripts_with reference_with bracket_with choice_with select_with call_with refer_with
+    dollar_with primary_with operand_with step_by step_with expr_with readers_at place_with piece_with target_with
+    destination_at assignment_at output_at names_at removal_at hiding_at condition_at parameter_at repetition_at args_at
+    postcondition_at command_at spaced_at comment_at line_at
 no_brackets = (refl, refl, refl, refl)
 
 -- functions: the number of arguments, and the form of $SELECT
@@ -314,10 +453,11 @@ no_functions :
     × HasNone (codes "W $L")
     × HasNone (codes "W $ST(1)")
     × HasNone (codes "W $L(1")
-unfolding keyword_of function_of many list_at point_at exponent_at number_at name_at count_at repeated_at atom_at
-    pattern_at truth_at operator_at bracket_with choice_with select_with call_with function_with primary_with operand_with
-    step_by step_with expr_with readers_at place_with piece_with target_with destination_at assignment_at output_at
-    args_at command_at spaced_at comment_at line_at
+unfolding keyword_of special_of function_of many list_at point_at exponent_at number_at name_at count_at repeated_at atom_at
+    pattern_at truth_at operator_at subscripts_with reference_with bracket_with choice_with select_with call_with refer_with
+    dollar_with primary_with operand_with step_by step_with expr_with readers_at place_with piece_with target_with
+    destination_at assignment_at output_at names_at removal_at hiding_at condition_at parameter_at repetition_at args_at
+    postcondition_at command_at spaced_at comment_at line_at
 no_functions = (refl, refl, refl, refl, refl, refl, refl, refl, refl, refl)
 
 -- left sides of a SET
@@ -333,8 +473,66 @@ no_targets :
     × HasNone (codes "S (A,1)=1")
     × HasNone (codes "S ((A))=1")
     × HasNone (codes "S (A)")
-unfolding keyword_of function_of many list_at point_at exponent_at number_at name_at count_at repeated_at atom_at
-    pattern_at truth_at operator_at bracket_with choice_with select_with call_with function_with primary_with operand_with
-    step_by step_with expr_with readers_at place_with piece_with target_with destination_at assignment_at output_at
-    args_at command_at spaced_at comment_at line_at
+unfolding keyword_of special_of function_of many list_at point_at exponent_at number_at name_at count_at repeated_at atom_at
+    pattern_at truth_at operator_at subscripts_with reference_with bracket_with choice_with select_with call_with refer_with
+    dollar_with primary_with operand_with step_by step_with expr_with readers_at place_with piece_with target_with
+    destination_at assignment_at output_at names_at removal_at hiding_at condition_at parameter_at repetition_at args_at
+    postcondition_at command_at spaced_at comment_at line_at
 no_targets = (refl, refl, refl, refl, refl, refl, refl, refl, refl, refl, refl)
+
+-- subscripts, functions of a variable and special variables
+no_variables :
+    HasNone (codes "W L()")
+    × HasNone (codes "W L(1")
+    × HasNone (codes "W L(1)(2)")
+    × HasNone (codes "W $D(1)")
+    × HasNone (codes "W $D(L,1)")
+    × HasNone (codes "W $G(L,1,2)")
+    × HasNone (codes "W $O()")
+    × HasNone (codes "W $T(1)")
+    × HasNone (codes "W $TE")
+    × HasNone (codes "W $D")
+    × HasNone (codes "W $Q")
+unfolding keyword_of special_of function_of many list_at point_at exponent_at number_at name_at count_at repeated_at atom_at
+    pattern_at truth_at operator_at subscripts_with reference_with bracket_with choice_with select_with call_with refer_with
+    dollar_with primary_with operand_with step_by step_with expr_with readers_at place_with piece_with target_with
+    destination_at assignment_at output_at names_at removal_at hiding_at condition_at parameter_at repetition_at args_at
+    postcondition_at command_at spaced_at comment_at line_at
+no_variables = (refl, refl, refl, refl, refl, refl, refl, refl, refl, refl, refl)
+
+-- one space behind a command without arguments, and a postconditional where none may stand
+no_flow :
+    HasNone (codes "Q W 1")
+    × HasNone (codes "E W 1")
+    × HasNone (codes "K  A")
+    × HasNone (codes "I:1 1")
+    × HasNone (codes "E:1")
+    × HasNone (codes "F:1 I=1")
+    × HasNone (codes "S: A=1")
+    × HasNone (codes "Q 1")
+    × HasNone (codes "E 1")
+unfolding keyword_of special_of function_of many list_at point_at exponent_at number_at name_at count_at repeated_at atom_at
+    pattern_at truth_at operator_at subscripts_with reference_with bracket_with choice_with select_with call_with refer_with
+    dollar_with primary_with operand_with step_by step_with expr_with readers_at place_with piece_with target_with
+    destination_at assignment_at output_at names_at removal_at hiding_at condition_at parameter_at repetition_at args_at
+    postcondition_at command_at spaced_at comment_at line_at
+no_flow = (refl, refl, refl, refl, refl, refl, refl, refl, refl)
+
+-- arguments of KILL, NEW, IF and FOR
+no_arguments :
+    HasNone (codes "K ()")
+    × HasNone (codes "K (A(1))")
+    × HasNone (codes "K 1")
+    × HasNone (codes "N A(1)")
+    × HasNone (codes "N (A,)")
+    × HasNone (codes "I 1,")
+    × HasNone (codes "F I=")
+    × HasNone (codes "F I")
+    × HasNone (codes "F I(1)=1")
+    × HasNone (codes "F I=1:2:3:4")
+unfolding keyword_of special_of function_of many list_at point_at exponent_at number_at name_at count_at repeated_at atom_at
+    pattern_at truth_at operator_at subscripts_with reference_with bracket_with choice_with select_with call_with refer_with
+    dollar_with primary_with operand_with step_by step_with expr_with readers_at place_with piece_with target_with
+    destination_at assignment_at output_at names_at removal_at hiding_at condition_at parameter_at repetition_at args_at
+    postcondition_at command_at spaced_at comment_at line_at
+no_arguments = (refl, refl, refl, refl, refl, refl, refl, refl, refl, refl)

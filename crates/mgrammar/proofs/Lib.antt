@@ -4,9 +4,11 @@ pub mod ReadingLists
 pub mod ReadingPatterns
 pub mod ReadingOperators
 pub mod ReadingTrees
+pub mod ReadingReferences
 pub mod ReadingPrimaries
 pub mod ReadingExprs
 pub mod ReadingTargets
+pub mod ReadingArguments
 pub mod ReadingCommands
 pub mod ReadingLines
 pub mod ReadingLoops

@@ -1,66 +1,18 @@
 -- What is read as a command is spelled so, and what is spelled so is read.
-use Rattle.std.proofs.Common.{◌≡◌, ℕ, zero, suc, ◌<◌, Bool, true, false, not, eqb, cond, List, [], ◌∷◌, ◌++◌, length, Option, Some, None, inl, inr, refl, sym, ap, subst, ◌∙◌, append_assoc, arith, replicate, drop}
+use Rattle.std.proofs.Common.{◌≡◌, ℕ, zero, suc, ◌≤◌, Bool, true, false, not, eqb, cond, List, [], ◌∷◌, ◌++◌, length, Option, Some, None, inl, inr, refl, sym, ap, subst, ◌∙◌, append_assoc, arith, drop}
 use Rattle.std.specs.Prelude.{◌||◌}
 use Rattle.std.proofs.lemmas.Bool.{eqb-true, and_parts}
 use Rattle.std.proofs.lemmas.Bool.Decides.{nat_tests}
-use Rattle.std.proofs.lemmas.List.{length-replicate}
-use Rattle.mspec.specs.Names.{is_letter, AllAre}
-use Rattle.mgrammar.specs.Grammar.{ArgTree, breaks, shown, CommandTree, KeywordTree, keyword_of, FormTree, assignment, output, nothing, form_of, takes_args, spell_expr, spell_arg, spell_args, spell_list, spell_more, spell_command, max_depth, WellAll, WellList, WellArg, WellCommand}
-use Rattle.mgrammar.specs.Reading.{run_of, after_run, expr_at, readers_at, list_at, is_bang, output_by, output_at, arg_at, has_args, args_at, command_by, command_at}
-use Rattle.mgrammar.proofs.ReadingBasics.{Takes, Again, Stops, Begins, Begins-stops, Begins-append, Begins-weaker, bind_some, chosen, some_is, run_parts, run_again}
-use Rattle.mgrammar.proofs.ReadingLists.{is_comma, list_takes, list_again}
-use Rattle.mgrammar.proofs.ReadingPrimaries.{Ends}
-use Rattle.mgrammar.proofs.ReadingExprs.{begins_operand, expr_begins, inner_takes, inner_again, expr_takes, expr_again}
+use Rattle.mspec.specs.Names.{is_letter, is_name_rest, AllAre}
+use Rattle.mgrammar.specs.Grammar.{ExprTree, ArgTree, breaks, shown, CommandTree, KeywordTree, set_word, kill_word, new_word, if_word, else_word, for_word, quit_word, write_word, keyword_of, FormTree, assignment, removal, hiding, condition, repetition, output, nothing, form_of, takes_args, takes_condition, spell_expr, spell_arg, spell_args, spell_condition, spell_list, spell_more, spell_command, max_depth, WellAll, WellList, WellArg, WellCondition, WellCommand}
+use Rattle.mgrammar.specs.Reading.{◌>>=◌, run_of, after_run, past, expr_at, list_at, is_bang, arg_at, has_args, args_at, postcondition_by, postcondition_at, command_by, command_at}
+use Rattle.mgrammar.proofs.ReadingBasics.{Takes, Again, Stops, Stops-weaker, Begins, Begins-append, Begins-weaker, goes_on, bind_some, chosen, some_is, run_parts, run_again, past_takes}
+use Rattle.mgrammar.proofs.ReadingLists.{is_comma, one_again, list_takes, list_again}
+use Rattle.mgrammar.proofs.ReadingReferences.{Ends, name_or_open}
+use Rattle.mgrammar.proofs.ReadingPrimaries.{not_on}
+use Rattle.mgrammar.proofs.ReadingExprs.{begins_operand, expr_begins}
 use Rattle.mgrammar.proofs.ReadingTargets.{assignment_takes, assignment_again, assignment_begins}
-
--- ---- arguments
-
--- what may follow an argument
-abbrev pub Follows : List ℕ → Type 0
-Follows rest = Ends rest × Stops is_bang rest
-
-not_bang : (c : ℕ) → begins_operand c ≡ true → is_bang c ≡ false
-not_bang c h = grind (arith, nat_tests)
-
-no_run : (p : ℕ → Bool) (cs : List ℕ) → Stops p cs → run_of p cs ≡ []
-no_run p [] s = refl
-no_run p (c ∷ cs) s = rw s refl
-
-pub all_copies : (a : ℕ) (xs : List ℕ) → AllAre (λ c. eqb c a) xs → xs ≡ replicate (length xs) a
-all_copies a [] h = refl
-all_copies a (c ∷ cs) h = let at : c ≡ a = eqb-true _ _ h.0 in rw (← at) (ap (λ (y : List ℕ). c ∷ y) (rw at (all_copies a cs h.1)))
-
-pub copies_are : (a n : ℕ) → eqb a a ≡ true → AllAre (λ c. eqb c a) (replicate n a)
-copies_are a zero h = tt
-copies_are a (suc n) h = (h, copies_are a n h)
-
--- as output_takes, where this run of `!` is in front
-output_takes_by : (r cs : List ℕ) (x : ArgTree × List ℕ) → run_of is_bang cs ≡ r → output_by r cs ≡ Some x → (cs ≡ spell_arg x.0 ++ x.1) × WellArg output x.0
-output_takes_by [] cs x h e =
-    let b = bind_some (expr_at max_depth cs) (λ y. Some (shown y.0, y.1)) x e in
-    let t = expr_takes max_depth (readers_at max_depth) (inner_takes max_depth) cs b.0 b.1 in
-    subst (λ (y : ArgTree × List ℕ). (cs ≡ spell_arg y.0 ++ y.1) × WellArg output y.0) (some_is (shown b.0.0, b.0.1) x b.2) t
-output_takes_by (b ∷ bs) cs x h e =
-    let r = run_parts is_bang cs in
-    let copies : b ∷ bs ≡ replicate (length (b ∷ bs)) 33 = all_copies 33 (b ∷ bs) (subst (AllAre is_bang) h r.1) in
-    let parts : cs ≡ replicate (length (b ∷ bs)) 33 ++ after_run is_bang cs = r.0 ∙ ap (λ (y : List ℕ). y ++ after_run is_bang cs) (h ∙ copies) in
-    let long : 0 < length (b ∷ bs) = omega arith in
-    subst (λ (y : ArgTree × List ℕ). (cs ≡ spell_arg y.0 ++ y.1) × WellArg output y.0) (some_is (breaks (length (b ∷ bs)), after_run is_bang cs) x e) (parts, long)
-
-output_takes : Takes spell_arg (WellArg output) output_at
-unfolding output_at
-output_takes cs x e = output_takes_by (run_of is_bang cs) cs x refl e
-
-output_again : Again spell_arg (WellArg output) Follows output_at
-unfolding output_at
-output_again (breaks zero) rest w s = absurd (omega arith)
-output_again (breaks (suc n)) rest w s =
-    let r = run_again is_bang (replicate n 33) rest (copies_are 33 n refl) s.1 in
-    rw (r.0, r.1, length-replicate {A = ℕ} n 33) refl
-output_again (shown e) rest w s =
-    let none : run_of is_bang (spell_expr e ++ rest) ≡ [] = no_run is_bang (spell_expr e ++ rest) (Begins-stops begins_operand is_bang (spell_expr e ++ rest) not_bang (Begins-append begins_operand (spell_expr e) rest (expr_begins max_depth e w))) in
-    rw (none, expr_again max_depth (readers_at max_depth) (inner_again max_depth) e rest w s.0) refl
-output_again a rest w s = absurd w
+use Rattle.mgrammar.proofs.ReadingArguments.{whole_takes, whole_again, is_colon, not_past, Follows, output_takes, output_again, removal_takes, removal_again, removal_begins, hiding_takes, hiding_again, hiding_begins, condition_takes, condition_again, condition_begins, repetition_takes, repetition_again, repetition_begins}
 
 -- ---- the laws of each form
 
@@ -77,19 +29,65 @@ output_begins (breaks (suc n)) w = refl
 output_begins (shown e) w = Begins-weaker begins_operand begins_arg (spell_expr e) operand_or_bang (expr_begins max_depth e w)
 output_begins a w = absurd w
 
+as_arg : (a : ArgTree) → Begins begins_operand (spell_arg a) → Begins begins_arg (spell_arg a)
+as_arg a b = Begins-weaker begins_operand begins_arg (spell_arg a) operand_or_bang b
+
+-- what may follow the last argument
+abbrev pub Closes : List ℕ → Type 0
+Closes rest = Follows rest × Stops is_comma rest
+
+-- so many arguments of this form: one of FOR has the commas behind it
+abbrev IsCounted : FormTree → ℕ → Type 0
+IsCounted f n = f ≡ repetition → n ≤ 1
+
 record IsForm (f : FormTree) : Type 0 where
   takes : Takes spell_arg (WellArg f) (arg_at f)
-  again : Again spell_arg (WellArg f) Follows (arg_at f)
+  again : (args : List ArgTree) (rest : List ℕ) → WellList (WellArg f) args → IsCounted f (length args) → Closes rest → list_at (arg_at f) (spell_list spell_arg args ++ rest) ≡ Some (args, rest)
   begins : (a : ArgTree) → WellArg f a → Begins begins_arg (spell_arg a)
+
+-- of a form that a comma ends
+several_again : (f : FormTree) → Again spell_arg (WellArg f) Follows (arg_at f) → (args : List ArgTree) (rest : List ℕ) → WellList (WellArg f) args → IsCounted f (length args) → Closes rest
+    → list_at (arg_at f) (spell_list spell_arg args ++ rest) ≡ Some (args, rest)
+several_again f again args rest w n s = list_again spell_arg (WellArg f) (arg_at f) Follows (λ cs. ((refl, refl), refl, refl)) again args rest w s
+
+single_again : (args : List ArgTree) (rest : List ℕ) → WellList (WellArg repetition) args → IsCounted repetition (length args) → Closes rest
+    → list_at (arg_at repetition) (spell_list spell_arg args ++ rest) ≡ Some (args, rest)
+single_again [] rest w n s = absurd w
+single_again (a ∷ []) rest w n s = one_again spell_arg (WellArg repetition) (arg_at repetition) a rest (repetition_again a rest w.0 ((s.0.0, s.0.2), s.1)) s.1
+single_again (a ∷ b ∷ more) rest w n s = absurd (let le = n refl in omega (arith, le))
 
 is_form : (f : FormTree) → IsForm f
 is_form assignment = record {
   takes = assignment_takes;
-  again = λ a rest w s. assignment_again a rest w s.0;
-  begins = λ a w. Begins-weaker begins_operand begins_arg (spell_arg a) operand_or_bang (assignment_begins a w);
+  again = several_again assignment (λ a rest w s. assignment_again a rest w s.0);
+  begins = λ a w. as_arg a (assignment_begins a w);
 }
-is_form output = record { takes = output_takes; again = output_again; begins = output_begins }
-is_form nothing = record { takes = λ cs x e. absurd cc; again = λ a rest w s. absurd w; begins = λ a w. absurd w }
+is_form removal = record {
+  takes = removal_takes;
+  again = several_again removal (λ a rest w s. removal_again a rest w s.0.0);
+  begins = λ a w. as_arg a (removal_begins a w);
+}
+is_form hiding = record {
+  takes = hiding_takes;
+  again = several_again hiding (λ a rest w s. hiding_again a rest w (Stops-weaker goes_on is_name_rest rest (λ c h. (name_or_open c h).0) s.0.0));
+  begins = λ a w. as_arg a (hiding_begins a w);
+}
+is_form condition = record {
+  takes = condition_takes;
+  again = several_again condition (λ a rest w s. condition_again a rest w s.0);
+  begins = λ a w. as_arg a (condition_begins a w);
+}
+is_form repetition = record {
+  takes = repetition_takes;
+  again = single_again;
+  begins = λ a w. as_arg a (repetition_begins a w);
+}
+is_form output = record { takes = output_takes; again = several_again output output_again; begins = output_begins }
+is_form nothing = record {
+  takes = λ cs x e. absurd cc;
+  again = several_again nothing (λ a rest w s. absurd w);
+  begins = λ a w. absurd w;
+}
 
 -- ---- arguments
 
@@ -116,39 +114,77 @@ args_takes f cs x e =
 
 -- what may follow these arguments
 abbrev pub After : List ArgTree → List ℕ → Type 0
-After [] rest = Stops is_letter rest × (has_args rest ≡ false)
-After (a ∷ more) rest = Follows rest × Stops is_comma rest
+After [] rest = Closes rest × (has_args rest ≡ false)
+After (a ∷ more) rest = Closes rest
 
 args_begin : (cs : List ℕ) → Begins begins_arg cs → has_args (32 ∷ cs) ≡ true
 args_begin [] b = absurd b
 args_begin (c ∷ cs) b = grind (arith, nat_tests, b)
 
-args_again : (f : FormTree) (args : List ArgTree) (rest : List ℕ) → WellAll (WellArg f) args → After args rest → args_at f (spell_args args ++ rest) ≡ Some (args, rest)
+args_again : (f : FormTree) (args : List ArgTree) (rest : List ℕ) → WellAll (WellArg f) args → IsCounted f (length args) → After args rest → args_at f (spell_args args ++ rest) ≡ Some (args, rest)
 unfolding args_at
-args_again f [] rest w s = rw s.1 refl
-args_again f (a ∷ more) rest w s =
-    let listed = list_again spell_arg (WellArg f) (arg_at f) Follows (λ cs. ((refl, refl), refl)) ((is_form f).again) (a ∷ more) rest w s in
+args_again f [] rest w n s = rw s.1 refl
+args_again f (a ∷ more) rest w n s =
     let begins = Begins-append begins_arg (spell_list spell_arg (a ∷ more)) rest (Begins-append begins_arg (spell_arg a) (spell_more spell_arg more) ((is_form f).begins a w.0)) in
-    rw (args_begin (spell_list spell_arg (a ∷ more) ++ rest) begins) listed
+    rw (args_begin (spell_list spell_arg (a ∷ more) ++ rest) begins) ((is_form f).again (a ∷ more) rest w n s)
+
+-- ---- postconditionals
+
+postcondition_takes_by : (k : KeywordTree) (cs : List ℕ) (o : Option (List ℕ)) (x : Option ExprTree × List ℕ) → takes_condition k ≡ true → past 58 cs ≡ o → postcondition_by cs o ≡ Some x
+    → (cs ≡ spell_condition x.0 ++ x.1) × WellCondition k x.0
+postcondition_takes_by k cs None x t h e =
+    subst (λ (y : Option ExprTree × List ℕ). (cs ≡ spell_condition y.0 ++ y.1) × WellCondition k y.0) {x = (None, cs)} (some_is (None, cs) x e) (refl, tt)
+postcondition_takes_by k cs (Some rest) x t h e =
+    let b = bind_some (expr_at max_depth rest) (λ y. Some (Some y.0, y.1)) x e in
+    let value = whole_takes rest b.0 b.1 in
+    subst (λ (y : Option ExprTree × List ℕ). (cs ≡ spell_condition y.0 ++ y.1) × WellCondition k y.0) {x = (Some b.0.0, b.0.1)} (some_is (Some b.0.0, b.0.1) x b.2)
+    (past_takes 58 cs rest h ∙ ap (λ (y : List ℕ). 58 ∷ y) value.0, (t, value.1))
+
+postcondition_takes : (k : KeywordTree) → Takes spell_condition (WellCondition k) (postcondition_at k)
+unfolding postcondition_at
+postcondition_takes k cs x e =
+    elim (chosen (takes_condition k) (postcondition_by cs (past 58 cs)) (Some (None, cs)) (Some x) e) [
+      | inl p ↦ postcondition_takes_by k cs (past 58 cs) x p.0 refl p.1
+      | inr p ↦ subst (λ (y : Option ExprTree × List ℕ). (cs ≡ spell_condition y.0 ++ y.1) × WellCondition k y.0) {x = (None, cs)} (some_is (None, cs) x p.1) (refl, tt)
+    ]
+
+same_either : {A : Type 0} (b : Bool) (x : A) → cond b x x ≡ x
+same_either true x = refl
+same_either false x = refl
+
+postcondition_again : (k : KeywordTree) → Again spell_condition (WellCondition k) (λ rest. Ends rest × Stops is_colon rest) (postcondition_at k)
+unfolding postcondition_at
+postcondition_again k None rest w s = rw (not_past 58 rest s.1) (same_either (takes_condition k) (Some (None, rest)))
+postcondition_again k (Some e) rest w s = rw (w.0, whole_again e rest w.1 s.0) refl
 
 -- ---- commands
+
+-- a word, a condition and arguments
+three_parts : (w cs a t b rest : List ℕ) → cs ≡ a ++ t → t ≡ b ++ rest → w ++ cs ≡ (w ++ (a ++ b)) ++ rest
+three_parts w cs a t b rest p q =
+    let whole : w ++ cs ≡ w ++ (a ++ (b ++ rest)) = rw (p, q) refl in
+    let same : (w ++ (a ++ b)) ++ rest ≡ w ++ (a ++ (b ++ rest)) = simp append_assoc in
+    whole ∙ sym same
+
+-- a command of which all is read, where it takes so many arguments
+abbrev made : KeywordTree → List ℕ → Option ExprTree → List ArgTree × List ℕ → Option (CommandTree × List ℕ)
+made k w c x = cond (takes_args k (length x.0)) (Some (record { keyword = k; word = w; condition = c; args = x.0 }, x.1)) None
 
 command_takes_by : (w cs : List ℕ) (o : Option KeywordTree) (x : CommandTree × List ℕ) → AllAre is_letter w → keyword_of w ≡ o → command_by w o cs ≡ Some x
     → (w ++ cs ≡ spell_command x.0 ++ x.1) × WellCommand x.0
 command_takes_by w cs None x l k e = absurd cc
 command_takes_by w cs (Some keyword) x l k e =
-    let b = bind_some (args_at (form_of keyword) cs) (made keyword w) x e in
-    let t = args_takes (form_of keyword) cs b.0 b.1 in
-    elim (chosen (takes_args keyword (length b.0.0)) (Some (record { keyword = keyword; word = w; args = b.0.0 }, b.0.1)) None (Some x) b.2) [
+    let c = bind_some (postcondition_at keyword cs) (λ c. args_at (form_of keyword) c.1 >>= made keyword w c.0) x e in
+    let b = bind_some (args_at (form_of keyword) c.0.1) (made keyword w c.0.0) x c.2 in
+    let behind = postcondition_takes keyword cs c.0 c.1 in
+    let args = args_takes (form_of keyword) c.0.1 b.0 b.1 in
+    let command : CommandTree × List ℕ = (record { keyword = keyword; word = w; condition = c.0.0; args = b.0.0 }, b.0.1) in
+    elim (chosen (takes_args keyword (length b.0.0)) (Some command) None (Some x) b.2) [
       | inl p ↦
-          let is = some_is (record { keyword = keyword; word = w; args = b.0.0 }, b.0.1) x p.1 in
-          subst (λ (y : CommandTree × List ℕ). (w ++ cs ≡ spell_command y.0 ++ y.1) × WellCommand y.0) is
-          (ap (λ (y : List ℕ). w ++ y) t.0 ∙ sym (append_assoc w (spell_args b.0.0) b.0.1), (k, l, p.0, t.1))
+          subst (λ (y : CommandTree × List ℕ). (w ++ cs ≡ spell_command y.0 ++ y.1) × WellCommand y.0) {x = command} (some_is command x p.1)
+          (three_parts w cs (spell_condition c.0.0) c.0.1 (spell_args b.0.0) b.0.1 behind.0 args.0, (k, l, p.0, behind.1, args.1))
       | inr p ↦ absurd cc
     ]
-  where
-    made : KeywordTree → List ℕ → List ArgTree × List ℕ → Option (CommandTree × List ℕ)
-    made keyword w x = cond (takes_args keyword (length x.0)) (Some (record { keyword = keyword; word = w; args = x.0 }, x.1)) None
 
 pub command_takes : Takes spell_command WellCommand command_at
 unfolding command_at
@@ -157,16 +193,38 @@ command_takes cs x e =
     let t = command_takes_by (run_of is_letter cs) (after_run is_letter cs) (keyword_of (run_of is_letter cs)) x r.1 refl e in
     (r.0 ∙ t.0, t.1)
 
+-- what follows a condition
+args_follow : (args : List ArgTree) (rest : List ℕ) → After args rest → Ends (spell_args args ++ rest) × Stops is_colon (spell_args args ++ rest)
+args_follow [] rest s = (s.0.0.0, s.0.0.2)
+args_follow (a ∷ more) rest s = ((refl, refl), refl)
+
 -- no letter follows a word
-word_ends : (args : List ArgTree) (rest : List ℕ) → After args rest → Stops is_letter (spell_args args ++ rest)
-word_ends [] rest s = s.0
-word_ends (a ∷ more) rest s = refl
+word_ends : (c : Option ExprTree) (rest : List ℕ) → Ends rest → Stops is_letter (spell_condition c ++ rest)
+word_ends None rest s = Stops-weaker goes_on is_letter rest (λ c h. (not_on c h).1) s.0
+word_ends (Some e) rest s = refl
+
+counted : (k : KeywordTree) (n : ℕ) → takes_args k n ≡ true → IsCounted (form_of k) n
+counted set_word n h = λ f. absurd cc
+counted kill_word n h = λ f. absurd cc
+counted new_word n h = λ f. absurd cc
+counted if_word n h = λ f. absurd cc
+counted else_word n h = λ f. absurd cc
+counted for_word n h = λ f. grind (arith, nat_tests, h)
+counted quit_word n h = λ f. absurd cc
+counted write_word n h = λ f. absurd cc
+
+command_parts : (w c a rest : List ℕ) → (w ++ (c ++ a)) ++ rest ≡ w ++ (c ++ (a ++ rest))
+command_parts w c a rest = simp append_assoc
 
 pub command_again : (c : CommandTree) (rest : List ℕ) → WellCommand c → After c.args rest → command_at (spell_command c ++ rest) ≡ Some (c, rest)
 unfolding command_at
 command_again c rest h s =
-    let r = run_again is_letter c.word (spell_args c.args ++ rest) h.1 (word_ends c.args rest s) in
-    ap command_at (append_assoc c.word (spell_args c.args) rest) ∙ rw (r.0, r.1, h.0, args_again (form_of c.keyword) c.args rest h.3 s, h.2) refl
+    let args : List ℕ = spell_args c.args ++ rest in
+    let there = args_follow c.args rest s in
+    let r = run_again is_letter c.word (spell_condition c.condition ++ args) h.1 (word_ends c.condition args there.0) in
+    let condition = postcondition_again c.keyword c.condition args h.3 there in
+    let arguments = args_again (form_of c.keyword) c.args rest h.4 (counted c.keyword (length c.args) h.2) s in
+    ap command_at (command_parts c.word (spell_condition c.condition) (spell_args c.args) rest) ∙ rw (r.0, r.1, h.0, condition, arguments, h.2) refl
 
 no_keyword : keyword_of [] ≡ None
 unfolding keyword_of
@@ -174,7 +232,7 @@ no_keyword = refl
 
 -- a command begins with a letter
 pub command_letter : (c : CommandTree) → WellCommand c → Begins is_letter (spell_command c)
-command_letter c h = Begins-append is_letter c.word (spell_args c.args) (word_letter c.word c.keyword h.0 h.1)
+command_letter c h = Begins-append is_letter c.word (spell_condition c.condition ++ spell_args c.args) (word_letter c.word c.keyword h.0 h.1)
   where
     word_letter : (w : List ℕ) (k : KeywordTree) → keyword_of w ≡ Some k → AllAre is_letter w → Begins is_letter w
     word_letter [] k h l = absurd (let e : None ≡ Some k = sym no_keyword ∙ h in cc)

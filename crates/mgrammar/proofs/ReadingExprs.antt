@@ -3,14 +3,15 @@ use Rattle.std.proofs.Common.{◌≡◌, ℕ, zero, suc, ◌<◌, ◌-◌, Bool,
 use Rattle.std.specs.Prelude.{◌||◌}
 use Rattle.std.proofs.lemmas.Bool.Decides.{nat_tests}
 use Rattle.std.proofs.lemmas.List.{append-nil}
-use Rattle.mgrammar.specs.Grammar.{plus, minus, negate, BinaryTree, AtomTree, ExprTree, expr, StepTree, apply, matches, matches_not, StepsTree, no_steps, step, steps_of, OperandTree, operand, spell_signs, spell_binary, spell_atoms, spell_expr, spell_steps, spell_step, spell_operand, spell_primary, WellExpr, WellSteps, WellStep, WellOperand}
+use Rattle.mgrammar.specs.Grammar.{plus, minus, negate, BinaryTree, AtomTree, ExprTree, expr, StepTree, apply, matches, matches_not, StepsTree, no_steps, step, steps_of, OperandTree, operand, spell_signs, spell_binary, spell_atoms, spell_expr, spell_steps, spell_step, spell_operand, spell_primary, WellExpr, WellSteps, WellStep, WellOperand, ReferenceTree, spell_reference, WellReference}
 use Rattle.mgrammar.specs.Reading.{◌>>=◌, many, pattern_at, signs_of, after_signs, OperatorTree, between, matching, matching_not, operator_at, Readers, primary_with, operand_with, step_by, step_behind, step_with, expr_with, readers_at, inner_at}
 use Rattle.mgrammar.proofs.ReadingBasics.{Takes, Again, Begins, Begins-stops, Begins-append, Begins-weaker, Begins-long, goes_on, bind_some, some_is}
 use Rattle.mgrammar.proofs.ReadingLists.{each, ItemTakes, many_takes, many_again, count_le, joined}
 use Rattle.mgrammar.proofs.ReadingPatterns.{pattern_takes, pattern_again}
 use Rattle.mgrammar.proofs.ReadingOperators.{is_sign, signs_parts, signs_again, is_follows, spell_operator, operator_takes, operator_again, is_operator, operator_begins, no_operator}
 use Rattle.mgrammar.proofs.ReadingTrees.{steps_list, steps_back, spell_steps-each, steps_well, list_well, WellInner}
-use Rattle.mgrammar.proofs.ReadingPrimaries.{OperandEnds, Ends, begins_primary, primary_begins, primary_takes, primary_again}
+use Rattle.mgrammar.proofs.ReadingReferences.{OperandEnds, Ends, WellWithin, reference_takes, reference_again}
+use Rattle.mgrammar.proofs.ReadingPrimaries.{begins_primary, primary_begins, primary_takes, primary_again}
 
 -- ---- what is read is spelled so, below some depth
 
@@ -18,12 +19,12 @@ use Rattle.mgrammar.proofs.ReadingPrimaries.{OperandEnds, Ends, begins_primary, 
 behind_parts : (o cs a b : List ℕ) → cs ≡ a ++ b → o ++ cs ≡ (o ++ a) ++ b
 behind_parts o cs a b p = rw (p, append_assoc) refl
 
-module _ (d : ℕ) (r : Readers) (inner_takes : Takes spell_expr (WellInner d) (r.inner)) where
+module _ (d : ℕ) (r : Readers) (inner_takes : Takes spell_expr (WellInner d) (r.inner)) (within_takes : Takes spell_reference (WellWithin d) (r.within)) where
   operand_takes : Takes spell_operand (WellOperand d) (operand_with r)
   unfolding operand_with
   operand_takes cs x e =
       let b = bind_some (primary_with r (after_signs cs)) (λ p. Some (operand (signs_of cs) p.0, p.1)) x e in
-      let p = primary_takes d r inner_takes (after_signs cs) b.0 b.1 in
+      let p = primary_takes d r inner_takes within_takes (after_signs cs) b.0 b.1 in
       let s = signs_parts cs in
       subst (λ (y : OperandTree × List ℕ). (cs ≡ spell_operand y.0 ++ y.1) × WellOperand d y.0) (some_is (operand (signs_of cs) b.0.0, b.0.1) x b.2)
       (s ∙ ap (λ (y : List ℕ). spell_signs (signs_of cs) ++ y) p.0 ∙ sym (append_assoc (spell_signs (signs_of cs)) (spell_primary b.0.0) b.0.1), p.1)
@@ -80,12 +81,35 @@ inner_well d e w =
 well_inner : (d : ℕ) (e : ExprTree) → WellInner (suc d) e → WellExpr d e
 well_inner d e w = let same : suc d - 1 ≡ d = omega arith in subst (λ (n : ℕ). WellExpr n e) same w.1
 
-pub inner_takes : (d : ℕ) → Takes spell_expr (WellInner d) (inner_at d)
+within_well : (d : ℕ) (v : ReferenceTree) → WellReference d v → WellWithin (suc d) v
+within_well d v w =
+    let lt : 0 < suc d = omega arith in
+    let same : d ≡ suc d - 1 = omega arith in
+    (lt, subst (λ (n : ℕ). WellReference n v) same w)
+
+well_within : (d : ℕ) (v : ReferenceTree) → WellWithin (suc d) v → WellReference d v
+well_within d v w = let same : suc d - 1 ≡ d = omega arith in subst (λ (n : ℕ). WellReference n v) same w.1
+
+-- what may stand in brackets at some depth
+record Taken (d : ℕ) : Type 0 where
+  inner : Takes spell_expr (WellInner d) (inner_at d)
+  within : Takes spell_reference (WellWithin d) ((readers_at d).within)
+
+all_taken : (d : ℕ) → Taken d
 unfolding readers_at
-inner_takes zero cs x e = absurd cc
-inner_takes (suc d) cs x e =
-    let t = expr_takes d (readers_at d) (inner_takes d) cs x e in
-    (t.0, inner_well d x.0 t.1)
+all_taken zero = record { inner = λ cs x e. absurd cc; within = λ cs x e. absurd cc }
+all_taken (suc d) =
+    let below = all_taken d in
+    record {
+      inner = λ cs x e. let t = expr_takes d (readers_at d) (below.inner) (below.within) cs x e in (t.0, inner_well d x.0 t.1);
+      within = λ cs x e. let t = reference_takes d (readers_at d) (below.inner) cs x e in (t.0, within_well d x.0 t.1);
+    }
+
+pub inner_takes : (d : ℕ) → Takes spell_expr (WellInner d) (inner_at d)
+inner_takes d = (all_taken d).inner
+
+pub within_takes : (d : ℕ) → Takes spell_reference (WellWithin d) ((readers_at d).within)
+within_takes d = (all_taken d).within
 
 -- ---- what is spelled so is read, below some depth
 
@@ -147,14 +171,14 @@ match_operators : (cs : List ℕ) → (operator_at (63 ∷ cs) ≡ Some (matchin
 unfolding operator_at
 match_operators cs = (refl, refl)
 
-module _ (d : ℕ) (r : Readers) (inner_again : Again spell_expr (WellInner d) Ends (r.inner)) where
+module _ (d : ℕ) (r : Readers) (inner_again : Again spell_expr (WellInner d) Ends (r.inner)) (within_again : Again spell_reference (WellWithin d) OperandEnds (r.within)) where
   operand_again : Again spell_operand (WellOperand d) OperandEnds (operand_with r)
   unfolding operand_with
   operand_again (operand signs p) rest w s =
       let no_sign = Begins-stops begins_primary is_sign (spell_primary p ++ rest) (λ c h. (primary_tests c h).0) (Begins-append begins_primary (spell_primary p) rest (primary_begins d p w)) in
       let i = signs_again signs (spell_primary p ++ rest) no_sign in
       let parts : (spell_signs signs ++ spell_primary p) ++ rest ≡ spell_signs signs ++ (spell_primary p ++ rest) = append_assoc (spell_signs signs) (spell_primary p) rest in
-      ap (operand_with r) parts ∙ rw (i.0, i.1, primary_again d r inner_again p rest w s) refl
+      ap (operand_with r) parts ∙ rw (i.0, i.1, primary_again d r inner_again within_again p rest w s) refl
 
   step_again : (x : StepTree) (rest : List ℕ) → WellStep d x → OperandEnds rest → step_with r (spell_step x ++ rest) ≡ Some (Some (x, rest))
   step_again (apply b o) rest w s =
@@ -187,7 +211,22 @@ module _ (d : ℕ) (r : Readers) (inner_again : Again spell_expr (WellInner d) E
       let parts : (spell_operand first ++ spell_steps steps) ++ rest ≡ spell_operand first ++ (spell_steps steps ++ rest) = append_assoc (spell_operand first) (spell_steps steps) rest in
       ap (expr_with r) parts ∙ rw (operand_again first (spell_steps steps ++ rest) w.0 (steps_stop steps rest f.0), steps_again steps rest w.1 f, steps_back steps) refl
 
-pub inner_again : (d : ℕ) → Again spell_expr (WellInner d) Ends (inner_at d)
+record Spelled (d : ℕ) : Type 0 where
+  inner : Again spell_expr (WellInner d) Ends (inner_at d)
+  within : Again spell_reference (WellWithin d) OperandEnds ((readers_at d).within)
+
+all_spelled : (d : ℕ) → Spelled d
 unfolding readers_at
-inner_again zero e rest w f = absurd (omega (arith, w.0))
-inner_again (suc d) e rest w f = expr_again d (readers_at d) (inner_again d) e rest (well_inner d e w) f
+all_spelled zero = record { inner = λ e rest w f. absurd (omega (arith, w.0)); within = λ v rest w f. absurd (omega (arith, w.0)) }
+all_spelled (suc d) =
+    let below = all_spelled d in
+    record {
+      inner = λ e rest w f. expr_again d (readers_at d) (below.inner) (below.within) e rest (well_inner d e w) f;
+      within = λ v rest w f. reference_again d (readers_at d) (below.inner) v rest (well_within d v w) f;
+    }
+
+pub inner_again : (d : ℕ) → Again spell_expr (WellInner d) Ends (inner_at d)
+inner_again d = (all_spelled d).inner
+
+pub within_again : (d : ℕ) → Again spell_reference (WellWithin d) OperandEnds ((readers_at d).within)
+within_again d = (all_spelled d).within

@@ -6,9 +6,10 @@ use Rattle.std.proofs.lemmas.Bool.Decides.{nat_tests}
 use Rattle.std.proofs.lemmas.List.{append-nil, length-replicate}
 use Rattle.mspec.specs.Names.{is_letter, is_character, AllAre}
 use Rattle.mgrammar.specs.Grammar.{ArgTree, CommandTree, SpacedTree, LineTree, spell_command, spell_commands, spell_comment, spell, least_gap, WellCommand, WellCommands, WellComment, well}
-use Rattle.mgrammar.specs.Reading.{◌>>=◌, run_of, after_run, many, more_by, command_at, is_space, at_end, spaced, spaced_at, comment_by, comment_at, line_at}
+use Rattle.mgrammar.specs.Reading.{◌>>=◌, run_of, after_run, many, more_by, has_args, command_at, is_space, at_end, spaced, spaced_at, comment_by, comment_at, line_at}
 use Rattle.mgrammar.proofs.ReadingBasics.{Stops, Begins, Begins-append, Begins-long, bind_some, chosen, some_is, run_parts, run_again}
-use Rattle.mgrammar.proofs.ReadingCommands.{all_copies, copies_are, After, command_takes, command_again, command_letter}
+use Rattle.mgrammar.proofs.ReadingArguments.{all_copies, copies_are}
+use Rattle.mgrammar.proofs.ReadingCommands.{Closes, After, command_takes, command_again, command_letter}
 
 -- ---- commands with spaces behind them
 
@@ -92,24 +93,34 @@ end_stops : (rest : List ℕ) → at_end rest ≡ true → Stops is_space rest
 end_stops [] h = tt
 end_stops (c ∷ cs) h = subst (λ (x : ℕ). Stops is_space (x ∷ cs)) (sym (eqb-true c 59 h)) refl
 
+-- what may follow a command's last argument: the end, a comment, or a space
+closes_end : (rest : List ℕ) → at_end rest ≡ true → Closes rest
+closes_end [] h = (((tt, tt), tt, tt), tt)
+closes_end (c ∷ cs) h = subst (λ (x : ℕ). Closes (x ∷ cs)) (sym (eqb-true c 59 h)) (((refl, refl), refl, refl), refl)
+
+closes_space : (rest : List ℕ) → Closes (32 ∷ rest)
+closes_space rest = (((refl, refl), refl, refl), refl)
+
+no_args : (rest : List ℕ) → at_end rest ≡ true → has_args rest ≡ false
+no_args [] h = refl
+no_args (c ∷ []) h = refl
+no_args (c ∷ d ∷ cs) h = subst (λ (x : ℕ). has_args (x ∷ d ∷ cs) ≡ false) (sym (eqb-true c 59 h)) refl
+
 end_follows : (args : List ArgTree) (rest : List ℕ) → at_end rest ≡ true → After args rest
-end_follows [] [] h = (tt, refl)
-end_follows [] (c ∷ []) h = subst (λ (x : ℕ). After [] (x ∷ [])) (sym (eqb-true c 59 h)) (refl, refl)
-end_follows [] (c ∷ d ∷ cs) h = subst (λ (x : ℕ). After [] (x ∷ d ∷ cs)) (sym (eqb-true c 59 h)) (refl, refl)
-end_follows (a ∷ args) [] h = (((tt, tt), tt), tt)
-end_follows (a ∷ args) (c ∷ cs) h = subst (λ (x : ℕ). After (a ∷ args) (x ∷ cs)) (sym (eqb-true c 59 h)) (((refl, refl), refl), refl)
+end_follows [] rest h = (closes_end rest h, no_args rest h)
+end_follows (a ∷ args) rest h = closes_end rest h
 
 -- one space and the end, or a comment, are no arguments
-one_space : (rest : List ℕ) → at_end rest ≡ true → After [] (32 ∷ rest)
-one_space [] h = (refl, refl)
-one_space (c ∷ cs) h = subst (λ (x : ℕ). After [] (32 ∷ x ∷ cs)) (sym (eqb-true c 59 h)) (refl, refl)
+one_space : (rest : List ℕ) → at_end rest ≡ true → has_args (32 ∷ rest) ≡ false
+one_space [] h = refl
+one_space (c ∷ cs) h = subst (λ (x : ℕ). has_args (32 ∷ x ∷ cs) ≡ false) (sym (eqb-true c 59 h)) refl
 
 gap_follows : (args : List ArgTree) (n : ℕ) (rest : List ℕ) → (at_end rest || nat_le (least_gap args) n ≡ true) → After args (replicate n 32 ++ rest)
 gap_follows [] zero rest h = end_follows [] rest (grind (arith, nat_tests))
-gap_follows [] (suc zero) rest h = one_space rest (grind (arith, nat_tests))
-gap_follows [] (suc (suc n)) rest h = (refl, refl)
+gap_follows [] (suc zero) rest h = (closes_space rest, one_space rest (grind (arith, nat_tests)))
+gap_follows [] (suc (suc n)) rest h = (closes_space (replicate (suc n) 32 ++ rest), refl)
 gap_follows (a ∷ args) zero rest h = end_follows (a ∷ args) rest (grind (arith, nat_tests))
-gap_follows (a ∷ args) (suc n) rest h = (((refl, refl), refl), refl)
+gap_follows (a ∷ args) (suc n) rest h = closes_space (replicate n 32 ++ rest)
 
 spaced_again : (c : SpacedTree) (rest : List ℕ) → WellCommand c.0 → HasGap c rest → Stops is_space rest → spaced_at (spell_command c.0 ++ (replicate c.1 32 ++ rest)) ≡ Some (Some (c, rest))
 unfolding spaced_at

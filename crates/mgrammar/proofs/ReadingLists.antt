@@ -65,12 +65,20 @@ module _ {A : Type 0} (spell : A → List ℕ) (P : A → Type 0) (item : List �
 pub joined : (cs a r b c b' : List ℕ) → cs ≡ a ++ r → r ≡ b ++ c → b' ≡ b → cs ≡ (a ++ b') ++ c
 joined cs a r b c b' p q e = rw (p, q, e, append_assoc) refl
 
+-- the text of two parts with this character between
+pub joined_by : (x : ℕ) (cs a r u b rest : List ℕ) → cs ≡ a ++ r → r ≡ x ∷ u → u ≡ b ++ rest → cs ≡ (a ++ x ∷ b) ++ rest
+joined_by x cs a r u b rest p q s = rw (p, q, s, append_assoc) refl
+
+-- the text of what stands in brackets
+pub enclosed : (c : ℕ) (cs t last rest : List ℕ) → c ≡ 40 → cs ≡ t ++ last → last ≡ 41 ∷ rest → c ∷ cs ≡ (40 ∷ (t ++ 41 ∷ [])) ++ rest
+enclosed c cs t last rest p q s = rw (p, q, s, append_assoc) refl
+
 -- ---- lists with commas
 
 abbrev pub is_comma : ℕ → Bool
 is_comma c = eqb c 44
 
-spell_more-each : {A : Type 0} (f : A → List ℕ) (xs : List A) → spell_more f xs ≡ each (λ a. 44 ∷ f a) xs
+pub spell_more-each : {A : Type 0} (f : A → List ℕ) (xs : List A) → spell_more f xs ≡ each (λ a. 44 ∷ f a) xs
 spell_more-each f [] = refl
 spell_more-each f (x ∷ xs) = ap (λ (y : List ℕ). 44 ∷ (f x ++ y)) (spell_more-each f xs)
 
@@ -83,7 +91,7 @@ module _ {A : Type 0} (f : A → List ℕ) (P : A → Type 0) (item : List ℕ �
       let t = takes rest b.0 b.1 in
       subst (λ (y : A × List ℕ). (cs ≡ (44 ∷ f y.0) ++ y.1) × P y.0) (some_is b.0 x (some_is (Some b.0) (Some x) b.2)) (past_takes 44 cs rest h ∙ ap (λ (y : List ℕ). 44 ∷ y) t.0, t.1)
 
-  comma_takes : Takes f P item → ItemTakes (λ a. 44 ∷ f a) P (after_comma item)
+  pub comma_takes : Takes f P item → ItemTakes (λ a. 44 ∷ f a) P (after_comma item)
   comma_takes takes cs x e = comma_takes_by cs (past 44 cs) x takes refl e
 
   pub list_takes : Takes f P item → Takes (spell_list f) (WellList P) (list_at item)
@@ -96,19 +104,31 @@ module _ {A : Type 0} (f : A → List ℕ) (P : A → Type 0) (item : List ℕ �
       let parts : cs ≡ (f b.0.0 ++ spell_more f k.0.0) ++ k.0.1 = joined cs (f b.0.0) b.0.1 (each (λ a. 44 ∷ f a) k.0.0) k.0.1 (spell_more f k.0.0) first.0 others.0 (spell_more-each f k.0.0) in
       subst (λ (y : List A × List ℕ). (cs ≡ spell_list f y.0 ++ y.1) × WellList P y.0) {x = (b.0.0 ∷ k.0.0, k.0.1)} (some_is (b.0.0 ∷ k.0.0, k.0.1) x k.2) (parts, (first.1, others.1))
 
+  no_comma : (rest : List ℕ) → Stops is_comma rest → after_comma item rest ≡ Some None
+  no_comma [] s = refl
+  no_comma (c ∷ cs) s = rw s refl
+
+  none_more : (n : ℕ) (rest : List ℕ) → Stops is_comma rest → many (after_comma item) n rest ≡ Some ([], rest)
+  unfolding many
+  none_more zero rest s = refl
+  none_more (suc n) rest s = rw (no_comma rest s) refl
+
+  -- a list of one, whose item a comma might go on with
+  pub one_again : (x : A) (rest : List ℕ) → item (f x ++ rest) ≡ Some (x, rest) → Stops is_comma rest → list_at item (spell_list f (x ∷ []) ++ rest) ≡ Some (x ∷ [], rest)
+  unfolding list_at
+  one_again x rest h s =
+      let parts : (f x ++ []) ++ rest ≡ f x ++ rest = append_assoc (f x) [] rest in
+      ap (list_at item) parts ∙ rw (h, none_more (length rest) rest s) refl
+
   module _ (F : List ℕ → Type 0) (comma_follows : (rest : List ℕ) → F (44 ∷ rest)) (again : Again f P F item) where
     comma_again : (x : A) (rest : List ℕ) → P x → F rest → after_comma item ((44 ∷ f x) ++ rest) ≡ Some (Some (x, rest))
     comma_again x rest w s = rw (again x rest w s) refl
-
-    no_comma : (rest : List ℕ) → Stops is_comma rest → after_comma item rest ≡ Some None
-    no_comma [] s = refl
-    no_comma (c ∷ cs) s = rw s refl
 
     more_follows : (xs : List A) (rest : List ℕ) → F rest → F (spell_more f xs ++ rest)
     more_follows [] rest s = s
     more_follows (x ∷ xs) rest s = comma_follows ((f x ++ spell_more f xs) ++ rest)
 
-    more_again : (xs : List A) (rest : List ℕ) → WellAll P xs → F rest → Stops is_comma rest → many (after_comma item) (length (spell_more f xs ++ rest)) (spell_more f xs ++ rest) ≡ Some (xs, rest)
+    pub more_again : (xs : List A) (rest : List ℕ) → WellAll P xs → F rest → Stops is_comma rest → many (after_comma item) (length (spell_more f xs ++ rest)) (spell_more f xs ++ rest) ≡ Some (xs, rest)
     more_again xs rest w s k =
         rw (spell_more-each f xs) (many_again (λ a. 44 ∷ f a) P (after_comma item) F comma_again (λ x cs v. comma_follows (f x ++ cs))
         (length (each (λ a. 44 ∷ f a) xs ++ rest)) xs rest (count_le (λ a. 44 ∷ f a) P (after_comma item) (λ x v. omega arith) xs rest w) w s (no_comma rest k))

@@ -3,27 +3,17 @@ use Rattle.std.proofs.Common.{◌≡◌, ℕ, ◌<◌, Bool, true, false, cond, 
 use Rattle.std.specs.Prelude.{◌||◌}
 use Rattle.std.proofs.lemmas.Bool.{eqb-true}
 use Rattle.std.proofs.lemmas.Bool.Decides.{nat_tests}
-use Rattle.mspec.specs.Names.{is_letter, is_name_start, is_name_rest, is_character, AllAre, IsName}
-use Rattle.mgrammar.specs.Grammar.{ExprTree, PrimaryTree, number, text, local, bracket, call, select, ExprsTree, exprs_of, ChoicesTree, choices_of, quoted, spell_expr, spell_primary, spell_exprs, spell_choices, spell_list, FunctionTree, ascii_function, char_function, extract_function, find_function, justify_function, length_function, piece_function, select_function, translate_function, function_of, takes, exprs_count, IsCall, WellPrimary, WellAll, WellList}
-use Rattle.mgrammar.specs.Reading.{◌>>=◌, run_of, after_run, number_at, is_digit_or_point, name_at, text_from, past, list_at, Readers, is_select, bracket_with, choice_with, select_with, call_with, function_by, function_with, primary_with}
-use Rattle.mgrammar.proofs.ReadingBasics.{Takes, Again, Stops, Stops-weaker, Begins, Begins-weaker, Begins-append, goes_on, bind_some, chosen, some_is, run_parts, run_again, past_takes, name_takes, name_again, text_takes, text_again}
+use Rattle.mspec.specs.Names.{is_letter, is_name_start, is_character, AllAre}
+use Rattle.mgrammar.specs.Grammar.{ExprTree, PrimaryTree, number, text, special, reference, bracket, call, select, refer, ReferenceTree, ExprsTree, exprs_of, ChoicesTree, choices_of, quoted, spell_expr, spell_primary, spell_reference, spell_exprs, spell_more_exprs, spell_more, spell_choices, spell_list, SpecialTree, special_of, IsReferring, refers, FunctionTree, ascii_function, char_function, data_function, extract_function, find_function, get_function, justify_function, length_function, order_function, piece_function, select_function, translate_function, function_of, takes, exprs_count, IsCall, WellPrimary, WellAll, WellList}
+use Rattle.mgrammar.specs.Reading.{◌>>=◌, run_of, after_run, number_at, is_digit_or_point, text_from, past, many, after_comma, list_at, Readers, is_select, is_referring, reference_with, bracket_with, choice_with, select_with, call_with, refer_with, function_by, special_by, dollar_by, dollar_with, primary_with}
+use Rattle.mgrammar.proofs.ReadingBasics.{Takes, Again, Stops, Stops-weaker, Begins, Begins-weaker, Begins-append, goes_on, bind_some, chosen, some_is, run_parts, run_again, past_takes, text_takes, text_again}
 use Rattle.mgrammar.proofs.ReadingNumbers.{number_takes, number_again, number_begins, goes_on_number}
-use Rattle.mgrammar.proofs.ReadingOperators.{is_operator}
-use Rattle.mgrammar.proofs.ReadingLists.{list_takes, list_again}
-use Rattle.mgrammar.proofs.ReadingTrees.{WellInner, exprs_list, exprs_back, spell_exprs-list, count-length, exprs_well, exprs_inner, spell_choice, WellChoice, choices_list, choices_back, spell_choices-list, choices_well, choices_inner}
+use Rattle.mgrammar.proofs.ReadingLists.{each, joined_by, spell_more-each, many_takes, comma_takes, more_again, list_takes, list_again}
+use Rattle.mgrammar.proofs.ReadingReferences.{OperandEnds, Ends, WellWithin, is_open, reference_takes, reference_again, reference_begins}
+use Rattle.mgrammar.proofs.ReadingTrees.{WellInner, exprs_list, exprs_back, more_exprs-list, spell_exprs-list, count-length, exprs_well, exprs_inner, spell_choice, WellChoice, choices_list, choices_back, spell_choices-list, choices_well, choices_inner}
 
--- ---- what may follow
-
--- what may follow an operand: nothing that goes on with it
-abbrev pub OperandEnds : List ℕ → Type 0
-OperandEnds rest = Stops goes_on rest
-
--- what may follow an expression: that, and no operator
-abbrev pub Ends : List ℕ → Type 0
-Ends rest = Stops goes_on rest × Stops is_operator rest
-
-not_on : (c : ℕ) → goes_on c ≡ false → (goes_on_number c ≡ false) × (is_name_rest c ≡ false) × (eqb c 34 ≡ false)
-not_on c h = (grind (arith, nat_tests), grind (arith, nat_tests), grind (arith, nat_tests))
+pub not_on : (c : ℕ) → goes_on c ≡ false → (goes_on_number c ≡ false) × (is_letter c ≡ false) × (eqb c 34 ≡ false) × (is_open c ≡ false)
+not_on c h = (grind (arith, nat_tests), grind (arith, nat_tests), grind (arith, nat_tests), grind (arith, nat_tests))
 
 -- ---- what is read is spelled so, below some depth
 
@@ -46,10 +36,13 @@ call_cells cs w after inside t t' last rest p q s u e =
 select_is : (f : FunctionTree) → is_select f ≡ true → f ≡ select_function
 select_is ascii_function h = absurd cc
 select_is char_function h = absurd cc
+select_is data_function h = absurd cc
 select_is extract_function h = absurd cc
 select_is find_function h = absurd cc
+select_is get_function h = absurd cc
 select_is justify_function h = absurd cc
 select_is length_function h = absurd cc
+select_is order_function h = absurd cc
 select_is piece_function h = absurd cc
 select_is select_function h = refl
 select_is translate_function h = absurd cc
@@ -57,10 +50,13 @@ select_is translate_function h = absurd cc
 no_select : (f : FunctionTree) (n : ℕ) → takes f n ≡ true → is_select f ≡ false
 no_select ascii_function n h = refl
 no_select char_function n h = refl
+no_select data_function n h = absurd cc
 no_select extract_function n h = refl
 no_select find_function n h = refl
+no_select get_function n h = absurd cc
 no_select justify_function n h = refl
 no_select length_function n h = refl
+no_select order_function n h = absurd cc
 no_select piece_function n h = refl
 no_select select_function n h = absurd cc
 no_select translate_function n h = refl
@@ -69,10 +65,13 @@ no_select translate_function n h = refl
 takes_some : (f : FunctionTree) → takes f 0 ≡ true → ⊥
 takes_some ascii_function h = cc
 takes_some char_function h = cc
+takes_some data_function h = cc
 takes_some extract_function h = cc
 takes_some find_function h = cc
+takes_some get_function h = cc
 takes_some justify_function h = cc
 takes_some length_function h = cc
+takes_some order_function h = cc
 takes_some piece_function h = cc
 takes_some select_function h = cc
 takes_some translate_function h = cc
@@ -92,17 +91,41 @@ text_primary d c cs x at e =
     let t = text_takes false cs b.0 b.1 in
     subst (PrimaryIs d (c ∷ cs)) (some_is (text b.0.0, b.0.1) x b.2) (cells c cs 34 (quoted b.0.0) 34 b.0.1 at t.0, t.1)
 
-name_primary : (d : ℕ) (cs : List ℕ) (x : PrimaryTree × List ℕ) → (name_at cs >>= λ n. Some (local n.0, n.1)) ≡ Some x → PrimaryIs d cs x
-name_primary d cs x e =
-    let b = bind_some (name_at cs) (λ n. Some (local n.0, n.1)) x e in
-    subst (PrimaryIs d cs) (some_is (local b.0.0, b.0.1) x b.2) (name_takes cs b.0 b.1)
+-- a function of a variable takes no other arguments
+no_call : (f : FunctionTree) (n : ℕ) → takes f n ≡ true → is_referring f ≡ false
+no_call ascii_function n h = refl
+no_call char_function n h = refl
+no_call data_function n h = absurd cc
+no_call extract_function n h = refl
+no_call find_function n h = refl
+no_call get_function n h = absurd cc
+no_call justify_function n h = refl
+no_call length_function n h = refl
+no_call order_function n h = absurd cc
+no_call piece_function n h = refl
+no_call select_function n h = absurd cc
+no_call translate_function n h = refl
+
+is_reference : (f : FunctionTree) (n : ℕ) → refers f n ≡ true → (is_select f ≡ false) × (is_referring f ≡ true)
+is_reference ascii_function n h = absurd cc
+is_reference char_function n h = absurd cc
+is_reference data_function n h = (refl, refl)
+is_reference extract_function n h = absurd cc
+is_reference find_function n h = absurd cc
+is_reference get_function n h = (refl, refl)
+is_reference justify_function n h = absurd cc
+is_reference length_function n h = absurd cc
+is_reference order_function n h = (refl, refl)
+is_reference piece_function n h = absurd cc
+is_reference select_function n h = absurd cc
+is_reference translate_function n h = absurd cc
 
 -- arguments that were read are one or more
 first_well : (d : ℕ) (es : List ExprTree) → WellList (WellInner d) es → (0 < d) × WellAll (WellInner d) es
 first_well d [] w = absurd w
 first_well d (e ∷ es) w = (w.0.0, w)
 
-module _ (d : ℕ) (r : Readers) (inner_takes : Takes spell_expr (WellInner d) (r.inner)) where
+module _ (d : ℕ) (r : Readers) (inner_takes : Takes spell_expr (WellInner d) (r.inner)) (within_takes : Takes spell_reference (WellWithin d) (r.within)) where
   bracket_primary : (c : ℕ) (cs : List ℕ) (x : PrimaryTree × List ℕ) → c ≡ 40 → bracket_with r cs ≡ Some x → PrimaryIs d (c ∷ cs) x
   unfolding bracket_with
   bracket_primary c cs x at e =
@@ -112,9 +135,6 @@ module _ (d : ℕ) (r : Readers) (inner_takes : Takes spell_expr (WellInner d) (
       let z = past_takes 41 b.0.1 k.0 k.1 in
       subst (PrimaryIs d (c ∷ cs)) (some_is (bracket b.0.0, k.0) x k.2)
       (cells c cs 40 (spell_expr b.0.0) 41 k.0 at (t.0 ∙ ap (λ (y : List ℕ). spell_expr b.0.0 ++ y) z), t.1)
-
-  choice_parts : (cs c t rest v after : List ℕ) → cs ≡ c ++ t → t ≡ 58 ∷ rest → rest ≡ v ++ after → cs ≡ (c ++ 58 ∷ v) ++ after
-  choice_parts cs c t rest v after p q s = rw (p, q, s, append_assoc) refl
 
   choice_takes : Takes spell_choice (WellChoice d) (choice_with r)
   unfolding choice_with
@@ -126,7 +146,7 @@ module _ (d : ℕ) (r : Readers) (inner_takes : Takes spell_expr (WellInner d) (
       let colon = past_takes 58 c.0.1 k.0 k.1 in
       let value = inner_takes k.0 v.0 v.1 in
       subst (λ (y : (ExprTree × ExprTree) × List ℕ). (cs ≡ spell_choice y.0 ++ y.1) × WellChoice d y.0) {x = ((c.0.0, v.0.0), v.0.1)} (some_is ((c.0.0, v.0.0), v.0.1) x v.2)
-      (choice_parts cs (spell_expr c.0.0) c.0.1 k.0 (spell_expr v.0.0) v.0.1 condition.0 colon value.0, (condition.1, value.1))
+      (joined_by 58 cs (spell_expr c.0.0) c.0.1 k.0 (spell_expr v.0.0) v.0.1 condition.0 colon value.0, (condition.1, value.1))
 
   -- behind a word and its bracket
   select_takes : (w cs ds after : List ℕ) (x : PrimaryTree × List ℕ) → ds ≡ w ++ after → after ≡ 40 ∷ cs → AllAre is_letter w → function_of w ≡ Some select_function → select_with r w cs ≡ Some x
@@ -158,24 +178,67 @@ module _ (d : ℕ) (r : Readers) (inner_takes : Takes spell_expr (WellInner d) (
         | inr u ↦ absurd cc
       ]
 
+  -- the text of a function of a variable, from its parts
+  refer_cells : (cs w after inside v t more more' last rest : List ℕ) → cs ≡ w ++ after → after ≡ 40 ∷ inside → inside ≡ v ++ t → t ≡ more ++ last → last ≡ 41 ∷ rest → more' ≡ more
+      → 36 ∷ cs ≡ (36 ∷ (w ++ 40 ∷ (v ++ (more' ++ 41 ∷ [])))) ++ rest
+  refer_cells cs w after inside v t more more' last rest p q s u z e =
+      let whole : 36 ∷ cs ≡ 36 ∷ (w ++ 40 ∷ (v ++ (more ++ 41 ∷ rest))) = rw (p, q, s, u, z) refl in
+      let same : (36 ∷ (w ++ 40 ∷ (v ++ (more ++ 41 ∷ [])))) ++ rest ≡ 36 ∷ (w ++ 40 ∷ (v ++ (more ++ 41 ∷ rest))) = simp append_assoc in
+      whole ∙ sym same ∙ ap (λ (y : List ℕ). (36 ∷ (w ++ 40 ∷ (v ++ (y ++ 41 ∷ [])))) ++ rest) (sym e)
+
+  refer_takes : (g : FunctionTree) (w cs ds after : List ℕ) (x : PrimaryTree × List ℕ) → ds ≡ w ++ after → after ≡ 40 ∷ cs → AllAre is_letter w → function_of w ≡ Some g → refer_with r g w cs ≡ Some x
+      → PrimaryIs d (36 ∷ ds) x
+  unfolding refer_with
+  refer_takes g w cs ds after x p q l f e =
+      let v = bind_some (r.within cs) (λ v. many (after_comma (r.inner)) (length v.1) v.1 >>= λ y. past 41 y.1 >>= λ rest. cond (refers g (length y.0)) (Some (refer w v.0 (exprs_of y.0), rest)) None) x e in
+      let b = bind_some (many (after_comma (r.inner)) (length v.0.1) v.0.1) (λ y. past 41 y.1 >>= λ rest. cond (refers g (length y.0)) (Some (refer w v.0.0 (exprs_of y.0), rest)) None) x v.2 in
+      let k = bind_some (past 41 b.0.1) (λ rest. cond (refers g (length b.0.0)) (Some (refer w v.0.0 (exprs_of b.0.0), rest)) None) x b.2 in
+      let variable = within_takes cs v.0 v.1 in
+      let more = many_takes (λ a. 44 ∷ spell_expr a) (WellInner d) (after_comma (r.inner)) (comma_takes spell_expr (WellInner d) (r.inner) inner_takes) (length v.0.1) v.0.1 b.0 b.1 in
+      let z = past_takes 41 b.0.1 k.0 k.1 in
+      elim (chosen (refers g (length b.0.0)) (Some (refer w v.0.0 (exprs_of b.0.0), k.0)) None (Some x) k.2) [
+        | inl u ↦
+            let is : IsReferring w (exprs_count (exprs_of b.0.0)) = (g, f, ap (refers g) (count-length b.0.0) ∙ u.0) in
+            subst (PrimaryIs d (36 ∷ ds)) {x = (refer w v.0.0 (exprs_of b.0.0), k.0)} (some_is (refer w v.0.0 (exprs_of b.0.0), k.0) x u.1) (
+              refer_cells ds w after cs (spell_reference v.0.0) v.0.1 (each (λ a. 44 ∷ spell_expr a) b.0.0) (spell_more_exprs (exprs_of b.0.0)) b.0.1 k.0 p q variable.0 more.0 z (more_exprs-list b.0.0 ∙ spell_more-each spell_expr b.0.0),
+              (variable.1.0, l, is, variable.1.1, exprs_well d b.0.0 more.1),
+            )
+        | inr u ↦ absurd cc
+      ]
+
   function_takes : (w cs ds after : List ℕ) (o : Option FunctionTree) (x : PrimaryTree × List ℕ) → ds ≡ w ++ after → after ≡ 40 ∷ cs → AllAre is_letter w → function_of w ≡ o → function_by r w o cs ≡ Some x
       → PrimaryIs d (36 ∷ ds) x
   function_takes w cs ds after None x p q l f e = absurd cc
   function_takes w cs ds after (Some g) x p q l f e =
-      elim (chosen (is_select g) (select_with r w cs) (call_with r g w cs) (Some x) e) [
+      elim (chosen (is_select g) (select_with r w cs) (cond (is_referring g) (refer_with r g w cs) (call_with r g w cs)) (Some x) e) [
         | inl s ↦ select_takes w cs ds after x p q l (f ∙ ap (λ (y : FunctionTree). Some y) (select_is g s.0)) s.1
-        | inr s ↦ call_takes g w cs ds after x p q l f s.1
+        | inr s ↦ elim (chosen (is_referring g) (refer_with r g w cs) (call_with r g w cs) (Some x) s.1) [
+          | inl t ↦ refer_takes g w cs ds after x p q l f t.1
+          | inr t ↦ call_takes g w cs ds after x p q l f t.1
+        ]
       ]
 
-  function_primary : (c : ℕ) (cs : List ℕ) (x : PrimaryTree × List ℕ) → c ≡ 36 → function_with r cs ≡ Some x → PrimaryIs d (c ∷ cs) x
-  unfolding function_with
-  function_primary c cs x at e =
+  special_takes : (w cs ds : List ℕ) (o : Option SpecialTree) (x : PrimaryTree × List ℕ) → ds ≡ w ++ cs → AllAre is_letter w → special_of w ≡ o → special_by r w o cs ≡ Some x → PrimaryIs d (36 ∷ ds) x
+  special_takes w cs ds None x p l f e = absurd cc
+  special_takes w cs ds (Some v) x p l f e = subst (PrimaryIs d (36 ∷ ds)) (some_is (special w, cs) x e) (ap (λ (y : List ℕ). 36 ∷ y) p, (l, (v, f)))
+
+  dollar_takes : (w after ds : List ℕ) (o : Option (List ℕ)) (x : PrimaryTree × List ℕ) → ds ≡ w ++ after → AllAre is_letter w → past 40 after ≡ o → dollar_by r w after o ≡ Some x → PrimaryIs d (36 ∷ ds) x
+  dollar_takes w after ds None x p l h e = special_takes w after ds (special_of w) x p l refl e
+  dollar_takes w after ds (Some inside) x p l h e = function_takes w inside ds after (function_of w) x p (past_takes 40 after inside h) l refl e
+
+  dollar_primary : (c : ℕ) (cs : List ℕ) (x : PrimaryTree × List ℕ) → c ≡ 36 → dollar_with r cs ≡ Some x → PrimaryIs d (c ∷ cs) x
+  unfolding dollar_with
+  dollar_primary c cs x at e =
       let w = run_of is_letter cs in
       let after = after_run is_letter cs in
-      let k = bind_some (past 40 after) (function_by r w (function_of w)) x e in
       let parts = run_parts is_letter cs in
-      let is : PrimaryIs d (36 ∷ cs) x = function_takes w k.0 cs after (function_of w) x parts.0 (past_takes 40 after k.0 k.1) parts.1 refl k.2 in
+      let is : PrimaryIs d (36 ∷ cs) x = dollar_takes w after cs (past 40 after) x parts.0 parts.1 refl e in
       (ap (λ (y : ℕ). y ∷ cs) at ∙ is.0, is.1)
+
+  reference_primary : (cs : List ℕ) (x : PrimaryTree × List ℕ) → (reference_with r cs >>= λ v. Some (reference v.0, v.1)) ≡ Some x → PrimaryIs d cs x
+  reference_primary cs x e =
+      let b = bind_some (reference_with r cs) (λ v. Some (reference v.0, v.1)) x e in
+      subst (PrimaryIs d cs) (some_is (reference b.0.0, b.0.1) x b.2) (reference_takes d r inner_takes cs b.0 b.1)
 
   pub primary_takes : Takes spell_primary (WellPrimary d) (primary_with r)
   unfolding primary_with
@@ -187,9 +250,9 @@ module _ (d : ℕ) (r : Readers) (inner_takes : Takes spell_expr (WellInner d) (
           | inl q ↦ text_primary d c cs x (eqb-true _ _ q.0) q.1
           | inr q ↦ elim (chosen (eqb c 40) (bracket_with r cs) _ (Some x) q.1) [
             | inl s ↦ bracket_primary c cs x (eqb-true _ _ s.0) s.1
-            | inr s ↦ elim (chosen (eqb c 36) (function_with r cs) _ (Some x) s.1) [
-              | inl t ↦ function_primary c cs x (eqb-true _ _ t.0) t.1
-              | inr t ↦ name_primary d (c ∷ cs) x t.1
+            | inr s ↦ elim (chosen (eqb c 36) (dollar_with r cs) _ (Some x) s.1) [
+              | inl t ↦ dollar_primary c cs x (eqb-true _ _ t.0) t.1
+              | inr t ↦ reference_primary (c ∷ cs) x t.1
             ]
           ]
         ]
@@ -210,15 +273,16 @@ digit_or_point_begins c h = grind (arith, nat_tests)
 pub primary_begins : (d : ℕ) (p : PrimaryTree) → WellPrimary d p → Begins begins_primary (spell_primary p)
 primary_begins d (number t) w = Begins-weaker is_digit_or_point begins_primary t digit_or_point_begins (number_begins t w)
 primary_begins d (text t) w = refl
-primary_begins d (local []) w = absurd w
-primary_begins d (local (c ∷ cs)) w = name_begins c w.0
+primary_begins d (special word) w = refl
+primary_begins d (reference v) w = Begins-weaker is_name_start begins_primary (spell_reference v) name_begins (reference_begins d v w)
+primary_begins d (refer word v more) w = refl
 primary_begins d (bracket e) w = refl
 primary_begins d (call word args) w = refl
 primary_begins d (select word all) w = refl
 
 -- ---- what is spelled so is read, below some depth
 
-name_start_tests : (c : ℕ) → is_name_start c ≡ true → (is_digit_or_point c ≡ false) × (eqb c 34 ≡ false) × (eqb c 40 ≡ false) × (eqb c 36 ≡ false)
+pub name_start_tests : (c : ℕ) → is_name_start c ≡ true → (is_digit_or_point c ≡ false) × (eqb c 34 ≡ false) × (eqb c 40 ≡ false) × (eqb c 36 ≡ false)
 name_start_tests c h = (grind (arith, nat_tests), grind (arith, nat_tests), grind (arith, nat_tests), grind (arith, nat_tests))
 
 number_step : (r : Readers) (cs t rest : List ℕ) → Begins is_digit_or_point cs → number_at cs ≡ Some (t, rest) → primary_with r cs ≡ Some (number t, rest)
@@ -230,12 +294,12 @@ text_step : (r : Readers) (t rest : List ℕ) → AllAre is_character t → Stop
 unfolding primary_with
 text_step r t rest w s = rw (text_again t rest w s) refl
 
-name_step : (r : Readers) (n rest : List ℕ) → IsName n → Stops is_name_rest rest → primary_with r (n ++ rest) ≡ Some (local n, rest)
+variable_step : (r : Readers) (cs : List ℕ) (v : ReferenceTree) (rest : List ℕ) → Begins is_name_start cs → reference_with r cs ≡ Some (v, rest) → primary_with r cs ≡ Some (reference v, rest)
 unfolding primary_with
-name_step r [] rest w f = absurd w
-name_step r (c ∷ n) rest w f =
-    let t = name_start_tests c w.0 in
-    rw (t.0, t.1, t.2, t.3, name_again (c ∷ n) rest w f) refl
+variable_step r [] v rest b h = absurd b
+variable_step r (c ∷ cs) v rest b h =
+    let t = name_start_tests c b in
+    rw (t.0, t.1, t.2, t.3, h) refl
 
 bracket_step : (r : Readers) (cs : List ℕ) (e : ExprTree) (rest : List ℕ) → r.inner cs ≡ Some (e, 41 ∷ rest) → primary_with r (40 ∷ cs) ≡ Some (bracket e, rest)
 unfolding primary_with bracket_with
@@ -254,15 +318,31 @@ select_step r w cs all rest f h = rw (f, h) refl
 call_step : (r : Readers) (g : FunctionTree) (w cs : List ℕ) (args : List ExprTree) (rest : List ℕ) → function_of w ≡ Some g → takes g (length args) ≡ true → list_at (r.inner) cs ≡ Some (args, 41 ∷ rest)
     → function_by r w (function_of w) cs ≡ Some (call w (exprs_of args), rest)
 unfolding call_with
-call_step r g w cs args rest f t h = rw (f, no_select g (length args) t, h, t) refl
+call_step r g w cs args rest f t h = rw (f, no_select g (length args) t, no_call g (length args) t, h, t) refl
+
+refer_step : (r : Readers) (g : FunctionTree) (w cs t : List ℕ) (v : ReferenceTree) (more : List ExprTree) (rest : List ℕ) → function_of w ≡ Some g → refers g (length more) ≡ true → r.within cs ≡ Some (v, t)
+    → many (after_comma (r.inner)) (length t) t ≡ Some (more, 41 ∷ rest) → function_by r w (function_of w) cs ≡ Some (refer w v (exprs_of more), rest)
+unfolding refer_with
+refer_step r g w cs t v more rest f u h k = let is = is_reference g (length more) u in rw (f, is.0, is.1, h, k, u) refl
 
 function_step : (r : Readers) (w cs : List ℕ) (p : PrimaryTree) (rest : List ℕ) → AllAre is_letter w → function_by r w (function_of w) cs ≡ Some (p, rest) → primary_with r (36 ∷ (w ++ 40 ∷ cs)) ≡ Some (p, rest)
-unfolding primary_with function_with
+unfolding primary_with dollar_with
 function_step r w cs p rest l h =
     let i = run_again is_letter w (40 ∷ cs) l refl in
     rw (i.0, i.1) h
 
-module _ (d : ℕ) (r : Readers) (inner_again : Again spell_expr (WellInner d) Ends (r.inner)) where
+-- no bracket opens here
+no_bracket : (cs : List ℕ) → Stops is_open cs → past 40 cs ≡ None
+no_bracket [] s = refl
+no_bracket (c ∷ cs) s = rw s refl
+
+special_step : (r : Readers) (w rest : List ℕ) (v : SpecialTree) → AllAre is_letter w → special_of w ≡ Some v → Stops is_letter rest → Stops is_open rest → primary_with r (36 ∷ (w ++ rest)) ≡ Some (special w, rest)
+unfolding primary_with dollar_with
+special_step r w rest v l f s t =
+    let i = run_again is_letter w rest l s in
+    rw (i.0, i.1, no_bracket rest t, f) refl
+
+module _ (d : ℕ) (r : Readers) (inner_again : Again spell_expr (WellInner d) Ends (r.inner)) (within_again : Again spell_reference (WellWithin d) OperandEnds (r.within)) where
   choice_again : Again spell_choice (WellChoice d) Ends (choice_with r)
   choice_again c rest w s =
       ap (choice_with r) (append_assoc (spell_expr c.0) (58 ∷ spell_expr c.1) rest)
@@ -293,13 +373,39 @@ module _ (d : ℕ) (r : Readers) (inner_again : Again spell_expr (WellInner d) E
       ap (primary_with r) (in_brackets w (spell_exprs args) rest ∙ ap (λ (y : List ℕ). 36 ∷ (w ++ 40 ∷ (y ++ 41 ∷ rest))) same)
       ∙ step ∙ ap (λ (y : ExprsTree). Some (call w y, rest)) (exprs_back args)
 
+  -- the text of a function of a variable, and what follows it
+  refer_spread : (w v more rest : List ℕ) → (36 ∷ (w ++ 40 ∷ (v ++ (more ++ 41 ∷ [])))) ++ rest ≡ 36 ∷ (w ++ 40 ∷ (v ++ (more ++ 41 ∷ rest)))
+  refer_spread w v more rest = simp append_assoc
+
+  -- what follows a variable there
+  more_ends : (es : List ExprTree) (rest : List ℕ) → OperandEnds (spell_more spell_expr es ++ 41 ∷ rest)
+  more_ends [] rest = refl
+  more_ends (e ∷ es) rest = refl
+
+  refer_again : (w : List ℕ) (v : ReferenceTree) (more : ExprsTree) (rest : List ℕ) → WellPrimary d (refer w v more) → primary_with r (spell_primary (refer w v more) ++ rest) ≡ Some (refer w v more, rest)
+  refer_again w v more rest h =
+      let es = exprs_list more in
+      let f : FunctionTree = h.2.0 in
+      let same : spell_more_exprs more ≡ spell_more spell_expr es = ap spell_more_exprs (sym (exprs_back more)) ∙ more_exprs-list es in
+      let count : refers f (length es) ≡ true = ap (refers f) (sym (count-length es) ∙ ap exprs_count (exprs_back more)) ∙ h.2.2 in
+      let t : List ℕ = spell_more spell_expr es ++ 41 ∷ rest in
+      let variable = within_again v t (h.0, h.3) (more_ends es rest) in
+      let others = more_again spell_expr (WellInner d) (r.inner) Ends (λ more. (refl, refl)) inner_again es (41 ∷ rest) (exprs_inner d more h.0 h.4) (refl, refl) refl in
+      let step = function_step r w (spell_reference v ++ t) (refer w v (exprs_of es)) rest h.1 (refer_step r f w (spell_reference v ++ t) t v es rest h.2.1 count variable others) in
+      ap (primary_with r) (refer_spread w (spell_reference v) (spell_more_exprs more) rest ∙ ap (λ (y : List ℕ). 36 ∷ (w ++ 40 ∷ (spell_reference v ++ (y ++ 41 ∷ rest)))) same)
+      ∙ step ∙ ap (λ (y : ExprsTree). Some (refer w v y, rest)) (exprs_back more)
+
   pub primary_again : Again spell_primary (WellPrimary d) OperandEnds (primary_with r)
   primary_again (number t) rest w s =
       number_step r (t ++ rest) t rest (Begins-append is_digit_or_point t rest (number_begins t w)) (number_again t rest w (Stops-weaker goes_on goes_on_number rest (λ c h. (not_on c h).0) s))
   primary_again (text t) rest w s =
       ap (λ (y : List ℕ). primary_with r (34 ∷ y)) (append_assoc (quoted t) (34 ∷ []) rest)
       ∙ text_step r t rest w (Stops-weaker goes_on (λ c. eqb c 34) rest (λ c h. (not_on c h).2) s)
-  primary_again (local n) rest w s = name_step r n rest w (Stops-weaker goes_on is_name_rest rest (λ c h. (not_on c h).1) s)
+  primary_again (special word) rest w s =
+      special_step r word rest w.1.0 w.0 w.1.1 (Stops-weaker goes_on is_letter rest (λ c h. (not_on c h).1) s) (Stops-weaker goes_on is_open rest (λ c h. (not_on c h).3) s)
+  primary_again (reference v) rest w s =
+      variable_step r (spell_reference v ++ rest) v rest (Begins-append is_name_start (spell_reference v) rest (reference_begins d v w)) (reference_again d r inner_again v rest w s)
+  primary_again (refer word v more) rest w s = refer_again word v more rest w
   primary_again (bracket e) rest w s =
       ap (λ (y : List ℕ). primary_with r (40 ∷ y)) (append_assoc (spell_expr e) (41 ∷ []) rest)
       ∙ bracket_step r (spell_expr e ++ 41 ∷ rest) e rest (inner_again e (41 ∷ rest) w (refl, refl))

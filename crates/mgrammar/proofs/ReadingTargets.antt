@@ -1,15 +1,16 @@
 -- What is read of the left side of an assignment is spelled so, and what is spelled so is read.
-use Rattle.std.proofs.Common.{◌≡◌, ℕ, ◌<◌, ◌-◌, true, false, eqb, List, [], ◌∷◌, ◌++◌, Option, Some, None, inl, inr, refl, sym, ap, subst, ◌∙◌, append_assoc, arith}
+use Rattle.std.proofs.Common.{◌≡◌, ℕ, ◌<◌, ◌-◌, true, eqb, List, [], ◌∷◌, ◌++◌, Option, Some, None, inl, inr, refl, sym, ap, subst, ◌∙◌, append_assoc, arith}
 use Rattle.std.proofs.lemmas.Bool.{eqb-true}
 use Rattle.std.proofs.lemmas.Bool.Decides.{nat_tests}
-use Rattle.mspec.specs.Names.{is_letter, is_name_start, is_name_rest, AllAre, IsName}
-use Rattle.mgrammar.specs.Grammar.{ExprTree, TargetTree, variable, piece, DestinationTree, one, several, ArgTree, assign, spell_expr, spell_list, spell_place, spell_target, spell_destination, spell_arg, assignment, FunctionTree, ascii_function, char_function, extract_function, find_function, justify_function, length_function, piece_function, select_function, translate_function, function_of, max_depth, WellPlace, WellTarget, WellDestination, WellArg}
-use Rattle.mgrammar.specs.Reading.{Read, ◌>>=◌, run_of, after_run, name_at, past, list_at, Readers, is_piece, expr_at, readers_at, place_with, piece_with, piece_by, target_with, destination_at, assignment_at}
-use Rattle.mgrammar.proofs.ReadingBasics.{Takes, Again, Stops, Begins, Begins-append, bind_some, chosen, some_is, both_are, run_parts, run_again, past_takes, name_takes, name_again}
-use Rattle.mgrammar.proofs.ReadingLists.{is_comma, list_takes, list_again}
+use Rattle.mspec.specs.Names.{is_letter, is_name_start, AllAre}
+use Rattle.mgrammar.specs.Grammar.{ExprTree, ReferenceTree, TargetTree, variable, piece, DestinationTree, one, several, ArgTree, assign, spell_expr, spell_reference, spell_list, spell_place, spell_target, spell_destination, spell_arg, assignment, FunctionTree, ascii_function, char_function, data_function, extract_function, find_function, get_function, justify_function, length_function, order_function, piece_function, select_function, translate_function, function_of, max_depth, WellPlace, WellTarget, WellDestination, WellArg}
+use Rattle.mgrammar.specs.Reading.{Read, ◌>>=◌, run_of, after_run, past, list_at, Readers, is_piece, reference_with, expr_at, readers_at, place_with, piece_with, piece_by, target_with, destination_at, assignment_at}
+use Rattle.mgrammar.proofs.ReadingBasics.{Takes, Again, Stops, Begins, Begins-append, Begins-stops, Begins-weaker, bind_some, chosen, some_is, both_are, run_parts, run_again, past_takes}
+use Rattle.mgrammar.proofs.ReadingLists.{joined_by, enclosed, is_comma, list_takes, list_again}
 use Rattle.mgrammar.proofs.ReadingTrees.{WellInner}
-use Rattle.mgrammar.proofs.ReadingPrimaries.{Ends}
-use Rattle.mgrammar.proofs.ReadingExprs.{begins_operand, inner_takes, inner_again, expr_takes, expr_again}
+use Rattle.mgrammar.proofs.ReadingReferences.{OperandEnds, Ends, WellWithin, reference_takes, reference_again, reference_begins}
+use Rattle.mgrammar.proofs.ReadingPrimaries.{name_start_tests}
+use Rattle.mgrammar.proofs.ReadingExprs.{begins_operand, inner_takes, within_takes, inner_again, within_again, expr_takes, expr_again}
 
 -- ---- what is read is spelled so
 
@@ -27,10 +28,13 @@ piece_cells ds w after cs n t a e u p last rest f g h k l m z =
 piece_is : (f : FunctionTree) → is_piece f ≡ true → f ≡ piece_function
 piece_is ascii_function h = absurd cc
 piece_is char_function h = absurd cc
+piece_is data_function h = absurd cc
 piece_is extract_function h = absurd cc
 piece_is find_function h = absurd cc
+piece_is get_function h = absurd cc
 piece_is justify_function h = absurd cc
 piece_is length_function h = absurd cc
+piece_is order_function h = absurd cc
 piece_is piece_function h = refl
 piece_is select_function h = absurd cc
 piece_is translate_function h = absurd cc
@@ -39,7 +43,7 @@ piece_is translate_function h = absurd cc
 abbrev TargetIs : ℕ → List ℕ → TargetTree × List ℕ → Type 0
 TargetIs d cs x = (cs ≡ spell_target x.0 ++ x.1) × WellTarget d x.0
 
-module _ (d : ℕ) (r : Readers) (takes : Takes spell_expr (WellInner d) (r.inner)) where
+module _ (d : ℕ) (r : Readers) (takes : Takes spell_expr (WellInner d) (r.inner)) (within : Takes spell_reference (WellWithin d) (r.within)) where
   place_takes : Takes spell_place (WellPlace (d - 1)) (place_with r)
   unfolding place_with
   place_takes [] x e = subst (λ (y : Option ExprTree × List ℕ). ([] ≡ spell_place y.0 ++ y.1) × WellPlace (d - 1) y.0) (some_is (None, []) x e) (refl, tt)
@@ -58,20 +62,20 @@ module _ (d : ℕ) (r : Readers) (takes : Takes spell_expr (WellInner d) (r.inne
       → TargetIs d (36 ∷ ds) x
   unfolding piece_with
   piece_takes w cs ds after x p q l f e =
-      let n = bind_some (name_at cs) (λ n. past 44 n.1 >>= λ rest. r.inner rest >>= λ e. place_with r e.1 >>= λ p. past 41 p.1 >>= λ end. Some (piece w n.0 e.0 p.0, end)) x e in
+      let n = bind_some (r.within cs) (λ n. past 44 n.1 >>= λ rest. r.inner rest >>= λ e. place_with r e.1 >>= λ p. past 41 p.1 >>= λ end. Some (piece w n.0 e.0 p.0, end)) x e in
       let k = bind_some (past 44 n.0.1) (λ rest. r.inner rest >>= λ e. place_with r e.1 >>= λ p. past 41 p.1 >>= λ end. Some (piece w n.0.0 e.0 p.0, end)) x n.2 in
       let v = bind_some (r.inner k.0) (λ e. place_with r e.1 >>= λ p. past 41 p.1 >>= λ end. Some (piece w n.0.0 e.0 p.0, end)) x k.2 in
       let u = bind_some (place_with r v.0.1) (λ p. past 41 p.1 >>= λ end. Some (piece w n.0.0 v.0.0 p.0, end)) x v.2 in
       let z = bind_some (past 41 u.0.1) (λ end. Some (piece w n.0.0 v.0.0 u.0.0, end)) x u.2 in
-      let name = name_takes cs n.0 n.1 in
+      let variable = within cs n.0 n.1 in
       let comma = past_takes 44 n.0.1 k.0 k.1 in
       let delimiter = takes k.0 v.0 v.1 in
       let place = place_takes v.0.1 u.0 u.1 in
       let close = past_takes 41 u.0.1 z.0 z.1 in
       let made : TargetTree × List ℕ = (piece w n.0.0 v.0.0 u.0.0, z.0) in
       let whole : 36 ∷ ds ≡ spell_target made.0 ++ made.1 =
-      piece_cells ds w after cs n.0.0 n.0.1 k.0 (spell_expr v.0.0) v.0.1 (spell_place u.0.0) u.0.1 z.0 p q name.0 comma delimiter.0 place.0 close in
-      subst (TargetIs d (36 ∷ ds)) {x = made} (some_is made x z.2) (whole, ((f, l), name.1, delimiter.1.1, place.1))
+      piece_cells ds w after cs (spell_reference n.0.0) n.0.1 k.0 (spell_expr v.0.0) v.0.1 (spell_place u.0.0) u.0.1 z.0 p q variable.0 comma delimiter.0 place.0 close in
+      subst (TargetIs d (36 ∷ ds)) {x = made} (some_is made x z.2) (whole, ((f, l), variable.1.1, delimiter.1.1, place.1))
 
   piece_takes_by : (w cs ds after : List ℕ) (o : Option FunctionTree) (x : TargetTree × List ℕ) → ds ≡ w ++ after → after ≡ 40 ∷ cs → AllAre is_letter w → function_of w ≡ o → piece_by r w o cs ≡ Some x
       → TargetIs d (36 ∷ ds) x
@@ -88,7 +92,7 @@ module _ (d : ℕ) (r : Readers) (takes : Takes spell_expr (WellInner d) (r.inne
   target_takes (c ∷ cs) x e =
       let w = run_of is_letter cs in
       let after = after_run is_letter cs in
-      elim (chosen (eqb c 36) (past 40 after >>= piece_by r w (function_of w)) (name_at (c ∷ cs) >>= λ n. Some (variable n.0, n.1)) (Some x) e) [
+      elim (chosen (eqb c 36) (past 40 after >>= piece_by r w (function_of w)) (reference_with r (c ∷ cs) >>= λ n. Some (variable n.0, n.1)) (Some x) e) [
         | inl p ↦
             let k = bind_some (past 40 after) (piece_by r w (function_of w)) x p.1 in
             let parts = run_parts is_letter cs in
@@ -96,15 +100,12 @@ module _ (d : ℕ) (r : Readers) (takes : Takes spell_expr (WellInner d) (r.inne
             let is = piece_takes_by w k.0 cs after (function_of w) x parts.0 (past_takes 40 after k.0 k.1) parts.1 refl k.2 in
             (ap (λ (y : ℕ). y ∷ cs) at ∙ is.0, is.1)
         | inr p ↦
-            let b = bind_some (name_at (c ∷ cs)) (λ n. Some (variable n.0, n.1)) x p.1 in
-            subst (TargetIs d (c ∷ cs)) (some_is (variable b.0.0, b.0.1) x b.2) (name_takes (c ∷ cs) b.0 b.1)
+            let b = bind_some (reference_with r (c ∷ cs)) (λ n. Some (variable n.0, n.1)) x p.1 in
+            subst (TargetIs d (c ∷ cs)) (some_is (variable b.0.0, b.0.1) x b.2) (reference_takes d r takes (c ∷ cs) b.0 b.1)
       ]
 
 abbrev DestinationIs : List ℕ → DestinationTree × List ℕ → Type 0
 DestinationIs cs x = (cs ≡ spell_destination x.0 ++ x.1) × WellDestination x.0
-
-list_cells : (c : ℕ) (cs t last rest : List ℕ) → c ≡ 40 → cs ≡ t ++ last → last ≡ 41 ∷ rest → c ∷ cs ≡ (40 ∷ (t ++ 41 ∷ [])) ++ rest
-list_cells c cs t last rest p q s = rw (p, q, s, append_assoc) refl
 
 -- how the targets of a list are read
 abbrev listed : List ℕ → Read TargetTree
@@ -114,9 +115,9 @@ several_takes : (c : ℕ) (cs : List ℕ) (x : DestinationTree × List ℕ) → 
 several_takes c cs x at e =
     let b = bind_some (list_at listed cs) (λ y. past 41 y.1 >>= λ rest. Some (several y.0, rest)) x e in
     let k = bind_some (past 41 b.0.1) (λ rest. Some (several b.0.0, rest)) x b.2 in
-    let t = list_takes spell_target (WellTarget (max_depth - 1)) listed (target_takes (max_depth - 1) (readers_at (max_depth - 1)) (inner_takes (max_depth - 1))) cs b.0 b.1 in
+    let t = list_takes spell_target (WellTarget (max_depth - 1)) listed (target_takes (max_depth - 1) (readers_at (max_depth - 1)) (inner_takes (max_depth - 1)) (within_takes (max_depth - 1))) cs b.0 b.1 in
     let z = past_takes 41 b.0.1 k.0 k.1 in
-    subst (DestinationIs (c ∷ cs)) (some_is (several b.0.0, k.0) x k.2) (list_cells c cs (spell_list spell_target b.0.0) b.0.1 k.0 at t.0 z, t.1)
+    subst (DestinationIs (c ∷ cs)) (some_is (several b.0.0, k.0) x k.2) (enclosed c cs (spell_list spell_target b.0.0) b.0.1 k.0 at t.0 z, t.1)
 
 destination_takes : Takes spell_destination WellDestination destination_at
 unfolding destination_at
@@ -126,11 +127,8 @@ destination_takes (c ∷ cs) x e =
       | inl p ↦ several_takes c cs x (eqb-true _ _ p.0) p.1
       | inr p ↦
           let b = bind_some (target_with (readers_at max_depth) (c ∷ cs)) (λ t. Some (one t.0, t.1)) x p.1 in
-          subst (DestinationIs (c ∷ cs)) (some_is (one b.0.0, b.0.1) x b.2) (target_takes max_depth (readers_at max_depth) (inner_takes max_depth) (c ∷ cs) b.0 b.1)
+          subst (DestinationIs (c ∷ cs)) (some_is (one b.0.0, b.0.1) x b.2) (target_takes max_depth (readers_at max_depth) (inner_takes max_depth) (within_takes max_depth) (c ∷ cs) b.0 b.1)
     ]
-
-equals_parts : (cs n t a e rest : List ℕ) → cs ≡ n ++ t → t ≡ 61 ∷ a → a ≡ e ++ rest → cs ≡ (n ++ 61 ∷ e) ++ rest
-equals_parts cs n t a e rest p q s = rw (p, q, s, append_assoc) refl
 
 pub assignment_takes : Takes spell_arg (WellArg assignment) assignment_at
 unfolding assignment_at
@@ -140,19 +138,12 @@ assignment_takes cs x e =
     let v = bind_some (expr_at max_depth k.0) (λ v. Some (assign t.0.0 v.0, v.1)) x k.2 in
     let destination = destination_takes cs t.0 t.1 in
     let equals = past_takes 61 t.0.1 k.0 k.1 in
-    let value = expr_takes max_depth (readers_at max_depth) (inner_takes max_depth) k.0 v.0 v.1 in
+    let value = expr_takes max_depth (readers_at max_depth) (inner_takes max_depth) (within_takes max_depth) k.0 v.0 v.1 in
     let made : ArgTree × List ℕ = (assign t.0.0 v.0.0, v.0.1) in
     subst (λ (y : ArgTree × List ℕ). (cs ≡ spell_arg y.0 ++ y.1) × WellArg assignment y.0) {x = made} (some_is made x v.2)
-    (equals_parts cs (spell_destination t.0.0) t.0.1 k.0 (spell_expr v.0.0) v.0.1 destination.0 equals value.0, (destination.1, value.1))
+    (joined_by 61 cs (spell_destination t.0.0) t.0.1 k.0 (spell_expr v.0.0) v.0.1 destination.0 equals value.0, (destination.1, value.1))
 
 -- ---- what is spelled so is read
-
--- what may follow a target: nothing that goes on with a name
-abbrev TargetEnds : List ℕ → Type 0
-TargetEnds rest = Stops is_name_rest rest
-
-name_no_dollar : (c : ℕ) → is_name_start c ≡ true → (eqb c 36 ≡ false) × (eqb c 40 ≡ false)
-name_no_dollar c h = (grind (arith, nat_tests), grind (arith, nat_tests))
 
 place_none : (r : Readers) (rest : List ℕ) → Stops is_comma rest → place_with r rest ≡ Some (None, rest)
 unfolding place_with
@@ -163,15 +154,15 @@ place_some : (r : Readers) (cs : List ℕ) (e : ExprTree) (rest : List ℕ) → 
 unfolding place_with
 place_some r cs e rest h = rw h refl
 
-variable_step : (r : Readers) (n rest : List ℕ) → IsName n → TargetEnds rest → target_with r (n ++ rest) ≡ Some (variable n, rest)
+variable_step : (r : Readers) (cs : List ℕ) (v : ReferenceTree) (rest : List ℕ) → Begins is_name_start cs → reference_with r cs ≡ Some (v, rest) → target_with r cs ≡ Some (variable v, rest)
 unfolding target_with
-variable_step r [] rest w s = absurd w
-variable_step r (c ∷ n) rest w s = rw ((name_no_dollar c w.0).0, name_again (c ∷ n) rest w s) refl
+variable_step r [] v rest b h = absurd b
+variable_step r (c ∷ cs) v rest b h = rw ((name_start_tests c b).3, h) refl
 
-inside_step : (r : Readers) (w cs name t u v : List ℕ) (delimiter : ExprTree) (place : Option ExprTree) (rest : List ℕ)
-    → name_at cs ≡ Some (name, t) → past 44 t ≡ Some u → r.inner u ≡ Some (delimiter, v) → place_with r v ≡ Some (place, 41 ∷ rest) → piece_with r w cs ≡ Some (piece w name delimiter place, rest)
+inside_step : (r : Readers) (w cs t u v : List ℕ) (aim : ReferenceTree) (delimiter : ExprTree) (place : Option ExprTree) (rest : List ℕ)
+    → r.within cs ≡ Some (aim, t) → past 44 t ≡ Some u → r.inner u ≡ Some (delimiter, v) → place_with r v ≡ Some (place, 41 ∷ rest) → piece_with r w cs ≡ Some (piece w aim delimiter place, rest)
 unfolding piece_with
-inside_step r w cs name t u v delimiter place rest h k l m = rw (h, k, l, m) refl
+inside_step r w cs t u v aim delimiter place rest h k l m = rw (h, k, l, m) refl
 
 piece_step : (r : Readers) (w cs : List ℕ) (x : TargetTree × List ℕ) → AllAre is_letter w → function_of w ≡ Some piece_function → piece_with r w cs ≡ Some x → target_with r (36 ∷ (w ++ 40 ∷ cs)) ≡ Some x
 unfolding target_with
@@ -179,7 +170,7 @@ piece_step r w cs x l f h =
     let i = run_again is_letter w (40 ∷ cs) l refl in
     rw (i.0, i.1, f) h
 
-module _ (d : ℕ) (r : Readers) (lt : 0 < d) (again : Again spell_expr (WellInner d) Ends (r.inner)) where
+module _ (d : ℕ) (r : Readers) (lt : 0 < d) (again : Again spell_expr (WellInner d) Ends (r.inner)) (within : Again spell_reference (WellWithin d) OperandEnds (r.within)) where
   place_again : (place : Option ExprTree) (rest : List ℕ) → WellPlace (d - 1) place → place_with r (spell_place place ++ 41 ∷ rest) ≡ Some (place, 41 ∷ rest)
   place_again None rest w = place_none r (41 ∷ rest) refl
   place_again (Some e) rest w = place_some r (spell_expr e ++ 41 ∷ rest) e (41 ∷ rest) (again e (41 ∷ rest) (lt, w) (refl, refl))
@@ -188,21 +179,22 @@ module _ (d : ℕ) (r : Readers) (lt : 0 < d) (again : Again spell_expr (WellInn
   place_ends None rest = (refl, refl)
   place_ends (Some e) rest = (refl, refl)
 
-  inside_again : (w name : List ℕ) (delimiter : ExprTree) (place : Option ExprTree) (rest : List ℕ) → WellTarget d (piece w name delimiter place)
-      → piece_with r w (name ++ 44 ∷ (spell_expr delimiter ++ (spell_place place ++ 41 ∷ rest))) ≡ Some (piece w name delimiter place, rest)
-  inside_again w name delimiter place rest h =
+  inside_again : (w : List ℕ) (v : ReferenceTree) (delimiter : ExprTree) (place : Option ExprTree) (rest : List ℕ) → WellTarget d (piece w v delimiter place)
+      → piece_with r w (spell_reference v ++ 44 ∷ (spell_expr delimiter ++ (spell_place place ++ 41 ∷ rest))) ≡ Some (piece w v delimiter place, rest)
+  inside_again w v delimiter place rest h =
       let last : List ℕ = spell_place place ++ 41 ∷ rest in
       let u : List ℕ = spell_expr delimiter ++ last in
-      inside_step r w (name ++ 44 ∷ u) name (44 ∷ u) u last delimiter place rest
-      (name_again name (44 ∷ u) h.1 refl) refl (again delimiter last (lt, h.2) (place_ends place rest)) (place_again place rest h.3)
+      inside_step r w (spell_reference v ++ 44 ∷ u) (44 ∷ u) u last v delimiter place rest
+      (within v (44 ∷ u) (lt, h.1) refl) refl (again delimiter last (lt, h.2) (place_ends place rest)) (place_again place rest h.3)
 
-  pub target_again : Again spell_target (WellTarget d) TargetEnds (target_with r)
-  target_again (variable name) rest w s = variable_step r name rest w s
-  target_again (piece word name delimiter place) rest w s =
-      let parts : spell_target (piece word name delimiter place) ++ rest ≡ 36 ∷ (word ++ 40 ∷ (name ++ 44 ∷ (spell_expr delimiter ++ (spell_place place ++ 41 ∷ rest)))) =
-      spread word name (spell_expr delimiter) (spell_place place) rest in
-      ap (target_with r) parts ∙ piece_step r word (name ++ 44 ∷ (spell_expr delimiter ++ (spell_place place ++ 41 ∷ rest))) (piece word name delimiter place, rest) w.0.1 w.0.0
-      (inside_again word name delimiter place rest w)
+  pub target_again : Again spell_target (WellTarget d) OperandEnds (target_with r)
+  target_again (variable v) rest w s =
+      variable_step r (spell_reference v ++ rest) v rest (Begins-append is_name_start (spell_reference v) rest (reference_begins d v w)) (reference_again d r again v rest w s)
+  target_again (piece word v delimiter place) rest w s =
+      let parts : spell_target (piece word v delimiter place) ++ rest ≡ 36 ∷ (word ++ 40 ∷ (spell_reference v ++ 44 ∷ (spell_expr delimiter ++ (spell_place place ++ 41 ∷ rest)))) =
+      spread word (spell_reference v) (spell_expr delimiter) (spell_place place) rest in
+      ap (target_with r) parts ∙ piece_step r word (spell_reference v ++ 44 ∷ (spell_expr delimiter ++ (spell_place place ++ 41 ∷ rest))) (piece word v delimiter place, rest) w.0.1 w.0.0
+      (inside_again word v delimiter place rest w)
 
 list_step : (cs : List ℕ) (ts : List TargetTree) (rest : List ℕ) → list_at listed cs ≡ Some (ts, 41 ∷ rest) → destination_at (40 ∷ cs) ≡ Some (several ts, rest)
 unfolding destination_at
@@ -215,16 +207,16 @@ one_step [] t rest s h = absurd cc
 one_step (c ∷ cs) t rest s h = rw (s, h) refl
 
 target_stops : (d : ℕ) (t : TargetTree) (rest : List ℕ) → WellTarget d t → Stops (λ c. eqb c 40) (spell_target t ++ rest)
-target_stops d (variable []) rest w = absurd w
-target_stops d (variable (c ∷ n)) rest w = (name_no_dollar c w.0).1
+target_stops d (variable v) rest w =
+    Begins-stops is_name_start (λ c. eqb c 40) (spell_reference v ++ rest) (λ c h. (name_start_tests c h).2) (Begins-append is_name_start (spell_reference v) rest (reference_begins d v w))
 target_stops d (piece word name delimiter place) rest w = refl
 
-destination_again : Again spell_destination WellDestination TargetEnds destination_at
+destination_again : Again spell_destination WellDestination OperandEnds destination_at
 destination_again (one t) rest w s =
-    one_step (spell_target t ++ rest) t rest (target_stops max_depth t rest w) (target_again max_depth (readers_at max_depth) (omega arith) (inner_again max_depth) t rest w s)
+    one_step (spell_target t ++ rest) t rest (target_stops max_depth t rest w) (target_again max_depth (readers_at max_depth) (omega arith) (inner_again max_depth) (within_again max_depth) t rest w s)
 destination_again (several ts) rest w s =
-    let again = target_again (max_depth - 1) (readers_at (max_depth - 1)) (omega arith) (inner_again (max_depth - 1)) in
-    let l = list_again spell_target (WellTarget (max_depth - 1)) listed TargetEnds (λ cs. refl) again ts (41 ∷ rest) w (refl, refl) in
+    let again = target_again (max_depth - 1) (readers_at (max_depth - 1)) (omega arith) (inner_again (max_depth - 1)) (within_again (max_depth - 1)) in
+    let l = list_again spell_target (WellTarget (max_depth - 1)) listed OperandEnds (λ cs. refl) again ts (41 ∷ rest) w (refl, refl) in
     ap destination_at (ap (λ (y : List ℕ). 40 ∷ y) (append_assoc (spell_list spell_target ts) (41 ∷ []) rest)) ∙ list_step (spell_list spell_target ts ++ 41 ∷ rest) ts rest l
 
 assignment_step : (cs t u : List ℕ) (destination : DestinationTree) (value : ExprTree) (rest : List ℕ) → destination_at cs ≡ Some (destination, t) → past 61 t ≡ Some u → expr_at max_depth u ≡ Some (value, rest)
@@ -236,19 +228,15 @@ pub assignment_again : Again spell_arg (WellArg assignment) Ends assignment_at
 assignment_again (assign destination value) rest w s =
     let u : List ℕ = spell_expr value ++ rest in
     ap assignment_at (append_assoc (spell_destination destination) (61 ∷ spell_expr value) rest)
-    ∙ assignment_step (spell_destination destination ++ 61 ∷ u) (61 ∷ u) u destination value rest (destination_again destination (61 ∷ u) w.0 refl) refl (expr_again max_depth (readers_at max_depth) (inner_again max_depth) value rest w.1 s)
+    ∙ assignment_step (spell_destination destination ++ 61 ∷ u) (61 ∷ u) u destination value rest (destination_again destination (61 ∷ u) w.0 refl) refl (expr_again max_depth (readers_at max_depth) (inner_again max_depth) (within_again max_depth) value rest w.1 s)
 assignment_again a rest w s = absurd w
 
 -- a name begins an argument of SET, or a `$`, or a bracket
-name_begins : (n : List ℕ) → IsName n → Begins begins_operand n
-name_begins [] w = absurd w
-name_begins (c ∷ n) w = letter_begins c w.0
-  where
-    letter_begins : (c : ℕ) → is_name_start c ≡ true → begins_operand c ≡ true
-    letter_begins c h = grind (arith, nat_tests, h)
+pub name_begins : (c : ℕ) → is_name_start c ≡ true → begins_operand c ≡ true
+name_begins c h = grind (arith, nat_tests, h)
 
 target_begins : (d : ℕ) (t : TargetTree) → WellTarget d t → Begins begins_operand (spell_target t)
-target_begins d (variable n) w = name_begins n w
+target_begins d (variable v) w = Begins-weaker is_name_start begins_operand (spell_reference v) name_begins (reference_begins d v w)
 target_begins d (piece word name delimiter place) w = refl
 
 destination_begins : (d : DestinationTree) → WellDestination d → Begins begins_operand (spell_destination d)

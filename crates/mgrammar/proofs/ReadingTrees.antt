@@ -41,7 +41,7 @@ pub exprs_back : (s : ExprsTree) → exprs_of (exprs_list s) ≡ s
 exprs_back no_exprs = refl
 exprs_back (exprs e rest) = ap (λ (x : ExprsTree). exprs e x) (exprs_back rest)
 
-more_exprs-list : (es : List ExprTree) → spell_more_exprs (exprs_of es) ≡ spell_more spell_expr es
+pub more_exprs-list : (es : List ExprTree) → spell_more_exprs (exprs_of es) ≡ spell_more spell_expr es
 more_exprs-list [] = refl
 more_exprs-list (e ∷ es) = ap (λ (y : List ℕ). 44 ∷ (spell_expr e ++ y)) (more_exprs-list es)
 

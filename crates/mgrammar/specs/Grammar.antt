@@ -55,8 +55,9 @@ pub record AtomTree : Type 0 where
   pub count : CountTree
   pub repeated : RepeatedTree
 
--- `expr`; `exprtail`, of which a list of steps is a run; `expratom` with its unary operators in front; `numlit`, `strlit` and
--- `lvn`, each with its characters; `function`, with its word as it is written, $SELECT apart
+-- `expr`; `exprtail`, of which a list of steps is a run; `expratom` with its unary operators in front; `numlit` and `strlit`, each
+-- with its characters; `svn`, with its word as it is written; `lvn`; `function`, with its word, those of a variable and $SELECT
+-- apart
 mutual
   pub data ExprTree : Type 0 where
     expr : OperandTree → StepsTree → ExprTree
@@ -76,10 +77,16 @@ mutual
   pub data PrimaryTree : Type 0 where
     number : List ℕ → PrimaryTree
     text : List ℕ → PrimaryTree
-    local : List ℕ → PrimaryTree
+    special : List ℕ → PrimaryTree
+    reference : ReferenceTree → PrimaryTree
     bracket : ExprTree → PrimaryTree
     call : List ℕ → ExprsTree → PrimaryTree
     select : List ℕ → ChoicesTree → PrimaryTree
+    refer : List ℕ → ReferenceTree → ExprsTree → PrimaryTree
+
+  -- `lvn`: a name, and its subscripts, of which there may be none
+  pub data ReferenceTree : Type 0 where
+    local : List ℕ → ExprsTree → ReferenceTree
 
   pub data ExprsTree : Type 0 where
     no_exprs : ExprsTree
@@ -102,31 +109,52 @@ abbrev pub choices_of : List (ExprTree × ExprTree) → ChoicesTree
 choices_of [] = no_choices
 choices_of (c ∷ cs) = choice c.0 c.1 (choices_of cs)
 
--- `setleft`: a name; or `setpiece` with its word, its name, its delimiter and its place
+-- `setleft`: a variable; or `setpiece` with its word, its variable, its delimiter and its place
 pub data TargetTree : Type 0 where
-  variable : List ℕ → TargetTree
-  piece : List ℕ → List ℕ → ExprTree → Option ExprTree → TargetTree
+  variable : ReferenceTree → TargetTree
+  piece : List ℕ → ReferenceTree → ExprTree → Option ExprTree → TargetTree
 
 -- `setdestination`: one, or a list in brackets
 pub data DestinationTree : Type 0 where
   one : TargetTree → DestinationTree
   several : List TargetTree → DestinationTree
 
--- an argument of any command: `setargument`, a destination and a value; `writeargument`, a run of the format `!`, or a value
+-- `forparameter`: a value; a start and an increment; and a limit too
+pub data ParameterTree : Type 0 where
+  once : ExprTree → ParameterTree
+  onward : ExprTree → ExprTree → ParameterTree
+  until : ExprTree → ExprTree → ExprTree → ParameterTree
+
+-- an argument of any command: `setargument`, a destination and a value; `writeargument`, a run of the format `!`, or a value;
+-- `killargument`, a variable, or the names that are spared; `newargument`, a name, or the names that are spared; the condition
+-- of `ifargument`; and what stands behind FOR, the name of an index and its parameters
 pub data ArgTree : Type 0 where
   assign : DestinationTree → ExprTree → ArgTree
   breaks : ℕ → ArgTree
   shown : ExprTree → ArgTree
+  kill_one : ReferenceTree → ArgTree
+  kill_others : List (List ℕ) → ArgTree
+  new_one : List ℕ → ArgTree
+  new_others : List (List ℕ) → ArgTree
+  tested : ExprTree → ArgTree
+  loop : List ℕ → List ParameterTree → ArgTree
 
 -- `commandword`, whatever its spelling
 pub data KeywordTree : Type 0 where
   set_word : KeywordTree
+  kill_word : KeywordTree
+  new_word : KeywordTree
+  if_word : KeywordTree
+  else_word : KeywordTree
+  for_word : KeywordTree
+  quit_word : KeywordTree
   write_word : KeywordTree
 
--- `command`: its word, also as it is written, then its arguments
+-- `command`: its word, also as it is written, its `postcond` where it has one, then its arguments
 pub record CommandTree : Type 0 where
   pub keyword : KeywordTree
   pub word : List ℕ
+  pub condition : Option ExprTree
   pub args : List ArgTree
 
 -- a command, and how many spaces stand behind it
@@ -214,10 +242,20 @@ abbrev mutual
   pub spell_primary : PrimaryTree → List ℕ
   spell_primary (number literal) = literal
   spell_primary (text t) = spell_string t
-  spell_primary (local name) = name
+  spell_primary (special word) = 36 ∷ word
+  spell_primary (reference r) = spell_reference r
   spell_primary (bracket e) = 40 ∷ (spell_expr e ++ 41 ∷ [])
   spell_primary (call word args) = 36 ∷ (word ++ 40 ∷ (spell_exprs args ++ 41 ∷ []))
   spell_primary (select word choices) = 36 ∷ (word ++ 40 ∷ (spell_choices choices ++ 41 ∷ []))
+  spell_primary (refer word r more) = 36 ∷ (word ++ 40 ∷ (spell_reference r ++ (spell_more_exprs more ++ 41 ∷ [])))
+
+  pub spell_reference : ReferenceTree → List ℕ
+  spell_reference (local name subscripts) = name ++ spell_subscripts subscripts
+
+  -- in brackets, where there are some
+  pub spell_subscripts : ExprsTree → List ℕ
+  spell_subscripts no_exprs = []
+  spell_subscripts (exprs e rest) = 40 ∷ (spell_expr e ++ (spell_more_exprs rest ++ 41 ∷ []))
 
   -- with commas between
   pub spell_exprs : ExprsTree → List ℕ
@@ -252,18 +290,38 @@ spell_place None = []
 spell_place (Some e) = 44 ∷ spell_expr e
 
 abbrev pub spell_target : TargetTree → List ℕ
-spell_target (variable name) = name
-spell_target (piece word name delimiter place) =
-    36 ∷ (word ++ 40 ∷ (name ++ 44 ∷ (spell_expr delimiter ++ (spell_place place ++ 41 ∷ []))))
+spell_target (variable r) = spell_reference r
+spell_target (piece word r delimiter place) =
+    36 ∷ (word ++ 40 ∷ (spell_reference r ++ 44 ∷ (spell_expr delimiter ++ (spell_place place ++ 41 ∷ []))))
 
 abbrev pub spell_destination : DestinationTree → List ℕ
 spell_destination (one t) = spell_target t
 spell_destination (several ts) = 40 ∷ (spell_list spell_target ts ++ 41 ∷ [])
 
+-- in brackets
+abbrev pub spell_names : List (List ℕ) → List ℕ
+spell_names names = 40 ∷ (spell_list (λ n. n) names ++ 41 ∷ [])
+
+abbrev pub spell_parameter : ParameterTree → List ℕ
+spell_parameter (once e) = spell_expr e
+spell_parameter (onward e by) = spell_expr e ++ 58 ∷ spell_expr by
+spell_parameter (until e by to) = spell_expr e ++ 58 ∷ (spell_expr by ++ 58 ∷ spell_expr to)
+
 abbrev pub spell_arg : ArgTree → List ℕ
 spell_arg (assign d e) = spell_destination d ++ 61 ∷ spell_expr e
 spell_arg (breaks n) = replicate n 33
 spell_arg (shown e) = spell_expr e
+spell_arg (kill_one r) = spell_reference r
+spell_arg (kill_others names) = spell_names names
+spell_arg (new_one name) = name
+spell_arg (new_others names) = spell_names names
+spell_arg (tested e) = spell_expr e
+spell_arg (loop index parameters) = index ++ 61 ∷ spell_list spell_parameter parameters
+
+-- behind a colon, where there is one
+abbrev pub spell_condition : Option ExprTree → List ℕ
+spell_condition None = []
+spell_condition (Some e) = 58 ∷ spell_expr e
 
 -- behind a space, where there are some
 abbrev pub spell_args : List ArgTree → List ℕ
@@ -271,7 +329,7 @@ spell_args [] = []
 spell_args (a ∷ rest) = 32 ∷ spell_list spell_arg (a ∷ rest)
 
 abbrev pub spell_command : CommandTree → List ℕ
-spell_command c = c.word ++ spell_args c.args
+spell_command c = c.word ++ (spell_condition c.condition ++ spell_args c.args)
 
 abbrev pub spell_commands : List SpacedTree → List ℕ
 spell_commands [] = []
@@ -298,30 +356,73 @@ is_either short long w = str_eq_ignore_ascii_case w short || str_eq_ignore_ascii
 unfoldable pub keyword_of : List ℕ → Option KeywordTree
 keyword_of w =
     if is_either (codes "s") (codes "set") w then Some set_word
-    else (if is_either (codes "w") (codes "write") w then Some write_word else None)
+    else (if is_either (codes "k") (codes "kill") w then Some kill_word
+    else (if is_either (codes "n") (codes "new") w then Some new_word
+    else (if is_either (codes "i") (codes "if") w then Some if_word
+    else (if is_either (codes "e") (codes "else") w then Some else_word
+    else (if is_either (codes "f") (codes "for") w then Some for_word
+    else (if is_either (codes "q") (codes "quit") w then Some quit_word
+    else (if is_either (codes "w") (codes "write") w then Some write_word else None)))))))
 
 -- what a command's arguments look like; no text is one of the form `nothing`, that of commands that take none
 pub data FormTree : Type 0 where
   assignment : FormTree
+  removal : FormTree
+  hiding : FormTree
+  condition : FormTree
+  repetition : FormTree
   output : FormTree
   nothing : FormTree
 
 abbrev pub form_of : KeywordTree → FormTree
 form_of set_word = assignment
+form_of kill_word = removal
+form_of new_word = hiding
+form_of if_word = condition
+form_of else_word = nothing
+form_of for_word = repetition
+form_of quit_word = nothing
 form_of write_word = output
 
 -- whether a command takes so many arguments
 abbrev pub takes_args : KeywordTree → ℕ → Bool
 takes_args set_word n = nat_le 1 n
+takes_args kill_word n = true
+takes_args new_word n = true
+takes_args if_word n = true
+takes_args else_word n = n == 0
+takes_args for_word n = nat_le n 1
+takes_args quit_word n = n == 0
 takes_args write_word n = nat_le 1 n
+
+-- whether a `postcond` may stand behind its word
+abbrev pub takes_condition : KeywordTree → Bool
+takes_condition set_word = true
+takes_condition kill_word = true
+takes_condition new_word = true
+takes_condition if_word = false
+takes_condition else_word = false
+takes_condition for_word = false
+takes_condition quit_word = true
+takes_condition write_word = true
+
+pub data SpecialTree : Type 0 where
+  test_special : SpecialTree
+
+-- the name of an `svn`: the whole word or its abbreviation
+unfoldable pub special_of : List ℕ → Option SpecialTree
+special_of w = if is_either (codes "t") (codes "test") w then Some test_special else None
 
 pub data FunctionTree : Type 0 where
   ascii_function : FunctionTree
   char_function : FunctionTree
+  data_function : FunctionTree
   extract_function : FunctionTree
   find_function : FunctionTree
+  get_function : FunctionTree
   justify_function : FunctionTree
   length_function : FunctionTree
+  order_function : FunctionTree
   piece_function : FunctionTree
   select_function : FunctionTree
   translate_function : FunctionTree
@@ -331,28 +432,49 @@ unfoldable pub function_of : List ℕ → Option FunctionTree
 function_of w =
     if is_either (codes "a") (codes "ascii") w then Some ascii_function
     else (if is_either (codes "c") (codes "char") w then Some char_function
+    else (if is_either (codes "d") (codes "data") w then Some data_function
     else (if is_either (codes "e") (codes "extract") w then Some extract_function
     else (if is_either (codes "f") (codes "find") w then Some find_function
+    else (if is_either (codes "g") (codes "get") w then Some get_function
     else (if is_either (codes "j") (codes "justify") w then Some justify_function
     else (if is_either (codes "l") (codes "length") w then Some length_function
+    else (if is_either (codes "o") (codes "order") w then Some order_function
     else (if is_either (codes "p") (codes "piece") w then Some piece_function
     else (if is_either (codes "s") (codes "select") w then Some select_function
-    else (if is_either (codes "tr") (codes "translate") w then Some translate_function else None))))))))
+    else (if is_either (codes "tr") (codes "translate") w then Some translate_function else None)))))))))))
 
 abbrev pub is_between : ℕ → ℕ → ℕ → Bool
 is_between least most n = nat_le least n && nat_le n most
 
--- whether a function takes so many arguments; those of $SELECT are of another form
+-- whether a function takes so many arguments; those of $SELECT and of functions of a variable are of another form
 abbrev pub takes : FunctionTree → ℕ → Bool
 takes ascii_function n = is_between 1 2 n
 takes char_function n = nat_le 1 n
+takes data_function n = false
 takes extract_function n = is_between 1 3 n
 takes find_function n = is_between 2 3 n
+takes get_function n = false
 takes justify_function n = n == 2
 takes length_function n = is_between 1 2 n
+takes order_function n = false
 takes piece_function n = is_between 2 4 n
 takes select_function n = false
 takes translate_function n = is_between 2 3 n
+
+-- whether a function takes a variable, and so many arguments behind it
+abbrev pub refers : FunctionTree → ℕ → Bool
+refers ascii_function n = false
+refers char_function n = false
+refers data_function n = n == 0
+refers extract_function n = false
+refers find_function n = false
+refers get_function n = nat_le n 1
+refers justify_function n = false
+refers length_function n = false
+refers order_function n = nat_le n 1
+refers piece_function n = false
+refers select_function n = false
+refers translate_function n = false
 
 -- `patcode`, in either case of letters
 abbrev pub is_pattern_letter : ℕ → Bool
@@ -392,6 +514,13 @@ exprs_count (exprs e rest) = suc (exprs_count rest)
 abbrev pub IsCall : List ℕ → ℕ → Type 0
 IsCall word n = (f : FunctionTree) × (function_of word ≡ Some f) × (takes f n ≡ true)
 
+-- a function of a variable that takes so many arguments behind it
+abbrev pub IsReferring : List ℕ → ℕ → Type 0
+IsReferring word n = (f : FunctionTree) × (function_of word ≡ Some f) × (refers f n ≡ true)
+
+abbrev pub IsSpecial : List ℕ → Type 0
+IsSpecial word = (v : SpecialTree) × (special_of word ≡ Some v)
+
 abbrev pub HasChoice : ChoicesTree → Type 0
 HasChoice no_choices = ⊥
 HasChoice (choice c v rest) = Unit {0}
@@ -419,10 +548,19 @@ abbrev mutual
   pub WellPrimary : ℕ → PrimaryTree → Type 0
   WellPrimary d (number literal) = IsNumber literal
   WellPrimary d (text t) = AllAre is_character t
-  WellPrimary d (local name) = IsName name
+  WellPrimary d (special word) = AllAre is_letter word × IsSpecial word
+  WellPrimary d (reference r) = WellReference d r
   WellPrimary d (bracket e) = (0 < d) × WellExpr (d - 1) e
   WellPrimary d (call word args) = (0 < d) × AllAre is_letter word × IsCall word (exprs_count args) × WellExprs (d - 1) args
   WellPrimary d (select word choices) = (0 < d) × IsFunction select_function word × HasChoice choices × WellChoices (d - 1) choices
+  WellPrimary d (refer word r more) = (0 < d) × AllAre is_letter word × IsReferring word (exprs_count more) × WellReference (d - 1) r × WellExprs (d - 1) more
+
+  pub WellReference : ℕ → ReferenceTree → Type 0
+  WellReference d (local name subscripts) = IsName name × WellSubscripts d subscripts
+
+  pub WellSubscripts : ℕ → ExprsTree → Type 0
+  WellSubscripts d no_exprs = Unit {0}
+  WellSubscripts d (exprs e rest) = (0 < d) × WellExpr (d - 1) e × WellExprs (d - 1) rest
 
   pub WellExprs : ℕ → ExprsTree → Type 0
   WellExprs d no_exprs = Unit {0}
@@ -441,25 +579,40 @@ WellPlace d None = Unit {0}
 WellPlace d (Some e) = WellExpr d e
 
 abbrev pub WellTarget : ℕ → TargetTree → Type 0
-WellTarget d (variable name) = IsName name
-WellTarget d (piece word name delimiter place) =
-    IsFunction piece_function word × IsName name × WellExpr (d - 1) delimiter × WellPlace (d - 1) place
+WellTarget d (variable r) = WellReference d r
+WellTarget d (piece word r delimiter place) =
+    IsFunction piece_function word × WellReference (d - 1) r × WellExpr (d - 1) delimiter × WellPlace (d - 1) place
 
 abbrev pub WellDestination : DestinationTree → Type 0
 WellDestination (one t) = WellTarget max_depth t
 WellDestination (several ts) = WellList (WellTarget (max_depth - 1)) ts
 
+abbrev pub WellParameter : ParameterTree → Type 0
+WellParameter (once e) = WellExpr max_depth e
+WellParameter (onward e by) = WellExpr max_depth e × WellExpr max_depth by
+WellParameter (until e by to) = WellExpr max_depth e × WellExpr max_depth by × WellExpr max_depth to
+
 -- an argument of this form; any other is none
 abbrev pub WellArg : FormTree → ArgTree → Type 0
 WellArg assignment (assign d e) = WellDestination d × WellExpr max_depth e
+WellArg removal (kill_one r) = WellReference max_depth r
+WellArg removal (kill_others names) = WellList IsName names
+WellArg hiding (new_one name) = IsName name
+WellArg hiding (new_others names) = WellList IsName names
+WellArg condition (tested e) = WellExpr max_depth e
+WellArg repetition (loop index parameters) = IsName index × WellList WellParameter parameters
 WellArg output (breaks n) = 0 < n
 WellArg output (shown e) = WellExpr max_depth e
 WellArg f a = ⊥
 
+abbrev pub WellCondition : KeywordTree → Option ExprTree → Type 0
+WellCondition k None = Unit {0}
+WellCondition k (Some e) = (takes_condition k ≡ true) × WellExpr max_depth e
+
 abbrev pub WellCommand : CommandTree → Type 0
 WellCommand c =
     (keyword_of c.word ≡ Some c.keyword) × AllAre is_letter c.word × (takes_args c.keyword (length c.args) ≡ true)
-    × WellAll (WellArg (form_of c.keyword)) c.args
+    × WellCondition c.keyword c.condition × WellAll (WellArg (form_of c.keyword)) c.args
 
 -- how many spaces stand at least between a command with these arguments and another one: behind a command without arguments
 -- one space would look like that before the first

@@ -3,7 +3,7 @@
 use Rattle.std.specs.Prelude.{ℕ, zero, suc, ◌-◌, Bool, true, false, not, ◌&&◌, ◌||◌, ◌==◌, nat_le, nat_lt, if◌then◌else◌, List, [], ◌∷◌, ◌++◌, length, drop, Option, Some, None}
 use Rattle.mspec.specs.Literal.{is_digit}
 use Rattle.mspec.specs.Names.{is_letter, is_name_start, is_name_rest, is_character}
-use Rattle.mgrammar.specs.Grammar.{SignTree, plus, minus, negate, TruthTree, equals, less, greater, contains, follows, sorts_after, both, either, BinaryTree, add, subtract, multiply, divide, divide_whole, remainder, join, is, is_not, CountTree, RepeatedTree, classes, copies, AtomTree, ExprTree, expr, StepTree, apply, matches, matches_not, steps_of, OperandTree, operand, PrimaryTree, number, text, local, bracket, call, select, exprs_of, choices_of, TargetTree, variable, piece, DestinationTree, one, several, ArgTree, assign, breaks, shown, CommandTree, SpacedTree, LineTree, KeywordTree, keyword_of, FormTree, assignment, output, nothing, form_of, takes_args, least_gap, FunctionTree, ascii_function, char_function, extract_function, find_function, justify_function, length_function, piece_function, select_function, translate_function, function_of, takes, is_pattern_letter, max_depth}
+use Rattle.mgrammar.specs.Grammar.{SignTree, plus, minus, negate, TruthTree, equals, less, greater, contains, follows, sorts_after, both, either, BinaryTree, add, subtract, multiply, divide, divide_whole, remainder, join, is, is_not, CountTree, RepeatedTree, classes, copies, AtomTree, ExprTree, expr, StepTree, apply, matches, matches_not, steps_of, OperandTree, operand, PrimaryTree, number, text, special, reference, bracket, call, select, refer, ReferenceTree, local, ExprsTree, no_exprs, exprs_of, choices_of, TargetTree, variable, piece, DestinationTree, one, several, ParameterTree, once, onward, until, ArgTree, assign, breaks, shown, kill_one, kill_others, new_one, new_others, tested, loop, CommandTree, SpacedTree, LineTree, KeywordTree, keyword_of, FormTree, assignment, removal, hiding, condition, repetition, output, nothing, form_of, takes_args, takes_condition, least_gap, SpecialTree, special_of, FunctionTree, ascii_function, char_function, data_function, extract_function, find_function, get_function, justify_function, length_function, order_function, piece_function, select_function, translate_function, function_of, takes, refers, is_pattern_letter, max_depth}
 
 -- what was read, and the text after it
 abbrev pub Read : Type 0 → Type 0
@@ -241,18 +241,22 @@ operator_at (c ∷ cs) =
 
 -- ---- expressions
 
--- how to read an expression in brackets, and the operand of an `@`: the latter is not in the grammar yet
+-- how to read an expression and a variable in brackets, and the operand of an `@`: the last is not in the grammar yet
 pub record Readers : Type 0 where
   pub inner : List ℕ → Read ExprTree
+  pub within : List ℕ → Read ReferenceTree
   pub below : List ℕ → Read PrimaryTree
 
 abbrev pub is_select : FunctionTree → Bool
 is_select ascii_function = false
 is_select char_function = false
+is_select data_function = false
 is_select extract_function = false
 is_select find_function = false
+is_select get_function = false
 is_select justify_function = false
 is_select length_function = false
+is_select order_function = false
 is_select piece_function = false
 is_select select_function = true
 is_select translate_function = false
@@ -260,15 +264,42 @@ is_select translate_function = false
 abbrev pub is_piece : FunctionTree → Bool
 is_piece ascii_function = false
 is_piece char_function = false
+is_piece data_function = false
 is_piece extract_function = false
 is_piece find_function = false
+is_piece get_function = false
 is_piece justify_function = false
 is_piece length_function = false
+is_piece order_function = false
 is_piece piece_function = true
 is_piece select_function = false
 is_piece translate_function = false
 
+-- whether it is a function of a variable
+abbrev pub is_referring : FunctionTree → Bool
+is_referring ascii_function = false
+is_referring char_function = false
+is_referring data_function = true
+is_referring extract_function = false
+is_referring find_function = false
+is_referring get_function = true
+is_referring justify_function = false
+is_referring length_function = false
+is_referring order_function = true
+is_referring piece_function = false
+is_referring select_function = false
+is_referring translate_function = false
+
 module _ (r : Readers) where
+  -- subscripts, where a bracket opens
+  unfoldable pub subscripts_with : List ℕ → Read ExprsTree
+  subscripts_with [] = Some (no_exprs, [])
+  subscripts_with (c ∷ cs) =
+      if c == 40 then (list_at (r.inner) cs >>= λ x. past 41 x.1 >>= λ rest. Some (exprs_of x.0, rest)) else Some (no_exprs, c ∷ cs)
+
+  unfoldable pub reference_with : List ℕ → Read ReferenceTree
+  reference_with cs = name_at cs >>= λ n. subscripts_with n.1 >>= λ x. Some (local n.0 x.0, x.1)
+
   unfoldable pub bracket_with : List ℕ → Read PrimaryTree
   bracket_with cs = r.inner cs >>= λ e. past 41 e.1 >>= λ rest. Some (bracket e.0, rest)
 
@@ -284,14 +315,28 @@ module _ (r : Readers) where
       list_at (r.inner) cs >>= λ x. past 41 x.1 >>= λ rest.
       if takes f (length x.0) then Some (call w (exprs_of x.0), rest) else None
 
+  unfoldable pub refer_with : FunctionTree → List ℕ → List ℕ → Read PrimaryTree
+  refer_with f w cs =
+      r.within cs >>= λ v. many (after_comma (r.inner)) (length v.1) v.1 >>= λ x. past 41 x.1 >>= λ rest.
+      if refers f (length x.0) then Some (refer w v.0 (exprs_of x.0), rest) else None
+
   abbrev pub function_by : List ℕ → Option FunctionTree → List ℕ → Read PrimaryTree
   function_by w None cs = None
-  function_by w (Some f) cs = if is_select f then select_with w cs else call_with f w cs
+  function_by w (Some f) cs =
+      if is_select f then select_with w cs else (if is_referring f then refer_with f w cs else call_with f w cs)
+
+  abbrev pub special_by : List ℕ → Option SpecialTree → List ℕ → Read PrimaryTree
+  special_by w None cs = None
+  special_by w (Some v) cs = Some (special w, cs)
+
+  -- of this word, with this text behind it: a function where a bracket opens there, and otherwise a special variable
+  abbrev pub dollar_by : List ℕ → List ℕ → Option (List ℕ) → Read PrimaryTree
+  dollar_by w cs None = special_by w (special_of w) cs
+  dollar_by w cs (Some inside) = function_by w (function_of w) inside
 
   -- behind a `$`
-  unfoldable pub function_with : List ℕ → Read PrimaryTree
-  function_with cs =
-      past 40 (after_run is_letter cs) >>= function_by (run_of is_letter cs) (function_of (run_of is_letter cs))
+  unfoldable pub dollar_with : List ℕ → Read PrimaryTree
+  dollar_with cs = dollar_by (run_of is_letter cs) (after_run is_letter cs) (past 40 (after_run is_letter cs))
 
   unfoldable pub primary_with : List ℕ → Read PrimaryTree
   primary_with [] = None
@@ -299,8 +344,8 @@ module _ (r : Readers) where
       if is_digit_or_point c then (number_at (c ∷ cs) >>= λ x. Some (number x.0, x.1))
       else (if c == 34 then (text_from false cs >>= λ x. Some (text x.0, x.1))
       else (if c == 40 then bracket_with cs
-      else (if c == 36 then function_with cs
-      else (name_at (c ∷ cs) >>= λ n. Some (local n.0, n.1)))))
+      else (if c == 36 then dollar_with cs
+      else (reference_with (c ∷ cs) >>= λ v. Some (reference v.0, v.1)))))
 
   unfoldable pub operand_with : List ℕ → Read OperandTree
   operand_with cs = primary_with (after_signs cs) >>= λ p. Some (operand (signs_of cs) p.0, p.1)
@@ -323,8 +368,9 @@ module _ (r : Readers) where
 
 -- what may stand within, where so many more brackets may be open
 unfoldable pub readers_at : ℕ → Readers
-readers_at zero = record { inner = λ cs. None; below = λ cs. None }
-readers_at (suc d) = record { inner = expr_with (readers_at d); below = primary_with (readers_at d) }
+readers_at zero = record { inner = λ cs. None; within = λ cs. None; below = λ cs. None }
+readers_at (suc d) =
+    record { inner = expr_with (readers_at d); within = reference_with (readers_at d); below = primary_with (readers_at d) }
 
 abbrev pub inner_at : ℕ → List ℕ → Read ExprTree
 inner_at d cs = (readers_at d).inner cs
@@ -342,9 +388,9 @@ module _ (r : Readers) where
 
   unfoldable pub piece_with : List ℕ → List ℕ → Read TargetTree
   piece_with w cs =
-      name_at cs >>= λ n. past 44 n.1 >>= λ rest. r.inner rest >>= λ e. place_with e.1 >>= λ p.
+      r.within cs >>= λ v. past 44 v.1 >>= λ rest. r.inner rest >>= λ e. place_with e.1 >>= λ p.
       past 41 p.1 >>= λ end.
-      Some (piece w n.0 e.0 p.0, end)
+      Some (piece w v.0 e.0 p.0, end)
 
   abbrev pub piece_by : List ℕ → Option FunctionTree → List ℕ → Read TargetTree
   piece_by w None cs = None
@@ -355,7 +401,7 @@ module _ (r : Readers) where
   target_with (c ∷ cs) =
       if c == 36
       then (past 40 (after_run is_letter cs) >>= piece_by (run_of is_letter cs) (function_of (run_of is_letter cs)))
-      else (name_at (c ∷ cs) >>= λ n. Some (variable n.0, n.1))
+      else (reference_with r (c ∷ cs) >>= λ v. Some (variable v.0, v.1))
 
 unfoldable pub destination_at : List ℕ → Read DestinationTree
 destination_at [] = None
@@ -379,8 +425,47 @@ output_by (b ∷ bs) cs = Some (breaks (length (b ∷ bs)), after_run is_bang cs
 unfoldable pub output_at : List ℕ → Read ArgTree
 output_at cs = output_by (run_of is_bang cs) cs
 
+-- names, where the bracket in front of them is past
+unfoldable pub names_at : List ℕ → Read (List (List ℕ))
+names_at cs = list_at name_at cs >>= λ x. past 41 x.1 >>= λ rest. Some (x.0, rest)
+
+unfoldable pub removal_at : List ℕ → Read ArgTree
+removal_at [] = None
+removal_at (c ∷ cs) =
+    if c == 40 then (names_at cs >>= λ x. Some (kill_others x.0, x.1))
+    else (reference_with (readers_at max_depth) (c ∷ cs) >>= λ v. Some (kill_one v.0, v.1))
+
+unfoldable pub hiding_at : List ℕ → Read ArgTree
+hiding_at [] = None
+hiding_at (c ∷ cs) =
+    if c == 40 then (names_at cs >>= λ x. Some (new_others x.0, x.1))
+    else (name_at (c ∷ cs) >>= λ n. Some (new_one n.0, n.1))
+
+unfoldable pub condition_at : List ℕ → Read ArgTree
+condition_at cs = expr_at max_depth cs >>= λ e. Some (tested e.0, e.1)
+
+-- a parameter of which the expressions in front are read, with what stands behind a colon
+abbrev pub limit_by : ExprTree → ExprTree → List ℕ → Option (List ℕ) → Read ParameterTree
+limit_by e by cs None = Some (onward e by, cs)
+limit_by e by cs (Some rest) = expr_at max_depth rest >>= λ to. Some (until e by to.0, to.1)
+
+abbrev pub increment_by : ExprTree → List ℕ → Option (List ℕ) → Read ParameterTree
+increment_by e cs None = Some (once e, cs)
+increment_by e cs (Some rest) = expr_at max_depth rest >>= λ by. limit_by e by.0 by.1 (past 58 by.1)
+
+unfoldable pub parameter_at : List ℕ → Read ParameterTree
+parameter_at cs = expr_at max_depth cs >>= λ e. increment_by e.0 e.1 (past 58 e.1)
+
+unfoldable pub repetition_at : List ℕ → Read ArgTree
+repetition_at cs =
+    name_at cs >>= λ n. past 61 n.1 >>= λ rest. list_at parameter_at rest >>= λ x. Some (loop n.0 x.0, x.1)
+
 abbrev pub arg_at : FormTree → List ℕ → Read ArgTree
 arg_at assignment = assignment_at
+arg_at removal = removal_at
+arg_at hiding = hiding_at
+arg_at condition = condition_at
+arg_at repetition = repetition_at
 arg_at output = output_at
 arg_at nothing = λ cs. None
 
@@ -395,12 +480,21 @@ has_args (c ∷ d ∷ cs) = c == 32 && not (d == 32 || d == 59)
 unfoldable pub args_at : FormTree → List ℕ → Read (List ArgTree)
 args_at f cs = if has_args cs then list_at (arg_at f) (drop 1 cs) else Some ([], cs)
 
+-- an expression, where the colon in front of it is past, or none
+abbrev pub postcondition_by : List ℕ → Option (List ℕ) → Read (Option ExprTree)
+postcondition_by cs None = Some (None, cs)
+postcondition_by cs (Some rest) = expr_at max_depth rest >>= λ e. Some (Some e.0, e.1)
+
+-- behind a word of this keyword
+unfoldable pub postcondition_at : KeywordTree → List ℕ → Read (Option ExprTree)
+postcondition_at k cs = if takes_condition k then postcondition_by cs (past 58 cs) else Some (None, cs)
+
 -- a command of this word and keyword, of which the text behind the word is left
 abbrev pub command_by : List ℕ → Option KeywordTree → List ℕ → Read CommandTree
 command_by w None cs = None
 command_by w (Some k) cs =
-    args_at (form_of k) cs >>= λ x.
-    if takes_args k (length x.0) then Some (record { keyword = k; word = w; args = x.0 }, x.1) else None
+    postcondition_at k cs >>= λ c. args_at (form_of k) c.1 >>= λ x.
+    if takes_args k (length x.0) then Some (record { keyword = k; word = w; condition = c.0; args = x.0 }, x.1) else None
 
 unfoldable pub command_at : List ℕ → Read CommandTree
 command_at cs = command_by (run_of is_letter cs) (keyword_of (run_of is_letter cs)) (after_run is_letter cs)

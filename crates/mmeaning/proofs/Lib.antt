@@ -1,3 +1,4 @@
+pub mod ExampleAccount
 pub mod MeaningExamples
 pub mod Histories
 pub mod OtherLocks
@@ -5,3 +6,7 @@ pub mod Calls
 pub mod Moves
 pub mod Yieldings
 pub mod WorldExamples
+pub mod LineTrees
+pub mod LineRuns
+pub mod ControlExamples
+pub mod VariableExamples

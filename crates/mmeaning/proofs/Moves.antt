@@ -49,6 +49,10 @@ module _ {X E : Type 0} {b : Standing} {steady : Type 0} {fault_of : E → Fault
     done = moved_as b steady fault_of signal_of ((p >>= frame b.account n f) >>= left b.account fs ns) (p >>= left b.account (f ∷ fs) (n ∷ ns)) h r fs' h1 (assoc p (frame b.account n f) (left b.account fs ns)) m.done;
   }
 
+  -- a frame that is on top has to do with a signal what it does
+  pub on_top : {h : Here} {fs : List View} (f : View) (s : X) (n : ℕ) (ns : List ℕ) → h.0.steps ≤ n → Enough h.0.steps fs ns → MovedOn b steady fault_of signal_of (frame b.account n f (signal_of s)) (left b.account fs ns) h (Ok s) (f ∷ fs) h
+  on_top {h = h} {fs = fs} f s n ns le e = record { done = (n ∷ ns, (le, e), follows_itself b (left b.account (f ∷ fs) (n ∷ ns) (signal_of s)) h) }
+
 -- fewer steps need no more
 pub enough : (m n : ℕ) (fs : List View) (ns : List ℕ) → m ≤ n → Enough n fs ns → Enough m fs ns
 enough m n [] [] le e = tt

@@ -7,11 +7,12 @@ use Rattle.mspec.specs.Number.{significant_digits}
 use Rattle.mspec.specs.NumberText.{numeric_value}
 use Rattle.mspec.specs.Interpretations.{truth_text}
 use Rattle.mgrammar.specs.Matching.{atom_of}
-use Rattle.mgrammar.specs.Grammar.{ExprTree, expr, StepsTree, no_steps, step, StepTree, apply, matches, matches_not, OperandTree, operand, PrimaryTree, number, text, local, bracket, call, select, ExprsTree, no_exprs, exprs, ChoicesTree, no_choices, choice}
+use Rattle.mgrammar.specs.Grammar.{ExprTree, expr, StepsTree, no_steps, step, StepTree, apply, matches, matches_not, OperandTree, operand, PrimaryTree, number, text, special, reference, bracket, call, select, refer, ReferenceTree, local, special_of, function_of, ExprsTree, no_exprs, exprs, ChoicesTree, no_choices, choice}
 use Rattle.mspec.specs.Code.{M4}
-use Rattle.mspec.specs.Act.{Text, Act, ◌>>=◌, ◌>>◌, give, fail, charge, get_local}
+use Rattle.mspec.specs.Act.{Text, Act, ◌>>=◌, ◌>>◌, give, fail, charge}
 use Rattle.mmeaning.specs.Operators.{as_text, as_truth, unaries, binary, matching}
 use Rattle.mmeaning.specs.Functions.{call_value}
+use Rattle.mmeaning.specs.Variables.{Evaluated, of_local, reading, resolve, read_at, referring, special_value}
 
 -- how deep a text stands: the levels that are open, of which some are indirections under evaluation
 pub record Depth : Type 0 where
@@ -61,13 +62,25 @@ abbrev mutual
   pub primary_value : Inside → PrimaryTree → Act Text
   primary_value i (number literal) = charge >> as_text (numeric_value significant_digits literal)
   primary_value i (text t) = charge >> give t
-  primary_value i (local name) = charge >> get_local name
+  primary_value i (special word) = charge >> special_value (special_of word)
+  primary_value i (reference r) = do
+    charge
+    v ← evaluated i r
+    p ← resolve reading v
+    read_at p
   primary_value i (bracket e) = charge >> value i e
   primary_value i (call word args) = do
     charge
     xs ← values i [] args
     call_value word xs
   primary_value i (select word choices) = charge >> chosen i choices
+  primary_value i (refer word r more) = charge >> referring (function_of word) (evaluated i r) (values i [] more)
+
+  -- what a reference has to evaluate; it costs nothing by itself
+  pub evaluated : Inside → ReferenceTree → Act Evaluated
+  evaluated i (local name subscripts) = do
+    xs ← values i [] subscripts
+    give (of_local name xs)
 
   -- the values of some expressions, behind those before them
   pub values : Inside → List Text → ExprsTree → Act (List Text)

@@ -3,16 +3,18 @@ use Rattle.std.specs.Prelude.{ℕ, ◌≤◌, List, [], ◌∷◌, Result, Ok, E
 use Rattle.mspec.specs.Code.{Fault}
 use Rattle.mspec.specs.Act.{Text, Act, ◌>>=◌, give}
 use Rattle.mgrammar.specs.Grammar.{CommandTree}
-use Rattle.mmeaning.specs.LineMeaning.{Signal, Spot, after, commands, after_level, context}
+use Rattle.mmeaning.specs.LineMeaning.{Signal, Spot, Turning, after, commands, after_turn, after_level, context}
 use Rattle.mmeaning.specs.Calls.{Standing, Here, FailedBy, Follows}
 
--- the rest of a line, and a level
+-- the rest of a line, a turn of a FOR, and a level
 pub data View : Type 0 where
   Rests : Spot → List CommandTree → View
+  Turns : Spot → Turning → View
   Levels : Spot → View
 
 abbrev pub frame : Text → ℕ → View → Signal → Act Signal
 frame a n (Rests p cs) s = after s (commands (context a n p) cs)
+frame a n (Turns p t) s = after_turn (context a n p) t s
 frame a n (Levels p) s = after_level s
 
 -- top first, each with as many texts as it may enter

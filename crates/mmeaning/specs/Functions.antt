@@ -1,4 +1,4 @@
--- What functions give of the values of their arguments, $SELECT apart.
+-- What functions give of the values of their arguments, $SELECT and the functions of a variable apart.
 --
 -- Restates "Intrinsic functions" of ISO/IEC 11756:1999. All arguments are evaluated before the first of them becomes a
 -- number. Then each that is to be a whole number becomes one, from left to right, also where it plays no part.
@@ -7,7 +7,7 @@ use Rattle.mspec.specs.NumberText.{number_text}
 use Rattle.mspec.specs.Interpretations.{whole_part}
 use Rattle.mspec.specs.TextFunctions.{piece_of, extract_of, find_of, piece_count, translate_of, justify_of}
 use Rattle.mspec.specs.CharacterFunctions.{ascii_of, char_of}
-use Rattle.mgrammar.specs.Grammar.{FunctionTree, ascii_function, char_function, extract_function, find_function, justify_function, length_function, piece_function, select_function, translate_function, function_of}
+use Rattle.mgrammar.specs.Grammar.{FunctionTree, ascii_function, char_function, data_function, extract_function, find_function, get_function, justify_function, length_function, order_function, piece_function, select_function, translate_function, function_of}
 use Rattle.mspec.specs.Code.{Zsyntax}
 use Rattle.mspec.specs.Act.{Text, Act, ◌>>=◌, give, fail}
 use Rattle.mmeaning.specs.Operators.{as_number, outcome}
@@ -41,7 +41,7 @@ wholes ns (x ∷ xs) = do
   n ← as_whole x
   wholes (ns ++ n ∷ []) xs
 
--- ---- values
+-- ---- values; those of functions of a variable stand apart, as that of $SELECT does
 
 -- a whole number as its text
 abbrev pub whole_text : ℤ → Text
@@ -59,6 +59,7 @@ function_value ascii_function args = do
 function_value char_function args = do
   ns ← wholes [] args
   outcome (char_of ns)
+function_value data_function args = fail Zsyntax
 function_value extract_function args = do
   from ← whole_at 1 args
   to ← whole_at 2 args
@@ -66,10 +67,12 @@ function_value extract_function args = do
 function_value find_function args = do
   from ← whole_at 2 args
   give (whole_text (pos (find_of (text_at 0 args) (text_at 1 args) from)))
+function_value get_function args = fail Zsyntax
 function_value justify_function args = do
   width ← whole_at 1 args
   outcome (justify_of (text_at 0 args) (unwrap_or width (pos 0)))
 function_value length_function args = give (whole_text (pos (length_of (text_at 0 args) (slice_get args 1))))
+function_value order_function args = fail Zsyntax
 function_value piece_function args = do
   from ← whole_at 2 args
   to ← whole_at 3 args

@@ -1,6 +1,8 @@
 pub mod Operators
 pub mod Functions
+pub mod Variables
 pub mod Expression
+pub mod Courses
 pub mod LineMeaning
 pub mod World
 pub mod Step

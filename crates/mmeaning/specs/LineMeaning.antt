@@ -1,16 +1,20 @@
 -- Line meaning: what the commands of a line do, one after another.
 --
--- Restates "Commands" of ISO/IEC 11756:1999, "Set" and "Write" among them: arguments are done from left to right, each as if
--- it stood in a command of its own.
-use Rattle.std.specs.Prelude.{ℕ, zero, suc, List, [], ◌∷◌, ◌++◌, map, replicate, Option, Some, None, unwrap_or}
+-- Restates "Commands" of ISO/IEC 11756:1999, "Else", "For", "If", "Kill", "New", "Quit", "Set" and "Write" among them: arguments
+-- are done from left to right, each as if it stood in a command of its own.
+use Rattle.std.specs.Prelude.{ℕ, zero, suc, ℤ, ◌+ℤ◌, Bool, true, not, cond, List, [], ◌∷◌, ◌++◌, map, replicate, Option, Some, None}
+use Rattle.mspec.specs.Number.{sum_of}
+use Rattle.mspec.specs.NumberText.{number_text}
 use Rattle.mspec.specs.TextFunctions.{set_piece_of}
-use Rattle.mgrammar.specs.Grammar.{ExprTree, TargetTree, variable, piece, DestinationTree, one, several, KeywordTree, set_word, write_word, ArgTree, assign, breaks, shown, CommandTree, LineTree}
-use Rattle.mspec.specs.Code.{Zsteps}
-use Rattle.mspec.specs.Act.{Text, Act, Gives, ◌>>=◌, ◌>>◌, give, fail, charge, write, value_of, set_local}
-use Rattle.mspec.specs.Plan.{Done}
-use Rattle.mmeaning.specs.Operators.{outcome}
+use Rattle.mspec.specs.Scopes.{killed_except, newed, newed_except}
+use Rattle.mgrammar.specs.Grammar.{ExprTree, ReferenceTree, TargetTree, variable, piece, DestinationTree, one, several, ParameterTree, once, onward, until, KeywordTree, set_word, kill_word, new_word, if_word, else_word, for_word, quit_word, write_word, ArgTree, assign, breaks, shown, kill_one, kill_others, new_one, new_others, tested, loop, CommandTree, LineTree}
+use Rattle.mspec.specs.Code.{M15, Zsteps}
+use Rattle.mspec.specs.Act.{Text, Act, ◌>>=◌, ◌>>◌, give, give_some, fail, charge, write, with_locals, test_is, set_test}
+use Rattle.mmeaning.specs.Operators.{outcome, as_number, as_truth, as_text}
 use Rattle.mmeaning.specs.Functions.{as_whole_or_none}
-use Rattle.mmeaning.specs.Expression.{Depth, Inside, inside, value}
+use Rattle.mmeaning.specs.Variables.{Evaluated, at_local, writing, resolve, found_at, read_or, put_at, kill_at}
+use Rattle.mmeaning.specs.Expression.{Depth, Inside, inside, value, evaluated}
+use Rattle.mmeaning.specs.Courses.{Course, last_turn, endless, limited, forever, is_past}
 
 -- in an output, each `!` is this byte, which no text has
 abbrev pub line_end : ℕ
@@ -47,8 +51,16 @@ pub record Spot : Type 0 where
 abbrev pub outset : Spot
 outset = record { depth = record { levels = 0; indirections = 0 } }
 
--- what runs a text that is no part of the tree, once its step is spent
+-- a FOR under way: its index, how its parameter goes on, the parameters behind that, and the rest of the line
+pub record Turning : Type 0 where
+  pub index : Text
+  pub course : Course
+  pub parameters : List ParameterTree
+  pub body : List CommandTree
+
+-- what runs commands once more, or a text that is no part of the tree, once its step is spent
 pub record Texts : Type 0 where
+  pub turn : Spot → Turning → Act Signal
   pub enter : Spot → List CommandTree → Act Signal
 
 pub record Context : Type 0 where
@@ -64,44 +76,46 @@ inside_of x = inside x.account x.fuel x.spot.depth
 
 -- a target of which everything is evaluated that it has to evaluate: a variable, or a piece of one with its delimiter and its
 -- place
-pub data Pending : Type 0 where
-  whole : Text → Pending
-  part : Text → Text → Option Text → Pending
+pub data Prepared : Type 0 where
+  whole : Evaluated → Prepared
+  part : Evaluated → Text → Option Text → Prepared
 
-abbrev pub place_value : Inside → Option ExprTree → Act (Option Text)
-place_value i None = give None
-place_value i (Some e) = do
+abbrev pub optional_value : Inside → Option ExprTree → Act (Option Text)
+optional_value i None = give None
+optional_value i (Some e) = do
   x ← value i e
   give (Some x)
 
-abbrev pub pending : Inside → TargetTree → Act Pending
-pending i (variable name) = give (whole name)
-pending i (piece word name delimiter place) = do
+abbrev pub prepared : Inside → TargetTree → Act Prepared
+prepared i (variable r) = do
+  v ← evaluated i r
+  give (whole v)
+prepared i (piece word r delimiter place) = do
+  v ← evaluated i r
   d ← value i delimiter
-  n ← place_value i place
-  give (part name d n)
+  n ← optional_value i place
+  give (part v d n)
 
 -- some targets, behind those before them
-abbrev pub pendings : Inside → List Pending → List TargetTree → Act (List Pending)
-pendings i ps [] = give ps
-pendings i ps (t ∷ ts) = do
-  p ← pending i t
-  pendings i (ps ++ p ∷ []) ts
-
--- a variable's text, or the empty one where it is undefined
-abbrev pub text_or_empty : Text → Act Text
-text_or_empty name s = Done (Gives (unwrap_or (value_of s.locals name) []) s)
+abbrev pub all_prepared : Inside → List Prepared → List TargetTree → Act (List Prepared)
+all_prepared i ps [] = give ps
+all_prepared i ps (t ∷ ts) = do
+  p ← prepared i t
+  all_prepared i (ps ++ p ∷ []) ts
 
 -- the place of a piece becomes a whole number once the variable is found
-abbrev pub assigned : Text → Pending → Act (Unit {0})
-assigned x (whole name) = set_local name x
-assigned x (part name d place) = do
+abbrev pub assigned : Text → Prepared → Act (Unit {0})
+assigned x (whole v) = do
+  p ← resolve writing v
+  put_at p x
+assigned x (part v d place) = do
+  p ← resolve writing v
   n ← as_whole_or_none place
-  old ← text_or_empty name
+  old ← read_or [] p
   new ← outcome (set_piece_of old d n x)
-  set_local name new
+  put_at p new
 
-abbrev pub all_assigned : Text → List Pending → Act (Unit {0})
+abbrev pub all_assigned : Text → List Prepared → Act (Unit {0})
 all_assigned x [] = give tt
 all_assigned x (p ∷ ps) = assigned x p >> all_assigned x ps
 
@@ -112,7 +126,7 @@ targets (several ts) = ts
 -- each target's parts, then the right side, and then each target is given it: an error leaves those before it set
 abbrev pub setting : Inside → DestinationTree → ExprTree → Act (Unit {0})
 setting i d e = do
-  ps ← pendings i [] (targets d)
+  ps ← all_prepared i [] (targets d)
   x ← value i e
   all_assigned x ps
 
@@ -123,27 +137,150 @@ showing i e = do
   x ← value i e
   write x
 
+-- ---- KILL
+
+abbrev pub killing : Inside → ReferenceTree → Act (Unit {0})
+killing i r = do
+  v ← evaluated i r
+  p ← resolve writing v
+  kill_at p
+
+-- ---- conditions
+
+-- a truth, where there is a condition
+abbrev pub holds : Inside → Option ExprTree → Act Bool
+holds i None = give true
+holds i (Some e) = do
+  x ← value i e
+  as_truth x
+
+-- what is next where this is true, and otherwise what is behind the rest of the line
+abbrev pub where_true : Bool → Signal
+where_true b = cond b Go_on Skips
+
+-- IF: each argument sets $TEST
+abbrev pub testing : Inside → ExprTree → Act Signal
+testing i e = do
+  x ← value i e
+  b ← as_truth x
+  set_test b
+  give (where_true b)
+
+-- ---- FOR
+
+-- the index as a number; it may have been killed meanwhile
+abbrev pub index_number : Text → Act ℤ
+index_number index = do
+  found ← found_at (at_local index [])
+  x ← give_some M15 found
+  as_number x
+
+abbrev pub number_of : Inside → ExprTree → Act ℤ
+number_of i e = do
+  x ← value i e
+  as_number x
+
+-- a turn costs a step, once its index is set
+abbrev pub begin_turn : Context → Turning → Act Signal
+begin_turn x t = charge >> x.texts.turn x.spot t
+
+-- with this text as index
+abbrev pub turn_with : Context → Text → Turning → Act Signal
+turn_with x index t = put_at (at_local t.index []) index >> begin_turn x t
+
+-- the turns of these parameters: each is evaluated where it is reached
+abbrev pub next_parameter : Context → Text → List CommandTree → List ParameterTree → Act Signal
+next_parameter x index body [] = give Skips
+next_parameter x index body (once e ∷ rest) = do
+  a ← value (inside_of x) e
+  turn_with x a (record { index = index; course = last_turn; parameters = rest; body = body })
+next_parameter x index body (onward e by ∷ rest) = do
+  a ← number_of (inside_of x) e
+  b ← number_of (inside_of x) by
+  turn_with x (number_text a) (record { index = index; course = endless b; parameters = rest; body = body })
+next_parameter x index body (until e by to ∷ rest) = do
+  a ← number_of (inside_of x) e
+  b ← number_of (inside_of x) by
+  c ← number_of (inside_of x) to
+  put_at (at_local index []) (number_text a)
+  cond (is_past b a c) (next_parameter x index body rest) (begin_turn x (record { index = index; course = limited b c; parameters = rest; body = body }))
+
+-- one turn more, with the increment added
+abbrev pub stepped : Context → Turning → ℤ → ℤ → Act Signal
+stepped x t n by = do
+  next ← as_text (sum_of n by)
+  turn_with x next t
+
+abbrev pub after_course : Context → Turning → Course → Act Signal
+after_course x t last_turn = next_parameter x t.index t.body t.parameters
+after_course x t (endless by) = do
+  n ← index_number t.index
+  stepped x t n by
+after_course x t (limited by limit) = do
+  n ← index_number t.index
+  cond (is_past by (n +ℤ by) limit) (next_parameter x t.index t.body t.parameters) (stepped x t n by)
+after_course x t forever = begin_turn x t
+
+-- QUIT ends the FOR with all its parameters; the rest of the line was the FOR's
+abbrev pub after_turn : Context → Turning → Signal → Act Signal
+after_turn x t Go_on = after_course x t t.course
+after_turn x t Skips = after_course x t t.course
+after_turn x t Quits = give Skips
+after_turn x t (Goes g) = give (Goes g)
+after_turn x t Halts = give Halts
+
+abbrev pub turns_forever : Context → List CommandTree → Act Signal
+turns_forever x body = begin_turn x (record { index = []; course = forever; parameters = []; body = body })
+
 -- ---- commands
 
--- what an argument does, of whichever command
+-- what an argument does, of whichever command; that of FOR takes the rest of the line, and stands apart
 abbrev pub argument : Context → ArgTree → Act Signal
 argument x (assign d e) = setting (inside_of x) d e >> give Go_on
 argument x (breaks n) = write (replicate n line_end) >> give Go_on
 argument x (shown e) = showing (inside_of x) e >> give Go_on
+argument x (kill_one r) = killing (inside_of x) r >> give Go_on
+argument x (kill_others names) = with_locals (killed_except names) >> give Go_on
+argument x (new_one name) = with_locals (newed (name ∷ [])) >> give Go_on
+argument x (new_others names) = with_locals (newed_except names) >> give Go_on
+argument x (tested e) = testing (inside_of x) e
+argument x (loop index parameters) = give Go_on
 
 abbrev pub arguments : Context → List ArgTree → Act Signal
 arguments x [] = give Go_on
 arguments x (a ∷ rest) = argument x a >>= (λ s. after s (arguments x rest))
 
--- a command, before the rest of its line
+-- a command without arguments, before the rest of its line: KILL and NEW are of all variables, and SET and WRITE of nothing
+abbrev pub bare : Context → KeywordTree → List CommandTree → Act Signal
+bare x set_word rest = give Go_on
+bare x kill_word rest = with_locals (killed_except []) >> give Go_on
+bare x new_word rest = with_locals (newed_except []) >> give Go_on
+bare x if_word rest = do
+  b ← test_is
+  give (where_true b)
+bare x else_word rest = do
+  b ← test_is
+  give (where_true (not b))
+bare x for_word rest = turns_forever x rest
+bare x quit_word rest = give Quits
+bare x write_word rest = give Go_on
+
+-- a command, before the rest of its line, which FOR does in its turns
 abbrev pub effect : Context → KeywordTree → List ArgTree → List CommandTree → Act Signal
-effect x set_word args rest = arguments x args
-effect x write_word args rest = arguments x args
+effect x k [] rest = bare x k rest
+effect x k (loop index parameters ∷ more) rest = next_parameter x index rest parameters
+effect x k (a ∷ more) rest = arguments x (a ∷ more)
+
+-- where its condition holds
+abbrev pub conditional : Context → CommandTree → List CommandTree → Act Signal
+conditional x c rest = do
+  b ← holds (inside_of x) c.condition
+  cond b (effect x c.keyword c.args rest) (give Go_on)
 
 -- a command's word costs a step, before the command is done
 abbrev pub commands : Context → List CommandTree → Act Signal
 commands x [] = give Go_on
-commands x (c ∷ rest) = charge >> (effect x c.keyword c.args rest >>= (λ s. after s (commands x rest)))
+commands x (c ∷ rest) = charge >> (conditional x c rest >>= (λ s. after s (commands x rest)))
 
 -- ---- lines
 
@@ -161,10 +298,13 @@ after_level s = give (passed s)
 
 -- with so many texts at most
 abbrev pub texts : Text → ℕ → Texts
-texts a zero = record { enter = λ _ _. fail Zsteps }
-texts a (suc n) = record {
-  enter = λ p cs. commands (record { account = a; fuel = n; spot = p; texts = texts a n }) cs >>= after_level;
-}
+texts a zero = record { turn = λ _ _. fail Zsteps; enter = λ _ _. fail Zsteps }
+texts a (suc n) =
+    let at : Spot → Context = λ p. record { account = a; fuel = n; spot = p; texts = texts a n } in
+    record {
+      turn = λ p t. commands (at p) t.body >>= after_turn (at p) t;
+      enter = λ p cs. commands (at p) cs >>= after_level;
+    }
 
 abbrev pub context : Text → ℕ → Spot → Context
 context a n p = record { account = a; fuel = n; spot = p; texts = texts a n }

@@ -6,7 +6,7 @@ use Rattle.std.specs.FinMap.{FinMap, get, insert, remove}
 use Rattle.mspec.specs.Code.{Code, Zterm, Zline, Zchar, Zsyntax, Fault, Own, Lost}
 use Rattle.mspec.specs.Plan.{Plan, perform, cut_short}
 use Rattle.mspec.specs.LockConflict.{released}
-use Rattle.mspec.specs.Act.{Text, Node, Locals, no_locals, State, Outcome, Gives, Fails, Act, fail}
+use Rattle.mspec.specs.Act.{Text, Node, Locals, no_locals, level_begun, State, Outcome, Gives, Fails, Act, fail}
 use Rattle.mspec.specs.Scopes.{outermost}
 use Rattle.mspec.specs.Names.{is_character}
 use Rattle.mgrammar.specs.Grammar.{LineTree}
@@ -49,8 +49,9 @@ pub record Reply : Type 0 where
 abbrev pub line_limit : ℕ
 line_limit = 255
 
+-- a line is a level of its own
 abbrev pub begun : Account → Session → State
-begun account s = record { locals = s.locals; naked = s.naked; test = s.test; out = []; steps = account.steps }
+begun account s = record { locals = level_begun s.locals; naked = s.naked; test = s.test; out = []; steps = account.steps }
 
 -- of the scopes that a line opened none is left, however it ended
 abbrev pub kept : State → Session

@@ -108,10 +108,13 @@ fn function(alloc: Global, function: Function, arguments: &[Value]) -> Result<Va
     match function {
         Function::Ascii => ascii(alloc, arguments),
         Function::Char => char(alloc, arguments),
+        Function::Data => Err(Code::Zsyntax),
         Function::Extract => extracted(alloc, arguments),
         Function::Find => found(alloc, arguments),
+        Function::Get => Err(Code::Zsyntax),
         Function::Justify => justified(alloc, arguments),
         Function::Length => length(alloc, arguments),
+        Function::Order => Err(Code::Zsyntax),
         Function::Piece => pieces_from_to(alloc, arguments),
         Function::Select => Err(Code::Zsyntax),
         Function::Translate => translated(alloc, arguments),

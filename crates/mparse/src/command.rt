@@ -6,8 +6,10 @@ ghost use Rattle.mtree.specs.Tree.{arg_tree, keyword_tree, command_tree};
 ghost use Rattle.mscan.specs.Gives.{Gives};
 
 use crate::arity::takes_args;
+use crate::control::{condition, postcondition, repetition};
 use crate::expr::{MAX_DEPTH, expr};
 use crate::list::{Items, list};
+use crate::scope::{hiding, removal};
 use crate::set::assignment;
 use mnum::Bytes7;
 use mscan::{Class, ParseFault, run};
@@ -39,7 +41,12 @@ impl Items for Keyword {
     fn item(self, alloc: Global, bytes: &[u8]) -> Result<(Arg, &[u8]), ParseFault> {
         match self {
             Keyword::Set => assignment(alloc, bytes),
+            Keyword::Kill => removal(alloc, bytes),
+            Keyword::New => hiding(alloc, bytes),
+            Keyword::If => condition(alloc, bytes),
+            Keyword::For => repetition(alloc, bytes),
             Keyword::Write => output(alloc, bytes),
+            Keyword::Else | Keyword::Quit => Err(ParseFault::Syntax),
         }
     }
 }
@@ -72,6 +79,7 @@ pub fn command(alloc: Global, bytes: &[u8]) -> Result<(Command, &[u8]), ParseFau
     let Some(keyword) = keyword_of(letters) else {
         return Err(ParseFault::Syntax);
     };
+    let (condition, rest) = postcondition(alloc, keyword, rest)?;
     let (args, rest) = args(alloc, keyword, rest)?;
     if !takes_args(keyword, args.len()) {
         return Err(ParseFault::Syntax);
@@ -80,6 +88,7 @@ pub fn command(alloc: Global, bytes: &[u8]) -> Result<(Command, &[u8]), ParseFau
     let command = Command {
         keyword,
         word,
+        condition,
         args,
     };
     Ok((command, rest))

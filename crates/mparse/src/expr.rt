@@ -1,18 +1,20 @@
 // Expressions.
 ghost use Rattle.std.specs.Prelude.{◌≡◌, ◌<◌, length, map, option_map};
 ghost use Rattle.mgrammar.specs.Grammar.{exprs_of, choices_of};
-ghost use Rattle.mgrammar.specs.Reading.{many, list_at, bracket_with, choice_with, select_with, call_with, function_with, primary_with, operand_with, step_by, step_with, expr_with, readers_at, inner_at};
-ghost use Rattle.mtree.specs.Tree.{function_tree, expr_tree, operand_tree, primary_tree, step_tree, choice_tree};
+ghost use Rattle.mgrammar.specs.Reading.{with_front, many, after_comma, list_at, reference_with, bracket_with, choice_with, select_with, call_with, refer_with, dollar_with, primary_with, operand_with, step_by, step_with, expr_with, readers_at, inner_at};
+ghost use Rattle.mtree.specs.Tree.{function_tree, expr_tree, operand_tree, primary_tree, reference_tree, step_tree, choice_tree};
 ghost use Rattle.mscan.specs.Gives.{Gives};
 ghost use Rattle.mscan.specs.Operators.{operator_tree};
 
-use crate::arity::takes;
+use crate::arity::{refers, takes};
 use mnum::Bytes7;
 use mscan::{
     Class, Operator, ParseFault, expect, name, next_operator, number, past, pattern, run, signs,
     text_after,
 };
-use mtree::{Choice, Expr, Function, Operand, Primary, Step, function_of};
+use mtree::{
+    Choice, Expr, Function, Operand, Primary, Reference, Referring, Step, function_of, special_of,
+};
 use std::alloc::Global;
 
 // How many brackets may be open at a place.
@@ -112,12 +114,27 @@ fn primary(alloc: Global, bytes: &[u8], depth: u32) -> Result<(Primary, &[u8]), 
             Ok((Primary::Text(text), after))
         }
         b'(' => bracket(alloc, rest, depth),
-        b'$' => call_or_select(alloc, rest, depth),
+        b'$' => dollar(alloc, rest, depth),
         _ => {
-            let (name, after) = name(alloc, bytes)?;
-            Ok((Primary::Local(name), after))
+            let (reference, after) = reference(alloc, bytes, depth)?;
+            Ok((Primary::Reference(reference), after))
         }
     }
+}
+
+// A variable, with its subscripts where a bracket opens behind its name.
+#[cycle(expr)]
+#[tactic(auto, unfolding(mgrammar::specs::Reading::reference_with, mgrammar::specs::Reading::subscripts_with))]
+pub fn reference(alloc: Global, bytes: &[u8], depth: u32) -> Result<(Reference, &[u8]), ParseFault>
+    ensures { Gives (λ x. (reference_tree x.0, x.1.now)) result (reference_with (readers_at depth) bytes.now) }
+{
+    let (name, rest) = name(alloc, bytes)?;
+    let Some((b'(', behind)) = rest.split_first() else {
+        return Ok((Reference::Local(name, Vec::new(alloc)), rest));
+    };
+    let (subscripts, rest) = exprs(alloc, behind, depth)?;
+    let rest = expect(b')', rest)?;
+    Ok((Reference::Local(name, subscripts), rest))
 }
 
 // The expression behind an opening bracket, where one bracket fewer may open.
@@ -132,6 +149,18 @@ pub fn inner(alloc: Global, bytes: &[u8], depth: u32) -> Result<(Expr, &[u8]), P
     expr(alloc, bytes, depth - 1)
 }
 
+// The variable behind an opening bracket, where one bracket fewer may open.
+#[cycle(expr)]
+#[tactic(auto, unfolding(mgrammar::specs::Reading::readers_at))]
+pub fn within(alloc: Global, bytes: &[u8], depth: u32) -> Result<(Reference, &[u8]), ParseFault>
+    ensures { Gives (λ x. (reference_tree x.0, x.1.now)) result ((readers_at depth).within bytes.now) }
+{
+    if depth == 0 {
+        return Err(ParseFault::Syntax);
+    }
+    reference(alloc, bytes, depth - 1)
+}
+
 // The rest of an expression in brackets, behind the bracket that opens it.
 #[cycle(expr)]
 #[tactic(auto, unfolding(mgrammar::specs::Reading::bracket_with))]
@@ -143,23 +172,57 @@ fn bracket(alloc: Global, bytes: &[u8], depth: u32) -> Result<(Primary, &[u8]), 
     Ok((Primary::Bracket(Box::new(alloc, expr)?), rest))
 }
 
-// The rest of a function, behind its `$`.
+// The rest of what begins with a `$`, behind it: a function where a bracket opens behind its word, and otherwise a special
+// variable.
 #[cycle(expr)]
-#[tactic(auto, unfolding(mgrammar::specs::Reading::function_with))]
-fn call_or_select(alloc: Global, bytes: &[u8], depth: u32) -> Result<(Primary, &[u8]), ParseFault>
-    ensures { Gives (λ x. (primary_tree x.0, x.1.now)) result (function_with (readers_at depth) bytes.now) }
+#[tactic(auto, unfolding(mgrammar::specs::Reading::dollar_with))]
+fn dollar(alloc: Global, bytes: &[u8], depth: u32) -> Result<(Primary, &[u8]), ParseFault>
+    ensures { Gives (λ x. (primary_tree x.0, x.1.now)) result (dollar_with (readers_at depth) bytes.now) }
 {
     let (letters, rest) = run(Class::Letter, bytes);
-    let rest = expect(b'(', rest)?;
+    let word = Bytes7::from_slice(alloc, letters)?;
+    let Some(rest) = past(b'(', rest) else {
+        let Some(_) = special_of(letters) else {
+            return Err(ParseFault::Syntax);
+        };
+        return Ok((Primary::Special(word), rest));
+    };
     let Some(function) = function_of(letters) else {
         return Err(ParseFault::Syntax);
     };
-    let word = Bytes7::from_slice(alloc, letters)?;
-    if function == Function::Select {
-        select(alloc, word, rest, depth)
-    } else {
-        call(alloc, function, word, rest, depth)
+    match function {
+        Function::Select => select(alloc, word, rest, depth),
+        Function::Data | Function::Get | Function::Order => {
+            refer(alloc, function, word, rest, depth)
+        }
+        _ => call(alloc, function, word, rest, depth),
     }
+}
+
+// The rest of this function of a variable, behind its bracket.
+#[cycle(expr)]
+#[tactic(auto, unfolding(mgrammar::specs::Reading::refer_with))]
+fn refer(
+    alloc: Global,
+    function: Function,
+    word: Bytes7,
+    bytes: &[u8],
+    depth: u32,
+) -> Result<(Primary, &[u8]), ParseFault>
+    ensures { Gives (λ x. (primary_tree x.0, x.1.now)) result (refer_with (readers_at depth) (function_tree function) word bytes.now) }
+{
+    let (reference, rest) = within(alloc, bytes, depth)?;
+    let (more, rest) = more_exprs(alloc, Vec::new(alloc), rest, depth)?;
+    let rest = expect(b')', rest)?;
+    if !refers(function, more.len()) {
+        return Err(ParseFault::Syntax);
+    }
+    let referring = Referring {
+        word,
+        reference,
+        more,
+    };
+    Ok((Primary::Refer(Box::new(alloc, referring)?), rest))
 }
 
 // The rest of a call of this function, behind its bracket.
@@ -214,11 +277,25 @@ fn choice(alloc: Global, bytes: &[u8], depth: u32) -> Result<(Choice, &[u8]), Pa
 fn exprs(alloc: Global, bytes: &[u8], depth: u32) -> Result<(Vec<Expr>, &[u8]), ParseFault>
     ensures { Gives (λ x. (map expr_tree x.0.items, x.1.now)) result (list_at (inner_at depth) bytes.now) }
 {
-    let (first, start) = inner(alloc, bytes, depth)?;
+    let (first, rest) = inner(alloc, bytes, depth)?;
     let mut all = Vec::new(alloc);
     all.push(first)?;
-    let mut rest = start;
-    for _ in 0..start.len() {
+    more_exprs(alloc, all, rest, depth)
+}
+
+// These expressions, and as many more as stand behind commas.
+#[cycle(expr)]
+fn more_exprs(
+    alloc: Global,
+    front: Vec<Expr>,
+    bytes: &[u8],
+    depth: u32,
+) -> Result<(Vec<Expr>, &[u8]), ParseFault>
+    ensures { Gives (λ x. (map expr_tree x.0.items, x.1.now)) result (with_front (map expr_tree front.items) (many (after_comma (inner_at depth)) (length bytes.now) bytes.now)) }
+{
+    let mut all = front;
+    let mut rest = bytes;
+    for _ in 0..bytes.len() {
         let Some(behind) = past(b',', rest) else {
             break;
         };

@@ -3,9 +3,11 @@
 
 mod arity;
 mod command;
+mod control;
 mod expr;
 mod line;
 mod list;
+mod scope;
 mod set;
 
 pub use line::parse_line;

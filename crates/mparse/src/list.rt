@@ -1,6 +1,6 @@
 // Lists with commas between.
-ghost use Rattle.std.specs.Prelude.{ℕ, List, map};
-ghost use Rattle.mgrammar.specs.Reading.{Read, list_at};
+ghost use Rattle.std.specs.Prelude.{ℕ, List, length, map};
+ghost use Rattle.mgrammar.specs.Reading.{Read, with_front, many, after_comma, list_at};
 ghost use Rattle.mscan.specs.Gives.{Gives};
 
 use mscan::{ParseFault, past};
@@ -20,6 +20,30 @@ pub trait Items: Copy {
         ensures { Gives (λ x. (tree x.0, x.1.now)) result (read self bytes.now) };
 }
 
+// The items behind those so far, each with a comma before it. It stands apart, since a list of one item shall not pay for the room that
+// the items of this loop move through.
+#[inline(never)]
+fn more<T: Items>(
+    items: T,
+    alloc: Global,
+    front: Vec<T::Item>,
+    bytes: &[u8],
+) -> Result<(Vec<T::Item>, &[u8]), ParseFault>
+    ensures { Gives (λ x. (map T.tree x.0.items, x.1.now)) result (with_front (map T.tree front.items) (many (after_comma (T.read items)) (length bytes.now) bytes.now)) }
+{
+    let mut all = front;
+    let mut rest = bytes;
+    for _ in 0..bytes.len() {
+        let Some(behind) = past(b',', rest) else {
+            break;
+        };
+        let (item, after) = items.item(alloc, behind)?;
+        all.push(item)?;
+        rest = after;
+    }
+    Ok((all, rest))
+}
+
 // One item or more, with commas between. The functions of expressions have loops of their own in its place: their proof
 // is one of all calls between them, which takes no call through a trait.
 pub fn list<T: Items>(
@@ -29,17 +53,12 @@ pub fn list<T: Items>(
 ) -> Result<(Vec<T::Item>, &[u8]), ParseFault>
     ensures { Gives (λ x. (map T.tree x.0.items, x.1.now)) result (list_at (T.read items) bytes.now) }
 {
-    let (first, start) = items.item(alloc, bytes)?;
-    let mut all = Vec::new(alloc);
-    all.push(first)?;
-    let mut rest = start;
-    for _ in 0..start.len() {
-        let Some(behind) = past(b',', rest) else {
-            break;
-        };
-        let (item, after) = items.item(alloc, behind)?;
-        all.push(item)?;
-        rest = after;
-    }
-    Ok((all, rest))
+    let (first, rest) = items.item(alloc, bytes)?;
+    // most lists have one item, and items are large
+    let mut all = Vec::with_capacity(alloc, 1)?;
+    all.push_reserved(first);
+    let Some(_) = past(b',', rest) else {
+        return Ok((all, rest));
+    };
+    more(items, alloc, all, rest)
 }

@@ -5,10 +5,10 @@ ghost use Rattle.mgrammar.specs.Grammar.{TargetTree, max_depth};
 ghost use Rattle.mtree.specs.Tree.{expr_tree, target_tree, destination_tree, arg_tree};
 ghost use Rattle.mscan.specs.Gives.{Gives};
 
-use crate::expr::{MAX_DEPTH, expr, inner};
+use crate::expr::{MAX_DEPTH, expr, inner, reference, within};
 use crate::list::{Items, list};
 use mnum::Bytes7;
-use mscan::{Class, ParseFault, expect, name, run};
+use mscan::{Class, ParseFault, expect, run};
 use mtree::{Arg, Destination, Expr, Function, PieceTarget, Target, function_of};
 use std::alloc::Global;
 
@@ -34,14 +34,14 @@ fn piece(
 ) -> Result<(Target, &[u8]), ParseFault>
     ensures { Gives (λ x. (target_tree x.0, x.1.now)) result (piece_with (readers_at depth) word bytes.now) }
 {
-    let (name, rest) = name(alloc, bytes)?;
+    let (reference, rest) = within(alloc, bytes, depth)?;
     let rest = expect(b',', rest)?;
     let (delimiter, rest) = inner(alloc, rest, depth)?;
     let (place, rest) = place(alloc, rest, depth)?;
     let rest = expect(b')', rest)?;
     let piece = PieceTarget {
         word,
-        name,
+        reference,
         delimiter,
         place,
     };
@@ -56,8 +56,8 @@ fn target(alloc: Global, bytes: &[u8], depth: u32) -> Result<(Target, &[u8]), Pa
         return Err(ParseFault::Syntax);
     };
     if *first != b'$' {
-        let (name, rest) = name(alloc, bytes)?;
-        return Ok((Target::Variable(name), rest));
+        let (reference, rest) = reference(alloc, bytes, depth)?;
+        return Ok((Target::Variable(reference), rest));
     }
     let (letters, rest) = run(Class::Letter, rest);
     let rest = expect(b'(', rest)?;

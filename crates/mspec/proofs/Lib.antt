@@ -21,9 +21,11 @@ pub mod LockExamples
 pub mod KeyOrders
 pub mod KeyRanges
 pub mod KeyReadings
-pub mod ScopeValues
 pub mod ScopeFacts
 pub mod MapCuts
+pub mod ComputedMaps
+pub mod ComputedNumbers
 pub mod LockFacts
 pub mod GlobalExamples
 pub mod ListPlaces
+pub mod SubscriptTests

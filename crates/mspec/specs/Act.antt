@@ -1,8 +1,8 @@
 -- An act of a session: from the session's state to a plan that ends with a value or a code, and with the state after it.
-use Rattle.std.specs.Prelude.{ℕ, zero, suc, Bool, true, false, [], ◌∷◌, ◌++◌, Option, Some, None}
+use Rattle.std.specs.Prelude.{ℕ, zero, suc, Bool, true, false, List, [], ◌∷◌, ◌++◌, Option, Some, None}
 use Rattle.mspec.specs.Code.{Code, M6, Zsteps}
 pub use Rattle.mspec.specs.Node.{Text, Node}
-use Rattle.mspec.specs.Scopes.{Scopes, bottom, value_at, assigned}
+use Rattle.mspec.specs.Scopes.{Scopes, bottom, value_at, assigned, with_level}
 use Rattle.mspec.specs.Plan.{Op, Answer, Plan, Done, Ask, then_plan}
 
 -- the locals of a session: a stack of scopes
@@ -13,11 +13,15 @@ Locals = Scopes
 unfoldable pub no_locals : Locals
 no_locals = bottom ∷ []
 
-unfoldable pub value_of : Locals → Text → Option Text
-value_of locals name = value_at locals name []
+-- with a level more
+unfoldable pub level_begun : Locals → Locals
+level_begun locals = with_level locals
 
-unfoldable pub assigned_to : Locals → Text → Text → Locals
-assigned_to locals name x = assigned locals name [] x
+unfoldable pub value_of : Locals → Text → List Text → Option Text
+value_of locals name xs = value_at locals name xs
+
+unfoldable pub assigned_to : Locals → Text → List Text → Text → Locals
+assigned_to locals name xs x = assigned locals name xs x
 
 -- the state of a session while a line runs: what it keeps (locals, naked indicator, $TEST), the output so far and the steps
 -- that are left
@@ -76,8 +80,23 @@ abbrev pub unless : Code → Bool → Act (Unit {0})
 unless c true = give tt
 unless c false = fail c
 
-abbrev pub get_local : Text → Act Text
-get_local name s = give_some M6 (value_of s.locals name) s
+-- of the variable with this name, the text at these subscripts
+abbrev pub get_local : Text → List Text → Act Text
+get_local name xs s = give_some M6 (value_of s.locals name xs) s
 
-abbrev pub set_local : Text → Text → Act (Unit {0})
-set_local name x s = Done (Gives tt (record s { locals = assigned_to s.locals name x }))
+abbrev pub set_local : Text → List Text → Text → Act (Unit {0})
+set_local name xs x s = Done (Gives tt (record s { locals = assigned_to s.locals name xs x }))
+
+-- another change of the locals, and what is asked of them
+abbrev pub with_locals : (Locals → Locals) → Act (Unit {0})
+with_locals f s = Done (Gives tt (record s { locals = f s.locals }))
+
+abbrev pub of_locals : {A : Type 0} → (Locals → A) → Act A
+of_locals f s = Done (Gives (f s.locals) s)
+
+-- $TEST
+abbrev pub test_is : Act Bool
+test_is s = Done (Gives s.test s)
+
+abbrev pub set_test : Bool → Act (Unit {0})
+set_test b s = Done (Gives tt (record s { test = b }))

@@ -21,6 +21,7 @@ pub mod Trees
 pub mod Scopes
 pub mod ScopeLaws
 pub mod Globals
+pub mod Subscripts
 pub mod Access
 pub mod Flow
 pub mod LockConflict

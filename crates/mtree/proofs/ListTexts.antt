@@ -2,11 +2,12 @@
 use Rattle.std.proofs.Common.{◌≡◌, ℕ, ◌<◌, List, [], ◌∷◌, ◌++◌, length, map, refl, ap, ◌∙◌, arith}
 use Rattle.std.specs.Prelude.{Result, Ok, Err, OnOk}
 use Rattle.std.proofs.lemmas.List.{append_assoc}
-use Rattle.mgrammar.specs.Grammar.{ExprTree, exprs_of, choices_of, spell_expr, spell_exprs, spell_more_exprs, spell_choices, spell_more_choices, spell_more, spell_list, spell_target, spell_arg, spell_args}
-use Rattle.mtree.specs.Tree.{expr_tree, choice_tree, target_tree, arg_tree}
+use Rattle.mgrammar.specs.Grammar.{ExprTree, exprs_of, choices_of, spell_expr, spell_exprs, spell_more_exprs, spell_choices, spell_more_choices, spell_more, spell_list, spell_target, spell_parameter, spell_arg, spell_args, spell_subscripts}
+use Rattle.mtree.specs.Tree.{expr_tree, choice_tree, target_tree, parameter_tree, arg_tree}
 use Rattle.mtree.specs.declared.tree.Expr.{Expr}
 use Rattle.mtree.specs.declared.tree.Choice.{Choice}
 use Rattle.mtree.specs.declared.tree.Target.{Target}
+use Rattle.mtree.specs.declared.tree.Parameter.{Parameter}
 use Rattle.mtree.specs.declared.tree.Arg.{Arg}
 
 more_by_trees : {X A : Type 0} (tree : X → A) (spell : A → List ℕ) (xs : List X) → spell_more (λ x. spell (tree x)) xs ≡ spell_more spell (map tree xs)
@@ -16,6 +17,9 @@ more_by_trees tree spell (x ∷ xs) = ap (λ (t : List ℕ). 44 ∷ (spell (tree
 list_by_trees : {X A : Type 0} (tree : X → A) (spell : A → List ℕ) (xs : List X) → spell_list (λ x. spell (tree x)) xs ≡ spell_list spell (map tree xs)
 list_by_trees tree spell [] = refl
 list_by_trees tree spell (x ∷ xs) = ap (λ (t : List ℕ). spell (tree x) ++ t) (more_by_trees tree spell xs)
+
+pub parameters : (xs : List Parameter) → spell_list (λ x. spell_parameter (parameter_tree x)) xs ≡ spell_list spell_parameter (map parameter_tree xs)
+parameters xs = list_by_trees parameter_tree spell_parameter xs
 
 pub targets : (xs : List Target) → spell_list (λ x. spell_target (target_tree x)) xs ≡ spell_list spell_target (map target_tree xs)
 targets xs = list_by_trees target_tree spell_target xs
@@ -38,6 +42,20 @@ more_arguments (x ∷ xs) = ap (λ (t : List ℕ). 44 ∷ (spell_expr (expr_tree
 pub arguments : (xs : List Expr) → spell_list (λ x. spell_expr (expr_tree x)) xs ≡ spell_exprs (exprs_of (map expr_tree xs))
 arguments [] = refl
 arguments (x ∷ xs) = ap (λ (t : List ℕ). spell_expr (expr_tree x) ++ t) (more_arguments xs)
+
+-- some subscripts, in brackets
+pub some_subscripts : {X E : Type 0} (r : Result X E) (xs : List Expr) (old before mid new : List ℕ) → 0 < length xs → before ≡ old ++ 40 ∷ [] → mid ≡ before ++ spell_list (λ x. spell_expr (expr_tree x)) xs → OnOk r (new ≡ mid ++ 41 ∷ [])
+    → OnOk r (new ≡ old ++ spell_subscripts (exprs_of (map expr_tree xs)))
+some_subscripts (Err e) xs old before mid new some b m n = tt
+some_subscripts (Ok y) [] old before mid new some b m n = absurd (omega arith)
+some_subscripts (Ok y) (x ∷ xs) old before mid new some b m n =
+    let first = spell_expr (expr_tree x) in
+    let more = spell_more_exprs (exprs_of (map expr_tree xs)) in
+    n ∙ ap (λ (t : List ℕ). t ++ 41 ∷ []) (m ∙ ap (λ (t : List ℕ). t ++ spell_list (λ x. spell_expr (expr_tree x)) (x ∷ xs)) b)
+    ∙ append_assoc (old ++ 40 ∷ []) (spell_list (λ x. spell_expr (expr_tree x)) (x ∷ xs)) (41 ∷ [])
+    ∙ append_assoc old (40 ∷ []) (spell_list (λ x. spell_expr (expr_tree x)) (x ∷ xs) ++ 41 ∷ [])
+    ∙ ap (λ (t : List ℕ). old ++ 40 ∷ (t ++ 41 ∷ [])) (arguments (x ∷ xs))
+    ∙ ap (λ (t : List ℕ). old ++ 40 ∷ t) (append_assoc first more (41 ∷ []))
 
 -- the text of a choice
 abbrev pub choice_text : ExprTree × ExprTree → List ℕ

@@ -1,7 +1,7 @@
 -- A line of the program as a plain tree of the grammar.
 use Rattle.std.specs.Prelude.{map, option_map}
 use Rattle.mgrammar.specs.Grammar as grammar
-use Rattle.mgrammar.specs.Grammar.{SignTree, TruthTree, BinaryTree, KeywordTree, FunctionTree, CountTree, RepeatedTree, AtomTree, ExprTree, StepTree, steps_of, exprs_of, choices_of, OperandTree, PrimaryTree, TargetTree, DestinationTree, ArgTree, CommandTree, SpacedTree, LineTree}
+use Rattle.mgrammar.specs.Grammar.{SignTree, TruthTree, BinaryTree, KeywordTree, FunctionTree, SpecialTree, CountTree, RepeatedTree, AtomTree, ExprTree, StepTree, steps_of, exprs_of, choices_of, OperandTree, PrimaryTree, ReferenceTree, TargetTree, DestinationTree, ParameterTree, ArgTree, CommandTree, SpacedTree, LineTree}
 use Rattle.mtree.specs.declared.tree.Sign.{Sign}
 use Rattle.mtree.specs.declared.tree.Sign.TheVariants as sign
 use Rattle.mtree.specs.declared.tree.Truth.{Truth}
@@ -12,6 +12,8 @@ use Rattle.mtree.specs.declared.tree.Keyword.{Keyword}
 use Rattle.mtree.specs.declared.tree.Keyword.TheVariants as keyword
 use Rattle.mtree.specs.declared.tree.Function.{Function}
 use Rattle.mtree.specs.declared.tree.Function.TheVariants as function
+use Rattle.mtree.specs.declared.tree.SpecialVariable.{SpecialVariable}
+use Rattle.mtree.specs.declared.tree.SpecialVariable.TheVariants as special_variable
 use Rattle.mtree.specs.declared.tree.Count.{Count}
 use Rattle.mtree.specs.declared.tree.Repeated.{Repeated}
 use Rattle.mtree.specs.declared.tree.Repeated.TheVariants as repeated
@@ -21,12 +23,16 @@ use Rattle.mtree.specs.declared.tree.Step.{Step, fold-Step}
 use Rattle.mtree.specs.declared.tree.Operand.{Operand, fold-Operand}
 use Rattle.mtree.specs.declared.tree.Primary.{Primary, fold-Primary}
 use Rattle.mtree.specs.declared.tree.Choice.{Choice, fold-Choice}
-use Rattle.mtree.specs.declared.tree.Primary.TheOpen.{Primary-F, Expr-F, Operand-F, Step-F, Choice-F}
+use Rattle.mtree.specs.declared.tree.Reference.{Reference, fold-Reference}
+use Rattle.mtree.specs.declared.tree.Referring.{Referring, fold-Referring}
+use Rattle.mtree.specs.declared.tree.Primary.TheOpen.{Primary-F, Expr-F, Operand-F, Step-F, Choice-F, Reference-F, Referring-F}
 use Rattle.mtree.specs.declared.tree.PieceTarget.{PieceTarget}
 use Rattle.mtree.specs.declared.tree.Target.{Target}
 use Rattle.mtree.specs.declared.tree.Target.TheVariants as target
 use Rattle.mtree.specs.declared.tree.Destination.{Destination}
 use Rattle.mtree.specs.declared.tree.Destination.TheVariants as destination
+use Rattle.mtree.specs.declared.tree.Parameter.{Parameter}
+use Rattle.mtree.specs.declared.tree.Parameter.TheVariants as parameter
 use Rattle.mtree.specs.declared.tree.Arg.{Arg}
 use Rattle.mtree.specs.declared.tree.Arg.TheVariants as arg
 use Rattle.mtree.specs.declared.tree.Command.{Command}
@@ -61,18 +67,30 @@ binary_tree (binary.IsNot t) = grammar.is_not (truth_tree t)
 
 abbrev pub keyword_tree : Keyword → KeywordTree
 keyword_tree keyword.Set = grammar.set_word
+keyword_tree keyword.Kill = grammar.kill_word
+keyword_tree keyword.New = grammar.new_word
+keyword_tree keyword.If = grammar.if_word
+keyword_tree keyword.Else = grammar.else_word
+keyword_tree keyword.For = grammar.for_word
+keyword_tree keyword.Quit = grammar.quit_word
 keyword_tree keyword.Write = grammar.write_word
 
 abbrev pub function_tree : Function → FunctionTree
 function_tree function.Ascii = grammar.ascii_function
 function_tree function.Char = grammar.char_function
+function_tree function.Data = grammar.data_function
 function_tree function.Extract = grammar.extract_function
 function_tree function.Find = grammar.find_function
+function_tree function.Get = grammar.get_function
 function_tree function.Justify = grammar.justify_function
 function_tree function.Length = grammar.length_function
+function_tree function.Order = grammar.order_function
 function_tree function.Piece = grammar.piece_function
 function_tree function.Select = grammar.select_function
 function_tree function.Translate = grammar.translate_function
+
+abbrev pub special_tree : SpecialVariable → SpecialTree
+special_tree special_variable.Test = grammar.test_special
 
 abbrev pub count_tree : Count → CountTree
 count_tree c = record { front = c.front; behind = c.behind }
@@ -89,61 +107,86 @@ abbrev pub ChoiceTree : Type 0
 ChoiceTree = ExprTree × ExprTree
 
 -- one level of a tree, with what each part stands for in its place
-abbrev pub expr_layer : Expr-F PrimaryTree StepTree ChoiceTree ExprTree OperandTree → ExprTree
+abbrev pub expr_layer : Expr-F PrimaryTree ReferenceTree StepTree ChoiceTree ExprTree OperandTree PrimaryTree → ExprTree
 expr_layer e = grammar.expr e.first (steps_of e.rest.items)
 
-abbrev pub step_layer : Step-F PrimaryTree StepTree ChoiceTree ExprTree OperandTree → StepTree
+abbrev pub step_layer : Step-F PrimaryTree ReferenceTree StepTree ChoiceTree ExprTree OperandTree PrimaryTree → StepTree
 step_layer (Step-F.Apply b o) = grammar.apply (binary_tree b) o
 step_layer (Step-F.Matches atoms) = grammar.matches (map atom_tree atoms.items)
 step_layer (Step-F.MatchesNot atoms) = grammar.matches_not (map atom_tree atoms.items)
 
-abbrev pub operand_layer : Operand-F PrimaryTree StepTree ChoiceTree ExprTree OperandTree → OperandTree
+abbrev pub operand_layer : Operand-F PrimaryTree ReferenceTree StepTree ChoiceTree ExprTree OperandTree PrimaryTree → OperandTree
 operand_layer o = grammar.operand (map sign_tree o.signs.items) o.primary
 
-abbrev pub primary_layer : Primary-F PrimaryTree StepTree ChoiceTree ExprTree OperandTree → PrimaryTree
+abbrev pub primary_layer : Primary-F PrimaryTree ReferenceTree StepTree ChoiceTree ExprTree OperandTree PrimaryTree → PrimaryTree
 primary_layer (Primary-F.Number literal) = grammar.number literal
 primary_layer (Primary-F.Text t) = grammar.text t
-primary_layer (Primary-F.Local name) = grammar.local name
+primary_layer (Primary-F.Special word) = grammar.special word
+primary_layer (Primary-F.Reference r) = grammar.reference r
 primary_layer (Primary-F.Bracket e) = grammar.bracket e.value
 primary_layer (Primary-F.Call word args) = grammar.call word (exprs_of args.items)
 primary_layer (Primary-F.Select word choices) = grammar.select word (choices_of choices.items)
+primary_layer (Primary-F.Refer r) = r.value
 
-abbrev pub choice_layer : Choice-F PrimaryTree StepTree ChoiceTree ExprTree OperandTree → ChoiceTree
+abbrev pub reference_layer : Reference-F PrimaryTree ReferenceTree StepTree ChoiceTree ExprTree OperandTree PrimaryTree → ReferenceTree
+reference_layer (Reference-F.Local name subscripts) = grammar.local name (exprs_of subscripts.items)
+
+abbrev pub referring_layer : Referring-F PrimaryTree ReferenceTree StepTree ChoiceTree ExprTree OperandTree PrimaryTree → PrimaryTree
+referring_layer r = grammar.refer r.word r.reference (exprs_of r.more.items)
+
+abbrev pub choice_layer : Choice-F PrimaryTree ReferenceTree StepTree ChoiceTree ExprTree OperandTree PrimaryTree → ChoiceTree
 choice_layer c = (c.condition, c.value)
 
 abbrev pub expr_tree : Expr → ExprTree
-expr_tree = fold-Expr PrimaryTree StepTree ChoiceTree ExprTree OperandTree primary_layer step_layer choice_layer expr_layer operand_layer
+expr_tree = fold-Expr PrimaryTree ReferenceTree StepTree ChoiceTree ExprTree OperandTree PrimaryTree primary_layer reference_layer step_layer choice_layer expr_layer operand_layer referring_layer
 
 abbrev pub step_tree : Step → StepTree
-step_tree = fold-Step PrimaryTree StepTree ChoiceTree ExprTree OperandTree primary_layer step_layer choice_layer expr_layer operand_layer
+step_tree = fold-Step PrimaryTree ReferenceTree StepTree ChoiceTree ExprTree OperandTree PrimaryTree primary_layer reference_layer step_layer choice_layer expr_layer operand_layer referring_layer
 
 abbrev pub operand_tree : Operand → OperandTree
-operand_tree = fold-Operand PrimaryTree StepTree ChoiceTree ExprTree OperandTree primary_layer step_layer choice_layer expr_layer operand_layer
+operand_tree = fold-Operand PrimaryTree ReferenceTree StepTree ChoiceTree ExprTree OperandTree PrimaryTree primary_layer reference_layer step_layer choice_layer expr_layer operand_layer referring_layer
 
 abbrev pub primary_tree : Primary → PrimaryTree
-primary_tree = fold-Primary PrimaryTree StepTree ChoiceTree ExprTree OperandTree primary_layer step_layer choice_layer expr_layer operand_layer
+primary_tree = fold-Primary PrimaryTree ReferenceTree StepTree ChoiceTree ExprTree OperandTree PrimaryTree primary_layer reference_layer step_layer choice_layer expr_layer operand_layer referring_layer
 
 abbrev pub choice_tree : Choice → ChoiceTree
-choice_tree = fold-Choice PrimaryTree StepTree ChoiceTree ExprTree OperandTree primary_layer step_layer choice_layer expr_layer operand_layer
+choice_tree = fold-Choice PrimaryTree ReferenceTree StepTree ChoiceTree ExprTree OperandTree PrimaryTree primary_layer reference_layer step_layer choice_layer expr_layer operand_layer referring_layer
+
+abbrev pub reference_tree : Reference → ReferenceTree
+reference_tree = fold-Reference PrimaryTree ReferenceTree StepTree ChoiceTree ExprTree OperandTree PrimaryTree primary_layer reference_layer step_layer choice_layer expr_layer operand_layer referring_layer
+
+abbrev pub referring_tree : Referring → PrimaryTree
+referring_tree = fold-Referring PrimaryTree ReferenceTree StepTree ChoiceTree ExprTree OperandTree PrimaryTree primary_layer reference_layer step_layer choice_layer expr_layer operand_layer referring_layer
 
 abbrev pub piece_tree : PieceTarget → TargetTree
-piece_tree p = grammar.piece p.word p.name (expr_tree p.delimiter) (option_map expr_tree p.place)
+piece_tree p = grammar.piece p.word (reference_tree p.reference) (expr_tree p.delimiter) (option_map expr_tree p.place)
 
 abbrev pub target_tree : Target → TargetTree
-target_tree (target.Variable name) = grammar.variable name
+target_tree (target.Variable r) = grammar.variable (reference_tree r)
 target_tree (target.Piece p) = piece_tree p
 
 abbrev pub destination_tree : Destination → DestinationTree
 destination_tree (destination.One t) = grammar.one (target_tree t)
 destination_tree (destination.Several ts) = grammar.several (map target_tree ts.items)
 
+abbrev pub parameter_tree : Parameter → ParameterTree
+parameter_tree (parameter.Once e) = grammar.once (expr_tree e)
+parameter_tree (parameter.Onward e by) = grammar.onward (expr_tree e) (expr_tree by)
+parameter_tree (parameter.Until e by to) = grammar.until (expr_tree e) (expr_tree by) (expr_tree to)
+
 abbrev pub arg_tree : Arg → ArgTree
 arg_tree (arg.Assign d e) = grammar.assign (destination_tree d) (expr_tree e)
 arg_tree (arg.Breaks n) = grammar.breaks n
 arg_tree (arg.Value e) = grammar.shown (expr_tree e)
+arg_tree (arg.KillOne r) = grammar.kill_one (reference_tree r)
+arg_tree (arg.KillOthers names) = grammar.kill_others names.items
+arg_tree (arg.NewOne name) = grammar.new_one name
+arg_tree (arg.NewOthers names) = grammar.new_others names.items
+arg_tree (arg.Tested e) = grammar.tested (expr_tree e)
+arg_tree (arg.Loop index parameters) = grammar.loop index (map parameter_tree parameters.items)
 
 abbrev pub command_tree : Command → CommandTree
-command_tree c = record { keyword = keyword_tree c.keyword; word = c.word; args = map arg_tree c.args.items }
+command_tree c = record { keyword = keyword_tree c.keyword; word = c.word; condition = option_map expr_tree c.condition; args = map arg_tree c.args.items }
 
 abbrev pub spaced_tree : Spaced → SpacedTree
 spaced_tree s = (command_tree s.command, s.spaces)

@@ -1,11 +1,13 @@
 // The text of an expression.
 ghost use Rattle.std.specs.Prelude.{◌≡◌, ◌++◌, ◌<◌, ◌∷◌, [], List, ℕ, OnOk, map};
-ghost use Rattle.mgrammar.specs.Grammar.{sign_char, spell_truth, spell_binary, spell_signs, spell_behind, spell_repeated, spell_atom, spell_atoms, spell_expr, steps_of, exprs_of, choices_of, spell_steps, spell_step, spell_operand, spell_primary, spell_exprs, spell_choices};
-ghost use Rattle.mtree.specs.Tree.{sign_tree, truth_tree, binary_tree, repeated_tree, atom_tree, expr_tree, step_tree, operand_tree, primary_tree, choice_tree};
+ghost use Rattle.mgrammar.specs.Grammar.{sign_char, spell_truth, spell_binary, spell_signs, spell_behind, spell_repeated, spell_atom, spell_atoms, spell_expr, steps_of, exprs_of, choices_of, spell_steps, spell_step, spell_operand, spell_primary, spell_reference, spell_subscripts, spell_exprs, spell_more_exprs, spell_choices};
+ghost use Rattle.mtree.specs.Tree.{sign_tree, truth_tree, binary_tree, repeated_tree, atom_tree, expr_tree, step_tree, operand_tree, primary_tree, reference_tree, referring_tree, choice_tree};
 
 use crate::list::{Listed, put_list};
 use crate::pieces::{put_string, put_text};
-use crate::tree::{Atom, Binary, Choice, Expr, Operand, Primary, Repeated, Sign, Step, Truth};
+use crate::tree::{
+    Atom, Binary, Choice, Expr, Operand, Primary, Reference, Referring, Repeated, Sign, Step, Truth,
+};
 use mnum::Bytes7;
 use std::alloc::AllocError;
 
@@ -156,11 +158,38 @@ fn put_primary(out: &mut Bytes7, primary: &Primary) -> Result<(), AllocError>
     match primary {
         Primary::Number(literal) => put_text(out, literal),
         Primary::Text(text) => put_string(out, text),
-        Primary::Local(name) => put_text(out, name.as_bytes7()),
+        Primary::Special(word) => put_special(out, word),
+        Primary::Reference(reference) => put_reference(out, reference),
         Primary::Bracket(inner) => put_bracket(out, inner),
         Primary::Call(word, arguments) => put_call(out, word, arguments),
         Primary::Select(word, choices) => put_select(out, word, choices),
+        Primary::Refer(referring) => put_referring(out, referring),
     }
+}
+
+#[cycle(expr)]
+pub fn put_reference(out: &mut Bytes7, reference: &Reference) -> Result<(), AllocError>
+    ensures { OnOk result (out.new ≡ out.old ++ spell_reference (reference_tree reference.now)) }
+{
+    match reference {
+        Reference::Local(name, subscripts) => {
+            put_text(out, name.as_bytes7())?;
+            put_subscripts(out, subscripts)
+        }
+    }
+}
+
+// In brackets, where there are some.
+#[cycle(expr)]
+fn put_subscripts(out: &mut Bytes7, subscripts: &Vec<Expr>) -> Result<(), AllocError>
+    ensures { OnOk result (out.new ≡ out.old ++ spell_subscripts (exprs_of (map expr_tree subscripts.now.items))) }
+{
+    if subscripts.is_empty() {
+        return Ok(());
+    }
+    out.push(b'(')?;
+    put_list(out, subscripts)?;
+    out.push(b')')
 }
 
 #[cycle(expr)]
@@ -170,6 +199,13 @@ fn put_bracket(out: &mut Bytes7, inner: &Expr) -> Result<(), AllocError>
     out.push(b'(')?;
     put_expr(out, inner)?;
     out.push(b')')
+}
+
+fn put_special(out: &mut Bytes7, word: &Bytes7) -> Result<(), AllocError>
+    ensures { OnOk result (out.new ≡ out.old ++ 36 ∷ word.now) }
+{
+    out.push(b'$')?;
+    put_text(out, word)
 }
 
 // A function's word, and the bracket behind it.
@@ -197,6 +233,28 @@ fn put_select(out: &mut Bytes7, word: &Bytes7, choices: &Vec<Choice>) -> Result<
     put_word(out, word)?;
     put_list(out, choices)?;
     out.push(b')')
+}
+
+#[cycle(expr)]
+fn put_referring(out: &mut Bytes7, referring: &Referring) -> Result<(), AllocError>
+    ensures { OnOk result (out.new ≡ out.old ++ spell_primary (referring_tree referring.now)) }
+{
+    put_word(out, &referring.word)?;
+    put_reference(out, &referring.reference)?;
+    put_more(out, &referring.more)?;
+    out.push(b')')
+}
+
+// Each with a comma before it.
+#[cycle(expr)]
+fn put_more(out: &mut Bytes7, more: &[Expr]) -> Result<(), AllocError>
+    ensures { OnOk result (out.new ≡ out.old ++ spell_more_exprs (exprs_of (map expr_tree more.now))) }
+{
+    for expr in more {
+        out.push(b',')?;
+        put_expr(out, expr)?;
+    }
+    Ok(())
 }
 
 impl Listed for Expr {

@@ -12,7 +12,8 @@ pub mod write;
 
 pub use tree::{
     Arg, Atom, Binary, Choice, Command, Count, Destination, Expr, Function, Keyword, Line, Operand,
-    PieceTarget, Primary, Repeated, Sign, Spaced, Step, Target, Truth,
+    Parameter, PieceTarget, Primary, Reference, Referring, Repeated, Sign, Spaced, SpecialVariable,
+    Step, Target, Truth,
 };
-pub use words::{function_of, keyword_of};
+pub use words::{function_of, keyword_of, special_of};
 pub use write::write_line;

@@ -109,14 +109,36 @@ pub enum Primary {
     Number(Bytes7),
     /// A string without the quotes around it; a doubled quote within is one here.
     Text(Bytes7),
-    /// A local variable's name.
-    Local(Name),
+    /// A special variable: its word behind the `$`.
+    Special(Bytes7),
+    /// The value of a variable.
+    Reference(Reference),
     /// An expression in brackets.
     Bracket(Box<Expr>),
-    /// A function: its word behind the `$`, and its arguments.
+    /// A function of values: its word behind the `$`, and its arguments.
     Call(Bytes7, Vec<Expr>),
     /// `$SELECT`, with its word behind the `$`.
     Select(Bytes7, Vec<Choice>),
+    /// A function of a variable.
+    Refer(Box<Referring>),
+}
+
+/// A variable.
+#[derive(Drop)]
+#[cycle(tree)]
+pub enum Reference {
+    /// A local variable: its name, and its subscripts, of which there may be none.
+    Local(Name, Vec<Expr>),
+}
+
+/// A function of a variable, as `$DATA`, `$GET` and `$ORDER` are: its word behind the `$`, the variable, and the arguments
+/// behind that.
+#[derive(Drop)]
+#[cycle(tree)]
+pub struct Referring {
+    pub word: Bytes7,
+    pub reference: Reference,
+    pub more: Vec<Expr>,
 }
 
 /// An argument of `$SELECT`: a condition, and the value where it is true.
@@ -132,20 +154,30 @@ pub struct Choice {
 pub enum Function {
     Ascii,
     Char,
+    Data,
     Extract,
     Find,
+    Get,
     Justify,
     Length,
+    Order,
     Piece,
     Select,
     Translate,
+}
+
+/// What a special variable's word says.
+#[derive(Clone, Copy, Debug, PartialEq, Eq)]
+pub enum SpecialVariable {
+    /// What the last condition of IF gave.
+    Test,
 }
 
 /// A piece of a variable, to which SET assigns: `$PIECE`, with its word behind the `$`.
 #[derive(Drop)]
 pub struct PieceTarget {
     pub word: Bytes7,
-    pub name: Name,
+    pub reference: Reference,
     pub delimiter: Expr,
     pub place: Option<Expr>,
 }
@@ -153,8 +185,7 @@ pub struct PieceTarget {
 /// What SET assigns to.
 #[derive(Drop)]
 pub enum Target {
-    /// A local variable's name.
-    Variable(Name),
+    Variable(Reference),
     Piece(PieceTarget),
 }
 
@@ -166,6 +197,17 @@ pub enum Destination {
     Several(Vec<Target>),
 }
 
+/// What the index of FOR takes on, one value or one after another.
+#[derive(Drop)]
+pub enum Parameter {
+    /// A value.
+    Once(Expr),
+    /// A start, and what is added at each turn.
+    Onward(Expr, Expr),
+    /// A start, what is added at each turn, and a limit.
+    Until(Expr, Expr, Expr),
+}
+
 /// An argument of a command.
 #[derive(Drop)]
 pub enum Arg {
@@ -175,20 +217,39 @@ pub enum Arg {
     Breaks(usize),
     /// Of WRITE: a value.
     Value(Expr),
+    /// Of KILL: a variable.
+    KillOne(Reference),
+    /// Of KILL: the names that it spares, in brackets.
+    KillOthers(Vec<Name>),
+    /// Of NEW: a name.
+    NewOne(Name),
+    /// Of NEW: the names that it spares, in brackets.
+    NewOthers(Vec<Name>),
+    /// Of IF: a condition.
+    Tested(Expr),
+    /// Of FOR: the name of its index, and what that takes on.
+    Loop(Name, Vec<Parameter>),
 }
 
 /// What a command's word says.
 #[derive(Clone, Copy, Debug, PartialEq, Eq)]
 pub enum Keyword {
     Set,
+    Kill,
+    New,
+    If,
+    Else,
+    For,
+    Quit,
     Write,
 }
 
-/// A command: what its word says, the word as it is written, and its arguments.
+/// A command: what its word says, the word as it is written, its postconditional where it has one, and its arguments.
 #[derive(Drop)]
 pub struct Command {
     pub keyword: Keyword,
     pub word: Bytes7,
+    pub condition: Option<Expr>,
     pub args: Vec<Arg>,
 }
 

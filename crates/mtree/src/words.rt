@@ -1,9 +1,9 @@
-// Words of commands and of functions.
+// Words of commands, of functions and of special variables.
 ghost use Rattle.std.specs.Prelude.{◌≡◌, option_map};
-ghost use Rattle.mgrammar.specs.Grammar.{is_either, keyword_of, function_of};
-ghost use Rattle.mtree.specs.Tree.{keyword_tree, function_tree};
+ghost use Rattle.mgrammar.specs.Grammar.{is_either, keyword_of, function_of, special_of};
+ghost use Rattle.mtree.specs.Tree.{keyword_tree, function_tree, special_tree};
 
-use crate::tree::{Function, Keyword};
+use crate::tree::{Function, Keyword, SpecialVariable};
 
 // Whether the word is this one or that one, in either case of letters.
 fn is_either(word: &[u8], short: &[u8], long: &[u8]) -> bool
@@ -19,6 +19,18 @@ pub fn keyword_of(word: &[u8]) -> Option<Keyword>
 {
     if is_either(word, b"s", b"set") {
         Some(Keyword::Set)
+    } else if is_either(word, b"k", b"kill") {
+        Some(Keyword::Kill)
+    } else if is_either(word, b"n", b"new") {
+        Some(Keyword::New)
+    } else if is_either(word, b"i", b"if") {
+        Some(Keyword::If)
+    } else if is_either(word, b"e", b"else") {
+        Some(Keyword::Else)
+    } else if is_either(word, b"f", b"for") {
+        Some(Keyword::For)
+    } else if is_either(word, b"q", b"quit") {
+        Some(Keyword::Quit)
     } else if is_either(word, b"w", b"write") {
         Some(Keyword::Write)
     } else {
@@ -36,20 +48,39 @@ pub fn function_of(word: &[u8]) -> Option<Function>
         Some(Function::Ascii)
     } else if is_either(word, b"c", b"char") {
         Some(Function::Char)
+    } else if is_either(word, b"d", b"data") {
+        Some(Function::Data)
     } else if is_either(word, b"e", b"extract") {
         Some(Function::Extract)
     } else if is_either(word, b"f", b"find") {
         Some(Function::Find)
+    } else if is_either(word, b"g", b"get") {
+        Some(Function::Get)
     } else if is_either(word, b"j", b"justify") {
         Some(Function::Justify)
     } else if is_either(word, b"l", b"length") {
         Some(Function::Length)
+    } else if is_either(word, b"o", b"order") {
+        Some(Function::Order)
     } else if is_either(word, b"p", b"piece") {
         Some(Function::Piece)
     } else if is_either(word, b"s", b"select") {
         Some(Function::Select)
     } else if is_either(word, b"tr", b"translate") {
         Some(Function::Translate)
+    } else {
+        None
+    }
+}
+
+/// What a special variable's word says, without its `$`: the whole word or its abbreviation, in either case of letters. Takes no
+/// memory.
+#[tactic(auto, unfolding(mgrammar::specs::Grammar::special_of))]
+pub fn special_of(word: &[u8]) -> Option<SpecialVariable>
+    ensures { option_map special_tree result ≡ special_of word.now }
+{
+    if is_either(word, b"t", b"test") {
+        Some(SpecialVariable::Test)
     } else {
         None
     }

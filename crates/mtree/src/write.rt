@@ -1,13 +1,13 @@
 // The text of a line: each function appends the spelling of its part, as `mgrammar` has it.
 ghost use Rattle.std.specs.Prelude.{◌≡◌, ◌++◌, ◌∷◌, [], List, ℕ, IfOk, OnOk, map, option_map};
-ghost use Rattle.mgrammar.specs.Grammar.{assign, spell_place, spell_target, spell_destination, spell_arg, spell_args, spell_command, spell_commands, spell};
-ghost use Rattle.mtree.specs.Tree.{expr_tree, piece_tree, target_tree, destination_tree, arg_tree, command_tree, spaced_tree, line_tree};
+ghost use Rattle.mgrammar.specs.Grammar.{assign, loop, spell_place, spell_target, spell_destination, spell_names, spell_parameter, spell_arg, spell_condition, spell_args, spell_command, spell_commands, spell};
+ghost use Rattle.mtree.specs.Tree.{expr_tree, piece_tree, target_tree, destination_tree, parameter_tree, arg_tree, command_tree, spaced_tree, line_tree};
 
-use crate::expression::{put_expr, put_word};
+use crate::expression::{put_expr, put_reference, put_word};
 use crate::list::{Listed, put_list};
 use crate::pieces::{put_run, put_text};
-use crate::tree::{Arg, Command, Destination, Expr, Line, PieceTarget, Spaced, Target};
-use mnum::Bytes7;
+use crate::tree::{Arg, Command, Destination, Expr, Line, Parameter, PieceTarget, Spaced, Target};
+use mnum::{Bytes7, Name};
 use std::alloc::{AllocError, Global};
 
 fn put_place(out: &mut Bytes7, place: &Option<Expr>) -> Result<(), AllocError>
@@ -24,7 +24,7 @@ fn put_piece(out: &mut Bytes7, piece: &PieceTarget) -> Result<(), AllocError>
     ensures { OnOk result (out.new ≡ out.old ++ spell_target (piece_tree piece.now)) }
 {
     put_word(out, &piece.word)?;
-    put_text(out, piece.name.as_bytes7())?;
+    put_reference(out, &piece.reference)?;
     out.push(b',')?;
     put_expr(out, &piece.delimiter)?;
     put_place(out, &piece.place)?;
@@ -36,7 +36,7 @@ impl Listed for Target {
 
     fn put(&self, out: &mut Bytes7) -> Result<(), AllocError> {
         match self {
-            Target::Variable(name) => put_text(out, name.as_bytes7()),
+            Target::Variable(reference) => put_reference(out, reference),
             Target::Piece(piece) => put_piece(out, piece),
         }
     }
@@ -67,6 +67,53 @@ fn put_assignment(
     put_expr(out, value)
 }
 
+impl Listed for Name {
+    ghost spelling = { λ name. name };
+
+    fn put(&self, out: &mut Bytes7) -> Result<(), AllocError> {
+        put_text(out, self.as_bytes7())
+    }
+}
+
+// In brackets.
+fn put_names(out: &mut Bytes7, names: &Vec<Name>) -> Result<(), AllocError>
+    ensures { OnOk result (out.new ≡ out.old ++ spell_names names.now.items) }
+{
+    out.push(b'(')?;
+    put_list(out, names)?;
+    out.push(b')')
+}
+
+impl Listed for Parameter {
+    ghost spelling = { λ parameter. spell_parameter (parameter_tree parameter) };
+
+    fn put(&self, out: &mut Bytes7) -> Result<(), AllocError> {
+        match self {
+            Parameter::Once(value) => put_expr(out, value),
+            Parameter::Onward(start, step) => {
+                put_expr(out, start)?;
+                out.push(b':')?;
+                put_expr(out, step)
+            }
+            Parameter::Until(start, step, limit) => {
+                put_expr(out, start)?;
+                out.push(b':')?;
+                put_expr(out, step)?;
+                out.push(b':')?;
+                put_expr(out, limit)
+            }
+        }
+    }
+}
+
+fn put_loop(out: &mut Bytes7, index: &Name, parameters: &Vec<Parameter>) -> Result<(), AllocError>
+    ensures { OnOk result (out.new ≡ out.old ++ spell_arg (loop index.now (map parameter_tree parameters.now.items))) }
+{
+    put_text(out, index.as_bytes7())?;
+    out.push(b'=')?;
+    put_list(out, parameters)
+}
+
 impl Listed for Arg {
     ghost spelling = { λ arg. spell_arg (arg_tree arg) };
 
@@ -75,8 +122,25 @@ impl Listed for Arg {
             Arg::Assign(destination, value) => put_assignment(out, destination, value),
             Arg::Breaks(count) => put_run(out, b'!', *count),
             Arg::Value(value) => put_expr(out, value),
+            Arg::KillOne(reference) => put_reference(out, reference),
+            Arg::KillOthers(names) => put_names(out, names),
+            Arg::NewOne(name) => put_text(out, name.as_bytes7()),
+            Arg::NewOthers(names) => put_names(out, names),
+            Arg::Tested(condition) => put_expr(out, condition),
+            Arg::Loop(index, parameters) => put_loop(out, index, parameters),
         }
     }
+}
+
+// Behind a colon, where there is one.
+fn put_condition(out: &mut Bytes7, condition: &Option<Expr>) -> Result<(), AllocError>
+    ensures { OnOk result (out.new ≡ out.old ++ spell_condition (option_map expr_tree condition.now)) }
+{
+    if let Some(condition) = condition {
+        out.push(b':')?;
+        put_expr(out, condition)?;
+    }
+    Ok(())
 }
 
 // Behind a space, where there are some.
@@ -94,6 +158,7 @@ fn put_command(out: &mut Bytes7, command: &Command) -> Result<(), AllocError>
     ensures { OnOk result (out.new ≡ out.old ++ spell_command (command_tree command.now)) }
 {
     put_text(out, &command.word)?;
+    put_condition(out, &command.condition)?;
     put_args(out, &command.args)
 }
 

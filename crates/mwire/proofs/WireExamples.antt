@@ -1,19 +1,21 @@
 -- The wire form and the replies of the definitional interpreter on examples, as proved equations.
-use Rattle.std.proofs.Common.{◌≡◌, ℕ, List, [], ◌∷◌, ◌++◌, refl}
+use Rattle.std.proofs.Common.{◌≡◌, ℕ, List, [], ◌∷◌, ◌++◌, refl, ap, ◌∙◌}
 use Rattle.std.specs.Prelude.{codes, replicate}
 use Rattle.std.specs.FinMap.{empty, gets}
-use Rattle.mspec.proofs.ScopeValues.{local_values}
 use Rattle.std.specs.Fmt.{digits}
 use Rattle.std.specs.Str.Lines.{lines}
-use Rattle.mspec.specs.Number.{round, round_size, nearest, rounding_unit, digits_before}
-use Rattle.mspec.specs.NumberText.{numeric_value, literal_size, size_text}
-use Rattle.mgrammar.specs.Grammar.{keyword_of, function_of}
-use Rattle.mgrammar.specs.Reading.{many, list_at, point_at, exponent_at, number_at, name_at, count_at, repeated_at, atom_at, pattern_at, truth_at, operator_at, bracket_with, choice_with, select_with, call_with, function_with, primary_with, operand_with, step_by, step_with, expr_with, readers_at, place_with, piece_with, target_with, destination_at, assignment_at, output_at, args_at, command_at, spaced_at, comment_at, line_at}
-use Rattle.mmeaning.specs.Step.{Finished, Halted, Faulted}
-use Rattle.mmeaning.proofs.MeaningExamples.{alice}
-use Rattle.mspec.specs.Act.{Text}
+use Rattle.mspec.specs.Act.{Text, no_locals, level_begun, value_of, assigned_to}
 use Rattle.mspec.specs.Code.{Zlong, Own}
-use Rattle.mwire.specs.Wire.{Fate, Ignored, TooLong, Unreadable, Runs, fate_of, shown, reply_text, stream_served}
+use Rattle.mspec.specs.NodeOrder.{canonical_value}
+use Rattle.mspec.proofs.ComputedMaps.{computed_maps}
+use Rattle.mspec.proofs.ComputedNumbers.{computed_numbers}
+use Rattle.mgrammar.specs.Grammar.{keyword_of, special_of, function_of}
+use Rattle.mgrammar.specs.Reading.{many, list_at, point_at, exponent_at, number_at, name_at, operator_at, truth_at, bracket_with, refer_with, dollar_with, subscripts_with, reference_with, primary_with, operand_with, step_by, step_with, expr_with, readers_at, target_with, destination_at, assignment_at, names_at, removal_at, hiding_at, condition_at, parameter_at, repetition_at, output_at, args_at, postcondition_at, command_at, spaced_at, comment_at, line_at}
+use Rattle.mmeaning.specs.Step.{Settings, Server, Reply, Finished, Halted, Faulted}
+use Rattle.mmeaning.specs.History.{opening}
+use Rattle.mmeaning.proofs.ExampleAccount.{alice}
+use Rattle.mmeaning.proofs.LineRuns.{shut_step, step_is_shut}
+use Rattle.mwire.specs.Wire.{Fate, Ignored, TooLong, Unreadable, Runs, fate_of, shown, reply_text, too_long_text, unreadable_text, line_served, lines_served, stream_served}
 
 abbrev runs : ℕ → Text → Fate
 runs terminal text = Runs (record { terminal = terminal; text = text })
@@ -61,21 +63,49 @@ reply_endings : (reply_text 3 (record { out = codes "x" ++ 255 ∷ []; ending = 
 unfolding digits
 reply_endings = (refl, refl)
 
+-- ---- streams, by steps whose turns are shut
+
+abbrev line_by_shut : Settings → Server → Fate → Text × Server
+line_by_shut settings server Ignored = ([], server)
+line_by_shut settings server TooLong = (too_long_text, server)
+line_by_shut settings server Unreadable = (unreadable_text, server)
+line_by_shut settings server (Runs e) = (reply_text e.terminal (shut_step settings e (line_at e.text) server).0, (shut_step settings e (line_at e.text) server).1)
+
+abbrev lines_by_shut : Settings → Server → List Text → Text
+lines_by_shut settings server [] = []
+lines_by_shut settings server (line ∷ more) =
+    (line_by_shut settings server (fate_of line)).0 ++ lines_by_shut settings (line_by_shut settings server (fate_of line)).1 more
+
+line_is_shut : (settings : Settings) (server : Server) (f : Fate) → line_served settings server f ≡ line_by_shut settings server f
+line_is_shut settings server Ignored = refl
+line_is_shut settings server TooLong = refl
+line_is_shut settings server Unreadable = refl
+line_is_shut settings server (Runs e) = ap (λ (r : Reply × Server). (reply_text e.terminal r.0, r.1)) (step_is_shut settings e server)
+
+lines_are_shut : (settings : Settings) (server : Server) (ls : List Text) → lines_served settings server ls ≡ lines_by_shut settings server ls
+lines_are_shut settings server [] = refl
+lines_are_shut settings server (line ∷ more) =
+    ap (λ (r : Text × Server). r.0 ++ lines_served settings r.1 more) (line_is_shut settings server (fate_of line))
+    ∙ (let r = line_by_shut settings server (fate_of line) in ap (λ (t : Text). r.0 ++ t) (lines_are_shut settings r.1 more))
+
+served : (bytes : Text) {answer : Text} → lines_by_shut alice (opening empty) (lines bytes) ≡ answer → stream_served alice empty bytes ≡ answer
+served bytes is = lines_are_shut alice (opening empty) (lines bytes) ∙ is
+
 left_to_right : stream_served alice empty (fed (codes "1 WRITE 1+2*3" ∷ [])) ≡ fed (codes "1-9" ∷ codes "1." ∷ [])
-unfolding keyword_of function_of many list_at point_at exponent_at number_at name_at count_at repeated_at atom_at pattern_at truth_at operator_at bracket_with choice_with select_with call_with function_with primary_with operand_with step_by step_with expr_with readers_at place_with piece_with target_with destination_at assignment_at output_at args_at command_at spaced_at comment_at line_at numeric_value literal_size round round_size nearest rounding_unit digits_before size_text digits
-left_to_right = simp (gets, local_values)
+unfolding keyword_of function_of many list_at point_at exponent_at number_at name_at operator_at truth_at bracket_with refer_with dollar_with special_of subscripts_with reference_with primary_with operand_with step_by step_with expr_with readers_at target_with destination_at assignment_at names_at removal_at hiding_at condition_at parameter_at repetition_at output_at args_at postcondition_at command_at spaced_at comment_at line_at digits canonical_value no_locals level_begun value_of assigned_to
+left_to_right = served (fed (codes "1 WRITE 1+2*3" ∷ [])) (simp (gets, computed_maps, computed_numbers))
 
 -- what a line assigned stands for the next, and an unfinished last line is run
 sessions : stream_served alice empty (fed (codes "1 S A=\"x\"" ∷ []) ++ codes "1 W A") ≡ fed (codes "1." ∷ codes "1-x" ∷ codes "1." ∷ [])
-unfolding keyword_of function_of many list_at point_at exponent_at number_at name_at count_at repeated_at atom_at pattern_at truth_at operator_at bracket_with choice_with select_with call_with function_with primary_with operand_with step_by step_with expr_with readers_at place_with piece_with target_with destination_at assignment_at output_at args_at command_at spaced_at comment_at line_at numeric_value literal_size round round_size nearest rounding_unit digits_before size_text digits
-sessions = simp (gets, local_values)
+unfolding keyword_of function_of many list_at point_at exponent_at number_at name_at operator_at truth_at bracket_with refer_with dollar_with special_of subscripts_with reference_with primary_with operand_with step_by step_with expr_with readers_at target_with destination_at assignment_at names_at removal_at hiding_at condition_at parameter_at repetition_at output_at args_at postcondition_at command_at spaced_at comment_at line_at digits canonical_value no_locals level_begun value_of assigned_to
+sessions = served (fed (codes "1 S A=\"x\"" ∷ []) ++ codes "1 W A") (simp (gets, computed_maps, computed_numbers))
 
 -- a fault, and output with a line end
 faults : stream_served alice empty (fed (codes "1 W \"x\",!,B" ∷ [])) ≡ fed (codes "1:x" ∷ codes "1!M6" ∷ [])
-unfolding keyword_of function_of many list_at point_at exponent_at number_at name_at count_at repeated_at atom_at pattern_at truth_at operator_at bracket_with choice_with select_with call_with function_with primary_with operand_with step_by step_with expr_with readers_at place_with piece_with target_with destination_at assignment_at output_at args_at command_at spaced_at comment_at line_at numeric_value literal_size round round_size nearest rounding_unit digits_before size_text digits
-faults = simp (gets, local_values)
+unfolding keyword_of function_of many list_at point_at exponent_at number_at name_at operator_at truth_at bracket_with refer_with dollar_with special_of subscripts_with reference_with primary_with operand_with step_by step_with expr_with readers_at target_with destination_at assignment_at names_at removal_at hiding_at condition_at parameter_at repetition_at output_at args_at postcondition_at command_at spaced_at comment_at line_at digits canonical_value no_locals level_begun value_of assigned_to
+faults = served (fed (codes "1 W \"x\",!,B" ∷ [])) (simp (gets, computed_maps, computed_numbers))
 
 -- lines of each fate, and an account without the terminal
 stream : stream_served alice empty (fed ([] ∷ codes "1 W 1+" ∷ codes "hello" ∷ (codes "1 ;" ++ replicate 258 65) ∷ (codes "2 W 1" ++ 13 ∷ []) ∷ codes "1 W 2" ∷ [])) ≡ fed (codes "1!ZSYNTAX" ∷ codes "?!ZWIRE" ∷ codes "?!ZLINE" ∷ codes "2!ZTERM" ∷ codes "1-2" ∷ codes "1." ∷ [])
-unfolding keyword_of function_of many list_at point_at exponent_at number_at name_at count_at repeated_at atom_at pattern_at truth_at operator_at bracket_with choice_with select_with call_with function_with primary_with operand_with step_by step_with expr_with readers_at place_with piece_with target_with destination_at assignment_at output_at args_at command_at spaced_at comment_at line_at numeric_value literal_size round round_size nearest rounding_unit digits_before size_text digits
-stream = simp (gets, local_values)
+unfolding keyword_of function_of many list_at point_at exponent_at number_at name_at operator_at truth_at bracket_with refer_with dollar_with special_of subscripts_with reference_with primary_with operand_with step_by step_with expr_with readers_at target_with destination_at assignment_at names_at removal_at hiding_at condition_at parameter_at repetition_at output_at args_at postcondition_at command_at spaced_at comment_at line_at digits canonical_value no_locals level_begun value_of assigned_to
+stream = served (fed ([] ∷ codes "1 W 1+" ∷ codes "hello" ∷ (codes "1 ;" ++ replicate 258 65) ∷ (codes "2 W 1" ++ 13 ∷ []) ∷ codes "1 W 2" ∷ [])) (simp (gets, computed_maps, computed_numbers))

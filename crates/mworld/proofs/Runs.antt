@@ -10,7 +10,7 @@ use Rattle.mspec.specs.LockConflict.{Locks, held_cmp, released}
 use Rattle.mspec.proofs.LockOrders.{held_cmp_total, held_cmp_exact}
 use Rattle.mspec.proofs.MapCuts.{get_cut}
 use Rattle.mspec.specs.Access.{Settings, name_at, steps_at}
-use Rattle.mspec.specs.Act.{Text, Act, State, Gives, Fails}
+use Rattle.mspec.specs.Act.{Text, Act, State, Gives, Fails, level_begun}
 use Rattle.mgrammar.specs.Reading.{line_at}
 use Rattle.mmeaning.specs.LineMeaning.{Signal}
 use Rattle.mmeaning.specs.Step as step
@@ -94,7 +94,7 @@ module _ {S : Type 0} (g : Ghosts S) (settings : Settings) (e : Event) (place : 
   b = record { settings = settings; terminal = e.terminal; account = name_at settings place }
 
   abbrev here : Here
-  here = point old.locals old.naked old.test [] (steps_at settings place) (shared g store)
+  here = point (level_begun old.locals) old.naked old.test [] (steps_at settings place) (shared g store)
 
   abbrev there : Here
   there = point new.locals new.naked new.test reply.out.items ran.left (shared g store')
@@ -103,7 +103,7 @@ module _ {S : Type 0} (g : Ghosts S) (settings : Settings) (e : Event) (place : 
   ends = ran.at sound
 
   begins : begun passes.account (session_or_new (get sessions e.terminal)) ≡ here.0
-  begins = λ i. record { locals = (sym same i).locals; naked = (sym same i).naked; test = (sym same i).test; out = []; steps = passes.steps i }
+  begins = λ i. record { locals = level_begun (sym same i).locals; naked = (sym same i).naked; test = (sym same i).test; out = []; steps = passes.steps i }
 
   -- a line that is not lost
   pub ran_step : (after : Server) → is_failure (ending_of reply.ending) ≡ false → after ≡ settled e.terminal server (ending_of reply.ending) there.0 there.1 → Step settings e (reply_of reply) server after
@@ -137,19 +137,48 @@ module _ {S : Type 0} (g : Ghosts S) (settings : Settings) (e : Event) (place : 
         sessions = ap (λ (s : Server). s.sessions) gone;
       }
 
--- the session, the store and the output are those that were lent
-pub ran_over : {S : Type 0} {g : Ghosts S} {text : Text} {old new : Parts S} {ended : Ended} {session' : Session} {store' : S} {out : Vec ℕ Global} → RunsText g (line_at text) old ended new → old.eval.steps ≡ steps_at old.eval.settings.now old.eval.account
-    → old.out.now.items ≡ [] → session' ≡ new.eval.session.now → store' ≡ new.eval.store.now → out ≡ new.out.now
-    → Ran g old.eval.settings.now old.eval.terminal old.eval.account text old.eval.session.now old.eval.store.now (record { out = out; ending = ended }) session' store'
-ran_over {g = g} {text = text} {old = old} {new = new} {ended = ended} runs steps first s u o = record {
+-- a line that was not run for a loss
+pub unrun_step : {S : Type 0} (g : Ghosts S) (settings : Settings) (e : Event) (place : ℕ) (sessions : FinMap nat_cmp step.Session) (store : S) (passes : Passes settings e place) (after : Server) (answer : step.Reply) (loss : spec.Loss)
+    → after ≡ record { world = shared g store; sessions = remove sessions e.terminal } → answer ≡ lost (Faulted (Lost loss)) → Step settings e answer (record { world = shared g store; sessions = sessions }) after
+unrun_step g settings e place sessions store passes after answer loss gone is = subst (λ r. Step settings e r (record { world = shared g store; sessions = sessions }) after) (sym is) (
+  refl,
+  record {
+    account = passes.account;
+    known = passes.known;
+    short = passes.short;
+    ascii = passes.ascii;
+    operations = 0;
+    globals = ap (λ (s : Server). s.world.globals) gone;
+    locks = ap (λ (s : Server). s.world.locks) gone ∙ sym (none_held e.terminal);
+    sessions = ap (λ (s : Server). s.sessions) gone;
+  },
+)
+
+-- the session, with a level begun, the store and the output are those that were lent
+pub ran_over : {S : Type 0} {g : Ghosts S} {text : Text} {old new : Parts S} {ended : Ended} {session session' : Session} {store' : S} {out : Vec ℕ Global} → RunsText g (line_at text) old ended new → old.eval.steps ≡ steps_at old.eval.settings.now old.eval.account
+    → old.out.now.items ≡ [] → old.eval.session.now ≡ record session { locals = level_begun session.locals } → session' ≡ new.eval.session.now → store' ≡ new.eval.store.now → out ≡ new.out.now
+    → Ran g old.eval.settings.now old.eval.terminal old.eval.account text session old.eval.store.now (record { out = out; ending = ended }) session' store'
+ran_over {g = g} {text = text} {old = old} {new = new} {ended = ended} runs steps first begun s u o = record {
   left = new.eval.steps;
   at = λ sound.
       subst (λ (q : Here × Here). EndsBy (standing_of old.eval) g.steady (text_run (standing_of old.eval).account (line_at text)) q.0 ended q.1)
       (λ i. (
-        point old.eval.session.now.locals old.eval.session.now.naked old.eval.session.now.test (first i) (steps i) (shared g old.eval.store.now),
+        point (begun i).locals (begun i).naked (begun i).test (first i) (steps i) (shared g old.eval.store.now),
         point (sym s i).locals (sym s i).naked (sym s i).test (sym o i).items new.eval.steps (shared g (sym u i)),
       ))
       (runs.at sound empty);
+}
+
+-- a text that was not run for want of memory
+pub not_run : {S : Type 0} {g : Ghosts S} {settings : Settings} {terminal place : ℕ} {text : Text} {session session' : Session} {store store' : S} {reply : Reply} → reply.ending ≡ Fault Zmem → store' ≡ store
+    → Ran g settings terminal place text session store reply session' store'
+not_run {g = g} {settings = settings} {terminal = terminal} {place = place} {text = text} {session = session} {session' = session'} {store = store} {store' = store'} {reply = reply} is same = record {
+  left = 0;
+  at = λ sound.
+      subst (λ (ending : Ended). EndsBy (record { settings = settings; terminal = terminal; account = name_at settings place }) g.steady (text_run (name_at settings place) (line_at text))
+      (point (level_begun session.locals) session.naked session.test [] (steps_at settings place) (shared g store)) ending
+      (point session'.locals session'.naked session'.test reply.out.items 0 (shared g store')))
+      (sym is) (0, ap (shared g) (sym same));
 }
 
 -- what a line leaves that is not lost and does not halt

@@ -1,7 +1,7 @@
 -- What a call that runs a text over a session says of the text's meaning.
 use Rattle.std.specs.Prelude.{ℕ, []}
 use Rattle.mspec.specs.Access.{Settings, name_at, steps_at}
-use Rattle.mspec.specs.Act.{Text}
+use Rattle.mspec.specs.Act.{Text, level_begun}
 use Rattle.mgrammar.specs.Reading.{line_at}
 use Rattle.mmeaning.specs.Step.{text_run}
 use Rattle.mmeaning.specs.Calls.{point}
@@ -11,11 +11,11 @@ use Rattle.mexec.specs.Runs.{EndsBy}
 use Rattle.mworld.specs.declared.reply.Reply.{Reply}
 use Rattle.mworld.specs.View.{shared}
 
--- the reply is that of the text, with the steps of the account at this place
+-- the reply is that of the text, as a level of its own, with the steps of the account at this place
 pub record Ran {S : Type 0} (g : Ghosts S) (settings : Settings) (terminal place : ℕ) (text : Text) (session : Session) (store : S) (reply : Reply) (session' : Session) (store' : S) : Type 0 where
   pub left : ℕ
   pub at :
       g.sound →
       EndsBy (record { settings = settings; terminal = terminal; account = name_at settings place }) g.steady (text_run (name_at settings place) (line_at text))
-      (point session.locals session.naked session.test [] (steps_at settings place) (shared g store)) reply.ending
+      (point (level_begun session.locals) session.naked session.test [] (steps_at settings place) (shared g store)) reply.ending
       (point session'.locals session'.naked session'.test reply.out.items left (shared g store'))

@@ -7,10 +7,11 @@ use crate::reply::Reply;
 use meval::{Depth, Eval, Session};
 use mexec::{Ended, Parts, run_text};
 use mgrant::{AccountId, Settings};
+use moperator::Code;
 use mstore::NodeStore;
 use std::alloc::Global;
 
-// Runs a text of a terminal with the steps of its account.
+// Runs a text of a terminal with the steps of its account, as a level of its own.
 pub(crate) fn run_over<S: NodeStore>(
     alloc: Global,
     settings: &Settings,
@@ -23,8 +24,14 @@ pub(crate) fn run_over<S: NodeStore>(
     ensures ran { Ran S.NodeStore settings.now terminal account text.now session.old store.old result session.new store.new }
     ensures steady { S.steady → result.ending ≢ Ended.Fault Zstore }
 {
-    let steps = settings.steps_of(account);
     let mut out = Vec::new(alloc);
+    let Ok(()) = session.locals.enter() else {
+        return Reply {
+            out,
+            ending: Ended::Fault(Code::Zmem),
+        };
+    };
+    let steps = settings.steps_of(account);
     let mut parts = Parts {
         eval: Eval {
             session,

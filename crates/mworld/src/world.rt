@@ -1,5 +1,5 @@
 // The world: one session for each terminal, over a store.
-ghost use Rattle.std.specs.Prelude.{◌≡◌, ◌≢◌, Ok};
+ghost use Rattle.std.specs.Prelude.{◌≡◌, ◌≢◌, Some, None, OnOk, OnErr};
 ghost use Rattle.std.specs.FinMap.{empty, get, remove};
 ghost use Rattle.mmeaning.specs.Step.{Step, is_lost, session_or_new};
 ghost use Rattle.mmeaning.specs.History.{opening};
@@ -17,7 +17,7 @@ use mexec::Ended;
 use mgrant::{AccountId, Settings};
 use moperator::Code;
 use mstore::NodeStore;
-use std::alloc::Global;
+use std::alloc::{AllocError, Global};
 use std::collections::BTreeMap;
 
 /// The sessions of all terminals over a store, with the settings that say whose the terminals are. Contracts see it by `server_of`,
@@ -66,49 +66,69 @@ impl<S: NodeStore> World<S> {
         }
     }
 
-    // Takes a terminal's session out, or a new one.
-    fn take_session(&mut self, terminal: u32) -> Session
-        ensures session { session_of result ≡ session_or_new (get (server_of S.NodeStore self.old).sessions terminal) }
-        ensures gone { (server_of S.NodeStore self.new).sessions ≡ remove (server_of S.NodeStore self.old).sessions terminal }
+    // Makes a session for a terminal that has none.
+    fn begin_session(&mut self, terminal: u32) -> Result<(), AllocError>
+        ensures session { OnOk result (get (server_of S.NodeStore self.new).sessions terminal ≡ Some (session_or_new (get (server_of S.NodeStore self.old).sessions terminal))) }
+        ensures others { remove (server_of S.NodeStore self.new).sessions terminal ≡ remove (server_of S.NodeStore self.old).sessions terminal }
+        ensures none { OnErr result ((server_of S.NodeStore self.new).sessions ≡ remove (server_of S.NodeStore self.old).sessions terminal) }
         ensures store { self.new.store ≡ self.old.store }
         ensures settings { settings_of self.new ≡ settings_of self.old }
     {
-        match self.sessions.remove(&terminal) {
-            Some(session) => session,
-            None => Session::new(self.alloc),
+        if self.sessions.contains_key(&terminal) {
+            return Ok(());
         }
+        self.put_session(terminal)
     }
 
-    // Runs a line that passed the checks before its text is parsed.
+    // Puts a new session where there is none. It stands apart, since a line of a terminal that has one shall not pay for its room.
+    #[cold]
+    #[inline(never)]
+    fn put_session(&mut self, terminal: u32) -> Result<(), AllocError>
+        requires { get (server_of S.NodeStore self.now).sessions terminal ≡ None }
+        ensures session { OnOk result (get (server_of S.NodeStore self.new).sessions terminal ≡ Some (session_or_new (get (server_of S.NodeStore self.old).sessions terminal))) }
+        ensures others { remove (server_of S.NodeStore self.new).sessions terminal ≡ remove (server_of S.NodeStore self.old).sessions terminal }
+        ensures none { OnErr result ((server_of S.NodeStore self.new).sessions ≡ remove (server_of S.NodeStore self.old).sessions terminal) }
+        ensures store { self.new.store ≡ self.old.store }
+        ensures settings { settings_of self.new ≡ settings_of self.old }
+    {
+        self.sessions.insert(terminal, Session::new(self.alloc))?;
+        Ok(())
+    }
+
+    // Runs a line that passed the checks before its text is parsed. The session stays where it is, and the line changes it there.
     fn run(&mut self, terminal: u32, account: AccountId, text: &[u8]) -> Reply
         requires { Passes (settings_of self.now) (record { terminal = terminal; text = text.now }) account }
         ensures step { S.sound → Step (settings_of self.old) (record { terminal = terminal; text = text.now }) (reply_of result) (server_of S.NodeStore self.old) (server_of S.NodeStore self.new) }
         ensures settings { settings_of self.new ≡ settings_of self.old }
         ensures steady { S.steady → result.ending ≢ Ended.Fault Zstore }
     {
-        let mut session = self.take_session(terminal);
+        let Ok(()) = self.begin_session(terminal) else {
+            return Reply::refused(self.alloc, Code::Zmem);
+        };
+        let Some(session) = self.sessions.get_mut(&terminal) else {
+            unreachable!();
+        };
         let reply = run_over(
             self.alloc,
             &self.settings,
             terminal,
             account,
             text,
-            &mut session,
+            session,
             &mut self.store,
         );
         if let Ended::Fault(code) = reply.ending {
             if loses_session(code) {
+                let _ = self.sessions.remove(&terminal);
                 return Reply::refused(self.alloc, code);
             }
         }
         if let Ended::Halt = reply.ending {
+            let _ = self.sessions.remove(&terminal);
             return reply;
         }
         session.locals.leave_all();
-        match self.sessions.insert(terminal, session) {
-            Ok(_) => reply,
-            Err(_) => Reply::refused(self.alloc, Code::Zmem),
-        }
+        reply
     }
 }
 

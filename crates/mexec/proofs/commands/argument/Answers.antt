@@ -1,32 +1,53 @@
-use Rattle.std.proofs.Common.{replicate}
-use Rattle.mspec.specs.Act.{write}
+use Rattle.std.proofs.Common.{Ok, [], ◌∷◌, replicate, refl}
+use Rattle.mspec.specs.Act.{give, write, with_locals}
+use Rattle.mspec.specs.Scopes.{killed_except, newed, newed_except}
 use Rattle.mmeaning.specs.LineMeaning as meaning
-use Rattle.mtree.specs.Tree.{destination_tree, expr_tree}
-use Rattle.mexec.proofs.Calls.{goes_on, goes_nowhere}
+use Rattle.mmeaning.specs.Expression.{inside}
+use Rattle.mtree.specs.Tree.{destination_tree, expr_tree, reference_tree}
+use Rattle.meval.specs.Evaluates.{depth_of}
+use Rattle.mcommand.proofs.Calls.{at_done, does_evaluated, does_gives}
+use Rattle.mexec.specs.declared.signal.Signal.TheVariants as signal
+use Rattle.mexec.specs.Frames.{signal_of}
+use Rattle.mexec.proofs.Calls.{at_then, at_stopped, at_gives, at_as, goes_on, testing_is}
 use Rattle.mexec.proofs.commands.argument.Goals as goal
 
-pub returns-in_err-setting-in-Assign-clause-does : goal.returns-in_err-setting-in-Assign-clause-does
-returns-in_err-setting-in-Assign-clause-does g c =
-    rw c.in-Assign.is
-    (goes_nowhere (λ i. meaning.setting i (destination_tree c.in-Assign.destination) (expr_tree c.in-Assign.e)) c.args.depth c.in_err-setting-in-Assign.ensures.does c.from_residual.ensures)
+pub returns-in-Assign-clause-does : goal.returns-in-Assign-clause-does
+returns-in-Assign-clause-does g c =
+    rw (c.in-Assign.is, c.went_on.ensures) (goes_on (λ i. meaning.setting i (destination_tree c.in-Assign.destination) (expr_tree c.in-Assign.e)) c.args.depth c.setting.result c.setting.ensures.does)
 
-pub returns-in_ok-setting-in-Assign-clause-does : goal.returns-in_ok-setting-in-Assign-clause-does
-returns-in_ok-setting-in-Assign-clause-does g c =
-    rw c.in-Assign.is (goes_on (λ i. meaning.setting i (destination_tree c.in-Assign.destination) (expr_tree c.in-Assign.e)) c.args.depth c.in_ok-setting-in-Assign.ensures.does)
+pub returns-in-Breaks-clause-does : goal.returns-in-Breaks-clause-does
+returns-in-Breaks-clause-does g c = rw (c.in-Breaks.is, c.went_on-in-Breaks.ensures) (goes_on (λ i. write (replicate c.in-Breaks.count meaning.line_end)) c.args.depth c.breaks.result c.breaks.ensures.does)
 
-pub returns-in_err-breaks-in-Breaks-clause-does : goal.returns-in_err-breaks-in-Breaks-clause-does
-returns-in_err-breaks-in-Breaks-clause-does g c =
-    rw c.in-Breaks.is
-    (goes_nowhere (λ i. write (replicate c.in-Breaks.count meaning.line_end)) c.args.depth c.in_err-breaks-in-Breaks.ensures.does c.from_residual-in_err-breaks-in-Breaks.ensures)
+pub returns-in-Value-clause-does : goal.returns-in-Value-clause-does
+returns-in-Value-clause-does g c = rw (c.in-Value.is, c.went_on-in-Value.ensures) (goes_on (λ i. meaning.showing i (expr_tree c.in-Value.e)) c.args.depth c.showing.result c.showing.ensures.does)
 
-pub returns-in_ok-breaks-in-Breaks-clause-does : goal.returns-in_ok-breaks-in-Breaks-clause-does
-returns-in_ok-breaks-in-Breaks-clause-does g c =
-    rw c.in-Breaks.is (goes_on (λ i. write (replicate c.in-Breaks.count meaning.line_end)) c.args.depth c.in_ok-breaks-in-Breaks.ensures.does)
+pub returns-in-KillOne-clause-does : goal.returns-in-KillOne-clause-does
+returns-in-KillOne-clause-does g c = rw (c.in-KillOne.is, c.went_on-in-KillOne.ensures) (goes_on (λ i. meaning.killing i (reference_tree c.in-KillOne.reference)) c.args.depth c.killing.result c.killing.ensures.does)
 
-pub returns-in_err-showing-in-Value-clause-does : goal.returns-in_err-showing-in-Value-clause-does
-returns-in_err-showing-in-Value-clause-does g c =
-    rw c.in-Value.is (goes_nowhere (λ i. meaning.showing i (expr_tree c.in-Value.e)) c.args.depth c.in_err-showing-in-Value.ensures.does c.from_residual-in_err-showing-in-Value.ensures)
+pub returns-in-KillOthers-clause-does : goal.returns-in-KillOthers-clause-does
+returns-in-KillOthers-clause-does g c =
+    let does = rw c.deref.ensures.value at c.kill_others.ensures.does in
+    rw c.in-KillOthers.is (goes_on (λ i. with_locals (killed_except c.in-KillOthers.names.items)) c.args.depth (Ok tt) (does_evaluated does))
 
-pub returns-in_ok-showing-in-Value-clause-does : goal.returns-in_ok-showing-in-Value-clause-does
-returns-in_ok-showing-in-Value-clause-does g c =
-    rw c.in-Value.is (goes_on (λ i. meaning.showing i (expr_tree c.in-Value.e)) c.args.depth c.in_ok-showing-in-Value.ensures.does)
+pub returns-in-NewOne-clause-does : goal.returns-in-NewOne-clause-does
+returns-in-NewOne-clause-does g c = rw (c.in-NewOne.is, c.went_on-in-NewOne.ensures) (goes_on (λ i. with_locals (newed (c.in-NewOne.name ∷ []))) c.args.depth c.hide_one.result (does_evaluated c.hide_one.ensures.does))
+
+pub returns-in-NewOthers-clause-does : goal.returns-in-NewOthers-clause-does
+returns-in-NewOthers-clause-does g c =
+    let does = rw c.deref-in-NewOthers.ensures.value at c.hide_others.ensures.does in
+    rw (c.in-NewOthers.is, c.went_on-in-NewOthers.ensures) (goes_on (λ i. with_locals (newed_except c.in-NewOthers.names.items)) c.args.depth c.hide_others.result (does_evaluated does))
+
+pub returns-in_err-is_true-in-Tested-clause-does : goal.returns-in_err-is_true-in-Tested-clause-does
+returns-in_err-is_true-in-Tested-clause-does g c =
+    rw c.in-Tested.is
+    (at_as (λ a n. testing_is (inside a n (depth_of c.args.depth)) (expr_tree c.in-Tested.e))
+    (at_stopped (λ a n b. give (meaning.where_true b)) (at_done c.args.depth c.in_err-is_true-in-Tested.ensures.does) c.from_residual.ensures))
+
+pub returns-in_ok-is_true-in-Tested-clause-does : goal.returns-in_ok-is_true-in-Tested-clause-does
+returns-in_ok-is_true-in-Tested-clause-does g c =
+    rw c.in-Tested.is
+    (at_as (λ a n. testing_is (inside a n (depth_of c.args.depth)) (expr_tree c.in-Tested.e))
+    (at_then (λ a n b. give (meaning.where_true b)) (at_done c.args.depth c.in_ok-is_true-in-Tested.ensures.does) (at_gives _ signal_of c.where_true.result c.where_true.ensures)))
+
+pub returns-in-Loop-clause-does : goal.returns-in-Loop-clause-does
+returns-in-Loop-clause-does g c = rw c.in-Loop.is (at_done c.args.depth (does_gives meaning.Go_on signal_of signal.GoOn refl))

@@ -1,12 +1,13 @@
-use Rattle.std.proofs.Common.{◌≡◌, ◌++◌, ◌∷◌, [], length, map, refl, rules}
+use Rattle.std.proofs.Common.{◌≡◌, ◌++◌, ◌∷◌, [], length, map, refl, sym, rules}
 use Rattle.std.proofs.lemmas.Result.{err_from_is_err_and}
 use Rattle.std.proofs.lemmas.List.{map_push}
 use Rattle.mtree.specs.Tree.{expr_tree, step_tree, choice_tree}
-use Rattle.mgrammar.specs.Reading.{many, after_comma, list_at, choice_with, step_with, readers_at, inner_at}
+use Rattle.mgrammar.specs.Reading.{with_front, many, after_comma, list_at, choice_with, step_with, readers_at, inner_at}
 use Rattle.mgrammar.proofs.ReadingLoops.{goes_on, stops, is_done, list_begins, comma_goes_on, comma_stops}
 use Rattle.mscan.proofs.Faults.{fails, list_fails, comma_fails}
+use Rattle.mparse.proofs.Lists.{list_goes_on}
 use Rattle.mparse.proofs.expr.+expr.Goals as goal
-use Rattle.mparse.proofs.expr.+expr.Goals.{steps-else-loop-test, steps-then-loop-test+in_ok-step+in_default, exprs-else-loop-test, exprs-then-loop-test+in_default, choices-else-loop-test, choices-then-loop-test+in_default}
+use Rattle.mparse.proofs.expr.+expr.Goals.{steps-else-loop-test, steps-then-loop-test+in_ok-step+in_default, more_exprs-else-loop-test, more_exprs-then-loop-test+in_default, choices-else-loop-test, choices-then-loop-test+in_default}
 
 pub steps-returns-in_err-step : goal.steps-returns-in_err-step
 steps-returns-in_err-step t c =
@@ -34,28 +35,35 @@ exprs-returns-in_err-first t c =
     let p = err_from_is_err_and c.from_residual.result c.from_residual.ensures.1 in
     rw (p.1, p.2) (list_fails (inner_at c.args.depth) c.in_err-first.field-0.0 c.args.bytes.now c.in_err-first.ensures)
 
-pub exprs-loop-init : goal.exprs-loop-init
-exprs-loop-init t c =
-    let e : map expr_tree c.push.new.self.items ≡ expr_tree c.in_ok-first.first ∷ [] = rw (c.in_ok-push.ensures.items, c.new-all.ensures.items) refl in
-    rw e (list_begins (inner_at c.args.depth) c.args.bytes.now (expr_tree c.in_ok-first.first) c.in_ok-first.start.now c.in_ok-first.ensures)
-
-pub exprs-returns-in_err-item : goal.exprs-returns-in_err-item
-exprs-returns-in_err-item t c =
-    let p = err_from_is_err_and c.from_residual-in_err-item.result c.from_residual-in_err-item.ensures.1 in
-    rw (p.1, p.2) (comma_fails (inner_at c.args.depth) c.in_err-item.field-0.0 (map expr_tree c.loop.all.items) (length c.in_ok-first.start.now) c.loop.counter c.loop.rest.now c.in-Some.behind.now
-    (list_at (inner_at c.args.depth) c.args.bytes.now) c.loop-test.true (search rules) c.in_err-item.ensures c.loop.invariant)
-
-pub exprs-loop-preserved : goal.exprs-loop-preserved
-exprs-loop-preserved t c =
-    let e : map expr_tree c.push-in-loop.new.self.items ≡ map expr_tree c.loop.all.items ++ expr_tree c.in_ok-item.item ∷ [] = rw c.in_ok-push-2.ensures.items (map_push _ c.loop.all.items c.in_ok-item.item) in
-    rw e (comma_goes_on (inner_at c.args.depth) (map expr_tree c.loop.all.items) (length c.in_ok-first.start.now) c.loop.counter c.loop.rest.now c.in-Some.behind.now (expr_tree c.in_ok-item.item) c.in_ok-item.after.now
-    (list_at (inner_at c.args.depth) c.args.bytes.now) c.loop-test.true (search rules) c.in_ok-item.ensures c.loop.invariant)
-
 pub exprs-returns : goal.exprs-returns
 exprs-returns t c =
+    let first = expr_tree c.in_ok-first.first in
+    let rest = c.in_ok-first.rest.now in
+    let e : map expr_tree c.push.new.self.items ≡ first ∷ [] = rw (c.in_ok-push.ensures.items, c.new-all.ensures.items) refl in
+    let begun : with_front (map expr_tree c.push.new.self.items) (many (after_comma (inner_at c.args.depth)) (length rest) rest) ≡ list_at (inner_at c.args.depth) c.args.bytes.now =
+    rw e (list_goes_on (inner_at c.args.depth) c.args.bytes.now first rest c.in_ok-first.ensures) in
+    rw (sym begun) c.more_exprs.ensures
+
+pub more_exprs-returns-in_err-item : goal.more_exprs-returns-in_err-item
+more_exprs-returns-in_err-item t c =
+    let total = with_front (map expr_tree c.args.front.items) (many (after_comma (inner_at c.args.depth)) (length c.args.bytes.now) c.args.bytes.now) in
+    let p = err_from_is_err_and c.from_residual.result c.from_residual.ensures.1 in
+    rw (p.1, p.2) (comma_fails (inner_at c.args.depth) c.in_err-item.field-0.0 (map expr_tree c.loop.all.items) (length c.args.bytes.now) c.loop.counter c.loop.rest.now c.in-Some.behind.now
+    total c.loop-test.true (search rules) c.in_err-item.ensures c.loop.invariant)
+
+pub more_exprs-loop-preserved : goal.more_exprs-loop-preserved
+more_exprs-loop-preserved t c =
+    let total = with_front (map expr_tree c.args.front.items) (many (after_comma (inner_at c.args.depth)) (length c.args.bytes.now) c.args.bytes.now) in
+    let e : map expr_tree c.push.new.self.items ≡ map expr_tree c.loop.all.items ++ expr_tree c.in_ok-item.item ∷ [] = rw c.in_ok-push.ensures.items (map_push _ c.loop.all.items c.in_ok-item.item) in
+    rw e (comma_goes_on (inner_at c.args.depth) (map expr_tree c.loop.all.items) (length c.args.bytes.now) c.loop.counter c.loop.rest.now c.in-Some.behind.now (expr_tree c.in_ok-item.item) c.in_ok-item.after.now
+    total c.loop-test.true (search rules) c.in_ok-item.ensures c.loop.invariant)
+
+pub more_exprs-returns : goal.more_exprs-returns
+more_exprs-returns t c =
+    let total = with_front (map expr_tree c.args.front.items) (many (after_comma (inner_at c.args.depth)) (length c.args.bytes.now) c.args.bytes.now) in
     elim c.loop-test.branch [
-      | exprs-else-loop-test w ↦ is_done (after_comma (inner_at c.args.depth)) (map expr_tree c.loop.all.items) (length c.in_ok-first.start.now) c.loop.counter c.loop.rest.now (list_at (inner_at c.args.depth) c.args.bytes.now) w.loop-test.false c.loop.invariant
-      | exprs-then-loop-test+in_default w ↦ comma_stops (inner_at c.args.depth) (map expr_tree c.loop.all.items) (length c.in_ok-first.start.now) c.loop.counter c.loop.rest.now (list_at (inner_at c.args.depth) c.args.bytes.now) w.loop-test.true (search rules) c.loop.invariant
+      | more_exprs-else-loop-test w ↦ is_done (after_comma (inner_at c.args.depth)) (map expr_tree c.loop.all.items) (length c.args.bytes.now) c.loop.counter c.loop.rest.now total w.loop-test.false c.loop.invariant
+      | more_exprs-then-loop-test+in_default w ↦ comma_stops (inner_at c.args.depth) (map expr_tree c.loop.all.items) (length c.args.bytes.now) c.loop.counter c.loop.rest.now total w.loop-test.true (search rules) c.loop.invariant
     ]
 
 pub choices-returns-in_err-first : goal.choices-returns-in_err-first

@@ -3,10 +3,13 @@ use Rattle.mgrammar.specs.Reading.{with_front, many, after_comma, list_at, choic
 use Rattle.mtree.specs.Tree.{expr_tree, step_tree, choice_tree}
 use Rattle.mparse.proofs.expr.+expr.Given as goal
 
--- Brackets fall in number at `inner` alone; each other call leads to a lower rank.
+-- Brackets fall in number at `inner` and `within` alone; each other call leads to a lower rank.
 
 abbrev pub decreases-inner : goal.decreases-inner
 decreases-inner l = 13 * l.depth + 0
+
+abbrev pub decreases-within : goal.decreases-within
+decreases-within l = 13 * l.depth + 0
 
 abbrev pub decreases-bracket : goal.decreases-bracket
 decreases-bracket l = 13 * l.depth + 1
@@ -14,11 +17,20 @@ decreases-bracket l = 13 * l.depth + 1
 abbrev pub decreases-choice : goal.decreases-choice
 decreases-choice l = 13 * l.depth + 1
 
+abbrev pub decreases-more_exprs : goal.decreases-more_exprs
+decreases-more_exprs l = 13 * l.depth + 1
+
 abbrev pub decreases-exprs : goal.decreases-exprs
 decreases-exprs l = 13 * l.depth + 2
 
 abbrev pub decreases-choices : goal.decreases-choices
 decreases-choices l = 13 * l.depth + 2
+
+abbrev pub decreases-reference : goal.decreases-reference
+decreases-reference l = 13 * l.depth + 3
+
+abbrev pub decreases-refer : goal.decreases-refer
+decreases-refer l = 13 * l.depth + 3
 
 abbrev pub decreases-call : goal.decreases-call
 decreases-call l = 13 * l.depth + 3
@@ -26,8 +38,8 @@ decreases-call l = 13 * l.depth + 3
 abbrev pub decreases-select : goal.decreases-select
 decreases-select l = 13 * l.depth + 3
 
-abbrev pub decreases-call_or_select : goal.decreases-call_or_select
-decreases-call_or_select l = 13 * l.depth + 4
+abbrev pub decreases-dollar : goal.decreases-dollar
+decreases-dollar l = 13 * l.depth + 4
 
 abbrev pub decreases-primary : goal.decreases-primary
 decreases-primary l = 13 * l.depth + 5
@@ -51,9 +63,10 @@ abbrev pub invariant-steps-loop : goal.invariant-steps-loop
 invariant-steps-loop l =
     with_front (map step_tree l.steps.items) (many (step_with (readers_at l.depth)) (length l.bytes - l.counter) l.rest) ≡ many (step_with (readers_at l.depth)) (length l.bytes) l.bytes
 
-abbrev pub invariant-exprs-loop : goal.invariant-exprs-loop
-invariant-exprs-loop l =
-    with_front (map expr_tree l.all.items) (many (after_comma (inner_at l.depth)) (l.end - l.counter) l.rest) ≡ list_at (inner_at l.depth) l.bytes
+abbrev pub invariant-more_exprs-loop : goal.invariant-more_exprs-loop
+invariant-more_exprs-loop l =
+    with_front (map expr_tree l.all.items) (many (after_comma (inner_at l.depth)) (length l.bytes - l.counter) l.rest)
+    ≡ with_front (map expr_tree l.fn.front.items) (many (after_comma (inner_at l.depth)) (length l.bytes) l.bytes)
 
 abbrev pub invariant-choices-loop : goal.invariant-choices-loop
 invariant-choices-loop l =

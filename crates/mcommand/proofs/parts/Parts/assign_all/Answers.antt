@@ -1,51 +1,61 @@
-use Rattle.std.proofs.Common.{◌+◌, map, drop, arith, refl}
-use Rattle.mspec.proofs.ListPlaces.{next_item, none_left}
+use Rattle.std.proofs.Common.{◌≡◌, ◌≤◌, length, ◌∷◌, [], ◌++◌, List, map, arith, refl, sym, ap, ◌∙◌, append_assoc}
+use Rattle.std.specs.Vec.Iter.{into_iter_items}
 use Rattle.mmeaning.specs.LineMeaning as meaning
+use Rattle.mspec.proofs.ListPlaces.{none_left}
 use Rattle.mmeaning.proofs.Calls.{residual_is}
-use Rattle.mcommand.specs.Pendings.{pending_view}
-use Rattle.mcommand.proofs.Calls.{does_then, does_failed, does_gives, does_wanting, keeps_itself, keeps_on}
+use Rattle.mcommand.specs.declared.set.Prepared.{Prepared}
+use Rattle.mcommand.specs.Prepared.{prepared_view}
+use Rattle.mcommand.proofs.Calls.{does_then, does_failed, does_gives, does_wanting, keeps_itself, keeps_on, taken_front}
 use Rattle.mcommand.proofs.parts.Parts.assign_all.Goals as goal
 
-pub loop-pending-init : goal.loop-pending-init
-loop-pending-init g c = record {
+pub loop-prepared-init : goal.loop-prepared-init
+loop-prepared-init g c = record {
   loans = keeps_itself c.args.self.now;
   fewer = omega arith;
-  leads = λ r p k. k;
+  leads = λ rest e r p k. rw e k;
 }
 
 pub returns-in_err-copy-clause-loans : goal.returns-in_err-copy-clause-loans
-returns-in_err-copy-clause-loans g c = c.loop-pending.invariant.loans
+returns-in_err-copy-clause-loans g c = c.loop-prepared.invariant.loans
 
 pub returns-in_err-copy-clause-fewer : goal.returns-in_err-copy-clause-fewer
-returns-in_err-copy-clause-fewer g c = c.loop-pending.invariant.fewer
+returns-in_err-copy-clause-fewer g c = c.loop-prepared.invariant.fewer
 
 pub returns-in_err-copy-clause-does : goal.returns-in_err-copy-clause-does
-returns-in_err-copy-clause-does g c = c.loop-pending.invariant.leads _ _ (does_wanting _ _ _ c.from_residual.ensures refl)
+returns-in_err-copy-clause-does g c =
+    let made : into_iter_items c.into_iter-prepared-iterator.result ≡ c.args.all.items = c.into_iter-prepared-iterator.ensures.into_iter_gives.0 in
+    let front = taken_front c.into_iter-prepared-iterator.result c.loop-prepared.yielded c.loop-prepared.prepared-iterator c.loop-prepared.yielded_by in
+    c.loop-prepared.invariant.leads (into_iter_items c.loop-prepared.prepared-iterator) (sym made ∙ front) _ _ (does_wanting _ _ _ c.from_residual.ensures refl)
 
 pub returns-in_err-assign-clause-loans : goal.returns-in_err-assign-clause-loans
-returns-in_err-assign-clause-loans g c = keeps_on c.loop-pending.invariant.loans c.in_err-assign.ensures.loans
+returns-in_err-assign-clause-loans g c = keeps_on c.loop-prepared.invariant.loans c.in_err-assign.ensures.loans
 
 pub returns-in_err-assign-clause-does : goal.returns-in_err-assign-clause-does
 returns-in_err-assign-clause-does g c =
-    let all = c.args.pendings.now in
-    let at = c.loop-pending.pending-index in
-    let leads = rw (next_item all at c.pending-item.result c.loop-pending-test.true c.pending-item.is) at c.loop-pending.invariant.leads in
+    let made : into_iter_items c.into_iter-prepared-iterator.result ≡ c.args.all.items = c.into_iter-prepared-iterator.ensures.into_iter_gives.0 in
+    let front = taken_front c.into_iter-prepared-iterator.result c.loop-prepared.yielded c.loop-prepared.prepared-iterator c.loop-prepared.yielded_by in
+    let left = into_iter_items c.next.new.self in
     let here = rw c.in_ok-copy.ensures at c.in_err-assign.ensures.does in
-    rw (residual_is _ _ c.from_residual-in_err-assign.ensures) (leads _ _ (does_failed (λ i _. meaning.all_assigned c.args.value.now (map pending_view (drop (at + 1) all))) here))
+    rw (residual_is _ _ c.from_residual-in_err-assign.ensures)
+    (c.loop-prepared.invariant.leads (c.in-Some.prepared ∷ left) (sym made ∙ front ∙ ap (λ (xs : List Prepared). c.loop-prepared.yielded ++ xs) c.in-Some.ensures.steps.0) _ _
+    (does_failed (λ i _. meaning.all_assigned c.args.value.now (map prepared_view left)) here))
 
-pub loop-pending-preserved : goal.loop-pending-preserved
-loop-pending-preserved g c =
-    let all = c.args.pendings.now in
-    let at = c.loop-pending.pending-index in
-    let leads = rw (next_item all at c.pending-item.result c.loop-pending-test.true c.pending-item.is) at c.loop-pending.invariant.leads in
+pub loop-prepared-preserved : goal.loop-prepared-preserved
+loop-prepared-preserved g c =
     let here = rw c.in_ok-copy.ensures at c.in_ok-assign.ensures.does in
     record {
-      loans = keeps_on c.loop-pending.invariant.loans c.in_ok-assign.ensures.loans;
+      loans = keeps_on c.loop-prepared.invariant.loans c.in_ok-assign.ensures.loans;
       fewer = omega arith;
-      leads = λ r p k. leads r p (does_then (λ i _. meaning.all_assigned c.args.value.now (map pending_view (drop (at + 1) all))) here k);
+      leads = λ rest e r p k.
+          c.loop-prepared.invariant.leads (c.in-Some.prepared ∷ rest) (e ∙ append_assoc c.loop-prepared.yielded (c.in-Some.prepared ∷ []) rest) r p
+          (does_then (λ i _. meaning.all_assigned c.args.value.now (map prepared_view rest)) here k);
     }
 
 pub returns-clause-does : goal.returns-clause-does
 returns-clause-does g c =
-    let leads = rw (none_left c.loop-pending.pending-index c.args.pendings.now c.loop-pending-test.false) at c.loop-pending.invariant.leads in
-    leads _ _ (does_gives tt (λ (u : Unit {0}). u) tt refl)
+    let made : into_iter_items c.into_iter-prepared-iterator.result ≡ c.args.all.items = c.into_iter-prepared-iterator.ensures.into_iter_gives.0 in
+    let front = taken_front c.into_iter-prepared-iterator.result c.loop-prepared.yielded c.loop-prepared.prepared-iterator c.loop-prepared.yielded_by in
+    let it = c.loop-prepared.prepared-iterator in
+    let none = c.in-None.ensures.steps.0 in
+    let few : length (into_iter_items it) ≤ 0 = let ok = it.rest.ok.0 in omega (arith, ok, none) in
+    c.loop-prepared.invariant.leads [] (sym made ∙ front ∙ ap (λ (xs : List Prepared). c.loop-prepared.yielded ++ xs) (none_left 0 (into_iter_items it) few)) _ _ (does_gives tt (λ (u : Unit {0}). u) tt refl)

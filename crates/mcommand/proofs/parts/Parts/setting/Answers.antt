@@ -1,41 +1,40 @@
 use Rattle.std.proofs.Common.{map, Vec, Global}
 use Rattle.mmeaning.proofs.Calls.{residual_is}
 use Rattle.mtree.specs.Tree.{target_tree, expr_tree}
-use Rattle.mcommand.specs.declared.set.Pending.{Pending}
-use Rattle.mcommand.specs.Pendings.{pending_view}
+use Rattle.mcommand.specs.declared.set.Prepared.{Prepared}
+use Rattle.mcommand.specs.Prepared.{prepared_view}
 use Rattle.mcommand.proofs.Calls.{does_evaluated}
-use Rattle.mcommand.proofs.Targets.{one_assigned, one_value_failed, one_pending_failed, all_given, all_value_failed, all_pending_failed}
+use Rattle.mcommand.proofs.Targets.{one_assigned, one_value_failed, one_prepared_failed, all_given, all_value_failed, all_prepared_failed}
 use Rattle.mcommand.proofs.parts.Parts.setting.Goals as goal
 
-pub returns-in_err-pending-in-One-clause-does : goal.returns-in_err-pending-in-One-clause-does
-returns-in_err-pending-in-One-clause-does g c =
-    rw (residual_is _ _ c.from_residual.ensures, c.in-One.is) (one_pending_failed (target_tree c.in-One.target) (expr_tree c.args.e.now) _ c.in_err-pending-in-One.ensures.does)
+pub returns-in_err-prepared-in-One-clause-does : goal.returns-in_err-prepared-in-One-clause-does
+returns-in_err-prepared-in-One-clause-does g c =
+    rw (residual_is _ _ c.from_residual.ensures, c.in-One.is) (one_prepared_failed (target_tree c.in-One.target) (expr_tree c.args.e.now) _ c.in_err-prepared-in-One.ensures.does)
 
 pub returns-in_err-value-in-One-clause-does : goal.returns-in_err-value-in-One-clause-does
 returns-in_err-value-in-One-clause-does g c =
     rw (residual_is _ _ c.from_residual-in_err-value-in-One.ensures, c.in-One.is)
-    (one_value_failed (target_tree c.in-One.target) (expr_tree c.args.e.now) c.in_ok-pending-in-One.pending _ c.in_ok-pending-in-One.ensures.does (does_evaluated c.in_err-value-in-One.ensures.does))
+    (one_value_failed (target_tree c.in-One.target) (expr_tree c.args.e.now) c.in_ok-prepared-in-One.prepared _ c.in_ok-prepared-in-One.ensures.does (does_evaluated c.in_err-value-in-One.ensures.does))
 
 pub returns-in_ok-value-in-One-clause-does : goal.returns-in_ok-value-in-One-clause-does
 returns-in_ok-value-in-One-clause-does g c =
     rw c.in-One.is
-    (one_assigned (target_tree c.in-One.target) (expr_tree c.args.e.now) c.in_ok-pending-in-One.pending c.in_ok-value-in-One.value c.assign.result c.in_ok-pending-in-One.ensures.does (does_evaluated c.in_ok-value-in-One.ensures.does) c.assign.ensures.does)
+    (one_assigned (target_tree c.in-One.target) (expr_tree c.args.e.now) c.in_ok-prepared-in-One.prepared c.in_ok-value-in-One.value c.assign.result c.in_ok-prepared-in-One.ensures.does (does_evaluated c.in_ok-value-in-One.ensures.does) c.assign.ensures.does)
 
-pub returns-in_err-pendings-in-Several-clause-does : goal.returns-in_err-pendings-in-Several-clause-does
-returns-in_err-pendings-in-Several-clause-does g c =
-    let parts = rw c.deref.ensures.value at c.in_err-pendings-in-Several.ensures.does in
-    rw (residual_is _ _ c.from_residual-in_err-pendings-in-Several.ensures, c.in-Several.is)
-    (all_pending_failed (map target_tree c.in-Several.targets.items) (expr_tree c.args.e.now) (λ (ps : Vec Pending Global). map pending_view ps.items) _ parts)
+pub returns-in_err-all-in-Several-clause-does : goal.returns-in_err-all-in-Several-clause-does
+returns-in_err-all-in-Several-clause-does g c =
+    let parts = rw c.deref.ensures.value at c.in_err-all-in-Several.ensures.does in
+    rw (residual_is _ _ c.from_residual-in_err-all-in-Several.ensures, c.in-Several.is)
+    (all_prepared_failed (map target_tree c.in-Several.targets.items) (expr_tree c.args.e.now) (λ (ps : Vec Prepared Global). map prepared_view ps.items) _ parts)
 
 pub returns-in_err-value-in-Several-clause-does : goal.returns-in_err-value-in-Several-clause-does
 returns-in_err-value-in-Several-clause-does g c =
-    let parts = rw c.deref.ensures.value at c.in_ok-pendings-in-Several.ensures.does in
+    let parts = rw c.deref.ensures.value at c.in_ok-all-in-Several.ensures.does in
     rw (residual_is _ _ c.from_residual-in_err-value-in-Several.ensures, c.in-Several.is)
-    (all_value_failed (map target_tree c.in-Several.targets.items) (expr_tree c.args.e.now) (λ (ps : Vec Pending Global). map pending_view ps.items) _ _ parts (does_evaluated c.in_err-value-in-Several.ensures.does))
+    (all_value_failed (map target_tree c.in-Several.targets.items) (expr_tree c.args.e.now) (λ (ps : Vec Prepared Global). map prepared_view ps.items) _ _ parts (does_evaluated c.in_err-value-in-Several.ensures.does))
 
 pub returns-in_ok-value-in-Several-clause-does : goal.returns-in_ok-value-in-Several-clause-does
 returns-in_ok-value-in-Several-clause-does g c =
-    let parts = rw c.deref.ensures.value at c.in_ok-pendings-in-Several.ensures.does in
-    let all = rw c.deref-in-Several.ensures.value at c.assign_all.ensures.does in
+    let parts = rw c.deref.ensures.value at c.in_ok-all-in-Several.ensures.does in
     rw c.in-Several.is
-    (all_given (map target_tree c.in-Several.targets.items) (expr_tree c.args.e.now) (λ (ps : Vec Pending Global). map pending_view ps.items) _ _ _ parts (does_evaluated c.in_ok-value-in-Several.ensures.does) all)
+    (all_given (map target_tree c.in-Several.targets.items) (expr_tree c.args.e.now) (λ (ps : Vec Prepared Global). map prepared_view ps.items) _ _ _ parts (does_evaluated c.in_ok-value-in-Several.ensures.does) c.assign_all.ensures.does)

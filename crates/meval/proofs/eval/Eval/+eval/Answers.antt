@@ -1,9 +1,10 @@
-use Rattle.std.proofs.Common.{◌∙◌, arith, Vec, Global}
+use Rattle.std.proofs.Common.{◌∙◌, sym, ap, arith, Vec, Global}
 use Rattle.mmeaning.proofs.Calls.{residual_is}
+use Rattle.mmeaning.specs.Variables.{of_local}
 use Rattle.mspec.specs.Act.{Text}
 use Rattle.moperator.proofs.Numbers.{computed_outcome}
 use Rattle.meval.proofs.Calls.{evaluates_then, evaluates_failed, evaluates_gives, evaluates_stopped, evaluates_wanting, evaluates_yielded, keeps_itself, keeps_on}
-use Rattle.meval.proofs.TreeViews.{expr_is, operand_is, number_is, text_is, local_is, bracket_is, call_is, select_is, apply_is, matches_is, matches_not_is}
+use Rattle.meval.proofs.TreeViews.{expr_is, operand_is, number_is, text_is, special_is, reference_is, refer_is, referring_is, bracket_is, call_is, select_is, apply_is, matches_is, matches_not_is}
 use Rattle.meval.proofs.Trees.{charge_failed, from_step, from_end, next_value, value_failed, values_end, next_choice, is_chosen, not_chosen, none_chosen}
 use Rattle.meval.proofs.eval.Eval.+eval.Goals as goal
 
@@ -35,10 +36,6 @@ pub primary-returns-in_err-copy-in-Text-clause-does : goal.primary-returns-in_er
 primary-returns-in_err-copy-in-Text-clause-does g t c =
     rw (c.in-Text.is, text_is c.in-Text.text) (evaluates_then _ c.in_ok-charge.ensures.does (evaluates_wanting _ _ _ c.from_residual-in_err-copy-in-Text.ensures))
 
-pub primary-returns-in-Local-clause-does : goal.primary-returns-in-Local-clause-does
-primary-returns-in-Local-clause-does g t c =
-    rw (c.in-Local.is, local_is c.in-Local.name) (evaluates_then _ c.in_ok-charge.ensures.does c.local.ensures.does)
-
 pub primary-returns-in-Bracket-clause-does : goal.primary-returns-in-Bracket-clause-does
 primary-returns-in-Bracket-clause-does g t c =
     let k = rw c.deref.ensures at c.value.ensures.does in
@@ -59,6 +56,95 @@ pub primary-returns-in-Select-clause-does : goal.primary-returns-in-Select-claus
 primary-returns-in-Select-clause-does g t c =
     let k = rw c.deref-in-Select.ensures.value at c.chosen.ensures.does in
     rw (c.in-Select.is, select_is c.in-Select.field-0 c.in-Select.choices) (evaluates_then _ c.in_ok-charge.ensures.does k)
+
+pub primary-returns-in-Special-clause-does : goal.primary-returns-in-Special-clause-does
+primary-returns-in-Special-clause-does g t c = rw (c.in-Special.is, special_is c.in-Special.word) (evaluates_then _ c.in_ok-charge.ensures.does c.special.ensures.does)
+
+pub primary-returns-in_err-pending-in-Reference-clause-does : goal.primary-returns-in_err-pending-in-Reference-clause-does
+primary-returns-in_err-pending-in-Reference-clause-does g t c =
+    rw (c.in-Reference.is, reference_is c.in-Reference.reference)
+    (evaluates_then _ c.in_ok-charge.ensures.does (evaluates_stopped _ c.in_err-pending-in-Reference.ensures.does c.from_residual-in_err-pending-in-Reference.ensures))
+
+pub primary-returns-in_err-place-in-Reference-clause-does : goal.primary-returns-in_err-place-in-Reference-clause-does
+primary-returns-in_err-place-in-Reference-clause-does g t c =
+    rw (c.in-Reference.is, reference_is c.in-Reference.reference)
+    (evaluates_then _ c.in_ok-charge.ensures.does
+    (evaluates_then _ c.in_ok-pending-in-Reference.ensures.does (evaluates_stopped _ (evaluates_yielded c.in_err-place-in-Reference.ensures.reading) c.from_residual-in_err-place-in-Reference.ensures)))
+
+pub primary-returns-in_ok-place-in-Reference-clause-does : goal.primary-returns-in_ok-place-in-Reference-clause-does
+primary-returns-in_ok-place-in-Reference-clause-does g t c =
+    rw (c.in-Reference.is, reference_is c.in-Reference.reference)
+    (evaluates_then _ c.in_ok-charge.ensures.does
+    (evaluates_then _ c.in_ok-pending-in-Reference.ensures.does (evaluates_then _ (evaluates_yielded c.in_ok-place-in-Reference.ensures.reading) c.read.ensures.does)))
+
+pub primary-returns-in-Refer-clause-does : goal.primary-returns-in-Refer-clause-does
+primary-returns-in-Refer-clause-does g t c =
+    let k = rw c.deref-in-Refer.ensures at c.referring.ensures.does in
+    rw (c.in-Refer.is, refer_is c.in-Refer.referring, referring_is c.in-Refer.referring.value) (evaluates_then _ c.in_ok-charge.ensures.does k)
+
+-- ---- references
+
+pub evaluated-returns-in_err-values-clause-does : goal.evaluated-returns-in_err-values-clause-does
+evaluated-returns-in_err-values-clause-does g t c = rw c.local_parts.ensures (evaluates_stopped _ c.in_err-values.ensures.does c.from_residual.ensures)
+
+pub evaluated-returns-in_err-texts-clause-does : goal.evaluated-returns-in_err-texts-clause-does
+evaluated-returns-in_err-texts-clause-does g t c = rw c.local_parts.ensures (evaluates_then _ c.in_ok-values.ensures.does (evaluates_wanting _ _ _ c.from_residual-in_err-texts.ensures))
+
+pub evaluated-returns-clause-does : goal.evaluated-returns-clause-does
+evaluated-returns-clause-does g t c =
+    rw c.local_parts.ensures (evaluates_then _ c.in_ok-values.ensures.does (evaluates_gives _ _ _ (ap (λ xs. of_local c.local_parts.result.0.now xs) c.in_ok-texts.ensures)))
+
+-- ---- functions of a variable
+
+pub referring-returns-in_err-pending-in-Data-clause-does : goal.referring-returns-in_err-pending-in-Data-clause-does
+referring-returns-in_err-pending-in-Data-clause-does g t c =
+    let is = rw (c.in-Data.is, c.as_bytes.ensures.bytes) at c.in-Some.ensures in
+    rw (sym is) (evaluates_stopped _ c.in_err-pending-in-Data.ensures.does c.from_residual.ensures)
+
+pub referring-returns-in_ok-pending-in-Data-clause-does : goal.referring-returns-in_ok-pending-in-Data-clause-does
+referring-returns-in_ok-pending-in-Data-clause-does g t c =
+    let is = rw (c.in-Data.is, c.as_bytes.ensures.bytes) at c.in-Some.ensures in
+    rw (sym is) (evaluates_then _ c.in_ok-pending-in-Data.ensures.does c.data.ensures.does)
+
+pub referring-returns-in_err-pending-in-Get-clause-does : goal.referring-returns-in_err-pending-in-Get-clause-does
+referring-returns-in_err-pending-in-Get-clause-does g t c =
+    let is = rw (c.in-Get.is, c.as_bytes.ensures.bytes) at c.in-Some.ensures in
+    rw (sym is) (evaluates_stopped _ c.in_err-pending-in-Get.ensures.does c.from_residual-in_err-pending-in-Get.ensures)
+
+pub referring-returns-in_err-place-in-Get-clause-does : goal.referring-returns-in_err-place-in-Get-clause-does
+referring-returns-in_err-place-in-Get-clause-does g t c =
+    let is = rw (c.in-Get.is, c.as_bytes.ensures.bytes) at c.in-Some.ensures in
+    rw (sym is) (evaluates_then _ c.in_ok-pending-in-Get.ensures.does (evaluates_stopped _ (evaluates_yielded c.in_err-place-in-Get.ensures.reading) c.from_residual-in_err-place-in-Get.ensures))
+
+pub referring-returns-in_err-more-in-Get-clause-does : goal.referring-returns-in_err-more-in-Get-clause-does
+referring-returns-in_err-more-in-Get-clause-does g t c =
+    let is = rw (c.in-Get.is, c.as_bytes.ensures.bytes) at c.in-Some.ensures in
+    rw (sym is) (evaluates_then _ c.in_ok-pending-in-Get.ensures.does (evaluates_then _ (evaluates_yielded c.in_ok-place-in-Get.ensures.reading) (evaluates_stopped _ (rw c.deref.ensures.value at c.in_err-more-in-Get.ensures.does) c.from_residual-in_err-more-in-Get.ensures)))
+
+pub referring-returns-in_ok-more-in-Get-clause-does : goal.referring-returns-in_ok-more-in-Get-clause-does
+referring-returns-in_ok-more-in-Get-clause-does g t c =
+    let is = rw (c.in-Get.is, c.as_bytes.ensures.bytes) at c.in-Some.ensures in
+    rw (sym is) (evaluates_then _ c.in_ok-pending-in-Get.ensures.does (evaluates_then _ (evaluates_yielded c.in_ok-place-in-Get.ensures.reading) (evaluates_then _ (rw c.deref.ensures.value at c.in_ok-more-in-Get.ensures.does) c.read_or.ensures.does)))
+
+pub referring-returns-in_err-pending-in-Order-clause-does : goal.referring-returns-in_err-pending-in-Order-clause-does
+referring-returns-in_err-pending-in-Order-clause-does g t c =
+    let is = rw (c.in-Order.is, c.as_bytes.ensures.bytes) at c.in-Some.ensures in
+    rw (sym is) (evaluates_stopped _ c.in_err-pending-in-Order.ensures.does c.from_residual-in_err-pending-in-Order.ensures)
+
+pub referring-returns-in_err-check_walk-in-Order-clause-does : goal.referring-returns-in_err-check_walk-in-Order-clause-does
+referring-returns-in_err-check_walk-in-Order-clause-does g t c =
+    let is = rw (c.in-Order.is, c.as_bytes.ensures.bytes) at c.in-Some.ensures in
+    rw (sym is) (evaluates_then _ c.in_ok-pending-in-Order.ensures.does (evaluates_stopped _ (evaluates_yielded c.in_err-check_walk-in-Order.ensures.ordering) c.from_residual-in_err-check_walk-in-Order.ensures))
+
+pub referring-returns-in_err-more-in-Order-clause-does : goal.referring-returns-in_err-more-in-Order-clause-does
+referring-returns-in_err-more-in-Order-clause-does g t c =
+    let is = rw (c.in-Order.is, c.as_bytes.ensures.bytes) at c.in-Some.ensures in
+    rw (sym is) (evaluates_then _ c.in_ok-pending-in-Order.ensures.does (evaluates_then _ (evaluates_yielded c.in_ok-check_walk-in-Order.ensures.ordering) (evaluates_stopped _ (rw c.deref-in-Order.ensures.value at c.in_err-more-in-Order.ensures.does) c.from_residual-in_err-more-in-Order.ensures)))
+
+pub referring-returns-in_ok-more-in-Order-clause-does : goal.referring-returns-in_ok-more-in-Order-clause-does
+referring-returns-in_ok-more-in-Order-clause-does g t c =
+    let is = rw (c.in-Order.is, c.as_bytes.ensures.bytes) at c.in-Some.ensures in
+    rw (sym is) (evaluates_then _ c.in_ok-pending-in-Order.ensures.does (evaluates_then _ (evaluates_yielded c.in_ok-check_walk-in-Order.ensures.ordering) (evaluates_then _ (rw c.deref-in-Order.ensures.value at c.in_ok-more-in-Order.ensures.does) (rw c.deref-in-Order-2.ensures.value at c.order.ensures.does))))
 
 -- ---- steps
 

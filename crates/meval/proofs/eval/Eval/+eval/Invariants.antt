@@ -1,4 +1,4 @@
-use Rattle.std.proofs.Common.{◌≤◌, ◌<◌, [], map, drop, Result, Vec, Global}
+use Rattle.std.proofs.Common.{◌≤◌, ◌<◌, ◌+◌, ◌*◌, [], map, drop, Result, Vec, Global}
 use Rattle.mspec.specs.Act.{Text}
 use Rattle.mmeaning.specs.Expression as meaning
 use Rattle.mgrammar.specs.Grammar.{steps_of, exprs_of, choices_of}
@@ -7,6 +7,32 @@ use Rattle.moperator.specs.declared.code.Code.{Code}
 use Rattle.meval.specs.declared.eval.Eval.{Eval}
 use Rattle.meval.specs.Evaluates.{Evaluates, KeepsEval}
 use Rattle.meval.proofs.eval.Eval.+eval.Given as goal
+
+-- Steps fall in number at `primary` alone, which charges one before it goes on; each other call leads to a lower rank.
+
+abbrev pub decreases-primary : goal.decreases-primary
+decreases-primary g l = 7 * l.self.now.steps + 0
+
+abbrev pub decreases-operand : goal.decreases-operand
+decreases-operand g l = 7 * l.self.now.steps + 1
+
+abbrev pub decreases-step : goal.decreases-step
+decreases-step g l = 7 * l.self.now.steps + 2
+
+abbrev pub decreases-value : goal.decreases-value
+decreases-value g l = 7 * l.self.now.steps + 3
+
+abbrev pub decreases-values : goal.decreases-values
+decreases-values g l = 7 * l.self.now.steps + 4
+
+abbrev pub decreases-chosen : goal.decreases-chosen
+decreases-chosen g l = 7 * l.self.now.steps + 4
+
+abbrev pub decreases-evaluated : goal.decreases-evaluated
+decreases-evaluated g l = 7 * l.self.now.steps + 5
+
+abbrev pub decreases-referring : goal.decreases-referring
+decreases-referring g l = 7 * l.self.now.steps + 6
 
 abbrev pub invariant-chosen-loop-choice : goal.invariant-chosen-loop-choice
 invariant-chosen-loop-choice g l = record {

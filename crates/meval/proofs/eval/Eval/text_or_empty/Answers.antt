@@ -1,11 +1,20 @@
-use Rattle.std.proofs.Common.{rules}
-use Rattle.mspec.specs.Act.{value_of}
+use Rattle.meval.proofs.Calls.{evaluates_then, evaluates_stopped, evaluates_gives, evaluates_wanting}
 use Rattle.meval.proofs.eval.Eval.text_or_empty.Goals as goal
 
-pub returns-in_ok-into_text-in-Some : goal.returns-in_ok-into_text-in-Some
-unfolding value_of
-returns-in_ok-into_text-in-Some g c = grind (rules)
+pub returns-in_err-value-clause-does : goal.returns-in_err-value-clause-does
+returns-in_err-value-clause-does g c = evaluates_stopped _ c.in_err-value.ensures.does c.from_residual.ensures
 
-pub returns-in-None : goal.returns-in-None
-unfolding value_of
-returns-in-None g c = grind (rules)
+pub returns-in_err-into_text-in-Some-clause-does : goal.returns-in_err-into_text-in-Some-clause-does
+returns-in_err-into_text-in-Some-clause-does g c =
+    let found = rw c.in-Some.is at c.in_ok-value.ensures.does in
+    evaluates_then _ found (evaluates_wanting _ _ _ c.from_residual-in_err-into_text-in-Some.ensures)
+
+pub returns-in_ok-into_text-in-Some-clause-does : goal.returns-in_ok-into_text-in-Some-clause-does
+returns-in_ok-into_text-in-Some-clause-does g c =
+    let found = rw c.in-Some.is at c.in_ok-value.ensures.does in
+    evaluates_then _ found (evaluates_gives _ _ _ c.in_ok-into_text-in-Some.ensures)
+
+pub returns-in-None-clause-does : goal.returns-in-None-clause-does
+returns-in-None-clause-does g c =
+    let found = rw c.in-None.is at c.in_ok-value.ensures.does in
+    evaluates_then _ found (evaluates_gives _ _ _ c.empty.ensures)

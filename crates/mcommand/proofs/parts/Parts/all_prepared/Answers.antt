@@ -1,0 +1,52 @@
+use Rattle.std.proofs.Common.{map, arith, refl, Vec, Global}
+use Rattle.std.proofs.lemmas.List.{map_push}
+use Rattle.mspec.proofs.ListPlaces.{none_left}
+use Rattle.mmeaning.proofs.Calls.{residual_is}
+use Rattle.mcommand.specs.declared.set.Prepared.{Prepared}
+use Rattle.mcommand.specs.Prepared.{prepared_view}
+use Rattle.mcommand.proofs.Calls.{does_gives, does_wanting, keeps_itself, keeps_on}
+use Rattle.mcommand.proofs.Targets.{next_prepared, prepared_failed}
+use Rattle.mcommand.proofs.parts.Parts.all_prepared.Goals as goal
+
+pub loop-target-init : goal.loop-target-init
+loop-target-init g c = record {
+  loans = keeps_itself c.args.self.now;
+  fewer = omega arith;
+  leads = λ r p k. rw c.in_ok-all.ensures.items at k;
+}
+
+pub returns-in_err-prepared-clause-loans : goal.returns-in_err-prepared-clause-loans
+returns-in_err-prepared-clause-loans g c = keeps_on c.loop-target.invariant.loans c.in_err-prepared.ensures.loans
+
+pub returns-in_err-prepared-clause-fewer : goal.returns-in_err-prepared-clause-fewer
+returns-in_err-prepared-clause-fewer g c = omega arith
+
+pub returns-in_err-prepared-clause-does : goal.returns-in_err-prepared-clause-does
+returns-in_err-prepared-clause-does g c =
+    rw (residual_is _ _ c.from_residual-in_err-prepared.ensures)
+    (c.loop-target.invariant.leads _ _
+    (prepared_failed (λ (ps : Vec Prepared Global). map prepared_view ps.items) c.args.targets.now c.loop-target.target-index c.target-item.result _ _ c.loop-target-test.true c.target-item.is c.in_err-prepared.ensures.does))
+
+pub returns-in_err-push-clause-loans : goal.returns-in_err-push-clause-loans
+returns-in_err-push-clause-loans g c = keeps_on c.loop-target.invariant.loans c.in_ok-prepared.ensures.loans
+
+pub returns-in_err-push-clause-does : goal.returns-in_err-push-clause-does
+returns-in_err-push-clause-does g c =
+    c.loop-target.invariant.leads _ _
+    (next_prepared (λ (ps : Vec Prepared Global). map prepared_view ps.items) c.args.targets.now c.loop-target.target-index c.target-item.result _ c.in_ok-prepared.prepared _ c.loop-target-test.true c.target-item.is c.in_ok-prepared.ensures.does
+    (does_wanting _ _ _ c.from_residual-in_err-push.ensures refl))
+
+pub loop-target-preserved : goal.loop-target-preserved
+loop-target-preserved g c = record {
+  loans = keeps_on c.loop-target.invariant.loans c.in_ok-prepared.ensures.loans;
+  fewer = omega arith;
+  leads = λ r p k.
+      let k = rw (c.in_ok-push.ensures.items, map_push prepared_view c.loop-target.all.items c.in_ok-prepared.prepared) at k in
+      c.loop-target.invariant.leads r p
+      (next_prepared (λ (ps : Vec Prepared Global). map prepared_view ps.items) c.args.targets.now c.loop-target.target-index c.target-item.result _ c.in_ok-prepared.prepared r c.loop-target-test.true c.target-item.is c.in_ok-prepared.ensures.does k);
+}
+
+pub returns-clause-does : goal.returns-clause-does
+returns-clause-does g c =
+    let leads = rw (none_left c.loop-target.target-index c.args.targets.now c.loop-target-test.false) at c.loop-target.invariant.leads in
+    leads _ _ (does_gives (map prepared_view c.loop-target.all.items) (λ (ps : Vec Prepared Global). map prepared_view ps.items) c.loop-target.all refl)

@@ -1,0 +1,12 @@
+use Rattle.std.proofs.Common.{Bool, refl}
+use Rattle.mspec.specs.Act.{◌>>◌, give, set_test}
+use Rattle.mcommand.proofs.Calls.{does_then, does_gives, does_evaluated, truth_then, truth_stopped}
+use Rattle.mcommand.proofs.parts.Parts.testing.Goals as goal
+
+pub returns-in_err-is_true-clause-does : goal.returns-in_err-is_true-clause-does
+returns-in_err-is_true-clause-does g c = truth_stopped _ (λ b. set_test b >> give b) (does_evaluated c.in_err-is_true.ensures.does) c.from_residual.ensures
+
+pub returns-clause-does : goal.returns-clause-does
+returns-clause-does g c =
+    truth_then _ (λ b. set_test b >> give b) (does_evaluated c.in_ok-is_true.ensures.does)
+    (does_then (λ i _. give c.in_ok-is_true.is_true) (does_evaluated c.set_test.ensures.does) (does_gives c.in_ok-is_true.is_true (λ (b : Bool). b) c.in_ok-is_true.is_true refl))

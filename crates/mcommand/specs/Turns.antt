@@ -1,0 +1,57 @@
+-- The turns of a FOR, without the commands that they do.
+use Rattle.std.specs.Prelude.{ℤ, ◌+ℤ◌, Bool, true, false, cond, [], Option, Some, None}
+use Rattle.mspec.specs.Number.{sum_of}
+use Rattle.mspec.specs.NumberText.{number_text}
+use Rattle.mspec.specs.Act.{Text, Act, ◌>>=◌, ◌>>◌, give}
+use Rattle.mgrammar.specs.Grammar.{ParameterTree, once, onward, until}
+use Rattle.mmeaning.specs.Operators.{as_text}
+use Rattle.mmeaning.specs.Variables.{at_local, put_at}
+use Rattle.mmeaning.specs.Expression.{Inside, value}
+use Rattle.mmeaning.specs.LineMeaning.{index_number, number_of}
+use Rattle.mmeaning.specs.Courses as courses
+use Rattle.mmeaning.specs.Courses.{is_past}
+use Rattle.mnum.specs.Num.{units}
+use Rattle.mcommand.specs.declared.turn.Course.{Course}
+use Rattle.mcommand.specs.declared.turn.Course.TheVariants as course
+
+abbrev pub course_view : Course → courses.Course
+course_view course.LastTurn = courses.last_turn
+course_view (course.Endless by) = courses.endless (units by)
+course_view (course.Limited by limit) = courses.limited (units by) (units limit)
+course_view course.Forever = courses.forever
+
+-- a parameter is evaluated, and the index gets its first value: how its turns go on, where there is one
+abbrev pub started : Inside → Text → ParameterTree → Act (Option courses.Course)
+started i index (once e) = do
+  a ← value i e
+  put_at (at_local index []) a
+  give (Some courses.last_turn)
+started i index (onward e by) = do
+  a ← number_of i e
+  b ← number_of i by
+  put_at (at_local index []) (number_text a)
+  give (Some (courses.endless b))
+started i index (until e by to) = do
+  a ← number_of i e
+  b ← number_of i by
+  c ← number_of i to
+  put_at (at_local index []) (number_text a)
+  give (cond (is_past b a c) None (Some (courses.limited b c)))
+
+-- the index gets its number with the increment added
+abbrev pub added : Text → ℤ → ℤ → Act Bool
+added index n by = do
+  next ← as_text (sum_of n by)
+  put_at (at_local index []) next
+  give true
+
+-- behind a turn: whether there is one turn more of its course, for which the index is set
+abbrev pub advanced : Text → courses.Course → Act Bool
+advanced index courses.last_turn = give false
+advanced index (courses.endless by) = do
+  n ← index_number index
+  added index n by
+advanced index (courses.limited by limit) = do
+  n ← index_number index
+  cond (is_past by (n +ℤ by) limit) (give false) (added index n by)
+advanced index courses.forever = give true

@@ -1,0 +1,45 @@
+// Conditions: those behind a command's word, and the arguments of IF.
+ghost use Rattle.std.specs.Prelude.{◌≡◌, ◌≤◌, option_map};
+ghost use Rattle.mmeaning.specs.LineMeaning as meaning;
+ghost use Rattle.mtree.specs.Tree.{expr_tree};
+ghost use Rattle.mcommand.specs.Does.{Does, KeepsLoans};
+ghost use Rattle.mcommand.specs.Conditions.{tested};
+
+use crate::parts::Parts;
+use moperator::Code;
+use mstore::NodeStore;
+use mtree::Expr;
+use std::alloc::Global;
+
+impl<'a, S: NodeStore> Parts<'a, S> {
+    /// Whether a condition holds, as it does where there is none.
+    ///
+    /// # Errors
+    ///
+    /// Those of the condition's value; `Zover` where its number is too large; `Zmem` for want of memory.
+    pub fn holds(&mut self, alloc: Global, condition: &Option<Expr>) -> Result<bool, Code>
+        ensures loans { KeepsLoans self.old self.new }
+        ensures fewer { self.new.eval.steps ≤ self.old.eval.steps }
+        ensures does { Does S.NodeStore (λ i. meaning.holds i (option_map expr_tree condition.now)) (λ holds. holds) self.old result self.new }
+    {
+        match condition {
+            None => Ok(true),
+            Some(e) => self.eval.truth(alloc, e),
+        }
+    }
+
+    /// Whether a condition of IF is true, which `$TEST` then says.
+    ///
+    /// # Errors
+    ///
+    /// Those of the condition's value; `Zover` where its number is too large; `Zmem` for want of memory. `$TEST` is then as it was.
+    pub fn testing(&mut self, alloc: Global, e: &Expr) -> Result<bool, Code>
+        ensures loans { KeepsLoans self.old self.new }
+        ensures fewer { self.new.eval.steps ≤ self.old.eval.steps }
+        ensures does { Does S.NodeStore (λ i. tested i (expr_tree e.now)) (λ is_true. is_true) self.old result self.new }
+    {
+        let is_true = self.eval.truth(alloc, e)?;
+        self.eval.set_test(is_true);
+        Ok(is_true)
+    }
+}

@@ -1,0 +1,28 @@
+// KILL of one variable.
+ghost use Rattle.std.specs.Prelude.{◌≡◌, ◌≤◌};
+ghost use Rattle.mmeaning.specs.LineMeaning as meaning;
+ghost use Rattle.mtree.specs.Tree.{reference_tree};
+ghost use Rattle.mcommand.specs.Does.{Does, KeepsLoans};
+
+use crate::parts::Parts;
+use moperator::Code;
+use mstore::NodeStore;
+use mtree::Reference;
+use std::alloc::Global;
+
+impl<'a, S: NodeStore> Parts<'a, S> {
+    /// Takes the text of a variable, and of what stands below it, away.
+    ///
+    /// # Errors
+    ///
+    /// Those of its subscripts' values; `Zsub` where they are no node's; `Zmem` for want of memory.
+    pub fn killing(&mut self, alloc: Global, reference: &Reference) -> Result<(), Code>
+        ensures loans { KeepsLoans self.old self.new }
+        ensures fewer { self.new.eval.steps ≤ self.old.eval.steps }
+        ensures does { Does S.NodeStore (λ i. meaning.killing i (reference_tree reference.now)) (λ u. u) self.old result self.new }
+    {
+        let pending = self.eval.resolve_left(alloc, reference)?;
+        let place = self.eval.finish_left(pending)?;
+        self.eval.kill(&place)
+    }
+}

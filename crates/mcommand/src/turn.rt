@@ -1,0 +1,162 @@
+// The parameters of FOR: how the turns of one begin, and what follows a turn.
+ghost use Rattle.std.specs.Prelude.{◌≡◌, ◌≤◌, ℤ, ◌+ℤ◌, option_map};
+ghost use Rattle.mmeaning.specs.Courses as courses;
+ghost use Rattle.mnum.specs.Num.{units};
+ghost use Rattle.mgrammar.specs.Grammar.{onward, until};
+ghost use Rattle.mtree.specs.Tree.{expr_tree, parameter_tree};
+ghost use Rattle.mcommand.specs.Does.{Does, KeepsLoans};
+ghost use Rattle.mcommand.specs.Turns.{course_view, started, advanced, added};
+
+use crate::parts::Parts;
+use mnum::{Name, Num};
+use moperator::{Code, computed};
+use mstore::NodeStore;
+use mtree::{Expr, Parameter};
+use mvalue::Value;
+use std::alloc::Global;
+
+/// How a FOR goes on behind a turn. Contracts see it by `course_view`, as one of the definitions.
+#[derive(Clone, Copy, Debug)]
+pub enum Course {
+    /// With the next parameter.
+    LastTurn,
+    /// By this increment, without an end.
+    Endless(Num),
+    /// By this increment, up to this limit.
+    Limited(Num, Num),
+    /// Without a parameter, and without an end.
+    Forever,
+}
+
+// Whether an index of so many units is beyond the limit, where this is the increment.
+fn is_past(by: Num, at: i128, limit: Num) -> bool
+    ensures { result ≡ courses.is_past (units by) at (units limit) }
+{
+    if by.to_units() < 0 {
+        at < limit.to_units()
+    } else {
+        limit.to_units() < at
+    }
+}
+
+// Whether a first value is beyond the limit.
+fn starts_past(by: Num, number: Num, limit: Num) -> bool
+    ensures { result ≡ courses.is_past (units by) (units number) (units limit) }
+{
+    is_past(by, number.to_units(), limit)
+}
+
+// Whether an index is beyond the limit once the increment is added, before the sum is rounded.
+fn goes_past(by: Num, number: Num, limit: Num) -> bool
+    ensures { result ≡ courses.is_past (units by) (units number +ℤ units by) (units limit) }
+{
+    is_past(by, number.to_units() + by.to_units(), limit)
+}
+
+impl<'a, S: NodeStore> Parts<'a, S> {
+    // The turns of a start and an increment: how they go on.
+    fn start_endless(
+        &mut self,
+        alloc: Global,
+        index: &Name,
+        e: &Expr,
+        by: &Expr,
+    ) -> Result<Option<Course>, Code>
+        ensures loans { KeepsLoans self.old self.new }
+        ensures fewer { self.new.eval.steps ≤ self.old.eval.steps }
+        ensures does { Does S.NodeStore (λ i. started i index.now (onward (expr_tree e.now) (expr_tree by.now))) (option_map course_view) self.old result self.new }
+    {
+        let number = self.eval.number(alloc, e)?;
+        let by = self.eval.number(alloc, by)?;
+        self.eval.set_index(index, Value::of_number(number))?;
+        Ok(Some(Course::Endless(by)))
+    }
+
+    // The turns of a start, an increment and a limit: how they go on, where the start is not beyond the limit.
+    fn start_limited(
+        &mut self,
+        alloc: Global,
+        index: &Name,
+        e: &Expr,
+        by: &Expr,
+        limit: &Expr,
+    ) -> Result<Option<Course>, Code>
+        ensures loans { KeepsLoans self.old self.new }
+        ensures fewer { self.new.eval.steps ≤ self.old.eval.steps }
+        ensures does { Does S.NodeStore (λ i. started i index.now (until (expr_tree e.now) (expr_tree by.now) (expr_tree limit.now))) (option_map course_view) self.old result self.new }
+    {
+        let number = self.eval.number(alloc, e)?;
+        let by = self.eval.number(alloc, by)?;
+        let limit = self.eval.number(alloc, limit)?;
+        self.eval.set_index(index, Value::of_number(number))?;
+        if starts_past(by, number, limit) {
+            return Ok(None);
+        }
+        Ok(Some(Course::Limited(by, limit)))
+    }
+
+    /// Evaluates a parameter of FOR and gives the index its first value. It answers how its turns go on, or nothing where there is
+    /// no turn.
+    ///
+    /// # Errors
+    ///
+    /// Those of the values; `Zover` where a number is too large; `Zmem` for want of memory.
+    pub fn start(
+        &mut self,
+        alloc: Global,
+        index: &Name,
+        parameter: &Parameter,
+    ) -> Result<Option<Course>, Code>
+        ensures loans { KeepsLoans self.old self.new }
+        ensures fewer { self.new.eval.steps ≤ self.old.eval.steps }
+        ensures does { Does S.NodeStore (λ i. started i index.now (parameter_tree parameter.now)) (option_map course_view) self.old result self.new }
+    {
+        match parameter {
+            Parameter::Once(e) => {
+                let value = self.eval.eval(alloc, e)?;
+                self.eval.set_index(index, value)?;
+                Ok(Some(Course::LastTurn))
+            }
+            Parameter::Onward(e, by) => self.start_endless(alloc, index, e, by),
+            Parameter::Until(e, by, limit) => self.start_limited(alloc, index, e, by, limit),
+        }
+    }
+
+    // Gives the index its number with the increment added.
+    fn add(&mut self, index: &Name, number: Num, by: Num) -> Result<bool, Code>
+        ensures loans { KeepsLoans self.old self.new }
+        ensures fewer { self.new.eval.steps ≤ self.old.eval.steps }
+        ensures does { Does S.NodeStore (λ i. added index.now (units number) (units by)) (λ goes_on. goes_on) self.old result self.new }
+    {
+        let next = computed(number.add(by))?;
+        self.eval.set_index(index, next)?;
+        Ok(true)
+    }
+
+    /// Goes on behind a turn: whether there is one turn more of this course, for which the index is set.
+    ///
+    /// # Errors
+    ///
+    /// `M15` where the index is undefined; `Zover` where its number, or the sum, is too large; `Zmem` for want of memory.
+    pub fn advance(&mut self, index: &Name, course: Course) -> Result<bool, Code>
+        ensures loans { KeepsLoans self.old self.new }
+        ensures fewer { self.new.eval.steps ≤ self.old.eval.steps }
+        ensures does { Does S.NodeStore (λ i. advanced index.now (course_view course)) (λ goes_on. goes_on) self.old result self.new }
+    {
+        match course {
+            Course::LastTurn => Ok(false),
+            Course::Endless(by) => {
+                let number = self.eval.index(index)?;
+                self.add(index, number, by)
+            }
+            Course::Limited(by, limit) => {
+                let number = self.eval.index(index)?;
+                if goes_past(by, number, limit) {
+                    return Ok(false);
+                }
+                self.add(index, number, by)
+            }
+            Course::Forever => Ok(true),
+        }
+    }
+}

@@ -1,0 +1,8 @@
+use Rattle.std.proofs.Common.{refl, sym}
+use Rattle.mspec.proofs.SubscriptTests.{decides_subscripts}
+use Rattle.meval.proofs.place.Subscripts.new.Goals as goal
+
+pub returns-clause-when : goal.returns-clause-when
+returns-clause-when c =
+    let is = rw (c.if-not-subs_ok.false, c.deref.ensures.value) at (decides_subscripts _ _ c.subs_ok.ensures) in
+    (λ some. sym is, λ test. refl)

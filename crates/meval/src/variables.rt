@@ -1,0 +1,166 @@
+// What commands ask of the session of an evaluation, and change in it.
+ghost use Rattle.std.specs.Prelude.{◌≡◌, ◌≤◌, [], ◌∷◌, Ok, IfOk};
+ghost use Rattle.mspec.specs.Act.{with_locals, test_is, set_test};
+ghost use Rattle.mspec.specs.Scopes.{killed_except, newed, newed_except};
+ghost use Rattle.mmeaning.specs.Variables as variables;
+ghost use Rattle.mmeaning.specs.LineMeaning as line;
+ghost use Rattle.mnum.specs.Num.{units};
+ghost use Rattle.meval.specs.Evaluates.{Evaluates, KeepsEval};
+ghost use Rattle.meval.specs.Places.{place_view};
+
+use crate::eval::Eval;
+use crate::place::Place;
+use mnum::{Name, Num};
+use moperator::{Code, number_of};
+use mstore::NodeStore;
+use mvalue::Value;
+use std::alloc::{AllocError, Global};
+use std::slice::from_ref;
+
+// The same names once more.
+fn copied(alloc: Global, names: &[Name]) -> Result<Vec<Name>, AllocError>
+    ensures { IfOk result (λ copies. copies.items ≡ names.now) }
+{
+    let mut copies = Vec::with_capacity(alloc, names.len())?;
+    for name in names {
+        copies.push(name.copy()?)?;
+    }
+    Ok(copies)
+}
+
+impl<'a, S: NodeStore> Eval<'a, S> {
+    /// Gives a place a value.
+    ///
+    /// # Errors
+    ///
+    /// `Zmem` for want of memory; the variable is then as it was.
+    #[tactic(auto, unfolding(mspec::specs::Act::assigned_to))]
+    pub fn put(&mut self, place: &Place, value: Value) -> Result<(), Code>
+        ensures loans { KeepsEval self.old self.new }
+        ensures fewer { self.new.steps ≤ self.old.steps }
+        ensures does { Evaluates S.NodeStore (λ i. variables.put_at (place_view place.now) value) (λ u. u) self.old result self.new }
+    {
+        match place {
+            Place::Local(name, subscripts) => {
+                self.session.locals.set(name, subscripts.as_slice(), value)?;
+                Ok(())
+            }
+        }
+    }
+
+    /// Takes the texts of a place, and of what stands below it, away.
+    ///
+    /// # Errors
+    ///
+    /// `Zmem` for want of memory; the variable is then as it was.
+    pub fn kill(&mut self, place: &Place) -> Result<(), Code>
+        ensures loans { KeepsEval self.old self.new }
+        ensures fewer { self.new.steps ≤ self.old.steps }
+        ensures does { Evaluates S.NodeStore (λ i. variables.kill_at (place_view place.now)) (λ u. u) self.old result self.new }
+    {
+        match place {
+            Place::Local(name, subscripts) => {
+                self.session.locals.kill(name, subscripts.as_slice())?;
+                Ok(())
+            }
+        }
+    }
+
+    /// Takes the texts of all local variables away that can be seen, but those of these names. Takes no memory.
+    pub fn kill_others(&mut self, names: &[Name])
+        ensures loans { KeepsEval self.old self.new }
+        ensures fewer { self.new.steps ≤ self.old.steps }
+        ensures does { Evaluates S.NodeStore (λ i. with_locals (killed_except names.now)) (λ u. u) self.old (Ok tt) self.new }
+    {
+        self.session.locals.kill_except(names);
+    }
+
+    /// Hides the local variables of these names, until the level ends.
+    ///
+    /// # Errors
+    ///
+    /// `Zmem` for want of memory; all variables are then as they were.
+    pub fn hide(&mut self, names: &[Name]) -> Result<(), Code>
+        ensures loans { KeepsEval self.old self.new }
+        ensures fewer { self.new.steps ≤ self.old.steps }
+        ensures does { Evaluates S.NodeStore (λ i. with_locals (newed names.now)) (λ u. u) self.old result self.new }
+    {
+        self.session.locals.new_vars(names)?;
+        Ok(())
+    }
+
+    /// Hides the local variable of this name, until the level ends.
+    ///
+    /// # Errors
+    ///
+    /// `Zmem` for want of memory; all variables are then as they were.
+    pub fn hide_one(&mut self, name: &Name) -> Result<(), Code>
+        ensures loans { KeepsEval self.old self.new }
+        ensures fewer { self.new.steps ≤ self.old.steps }
+        ensures does { Evaluates S.NodeStore (λ i. with_locals (newed (name.now ∷ []))) (λ u. u) self.old result self.new }
+    {
+        self.hide(from_ref(name))
+    }
+
+    /// Hides all local variables but those of these names, until the level ends.
+    ///
+    /// # Errors
+    ///
+    /// `Zmem` for want of memory; all variables are then as they were.
+    pub fn hide_others(&mut self, alloc: Global, names: &[Name]) -> Result<(), Code>
+        ensures loans { KeepsEval self.old self.new }
+        ensures fewer { self.new.steps ≤ self.old.steps }
+        ensures does { Evaluates S.NodeStore (λ i. with_locals (newed_except names.now)) (λ u. u) self.old result self.new }
+    {
+        let spared = copied(alloc, names)?;
+        self.session.locals.new_except(spared);
+        Ok(())
+    }
+
+    /// The number of a FOR's index. Takes no memory.
+    ///
+    /// # Errors
+    ///
+    /// `M15` where the index is undefined, `Zover` where its number is too large.
+    pub fn index(&mut self, name: &Name) -> Result<Num, Code>
+        ensures loans { KeepsEval self.old self.new }
+        ensures fewer { self.new.steps ≤ self.old.steps }
+        ensures does { Evaluates S.NodeStore (λ i. line.index_number name.now) units self.old result self.new }
+    {
+        match self.session.locals.get(name, &[])? {
+            Some(value) => number_of(value),
+            None => Err(Code::M15),
+        }
+    }
+
+    /// Gives a FOR's index a value.
+    ///
+    /// # Errors
+    ///
+    /// `Zmem` for want of memory; the variable is then as it was.
+    #[tactic(auto, unfolding(mspec::specs::Act::assigned_to))]
+    pub fn set_index(&mut self, name: &Name, value: Value) -> Result<(), Code>
+        ensures loans { KeepsEval self.old self.new }
+        ensures fewer { self.new.steps ≤ self.old.steps }
+        ensures does { Evaluates S.NodeStore (λ i. variables.put_at (variables.at_local name.now []) value) (λ u. u) self.old result self.new }
+    {
+        self.session.locals.set(name, &[], value)?;
+        Ok(())
+    }
+
+    /// `$TEST`. Takes no memory.
+    pub fn test(&self) -> bool
+        ensures { Evaluates S.NodeStore (λ i. test_is) (λ test. test) self.now (Ok result) self.now }
+    {
+        self.session.test
+    }
+
+    /// Sets `$TEST`. Takes no memory.
+    pub fn set_test(&mut self, test: bool)
+        ensures loans { KeepsEval self.old self.new }
+        ensures fewer { self.new.steps ≤ self.old.steps }
+        ensures does { Evaluates S.NodeStore (λ i. set_test test) (λ u. u) self.old (Ok tt) self.new }
+    {
+        self.session.test = test;
+    }
+}

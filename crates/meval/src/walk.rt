@@ -1,0 +1,61 @@
+// Values as texts, as $DATA's number and as $ORDER's direction.
+ghost use Rattle.std.specs.Prelude.{◌≡◌, [], pos, slice_get, unwrap_or, IfOk};
+ghost use Rattle.mmeaning.specs.Functions.{whole_text};
+ghost use Rattle.mmeaning.specs.Variables.{data_number, direction_of};
+ghost use Rattle.mmeaning.specs.Yields.{Yields};
+ghost use Rattle.mlocal.specs.Way.{way};
+ghost use Rattle.moperator.specs.Codes.{fault_of};
+
+use mlocal::{Data, Direction};
+use mnum::Bytes7;
+use moperator::{Code, whole_of};
+use mvalue::Value;
+use std::alloc::{AllocError, Global};
+
+// The number of $DATA: 1 where the node has a text, and 10 more where a node below it has one.
+pub fn data_value(found: Data) -> Value
+    ensures { result ≡ whole_text (pos (data_number (found.value, found.descendants))) }
+{
+    match (found.value, found.descendants) {
+        (false, false) => Value::of_whole(0),
+        (true, false) => Value::of_whole(1),
+        (false, true) => Value::of_whole(10),
+        (true, true) => Value::of_whole(11),
+    }
+}
+
+// The direction of $ORDER, by the first of its arguments behind the variable, where it has one.
+pub fn direction(more: &[Value]) -> Result<Direction, Code>
+    ensures { Yields fault_of (direction_of (slice_get more.now 0)) way result }
+{
+    match more.get(0) {
+        None => Ok(Direction::Forward),
+        Some(value) => match whole_of(value)? {
+            1 => Ok(Direction::Forward),
+            -1 => Ok(Direction::Backward),
+            _ => Err(Code::Zarg),
+        },
+    }
+}
+
+// The first of these values, or the empty text.
+pub fn first_or_empty(alloc: Global, values: Vec<Value>) -> Value
+    ensures { result ≡ unwrap_or (slice_get values.items 0) [] }
+{
+    match values.into_iter().next() {
+        Some(value) => value,
+        None => Value::of_text(Bytes7::empty(alloc)),
+    }
+}
+
+// The texts of values.
+pub fn texts(alloc: Global, values: Vec<Value>) -> Result<Vec<Bytes7>, AllocError>
+    ensures { IfOk result (λ texts. texts.items ≡ values.items) }
+{
+    let mut texts = Vec::with_capacity(alloc, values.len())?;
+    for value in values {
+        let text = value.into_text(alloc)?;
+        texts.push(text)?;
+    }
+    Ok(texts)
+}

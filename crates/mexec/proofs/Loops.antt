@@ -1,0 +1,155 @@
+-- The turns of a FOR: what the code does one after another is what the meaning has inside of one act.
+use Rattle.std.proofs.Common.{◌≡◌, ℤ, ◌+ℤ◌, ℕ, ◌<◌, Bool, true, false, cond, List, [], ◌∷◌, Option, Some, None, Result, Ok, Err, length, get_or, map, drop, refl, sym, ap, ◌∙◌, subst, arith, ◌≤◌, ◌+◌}
+use Rattle.mspec.specs.Act.{Text, Act, ◌>>=◌, ◌>>◌, give, charge}
+use Rattle.mspec.specs.Number.{sum_of}
+use Rattle.std.specs.Result.{IsErr, IsErrAnd}
+use Rattle.mspec.proofs.ListPlaces.{next_item, none_left}
+use Rattle.mspec.specs.NumberText.{number_text}
+use Rattle.mgrammar.specs.Grammar.{ParameterTree, once, onward, until, CommandTree}
+use Rattle.mmeaning.specs.Courses.{Course, last_turn, endless, limited, forever, is_past}
+use Rattle.mmeaning.specs.Operators.{as_text}
+use Rattle.mmeaning.specs.Variables.{at_local, put_at}
+use Rattle.mmeaning.specs.Expression.{value, inside}
+use Rattle.mmeaning.specs.LineMeaning as meaning
+use Rattle.mmeaning.specs.LineMeaning.{Context, Spot, Turning, Skips, context, inside_of, index_number, number_of, next_parameter, after_course, begin_turn}
+use Rattle.mmeaning.specs.Frames as frames
+use Rattle.mmeaning.specs.Frames.{View, Rests}
+use Rattle.mmeaning.proofs.Calls.{assoc}
+use Rattle.mtree.specs.Tree.{parameter_tree}
+use Rattle.mtree.specs.declared.tree.Parameter.{Parameter}
+use Rattle.mstore.specs.declared.store.NodeStore.{Ghosts}
+use Rattle.moperator.specs.declared.code.Code.{Code}
+use Rattle.meval.specs.declared.depth.Depth.{Depth}
+use Rattle.meval.specs.Evaluates.{depth_of}
+use Rattle.mcommand.specs.declared.parts.Parts.{Parts}
+use Rattle.mcommand.specs.Does.{DoesAt}
+use Rattle.mcommand.specs.declared.turn.Course.TheVariants as course
+use Rattle.mcommand.specs.Turns.{course_view, started, added, advanced}
+use Rattle.mexec.specs.declared.signal.Signal.{Signal}
+use Rattle.mexec.specs.declared.signal.Signal.TheVariants as signal
+use Rattle.mexec.specs.declared.frames.Turns.{Turns}
+use Rattle.mexec.specs.Frames.{Runs, commands_from, loop_before, turning, spot_of}
+use Rattle.mexec.proofs.Calls.{runs_then, runs_stopped, runs_as, runs_spent, runs_frame, runs_rest}
+
+-- ---- acts
+
+two : {A B C D : Type 0} (p : Act A) (q : Act B) (f : A → B → Act C) (k : C → Act D) → ◌≡◌ {A = Act D} ((p >>= (λ a. q >>= (λ b. f a b))) >>= k) (p >>= (λ a. q >>= (λ b. f a b >>= k)))
+two p q f k = assoc p (λ a. q >>= (λ b. f a b)) k ∙ (λ i. p >>= (λ a. assoc q (λ b. f a b) k i))
+
+three : {A B C D E : Type 0} (p : Act A) (q : Act B) (r : Act C) (f : A → B → C → Act D) (k : D → Act E) → ◌≡◌ {A = Act E} ((p >>= (λ a. q >>= (λ b. r >>= (λ c. f a b c)))) >>= k) (p >>= (λ a. q >>= (λ b. r >>= (λ c. f a b c >>= k))))
+three p q r f k = assoc p (λ a. q >>= (λ b. r >>= (λ c. f a b c))) k ∙ (λ i. p >>= (λ a. two q r (λ b c. f a b c) k i))
+
+past_or_not : {A : Type 0} {B : Type 0} (b : Bool) (u v : A) (k : A → B) → k (cond b u v) ≡ cond b (k u) (k v)
+past_or_not true u v k = refl
+past_or_not false u v k = refl
+
+-- ---- parameters
+
+-- what is done once a parameter's index is set
+abbrev pub begun : Context → Text → List CommandTree → List ParameterTree → Option Course → Act meaning.Signal
+begun x index body rest None = next_parameter x index body rest
+begun x index body rest (Some c) = begin_turn x (record { index = index; course = c; parameters = rest; body = body })
+
+pub next_is : (x : Context) (index : Text) (body : List CommandTree) (p : ParameterTree) (rest : List ParameterTree) → ◌≡◌ {A = Act meaning.Signal} (next_parameter x index body (p ∷ rest)) (started (inside_of x) index p >>= begun x index body rest)
+next_is x index body (once e) rest = sym (assoc (value (inside_of x) e) (λ a. put_at (at_local index []) a >> give (Some last_turn)) (begun x index body rest))
+next_is x index body (onward e by) rest =
+    sym (two (number_of (inside_of x) e) (number_of (inside_of x) by) (λ a b. put_at (at_local index []) (number_text a) >> give (Some (endless b))) (begun x index body rest))
+next_is x index body (until e by to) rest = sym (
+    three (number_of (inside_of x) e) (number_of (inside_of x) by) (number_of (inside_of x) to) (λ a b c. put_at (at_local index []) (number_text a) >> give (cond (is_past b a c) None (Some (limited b c)))) (begun x index body rest)
+    ∙ (λ i. number_of (inside_of x) e >>= (λ a. number_of (inside_of x) by >>= (λ b. number_of (inside_of x) to >>= (λ c.
+    put_at (at_local index []) (number_text a) >> past_or_not {B = Act meaning.Signal} (is_past b a c) None (Some (limited b c)) (begun x index body rest) i)))))
+
+-- ---- behind a turn
+
+-- what is done once it is known whether there is one turn more
+abbrev pub gone_on : Context → Turning → Bool → Act meaning.Signal
+gone_on x t b = cond b (begin_turn x t) (next_parameter x t.index t.body t.parameters)
+
+added_is : (x : Context) (t : Turning) (n by : ℤ) → ◌≡◌ {A = Act meaning.Signal} (added t.index n by >>= gone_on x t) (meaning.stepped x t n by)
+added_is x t n by = assoc (as_text (sum_of n by)) (λ next. put_at (at_local t.index []) next >> give true) (gone_on x t)
+
+pub course_is : (x : Context) (t : Turning) (c : Course) → ◌≡◌ {A = Act meaning.Signal} (after_course x t c) (advanced t.index c >>= gone_on x t)
+course_is x t last_turn = refl
+course_is x t (endless by) = sym (assoc (index_number t.index) (λ n. added t.index n by) (gone_on x t) ∙ (λ i. index_number t.index >>= (λ n. added_is x t n by i)))
+course_is x t (limited by limit) = sym (
+    assoc (index_number t.index) (λ n. cond (is_past by (n +ℤ by) limit) (give false) (added t.index n by)) (gone_on x t)
+    ∙ (λ i. index_number t.index >>= (λ n. limited_is x t n by (is_past by (n +ℤ by) limit) i)))
+  where
+    limited_is : (x : Context) (t : Turning) (n by : ℤ) (b : Bool) → ◌≡◌ {A = Act meaning.Signal} (cond b (give false) (added t.index n by) >>= gone_on x t) (cond b (next_parameter x t.index t.body t.parameters) (meaning.stepped x t n by))
+    limited_is x t n by true = refl
+    limited_is x t n by false = added_is x t n by
+course_is x t forever = refl
+
+-- ---- a turn
+
+-- once its step is spent
+pub turn_runs : {S X : Type 0} {g : Ghosts S} {f : X → Unit {0}} {u : X} {fs : List View} {old mid : Parts S} (d : Spot) (t : Turning) → DoesAt g (λ a n. charge) f old (Ok u) mid → mid.eval.steps < old.eval.steps
+    → Runs g (λ a n. begin_turn (context a n d) t) fs old (Ok signal.GoOn) (Rests d t.body ∷ frames.Turns d t ∷ fs) mid
+turn_runs d t c less = runs_spent (λ a n _. (context a n d).texts.turn d t) c less (runs_frame (frames.Turns d t) (runs_rest d t.body))
+
+-- ---- turns as the frames have them
+
+-- those of a FOR without an index
+pub turning_of_none : (t : Turns) → loop_before t.line.value t.at ≡ ([], []) → turning t ≡ record { index = []; course = course_view t.course; parameters = []; body = commands_from t.line.value t.at }
+turning_of_none t e =
+    (λ i. record { index = (e i).0; course = course_view t.course; parameters = map parameter_tree (drop t.parameter (e i).1); body = commands_from t.line.value t.at })
+    ∙ (λ i. record { index = []; course = course_view t.course; parameters = map parameter_tree (none_left t.parameter [] (omega arith) i); body = commands_from t.line.value t.at })
+
+-- and of one with an index
+pub turning_of : (t : Turns) (index : Text) (parameters : List Parameter) → loop_before t.line.value t.at ≡ (index, parameters)
+    → turning t ≡ record { index = index; course = course_view t.course; parameters = map parameter_tree (drop t.parameter parameters); body = commands_from t.line.value t.at }
+turning_of t index parameters e = λ i. record { index = (e i).0; course = course_view t.course; parameters = map parameter_tree (drop t.parameter (e i).1); body = commands_from t.line.value t.at }
+
+-- ---- calls
+
+module _ {S : Type 0} {g : Ghosts S} (d : Depth) (index : Text) (body : List CommandTree) where
+  -- a parameter is begun, and then the turns go on
+  pub parameter_runs : (ps : List Parameter) (k : ℕ) (p : Parameter) {X : Type 0} {view : X → Option Course} {o : X} {fs fs' : List View} {old mid new : Parts S} {r : Result Signal Code} → k < length ps → p ≡ get_or ps k p
+      → DoesAt g (λ a n. started (inside a n (depth_of d)) index (parameter_tree p)) view old (Ok o) mid → mid.eval.steps ≤ old.eval.steps
+      → Runs g (λ a n. begun (context a n (spot_of d)) index body (map parameter_tree (drop (k + 1) ps)) (view o)) fs mid r fs' new
+      → Runs g (λ a n. next_parameter (context a n (spot_of d)) index body (map parameter_tree (drop k ps))) fs old r fs' new
+  parameter_runs ps k p {fs = fs} {fs' = fs'} {old = old} {new = new} {r = r} less is does few then_runs =
+      subst (λ (xs : List Parameter). Runs g (λ a n. next_parameter (context a n (spot_of d)) index body (map parameter_tree xs)) fs old r fs' new) (sym (next_item ps k p less is))
+      (runs_as (λ a n. next_is (context a n (spot_of d)) index body (parameter_tree p) (map parameter_tree (drop (k + 1) ps)))
+      (runs_then (λ a n. begun (context a n (spot_of d)) index body (map parameter_tree (drop (k + 1) ps))) does few then_runs))
+
+  pub parameter_stopped : (ps : List Parameter) (k : ℕ) (p : Parameter) {X : Type 0} {view : X → Option Course} {fs fs' : List View} {old new : Parts S} {r : Result Signal Code} {e : Code} → k < length ps → p ≡ get_or ps k p
+      → DoesAt g (λ a n. started (inside a n (depth_of d)) index (parameter_tree p)) view old (Err e) new → new.eval.steps ≤ old.eval.steps → IsErr r × IsErrAnd r (λ x. x ≡ e)
+      → Runs g (λ a n. next_parameter (context a n (spot_of d)) index body (map parameter_tree (drop k ps))) fs old r fs' new
+  parameter_stopped ps k p {fs = fs} {fs' = fs'} {old = old} {new = new} {r = r} less is does few h =
+      subst (λ (xs : List Parameter). Runs g (λ a n. next_parameter (context a n (spot_of d)) index body (map parameter_tree xs)) fs old r fs' new) (sym (next_item ps k p less is))
+      (runs_as (λ a n. next_is (context a n (spot_of d)) index body (parameter_tree p) (map parameter_tree (drop (k + 1) ps)))
+      (runs_stopped (λ a n. begun (context a n (spot_of d)) index body (map parameter_tree (drop (k + 1) ps))) does few h))
+
+-- a turn of turns as the frames have them
+pub begun_runs : {S : Type 0} {g : Ghosts S} {fs fs' : List View} {old new : Parts S} {r : Result Signal Code} (t : Turns) (index : Text) (parameters : List Parameter) → loop_before t.line.value t.at ≡ (index, parameters)
+    → Runs g (λ a n. begin_turn (context a n (spot_of t.depth)) (turning t)) fs old r fs' new
+    → Runs g (λ a n. begin_turn (context a n (spot_of t.depth)) (record { index = index; course = course_view t.course; parameters = map parameter_tree (drop t.parameter parameters); body = commands_from t.line.value t.at })) fs old r fs' new
+begun_runs t index parameters e k = runs_as (λ a n. ap (begin_turn (context a n (spot_of t.depth))) (sym (turning_of t index parameters e))) k
+
+-- the same, once its index and its parameters are known
+abbrev here : Turns → Text → List Parameter → Turning
+here t index parameters = record { index = index; course = course_view t.course; parameters = map parameter_tree (drop t.parameter parameters); body = commands_from t.line.value t.at }
+
+module _ {S : Type 0} {g : Ghosts S} (t : Turns) (index : Text) (parameters : List Parameter) (e : loop_before t.line.value t.at ≡ (index, parameters)) where
+  course_at : {fs fs' : List View} {old new : Parts S} {r : Result Signal Code} → Runs g (λ a n. after_course (context a n (spot_of t.depth)) (here t index parameters) (course_view t.course)) fs old r fs' new
+      → Runs g (λ a n. after_course (context a n (spot_of t.depth)) (turning t) (course_view t.course)) fs old r fs' new
+  course_at k = runs_as (λ a n. ap (λ u. after_course (context a n (spot_of t.depth)) u (course_view t.course)) (turning_of t index parameters e)) k
+
+  pub one_more : {fs fs' : List View} {old mid new : Parts S} {r : Result Signal Code} → DoesAt g (λ a n. advanced index (course_view t.course)) (λ (b : Bool). b) old (Ok true) mid → mid.eval.steps ≤ old.eval.steps
+      → Runs g (λ a n. begin_turn (context a n (spot_of t.depth)) (turning t)) fs mid r fs' new → Runs g (λ a n. after_course (context a n (spot_of t.depth)) (turning t) (course_view t.course)) fs old r fs' new
+  one_more does few k = course_at (runs_as (λ a n. course_is (context a n (spot_of t.depth)) (here t index parameters) (course_view t.course)) (runs_then (λ a n. gone_on (context a n (spot_of t.depth)) (here t index parameters)) does few (begun_runs t index parameters e k)))
+
+  pub no_more : {fs fs' : List View} {old mid new : Parts S} {r : Result Signal Code} → DoesAt g (λ a n. advanced index (course_view t.course)) (λ (b : Bool). b) old (Ok false) mid → mid.eval.steps ≤ old.eval.steps
+      → Runs g (λ a n. next_parameter (context a n (spot_of t.depth)) index (commands_from t.line.value t.at) (map parameter_tree (drop t.parameter parameters))) fs mid r fs' new
+      → Runs g (λ a n. after_course (context a n (spot_of t.depth)) (turning t) (course_view t.course)) fs old r fs' new
+  no_more does few k = course_at (runs_as (λ a n. course_is (context a n (spot_of t.depth)) (here t index parameters) (course_view t.course)) (runs_then (λ a n. gone_on (context a n (spot_of t.depth)) (here t index parameters)) does few k))
+
+  pub not_gone_on : {fs fs' : List View} {old new : Parts S} {r : Result Signal Code} {c : Code} → DoesAt g (λ a n. advanced index (course_view t.course)) (λ (b : Bool). b) old (Err c) new → new.eval.steps ≤ old.eval.steps → IsErr r × IsErrAnd r (λ x. x ≡ c)
+      → Runs g (λ a n. after_course (context a n (spot_of t.depth)) (turning t) (course_view t.course)) fs old r fs' new
+  not_gone_on does few h = course_at (runs_as (λ a n. course_is (context a n (spot_of t.depth)) (here t index parameters) (course_view t.course)) (runs_stopped (λ a n. gone_on (context a n (spot_of t.depth)) (here t index parameters)) does few h))
+
+-- a FOR that has no end of its own
+pub forever_runs : {S : Type 0} {g : Ghosts S} {fs fs' : List View} {old new : Parts S} {r : Result Signal Code} (t : Turns) → t.course ≡ course.Forever
+    → Runs g (λ a n. begin_turn (context a n (spot_of t.depth)) (turning t)) fs old r fs' new → Runs g (λ a n. after_course (context a n (spot_of t.depth)) (turning t) (course_view t.course)) fs old r fs' new
+forever_runs t e k = runs_as (λ a n. ap (λ c. after_course (context a n (spot_of t.depth)) (turning t) (course_view c)) e) k

@@ -1,0 +1,41 @@
+use Rattle.std.proofs.Common.{◌≡◌, ◌≤◌, Option, Some, None, length, map, refl, arith}
+use Rattle.mspec.proofs.ListPlaces.{none_left}
+use Rattle.mtree.specs.Tree.{line_tree}
+use Rattle.mcommand.proofs.Calls.{keeps_itself, keeps_on}
+use Rattle.mexec.proofs.Calls.{stack_push}
+use Rattle.mexec.proofs.Lines.{leads_first, leads_on, leads_stopped, leads_ends}
+use Rattle.mexec.proofs.line.run_line.Goals as goal
+
+pub loop-frame-init : goal.loop-frame-init
+loop-frame-init g c = record {
+  loans = keeps_itself c.args.parts.now;
+  leads =
+      rw (c.in_ok-push-2.ensures.items, stack_push, c.in_ok-push.ensures.items, stack_push, c.new-frames.ensures.items, c.in_ok-line.ensures.ok)
+      (leads_first (map (λ c. c.0) (line_tree c.args.line).commands) c.args.parts.now);
+}
+
+pub loop-frame-preserved : goal.loop-frame-preserved
+loop-frame-preserved g c =
+    let leads = rw (c.in-Some.ensures.items, stack_push) at c.loop-frame.invariant.leads in
+    record {
+      loans = keeps_on c.loop-frame.invariant.loans c.in_ok-signal.ensures.loans;
+      leads = leads_on _ _ _ leads c.in_ok-signal.ensures.does;
+    }
+
+pub returns-in_err-signal-clause-does : goal.returns-in_err-signal-clause-does
+returns-in_err-signal-clause-does g c =
+    let leads = rw (c.in-Some.ensures.items, stack_push) at c.loop-frame.invariant.leads in
+    leads_stopped _ _ _ leads c.in_err-signal.ensures.does c.from_residual-in_err-signal.ensures
+
+none_is : {A : Type 0} (r : Option A) → ((x : A) → r ≡ Some x → ⊥) → r ≡ None
+none_is None h = refl
+none_is (Some x) h = absurd (h x refl)
+
+pub returns-clause-does : goal.returns-clause-does
+returns-clause-does g c =
+    let v = c.loop-frame.frames in
+    let r : c.pop.result ≡ None = none_is c.pop.result (λ x e. c.in_default.not-Some x e) in
+    let n = rw r at c.pop.ensures.cases in
+    let few : length v.items ≤ 0 = omega (arith, v.ok, n) in
+    let leads = rw (none_left 0 v.items few) at c.loop-frame.invariant.leads in
+    leads_ends _ c.loop-frame.signal leads

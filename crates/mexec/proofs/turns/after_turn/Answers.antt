@@ -1,0 +1,15 @@
+use Rattle.mexec.specs.declared.signal.Signal.TheVariants as signal
+use Rattle.mexec.proofs.Calls.{runs_signal}
+use Rattle.mexec.proofs.turns.after_turn.Goals as goal
+
+pub returns-in-GoOn-clause-does : goal.returns-in-GoOn-clause-does
+returns-in-GoOn-clause-does g c = rw c.in-GoOn.is c.after_course.ensures.does
+
+pub returns-in-Skips-clause-does : goal.returns-in-Skips-clause-does
+returns-in-Skips-clause-does g c = rw c.in-Skips.is c.after_course-in-Skips.ensures.does
+
+pub returns-in-Quits-clause-does : goal.returns-in-Quits-clause-does
+returns-in-Quits-clause-does g c = rw c.in-Quits.is (runs_signal signal.Skips)
+
+pub returns-in-Halts-clause-does : goal.returns-in-Halts-clause-does
+returns-in-Halts-clause-does g c = rw c.in-Halts.is (runs_signal signal.Halts)

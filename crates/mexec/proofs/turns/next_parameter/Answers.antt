@@ -1,0 +1,63 @@
+use Rattle.std.proofs.Common.{◌+◌, ◌≤◌, length, refl, arith}
+use Rattle.mspec.proofs.ListPlaces.{none_left}
+use Rattle.mcommand.proofs.Calls.{keeps_itself, keeps_on}
+use Rattle.mexec.specs.declared.signal.Signal.TheVariants as signal
+use Rattle.mexec.specs.declared.frames.Turns.{Turns}
+use Rattle.mexec.specs.Frames.{commands_from}
+use Rattle.mexec.proofs.Calls.{runs_signal}
+use Rattle.mexec.proofs.Loops.{parameter_runs, parameter_stopped, begun_runs}
+use Rattle.mexec.proofs.turns.next_parameter.Goals as goal
+
+pub loop-next-init : goal.loop-next-init
+loop-next-init g c = record {
+  loans = keeps_itself c.args.parts.now;
+  fewer = omega arith;
+  frames = refl;
+  leads = λ r fs p k. k;
+}
+
+pub loop-next-preserved : goal.loop-next-preserved
+loop-next-preserved g c =
+    let t = c.args.turns in
+    let here = rw c.in-None.is at c.in_ok-start.ensures.does in
+    record {
+      loans = keeps_on c.loop-next.invariant.loans c.in_ok-start.ensures.loans;
+      fewer = omega arith;
+      frames = c.loop-next.invariant.frames;
+      leads = λ r fs p k.
+          c.loop-next.invariant.leads r fs p
+          (parameter_runs t.depth c.args.index.now (commands_from t.line.value t.at) c.args.parameters.now c.loop-next.next c.index-parameters-next.result c.loop-next-test.true c.index-parameters-next.is here c.in_ok-start.ensures.fewer k);
+    }
+
+pub returns-in_err-start-clause-loans : goal.returns-in_err-start-clause-loans
+returns-in_err-start-clause-loans g c = keeps_on c.loop-next.invariant.loans c.in_err-start.ensures.loans
+
+pub returns-in_err-start-clause-does : goal.returns-in_err-start-clause-does
+returns-in_err-start-clause-does g c =
+    let t = c.args.turns in
+    let here =
+    parameter_stopped t.depth c.args.index.now (commands_from t.line.value t.at) c.args.parameters.now c.loop-next.next c.index-parameters-next.result c.loop-next-test.true c.index-parameters-next.is c.in_err-start.ensures.does c.in_err-start.ensures.fewer c.from_residual.ensures
+    in
+    rw c.loop-next.invariant.frames (c.loop-next.invariant.leads _ _ _ here)
+
+pub returns-in-Some-clause-loans : goal.returns-in-Some-clause-loans
+returns-in-Some-clause-loans g c = keeps_on c.loop-next.invariant.loans (keeps_on c.in_ok-start.ensures.loans c.begin_turn.ensures.loans)
+
+pub returns-in-Some-clause-does : goal.returns-in-Some-clause-does
+returns-in-Some-clause-does g c =
+    let t = c.args.turns in
+    let turn : Turns = record { depth = t.depth; line = t.line; at = t.at; parameter = c.loop-next.next + 1; course = c.in-Some.course } in
+    let here = rw c.in-Some.is at c.in_ok-start.ensures.does in
+    let begun = rw c.loop-next.invariant.frames at c.begin_turn.ensures.does in
+    c.loop-next.invariant.leads _ _ _
+    (parameter_runs t.depth c.args.index.now (commands_from t.line.value t.at) c.args.parameters.now c.loop-next.next c.index-parameters-next.result c.loop-next-test.true c.index-parameters-next.is here c.in_ok-start.ensures.fewer
+    (begun_runs turn c.args.index.now c.args.parameters.now c.requires begun))
+
+pub returns-clause-loans : goal.returns-clause-loans
+returns-clause-loans g c = c.loop-next.invariant.loans
+
+pub returns-clause-does : goal.returns-clause-does
+returns-clause-does g c =
+    let past : length c.args.parameters.now ≤ c.loop-next.next = let h = c.loop-next-test.false in omega (arith, h) in
+    let leads = rw (none_left c.loop-next.next c.args.parameters.now past) at c.loop-next.invariant.leads in
+    rw c.loop-next.invariant.frames (leads _ _ _ (runs_signal signal.Skips))

@@ -1,0 +1,23 @@
+use Rattle.std.proofs.Common.{◌≡◌, ◌≤◌, ◌-◌, length, List, map, drop, Result}
+use Rattle.mmeaning.specs.LineMeaning as meaning
+use Rattle.mmeaning.specs.LineMeaning.{context}
+use Rattle.mmeaning.specs.Frames.{View}
+use Rattle.mtree.specs.Tree.{parameter_tree}
+use Rattle.moperator.specs.declared.code.Code.{Code}
+use Rattle.mcommand.specs.declared.parts.Parts.{Parts}
+use Rattle.mcommand.specs.Does.{KeepsLoans}
+use Rattle.mexec.specs.declared.signal.Signal.{Signal}
+use Rattle.mexec.specs.Frames.{Runs, commands_from, stack, spot_of}
+use Rattle.mexec.proofs.turns.next_parameter.Given as goal
+
+abbrev pub invariant-loop-next : goal.invariant-loop-next
+invariant-loop-next g l = record {
+  loans : KeepsLoans l.fn.parts l.parts;
+  fewer : l.parts.eval.steps ≤ l.fn.parts.eval.steps;
+  frames : l.frames ≡ l.fn.frames;
+  leads : (r : Result Signal Code) (fs : List View) (p : Parts _) → Runs g.S.NodeStore (λ a n. meaning.next_parameter (context a n (spot_of l.turns.depth)) l.index (commands_from l.turns.line.value l.turns.at) (map parameter_tree (drop l.next l.parameters))) (stack l.fn.frames.items) l.parts r fs p
+      → Runs g.S.NodeStore (λ a n. meaning.next_parameter (context a n (spot_of l.turns.depth)) l.index (commands_from l.turns.line.value l.turns.at) (map parameter_tree (drop l.turns.parameter l.parameters))) (stack l.fn.frames.items) l.fn.parts r fs p;
+}
+
+abbrev pub decreases-loop-next : goal.decreases-loop-next
+decreases-loop-next g l = length l.parameters - l.next

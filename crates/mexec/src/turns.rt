@@ -1,0 +1,161 @@
+// The turns of a FOR, frame by frame: a frame of turns means that the body of one is under way.
+ghost use Rattle.std.specs.Prelude.{◌≡◌, ◌≤◌, ◌+◌, ◌*◌, length, drop, map, option_map, IfOk, IfSome};
+ghost use Rattle.mmeaning.specs.LineMeaning as meaning;
+ghost use Rattle.mmeaning.specs.LineMeaning.{context};
+ghost use Rattle.mmeaning.specs.Expression.{inside};
+ghost use Rattle.mtree.specs.Tree.{parameter_tree};
+ghost use Rattle.meval.specs.Evaluates.{depth_of};
+ghost use Rattle.mcommand.specs.Does.{DoesAt, KeepsLoans};
+ghost use Rattle.mcommand.specs.Turns.{course_view, started, advanced};
+ghost use Rattle.mexec.specs.Frames.{Runs, commands_from, loop_before as the_loop_before, turning, stack, signal_of, spot_of};
+
+use crate::commands::charge;
+use crate::frames::{Frame, Rest, Turns};
+use crate::signal::Signal;
+use mcommand::{Course, Parts};
+use meval::Depth;
+use mnum::Name;
+use moperator::Code;
+use mstore::NodeStore;
+use mtree::{Arg, Line, Parameter};
+use std::alloc::Global;
+
+// The index and the parameters of the FOR before a place of a line, where it has an index.
+fn loop_before(line: &Line, at: usize) -> Option<(&Name, &[Parameter])>
+    ensures { IfSome result (λ found. the_loop_before line.now at ≡ (found.0.now, found.1.now)) }
+{
+    let place = at.saturating_sub(1);
+    if place >= line.commands.len() {
+        return None;
+    }
+    match line.commands[place].command.args.first() {
+        Some(Arg::Loop(index, parameters)) => Some((index, parameters.as_slice())),
+        _ => None,
+    }
+}
+
+// How the turns of a parameter begin.
+fn start<S: NodeStore>(
+    alloc: Global,
+    parts: &mut Parts<S>,
+    depth: Depth,
+    index: &Name,
+    parameter: &Parameter,
+) -> Result<Option<Course>, Code>
+    ensures loans { KeepsLoans parts.old parts.new }
+    ensures fewer { parts.new.eval.steps ≤ parts.old.eval.steps }
+    ensures does { DoesAt S.NodeStore (λ a n. started (inside a n (depth_of depth)) index.now (parameter_tree parameter.now)) (option_map course_view) parts.old result parts.new }
+{
+    parts.eval.depth = depth;
+    parts.start(alloc, index, parameter)
+}
+
+// Whether there is one turn more of a course.
+fn advance<S: NodeStore>(parts: &mut Parts<S>, index: &Name, course: Course) -> Result<bool, Code>
+    ensures loans { KeepsLoans parts.old parts.new }
+    ensures fewer { parts.new.eval.steps ≤ parts.old.eval.steps }
+    ensures does { DoesAt S.NodeStore (λ a n. advanced index.now (course_view course)) (λ goes_on. goes_on) parts.old result parts.new }
+{
+    parts.advance(index, course)
+}
+
+// A turn, which costs a step.
+pub(crate) fn begin_turn<S: NodeStore>(
+    parts: &mut Parts<S>,
+    turns: Turns,
+    frames: &mut Vec<Frame>,
+) -> Result<Signal, Code>
+    ensures loans { KeepsLoans parts.old parts.new }
+    ensures falls { IfOk result (λ _. 2 * parts.new.eval.steps + length frames.new.items ≤ 2 * parts.old.eval.steps + length frames.old.items) }
+    ensures does { Runs S.NodeStore (λ a n. meaning.begin_turn (context a n (spot_of turns.depth)) (turning turns)) (stack frames.old.items) parts.old result (stack frames.new.items) parts.new }
+{
+    charge(parts)?;
+    let body = Rest {
+        depth: turns.depth,
+        line: turns.line.clone()?,
+        at: turns.at,
+    };
+    frames.push(Frame::Turns(turns))?;
+    frames.push(Frame::Rest(body))?;
+    Ok(Signal::GoOn)
+}
+
+// The turns of the parameters from one on. The index and the parameters are those of the FOR before its body.
+pub(crate) fn next_parameter<S: NodeStore>(
+    alloc: Global,
+    parts: &mut Parts<S>,
+    index: &Name,
+    parameters: &[Parameter],
+    turns: Turns,
+    frames: &mut Vec<Frame>,
+) -> Result<Signal, Code>
+    requires { the_loop_before turns.line.value turns.at ≡ (index.now, parameters.now) }
+    ensures loans { KeepsLoans parts.old parts.new }
+    ensures falls { IfOk result (λ _. 2 * parts.new.eval.steps + length frames.new.items ≤ 2 * parts.old.eval.steps + length frames.old.items) }
+    ensures does { Runs S.NodeStore (λ a n. meaning.next_parameter (context a n (spot_of turns.depth)) index.now (commands_from turns.line.value turns.at) (map parameter_tree (drop turns.parameter parameters.now))) (stack frames.old.items) parts.old result (stack frames.new.items) parts.new }
+{
+    let mut next = turns.parameter;
+    while next < parameters.len() {
+        match start(alloc, parts, turns.depth, index, &parameters[next])? {
+            None => next += 1,
+            Some(course) => {
+                let turns = Turns {
+                    parameter: next + 1,
+                    course,
+                    ..turns
+                };
+                return begin_turn(parts, turns, frames);
+            }
+        }
+    }
+    Ok(Signal::Skips)
+}
+
+// What follows a turn.
+fn after_course<S: NodeStore>(
+    alloc: Global,
+    parts: &mut Parts<S>,
+    turns: Turns,
+    frames: &mut Vec<Frame>,
+) -> Result<Signal, Code>
+    ensures loans { KeepsLoans parts.old parts.new }
+    ensures falls { IfOk result (λ _. 2 * parts.new.eval.steps + length frames.new.items ≤ 2 * parts.old.eval.steps + length frames.old.items) }
+    ensures does { Runs S.NodeStore (λ a n. meaning.after_course (context a n (spot_of turns.depth)) (turning turns) (course_view turns.course)) (stack frames.old.items) parts.old result (stack frames.new.items) parts.new }
+{
+    if let Course::Forever = turns.course {
+        return begin_turn(parts, turns, frames);
+    }
+    let line = turns.line.clone()?;
+    match loop_before(&line, turns.at) {
+        // a FOR with another course has an index
+        None => Err(Code::Zmem),
+        Some((index, parameters)) => {
+            let goes_on = advance(parts, index, turns.course)?;
+            if goes_on {
+                begin_turn(parts, turns, frames)
+            } else {
+                next_parameter(alloc, parts, index, parameters, turns, frames)
+            }
+        }
+    }
+}
+
+// What follows a turn that went on so: QUIT ends the FOR, and the rest of its line was its body.
+pub(crate) fn after_turn<S: NodeStore>(
+    alloc: Global,
+    parts: &mut Parts<S>,
+    turns: Turns,
+    signal: Signal,
+    frames: &mut Vec<Frame>,
+) -> Result<Signal, Code>
+    ensures loans { KeepsLoans parts.old parts.new }
+    ensures falls { IfOk result (λ _. 2 * parts.new.eval.steps + length frames.new.items ≤ 2 * parts.old.eval.steps + length frames.old.items) }
+    ensures does { Runs S.NodeStore (λ a n. meaning.after_turn (context a n (spot_of turns.depth)) (turning turns) (signal_of signal)) (stack frames.old.items) parts.old result (stack frames.new.items) parts.new }
+{
+    match signal {
+        Signal::GoOn => after_course(alloc, parts, turns, frames),
+        Signal::Skips => after_course(alloc, parts, turns, frames),
+        Signal::Quits => Ok(Signal::Skips),
+        Signal::Halts => Ok(Signal::Halts),
+    }
+}

@@ -1,0 +1,286 @@
+-- What is read of an argument of each form is spelled so, and what is spelled so is read. Those of SET stand in ReadingTargets.
+use Rattle.std.proofs.Common.{◌≡◌, ℕ, zero, suc, ◌<◌, Bool, true, false, eqb, List, [], ◌∷◌, ◌++◌, length, Option, Some, None, inl, inr, refl, sym, ap, subst, ◌∙◌, append_assoc, arith, replicate}
+use Rattle.std.proofs.lemmas.Bool.{eqb-true}
+use Rattle.std.proofs.lemmas.Bool.Decides.{nat_tests}
+use Rattle.std.proofs.lemmas.List.{length-replicate}
+use Rattle.mspec.specs.Names.{is_name_start, is_name_rest, AllAre, IsName}
+use Rattle.mgrammar.specs.Grammar.{ExprTree, ReferenceTree, ParameterTree, once, onward, until, ArgTree, breaks, shown, kill_one, kill_others, new_one, new_others, tested, loop, removal, hiding, condition, repetition, output, spell_expr, spell_reference, spell_list, spell_names, spell_parameter, spell_arg, max_depth, WellExpr, WellReference, WellList, WellParameter, WellArg}
+use Rattle.mgrammar.specs.Reading.{◌>>=◌, run_of, after_run, name_at, past, list_at, expr_at, readers_at, reference_with, is_bang, output_by, output_at, names_at, removal_at, hiding_at, condition_at, limit_by, increment_by, parameter_at, repetition_at}
+use Rattle.mgrammar.proofs.ReadingBasics.{Takes, Again, Stops, Begins, Begins-stops, Begins-append, Begins-weaker, bind_some, chosen, some_is, run_parts, run_again, past_takes, name_takes, name_again}
+use Rattle.mgrammar.proofs.ReadingLists.{joined_by, enclosed, is_comma, list_takes, list_again}
+use Rattle.mgrammar.proofs.ReadingReferences.{OperandEnds, Ends, reference_takes, reference_again, reference_begins}
+use Rattle.mgrammar.proofs.ReadingPrimaries.{name_start_tests}
+use Rattle.mgrammar.proofs.ReadingExprs.{begins_operand, expr_begins, inner_takes, within_takes, inner_again, within_again, expr_takes, expr_again}
+use Rattle.mgrammar.proofs.ReadingTargets.{name_begins}
+
+-- ---- short forms
+
+pub whole_takes : Takes spell_expr (WellExpr max_depth) (expr_at max_depth)
+whole_takes = expr_takes max_depth (readers_at max_depth) (inner_takes max_depth) (within_takes max_depth)
+
+pub whole_again : Again spell_expr (WellExpr max_depth) Ends (expr_at max_depth)
+whole_again = expr_again max_depth (readers_at max_depth) (inner_again max_depth) (within_again max_depth)
+
+pub variable_takes : Takes spell_reference (WellReference max_depth) (reference_with (readers_at max_depth))
+variable_takes = reference_takes max_depth (readers_at max_depth) (inner_takes max_depth)
+
+pub variable_again : Again spell_reference (WellReference max_depth) OperandEnds (reference_with (readers_at max_depth))
+variable_again = reference_again max_depth (readers_at max_depth) (inner_again max_depth)
+
+abbrev pub is_colon : ℕ → Bool
+is_colon c = eqb c 58
+
+-- this character does not come
+pub not_past : (a : ℕ) (cs : List ℕ) → Stops (λ c. eqb c a) cs → past a cs ≡ None
+not_past a [] s = refl
+not_past a (c ∷ cs) s = rw s refl
+
+-- ---- outputs
+
+-- what may follow an argument
+abbrev pub Follows : List ℕ → Type 0
+Follows rest = Ends rest × Stops is_bang rest × Stops is_colon rest
+
+not_bang : (c : ℕ) → begins_operand c ≡ true → is_bang c ≡ false
+not_bang c h = grind (arith, nat_tests)
+
+no_run : (p : ℕ → Bool) (cs : List ℕ) → Stops p cs → run_of p cs ≡ []
+no_run p [] s = refl
+no_run p (c ∷ cs) s = rw s refl
+
+pub all_copies : (a : ℕ) (xs : List ℕ) → AllAre (λ c. eqb c a) xs → xs ≡ replicate (length xs) a
+all_copies a [] h = refl
+all_copies a (c ∷ cs) h = let at : c ≡ a = eqb-true _ _ h.0 in rw (← at) (ap (λ (y : List ℕ). c ∷ y) (rw at (all_copies a cs h.1)))
+
+pub copies_are : (a n : ℕ) → eqb a a ≡ true → AllAre (λ c. eqb c a) (replicate n a)
+copies_are a zero h = tt
+copies_are a (suc n) h = (h, copies_are a n h)
+
+-- as output_takes, where this run of `!` is in front
+output_takes_by : (r cs : List ℕ) (x : ArgTree × List ℕ) → run_of is_bang cs ≡ r → output_by r cs ≡ Some x → (cs ≡ spell_arg x.0 ++ x.1) × WellArg output x.0
+output_takes_by [] cs x h e =
+    let b = bind_some (expr_at max_depth cs) (λ y. Some (shown y.0, y.1)) x e in
+    let t = whole_takes cs b.0 b.1 in
+    subst (λ (y : ArgTree × List ℕ). (cs ≡ spell_arg y.0 ++ y.1) × WellArg output y.0) (some_is (shown b.0.0, b.0.1) x b.2) t
+output_takes_by (b ∷ bs) cs x h e =
+    let r = run_parts is_bang cs in
+    let copies : b ∷ bs ≡ replicate (length (b ∷ bs)) 33 = all_copies 33 (b ∷ bs) (subst (AllAre is_bang) h r.1) in
+    let parts : cs ≡ replicate (length (b ∷ bs)) 33 ++ after_run is_bang cs = r.0 ∙ ap (λ (y : List ℕ). y ++ after_run is_bang cs) (h ∙ copies) in
+    let long : 0 < length (b ∷ bs) = omega arith in
+    subst (λ (y : ArgTree × List ℕ). (cs ≡ spell_arg y.0 ++ y.1) × WellArg output y.0) (some_is (breaks (length (b ∷ bs)), after_run is_bang cs) x e) (parts, long)
+
+pub output_takes : Takes spell_arg (WellArg output) output_at
+unfolding output_at
+output_takes cs x e = output_takes_by (run_of is_bang cs) cs x refl e
+
+pub output_again : Again spell_arg (WellArg output) Follows output_at
+unfolding output_at
+output_again (breaks zero) rest w s = absurd (omega arith)
+output_again (breaks (suc n)) rest w s =
+    let r = run_again is_bang (replicate n 33) rest (copies_are 33 n refl) s.1 in
+    rw (r.0, r.1, length-replicate {A = ℕ} n 33) refl
+output_again (shown e) rest w s =
+    let none : run_of is_bang (spell_expr e ++ rest) ≡ [] = no_run is_bang (spell_expr e ++ rest) (Begins-stops begins_operand is_bang (spell_expr e ++ rest) not_bang (Begins-append begins_operand (spell_expr e) rest (expr_begins max_depth e w))) in
+    rw (none, whole_again e rest w s.0) refl
+output_again a rest w s = absurd w
+
+-- ---- names in brackets
+
+names_take : (c : ℕ) (cs : List ℕ) (x : List (List ℕ) × List ℕ) → c ≡ 40 → names_at cs ≡ Some x → (c ∷ cs ≡ spell_names x.0 ++ x.1) × WellList IsName x.0
+unfolding names_at
+names_take c cs x at e =
+    let b = bind_some (list_at name_at cs) (λ y. past 41 y.1 >>= λ rest. Some (y.0, rest)) x e in
+    let k = bind_some (past 41 b.0.1) (λ rest. Some (b.0.0, rest)) x b.2 in
+    let t = list_takes (λ n. n) IsName name_at name_takes cs b.0 b.1 in
+    let z = past_takes 41 b.0.1 k.0 k.1 in
+    subst (λ (y : List (List ℕ) × List ℕ). (c ∷ cs ≡ spell_names y.0 ++ y.1) × WellList IsName y.0) {x = (b.0.0, k.0)} (some_is (b.0.0, k.0) x k.2)
+    (enclosed c cs (spell_list (λ n. n) b.0.0) b.0.1 k.0 at t.0 z, t.1)
+
+names_again : (names : List (List ℕ)) (rest : List ℕ) → WellList IsName names → names_at (spell_list (λ n. n) names ++ 41 ∷ rest) ≡ Some (names, rest)
+unfolding names_at
+names_again names rest w = rw (list_again (λ n. n) IsName name_at (Stops is_name_rest) (λ cs. refl) name_again names (41 ∷ rest) w (refl, refl)) refl
+
+-- ---- KILL and NEW
+
+pub removal_takes : Takes spell_arg (WellArg removal) removal_at
+unfolding removal_at
+removal_takes [] x e = absurd cc
+removal_takes (c ∷ cs) x e =
+    elim (chosen (eqb c 40) (names_at cs >>= λ x. Some (kill_others x.0, x.1)) (reference_with (readers_at max_depth) (c ∷ cs) >>= λ v. Some (kill_one v.0, v.1)) (Some x) e) [
+      | inl p ↦
+          let b = bind_some (names_at cs) (λ x. Some (kill_others x.0, x.1)) x p.1 in
+          subst (λ (y : ArgTree × List ℕ). (c ∷ cs ≡ spell_arg y.0 ++ y.1) × WellArg removal y.0) {x = (kill_others b.0.0, b.0.1)} (some_is (kill_others b.0.0, b.0.1) x b.2) (names_take c cs b.0 (eqb-true _ _ p.0) b.1)
+      | inr p ↦
+          let b = bind_some (reference_with (readers_at max_depth) (c ∷ cs)) (λ v. Some (kill_one v.0, v.1)) x p.1 in
+          subst (λ (y : ArgTree × List ℕ). (c ∷ cs ≡ spell_arg y.0 ++ y.1) × WellArg removal y.0) {x = (kill_one b.0.0, b.0.1)} (some_is (kill_one b.0.0, b.0.1) x b.2) (variable_takes (c ∷ cs) b.0 b.1)
+    ]
+
+kill_one_step : (cs : List ℕ) (v : ReferenceTree) (rest : List ℕ) → Begins is_name_start cs → reference_with (readers_at max_depth) cs ≡ Some (v, rest) → removal_at cs ≡ Some (kill_one v, rest)
+unfolding removal_at
+kill_one_step [] v rest b h = absurd b
+kill_one_step (c ∷ cs) v rest b h = rw ((name_start_tests c b).2, h) refl
+
+kill_others_step : (cs : List ℕ) (names : List (List ℕ)) (rest : List ℕ) → names_at cs ≡ Some (names, rest) → removal_at (40 ∷ cs) ≡ Some (kill_others names, rest)
+unfolding removal_at
+kill_others_step cs names rest h = rw h refl
+
+pub removal_again : Again spell_arg (WellArg removal) OperandEnds removal_at
+removal_again (kill_one v) rest w s =
+    kill_one_step (spell_reference v ++ rest) v rest (Begins-append is_name_start (spell_reference v) rest (reference_begins max_depth v w)) (variable_again v rest w s)
+removal_again (kill_others names) rest w s =
+    ap (λ (y : List ℕ). removal_at (40 ∷ y)) (append_assoc (spell_list (λ n. n) names) (41 ∷ []) rest)
+    ∙ kill_others_step (spell_list (λ n. n) names ++ 41 ∷ rest) names rest (names_again names rest w)
+removal_again a rest w s = absurd w
+
+pub hiding_takes : Takes spell_arg (WellArg hiding) hiding_at
+unfolding hiding_at
+hiding_takes [] x e = absurd cc
+hiding_takes (c ∷ cs) x e =
+    elim (chosen (eqb c 40) (names_at cs >>= λ x. Some (new_others x.0, x.1)) (name_at (c ∷ cs) >>= λ n. Some (new_one n.0, n.1)) (Some x) e) [
+      | inl p ↦
+          let b = bind_some (names_at cs) (λ x. Some (new_others x.0, x.1)) x p.1 in
+          subst (λ (y : ArgTree × List ℕ). (c ∷ cs ≡ spell_arg y.0 ++ y.1) × WellArg hiding y.0) {x = (new_others b.0.0, b.0.1)} (some_is (new_others b.0.0, b.0.1) x b.2) (names_take c cs b.0 (eqb-true _ _ p.0) b.1)
+      | inr p ↦
+          let b = bind_some (name_at (c ∷ cs)) (λ n. Some (new_one n.0, n.1)) x p.1 in
+          subst (λ (y : ArgTree × List ℕ). (c ∷ cs ≡ spell_arg y.0 ++ y.1) × WellArg hiding y.0) {x = (new_one b.0.0, b.0.1)} (some_is (new_one b.0.0, b.0.1) x b.2) (name_takes (c ∷ cs) b.0 b.1)
+    ]
+
+new_one_step : (n rest : List ℕ) → IsName n → Stops is_name_rest rest → hiding_at (n ++ rest) ≡ Some (new_one n, rest)
+unfolding hiding_at
+new_one_step [] rest w s = absurd w
+new_one_step (c ∷ n) rest w s = rw ((name_start_tests c w.0).2, name_again (c ∷ n) rest w s) refl
+
+new_others_step : (cs : List ℕ) (names : List (List ℕ)) (rest : List ℕ) → names_at cs ≡ Some (names, rest) → hiding_at (40 ∷ cs) ≡ Some (new_others names, rest)
+unfolding hiding_at
+new_others_step cs names rest h = rw h refl
+
+pub hiding_again : Again spell_arg (WellArg hiding) (Stops is_name_rest) hiding_at
+hiding_again (new_one n) rest w s = new_one_step n rest w s
+hiding_again (new_others names) rest w s =
+    ap (λ (y : List ℕ). hiding_at (40 ∷ y)) (append_assoc (spell_list (λ n. n) names) (41 ∷ []) rest)
+    ∙ new_others_step (spell_list (λ n. n) names ++ 41 ∷ rest) names rest (names_again names rest w)
+hiding_again a rest w s = absurd w
+
+-- ---- conditions of IF
+
+pub condition_takes : Takes spell_arg (WellArg condition) condition_at
+unfolding condition_at
+condition_takes cs x e =
+    let b = bind_some (expr_at max_depth cs) (λ y. Some (tested y.0, y.1)) x e in
+    subst (λ (y : ArgTree × List ℕ). (cs ≡ spell_arg y.0 ++ y.1) × WellArg condition y.0) (some_is (tested b.0.0, b.0.1) x b.2) (whole_takes cs b.0 b.1)
+
+pub condition_again : Again spell_arg (WellArg condition) Ends condition_at
+unfolding condition_at
+condition_again (tested e) rest w s = rw (whole_again e rest w s) refl
+condition_again a rest w s = absurd w
+
+-- ---- parameters of FOR
+
+-- what may follow a parameter
+abbrev pub ParameterEnds : List ℕ → Type 0
+ParameterEnds rest = Ends rest × Stops is_colon rest
+
+abbrev ParameterIs : List ℕ → ParameterTree × List ℕ → Type 0
+ParameterIs cs x = (cs ≡ spell_parameter x.0 ++ x.1) × WellParameter x.0
+
+three_parts : (cs a t u b v w c rest : List ℕ) → cs ≡ a ++ t → t ≡ 58 ∷ u → u ≡ b ++ v → v ≡ 58 ∷ w → w ≡ c ++ rest → cs ≡ (a ++ 58 ∷ (b ++ 58 ∷ c)) ++ rest
+three_parts cs a t u b v w c rest p q s y z =
+    let whole : cs ≡ a ++ 58 ∷ (b ++ 58 ∷ (c ++ rest)) = rw (p, q, s, y, z) refl in
+    let same : (a ++ 58 ∷ (b ++ 58 ∷ c)) ++ rest ≡ a ++ 58 ∷ (b ++ 58 ∷ (c ++ rest)) = simp append_assoc in
+    whole ∙ sym same
+
+limit_takes : (cs t u v : List ℕ) (e by : ExprTree) (o : Option (List ℕ)) (x : ParameterTree × List ℕ) → cs ≡ spell_expr e ++ t → t ≡ 58 ∷ u → u ≡ spell_expr by ++ v → WellExpr max_depth e → WellExpr max_depth by
+    → past 58 v ≡ o → limit_by e by v o ≡ Some x → ParameterIs cs x
+limit_takes cs t u v e by None x p q s w z h k = subst (ParameterIs cs) {x = (onward e by, v)} (some_is (onward e by, v) x k) (joined_by 58 cs (spell_expr e) t u (spell_expr by) v p q s, (w, z))
+limit_takes cs t u v e by (Some rest) x p q s w z h k =
+    let b = bind_some (expr_at max_depth rest) (λ to. Some (until e by to.0, to.1)) x k in
+    let to = whole_takes rest b.0 b.1 in
+    subst (ParameterIs cs) {x = (until e by b.0.0, b.0.1)} (some_is (until e by b.0.0, b.0.1) x b.2)
+    (three_parts cs (spell_expr e) t u (spell_expr by) v rest (spell_expr b.0.0) b.0.1 p q s (past_takes 58 v rest h) to.0, (w, z, to.1))
+
+increment_takes : (cs t : List ℕ) (e : ExprTree) (o : Option (List ℕ)) (x : ParameterTree × List ℕ) → cs ≡ spell_expr e ++ t → WellExpr max_depth e → past 58 t ≡ o → increment_by e t o ≡ Some x → ParameterIs cs x
+increment_takes cs t e None x p w h k = subst (ParameterIs cs) {x = (once e, t)} (some_is (once e, t) x k) (p, w)
+increment_takes cs t e (Some rest) x p w h k =
+    let b = bind_some (expr_at max_depth rest) (λ by. limit_by e by.0 by.1 (past 58 by.1)) x k in
+    let by = whole_takes rest b.0 b.1 in
+    limit_takes cs t rest b.0.1 e b.0.0 (past 58 b.0.1) x p (past_takes 58 t rest h) by.0 w by.1 refl b.2
+
+parameter_takes : Takes spell_parameter WellParameter parameter_at
+unfolding parameter_at
+parameter_takes cs x e =
+    let b = bind_some (expr_at max_depth cs) (λ e. increment_by e.0 e.1 (past 58 e.1)) x e in
+    let t = whole_takes cs b.0 b.1 in
+    increment_takes cs b.0.1 b.0.0 (past 58 b.0.1) x t.0 t.1 refl b.2
+
+once_step : (cs : List ℕ) (e : ExprTree) (rest : List ℕ) → expr_at max_depth cs ≡ Some (e, rest) → past 58 rest ≡ None → parameter_at cs ≡ Some (once e, rest)
+unfolding parameter_at
+once_step cs e rest h k = rw (h, k) refl
+
+onward_step : (cs u : List ℕ) (e by : ExprTree) (rest : List ℕ) → expr_at max_depth cs ≡ Some (e, 58 ∷ u) → expr_at max_depth u ≡ Some (by, rest) → past 58 rest ≡ None → parameter_at cs ≡ Some (onward e by, rest)
+unfolding parameter_at
+onward_step cs u e by rest h k l = rw (h, k, l) refl
+
+until_step : (cs u v : List ℕ) (e by to : ExprTree) (rest : List ℕ) → expr_at max_depth cs ≡ Some (e, 58 ∷ u) → expr_at max_depth u ≡ Some (by, 58 ∷ v) → expr_at max_depth v ≡ Some (to, rest) → parameter_at cs ≡ Some (until e by to, rest)
+unfolding parameter_at
+until_step cs u v e by to rest h k l = rw (h, k, l) refl
+
+parameter_again : Again spell_parameter WellParameter ParameterEnds parameter_at
+parameter_again (once e) rest w s = once_step (spell_expr e ++ rest) e rest (whole_again e rest w s.0) (not_past 58 rest s.1)
+parameter_again (onward e by) rest w s =
+    ap parameter_at (append_assoc (spell_expr e) (58 ∷ spell_expr by) rest)
+    ∙ onward_step (spell_expr e ++ 58 ∷ (spell_expr by ++ rest)) (spell_expr by ++ rest) e by rest (whole_again e (58 ∷ (spell_expr by ++ rest)) w.0 (refl, refl)) (whole_again by rest w.1 s.0) (not_past 58 rest s.1)
+parameter_again (until e by to) rest w s =
+    let u : List ℕ = spell_expr by ++ 58 ∷ (spell_expr to ++ rest) in
+    let parts : (spell_expr e ++ 58 ∷ (spell_expr by ++ 58 ∷ spell_expr to)) ++ rest ≡ spell_expr e ++ 58 ∷ u = simp append_assoc in
+    ap parameter_at parts
+    ∙ until_step (spell_expr e ++ 58 ∷ u) u (spell_expr to ++ rest) e by to rest (whole_again e (58 ∷ u) w.0 (refl, refl)) (whole_again by (58 ∷ (spell_expr to ++ rest)) w.1 (refl, refl)) (whole_again to rest w.2 s.0)
+
+pub repetition_takes : Takes spell_arg (WellArg repetition) repetition_at
+unfolding repetition_at
+repetition_takes cs x e =
+    let n = bind_some (name_at cs) (λ n. past 61 n.1 >>= λ rest. list_at parameter_at rest >>= λ x. Some (loop n.0 x.0, x.1)) x e in
+    let k = bind_some (past 61 n.0.1) (λ rest. list_at parameter_at rest >>= λ x. Some (loop n.0.0 x.0, x.1)) x n.2 in
+    let b = bind_some (list_at parameter_at k.0) (λ x. Some (loop n.0.0 x.0, x.1)) x k.2 in
+    let name = name_takes cs n.0 n.1 in
+    let equals = past_takes 61 n.0.1 k.0 k.1 in
+    let all = list_takes spell_parameter WellParameter parameter_at parameter_takes k.0 b.0 b.1 in
+    let made : ArgTree × List ℕ = (loop n.0.0 b.0.0, b.0.1) in
+    subst (λ (y : ArgTree × List ℕ). (cs ≡ spell_arg y.0 ++ y.1) × WellArg repetition y.0) {x = made} (some_is made x b.2)
+    (joined_by 61 cs n.0.0 n.0.1 k.0 (spell_list spell_parameter b.0.0) b.0.1 name.0 equals all.0, (name.1, all.1))
+
+loop_step : (cs n t u : List ℕ) (ps : List ParameterTree) (rest : List ℕ) → name_at cs ≡ Some (n, t) → past 61 t ≡ Some u → list_at parameter_at u ≡ Some (ps, rest) → repetition_at cs ≡ Some (loop n ps, rest)
+unfolding repetition_at
+loop_step cs n t u ps rest h k l = rw (h, k, l) refl
+
+-- a comma would go on with the parameters
+pub repetition_again : Again spell_arg (WellArg repetition) (λ rest. ParameterEnds rest × Stops is_comma rest) repetition_at
+repetition_again (loop index parameters) rest w s =
+    let u : List ℕ = spell_list spell_parameter parameters ++ rest in
+    ap repetition_at (append_assoc index (61 ∷ spell_list spell_parameter parameters) rest)
+    ∙ loop_step (index ++ 61 ∷ u) index (61 ∷ u) u parameters rest (name_again index (61 ∷ u) w.0 refl) refl
+    (list_again spell_parameter WellParameter parameter_at ParameterEnds (λ cs. ((refl, refl), refl)) parameter_again parameters rest w.1 s)
+repetition_again a rest w s = absurd w
+
+-- ---- where an argument begins
+
+names_begin : (n : List ℕ) → IsName n → Begins begins_operand n
+names_begin [] w = absurd w
+names_begin (c ∷ n) w = name_begins c w.0
+
+pub removal_begins : (a : ArgTree) → WellArg removal a → Begins begins_operand (spell_arg a)
+removal_begins (kill_one v) w = Begins-weaker is_name_start begins_operand (spell_reference v) name_begins (reference_begins max_depth v w)
+removal_begins (kill_others names) w = refl
+removal_begins a w = absurd w
+
+pub hiding_begins : (a : ArgTree) → WellArg hiding a → Begins begins_operand (spell_arg a)
+hiding_begins (new_one n) w = names_begin n w
+hiding_begins (new_others names) w = refl
+hiding_begins a w = absurd w
+
+pub condition_begins : (a : ArgTree) → WellArg condition a → Begins begins_operand (spell_arg a)
+condition_begins (tested e) w = expr_begins max_depth e w
+condition_begins a w = absurd w
+
+pub repetition_begins : (a : ArgTree) → WellArg repetition a → Begins begins_operand (spell_arg a)
+repetition_begins (loop index parameters) w = Begins-append begins_operand index (61 ∷ spell_list spell_parameter parameters) (names_begin index w.0)
+repetition_begins a w = absurd w

@@ -1,0 +1,28 @@
+-- The account of the examples, and replies to its lines.
+use Rattle.std.proofs.Common.{ℕ, [], ◌∷◌}
+use Rattle.std.specs.Prelude.{codes}
+use Rattle.std.specs.FinMap.{empty, insert}
+use Rattle.mspec.specs.Code.{Code, Own}
+use Rattle.mspec.specs.Act.{Text}
+use Rattle.mmeaning.specs.Step.{Account, Settings, Reply, Finished, Faulted}
+
+-- ALICE with so many steps a line
+abbrev pub with_steps : ℕ → Account
+with_steps n = record { name = codes "ALICE"; steps = n }
+
+abbrev pub account : Account
+account = with_steps 2000
+
+-- terminal 1 of an account
+abbrev pub settings_of : Account → Settings
+settings_of a = record { accounts = a ∷ []; terminals = insert empty 1 a; grants = [] }
+
+-- of ALICE, with 2,000 steps a line
+abbrev pub alice : Settings
+alice = settings_of account
+
+abbrev pub done : Text → Reply
+done out = record { out = out; ending = Finished }
+
+abbrev pub failed : Text → Code → Reply
+failed out code = record { out = out; ending = Faulted (Own code) }

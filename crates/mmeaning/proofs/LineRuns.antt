@@ -1,0 +1,116 @@
+-- Lines of a terminal, one after another, in a form that `simp` computes: a turn is opened only where its state is known, since what
+-- runs a turn holds what runs the next one, and so on for all the fuel.
+use Rattle.std.proofs.Common.{◌≡◌, ℕ, zero, suc, Bool, true, false, List, [], ◌∷◌, Option, Some, None, refl, ap, ◌∙◌}
+use Rattle.std.specs.Prelude.{map}
+use Rattle.std.specs.FinMap.{empty, get, insert}
+use Rattle.mspec.specs.Plan.{Plan, perform}
+use Rattle.mspec.specs.Act.{Text, Locals, no_locals, assigned_to, State, Outcome, Act, ◌>>=◌, fail}
+use Rattle.mspec.specs.Code.{Zsyntax, Zsteps, Zterm, Zline, Zchar}
+use Rattle.mgrammar.specs.Grammar.{LineTree}
+use Rattle.mgrammar.specs.Reading.{line_at}
+use Rattle.mmeaning.specs.LineMeaning.{Signal, Turning, Texts, Context, outset, texts, commands, after_turn, after_level}
+use Rattle.mmeaning.specs.Step.{Account, Settings, Session, Server, Event, Reply, act, plan_of, begun, session_or_new, ended, refused, is_too_long, is_ascii, checked, at_account, normal}
+use Rattle.mmeaning.specs.History.{opening, replies}
+use Rattle.mmeaning.proofs.ExampleAccount.{account, settings_of}
+
+-- ---- what lines are answered
+
+abbrev pub event : Text → Event
+event t = record { terminal = 1; text = t }
+
+-- what lines of terminal 1 are answered, of an account and in a server
+pub record AreAnswered (a : Account) (server : Server) (ts : List Text) (rs : List Reply) : Type 0 where
+  pub answers : replies (settings_of a) server (map event ts) ≡ rs
+
+-- in a new server, with 2,000 steps a line
+abbrev pub Answered : List Text → List Reply → Type 0
+Answered ts rs = AreAnswered account (opening empty) ts rs
+
+-- a server in which terminal 1 has a session, and nothing is stored
+abbrev pub serving : Session → Server
+serving s = record { world = (opening empty).world; sessions = insert empty 1 s }
+
+-- where it holds one text, at a variable's name
+abbrev pub holding : Text → Text → Server
+holding name x = serving (record { locals = assigned_to no_locals name [] x; naked = None; test = false })
+
+-- ---- the same with turns that are shut
+
+unfoldable pub shut : Text → ℕ → Texts
+shut a n = texts a n
+
+abbrev pub at : Text → ℕ → Context
+at a n = record { account = a; fuel = n; spot = outset; texts = shut a n }
+
+abbrev pub shut_run : Text → Option LineTree → State → Plan (Outcome Signal)
+shut_run a None s = fail Zsyntax s
+shut_run a (Some l) s = (commands (at a s.steps) (map (λ c. c.0) l.commands) >>= after_level) s
+
+run_is_shut : (a : Account) (s : Session) (l : Option LineTree) → plan_of a s l ≡ shut_run a.name l (begun a s)
+unfolding shut
+run_is_shut a s None = refl
+run_is_shut a s (Some l) = refl
+
+-- ---- steps, by the trees of their lines
+
+abbrev shut_checked : Bool → Bool → Settings → Event → Option LineTree → Server → Account → Reply × Server
+shut_checked true ascii settings e l server a = refused Zline server
+shut_checked false false settings e l server a = refused Zchar server
+shut_checked false true settings e l server a =
+    ended e.terminal server (perform (act settings e.terminal a.name) (shut_run a.name l (begun a (session_or_new (get server.sessions e.terminal)))) server.world)
+
+abbrev shut_at_account : Settings → Event → Option LineTree → Server → Option Account → Reply × Server
+shut_at_account settings e l server None = refused Zterm server
+shut_at_account settings e l server (Some a) = shut_checked (is_too_long e.text) (is_ascii e.text) settings e l server a
+
+abbrev pub shut_step : Settings → Event → Option LineTree → Server → Reply × Server
+shut_step settings e l server = shut_at_account settings e l server (get settings.terminals e.terminal)
+
+checked_is_shut : (long ascii : Bool) (settings : Settings) (e : Event) (server : Server) (a : Account) → checked long ascii settings e server a ≡ shut_checked long ascii settings e (line_at e.text) server a
+checked_is_shut true ascii settings e server a = refl
+checked_is_shut false false settings e server a = refl
+checked_is_shut false true settings e server a =
+    ap (λ p. ended e.terminal server (perform (act settings e.terminal a.name) p server.world)) (run_is_shut a (session_or_new (get server.sessions e.terminal)) (line_at e.text))
+
+at_account_is_shut : (settings : Settings) (e : Event) (server : Server) (o : Option Account) → at_account settings e server o ≡ shut_at_account settings e (line_at e.text) server o
+at_account_is_shut settings e server None = refl
+at_account_is_shut settings e server (Some a) = checked_is_shut (is_too_long e.text) (is_ascii e.text) settings e server a
+
+pub step_is_shut : (settings : Settings) (e : Event) (server : Server) → normal settings e server ≡ shut_step settings e (line_at e.text) server
+step_is_shut settings e server = at_account_is_shut settings e server (get settings.terminals e.terminal)
+
+-- ---- proofs of examples: lines with their trees, one after another
+
+line_is : (a : Account) (server : Server) (t : Text) (l : Option LineTree) → line_at t ≡ l → normal (settings_of a) (event t) server ≡ shut_step (settings_of a) (event t) l server
+line_is a server t l e = step_is_shut (settings_of a) (event t) server ∙ ap (λ l. shut_step (settings_of a) (event t) l server) e
+
+pub at_last : {a : Account} {server : Server} {t : Text} {r : Reply} (l : Option LineTree)
+    → line_at t ≡ l → (shut_step (settings_of a) (event t) l server).0 ≡ r → AreAnswered a server (t ∷ []) (r ∷ [])
+at_last {a = a} {server = server} {t = t} l e run = record {
+  answers = ap (λ (x : Reply × Server). x.0 ∷ []) (line_is a server t l e) ∙ ap (λ (r : Reply). r ∷ []) run;
+}
+
+-- a line, and then those behind it in the server that it leaves
+pub at_first : {a : Account} {server : Server} {t : Text} {r : Reply} {ts : List Text} {rs : List Reply} (after : Server) (l : Option LineTree)
+    → line_at t ≡ l → shut_step (settings_of a) (event t) l server ≡ (r, after) → AreAnswered a after ts rs → AreAnswered a server (t ∷ ts) (r ∷ rs)
+at_first {a = a} {server = server} {t = t} {r = r} {ts = ts} after l e first rest = record {
+  answers =
+      ap (λ (x : Reply × Server). x.0 ∷ replies (settings_of a) x.1 (map event ts)) (line_is a server t l e ∙ first)
+      ∙ ap (λ (rs : List Reply). r ∷ rs) rest.answers;
+}
+
+-- ---- turns
+
+abbrev pub turned : Text → ℕ → Turning → Act Signal
+turned a zero t = fail Zsteps
+turned a (suc n) t = commands (at a n) t.body >>= after_turn (at a n) t
+
+-- only where the state is known: there is no naked indicator in these lines
+pub opened : (a : Text) (n : ℕ) (t : Turning) (locals : Locals) (test : Bool) (out : Text) (steps : ℕ)
+    → (shut a n).turn outset t (record { locals = locals; naked = None; test = test; out = out; steps = steps })
+    ≡ turned a n t (record { locals = locals; naked = None; test = test; out = out; steps = steps })
+unfolding shut
+opened a zero t locals test out steps = refl
+opened a (suc n) t locals test out steps = refl
+
+pub ruleset turns = (opened)

@@ -1,0 +1,34 @@
+-- Trees of lines, written shortly: for examples of lines whose text takes long to read by `simp`.
+use Rattle.std.proofs.Common.{ℕ, List, [], ◌∷◌, Some, None}
+use Rattle.mspec.specs.Act.{Text}
+use Rattle.mgrammar.specs.Grammar.{ExprTree, expr, no_steps, step, BinaryTree, apply, OperandTree, operand, PrimaryTree, minus, ReferenceTree, local, no_exprs, variable, one, KeywordTree, ArgTree, assign, CommandTree, SpacedTree, LineTree}
+
+abbrev pub plain : PrimaryTree → OperandTree
+plain p = operand [] p
+
+abbrev pub only : PrimaryTree → ExprTree
+only p = expr (plain p) no_steps
+
+abbrev pub negative : PrimaryTree → ExprTree
+negative p = expr (operand (minus ∷ []) p) no_steps
+
+-- two operands with an operator between
+abbrev pub with_operator : PrimaryTree → BinaryTree → PrimaryTree → ExprTree
+with_operator p b q = expr (plain p) (step (apply b (plain q)) no_steps)
+
+abbrev pub named : Text → ReferenceTree
+named name = local name no_exprs
+
+abbrev pub set_to : ReferenceTree → ExprTree → ArgTree
+set_to r e = assign (one (variable r)) e
+
+-- a command of one letter
+abbrev pub command : KeywordTree → ℕ → List ArgTree → CommandTree
+command k letter args = record { keyword = k; word = letter ∷ []; condition = None; args = args }
+
+abbrev pub command_if : KeywordTree → ℕ → ExprTree → List ArgTree → CommandTree
+command_if k letter e args = record { keyword = k; word = letter ∷ []; condition = Some e; args = args }
+
+-- each with the spaces behind it
+abbrev pub line : List SpacedTree → LineTree
+line cs = record { lead = 0; commands = cs; comment = None }

@@ -1,0 +1,119 @@
+-- Variables: the checks of a reference, and what is asked of the place that it names.
+--
+-- Restates "Local variable name lvn", "$DATA", "$GET", "$ORDER" and "$TEST" of ISO/IEC 11756:1999. A reference is checked once all
+-- its subscripts are evaluated.
+use Rattle.std.specs.Prelude.{ℕ, ◌+◌, ◌*◌, pos, negsuc, Bool, true, cond, List, [], ◌∷◌, Option, Some, None, unwrap_or, slice_get}
+use Rattle.std.specs.Ordering.{int_eq}
+use Rattle.mspec.specs.Trees.{Direction, Forward, Backward}
+use Rattle.mspec.specs.Scopes.{is_value, is_above, next_subscript, killed}
+use Rattle.mspec.specs.Subscripts.{are_subscripts, are_order_subscripts}
+use Rattle.mspec.specs.Interpretations.{truth_text}
+use Rattle.mspec.specs.Code.{Zarg, Zsub, Zsyntax}
+use Rattle.mspec.specs.Act.{Text, Act, ◌>>=◌, ◌>>◌, give, fail, unless, get_local, set_local, with_locals, of_locals, value_of, test_is}
+use Rattle.mgrammar.specs.Grammar.{SpecialTree, test_special, FunctionTree, data_function, get_function, order_function}
+use Rattle.mmeaning.specs.Functions.{whole_text, as_whole}
+
+-- ---- references
+
+-- a reference of which all is evaluated that it has to evaluate
+pub data Evaluated : Type 0 where
+  of_local : Text → List Text → Evaluated
+
+-- one that the checks let through
+pub data Place : Type 0 where
+  at_local : Text → List Text → Place
+
+-- what a place is wanted for
+pub data Use : Type 0 where
+  reading : Use
+  ordering : Use
+  writing : Use
+
+-- $ORDER takes an empty last subscript; where there is none at all it is refused by a code of its own
+abbrev pub may_be_ordered : List Text → Bool
+may_be_ordered [] = true
+may_be_ordered (x ∷ xs) = are_order_subscripts (x ∷ xs)
+
+abbrev pub some_subscript : List Text → Act (Unit {0})
+some_subscript [] = fail Zarg
+some_subscript (x ∷ xs) = give tt
+
+abbrev pub checked : Use → List Text → Act (Unit {0})
+checked reading xs = unless Zsub (are_subscripts xs)
+checked ordering xs = unless Zsub (may_be_ordered xs) >> some_subscript xs
+checked writing xs = unless Zsub (are_subscripts xs)
+
+-- refused where it has a subscript too many, too long or empty
+abbrev pub resolve : Use → Evaluated → Act Place
+resolve u (of_local name xs) = checked u xs >> give (at_local name xs)
+
+-- ---- places
+
+abbrev pub read_at : Place → Act Text
+read_at (at_local name xs) = get_local name xs
+
+abbrev pub found_at : Place → Act (Option Text)
+found_at (at_local name xs) = of_locals (λ l. value_of l name xs)
+
+-- the text there, or another one where there is none
+abbrev pub read_or : Text → Place → Act Text
+read_or other p = do
+  found ← found_at p
+  give (unwrap_or found other)
+
+abbrev pub put_at : Place → Text → Act (Unit {0})
+put_at (at_local name xs) x = set_local name xs x
+
+-- without its node and what stands below it
+abbrev pub kill_at : Place → Act (Unit {0})
+kill_at (at_local name xs) = with_locals (λ l. killed l name xs)
+
+-- whether there is a text, and whether there is one below
+abbrev pub status_at : Place → Act (Bool × Bool)
+status_at (at_local name xs) = of_locals (λ l. (is_value l name xs, is_above l name xs))
+
+-- the next subscript at the last place; the empty text where there is none
+abbrev pub next_at : Direction → Place → Act Text
+next_at d (at_local name xs) = of_locals (λ l. unwrap_or (next_subscript l d name xs) [])
+
+-- ---- functions of a variable
+
+-- $DATA: 1 where it has a text, and 10 more where a node below it has one
+abbrev pub data_number : Bool × Bool → ℕ
+data_number status = cond status.0 1 0 + 10 * cond status.1 1 0
+
+-- $ORDER: 1 is forward, as where nothing is said, and -1 backward
+abbrev pub direction_of : Option Text → Act Direction
+direction_of None = give Forward
+direction_of (Some x) = do
+  n ← as_whole x
+  cond (int_eq n (pos 1)) (give Forward) (cond (int_eq n (negsuc 0)) (give Backward) (fail Zarg))
+
+-- A function of the variable that one act gives, and of what another gives: the checks of the variable come between.
+abbrev pub referring : Option FunctionTree → Act Evaluated → Act (List Text) → Act Text
+referring (Some data_function) reference more = do
+  v ← reference
+  p ← resolve reading v
+  status ← status_at p
+  give (whole_text (pos (data_number status)))
+referring (Some get_function) reference more = do
+  v ← reference
+  p ← resolve reading v
+  xs ← more
+  read_or (unwrap_or (slice_get xs 0) []) p
+referring (Some order_function) reference more = do
+  v ← reference
+  p ← resolve ordering v
+  xs ← more
+  d ← direction_of (slice_get xs 0)
+  next_at d p
+-- any other is in no tree of the grammar with a variable
+referring f reference more = fail Zsyntax
+
+-- ---- special variables
+
+abbrev pub special_value : Option SpecialTree → Act Text
+special_value None = fail Zsyntax
+special_value (Some test_special) = do
+  b ← test_is
+  give (truth_text b)

@@ -1,0 +1,85 @@
+// The arguments of IF and FOR, and postconditionals.
+ghost use Rattle.std.specs.Prelude.{option_map};
+ghost use Rattle.mgrammar.specs.Grammar.{ParameterTree};
+ghost use Rattle.mgrammar.specs.Reading.{condition_at, parameter_at, repetition_at, postcondition_at};
+ghost use Rattle.mtree.specs.Tree.{expr_tree, parameter_tree, keyword_tree, arg_tree};
+ghost use Rattle.mscan.specs.Gives.{Gives};
+
+use crate::arity::takes_condition;
+use crate::expr::{MAX_DEPTH, expr};
+use crate::list::{Items, list};
+use mscan::{ParseFault, expect, name, past};
+use mtree::{Arg, Expr, Keyword, Parameter};
+use std::alloc::Global;
+
+#[tactic(auto, unfolding(mgrammar::specs::Reading::condition_at))]
+pub fn condition(alloc: Global, bytes: &[u8]) -> Result<(Arg, &[u8]), ParseFault>
+    ensures { Gives (λ x. (arg_tree x.0, x.1.now)) result (condition_at bytes.now) }
+{
+    let (condition, rest) = expr(alloc, bytes, MAX_DEPTH)?;
+    Ok((Arg::Tested(condition), rest))
+}
+
+// A value; or a start and an increment, and a limit where one stands.
+#[tactic(auto, unfolding(mgrammar::specs::Reading::parameter_at))]
+fn parameter(alloc: Global, bytes: &[u8]) -> Result<(Parameter, &[u8]), ParseFault>
+    ensures { Gives (λ x. (parameter_tree x.0, x.1.now)) result (parameter_at bytes.now) }
+{
+    let (start, rest) = expr(alloc, bytes, MAX_DEPTH)?;
+    let Some(behind) = past(b':', rest) else {
+        return Ok((Parameter::Once(start), rest));
+    };
+    let (increment, rest) = expr(alloc, behind, MAX_DEPTH)?;
+    let Some(behind) = past(b':', rest) else {
+        return Ok((Parameter::Onward(start, increment), rest));
+    };
+    let (limit, rest) = expr(alloc, behind, MAX_DEPTH)?;
+    Ok((Parameter::Until(start, increment, limit), rest))
+}
+
+// What the index of FOR takes on.
+#[derive(Clone, Copy)]
+struct Parameters;
+
+impl Items for Parameters {
+    type Item = Parameter;
+
+    ghost Tree = { ParameterTree };
+
+    ghost tree = { parameter_tree };
+
+    ghost read = { λ _. parameter_at };
+
+    fn item(self, alloc: Global, bytes: &[u8]) -> Result<(Parameter, &[u8]), ParseFault> {
+        parameter(alloc, bytes)
+    }
+}
+
+#[tactic(auto, unfolding(mgrammar::specs::Reading::repetition_at))]
+pub fn repetition(alloc: Global, bytes: &[u8]) -> Result<(Arg, &[u8]), ParseFault>
+    ensures { Gives (λ x. (arg_tree x.0, x.1.now)) result (repetition_at bytes.now) }
+{
+    let (index, rest) = name(alloc, bytes)?;
+    let rest = expect(b'=', rest)?;
+    let (parameters, rest) = list(Parameters, alloc, rest)?;
+    Ok((Arg::Loop(index, parameters), rest))
+}
+
+// The condition behind a word of this keyword, where a colon follows the word and the command takes one.
+#[tactic(auto, unfolding(mgrammar::specs::Reading::postcondition_at))]
+pub fn postcondition(
+    alloc: Global,
+    keyword: Keyword,
+    bytes: &[u8],
+) -> Result<(Option<Expr>, &[u8]), ParseFault>
+    ensures { Gives (λ x. (option_map expr_tree x.0, x.1.now)) result (postcondition_at (keyword_tree keyword) bytes.now) }
+{
+    if !takes_condition(keyword) {
+        return Ok((None, bytes));
+    }
+    let Some(behind) = past(b':', bytes) else {
+        return Ok((None, bytes));
+    };
+    let (condition, rest) = expr(alloc, behind, MAX_DEPTH)?;
+    Ok((Some(condition), rest))
+}

@@ -1,0 +1,70 @@
+// The arguments of KILL and NEW: a variable or a name, or names in brackets.
+ghost use Rattle.std.specs.Prelude.{ℕ, List};
+ghost use Rattle.mgrammar.specs.Reading.{name_at, names_at, removal_at, hiding_at};
+ghost use Rattle.mtree.specs.Tree.{arg_tree};
+ghost use Rattle.mscan.specs.Gives.{Gives};
+
+use crate::expr::{MAX_DEPTH, reference};
+use crate::list::{Items, list};
+use mnum::Name;
+use mscan::{ParseFault, expect, name};
+use mtree::Arg;
+use std::alloc::Global;
+
+// The names in the brackets.
+#[derive(Clone, Copy)]
+struct InNames;
+
+impl Items for InNames {
+    type Item = Name;
+
+    ghost Tree = { List ℕ };
+
+    ghost tree = { λ name. name };
+
+    ghost read = { λ _. name_at };
+
+    fn item(self, alloc: Global, bytes: &[u8]) -> Result<(Name, &[u8]), ParseFault> {
+        name(alloc, bytes)
+    }
+}
+
+// Names, where the bracket in front of them is past.
+#[tactic(auto, unfolding(mgrammar::specs::Reading::names_at))]
+fn names(alloc: Global, bytes: &[u8]) -> Result<(Vec<Name>, &[u8]), ParseFault>
+    ensures { Gives (λ x. (x.0.items, x.1.now)) result (names_at bytes.now) }
+{
+    let (names, rest) = list(InNames, alloc, bytes)?;
+    let rest = expect(b')', rest)?;
+    Ok((names, rest))
+}
+
+#[tactic(auto, unfolding(mgrammar::specs::Reading::removal_at))]
+pub fn removal(alloc: Global, bytes: &[u8]) -> Result<(Arg, &[u8]), ParseFault>
+    ensures { Gives (λ x. (arg_tree x.0, x.1.now)) result (removal_at bytes.now) }
+{
+    let Some((first, behind)) = bytes.split_first() else {
+        return Err(ParseFault::Syntax);
+    };
+    if *first == b'(' {
+        let (names, rest) = names(alloc, behind)?;
+        return Ok((Arg::KillOthers(names), rest));
+    }
+    let (reference, rest) = reference(alloc, bytes, MAX_DEPTH)?;
+    Ok((Arg::KillOne(reference), rest))
+}
+
+#[tactic(auto, unfolding(mgrammar::specs::Reading::hiding_at))]
+pub fn hiding(alloc: Global, bytes: &[u8]) -> Result<(Arg, &[u8]), ParseFault>
+    ensures { Gives (λ x. (arg_tree x.0, x.1.now)) result (hiding_at bytes.now) }
+{
+    let Some((first, behind)) = bytes.split_first() else {
+        return Err(ParseFault::Syntax);
+    };
+    if *first == b'(' {
+        let (names, rest) = names(alloc, behind)?;
+        return Ok((Arg::NewOthers(names), rest));
+    }
+    let (name, rest) = name(alloc, bytes)?;
+    Ok((Arg::NewOne(name), rest))
+}

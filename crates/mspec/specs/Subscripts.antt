@@ -1,0 +1,17 @@
+-- Whether texts can be the subscripts of a node, as tests that compute.
+use Rattle.std.specs.Prelude.{Bool, ◌&&◌, nat_le, nat_lt, List, length}
+use Rattle.std.specs.List.{list_all}
+use Rattle.mspec.specs.Node.{Text}
+use Rattle.mspec.specs.Trees.{front, last}
+
+abbrev pub is_subscript : Text → Bool
+is_subscript x = nat_lt 0 (length x) && nat_le (length x) 255
+
+-- those of a node
+abbrev pub are_subscripts : List Text → Bool
+are_subscripts xs = nat_le (length xs) 15 && list_all is_subscript xs
+
+-- those with which $ORDER is asked: at least one, and the last may be empty
+abbrev pub are_order_subscripts : List Text → Bool
+are_order_subscripts xs =
+    nat_lt 0 (length xs) && (nat_le (length xs) 15 && (list_all is_subscript (front xs) && nat_le (length (last xs)) 255))

@@ -1,13 +1,13 @@
 -- What the checks let through as a walk.
-use Rattle.std.proofs.Common.{◌≡◌, ℕ, zero, suc, ◌<◌, false, true, List, [], ◌∷◌, length, Ok, Err, subst, refl, sym, arith}
+use Rattle.std.proofs.Common.{◌≡◌, ℕ, zero, suc, ◌<◌, false, List, [], ◌∷◌, length, Ok, Err, subst, refl, sym, arith}
 use Rattle.std.specs.Prelude.{◌==◌}
 use Rattle.std.proofs.lemmas.Bool.{false≢true}
-use Rattle.mspec.specs.Act.{Text, ◌>>=◌, ◌>>◌, give, unless}
+use Rattle.mspec.specs.Act.{Text, ◌>>◌, give, unless}
 use Rattle.mspec.specs.Code as spec
 use Rattle.mspec.specs.Trees.{AreOrderSubscripts}
 use Rattle.mspec.specs.Subscripts.{are_order_subscripts}
 use Rattle.mspec.proofs.SubscriptTests.{order_subscripts_test}
-use Rattle.mmeaning.specs.Variables.{Place, of_local, at_local, ordering, resolve, some_subscript}
+use Rattle.mmeaning.specs.Variables.{of_local, at_local, ordering, resolve, some_subscript}
 use Rattle.mmeaning.specs.Yields.{Yields}
 use Rattle.moperator.specs.Codes.{fault_of}
 use Rattle.moperator.specs.declared.code.Code.{Code}

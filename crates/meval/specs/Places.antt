@@ -3,7 +3,7 @@ use Rattle.std.specs.Prelude.{Bool, List}
 use Rattle.mspec.specs.Node.{Text}
 use Rattle.mspec.specs.Trees.{AreOrderSubscripts}
 use Rattle.mmeaning.specs.Variables as variables
-use Rattle.mlocal.specs.declared.walk.Data.{Data}
+use Rattle.mkey.specs.declared.walk.Data.{Data}
 use Rattle.meval.specs.declared.place.Pending.{Pending}
 use Rattle.meval.specs.declared.place.Pending.TheVariants as pending
 use Rattle.meval.specs.declared.place.Place.{Place}

@@ -1,12 +1,12 @@
 // The evaluation of expressions.
 ghost use Rattle.std.specs.Prelude.{◌≡◌, ◌≢◌, ◌≤◌, ◌<◌, [], map, slice_get, unwrap_or, Err, IfOk};
 ghost use Rattle.mgrammar.specs.Grammar.{exprs_of, choices_of, function_of, special_of};
-ghost use Rattle.mlocal.specs.Way.{way};
+ghost use Rattle.mkey.specs.Way.{way};
 ghost use Rattle.mmeaning.specs.Expression as meaning;
 ghost use Rattle.mmeaning.specs.LineMeaning as line;
 ghost use Rattle.mmeaning.specs.Variables as variables;
 ghost use Rattle.mnum.specs.Num.{units};
-ghost use Rattle.mspec.specs.Act.{charge};
+ghost use Rattle.mspec.specs.Act.{charge, get_local};
 ghost use Rattle.mtree.specs.Tree.{expr_tree, step_tree, operand_tree, primary_tree, reference_tree, choice_tree};
 ghost use Rattle.mtree.specs.declared.tree.Referring.{out-Referring};
 ghost use Rattle.moperator.specs.declared.code.Code.TheVariants.{Zstore};
@@ -15,12 +15,12 @@ ghost use Rattle.meval.specs.Acts as acts;
 ghost use Rattle.meval.specs.Places.{pending_view, place_view, place_of, status_view, IsWalk};
 
 use crate::depth::Depth;
-use crate::place::{Pending, Place, check_walk, local_parts, resolved};
+use crate::place::{Pending, Place, check_walk, local_parts, plain_name, resolved};
 use crate::session::Session;
 use crate::walk::{data_value, direction, first_or_empty, texts};
 use mgrant::{AccountId, Settings};
-use mlocal::{Data, Direction};
-use mnum::{Bytes7, Num};
+use mkey::{Data, Direction};
+use mnum::{Bytes7, Name, Num};
 use moperator::{Code, binary, call, computed, matching, number_of, truth_of, unaries};
 use mstore::NodeStore;
 use mtree::{
@@ -61,6 +61,18 @@ impl<'a, S: NodeStore> Eval<'a, S> {
         }
         self.steps -= 1;
         Ok(())
+    }
+
+    // The value of a local variable without subscripts, which is asked for most often.
+    fn local(&mut self, name: &Name) -> Result<Value, Code>
+        ensures loans { KeepsEval self.old self.new }
+        ensures fewer { self.new.steps ≤ self.old.steps }
+        ensures does { Evaluates S.NodeStore (λ i. get_local name.now []) (λ v. v) self.old result self.new }
+    {
+        match self.session.locals.get(name, &[])? {
+            Some(value) => Ok(value.copy()?),
+            None => Err(Code::M6),
+        }
     }
 
     // The value of a place, where it has one.
@@ -204,6 +216,9 @@ impl<'a, S: NodeStore> Eval<'a, S> {
             Primary::Text(text) => Ok(Value::of_text(text.copy()?)),
             Primary::Special(word) => self.special(word),
             Primary::Reference(reference) => {
+                if let Some(name) = plain_name(reference) {
+                    return self.local(name);
+                }
                 let pending = self.evaluated(alloc, reference)?;
                 let place = resolved(pending)?;
                 self.read(&place)
@@ -229,6 +244,9 @@ impl<'a, S: NodeStore> Eval<'a, S> {
         ensures fewer { self.new.steps ≤ self.old.steps }
         ensures does { Evaluates S.NodeStore (λ i. meaning.evaluated i (reference_tree reference.now)) pending_view self.old result self.new }
     {
+        if let Some(name) = plain_name(reference) {
+            return Ok(Pending::Local(name, Vec::new(alloc)));
+        }
         let (name, subscripts) = local_parts(reference);
         let values = self.values(alloc, subscripts)?;
         let texts = texts(alloc, values)?;

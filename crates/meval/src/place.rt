@@ -1,6 +1,6 @@
 // References of which all is evaluated, and places that the checks let through.
 ghost use Rattle.std.specs.Prelude.{◌≡◌, ◌↔◌, IsTrue, IsSome, IfSome, IfOk, map};
-ghost use Rattle.mgrammar.specs.Grammar.{local, exprs_of};
+ghost use Rattle.mgrammar.specs.Grammar.{local, no_exprs, exprs_of};
 ghost use Rattle.mtree.specs.Tree.{expr_tree, reference_tree};
 ghost use Rattle.mmeaning.specs.Variables.{resolve, reading, ordering, writing};
 ghost use Rattle.mmeaning.specs.Yields.{Yields};
@@ -9,8 +9,7 @@ ghost use Rattle.mspec.specs.Subscripts.{are_subscripts};
 ghost use Rattle.moperator.specs.Codes.{fault_of};
 ghost use Rattle.meval.specs.Places.{pending_view, place_view, place_of, texts_of, IsWalk};
 
-use mkey::subs_ok;
-use mlocal::order_subs_ok;
+use mkey::{order_subs_ok, subs_ok};
 use mnum::{Bytes7, Name};
 use moperator::Code;
 use mtree::{Expr, Reference};
@@ -29,6 +28,17 @@ pub fn local_parts<'t>(reference: &'t Reference) -> (&'t Name, &'t [Expr])
 {
     match reference {
         Reference::Local(name, subscripts) => (name, subscripts),
+    }
+}
+
+// The name of a local variable that has no subscript.
+pub fn plain_name(reference: &Reference) -> Option<&Name>
+    ensures { IfSome result (λ name. reference_tree reference.now ≡ local name.now no_exprs) }
+{
+    let (name, subscripts) = local_parts(reference);
+    match subscripts {
+        [] => Some(name),
+        [_, ..] => None,
     }
 }
 

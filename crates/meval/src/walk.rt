@@ -3,10 +3,10 @@ ghost use Rattle.std.specs.Prelude.{◌≡◌, [], pos, slice_get, unwrap_or, If
 ghost use Rattle.mmeaning.specs.Functions.{whole_text};
 ghost use Rattle.mmeaning.specs.Variables.{data_number, direction_of};
 ghost use Rattle.mmeaning.specs.Yields.{Yields};
-ghost use Rattle.mlocal.specs.Way.{way};
+ghost use Rattle.mkey.specs.Way.{way};
 ghost use Rattle.moperator.specs.Codes.{fault_of};
 
-use mlocal::{Data, Direction};
+use mkey::{Data, Direction};
 use mnum::Bytes7;
 use moperator::{Code, whole_of};
 use mvalue::Value;

@@ -7,3 +7,5 @@ pub mod SubscriptFronts
 pub mod SubscriptLists
 pub mod SubsKeys
 pub mod KeyWalks
+pub mod NodeFronts
+pub mod Children

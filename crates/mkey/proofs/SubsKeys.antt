@@ -1,5 +1,5 @@
 -- Bytes of lists of subscripts that begin alike.
-use Rattle.std.proofs.Common.{ℕ, zero, suc, ◌≡◌, ◌==◌, ◌<◌, ◌++◌, Bool, true, false, nat_eq, List, [], ◌∷◌, length, drop, Some, None, refl, sym, ◌∙◌, ap, arith}
+use Rattle.std.proofs.Common.{ℕ, suc, ◌≡◌, ◌==◌, ◌<◌, ◌++◌, Bool, true, false, nat_eq, List, [], ◌∷◌, length, drop, Some, None, refl, sym, ◌∙◌, ap, arith}
 use Rattle.std.specs.Prelude.{slice_get, if◌then◌else◌}
 use Rattle.std.specs.Cmp.Lexicographic.{bytes_decides}
 use Rattle.std.specs.Fmt.{digits}
@@ -20,10 +20,11 @@ use Rattle.mspec.proofs.KeyOrders.{tag_of}
 use Rattle.mspec.proofs.KeyRanges.{subscripts_split, subscript_split}
 use Rattle.mkey.specs.Front.{IsFront, BeginsWithNo, IsSub, AreSubs}
 use Rattle.mkey.specs.SubsKey.{IsSubsKeyOf, beyond, behind_below}
+use Rattle.mkey.proofs.Children.{at_front}
 use Rattle.mkey.proofs.SubscriptFronts.{nothing_begins}
 use Rattle.mkey.proofs.SubscriptLists.{sub_behind}
 
-same_truth : (a b : Bool) → (a ≡ true → b ≡ true) → (b ≡ true → a ≡ true) → a ≡ b
+pub same_truth : (a b : Bool) → (a ≡ true → b ≡ true) → (b ≡ true → a ≡ true) → a ≡ b
 same_truth true b f g = sym (f refl)
 same_truth false true f g = g refl
 same_truth false false f g = refl
@@ -71,13 +72,7 @@ bytes_behind xs ys h =
     ap (drop (length (subscripts_bytes significant_digits xs))) (bytes_within xs ys h)
     ∙ drop-append_seam (subscripts_bytes significant_digits xs) (subscripts_bytes significant_digits (drop (length xs) ys))
 
-at_front : {X : Type 0} (ys : List X) (n : ℕ) → slice_get ys n ≡ slice_get (drop n ys) 0
-at_front [] zero = refl
-at_front [] (suc n) = refl
-at_front (y ∷ ys) zero = refl
-at_front (y ∷ ys) (suc n) = at_front ys n
-
-child_is : (xs ys : List Text) → is_within xs ys ≡ true → child_of xs ys ≡ slice_get (drop (length xs) ys) 0
+pub child_is : (xs ys : List Text) → is_within xs ys ≡ true → child_of xs ys ≡ slice_get (drop (length xs) ys) 0
 child_is xs ys h = ap (λ b. if b then slice_get ys (length xs) else None) h ∙ at_front ys (length xs)
 
 -- what is read behind the bytes of xs is the child of ys

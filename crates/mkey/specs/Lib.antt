@@ -3,3 +3,5 @@ pub mod Key
 pub mod Front
 pub mod Parent
 pub mod SubsKey
+pub mod Way
+pub mod Under

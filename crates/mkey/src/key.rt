@@ -1,9 +1,12 @@
 // Keys of nodes.
-ghost use Rattle.std.specs.Prelude.{◌≡◌, ◌↔◌, ◌<◌, [], ◌∷◌, ◌++◌, IfOk, Err, All, Some, MatchOption, refl};
+ghost use Rattle.std.specs.Prelude.{◌≡◌, ◌↔◌, ◌<◌, [], ◌∷◌, ◌++◌, IfOk, IfSome, Err, All, Some, MatchOption, refl};
 ghost use Rattle.std.specs.Cmp.{partial_equiv_from_equiv, partial_order_from_total, eq_by_cmp_equiv};
 ghost use Rattle.std.specs.Ordering.{eq_by_cmp};
-ghost use Rattle.mkey.specs.Key.{IsKey, IsKey-prop, BoundsKeysOf};
+ghost use Rattle.mkey.specs.Front.{IsSub};
+ghost use Rattle.mkey.specs.Key.{IsKey, IsKeyOf, IsKey-prop, BoundsKeysOf};
 ghost use Rattle.mkey.specs.Parent.{IsParent};
+ghost use Rattle.mkey.specs.Under.{child_under};
+ghost use Rattle.mspec.specs.Act.{Node};
 ghost use Rattle.mspec.specs.Names.{IsName};
 ghost use Rattle.mspec.specs.KeyBytes.{key_bytes, children_start, subtree_end, IsAccountName, AreSubscripts, IsStored};
 ghost use Rattle.mspec.specs.KeyLaws.{BeginsWith, IsWithin};
@@ -12,6 +15,7 @@ ghost use Rattle.mspec.specs.Number.{significant_digits};
 ghost use Rattle.mspec.proofs.NodeOrders.{node_cmp_total};
 
 use crate::ancestors::last_subscript;
+use crate::decoding::{behind, read_subscript};
 use crate::encoding::{push_subscripts, push_text, room};
 use crate::fault::KeyFault;
 use crate::order::compare;
@@ -138,11 +142,32 @@ impl NodeKey {
     pub fn child_bounds(&self, alloc: Global) -> Result<(Vec<u8>, Vec<u8>), AllocError>
         ensures low { IfOk result (λ bounds. bounds.0.items ≡ children_start (key_bytes significant_digits self.now)) }
         ensures high { IfOk result (λ bounds. bounds.1.items ≡ subtree_end (key_bytes significant_digits self.now)) }
+        ensures stored { IsStored self.now }
         ensures below { IfOk result (λ bounds. BoundsKeysOf (IsAncestor self.now) bounds.0.items bounds.1.items) }
     {
         let low = self.followed_by(alloc, FIRST_TAG)?;
         let high = self.followed_by(alloc, BEHIND_TAGS)?;
         Ok((low, high))
+    }
+
+    /// The subscript next behind this node's in the node whose key these bytes are, where that node stands below this one. Of bytes
+    /// that are no key nothing is said.
+    ///
+    /// # Errors
+    ///
+    /// `AllocError` for want of memory.
+    pub fn child_in(&self, alloc: Global, bytes: &[u8]) -> Result<Option<Bytes7>, AllocError>
+        ensures child { IfOk result (λ child. (m : Node) → IsKeyOf m bytes.now → child ≡ child_under self.now m) }
+        ensures sub { IfOk result (λ child. IfSome child IsSub) }
+    {
+        let key = self.as_bytes();
+        if !bytes.starts_with(key) {
+            return Ok(None);
+        }
+        match read_subscript(alloc, behind(bytes, key.len()))? {
+            None => Ok(None),
+            Some((text, _)) => Ok(Some(text)),
+        }
     }
 }
 

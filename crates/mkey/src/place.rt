@@ -1,5 +1,5 @@
 // Where a text stands among the subscripts.
-ghost use Rattle.std.specs.Prelude.{◌≡◌, ◌*◌, ◌^◌, ◌<◌, pos, unsigned_abs, Some, IfSome};
+ghost use Rattle.std.specs.Prelude.{◌≡◌, ◌*◌, ◌^◌, ◌<◌, pos, unsigned_abs, Some, is_some, IfSome};
 ghost use Rattle.mspec.specs.Number.{significant_digits};
 ghost use Rattle.mspec.specs.NodeOrder.{canonical_value, text_cmp};
 
@@ -39,6 +39,13 @@ pub fn canonical(text: &[u8]) -> Option<i128>
         Ok(number) => Some(number.to_units()),
         Err(_) => None,
     }
+}
+
+/// Whether the text is the canonical text of a number, and stands among the subscripts by that. Takes no memory.
+pub fn is_numeric(text: &Bytes7) -> bool
+    ensures { result ≡ is_some (canonical_value significant_digits text.now) }
+{
+    canonical(text.as_bytes()).is_some()
 }
 
 /// The order of two texts as subscripts: the empty text, then canonical texts of numbers by value, then all others by character

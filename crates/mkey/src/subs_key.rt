@@ -95,6 +95,18 @@ impl SubsKey {
         self.bytes.as_slice()
     }
 
+    /// A second key of the same subscripts, on this one's allocator.
+    ///
+    /// # Errors
+    ///
+    /// `AllocError` for want of memory.
+    pub fn copy(&self) -> Result<SubsKey, AllocError>
+        ensures { IfOk result (λ key. key ≡ self.now) }
+    {
+        let bytes = self.bytes.clone()?;
+        Ok(SubsKey { bytes })
+    }
+
     /// Whether the list begins with another one. Takes no memory.
     pub fn is_within(&self, above: &SubsKey) -> bool
         ensures { result ≡ is_within above.now self.now }

@@ -1,11 +1,12 @@
 -- The lists of subscripts between two bounds.
-use Rattle.std.proofs.Common.{◌≡◌, ℕ, zero, suc, ◌<◌, Bool, true, false, not, ◌&&◌, List, [], ◌∷◌, ◌++◌, length, drop, All, Option, Some, None, refl, sym, ap, ◌∙◌, arith, append_assoc, append-nil}
+use Rattle.std.proofs.Common.{◌≡◌, ℕ, ◌<◌, Bool, true, false, not, ◌&&◌, List, [], ◌∷◌, ◌++◌, length, drop, All, Option, Some, None, refl, sym, ap, ◌∙◌, arith, append_assoc, append-nil}
 use Rattle.std.specs.Prelude.{ℤ, slice_get, cond}
 use Rattle.std.specs.Cmp.Lexicographic.{slice_cmp, bytes_decides}
 use Rattle.std.specs.Fmt.{digits}
 use Rattle.std.specs.Ordering.{nat_cmp, is_lt, is_le, ordering_then, ordering_reverse}
 use Rattle.std.specs.declared.cmp.Ordering.{Ordering}
 use Rattle.std.specs.declared.cmp.Ordering.TheVariants.{Less, Equal, Greater}
+use Rattle.std.proofs.Math.Bool.{and-true}
 use Rattle.std.proofs.lemmas.Bool.Decides.{nat_tests}
 use Rattle.std.proofs.lemmas.Cmp.{tied_itself}
 use Rattle.std.proofs.lemmas.List.Elements.{All-head, All-tail, All-drop}
@@ -17,7 +18,8 @@ use Rattle.mspec.specs.Trees.{text_eq, is_within, is_before}
 use Rattle.mspec.proofs.NodeOrders.{text_cmp_total, text_cmp_exact}
 use Rattle.mkey.specs.Front.{IsSub, AreSubs}
 use Rattle.mkey.specs.SubsKey.{beyond, behind_below}
-use Rattle.mlocal.specs.Way.{is_between, passes, has_child}
+pub use Rattle.mkey.proofs.Children.{at_front, empty_first}
+use Rattle.mlocal.specs.Way.{is_between, is_from, passes, has_child}
 
 abbrev C : Text → Text → Ordering
 C = text_cmp significant_digits
@@ -67,15 +69,6 @@ beyond_last (c ∷ s) sub = ap (λ p. place_cmp p (place significant_digits (c �
     by_value (Some u) = refl
     by_value None = ap (λ o. ordering_then o (slice_cmp nat_cmp [] s)) (above_ascii c (All-head (λ k. k < 128) c s sub.1))
 
--- the empty text stands before all subscripts
-pub empty_first : (s : Text) → IsSub s → is_before [] s ≡ true
-empty_first [] sub = absurd (omega (arith, sub.0.some))
-empty_first (c ∷ s) sub = by_value (canonical_value significant_digits (c ∷ s))
-  where
-    by_value : (o : Option ℤ) → is_lt (place_cmp (place significant_digits []) (place_by (c ∷ s) o)) ≡ true
-    by_value (Some u) = refl
-    by_value None = refl
-
 -- ---- what stands between the bounds, by its first subscript
 
 all_between : (p : Text → Bool) → ((s : Text) → IsSub s → p s ≡ true) → (d : List Text) → All IsSub d → is_between [] (beyond ∷ []) d ≡ passes p (slice_get d 0)
@@ -112,12 +105,6 @@ before_between x (c ∷ d) = is_greater (C x c) d ∙ ap is_lt (sym ((text_cmp_t
 
 -- ---- the subscript next behind a list
 
-pub at_front : {X : Type 0} (ys : List X) (n : ℕ) → slice_get ys n ≡ slice_get (drop n ys) 0
-at_front [] zero = refl
-at_front [] (suc n) = refl
-at_front (y ∷ ys) zero = refl
-at_front (y ∷ ys) (suc n) = at_front ys n
-
 passes_both : (p : Text → Bool) (b : Bool) (o : Option Text) → (b && passes p o) ≡ passes p (cond b o None)
 passes_both p true o = refl
 passes_both p false o = refl
@@ -151,6 +138,30 @@ below_before xs x ys =
     ∙ between-front xs [] (x ∷ []) ys
     ∙ ap (λ b. is_within xs ys && b) (before_between x (drop (length xs) ys))
     ∙ child-drop (λ c. is_before c x) xs ys
+
+-- ---- a node, and what stands below it
+
+within_step : (x y : Text) (o : Ordering) → C x y ≡ o → (a b : Ordering) (w i : Bool) → (is_le a && not (is_le b)) ≡ (w && i) → (is_le (ordering_then o a) && not (is_le (ordering_then o b))) ≡ ((text_eq x y && w) && i)
+within_step x y Less e a b w i h = ap (λ t. (t && w) && i) (sym (not_same x y Less e (λ n. cc)))
+within_step x y Equal e a b w i h = h ∙ ap (λ t. (t && w) && i) (sym ((bytes_decides x y).1 (text_cmp_exact significant_digits x y e)))
+within_step x y Greater e a b w i h = ap (λ t. (t && w) && i) (sym (not_same x y Greater e (λ n. cc)))
+
+from-front : (xs low high ys : List Text) → is_from (xs ++ low) (xs ++ high) ys ≡ (is_within xs ys && is_from low high (drop (length xs) ys))
+from-front [] low high ys = refl
+from-front (x ∷ xs) low high [] = refl
+from-front (x ∷ xs) low high (y ∷ ys) = within_step x y (C x y) refl (R (xs ++ low) ys) (R (xs ++ high) ys) _ _ (from-front xs low high ys)
+
+all_from : (d : List Text) → All IsSub d → is_from [] (beyond ∷ []) d ≡ true
+all_from [] all = refl
+all_from (c ∷ d) all = ap (λ o. not (is_le (ordering_then o (R [] d)))) (beyond_last c (All-head IsSub c d all))
+
+-- those that begin with a list
+pub from_within : (xs ys : List Text) → AreSubs ys → is_from xs (behind_below xs) ys ≡ is_within xs ys
+from_within xs ys subs =
+    ap (λ low. is_from low (behind_below xs) ys) (sym (append-nil xs))
+    ∙ from-front xs [] (beyond ∷ []) ys
+    ∙ ap (λ b. is_within xs ys && b) (all_from (drop (length xs) ys) (subs_behind xs ys subs))
+    ∙ and-true (is_within xs ys)
 
 -- ---- what has more subscripts stands behind
 

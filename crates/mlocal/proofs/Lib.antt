@@ -6,3 +6,4 @@ pub mod Bounds
 pub mod Walks
 pub mod Own
 pub mod Steps
+pub mod Removals

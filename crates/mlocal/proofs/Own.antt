@@ -53,6 +53,9 @@ others_there (Some x) t (s ∷ k) some = sym (get-insert (subscripts_cmp_total s
 
 -- ---- a text is given, or taken
 
+pub retained : (t : Tree) (k q : List Text) → get (without t k) q ≡ cond (not (is_within k q)) (get t q) None
+retained t k q = get-retain_keys t (λ ys. not (is_within k ys)) q (λ x e. ap (λ ys. not (is_within k ys)) (sym (subscripts_cmp_exact significant_digits q x e)))
+
 module _ (t : Tree) where
   twice : (b : Bool) (x y : Text) (o : Option Text) → cond b (Some x) o ≡ cond b (Some x) (cond b (Some y) o)
   twice true x y o = refl
@@ -82,9 +85,6 @@ module _ (t : Tree) where
 
   kept : (k : List Text) → List Text → Bool
   kept k = λ ys. not (is_within k ys)
-
-  retained : (t : Tree) (k q : List Text) → get (without t k) q ≡ cond (not (is_within k q)) (get t q) None
-  retained t k q = get-retain_keys t (λ ys. not (is_within k ys)) q (λ x e. ap (λ ys. not (is_within k ys)) (sym (subscripts_cmp_exact significant_digits q x e)))
 
   pub own_killed : (o : Option Text) → empty ≡ without (with_own o t) []
   own_killed o = same_map (subscripts_cmp_total significant_digits) (subscripts_cmp_exact significant_digits) _ _ (λ q. get-empty R q ∙ sym (retained (with_own o t) [] q))

@@ -4,23 +4,20 @@ use Rattle.std.specs.Prelude.{option_map, unwrap_or, nat_eq}
 use Rattle.std.specs.Option.{option_copied}
 use Rattle.std.specs.Result.{IfOk, OnOk, OnErr}
 use Rattle.std.specs.Map.{lookup, set_value}
-use Rattle.std.specs.BTreeMap.{BTreeMap}
 use Rattle.std.specs.HashMap as hash
 use Rattle.std.specs.HashMap.{HashMap}
 use Rattle.std.specs.Cmp.Lexicographic.{slice_cmp, pointwise, texts_ties, nat_list_cmp_total}
 use Rattle.std.specs.FinMap.{IsAntisymmetric, from_entries, empty, retain_keys, same_map, get-from_entries, get-retain_keys, nat_cmp-IsAntisymmetric, slice_cmp-IsAntisymmetric}
 use Rattle.std.specs.FinMap.Entries.{where_key, find-where_key}
 use Rattle.std.specs.Cmp.{IsTotalOrder}
-use Rattle.std.specs.List.{All, filter}
-use Rattle.std.specs.Map.{keys_of}
+use Rattle.std.specs.List.{filter}
 use Rattle.std.specs.Map.Calls.{RetainsPairs}
 use Rattle.std.specs.Ordering.{nat_cmp}
 use Rattle.std.specs.declared.cmp.Ordering.{Ordering}
 use Rattle.std.specs.declared.cmp.Ordering.TheVariants.{Equal}
-use Rattle.std.proofs.lemmas.List.Elements.{All-head, All-tail, All-cons}
 use Rattle.std.proofs.lemmas.Map.Entries.{filter_from_retain_pairs}
 use Rattle.std.proofs.lemmas.Map.Steps.{set_value_same}
-use Rattle.mspec.specs.Maps.{map_of, hash_map_of}
+use Rattle.mspec.specs.Maps.{hash_map_of}
 use Rattle.mspec.specs.Node.{Text}
 use Rattle.mspec.specs.Scopes.{Scope, with_tree, tree_in}
 use Rattle.mspec.specs.Trees.{Tree}
@@ -96,15 +93,3 @@ module _ {K X : Type 0} {R : K → K → Ordering} (total : IsTotalOrder R) (exa
 
   pub retain-hash_map_of : {S : Type 0} (m m' : HashMap K X S) (p : K → Bool) → m'.entries ≡ filter (λ e. p e.0) m.entries → hash_map_of {R = R} (λ x. x) m' ≡ retain_keys (hash_map_of (λ x. x) m) p
   retain-hash_map_of m m' p h = ap (λ l. from_entries (pairs l)) h ∙ ap from_entries (sym (where-view p m.entries)) ∙ from_entries-where (pairs m.entries) p
-
-  pub retain-map_of : (m m' : BTreeMap K X) (p : K → Bool) → m'.entries ≡ filter (λ e. p e.0) m.entries → map_of {R = R} (λ x. x) m' ≡ retain_keys (map_of (λ x. x) m) p
-  retain-map_of m m' p h = ap (λ l. from_entries (pairs l)) h ∙ ap from_entries (sym (where-view p m.entries)) ∙ from_entries-where (pairs m.entries) p
-
--- what holds of each key holds of those that are kept
-pub keys_kept : {K X : Type 0} (P : K → Type 0) (p : K → Bool) (es : List (K × X)) → All P (keys_of es) → All P (keys_of (filter (λ e. p e.0) es))
-keys_kept P p [] all = all
-keys_kept P p (e ∷ es) all = here (p e.0) (keys_kept P p es (All-tail P e.0 (keys_of es) all))
-  where
-    here : (b : Bool) → All P (keys_of (filter (λ e. p e.0) es)) → All P (keys_of (cond b (e ∷ filter (λ e. p e.0) es) (filter (λ e. p e.0) es)))
-    here true rest = All-cons P e.0 (keys_of (filter (λ e. p e.0) es)) (All-head P e.0 (keys_of es) all) rest
-    here false rest = rest

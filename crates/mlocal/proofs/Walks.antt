@@ -1,10 +1,9 @@
 -- The first and the last of the nodes that a test takes, as what $DATA and $ORDER ask.
-use Rattle.std.proofs.Common.{◌≡◌, ℕ, suc, ◌+◌, ◌-◌, ◌<◌, ◌≤◌, Bool, true, false, not, ◌&&◌, ◌||◌, cond, List, [], ◌∷◌, ◌++◌, length, drop, map, reverse, All, Option, Some, None, refl, sym, ap, ◌∙◌, subst, arith, append-nil, length-append}
-use Rattle.std.specs.Prelude.{slice_get, option_and_then, option_map, is_some, nat_lt, T}
+use Rattle.std.proofs.Common.{◌≡◌, Bool, true, false, not, ◌&&◌, ◌||◌, cond, List, [], ◌∷◌, ◌++◌, map, reverse, All, Option, Some, None, refl, sym, ap, ◌∙◌, subst}
+use Rattle.std.specs.Prelude.{slice_get, option_and_then, option_map, is_some, T}
 use Rattle.std.specs.BTreeMap as tree
 use Rattle.std.specs.BTreeMap.{BTreeMap, IsOrdered}
 use Rattle.std.specs.Cmp.{IsTotalOrder}
-use Rattle.std.specs.Cmp.Lexicographic.{bytes_decides}
 use Rattle.std.specs.FinMap as map
 use Rattle.std.specs.FinMap.{IsAntisymmetric, from_entries, from_sorted, empty, entries, len-entries, len-empty, get-empty, same_map, get-from_entries, get-from_sorted, entries-from_sorted}
 use Rattle.std.specs.FinMap.Entries.{is_sorted, below_all}
@@ -15,16 +14,11 @@ use Rattle.std.specs.Option.{option_to_list, option_or}
 use Rattle.std.specs.Ordering.{is_lt, is_le}
 use Rattle.std.specs.declared.cmp.Ordering.{Ordering}
 use Rattle.std.specs.declared.cmp.Ordering.TheVariants.{Less, Equal, Greater}
-use Rattle.std.proofs.lemmas.Bool.Decides.{nat_tests}
-use Rattle.std.proofs.lemmas.List.{reverse-append, map-id, take-append-drop, drop_all}
+use Rattle.std.proofs.lemmas.List.{reverse-append, map-id}
 use Rattle.std.proofs.lemmas.List.Folds.{find-append}
 use Rattle.std.proofs.lemmas.Map.Keys.{sorted_tail}
 use Rattle.std.proofs.lemmas.Map.Views.{All-after_first}
-use Rattle.std.proofs.lemmas.List.Concat.{flat_map-append}
 use Rattle.std.proofs.lemmas.List.Elements.{All-head, All-tail, All-push, All-nil}
-use Rattle.std.proofs.lemmas.Slice.Eq.{starts_is}
-use Rattle.std.proofs.Math.Seq.{drop-cons}
-use Rattle.mspec.specs.KeyBytes.{IsSubscript, AreSubscripts}
 use Rattle.mspec.specs.Maps.{map_of}
 use Rattle.mspec.specs.Node.{Text}
 use Rattle.mspec.specs.NodeOrder.{subscripts_cmp}
@@ -35,7 +29,8 @@ use Rattle.mspec.proofs.NodeOrders.{subscripts_cmp_total}
 use Rattle.mkey.specs.Front.{AreSubs}
 use Rattle.mkey.specs.SubsKey.{behind_below}
 use Rattle.mlocal.specs.Way.{is_behind, is_between, passes, has_child}
-use Rattle.mlocal.proofs.Bounds.{at_front}
+pub use Rattle.mkey.proofs.Children.{no_list, not_empty, split_last, whole, below_is}
+use Rattle.mkey.proofs.Children.{find_child, find_last_child}
 use Rattle.mlocal.proofs.Bounds.{below_all as each_below}
 
 -- ---- the first that a test takes
@@ -58,37 +53,11 @@ any_found p q (k ∷ ks) all alike = here (p k) (q k) (alike k (All-head AreSubs
 abbrev subs_of : List Text → List (List Text) → List Text
 subs_of xs ks = flat_map (λ ys. option_to_list (child_of xs ys)) ks
 
-pub find_child : (p : Text → Bool) (xs : List Text) (ks : List (List Text)) → find p (subs_of xs ks) ≡ option_and_then (child_of xs) (find (has_child p xs) ks)
-find_child p xs [] = refl
-find_child p xs (k ∷ ks) = by_child (child_of xs k) refl (find_child p xs ks)
-  where
-    here : (b : Bool) (c : Text) → child_of xs k ≡ Some c → (find p (subs_of xs ks) ≡ option_and_then (child_of xs) (find (has_child p xs) ks)) → cond b (Some c) (find p (subs_of xs ks)) ≡ option_and_then (child_of xs) (cond b (Some k) (find (has_child p xs) ks))
-    here true c e rest = sym e
-    here false c e rest = rest
-
-    by_child : (o : Option Text) → child_of xs k ≡ o → (find p (subs_of xs ks) ≡ option_and_then (child_of xs) (find (has_child p xs) ks)) → find p (option_to_list o ++ subs_of xs ks) ≡ option_and_then (child_of xs) (cond (passes p o) (Some k) (find (has_child p xs) ks))
-    by_child None e rest = rest
-    by_child (Some c) e rest = here (p c) c e rest
-
-one_reversed : (o : Option Text) → reverse (option_to_list o) ≡ option_to_list o
-one_reversed None = refl
-one_reversed (Some c) = refl
-
-subs_reversed : (xs : List Text) (ks : List (List Text)) → reverse (subs_of xs ks) ≡ subs_of xs (reverse ks)
-subs_reversed xs [] = refl
-subs_reversed xs (k ∷ ks) =
-    let f : List Text → List Text = λ ys. option_to_list (child_of xs ys) in
-    reverse-append (f k) (subs_of xs ks)
-    ∙ ap (λ l. l ++ reverse (f k)) (subs_reversed xs ks)
-    ∙ ap (λ l. subs_of xs (reverse ks) ++ l) (one_reversed (child_of xs k) ∙ sym (append-nil (f k)))
-    ∙ sym (flat_map-append f (reverse ks) (k ∷ []))
-    ∙ sym (ap (flat_map f) (reverse-append (k ∷ []) ks))
-
 pub order_forward : (t : Tree) (xs : List Text) (x : Text) → order_of t trees.Forward xs x ≡ option_and_then (child_of xs) (find (has_child (is_before x) xs) (map.keys t))
-order_forward t xs x = find_child (is_before x) xs (map.keys t)
+order_forward t xs x = find_child (child_of xs) (is_before x) (map.keys t)
 
 pub order_backward : (t : Tree) (xs : List Text) (x : Text) → order_of t trees.Backward xs x ≡ option_and_then (child_of xs) (find (has_child (λ c. is_empty x || is_before c x) xs) (reverse (map.keys t)))
-order_backward t xs x = ap (find (λ c. is_empty x || is_before c x)) (subs_reversed xs (map.keys t)) ∙ find_child (λ c. is_empty x || is_before c x) xs (reverse (map.keys t))
+order_backward t xs x = find_last_child (child_of xs) (λ c. is_empty x || is_before c x) (map.keys t)
 
 -- ---- what a range begins and ends with
 
@@ -173,50 +142,6 @@ module _ {K X : Type 0} {R : K → K → Ordering} (total : IsTotalOrder R) (exa
 
   pub keys_are : (m : BTreeMap K X) → IsOrdered R m → map.keys (map_of {R = R} (λ x. x) m) ≡ tree.keys m
   keys_are m h = ap (map (λ e. e.0)) (entries_are_of m h)
-
--- ---- the subscripts of $ORDER
-
-pub split_last : (xs : List Text) → 0 < length xs → xs ≡ front xs ++ last xs ∷ []
-split_last xs some =
-    let inside : length xs - 1 < length xs = omega arith in
-    let past : length xs ≤ suc (length xs - 1) = omega arith in
-    sym (take-append-drop (length xs - 1) xs)
-    ∙ ap (λ l. front xs ++ l) (drop-cons xs (length xs - 1) [] inside ∙ ap (λ l. last xs ∷ l) (drop_all (suc (length xs - 1)) xs past))
-
--- with a last that is not empty they are those of a node
-pub whole : (xs : List Text) → AreOrderSubscripts xs → 0 < length (last xs) → AreSubscripts xs
-whole xs subs some = record {
-  few = subs.few;
-  each = subst (All IsSubscript) (sym (split_last xs subs.some)) (All-push IsSubscript (front xs) (last xs) subs.before.each (record { some = some; few = subs.short }));
-}
-
-pub no_list : {X : Type 0} (xs : List X) → length xs ≡ 0 → xs ≡ []
-no_list [] e = refl
-no_list (x ∷ xs) e = absurd (omega arith)
-
--- ---- what is below
-
-pub below_is : (xs ys : List Text) → has_child (λ c. true) xs ys ≡ is_below xs ys
-below_is xs ys = here (is_within xs ys) refl
-  where
-    more : (d : List Text) (n m : ℕ) → n ≡ m + length d → is_some (slice_get d 0) ≡ nat_lt m n
-    more [] n m e = grind (arith, nat_tests)
-    more (c ∷ d) n m e = grind (arith, nat_tests)
-
-    passed : (o : Option Text) → passes (λ c. true) o ≡ is_some o
-    passed None = refl
-    passed (Some c) = refl
-
-    here : (b : Bool) → is_within xs ys ≡ b → passes (λ c. true) (cond b (slice_get ys (length xs)) None) ≡ (b && nat_lt (length xs) (length ys))
-    here false e = refl
-    here true e =
-        let split : ys ≡ xs ++ drop (length xs) ys = (starts_is bytes_decides ys xs (is_within xs ys) refl).0 e in
-        passed (slice_get ys (length xs)) ∙ ap is_some (at_front ys (length xs))
-        ∙ more (drop (length xs) ys) (length ys) (length xs) (ap length split ∙ length-append xs (drop (length xs) ys))
-
-pub not_empty : (x : Text) → 0 < length x → is_empty x ≡ false
-not_empty [] some = absurd (omega arith)
-not_empty (c ∷ x) some = refl
 
 pub some_map : {X Y : Type 0} (f : X → Y) (o : Option X) → is_some o ≡ is_some (option_map f o)
 some_map f None = refl

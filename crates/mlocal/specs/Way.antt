@@ -1,18 +1,14 @@
--- The directions of the code, and the keys between two bounds.
-use Rattle.std.specs.Prelude.{Bool, false, List, Option, Some, None}
+-- The keys between two bounds.
+use Rattle.std.specs.Prelude.{Bool, List}
+use Rattle.std.specs.List.{list_any}
+use Rattle.std.specs.Ordering.{is_eq}
 use Rattle.std.specs.BTreeMap.Range.{range_contains}
-use Rattle.std.specs.declared.ops.Bound.TheVariants.{Excluded, Unbounded}
+use Rattle.std.specs.declared.ops.Bound.TheVariants.{Included, Excluded, Unbounded}
 use Rattle.mspec.specs.Node.{Text}
 use Rattle.mspec.specs.NodeOrder.{subscripts_cmp}
 use Rattle.mspec.specs.Number.{significant_digits}
-use Rattle.mspec.specs.Trees as trees
 use Rattle.mspec.specs.Trees.{child_of}
-use Rattle.mlocal.specs.declared.walk.Direction.{Direction}
-use Rattle.mlocal.specs.declared.walk.Direction.TheVariants.{Forward, Backward}
-
-abbrev pub way : Direction → trees.Direction
-way Forward = trees.Forward
-way Backward = trees.Backward
+pub use Rattle.mkey.specs.Under.{passes}
 
 -- whether a key stands behind one
 abbrev pub is_behind : List Text → List Text → Bool
@@ -22,9 +18,13 @@ is_behind low xs = range_contains (subscripts_cmp significant_digits) (Excluded 
 abbrev pub is_between : List Text → List Text → List Text → Bool
 is_between low high xs = range_contains (subscripts_cmp significant_digits) (Excluded low) (Excluded high) xs
 
-abbrev pub passes : (Text → Bool) → Option Text → Bool
-passes p None = false
-passes p (Some x) = p x
+-- whether a key stands at one, or behind it and before another
+abbrev pub is_from : List Text → List Text → List Text → Bool
+is_from low high xs = range_contains (subscripts_cmp significant_digits) (Included low) (Excluded high) xs
+
+-- whether a key is one of these
+abbrev pub is_one_of : List (List Text) → List Text → Bool
+is_one_of found xs = list_any (λ k. is_eq (subscripts_cmp significant_digits k xs)) found
 
 -- whether the subscript next behind xs passes a test
 abbrev pub has_child : (Text → Bool) → List Text → List Text → Bool

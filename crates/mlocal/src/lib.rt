@@ -3,8 +3,8 @@
 
 mod scope;
 mod scopes;
+mod subtree;
 mod variable;
-mod walk;
 
+pub use mkey::{Data, Direction, order_subs_ok};
 pub use scopes::Locals;
-pub use walk::{Data, Direction, order_subs_ok};

@@ -5,16 +5,16 @@ ghost use Rattle.std.specs.FinMap.{get, insert, retain_keys};
 ghost use Rattle.std.specs.List.{filter, list_any};
 ghost use Rattle.std.specs.Ordering.{nat_cmp};
 ghost use Rattle.mkey.specs.Front.{AreSubs};
+ghost use Rattle.mkey.specs.SubsKey.{behind_below};
 ghost use Rattle.mspec.specs.Maps.{hash_map_of};
 ghost use Rattle.mspec.specs.Scopes.{entered, bottom, has, tree_in, with_tree, is_among, hide, hide_others, kill_in, emptied};
 ghost use Rattle.mspec.specs.KeyBytes.{AreSubscripts};
 ghost use Rattle.mspec.specs.Trees.{has_value, has_descendants, order_of, front, last, AreOrderSubscripts};
 ghost use Rattle.mlocal.specs.Home.{has_name};
-ghost use Rattle.mlocal.specs.Way.{way};
+ghost use Rattle.mkey.specs.Way.{way};
 
 use crate::variable::Variable;
-use crate::walk::{Data, Direction};
-use mkey::SubsKey;
+use mkey::{Data, Direction, SubsKey};
 use mnum::{Bytes7, Name};
 use mvalue::Value;
 use std::alloc::{AllocError, Global};
@@ -152,13 +152,22 @@ impl Scope {
         }
     }
 
-    // Takes the texts of a node and of the nodes below it away. Takes no memory.
-    pub fn kill(&mut self, name: &Name, key: &SubsKey)
-        ensures { self.new ≡ kill_in name.now key.now (get self.old.trees name.now) self.old }
+    // Takes the texts of a node and of the nodes below it away, where `end` is the bound behind them. For want of memory the scope
+    // is as it was.
+    pub fn kill(
+        &mut self,
+        alloc: Global,
+        name: &Name,
+        key: &SubsKey,
+        end: &SubsKey,
+    ) -> Result<(), AllocError>
+        requires { end.now ≡ behind_below key.now }
+        ensures ok { OnOk result (self.new ≡ kill_in name.now key.now (get self.old.trees name.now) self.old) }
+        ensures err { OnErr result (self.new ≡ self.old) }
     {
         match self.trees.get_mut(name) {
-            None => return,
-            Some(variable) => variable.kill(key),
+            None => return Ok(()),
+            Some(variable) => variable.kill(alloc, key, end),
         }
     }
 

@@ -1,14 +1,13 @@
 //! The local variables of a session as a stack of scopes.
 ghost use Rattle.std.specs.Prelude.{◌≡◌, IfOk, OnOk, OnErr, [], ◌∷◌, ◌<◌, ◌+◌, length, drop, option_map};
 ghost use Rattle.mlocal.specs.Home.{IsHome, killed_up};
-ghost use Rattle.mlocal.specs.Way.{way};
+ghost use Rattle.mkey.specs.Way.{way};
 ghost use Rattle.mspec.specs.KeyBytes.{AreSubscripts};
 ghost use Rattle.mspec.specs.Scopes.{bottom, is_among, value_at, is_value, is_above, next_subscript, assigned, killed, killed_except, newed, newed_except, with_level, without_level, outermost};
 ghost use Rattle.mspec.specs.Trees.{AreOrderSubscripts};
 
 use crate::scope::Scope;
-use crate::walk::{Data, Direction};
-use mkey::SubsKey;
+use mkey::{Data, Direction, SubsKey};
 use mnum::{Bytes7, Name};
 use mvalue::Value;
 use std::alloc::{AllocError, Global};
@@ -167,15 +166,10 @@ impl Locals {
         ensures err { OnErr result (self.new ≡ self.old) }
     {
         let key = SubsKey::build(self.alloc, subs)?;
+        let end = SubsKey::behind_below(self.alloc, subs)?;
         match home(&self.levels, name) {
-            None => {
-                self.bottom.kill(name, &key);
-                Ok(())
-            }
-            Some(place) => {
-                self.levels[place].kill(name, &key);
-                Ok(())
-            }
+            None => self.bottom.kill(self.alloc, name, &key, &end),
+            Some(place) => self.levels[place].kill(self.alloc, name, &key, &end),
         }
     }
 

@@ -5,15 +5,17 @@ ghost use Rattle.std.specs.BTreeMap.Range.{IsLtBy};
 ghost use Rattle.std.specs.FinMap.{get, insert, empty, keys as nodes_of};
 ghost use Rattle.std.specs.List.{All, find};
 ghost use Rattle.mkey.specs.Front.{AreSubs};
+ghost use Rattle.mkey.specs.SubsKey.{behind_below};
 ghost use Rattle.mlocal.specs.Own.{AreSomeSubs};
-ghost use Rattle.mlocal.specs.Way.{way, is_behind, is_between, has_child};
+ghost use Rattle.mkey.specs.Way.{way};
+ghost use Rattle.mlocal.specs.Way.{is_behind, is_between, has_child};
 ghost use Rattle.mspec.specs.KeyBytes.{AreSubscripts};
 ghost use Rattle.mspec.specs.NodeOrder.{subscripts_cmp};
 ghost use Rattle.mspec.specs.Number.{significant_digits};
 ghost use Rattle.mspec.specs.Trees.{without, is_within, child_of, has_value, has_descendants, Forward, order_of, is_before, is_empty, front, last, AreOrderSubscripts};
 
-use crate::walk::{Data, Direction, front, last};
-use mkey::SubsKey;
+use crate::subtree::{keys_from, remove_all};
+use mkey::{Data, Direction, SubsKey, front, last};
 use mnum::Bytes7;
 use mvalue::Value;
 use std::alloc::{AllocError, Global};
@@ -83,20 +85,21 @@ impl Variable {
         Ok(())
     }
 
-    // Takes the texts of a node and of the nodes below it away. Takes no memory.
-    pub fn kill(&mut self, key: &SubsKey)
-        ensures { self.new ≡ without self.old key.now }
+    // Takes the texts of a node and of the nodes below it away, where `end` is the bound behind them. It looks at no other node.
+    // For want of memory the variable is as it was.
+    pub fn kill(&mut self, alloc: Global, key: &SubsKey, end: &SubsKey) -> Result<(), AllocError>
+        requires { end.now ≡ behind_below key.now }
+        ensures ok { OnOk result (self.new ≡ without self.old key.now) }
+        ensures err { OnErr result (self.new ≡ self.old) }
     {
         if key.is_empty() {
             self.own = None;
             self.values.clear();
-            return;
+            return Ok(());
         }
-        self.values.retain(
-            |k: &SubsKey, value: &mut Value| -> bool
-                ensures { (result ≡ not (is_within key.entry.now k.now)) × (value.new ≡ value.old) }
-            { !k.is_within(key) },
-        );
+        let found = keys_from(alloc, &self.values, key, end)?;
+        remove_all(&mut self.values, &found);
+        Ok(())
     }
 
     // Whether a node has a text, and whether a node below it has one.

@@ -13,6 +13,7 @@ use Rattle.std.proofs.lemmas.List.Sorted.{searchable_from_sorted}
 use Rattle.mspec.specs.KeyBytes.{IsStored}
 use Rattle.mspec.specs.Node.{Text, Node}
 use Rattle.mspec.specs.Number.{significant_digits}
+use Rattle.mspec.specs.TextFunctions.{longest_text}
 use Rattle.mspec.proofs.NodeOrders.{node_cmp_exact}
 use Rattle.mstore.specs.declared.plain.Entry.{Entry}
 use Rattle.mstore.specs.Entries.{entries_of, held, bytes_of, is_before, AreEntries, IsAt, IsGapFor, IsPlaceOf}
@@ -113,10 +114,11 @@ module _ (es : List Entry) (are : AreEntries es) (n : Node) (t : Text) (i : ℕ)
     put_over : entries_of (slice_set es i x) ≡ put order n t (entries_of es)
     put_over = put_at es are.sorted n t i at x key text
 
-    pub are_set : AreEntries (slice_set es i x)
-    are_set = record {
+    pub are_set : length t ≤ longest_text → AreEntries (slice_set es i x)
+    are_set short = record {
       sorted = order_put es (slice_set es i x) are.sorted n t put_over;
       stored = All-set (λ e. IsStored e.key) es i x (subst IsStored (at.of_node x ∙ sym key) (are.stored i x at.in_range)) are.stored;
+      short = All-set (λ e. length e.text ≤ longest_text) es i x (subst (λ s. length s ≤ longest_text) (sym text) short) are.short;
     }
 
     pub held_set : held (slice_set es i x) ≡ finite.insert (held es) n t
@@ -126,12 +128,15 @@ module _ (es : List Entry) (are : AreEntries es) (n : Node) (t : Text) (i : ℕ)
     put_between : entries_of (insert es i x) ≡ put order n t (entries_of es)
     put_between = put_in_gap es n t i le gap x key text
 
-    pub are_inserted : IsStored n → AreEntries (insert es i x)
-    are_inserted stored = record {
+    pub are_inserted : IsStored n → length t ≤ longest_text → AreEntries (insert es i x)
+    are_inserted stored short = record {
       sorted = order_put es (insert es i x) are.sorted n t put_between;
       stored =
           let is = λ (e : Entry). IsStored e.key in
           All-append is (take i es) (x ∷ drop i es) (All-take is i es are.stored) (All-cons is x (drop i es) (subst IsStored (sym key) stored) (All-drop is i es are.stored));
+      short =
+          let is = λ (e : Entry). length e.text ≤ longest_text in
+          All-append is (take i es) (x ∷ drop i es) (All-take is i es are.short) (All-cons is x (drop i es) (subst (λ s. length s ≤ longest_text) (sym text) short) (All-drop is i es are.short));
     }
 
     pub held_inserted : held (insert es i x) ≡ finite.insert (held es) n t

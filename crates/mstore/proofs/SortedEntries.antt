@@ -59,7 +59,7 @@ none_of_length : (es : List (Node × Text)) → length es ≡ 0 → es ≡ []
 none_of_length [] e = refl
 none_of_length (x ∷ es) e = absurd (omega arith)
 
-entries_from : (es : List (Node × Text)) → InOrder es → entries (from_entries {R = order} es) ≡ es
+pub entries_from : (es : List (Node × Text)) → InOrder es → entries (from_entries {R = order} es) ≡ es
 entries_from [] h = none_of_length _ (sym (len-entries (empty {X = Text} {R = order})) ∙ len-empty order Text)
 entries_from (e ∷ es) h = entries-insert total (from_entries es) e.0 e.1 ∙ ap (put order e.0 e.1) (entries_from es (second _ _ h)) ∙ put_first e es h
 

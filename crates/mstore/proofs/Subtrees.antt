@@ -13,6 +13,7 @@ use Rattle.mspec.specs.KeyBytes.{key_bytes, IsStored}
 use Rattle.mspec.specs.KeyLaws.{IsBetween, IsWithin}
 use Rattle.mspec.specs.Node.{Text, Node}
 use Rattle.mspec.specs.Number.{significant_digits}
+use Rattle.mspec.specs.TextFunctions.{longest_text}
 use Rattle.mspec.specs.Trees.{is_within}
 use Rattle.mspec.proofs.NodeOrders.{same_node}
 use Rattle.mkey.specs.Key.{BoundsKeysOf}
@@ -127,9 +128,11 @@ module _ (es : List Entry) (are : AreEntries es) (n : Node) (stored : IsStored n
     pub are_left : AreEntries (take i es ++ drop j es)
     are_left =
         let is = λ (e : Entry). IsStored e.key in
+        let fits = λ (e : Entry). length e.text ≤ longest_text in
         record {
           sorted = order_where es (take i es ++ drop j es) are.sorted _ (left _ es i j (in_turn le) leaves);
           stored = All-append is (take i es) (drop j es) (All-take is i es are.stored) (All-drop is j es are.stored);
+          short = All-append fits (take i es) (drop j es) (All-take fits i es are.short) (All-drop fits j es are.short);
         }
 
     pub held_left : held (take i es ++ drop j es) ≡ without_subtree (held es) n

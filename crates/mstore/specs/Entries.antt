@@ -1,5 +1,5 @@
 -- A list of entries as a store of nodes.
-use Rattle.std.specs.Prelude.{◌≡◌, ℕ, ◌<◌, Bool, true, false, List, All, map, length, Option, Some, None, if◌then◌else◌}
+use Rattle.std.specs.Prelude.{◌≡◌, ℕ, ◌<◌, ◌≤◌, Bool, true, false, List, All, map, length, Option, Some, None, if◌then◌else◌}
 use Rattle.std.specs.Cmp.Lexicographic.{slice_cmp}
 use Rattle.std.specs.FinMap.{from_entries}
 use Rattle.std.specs.FinMap.Entries.{is_sorted}
@@ -13,6 +13,7 @@ use Rattle.mspec.specs.Number.{significant_digits}
 use Rattle.mspec.specs.NodeOrder.{node_cmp}
 use Rattle.mspec.specs.KeyBytes.{key_bytes, IsStored}
 use Rattle.mspec.specs.Globals.{Globals, is_between}
+use Rattle.mspec.specs.TextFunctions.{longest_text}
 use Rattle.mstore.specs.declared.plain.Entry.{Entry}
 
 -- a code of nodes, by which a proof tells them apart
@@ -32,10 +33,11 @@ entries_of es = map entry_of es
 abbrev pub held : List Entry → Globals
 held es = from_entries (entries_of es)
 
--- the entries of nodes of a store, in the order of the nodes, of which each stands once
+-- the entries of nodes of a store, in the order of the nodes, of which each stands once, with texts of at most 4,095 characters
 pub record AreEntries (es : List Entry) : Type 0 where
   pub sorted : is_sorted (node_cmp significant_digits) (entries_of es) ≡ true
   pub stored : All (λ e. IsStored e.key) es
+  pub short : All (λ e. length e.text ≤ longest_text) es
 
 -- the entry at place i is of the node
 pub record IsAt (es : List Entry) (node : Node) (i : ℕ) : Type 0 where

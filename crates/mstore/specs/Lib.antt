@@ -6,3 +6,4 @@ pub mod Layout
 pub mod Map
 pub mod Rows
 pub mod Statements
+pub mod Held

@@ -203,7 +203,7 @@ fn test_tables<S: Alter>(alloc: Global, conn: &mut Connection<S>) -> Result<(), 
     ensures this { IsMemory S.Store → IsCalm (state S.Store conn.old) → OnOk result (HasVersion (state S.Store conn.old).now this_version) }
     ensures nodes { IsMemory S.Store → IsCalm (state S.Store conn.old) → OnOk result (ShowsNodes (state S.Store conn.old).now) }
     ensures version { IsMemory S.Store → IsCalm (state S.Store conn.old) → result ≡ Err OpenFault.BadVersion → IsOtherVersion (state S.Store conn.old).now }
-    ensures key { IsMemory S.Store → IsCalm (state S.Store conn.old) → result ≡ Err OpenFault.BadKey → HasOther ((state S.Store conn.old).now.trees 0) }
+    ensures key { IsMemory S.Store → IsCalm (state S.Store conn.old) → result ≡ Err OpenFault.BadKey → HasVersion (state S.Store conn.old).now this_version × HasOther ((state S.Store conn.old).now.trees 0) }
 {
     test_version(conn)?;
     test_rows(alloc, conn)
@@ -215,7 +215,7 @@ pub fn open_tables<S: Alter>(alloc: Global, conn: &mut Connection<S>) -> Result<
     ensures opened { IsMemory S.Store → OnOk result (IsOpenedFrom (state S.Store conn.old) (state S.Store conn.new)) }
     ensures untouched { IsMemory S.Store → OnErr result (IsUntouched (state S.Store conn.old) (state S.Store conn.new)) }
     ensures version { IsMemory S.Store → result ≡ Err OpenFault.BadVersion → IsOtherVersion (state S.Store conn.old).now }
-    ensures key { IsMemory S.Store → result ≡ Err OpenFault.BadKey → ((state S.Store conn.old).now.schema ≡ schema_of) × HasOther ((state S.Store conn.old).now.trees 0) }
+    ensures key { IsMemory S.Store → result ≡ Err OpenFault.BadKey → ((state S.Store conn.old).now.schema ≡ schema_of) × HasVersion (state S.Store conn.old).now this_version × HasOther ((state S.Store conn.old).now.trees 0) }
 {
     if !conn.is_autocommit() {
         return Err(OpenFault::Store);

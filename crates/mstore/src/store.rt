@@ -3,6 +3,7 @@ ghost use Rattle.std.specs.Prelude.{◌≡◌, ◌≢◌, ◌≤◌, length, opt
 ghost use Rattle.std.specs.FinMap.{get, insert};
 ghost use Rattle.mspec.specs.Globals.{Globals, without_subtree, next_key, previous_key};
 ghost use Rattle.mspec.specs.TextFunctions.{longest_text};
+ghost use Rattle.mstore.specs.Held.{AreHeld};
 ghost use Rattle.mstore.specs.declared.store.StoreFault.TheVariants.{Memory};
 
 use mkey::NodeKey;
@@ -29,7 +30,8 @@ impl From<AllocError> for StoreFault {
 /// A finite map from nodes to texts of at most 4,095 characters.
 ///
 /// Beside what it holds a store has two facts of its type, seen by contracts alone: what is said of the content holds where the
-/// type is `sound`, and where it is `steady` no call answers `Store`. A steady type is sound.
+/// type is `sound`, and where it is `steady` no call answers `Store`. A steady type is sound. The reads tell too that the keys of what a
+/// sound store holds are those of nodes, and its texts short enough.
 ///
 /// # Errors
 ///
@@ -45,6 +47,7 @@ pub trait NodeStore {
     /// The text at a node, where there is one.
     fn get(&mut self, key: &NodeKey) -> Result<Option<Bytes7>, StoreFault>
         ensures found { sound → IfOk result (λ text. text ≡ get (content self.old) key.now) }
+        ensures held { sound → AreHeld (content self.old) }
         ensures same { sound → content self.new ≡ content self.old }
         ensures store { steady → result ≢ Err StoreFault.Store };
 
@@ -64,12 +67,14 @@ pub trait NodeStore {
     /// The bytes of the first key from `low` on and before `high`, where there is one.
     fn next(&mut self, low: &[u8], high: &[u8]) -> Result<Option<Vec<u8>>, StoreFault>
         ensures found { sound → IfOk result (λ key. option_map (λ bytes. bytes.items) key ≡ next_key (content self.old) low.now high.now) }
+        ensures held { sound → AreHeld (content self.old) }
         ensures same { sound → content self.new ≡ content self.old }
         ensures store { steady → result ≢ Err StoreFault.Store };
 
     /// The bytes of the last key from `low` on and before `high`, where there is one.
     fn prev(&mut self, low: &[u8], high: &[u8]) -> Result<Option<Vec<u8>>, StoreFault>
         ensures found { sound → IfOk result (λ key. option_map (λ bytes. bytes.items) key ≡ previous_key (content self.old) low.now high.now) }
+        ensures held { sound → AreHeld (content self.old) }
         ensures same { sound → content self.new ≡ content self.old }
         ensures store { steady → result ≢ Err StoreFault.Store };
 

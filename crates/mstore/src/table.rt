@@ -1,5 +1,5 @@
 // A table over a connection.
-ghost use Rattle.std.specs.Prelude.{◌≡◌, ◌≤◌, length, IfOk, IfErr, List, ℕ, None, Err, codes};
+ghost use Rattle.std.specs.Prelude.{◌≡◌, ◌≢◌, ◌≤◌, length, IfOk, IfErr, List, ℕ, None, Err, codes};
 ghost use Rattle.sqlite.specs.Order.{column};
 ghost use Rattle.sqlite.specs.declared.types.Value.TheVariants.{Blob};
 ghost use Rattle.mspec.specs.TextFunctions.{longest_text};
@@ -54,6 +54,8 @@ impl Table<MemStore> {
         ensures empty { IfOk result (λ t. stored over_memory t ≡ empty) }
         ensures version { IfOk result (λ t. HasVersion (state over_memory t).now this_version) }
         ensures sound { IfOk result (λ _. IsMemory over_memory) }
+        ensures key { result ≢ Err OpenFault.BadKey }
+        ensures other_version { result ≢ Err OpenFault.BadVersion }
     {
         let Ok(mut conn) = Connection::open_in_memory(alloc) else {
             return Err(OpenFault::Memory);
@@ -88,7 +90,7 @@ impl Table<FileStore<File>> {
 
 impl<S: Alter> Table<S> {
     ghost use Rattle.sqlite.specs.Held.{state};
-    ghost use Rattle.mstore.specs.Database.{IsMemory, IsStore, IsOpenedFrom, IsOtherVersion, IsUntouched};
+    ghost use Rattle.mstore.specs.Database.{IsMemory, IsStore, IsOpenedFrom, IsOtherVersion, IsUntouched, HasVersion, this_version};
     ghost use Rattle.mstore.specs.Rows.{HasOther};
 
     /// Takes a connection whose database is a table of this version, with exactly its rows, or has no table and gets it.
@@ -96,7 +98,7 @@ impl<S: Alter> Table<S> {
     /// # Errors
     ///
     /// With the connection, and its database unchanged: `BadVersion` where one of `node` and `meta` is missing, where their
-    /// columns do not take a statement of this crate, where there is no row `version` or one of another version; `BadKey`
+    /// columns do not take a statement of this crate, where there is no row `version` or one of another version; and else `BadKey`
     /// where a row is not a node's; `Memory`; and `Store` where the database refuses, where a transaction is open, and where
     /// there is more than the two tables or they are otherwise made.
     pub fn adopt(
@@ -107,7 +109,7 @@ impl<S: Alter> Table<S> {
         ensures opened { IfOk result (λ t. IsMemory S.Store → IsOpenedFrom (state S.Store conn) (state S.Store t)) }
         ensures back { IfErr result (λ e. IsMemory S.Store → IsUntouched (state S.Store conn) (state S.Store e.1)) }
         ensures version { IfErr result (λ e. IsMemory S.Store → e.0 ≡ OpenFault.BadVersion → IsOtherVersion (state S.Store conn).now) }
-        ensures key { IfErr result (λ e. IsMemory S.Store → e.0 ≡ OpenFault.BadKey → ((state S.Store conn).now.schema ≡ schema) × HasOther ((state S.Store conn).now.trees 0)) }
+        ensures key { IfErr result (λ e. IsMemory S.Store → e.0 ≡ OpenFault.BadKey → ((state S.Store conn).now.schema ≡ schema) × HasVersion (state S.Store conn).now this_version × HasOther ((state S.Store conn).now.trees 0)) }
     {
         match open_tables(alloc, &mut conn) {
             Ok(()) => Ok(Table { conn, alloc }),

@@ -60,6 +60,10 @@ primary-returns-in-Select-clause-does g t c =
 pub primary-returns-in-Special-clause-does : goal.primary-returns-in-Special-clause-does
 primary-returns-in-Special-clause-does g t c = rw (c.in-Special.is, special_is c.in-Special.word) (evaluates_then _ c.in_ok-charge.ensures.does c.special.ensures.does)
 
+pub primary-returns-in-Some-clause-does : goal.primary-returns-in-Some-clause-does
+primary-returns-in-Some-clause-does g t c =
+    rw (c.in-Reference.is, reference_is c.in-Reference.reference, c.in-Some.ensures) (evaluates_then _ c.in_ok-charge.ensures.does c.local.ensures.does)
+
 pub primary-returns-in_err-pending-in-Reference-clause-does : goal.primary-returns-in_err-pending-in-Reference-clause-does
 primary-returns-in_err-pending-in-Reference-clause-does g t c =
     rw (c.in-Reference.is, reference_is c.in-Reference.reference)

@@ -2,7 +2,7 @@ use Rattle.std.proofs.Common.{ap, ◌∙◌}
 use Rattle.std.specs.Prelude.{option_map}
 use Rattle.mspec.specs.Scopes.{tree_in}
 use Rattle.mspec.specs.Trees.{order_of, front, last}
-use Rattle.mlocal.specs.Way.{way}
+use Rattle.mkey.specs.Way.{way}
 use Rattle.mlocal.proofs.Views.{IfOk-map, tree_is}
 use Rattle.mlocal.proofs.Walks.{none_next}
 use Rattle.mlocal.proofs.scope.Scope.order.Goals as goal

@@ -1,7 +1,7 @@
 use Rattle.std.proofs.Common.{[], ◌∷◌, ap, sym, ◌∙◌}
 use Rattle.mspec.specs.Scopes.{tree_in, tree_of}
 use Rattle.mspec.specs.Trees.{order_of, front, last}
-use Rattle.mlocal.specs.Way.{way}
+use Rattle.mkey.specs.Way.{way}
 use Rattle.mlocal.proofs.Views.{IfOk-map}
 use Rattle.mlocal.proofs.Stacks.{tree-at, tree-bottom}
 use Rattle.mlocal.proofs.scopes.Locals.order.Goals as goal

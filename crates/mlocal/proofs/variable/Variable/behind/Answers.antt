@@ -18,7 +18,7 @@ returns-then-is_empty-clause-next c =
     onward_walk c.args.self.now c.self.inside.own c.self.inside.values c.self.view_is c.first_behind.ensures.ordered c.self.invariant
     c.args.above.now (front subs) (last subs)
     (λ k is. ap (λ low. is_between low (behind_below (front subs)) k) c.requires.above
-    ∙ below_all (is_before (last subs)) (λ s sub. ap (λ x. is_before x s) none ∙ empty_first s sub) (front subs) k is)
+    ∙ below_all (is_before (last subs)) (λ s sub. ap (λ x. is_before x s) none ∙ empty_first s sub.0.some) (front subs) k is)
     (option_map (λ k. k.now) c.first_behind.result) c.first_behind.ensures.key
 
 pub behind_below-requires : goal.behind_below-requires

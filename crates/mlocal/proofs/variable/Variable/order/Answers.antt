@@ -1,7 +1,7 @@
 use Rattle.std.proofs.Common.{ap, sym, ◌∙◌}
 use Rattle.std.specs.Prelude.{option_map, option_and_then}
 use Rattle.mspec.specs.Trees.{child_of, order_of, front, last}
-use Rattle.mlocal.specs.Way.{way}
+use Rattle.mkey.specs.Way.{way}
 use Rattle.mlocal.proofs.Views.{IfOk-map}
 use Rattle.mlocal.proofs.Walks.{order_backward}
 use Rattle.mlocal.proofs.variable.Variable.order.Goals as goal

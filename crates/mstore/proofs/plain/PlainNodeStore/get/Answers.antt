@@ -5,6 +5,8 @@ use Rattle.mstore.proofs.SortedEntries.{get_held}
 use Rattle.mstore.proofs.EntryPlaces.{find_at, find_in_gap}
 use Rattle.mstore.proofs.plain.PlainNodeStore.get.Goals as goal
 use Rattle.mstore.proofs.plain.PlainNodeStore.get.Goals.{in-Ok+in_ok-copy-in-Ok, in-Err}
+use Rattle.mstore.specs.Held.{AreHeld}
+use Rattle.mstore.proofs.Holding.{entries_held}
 
 pub returns-clause-found : goal.returns-clause-found
 returns-clause-found c u =
@@ -21,3 +23,9 @@ returns-clause-found c u =
           subst (λ r. IfOk r (λ text. text ≡ get c.args.self.now node)) (sym w.result-is)
           (sym (find_in_gap items node w.in-Err.field-0 gap) ∙ had)
     ]
+
+pub returns-clause-held : goal.returns-clause-held
+returns-clause-held c u = subst AreHeld c.self.view_is (entries_held c.self.inside.entries.items c.self.invariant)
+
+pub returns-in_err-copy-in-Ok-clause-held : goal.returns-in_err-copy-in-Ok-clause-held
+returns-in_err-copy-in-Ok-clause-held c u = subst AreHeld c.self.view_is (entries_held c.self.inside.entries.items c.self.invariant)

@@ -2,6 +2,8 @@ use Rattle.std.proofs.Common.{◌-◌, length, slice_get, take, drop, ap, subst,
 use Rattle.mspec.specs.Globals.{next_key}
 use Rattle.mstore.specs.Entries.{key_within, IsPlaceOf}
 use Rattle.mstore.proofs.EntryRanges.{next_found, first_of_rest}
+use Rattle.mstore.specs.Held.{AreHeld}
+use Rattle.mstore.proofs.Holding.{entries_held}
 use Rattle.mstore.proofs.plain.PlainNodeStore.next.Goals as goal
 
 pub returns-clause-found : goal.returns-clause-found
@@ -13,3 +15,9 @@ returns-clause-found c u =
     ∙ ap (key_within low high) (c.first-first.ensures.value ∙ ap (λ es. slice_get (take (length es - place) (drop place es)) 0) c.deref-2.ensures.value ∙ first_of_rest c.self.inside.entries.items place)
     ∙ next_found low high c.self.inside.entries.items c.self.invariant place (subst (λ es. IsPlaceOf es low place) c.deref.ensures.value c.place_of-place.ensures.place)
     ∙ ap (λ g. next_key g low high) c.self.view_is
+
+pub returns-clause-held : goal.returns-clause-held
+returns-clause-held c u = subst AreHeld c.self.view_is (entries_held c.self.inside.entries.items c.self.invariant)
+
+pub returns-in_err-key_within-clause-held : goal.returns-in_err-key_within-clause-held
+returns-in_err-key_within-clause-held c u = subst AreHeld c.self.view_is (entries_held c.self.inside.entries.items c.self.invariant)

@@ -2,6 +2,8 @@ use Rattle.std.proofs.Common.{◌-◌, length, slice_get, take, ap, subst, ◌�
 use Rattle.mspec.specs.Globals.{previous_key}
 use Rattle.mstore.specs.Entries.{key_within, IsPlaceOf}
 use Rattle.mstore.proofs.EntryRanges.{previous_found}
+use Rattle.mstore.specs.Held.{AreHeld}
+use Rattle.mstore.proofs.Holding.{entries_held}
 use Rattle.mstore.proofs.plain.PlainNodeStore.prev.Goals as goal
 
 pub returns-clause-found : goal.returns-clause-found
@@ -12,3 +14,9 @@ returns-clause-found c u =
     c.in_ok-key_within.ensures ∙ ap (key_within low high) (c.last-last.ensures.value ∙ ap (λ es. slice_get (take place es) (length (take place es) - 1)) c.deref-2.ensures.value)
     ∙ previous_found low high c.self.inside.entries.items c.self.invariant place (subst (λ es. IsPlaceOf es high place) c.deref.ensures.value c.place_of-place.ensures.place)
     ∙ ap (λ g. previous_key g low high) c.self.view_is
+
+pub returns-clause-held : goal.returns-clause-held
+returns-clause-held c u = subst AreHeld c.self.view_is (entries_held c.self.inside.entries.items c.self.invariant)
+
+pub returns-in_err-key_within-clause-held : goal.returns-in_err-key_within-clause-held
+returns-in_err-key_within-clause-held c u = subst AreHeld c.self.view_is (entries_held c.self.inside.entries.items c.self.invariant)

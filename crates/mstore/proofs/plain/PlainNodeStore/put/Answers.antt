@@ -1,5 +1,6 @@
 use Rattle.std.proofs.Common.{◌≤◌, length, refl, ap, sym, subst, ◌∙◌, is_ok}
 use Rattle.std.specs.FinMap as finite
+use Rattle.mspec.specs.TextFunctions.{longest_text}
 use Rattle.mstore.specs.Entries.{AreEntries, IsAt, IsGapFor, held}
 use Rattle.mstore.proofs.EntryPlaces.{had_room, are_set, are_inserted, held_set, held_inserted}
 use Rattle.mstore.proofs.plain.PlainNodeStore.put.Goals as goal
@@ -11,6 +12,7 @@ invariant_of-self c =
     let node = c.args.key.now in
     let at = subst (λ es. IsAt es node c.in-Ok.at) c.deref.ensures.value c.in-Ok.ensures.found in
     are_set items c.self.invariant node c.in_ok-text.text c.in-Ok.at _ (ap (λ e. e.key) c.index_mut.ensures.value ∙ at.of_node c.index_mut.result.now) refl at
+    (subst (λ x. length x ≤ longest_text) (sym c.in_ok-text.ensures) c.requires)
 
 pub returns-in-Ok-clause-put : goal.returns-in-Ok-clause-put
 returns-in-Ok-clause-put c u =
@@ -30,7 +32,8 @@ invariant_of-self-in-Continue-branch-3 c =
     let gap = subst (λ es. IsGapFor es node place) c.deref.ensures.value c.in-Err.ensures.absent in
     let new = c.insert.ensures.items ∙ had_room _ _ items (sym c.map_err.ensures.variant ∙ ap is_ok c.in_ok-map_err-in-Err.was) in
     subst AreEntries (sym new)
-    (are_inserted items c.self.invariant node c.in_ok-text.text place _ c.in_ok-key-in-Err.ensures.key refl le gap c.copy-in-Err.ensures.stored)
+    (are_inserted items c.self.invariant node c.in_ok-text.text place _ c.in_ok-key-in-Err.ensures.key refl le gap c.copy-in-Err.ensures.stored
+    (subst (λ x. length x ≤ longest_text) (sym c.in_ok-text.ensures) c.requires))
 
 pub returns-in_ok-map_err-in-Err-clause-put : goal.returns-in_ok-map_err-in-Err-clause-put
 returns-in_ok-map_err-in-Err-clause-put c u =

@@ -2,6 +2,8 @@ use Rattle.std.proofs.Common.{◌≡◌, None, Some, subst}
 use Rattle.std.specs.FinMap.{get}
 use Rattle.mstore.specs.Database.{IsSound, stored}
 use Rattle.mstore.proofs.Tied.{gets_none, gets_text}
+use Rattle.mstore.specs.Held.{AreHeld}
+use Rattle.mstore.proofs.Holding.{table_held}
 use Rattle.mstore.proofs.table.TableNodeStore.get.Goals as goal
 
 pub returns-in_default-clause-found : goal.returns-in_default-clause-found
@@ -18,3 +20,19 @@ returns-clause-found g c quiet =
     let shows = rw (c.as_bytes.ensures.bytes, c.in-Some.is) at c.in_ok-row.ensures.found sound in
     subst (λ t. Some c.in_ok-text.text ≡ get (stored g.S.Store t) c.args.key.now) c.self.view_is
     (gets_text g.S.Store h sound c.args.key.now c.in-Some.row c.in_ok-text.text c.as_bytes.ensures.stored shows c.in_ok-text.ensures.text)
+
+pub returns-clause-held : goal.returns-clause-held
+returns-clause-held g c quiet =
+    subst (λ t. AreHeld (stored g.S.Store t)) c.self.view_is (table_held g.S.Store c.self.inside.conn (quiet, c.self.invariant quiet))
+
+pub returns-in_default-clause-held : goal.returns-in_default-clause-held
+returns-in_default-clause-held g c quiet =
+    subst (λ t. AreHeld (stored g.S.Store t)) c.self.view_is (table_held g.S.Store c.self.inside.conn (quiet, c.self.invariant quiet))
+
+pub returns-in_err-row-clause-held : goal.returns-in_err-row-clause-held
+returns-in_err-row-clause-held g c quiet =
+    subst (λ t. AreHeld (stored g.S.Store t)) c.self.view_is (table_held g.S.Store c.self.inside.conn (quiet, c.self.invariant quiet))
+
+pub returns-in_err-text-clause-held : goal.returns-in_err-text-clause-held
+returns-in_err-text-clause-held g c quiet =
+    subst (λ t. AreHeld (stored g.S.Store t)) c.self.view_is (table_held g.S.Store c.self.inside.conn (quiet, c.self.invariant quiet))

@@ -2,10 +2,10 @@
 ghost use Rattle.std.specs.Prelude.{◌≡◌, ◌↔◌, ◌<◌, IsTrue, length};
 ghost use Rattle.mspec.specs.Trees.{front, last, AreOrderSubscripts};
 
-use mkey::subs_ok;
+use crate::subs::subs_ok;
 use mnum::Bytes7;
 
-/// What a variable has at a node.
+/// What a variable or a global has at a node.
 #[derive(Clone, Copy, Debug, PartialEq, Eq)]
 pub struct Data {
     /// The node has a text.
@@ -29,7 +29,7 @@ pub fn order_subs_ok(subs: &[Bytes7]) -> bool
     0 < count && count <= 15 && last(subs).as_bytes().len() <= 255 && subs_ok(front(subs))
 }
 
-// The subscripts in front of the last one.
+/// The subscripts in front of the last one. Takes no memory.
 pub fn front(subs: &[Bytes7]) -> &[Bytes7]
     requires { 0 < length subs.now }
     ensures { result.now ≡ front subs.now }
@@ -37,7 +37,7 @@ pub fn front(subs: &[Bytes7]) -> &[Bytes7]
     &subs[..subs.len() - 1]
 }
 
-// The last subscript.
+/// The last subscript. Takes no memory.
 pub fn last(subs: &[Bytes7]) -> &Bytes7
     requires { 0 < length subs.now }
     ensures { result.now ≡ last subs.now }

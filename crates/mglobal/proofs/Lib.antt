@@ -1,0 +1,4 @@
+pub mod Between
+pub mod Sides
+pub mod Orders
+pub mod LineWalks

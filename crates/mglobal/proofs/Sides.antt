@@ -1,0 +1,74 @@
+-- The bounds of the keys among which the next node of a walk is found.
+use Rattle.std.proofs.Common.{ℕ, ◌≡◌, ◌<◌, Bool, true, false, ◌&&◌, ◌||◌, None, List, [], ◌∷◌, ◌++◌, length, refl, sym, ◌∙◌, ap, append_assoc, append-nil}
+use Rattle.std.specs.Prelude.{if◌then◌else◌}
+use Rattle.std.proofs.lemmas.List.Concat.{flat_map-append}
+use Rattle.mspec.specs.Globals.{is_between, is_beside}
+use Rattle.mspec.specs.KeyBytes.{text_bytes, subscript_bytes, local_bytes, children_start, subtree_end, AreSubscripts, IsStored}
+use Rattle.mspec.specs.KeyLaws.{NoneEmpty}
+use Rattle.mspec.specs.Node.{Text, Node}
+use Rattle.mspec.specs.Number.{significant_digits}
+use Rattle.mspec.specs.Trees.{Direction, Forward, Backward, is_before, is_empty, is_below, child_of, front, last}
+use Rattle.mkey.specs.Key.{none_empty}
+use Rattle.mkey.specs.Under.{passes, child_under}
+use Rattle.mkey.proofs.Children.{below_is, empty_first, not_empty, split_last}
+use Rattle.mglobal.specs.Next.{is_onward, BoundsOnward}
+use Rattle.mglobal.proofs.Between.{key, bytes, keys_between, all_between, behind_between, before_between}
+
+-- the node below n with one subscript more
+abbrev pub child_at : Node → Text → Node
+child_at n x = record { account = n.account; name = n.name; subscripts = n.subscripts ++ x ∷ [] }
+
+pub some_each : (xs : List Text) → AreSubscripts xs → NoneEmpty xs
+some_each xs subs = λ k d inside. (subs.each k d inside).some
+
+key_child : (n : Node) (x : Text) → key (child_at n x) ≡ key n ++ subscript_bytes significant_digits x
+key_child n x =
+    let own : List ℕ = bytes n.subscripts in
+    let more : List ℕ = subscript_bytes significant_digits x in
+    ap (λ b. text_bytes n.account ++ (text_bytes n.name ++ b)) (flat_map-append (subscript_bytes significant_digits) n.subscripts (x ∷ []) ∙ ap (λ b. own ++ b) (append-nil more))
+    ∙ ap (λ b. text_bytes n.account ++ b) (sym (append_assoc (text_bytes n.name) own more))
+    ∙ sym (append_assoc (text_bytes n.account) (local_bytes significant_digits n.name n.subscripts) more)
+
+-- ---- all that is below
+
+below_child : (n m : Node) → passes (λ c. true) (child_under n m) ≡ (is_beside n m && is_below n.subscripts m.subscripts)
+below_child n m = here (is_beside n m)
+  where
+    here : (b : Bool) → passes (λ c. true) (if b then child_of n.subscripts m.subscripts else None) ≡ (b && is_below n.subscripts m.subscripts)
+    here true = below_is n.subscripts m.subscripts
+    here false = refl
+
+pub bounds_below : (n : Node) → IsStored n → (low high : List ℕ) → low ≡ children_start (key n) → high ≡ subtree_end (key n) → (m : Node) → IsStored m → is_between low high (key m) ≡ (is_beside n m && is_below n.subscripts m.subscripts)
+bounds_below n stored low high from to m is =
+    (λ i. is_between (from i) (to i) (key m))
+    ∙ keys_between n m (none_empty n stored) (none_empty m is) (1 ∷ []) (3 ∷ []) (λ c. true) (all_between (λ c. true) (λ s some. refl)) ∙ below_child n m
+
+-- ---- on one side of a subscript
+
+module _ (n : Node) (some_n : NoneEmpty n.subscripts) (x : Text) (low high : List ℕ) where
+  every : (d : Direction) (x : Text) → x ≡ [] → (s : Text) → 0 < length s → is_onward d x s ≡ true
+  every Forward x e s some = ap (λ y. is_before y s) e ∙ empty_first s some
+  every Backward x e s some = ap (λ y. is_empty y || is_before s y) e
+
+  pub bounds_all : (d : Direction) → x ≡ [] → low ≡ children_start (key n) → high ≡ subtree_end (key n) → BoundsOnward d n x low high
+  bounds_all d none from to m is =
+      (λ i. is_between (from i) (to i) (key m))
+      ∙ keys_between n m some_n (none_empty m is) (1 ∷ []) (3 ∷ []) (is_onward d x) (all_between (is_onward d x) (every d x none))
+
+  pub bounds_behind : 0 < length x → low ≡ subtree_end (key (child_at n x)) → high ≡ subtree_end (key n) → BoundsOnward Forward n x low high
+  bounds_behind some from to m is =
+      let low_is = from ∙ ap (λ b. b ++ 3 ∷ []) (key_child n x) ∙ append_assoc (key n) (subscript_bytes significant_digits x) (3 ∷ []) in
+      (λ i. is_between (low_is i) (to i) (key m))
+      ∙ keys_between n m some_n (none_empty m is) (subscript_bytes significant_digits x ++ 3 ∷ []) (3 ∷ []) (is_before x) (behind_between x some)
+
+  pub bounds_before : 0 < length x → low ≡ children_start (key n) → high ≡ key (child_at n x) → BoundsOnward Backward n x low high
+  bounds_before some from to m is =
+      let high_is = to ∙ key_child n x in
+      (λ i. is_between (from i) (high_is i) (key m))
+      ∙ keys_between n m some_n (none_empty m is) (1 ∷ []) (subscript_bytes significant_digits x) (λ c. is_before c x) (before_between x some)
+      ∙ ap (λ b. passes (λ c. b || is_before c x) (child_under n m)) (sym (not_empty x some))
+
+-- the node of all subscripts is the child of that of those in front
+pub whole_is : (account name : Text) (subs : List Text) (n : Node) → 0 < length subs → n ≡ record { account = account; name = name; subscripts = front subs }
+    → record { account = account; name = name; subscripts = subs } ≡ child_at n (last subs)
+whole_is account name subs n some e = ap (λ xs. record { account = account; name = name; subscripts = xs }) (split_last subs some) ∙ ap (λ m. child_at m (last subs)) (sym e)

@@ -1,0 +1,86 @@
+//! What $DATA and $ORDER ask of a node.
+ghost use Rattle.std.specs.Prelude.{◌≡◌, ◌≢◌, IfOk, IfSome, OnOk, Err, option_map};
+ghost use Rattle.mglobal.specs.Next.{nearest_key};
+ghost use Rattle.mkey.specs.Front.{IsSub};
+ghost use Rattle.mkey.specs.Way.{way};
+ghost use Rattle.mspec.specs.Globals.{status, order_at};
+ghost use Rattle.mspec.specs.KeyBytes.{IsAccountName};
+ghost use Rattle.mspec.specs.Names.{IsName};
+ghost use Rattle.mspec.specs.Trees.{AreOrderSubscripts};
+ghost use Rattle.mstore.specs.Held.{AreHeld};
+
+use crate::bounds::{bounds, key_of};
+use mkey::{Data, Direction, NodeKey, front};
+use mnum::Bytes7;
+use mstore::{NodeStore, StoreFault};
+use std::alloc::Global;
+
+/// Whether a node has a text, and whether a node below it has one.
+///
+/// # Errors
+///
+/// Those of the store: `Memory` for want of memory, and `Store`, which a steady one never answers.
+pub fn status<S: NodeStore>(store: &mut S, alloc: Global, key: &NodeKey) -> Result<Data, StoreFault>
+    ensures value { S.sound → IfOk result (λ found. found.value ≡ (status (S.content store.old) key.now).0) }
+    ensures descendants { S.sound → IfOk result (λ found. found.descendants ≡ (status (S.content store.old) key.now).1) }
+    ensures same { S.sound → S.content store.new ≡ S.content store.old }
+    ensures store { S.steady → result ≢ Err StoreFault.Store }
+{
+    let value = store.get(key)?.is_some();
+    let (low, high) = key.child_bounds(alloc)?;
+    let descendants = store.next(&low, &high)?.is_some();
+    Ok(Data { value, descendants })
+}
+
+// The first key within bounds, or the last.
+fn nearest<S: NodeStore>(
+    store: &mut S,
+    low: &[u8],
+    high: &[u8],
+    direction: Direction,
+) -> Result<Option<Vec<u8>>, StoreFault>
+    ensures found { S.sound → IfOk result (λ key. option_map (λ bytes. bytes.items) key ≡ nearest_key (way direction) (S.content store.old) low.now high.now) }
+    ensures held { S.sound → AreHeld (S.content store.old) }
+    ensures same { S.sound → S.content store.new ≡ S.content store.old }
+    ensures store { S.steady → result ≢ Err StoreFault.Store }
+{
+    match direction {
+        Direction::Forward => store.next(low, high),
+        Direction::Backward => store.prev(low, high),
+    }
+}
+
+/// The subscript next to the last one, of those in its place at which there is a text or a node below. An empty last subscript begins
+/// the walk, at the first or from the last, and none ends it.
+///
+/// # Errors
+///
+/// Those of the store: `Memory` for want of memory, and `Store`, which a steady one never answers; also where the key that was
+/// found is no node's.
+pub fn neighbour<S: NodeStore>(
+    store: &mut S,
+    alloc: Global,
+    account: &Bytes7,
+    name: &Bytes7,
+    subs: &[Bytes7],
+    direction: Direction,
+) -> Result<Option<Bytes7>, StoreFault>
+    requires account { IsAccountName account.now }
+    requires name { IsName name.now }
+    requires subs { AreOrderSubscripts subs.now }
+    ensures next { S.sound → IfOk result (λ next. next ≡ order_at (S.content store.old) (way direction) (record { account = account.now; name = name.now; subscripts = subs.now })) }
+    ensures held { S.sound → OnOk result (AreHeld (S.content store.old)) }
+    ensures sub { IfOk result (λ next. IfSome next IsSub) }
+    ensures same { S.sound → S.content store.new ≡ S.content store.old }
+    ensures store { S.steady → result ≢ Err StoreFault.Store }
+{
+    let above = key_of(alloc, account, name, front(subs))?;
+    let (low, high) = bounds(alloc, account, name, subs, direction, &above)?;
+    let Some(found) = nearest(store, &low, &high, direction)? else {
+        return Ok(None);
+    };
+    match above.child_in(alloc, &found)? {
+        Some(child) => Ok(Some(child)),
+        None => Err(StoreFault::Store),
+    }
+}

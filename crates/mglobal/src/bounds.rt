@@ -1,0 +1,59 @@
+// The bounds of the keys among which the next node of a walk is found.
+ghost use Rattle.std.specs.Prelude.{◌≡◌, ◌≢◌, IfOk, Err};
+ghost use Rattle.mglobal.specs.Next.{BoundsOnward};
+ghost use Rattle.mkey.specs.Way.{way};
+ghost use Rattle.mspec.specs.KeyBytes.{IsAccountName, AreSubscripts};
+ghost use Rattle.mspec.specs.Names.{IsName};
+ghost use Rattle.mspec.specs.Trees.{front, last, AreOrderSubscripts};
+
+use mkey::{Direction, NodeKey, last};
+use mnum::Bytes7;
+use mstore::StoreFault;
+use std::alloc::Global;
+
+// The key of a node whose subscripts are those of a node.
+pub fn key_of(
+    alloc: Global,
+    account: &Bytes7,
+    name: &Bytes7,
+    subs: &[Bytes7],
+) -> Result<NodeKey, StoreFault>
+    requires account { IsAccountName account.now }
+    requires name { IsName name.now }
+    requires subs { AreSubscripts subs.now }
+    ensures key { IfOk result (λ key. key ≡ record { account = account.now; name = name.now; subscripts = subs.now }) }
+    ensures store { result ≢ Err StoreFault.Store }
+{
+    match NodeKey::build(alloc, account, name, subs) {
+        Ok(key) => Ok(key),
+        Err(_) => Err(StoreFault::Memory),
+    }
+}
+
+// The bounds of the keys below the node above, on that side of the last subscript to which the walk goes. Forward they begin behind
+// all that stands below the present subscript.
+pub fn bounds(
+    alloc: Global,
+    account: &Bytes7,
+    name: &Bytes7,
+    subs: &[Bytes7],
+    direction: Direction,
+    above: &NodeKey,
+) -> Result<(Vec<u8>, Vec<u8>), StoreFault>
+    requires account { IsAccountName account.now }
+    requires name { IsName name.now }
+    requires subs { AreOrderSubscripts subs.now }
+    requires above { above.now ≡ record { account = account.now; name = name.now; subscripts = front subs.now } }
+    ensures bounds { IfOk result (λ bounds. BoundsOnward (way direction) above.now (last subs.now) bounds.0.items bounds.1.items) }
+    ensures store { result ≢ Err StoreFault.Store }
+{
+    let (low, high) = above.child_bounds(alloc)?;
+    if last(subs).as_bytes().is_empty() {
+        return Ok((low, high));
+    }
+    let present = key_of(alloc, account, name, subs)?;
+    match direction {
+        Direction::Forward => Ok((present.after_subtree(alloc)?, high)),
+        Direction::Backward => Ok((low, present.as_bytes().to_vec(alloc)?)),
+    }
+}

@@ -1,0 +1,11 @@
+//! What the language asks of globals, over any store of nodes.
+//!
+//! The definitions are `mspec`'s `Globals`: `status` of $DATA, `order_at` of $ORDER and `lines_of` of routines.
+#![tactic(auto)]
+
+mod ask;
+mod bounds;
+mod lines;
+
+pub use ask::{neighbour, status};
+pub use lines::routine;

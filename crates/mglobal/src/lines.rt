@@ -1,0 +1,118 @@
+//! The lines of a routine.
+ghost use Rattle.std.specs.Prelude.{◌≡◌, ◌≢◌, ◌≤◌, length, IfOk, IfSome, OnOk, Err, [], ◌∷◌, ◌++◌, codes};
+ghost use Rattle.std.specs.Option.{option_to_list};
+ghost use Rattle.mglobal.specs.Lines.{line_at, line_in};
+ghost use Rattle.mkey.specs.Front.{IsSub};
+ghost use Rattle.mspec.specs.Globals.{lines_of, order_at};
+ghost use Rattle.mspec.specs.KeyBytes.{IsAccountName, IsSubscript};
+ghost use Rattle.mspec.specs.Names.{IsName};
+ghost use Rattle.mspec.specs.Trees.{Forward};
+ghost use Rattle.mstore.specs.Held.{AreHeld};
+
+use crate::ask::neighbour;
+use crate::bounds::key_of;
+use mkey::{Direction, is_numeric};
+use mnum::Bytes7;
+use mstore::{NodeStore, StoreFault};
+use std::alloc::{AllocError, Global};
+
+// The subscripts of a line.
+fn subs_of(alloc: Global, name: &Bytes7, place: &Bytes7) -> Result<Vec<Bytes7>, AllocError>
+    ensures { IfOk result (λ subs. subs.items ≡ name.now ∷ place.now ∷ []) }
+{
+    let mut subs = Vec::new(alloc);
+    subs.push(name.copy()?)?;
+    subs.push(place.copy()?)?;
+    Ok(subs)
+}
+
+// The subscript behind a place of a routine.
+fn next_place<S: NodeStore>(
+    store: &mut S,
+    alloc: Global,
+    account: &Bytes7,
+    global: &Bytes7,
+    name: &Bytes7,
+    place: &Bytes7,
+) -> Result<Option<Bytes7>, StoreFault>
+    requires account { IsAccountName account.now }
+    requires global { global.now ≡ codes "ROUTINE" }
+    requires name { IsName name.now }
+    requires place { length place.now ≤ 255 }
+    ensures next { S.sound → IfOk result (λ next. next ≡ order_at (S.content store.old) Forward (line_at account.now name.now place.now)) }
+    ensures held { S.sound → OnOk result (AreHeld (S.content store.old)) }
+    ensures sub { IfOk result (λ next. IfSome next IsSub) }
+    ensures same { S.sound → S.content store.new ≡ S.content store.old }
+    ensures store { S.steady → result ≢ Err StoreFault.Store }
+{
+    let subs = subs_of(alloc, name, place)?;
+    neighbour(store, alloc, account, global, &subs, Direction::Forward)
+}
+
+// The text of the line at a place, where the place is a number and the line has a text.
+fn line_text<S: NodeStore>(
+    store: &mut S,
+    alloc: Global,
+    account: &Bytes7,
+    global: &Bytes7,
+    name: &Bytes7,
+    place: &Bytes7,
+) -> Result<Option<Bytes7>, StoreFault>
+    requires account { IsAccountName account.now }
+    requires global { global.now ≡ codes "ROUTINE" }
+    requires name { IsName name.now }
+    requires place { IsSubscript place.now }
+    ensures text { S.sound → IfOk result (λ text. option_to_list text ≡ line_in (S.content store.old) account.now name.now place.now) }
+    ensures same { S.sound → S.content store.new ≡ S.content store.old }
+    ensures store { S.steady → result ≢ Err StoreFault.Store }
+{
+    if !is_numeric(place) {
+        return Ok(None);
+    }
+    let subs = subs_of(alloc, name, place)?;
+    let key = key_of(alloc, account, global, &subs)?;
+    store.get(&key)
+}
+
+// Adds a line that is there.
+fn add(lines: &mut Vec<Bytes7>, text: Option<Bytes7>) -> Result<(), AllocError>
+    ensures { OnOk result (lines.new.items ≡ lines.old.items ++ option_to_list text) }
+{
+    if let Some(text) = text {
+        lines.push(text)?;
+    }
+    Ok(())
+}
+
+/// The lines of an account's routine: the texts at `^ROUTINE(name, n)` in the order of the numbers `n`. Nodes with more subscripts, and
+/// those whose second is no number, are no lines.
+///
+/// # Errors
+///
+/// Those of the store: `Memory` for want of memory, also where a store that is not sound names places without end, and `Store`, which a
+/// steady one never answers.
+pub fn routine<S: NodeStore>(
+    store: &mut S,
+    alloc: Global,
+    account: &Bytes7,
+    name: &Bytes7,
+) -> Result<Vec<Bytes7>, StoreFault>
+    requires account { IsAccountName account.now }
+    requires name { IsName name.now }
+    ensures lines { S.sound → IfOk result (λ lines. lines.items ≡ lines_of (S.content store.old) account.now name.now) }
+    ensures same { S.sound → S.content store.new ≡ S.content store.old }
+    ensures store { S.steady → result ≢ Err StoreFault.Store }
+{
+    let global = Bytes7::from_slice(alloc, b"ROUTINE")?;
+    let mut lines = Vec::new(alloc);
+    let mut place = Bytes7::empty(alloc);
+    for _ in 0..u64::MAX {
+        let Some(next) = next_place(store, alloc, account, &global, name, &place)? else {
+            return Ok(lines);
+        };
+        let text = line_text(store, alloc, account, &global, name, &next)?;
+        add(&mut lines, text)?;
+        place = next;
+    }
+    Err(StoreFault::Memory)
+}

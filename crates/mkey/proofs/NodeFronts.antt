@@ -1,0 +1,100 @@
+-- Keys of nodes that begin alike.
+use Rattle.std.proofs.Common.{ℕ, ◌≡◌, Bool, true, false, nat_eq, ◌&&◌, Option, None, List, [], ◌∷◌, ◌++◌, length, drop, refl, sym, ◌∙◌, ap, inl, inr, append_assoc, append-nil}
+use Rattle.std.specs.Prelude.{if◌then◌else◌}
+use Rattle.std.specs.Cmp.Lexicographic.{bytes_decides}
+use Rattle.std.specs.List.{starts_with}
+use Rattle.std.proofs.Math.Seq.{drop-append_seam}
+use Rattle.std.proofs.lemmas.Bool.Decides.{Decides-eqb}
+use Rattle.std.proofs.lemmas.List.Concat.{flat_map-append}
+use Rattle.std.proofs.lemmas.Slice.Eq.{starts_is}
+use Rattle.mspec.specs.Globals.{is_node_within, is_beside}
+use Rattle.mspec.specs.KeyBytes.{text_bytes, subscript_bytes, subscripts_bytes, local_bytes, key_bytes}
+use Rattle.mspec.specs.KeyLaws.{NoneEmpty, IsWithin}
+use Rattle.mspec.specs.Node.{Text, Node}
+use Rattle.mspec.specs.Number.{significant_digits}
+use Rattle.mspec.specs.Trees.{text_eq, is_within, child_of}
+use Rattle.mspec.proofs.KeyRanges.{keys_of_subtrees_begin_alike}
+use Rattle.mkey.specs.Under.{child_under}
+use Rattle.mkey.proofs.SubsKeys.{same_truth, split_within}
+
+abbrev key : Node → List ℕ
+key = key_bytes significant_digits
+
+pub both_true : (a b : Bool) → (a && b) ≡ true → (a ≡ true) × (b ≡ true)
+both_true true b e = (refl, e)
+both_true false b e = absurd (cc)
+
+pub all_true : (a b c : Bool) → a ≡ true → b ≡ true → c ≡ true → (a && (b && c)) ≡ true
+all_true true true c e f g = g
+all_true true false c e f g = f
+all_true false b c e f g = e
+
+-- ---- one node within another
+
+-- a node is another, or stands below it, exactly where the test says so
+pub record IsSplit (n m : Node) : Type 0 where
+  pub account : n.account ≡ m.account
+  pub name : n.name ≡ m.name
+  pub subscripts : m.subscripts ≡ n.subscripts ++ drop (length n.subscripts) m.subscripts
+
+pub split_node : (n m : Node) → is_node_within n m ≡ true → IsSplit n m
+split_node n m e =
+    let first = both_true (text_eq n.account m.account) (text_eq n.name m.name && is_within n.subscripts m.subscripts) e in
+    let rest = both_true (text_eq n.name m.name) (is_within n.subscripts m.subscripts) first.1 in
+    record { account = (bytes_decides n.account m.account).0 first.0; name = (bytes_decides n.name m.name).0 rest.0; subscripts = split_within n.subscripts m.subscripts rest.1 }
+
+pub joined_node : (n m : Node) (more : List Text) → n.account ≡ m.account → n.name ≡ m.name → m.subscripts ≡ n.subscripts ++ more → is_node_within n m ≡ true
+joined_node n m more account name e =
+    all_true (text_eq n.account m.account) (text_eq n.name m.name) (is_within n.subscripts m.subscripts) ((bytes_decides n.account m.account).1 account) ((bytes_decides n.name m.name).1 name)
+    ((starts_is bytes_decides m.subscripts n.subscripts (is_within n.subscripts m.subscripts) refl).1 more e)
+
+within_told : (n m : Node) → IsWithin n m → is_node_within n m ≡ true
+within_told n m (inl same) = joined_node n m [] (ap (λ x. x.account) same) (ap (λ x. x.name) same) (ap (λ x. x.subscripts) (sym same) ∙ sym (append-nil n.subscripts))
+within_told n m (inr above) = joined_node n m (above.longer.0 ∷ above.longer.1) above.account above.name above.longer.2
+
+-- ---- the bytes of their keys
+
+-- the key of a node within another is the other's with the subscripts behind it
+pub key_within : (n m : Node) → is_node_within n m ≡ true → key m ≡ key n ++ subscripts_bytes significant_digits (drop (length n.subscripts) m.subscripts)
+key_within n m e =
+    let split = split_node n m e in
+    let more : List Text = drop (length n.subscripts) m.subscripts in
+    let own : List ℕ = subscripts_bytes significant_digits n.subscripts in
+    let rest : List ℕ = subscripts_bytes significant_digits more in
+    (λ i. text_bytes (sym split.account i) ++ (text_bytes (sym split.name i) ++ subscripts_bytes significant_digits (split.subscripts i)))
+    ∙ ap (λ b. text_bytes n.account ++ (text_bytes n.name ++ b)) (flat_map-append (subscript_bytes significant_digits) n.subscripts more)
+    ∙ ap (λ b. text_bytes n.account ++ b) (sym (append_assoc (text_bytes n.name) own rest))
+    ∙ sym (append_assoc (text_bytes n.account) (local_bytes significant_digits n.name n.subscripts) rest)
+
+pub key_behind : (n m : Node) → is_node_within n m ≡ true → drop (length (key n)) (key m) ≡ subscripts_bytes significant_digits (drop (length n.subscripts) m.subscripts)
+key_behind n m e = ap (drop (length (key n))) (key_within n m e) ∙ drop-append_seam (key n) (subscripts_bytes significant_digits (drop (length n.subscripts) m.subscripts))
+
+-- a key begins with another's exactly where its node is within the other
+pub starts_node : (n m : Node) → NoneEmpty n.subscripts → NoneEmpty m.subscripts → (r : Bool) → r ≡ starts_with nat_eq (key m) (key n) → r ≡ is_node_within n m
+starts_node n m some_n some_m r e =
+    let of_bytes = starts_is Decides-eqb (key m) (key n) r e in
+    same_truth r (is_node_within n m)
+    (λ t. within_told n m ((keys_of_subtrees_begin_alike significant_digits n m some_n some_m).0 (drop (length (key n)) (key m), of_bytes.0 t)))
+    (λ t. of_bytes.1 (subscripts_bytes significant_digits (drop (length n.subscripts) m.subscripts)) (key_within n m t))
+
+-- ---- the subscript of one behind the other
+
+pub within_parts : (n m : Node) → is_node_within n m ≡ true → (is_beside n m ≡ true) × (is_within n.subscripts m.subscripts ≡ true)
+within_parts n m e = apart (text_eq n.account m.account) (text_eq n.name m.name) (is_within n.subscripts m.subscripts) e
+  where
+    apart : (a b c : Bool) → (a && (b && c)) ≡ true → ((a && b) ≡ true) × (c ≡ true)
+    apart true true c e = (refl, e)
+    apart true false c e = absurd (cc)
+    apart false b c e = absurd (cc)
+
+pub child_within : (n m : Node) → is_node_within n m ≡ true → child_under n m ≡ child_of n.subscripts m.subscripts
+child_within n m e = ap (λ b. if b then child_of n.subscripts m.subscripts else None) (within_parts n m e).0
+
+pub child_without : (n m : Node) → is_node_within n m ≡ false → child_under n m ≡ None
+child_without n m e = apart (text_eq n.account m.account) (text_eq n.name m.name) (is_within n.subscripts m.subscripts) _ e
+  where
+    apart : (a b c : Bool) (x : Option Text) → (a && (b && c)) ≡ false → (if a && b then (if c then x else None) else None) ≡ None
+    apart true true true x e = absurd (cc)
+    apart true true false x e = refl
+    apart true false c x e = refl
+    apart false b c x e = refl

@@ -1,0 +1,14 @@
+-- The subscript by which a node stands below another.
+use Rattle.std.specs.Prelude.{Bool, false, Option, Some, None, if◌then◌else◌}
+use Rattle.mspec.specs.Globals.{is_beside}
+use Rattle.mspec.specs.Node.{Text, Node}
+use Rattle.mspec.specs.Trees.{child_of}
+
+-- there is one, and it passes the test
+abbrev pub passes : (Text → Bool) → Option Text → Bool
+passes p None = false
+passes p (Some x) = p x
+
+-- the subscript of m next behind those of n, where m stands below n
+abbrev pub child_under : Node → Node → Option Text
+child_under n m = if is_beside n m then child_of n.subscripts m.subscripts else None

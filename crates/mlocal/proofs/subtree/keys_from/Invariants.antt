@@ -1,0 +1,7 @@
+use Rattle.std.proofs.Common.{◌≡◌, ◌++◌, map}
+use Rattle.std.specs.List.{filter}
+use Rattle.mlocal.specs.Way.{is_from}
+use Rattle.mlocal.proofs.subtree.keys_from.Given as goal
+
+abbrev pub invariant-loop-entry : goal.invariant-loop-entry
+invariant-loop-entry l = l.found.items ++ map (λ e. e.0) l.entry-iterator ≡ map (λ e. e.0) (filter (λ e. is_from l.low l.high e.0) l.values.entries)

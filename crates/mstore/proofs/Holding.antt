@@ -1,0 +1,59 @@
+-- What entries and rows hold are nodes of a store, with texts that they may have.
+use Rattle.std.proofs.Common.{◌≡◌, List, [], ◌∷◌, length, All, refl, sym, ◌∙◌, subst, inl, inr, arith}
+use Rattle.std.specs.FinMap.{entries, empty, entries-insert, len-entries, len-empty}
+use Rattle.std.specs.FinMap.Entries.{put, by_order}
+use Rattle.std.specs.declared.cmp.Ordering.{Ordering}
+use Rattle.std.specs.declared.cmp.Ordering.TheVariants.{Less, Equal, Greater}
+use Rattle.std.proofs.lemmas.List.Elements.{All-map, All-nil, All-cons, All-head, All-tail}
+use Rattle.mspec.specs.KeyReading.{node_of}
+use Rattle.mspec.specs.Node.{Text, Node}
+use Rattle.mspec.specs.NodeOrder.{node_cmp}
+use Rattle.mspec.specs.Number.{significant_digits}
+use Rattle.mspec.specs.KeyBytes.{IsStored}
+use Rattle.mspec.proofs.NodeOrders.{node_cmp_total}
+use Rattle.sqlite.specs.Order.{Row}
+use Rattle.sqlite_rules.specs.Lists.{Has}
+use Rattle.sqlite_trees.specs.declared.store.Store.{Ghosts}
+use Rattle.sqlite.specs.Held.{Held, state}
+use Rattle.mstore.specs.declared.plain.Entry.{Entry}
+use Rattle.mstore.specs.Database.{IsSound, stored}
+use Rattle.mstore.specs.Entries.{entries_of, entry_of, held, AreEntries}
+use Rattle.mstore.specs.Held.{IsHeld, AreHeld}
+use Rattle.mstore.specs.Keyed.{globals_by}
+use Rattle.mstore.specs.Rows.{IsInForm, key_of, value_of}
+use Rattle.mstore.proofs.KeyedRows.{node_at}
+use Rattle.mstore.proofs.SortedEntries.{entries_from}
+
+-- ---- a vector of entries
+
+pub entries_held : (es : List Entry) → AreEntries es → AreHeld (held es)
+entries_held es are = subst (All IsHeld) (sym (entries_from (entries_of es) are.sorted)) (All-map IsHeld entry_of es (λ k d inside. record { node = are.stored k d inside; text = are.short k d inside }))
+
+-- ---- the rows of a table
+
+put_held : (n : Node) (t : Text) → IsHeld (n, t) → (es : List (Node × Text)) → All IsHeld es → All IsHeld (put (node_cmp significant_digits) n t es)
+put_held n t is [] all = All-cons IsHeld (n, t) [] is (All-nil IsHeld)
+put_held n t is (e ∷ es) all = by_place (node_cmp significant_digits n e.0) (put_held n t is es (All-tail IsHeld e es all))
+  where
+    here : IsHeld (e.0, t)
+    here = record { node = (All-head IsHeld e es all).node; text = is.text }
+
+    by_place : (r : Ordering) → All IsHeld (put (node_cmp significant_digits) n t es) → All IsHeld (by_order r ((n, t) ∷ e ∷ es) ((e.0, t) ∷ es) (e ∷ put (node_cmp significant_digits) n t es))
+    by_place Less rest = All-cons IsHeld (n, t) (e ∷ es) is all
+    by_place Equal rest = All-cons IsHeld (e.0, t) es here (All-tail IsHeld e es all)
+    by_place Greater rest = All-cons IsHeld e (put (node_cmp significant_digits) n t es) (All-head IsHeld e es all) rest
+
+of_none : (es : List (Node × Text)) → length es ≡ 0 → All IsHeld es
+of_none [] e = All-nil IsHeld
+of_none (x ∷ es) e = absurd (omega arith)
+
+rows_held : (rows : List Row) → ((r : Row) → Has rows r → IsInForm (key_of r) (value_of r)) → AreHeld (globals_by key_of value_of rows)
+rows_held [] in_form = of_none (entries empty) (sym (len-entries empty) ∙ len-empty (node_cmp significant_digits) Text)
+rows_held (r ∷ rows) in_form =
+    let form = in_form r (inl refl) in
+    let node : IsStored (node_of (key_of r)) = subst IsStored (sym (node_at (key_of r) form.0)) form.0.1.0 in
+    subst (All IsHeld) (sym (entries-insert (node_cmp_total significant_digits) (globals_by key_of value_of rows) (node_of (key_of r)) (value_of r)))
+    (put_held (node_of (key_of r)) (value_of r) (record { node = node; text = form.1.0 }) (entries (globals_by key_of value_of rows)) (rows_held rows (λ s has. in_form s (inr has))))
+
+pub table_held : {S : Type 0} (g : Ghosts S) (h : Held S) → IsSound g h → AreHeld (stored g h)
+table_held g h sound = rows_held ((state g h).now.trees 0) sound.1.nodes.in_form

@@ -1,13 +1,13 @@
 -- The settings of the definitions, beside the parts that the code keeps.
-use Rattle.std.proofs.Common.{◌≡◌, inl, inr, ℕ, zero, suc, ◌+◌, ◌==◌, ◌<◌, Bool, true, false, List, [], ◌∷◌, length, map, get_or, Option, Some, None, All, refl, sym, ap, ◌∙◌, arith, add-zero, zero-add}
-use Rattle.std.specs.Prelude.{not, ◌&&◌, ◌||◌, slice_get, option_map, option_and_then, unwrap_or}
+use Rattle.std.proofs.Common.{◌≡◌, inl, inr, ℕ, zero, suc, ◌+◌, ◌==◌, ◌<◌, Bool, true, false, List, [], ◌∷◌, length, map, get_or, Option, Some, None, All, refl, sym, subst, ap, ◌∙◌, arith, add-zero, zero-add}
+use Rattle.std.specs.Prelude.{not, ◌&&◌, ◌||◌, nat_le, slice_get, option_map, option_and_then, unwrap_or}
 use Rattle.std.specs.List.{list_any, list_all, find as first_of}
 use Rattle.std.specs.Ordering.{nat_cmp, eq_by_cmp}
 use Rattle.std.specs.FinMap.{get, from_entries, get-from_entries}
 use Rattle.std.specs.FinMap.Entries.{find}
 use Rattle.std.specs.Cmp.{nat_cmp_total}
 use Rattle.std.specs.Cmp.Lexicographic.{bytes_decides}
-use Rattle.std.proofs.lemmas.Bool.{cases_Bool, cases_lt, and_parts, false≢true, ne_eqb, eq-eqb, not-true}
+use Rattle.std.proofs.lemmas.Bool.{cases_Bool, cases_lt, and_parts, or_cases, leb-true, false≢true, ne_eqb, eq-eqb, not-true}
 use Rattle.std.proofs.lemmas.Bool.Decides.{nat_tests}
 use Rattle.std.proofs.lemmas.List.Elements.{All-head, All-tail}
 use Rattle.std.proofs.lemmas.List.Folds.{list_any_at}
@@ -15,6 +15,9 @@ use Rattle.std.proofs.lemmas.List.Sums.{AllPass-from_list_all}
 use Rattle.std.proofs.lemmas.Option.{none-some, same_Some, slice_get-get_or, slice_get_within, slice_get_past, get_or_from_slice_get, unwrap_or-slice_get}
 use Rattle.mspec.specs.Node.{Text}
 use Rattle.mspec.specs.Trees.{text_eq}
+use Rattle.mspec.specs.Literal.{is_digit}
+use Rattle.mspec.specs.Names.{is_letter, is_name_rest}
+use Rattle.mspec.proofs.SubscriptTests.{account_name_is}
 use Rattle.mspec.specs.Access as access
 use Rattle.mspec.specs.Access.{Account, Grant}
 use Rattle.mgrant.specs.Document.{are_names, are_distinct, is_account_name}
@@ -132,6 +135,25 @@ pub name_good : (names : List Text) → are_names names ≡ true → (i : ℕ) �
 name_good names good i within =
     let (each, distinct) = and_parts (list_all is_account_name names) (are_distinct text_eq names) good in
     ap is_account_name (unwrap_or-slice_get names i []) ∙ AllPass-from_list_all is_account_name names each i [] within
+
+small : (c : ℕ) → is_name_rest c ≡ true → c < 128
+small c e =
+    elim (or_cases (is_letter c) (is_digit c) e) [
+      | inl letter ↦
+          elim (or_cases (nat_le 65 c && nat_le c 90) (nat_le 97 c && nat_le c 122) letter) [
+            | inl upper ↦ let k = leb-true c 90 (and_parts (nat_le 65 c) (nat_le c 90) upper).1 in omega (arith, k)
+            | inr lower ↦ let k = leb-true c 122 (and_parts (nat_le 97 c) (nat_le c 122) lower).1 in omega (arith, k)
+          ]
+      | inr digit ↦ let k = leb-true c 57 (and_parts (nat_le 48 c) (nat_le c 57) digit).1 in omega (arith, k)
+    ]
+
+-- a name has letters and digits alone, and where there is none it is empty
+pub name_small : (names : List Text) → are_names names ≡ true → (i : ℕ) → All (λ c. c < 128) (text_in names i)
+name_small names good i =
+    elim (cases_lt i (length names)) [
+      | inl inside ↦ λ k d within. small _ ((account_name_is (text_in names i) (name_good names good i inside)).each k d within)
+      | inr outside ↦ subst (All (λ c. c < 128)) (sym (ap (λ o. unwrap_or o []) (slice_get_past names i outside))) (λ k d within. absurd (omega (arith, within)))
+    ]
 
 -- an account's name is that of a place just where the place is its own, also of a place that has no name
 pub me_test : (names : List Text) → are_names names ≡ true → (me i : ℕ) → i < length names → text_eq (text_in names me) (text_in names i) ≡ (me == i)

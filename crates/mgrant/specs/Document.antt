@@ -11,6 +11,7 @@ use Rattle.toml.specs.Parse.{parse_document}
 use Rattle.mspec.specs.Node.{Text}
 use Rattle.mspec.specs.Trees.{text_eq}
 use Rattle.mspec.specs.Names.{is_name_start, is_name_rest}
+pub use Rattle.mspec.specs.Subscripts.{is_account_name}
 use Rattle.mspec.specs.Access.{Account, Grant, Settings, Mode, Read, Write}
 use Rattle.mgrant.specs.declared.fault.SettingsFault.{SettingsFault}
 use Rattle.mgrant.specs.declared.fault.SettingsFault.TheVariants as fault
@@ -116,10 +117,6 @@ written doc =
     else None
 
 -- ---- the faults
-
--- an account's name: 1 to 16 letters or digits
-abbrev pub is_account_name : Text → Bool
-is_account_name name = nat_lt 0 (length name) && (nat_le (length name) 16 && list_all is_name_rest name)
 
 -- a name: a letter or `%`, with at most 30 letters or digits behind it
 abbrev pub is_name : Text → Bool

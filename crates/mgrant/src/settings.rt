@@ -1,5 +1,5 @@
 // Settings: who has which terminals, and who may do what.
-ghost use Rattle.std.specs.Prelude.{◌≡◌, ◌<◌, ◌↔◌, ◌⊎◌, Some, None, IfOk, IfErr, IfSome, IsTrue, length, slice_get, slice_index_or, unwrap_or, option_and_then};
+ghost use Rattle.std.specs.Prelude.{◌≡◌, ◌<◌, ◌↔◌, ◌⊎◌, Some, None, IfOk, IfErr, IfSome, IsTrue, All, length, slice_get, slice_index_or, unwrap_or, option_and_then};
 ghost use Rattle.toml.specs.View.{table_view};
 ghost use Rattle.mspec.specs.KeyBytes.{IsAccountName};
 ghost use Rattle.mspec.specs.Access as access;
@@ -141,6 +141,7 @@ impl Settings {
     /// The name of an account, 1 to 16 letters or digits; empty for an id of other settings that names none here. Takes no memory.
     pub fn name_of(&self, id: AccountId) -> &[u8]
         ensures name { result.now ≡ access.name_at self.now id }
+        ensures ascii { All (λ c. c < 128) result.now }
         ensures good { id < length self.now.accounts → IsAccountName result.now }
     {
         self.names.at(id.place())

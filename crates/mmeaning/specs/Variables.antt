@@ -1,33 +1,46 @@
 -- Variables: the checks of a reference, and what is asked of the place that it names.
 --
--- Restates "Local variable name lvn", "$DATA", "$GET", "$ORDER" and "$TEST" of ISO/IEC 11756:1999. A reference is checked once all
--- its subscripts are evaluated.
-use Rattle.std.specs.Prelude.{ℕ, ◌+◌, ◌*◌, pos, negsuc, Bool, true, cond, List, [], ◌∷◌, Option, Some, None, unwrap_or, slice_get}
+-- Restates "Local variable name lvn", "Global variable name gvn", "$DATA", "$GET", "$ORDER" and "$TEST" of ISO/IEC 11756:1999. A
+-- reference is checked once all its subscripts are evaluated.
+use Rattle.std.specs.Prelude.{ℕ, ◌+◌, ◌*◌, pos, negsuc, Bool, true, cond, ◌&&◌, nat_le, nat_lt, List, [], ◌∷◌, ◌++◌, length, Option, Some, None, unwrap_or, slice_get}
 use Rattle.std.specs.Ordering.{int_eq}
-use Rattle.mspec.specs.Trees.{Direction, Forward, Backward}
+use Rattle.mspec.specs.Access.{Mode, Read, Write}
+use Rattle.mspec.specs.Trees.{Direction, Forward, Backward, front}
+use Rattle.mspec.specs.TextFunctions.{longest_text}
 use Rattle.mspec.specs.Scopes.{is_value, is_above, next_subscript, killed}
-use Rattle.mspec.specs.Subscripts.{are_subscripts, are_order_subscripts}
+use Rattle.mspec.specs.Subscripts.{is_account_name, are_subscripts, are_order_subscripts}
 use Rattle.mspec.specs.Interpretations.{truth_text}
-use Rattle.mspec.specs.Code.{Zarg, Zsub, Zsyntax}
-use Rattle.mspec.specs.Act.{Text, Act, ◌>>=◌, ◌>>◌, give, fail, unless, get_local, set_local, with_locals, of_locals, value_of, test_is}
+use Rattle.mspec.specs.Code.{M1, M7, Zarg, Zgrant, Zlong, Zsub, Zsyntax}
+use Rattle.mspec.specs.Plan.{May, Value, Status, Neighbour, Put, Kill}
+use Rattle.mspec.specs.Act.{Text, Node, Act, ◌>>=◌, ◌>>◌, give, give_some, fail, unless, ask, get_local, set_local, with_locals, of_locals, value_of, test_is, naked_is, set_naked}
 use Rattle.mgrammar.specs.Grammar.{SpecialTree, test_special, FunctionTree, data_function, get_function, order_function}
 use Rattle.mmeaning.specs.Functions.{whole_text, as_whole}
 
 -- ---- references
 
--- a reference of which all is evaluated that it has to evaluate
+-- a reference of which all is evaluated that it has to evaluate: of a local, of a global of some account, or of one beside the node that
+-- was referred to last
 pub data Evaluated : Type 0 where
   of_local : Text → List Text → Evaluated
+  of_global : Node → Evaluated
+  of_naked : List Text → Evaluated
 
 -- one that the checks let through
 pub data Place : Type 0 where
   at_local : Text → List Text → Place
+  at_node : Node → Place
 
 -- what a place is wanted for
 pub data Use : Type 0 where
   reading : Use
   ordering : Use
   writing : Use
+
+-- what an account has to be let do for that
+abbrev pub mode_of : Use → Mode
+mode_of reading = Read
+mode_of ordering = Read
+mode_of writing = Write
 
 -- $ORDER takes an empty last subscript; where there is none at all it is refused by a code of its own
 abbrev pub may_be_ordered : List Text → Bool
@@ -38,22 +51,48 @@ abbrev pub some_subscript : List Text → Act (Unit {0})
 some_subscript [] = fail Zarg
 some_subscript (x ∷ xs) = give tt
 
+-- refused where there is a subscript too many, or one that is too long or empty
 abbrev pub checked : Use → List Text → Act (Unit {0})
 checked reading xs = unless Zsub (are_subscripts xs)
 checked ordering xs = unless Zsub (may_be_ordered xs) >> some_subscript xs
 checked writing xs = unless Zsub (are_subscripts xs)
 
--- refused where it has a subscript too many, too long or empty
+-- the node whose subscripts are those of the last one, these in the place of its last subscript, which it must have
+abbrev pub beside : List Text → Option Node → Act Node
+beside xs None = fail M1
+beside xs (Some n) = unless M1 (nat_lt 0 (length n.subscripts)) >> give (record n { subscripts = front n.subscripts ++ xs })
+
+-- whether the line's account may use a global so; what is no account's name is refused as an account that grants nothing
+abbrev pub allowed : Mode → Node → Act (Unit {0})
+allowed mode n = do
+  is_let ← ask (May n.account n.name mode)
+  unless Zgrant (is_account_name n.account && is_let)
+
+-- a node that is let through is the one that was referred to last, also where it then turns out to have no text
+abbrev pub node_place : Use → Node → Act Place
+node_place u n = do
+  allowed (mode_of u) n
+  checked u n.subscripts
+  set_naked (Some n)
+  give (at_node n)
+
 abbrev pub resolve : Use → Evaluated → Act Place
 resolve u (of_local name xs) = checked u xs >> give (at_local name xs)
+resolve u (of_global n) = node_place u n
+resolve u (of_naked xs) = do
+  last ← naked_is
+  n ← beside xs last
+  node_place u n
 
 -- ---- places
 
 abbrev pub read_at : Place → Act Text
 read_at (at_local name xs) = get_local name xs
+read_at (at_node n) = ask (Value n) >>= give_some M7
 
 abbrev pub found_at : Place → Act (Option Text)
 found_at (at_local name xs) = of_locals (λ l. value_of l name xs)
+found_at (at_node n) = ask (Value n)
 
 -- the text there, or another one where there is none
 abbrev pub read_or : Text → Place → Act Text
@@ -61,20 +100,27 @@ read_or other p = do
   found ← found_at p
   give (unwrap_or found other)
 
+-- a global keeps no text that is too long; none that a line makes is
 abbrev pub put_at : Place → Text → Act (Unit {0})
 put_at (at_local name xs) x = set_local name xs x
+put_at (at_node n) x = unless Zlong (nat_le (length x) longest_text) >> ask (Put n x)
 
 -- without its node and what stands below it
 abbrev pub kill_at : Place → Act (Unit {0})
 kill_at (at_local name xs) = with_locals (λ l. killed l name xs)
+kill_at (at_node n) = ask (Kill n)
 
 -- whether there is a text, and whether there is one below
 abbrev pub status_at : Place → Act (Bool × Bool)
 status_at (at_local name xs) = of_locals (λ l. (is_value l name xs, is_above l name xs))
+status_at (at_node n) = ask (Status n)
 
 -- the next subscript at the last place; the empty text where there is none
 abbrev pub next_at : Direction → Place → Act Text
 next_at d (at_local name xs) = of_locals (λ l. unwrap_or (next_subscript l d name xs) [])
+next_at d (at_node n) = do
+  next ← ask (Neighbour d n)
+  give (unwrap_or next [])
 
 -- ---- functions of a variable
 

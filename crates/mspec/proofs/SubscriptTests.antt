@@ -1,4 +1,4 @@
--- The tests of subscripts decide what can be the subscripts of a node.
+-- The tests of names and subscripts decide what can be the account and the subscripts of a node.
 use Rattle.std.proofs.Common.{◌≡◌, ◌-◌, Bool, true, false, List, length, All, refl, sym, arith}
 use Rattle.std.specs.Prelude.{◌↔◌, IsTrue, nat_lt, nat_le, ◌&&◌}
 use Rattle.std.specs.List.{list_all}
@@ -6,9 +6,20 @@ use Rattle.std.proofs.lemmas.Bool.{and_parts, and_from, ltb-true, leb-true, lt-l
 use Rattle.std.proofs.lemmas.List.Sums.{AllPass-from_list_all, list_all-from_AllPass}
 use Rattle.std.proofs.lemmas.List.{length-take-le}
 use Rattle.mspec.specs.Node.{Text}
-use Rattle.mspec.specs.KeyBytes.{IsSubscript, AreSubscripts}
+use Rattle.mspec.specs.Names.{is_name_rest}
+use Rattle.mspec.specs.KeyBytes.{IsAccountName, IsSubscript, AreSubscripts}
 use Rattle.mspec.specs.Trees.{front, last, AreOrderSubscripts}
-use Rattle.mspec.specs.Subscripts.{is_subscript, are_subscripts, are_order_subscripts}
+use Rattle.mspec.specs.Subscripts.{is_account_name, is_subscript, are_subscripts, are_order_subscripts}
+
+pub account_name_is : (t : Text) → is_account_name t ≡ true → IsAccountName t
+account_name_is t e =
+    let (some, rest) = and_parts (nat_lt 0 (length t)) (nat_le (length t) 16 && list_all is_name_rest t) e in
+    let (few, each) = and_parts (nat_le (length t) 16) (list_all is_name_rest t) rest in
+    record { some = ltb-true 0 (length t) some; few = leb-true (length t) 16 few; each = AllPass-from_list_all is_name_rest t each }
+
+pub account_name_test : (t : Text) → IsAccountName t → is_account_name t ≡ true
+account_name_test t name =
+    and_from _ _ (lt-ltb 0 (length t) name.some) (and_from _ _ (le-leb (length t) 16 name.few) (list_all-from_AllPass is_name_rest t name.each))
 
 subscript_is : (x : Text) → is_subscript x ≡ true → IsSubscript x
 subscript_is x e =
@@ -60,3 +71,6 @@ decides_subscripts b xs decides = same_test (AreSubscripts xs) b (are_subscripts
 
 pub decides_order_subscripts : (b : Bool) (xs : List Text) → IsTrue b ↔ AreOrderSubscripts xs → b ≡ are_order_subscripts xs
 decides_order_subscripts b xs decides = same_test (AreOrderSubscripts xs) b (are_order_subscripts xs) decides (order_subscripts_are xs) (order_subscripts_test xs)
+
+pub decides_account_name : (b : Bool) (t : Text) → IsTrue b ↔ IsAccountName t → b ≡ is_account_name t
+decides_account_name b t decides = same_test (IsAccountName t) b (is_account_name t) decides (account_name_is t) (account_name_test t)

@@ -100,3 +100,10 @@ test_is s = Done (Gives s.test s)
 
 abbrev pub set_test : Bool → Act (Unit {0})
 set_test b s = Done (Gives tt (record s { test = b }))
+
+-- the naked indicator: the node that was referred to last
+abbrev pub naked_is : Act (Option Node)
+naked_is s = Done (Gives s.naked s)
+
+abbrev pub set_naked : Option Node → Act (Unit {0})
+set_naked n s = Done (Gives tt (record s { naked = n }))

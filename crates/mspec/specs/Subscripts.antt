@@ -1,8 +1,13 @@
--- Whether texts can be the subscripts of a node, as tests that compute.
+-- Whether texts can be the account and the subscripts of a node, as tests that compute.
 use Rattle.std.specs.Prelude.{Bool, ◌&&◌, nat_le, nat_lt, List, length}
 use Rattle.std.specs.List.{list_all}
 use Rattle.mspec.specs.Node.{Text}
+use Rattle.mspec.specs.Names.{is_name_rest}
 use Rattle.mspec.specs.Trees.{front, last}
+
+-- an account's name: 1 to 16 letters or digits
+abbrev pub is_account_name : Text → Bool
+is_account_name name = nat_lt 0 (length name) && (nat_le (length name) 16 && list_all is_name_rest name)
 
 abbrev pub is_subscript : Text → Bool
 is_subscript x = nat_lt 0 (length x) && nat_le (length x) 255

@@ -1,6 +1,6 @@
 use Rattle.std.proofs.Common.{◌≡◌, sym, ◌∙◌, rules}
 use Rattle.mgrant.specs.Document.{is_account_name}
-use Rattle.mgrant.proofs.NameTests.{account_name_is, account_name_test}
+use Rattle.mspec.proofs.SubscriptTests.{account_name_is, account_name_test}
 use Rattle.mgrant.proofs.names.is_account_name.Goals as goal
 
 pub returns-then-text-le16-clause-fact : goal.returns-then-text-le16-clause-fact

@@ -1,9 +1,9 @@
-use Rattle.std.proofs.Common.{◌<◌, length, sym, ap, subst, ◌∙◌}
+use Rattle.std.proofs.Common.{◌<◌, All, length, sym, ap, subst, ◌∙◌}
 use Rattle.mspec.specs.Access as access
 use Rattle.mspec.specs.KeyBytes.{IsAccountName}
 use Rattle.mgrant.specs.Words.{text_in}
-use Rattle.mgrant.proofs.NameTests.{account_name_is}
-use Rattle.mgrant.proofs.Seen.{name_seen, name_good, length_seen}
+use Rattle.mspec.proofs.SubscriptTests.{account_name_is}
+use Rattle.mgrant.proofs.Seen.{name_seen, name_good, name_small, length_seen}
 use Rattle.mgrant.proofs.settings.Settings.name_of.Goals as goal
 
 pub returns-clause-name : goal.returns-clause-name
@@ -18,3 +18,6 @@ returns-clause-good c = λ known.
     let within : c.args.id < length names =
     subst (λ n. c.args.id < n) (sym (ap (λ s. length s.accounts) c.self.view_is) ∙ length_seen names c.self.inside.steps.items c.self.invariant.stepped) known in
     subst IsAccountName (sym (c.at.ensures ∙ ap (text_in names) c.place.ensures)) (account_name_is (text_in names c.args.id) (name_good names c.self.invariant.named c.args.id within))
+
+pub returns-clause-ascii : goal.returns-clause-ascii
+returns-clause-ascii c = subst (All (λ b. b < 128)) (sym (c.at.ensures ∙ ap (text_in c.self.inside.names) c.place.ensures)) (name_small c.self.inside.names c.self.invariant.named c.args.id)

@@ -1,7 +1,7 @@
 -- The grammar on examples, as proved equations: texts with their trees, and texts that have none.
 use Rattle.std.proofs.Common.{◌≡◌, ℕ, zero, suc, List, [], ◌∷◌, ◌++◌, Option, Some, None, refl}
 use Rattle.std.specs.Prelude.{codes, replicate}
-use Rattle.mgrammar.specs.Grammar.{plus, minus, negate, equals, less, greater, contains, follows, sorts_after, both, either, add, subtract, multiply, divide, divide_whole, remainder, join, is, is_not, CountTree, RepeatedTree, classes, copies, AtomTree, OperandTree, PrimaryTree, ExprTree, expr, StepTree, steps_of, apply, matches, matches_not, operand, number, text, special, reference, bracket, call, select, refer, ReferenceTree, local, no_exprs, exprs_of, choices_of, variable, piece, DestinationTree, one, several, once, onward, until, ArgTree, assign, breaks, shown, kill_one, kill_others, new_one, new_others, tested, loop, KeywordTree, set_word, kill_word, new_word, if_word, else_word, for_word, quit_word, write_word, CommandTree, SpacedTree, LineTree, spell, keyword_of, special_of, function_of}
+use Rattle.mgrammar.specs.Grammar.{plus, minus, negate, equals, less, greater, contains, follows, sorts_after, both, either, add, subtract, multiply, divide, divide_whole, remainder, join, is, is_not, CountTree, RepeatedTree, classes, copies, AtomTree, OperandTree, PrimaryTree, ExprTree, expr, StepTree, steps_of, apply, matches, matches_not, operand, number, text, special, reference, bracket, call, select, refer, ReferenceTree, local, global, naked, no_exprs, exprs_of, choices_of, variable, piece, DestinationTree, one, several, once, onward, until, ArgTree, assign, breaks, shown, kill_one, kill_others, new_one, new_others, tested, loop, KeywordTree, set_word, kill_word, new_word, if_word, else_word, for_word, quit_word, write_word, CommandTree, SpacedTree, LineTree, spell, keyword_of, special_of, function_of}
 use Rattle.mgrammar.specs.Reading.{many, list_at, point_at, exponent_at, number_at, name_at, count_at, repeated_at, atom_at, pattern_at, truth_at, operator_at, subscripts_with, reference_with, bracket_with, choice_with, select_with, call_with, refer_with, dollar_with, primary_with, operand_with, step_by, step_with, expr_with, readers_at, place_with, piece_with, target_with, destination_at, assignment_at, output_at, names_at, removal_at, hiding_at, condition_at, parameter_at, repetition_at, args_at, postcondition_at, command_at, spaced_at, comment_at, line_at}
 
 -- ---- short forms
@@ -228,6 +228,46 @@ repetitions =
     ∷ (command for_word (codes "for") [], 2)
     ∷ (command quit_word (codes "Q") [], 0) ∷ [])
 
+-- with one subscript, behind the `^` of a naked reference
+abbrev naked_digit : List ℕ → ReferenceTree
+naked_digit t = naked (exprs_of (one_digit t ∷ []))
+
+-- `^X` and `^X(1,"a")`, and `^(2)`
+abbrev globals : LineTree
+globals =
+    written (taken (plain (reference (global (codes "X") no_exprs)))
+    (apply join (plain (reference (global (codes "X") (exprs_of (one_digit (codes "1") ∷ alone (plain (text (codes "a"))) ∷ [])))))
+    ∷ apply join (plain (reference (naked_digit (codes "2")))) ∷ []))
+
+abbrev one_global : List ℕ → ReferenceTree
+one_global t = global (codes "X") (exprs_of (one_digit t ∷ []))
+
+abbrev global_set : LineTree
+global_set = assigned (one (variable (one_global (codes "1")))) (alone (plain (reference (naked_digit (codes "2")))))
+
+-- within the brackets of a list, and as the variable of a $PIECE
+abbrev several_globals : LineTree
+several_globals =
+    assigned (several (variable (global (codes "X") no_exprs)
+    ∷ piece (codes "P") (naked_digit (codes "1")) (one_digit (codes "2")) None ∷ []))
+    (one_digit (codes "3"))
+
+abbrev global_removals : LineTree
+global_removals =
+    of_commands ((command kill_word (codes "K") (kill_one (one_global (codes "1")) ∷ kill_one (naked_digit (codes "2")) ∷ []), 0) ∷ [])
+
+abbrev of_globals : LineTree
+of_globals =
+    written (taken (plain (refer (codes "D") (global (codes "X") no_exprs) no_exprs))
+    (apply join (plain (refer (codes "G") (naked_digit (codes "1")) (exprs_of (one_digit (codes "2") ∷ []))))
+    ∷ apply join (plain (refer (codes "O") (one_global (codes "1")) no_exprs)) ∷ []))
+
+-- a reference within the subscripts of another
+abbrev globals_within : LineTree
+globals_within =
+    written (alone (plain (reference (naked (exprs_of (alone (plain (reference (naked (exprs_of (alone (plain
+    (reference (global (codes "%") no_exprs))) ∷ []))))) ∷ []))))))
+
 -- ---- texts with their trees
 
 each_read :
@@ -299,6 +339,21 @@ each_more_read = (
   (refl, refl),
   (refl, refl),
 )
+
+-- globals and naked references
+each_global_read :
+    IsRead (codes "W ^X_^X(1,\"a\")_^(2)") globals
+    × IsRead (codes "S ^X(1)=^(2)") global_set
+    × IsRead (codes "S (^X,$P(^(1),2))=3") several_globals
+    × IsRead (codes "K ^X(1),^(2)") global_removals
+    × IsRead (codes "W $D(^X)_$G(^(1),2)_$O(^X(1))") of_globals
+    × IsRead (codes "W ^(^(^%))") globals_within
+unfolding keyword_of special_of function_of many list_at point_at exponent_at number_at name_at count_at repeated_at atom_at
+    pattern_at truth_at operator_at subscripts_with reference_with bracket_with choice_with select_with call_with refer_with
+    dollar_with primary_with operand_with step_by step_with expr_with readers_at place_with piece_with target_with
+    destination_at assignment_at output_at names_at removal_at hiding_at condition_at parameter_at repetition_at args_at
+    postcondition_at command_at spaced_at comment_at line_at
+each_global_read = ((refl, refl), (refl, refl), (refl, refl), (refl, refl), (refl, refl), (refl, refl))
 
 -- ---- how deep brackets may lie
 
@@ -499,6 +554,29 @@ unfolding keyword_of special_of function_of many list_at point_at exponent_at nu
     destination_at assignment_at output_at names_at removal_at hiding_at condition_at parameter_at repetition_at args_at
     postcondition_at command_at spaced_at comment_at line_at
 no_variables = (refl, refl, refl, refl, refl, refl, refl, refl, refl, refl, refl)
+
+-- a `^` stands before a name, or before a bracket with some subscript; FOR, NEW and the brackets of KILL have plain names
+no_globals :
+    HasNone (codes "W ^")
+    × HasNone (codes "W ^()")
+    × HasNone (codes "W ^1")
+    × HasNone (codes "W ^^X")
+    × HasNone (codes "W ^ X")
+    × HasNone (codes "W ^X()")
+    × HasNone (codes "W ^(1")
+    × HasNone (codes "W ^(1)(2)")
+    × HasNone (codes "W 1^X")
+    × HasNone (codes "S ^=1")
+    × HasNone (codes "K (^X)")
+    × HasNone (codes "N ^X")
+    × HasNone (codes "F ^X=1")
+    × HasNone (codes "W $D(^)")
+unfolding keyword_of special_of function_of many list_at point_at exponent_at number_at name_at count_at repeated_at atom_at
+    pattern_at truth_at operator_at subscripts_with reference_with bracket_with choice_with select_with call_with refer_with
+    dollar_with primary_with operand_with step_by step_with expr_with readers_at place_with piece_with target_with
+    destination_at assignment_at output_at names_at removal_at hiding_at condition_at parameter_at repetition_at args_at
+    postcondition_at command_at spaced_at comment_at line_at
+no_globals = (refl, refl, refl, refl, refl, refl, refl, refl, refl, refl, refl, refl, refl, refl)
 
 -- one space behind a command without arguments, and a postconditional where none may stand
 no_flow :

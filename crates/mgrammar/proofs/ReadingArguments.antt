@@ -3,15 +3,15 @@ use Rattle.std.proofs.Common.{◌≡◌, ℕ, zero, suc, ◌<◌, Bool, true, fa
 use Rattle.std.proofs.lemmas.Bool.{eqb-true}
 use Rattle.std.proofs.lemmas.Bool.Decides.{nat_tests}
 use Rattle.std.proofs.lemmas.List.{length-replicate}
-use Rattle.mspec.specs.Names.{is_name_start, is_name_rest, AllAre, IsName}
+use Rattle.mspec.specs.Names.{is_name_rest, AllAre, IsName}
 use Rattle.mgrammar.specs.Grammar.{ExprTree, ReferenceTree, ParameterTree, once, onward, until, ArgTree, breaks, shown, kill_one, kill_others, new_one, new_others, tested, loop, removal, hiding, condition, repetition, output, spell_expr, spell_reference, spell_list, spell_names, spell_parameter, spell_arg, max_depth, WellExpr, WellReference, WellList, WellParameter, WellArg}
 use Rattle.mgrammar.specs.Reading.{◌>>=◌, run_of, after_run, name_at, past, list_at, expr_at, readers_at, reference_with, is_bang, output_by, output_at, names_at, removal_at, hiding_at, condition_at, limit_by, increment_by, parameter_at, repetition_at}
-use Rattle.mgrammar.proofs.ReadingBasics.{Takes, Again, Stops, Begins, Begins-stops, Begins-append, Begins-weaker, bind_some, chosen, some_is, run_parts, run_again, past_takes, name_takes, name_again}
+use Rattle.mgrammar.proofs.ReadingBasics.{Takes, Again, Stops, Begins, Begins-stops, Begins-append, Begins-weaker, bind_some, chosen, some_is, run_parts, run_again, past_takes, not_past, name_takes, name_again}
 use Rattle.mgrammar.proofs.ReadingLists.{joined_by, enclosed, is_comma, list_takes, list_again}
-use Rattle.mgrammar.proofs.ReadingReferences.{OperandEnds, Ends, reference_takes, reference_again, reference_begins}
-use Rattle.mgrammar.proofs.ReadingPrimaries.{name_start_tests}
+use Rattle.mgrammar.proofs.ReadingReferences.{OperandEnds, Ends, begins_reference, name_begins_reference, reference_takes, reference_again, reference_begins}
+use Rattle.mgrammar.proofs.ReadingPrimaries.{reference_tests}
 use Rattle.mgrammar.proofs.ReadingExprs.{begins_operand, expr_begins, inner_takes, within_takes, inner_again, within_again, expr_takes, expr_again}
-use Rattle.mgrammar.proofs.ReadingTargets.{name_begins}
+use Rattle.mgrammar.proofs.ReadingTargets.{variable_begins}
 
 -- ---- short forms
 
@@ -29,11 +29,6 @@ variable_again = reference_again max_depth (readers_at max_depth) (inner_again m
 
 abbrev pub is_colon : ℕ → Bool
 is_colon c = eqb c 58
-
--- this character does not come
-pub not_past : (a : ℕ) (cs : List ℕ) → Stops (λ c. eqb c a) cs → past a cs ≡ None
-not_past a [] s = refl
-not_past a (c ∷ cs) s = rw s refl
 
 -- ---- outputs
 
@@ -115,10 +110,10 @@ removal_takes (c ∷ cs) x e =
           subst (λ (y : ArgTree × List ℕ). (c ∷ cs ≡ spell_arg y.0 ++ y.1) × WellArg removal y.0) {x = (kill_one b.0.0, b.0.1)} (some_is (kill_one b.0.0, b.0.1) x b.2) (variable_takes (c ∷ cs) b.0 b.1)
     ]
 
-kill_one_step : (cs : List ℕ) (v : ReferenceTree) (rest : List ℕ) → Begins is_name_start cs → reference_with (readers_at max_depth) cs ≡ Some (v, rest) → removal_at cs ≡ Some (kill_one v, rest)
+kill_one_step : (cs : List ℕ) (v : ReferenceTree) (rest : List ℕ) → Begins begins_reference cs → reference_with (readers_at max_depth) cs ≡ Some (v, rest) → removal_at cs ≡ Some (kill_one v, rest)
 unfolding removal_at
 kill_one_step [] v rest b h = absurd b
-kill_one_step (c ∷ cs) v rest b h = rw ((name_start_tests c b).2, h) refl
+kill_one_step (c ∷ cs) v rest b h = rw ((reference_tests c b).2, h) refl
 
 kill_others_step : (cs : List ℕ) (names : List (List ℕ)) (rest : List ℕ) → names_at cs ≡ Some (names, rest) → removal_at (40 ∷ cs) ≡ Some (kill_others names, rest)
 unfolding removal_at
@@ -126,7 +121,7 @@ kill_others_step cs names rest h = rw h refl
 
 pub removal_again : Again spell_arg (WellArg removal) OperandEnds removal_at
 removal_again (kill_one v) rest w s =
-    kill_one_step (spell_reference v ++ rest) v rest (Begins-append is_name_start (spell_reference v) rest (reference_begins max_depth v w)) (variable_again v rest w s)
+    kill_one_step (spell_reference v ++ rest) v rest (Begins-append begins_reference (spell_reference v) rest (reference_begins max_depth v w)) (variable_again v rest w s)
 removal_again (kill_others names) rest w s =
     ap (λ (y : List ℕ). removal_at (40 ∷ y)) (append_assoc (spell_list (λ n. n) names) (41 ∷ []) rest)
     ∙ kill_others_step (spell_list (λ n. n) names ++ 41 ∷ rest) names rest (names_again names rest w)
@@ -148,7 +143,7 @@ hiding_takes (c ∷ cs) x e =
 new_one_step : (n rest : List ℕ) → IsName n → Stops is_name_rest rest → hiding_at (n ++ rest) ≡ Some (new_one n, rest)
 unfolding hiding_at
 new_one_step [] rest w s = absurd w
-new_one_step (c ∷ n) rest w s = rw ((name_start_tests c w.0).2, name_again (c ∷ n) rest w s) refl
+new_one_step (c ∷ n) rest w s = rw ((reference_tests c (name_begins_reference c w.0)).2, name_again (c ∷ n) rest w s) refl
 
 new_others_step : (cs : List ℕ) (names : List (List ℕ)) (rest : List ℕ) → names_at cs ≡ Some (names, rest) → hiding_at (40 ∷ cs) ≡ Some (new_others names, rest)
 unfolding hiding_at
@@ -265,10 +260,10 @@ repetition_again a rest w s = absurd w
 
 names_begin : (n : List ℕ) → IsName n → Begins begins_operand n
 names_begin [] w = absurd w
-names_begin (c ∷ n) w = name_begins c w.0
+names_begin (c ∷ n) w = variable_begins c (name_begins_reference c w.0)
 
 pub removal_begins : (a : ArgTree) → WellArg removal a → Begins begins_operand (spell_arg a)
-removal_begins (kill_one v) w = Begins-weaker is_name_start begins_operand (spell_reference v) name_begins (reference_begins max_depth v w)
+removal_begins (kill_one v) w = Begins-weaker begins_reference begins_operand (spell_reference v) variable_begins (reference_begins max_depth v w)
 removal_begins (kill_others names) w = refl
 removal_begins a w = absurd w
 

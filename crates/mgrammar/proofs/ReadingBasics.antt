@@ -101,6 +101,11 @@ past_takes a (c ∷ cs) rest e =
       | inr p ↦ absurd cc
     ]
 
+-- this character does not come
+pub not_past : (a : ℕ) (cs : List ℕ) → Stops (λ c. eqb c a) cs → past a cs ≡ None
+not_past a [] s = refl
+not_past a (c ∷ cs) s = rw s refl
+
 -- ---- names
 
 pub name_takes : Takes (λ n. n) IsName name_at

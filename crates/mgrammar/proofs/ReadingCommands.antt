@@ -6,13 +6,13 @@ use Rattle.std.proofs.lemmas.Bool.Decides.{nat_tests}
 use Rattle.mspec.specs.Names.{is_letter, is_name_rest, AllAre}
 use Rattle.mgrammar.specs.Grammar.{ExprTree, ArgTree, breaks, shown, CommandTree, KeywordTree, set_word, kill_word, new_word, if_word, else_word, for_word, quit_word, write_word, keyword_of, FormTree, assignment, removal, hiding, condition, repetition, output, nothing, form_of, takes_args, takes_condition, spell_expr, spell_arg, spell_args, spell_condition, spell_list, spell_more, spell_command, max_depth, WellAll, WellList, WellArg, WellCondition, WellCommand}
 use Rattle.mgrammar.specs.Reading.{◌>>=◌, run_of, after_run, past, expr_at, list_at, is_bang, arg_at, has_args, args_at, postcondition_by, postcondition_at, command_by, command_at}
-use Rattle.mgrammar.proofs.ReadingBasics.{Takes, Again, Stops, Stops-weaker, Begins, Begins-append, Begins-weaker, goes_on, bind_some, chosen, some_is, run_parts, run_again, past_takes}
+use Rattle.mgrammar.proofs.ReadingBasics.{Takes, Again, Stops, Stops-weaker, Begins, Begins-append, Begins-weaker, goes_on, bind_some, chosen, some_is, run_parts, run_again, past_takes, not_past}
 use Rattle.mgrammar.proofs.ReadingLists.{is_comma, one_again, list_takes, list_again}
 use Rattle.mgrammar.proofs.ReadingReferences.{Ends, name_or_open}
 use Rattle.mgrammar.proofs.ReadingPrimaries.{not_on}
 use Rattle.mgrammar.proofs.ReadingExprs.{begins_operand, expr_begins}
 use Rattle.mgrammar.proofs.ReadingTargets.{assignment_takes, assignment_again, assignment_begins}
-use Rattle.mgrammar.proofs.ReadingArguments.{whole_takes, whole_again, is_colon, not_past, Follows, output_takes, output_again, removal_takes, removal_again, removal_begins, hiding_takes, hiding_again, hiding_begins, condition_takes, condition_again, condition_begins, repetition_takes, repetition_again, repetition_begins}
+use Rattle.mgrammar.proofs.ReadingArguments.{whole_takes, whole_again, is_colon, Follows, output_takes, output_again, removal_takes, removal_again, removal_begins, hiding_takes, hiding_again, hiding_begins, condition_takes, condition_again, condition_begins, repetition_takes, repetition_again, repetition_begins}
 
 -- ---- the laws of each form
 

@@ -3,13 +3,13 @@ use Rattle.std.proofs.Common.{◌≡◌, ℕ, ◌<◌, Bool, true, false, cond, 
 use Rattle.std.specs.Prelude.{◌||◌}
 use Rattle.std.proofs.lemmas.Bool.{eqb-true}
 use Rattle.std.proofs.lemmas.Bool.Decides.{nat_tests}
-use Rattle.mspec.specs.Names.{is_letter, is_name_start, is_character, AllAre}
+use Rattle.mspec.specs.Names.{is_letter, is_character, AllAre}
 use Rattle.mgrammar.specs.Grammar.{ExprTree, PrimaryTree, number, text, special, reference, bracket, call, select, refer, ReferenceTree, ExprsTree, exprs_of, ChoicesTree, choices_of, quoted, spell_expr, spell_primary, spell_reference, spell_exprs, spell_more_exprs, spell_more, spell_choices, spell_list, SpecialTree, special_of, IsReferring, refers, FunctionTree, ascii_function, char_function, data_function, extract_function, find_function, get_function, justify_function, length_function, order_function, piece_function, select_function, translate_function, function_of, takes, exprs_count, IsCall, WellPrimary, WellAll, WellList}
 use Rattle.mgrammar.specs.Reading.{◌>>=◌, run_of, after_run, number_at, is_digit_or_point, text_from, past, many, after_comma, list_at, Readers, is_select, is_referring, reference_with, bracket_with, choice_with, select_with, call_with, refer_with, function_by, special_by, dollar_by, dollar_with, primary_with}
 use Rattle.mgrammar.proofs.ReadingBasics.{Takes, Again, Stops, Stops-weaker, Begins, Begins-weaker, Begins-append, goes_on, bind_some, chosen, some_is, run_parts, run_again, past_takes, text_takes, text_again}
 use Rattle.mgrammar.proofs.ReadingNumbers.{number_takes, number_again, number_begins, goes_on_number}
 use Rattle.mgrammar.proofs.ReadingLists.{each, joined_by, spell_more-each, many_takes, comma_takes, more_again, list_takes, list_again}
-use Rattle.mgrammar.proofs.ReadingReferences.{OperandEnds, Ends, WellWithin, is_open, reference_takes, reference_again, reference_begins}
+use Rattle.mgrammar.proofs.ReadingReferences.{OperandEnds, Ends, WellWithin, is_open, begins_reference, reference_takes, reference_again, reference_begins}
 use Rattle.mgrammar.proofs.ReadingTrees.{WellInner, exprs_list, exprs_back, more_exprs-list, spell_exprs-list, count-length, exprs_well, exprs_inner, spell_choice, WellChoice, choices_list, choices_back, spell_choices-list, choices_well, choices_inner}
 
 pub not_on : (c : ℕ) → goes_on c ≡ false → (goes_on_number c ≡ false) × (is_letter c ≡ false) × (eqb c 34 ≡ false) × (is_open c ≡ false)
@@ -262,10 +262,10 @@ module _ (d : ℕ) (r : Readers) (inner_takes : Takes spell_expr (WellInner d) (
 
 -- a character that a primary begins with
 abbrev pub begins_primary : ℕ → Bool
-begins_primary c = is_digit_or_point c || is_name_start c || eqb c 34 || eqb c 40 || eqb c 36
+begins_primary c = is_digit_or_point c || begins_reference c || eqb c 34 || eqb c 40 || eqb c 36
 
-name_begins : (c : ℕ) → is_name_start c ≡ true → begins_primary c ≡ true
-name_begins c h = grind (arith, nat_tests)
+variable_begins : (c : ℕ) → begins_reference c ≡ true → begins_primary c ≡ true
+variable_begins c h = grind (arith, nat_tests)
 
 digit_or_point_begins : (c : ℕ) → is_digit_or_point c ≡ true → begins_primary c ≡ true
 digit_or_point_begins c h = grind (arith, nat_tests)
@@ -274,7 +274,7 @@ pub primary_begins : (d : ℕ) (p : PrimaryTree) → WellPrimary d p → Begins 
 primary_begins d (number t) w = Begins-weaker is_digit_or_point begins_primary t digit_or_point_begins (number_begins t w)
 primary_begins d (text t) w = refl
 primary_begins d (special word) w = refl
-primary_begins d (reference v) w = Begins-weaker is_name_start begins_primary (spell_reference v) name_begins (reference_begins d v w)
+primary_begins d (reference v) w = Begins-weaker begins_reference begins_primary (spell_reference v) variable_begins (reference_begins d v w)
 primary_begins d (refer word v more) w = refl
 primary_begins d (bracket e) w = refl
 primary_begins d (call word args) w = refl
@@ -282,8 +282,8 @@ primary_begins d (select word all) w = refl
 
 -- ---- what is spelled so is read, below some depth
 
-pub name_start_tests : (c : ℕ) → is_name_start c ≡ true → (is_digit_or_point c ≡ false) × (eqb c 34 ≡ false) × (eqb c 40 ≡ false) × (eqb c 36 ≡ false)
-name_start_tests c h = (grind (arith, nat_tests), grind (arith, nat_tests), grind (arith, nat_tests), grind (arith, nat_tests))
+pub reference_tests : (c : ℕ) → begins_reference c ≡ true → (is_digit_or_point c ≡ false) × (eqb c 34 ≡ false) × (eqb c 40 ≡ false) × (eqb c 36 ≡ false)
+reference_tests c h = (grind (arith, nat_tests), grind (arith, nat_tests), grind (arith, nat_tests), grind (arith, nat_tests))
 
 number_step : (r : Readers) (cs t rest : List ℕ) → Begins is_digit_or_point cs → number_at cs ≡ Some (t, rest) → primary_with r cs ≡ Some (number t, rest)
 unfolding primary_with
@@ -294,11 +294,11 @@ text_step : (r : Readers) (t rest : List ℕ) → AllAre is_character t → Stop
 unfolding primary_with
 text_step r t rest w s = rw (text_again t rest w s) refl
 
-variable_step : (r : Readers) (cs : List ℕ) (v : ReferenceTree) (rest : List ℕ) → Begins is_name_start cs → reference_with r cs ≡ Some (v, rest) → primary_with r cs ≡ Some (reference v, rest)
+variable_step : (r : Readers) (cs : List ℕ) (v : ReferenceTree) (rest : List ℕ) → Begins begins_reference cs → reference_with r cs ≡ Some (v, rest) → primary_with r cs ≡ Some (reference v, rest)
 unfolding primary_with
 variable_step r [] v rest b h = absurd b
 variable_step r (c ∷ cs) v rest b h =
-    let t = name_start_tests c b in
+    let t = reference_tests c b in
     rw (t.0, t.1, t.2, t.3, h) refl
 
 bracket_step : (r : Readers) (cs : List ℕ) (e : ExprTree) (rest : List ℕ) → r.inner cs ≡ Some (e, 41 ∷ rest) → primary_with r (40 ∷ cs) ≡ Some (bracket e, rest)
@@ -404,7 +404,7 @@ module _ (d : ℕ) (r : Readers) (inner_again : Again spell_expr (WellInner d) E
   primary_again (special word) rest w s =
       special_step r word rest w.1.0 w.0 w.1.1 (Stops-weaker goes_on is_letter rest (λ c h. (not_on c h).1) s) (Stops-weaker goes_on is_open rest (λ c h. (not_on c h).3) s)
   primary_again (reference v) rest w s =
-      variable_step r (spell_reference v ++ rest) v rest (Begins-append is_name_start (spell_reference v) rest (reference_begins d v w)) (reference_again d r inner_again v rest w s)
+      variable_step r (spell_reference v ++ rest) v rest (Begins-append begins_reference (spell_reference v) rest (reference_begins d v w)) (reference_again d r inner_again v rest w s)
   primary_again (refer word v more) rest w s = refer_again word v more rest w
   primary_again (bracket e) rest w s =
       ap (λ (y : List ℕ). primary_with r (40 ∷ y)) (append_assoc (spell_expr e) (41 ∷ []) rest)

@@ -2,14 +2,14 @@
 use Rattle.std.proofs.Common.{◌≡◌, ℕ, ◌<◌, ◌-◌, true, eqb, List, [], ◌∷◌, ◌++◌, Option, Some, None, inl, inr, refl, sym, ap, subst, ◌∙◌, append_assoc, arith}
 use Rattle.std.proofs.lemmas.Bool.{eqb-true}
 use Rattle.std.proofs.lemmas.Bool.Decides.{nat_tests}
-use Rattle.mspec.specs.Names.{is_letter, is_name_start, AllAre}
+use Rattle.mspec.specs.Names.{is_letter, AllAre}
 use Rattle.mgrammar.specs.Grammar.{ExprTree, ReferenceTree, TargetTree, variable, piece, DestinationTree, one, several, ArgTree, assign, spell_expr, spell_reference, spell_list, spell_place, spell_target, spell_destination, spell_arg, assignment, FunctionTree, ascii_function, char_function, data_function, extract_function, find_function, get_function, justify_function, length_function, order_function, piece_function, select_function, translate_function, function_of, max_depth, WellPlace, WellTarget, WellDestination, WellArg}
 use Rattle.mgrammar.specs.Reading.{Read, ◌>>=◌, run_of, after_run, past, list_at, Readers, is_piece, reference_with, expr_at, readers_at, place_with, piece_with, piece_by, target_with, destination_at, assignment_at}
 use Rattle.mgrammar.proofs.ReadingBasics.{Takes, Again, Stops, Begins, Begins-append, Begins-stops, Begins-weaker, bind_some, chosen, some_is, both_are, run_parts, run_again, past_takes}
 use Rattle.mgrammar.proofs.ReadingLists.{joined_by, enclosed, is_comma, list_takes, list_again}
 use Rattle.mgrammar.proofs.ReadingTrees.{WellInner}
-use Rattle.mgrammar.proofs.ReadingReferences.{OperandEnds, Ends, WellWithin, reference_takes, reference_again, reference_begins}
-use Rattle.mgrammar.proofs.ReadingPrimaries.{name_start_tests}
+use Rattle.mgrammar.proofs.ReadingReferences.{OperandEnds, Ends, WellWithin, begins_reference, reference_takes, reference_again, reference_begins}
+use Rattle.mgrammar.proofs.ReadingPrimaries.{reference_tests}
 use Rattle.mgrammar.proofs.ReadingExprs.{begins_operand, inner_takes, within_takes, inner_again, within_again, expr_takes, expr_again}
 
 -- ---- what is read is spelled so
@@ -154,10 +154,10 @@ place_some : (r : Readers) (cs : List ℕ) (e : ExprTree) (rest : List ℕ) → 
 unfolding place_with
 place_some r cs e rest h = rw h refl
 
-variable_step : (r : Readers) (cs : List ℕ) (v : ReferenceTree) (rest : List ℕ) → Begins is_name_start cs → reference_with r cs ≡ Some (v, rest) → target_with r cs ≡ Some (variable v, rest)
+variable_step : (r : Readers) (cs : List ℕ) (v : ReferenceTree) (rest : List ℕ) → Begins begins_reference cs → reference_with r cs ≡ Some (v, rest) → target_with r cs ≡ Some (variable v, rest)
 unfolding target_with
 variable_step r [] v rest b h = absurd b
-variable_step r (c ∷ cs) v rest b h = rw ((name_start_tests c b).3, h) refl
+variable_step r (c ∷ cs) v rest b h = rw ((reference_tests c b).3, h) refl
 
 inside_step : (r : Readers) (w cs t u v : List ℕ) (aim : ReferenceTree) (delimiter : ExprTree) (place : Option ExprTree) (rest : List ℕ)
     → r.within cs ≡ Some (aim, t) → past 44 t ≡ Some u → r.inner u ≡ Some (delimiter, v) → place_with r v ≡ Some (place, 41 ∷ rest) → piece_with r w cs ≡ Some (piece w aim delimiter place, rest)
@@ -189,7 +189,7 @@ module _ (d : ℕ) (r : Readers) (lt : 0 < d) (again : Again spell_expr (WellInn
 
   pub target_again : Again spell_target (WellTarget d) OperandEnds (target_with r)
   target_again (variable v) rest w s =
-      variable_step r (spell_reference v ++ rest) v rest (Begins-append is_name_start (spell_reference v) rest (reference_begins d v w)) (reference_again d r again v rest w s)
+      variable_step r (spell_reference v ++ rest) v rest (Begins-append begins_reference (spell_reference v) rest (reference_begins d v w)) (reference_again d r again v rest w s)
   target_again (piece word v delimiter place) rest w s =
       let parts : spell_target (piece word v delimiter place) ++ rest ≡ 36 ∷ (word ++ 40 ∷ (spell_reference v ++ 44 ∷ (spell_expr delimiter ++ (spell_place place ++ 41 ∷ rest)))) =
       spread word (spell_reference v) (spell_expr delimiter) (spell_place place) rest in
@@ -208,7 +208,7 @@ one_step (c ∷ cs) t rest s h = rw (s, h) refl
 
 target_stops : (d : ℕ) (t : TargetTree) (rest : List ℕ) → WellTarget d t → Stops (λ c. eqb c 40) (spell_target t ++ rest)
 target_stops d (variable v) rest w =
-    Begins-stops is_name_start (λ c. eqb c 40) (spell_reference v ++ rest) (λ c h. (name_start_tests c h).2) (Begins-append is_name_start (spell_reference v) rest (reference_begins d v w))
+    Begins-stops begins_reference (λ c. eqb c 40) (spell_reference v ++ rest) (λ c h. (reference_tests c h).2) (Begins-append begins_reference (spell_reference v) rest (reference_begins d v w))
 target_stops d (piece word name delimiter place) rest w = refl
 
 destination_again : Again spell_destination WellDestination OperandEnds destination_at
@@ -231,12 +231,12 @@ assignment_again (assign destination value) rest w s =
     ∙ assignment_step (spell_destination destination ++ 61 ∷ u) (61 ∷ u) u destination value rest (destination_again destination (61 ∷ u) w.0 refl) refl (expr_again max_depth (readers_at max_depth) (inner_again max_depth) (within_again max_depth) value rest w.1 s)
 assignment_again a rest w s = absurd w
 
--- a name begins an argument of SET, or a `$`, or a bracket
-pub name_begins : (c : ℕ) → is_name_start c ≡ true → begins_operand c ≡ true
-name_begins c h = grind (arith, nat_tests, h)
+-- a variable begins an argument of SET, or a `$`, or a bracket
+pub variable_begins : (c : ℕ) → begins_reference c ≡ true → begins_operand c ≡ true
+variable_begins c h = grind (arith, nat_tests, h)
 
 target_begins : (d : ℕ) (t : TargetTree) → WellTarget d t → Begins begins_operand (spell_target t)
-target_begins d (variable v) w = Begins-weaker is_name_start begins_operand (spell_reference v) name_begins (reference_begins d v w)
+target_begins d (variable v) w = Begins-weaker begins_reference begins_operand (spell_reference v) variable_begins (reference_begins d v w)
 target_begins d (piece word name delimiter place) w = refl
 
 destination_begins : (d : DestinationTree) → WellDestination d → Begins begins_operand (spell_destination d)

@@ -56,7 +56,7 @@ pub record AtomTree : Type 0 where
   pub repeated : RepeatedTree
 
 -- `expr`; `exprtail`, of which a list of steps is a run; `expratom` with its unary operators in front; `numlit` and `strlit`, each
--- with its characters; `svn`, with its word as it is written; `lvn`; `function`, with its word, those of a variable and $SELECT
+-- with its characters; `svn`, with its word as it is written; `glvn`; `function`, with its word, those of a variable and $SELECT
 -- apart
 mutual
   pub data ExprTree : Type 0 where
@@ -84,9 +84,12 @@ mutual
     select : List ℕ → ChoicesTree → PrimaryTree
     refer : List ℕ → ReferenceTree → ExprsTree → PrimaryTree
 
-  -- `lvn`: a name, and its subscripts, of which there may be none
+  -- `glvn`: `lvn`, a name, and its subscripts, of which there may be none; `gvn`, such a name and subscripts behind a `^`; and the
+  -- subscripts of a naked reference, which stand behind the `^` alone
   pub data ReferenceTree : Type 0 where
     local : List ℕ → ExprsTree → ReferenceTree
+    global : List ℕ → ExprsTree → ReferenceTree
+    naked : ExprsTree → ReferenceTree
 
   pub data ExprsTree : Type 0 where
     no_exprs : ExprsTree
@@ -168,7 +171,7 @@ pub record LineTree : Type 0 where
   pub comment : Option (List ℕ)
 
 -- ---- the text of a tree; 32 is a space, 33 `!`, 34 a quote, 36 `$`, 39 `'`, 40 and 41 brackets, 44 a comma, 46 a point,
--- 58 a colon, 59 `;`, 61 `=`, 63 `?`
+-- 58 a colon, 59 `;`, 61 `=`, 63 `?`, 94 `^`
 
 abbrev pub sign_char : SignTree → ℕ
 sign_char plus = 43
@@ -251,6 +254,8 @@ abbrev mutual
 
   pub spell_reference : ReferenceTree → List ℕ
   spell_reference (local name subscripts) = name ++ spell_subscripts subscripts
+  spell_reference (global name subscripts) = 94 ∷ (name ++ spell_subscripts subscripts)
+  spell_reference (naked subscripts) = 94 ∷ spell_subscripts subscripts
 
   -- in brackets, where there are some
   pub spell_subscripts : ExprsTree → List ℕ
@@ -525,6 +530,10 @@ abbrev pub HasChoice : ChoicesTree → Type 0
 HasChoice no_choices = ⊥
 HasChoice (choice c v rest) = Unit {0}
 
+abbrev pub HasExpr : ExprsTree → Type 0
+HasExpr no_exprs = ⊥
+HasExpr (exprs e rest) = Unit {0}
+
 abbrev pub IsFunction : FunctionTree → List ℕ → Type 0
 IsFunction f word = (function_of word ≡ Some f) × AllAre is_letter word
 
@@ -557,6 +566,8 @@ abbrev mutual
 
   pub WellReference : ℕ → ReferenceTree → Type 0
   WellReference d (local name subscripts) = IsName name × WellSubscripts d subscripts
+  WellReference d (global name subscripts) = IsName name × WellSubscripts d subscripts
+  WellReference d (naked subscripts) = HasExpr subscripts × WellSubscripts d subscripts
 
   pub WellSubscripts : ℕ → ExprsTree → Type 0
   WellSubscripts d no_exprs = Unit {0}

@@ -3,7 +3,7 @@
 use Rattle.std.specs.Prelude.{ℕ, zero, suc, ◌-◌, Bool, true, false, not, ◌&&◌, ◌||◌, ◌==◌, nat_le, nat_lt, if◌then◌else◌, List, [], ◌∷◌, ◌++◌, length, drop, Option, Some, None}
 use Rattle.mspec.specs.Literal.{is_digit}
 use Rattle.mspec.specs.Names.{is_letter, is_name_start, is_name_rest, is_character}
-use Rattle.mgrammar.specs.Grammar.{SignTree, plus, minus, negate, TruthTree, equals, less, greater, contains, follows, sorts_after, both, either, BinaryTree, add, subtract, multiply, divide, divide_whole, remainder, join, is, is_not, CountTree, RepeatedTree, classes, copies, AtomTree, ExprTree, expr, StepTree, apply, matches, matches_not, steps_of, OperandTree, operand, PrimaryTree, number, text, special, reference, bracket, call, select, refer, ReferenceTree, local, ExprsTree, no_exprs, exprs_of, choices_of, TargetTree, variable, piece, DestinationTree, one, several, ParameterTree, once, onward, until, ArgTree, assign, breaks, shown, kill_one, kill_others, new_one, new_others, tested, loop, CommandTree, SpacedTree, LineTree, KeywordTree, keyword_of, FormTree, assignment, removal, hiding, condition, repetition, output, nothing, form_of, takes_args, takes_condition, least_gap, SpecialTree, special_of, FunctionTree, ascii_function, char_function, data_function, extract_function, find_function, get_function, justify_function, length_function, order_function, piece_function, select_function, translate_function, function_of, takes, refers, is_pattern_letter, max_depth}
+use Rattle.mgrammar.specs.Grammar.{SignTree, plus, minus, negate, TruthTree, equals, less, greater, contains, follows, sorts_after, both, either, BinaryTree, add, subtract, multiply, divide, divide_whole, remainder, join, is, is_not, CountTree, RepeatedTree, classes, copies, AtomTree, ExprTree, expr, StepTree, apply, matches, matches_not, steps_of, OperandTree, operand, PrimaryTree, number, text, special, reference, bracket, call, select, refer, ReferenceTree, local, global, naked, ExprsTree, no_exprs, exprs_of, choices_of, TargetTree, variable, piece, DestinationTree, one, several, ParameterTree, once, onward, until, ArgTree, assign, breaks, shown, kill_one, kill_others, new_one, new_others, tested, loop, CommandTree, SpacedTree, LineTree, KeywordTree, keyword_of, FormTree, assignment, removal, hiding, condition, repetition, output, nothing, form_of, takes_args, takes_condition, least_gap, SpecialTree, special_of, FunctionTree, ascii_function, char_function, data_function, extract_function, find_function, get_function, justify_function, length_function, order_function, piece_function, select_function, translate_function, function_of, takes, refers, is_pattern_letter, max_depth}
 
 -- what was read, and the text after it
 abbrev pub Read : Type 0 → Type 0
@@ -297,8 +297,18 @@ module _ (r : Readers) where
   subscripts_with (c ∷ cs) =
       if c == 40 then (list_at (r.inner) cs >>= λ x. past 41 x.1 >>= λ rest. Some (exprs_of x.0, rest)) else Some (no_exprs, c ∷ cs)
 
+  -- behind a `^`: subscripts alone where a bracket opens, and otherwise a name in front of them
+  abbrev pub global_by : List ℕ → Option (List ℕ) → Read ReferenceTree
+  global_by cs None = name_at cs >>= λ n. subscripts_with n.1 >>= λ x. Some (global n.0 x.0, x.1)
+  global_by cs (Some inside) = subscripts_with cs >>= λ x. Some (naked x.0, x.1)
+
+  -- where this text stands behind a `^`, or none does
+  abbrev pub reference_by : List ℕ → Option (List ℕ) → Read ReferenceTree
+  reference_by cs None = name_at cs >>= λ n. subscripts_with n.1 >>= λ x. Some (local n.0 x.0, x.1)
+  reference_by cs (Some behind) = global_by behind (past 40 behind)
+
   unfoldable pub reference_with : List ℕ → Read ReferenceTree
-  reference_with cs = name_at cs >>= λ n. subscripts_with n.1 >>= λ x. Some (local n.0 x.0, x.1)
+  reference_with cs = reference_by cs (past 94 cs)
 
   unfoldable pub bracket_with : List ℕ → Read PrimaryTree
   bracket_with cs = r.inner cs >>= λ e. past 41 e.1 >>= λ rest. Some (bracket e.0, rest)

@@ -1,7 +1,7 @@
 // Expressions.
 ghost use Rattle.std.specs.Prelude.{◌≡◌, ◌<◌, length, map, option_map};
 ghost use Rattle.mgrammar.specs.Grammar.{exprs_of, choices_of};
-ghost use Rattle.mgrammar.specs.Reading.{with_front, many, after_comma, list_at, reference_with, bracket_with, choice_with, select_with, call_with, refer_with, dollar_with, primary_with, operand_with, step_by, step_with, expr_with, readers_at, inner_at};
+ghost use Rattle.mgrammar.specs.Reading.{with_front, many, after_comma, list_at, subscripts_with, reference_with, bracket_with, choice_with, select_with, call_with, refer_with, dollar_with, primary_with, operand_with, step_by, step_with, expr_with, readers_at, inner_at};
 ghost use Rattle.mtree.specs.Tree.{function_tree, expr_tree, operand_tree, primary_tree, reference_tree, step_tree, choice_tree};
 ghost use Rattle.mscan.specs.Gives.{Gives};
 ghost use Rattle.mscan.specs.Operators.{operator_tree};
@@ -122,19 +122,38 @@ fn primary(alloc: Global, bytes: &[u8], depth: u32) -> Result<(Primary, &[u8]), 
     }
 }
 
-// A variable, with its subscripts where a bracket opens behind its name.
+// A variable. Behind a `^` stand subscripts alone where a bracket opens there, and otherwise a name in front of them.
 #[cycle(expr)]
-#[tactic(auto, unfolding(mgrammar::specs::Reading::reference_with, mgrammar::specs::Reading::subscripts_with))]
+#[tactic(auto, unfolding(mgrammar::specs::Reading::reference_with))]
 pub fn reference(alloc: Global, bytes: &[u8], depth: u32) -> Result<(Reference, &[u8]), ParseFault>
     ensures { Gives (λ x. (reference_tree x.0, x.1.now)) result (reference_with (readers_at depth) bytes.now) }
 {
-    let (name, rest) = name(alloc, bytes)?;
-    let Some((b'(', behind)) = rest.split_first() else {
-        return Ok((Reference::Local(name, Vec::new(alloc)), rest));
+    let Some(behind) = past(b'^', bytes) else {
+        let (name, rest) = name(alloc, bytes)?;
+        let (subscripts, rest) = subscripts(alloc, rest, depth)?;
+        return Ok((Reference::Local(name, subscripts), rest));
+    };
+    if past(b'(', behind).is_some() {
+        let (subscripts, rest) = subscripts(alloc, behind, depth)?;
+        return Ok((Reference::Naked(subscripts), rest));
+    }
+    let (name, rest) = name(alloc, behind)?;
+    let (subscripts, rest) = subscripts(alloc, rest, depth)?;
+    Ok((Reference::Global(name, subscripts), rest))
+}
+
+// Subscripts, where a bracket opens.
+#[cycle(expr)]
+#[tactic(auto, unfolding(mgrammar::specs::Reading::subscripts_with))]
+fn subscripts(alloc: Global, bytes: &[u8], depth: u32) -> Result<(Vec<Expr>, &[u8]), ParseFault>
+    ensures { Gives (λ x. (exprs_of (map expr_tree x.0.items), x.1.now)) result (subscripts_with (readers_at depth) bytes.now) }
+{
+    let Some((b'(', behind)) = bytes.split_first() else {
+        return Ok((Vec::new(alloc), bytes));
     };
     let (subscripts, rest) = exprs(alloc, behind, depth)?;
     let rest = expect(b')', rest)?;
-    Ok((Reference::Local(name, subscripts), rest))
+    Ok((subscripts, rest))
 }
 
 // The expression behind an opening bracket, where one bracket fewer may open.

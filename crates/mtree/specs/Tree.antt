@@ -130,6 +130,8 @@ primary_layer (Primary-F.Refer r) = r.value
 
 abbrev pub reference_layer : Reference-F PrimaryTree ReferenceTree StepTree ChoiceTree ExprTree OperandTree PrimaryTree → ReferenceTree
 reference_layer (Reference-F.Local name subscripts) = grammar.local name (exprs_of subscripts.items)
+reference_layer (Reference-F.Global name subscripts) = grammar.global name (exprs_of subscripts.items)
+reference_layer (Reference-F.Naked subscripts) = grammar.naked (exprs_of subscripts.items)
 
 abbrev pub referring_layer : Referring-F PrimaryTree ReferenceTree StepTree ChoiceTree ExprTree OperandTree PrimaryTree → PrimaryTree
 referring_layer r = grammar.refer r.word r.reference (exprs_of r.more.items)

@@ -176,6 +176,15 @@ pub fn put_reference(out: &mut Bytes7, reference: &Reference) -> Result<(), Allo
             put_text(out, name.as_bytes7())?;
             put_subscripts(out, subscripts)
         }
+        Reference::Global(name, subscripts) => {
+            out.push(b'^')?;
+            put_text(out, name.as_bytes7())?;
+            put_subscripts(out, subscripts)
+        }
+        Reference::Naked(subscripts) => {
+            out.push(b'^')?;
+            put_subscripts(out, subscripts)
+        }
     }
 }
 

@@ -129,6 +129,10 @@ pub enum Primary {
 pub enum Reference {
     /// A local variable: its name, and its subscripts, of which there may be none.
     Local(Name, Vec<Expr>),
+    /// A global variable: its name behind the `^`, and its subscripts, of which there may be none.
+    Global(Name, Vec<Expr>),
+    /// A naked reference: its subscripts behind the `^`, which stand in the place of the last one of the global reference before it.
+    Naked(Vec<Expr>),
 }
 
 /// A function of a variable, as `$DATA`, `$GET` and `$ORDER` are: its word behind the `$`, the variable, and the arguments

@@ -26,8 +26,11 @@ decreases-exprs l = 13 * l.depth + 2
 abbrev pub decreases-choices : goal.decreases-choices
 decreases-choices l = 13 * l.depth + 2
 
+abbrev pub decreases-subscripts : goal.decreases-subscripts
+decreases-subscripts l = 13 * l.depth + 3
+
 abbrev pub decreases-reference : goal.decreases-reference
-decreases-reference l = 13 * l.depth + 3
+decreases-reference l = 13 * l.depth + 4
 
 abbrev pub decreases-refer : goal.decreases-refer
 decreases-refer l = 13 * l.depth + 3

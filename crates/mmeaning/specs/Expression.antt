@@ -7,12 +7,12 @@ use Rattle.mspec.specs.Number.{significant_digits}
 use Rattle.mspec.specs.NumberText.{numeric_value}
 use Rattle.mspec.specs.Interpretations.{truth_text}
 use Rattle.mgrammar.specs.Matching.{atom_of}
-use Rattle.mgrammar.specs.Grammar.{ExprTree, expr, StepsTree, no_steps, step, StepTree, apply, matches, matches_not, OperandTree, operand, PrimaryTree, number, text, special, reference, bracket, call, select, refer, ReferenceTree, local, special_of, function_of, ExprsTree, no_exprs, exprs, ChoicesTree, no_choices, choice}
+use Rattle.mgrammar.specs.Grammar.{ExprTree, expr, StepsTree, no_steps, step, StepTree, apply, matches, matches_not, OperandTree, operand, PrimaryTree, number, text, special, reference, bracket, call, select, refer, ReferenceTree, local, global, naked, special_of, function_of, ExprsTree, no_exprs, exprs, ChoicesTree, no_choices, choice}
 use Rattle.mspec.specs.Code.{M4}
 use Rattle.mspec.specs.Act.{Text, Act, ◌>>=◌, ◌>>◌, give, fail, charge}
 use Rattle.mmeaning.specs.Operators.{as_text, as_truth, unaries, binary, matching}
 use Rattle.mmeaning.specs.Functions.{call_value}
-use Rattle.mmeaning.specs.Variables.{Evaluated, of_local, reading, resolve, read_at, referring, special_value}
+use Rattle.mmeaning.specs.Variables.{Evaluated, of_local, of_global, of_naked, reading, resolve, read_at, referring, special_value}
 
 -- how deep a text stands: the levels that are open, of which some are indirections under evaluation
 pub record Depth : Type 0 where
@@ -81,6 +81,12 @@ abbrev mutual
   evaluated i (local name subscripts) = do
     xs ← values i [] subscripts
     give (of_local name xs)
+  evaluated i (global name subscripts) = do
+    xs ← values i [] subscripts
+    give (of_global (record { account = i.account; name = name; subscripts = xs }))
+  evaluated i (naked subscripts) = do
+    xs ← values i [] subscripts
+    give (of_naked xs)
 
   -- the values of some expressions, behind those before them
   pub values : Inside → List Text → ExprsTree → Act (List Text)

@@ -57,10 +57,16 @@ checked reading xs = unless Zsub (are_subscripts xs)
 checked ordering xs = unless Zsub (may_be_ordered xs) >> some_subscript xs
 checked writing xs = unless Zsub (are_subscripts xs)
 
--- the node whose subscripts are those of the last one, these in the place of its last subscript, which it must have
-abbrev pub beside : List Text → Option Node → Act Node
-beside xs None = fail M1
-beside xs (Some n) = unless M1 (nat_lt 0 (length n.subscripts)) >> give (record n { subscripts = front n.subscripts ++ xs })
+-- the node whose subscripts are those of the last one, with these in the place of its last subscript, which it must have
+abbrev pub replaced : List Text → Option Node → Act Node
+replaced xs None = fail M1
+replaced xs (Some n) = unless M1 (nat_lt 0 (length n.subscripts)) >> give (record n { subscripts = front n.subscripts ++ xs })
+
+-- of the node that was referred to last
+abbrev pub beside : List Text → Act Node
+beside xs = do
+  last ← naked_is
+  replaced xs last
 
 -- whether the line's account may use a global so; what is no account's name is refused as an account that grants nothing
 abbrev pub allowed : Mode → Node → Act (Unit {0})
@@ -80,8 +86,7 @@ abbrev pub resolve : Use → Evaluated → Act Place
 resolve u (of_local name xs) = checked u xs >> give (at_local name xs)
 resolve u (of_global n) = node_place u n
 resolve u (of_naked xs) = do
-  last ← naked_is
-  n ← beside xs last
+  n ← beside xs
   node_place u n
 
 -- ---- places

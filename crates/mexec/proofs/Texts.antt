@@ -2,7 +2,8 @@
 use Rattle.std.proofs.Common.{◌≡◌, ◌≢◌, ◌≤◌, List, ℕ, Option, Some, None, Ok, Err, refl, sym, ap, ◌∙◌, subst, map, arith}
 use Rattle.std.specs.FinMap.{empty}
 use Rattle.mspec.specs.Act.{Act}
-use Rattle.mgrammar.specs.Grammar.{LineTree, spell, well}
+use Rattle.mgrammar.specs.Grammar.{LineTree, spell}
+use Rattle.mgrammar.specs.WellFormed.{well}
 use Rattle.mgrammar.specs.Reading.{line_at}
 use Rattle.mgrammar.proofs.ReadingLines.{line_takes, line_again}
 use Rattle.mmeaning.specs.LineMeaning as meaning

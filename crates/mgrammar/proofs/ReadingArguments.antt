@@ -4,7 +4,8 @@ use Rattle.std.proofs.lemmas.Bool.{eqb-true}
 use Rattle.std.proofs.lemmas.Bool.Decides.{nat_tests}
 use Rattle.std.proofs.lemmas.List.{length-replicate}
 use Rattle.mspec.specs.Names.{is_name_rest, AllAre, IsName}
-use Rattle.mgrammar.specs.Grammar.{ExprTree, ReferenceTree, ParameterTree, once, onward, until, ArgTree, breaks, shown, kill_one, kill_others, new_one, new_others, tested, loop, removal, hiding, condition, repetition, output, spell_expr, spell_reference, spell_list, spell_names, spell_parameter, spell_arg, max_depth, WellExpr, WellReference, WellList, WellParameter, WellArg}
+use Rattle.mgrammar.specs.Grammar.{ExprTree, ReferenceTree, ParameterTree, once, onward, until, ArgTree, breaks, shown, kill_one, kill_others, new_one, new_others, tested, loop, removal, hiding, condition, repetition, output, spell_expr, spell_reference, spell_list, spell_names, spell_parameter, spell_arg}
+use Rattle.mgrammar.specs.WellFormed.{max_depth, WellExpr, WellReference, WellList, WellParameter, WellArg}
 use Rattle.mgrammar.specs.Reading.{◌>>=◌, run_of, after_run, name_at, past, list_at, expr_at, readers_at, reference_with, is_bang, output_by, output_at, names_at, removal_at, hiding_at, condition_at, limit_by, increment_by, parameter_at, repetition_at}
 use Rattle.mgrammar.proofs.ReadingBasics.{Takes, Again, Stops, Begins, Begins-stops, Begins-append, Begins-weaker, bind_some, chosen, some_is, run_parts, run_again, past_takes, not_past, name_takes, name_again}
 use Rattle.mgrammar.proofs.ReadingLists.{joined_by, enclosed, is_comma, list_takes, list_again}

@@ -4,7 +4,8 @@ use Rattle.std.specs.Prelude.{◌||◌}
 use Rattle.std.proofs.lemmas.Bool.{eqb-true, and_parts}
 use Rattle.std.proofs.lemmas.Bool.Decides.{nat_tests}
 use Rattle.mspec.specs.Names.{is_letter, is_name_rest, AllAre}
-use Rattle.mgrammar.specs.Grammar.{ExprTree, ArgTree, breaks, shown, CommandTree, KeywordTree, set_word, kill_word, new_word, if_word, else_word, for_word, quit_word, write_word, keyword_of, FormTree, assignment, removal, hiding, condition, repetition, output, nothing, form_of, takes_args, takes_condition, spell_expr, spell_arg, spell_args, spell_condition, spell_list, spell_more, spell_command, max_depth, WellAll, WellList, WellArg, WellCondition, WellCommand}
+use Rattle.mgrammar.specs.Grammar.{ExprTree, ArgTree, breaks, shown, CommandTree, KeywordTree, set_word, kill_word, new_word, if_word, else_word, for_word, quit_word, write_word, keyword_of, FormTree, assignment, removal, hiding, condition, repetition, output, nothing, form_of, takes_args, takes_condition, spell_expr, spell_arg, spell_args, spell_condition, spell_list, spell_more, spell_command}
+use Rattle.mgrammar.specs.WellFormed.{max_depth, WellAll, WellList, WellArg, WellCondition, WellCommand}
 use Rattle.mgrammar.specs.Reading.{◌>>=◌, run_of, after_run, past, expr_at, list_at, is_bang, arg_at, has_args, args_at, postcondition_by, postcondition_at, command_by, command_at}
 use Rattle.mgrammar.proofs.ReadingBasics.{Takes, Again, Stops, Stops-weaker, Begins, Begins-append, Begins-weaker, goes_on, bind_some, chosen, some_is, run_parts, run_again, past_takes, not_past}
 use Rattle.mgrammar.proofs.ReadingLists.{is_comma, one_again, list_takes, list_again}

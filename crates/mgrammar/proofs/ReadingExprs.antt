@@ -3,7 +3,8 @@ use Rattle.std.proofs.Common.{◌≡◌, ℕ, zero, suc, ◌<◌, ◌-◌, Bool,
 use Rattle.std.specs.Prelude.{◌||◌}
 use Rattle.std.proofs.lemmas.Bool.Decides.{nat_tests}
 use Rattle.std.proofs.lemmas.List.{append-nil}
-use Rattle.mgrammar.specs.Grammar.{plus, minus, negate, BinaryTree, AtomTree, ExprTree, expr, StepTree, apply, matches, matches_not, StepsTree, no_steps, step, steps_of, OperandTree, operand, spell_signs, spell_binary, spell_atoms, spell_expr, spell_steps, spell_step, spell_operand, spell_primary, WellExpr, WellSteps, WellStep, WellOperand, ReferenceTree, spell_reference, WellReference}
+use Rattle.mgrammar.specs.Grammar.{plus, minus, negate, BinaryTree, AtomTree, ExprTree, expr, StepTree, apply, matches, matches_not, StepsTree, no_steps, step, steps_of, OperandTree, operand, spell_signs, spell_binary, spell_atoms, spell_expr, spell_steps, spell_step, spell_operand, spell_primary, ReferenceTree, spell_reference}
+use Rattle.mgrammar.specs.WellFormed.{WellExpr, WellSteps, WellStep, WellOperand, WellReference}
 use Rattle.mgrammar.specs.Reading.{◌>>=◌, many, pattern_at, signs_of, after_signs, OperatorTree, between, matching, matching_not, operator_at, Readers, primary_with, operand_with, step_by, step_behind, step_with, expr_with, readers_at, inner_at}
 use Rattle.mgrammar.proofs.ReadingBasics.{Takes, Again, Begins, Begins-stops, Begins-append, Begins-weaker, Begins-long, goes_on, bind_some, some_is}
 use Rattle.mgrammar.proofs.ReadingLists.{each, ItemTakes, many_takes, many_again, count_le, joined}

@@ -5,7 +5,8 @@ use Rattle.std.proofs.lemmas.Bool.{eqb-true}
 use Rattle.std.proofs.lemmas.Bool.Decides.{nat_tests}
 use Rattle.std.proofs.lemmas.List.{append-nil, length-replicate}
 use Rattle.mspec.specs.Names.{is_letter, is_character, AllAre}
-use Rattle.mgrammar.specs.Grammar.{ArgTree, CommandTree, SpacedTree, LineTree, spell_command, spell_commands, spell_comment, spell, least_gap, WellCommand, WellCommands, WellComment, well}
+use Rattle.mgrammar.specs.Grammar.{ArgTree, CommandTree, SpacedTree, LineTree, spell_command, spell_commands, spell_comment, spell}
+use Rattle.mgrammar.specs.WellFormed.{least_gap, WellCommand, WellCommands, WellComment, well}
 use Rattle.mgrammar.specs.Reading.{◌>>=◌, run_of, after_run, many, more_by, has_args, command_at, is_space, at_end, spaced, spaced_at, comment_by, comment_at, line_at}
 use Rattle.mgrammar.proofs.ReadingBasics.{Stops, Begins, Begins-append, Begins-long, bind_some, chosen, some_is, run_parts, run_again}
 use Rattle.mgrammar.proofs.ReadingArguments.{all_copies, copies_are}

@@ -4,7 +4,8 @@ use Rattle.std.proofs.lemmas.Bool.{eqb-true}
 use Rattle.std.proofs.lemmas.Bool.Decides.{nat_tests}
 use Rattle.std.specs.Prelude.{◌||◌}
 use Rattle.mspec.specs.Names.{is_name_start, is_name_rest, IsName}
-use Rattle.mgrammar.specs.Grammar.{ExprTree, ExprsTree, no_exprs, exprs, exprs_of, ReferenceTree, local, global, naked, spell_expr, spell_more, spell_list, spell_more_exprs, spell_subscripts, spell_reference, HasExpr, WellSubscripts, WellReference, WellList}
+use Rattle.mgrammar.specs.Grammar.{ExprTree, ExprsTree, no_exprs, exprs, exprs_of, ReferenceTree, local, global, naked, spell_expr, spell_more, spell_list, spell_more_exprs, spell_subscripts, spell_reference}
+use Rattle.mgrammar.specs.WellFormed.{HasExpr, WellSubscripts, WellReference, WellList}
 use Rattle.mgrammar.specs.Reading.{◌>>=◌, name_at, past, list_at, Readers, subscripts_with, global_by, reference_by, reference_with}
 use Rattle.mgrammar.proofs.ReadingBasics.{Takes, Again, Stops, Stops-weaker, Begins, Begins-stops, Begins-append, Begins-weaker, goes_on, bind_some, chosen, some_is, past_takes, not_past, name_takes, name_again}
 use Rattle.mgrammar.proofs.ReadingOperators.{is_operator}

@@ -3,7 +3,8 @@ use Rattle.std.proofs.Common.{◌≡◌, ℕ, ◌<◌, ◌-◌, true, eqb, List,
 use Rattle.std.proofs.lemmas.Bool.{eqb-true}
 use Rattle.std.proofs.lemmas.Bool.Decides.{nat_tests}
 use Rattle.mspec.specs.Names.{is_letter, AllAre}
-use Rattle.mgrammar.specs.Grammar.{ExprTree, ReferenceTree, TargetTree, variable, piece, DestinationTree, one, several, ArgTree, assign, spell_expr, spell_reference, spell_list, spell_place, spell_target, spell_destination, spell_arg, assignment, FunctionTree, ascii_function, char_function, data_function, extract_function, find_function, get_function, justify_function, length_function, order_function, piece_function, select_function, translate_function, function_of, max_depth, WellPlace, WellTarget, WellDestination, WellArg}
+use Rattle.mgrammar.specs.Grammar.{ExprTree, ReferenceTree, TargetTree, variable, piece, DestinationTree, one, several, ArgTree, assign, spell_expr, spell_reference, spell_list, spell_place, spell_target, spell_destination, spell_arg, assignment, FunctionTree, ascii_function, char_function, data_function, extract_function, find_function, get_function, justify_function, length_function, order_function, piece_function, select_function, translate_function, function_of}
+use Rattle.mgrammar.specs.WellFormed.{max_depth, WellPlace, WellTarget, WellDestination, WellArg}
 use Rattle.mgrammar.specs.Reading.{Read, ◌>>=◌, run_of, after_run, past, list_at, Readers, is_piece, reference_with, expr_at, readers_at, place_with, piece_with, piece_by, target_with, destination_at, assignment_at}
 use Rattle.mgrammar.proofs.ReadingBasics.{Takes, Again, Stops, Begins, Begins-append, Begins-stops, Begins-weaker, bind_some, chosen, some_is, both_are, run_parts, run_again, past_takes}
 use Rattle.mgrammar.proofs.ReadingLists.{joined_by, enclosed, is_comma, list_takes, list_again}

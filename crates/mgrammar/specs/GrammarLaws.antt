@@ -1,6 +1,7 @@
 -- The laws of the grammar. The functions of src/ named after them carry them.
 use Rattle.std.specs.Prelude.{◌≡◌, ◌↔◌, ℕ, List, Some}
-use Rattle.mgrammar.specs.Grammar.{LineTree, spell, well}
+use Rattle.mgrammar.specs.Grammar.{LineTree, spell}
+use Rattle.mgrammar.specs.WellFormed.{well}
 use Rattle.mgrammar.specs.Reading.{line_at}
 
 -- no text has two trees

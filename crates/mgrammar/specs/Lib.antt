@@ -1,4 +1,5 @@
 pub mod Grammar
+pub mod WellFormed
 pub mod Reading
 pub mod GrammarLaws
 pub mod Matching

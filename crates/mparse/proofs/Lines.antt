@@ -1,7 +1,8 @@
 -- What a parser that gives the reading of a line ensures.
 use Rattle.std.proofs.Common.{◌≡◌, ℕ, List, subst}
 use Rattle.std.specs.Prelude.{Result, Ok, Err, IfOk}
-use Rattle.mgrammar.specs.Grammar.{LineTree, spell, well}
+use Rattle.mgrammar.specs.Grammar.{LineTree, spell}
+use Rattle.mgrammar.specs.WellFormed.{well}
 use Rattle.mgrammar.specs.Reading.{line_at}
 use Rattle.mgrammar.proofs.ReadingLines.{line_takes, no_tree}
 use Rattle.mtree.specs.declared.tree.Line.{Line}

@@ -1,0 +1,166 @@
+-- What makes a tree the tree of a text: the names, numbers and words that it may have, how many arguments, how deep brackets lie, and
+-- how many spaces stand between commands.
+use Rattle.std.specs.Prelude.{◌≡◌, ℕ, suc, ◌-◌, ◌<◌, ◌≤◌, true, List, [], ◌∷◌, length, Option, Some, None}
+use Rattle.mspec.specs.Literal.{is_digit, Literal, IsLiteral, spell_literal}
+use Rattle.mspec.specs.Names.{is_letter, is_character, AllAre, IsName}
+use Rattle.mgrammar.specs.Grammar.{RepeatedTree, classes, copies, AtomTree, ExprTree, expr, StepsTree, no_steps, step, StepTree, apply, matches, matches_not, OperandTree, operand, PrimaryTree, number, text, special, reference, bracket, call, select, refer, ReferenceTree, local, global, naked, ExprsTree, no_exprs, exprs, ChoicesTree, no_choices, choice, TargetTree, variable, piece, DestinationTree, one, several, ParameterTree, once, onward, until, ArgTree, assign, breaks, shown, kill_one, kill_others, new_one, new_others, tested, loop, KeywordTree, CommandTree, SpacedTree, LineTree, keyword_of, FormTree, assignment, removal, hiding, condition, repetition, output, form_of, takes_args, takes_condition, SpecialTree, special_of, FunctionTree, select_function, piece_function, function_of, takes, refers, is_pattern_letter}
+
+-- `numlit`
+abbrev pub IsNumber : List ℕ → Type 0
+IsNumber t = (l : Literal) × IsLiteral l × (spell_literal l ≡ t)
+
+-- one to four digits
+abbrev pub IsBound : List ℕ → Type 0
+IsBound digits = AllAre is_digit digits × (length digits ≤ 4)
+
+abbrev pub IsCount : List ℕ → Option (List ℕ) → Type 0
+IsCount front None = IsBound front × (0 < length front)
+IsCount front (Some behind) = IsBound front × IsBound behind
+
+abbrev pub WellRepeated : RepeatedTree → Type 0
+WellRepeated (classes letters) = AllAre is_pattern_letter letters × (0 < length letters)
+WellRepeated (copies t) = AllAre is_character t
+
+abbrev pub WellAtom : AtomTree → Type 0
+WellAtom a = IsCount a.count.front a.count.behind × WellRepeated a.repeated
+
+abbrev pub WellAll : {A : Type 0} → (A → Type 0) → List A → Type 0
+WellAll P [] = Unit {0}
+WellAll P (a ∷ rest) = P a × WellAll P rest
+
+-- one or more
+abbrev pub WellList : {A : Type 0} → (A → Type 0) → List A → Type 0
+WellList P [] = ⊥
+WellList P (a ∷ rest) = P a × WellAll P rest
+
+abbrev pub exprs_count : ExprsTree → ℕ
+exprs_count no_exprs = 0
+exprs_count (exprs e rest) = suc (exprs_count rest)
+
+-- a function that takes so many arguments
+abbrev pub IsCall : List ℕ → ℕ → Type 0
+IsCall word n = (f : FunctionTree) × (function_of word ≡ Some f) × (takes f n ≡ true)
+
+-- a function of a variable that takes so many arguments behind it
+abbrev pub IsReferring : List ℕ → ℕ → Type 0
+IsReferring word n = (f : FunctionTree) × (function_of word ≡ Some f) × (refers f n ≡ true)
+
+abbrev pub IsSpecial : List ℕ → Type 0
+IsSpecial word = (v : SpecialTree) × (special_of word ≡ Some v)
+
+abbrev pub HasChoice : ChoicesTree → Type 0
+HasChoice no_choices = ⊥
+HasChoice (choice c v rest) = Unit {0}
+
+abbrev pub HasExpr : ExprsTree → Type 0
+HasExpr no_exprs = ⊥
+HasExpr (exprs e rest) = Unit {0}
+
+abbrev pub IsFunction : FunctionTree → List ℕ → Type 0
+IsFunction f word = (function_of word ≡ Some f) × AllAre is_letter word
+
+-- where so many brackets more may be open
+abbrev mutual
+  pub WellExpr : ℕ → ExprTree → Type 0
+  WellExpr d (expr first rest) = WellOperand d first × WellSteps d rest
+
+  pub WellSteps : ℕ → StepsTree → Type 0
+  WellSteps d no_steps = Unit {0}
+  WellSteps d (step s rest) = WellStep d s × WellSteps d rest
+
+  pub WellStep : ℕ → StepTree → Type 0
+  WellStep d (apply b o) = WellOperand d o
+  WellStep d (matches atoms) = WellList WellAtom atoms
+  WellStep d (matches_not atoms) = WellList WellAtom atoms
+
+  pub WellOperand : ℕ → OperandTree → Type 0
+  WellOperand d (operand signs p) = WellPrimary d p
+
+  pub WellPrimary : ℕ → PrimaryTree → Type 0
+  WellPrimary d (number literal) = IsNumber literal
+  WellPrimary d (text t) = AllAre is_character t
+  WellPrimary d (special word) = AllAre is_letter word × IsSpecial word
+  WellPrimary d (reference r) = WellReference d r
+  WellPrimary d (bracket e) = (0 < d) × WellExpr (d - 1) e
+  WellPrimary d (call word args) = (0 < d) × AllAre is_letter word × IsCall word (exprs_count args) × WellExprs (d - 1) args
+  WellPrimary d (select word choices) = (0 < d) × IsFunction select_function word × HasChoice choices × WellChoices (d - 1) choices
+  WellPrimary d (refer word r more) = (0 < d) × AllAre is_letter word × IsReferring word (exprs_count more) × WellReference (d - 1) r × WellExprs (d - 1) more
+
+  pub WellReference : ℕ → ReferenceTree → Type 0
+  WellReference d (local name subscripts) = IsName name × WellSubscripts d subscripts
+  WellReference d (global name subscripts) = IsName name × WellSubscripts d subscripts
+  WellReference d (naked subscripts) = HasExpr subscripts × WellSubscripts d subscripts
+
+  pub WellSubscripts : ℕ → ExprsTree → Type 0
+  WellSubscripts d no_exprs = Unit {0}
+  WellSubscripts d (exprs e rest) = (0 < d) × WellExpr (d - 1) e × WellExprs (d - 1) rest
+
+  pub WellExprs : ℕ → ExprsTree → Type 0
+  WellExprs d no_exprs = Unit {0}
+  WellExprs d (exprs e rest) = WellExpr d e × WellExprs d rest
+
+  pub WellChoices : ℕ → ChoicesTree → Type 0
+  WellChoices d no_choices = Unit {0}
+  WellChoices d (choice c v rest) = WellExpr d c × WellExpr d v × WellChoices d rest
+
+-- how deep a place may lie within a text
+abbrev pub max_depth : ℕ
+max_depth = 40
+
+abbrev pub WellPlace : ℕ → Option ExprTree → Type 0
+WellPlace d None = Unit {0}
+WellPlace d (Some e) = WellExpr d e
+
+abbrev pub WellTarget : ℕ → TargetTree → Type 0
+WellTarget d (variable r) = WellReference d r
+WellTarget d (piece word r delimiter place) =
+    IsFunction piece_function word × WellReference (d - 1) r × WellExpr (d - 1) delimiter × WellPlace (d - 1) place
+
+abbrev pub WellDestination : DestinationTree → Type 0
+WellDestination (one t) = WellTarget max_depth t
+WellDestination (several ts) = WellList (WellTarget (max_depth - 1)) ts
+
+abbrev pub WellParameter : ParameterTree → Type 0
+WellParameter (once e) = WellExpr max_depth e
+WellParameter (onward e by) = WellExpr max_depth e × WellExpr max_depth by
+WellParameter (until e by to) = WellExpr max_depth e × WellExpr max_depth by × WellExpr max_depth to
+
+-- an argument of this form; any other is none
+abbrev pub WellArg : FormTree → ArgTree → Type 0
+WellArg assignment (assign d e) = WellDestination d × WellExpr max_depth e
+WellArg removal (kill_one r) = WellReference max_depth r
+WellArg removal (kill_others names) = WellList IsName names
+WellArg hiding (new_one name) = IsName name
+WellArg hiding (new_others names) = WellList IsName names
+WellArg condition (tested e) = WellExpr max_depth e
+WellArg repetition (loop index parameters) = IsName index × WellList WellParameter parameters
+WellArg output (breaks n) = 0 < n
+WellArg output (shown e) = WellExpr max_depth e
+WellArg f a = ⊥
+
+abbrev pub WellCondition : KeywordTree → Option ExprTree → Type 0
+WellCondition k None = Unit {0}
+WellCondition k (Some e) = (takes_condition k ≡ true) × WellExpr max_depth e
+
+abbrev pub WellCommand : CommandTree → Type 0
+WellCommand c =
+    (keyword_of c.word ≡ Some c.keyword) × AllAre is_letter c.word × (takes_args c.keyword (length c.args) ≡ true)
+    × WellCondition c.keyword c.condition × WellAll (WellArg (form_of c.keyword)) c.args
+
+-- how many spaces stand at least between a command with these arguments and another one: behind a command without arguments
+-- one space would look like that before the first
+abbrev pub least_gap : List ArgTree → ℕ
+least_gap [] = 2
+least_gap (a ∷ rest) = 1
+
+abbrev pub WellCommands : List SpacedTree → Type 0
+WellCommands [] = Unit {0}
+WellCommands (c ∷ []) = WellCommand c.0
+WellCommands (c ∷ d ∷ cs) = WellCommand c.0 × (least_gap c.0.args ≤ c.1) × WellCommands (d ∷ cs)
+
+abbrev pub WellComment : Option (List ℕ) → Type 0
+WellComment None = Unit {0}
+WellComment (Some t) = AllAre is_character t
+
+abbrev pub well : LineTree → Type 0
+well l = WellCommands l.commands × WellComment l.comment

@@ -69,7 +69,7 @@ impl<'a, S: NodeStore> Eval<'a, S> {
         ensures fewer { self.new.steps ≤ self.old.steps }
         ensures does { Evaluates S.NodeStore (λ i. get_local name.now []) (λ v. v) self.old result self.new }
     {
-        match self.session.locals.get(name, &[])? {
+        match self.session.locals.own(name) {
             Some(value) => Ok(value.copy()?),
             None => Err(Code::M6),
         }

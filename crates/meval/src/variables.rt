@@ -127,7 +127,7 @@ impl<'a, S: NodeStore> Eval<'a, S> {
         ensures fewer { self.new.steps ≤ self.old.steps }
         ensures does { Evaluates S.NodeStore (λ i. line.index_number name.now) units self.old result self.new }
     {
-        match self.session.locals.get(name, &[])? {
+        match self.session.locals.own(name) {
             Some(value) => number_of(value),
             None => Err(Code::M15),
         }
@@ -144,7 +144,7 @@ impl<'a, S: NodeStore> Eval<'a, S> {
         ensures fewer { self.new.steps ≤ self.old.steps }
         ensures does { Evaluates S.NodeStore (λ i. variables.put_at (variables.at_local name.now []) value) (λ u. u) self.old result self.new }
     {
-        self.session.locals.set(name, &[], value)?;
+        self.session.locals.set_own(name, value)?;
         Ok(())
     }
 

@@ -1,5 +1,5 @@
 // One scope.
-ghost use Rattle.std.specs.Prelude.{◌≡◌, IfOk, OnOk, OnErr, Option, option_map, not, ◌||◌};
+ghost use Rattle.std.specs.Prelude.{◌≡◌, [], IfOk, OnOk, OnErr, Option, option_map, not, ◌||◌};
 ghost use Rattle.std.specs.Cmp.Lexicographic.{slice_cmp};
 ghost use Rattle.std.specs.FinMap.{get, insert, retain_keys};
 ghost use Rattle.std.specs.List.{filter, list_any};
@@ -86,6 +86,16 @@ impl Scope {
         }
     }
 
+    // The value of a variable without subscripts.
+    pub fn own(&self, name: &Name) -> Option<&Value>
+        ensures { option_map (λ value. value.now) result ≡ get (tree_in self.now name.now) [] }
+    {
+        match self.trees.get(name) {
+            None => None,
+            Some(variable) => variable.own(),
+        }
+    }
+
     // The value at a node.
     pub fn get(&self, name: &Name, key: &SubsKey) -> Option<&Value>
         ensures { option_map (λ value. value.now) result ≡ get (tree_in self.now name.now) key.now }
@@ -146,6 +156,26 @@ impl Scope {
             None => {
                 let mut variable = Variable::new(alloc);
                 variable.set(key, value)?;
+                self.trees.insert(name.copy()?, variable)?;
+                Ok(())
+            }
+        }
+    }
+
+    // Gives a variable without subscripts a value. For want of memory the scope is as it was.
+    pub fn set_own(&mut self, alloc: Global, name: &Name, value: Value) -> Result<(), AllocError>
+        ensures ok { OnOk result (self.new ≡ with_tree name.now (insert (tree_in self.old name.now) [] value) self.old) }
+        ensures err { OnErr result (self.new ≡ self.old) }
+        ensures others { self.new.others ≡ self.old.others }
+    {
+        match self.trees.get_mut(name) {
+            Some(variable) => {
+                variable.set_own(value);
+                Ok(())
+            }
+            None => {
+                let mut variable = Variable::new(alloc);
+                variable.set_own(value);
                 self.trees.insert(name.copy()?, variable)?;
                 Ok(())
             }

@@ -85,6 +85,16 @@ impl Locals {
         self.levels.clear();
     }
 
+    /// The value of a variable without subscripts, where it has one. A number that was assigned is one still. Takes no memory.
+    pub fn own(&self, name: &Name) -> Option<&Value>
+        ensures { option_map (λ value. value.now) result ≡ value_at self.now name.now [] }
+    {
+        match home(&self.levels, name) {
+            None => self.bottom.own(name),
+            Some(place) => self.levels[place].own(name),
+        }
+    }
+
     /// The value at a node, where the name's variable has one there. A number that was assigned is one still.
     ///
     /// # Errors
@@ -94,6 +104,9 @@ impl Locals {
         requires { AreSubscripts subs.now }
         ensures { IfOk result (λ found. option_map (λ value. value.now) found ≡ value_at self.now name.now subs.now) }
     {
+        if let [] = subs {
+            return Ok(self.own(name));
+        }
         let key = SubsKey::build(self.alloc, subs)?;
         match home(&self.levels, name) {
             None => Ok(self.bottom.get(name, &key)),
@@ -148,10 +161,28 @@ impl Locals {
         ensures ok { OnOk result (self.new ≡ assigned self.old name.now subs.now value) }
         ensures err { OnErr result (self.new ≡ self.old) }
     {
+        if let [] = subs {
+            return self.set_own(name, value);
+        }
         let key = SubsKey::build(self.alloc, subs)?;
         match home(&self.levels, name) {
             None => self.bottom.set(self.alloc, name, key, value),
             Some(place) => self.levels[place].set(self.alloc, name, key, value),
+        }
+    }
+
+    /// Gives a variable without subscripts a value.
+    ///
+    /// # Errors
+    ///
+    /// `AllocError` for want of memory; the locals are then as they were.
+    pub fn set_own(&mut self, name: &Name, value: Value) -> Result<(), AllocError>
+        ensures ok { OnOk result (self.new ≡ assigned self.old name.now [] value) }
+        ensures err { OnErr result (self.new ≡ self.old) }
+    {
+        match home(&self.levels, name) {
+            None => self.bottom.set_own(self.alloc, name, value),
+            Some(place) => self.levels[place].set_own(self.alloc, name, value),
         }
     }
 

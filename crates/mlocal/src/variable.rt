@@ -1,5 +1,5 @@
 // One variable: the values at its nodes.
-ghost use Rattle.std.specs.Prelude.{◌≡◌, IfOk, OnOk, OnErr, option_and_then, option_map, IfSome, not, ◌||◌, reverse};
+ghost use Rattle.std.specs.Prelude.{◌≡◌, [], IfOk, OnOk, OnErr, option_and_then, option_map, IfSome, not, ◌||◌, reverse};
 ghost use Rattle.std.specs.BTreeMap.{IsOrdered, keys};
 ghost use Rattle.std.specs.BTreeMap.Range.{IsLtBy};
 ghost use Rattle.std.specs.FinMap.{get, insert, empty, keys as nodes_of};
@@ -61,14 +61,28 @@ impl Variable {
         }
     }
 
+    // Its own value.
+    pub fn own(&self) -> Option<&Value>
+        ensures { option_map (λ value. value.now) result ≡ get self.now [] }
+    {
+        self.own.as_ref()
+    }
+
     // The value at a node.
     pub fn get(&self, key: &SubsKey) -> Option<&Value>
         ensures { option_map (λ value. value.now) result ≡ get self.now key.now }
     {
         if key.is_empty() {
-            return self.own.as_ref();
+            return self.own();
         }
         self.values.get(key)
+    }
+
+    // Gives it a value of its own.
+    pub fn set_own(&mut self, value: Value)
+        ensures { self.new ≡ insert self.old [] value }
+    {
+        self.own = Some(value);
     }
 
     // Gives a node a value. For want of memory the variable is as it was.
@@ -78,7 +92,7 @@ impl Variable {
         ensures err { OnErr result (self.new ≡ self.old) }
     {
         if key.is_empty() {
-            self.own = Some(value);
+            self.set_own(value);
             return Ok(());
         }
         self.values.insert(key, value)?;

@@ -8,11 +8,11 @@ use Rattle.meval.proofs.eval.Eval.index.Goals as goal
 pub returns-in-Some-clause-does : goal.returns-in-Some-clause-does
 unfolding value_of
 returns-in-Some-clause-does g c =
-    let is = rw c.in-Some.is at c.in_ok-value.ensures in
+    let is = rw c.in-Some.is at c.own.ensures in
     evaluates_then (λ i found. give_some M15 found >>= as_number) (asks_locals (λ l. value_of l c.args.name.now []) (λ found. found) _ is) (evaluates_yielded c.number_of.ensures)
 
 pub returns-in-None-clause-does : goal.returns-in-None-clause-does
 unfolding value_of
 returns-in-None-clause-does g c =
-    let is = rw c.in-None.is at c.in_ok-value.ensures in
+    let is = rw c.in-None.is at c.own.ensures in
     evaluates_then (λ i found. give_some M15 found >>= as_number) (asks_locals (λ l. value_of l c.args.name.now []) (λ found. found) _ is) (evaluates_fails _ _ _ refl)

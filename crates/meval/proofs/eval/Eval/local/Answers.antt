@@ -7,11 +7,11 @@ use Rattle.meval.proofs.eval.Eval.local.Goals as goal
 pub returns-in_ok-copy-in-Some-clause-does : goal.returns-in_ok-copy-in-Some-clause-does
 unfolding value_of
 returns-in_ok-copy-in-Some-clause-does g c =
-    let is = rw c.in-Some.is at c.in_ok-value.ensures in
+    let is = rw c.in-Some.is at c.own.ensures in
     evaluates_then (λ i found. give_some M6 found) (asks_locals (λ l. value_of l c.args.name.now []) (λ found. found) _ is) (evaluates_gives _ _ _ c.in_ok-copy-in-Some.ensures)
 
 pub returns-in-None-clause-does : goal.returns-in-None-clause-does
 unfolding value_of
 returns-in-None-clause-does g c =
-    let is = rw c.in-None.is at c.in_ok-value.ensures in
+    let is = rw c.in-None.is at c.own.ensures in
     evaluates_then (λ i found. give_some M6 found) (asks_locals (λ l. value_of l c.args.name.now []) (λ found. found) _ is) (evaluates_fails _ _ _ refl)

@@ -5,19 +5,16 @@ use Rattle.mspec.specs.Maps.{map_of}
 use Rattle.mspec.specs.Number.{significant_digits}
 use Rattle.mspec.proofs.Maps.{found_is_had}
 use Rattle.mspec.proofs.NodeOrders.{subscripts_cmp_total}
-use Rattle.mlocal.specs.Own.{with_own}
-use Rattle.mlocal.proofs.Own.{own_there, others_there}
+use Rattle.mlocal.proofs.Own.{others_there}
 use Rattle.mlocal.proofs.Views.{shown}
 use Rattle.mlocal.proofs.Walks.{no_list}
 use Rattle.mlocal.proofs.variable.Variable.get.Goals as goal
 
 pub returns-then-is_empty : goal.returns-then-is_empty
 returns-then-is_empty c =
-    let v = c.self.inside in
     let key = c.args.key.now in
     let none : key ≡ [] = no_list key (grind (arith, nat_tests, c.if-is_empty.ensures)) in
-    shown c.as_ref.result ∙ c.as_ref.ensures.value ∙ own_there v.own v.values c.self.invariant
-    ∙ ap (get (with_own v.own (map_of (λ x. x) v.values))) (sym none) ∙ ap (λ t. get t key) c.self.view_is
+    c.own.ensures ∙ ap (get c.args.self.now) (sym none)
 
 pub returns : goal.returns
 returns c =

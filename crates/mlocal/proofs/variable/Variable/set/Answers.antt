@@ -10,17 +10,14 @@ use Rattle.mspec.specs.Number.{significant_digits}
 use Rattle.mspec.proofs.Maps.{insert-map_of}
 use Rattle.mspec.proofs.NodeOrders.{subscripts_cmp_total, subscripts_cmp_exact}
 use Rattle.mlocal.specs.Own.{with_own, AreSomeSubs}
-use Rattle.mlocal.proofs.Own.{own_set, other_set}
+use Rattle.mlocal.proofs.Own.{other_set}
 use Rattle.mlocal.proofs.Walks.{no_list}
 use Rattle.mlocal.proofs.variable.Variable.set.Goals as goal
 
 pub returns-then-is_empty-clause-ok : goal.returns-then-is_empty-clause-ok
 returns-then-is_empty-clause-ok c =
-    let v = c.self.inside in
     let none : c.args.key ≡ [] = no_list c.args.key (grind (arith, nat_tests, c.if-is_empty.ensures)) in
-    own_set (map_of (λ x. x) v.values) v.own c.args.value
-    ∙ ap (λ k. insert (with_own v.own (map_of (λ x. x) v.values)) k c.args.value) (sym none)
-    ∙ ap (λ t. insert t c.args.key c.args.value) c.self.view_is
+    c.set_own.ensures ∙ ap (λ k. insert c.args.self.now k c.args.value) (sym none)
 
 pub returns-clause-ok : goal.returns-clause-ok
 returns-clause-ok c =

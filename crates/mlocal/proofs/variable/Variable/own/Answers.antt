@@ -1,0 +1,10 @@
+use Rattle.std.proofs.Common.{[], ap, ◌∙◌}
+use Rattle.std.specs.FinMap.{get}
+use Rattle.mlocal.proofs.Own.{own_there}
+use Rattle.mlocal.proofs.Views.{shown}
+use Rattle.mlocal.proofs.variable.Variable.own.Goals as goal
+
+pub returns : goal.returns
+returns c =
+    let v = c.self.inside in
+    shown c.as_ref.result ∙ c.as_ref.ensures.value ∙ own_there v.own v.values c.self.invariant ∙ ap (λ t. get t []) c.self.view_is

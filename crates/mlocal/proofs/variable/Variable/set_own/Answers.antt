@@ -1,0 +1,10 @@
+use Rattle.std.proofs.Common.{[], ap, ◌∙◌}
+use Rattle.std.specs.FinMap.{insert}
+use Rattle.mspec.specs.Maps.{map_of}
+use Rattle.mlocal.proofs.Own.{own_set}
+use Rattle.mlocal.proofs.variable.Variable.set_own.Goals as goal
+
+pub returns : goal.returns
+returns c =
+    let v = c.self.inside in
+    own_set (map_of (λ x. x) v.values) v.own c.args.value ∙ ap (λ t. insert t [] c.args.value) c.self.view_is

@@ -1,5 +1,5 @@
 -- A list of one item, and one that goes on behind it.
-use Rattle.std.proofs.Common.{◌≡◌, ℕ, zero, suc, ◌-◌, List, [], ◌∷◌, length, Option, Some, None, refl, arith}
+use Rattle.std.proofs.Common.{◌≡◌, ℕ, zero, suc, ◌-◌, List, [], ◌∷◌, length, Some, None, refl, arith}
 use Rattle.mgrammar.specs.Reading.{Read, with_front, past, many, after_comma, list_at}
 use Rattle.mgrammar.proofs.ReadingLoops.{is_done, list_begins, comma_stops}
 

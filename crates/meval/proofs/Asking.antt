@@ -1,5 +1,5 @@
 -- Calls that ask a store, and those that ask or set the session.
-use Rattle.std.proofs.Common.{◌≡◌, ◌≢◌, ℕ, ◌≤◌, Bool, true, false, List, [], ◌∷◌, Option, Some, None, Result, Ok, Err, refl, sym, ap, ◌∙◌, subst, arith, ⊎_elim}
+use Rattle.std.proofs.Common.{◌≡◌, Bool, true, false, List, [], ◌∷◌, Option, Some, Result, Ok, Err, refl, sym, ap, ◌∙◌, subst, arith, ⊎_elim}
 use Rattle.std.specs.Prelude.{◌&&◌}
 use Rattle.std.specs.List.{list_any}
 use Rattle.mspec.specs.Trees.{text_eq}
@@ -10,30 +10,25 @@ use Rattle.mspec.specs.Access.{Mode, Read, Write, Grant, allows, lets, may}
 use Rattle.mspec.specs.Node.{Text, Node}
 use Rattle.mspec.specs.KeyBytes.{AreSubscripts}
 use Rattle.mspec.specs.Subscripts.{is_account_name, are_subscripts}
-use Rattle.mspec.specs.Globals.{Globals}
 use Rattle.mspec.specs.LockConflict.{Locks}
 use Rattle.mspec.specs.Plan.{Op, Answer, May}
-use Rattle.mspec.specs.Act.{Act, Gives, ◌>>=◌, ◌>>◌, give, ask, unless, naked_is, set_naked}
+use Rattle.mspec.specs.Act.{Act, ◌>>◌, give, ask, unless, naked_is, set_naked}
 use Rattle.mspec.proofs.SubscriptTests.{subscripts_test}
 use Rattle.mgrant.specs.declared.mode.Mode as grant
 use Rattle.mgrant.specs.declared.mode.Mode.TheVariants as mode
 use Rattle.mgrant.specs.Placed as placed
-use Rattle.mmeaning.specs.World.{World, guarded}
-use Rattle.mmeaning.specs.Expression.{Inside}
-use Rattle.mmeaning.specs.Calls.{Standing, Did, MayLose, ops_of}
+use Rattle.mmeaning.specs.World.{World}
+use Rattle.mmeaning.specs.Calls.{Standing, Did, ops_of}
 use Rattle.mmeaning.specs.Yields.{Yields}
-use Rattle.mmeaning.specs.Variables.{Place, at_local, at_node, checked, replaced, beside, allowed, node_place, resolve, of_local}
-use Rattle.mmeaning.proofs.Calls.{asked, did_lost}
+use Rattle.mmeaning.specs.Variables.{Place, at_local, at_node, replaced, beside, allowed, node_place, resolve, of_local}
+use Rattle.mmeaning.proofs.Calls.{asked}
 use Rattle.mstore.specs.declared.store.NodeStore.{Ghosts}
-use Rattle.mstore.specs.declared.store.StoreFault.{StoreFault}
-use Rattle.mstore.specs.declared.store.StoreFault.TheVariants as fault
 use Rattle.moperator.specs.Codes.{fault_of}
 use Rattle.moperator.specs.declared.code.Code.{Code}
 use Rattle.moperator.specs.declared.code.Code.TheVariants as code
 use Rattle.meval.specs.declared.eval.Eval.{Eval}
-use Rattle.meval.specs.Evaluates.{Evaluates, standing_of, eval_here, inside_at}
+use Rattle.meval.specs.Evaluates.{Evaluates, standing_of, eval_here}
 use Rattle.meval.specs.Places.{use_of, IsOpen}
-use Rattle.meval.specs.Stores.{store_code}
 use Rattle.meval.proofs.Calls.{evaluates_then, evaluates_gives, evaluates_fails, evaluates_yielded}
 
 -- ---- operations

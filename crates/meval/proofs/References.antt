@@ -1,5 +1,5 @@
 -- What is left of a reference behind the values of its subscripts, and what the checks let through as a walk.
-use Rattle.std.proofs.Common.{◌≡◌, ◌≢◌, ℕ, zero, suc, ◌<◌, false, List, [], ◌∷◌, length, Result, Ok, Err, subst, refl, sym, arith}
+use Rattle.std.proofs.Common.{◌≡◌, ℕ, zero, suc, ◌<◌, false, List, [], ◌∷◌, length, Result, Ok, Err, subst, refl, sym, arith}
 use Rattle.std.specs.Prelude.{◌==◌}
 use Rattle.std.proofs.lemmas.Bool.{false≢true}
 use Rattle.mspec.specs.Act.{Text, ◌>>=◌, ◌>>◌, give, unless}

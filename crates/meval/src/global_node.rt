@@ -97,7 +97,12 @@ impl GlobalNode {
         ensures checked { Yields fault_of (unless Zsub (are_subscripts self.now.subscripts)) (λ _. tt) result }
         ensures key { IfOk result (λ key. key ≡ self.now) }
     {
-        match NodeKey::build(alloc, &self.account, self.name.as_bytes7(), &self.subscripts) {
+        match NodeKey::build(
+            alloc,
+            &self.account,
+            self.name.as_bytes7(),
+            &self.subscripts,
+        ) {
             Ok(key) => Ok(key),
             Err(KeyFault::Sub) => Err(Code::Zsub),
             Err(KeyFault::Memory) => Err(Code::Zmem),

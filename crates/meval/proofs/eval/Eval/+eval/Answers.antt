@@ -1,4 +1,4 @@
-use Rattle.std.proofs.Common.{◌∙◌, sym, ap, arith, Vec, Global}
+use Rattle.std.proofs.Common.{◌∙◌, sym, arith, Vec, Global}
 use Rattle.mmeaning.proofs.Calls.{residual_is}
 use Rattle.mspec.specs.Act.{Text, give}
 use Rattle.mtree.specs.Tree.{reference_tree}

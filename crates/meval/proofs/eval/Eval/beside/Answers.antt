@@ -1,6 +1,4 @@
 use Rattle.std.proofs.Common.{Some, None, refl}
-use Rattle.moperator.specs.Codes.{fault_of}
-use Rattle.moperator.specs.declared.code.Code.{Code}
 use Rattle.meval.proofs.Asking.{beside_found}
 use Rattle.meval.proofs.eval.Eval.beside.Goals as goal
 

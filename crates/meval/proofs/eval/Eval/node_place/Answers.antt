@@ -1,12 +1,10 @@
-use Rattle.std.proofs.Common.{Some, refl, sym, subst, ap, ◌∙◌}
+use Rattle.std.proofs.Common.{Some, ap}
 use Rattle.mspec.specs.Act.{◌>>◌, give, unless, set_naked}
 use Rattle.mspec.specs.Code as spec
 use Rattle.mspec.specs.Node.{Node}
 use Rattle.mspec.specs.Subscripts.{are_subscripts}
-use Rattle.mgrant.specs.Placed as placed
-use Rattle.mmeaning.specs.Variables.{Place, at_node}
-use Rattle.meval.specs.Evaluates.{standing_of}
-use Rattle.meval.specs.Places.{IsOpen, place_view}
+use Rattle.mmeaning.specs.Variables.{at_node}
+use Rattle.meval.specs.Places.{place_view}
 use Rattle.meval.proofs.Calls.{evaluates_then, evaluates_stopped, evaluates_gives, evaluates_yielded}
 use Rattle.meval.proofs.Asking.{as_node_place}
 use Rattle.meval.proofs.eval.Eval.node_place.Goals as goal

@@ -1,11 +1,8 @@
-use Rattle.std.proofs.Common.{Some, refl, sym, subst, ap, ◌∙◌}
+use Rattle.std.proofs.Common.{Some, ap}
 use Rattle.mspec.specs.Act.{◌>>◌, give, set_naked}
-use Rattle.mspec.specs.Access.{Read}
-use Rattle.mspec.specs.KeyBytes.{IsAccountName}
 use Rattle.mspec.specs.Node.{Node}
-use Rattle.mspec.specs.Trees.{AreOrderSubscripts}
-use Rattle.mmeaning.specs.Variables.{Place, at_node, checked, ordering}
-use Rattle.meval.specs.Places.{IsOpen, walk_view}
+use Rattle.mmeaning.specs.Variables.{at_node, checked, ordering}
+use Rattle.meval.specs.Places.{walk_view}
 use Rattle.meval.proofs.Calls.{evaluates_then, evaluates_stopped, evaluates_gives, evaluates_yielded, evaluates_wanting}
 use Rattle.meval.proofs.eval.Eval.node_walk.Goals as goal
 

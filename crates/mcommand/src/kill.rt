@@ -15,14 +15,15 @@ impl<'a, S: NodeStore> Parts<'a, S> {
     ///
     /// # Errors
     ///
-    /// Those of its subscripts' values; `Zsub` where they are no node's; `Zmem` for want of memory.
+    /// Those of its subscripts' values; `M1` for a naked reference with none before it, `Zgrant` where the account may not write the
+    /// global; `Zsub` where they are no node's; `Zmem` for want of memory, and `Zstore` where the store refuses.
     pub fn killing(&mut self, alloc: Global, reference: &Reference) -> Result<(), Code>
         ensures loans { KeepsLoans self.old self.new }
         ensures fewer { self.new.eval.steps ≤ self.old.eval.steps }
         ensures does { Does S.NodeStore (λ i. meaning.killing i (reference_tree reference.now)) (λ u. u) self.old result self.new }
     {
         let pending = self.eval.resolve_left(alloc, reference)?;
-        let place = self.eval.finish_left(pending)?;
+        let place = self.eval.finish_left(alloc, pending)?;
         self.eval.kill(&place)
     }
 }

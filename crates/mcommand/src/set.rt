@@ -93,12 +93,12 @@ impl<'a, S: NodeStore> Parts<'a, S> {
         ensures fewer { self.new.eval.steps ≤ self.old.eval.steps }
         ensures does { Does S.NodeStore (λ i. meaning.assigned value.now (meaning.part (pending_view pending.entry) delimiter.now place.now)) (λ u. u) self.old result self.new }
     {
-        let left = self.eval.finish_left(pending)?;
+        let left = self.eval.finish_left(alloc, pending)?;
         let place = whole_number(place)?;
         let old = self.eval.text_or_empty(alloc, &left)?;
         let shown = value.shown(alloc)?;
         let new = set_piece(alloc, &old, delimiter, place, shown.as_text())?;
-        self.eval.put(&left, Value::of_text(new))
+        self.eval.put(alloc, &left, Value::of_text(new))
     }
 
     // Gives a target a value.
@@ -109,8 +109,8 @@ impl<'a, S: NodeStore> Parts<'a, S> {
     {
         match prepared {
             Prepared::Whole(pending) => {
-                let place = self.eval.finish_left(pending)?;
-                self.eval.put(&place, value)
+                let place = self.eval.finish_left(alloc, pending)?;
+                self.eval.put(alloc, &place, value)
             }
             Prepared::Part(pending, delimiter, place) => {
                 self.set_part(alloc, pending, &delimiter, &place, &value)
@@ -135,7 +135,7 @@ impl<'a, S: NodeStore> Parts<'a, S> {
     /// # Errors
     ///
     /// The code of the first that has one: the parts of the targets from left to right, the expression, each assignment. What
-    /// was assigned before stands. `Zmem` for want of memory.
+    /// was assigned before stands. `Zmem` for want of memory, and `Zstore` where the store refuses.
     pub fn setting(
         &mut self,
         alloc: Global,

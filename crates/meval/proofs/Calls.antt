@@ -3,9 +3,9 @@ use Rattle.std.proofs.Common.{◌≡◌, ◌≢◌, ℕ, [], Result, Ok, Err, re
 use Rattle.std.specs.Result.{IsErr, IsErrAnd}
 use Rattle.std.specs.FinMap.{empty}
 use Rattle.mspec.specs.Code as spec
-use Rattle.mspec.specs.Code.{Lost, Own, M6}
+use Rattle.mspec.specs.Code.{Lost, Own}
 use Rattle.mspec.specs.Act.{Text, Act, Gives, Fails, ◌>>=◌, Locals, value_of, of_locals, give, fail, give_some}
-use Rattle.mmeaning.specs.Variables.{Place, at_local, read_at, found_at}
+use Rattle.mmeaning.specs.Variables.{Place, at_local, at_node, read_at, found_at}
 use Rattle.mmeaning.specs.Expression.{Inside, inside}
 use Rattle.mmeaning.specs.Calls.{Standing, Here, Did, Ends, FailedBy}
 use Rattle.mmeaning.specs.Yields.{Yields}
@@ -17,6 +17,7 @@ use Rattle.moperator.specs.declared.code.Code.{Code}
 use Rattle.moperator.specs.declared.code.Code.TheVariants.{Zmem, Zstore}
 use Rattle.meval.specs.declared.depth.Depth.{Depth}
 use Rattle.meval.specs.declared.eval.Eval.{Eval}
+use Rattle.meval.specs.Places.{undefined_at}
 use Rattle.meval.specs.Evaluates.{Evaluates, KeepsEval, standing_of, eval_here, depth_of}
 
 -- a call that began where another ended, told by where that one began
@@ -93,9 +94,10 @@ keeps_on k l = record { session = l.session ∙ k.session; store = l.store ∙ k
 -- ---- places
 
 -- what is read is what is found, where there is something
-pub read_is : (p : Place) → ◌≡◌ {A = Act Text} (read_at p) (found_at p >>= give_some M6)
+pub read_is : (p : Place) → ◌≡◌ {A = Act Text} (read_at p) (found_at p >>= give_some (undefined_at p))
 unfolding value_of
 read_is (at_local name xs) = refl
+read_is (at_node n) = refl
 
 -- what is asked of the locals
 pub asks_locals : {S A X : Type 0} {g : Ghosts S} {e : Eval S} (question : Locals → A) (f : X → A) (x : X) → f x ≡ question e.session.now.locals → Evaluates g (λ i. of_locals question) f e (Ok x) e

@@ -1,4 +1,5 @@
 pub mod Calls
 pub mod TreeViews
-pub mod Walks
+pub mod References
 pub mod Trees
+pub mod Asking

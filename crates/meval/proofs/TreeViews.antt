@@ -45,6 +45,12 @@ referring_is = fold_out-Referring PrimaryTree ReferenceTree StepTree ChoiceTree 
 pub local_is : (name : List ℕ) (subscripts : Vec Expr Global) → reference_tree (reference.Local name subscripts) ≡ grammar.local name (exprs_of (map expr_tree subscripts.items))
 local_is name subscripts = ap reference_tree (sym (reference.rolls-Local name subscripts)) ∙ fold-roll-Reference PrimaryTree ReferenceTree StepTree ChoiceTree ExprTree OperandTree PrimaryTree primary_layer reference_layer step_layer choice_layer expr_layer operand_layer referring_layer _
 
+pub global_is : (name : List ℕ) (subscripts : Vec Expr Global) → reference_tree (reference.Global name subscripts) ≡ grammar.global name (exprs_of (map expr_tree subscripts.items))
+global_is name subscripts = ap reference_tree (sym (reference.rolls-Global name subscripts)) ∙ fold-roll-Reference PrimaryTree ReferenceTree StepTree ChoiceTree ExprTree OperandTree PrimaryTree primary_layer reference_layer step_layer choice_layer expr_layer operand_layer referring_layer _
+
+pub naked_is : (subscripts : Vec Expr Global) → reference_tree (reference.Naked subscripts) ≡ grammar.naked (exprs_of (map expr_tree subscripts.items))
+naked_is subscripts = ap reference_tree (sym (reference.rolls-Naked subscripts)) ∙ fold-roll-Reference PrimaryTree ReferenceTree StepTree ChoiceTree ExprTree OperandTree PrimaryTree primary_layer reference_layer step_layer choice_layer expr_layer operand_layer referring_layer _
+
 pub bracket_is : (inner : Box Expr Global) → primary_tree (primary.Bracket inner) ≡ grammar.bracket (expr_tree inner.value)
 bracket_is inner = ap primary_tree (sym (primary.rolls-Bracket inner)) ∙ fold-roll-Primary PrimaryTree ReferenceTree StepTree ChoiceTree ExprTree OperandTree PrimaryTree primary_layer reference_layer step_layer choice_layer expr_layer operand_layer referring_layer _
 

@@ -1,4 +1,5 @@
 pub mod Sessions
+pub mod Stores
 pub mod Places
 pub mod Acts
 pub mod Evaluates

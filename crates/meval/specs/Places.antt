@@ -1,30 +1,67 @@
 -- References and places of the code, as the definitions have them.
-use Rattle.std.specs.Prelude.{Bool, List}
+use Rattle.std.specs.Prelude.{◌≡◌, Bool, true, List}
+use Rattle.mspec.specs.Access.{Mode, may}
+use Rattle.mspec.specs.Code.{Code, M6, M7}
+use Rattle.mspec.specs.KeyBytes.{IsAccountName}
 use Rattle.mspec.specs.Node.{Text}
 use Rattle.mspec.specs.Trees.{AreOrderSubscripts}
+use Rattle.mgrammar.specs.Grammar.{ExprsTree, ReferenceTree, local, global, naked}
+use Rattle.mmeaning.specs.Calls.{Standing}
 use Rattle.mmeaning.specs.Variables as variables
 use Rattle.mkey.specs.declared.walk.Data.{Data}
+use Rattle.mgrant.specs.declared.mode.Mode as grant
+use Rattle.mgrant.specs.declared.mode.Mode.TheVariants as mode
 use Rattle.meval.specs.declared.place.Pending.{Pending}
 use Rattle.meval.specs.declared.place.Pending.TheVariants as pending
 use Rattle.meval.specs.declared.place.Place.{Place}
 use Rattle.meval.specs.declared.place.Place.TheVariants as place
+use Rattle.meval.specs.declared.place.Walk.{Walk}
+use Rattle.meval.specs.declared.place.Walk.TheVariants as walk
 
 abbrev pub pending_view : Pending → variables.Evaluated
 pending_view (pending.Local name texts) = variables.of_local name.now texts.items
+pending_view (pending.Global node) = variables.of_global node
+pending_view (pending.Naked texts) = variables.of_naked texts.items
 
 abbrev pub place_view : Place → variables.Place
 place_view (place.Local name subscripts) = variables.at_local name.now subscripts
+place_view (place.Node key) = variables.at_node key
 
--- the place of a reference that the checks let through
-abbrev pub place_of : variables.Evaluated → variables.Place
-place_of (variables.of_local name xs) = variables.at_local name xs
+abbrev pub walk_view : Walk → variables.Place
+walk_view (walk.Local name texts) = variables.at_local name.now texts.items
+walk_view (walk.Node node) = variables.at_node node
 
--- the texts of a reference's subscripts, and whether $ORDER may be asked of it
-abbrev pub texts_of : Pending → List Text
-texts_of (pending.Local name texts) = texts.items
+-- $ORDER may be asked of it
+abbrev pub IsWalk : Walk → Type 0
+IsWalk (walk.Local name texts) = AreOrderSubscripts texts.items
+IsWalk (walk.Node node) = IsAccountName node.account × AreOrderSubscripts node.subscripts
 
-abbrev pub IsWalk : Pending → Type 0
-IsWalk p = AreOrderSubscripts (texts_of p)
+-- what a place is wanted for that has to be let be used so
+abbrev pub use_of : grant.Mode → variables.Use
+use_of mode.Read = variables.reading
+use_of mode.Write = variables.writing
+
+-- the line's account may use the global of a place so
+abbrev pub IsOpen : Standing → Mode → variables.Place → Type 0
+IsOpen b m (variables.at_local name xs) = Unit {0}
+IsOpen b m (variables.at_node n) = may b.settings b.account n.account n.name m ≡ true
+
+-- the code of a read where there is no text
+abbrev pub undefined_at : variables.Place → Code
+undefined_at (variables.at_local name xs) = M6
+undefined_at (variables.at_node n) = M7
 
 abbrev pub status_view : Data → Bool × Bool
 status_view d = (d.value, d.descendants)
+
+-- ---- what is left of a reference behind the values of its subscripts
+
+abbrev pub subscripts_tree : ReferenceTree → ExprsTree
+subscripts_tree (local name subscripts) = subscripts
+subscripts_tree (global name subscripts) = subscripts
+subscripts_tree (naked subscripts) = subscripts
+
+abbrev pub named : Text → ReferenceTree → List Text → variables.Evaluated
+named account (local name subscripts) xs = variables.of_local name xs
+named account (global name subscripts) xs = variables.of_global (record { account = account; name = name; subscripts = xs })
+named account (naked subscripts) xs = variables.of_naked xs

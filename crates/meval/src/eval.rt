@@ -9,16 +9,19 @@ ghost use Rattle.mnum.specs.Num.{units};
 ghost use Rattle.mspec.specs.Act.{charge, get_local};
 ghost use Rattle.mtree.specs.Tree.{expr_tree, step_tree, operand_tree, primary_tree, reference_tree, choice_tree};
 ghost use Rattle.mtree.specs.declared.tree.Referring.{out-Referring};
+ghost use Rattle.moperator.specs.Codes.{fault_of};
 ghost use Rattle.moperator.specs.declared.code.Code.TheVariants.{Zstore};
-ghost use Rattle.meval.specs.Evaluates.{Evaluates, KeepsEval};
+ghost use Rattle.meval.specs.Evaluates.{Evaluates, KeepsEval, standing_of};
 ghost use Rattle.meval.specs.Acts as acts;
-ghost use Rattle.meval.specs.Places.{pending_view, place_view, place_of, status_view, IsWalk};
+ghost use Rattle.meval.specs.Places.{pending_view, place_view, walk_view, status_view, undefined_at, IsOpen, IsWalk};
+ghost use Rattle.mspec.specs.Access.{Read, Write};
+ghost use Rattle.mspec.specs.Code.{Own};
 
 use crate::depth::Depth;
-use crate::place::{Pending, Place, check_walk, local_parts, plain_name, resolved};
+use crate::place::{Pending, Place, Walk, plain_name, subscripts_of};
 use crate::session::Session;
-use crate::walk::{data_value, direction, first_or_empty, texts};
-use mgrant::{AccountId, Settings};
+use crate::walk::{data_value, direction, first_or_empty, next_value, texts};
+use mgrant::{AccountId, Mode, Settings};
 use mkey::{Data, Direction};
 use mnum::{Bytes7, Name, Num};
 use moperator::{Code, binary, call, computed, matching, number_of, truth_of, unaries};
@@ -29,6 +32,16 @@ use mtree::{
 };
 use mvalue::Value;
 use std::alloc::Global;
+
+// The code of a read where there is no text.
+fn undefined(place: &Place) -> Code
+    ensures { fault_of result ≡ Own (undefined_at (place_view place.now)) }
+{
+    match place {
+        Place::Local(_, _) => Code::M6,
+        Place::Node(_) => Code::M7,
+    }
+}
 
 /// What the evaluation of an expression is lent, and where it stands.
 #[derive(Drop)]
@@ -78,6 +91,7 @@ impl<'a, S: NodeStore> Eval<'a, S> {
     // The value of a place, where it has one.
     #[tactic(auto, unfolding(mspec::specs::Act::value_of))]
     fn found(&mut self, place: &Place) -> Result<Option<Value>, Code>
+        requires { IsOpen (standing_of self.old) Read (place_view place.now) }
         ensures loans { KeepsEval self.old self.new }
         ensures fewer { self.new.steps ≤ self.old.steps }
         ensures does { Evaluates S.NodeStore (λ i. variables.found_at (place_view place.now)) (λ found. found) self.old result self.new }
@@ -89,27 +103,33 @@ impl<'a, S: NodeStore> Eval<'a, S> {
                     None => Ok(None),
                 }
             }
+            Place::Node(key) => match self.node_text(key)? {
+                Some(text) => Ok(Some(Value::of_text(text))),
+                None => Ok(None),
+            },
         }
     }
 
     // The value of a place.
     fn read(&mut self, place: &Place) -> Result<Value, Code>
+        requires { IsOpen (standing_of self.old) Read (place_view place.now) }
         ensures loans { KeepsEval self.old self.new }
         ensures fewer { self.new.steps ≤ self.old.steps }
         ensures does { Evaluates S.NodeStore (λ i. variables.read_at (place_view place.now)) (λ v. v) self.old result self.new }
     {
         match self.found(place)? {
             Some(value) => Ok(value),
-            None => Err(Code::M6),
+            None => Err(undefined(place)),
         }
     }
 
-    /// The text of a place, or the empty one where it has none.
+    /// The text of a place that may be changed, or the empty one where it has none.
     ///
     /// # Errors
     ///
-    /// `Zmem` for want of memory.
+    /// `Zmem` for want of memory, and `Zstore` where the store refuses.
     pub fn text_or_empty(&mut self, alloc: Global, place: &Place) -> Result<Bytes7, Code>
+        requires { IsOpen (standing_of self.old) Write (place_view place.now) }
         ensures loans { KeepsEval self.old self.new }
         ensures fewer { self.new.steps ≤ self.old.steps }
         ensures does { Evaluates S.NodeStore (λ i. variables.read_or [] (place_view place.now)) (λ text. text) self.old result self.new }
@@ -122,6 +142,7 @@ impl<'a, S: NodeStore> Eval<'a, S> {
 
     // The value of a place, or the first of these where it has none; the empty text where there is neither.
     fn read_or(&mut self, alloc: Global, place: &Place, others: Vec<Value>) -> Result<Value, Code>
+        requires { IsOpen (standing_of self.old) Read (place_view place.now) }
         ensures loans { KeepsEval self.old self.new }
         ensures fewer { self.new.steps ≤ self.old.steps }
         ensures does { Evaluates S.NodeStore (λ i. variables.read_or (unwrap_or (slice_get others.items 0) []) (place_view place.now)) (λ v. v) self.old result self.new }
@@ -133,7 +154,8 @@ impl<'a, S: NodeStore> Eval<'a, S> {
     }
 
     // Whether a place has a text, and whether one below it has one.
-    fn status(&mut self, place: &Place) -> Result<Data, Code>
+    fn status(&mut self, alloc: Global, place: &Place) -> Result<Data, Code>
+        requires { IsOpen (standing_of self.old) Read (place_view place.now) }
         ensures loans { KeepsEval self.old self.new }
         ensures fewer { self.new.steps ≤ self.old.steps }
         ensures does { Evaluates S.NodeStore (λ i. variables.status_at (place_view place.now)) status_view self.old result self.new }
@@ -143,51 +165,51 @@ impl<'a, S: NodeStore> Eval<'a, S> {
                 let data = self.session.locals.data(name, subscripts.as_slice())?;
                 Ok(data)
             }
+            Place::Node(key) => self.node_status(alloc, key),
         }
     }
 
     // What $DATA gives of a variable.
-    fn data(&mut self, pending: Pending) -> Result<Value, Code>
+    fn data(&mut self, alloc: Global, pending: Pending) -> Result<Value, Code>
         ensures loans { KeepsEval self.old self.new }
         ensures fewer { self.new.steps ≤ self.old.steps }
         ensures does { Evaluates S.NodeStore (λ i. acts.data_act (pending_view pending.entry)) (λ v. v) self.old result self.new }
     {
-        let place = resolved(pending)?;
-        let data = self.status(&place)?;
+        let place = self.resolved(alloc, Mode::Read, pending)?;
+        let data = self.status(alloc, &place)?;
         Ok(data_value(data))
     }
 
     // The subscript next to the last one of a walk, or the empty text where there is none.
-    fn next(
-        &mut self,
-        alloc: Global,
-        pending: &Pending,
-        direction: Direction,
-    ) -> Result<Value, Code>
-        requires { IsWalk pending.now }
+    fn next(&mut self, alloc: Global, walk: &Walk, direction: Direction) -> Result<Value, Code>
+        requires walk { IsWalk walk.now }
+        requires allowed { IsOpen (standing_of self.old) Read (walk_view walk.now) }
         ensures loans { KeepsEval self.old self.new }
         ensures fewer { self.new.steps ≤ self.old.steps }
-        ensures does { Evaluates S.NodeStore (λ i. variables.next_at (way direction) (place_of (pending_view pending.now))) (λ v. v) self.old result self.new }
+        ensures does { Evaluates S.NodeStore (λ i. variables.next_at (way direction) (walk_view walk.now)) (λ v. v) self.old result self.new }
     {
-        match pending {
-            Pending::Local(name, texts) => {
-                match self.session.locals.order(name, texts, direction)? {
-                    Some(text) => Ok(Value::of_text(text)),
-                    None => Ok(Value::of_text(Bytes7::empty(alloc))),
-                }
+        match walk {
+            Walk::Local(name, texts) => {
+                let next = self.session.locals.order(name, texts, direction)?;
+                Ok(next_value(alloc, next))
+            }
+            Walk::Node(node) => {
+                let next = self.node_neighbour(alloc, node, direction)?;
+                Ok(next_value(alloc, next))
             }
         }
     }
 
     // What $ORDER gives of a walk, in the direction that the first of these says.
-    fn order(&mut self, alloc: Global, pending: &Pending, more: &[Value]) -> Result<Value, Code>
-        requires { IsWalk pending.now }
+    fn order(&mut self, alloc: Global, walk: &Walk, more: &[Value]) -> Result<Value, Code>
+        requires walk { IsWalk walk.now }
+        requires allowed { IsOpen (standing_of self.old) Read (walk_view walk.now) }
         ensures loans { KeepsEval self.old self.new }
         ensures fewer { self.new.steps ≤ self.old.steps }
-        ensures does { Evaluates S.NodeStore (λ i. acts.order_act (slice_get more.now 0) (place_of (pending_view pending.now))) (λ v. v) self.old result self.new }
+        ensures does { Evaluates S.NodeStore (λ i. acts.order_act (slice_get more.now 0) (walk_view walk.now)) (λ v. v) self.old result self.new }
     {
         let direction = direction(more)?;
-        self.next(alloc, pending, direction)
+        self.next(alloc, walk, direction)
     }
 
     // The value of a special variable.
@@ -220,7 +242,7 @@ impl<'a, S: NodeStore> Eval<'a, S> {
                     return self.local(name);
                 }
                 let pending = self.evaluated(alloc, reference)?;
-                let place = resolved(pending)?;
+                let place = self.resolved(alloc, Mode::Read, pending)?;
                 self.read(&place)
             }
             Primary::Bracket(inner) => self.value(alloc, inner),
@@ -247,10 +269,9 @@ impl<'a, S: NodeStore> Eval<'a, S> {
         if let Some(name) = plain_name(reference) {
             return Ok(Pending::Local(name, Vec::new(alloc)));
         }
-        let (name, subscripts) = local_parts(reference);
-        let values = self.values(alloc, subscripts)?;
+        let values = self.values(alloc, subscripts_of(reference))?;
         let texts = texts(alloc, values)?;
-        Ok(Pending::Local(name, texts))
+        Ok(self.pending(alloc, reference, texts)?)
     }
 
     // The value of a function of a variable.
@@ -266,19 +287,19 @@ impl<'a, S: NodeStore> Eval<'a, S> {
         match function {
             Function::Data => {
                 let pending = self.evaluated(alloc, &referring.reference)?;
-                self.data(pending)
+                self.data(alloc, pending)
             }
             Function::Get => {
                 let pending = self.evaluated(alloc, &referring.reference)?;
-                let place = resolved(pending)?;
+                let place = self.resolved(alloc, Mode::Read, pending)?;
                 let more = self.values(alloc, &referring.more)?;
                 self.read_or(alloc, &place, more)
             }
             Function::Order => {
                 let pending = self.evaluated(alloc, &referring.reference)?;
-                check_walk(&pending)?;
+                let walk = self.walked(alloc, pending)?;
                 let more = self.values(alloc, &referring.more)?;
-                self.order(alloc, &pending, &more)
+                self.order(alloc, &walk, &more)
             }
             _ => Err(Code::Zsyntax),
         }
@@ -432,21 +453,27 @@ impl<'a, S: NodeStore> Eval<'a, S> {
     ///
     /// # Errors
     ///
-    /// `Zsub` where there are more than 15 subscripts, or one is empty or has more than 255 characters.
-    pub fn finish_left<'t>(&mut self, pending: Pending<'t>) -> Result<Place<'t>, Code>
+    /// `M1` for a naked reference where there was no reference to a node with subscripts before it; `Zgrant` where the account may not
+    /// write the global; `Zsub` where there are more than 15 subscripts, or one is empty or has more than 255 characters. None of them
+    /// changes the node that was referred to last. `Zmem` for want of memory.
+    pub fn finish_left<'t>(
+        &mut self,
+        alloc: Global,
+        pending: Pending<'t>,
+    ) -> Result<Place<'t>, Code>
         ensures loans { KeepsEval self.old self.new }
         ensures fewer { self.new.steps ≤ self.old.steps }
+        ensures allowed { IfOk result (λ place. IsOpen (standing_of self.new) Write (place_view place)) }
         ensures does { Evaluates S.NodeStore (λ i. variables.resolve variables.writing (pending_view pending.entry)) place_view self.old result self.new }
     {
-        resolved(pending)
+        self.resolved(alloc, Mode::Write, pending)
     }
 
     /// The place of a variable that is to be changed.
     ///
     /// # Errors
     ///
-    /// Those of the subscripts' values; `Zsub` where there are more than 15 subscripts, or one is empty or has more than 255
-    /// characters.
+    /// Those of the subscripts' values, and then those of `finish_left`.
     pub fn resolve<'t>(
         &mut self,
         alloc: Global,
@@ -454,9 +481,10 @@ impl<'a, S: NodeStore> Eval<'a, S> {
     ) -> Result<Place<'t>, Code>
         ensures loans { KeepsEval self.old self.new }
         ensures fewer { self.new.steps ≤ self.old.steps }
+        ensures allowed { IfOk result (λ place. IsOpen (standing_of self.new) Write (place_view place)) }
         ensures does { Evaluates S.NodeStore (λ i. acts.place_left i (reference_tree reference.now)) place_view self.old result self.new }
     {
         let pending = self.evaluated(alloc, reference)?;
-        resolved(pending)
+        self.finish_left(alloc, pending)
     }
 }

@@ -3,12 +3,16 @@
 
 mod depth;
 mod eval;
+mod global_node;
+mod globals;
 mod place;
+mod resolving;
 mod session;
 mod variables;
 mod walk;
 
 pub use depth::Depth;
 pub use eval::Eval;
+pub use global_node::GlobalNode;
 pub use place::{Pending, Place, Subscripts};
 pub use session::Session;

@@ -2,14 +2,16 @@
 ghost use Rattle.std.specs.Prelude.{◌≡◌, ◌↔◌, IsTrue, IsSome, IfSome, IfOk, map};
 ghost use Rattle.mgrammar.specs.Grammar.{local, no_exprs, exprs_of};
 ghost use Rattle.mtree.specs.Tree.{expr_tree, reference_tree};
-ghost use Rattle.mmeaning.specs.Variables.{resolve, reading, ordering, writing};
+ghost use Rattle.mmeaning.specs.Variables.{checked, ordering};
 ghost use Rattle.mmeaning.specs.Yields.{Yields};
 ghost use Rattle.mspec.specs.KeyBytes.{AreSubscripts};
 ghost use Rattle.mspec.specs.Subscripts.{are_subscripts};
+ghost use Rattle.mspec.specs.Trees.{AreOrderSubscripts};
 ghost use Rattle.moperator.specs.Codes.{fault_of};
-ghost use Rattle.meval.specs.Places.{pending_view, place_view, place_of, texts_of, IsWalk};
+ghost use Rattle.meval.specs.Places.{subscripts_tree};
 
-use mkey::{order_subs_ok, subs_ok};
+use crate::global_node::GlobalNode;
+use mkey::{NodeKey, order_subs_ok, subs_ok};
 use mnum::{Bytes7, Name};
 use moperator::Code;
 use mtree::{Expr, Reference};
@@ -20,14 +22,20 @@ use std::marker::Model;
 pub enum Pending<'t> {
     /// A local variable: its name, and its subscripts.
     Local(&'t Name, Vec<Bytes7>),
+    /// A node of a global.
+    Global(GlobalNode),
+    /// A node beside the one that was referred to last: the subscripts that stand in the place of the last one.
+    Naked(Vec<Bytes7>),
 }
 
-// The name of a local variable, and its subscripts.
-pub fn local_parts<'t>(reference: &'t Reference) -> (&'t Name, &'t [Expr])
-    ensures { reference_tree reference.now ≡ local result.0.now (exprs_of (map expr_tree result.1.now)) }
+// The subscripts of a reference.
+pub fn subscripts_of(reference: &Reference) -> &[Expr]
+    ensures { exprs_of (map expr_tree result.now) ≡ subscripts_tree (reference_tree reference.now) }
 {
     match reference {
-        Reference::Local(name, subscripts) => (name, subscripts),
+        Reference::Local(_, subscripts) => subscripts,
+        Reference::Global(_, subscripts) => subscripts,
+        Reference::Naked(subscripts) => subscripts,
     }
 }
 
@@ -35,10 +43,12 @@ pub fn local_parts<'t>(reference: &'t Reference) -> (&'t Name, &'t [Expr])
 pub fn plain_name(reference: &Reference) -> Option<&Name>
     ensures { IfSome result (λ name. reference_tree reference.now ≡ local name.now no_exprs) }
 {
-    let (name, subscripts) = local_parts(reference);
-    match subscripts {
-        [] => Some(name),
-        [_, ..] => None,
+    match reference {
+        Reference::Local(name, subscripts) => match subscripts.as_slice() {
+            [] => Some(name),
+            [_, ..] => None,
+        },
+        _ => None,
     }
 }
 
@@ -86,36 +96,22 @@ impl Subscripts {
 pub enum Place<'t> {
     /// A node of a local variable: its name, and its subscripts.
     Local(&'t Name, Subscripts),
+    /// A node of a global.
+    Node(NodeKey),
 }
 
-// The place of a reference, whether it is read or written there.
-pub fn resolved<'t>(pending: Pending<'t>) -> Result<Place<'t>, Code>
-    ensures reading { Yields fault_of (resolve reading (pending_view pending.entry)) place_view result }
-    ensures writing { Yields fault_of (resolve writing (pending_view pending.entry)) place_view result }
-{
-    match pending {
-        Pending::Local(name, texts) => match Subscripts::new(texts) {
-            Some(subscripts) => Ok(Place::Local(name, subscripts)),
-            None => Err(Code::Zsub),
-        },
-    }
+// A place that the checks let through for $ORDER: its last subscript may be empty. Contracts see it by `walk_view`.
+#[derive(Drop)]
+pub enum Walk<'t> {
+    Local(&'t Name, Vec<Bytes7>),
+    Node(GlobalNode),
 }
 
-// The texts of a reference's subscripts.
-fn texts_of<'p>(pending: &'p Pending) -> &'p [Bytes7]
-    ensures { result.now ≡ texts_of pending.now }
+// Whether these can be the subscripts of $ORDER, which takes an empty last one.
+pub fn check_walk(texts: &[Bytes7]) -> Result<(), Code>
+    ensures checked { Yields fault_of (checked ordering texts.now) (λ u. u) result }
+    ensures walk { IfOk result (λ _. AreOrderSubscripts texts.now) }
 {
-    match pending {
-        Pending::Local(_, texts) => texts,
-    }
-}
-
-// Whether a reference can be that of $ORDER, which takes an empty last subscript.
-pub fn check_walk(pending: &Pending) -> Result<(), Code>
-    ensures ordering { Yields fault_of (resolve ordering (pending_view pending.now)) (λ _. place_of (pending_view pending.now)) result }
-    ensures walk { IfOk result (λ _. IsWalk pending.now) }
-{
-    let texts = texts_of(pending);
     if texts.is_empty() {
         return Err(Code::Zarg);
     }

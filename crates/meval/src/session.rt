@@ -3,7 +3,7 @@ ghost use Rattle.std.specs.Prelude.{◌≡◌};
 ghost use Rattle.mmeaning.specs.Step.{new_session};
 ghost use Rattle.meval.specs.Sessions.{session_of};
 
-use mkey::NodeKey;
+use crate::global_node::GlobalNode;
 use mlocal::Locals;
 use std::alloc::Global;
 
@@ -13,7 +13,7 @@ pub struct Session {
     /// The local variables.
     pub locals: Locals,
     /// The naked indicator: the node that was referred to last.
-    pub naked: Option<NodeKey>,
+    pub naked: Option<GlobalNode>,
     /// `$TEST`.
     pub test: bool,
 }

@@ -5,8 +5,9 @@ ghost use Rattle.mspec.specs.Scopes.{killed_except, newed, newed_except};
 ghost use Rattle.mmeaning.specs.Variables as variables;
 ghost use Rattle.mmeaning.specs.LineMeaning as line;
 ghost use Rattle.mnum.specs.Num.{units};
-ghost use Rattle.meval.specs.Evaluates.{Evaluates, KeepsEval};
-ghost use Rattle.meval.specs.Places.{place_view};
+ghost use Rattle.mspec.specs.Access.{Write};
+ghost use Rattle.meval.specs.Evaluates.{Evaluates, KeepsEval, standing_of};
+ghost use Rattle.meval.specs.Places.{place_view, IsOpen};
 
 use crate::eval::Eval;
 use crate::place::Place;
@@ -29,13 +30,15 @@ fn copied(alloc: Global, names: &[Name]) -> Result<Vec<Name>, AllocError>
 }
 
 impl<'a, S: NodeStore> Eval<'a, S> {
-    /// Gives a place a value.
+    /// Gives a place that may be changed a value.
     ///
     /// # Errors
     ///
-    /// `Zmem` for want of memory; the variable is then as it was.
+    /// `Zmem` for want of memory, and `Zstore` where the store refuses; the variable is then as it was. `Zlong` where a global is to have
+    /// more than 4,095 characters.
     #[tactic(auto, unfolding(mspec::specs::Act::assigned_to))]
-    pub fn put(&mut self, place: &Place, value: Value) -> Result<(), Code>
+    pub fn put(&mut self, alloc: Global, place: &Place, value: Value) -> Result<(), Code>
+        requires { IsOpen (standing_of self.old) Write (place_view place.now) }
         ensures loans { KeepsEval self.old self.new }
         ensures fewer { self.new.steps ≤ self.old.steps }
         ensures does { Evaluates S.NodeStore (λ i. variables.put_at (place_view place.now) value) (λ u. u) self.old result self.new }
@@ -45,15 +48,20 @@ impl<'a, S: NodeStore> Eval<'a, S> {
                 self.session.locals.set(name, subscripts.as_slice(), value)?;
                 Ok(())
             }
+            Place::Node(key) => {
+                let text = value.into_text(alloc)?;
+                self.put_node(key, &text)
+            }
         }
     }
 
-    /// Takes the texts of a place, and of what stands below it, away.
+    /// Takes the texts of a place that may be changed, and of what stands below it, away.
     ///
     /// # Errors
     ///
-    /// `Zmem` for want of memory; the variable is then as it was.
+    /// `Zmem` for want of memory, and `Zstore` where the store refuses; the variable is then as it was.
     pub fn kill(&mut self, place: &Place) -> Result<(), Code>
+        requires { IsOpen (standing_of self.old) Write (place_view place.now) }
         ensures loans { KeepsEval self.old self.new }
         ensures fewer { self.new.steps ≤ self.old.steps }
         ensures does { Evaluates S.NodeStore (λ i. variables.kill_at (place_view place.now)) (λ u. u) self.old result self.new }
@@ -63,6 +71,7 @@ impl<'a, S: NodeStore> Eval<'a, S> {
                 self.session.locals.kill(name, subscripts.as_slice())?;
                 Ok(())
             }
+            Place::Node(key) => self.kill_node(key),
         }
     }
 

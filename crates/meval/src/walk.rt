@@ -48,6 +48,16 @@ pub fn first_or_empty(alloc: Global, values: Vec<Value>) -> Value
     }
 }
 
+// What $ORDER gives: the subscript that was found, or the empty text.
+pub fn next_value(alloc: Global, next: Option<Bytes7>) -> Value
+    ensures { result ≡ unwrap_or next [] }
+{
+    match next {
+        Some(text) => Value::of_text(text),
+        None => Value::of_text(Bytes7::empty(alloc)),
+    }
+}
+
 // The texts of values.
 pub fn texts(alloc: Global, values: Vec<Value>) -> Result<Vec<Bytes7>, AllocError>
     ensures { IfOk result (λ texts. texts.items ≡ values.items) }

@@ -1,9 +1,11 @@
-use Rattle.std.proofs.Common.{◌∙◌, sym, ap, arith, Vec, Global}
+use Rattle.std.proofs.Common.{◌∙◌, sym, arith, Vec, Global}
 use Rattle.mmeaning.proofs.Calls.{residual_is}
-use Rattle.mmeaning.specs.Variables.{of_local}
-use Rattle.mspec.specs.Act.{Text}
+use Rattle.mspec.specs.Act.{Text, give}
+use Rattle.mtree.specs.Tree.{reference_tree}
+use Rattle.meval.specs.Places.{named}
 use Rattle.moperator.proofs.Numbers.{computed_outcome}
 use Rattle.meval.proofs.Calls.{evaluates_then, evaluates_failed, evaluates_gives, evaluates_stopped, evaluates_wanting, evaluates_yielded, keeps_itself, keeps_on}
+use Rattle.meval.proofs.References.{as_evaluated, gives_named}
 use Rattle.meval.proofs.TreeViews.{expr_is, operand_is, number_is, text_is, special_is, reference_is, refer_is, referring_is, bracket_is, call_is, select_is, apply_is, matches_is, matches_not_is}
 use Rattle.meval.proofs.Trees.{charge_failed, from_step, from_end, next_value, value_failed, values_end, next_choice, is_chosen, not_chosen, none_chosen}
 use Rattle.meval.proofs.eval.Eval.+eval.Goals as goal
@@ -73,13 +75,13 @@ pub primary-returns-in_err-place-in-Reference-clause-does : goal.primary-returns
 primary-returns-in_err-place-in-Reference-clause-does g t c =
     rw (c.in-Reference.is, reference_is c.in-Reference.reference)
     (evaluates_then _ c.in_ok-charge.ensures.does
-    (evaluates_then _ c.in_ok-pending-in-Reference.ensures.does (evaluates_stopped _ (evaluates_yielded c.in_err-place-in-Reference.ensures.reading) c.from_residual-in_err-place-in-Reference.ensures)))
+    (evaluates_then _ c.in_ok-pending-in-Reference.ensures.does (evaluates_stopped _ c.in_err-place-in-Reference.ensures.does c.from_residual-in_err-place-in-Reference.ensures)))
 
 pub primary-returns-in_ok-place-in-Reference-clause-does : goal.primary-returns-in_ok-place-in-Reference-clause-does
 primary-returns-in_ok-place-in-Reference-clause-does g t c =
     rw (c.in-Reference.is, reference_is c.in-Reference.reference)
     (evaluates_then _ c.in_ok-charge.ensures.does
-    (evaluates_then _ c.in_ok-pending-in-Reference.ensures.does (evaluates_then _ (evaluates_yielded c.in_ok-place-in-Reference.ensures.reading) c.read.ensures.does)))
+    (evaluates_then _ c.in_ok-pending-in-Reference.ensures.does (evaluates_then _ c.in_ok-place-in-Reference.ensures.does c.read.ensures.does)))
 
 pub primary-returns-in-Refer-clause-does : goal.primary-returns-in-Refer-clause-does
 primary-returns-in-Refer-clause-does g t c =
@@ -89,14 +91,25 @@ primary-returns-in-Refer-clause-does g t c =
 -- ---- references
 
 pub evaluated-returns-in_err-values-clause-does : goal.evaluated-returns-in_err-values-clause-does
-evaluated-returns-in_err-values-clause-does g t c = rw c.local_parts.ensures (evaluates_stopped _ c.in_err-values.ensures.does c.from_residual.ensures)
+evaluated-returns-in_err-values-clause-does g t c =
+    let k = rw c.subscripts_of.ensures at c.in_err-values.ensures.does in
+    as_evaluated _ (evaluates_stopped (λ i xs. give (named i.account (reference_tree c.args.reference.now) xs)) k c.from_residual.ensures)
 
 pub evaluated-returns-in_err-texts-clause-does : goal.evaluated-returns-in_err-texts-clause-does
-evaluated-returns-in_err-texts-clause-does g t c = rw c.local_parts.ensures (evaluates_then _ c.in_ok-values.ensures.does (evaluates_wanting _ _ _ c.from_residual-in_err-texts.ensures))
+evaluated-returns-in_err-texts-clause-does g t c =
+    let k = rw c.subscripts_of.ensures at c.in_ok-values.ensures.does in
+    as_evaluated _ (evaluates_then (λ i xs. give (named i.account (reference_tree c.args.reference.now) xs)) k (evaluates_wanting _ _ _ c.from_residual-in_err-texts.ensures))
+
+pub evaluated-returns-in_err-pending-clause-does : goal.evaluated-returns-in_err-pending-clause-does
+evaluated-returns-in_err-pending-clause-does g t c =
+    let k = rw c.subscripts_of.ensures at c.in_ok-values.ensures.does in
+    as_evaluated _ (evaluates_then (λ i xs. give (named i.account (reference_tree c.args.reference.now) xs)) k (evaluates_wanting _ _ _ c.from_residual-in_err-pending.ensures))
 
 pub evaluated-returns-clause-does : goal.evaluated-returns-clause-does
 evaluated-returns-clause-does g t c =
-    rw c.local_parts.ensures (evaluates_then _ c.in_ok-values.ensures.does (evaluates_gives _ _ _ (ap (λ xs. of_local c.local_parts.result.0.now xs) c.in_ok-texts.ensures)))
+    let k = rw c.subscripts_of.ensures at c.in_ok-values.ensures.does in
+    let is = rw c.in_ok-texts.ensures at c.in_ok-pending.ensures in
+    as_evaluated _ (evaluates_then (λ i xs. give (named i.account (reference_tree c.args.reference.now) xs)) k (gives_named _ _ _ is))
 
 -- ---- functions of a variable
 
@@ -118,37 +131,37 @@ referring-returns-in_err-pending-in-Get-clause-does g t c =
 pub referring-returns-in_err-place-in-Get-clause-does : goal.referring-returns-in_err-place-in-Get-clause-does
 referring-returns-in_err-place-in-Get-clause-does g t c =
     let is = rw (c.in-Get.is, c.as_bytes.ensures.bytes) at c.in-Some.ensures in
-    rw (sym is) (evaluates_then _ c.in_ok-pending-in-Get.ensures.does (evaluates_stopped _ (evaluates_yielded c.in_err-place-in-Get.ensures.reading) c.from_residual-in_err-place-in-Get.ensures))
+    rw (sym is) (evaluates_then _ c.in_ok-pending-in-Get.ensures.does (evaluates_stopped _ c.in_err-place-in-Get.ensures.does c.from_residual-in_err-place-in-Get.ensures))
 
 pub referring-returns-in_err-more-in-Get-clause-does : goal.referring-returns-in_err-more-in-Get-clause-does
 referring-returns-in_err-more-in-Get-clause-does g t c =
     let is = rw (c.in-Get.is, c.as_bytes.ensures.bytes) at c.in-Some.ensures in
-    rw (sym is) (evaluates_then _ c.in_ok-pending-in-Get.ensures.does (evaluates_then _ (evaluates_yielded c.in_ok-place-in-Get.ensures.reading) (evaluates_stopped _ (rw c.deref.ensures.value at c.in_err-more-in-Get.ensures.does) c.from_residual-in_err-more-in-Get.ensures)))
+    rw (sym is) (evaluates_then _ c.in_ok-pending-in-Get.ensures.does (evaluates_then _ c.in_ok-place-in-Get.ensures.does (evaluates_stopped _ (rw c.deref.ensures.value at c.in_err-more-in-Get.ensures.does) c.from_residual-in_err-more-in-Get.ensures)))
 
 pub referring-returns-in_ok-more-in-Get-clause-does : goal.referring-returns-in_ok-more-in-Get-clause-does
 referring-returns-in_ok-more-in-Get-clause-does g t c =
     let is = rw (c.in-Get.is, c.as_bytes.ensures.bytes) at c.in-Some.ensures in
-    rw (sym is) (evaluates_then _ c.in_ok-pending-in-Get.ensures.does (evaluates_then _ (evaluates_yielded c.in_ok-place-in-Get.ensures.reading) (evaluates_then _ (rw c.deref.ensures.value at c.in_ok-more-in-Get.ensures.does) c.read_or.ensures.does)))
+    rw (sym is) (evaluates_then _ c.in_ok-pending-in-Get.ensures.does (evaluates_then _ c.in_ok-place-in-Get.ensures.does (evaluates_then _ (rw c.deref.ensures.value at c.in_ok-more-in-Get.ensures.does) c.read_or.ensures.does)))
 
 pub referring-returns-in_err-pending-in-Order-clause-does : goal.referring-returns-in_err-pending-in-Order-clause-does
 referring-returns-in_err-pending-in-Order-clause-does g t c =
     let is = rw (c.in-Order.is, c.as_bytes.ensures.bytes) at c.in-Some.ensures in
     rw (sym is) (evaluates_stopped _ c.in_err-pending-in-Order.ensures.does c.from_residual-in_err-pending-in-Order.ensures)
 
-pub referring-returns-in_err-check_walk-in-Order-clause-does : goal.referring-returns-in_err-check_walk-in-Order-clause-does
-referring-returns-in_err-check_walk-in-Order-clause-does g t c =
+pub referring-returns-in_err-walk-in-Order-clause-does : goal.referring-returns-in_err-walk-in-Order-clause-does
+referring-returns-in_err-walk-in-Order-clause-does g t c =
     let is = rw (c.in-Order.is, c.as_bytes.ensures.bytes) at c.in-Some.ensures in
-    rw (sym is) (evaluates_then _ c.in_ok-pending-in-Order.ensures.does (evaluates_stopped _ (evaluates_yielded c.in_err-check_walk-in-Order.ensures.ordering) c.from_residual-in_err-check_walk-in-Order.ensures))
+    rw (sym is) (evaluates_then _ c.in_ok-pending-in-Order.ensures.does (evaluates_stopped _ c.in_err-walk-in-Order.ensures.does c.from_residual-in_err-walk-in-Order.ensures))
 
 pub referring-returns-in_err-more-in-Order-clause-does : goal.referring-returns-in_err-more-in-Order-clause-does
 referring-returns-in_err-more-in-Order-clause-does g t c =
     let is = rw (c.in-Order.is, c.as_bytes.ensures.bytes) at c.in-Some.ensures in
-    rw (sym is) (evaluates_then _ c.in_ok-pending-in-Order.ensures.does (evaluates_then _ (evaluates_yielded c.in_ok-check_walk-in-Order.ensures.ordering) (evaluates_stopped _ (rw c.deref-in-Order.ensures.value at c.in_err-more-in-Order.ensures.does) c.from_residual-in_err-more-in-Order.ensures)))
+    rw (sym is) (evaluates_then _ c.in_ok-pending-in-Order.ensures.does (evaluates_then _ c.in_ok-walk-in-Order.ensures.does (evaluates_stopped _ (rw c.deref-in-Order.ensures.value at c.in_err-more-in-Order.ensures.does) c.from_residual-in_err-more-in-Order.ensures)))
 
 pub referring-returns-in_ok-more-in-Order-clause-does : goal.referring-returns-in_ok-more-in-Order-clause-does
 referring-returns-in_ok-more-in-Order-clause-does g t c =
     let is = rw (c.in-Order.is, c.as_bytes.ensures.bytes) at c.in-Some.ensures in
-    rw (sym is) (evaluates_then _ c.in_ok-pending-in-Order.ensures.does (evaluates_then _ (evaluates_yielded c.in_ok-check_walk-in-Order.ensures.ordering) (evaluates_then _ (rw c.deref-in-Order.ensures.value at c.in_ok-more-in-Order.ensures.does) (rw c.deref-in-Order-2.ensures.value at c.order.ensures.does))))
+    rw (sym is) (evaluates_then _ c.in_ok-pending-in-Order.ensures.does (evaluates_then _ c.in_ok-walk-in-Order.ensures.does (evaluates_then _ (rw c.deref-in-Order.ensures.value at c.in_ok-more-in-Order.ensures.does) (rw c.deref-in-Order-2.ensures.value at c.order.ensures.does))))
 
 -- ---- steps
 

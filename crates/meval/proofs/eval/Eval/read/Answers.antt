@@ -14,4 +14,4 @@ returns-in-Some-clause-does g c =
 pub returns-in-None-clause-does : goal.returns-in-None-clause-does
 returns-in-None-clause-does g c =
     let found = rw c.in-None.is at c.in_ok-value.ensures.does in
-    rw (read_is (place_view c.args.place.now)) (evaluates_then _ found (evaluates_fails _ _ _ refl))
+    rw (read_is (place_view c.args.place.now)) (evaluates_then _ found (evaluates_fails _ _ _ c.undefined.ensures))

@@ -1,4 +1,7 @@
 use Rattle.meval.proofs.Calls.{evaluates_then, evaluates_stopped, evaluates_gives, evaluates_wanting}
+use Rattle.meval.specs.Evaluates.{standing_of}
+use Rattle.meval.specs.Places.{place_view}
+use Rattle.meval.proofs.Asking.{writing_reads}
 use Rattle.meval.proofs.eval.Eval.text_or_empty.Goals as goal
 
 pub returns-in_err-value-clause-does : goal.returns-in_err-value-clause-does
@@ -18,3 +21,6 @@ pub returns-in-None-clause-does : goal.returns-in-None-clause-does
 returns-in-None-clause-does g c =
     let found = rw c.in-None.is at c.in_ok-value.ensures.does in
     evaluates_then _ found (evaluates_gives _ _ _ c.empty.ensures)
+
+pub found-requires : goal.found-requires
+found-requires g c = writing_reads (standing_of c.args.self.now) (place_view c.args.place.now) c.requires

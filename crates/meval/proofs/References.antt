@@ -1,0 +1,54 @@
+-- What is left of a reference behind the values of its subscripts, and what the checks let through as a walk.
+use Rattle.std.proofs.Common.{◌≡◌, ℕ, zero, suc, ◌<◌, false, List, [], ◌∷◌, length, Result, Ok, Err, subst, refl, sym, arith}
+use Rattle.std.specs.Prelude.{◌==◌}
+use Rattle.std.proofs.lemmas.Bool.{false≢true}
+use Rattle.mspec.specs.Act.{Text, ◌>>=◌, ◌>>◌, give, unless}
+use Rattle.mspec.specs.Code as spec
+use Rattle.mspec.specs.Trees.{AreOrderSubscripts}
+use Rattle.mspec.specs.Subscripts.{are_order_subscripts}
+use Rattle.mspec.proofs.SubscriptTests.{order_subscripts_test}
+use Rattle.mgrammar.specs.Grammar.{ReferenceTree, local, global, naked}
+use Rattle.mmeaning.specs.Expression.{values, evaluated}
+use Rattle.mmeaning.specs.Variables.{Evaluated, checked, ordering, some_subscript}
+use Rattle.mmeaning.specs.Yields.{Yields}
+use Rattle.mmeaning.proofs.Calls.{did_gives}
+use Rattle.mstore.specs.declared.store.NodeStore.{Ghosts}
+use Rattle.moperator.specs.Codes.{fault_of}
+use Rattle.moperator.specs.declared.code.Code.{Code}
+use Rattle.moperator.specs.declared.code.Code.TheVariants.{Zsub}
+use Rattle.meval.specs.declared.eval.Eval.{Eval}
+use Rattle.meval.specs.declared.place.Pending.{Pending}
+use Rattle.meval.specs.Evaluates.{Evaluates, standing_of}
+use Rattle.meval.specs.Places.{pending_view, subscripts_tree, named}
+
+-- ---- references
+
+pub as_evaluated : {S X : Type 0} {g : Ghosts S} {f : X → Evaluated} {old new : Eval S} {res : Result X Code} (r : ReferenceTree)
+    → Evaluates g (λ i. values i [] (subscripts_tree r) >>= (λ xs. give (named i.account r xs))) f old res new → Evaluates g (λ i. evaluated i r) f old res new
+as_evaluated (local name subscripts) d = d
+as_evaluated (global name subscripts) d = d
+as_evaluated (naked subscripts) d = d
+
+pub gives_named : {S : Type 0} {g : Ghosts S} {e : Eval S} (r : ReferenceTree) (xs : List Text) (p : Pending) → pending_view p ≡ named (standing_of e).account r xs
+    → Evaluates g (λ i. give (named i.account r xs)) pending_view e (Ok p) e
+gives_named {e = e} r xs p is = record {
+  at = λ sound out locks. did_gives (named (standing_of e).account r xs) pending_view p is;
+  same = refl;
+  depth = refl;
+}
+
+-- ---- walks
+
+pub walks : (xs : List Text) → AreOrderSubscripts xs → Yields {E = Code} fault_of (checked ordering xs) (λ (u : Unit {0}). u) (Ok tt)
+walks [] are = let some = are.some in absurd (omega (arith, some))
+walks (x ∷ xs) are =
+    subst (λ b. Yields {E = Code} fault_of (unless spec.Zsub b >> some_subscript (x ∷ xs)) (λ (u : Unit {0}). u) (Ok tt)) (sym (order_subscripts_test (x ∷ xs) are))
+    (record { ends = λ s. refl })
+
+pub no_walk : (xs : List Text) → 0 < length xs → are_order_subscripts xs ≡ false → Yields fault_of (checked ordering xs) (λ (u : Unit {0}). u) (Err Zsub)
+no_walk [] some is = absurd (omega (arith, some))
+no_walk (x ∷ xs) some is = subst (λ b. Yields fault_of (unless spec.Zsub b >> some_subscript (x ∷ xs)) (λ (u : Unit {0}). u) (Err Zsub)) (sym is) (record { ends = λ s. refl })
+
+pub not_empty : (n : ℕ) → false ≡ (n == 0) → 0 < n
+not_empty zero e = absurd (false≢true e)
+not_empty (suc n) e = omega arith

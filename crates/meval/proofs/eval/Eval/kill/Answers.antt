@@ -1,0 +1,4 @@
+use Rattle.meval.proofs.eval.Eval.kill.Goals as goal
+
+pub returns-in-Node-clause-does : goal.returns-in-Node-clause-does
+returns-in-Node-clause-does g c = rw c.in-Node.is c.kill_node.ensures.does

@@ -1,0 +1,27 @@
+use Rattle.std.proofs.Common.{refl}
+use Rattle.mspec.specs.Act.{give}
+use Rattle.mmeaning.specs.Variables.{at_local, node_place, ordering}
+use Rattle.meval.specs.Places.{walk_view}
+use Rattle.meval.proofs.Calls.{evaluates_then, evaluates_stopped, evaluates_gives, evaluates_yielded}
+use Rattle.meval.proofs.eval.Eval.walked.Goals as goal
+
+pub returns-in_err-check_walk-in-Local-clause-does : goal.returns-in_err-check_walk-in-Local-clause-does
+returns-in_err-check_walk-in-Local-clause-does g c =
+    let refused = rw c.deref.ensures.value at c.in_err-check_walk-in-Local.ensures.checked in
+    rw c.in-Local.is (evaluates_stopped (λ i _. give (at_local c.in-Local.name.now c.in-Local.texts.items)) (evaluates_yielded refused) c.from_residual.ensures)
+
+pub returns-in_ok-check_walk-in-Local-clause-does : goal.returns-in_ok-check_walk-in-Local-clause-does
+returns-in_ok-check_walk-in-Local-clause-does g c =
+    let passed = rw c.deref.ensures.value at c.in_ok-check_walk-in-Local.ensures.checked in
+    rw c.in-Local.is
+    (evaluates_then (λ i _. give (at_local c.in-Local.name.now c.in-Local.texts.items)) (evaluates_yielded passed)
+    (evaluates_gives (at_local c.in-Local.name.now c.in-Local.texts.items) walk_view _ refl))
+
+pub returns-in-Global-clause-does : goal.returns-in-Global-clause-does
+returns-in-Global-clause-does g c = rw c.in-Global.is c.node_walk.ensures.does
+
+pub returns-in_err-node-in-Naked-clause-does : goal.returns-in_err-node-in-Naked-clause-does
+returns-in_err-node-in-Naked-clause-does g c = rw c.in-Naked.is (evaluates_stopped (λ i n. node_place ordering n) c.in_err-node-in-Naked.ensures c.from_residual-in_err-node-in-Naked.ensures)
+
+pub returns-in_ok-node-in-Naked-clause-does : goal.returns-in_ok-node-in-Naked-clause-does
+returns-in_ok-node-in-Naked-clause-does g c = rw c.in-Naked.is (evaluates_then (λ i n. node_place ordering n) c.in_ok-node-in-Naked.ensures c.node_walk-in-Naked.ensures.does)

@@ -1,0 +1,109 @@
+// What is asked of globals, each by one operation.
+ghost use Rattle.std.specs.Prelude.{◌≡◌, ◌≤◌};
+ghost use Rattle.mspec.specs.Access.{Read, Write};
+ghost use Rattle.mspec.specs.Act.{ask};
+ghost use Rattle.mspec.specs.KeyBytes.{IsAccountName};
+ghost use Rattle.mspec.specs.Plan.{Value, Status, Neighbour, Kill};
+ghost use Rattle.mspec.specs.Trees.{AreOrderSubscripts};
+ghost use Rattle.mkey.specs.Way.{way};
+ghost use Rattle.mmeaning.specs.Variables.{at_node, put_at};
+ghost use Rattle.meval.specs.Evaluates.{Evaluates, KeepsEval, standing_of};
+ghost use Rattle.meval.specs.Places.{IsOpen, status_view};
+ghost use Rattle.meval.specs.Stores.{store_code};
+
+use crate::eval::Eval;
+use crate::global_node::GlobalNode;
+use mglobal::{neighbour, status};
+use mkey::{Data, Direction, NodeKey};
+use mnum::{Bytes7, LONGEST_TEXT};
+use moperator::Code;
+use mstore::{NodeStore, StoreFault};
+use std::alloc::Global;
+
+// A fault of a store as the code that ends the line.
+fn code_of(fault: StoreFault) -> Code
+    ensures { result ≡ store_code fault }
+{
+    match fault {
+        StoreFault::Memory => Code::Zmem,
+        StoreFault::Store => Code::Zstore,
+    }
+}
+
+impl<'a, S: NodeStore> Eval<'a, S> {
+    // The text at a node, where there is one.
+    pub(crate) fn node_text(&mut self, key: &NodeKey) -> Result<Option<Bytes7>, Code>
+        requires { IsOpen (standing_of self.old) Read (at_node key.now) }
+        ensures loans { KeepsEval self.old self.new }
+        ensures fewer { self.new.steps ≤ self.old.steps }
+        ensures does { Evaluates S.NodeStore (λ i. ask (Value key.now)) (λ text. text) self.old result self.new }
+    {
+        match self.store.get(key) {
+            Ok(text) => Ok(text),
+            Err(fault) => Err(code_of(fault)),
+        }
+    }
+
+    // Whether a node has a text, and whether one below it has one.
+    pub(crate) fn node_status(&mut self, alloc: Global, key: &NodeKey) -> Result<Data, Code>
+        requires { IsOpen (standing_of self.old) Read (at_node key.now) }
+        ensures loans { KeepsEval self.old self.new }
+        ensures fewer { self.new.steps ≤ self.old.steps }
+        ensures does { Evaluates S.NodeStore (λ i. ask (Status key.now)) status_view self.old result self.new }
+    {
+        match status(self.store, alloc, key) {
+            Ok(data) => Ok(data),
+            Err(fault) => Err(code_of(fault)),
+        }
+    }
+
+    // The subscript next to the last one of a node.
+    pub(crate) fn node_neighbour(
+        &mut self,
+        alloc: Global,
+        node: &GlobalNode,
+        direction: Direction,
+    ) -> Result<Option<Bytes7>, Code>
+        requires account { IsAccountName node.now.account }
+        requires subscripts { AreOrderSubscripts node.now.subscripts }
+        requires allowed { IsOpen (standing_of self.old) Read (at_node node.now) }
+        ensures loans { KeepsEval self.old self.new }
+        ensures fewer { self.new.steps ≤ self.old.steps }
+        ensures does { Evaluates S.NodeStore (λ i. ask (Neighbour (way direction) node.now)) (λ next. next) self.old result self.new }
+    {
+        let (account, name, subscripts) = (node.account(), node.name(), node.subscripts());
+        match neighbour(self.store, alloc, account, name, subscripts, direction) {
+            Ok(next) => Ok(next),
+            Err(fault) => Err(code_of(fault)),
+        }
+    }
+
+    // Gives a node a text. What stands below it stays.
+    pub(crate) fn put_node(&mut self, key: &NodeKey, text: &Bytes7) -> Result<(), Code>
+        requires { IsOpen (standing_of self.old) Write (at_node key.now) }
+        ensures loans { KeepsEval self.old self.new }
+        ensures fewer { self.new.steps ≤ self.old.steps }
+        ensures does { Evaluates S.NodeStore (λ i. put_at (at_node key.now) text.now) (λ u. u) self.old result self.new }
+    {
+        if text.as_bytes().len() > LONGEST_TEXT {
+            return Err(Code::Zlong);
+        }
+        match self.store.put(key, text) {
+            Ok(()) => Ok(()),
+            Err(fault) => Err(code_of(fault)),
+        }
+    }
+
+    // Takes the text of a node, and of what stands below it, away.
+    pub(crate) fn kill_node(&mut self, key: &NodeKey) -> Result<(), Code>
+        requires { IsOpen (standing_of self.old) Write (at_node key.now) }
+        ensures loans { KeepsEval self.old self.new }
+        ensures fewer { self.new.steps ≤ self.old.steps }
+        ensures does { Evaluates S.NodeStore (λ i. ask (Kill key.now)) (λ u. u) self.old result self.new }
+    {
+        match self.store.kill(key) {
+            Ok(()) => Ok(()),
+            Err(fault) => Err(code_of(fault)),
+        }
+    }
+}

@@ -1,0 +1,175 @@
+// From what a reference evaluates to the place that it names, by the checks in their order.
+ghost use Rattle.std.specs.Prelude.{◌≡◌, ◌≤◌, IfOk, Ok, Some};
+ghost use Rattle.mspec.specs.Access.{Read};
+ghost use Rattle.mspec.specs.Act.{set_naked, give};
+ghost use Rattle.mspec.specs.KeyBytes.{IsAccountName};
+ghost use Rattle.mtree.specs.Tree.{reference_tree};
+ghost use Rattle.mgrant.specs.Placed.{mode_of};
+ghost use Rattle.mmeaning.specs.Variables as variables;
+ghost use Rattle.meval.specs.Evaluates.{Evaluates, KeepsEval, standing_of};
+ghost use Rattle.meval.specs.Places.{pending_view, place_view, walk_view, use_of, named, IsWalk, IsOpen};
+
+use crate::eval::Eval;
+use crate::global_node::GlobalNode;
+use crate::place::{Pending, Place, Subscripts, Walk, check_walk};
+use mgrant::Mode;
+use mkey::is_account_name;
+use mnum::{Bytes7, Name};
+use moperator::Code;
+use mstore::NodeStore;
+use mtree::Reference;
+use std::alloc::{AllocError, Global};
+
+impl<'a, S: NodeStore> Eval<'a, S> {
+    // The node of the account's own global of this name.
+    fn own_node(
+        &self,
+        alloc: Global,
+        name: &Name,
+        subscripts: Vec<Bytes7>,
+    ) -> Result<GlobalNode, AllocError>
+        ensures { IfOk result (λ node. node ≡ record { account = (standing_of self.now).account; name = name.now; subscripts = subscripts.items }) }
+    {
+        let account = Bytes7::from_slice(alloc, self.settings.name_of(self.account))?;
+        Ok(GlobalNode::new(account, name.copy()?, subscripts))
+    }
+
+    // What a reference is, once its subscripts have these texts.
+    pub(crate) fn pending<'t>(
+        &self,
+        alloc: Global,
+        reference: &'t Reference,
+        texts: Vec<Bytes7>,
+    ) -> Result<Pending<'t>, AllocError>
+        ensures { IfOk result (λ pending. pending_view pending ≡ named (standing_of self.now).account (reference_tree reference.now) texts.items) }
+    {
+        match reference {
+            Reference::Local(name, _) => Ok(Pending::Local(name, texts)),
+            Reference::Global(name, _) => {
+                let node = self.own_node(alloc, name, texts)?;
+                Ok(Pending::Global(node))
+            }
+            Reference::Naked(_) => Ok(Pending::Naked(texts)),
+        }
+    }
+
+    // Whether the account may use the global of a node so.
+    fn check(&self, mode: Mode, node: &GlobalNode) -> Result<(), Code>
+        ensures account { IfOk result (λ _. IsAccountName node.now.account) }
+        ensures allowed { IfOk result (λ _. IsOpen (standing_of self.now) (mode_of mode) (variables.at_node node.now)) }
+        ensures does { Evaluates S.NodeStore (λ i. variables.allowed (mode_of mode) node.now) (λ u. u) self.now result self.now }
+    {
+        if !is_account_name(node.account()) {
+            return Err(Code::Zgrant);
+        }
+        let (owner, name) = (node.account().as_bytes(), node.name().as_bytes());
+        if !self.settings.may(self.account, owner, name, mode) {
+            return Err(Code::Zgrant);
+        }
+        Ok(())
+    }
+
+    // The node is the one that was referred to last.
+    fn refer(&mut self, node: GlobalNode)
+        ensures loans { KeepsEval self.old self.new }
+        ensures fewer { self.new.steps ≤ self.old.steps }
+        ensures same { standing_of self.new ≡ standing_of self.old }
+        ensures does { Evaluates S.NodeStore (λ i. set_naked (Some node)) (λ u. u) self.old (Ok tt) self.new }
+    {
+        self.session.naked = Some(node);
+    }
+
+    // The node beside the one that was referred to last.
+    fn beside(&self, alloc: Global, texts: Vec<Bytes7>) -> Result<GlobalNode, Code>
+        ensures { Evaluates S.NodeStore (λ i. variables.beside texts.items) (λ node. node) self.now result self.now }
+    {
+        match &self.session.naked {
+            None => Err(Code::M1),
+            Some(last) => last.beside(alloc, texts),
+        }
+    }
+
+    // The place of a node that is to be read or written.
+    fn node_place<'t>(
+        &mut self,
+        alloc: Global,
+        mode: Mode,
+        node: GlobalNode,
+    ) -> Result<Place<'t>, Code>
+        ensures loans { KeepsEval self.old self.new }
+        ensures fewer { self.new.steps ≤ self.old.steps }
+        ensures allowed { IfOk result (λ place. IsOpen (standing_of self.new) (mode_of mode) (place_view place)) }
+        ensures does { Evaluates S.NodeStore (λ i. variables.node_place (use_of mode) node) place_view self.old result self.new }
+    {
+        self.check(mode, &node)?;
+        let key = node.key(alloc)?;
+        self.refer(node);
+        Ok(Place::Node(key))
+    }
+
+    // The place of a reference that is to be read or written.
+    pub(crate) fn resolved<'t>(
+        &mut self,
+        alloc: Global,
+        mode: Mode,
+        pending: Pending<'t>,
+    ) -> Result<Place<'t>, Code>
+        ensures loans { KeepsEval self.old self.new }
+        ensures fewer { self.new.steps ≤ self.old.steps }
+        ensures allowed { IfOk result (λ place. IsOpen (standing_of self.new) (mode_of mode) (place_view place)) }
+        ensures does { Evaluates S.NodeStore (λ i. variables.resolve (use_of mode) (pending_view pending.entry)) place_view self.old result self.new }
+    {
+        match pending {
+            Pending::Local(name, texts) => match Subscripts::new(texts) {
+                Some(subscripts) => Ok(Place::Local(name, subscripts)),
+                None => Err(Code::Zsub),
+            },
+            Pending::Global(node) => self.node_place(alloc, mode, node),
+            Pending::Naked(texts) => {
+                let node = self.beside(alloc, texts)?;
+                self.node_place(alloc, mode, node)
+            }
+        }
+    }
+
+    // The place of a node of which $ORDER is asked. What stands behind the reference may refer to another, so the walk keeps a node of
+    // its own.
+    fn node_walk<'t>(&mut self, alloc: Global, node: GlobalNode) -> Result<Walk<'t>, Code>
+        ensures loans { KeepsEval self.old self.new }
+        ensures fewer { self.new.steps ≤ self.old.steps }
+        ensures allowed { IfOk result (λ walk. IsOpen (standing_of self.new) Read (walk_view walk)) }
+        ensures walk { IfOk result IsWalk }
+        ensures does { Evaluates S.NodeStore (λ i. variables.node_place variables.ordering node) walk_view self.old result self.new }
+    {
+        self.check(Mode::Read, &node)?;
+        check_walk(node.subscripts())?;
+        let walk = node.copy(alloc)?;
+        self.refer(node);
+        Ok(Walk::Node(walk))
+    }
+
+    // The place of a reference of which $ORDER is asked.
+    pub(crate) fn walked<'t>(
+        &mut self,
+        alloc: Global,
+        pending: Pending<'t>,
+    ) -> Result<Walk<'t>, Code>
+        ensures loans { KeepsEval self.old self.new }
+        ensures fewer { self.new.steps ≤ self.old.steps }
+        ensures allowed { IfOk result (λ walk. IsOpen (standing_of self.new) Read (walk_view walk)) }
+        ensures walk { IfOk result IsWalk }
+        ensures does { Evaluates S.NodeStore (λ i. variables.resolve variables.ordering (pending_view pending.entry)) walk_view self.old result self.new }
+    {
+        match pending {
+            Pending::Local(name, texts) => {
+                check_walk(&texts)?;
+                Ok(Walk::Local(name, texts))
+            }
+            Pending::Global(node) => self.node_walk(alloc, node),
+            Pending::Naked(texts) => {
+                let node = self.beside(alloc, texts)?;
+                self.node_walk(alloc, node)
+            }
+        }
+    }
+}

@@ -1,7 +1,7 @@
 // Conditions: those behind a command's word, and the arguments of IF.
 ghost use Rattle.std.specs.Prelude.{◌≡◌, ◌≤◌, option_map};
 ghost use Rattle.mmeaning.specs.LineMeaning as meaning;
-ghost use Rattle.mtree.specs.Tree.{expr_tree};
+ghost use Rattle.mtree.specs.Tree.{expr_tree, condition_tree};
 ghost use Rattle.mcommand.specs.Does.{Does, KeepsLoans};
 ghost use Rattle.mcommand.specs.Conditions.{tested};
 
@@ -17,10 +17,10 @@ impl<'a, S: NodeStore> Parts<'a, S> {
     /// # Errors
     ///
     /// Those of the condition's value; `Zover` where its number is too large; `Zmem` for want of memory.
-    pub fn holds(&mut self, alloc: Global, condition: &Option<Expr>) -> Result<bool, Code>
+    pub fn holds(&mut self, alloc: Global, condition: &Option<Box<Expr>>) -> Result<bool, Code>
         ensures loans { KeepsLoans self.old self.new }
         ensures fewer { self.new.eval.steps ≤ self.old.eval.steps }
-        ensures does { Does S.NodeStore (λ i. meaning.holds i (option_map expr_tree condition.now)) (λ holds. holds) self.old result self.new }
+        ensures does { Does S.NodeStore (λ i. meaning.holds i (condition_tree condition.now)) (λ holds. holds) self.old result self.new }
     {
         match condition {
             None => Ok(true),

@@ -1,7 +1,7 @@
 // SET: the parts of its targets are evaluated first, then the right side, and then each target is assigned.
 ghost use Rattle.std.specs.Prelude.{◌≡◌, ◌≤◌, [], map, option_map};
 ghost use Rattle.mmeaning.specs.LineMeaning as meaning;
-ghost use Rattle.mtree.specs.Tree.{expr_tree, target_tree, destination_tree};
+ghost use Rattle.mtree.specs.Tree.{expr_tree, piece_tree, target_tree, destination_tree};
 ghost use Rattle.meval.specs.Places.{pending_view};
 ghost use Rattle.mcommand.specs.Does.{Does, KeepsLoans};
 ghost use Rattle.mcommand.specs.Prepared.{prepared_view};
@@ -12,7 +12,7 @@ use mnum::Bytes7;
 use moperator::{Code, whole_number};
 use mstore::NodeStore;
 use mtext::set_piece;
-use mtree::{Destination, Expr, Target};
+use mtree::{Destination, Expr, PieceTarget, Target};
 use mvalue::Value;
 use std::alloc::Global;
 
@@ -41,6 +41,24 @@ impl<'a, S: NodeStore> Parts<'a, S> {
         }
     }
 
+    // What a piece of a variable evaluates. It stands apart, since it is rare.
+    #[inline(never)]
+    fn prepared_part<'t>(
+        &mut self,
+        alloc: Global,
+        part: &'t PieceTarget,
+    ) -> Result<Prepared<'t>, Code>
+        ensures loans { KeepsLoans self.old self.new }
+        ensures fewer { self.new.eval.steps ≤ self.old.eval.steps }
+        ensures does { Does S.NodeStore (λ i. meaning.prepared i (piece_tree part.now)) prepared_view self.old result self.new }
+    {
+        let pending = self.eval.resolve_left(alloc, &part.reference)?;
+        let delimiter = self.eval.eval(alloc, &part.delimiter)?;
+        let place = self.optional_value(alloc, &part.place)?;
+        let delimiter = delimiter.into_text(alloc)?;
+        Ok(Prepared::Part(pending, delimiter, place))
+    }
+
     // What a target evaluates.
     fn prepared<'t>(&mut self, alloc: Global, target: &'t Target) -> Result<Prepared<'t>, Code>
         ensures loans { KeepsLoans self.old self.new }
@@ -52,13 +70,7 @@ impl<'a, S: NodeStore> Parts<'a, S> {
                 let pending = self.eval.resolve_left(alloc, reference)?;
                 Ok(Prepared::Whole(pending))
             }
-            Target::Piece(part) => {
-                let pending = self.eval.resolve_left(alloc, &part.reference)?;
-                let delimiter = self.eval.eval(alloc, &part.delimiter)?;
-                let place = self.optional_value(alloc, &part.place)?;
-                let delimiter = delimiter.into_text(alloc)?;
-                Ok(Prepared::Part(pending, delimiter, place))
-            }
+            Target::Piece(part) => self.prepared_part(alloc, part),
         }
     }
 

@@ -3,15 +3,16 @@ use Rattle.std.proofs.Common.{◌≡◌, ℕ, zero, suc, ◌≤◌, ◌<◌, ◌
 use Rattle.std.proofs.lemmas.List.{drop_more}
 use Rattle.std.specs.Result.{IsErr, IsErrAnd, IfOk}
 use Rattle.mspec.specs.LockConflict.{Locks}
-use Rattle.mspec.specs.Act.{Text, Act, ◌>>=◌, ◌>>◌, give, set_test}
+use Rattle.mspec.specs.Act.{Text, Act, Outcome, Gives, Fails, on_gives, ◌>>=◌, ◌>>◌, give, set_test}
+use Rattle.mspec.specs.Plan.{Plan, Done, Ask, then_plan}
 use Rattle.mgrammar.specs.Grammar.{ExprTree, CommandTree}
 use Rattle.mmeaning.specs.Operators.{as_truth}
 use Rattle.mmeaning.specs.Expression.{Inside, inside, value}
 use Rattle.mmeaning.specs.LineMeaning as meaning
-use Rattle.mmeaning.specs.LineMeaning.{Go_on, after, context}
+use Rattle.mmeaning.specs.LineMeaning.{Context, Go_on, after, context}
 use Rattle.mmeaning.specs.Calls.{Standing, Here, Did}
 use Rattle.mmeaning.specs.Frames.{View, Rests, left, frame, Enough, MovedOn}
-use Rattle.mmeaning.proofs.Calls.{residual_is, did_then, did_failed, did_gives, then_follows, then_failed, assoc}
+use Rattle.mmeaning.proofs.Calls.{residual_is, did_then, did_failed, did_gives, did_lost, then_follows, then_failed, assoc}
 use Rattle.mmeaning.proofs.Moves.{on_then, on_failed, on_lost, on_signal, on_frame, on_top, enough}
 use Rattle.mstore.specs.declared.store.NodeStore.{Ghosts}
 use Rattle.moperator.specs.Codes.{fault_of}
@@ -25,7 +26,7 @@ use Rattle.mcommand.specs.Conditions.{tested}
 use Rattle.mexec.specs.declared.frames.Frame.{Frame}
 use Rattle.mexec.specs.declared.signal.Signal.{Signal}
 use Rattle.mexec.specs.declared.signal.Signal.TheVariants as signal
-use Rattle.mexec.specs.Frames.{Runs, view, stack, stacked, signal_of, went}
+use Rattle.mexec.specs.Frames.{Runs, view, stack, stacked, resting, signal_of, went}
 
 -- ---- acts
 
@@ -53,6 +54,13 @@ at_stopped {g = g} {p = p} q {j = j} {old = old} {new = new} {r = r} d h =
 pub at_gives : {S A X : Type 0} {g : Ghosts S} {parts : Parts S} (a : A) (f : X → A) (x : X) → f x ≡ a → DoesAt g (λ b n. give a) f parts (Ok x) parts
 at_gives a f x same = record {
   at = λ sound locks. did_gives a f x same;
+  same = refl;
+}
+
+-- want of memory
+pub at_lost : {S A X : Type 0} {g : Ghosts S} (p : Text → ℕ → Act A) (f : X → A) {parts : Parts S} → DoesAt g p f parts (Err Zmem) parts
+at_lost p f {parts = parts} = record {
+  at = λ sound locks. did_lost (p (standing_of parts.eval).account) f Zmem tt refl (omega arith);
   same = refl;
 }
 
@@ -200,6 +208,36 @@ runs_rest d l = record {
   fewer = omega arith;
   same = refl;
 }
+
+-- an act that gives what it has
+module _ {A : Type 0} where
+  given_outcome : (o : Outcome A) → on_gives give o ≡ Done o
+  given_outcome (Gives a s) = refl
+  given_outcome (Fails c s) = refl
+
+  given_plan : (p : Plan (Outcome A)) → then_plan p (on_gives give) ≡ p
+  given_plan (Done o) = given_outcome o
+  given_plan (Ask op k) = λ i. Ask op (λ r. given_plan (k r) i)
+
+  given : (p : Act A) → ◌≡◌ {A = Act A} (p >>= give) p
+  given p = λ i s. given_plan (p s) i
+
+-- the empty rest of a line gives the signal again
+nothing_left : (d : Context) (s : meaning.Signal) → ◌≡◌ {A = Act meaning.Signal} (after s (meaning.commands d [])) (give s)
+nothing_left d meaning.Go_on = refl
+nothing_left d meaning.Skips = refl
+nothing_left d meaning.Quits = refl
+nothing_left d meaning.Halts = refl
+nothing_left d (meaning.Goes l) = refl
+
+-- an act before it
+runs_last : {S : Type 0} {g : Ghosts S} {p : Text → ℕ → Act meaning.Signal} (d : meaning.Spot) {fs fs' : List View} {old new : Parts S} {r : Result Signal Code} → Runs g p fs old r fs' new → Runs g (λ a n. p a n >>= frame a n (Rests d [])) fs old r fs' new
+runs_last {p = p} d k = runs_as (λ a n. (λ i. p a n >>= (λ s. nothing_left (context a n d) s i)) ∙ given (p a n)) k
+
+-- an act before the rest of a line that may be empty
+pub runs_resting : {S : Type 0} {g : Ghosts S} {p : Text → ℕ → Act meaning.Signal} (d : meaning.Spot) (l : List CommandTree) {fs fs' : List View} {old new : Parts S} {r : Result Signal Code} → Runs g p (resting d l fs) old r fs' new → Runs g (λ a n. p a n >>= frame a n (Rests d l)) fs old r fs' new
+runs_resting d [] k = runs_last d k
+runs_resting d (c ∷ l) k = runs_frame (Rests d (c ∷ l)) k
 
 -- ---- frames
 

@@ -23,7 +23,6 @@ use Rattle.meval.specs.declared.depth.Depth.{Depth}
 use Rattle.meval.specs.Evaluates.{depth_of}
 use Rattle.mcommand.specs.declared.parts.Parts.{Parts}
 use Rattle.mcommand.specs.Does.{DoesAt}
-use Rattle.mcommand.specs.declared.turn.Course.TheVariants as course
 use Rattle.mcommand.specs.Turns.{course_view, started, added, advanced}
 use Rattle.mexec.specs.declared.signal.Signal.{Signal}
 use Rattle.mexec.specs.declared.signal.Signal.TheVariants as signal
@@ -127,29 +126,22 @@ pub begun_runs : {S : Type 0} {g : Ghosts S} {fs fs' : List View} {old new : Par
     → Runs g (λ a n. begin_turn (context a n (spot_of t.depth)) (record { index = index; course = course_view t.course; parameters = map parameter_tree (drop t.parameter parameters); body = commands_from t.line.value t.at })) fs old r fs' new
 begun_runs t index parameters e k = runs_as (λ a n. ap (begin_turn (context a n (spot_of t.depth))) (sym (turning_of t index parameters e))) k
 
--- the same, once its index and its parameters are known
-abbrev here : Turns → Text → List Parameter → Turning
-here t index parameters = record { index = index; course = course_view t.course; parameters = map parameter_tree (drop t.parameter parameters); body = commands_from t.line.value t.at }
+-- the parameters that are left, once its index and its parameters are known
+pub further_runs : {S : Type 0} {g : Ghosts S} {fs fs' : List View} {old new : Parts S} {r : Result Signal Code} (t : Turns) (index : Text) (parameters : List Parameter) → loop_before t.line.value t.at ≡ (index, parameters)
+    → Runs g (λ a n. next_parameter (context a n (spot_of t.depth)) index (commands_from t.line.value t.at) (map parameter_tree (drop t.parameter parameters))) fs old r fs' new
+    → Runs g (λ a n. next_parameter (context a n (spot_of t.depth)) (turning t).index (turning t).body (turning t).parameters) fs old r fs' new
+further_runs t index parameters e k = runs_as (λ a n. ap (λ u. next_parameter (context a n (spot_of t.depth)) u.index u.body u.parameters) (turning_of t index parameters e)) k
 
-module _ {S : Type 0} {g : Ghosts S} (t : Turns) (index : Text) (parameters : List Parameter) (e : loop_before t.line.value t.at ≡ (index, parameters)) where
-  course_at : {fs fs' : List View} {old new : Parts S} {r : Result Signal Code} → Runs g (λ a n. after_course (context a n (spot_of t.depth)) (here t index parameters) (course_view t.course)) fs old r fs' new
-      → Runs g (λ a n. after_course (context a n (spot_of t.depth)) (turning t) (course_view t.course)) fs old r fs' new
-  course_at k = runs_as (λ a n. ap (λ u. after_course (context a n (spot_of t.depth)) u (course_view t.course)) (turning_of t index parameters e)) k
-
-  pub one_more : {fs fs' : List View} {old mid new : Parts S} {r : Result Signal Code} → DoesAt g (λ a n. advanced index (course_view t.course)) (λ (b : Bool). b) old (Ok true) mid → mid.eval.steps ≤ old.eval.steps
+module _ {S : Type 0} {g : Ghosts S} (t : Turns) {fs fs' : List View} where
+  pub one_more : {old mid new : Parts S} {r : Result Signal Code} → DoesAt g (λ a n. advanced (turning t).index (course_view t.course)) (λ (b : Bool). b) old (Ok true) mid → mid.eval.steps ≤ old.eval.steps
       → Runs g (λ a n. begin_turn (context a n (spot_of t.depth)) (turning t)) fs mid r fs' new → Runs g (λ a n. after_course (context a n (spot_of t.depth)) (turning t) (course_view t.course)) fs old r fs' new
-  one_more does few k = course_at (runs_as (λ a n. course_is (context a n (spot_of t.depth)) (here t index parameters) (course_view t.course)) (runs_then (λ a n. gone_on (context a n (spot_of t.depth)) (here t index parameters)) does few (begun_runs t index parameters e k)))
+  one_more does few k = runs_as (λ a n. course_is (context a n (spot_of t.depth)) (turning t) (course_view t.course)) (runs_then (λ a n. gone_on (context a n (spot_of t.depth)) (turning t)) does few k)
 
-  pub no_more : {fs fs' : List View} {old mid new : Parts S} {r : Result Signal Code} → DoesAt g (λ a n. advanced index (course_view t.course)) (λ (b : Bool). b) old (Ok false) mid → mid.eval.steps ≤ old.eval.steps
-      → Runs g (λ a n. next_parameter (context a n (spot_of t.depth)) index (commands_from t.line.value t.at) (map parameter_tree (drop t.parameter parameters))) fs mid r fs' new
+  pub no_more : {old mid new : Parts S} {r : Result Signal Code} → DoesAt g (λ a n. advanced (turning t).index (course_view t.course)) (λ (b : Bool). b) old (Ok false) mid → mid.eval.steps ≤ old.eval.steps
+      → Runs g (λ a n. next_parameter (context a n (spot_of t.depth)) (turning t).index (turning t).body (turning t).parameters) fs mid r fs' new
       → Runs g (λ a n. after_course (context a n (spot_of t.depth)) (turning t) (course_view t.course)) fs old r fs' new
-  no_more does few k = course_at (runs_as (λ a n. course_is (context a n (spot_of t.depth)) (here t index parameters) (course_view t.course)) (runs_then (λ a n. gone_on (context a n (spot_of t.depth)) (here t index parameters)) does few k))
+  no_more does few k = runs_as (λ a n. course_is (context a n (spot_of t.depth)) (turning t) (course_view t.course)) (runs_then (λ a n. gone_on (context a n (spot_of t.depth)) (turning t)) does few k)
 
-  pub not_gone_on : {fs fs' : List View} {old new : Parts S} {r : Result Signal Code} {c : Code} → DoesAt g (λ a n. advanced index (course_view t.course)) (λ (b : Bool). b) old (Err c) new → new.eval.steps ≤ old.eval.steps → IsErr r × IsErrAnd r (λ x. x ≡ c)
+  pub not_gone_on : {old new : Parts S} {r : Result Signal Code} {c : Code} → DoesAt g (λ a n. advanced (turning t).index (course_view t.course)) (λ (b : Bool). b) old (Err c) new → new.eval.steps ≤ old.eval.steps → IsErr r × IsErrAnd r (λ x. x ≡ c)
       → Runs g (λ a n. after_course (context a n (spot_of t.depth)) (turning t) (course_view t.course)) fs old r fs' new
-  not_gone_on does few h = course_at (runs_as (λ a n. course_is (context a n (spot_of t.depth)) (here t index parameters) (course_view t.course)) (runs_stopped (λ a n. gone_on (context a n (spot_of t.depth)) (here t index parameters)) does few h))
-
--- a FOR that has no end of its own
-pub forever_runs : {S : Type 0} {g : Ghosts S} {fs fs' : List View} {old new : Parts S} {r : Result Signal Code} (t : Turns) → t.course ≡ course.Forever
-    → Runs g (λ a n. begin_turn (context a n (spot_of t.depth)) (turning t)) fs old r fs' new → Runs g (λ a n. after_course (context a n (spot_of t.depth)) (turning t) (course_view t.course)) fs old r fs' new
-forever_runs t e k = runs_as (λ a n. ap (λ c. after_course (context a n (spot_of t.depth)) (turning t) (course_view c)) e) k
+  not_gone_on does few h = runs_as (λ a n. course_is (context a n (spot_of t.depth)) (turning t) (course_view t.course)) (runs_stopped (λ a n. gone_on (context a n (spot_of t.depth)) (turning t)) does few h)

@@ -69,7 +69,7 @@ turning t =
 
 abbrev pub view : Frame → View
 view (frame.Rest r) = Rests (spot_of r.depth) (rest_tree r)
-view (frame.Turns t) = Turns (spot_of t.depth) (turning t)
+view (frame.Turns t) = Turns (spot_of t.value.depth) (turning t.value)
 view (frame.Level d) = Levels (spot_of d)
 
 -- the last frame pushed is on top
@@ -79,6 +79,11 @@ stacked below (f ∷ fs) = stacked (view f ∷ below) fs
 
 abbrev pub stack : List Frame → List View
 stack fs = stacked [] fs
+
+-- the rest of a line on top of frames, where there is some
+abbrev pub resting : Spot → List CommandTree → List View → List View
+resting p [] fs = fs
+resting p (c ∷ cs) fs = Rests p (c ∷ cs) ∷ fs
 
 -- a call does an act before some frames, and leaves frames that have to do what is then left
 pub record Runs {S : Type 0} (g : Ghosts S) (p : Text → ℕ → Act meaning.Signal) (fs : List View) (old : Parts S) (r : Result Signal Code) (fs' : List View) (new : Parts S) : Type 0 where

@@ -4,7 +4,7 @@ ghost use Rattle.mspec.specs.Act.{charge};
 ghost use Rattle.mmeaning.specs.LineMeaning as meaning;
 ghost use Rattle.mmeaning.specs.LineMeaning.{context};
 ghost use Rattle.mmeaning.specs.Expression.{inside};
-ghost use Rattle.mtree.specs.Tree.{arg_tree, expr_tree};
+ghost use Rattle.mtree.specs.Tree.{arg_tree, expr_tree, condition_tree};
 ghost use Rattle.meval.specs.Evaluates.{depth_of};
 ghost use Rattle.mcommand.specs.Does.{DoesAt, KeepsLoans};
 ghost use Rattle.mexec.specs.Frames.{signal_of, spot_of, went};
@@ -32,11 +32,11 @@ pub(crate) fn holds<S: NodeStore>(
     alloc: Global,
     parts: &mut Parts<S>,
     depth: Depth,
-    condition: &Option<Expr>,
+    condition: &Option<Box<Expr>>,
 ) -> Result<bool, Code>
     ensures loans { KeepsLoans parts.old parts.new }
     ensures fewer { parts.new.eval.steps ≤ parts.old.eval.steps }
-    ensures does { DoesAt S.NodeStore (λ a n. meaning.holds (inside a n (depth_of depth)) (option_map expr_tree condition.now)) (λ holds. holds) parts.old result parts.new }
+    ensures does { DoesAt S.NodeStore (λ a n. meaning.holds (inside a n (depth_of depth)) (condition_tree condition.now)) (λ holds. holds) parts.old result parts.new }
 {
     parts.eval.depth = depth;
     parts.holds(alloc, condition)

@@ -27,7 +27,8 @@ pub(crate) struct Turns {
 #[derive(Drop)]
 pub(crate) enum Frame {
     Rest(Rest),
-    Turns(Turns),
+    // in a box, which each turn takes off and puts back
+    Turns(Box<Turns>),
     // a level, which ends with its line
     Level(Depth),
 }

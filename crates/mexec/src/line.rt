@@ -66,8 +66,8 @@ pub(crate) fn run_line<S: NodeStore>(
     ensures fewer { parts.new.eval.steps ≤ parts.old.eval.steps }
     ensures does { DoesAt S.NodeStore (λ a n. meaning.run_within a n (map (λ c. c.0) (line_tree line).commands)) signal_of parts.old result parts.new }
 {
-    let mut frames = Vec::new(alloc);
     let line = Rc::new(alloc, line)?;
+    let mut frames = Vec::with_capacity(alloc, 4)?;
     frames.push(Frame::Level(OUTSET))?;
     frames.push(Frame::Rest(Rest {
         depth: OUTSET,

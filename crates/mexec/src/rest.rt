@@ -1,10 +1,10 @@
 // The rest of a line, a command at a time.
-ghost use Rattle.std.specs.Prelude.{◌≡◌, ◌≤◌, ◌+◌, ◌*◌, [], map, length, IfOk};
+ghost use Rattle.std.specs.Prelude.{◌≡◌, ◌≤◌, ◌+◌, ◌*◌, [], map, length, IfOk, OnOk};
 ghost use Rattle.mmeaning.specs.LineMeaning as meaning;
 ghost use Rattle.mmeaning.specs.LineMeaning.{context};
 ghost use Rattle.mtree.specs.Tree.{keyword_tree, arg_tree, command_tree};
 ghost use Rattle.mcommand.specs.Does.{KeepsLoans};
-ghost use Rattle.mexec.specs.Frames.{Runs, loop_before, loop_in, rest_tree, stack, spot_of};
+ghost use Rattle.mexec.specs.Frames.{Runs, loop_before, loop_in, rest_tree, resting, stack, spot_of};
 
 use crate::commands::{arguments, charge, holds, went_on, where_true};
 use crate::frames::{Frame, Rest, Turns};
@@ -14,10 +14,11 @@ use mcommand::{Course, Parts};
 use moperator::Code;
 use mstore::NodeStore;
 use mtree::{Arg, Command, Keyword};
-use std::alloc::Global;
+use std::alloc::{AllocError, Global};
 
 // Turns of the rest of a line, without an index and without an end.
 fn forever<S: NodeStore>(
+    alloc: Global,
     parts: &mut Parts<S>,
     behind: &Rest,
     frames: &mut Vec<Frame>,
@@ -34,7 +35,7 @@ fn forever<S: NodeStore>(
         parameter: 0,
         course: Course::Forever,
     };
-    begin_turn(parts, turns, frames)
+    begin_turn(parts, Box::new(alloc, turns)?, frames)
 }
 
 // What a command does that has no arguments.
@@ -59,7 +60,7 @@ fn bare<S: NodeStore>(
         Keyword::New => went_on(parts.eval.hide_others(alloc, &[])),
         Keyword::If => Ok(where_true(parts.eval.test())),
         Keyword::Else => Ok(where_true(!parts.eval.test())),
-        Keyword::For => forever(parts, behind, frames),
+        Keyword::For => forever(alloc, parts, behind, frames),
         Keyword::Quit => Ok(Signal::Quits),
         Keyword::Write => Ok(Signal::GoOn),
     }
@@ -117,7 +118,23 @@ fn conditional<S: NodeStore>(
     }
 }
 
-// The next command of a line, where one is left; the rest of the line stays on the frames.
+// Leaves the rest of a line on the frames, unless it is empty.
+fn leave(rest: &Rest, frames: &mut Vec<Frame>) -> Result<(), AllocError>
+    ensures frames { OnOk result (stack frames.new.items ≡ resting (spot_of rest.now.depth) (rest_tree rest.now) (stack frames.old.items)) }
+    ensures most { OnOk result (length frames.new.items ≤ length frames.old.items + 1) }
+{
+    if rest.at >= rest.line.commands.len() {
+        return Ok(());
+    }
+    frames.push(Frame::Rest(Rest {
+        depth: rest.depth,
+        line: rest.line.clone()?,
+        at: rest.at,
+    }))?;
+    Ok(())
+}
+
+// The next command of a line, where one is left; the rest of the line stays on the frames, unless it is empty.
 pub(crate) fn next_command<S: NodeStore>(
     alloc: Global,
     parts: &mut Parts<S>,
@@ -134,11 +151,7 @@ pub(crate) fn next_command<S: NodeStore>(
     }
     charge(parts)?;
     let behind = Rest { at: at + 1, ..rest };
-    frames.push(Frame::Rest(Rest {
-        depth: behind.depth,
-        line: behind.line.clone()?,
-        at: behind.at,
-    }))?;
+    leave(&behind, frames)?;
     let command = &behind.line.commands[at].command;
     conditional(alloc, parts, command, &behind, frames)
 }

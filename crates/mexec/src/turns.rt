@@ -7,7 +7,9 @@ ghost use Rattle.mtree.specs.Tree.{parameter_tree};
 ghost use Rattle.meval.specs.Evaluates.{depth_of};
 ghost use Rattle.mcommand.specs.Does.{DoesAt, KeepsLoans};
 ghost use Rattle.mcommand.specs.Turns.{course_view, started, advanced};
-ghost use Rattle.mexec.specs.Frames.{Runs, commands_from, loop_before as the_loop_before, turning, stack, signal_of, spot_of};
+ghost use Rattle.mmeaning.specs.Frames.{Rests};
+ghost use Rattle.mexec.specs.declared.frames.Frame.TheVariants as frame;
+ghost use Rattle.mexec.specs.Frames.{Runs, commands_from, loop_before as the_loop_before, turning, stack, view, signal_of, spot_of};
 
 use crate::commands::charge;
 use crate::frames::{Frame, Rest, Turns};
@@ -18,7 +20,7 @@ use mnum::Name;
 use moperator::Code;
 use mstore::NodeStore;
 use mtree::{Arg, Line, Parameter};
-use std::alloc::Global;
+use std::alloc::{AllocError, Global};
 
 // The index and the parameters of the FOR before a place of a line, where it has an index.
 fn loop_before(line: &Line, at: usize) -> Option<(&Name, &[Parameter])>
@@ -59,22 +61,29 @@ fn advance<S: NodeStore>(parts: &mut Parts<S>, index: &Name, course: Course) -> 
     parts.advance(index, course)
 }
 
+// The body of a turn.
+fn body(turns: &Turns) -> Result<Rest, AllocError>
+    ensures { IfOk result (λ rest. view (frame.Rest rest) ≡ Rests (spot_of turns.now.depth) (turning turns.now).body) }
+{
+    Ok(Rest {
+        depth: turns.depth,
+        line: turns.line.clone()?,
+        at: turns.at,
+    })
+}
+
 // A turn, which costs a step.
 pub(crate) fn begin_turn<S: NodeStore>(
     parts: &mut Parts<S>,
-    turns: Turns,
+    turns: Box<Turns>,
     frames: &mut Vec<Frame>,
 ) -> Result<Signal, Code>
     ensures loans { KeepsLoans parts.old parts.new }
     ensures falls { IfOk result (λ _. 2 * parts.new.eval.steps + length frames.new.items ≤ 2 * parts.old.eval.steps + length frames.old.items) }
-    ensures does { Runs S.NodeStore (λ a n. meaning.begin_turn (context a n (spot_of turns.depth)) (turning turns)) (stack frames.old.items) parts.old result (stack frames.new.items) parts.new }
+    ensures does { Runs S.NodeStore (λ a n. meaning.begin_turn (context a n (spot_of turns.value.depth)) (turning turns.value)) (stack frames.old.items) parts.old result (stack frames.new.items) parts.new }
 {
     charge(parts)?;
-    let body = Rest {
-        depth: turns.depth,
-        line: turns.line.clone()?,
-        at: turns.at,
-    };
+    let body = body(&turns)?;
     frames.push(Frame::Turns(turns))?;
     frames.push(Frame::Rest(body))?;
     Ok(Signal::GoOn)
@@ -104,6 +113,7 @@ pub(crate) fn next_parameter<S: NodeStore>(
                     course,
                     ..turns
                 };
+                let turns = Box::new(alloc, turns)?;
                 return begin_turn(parts, turns, frames);
             }
         }
@@ -111,8 +121,8 @@ pub(crate) fn next_parameter<S: NodeStore>(
     Ok(Signal::Skips)
 }
 
-// What follows a turn.
-fn after_course<S: NodeStore>(
+// The turns of the parameters that are left.
+fn further<S: NodeStore>(
     alloc: Global,
     parts: &mut Parts<S>,
     turns: Turns,
@@ -120,23 +130,47 @@ fn after_course<S: NodeStore>(
 ) -> Result<Signal, Code>
     ensures loans { KeepsLoans parts.old parts.new }
     ensures falls { IfOk result (λ _. 2 * parts.new.eval.steps + length frames.new.items ≤ 2 * parts.old.eval.steps + length frames.old.items) }
-    ensures does { Runs S.NodeStore (λ a n. meaning.after_course (context a n (spot_of turns.depth)) (turning turns) (course_view turns.course)) (stack frames.old.items) parts.old result (stack frames.new.items) parts.new }
+    ensures does { Runs S.NodeStore (λ a n. meaning.next_parameter (context a n (spot_of turns.depth)) (turning turns).index (turning turns).body (turning turns).parameters) (stack frames.old.items) parts.old result (stack frames.new.items) parts.new }
 {
-    if let Course::Forever = turns.course {
-        return begin_turn(parts, turns, frames);
-    }
     let line = turns.line.clone()?;
     match loop_before(&line, turns.at) {
+        None => Err(Code::Zmem),
+        Some((index, parameters)) => next_parameter(alloc, parts, index, parameters, turns, frames),
+    }
+}
+
+// Whether there is one turn more of this course of these turns.
+fn goes_on<S: NodeStore>(parts: &mut Parts<S>, turns: &Turns) -> Result<bool, Code>
+    ensures loans { KeepsLoans parts.old parts.new }
+    ensures fewer { parts.new.eval.steps ≤ parts.old.eval.steps }
+    ensures does { DoesAt S.NodeStore (λ a n. advanced (turning turns.now).index (course_view turns.now.course)) (λ goes_on. goes_on) parts.old result parts.new }
+{
+    if let Course::Forever = turns.course {
+        return Ok(true);
+    }
+    match loop_before(&turns.line, turns.at) {
         // a FOR with another course has an index
         None => Err(Code::Zmem),
-        Some((index, parameters)) => {
-            let goes_on = advance(parts, index, turns.course)?;
-            if goes_on {
-                begin_turn(parts, turns, frames)
-            } else {
-                next_parameter(alloc, parts, index, parameters, turns, frames)
-            }
-        }
+        Some((index, _)) => advance(parts, index, turns.course),
+    }
+}
+
+// What follows a turn.
+fn after_course<S: NodeStore>(
+    alloc: Global,
+    parts: &mut Parts<S>,
+    turns: Box<Turns>,
+    frames: &mut Vec<Frame>,
+) -> Result<Signal, Code>
+    ensures loans { KeepsLoans parts.old parts.new }
+    ensures falls { IfOk result (λ _. 2 * parts.new.eval.steps + length frames.new.items ≤ 2 * parts.old.eval.steps + length frames.old.items) }
+    ensures does { Runs S.NodeStore (λ a n. meaning.after_course (context a n (spot_of turns.value.depth)) (turning turns.value) (course_view turns.value.course)) (stack frames.old.items) parts.old result (stack frames.new.items) parts.new }
+{
+    let goes_on = goes_on(parts, &turns)?;
+    if goes_on {
+        begin_turn(parts, turns, frames)
+    } else {
+        further(alloc, parts, Box::into_inner(turns), frames)
     }
 }
 
@@ -144,13 +178,13 @@ fn after_course<S: NodeStore>(
 pub(crate) fn after_turn<S: NodeStore>(
     alloc: Global,
     parts: &mut Parts<S>,
-    turns: Turns,
+    turns: Box<Turns>,
     signal: Signal,
     frames: &mut Vec<Frame>,
 ) -> Result<Signal, Code>
     ensures loans { KeepsLoans parts.old parts.new }
     ensures falls { IfOk result (λ _. 2 * parts.new.eval.steps + length frames.new.items ≤ 2 * parts.old.eval.steps + length frames.old.items) }
-    ensures does { Runs S.NodeStore (λ a n. meaning.after_turn (context a n (spot_of turns.depth)) (turning turns) (signal_of signal)) (stack frames.old.items) parts.old result (stack frames.new.items) parts.new }
+    ensures does { Runs S.NodeStore (λ a n. meaning.after_turn (context a n (spot_of turns.value.depth)) (turning turns.value) (signal_of signal)) (stack frames.old.items) parts.old result (stack frames.new.items) parts.new }
 {
     match signal {
         Signal::GoOn => after_course(alloc, parts, turns, frames),

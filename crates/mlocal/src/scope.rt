@@ -73,8 +73,19 @@ impl Scope {
         }
     }
 
-    // Whether it has the name by itself.
+    // Whether it has the name by itself. The scope of a level without NEW has none, which is seen at once.
     pub fn has(&self, name: &Name) -> bool
+        ensures { result ≡ has self.now name.now }
+    {
+        if self.names.is_empty() && self.others.is_none() {
+            return false;
+        }
+        self.has_among(name)
+    }
+
+    // The same, by a look at the names.
+    #[inline(never)]
+    fn has_among(&self, name: &Name) -> bool
         ensures { result ≡ has self.now name.now }
     {
         if is_among(name, self.names.as_slice()) {

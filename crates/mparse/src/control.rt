@@ -2,7 +2,7 @@
 ghost use Rattle.std.specs.Prelude.{option_map};
 ghost use Rattle.mgrammar.specs.Grammar.{ParameterTree};
 ghost use Rattle.mgrammar.specs.Reading.{condition_at, parameter_at, repetition_at, postcondition_at};
-ghost use Rattle.mtree.specs.Tree.{expr_tree, parameter_tree, keyword_tree, arg_tree};
+ghost use Rattle.mtree.specs.Tree.{expr_tree, parameter_tree, keyword_tree, arg_tree, condition_tree};
 ghost use Rattle.mscan.specs.Gives.{Gives};
 
 use crate::arity::takes_condition;
@@ -71,8 +71,8 @@ pub fn postcondition(
     alloc: Global,
     keyword: Keyword,
     bytes: &[u8],
-) -> Result<(Option<Expr>, &[u8]), ParseFault>
-    ensures { Gives (λ x. (option_map expr_tree x.0, x.1.now)) result (postcondition_at (keyword_tree keyword) bytes.now) }
+) -> Result<(Option<Box<Expr>>, &[u8]), ParseFault>
+    ensures { Gives (λ x. (condition_tree x.0, x.1.now)) result (postcondition_at (keyword_tree keyword) bytes.now) }
 {
     if !takes_condition(keyword) {
         return Ok((None, bytes));
@@ -81,5 +81,5 @@ pub fn postcondition(
         return Ok((None, bytes));
     };
     let (condition, rest) = expr(alloc, behind, MAX_DEPTH)?;
-    Ok((Some(condition), rest))
+    Ok((Some(Box::new(alloc, condition)?), rest))
 }

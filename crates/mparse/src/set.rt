@@ -46,7 +46,7 @@ fn piece(
         delimiter,
         place,
     };
-    Ok((Target::Piece(piece), rest))
+    Ok((Target::Piece(Box::new(alloc, piece)?), rest))
 }
 
 #[tactic(auto, unfolding(mgrammar::specs::Reading::target_with))]

@@ -1,5 +1,5 @@
 -- A line of the program as a plain tree of the grammar.
-use Rattle.std.specs.Prelude.{map, option_map}
+use Rattle.std.specs.Prelude.{Option, Box, map, option_map}
 use Rattle.mgrammar.specs.Grammar as grammar
 use Rattle.mgrammar.specs.Grammar.{SignTree, TruthTree, BinaryTree, KeywordTree, FunctionTree, SpecialTree, CountTree, RepeatedTree, AtomTree, ExprTree, StepTree, steps_of, exprs_of, choices_of, OperandTree, PrimaryTree, ReferenceTree, TargetTree, DestinationTree, ParameterTree, ArgTree, CommandTree, SpacedTree, LineTree}
 use Rattle.mtree.specs.declared.tree.Sign.{Sign}
@@ -165,7 +165,7 @@ piece_tree p = grammar.piece p.word (reference_tree p.reference) (expr_tree p.de
 
 abbrev pub target_tree : Target → TargetTree
 target_tree (target.Variable r) = grammar.variable (reference_tree r)
-target_tree (target.Piece p) = piece_tree p
+target_tree (target.Piece p) = piece_tree p.value
 
 abbrev pub destination_tree : Destination → DestinationTree
 destination_tree (destination.One t) = grammar.one (target_tree t)
@@ -187,8 +187,11 @@ arg_tree (arg.NewOthers names) = grammar.new_others names.items
 arg_tree (arg.Tested e) = grammar.tested (expr_tree e)
 arg_tree (arg.Loop index parameters) = grammar.loop index (map parameter_tree parameters.items)
 
+abbrev pub condition_tree : {G : Type 0} → Option (Box Expr G) → Option ExprTree
+condition_tree = option_map (λ e. expr_tree e.value)
+
 abbrev pub command_tree : Command → CommandTree
-command_tree c = record { keyword = keyword_tree c.keyword; word = c.word; condition = option_map expr_tree c.condition; args = map arg_tree c.args.items }
+command_tree c = record { keyword = keyword_tree c.keyword; word = c.word; condition = condition_tree c.condition; args = map arg_tree c.args.items }
 
 abbrev pub spaced_tree : Spaced → SpacedTree
 spaced_tree s = (command_tree s.command, s.spaces)

@@ -190,7 +190,8 @@ pub struct PieceTarget {
 #[derive(Drop)]
 pub enum Target {
     Variable(Reference),
-    Piece(PieceTarget),
+    /// In a box, since it is large and rare.
+    Piece(Box<PieceTarget>),
 }
 
 /// What an argument of SET assigns its value to.
@@ -253,7 +254,8 @@ pub enum Keyword {
 pub struct Command {
     pub keyword: Keyword,
     pub word: Bytes7,
-    pub condition: Option<Expr>,
+    /// In a box, since it is large and rare.
+    pub condition: Option<Box<Expr>>,
     pub args: Vec<Arg>,
 }
 

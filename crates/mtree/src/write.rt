@@ -1,7 +1,7 @@
 // The text of a line: each function appends the spelling of its part, as `mgrammar` has it.
 ghost use Rattle.std.specs.Prelude.{◌≡◌, ◌++◌, ◌∷◌, [], List, ℕ, IfOk, OnOk, map, option_map};
 ghost use Rattle.mgrammar.specs.Grammar.{assign, loop, spell_place, spell_target, spell_destination, spell_names, spell_parameter, spell_arg, spell_condition, spell_args, spell_command, spell_commands, spell};
-ghost use Rattle.mtree.specs.Tree.{expr_tree, piece_tree, target_tree, destination_tree, parameter_tree, arg_tree, command_tree, spaced_tree, line_tree};
+ghost use Rattle.mtree.specs.Tree.{expr_tree, piece_tree, target_tree, destination_tree, parameter_tree, arg_tree, command_tree, spaced_tree, line_tree, condition_tree};
 
 use crate::expression::{put_expr, put_reference, put_word};
 use crate::list::{Listed, put_list};
@@ -133,8 +133,8 @@ impl Listed for Arg {
 }
 
 // Behind a colon, where there is one.
-fn put_condition(out: &mut Bytes7, condition: &Option<Expr>) -> Result<(), AllocError>
-    ensures { OnOk result (out.new ≡ out.old ++ spell_condition (option_map expr_tree condition.now)) }
+fn put_condition(out: &mut Bytes7, condition: &Option<Box<Expr>>) -> Result<(), AllocError>
+    ensures { OnOk result (out.new ≡ out.old ++ spell_condition (condition_tree condition.now)) }
 {
     if let Some(condition) = condition {
         out.push(b':')?;

@@ -10,7 +10,7 @@ pub loop-frame-init : goal.loop-frame-init
 loop-frame-init g c = record {
   loans = keeps_itself c.args.parts.now;
   leads =
-      rw (c.in_ok-push-2.ensures.items, stack_push, c.in_ok-push.ensures.items, stack_push, c.new-frames.ensures.items, c.in_ok-line.ensures.ok)
+      rw (c.in_ok-push-2.ensures.items, stack_push, c.in_ok-push.ensures.items, stack_push, c.in_ok-frames.ensures.items, c.in_ok-line.ensures.ok)
       (leads_first (map (λ c. c.0) (line_tree c.args.line).commands) c.args.parts.now);
 }
 

@@ -10,8 +10,11 @@ use Rattle.mexec.proofs.rest.forever.Goals as goal
 pub returns-in_err-clone-clause-does : goal.returns-in_err-clone-clause-does
 returns-in_err-clone-clause-does g c = runs_wanting _ _ c.from_residual.ensures
 
+pub returns-in_err-new-clause-does : goal.returns-in_err-new-clause-does
+returns-in_err-new-clause-does g c = runs_wanting _ _ c.from_residual-in_err-new.ensures
+
 pub returns-clause-does : goal.returns-clause-does
 returns-clause-does g c =
-    let does = rw c.in_ok-clone.ensures.cases at c.begin_turn.ensures.does in
+    let does = rw (c.in_ok-new.ensures.ok, c.in_ok-clone.ensures.cases) at c.begin_turn.ensures.does in
     let t : Turns = record { depth = c.args.behind.now.depth; line = c.args.behind.now.line; at = c.args.behind.now.at; parameter = 0; course = Forever } in
     runs_as (λ a n. ap (begin_turn (context a n (spot_of c.args.behind.now.depth))) (sym (turning_of_none t c.requires))) does

@@ -1,9 +1,8 @@
 use Rattle.std.proofs.Common.{◌≤◌, ◌<◌, ◌+◌, length, arith}
 use Rattle.mspec.proofs.ListPlaces.{next_item, none_left}
-use Rattle.mmeaning.specs.Frames.{Rests}
 use Rattle.mexec.specs.declared.signal.Signal.TheVariants as signal
 use Rattle.mexec.specs.Frames.{spot_of, commands_from}
-use Rattle.mexec.proofs.Calls.{runs_then, runs_stopped, runs_wanting, runs_signal, runs_frame, stack_push, some_item}
+use Rattle.mexec.proofs.Calls.{runs_then, runs_stopped, runs_wanting, runs_signal, runs_resting, some_item}
 use Rattle.mexec.proofs.rest.next_command.Goals as goal
 
 pub returns-then-at-len-clause-does : goal.returns-then-at-len-clause-does
@@ -21,21 +20,13 @@ returns-in_err-charge-clause-does g c =
     let some = some_item c.args.rest.at v.items less in
     rw some.1 (runs_stopped _ c.in_err-charge.ensures.does c.in_err-charge.ensures.fewer c.from_residual.ensures)
 
-pub returns-in_err-clone-clause-does : goal.returns-in_err-clone-clause-does
-returns-in_err-clone-clause-does g c =
+pub returns-in_err-leave-clause-does : goal.returns-in_err-leave-clause-does
+returns-in_err-leave-clause-does g c =
     let v = c.args.rest.line.value.commands in
     let h = rw (c.len.ensures, c.deref.ensures) at c.if-at-len.false in
     let less : c.args.rest.at < length v.items = omega (arith, h, v.ok) in
     let some = some_item c.args.rest.at v.items less in
-    rw some.1 (runs_then _ c.in_ok-charge.ensures.does c.in_ok-charge.ensures.fewer (runs_wanting _ _ c.from_residual-in_err-clone.ensures))
-
-pub returns-in_err-push-clause-does : goal.returns-in_err-push-clause-does
-returns-in_err-push-clause-does g c =
-    let v = c.args.rest.line.value.commands in
-    let h = rw (c.len.ensures, c.deref.ensures) at c.if-at-len.false in
-    let less : c.args.rest.at < length v.items = omega (arith, h, v.ok) in
-    let some = some_item c.args.rest.at v.items less in
-    rw some.1 (runs_then _ c.in_ok-charge.ensures.does c.in_ok-charge.ensures.fewer (runs_wanting _ _ c.from_residual-in_err-push.ensures))
+    rw some.1 (runs_then _ c.in_ok-charge.ensures.does c.in_ok-charge.ensures.fewer (runs_wanting _ _ c.from_residual-in_err-leave.ensures))
 
 pub returns-clause-does : goal.returns-clause-does
 returns-clause-does g c =
@@ -44,5 +35,5 @@ returns-clause-does g c =
     let less : c.args.rest.at < length v.items = omega (arith, h, v.ok) in
     let i = rw c.deref-2.ensures at c.index.ensures in
     let next = next_item v.items c.args.rest.at c.index.result.now less i in
-    let does = rw (c.in_ok-push.ensures.items, stack_push, c.in_ok-clone.ensures.cases) at c.conditional.ensures.does in
-    rw next (runs_then _ c.in_ok-charge.ensures.does c.in_ok-charge.ensures.fewer (runs_frame (Rests (spot_of c.args.rest.depth) (commands_from c.args.rest.line.value (c.args.rest.at + 1))) does))
+    let does = rw c.in_ok-leave.ensures.frames at c.conditional.ensures.does in
+    rw next (runs_then _ c.in_ok-charge.ensures.does c.in_ok-charge.ensures.fewer (runs_resting (spot_of c.args.rest.depth) (commands_from c.args.rest.line.value (c.args.rest.at + 1)) does))

@@ -4,7 +4,7 @@ use Rattle.mcommand.proofs.Calls.{keeps_itself, keeps_on}
 use Rattle.mexec.specs.declared.signal.Signal.TheVariants as signal
 use Rattle.mexec.specs.declared.frames.Turns.{Turns}
 use Rattle.mexec.specs.Frames.{commands_from}
-use Rattle.mexec.proofs.Calls.{runs_signal}
+use Rattle.mexec.proofs.Calls.{runs_signal, runs_wanting}
 use Rattle.mexec.proofs.Loops.{parameter_runs, parameter_stopped, begun_runs}
 use Rattle.mexec.proofs.turns.next_parameter.Goals as goal
 
@@ -43,12 +43,20 @@ returns-in_err-start-clause-does g c =
 pub returns-in-Some-clause-loans : goal.returns-in-Some-clause-loans
 returns-in-Some-clause-loans g c = keeps_on c.loop-next.invariant.loans (keeps_on c.in_ok-start.ensures.loans c.begin_turn.ensures.loans)
 
+pub returns-in_err-turns-in-Some-clause-does : goal.returns-in_err-turns-in-Some-clause-does
+returns-in_err-turns-in-Some-clause-does g c =
+    let t = c.args.turns in
+    let here = rw c.in-Some.is at c.in_ok-start.ensures.does in
+    c.loop-next.invariant.leads _ _ _
+    (parameter_runs t.depth c.args.index.now (commands_from t.line.value t.at) c.args.parameters.now c.loop-next.next c.index-parameters-next.result c.loop-next-test.true c.index-parameters-next.is here c.in_ok-start.ensures.fewer
+    (runs_wanting _ _ c.from_residual-in_err-turns-in-Some.ensures))
+
 pub returns-in-Some-clause-does : goal.returns-in-Some-clause-does
 returns-in-Some-clause-does g c =
     let t = c.args.turns in
     let turn : Turns = record { depth = t.depth; line = t.line; at = t.at; parameter = c.loop-next.next + 1; course = c.in-Some.course } in
     let here = rw c.in-Some.is at c.in_ok-start.ensures.does in
-    let begun = rw c.loop-next.invariant.frames at c.begin_turn.ensures.does in
+    let begun = rw (c.in_ok-turns-in-Some.ensures.ok, c.loop-next.invariant.frames) at c.begin_turn.ensures.does in
     c.loop-next.invariant.leads _ _ _
     (parameter_runs t.depth c.args.index.now (commands_from t.line.value t.at) c.args.parameters.now c.loop-next.next c.index-parameters-next.result c.loop-next-test.true c.index-parameters-next.is here c.in_ok-start.ensures.fewer
     (begun_runs turn c.args.index.now c.args.parameters.now c.requires begun))

@@ -54,6 +54,7 @@ def main():
     locks()
     lines()
     loops()
+    globals_()
 
 
 KEYS = {
@@ -170,6 +171,20 @@ def loops():
     print("turns of a FOR")
     for name, count in ("empty", 1), ("arithmetic", 1), ("subscripts", 1), ("walk", 1), ("set and kill", 2):
         print(f"  {name:<12} {PASSES * count * len('1.' + chr(10))}")
+
+
+def globals_():
+    line, text, key_length = len("1." + chr(10)), len("hello world"), len(key(b"ALICE", b"DATA", [b"0"]))
+    for kind, count, calls, few in ("table", 100, 100, 10), ("table", 1000, 100, 10), ("file", 100, 10, 2):
+        print(f"globals in a {kind} of {count} nodes")
+        print(f"  {'put':<12} {count}")
+        print(f"  {'put again':<12} {PASSES * calls}")
+        print(f"  {'get':<12} {PASSES * calls * text}")
+        print(f"  {'next':<12} {PASSES * calls * key_length}")
+        print(f"  {'put and kill':<12} {PASSES * few}")
+        print(f"  {'set':<12} {line}")
+        for name in "set again", "read", "order", "set and kill":
+            print(f"  {name:<12} {PASSES * line}")
 
 
 if __name__ == "__main__":

@@ -1,8 +1,9 @@
-//! Times the operations of numbers, texts, keys, locals, stores, settings and locks, and lines of M. With a count, as
+//! Times the operations of numbers, texts, keys, locals, stores, settings and locks, and lines of M over globals and locals. With a count, as
 //! `benchmark 2000000`, each runs so often in each of five passes, and the time of the fastest pass is printed; without one, a thousand times, and only checksums
 //! are printed, which are the same on every machine. A second word names one page, as `benchmark 2000000 stores`.
 #![tactic(auto)]
 
+mod globals;
 mod grants;
 mod keys;
 mod lines;
@@ -44,7 +45,8 @@ fn all(rt: &HostRuntime, plan: Plan) -> anyhow::Result<()> {
     grants::grants(rt, plan)?;
     locks::locks(rt, plan)?;
     lines::lines(rt, plan)?;
-    loops::loops(rt, plan)
+    loops::loops(rt, plan)?;
+    globals::globals(rt, plan)
 }
 
 fn one(rt: &HostRuntime, plan: Plan, page: &str) -> anyhow::Result<()> {
@@ -58,6 +60,7 @@ fn one(rt: &HostRuntime, plan: Plan, page: &str) -> anyhow::Result<()> {
         "locks" => locks::locks(rt, plan),
         "lines" => lines::lines(rt, plan),
         "loops" => loops::loops(rt, plan),
+        "globals" => globals::globals(rt, plan),
         _ => anyhow::bail!("no such page"),
     }
 }

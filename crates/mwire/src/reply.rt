@@ -25,14 +25,22 @@ pub fn push_reply(out: &mut Vec<u8>, terminal: u32, reply: &Reply) -> Result<(),
 pub fn reply_bytes(alloc: Global, terminal: u32, reply: &Reply) -> Result<Vec<u8>, AllocError>
     ensures { IfOk result (λ bytes. bytes.items ≡ reply_text terminal (reply_of reply.now)) }
 {
+    let mut bytes = Vec::new(alloc);
+    push_bytes(&mut bytes, terminal, reply)?;
+    Ok(bytes)
+}
+
+// Appends them. For want of memory `out` has a front of them too.
+pub(crate) fn push_bytes(out: &mut Vec<u8>, terminal: u32, reply: &Reply) -> Result<(), AllocError>
+    ensures { OnOk result (out.new.items ≡ out.old.items ++ reply_text terminal (reply_of reply.now)) }
+{
     let mut buffer = Buffer::new();
     let digits = buffer.format(terminal).as_bytes();
-    let mut bytes = Vec::new(alloc);
-    push_output(&mut bytes, digits, &reply.out)?;
-    bytes.extend_from_slice(digits)?;
-    push_ending(&mut bytes, reply.ending)?;
-    bytes.push(b'\n')?;
-    Ok(bytes)
+    push_output(out, digits, &reply.out)?;
+    out.extend_from_slice(digits)?;
+    push_ending(out, reply.ending)?;
+    out.push(b'\n')?;
+    Ok(())
 }
 
 // Appends the lines of an output, and the rest that no line end ends, unless it is empty.

@@ -9,7 +9,7 @@ ghost use Rattle.mwire.specs.Progress.{Passes, LineSent, FrontSent};
 use crate::fate::{Fate, fate_of};
 use crate::fault::WireFault;
 use crate::line_buffer::LineBuffer;
-use crate::reply::reply_bytes;
+use crate::reply::push_bytes;
 use crate::watched::Watched;
 use mstore::NodeStore;
 use mworld::{Reply, World};
@@ -52,12 +52,13 @@ pub fn serve<S: NodeStore, R: Read, W: Write>(
 {
     let mut line = LineBuffer::new();
     let mut piece = [0u8; 4096];
+    let mut room = Vec::new(alloc);
     for _turn in 0..1_000_000_000u32 {
         match reader.read(&mut piece) {
             Err(_) => return Err(WireFault::Read),
-            Ok(0) => return answer_line(alloc, world, line.unfinished(), writer),
+            Ok(0) => return answer_line(&mut room, world, line.unfinished(), writer),
             Ok(n) => {
-                if let Err(fault) = take_piece(alloc, world, &mut line, &piece[..n], writer) {
+                if let Err(fault) = take_piece(&mut room, world, &mut line, &piece[..n], writer) {
                     return Err(fault);
                 }
             }
@@ -68,7 +69,7 @@ pub fn serve<S: NodeStore, R: Read, W: Write>(
 
 // Takes the next bytes of the stream.
 fn take_piece<S: NodeStore, W: Write>(
-    alloc: Global,
+    room: &mut Vec<u8>,
     world: &mut World<S>,
     line: &mut LineBuffer,
     piece: &[u8],
@@ -82,14 +83,14 @@ fn take_piece<S: NodeStore, W: Write>(
     ensures no_stall { result ≢ Err WireFault.Write → stalls_of writer.new ≡ stalls_of writer.old }
 {
     for byte in piece {
-        take_byte(alloc, world, line, *byte, writer)?;
+        take_byte(room, world, line, *byte, writer)?;
     }
     Ok(())
 }
 
 // Takes the next byte of the stream.
 fn take_byte<S: NodeStore, W: Write>(
-    alloc: Global,
+    room: &mut Vec<u8>,
     world: &mut World<S>,
     line: &mut LineBuffer,
     byte: u8,
@@ -106,14 +107,14 @@ fn take_byte<S: NodeStore, W: Write>(
         line.push(byte);
         return Ok(());
     }
-    let result = answer_line(alloc, world, line.finished(), writer);
+    let result = answer_line(room, world, line.finished(), writer);
     line.clear();
     result
 }
 
-// Runs a line and writes its answer.
+// Runs a line and writes its answer. The room is for the answer's bytes, and is taken along from line to line.
 fn answer_line<S: NodeStore, W: Write>(
-    alloc: Global,
+    room: &mut Vec<u8>,
     world: &mut World<S>,
     line: &[u8],
     writer: &mut Watched<W>,
@@ -132,18 +133,20 @@ fn answer_line<S: NodeStore, W: Write>(
         Fate::Unreadable => write_whole(writer, b"?!ZWIRE\n"),
         Fate::Runs(terminal, text) => {
             let reply = world.line(terminal, text);
-            let bytes = shown_reply(alloc, terminal, &reply)?;
-            write_whole(writer, &bytes)
+            show_reply(room, terminal, &reply)?;
+            write_whole(writer, room)
         }
     }
 }
 
-fn shown_reply(alloc: Global, terminal: u32, reply: &Reply) -> Result<Vec<u8>, WireFault>
-    ensures ok { IfOk result (λ bytes. bytes.items ≡ reply_text terminal (reply_of reply.now)) }
+// Puts the bytes that show a reply into the room, in the place of what it had.
+fn show_reply(room: &mut Vec<u8>, terminal: u32, reply: &Reply) -> Result<(), WireFault>
+    ensures ok { OnOk result (room.new.items ≡ reply_text terminal (reply_of reply.now)) }
     ensures fault { IfErr result (λ e. e ≡ WireFault.Memory) }
 {
-    match reply_bytes(alloc, terminal, reply) {
-        Ok(bytes) => Ok(bytes),
+    room.clear();
+    match push_bytes(room, terminal, reply) {
+        Ok(()) => Ok(()),
         Err(_) => Err(WireFault::Memory),
     }
 }

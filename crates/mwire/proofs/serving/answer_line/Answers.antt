@@ -5,8 +5,8 @@ use Rattle.mwire.proofs.Results.{not_ok}
 use Rattle.mwire.proofs.Sends.{FrontSent-none}
 use Rattle.mwire.proofs.serving.answer_line.Goals as goal
 
-pub returns-in_err-bytes-in-Runs-clause-sent : goal.returns-in_err-bytes-in-Runs-clause-sent
-returns-in_err-bytes-in-Runs-clause-sent g c =
+pub returns-in_err-show_reply-in-Runs-clause-sent : goal.returns-in_err-show_reply-in-Runs-clause-sent
+returns-in_err-show_reply-in-Runs-clause-sent g c =
     let is = sym c.fate_of.ensures ∙ ap fate_in c.in-Runs.is in
     record {
       answer = _;
@@ -29,10 +29,10 @@ returns-in-Unreadable-clause-sent g c =
     let is = sym c.fate_of.ensures ∙ ap fate_in c.in-Unreadable.is in
     record { answer = _; answered = LineAnswered-at _ _ _ _ _ _ _ is (refl, refl); sent = c.write_whole-in-Unreadable.ensures.sent }
 
-pub returns-in_ok-bytes-in-Runs-clause-sent : goal.returns-in_ok-bytes-in-Runs-clause-sent
-returns-in_ok-bytes-in-Runs-clause-sent g c =
+pub returns-in_ok-show_reply-in-Runs-clause-sent : goal.returns-in_ok-show_reply-in-Runs-clause-sent
+returns-in_ok-show_reply-in-Runs-clause-sent g c =
     let is = sym c.fate_of.ensures ∙ ap fate_in c.in-Runs.is in
-    let same = c.deref.ensures.value ∙ c.in_ok-bytes-in-Runs.ensures.ok in
+    let same = c.deref.ensures.value ∙ c.in_ok-show_reply-in-Runs.ensures.ok in
     record {
       answer = c.deref.result.now;
       answered = LineAnswered-at _ _ _ _ _ _ _ is (replied _ c.line-reply.result same c.line-reply.ensures.step c.line-reply.ensures.steady);

@@ -2,10 +2,13 @@
 """Runs the built program on each block of lines of transcripts/, with each of its requests for memory refused in turn.
 
 With one request refused, the replies are the transcript's as far as the first want of memory; that is told by ZMEM, by
-`mserve: wire: Memory` with status 5, or by `mserve: Memory` with status 2; and what comes after ZMEM is replies in form. A request
-before the first line, as many as a run without a line makes, may also be told by `mserve: settings: Memory` with status 3 and no
-reply. One request of a run may go by untold, with all replies as they are: std asks for the words of the command line in advance,
-and again where that was refused. Status 1 where a run does otherwise, where a block asks for no memory, or where there is no block.
+`mserve: wire: Memory` with status 5, or by `mserve: Memory` with status 2; and what comes after ZMEM is replies in form.
+
+The requests before the first line, as many as a run without a line makes, are the same for each block, so they are refused once, over
+the first. They are told by `mserve: Memory`, `mserve: settings: Memory` with status 3, or `mserve: store: Memory` with status 4, and no
+reply; each of the three must come. One of them may go by untold, with all replies as they are: std asks for the words of the command
+line in advance, and again where that was refused. Status 1 where a run does otherwise, where a block asks for no memory, or where
+there is no block.
 
 The program is crates/mserve/out/mserve, as `./mserve` or the gate leaves it. `tools/refuse_memory.c` refuses the requests."""
 import os
@@ -18,6 +21,8 @@ from concurrent.futures import ThreadPoolExecutor
 TOP = os.path.join(os.path.dirname(os.path.abspath(__file__)), "..")
 PROGRAM = os.path.join(TOP, "crates", "mserve", "out", "mserve")
 REPLY = re.compile(rb"(\d+[:-].*|\d+\.|\d+![A-Z]+\d*|\?!Z(LINE|WIRE))\n")
+# How a request that is refused before the first line is told.
+STARTS = [(b"mserve: Memory\n", 2), (b"mserve: settings: Memory\n", 3), (b"mserve: store: Memory\n", 4)]
 ESCAPE = re.compile(r"\{(?:(\d+)\*([^}]*)|([0-9a-f]{2}))?\}")
 
 
@@ -56,9 +61,8 @@ def run(shim, stream, nth):
     return ran.stdout, ran.stderr, ran.returncode, int(told or b"0")
 
 
-def fault(wanted, output, told, status, in_a_line):
-    """What is wrong with a run of which a request was refused, be it in a line or before the first; "" where it is not told at all,
-    and None where all is well."""
+def fault(wanted, output, told, status):
+    """What is wrong with a run of which a request was refused in a line, and None where all is well."""
     lines = output.splitlines(True)
     lost = next((i for i, line in enumerate(lines) if line.endswith(b"!ZMEM\n")), None)
     if lost is not None:
@@ -69,30 +73,36 @@ def fault(wanted, output, told, status, in_a_line):
         return None if (status, told) == (0, b"") else f"status {status}, {told!r}"
     if not wanted.startswith(output):
         return "other replies"
-    if (status, told) in ((5, b"mserve: wire: Memory\n"), (2, b"mserve: Memory\n")):
-        return None
-    if (status, told, output) == (3, b"mserve: settings: Memory\n", b"") and not in_a_line:
-        return None
-    return "" if (status, told, output) == (0, b"", wanted) else f"status {status}, {told!r}"
+    return None if (status, told) == (5, b"mserve: wire: Memory\n") else f"status {status}, {told!r}"
 
 
 def judge(shim, at_start, block):
-    """How many requests of a block were refused, and what went wrong. So many requests come before the first line."""
+    """How many requests of a block's lines were refused, and what went wrong. So many requests come before the first line."""
     name, stream, wanted = block
     output, told, status, count = run(shim, stream, 0)
-    if (output, told, status) != (wanted, b"", 0) or count == 0:
+    if (output, told, status) != (wanted, b"", 0) or count <= at_start:
         return 0, [f"{name}: with ample memory: status {status}, {told!r}, {count} requests"]
-    faults, untold = [], []
-    for nth in range(1, count + 1):
+    faults = []
+    for nth in range(at_start + 1, count + 1):
         output, told, status, _ = run(shim, stream, nth)
-        wrong = fault(wanted, output, told, status, nth > at_start)
-        if wrong == "":
-            untold.append(nth)
-        elif wrong:
+        wrong = fault(wanted, output, told, status)
+        if wrong:
             faults.append(f"{name}: request {nth} of {count}: {wrong}")
-    if len(untold) > 1:
-        faults.append(f"{name}: requests {untold} of {count}: not told")
-    return count, faults
+    return count - at_start, faults
+
+
+def judge_start(shim, pool, at_start, block):
+    """What went wrong with the requests before the first line, and how often each want of memory was told."""
+    name, stream, wanted = block
+    ran = list(pool.map(lambda nth: run(shim, stream, nth)[:3], range(1, at_start + 1)))
+    faults = [f"{name}: request {nth}: status {status}, {told!r}" for nth, (output, told, status) in enumerate(ran, 1)
+              if (output, told, status) not in [(b"", told, status) for told, status in STARTS] + [(wanted, b"", 0)]]
+    if sum(output == wanted for output, _, _ in ran) > 1:
+        faults.append(f"{name}: several requests before the first line are not told")
+    counts = [sum((told, status) == start for _, told, status in ran) for start in STARTS]
+    if 0 in counts:
+        faults.append(f"{name}: before the first line want of memory is not told in each way: {counts}")
+    return counts, faults
 
 
 def main():
@@ -103,14 +113,17 @@ def main():
         source = os.path.join(TOP, "tools", "refuse_memory.c")
         subprocess.run(["cc", "-shared", "-fPIC", "-O1", "-o", shim, source], check=True)
         at_start = run(shim, b"", 0)[3]
+        played = list(blocks())
         with ThreadPoolExecutor(os.cpu_count() or 1) as pool:
-            judged = list(pool.map(lambda block: judge(shim, at_start, block), blocks()))
-    faults = [fault for _, faults in judged for fault in faults]
+            starts, faults = judge_start(shim, pool, at_start, played[0])
+            judged = list(pool.map(lambda block: judge(shim, at_start, block), played))
+    faults += [fault for _, faults in judged for fault in faults]
     for told in faults[:20]:
         print(f"refuse_memory: {told}")
+    print(f"refuse_memory: before the first line {at_start} requests refused in turn: words {starts[0]}, settings {starts[1]}, store {starts[2]}")
     requests = sum(count for count, _ in judged)
     print(f"refuse_memory: {requests} requests of {len(judged)} blocks refused in turn, {len(faults)} faults")
-    return 1 if faults or not judged else 0
+    return 1 if faults else 0
 
 
 sys.exit(main())

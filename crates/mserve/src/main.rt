@@ -3,7 +3,9 @@
 //! `mserve run` answers the lines of its standard input on its standard output.
 #![tactic(auto)]
 
+mod fault;
 mod program;
+mod run;
 #[cfg(test)]
 mod tests;
 

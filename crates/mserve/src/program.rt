@@ -1,21 +1,21 @@
 // The program, over any reader and two writers.
 ghost use Rattle.std.specs.Prelude.{◌≡◌, ◌≢◌, ◌↔◌, ◌⊎◌, false, map, string_bytes};
 ghost use Rattle.std.specs.IoError.{error_kind};
-ghost use Rattle.mserve.specs.Statuses.{IsStatus, is_run};
+ghost use Rattle.mserve.specs.Statuses.{IsStatus, is_run, status_of};
 
-use mgrant::Settings;
-use mstore::Plain;
-use mwire::{Watched, serve};
-use mworld::World;
+use crate::fault::RunFault;
+use crate::run::run;
+use mwire::Watched;
 use std::io;
 use std::io::{ErrorKind, Read, Write};
 
 // The settings of every run: terminal 1 is of ALICE, and a line may use 2,000 steps.
 const SETTINGS: &str = "[[account]]\nname = \"ALICE\"\nterminals = [1]\nsteps = 2000\n";
 
-/// Runs the program with these words, which stand behind its name on the command line, over an empty store in memory, and gives
-/// the exit status: 0 where the input was answered to its end, 2 for words that are refused, 3 for a fault of the settings and 5
-/// for one of the wire, of which `errors` is told. The settings stand in the program, so their fault is want of memory.
+/// Runs the program with these words, which stand behind its name on the command line, over an empty table in memory, and gives
+/// the exit status: 0 where the input was answered to its end, 2 for words that are refused, 3 for a fault of the settings, 4 for
+/// one of the store and 5 for one of the wire, of which `errors` is told. The settings stand in the program, so their fault is want
+/// of memory.
 ///
 /// The word `run` alone is taken. A fault in writing to `errors` is passed over.
 pub fn program<H: AllocGlobal, I: Read, O: Write, E: Write>(
@@ -35,23 +35,25 @@ where
     if !is_run(words) {
         return 2;
     }
-    let alloc = rt.alloc();
-    let settings = match Settings::read(alloc, SETTINGS.as_bytes()) {
-        Ok(settings) => settings,
+    let mut input = Watched::new(input);
+    let mut output = Watched::new(output);
+    match run(rt.alloc(), SETTINGS.as_bytes(), &mut input, &mut output) {
+        Ok(_) => 0,
         Err(fault) => {
-            let _ = writeln!(errors, "mserve: settings: {fault}");
-            return 3;
+            let _ = writeln!(errors, "mserve: {fault}");
+            status_of(fault)
         }
-    };
-    let mut world = World::new(alloc, settings, Plain::new(alloc));
-    let mut reader = Watched::new(input);
-    let mut writer = Watched::new(output);
-    match serve(alloc, &mut world, &mut reader, &mut writer) {
-        Ok(()) => 0,
-        Err(fault) => {
-            let _ = writeln!(errors, "mserve: wire: {fault}");
-            5
-        }
+    }
+}
+
+// The exit status of a run that ended early.
+fn status_of(fault: RunFault) -> u8
+    ensures { result ≡ status_of fault }
+{
+    match fault {
+        RunFault::Settings(_) => 3,
+        RunFault::Store(_) => 4,
+        RunFault::Wire(_) => 5,
     }
 }
 

@@ -1,0 +1,39 @@
+-- From what `serve` says of a world to what a run says of its store.
+use Rattle.std.specs.Prelude.{◌≡◌, Option, Result, Ok, Err}
+use Rattle.std.specs.FinMap.{empty}
+use Rattle.mspec.specs.Act.{Text}
+use Rattle.mspec.specs.Globals.{Globals}
+use Rattle.mmeaning.specs.Step.{Settings, Server}
+use Rattle.mmeaning.specs.History.{opening}
+use Rattle.mgrant.specs.Reading.{IsRead}
+use Rattle.mstore.specs.declared.store.NodeStore.{Ghosts}
+use Rattle.mwire.specs.Serves.{Serves}
+use Rattle.mwire.specs.declared.fault.WireFault.{WireFault}
+use Rattle.mserve.specs.Runs.{Answered, Broken, ServedOver}
+
+-- of an opening world
+pub over : {S : Type 0} (g : Ghosts S) {settings settings' : Settings} {server after : Server} {globals : Globals} {left left' held held' : Option Text} {result : Result (Unit {0}) WireFault}
+    → settings' ≡ settings → server ≡ opening globals → Serves g settings' server after left left' held held' result → Serves g settings (opening globals) after left left' held held' result
+over g e d s = let t = rw e at s in rw d at t
+
+module _ {S V : Type 0} (g : Ghosts S) {settings : Settings} {globals : Globals} {content : V → Globals} {document : Text} {left left' held held' : Option Text}
+    (reads : IsRead document settings) (none : globals ≡ empty) where
+  -- a stream that was answered to its end
+  pub answered : {v : V} → g.sound → ServedOver g settings globals content left left' held held' (Ok v) → Answered document left left' held held' (content v)
+  answered sound s = record {
+    settings = settings;
+    of_document = reads;
+    read = s.serves.read;
+    consumed = s.serves.consumed;
+    at_end = s.serves.outcome.0;
+    trace = s.serves.outcome.1.trace;
+    events = s.serves.outcome.1.events;
+    after = s.after;
+    history = let h = s.serves.outcome.1.history sound in rw none at h;
+    appended = let a = s.serves.appended in rw s.serves.outcome.1.text at a;
+    last = s.last;
+  }
+
+  -- one that a fault broke off
+  pub broken : {fault : WireFault} → ServedOver g settings globals content left left' held held' (Err fault) → Broken g document left left' held held' fault
+  broken s = record { settings = settings; of_document = reads; after = s.after; serves = let t = s.serves in rw none at t }

@@ -23,9 +23,13 @@ fn stream_line(alloc: Global, case: &str) -> anyhow::Result<Vec<u8>> {
     }
 }
 
-// A new world over a store.
-fn world_over<S: NodeStore + Drop>(alloc: Global, store: S) -> anyhow::Result<World<S>> {
-    Ok(World::new(alloc, line_settings(alloc)?, store))
+// A new world over a store, by the settings of a document.
+fn world_over<S: NodeStore + Drop>(
+    alloc: Global,
+    document: &str,
+    store: S,
+) -> anyhow::Result<World<S>> {
+    Ok(World::new(alloc, line_settings(alloc, document)?, store))
 }
 
 // What a world answers to a stream that comes in pieces of this size.
@@ -41,12 +45,17 @@ fn served<S: NodeStore>(
     Ok(out)
 }
 
-/// Serves each line in the world that the lines before it left, over the plain store and over a table in memory. Then all lines
-/// are served as one stream, in a new world over each store for each size of pieces. The replies over the plain store stand below
-/// their lines; where others differ from them, these are printed too.
-pub fn lines(alloc: Global, cases: &[&str], out: &mut Vec<u8>) -> anyhow::Result<()> {
-    let mut plain = world_over(alloc, Plain::new(alloc))?;
-    let mut table = world_over(alloc, Table::open_memory(alloc)?)?;
+/// Serves each line in the world that the lines before it left, over the plain store and over a table in memory, by the settings of
+/// a document. Then all lines are served as one stream, in a new world over each store for each size of pieces. The replies over
+/// the plain store stand below their lines; where others differ from them, these are printed too.
+pub fn lines(
+    alloc: Global,
+    document: &str,
+    cases: &[&str],
+    out: &mut Vec<u8>,
+) -> anyhow::Result<()> {
+    let mut plain = world_over(alloc, document, Plain::new(alloc))?;
+    let mut table = world_over(alloc, document, Table::open_memory(alloc)?)?;
     let mut stream = Vec::new(alloc);
     let mut replies = Vec::new(alloc);
     for case in cases {
@@ -60,21 +69,22 @@ pub fn lines(alloc: Global, cases: &[&str], out: &mut Vec<u8>) -> anyhow::Result
             replies.extend_from_slice(&answer)?;
         }
     }
-    whole_streams(alloc, &stream, &replies, out)
+    whole_streams(alloc, document, &stream, &replies, out)
 }
 
 fn whole_streams(
     alloc: Global,
+    document: &str,
     stream: &[u8],
     replies: &[u8],
     out: &mut Vec<u8>,
 ) -> anyhow::Result<()> {
     for size in SIZES {
-        let mut plain = world_over(alloc, Plain::new(alloc))?;
+        let mut plain = world_over(alloc, document, Plain::new(alloc))?;
         let answer = served(alloc, &mut plain, stream, size)?;
         let told = format!(in alloc; "in pieces of {size}:")?;
         print_others(alloc, told.as_str(), &answer, replies, out)?;
-        let mut table = world_over(alloc, Table::open_memory(alloc)?)?;
+        let mut table = world_over(alloc, document, Table::open_memory(alloc)?)?;
         let answer = served(alloc, &mut table, stream, size)?;
         let told = format!(in alloc; "in a table, in pieces of {size}:")?;
         print_others(alloc, told.as_str(), &answer, replies, out)?;

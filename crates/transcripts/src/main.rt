@@ -12,6 +12,7 @@ mod databases;
 mod drawn;
 mod escapes;
 mod files;
+mod globals;
 mod keys;
 mod line_settings;
 mod lines;
@@ -24,6 +25,7 @@ mod stores;
 mod texts;
 mod words;
 
+use crate::line_settings::{ONE_TERMINAL, THREE_TERMINALS};
 use anyhow::Context;
 use std::alloc::Global;
 use std::io;
@@ -58,7 +60,8 @@ fn play_block(rt: &HostRuntime, block: &str, out: &mut Vec<u8>) -> anyhow::Resul
 fn play(rt: &HostRuntime, kind: &str, cases: &[&str], out: &mut Vec<u8>) -> anyhow::Result<()> {
     let alloc = rt.alloc();
     match kind {
-        "== lines" => lines::lines(alloc, cases, out),
+        "== lines" => lines::lines(alloc, ONE_TERMINAL, cases, out),
+        "== terminals" => lines::lines(alloc, THREE_TERMINALS, cases, out),
         "== events" => lines::events(alloc, cases, out),
         "== texts" => texts::texts(alloc, cases, out),
         "== steps" => texts::steps(alloc, cases, out),

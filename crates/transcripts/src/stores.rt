@@ -1,8 +1,9 @@
 // Calls on stores, each over the plain store, a table in memory and a table in a file.
+use crate::globals::{data, lines, order};
 use crate::words::{key_of, text_of, texts_of, words_of};
 use crate::{print, print_case, print_others, print_result};
 use anyhow::Context;
-use mkey::{NodeKey, read};
+use mkey::{Direction, NodeKey, read};
 use mnum::{Bytes7, LONGEST_TEXT};
 use mstore::{NodeStore, Plain, Table};
 use std::alloc::Global;
@@ -76,12 +77,15 @@ fn in_a_file(rt: &HostRuntime, cases: &[&str]) -> anyhow::Result<Vec<u8>> {
     Ok(given)
 }
 
+// The account whose globals are meant where a name has none.
+const ACCOUNT: &str = "ALICE";
+
 /// The key of a global of ALICE.
 pub fn node(alloc: Global, name: &str, subs: &[&str]) -> anyhow::Result<NodeKey> {
     let subs = texts_of(alloc, subs)?;
     key_of(
         alloc,
-        &text_of(alloc, "ALICE")?,
+        &text_of(alloc, ACCOUNT)?,
         &text_of(alloc, name)?,
         &subs,
     )
@@ -110,9 +114,38 @@ fn call<S: NodeStore>(store: &mut S, alloc: Global, case: &str) -> anyhow::Resul
                 .context("not killed")?;
         }
         ["get", name, subs @ ..] => push_text(store, &node(alloc, name, subs)?, &mut out)?,
-        ["data", name, subs @ ..] => push_data(store, alloc, &node(alloc, name, subs)?, &mut out)?,
         ["walk", name, subs @ ..] => push_walk(store, alloc, &node(alloc, name, subs)?, &mut out)?,
         ["back", name, subs @ ..] => push_back(store, alloc, &node(alloc, name, subs)?, &mut out)?,
+        [what, name, subs @ ..] => return asked(store, alloc, what, name, subs),
+        _ => anyhow::bail!("no call on stores"),
+    }
+    Ok(out)
+}
+
+// What the language asks of a global of ALICE.
+fn asked<S: NodeStore>(
+    store: &mut S,
+    alloc: Global,
+    what: &str,
+    name: &str,
+    subs: &[&str],
+) -> anyhow::Result<Vec<u8>> {
+    let account = text_of(alloc, ACCOUNT)?;
+    let mut out = Vec::new(alloc);
+    match what {
+        "data" => {
+            let key = node(alloc, name, subs)?;
+            out.extend_from_slice(data(store, alloc, &key)?.as_bytes())?;
+        }
+        "order" => {
+            let next = order(store, alloc, &account, name, subs, Direction::Forward)?;
+            out.extend_from_slice(next.as_bytes())?;
+        }
+        "order-back" => {
+            let next = order(store, alloc, &account, name, subs, Direction::Backward)?;
+            out.extend_from_slice(next.as_bytes())?;
+        }
+        "routine" => return lines(store, alloc, &account, name),
         _ => anyhow::bail!("no call on stores"),
     }
     Ok(out)
@@ -124,26 +157,6 @@ fn push_text<S: NodeStore>(store: &mut S, key: &NodeKey, out: &mut Vec<u8>) -> a
         None => out.extend_from_slice(b"none")?,
         Some(text) => out.extend_from_slice(text.as_bytes())?,
     }
-    Ok(())
-}
-
-// Adds what $DATA answers of a node.
-fn push_data<S: NodeStore>(
-    store: &mut S,
-    alloc: Global,
-    key: &NodeKey,
-    out: &mut Vec<u8>,
-) -> anyhow::Result<()> {
-    let has_text = store.get(key).ok().context("not read")?.is_some();
-    let (low, high) = key.child_bounds(alloc)?;
-    let below = store.next(&low, &high).ok().context("not read")?;
-    let data = match (below.is_some(), has_text) {
-        (false, false) => "0",
-        (false, true) => "1",
-        (true, false) => "10",
-        (true, true) => "11",
-    };
-    out.extend_from_slice(data.as_bytes())?;
     Ok(())
 }
 

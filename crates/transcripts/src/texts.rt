@@ -1,6 +1,6 @@
 // Texts of M by themselves: parsed and written back, and the steps that they use.
 use crate::escapes::bytes_of;
-use crate::line_settings::{TERMINAL, line_settings};
+use crate::line_settings::{ONE_TERMINAL, TERMINAL, line_settings};
 use crate::{print_case, print_result};
 use anyhow::Context;
 use meval::{Depth, Eval, Session};
@@ -39,7 +39,7 @@ fn written_back(alloc: Global, text: &[u8]) -> anyhow::Result<&'static [u8]> {
 
 /// Of each text, carried out in a session of its own: how many steps it used.
 pub fn steps(alloc: Global, cases: &[&str], out: &mut Vec<u8>) -> anyhow::Result<()> {
-    let settings = line_settings(alloc)?;
+    let settings = line_settings(alloc, ONE_TERMINAL)?;
     for case in cases {
         if print_case(out, case)? {
             let text = bytes_of(alloc, case)?;

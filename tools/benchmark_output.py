@@ -54,6 +54,7 @@ def main():
     locks()
     lines()
     loops()
+    lines_with_globals()
 
 
 KEYS = {
@@ -170,6 +171,25 @@ def loops():
     print("turns of a FOR")
     for name, count in ("empty", 1), ("arithmetic", 1), ("subscripts", 1), ("walk", 1), ("set and kill", 2):
         print(f"  {name:<12} {PASSES * count * len('1.' + chr(10))}")
+
+
+def lines_with_globals():
+    length = len(key(b"ALICE", b"DATA", [b"0"]))
+    done = len("1.\n")
+    for kind, count, writing, between in ("the plain store", 100, 1, 10), ("a table", 100, 1, 10), ("a file", 20, 0, 2):
+        print(f"lines over {count} globals in {kind}")
+        print(f"  {'SET new':<12} {done}")
+        if writing:
+            print(f"  {'SET':<12} {PASSES * writing * done}")
+        print(f"  {'read':<12} {PASSES * (done + len(reply('hello world')))}")
+        print(f"  {'$ORDER':<12} {PASSES * (done + len(reply(count - 1)))}")
+        print(f"  {'SET and KILL':<12} {PASSES * done}")
+        print("the store alone")
+        if writing:
+            print(f"  {'put':<12} {PASSES * writing * count}")
+        print(f"  {'get':<12} {PASSES * count * len('hello world')}")
+        print(f"  {'next':<12} {PASSES * count * length}")
+        print(f"  {'put and kill':<12} {PASSES * between}")
 
 
 if __name__ == "__main__":

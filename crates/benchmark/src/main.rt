@@ -3,6 +3,7 @@
 //! are printed, which are the same on every machine. A second word names one page, as `benchmark 2000000 stores`.
 #![tactic(auto)]
 
+mod globals;
 mod grants;
 mod keys;
 mod lines;
@@ -44,7 +45,8 @@ fn all(rt: &HostRuntime, plan: Plan) -> anyhow::Result<()> {
     grants::grants(rt, plan)?;
     locks::locks(rt, plan)?;
     lines::lines(rt, plan)?;
-    loops::loops(rt, plan)
+    loops::loops(rt, plan)?;
+    globals::globals(rt, plan)
 }
 
 fn one(rt: &HostRuntime, plan: Plan, page: &str) -> anyhow::Result<()> {
@@ -58,6 +60,7 @@ fn one(rt: &HostRuntime, plan: Plan, page: &str) -> anyhow::Result<()> {
         "locks" => locks::locks(rt, plan),
         "lines" => lines::lines(rt, plan),
         "loops" => loops::loops(rt, plan),
+        "globals" => globals::globals(rt, plan),
         _ => anyhow::bail!("no such page"),
     }
 }

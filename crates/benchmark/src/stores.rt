@@ -24,11 +24,11 @@ const PAGE_BYTES: u64 = 4096;
 
 // The nodes ^DATA(0), ^DATA(1) and so on of a store, and bounds of them all.
 #[derive(Drop)]
-struct Nodes {
+pub struct Nodes {
     keys: Vec<NodeKey>,
     low: Vec<u8>,
     high: Vec<u8>,
-    text: Bytes7,
+    pub text: Bytes7,
 }
 
 // A place below the count, by the number of the round.
@@ -56,7 +56,7 @@ fn key(alloc: Global, subs: &[Bytes7]) -> anyhow::Result<NodeKey> {
     }
 }
 
-fn make_nodes(alloc: Global, count: usize) -> anyhow::Result<Nodes> {
+pub fn make_nodes(alloc: Global, count: usize) -> anyhow::Result<Nodes> {
     let mut keys = Vec::new(alloc);
     for number in 0..count {
         let digits = number.to_string(alloc)?;
@@ -83,14 +83,14 @@ fn put<S: NodeStore>(store: &mut S, key: &NodeKey, text: &Bytes7) -> i128 {
     }
 }
 
-fn put_at<S: NodeStore>(store: &mut S, nodes: &Nodes, place: usize) -> i128 {
+pub fn put_at<S: NodeStore>(store: &mut S, nodes: &Nodes, place: usize) -> i128 {
     match nodes.keys.get(place) {
         Some(key) => put(store, key, &nodes.text),
         None => -1,
     }
 }
 
-fn get_at<S: NodeStore>(store: &mut S, nodes: &Nodes, place: usize) -> i128 {
+pub fn get_at<S: NodeStore>(store: &mut S, nodes: &Nodes, place: usize) -> i128 {
     match nodes.keys.get(place) {
         Some(key) => match store.get(key) {
             Ok(Some(text)) => text.as_bytes().len() as i128,
@@ -101,7 +101,7 @@ fn get_at<S: NodeStore>(store: &mut S, nodes: &Nodes, place: usize) -> i128 {
     }
 }
 
-fn next_at<S: NodeStore>(store: &mut S, nodes: &Nodes, place: usize) -> i128 {
+pub fn next_at<S: NodeStore>(store: &mut S, nodes: &Nodes, place: usize) -> i128 {
     match nodes.keys.get(place) {
         Some(key) => match store.next(key.as_bytes(), &nodes.high) {
             Ok(Some(found)) => found.len() as i128,
@@ -124,7 +124,7 @@ fn prev_at<S: NodeStore>(store: &mut S, nodes: &Nodes, place: usize) -> i128 {
 }
 
 // A new node behind the one at the place, and away again.
-fn between<S: NodeStore>(store: &mut S, keys: &[NodeKey], text: &Bytes7, place: usize) -> i128 {
+pub fn between<S: NodeStore>(store: &mut S, keys: &[NodeKey], text: &Bytes7, place: usize) -> i128 {
     let Some(key) = keys.get(place) else {
         return -1;
     };
@@ -136,7 +136,7 @@ fn between<S: NodeStore>(store: &mut S, keys: &[NodeKey], text: &Bytes7, place: 
 }
 
 // New nodes ^DATA(n,"x"), each behind a drawn one.
-fn new_nodes(alloc: Global, count: usize, rounds: usize) -> anyhow::Result<Vec<NodeKey>> {
+pub fn new_nodes(alloc: Global, count: usize, rounds: usize) -> anyhow::Result<Vec<NodeKey>> {
     let mut keys = Vec::new(alloc);
     let below = ascii(alloc, "x")?;
     for round in 0..rounds {

@@ -54,7 +54,7 @@ def main():
     locks()
     lines()
     loops()
-    globals_()
+    lines_with_globals()
 
 
 KEYS = {
@@ -173,18 +173,23 @@ def loops():
         print(f"  {name:<12} {PASSES * count * len('1.' + chr(10))}")
 
 
-def globals_():
-    line, text, key_length = len("1." + chr(10)), len("hello world"), len(key(b"ALICE", b"DATA", [b"0"]))
-    for kind, count, calls, few in ("table", 100, 100, 10), ("table", 1000, 100, 10), ("file", 100, 10, 2):
-        print(f"globals in a {kind} of {count} nodes")
-        print(f"  {'put':<12} {count}")
-        print(f"  {'put again':<12} {PASSES * calls}")
-        print(f"  {'get':<12} {PASSES * calls * text}")
-        print(f"  {'next':<12} {PASSES * calls * key_length}")
-        print(f"  {'put and kill':<12} {PASSES * few}")
-        print(f"  {'set':<12} {line}")
-        for name in "set again", "read", "order", "set and kill":
-            print(f"  {name:<12} {PASSES * line}")
+def lines_with_globals():
+    length = len(key(b"ALICE", b"DATA", [b"0"]))
+    done = len("1.\n")
+    for kind, count, writing, between in ("the plain store", 100, 1, 10), ("a table", 100, 1, 10), ("a file", 20, 0, 2):
+        print(f"lines over {count} globals in {kind}")
+        print(f"  {'SET new':<12} {done}")
+        if writing:
+            print(f"  {'SET':<12} {PASSES * writing * done}")
+        print(f"  {'read':<12} {PASSES * (done + len(reply('hello world')))}")
+        print(f"  {'$ORDER':<12} {PASSES * (done + len(reply(count - 1)))}")
+        print(f"  {'SET and KILL':<12} {PASSES * done}")
+        print("the store alone")
+        if writing:
+            print(f"  {'put':<12} {PASSES * writing * count}")
+        print(f"  {'get':<12} {PASSES * count * len('hello world')}")
+        print(f"  {'next':<12} {PASSES * count * length}")
+        print(f"  {'put and kill':<12} {PASSES * between}")
 
 
 if __name__ == "__main__":

@@ -1,14 +1,12 @@
-// Globals through the language, beside the calls of the store alone.
+// Globals through the language, beside the same calls of the store alone.
 use crate::lines::answered;
 use crate::measure::{Plan, Unit, measure};
-use crate::stores::{Nodes, between, drawn, fill, get_at, make_nodes, new_nodes, next_at, put_at};
+use crate::stores::{between, get_at, make_nodes, new_nodes, next_at, put_at};
 use mgrant::Settings;
-use mstore::{NodeStore, Table};
+use mstore::{NodeStore, Plain, Table};
 use mworld::World;
 use std::alloc::Global;
 use std::fs;
-
-const NS: Unit = Unit::Nanoseconds;
 
 // The settings of the worlds: as many steps for a line as settings can give.
 const SETTINGS: &str = "[[account]]\nname = \"ALICE\"\nterminals = [1]\nsteps = 1000000\n";
@@ -17,116 +15,119 @@ const FILE: &str = "benchmark_globals.db";
 
 const LOG: &str = "benchmark_globals.db-wal";
 
-// A store: how many nodes it has; how many calls of a kind are made in a pass, and how many that put a node between others, which
-// moves those behind it.
+// A line goes over so many nodes at most.
+const TURNS: usize = 10_000;
+
+// How much is done with a store.
 #[derive(Clone, Copy)]
 struct Size {
+    /// So many nodes ^DATA(0), ^DATA(1) and so on.
     nodes: usize,
-    calls: usize,
+    /// In a pass so many lines go over them that write, and so many that read.
+    writing: usize,
+    reading: usize,
+    /// In a pass so many nodes between others are put and killed, which takes time that grows with a table in memory.
     between: usize,
 }
 
-const fn size(nodes: usize, calls: usize, between: usize) -> Size {
-    Size {
-        nodes,
-        calls,
-        between,
-    }
+// Without a count little is done, so that the gate ends in time.
+const FEW: Size = Size {
+    nodes: 100,
+    writing: 1,
+    reading: 1,
+    between: 10,
+};
+
+const FEW_IN_A_FILE: Size = Size {
+    nodes: 20,
+    writing: 0,
+    reading: 1,
+    between: 2,
+};
+
+const SMALL: Size = Size {
+    nodes: 10_000,
+    writing: 2,
+    reading: 5,
+    between: 100,
+};
+
+const LARGE: Size = Size {
+    nodes: 1_000_000,
+    writing: 2,
+    reading: 5,
+    between: 4,
+};
+
+// Each write of a file is a commit with its syncs.
+const IN_A_FILE: Size = Size {
+    nodes: 10_000,
+    writing: 0,
+    reading: 2,
+    between: 100,
+};
+
+// How many nodes a line goes over.
+fn turns_of(size: Size) -> usize {
+    size.nodes.clamp(1, TURNS)
 }
 
-// Those of a timed run in memory and in a file, so that each ends within a minute; others are small.
-const TIMED: [Size; 2] = [size(10_000, 20_000, 100), size(1_000_000, 20_000, 5)];
-
-const TIMED_FILE: Size = size(10_000, 500, 20);
-
-const SMALL: [Size; 2] = [size(100, 100, 10), size(1_000, 100, 10)];
-
-const SMALL_FILE: Size = size(100, 10, 2);
-
-// The same with so many rounds.
-fn with_rounds(plan: Plan, rounds: usize) -> Plan {
-    Plan {
-        rounds,
-        passes: plan.passes,
-        timed: plan.timed,
-    }
-}
-
-// The calls of the store alone.
-fn alone<S: NodeStore>(
-    rt: &HostRuntime,
-    plan: Plan,
-    store: &mut S,
-    nodes: &Nodes,
-    size: Size,
-) -> anyhow::Result<()> {
-    let count = size.nodes;
-    let calls = with_rounds(plan, size.calls);
-    measure(
-        rt,
-        "put again",
-        calls,
-        NS,
-        |i| put_at(store, nodes, drawn(i, count)),
-    )?;
-    measure(
-        rt,
-        "get",
-        calls,
-        NS,
-        |i| get_at(store, nodes, drawn(i, count)),
-    )?;
-    measure(
-        rt,
-        "next",
-        calls,
-        NS,
-        |i| next_at(store, nodes, drawn(i, count)),
-    )?;
-    let new = new_nodes(rt.alloc(), count, size.between)?;
-    let few = with_rounds(plan, size.between);
-    measure(
-        rt,
-        "put and kill",
-        few,
-        NS,
-        |i| between(store, &new, &nodes.text, i),
-    )
-}
-
-// A line that does this in so many turns.
-fn line(alloc: Global, turns: usize, body: &str) -> anyhow::Result<Vec<u8>> {
+// A line that does something for each node of a range: `{` stands for the first one's number, `}` for the last one's.
+fn line_over(alloc: Global, form: &str, first: usize, last: usize) -> anyhow::Result<Vec<u8>> {
     let mut line = Vec::new(alloc);
-    line.extend_from_slice(b"1 F I=1:1:")?;
-    line.extend_from_slice(turns.to_string(alloc)?.as_bytes())?;
-    line.push(b' ')?;
-    line.extend_from_slice(body.as_bytes())?;
-    line.push(b'\n')?;
+    for byte in form.as_bytes() {
+        match *byte {
+            b'{' => line.extend_from_slice(first.to_string(alloc)?.as_bytes())?,
+            b'}' => line.extend_from_slice(last.to_string(alloc)?.as_bytes())?,
+            other => line.push(other)?,
+        }
+    }
     Ok(line)
 }
 
-// Times the turns of a line.
-fn turns<S: NodeStore>(
+// So many lines of a form, over ranges of nodes one behind another, and again from the first where there are no more.
+fn lines_over(alloc: Global, form: &str, size: Size, count: usize) -> anyhow::Result<Vec<Vec<u8>>> {
+    let turns = turns_of(size);
+    let ranges = (size.nodes / turns).max(1);
+    let mut lines = Vec::new(alloc);
+    for place in 0..count {
+        let first = (place % ranges).saturating_mul(turns);
+        let last = first.saturating_add(turns).saturating_sub(1);
+        lines.push(line_over(alloc, form, first, last)?)?;
+    }
+    Ok(lines)
+}
+
+// Times these lines, of which each does a thing so often.
+fn timed<S: NodeStore>(
     rt: &HostRuntime,
     plan: Plan,
     world: &mut World<S>,
     name: &str,
-    count: usize,
-    body: &str,
+    lines: &[Vec<u8>],
+    each: usize,
 ) -> anyhow::Result<()> {
-    let alloc = rt.alloc();
-    let stream = line(alloc, count, body)?;
-    let unit = Unit::NanosecondsEach(count);
+    if lines.is_empty() {
+        return Ok(());
+    }
+    let plan = Plan {
+        rounds: lines.len(),
+        passes: plan.passes,
+        timed: plan.timed,
+    };
     measure(
         rt,
         name,
-        with_rounds(plan, 1),
-        unit,
-        |_| answered(alloc, world, &stream),
+        plan,
+        Unit::PerSecond(each),
+        |round| match lines.get(round) {
+            Some(line) => answered(rt.alloc(), world, line),
+            None => -1,
+        },
     )
 }
 
-// The same through the language. New nodes stand behind all others, and are there once alone.
+// The lines, over a store that holds nothing.
 fn through_lines<S: NodeStore>(
     rt: &HostRuntime,
     plan: Plan,
@@ -134,70 +135,131 @@ fn through_lines<S: NodeStore>(
     size: Size,
 ) -> anyhow::Result<()> {
     let alloc = rt.alloc();
-    let at = format!(in alloc; "^DATA(I*7919#{})", size.nodes)?;
-    let at = at.as_str();
-    let again = format!(in alloc; "S {at}=\"hello world\"")?;
-    let read = format!(in alloc; "S X={at}")?;
-    let order = format!(in alloc; "S X=$O({at})")?;
-    let new = format!(in alloc; "S ^DATA(I*7919#{},\"x\")=1 K ^(\"x\")", size.nodes)?;
+    let turns = turns_of(size);
     let once = Plan {
-        rounds: 1,
+        rounds: plan.rounds,
         passes: 1,
         timed: plan.timed,
     };
-    turns(
-        rt,
-        once,
-        world,
-        "set",
-        size.calls,
-        "S ^NEW(I)=\"hello world\"",
+    let set = "1 F I={:1:} S ^DATA(I)=\"hello world\"\n";
+    let fill = lines_over(alloc, set, size, (size.nodes / turns).max(1))?;
+    timed(rt, once, world, "SET new", &fill, turns)?;
+    let again = lines_over(alloc, set, size, size.writing)?;
+    timed(rt, plan, world, "SET", &again, turns)?;
+    let read = lines_over(
+        alloc,
+        "1 F I={:1:} S X=^DATA(I)\n1 W X\n",
+        size,
+        size.reading,
     )?;
-    turns(rt, plan, world, "set again", size.calls, again.as_str())?;
-    turns(rt, plan, world, "read", size.calls, read.as_str())?;
-    turns(rt, plan, world, "order", size.calls, order.as_str())?;
-    turns(rt, plan, world, "set and kill", size.between, new.as_str())
+    timed(rt, plan, world, "read", &read, turns)?;
+    let walk = "1 S X={ F I={+1:1:} S X=$O(^DATA(X))\n1 W X\n";
+    let order = lines_over(alloc, walk, size, size.reading)?;
+    timed(rt, plan, world, "$ORDER", &order, turns)?;
+    let kill = "1 F I={:1:} S ^DATA(I,\"x\")=1 K ^DATA(I,\"x\")\n";
+    let mut kills = Vec::new(alloc);
+    kills.push(line_over(alloc, kill, 0, size.between.saturating_sub(1))?)?;
+    timed(rt, plan, world, "SET and KILL", &kills, size.between)
 }
 
-// All of it over an empty table.
+// A call of the store alone, so often in a pass.
+fn called<F: FnMut(usize) -> i128>(
+    rt: &HostRuntime,
+    plan: Plan,
+    name: &str,
+    rounds: usize,
+    work: F,
+) -> anyhow::Result<()>
+    requires { F.IsAlwaysCallable work }
+{
+    if rounds == 0 {
+        return Ok(());
+    }
+    let plan = Plan {
+        rounds,
+        passes: plan.passes,
+        timed: plan.timed,
+    };
+    measure(rt, name, plan, Unit::PerSecond(1), work)
+}
+
+// The same calls of the store that the lines left.
+fn alone<S: NodeStore>(
+    rt: &HostRuntime,
+    plan: Plan,
+    store: &mut S,
+    size: Size,
+) -> anyhow::Result<()> {
+    let count = size.nodes.max(1);
+    let nodes = make_nodes(rt.alloc(), size.nodes)?;
+    let new = new_nodes(rt.alloc(), size.nodes, size.between)?;
+    let writes = turns_of(size).saturating_mul(size.writing);
+    let reads = turns_of(size).saturating_mul(size.reading);
+    called(
+        rt,
+        plan,
+        "put",
+        writes,
+        |i| put_at(store, &nodes, i % count),
+    )?;
+    called(rt, plan, "get", reads, |i| get_at(store, &nodes, i % count))?;
+    called(
+        rt,
+        plan,
+        "next",
+        reads,
+        |i| next_at(store, &nodes, i % count),
+    )?;
+    called(
+        rt,
+        plan,
+        "put and kill",
+        size.between,
+        |i| between(store, &new, &nodes.text, i),
+    )
+}
+
+// Both, over a store that holds nothing, which is given back.
 fn over<S: NodeStore + Drop>(
     rt: &HostRuntime,
     plan: Plan,
+    kind: &str,
     store: S,
     size: Size,
-) -> anyhow::Result<()> {
-    let mut store = store;
-    let nodes = make_nodes(rt.alloc(), size.nodes)?;
-    fill(rt, plan.timed, &mut store, &nodes)?;
-    alone(rt, plan, &mut store, &nodes, size)?;
+) -> anyhow::Result<S> {
     let settings = Settings::read(rt.alloc(), SETTINGS.as_bytes())?;
+    let nodes = size.nodes;
+    println!(rt; "lines over {nodes} globals in {kind}")?;
     let mut world = World::new(rt.alloc(), settings, store);
-    through_lines(rt, plan, &mut world, size)
+    through_lines(rt, plan, &mut world, size)?;
+    let mut store = world.into_store();
+    println!(rt; "the store alone")?;
+    alone(rt, plan, &mut store, size)?;
+    Ok(store)
 }
 
-// The files of a table, gone if they were there.
 fn remove(rt: &HostRuntime) {
     let _ = fs::remove_file(rt, FILE);
     let _ = fs::remove_file(rt, LOG);
 }
 
 fn in_a_file(rt: &HostRuntime, plan: Plan, size: Size) -> anyhow::Result<()> {
-    remove(rt);
-    over(rt, plan, Table::open_file(rt, FILE)?, size)?;
-    remove(rt);
+    let table = Table::open_file(rt, FILE)?;
+    let table = over(rt, plan, "a file", table, size)?;
+    table.into_connection().close()?;
     Ok(())
 }
 
+// Globals in memory, few and many, and in a file.
 pub fn globals(rt: &HostRuntime, plan: Plan) -> anyhow::Result<()> {
-    let (sizes, file) = if plan.timed {
-        (TIMED, TIMED_FILE)
-    } else {
-        (SMALL, SMALL_FILE)
-    };
+    let sizes: &[Size] = if plan.timed { &[SMALL, LARGE] } else { &[FEW] };
     for size in sizes {
-        println!(rt; "globals in a table of {} nodes", size.nodes)?;
-        over(rt, plan, Table::open_memory(rt.alloc())?, size)?;
+        over(rt, plan, "the plain store", Plain::new(rt.alloc()), *size)?;
+        over(rt, plan, "a table", Table::open_memory(rt.alloc())?, *size)?;
     }
-    println!(rt; "globals in a file of {} nodes", file.nodes)?;
-    in_a_file(rt, plan, file)
+    let size = if plan.timed { IN_A_FILE } else { FEW_IN_A_FILE };
+    remove(rt);
+    let done = in_a_file(rt, plan, size);
+    remove(rt);
+    done
 }

@@ -1,4 +1,4 @@
-//! Times the operations of numbers, texts, keys, locals, stores, settings and locks, and lines of M over globals and locals. With a count, as
+//! Times the operations of numbers, texts, keys, locals, stores, settings and locks, and lines of M. With a count, as
 //! `benchmark 2000000`, each runs so often in each of five passes, and the time of the fastest pass is printed; without one, a thousand times, and only checksums
 //! are printed, which are the same on every machine. A second word names one page, as `benchmark 2000000 stores`.
 #![tactic(auto)]

@@ -20,6 +20,8 @@ pub enum Unit {
     BytesPerNanosecond(usize),
     /// So many lines are run in a round, and the time is told as thousands of lines a second.
     ThousandLinesPerSecond(usize),
+    /// So much is done in a round, and it is told how much is done in a second.
+    PerSecond(usize),
 }
 
 // Prints the time of the fastest pass, or the sum of what the rounds gave.
@@ -63,6 +65,13 @@ pub fn measure<F: FnMut(usize) -> i128>(
                 .saturating_mul(10_000_000)
                 / least.max(1),
             "thousand lines/s",
+        ),
+        Unit::PerSecond(count) => (
+            (count as u128)
+                .saturating_mul(rounds)
+                .saturating_mul(10_000_000_000)
+                / least.max(1),
+            "a second",
         ),
     };
     let whole = tenths / 10;

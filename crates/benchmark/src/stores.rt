@@ -28,11 +28,11 @@ pub struct Nodes {
     keys: Vec<NodeKey>,
     low: Vec<u8>,
     high: Vec<u8>,
-    text: Bytes7,
+    pub text: Bytes7,
 }
 
 // A place below the count, by the number of the round.
-pub fn drawn(round: usize, count: usize) -> usize {
+fn drawn(round: usize, count: usize) -> usize {
     let mixed = (round as u64).wrapping_mul(0x9e37_79b9_7f4a_7c15) >> 32;
     (mixed % count.max(1) as u64) as usize
 }
@@ -166,7 +166,7 @@ fn limited(plan: Plan, most: usize) -> Plan {
 }
 
 // Fills a store with nodes in order, once.
-pub fn fill<S: NodeStore>(
+fn fill<S: NodeStore>(
     rt: &HostRuntime,
     timed: bool,
     store: &mut S,

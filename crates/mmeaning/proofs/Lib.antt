@@ -10,3 +10,4 @@ pub mod LineTrees
 pub mod LineRuns
 pub mod ControlExamples
 pub mod VariableExamples
+pub mod GlobalExamples

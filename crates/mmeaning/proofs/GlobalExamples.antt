@@ -1,0 +1,139 @@
+-- Globals on examples, as proved equations. What a line asks of the world is followed one operation after another.
+use Rattle.std.proofs.Common.{◌≡◌, Bool, true, false, cond, List, [], ◌∷◌, Option, Some, None, refl, ap, ◌∙◌}
+use Rattle.std.specs.Prelude.{codes, not, option_map}
+use Rattle.std.specs.Ordering.{eq_by_cmp, nat_cmp}
+use Rattle.std.specs.FinMap.{gets, get, insert, empty, retain_keys, get-insert, get-empty}
+use Rattle.mspec.proofs.MapCuts.{get_cut}
+use Rattle.mspec.proofs.NodeOrders.{node_cmp_total, node_cmp_exact}
+use Rattle.mspec.specs.Code.{Code, M1, M7, Zsub}
+use Rattle.mspec.specs.Node.{Text, Node}
+use Rattle.mspec.specs.NodeOrder.{canonical_value, node_cmp}
+use Rattle.mspec.specs.Number.{significant_digits, round, round_size, nearest, rounding_unit, digits_before}
+use Rattle.mspec.specs.NumberText.{numeric_value, literal_size, size_text}
+use Rattle.std.specs.Fmt.{digits}
+use Rattle.mspec.specs.Globals.{Globals, is_node_within, status}
+use Rattle.mspec.specs.Plan.{Op, Answer, Plan, Done, Ask, Ops, perform}
+use Rattle.mspec.specs.Act.{Outcome, Fails, State, no_locals, level_begun, value_of, assigned_to}
+use Rattle.mgrammar.specs.Grammar.{LineTree, keyword_of, special_of, function_of}
+use Rattle.mgrammar.specs.Reading.{many, list_at, point_at, exponent_at, number_at, name_at, truth_at, operator_at, bracket_with, refer_with, dollar_with, subscripts_with, reference_with, primary_with, operand_with, step_by, step_with, expr_with, readers_at, target_with, destination_at, assignment_at, names_at, removal_at, hiding_at, condition_at, parameter_at, repetition_at, output_at, args_at, postcondition_at, command_at, spaced_at, comment_at, line_at}
+use Rattle.mmeaning.specs.LineMeaning.{Signal}
+use Rattle.mmeaning.specs.World.{World, act}
+use Rattle.mmeaning.specs.Step.{Reply, Server, Session, normal, kept, ended, new_session, begun, is_too_long, is_ascii}
+use Rattle.mmeaning.specs.History.{opening}
+use Rattle.mmeaning.proofs.ExampleAccount.{done, failed, alice, account}
+use Rattle.mmeaning.proofs.LineRuns.{AreAnswered, event, shut, shut_run, shut_step, step_is_shut, at_last}
+
+-- ---- operations, one after another
+
+abbrev doing : Ops World
+doing = act alice 1 (codes "ALICE")
+
+-- a plan that is carried out has this outcome, and leaves this world
+record Comes (p : Plan (Outcome Signal)) (w : World) (r : Outcome Signal × World) : Type 0 where
+  is : perform doing p w ≡ r
+
+asked : {op : Op} {k : Answer op → Plan (Outcome Signal)} {w w' : World} {r : Outcome Signal × World} (a : Answer op) → doing op w ≡ (a, w') → Comes (k a) w' r → Comes (Ask op k) w r
+asked {k = k} a is rest = record { is = ap (λ x. perform doing (k x.0) x.1) is ∙ rest.is }
+
+finished : {o : Outcome Signal} {w : World} → Comes (Done o) w (o, w)
+finished = record { is = refl }
+
+same : {A : Type 0} {a b : A} {w : World} → a ≡ b → ◌≡◌ {A = A × World} (a, w) (b, w)
+same {w = w} e = ap (λ a. (a, w)) e
+
+opened : (g : Globals) (t : Text) (l : Option LineTree) → is_too_long t ≡ false → is_ascii t ≡ true
+    → shut_step alice (event t) l (opening g) ≡ ended 1 (opening g) (perform doing (shut_run (codes "ALICE") l (begun account new_session)) (opening g).world)
+opened g t l short ascii = simp (gets, short, ascii)
+
+-- a line over these globals, by what its operations do
+answers : {g : Globals} {t : Text} {r : Outcome Signal × World} (l : Option LineTree) → line_at t ≡ l → is_too_long t ≡ false → is_ascii t ≡ true
+    → Comes (shut_run (codes "ALICE") l (begun account new_session)) (opening g).world r → AreAnswered account (opening g) (t ∷ []) ((ended 1 (opening g) r).0 ∷ [])
+answers {g = g} {t = t} l tree short ascii run = at_last l tree (ap (λ x. x.0) (opened g t l short ascii) ∙ ap (λ r. (ended 1 (opening g) r).0) run.is)
+
+-- behind a line over these globals that ends in a code, this is the node that was referred to last
+record Refers (g : Globals) (t : Text) (last : Option Node) : Type 0 where
+  is : option_map (λ (s : Session). s.naked) (get (normal alice (event t) (opening g)).1.sessions 1) ≡ Some last
+
+kept_session : (s : Session) → get (insert (empty {X = Session} {R = nat_cmp}) 1 s) 1 ≡ Some s
+kept_session s = simp gets
+
+refers : {g : Globals} {t : Text} {c : Code} {s : State} {w : World} (l : Option LineTree) → line_at t ≡ l → is_too_long t ≡ false → is_ascii t ≡ true
+    → Comes (shut_run (codes "ALICE") l (begun account new_session)) (opening g).world (Fails c s, w) → Refers g t s.naked
+refers {g = g} {t = t} {s = s} l tree short ascii run = record {
+  is =
+      ap (λ (x : Reply × Server). option_map (λ (s : Session). s.naked) (get x.1.sessions 1))
+      (step_is_shut alice (event t) (opening g) ∙ ap (λ l. shut_step alice (event t) l (opening g)) tree ∙ opened g t l short ascii ∙ ap (ended 1 (opening g)) run.is)
+      ∙ ap (option_map (λ (s : Session). s.naked)) (kept_session (kept s));
+}
+
+-- ---- the maps of texts by their nodes
+
+node_none : (n : Node) → get (empty {X = Text} {R = node_cmp significant_digits}) n ≡ None
+node_none n = get-empty (node_cmp significant_digits) n
+
+node_put : (g : Globals) (k : Node) (x : Text) (n : Node) → get (insert g k x) n ≡ cond (eq_by_cmp (node_cmp significant_digits) n k) (Some x) (get g n)
+node_put g k x n = get-insert (node_cmp_total significant_digits) g k x n
+
+node_kept : (g : Globals) (p : Node → Bool) (n : Node) → get (retain_keys g p) n ≡ cond (p n) (get g n) None
+node_kept g p n = get_cut (node_cmp_total significant_digits) (node_cmp_exact significant_digits) g p n
+
+abbrev at : Text → List Text → Node
+at name xs = record { account = codes "ALICE"; name = name; subscripts = xs }
+
+-- what is read is what was set
+read_back : (g : Globals) → AreAnswered account (opening g) (codes "S ^A(\"x\")=\"y\" W ^A(\"x\")" ∷ []) (done (codes "y") ∷ [])
+unfolding shut keyword_of function_of many list_at point_at exponent_at number_at name_at operator_at truth_at bracket_with refer_with dollar_with special_of subscripts_with reference_with primary_with operand_with step_by step_with expr_with readers_at target_with destination_at assignment_at names_at removal_at hiding_at condition_at parameter_at repetition_at output_at args_at postcondition_at command_at spaced_at comment_at line_at canonical_value no_locals level_begun value_of assigned_to numeric_value literal_size round round_size nearest rounding_unit digits_before size_text digits
+read_back g =
+    answers _ refl refl refl
+    (asked true refl (asked tt refl (asked true refl (asked (Some (codes "y")) (same (node_put g (at (codes "A") (codes "x" ∷ [])) (codes "y") (at (codes "A") (codes "x" ∷ [])))) finished))))
+
+-- a global that has no text
+undefined_global : AreAnswered account (opening empty) (codes "W ^A" ∷ []) (failed [] M7 ∷ [])
+unfolding shut keyword_of function_of many list_at point_at exponent_at number_at name_at operator_at truth_at bracket_with refer_with dollar_with special_of subscripts_with reference_with primary_with operand_with step_by step_with expr_with readers_at target_with destination_at assignment_at names_at removal_at hiding_at condition_at parameter_at repetition_at output_at args_at postcondition_at command_at spaced_at comment_at line_at canonical_value no_locals level_begun value_of assigned_to numeric_value literal_size round round_size nearest rounding_unit digits_before size_text digits
+undefined_global = answers _ refl refl refl (asked true refl (asked None (same (node_none (at (codes "A") []))) finished))
+
+-- a naked reference stands beside the node that was referred to last, whose last subscript it replaces
+beside_the_last : (g : Globals)
+    → AreAnswered account (opening g) (codes "S ^A(\"x\",\"y\")=\"1\",^(\"z\",\"u\")=\"2\" W ^A(\"x\",\"z\",\"u\")" ∷ []) (done (codes "2") ∷ [])
+unfolding shut keyword_of function_of many list_at point_at exponent_at number_at name_at operator_at truth_at bracket_with refer_with dollar_with special_of subscripts_with reference_with primary_with operand_with step_by step_with expr_with readers_at target_with destination_at assignment_at names_at removal_at hiding_at condition_at parameter_at repetition_at output_at args_at postcondition_at command_at spaced_at comment_at line_at canonical_value no_locals level_begun value_of assigned_to numeric_value literal_size round round_size nearest rounding_unit digits_before size_text digits
+beside_the_last g =
+    answers _ refl refl refl
+    (asked true refl (asked tt refl (asked true refl (asked tt refl (asked true refl
+    (asked (Some (codes "2")) (same (node_put (insert g (at (codes "A") (codes "x" ∷ codes "y" ∷ [])) (codes "1")) (at (codes "A") (codes "x" ∷ codes "z" ∷ codes "u" ∷ [])) (codes "2") (at (codes "A") (codes "x" ∷ codes "z" ∷ codes "u" ∷ [])))) finished))))))
+
+-- and needs one with a subscript
+no_last_reference : (g : Globals) → AreAnswered account (opening g) (codes "W ^(\"x\")" ∷ []) (failed [] M1 ∷ [])
+unfolding shut keyword_of function_of many list_at point_at exponent_at number_at name_at operator_at truth_at bracket_with refer_with dollar_with special_of subscripts_with reference_with primary_with operand_with step_by step_with expr_with readers_at target_with destination_at assignment_at names_at removal_at hiding_at condition_at parameter_at repetition_at output_at args_at postcondition_at command_at spaced_at comment_at line_at canonical_value no_locals level_begun value_of assigned_to numeric_value literal_size round round_size nearest rounding_unit digits_before size_text digits
+no_last_reference g = answers _ refl refl refl finished
+
+no_last_subscript : (g : Globals) → AreAnswered account (opening g) (codes "S ^A=\"1\",^(\"x\")=\"2\"" ∷ []) (failed [] M1 ∷ [])
+unfolding shut keyword_of function_of many list_at point_at exponent_at number_at name_at operator_at truth_at bracket_with refer_with dollar_with special_of subscripts_with reference_with primary_with operand_with step_by step_with expr_with readers_at target_with destination_at assignment_at names_at removal_at hiding_at condition_at parameter_at repetition_at output_at args_at postcondition_at command_at spaced_at comment_at line_at canonical_value no_locals level_begun value_of assigned_to numeric_value literal_size round round_size nearest rounding_unit digits_before size_text digits
+no_last_subscript g = answers _ refl refl refl (asked true refl (asked tt refl finished))
+
+-- a refused subscript: the account was asked for first
+refused_subscript : (g : Globals) → AreAnswered account (opening g) (codes "S ^A(\"\")=\"1\"" ∷ []) (failed [] Zsub ∷ [])
+unfolding shut keyword_of function_of many list_at point_at exponent_at number_at name_at operator_at truth_at bracket_with refer_with dollar_with special_of subscripts_with reference_with primary_with operand_with step_by step_with expr_with readers_at target_with destination_at assignment_at names_at removal_at hiding_at condition_at parameter_at repetition_at output_at args_at postcondition_at command_at spaced_at comment_at line_at canonical_value no_locals level_begun value_of assigned_to numeric_value literal_size round round_size nearest rounding_unit digits_before size_text digits
+refused_subscript g = answers _ refl refl refl (asked true refl finished)
+
+-- KILL takes a node with what stands below it
+kill_takes_descendants : (g : Globals) → AreAnswered account (opening g) (codes "K ^A(\"x\") W ^A(\"x\",\"y\")" ∷ []) (failed [] M7 ∷ [])
+unfolding shut keyword_of function_of many list_at point_at exponent_at number_at name_at operator_at truth_at bracket_with refer_with dollar_with special_of subscripts_with reference_with primary_with operand_with step_by step_with expr_with readers_at target_with destination_at assignment_at names_at removal_at hiding_at condition_at parameter_at repetition_at output_at args_at postcondition_at command_at spaced_at comment_at line_at canonical_value no_locals level_begun value_of assigned_to numeric_value literal_size round round_size nearest rounding_unit digits_before size_text digits
+kill_takes_descendants g =
+    answers _ refl refl refl
+    (asked true refl (asked tt refl (asked true refl
+    (asked None (same (node_kept g (λ m. not (is_node_within (at (codes "A") (codes "x" ∷ [])) m)) (at (codes "A") (codes "x" ∷ codes "y" ∷ [])))) finished))))
+
+-- $DATA of a node that has texts below it alone
+data_of_descendants : (g : Globals) → status g (at (codes "A") (codes "x" ∷ [])) ≡ (false, true) → AreAnswered account (opening g) (codes "W $D(^A(\"x\"))" ∷ []) (done (codes "10") ∷ [])
+unfolding shut keyword_of function_of many list_at point_at exponent_at number_at name_at operator_at truth_at bracket_with refer_with dollar_with special_of subscripts_with reference_with primary_with operand_with step_by step_with expr_with readers_at target_with destination_at assignment_at names_at removal_at hiding_at condition_at parameter_at repetition_at output_at args_at postcondition_at command_at spaced_at comment_at line_at canonical_value no_locals level_begun value_of assigned_to numeric_value literal_size round round_size nearest rounding_unit digits_before size_text digits
+data_of_descendants g is = answers _ refl refl refl (asked true refl (asked (false, true) (same is) finished))
+
+-- a node without a text is referred to all the same
+undefined_is_referred_to : Refers empty (codes "W ^A(\"x\")") (Some (at (codes "A") (codes "x" ∷ [])))
+unfolding shut keyword_of function_of many list_at point_at exponent_at number_at name_at operator_at truth_at bracket_with refer_with dollar_with special_of subscripts_with reference_with primary_with operand_with step_by step_with expr_with readers_at target_with destination_at assignment_at names_at removal_at hiding_at condition_at parameter_at repetition_at output_at args_at postcondition_at command_at spaced_at comment_at line_at canonical_value no_locals level_begun value_of assigned_to numeric_value literal_size round round_size nearest rounding_unit digits_before size_text digits
+undefined_is_referred_to = refers _ refl refl refl (asked true refl (asked None (same (node_none (at (codes "A") (codes "x" ∷ [])))) finished))
+
+-- but none whose subscript is refused
+refused_is_not : (g : Globals) → Refers g (codes "S ^A(\"x\")=\"1\",^(\"\")=\"2\"") (Some (at (codes "A") (codes "x" ∷ [])))
+unfolding shut keyword_of function_of many list_at point_at exponent_at number_at name_at operator_at truth_at bracket_with refer_with dollar_with special_of subscripts_with reference_with primary_with operand_with step_by step_with expr_with readers_at target_with destination_at assignment_at names_at removal_at hiding_at condition_at parameter_at repetition_at output_at args_at postcondition_at command_at spaced_at comment_at line_at canonical_value no_locals level_begun value_of assigned_to numeric_value literal_size round round_size nearest rounding_unit digits_before size_text digits
+refused_is_not g = refers _ refl refl refl (asked true refl (asked tt refl (asked true refl finished)))

@@ -1,7 +1,7 @@
 // Globals through the language, beside the same calls of the store alone.
 use crate::lines::answered;
 use crate::measure::{Plan, Unit, measure};
-use crate::stores::{between, get_at, make_nodes, new_nodes, next_at, put_at};
+use crate::stores::{Nodes, between, get_at, make_nodes, new_nodes, next_at, put_at};
 use mgrant::Settings;
 use mstore::{NodeStore, Plain, Table};
 use mworld::World;
@@ -72,6 +72,16 @@ fn turns_of(size: Size) -> usize {
     size.nodes.clamp(1, TURNS)
 }
 
+// How many lines go over all nodes.
+fn lines_of(size: Size) -> usize {
+    (size.nodes / turns_of(size).max(1)).max(1)
+}
+
+// The place of a round among so many, which come again and again.
+fn place_of(round: usize, count: usize) -> usize {
+    round % count.max(1)
+}
+
 // A line that does something for each node of a range: `{` stands for the first one's number, `}` for the last one's.
 fn line_over(alloc: Global, form: &str, first: usize, last: usize) -> anyhow::Result<Vec<u8>> {
     let mut line = Vec::new(alloc);
@@ -88,10 +98,10 @@ fn line_over(alloc: Global, form: &str, first: usize, last: usize) -> anyhow::Re
 // So many lines of a form, over ranges of nodes one behind another, and again from the first where there are no more.
 fn lines_over(alloc: Global, form: &str, size: Size, count: usize) -> anyhow::Result<Vec<Vec<u8>>> {
     let turns = turns_of(size);
-    let ranges = (size.nodes / turns).max(1);
+    let ranges = lines_of(size);
     let mut lines = Vec::new(alloc);
     for place in 0..count {
-        let first = (place % ranges).saturating_mul(turns);
+        let first = place_of(place, ranges).saturating_mul(turns);
         let last = first.saturating_add(turns).saturating_sub(1);
         lines.push(line_over(alloc, form, first, last)?)?;
     }
@@ -142,7 +152,7 @@ fn through_lines<S: NodeStore>(
         timed: plan.timed,
     };
     let set = "1 F I={:1:} S ^DATA(I)=\"hello world\"\n";
-    let fill = lines_over(alloc, set, size, (size.nodes / turns).max(1))?;
+    let fill = lines_over(alloc, set, size, lines_of(size))?;
     timed(rt, once, world, "SET new", &fill, turns)?;
     let again = lines_over(alloc, set, size, size.writing)?;
     timed(rt, plan, world, "SET", &again, turns)?;
@@ -183,6 +193,32 @@ fn called<F: FnMut(usize) -> i128>(
     measure(rt, name, plan, Unit::PerSecond(1), work)
 }
 
+// The reads of the store that the lines left.
+fn reads_alone<S: NodeStore>(
+    rt: &HostRuntime,
+    plan: Plan,
+    store: &mut S,
+    nodes: &Nodes,
+    size: Size,
+) -> anyhow::Result<()> {
+    let count = size.nodes;
+    let reads = turns_of(size).saturating_mul(size.reading);
+    called(
+        rt,
+        plan,
+        "get",
+        reads,
+        |i| get_at(store, nodes, place_of(i, count)),
+    )?;
+    called(
+        rt,
+        plan,
+        "next",
+        reads,
+        |i| next_at(store, nodes, place_of(i, count)),
+    )
+}
+
 // The same calls of the store that the lines left.
 fn alone<S: NodeStore>(
     rt: &HostRuntime,
@@ -190,26 +226,18 @@ fn alone<S: NodeStore>(
     store: &mut S,
     size: Size,
 ) -> anyhow::Result<()> {
-    let count = size.nodes.max(1);
-    let nodes = make_nodes(rt.alloc(), size.nodes)?;
-    let new = new_nodes(rt.alloc(), size.nodes, size.between)?;
+    let count = size.nodes;
+    let nodes = make_nodes(rt.alloc(), count)?;
+    let new = new_nodes(rt.alloc(), count, size.between)?;
     let writes = turns_of(size).saturating_mul(size.writing);
-    let reads = turns_of(size).saturating_mul(size.reading);
     called(
         rt,
         plan,
         "put",
         writes,
-        |i| put_at(store, &nodes, i % count),
+        |i| put_at(store, &nodes, place_of(i, count)),
     )?;
-    called(rt, plan, "get", reads, |i| get_at(store, &nodes, i % count))?;
-    called(
-        rt,
-        plan,
-        "next",
-        reads,
-        |i| next_at(store, &nodes, i % count),
-    )?;
+    reads_alone(rt, plan, store, &nodes, size)?;
     called(
         rt,
         plan,

@@ -9,8 +9,11 @@ pub mod ReadingPrimaries
 pub mod ReadingExprs
 pub mod ReadingTargets
 pub mod ReadingArguments
+pub mod ReadingEntries
 pub mod ReadingCommands
 pub mod ReadingLines
+pub mod ReadingRoutines
 pub mod ReadingLoops
 pub mod GrammarExamples
 pub mod Matchings
+pub mod RoutineExamples

@@ -31,11 +31,14 @@ variable_again = reference_again max_depth (readers_at max_depth) (inner_again m
 abbrev pub is_colon : ℕ → Bool
 is_colon c = eqb c 58
 
+abbrev pub is_caret : ℕ → Bool
+is_caret c = eqb c 94
+
 -- ---- outputs
 
 -- what may follow an argument
 abbrev pub Follows : List ℕ → Type 0
-Follows rest = Ends rest × Stops is_bang rest × Stops is_colon rest
+Follows rest = Ends rest × Stops is_bang rest × Stops is_colon rest × Stops is_caret rest
 
 not_bang : (c : ℕ) → begins_operand c ≡ true → is_bang c ≡ false
 not_bang c h = grind (arith, nat_tests)
@@ -259,7 +262,7 @@ repetition_again a rest w s = absurd w
 
 -- ---- where an argument begins
 
-names_begin : (n : List ℕ) → IsName n → Begins begins_operand n
+pub names_begin : (n : List ℕ) → IsName n → Begins begins_operand n
 names_begin [] w = absurd w
 names_begin (c ∷ n) w = variable_begins c (name_begins_reference c w.0)
 

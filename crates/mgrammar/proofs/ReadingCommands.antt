@@ -4,16 +4,17 @@ use Rattle.std.specs.Prelude.{◌||◌}
 use Rattle.std.proofs.lemmas.Bool.{eqb-true, and_parts}
 use Rattle.std.proofs.lemmas.Bool.Decides.{nat_tests}
 use Rattle.mspec.specs.Names.{is_letter, is_name_rest, AllAre}
-use Rattle.mgrammar.specs.Grammar.{ExprTree, ArgTree, breaks, shown, CommandTree, KeywordTree, set_word, kill_word, new_word, if_word, else_word, for_word, quit_word, write_word, keyword_of, FormTree, assignment, removal, hiding, condition, repetition, output, nothing, form_of, takes_args, takes_condition, spell_expr, spell_arg, spell_args, spell_condition, spell_list, spell_more, spell_command}
-use Rattle.mgrammar.specs.WellFormed.{max_depth, WellAll, WellList, WellArg, WellCondition, WellCommand}
-use Rattle.mgrammar.specs.Reading.{◌>>=◌, run_of, after_run, past, expr_at, list_at, is_bang, arg_at, has_args, args_at, postcondition_by, postcondition_at, command_by, command_at}
-use Rattle.mgrammar.proofs.ReadingBasics.{Takes, Again, Stops, Stops-weaker, Begins, Begins-append, Begins-weaker, goes_on, bind_some, chosen, some_is, run_parts, run_again, past_takes, not_past}
+use Rattle.mgrammar.specs.Grammar.{ExprTree, ArgTree, breaks, shown, CommandTree, KeywordTree, set_word, kill_word, new_word, if_word, else_word, for_word, quit_word, write_word, do_word, goto_word, execute_word, keyword_of, FormTree, assignment, removal, hiding, condition, repetition, output, entrance, leap, execution, nothing, form_of, takes_args, takes_condition, spell_expr, spell_arg, spell_args, spell_condition, spell_list, spell_more, spell_command}
+use Rattle.mgrammar.specs.WellFormed.{max_depth, WellAll, WellList, WellOptional, WellArg, WellCondition, WellCommand}
+use Rattle.mgrammar.specs.Reading.{◌>>=◌, run_of, after_run, past, list_at, is_bang, arg_at, has_args, args_at, postcondition_by, postcondition_at, command_by, command_at}
+use Rattle.mgrammar.proofs.ReadingBasics.{Takes, Again, Stops, Stops-weaker, Begins, Begins-append, Begins-weaker, goes_on, bind_some, chosen, some_is, run_parts, run_again, not_past}
 use Rattle.mgrammar.proofs.ReadingLists.{is_comma, one_again, list_takes, list_again}
 use Rattle.mgrammar.proofs.ReadingReferences.{Ends, name_or_open}
 use Rattle.mgrammar.proofs.ReadingPrimaries.{not_on}
 use Rattle.mgrammar.proofs.ReadingExprs.{begins_operand, expr_begins}
 use Rattle.mgrammar.proofs.ReadingTargets.{assignment_takes, assignment_again, assignment_begins}
-use Rattle.mgrammar.proofs.ReadingArguments.{whole_takes, whole_again, is_colon, Follows, output_takes, output_again, removal_takes, removal_again, removal_begins, hiding_takes, hiding_again, hiding_begins, condition_takes, condition_again, condition_begins, repetition_takes, repetition_again, repetition_begins}
+use Rattle.mgrammar.proofs.ReadingArguments.{is_colon, Follows, output_takes, output_again, removal_takes, removal_again, removal_begins, hiding_takes, hiding_again, hiding_begins, condition_takes, condition_again, condition_begins, repetition_takes, repetition_again, repetition_begins}
+use Rattle.mgrammar.proofs.ReadingEntries.{condition_read, condition_spelled, entrance_takes, entrance_again, entrance_begins, leap_takes, leap_again, leap_begins, execution_takes, execution_again, execution_begins}
 
 -- ---- the laws of each form
 
@@ -49,7 +50,7 @@ record IsForm (f : FormTree) : Type 0 where
 -- of a form that a comma ends
 several_again : (f : FormTree) → Again spell_arg (WellArg f) Follows (arg_at f) → (args : List ArgTree) (rest : List ℕ) → WellList (WellArg f) args → IsCounted f (length args) → Closes rest
     → list_at (arg_at f) (spell_list spell_arg args ++ rest) ≡ Some (args, rest)
-several_again f again args rest w n s = list_again spell_arg (WellArg f) (arg_at f) Follows (λ cs. ((refl, refl), refl, refl)) again args rest w s
+several_again f again args rest w n s = list_again spell_arg (WellArg f) (arg_at f) Follows (λ cs. ((refl, refl), refl, refl, refl)) again args rest w s
 
 single_again : (args : List ArgTree) (rest : List ℕ) → WellList (WellArg repetition) args → IsCounted repetition (length args) → Closes rest
     → list_at (arg_at repetition) (spell_list spell_arg args ++ rest) ≡ Some (args, rest)
@@ -84,6 +85,21 @@ is_form repetition = record {
   begins = λ a w. as_arg a (repetition_begins a w);
 }
 is_form output = record { takes = output_takes; again = several_again output output_again; begins = output_begins }
+is_form entrance = record {
+  takes = entrance_takes;
+  again = several_again entrance entrance_again;
+  begins = λ a w. as_arg a (entrance_begins a w);
+}
+is_form leap = record {
+  takes = leap_takes;
+  again = several_again leap leap_again;
+  begins = λ a w. as_arg a (leap_begins a w);
+}
+is_form execution = record {
+  takes = execution_takes;
+  again = several_again execution execution_again;
+  begins = λ a w. as_arg a (execution_begins a w);
+}
 is_form nothing = record {
   takes = λ cs x e. absurd cc;
   again = several_again nothing (λ a rest w s. absurd w);
@@ -131,21 +147,15 @@ args_again f (a ∷ more) rest w n s =
 
 -- ---- postconditionals
 
-postcondition_takes_by : (k : KeywordTree) (cs : List ℕ) (o : Option (List ℕ)) (x : Option ExprTree × List ℕ) → takes_condition k ≡ true → past 58 cs ≡ o → postcondition_by cs o ≡ Some x
-    → (cs ≡ spell_condition x.0 ++ x.1) × WellCondition k x.0
-postcondition_takes_by k cs None x t h e =
-    subst (λ (y : Option ExprTree × List ℕ). (cs ≡ spell_condition y.0 ++ y.1) × WellCondition k y.0) {x = (None, cs)} (some_is (None, cs) x e) (refl, tt)
-postcondition_takes_by k cs (Some rest) x t h e =
-    let b = bind_some (expr_at max_depth rest) (λ y. Some (Some y.0, y.1)) x e in
-    let value = whole_takes rest b.0 b.1 in
-    subst (λ (y : Option ExprTree × List ℕ). (cs ≡ spell_condition y.0 ++ y.1) × WellCondition k y.0) {x = (Some b.0.0, b.0.1)} (some_is (Some b.0.0, b.0.1) x b.2)
-    (past_takes 58 cs rest h ∙ ap (λ (y : List ℕ). 58 ∷ y) value.0, (t, value.1))
+well_condition : (k : KeywordTree) (c : Option ExprTree) → takes_condition k ≡ true → WellOptional max_depth c → WellCondition k c
+well_condition k None t w = tt
+well_condition k (Some e) t w = (t, w)
 
 postcondition_takes : (k : KeywordTree) → Takes spell_condition (WellCondition k) (postcondition_at k)
 unfolding postcondition_at
 postcondition_takes k cs x e =
     elim (chosen (takes_condition k) (postcondition_by cs (past 58 cs)) (Some (None, cs)) (Some x) e) [
-      | inl p ↦ postcondition_takes_by k cs (past 58 cs) x p.0 refl p.1
+      | inl p ↦ let read = condition_read cs (past 58 cs) x refl p.1 in (read.0, well_condition k x.0 p.0 read.1)
       | inr p ↦ subst (λ (y : Option ExprTree × List ℕ). (cs ≡ spell_condition y.0 ++ y.1) × WellCondition k y.0) {x = (None, cs)} (some_is (None, cs) x p.1) (refl, tt)
     ]
 
@@ -156,7 +166,7 @@ same_either false x = refl
 postcondition_again : (k : KeywordTree) → Again spell_condition (WellCondition k) (λ rest. Ends rest × Stops is_colon rest) (postcondition_at k)
 unfolding postcondition_at
 postcondition_again k None rest w s = rw (not_past 58 rest s.1) (same_either (takes_condition k) (Some (None, rest)))
-postcondition_again k (Some e) rest w s = rw (w.0, whole_again e rest w.1 s.0) refl
+postcondition_again k (Some e) rest w s = rw (w.0, condition_spelled (Some e) rest w.1 s.0 s.1) refl
 
 -- ---- commands
 
@@ -213,6 +223,9 @@ counted else_word n h = λ f. absurd cc
 counted for_word n h = λ f. grind (arith, nat_tests, h)
 counted quit_word n h = λ f. absurd cc
 counted write_word n h = λ f. absurd cc
+counted do_word n h = λ f. absurd cc
+counted goto_word n h = λ f. absurd cc
+counted execute_word n h = λ f. absurd cc
 
 command_parts : (w c a rest : List ℕ) → (w ++ (c ++ a)) ++ rest ≡ w ++ (c ++ (a ++ rest))
 command_parts w c a rest = simp append_assoc

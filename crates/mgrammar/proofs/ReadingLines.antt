@@ -90,17 +90,17 @@ command_begins c rest h = letter_begins (spell_command c ++ rest) (Begins-append
     letter_begins [] b = absurd b
     letter_begins (c ∷ cs) b = letter_not_end c b
 
-end_stops : (rest : List ℕ) → at_end rest ≡ true → Stops is_space rest
+pub end_stops : (rest : List ℕ) → at_end rest ≡ true → Stops is_space rest
 end_stops [] h = tt
 end_stops (c ∷ cs) h = subst (λ (x : ℕ). Stops is_space (x ∷ cs)) (sym (eqb-true c 59 h)) refl
 
 -- what may follow a command's last argument: the end, a comment, or a space
 closes_end : (rest : List ℕ) → at_end rest ≡ true → Closes rest
-closes_end [] h = (((tt, tt), tt, tt), tt)
-closes_end (c ∷ cs) h = subst (λ (x : ℕ). Closes (x ∷ cs)) (sym (eqb-true c 59 h)) (((refl, refl), refl, refl), refl)
+closes_end [] h = (((tt, tt), tt, tt, tt), tt)
+closes_end (c ∷ cs) h = subst (λ (x : ℕ). Closes (x ∷ cs)) (sym (eqb-true c 59 h)) (((refl, refl), refl, refl, refl), refl)
 
 closes_space : (rest : List ℕ) → Closes (32 ∷ rest)
-closes_space rest = (((refl, refl), refl, refl), refl)
+closes_space rest = (((refl, refl), refl, refl, refl), refl)
 
 no_args : (rest : List ℕ) → at_end rest ≡ true → has_args rest ≡ false
 no_args [] h = refl
@@ -151,7 +151,7 @@ unfolding many spaced_at
 stops_at_end zero rest h = refl
 stops_at_end (suc n) rest h = rw h refl
 
-head_well : (c : SpacedTree) (cs : List SpacedTree) → WellCommands (c ∷ cs) → WellCommand c.0
+pub head_well : (c : SpacedTree) (cs : List SpacedTree) → WellCommands (c ∷ cs) → WellCommand c.0
 head_well c [] w = w
 head_well c (d ∷ cs) w = w.0
 
@@ -183,7 +183,7 @@ comment_takes_by : (t after : List ℕ) (o : Option (List ℕ)) → AllAre is_ch
 comment_takes_by t [] o w e = subst (λ (y : Option (List ℕ)). (59 ∷ (t ++ []) ≡ spell_comment y) × WellComment y) (some_is (Some t) o e) (ap (λ (y : List ℕ). 59 ∷ y) (append-nil t), w)
 comment_takes_by t (c ∷ cs) o w e = absurd cc
 
-comment_takes : (cs : List ℕ) (o : Option (List ℕ)) → comment_at cs ≡ Some o → (cs ≡ spell_comment o) × WellComment o
+pub comment_takes : (cs : List ℕ) (o : Option (List ℕ)) → comment_at cs ≡ Some o → (cs ≡ spell_comment o) × WellComment o
 unfolding comment_at
 comment_takes [] o e = subst (λ (y : Option (List ℕ)). ([] ≡ spell_comment y) × WellComment y) (some_is None o e) (refl, tt)
 comment_takes (c ∷ cs) o e =
@@ -200,7 +200,7 @@ comment_takes (c ∷ cs) o e =
     two : (c : ℕ) (cs : List ℕ) (a : ℕ) (bs : List ℕ) → c ≡ a → cs ≡ bs → c ∷ cs ≡ a ∷ bs
     two c cs a bs p q = cc
 
-comment_again : (o : Option (List ℕ)) → WellComment o → comment_at (spell_comment o) ≡ Some o
+pub comment_again : (o : Option (List ℕ)) → WellComment o → comment_at (spell_comment o) ≡ Some o
 unfolding comment_at
 comment_again None w = refl
 comment_again (Some t) w =
@@ -210,7 +210,7 @@ comment_again (Some t) w =
     let after : after_run is_character t ≡ [] = ap (after_run is_character) (sym same) ∙ r.1 in
     rw (text, after) refl
 
-comment_ends : (o : Option (List ℕ)) → at_end (spell_comment o) ≡ true
+pub comment_ends : (o : Option (List ℕ)) → at_end (spell_comment o) ≡ true
 comment_ends None = refl
 comment_ends (Some t) = refl
 
@@ -233,7 +233,7 @@ line_takes cs l e =
     four cs a a' r b c d p q u v = cc
 
 -- the spaces in front end where the commands begin
-stop_commands : (cs : List SpacedTree) (rest : List ℕ) → WellCommands cs → at_end rest ≡ true → Stops is_space (spell_commands cs ++ rest)
+pub stop_commands : (cs : List SpacedTree) (rest : List ℕ) → WellCommands cs → at_end rest ≡ true → Stops is_space (spell_commands cs ++ rest)
 stop_commands [] rest w h = end_stops rest h
 stop_commands (c ∷ []) rest w h = rw (commands_parts c [] rest) ((command_begins c.0 (replicate c.1 32 ++ rest) w).1)
 stop_commands (c ∷ d ∷ cs) rest w h = rw (commands_parts c (d ∷ cs) rest) ((command_begins c.0 (replicate c.1 32 ++ (spell_commands (d ∷ cs) ++ rest)) w.0).1)

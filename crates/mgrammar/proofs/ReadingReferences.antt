@@ -127,7 +127,7 @@ unfolding subscripts_with
 subscripts_step r cs es rest h = rw h refl
 
 -- a name begins as a name
-named : (name : List ℕ) → IsName name → Begins is_name_start name
+pub named : (name : List ℕ) → IsName name → Begins is_name_start name
 named [] w = absurd w
 named (c ∷ cs) w = w.0
 
@@ -135,7 +135,7 @@ name_tests : (c : ℕ) → is_name_start c ≡ true → (eqb c 94 ≡ false) × 
 name_tests c h = (grind (arith, nat_tests), grind (arith, nat_tests))
 
 -- no `^` and no bracket stand where a name begins
-name_in_front : (cs : List ℕ) → Begins is_name_start cs → (past 94 cs ≡ None) × (past 40 cs ≡ None)
+pub name_in_front : (cs : List ℕ) → Begins is_name_start cs → (past 94 cs ≡ None) × (past 40 cs ≡ None)
 name_in_front cs b =
     (not_past 94 cs (Begins-stops is_name_start (λ c. eqb c 94) cs (λ c h. (name_tests c h).0) b), not_past 40 cs (Begins-stops is_name_start (λ c. eqb c 40) cs (λ c h. (name_tests c h).1) b))
 

@@ -4,7 +4,7 @@ use Rattle.std.proofs.lemmas.Bool.{eqb-true}
 use Rattle.std.proofs.lemmas.Bool.Decides.{nat_tests}
 use Rattle.mspec.specs.Names.{is_letter, AllAre}
 use Rattle.mgrammar.specs.Grammar.{ExprTree, ReferenceTree, TargetTree, variable, piece, DestinationTree, one, several, ArgTree, assign, spell_expr, spell_reference, spell_list, spell_place, spell_target, spell_destination, spell_arg, assignment, FunctionTree, ascii_function, char_function, data_function, extract_function, find_function, get_function, justify_function, length_function, order_function, piece_function, select_function, translate_function, function_of}
-use Rattle.mgrammar.specs.WellFormed.{max_depth, WellPlace, WellTarget, WellDestination, WellArg}
+use Rattle.mgrammar.specs.WellFormed.{max_depth, WellOptional, WellTarget, WellDestination, WellArg}
 use Rattle.mgrammar.specs.Reading.{Read, ◌>>=◌, run_of, after_run, past, list_at, Readers, is_piece, reference_with, expr_at, readers_at, place_with, piece_with, piece_by, target_with, destination_at, assignment_at}
 use Rattle.mgrammar.proofs.ReadingBasics.{Takes, Again, Stops, Begins, Begins-append, Begins-stops, Begins-weaker, bind_some, chosen, some_is, both_are, run_parts, run_again, past_takes}
 use Rattle.mgrammar.proofs.ReadingLists.{joined_by, enclosed, is_comma, list_takes, list_again}
@@ -45,11 +45,11 @@ abbrev TargetIs : ℕ → List ℕ → TargetTree × List ℕ → Type 0
 TargetIs d cs x = (cs ≡ spell_target x.0 ++ x.1) × WellTarget d x.0
 
 module _ (d : ℕ) (r : Readers) (takes : Takes spell_expr (WellInner d) (r.inner)) (within : Takes spell_reference (WellWithin d) (r.within)) where
-  place_takes : Takes spell_place (WellPlace (d - 1)) (place_with r)
+  place_takes : Takes spell_place (WellOptional (d - 1)) (place_with r)
   unfolding place_with
-  place_takes [] x e = subst (λ (y : Option ExprTree × List ℕ). ([] ≡ spell_place y.0 ++ y.1) × WellPlace (d - 1) y.0) (some_is (None, []) x e) (refl, tt)
+  place_takes [] x e = subst (λ (y : Option ExprTree × List ℕ). ([] ≡ spell_place y.0 ++ y.1) × WellOptional (d - 1) y.0) (some_is (None, []) x e) (refl, tt)
   place_takes (c ∷ cs) x e =
-      let Is : Option ExprTree × List ℕ → Type 0 = λ y. (c ∷ cs ≡ spell_place y.0 ++ y.1) × WellPlace (d - 1) y.0 in
+      let Is : Option ExprTree × List ℕ → Type 0 = λ y. (c ∷ cs ≡ spell_place y.0 ++ y.1) × WellOptional (d - 1) y.0 in
       elim (chosen (eqb c 44) (r.inner cs >>= λ e. Some (Some e.0, e.1)) (Some (None, c ∷ cs)) (Some x) e) [
         | inl p ↦
             let b = bind_some (r.inner cs) (λ e. Some (Some e.0, e.1)) x p.1 in
@@ -172,7 +172,7 @@ piece_step r w cs x l f h =
     rw (i.0, i.1, f) h
 
 module _ (d : ℕ) (r : Readers) (lt : 0 < d) (again : Again spell_expr (WellInner d) Ends (r.inner)) (within : Again spell_reference (WellWithin d) OperandEnds (r.within)) where
-  place_again : (place : Option ExprTree) (rest : List ℕ) → WellPlace (d - 1) place → place_with r (spell_place place ++ 41 ∷ rest) ≡ Some (place, 41 ∷ rest)
+  place_again : (place : Option ExprTree) (rest : List ℕ) → WellOptional (d - 1) place → place_with r (spell_place place ++ 41 ∷ rest) ≡ Some (place, 41 ∷ rest)
   place_again None rest w = place_none r (41 ∷ rest) refl
   place_again (Some e) rest w = place_some r (spell_expr e ++ 41 ∷ rest) e (41 ∷ rest) (again e (41 ∷ rest) (lt, w) (refl, refl))
 

@@ -127,9 +127,16 @@ pub data ParameterTree : Type 0 where
   onward : ExprTree → ExprTree → ParameterTree
   until : ExprTree → ExprTree → ExprTree → ParameterTree
 
+-- `entryref`: a `label`, one in a routine, or a routine's first line
+pub data EntryTree : Type 0 where
+  at_label : List ℕ → EntryTree
+  at_label_in : (label routine : List ℕ) → EntryTree
+  at_routine : List ℕ → EntryTree
+
 -- an argument of any command: `setargument`, a destination and a value; `writeargument`, a run of the format `!`, or a value;
 -- `killargument`, a variable, or the names that are spared; `newargument`, a name, or the names that are spared; the condition
--- of `ifargument`; and what stands behind FOR, the name of an index and its parameters
+-- of `ifargument`; what stands behind FOR, the name of an index and its parameters; and with a `postcond` of its own or none,
+-- `doargument`, `gotoargument` and `xargument`
 pub data ArgTree : Type 0 where
   assign : DestinationTree → ExprTree → ArgTree
   breaks : ℕ → ArgTree
@@ -140,6 +147,9 @@ pub data ArgTree : Type 0 where
   new_others : List (List ℕ) → ArgTree
   tested : ExprTree → ArgTree
   loop : List ℕ → List ParameterTree → ArgTree
+  do_one : EntryTree → Option ExprTree → ArgTree
+  go_to : EntryTree → Option ExprTree → ArgTree
+  executed : ExprTree → Option ExprTree → ArgTree
 
 -- `commandword`, whatever its spelling
 pub data KeywordTree : Type 0 where
@@ -151,6 +161,9 @@ pub data KeywordTree : Type 0 where
   for_word : KeywordTree
   quit_word : KeywordTree
   write_word : KeywordTree
+  do_word : KeywordTree
+  goto_word : KeywordTree
+  execute_word : KeywordTree
 
 -- `command`: its word, also as it is written, its `postcond` where it has one, then its arguments
 pub record CommandTree : Type 0 where
@@ -311,6 +324,16 @@ spell_parameter (once e) = spell_expr e
 spell_parameter (onward e by) = spell_expr e ++ 58 ∷ spell_expr by
 spell_parameter (until e by to) = spell_expr e ++ 58 ∷ (spell_expr by ++ 58 ∷ spell_expr to)
 
+-- behind a colon, where there is one
+abbrev pub spell_condition : Option ExprTree → List ℕ
+spell_condition None = []
+spell_condition (Some e) = 58 ∷ spell_expr e
+
+abbrev pub spell_entry : EntryTree → List ℕ
+spell_entry (at_label label) = label
+spell_entry (at_label_in label routine) = label ++ 94 ∷ routine
+spell_entry (at_routine routine) = 94 ∷ routine
+
 abbrev pub spell_arg : ArgTree → List ℕ
 spell_arg (assign d e) = spell_destination d ++ 61 ∷ spell_expr e
 spell_arg (breaks n) = replicate n 33
@@ -321,11 +344,9 @@ spell_arg (new_one name) = name
 spell_arg (new_others names) = spell_names names
 spell_arg (tested e) = spell_expr e
 spell_arg (loop index parameters) = index ++ 61 ∷ spell_list spell_parameter parameters
-
--- behind a colon, where there is one
-abbrev pub spell_condition : Option ExprTree → List ℕ
-spell_condition None = []
-spell_condition (Some e) = 58 ∷ spell_expr e
+spell_arg (do_one entry c) = spell_entry entry ++ spell_condition c
+spell_arg (go_to entry c) = spell_entry entry ++ spell_condition c
+spell_arg (executed e c) = spell_expr e ++ spell_condition c
 
 -- behind a space, where there are some
 abbrev pub spell_args : List ArgTree → List ℕ
@@ -362,7 +383,10 @@ keyword_of w =
     else (if is_either (codes "e") (codes "else") w then Some else_word
     else (if is_either (codes "f") (codes "for") w then Some for_word
     else (if is_either (codes "q") (codes "quit") w then Some quit_word
-    else (if is_either (codes "w") (codes "write") w then Some write_word else None)))))))
+    else (if is_either (codes "w") (codes "write") w then Some write_word
+    else (if is_either (codes "d") (codes "do") w then Some do_word
+    else (if is_either (codes "g") (codes "goto") w then Some goto_word
+    else (if is_either (codes "x") (codes "xecute") w then Some execute_word else None))))))))))
 
 -- what a command's arguments look like; no text is one of the form `nothing`, that of commands that take none
 pub data FormTree : Type 0 where
@@ -372,6 +396,9 @@ pub data FormTree : Type 0 where
   condition : FormTree
   repetition : FormTree
   output : FormTree
+  entrance : FormTree
+  leap : FormTree
+  execution : FormTree
   nothing : FormTree
 
 abbrev pub form_of : KeywordTree → FormTree
@@ -383,6 +410,9 @@ form_of else_word = nothing
 form_of for_word = repetition
 form_of quit_word = nothing
 form_of write_word = output
+form_of do_word = entrance
+form_of goto_word = leap
+form_of execute_word = execution
 
 -- whether a command takes so many arguments
 abbrev pub takes_args : KeywordTree → ℕ → Bool
@@ -394,6 +424,9 @@ takes_args else_word n = n == 0
 takes_args for_word n = nat_le n 1
 takes_args quit_word n = n == 0
 takes_args write_word n = nat_le 1 n
+takes_args do_word n = true
+takes_args goto_word n = nat_le 1 n
+takes_args execute_word n = nat_le 1 n
 
 -- whether a `postcond` may stand behind its word
 abbrev pub takes_condition : KeywordTree → Bool
@@ -405,6 +438,9 @@ takes_condition else_word = false
 takes_condition for_word = false
 takes_condition quit_word = true
 takes_condition write_word = true
+takes_condition do_word = true
+takes_condition goto_word = true
+takes_condition execute_word = true
 
 pub data SpecialTree : Type 0 where
   test_special : SpecialTree

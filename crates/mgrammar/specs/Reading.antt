@@ -3,7 +3,7 @@
 use Rattle.std.specs.Prelude.{ℕ, zero, suc, ◌-◌, Bool, true, false, not, ◌&&◌, ◌||◌, ◌==◌, nat_le, nat_lt, if◌then◌else◌, List, [], ◌∷◌, ◌++◌, length, drop, Option, Some, None}
 use Rattle.mspec.specs.Literal.{is_digit}
 use Rattle.mspec.specs.Names.{is_letter, is_name_start, is_name_rest, is_character}
-use Rattle.mgrammar.specs.Grammar.{SignTree, plus, minus, negate, TruthTree, equals, less, greater, contains, follows, sorts_after, both, either, BinaryTree, add, subtract, multiply, divide, divide_whole, remainder, join, is, is_not, CountTree, RepeatedTree, classes, copies, AtomTree, ExprTree, expr, StepTree, apply, matches, matches_not, steps_of, OperandTree, operand, PrimaryTree, number, text, special, reference, bracket, call, select, refer, ReferenceTree, local, global, naked, ExprsTree, no_exprs, exprs_of, choices_of, TargetTree, variable, piece, DestinationTree, one, several, ParameterTree, once, onward, until, ArgTree, assign, breaks, shown, kill_one, kill_others, new_one, new_others, tested, loop, CommandTree, SpacedTree, LineTree, KeywordTree, keyword_of, FormTree, assignment, removal, hiding, condition, repetition, output, nothing, form_of, takes_args, takes_condition, SpecialTree, special_of, FunctionTree, ascii_function, char_function, data_function, extract_function, find_function, get_function, justify_function, length_function, order_function, piece_function, select_function, translate_function, function_of, takes, refers, is_pattern_letter}
+use Rattle.mgrammar.specs.Grammar.{SignTree, plus, minus, negate, TruthTree, equals, less, greater, contains, follows, sorts_after, both, either, BinaryTree, add, subtract, multiply, divide, divide_whole, remainder, join, is, is_not, CountTree, RepeatedTree, classes, copies, AtomTree, ExprTree, expr, StepTree, apply, matches, matches_not, steps_of, OperandTree, operand, PrimaryTree, number, text, special, reference, bracket, call, select, refer, ReferenceTree, local, global, naked, ExprsTree, no_exprs, exprs_of, choices_of, TargetTree, variable, piece, DestinationTree, one, several, ParameterTree, once, onward, until, EntryTree, at_label, at_label_in, at_routine, ArgTree, assign, breaks, shown, kill_one, kill_others, new_one, new_others, tested, loop, do_one, go_to, executed, CommandTree, SpacedTree, LineTree, KeywordTree, keyword_of, FormTree, assignment, removal, hiding, condition, repetition, output, entrance, leap, execution, nothing, form_of, takes_args, takes_condition, SpecialTree, special_of, FunctionTree, ascii_function, char_function, data_function, extract_function, find_function, get_function, justify_function, length_function, order_function, piece_function, select_function, translate_function, function_of, takes, refers, is_pattern_letter}
 use Rattle.mgrammar.specs.WellFormed.{least_gap, max_depth}
 
 -- what was read, and the text after it
@@ -471,6 +471,36 @@ unfoldable pub repetition_at : List ℕ → Read ArgTree
 repetition_at cs =
     name_at cs >>= λ n. past 61 n.1 >>= λ rest. list_at parameter_at rest >>= λ x. Some (loop n.0 x.0, x.1)
 
+-- an expression, where the colon in front of it is past, or none
+abbrev pub postcondition_by : List ℕ → Option (List ℕ) → Read (Option ExprTree)
+postcondition_by cs None = Some (None, cs)
+postcondition_by cs (Some rest) = expr_at max_depth rest >>= λ e. Some (Some e.0, e.1)
+
+-- a name is read: a routine's behind a `^`, and otherwise a label
+abbrev pub label_by : List ℕ → List ℕ → Option (List ℕ) → Read EntryTree
+label_by label cs None = Some (at_label label, cs)
+label_by label cs (Some rest) = name_at rest >>= λ n. Some (at_label_in label n.0, n.1)
+
+abbrev pub entry_by : List ℕ → Option (List ℕ) → Read EntryTree
+entry_by cs None = name_at cs >>= λ n. label_by n.0 n.1 (past 94 n.1)
+entry_by cs (Some rest) = name_at rest >>= λ n. Some (at_routine n.0, n.1)
+
+unfoldable pub entry_at : List ℕ → Read EntryTree
+entry_at cs = entry_by cs (past 94 cs)
+
+-- an item with a postconditional of its own
+abbrev pub conditioned : {A : Type 0} → (A → Option ExprTree → ArgTree) → A × List ℕ → Read ArgTree
+conditioned made x = postcondition_by x.1 (past 58 x.1) >>= λ c. Some (made x.0 c.0, c.1)
+
+unfoldable pub entrance_at : List ℕ → Read ArgTree
+entrance_at cs = entry_at cs >>= conditioned do_one
+
+unfoldable pub leap_at : List ℕ → Read ArgTree
+leap_at cs = entry_at cs >>= conditioned go_to
+
+unfoldable pub execution_at : List ℕ → Read ArgTree
+execution_at cs = expr_at max_depth cs >>= conditioned executed
+
 abbrev pub arg_at : FormTree → List ℕ → Read ArgTree
 arg_at assignment = assignment_at
 arg_at removal = removal_at
@@ -478,6 +508,9 @@ arg_at hiding = hiding_at
 arg_at condition = condition_at
 arg_at repetition = repetition_at
 arg_at output = output_at
+arg_at entrance = entrance_at
+arg_at leap = leap_at
+arg_at execution = execution_at
 arg_at nothing = λ cs. None
 
 -- ---- commands and lines
@@ -490,11 +523,6 @@ has_args (c ∷ d ∷ cs) = c == 32 && not (d == 32 || d == 59)
 
 unfoldable pub args_at : FormTree → List ℕ → Read (List ArgTree)
 args_at f cs = if has_args cs then list_at (arg_at f) (drop 1 cs) else Some ([], cs)
-
--- an expression, where the colon in front of it is past, or none
-abbrev pub postcondition_by : List ℕ → Option (List ℕ) → Read (Option ExprTree)
-postcondition_by cs None = Some (None, cs)
-postcondition_by cs (Some rest) = expr_at max_depth rest >>= λ e. Some (Some e.0, e.1)
 
 -- behind a word of this keyword
 unfoldable pub postcondition_at : KeywordTree → List ℕ → Read (Option ExprTree)

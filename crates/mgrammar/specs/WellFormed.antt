@@ -3,7 +3,7 @@
 use Rattle.std.specs.Prelude.{◌≡◌, ℕ, suc, ◌-◌, ◌<◌, ◌≤◌, true, List, [], ◌∷◌, length, Option, Some, None}
 use Rattle.mspec.specs.Literal.{is_digit, Literal, IsLiteral, spell_literal}
 use Rattle.mspec.specs.Names.{is_letter, is_character, AllAre, IsName}
-use Rattle.mgrammar.specs.Grammar.{RepeatedTree, classes, copies, AtomTree, ExprTree, expr, StepsTree, no_steps, step, StepTree, apply, matches, matches_not, OperandTree, operand, PrimaryTree, number, text, special, reference, bracket, call, select, refer, ReferenceTree, local, global, naked, ExprsTree, no_exprs, exprs, ChoicesTree, no_choices, choice, TargetTree, variable, piece, DestinationTree, one, several, ParameterTree, once, onward, until, ArgTree, assign, breaks, shown, kill_one, kill_others, new_one, new_others, tested, loop, KeywordTree, CommandTree, SpacedTree, LineTree, keyword_of, FormTree, assignment, removal, hiding, condition, repetition, output, form_of, takes_args, takes_condition, SpecialTree, special_of, FunctionTree, select_function, piece_function, function_of, takes, refers, is_pattern_letter}
+use Rattle.mgrammar.specs.Grammar.{RepeatedTree, classes, copies, AtomTree, ExprTree, expr, StepsTree, no_steps, step, StepTree, apply, matches, matches_not, OperandTree, operand, PrimaryTree, number, text, special, reference, bracket, call, select, refer, ReferenceTree, local, global, naked, ExprsTree, no_exprs, exprs, ChoicesTree, no_choices, choice, TargetTree, variable, piece, DestinationTree, one, several, ParameterTree, once, onward, until, EntryTree, at_label, at_label_in, at_routine, ArgTree, assign, breaks, shown, kill_one, kill_others, new_one, new_others, tested, loop, do_one, go_to, executed, KeywordTree, CommandTree, SpacedTree, LineTree, keyword_of, FormTree, assignment, removal, hiding, condition, repetition, output, entrance, leap, execution, form_of, takes_args, takes_condition, SpecialTree, special_of, FunctionTree, select_function, piece_function, function_of, takes, refers, is_pattern_letter}
 
 -- `numlit`
 abbrev pub IsNumber : List ℕ → Type 0
@@ -107,14 +107,15 @@ abbrev mutual
 abbrev pub max_depth : ℕ
 max_depth = 40
 
-abbrev pub WellPlace : ℕ → Option ExprTree → Type 0
-WellPlace d None = Unit {0}
-WellPlace d (Some e) = WellExpr d e
+-- where there is one
+abbrev pub WellOptional : ℕ → Option ExprTree → Type 0
+WellOptional d None = Unit {0}
+WellOptional d (Some e) = WellExpr d e
 
 abbrev pub WellTarget : ℕ → TargetTree → Type 0
 WellTarget d (variable r) = WellReference d r
 WellTarget d (piece word r delimiter place) =
-    IsFunction piece_function word × WellReference (d - 1) r × WellExpr (d - 1) delimiter × WellPlace (d - 1) place
+    IsFunction piece_function word × WellReference (d - 1) r × WellExpr (d - 1) delimiter × WellOptional (d - 1) place
 
 abbrev pub WellDestination : DestinationTree → Type 0
 WellDestination (one t) = WellTarget max_depth t
@@ -124,6 +125,11 @@ abbrev pub WellParameter : ParameterTree → Type 0
 WellParameter (once e) = WellExpr max_depth e
 WellParameter (onward e by) = WellExpr max_depth e × WellExpr max_depth by
 WellParameter (until e by to) = WellExpr max_depth e × WellExpr max_depth by × WellExpr max_depth to
+
+abbrev pub WellEntry : EntryTree → Type 0
+WellEntry (at_label label) = IsName label
+WellEntry (at_label_in label routine) = IsName label × IsName routine
+WellEntry (at_routine routine) = IsName routine
 
 -- an argument of this form; any other is none
 abbrev pub WellArg : FormTree → ArgTree → Type 0
@@ -136,6 +142,9 @@ WellArg condition (tested e) = WellExpr max_depth e
 WellArg repetition (loop index parameters) = IsName index × WellList WellParameter parameters
 WellArg output (breaks n) = 0 < n
 WellArg output (shown e) = WellExpr max_depth e
+WellArg entrance (do_one entry c) = WellEntry entry × WellOptional max_depth c
+WellArg leap (go_to entry c) = WellEntry entry × WellOptional max_depth c
+WellArg execution (executed e c) = WellExpr max_depth e × WellOptional max_depth c
 WellArg f a = ⊥
 
 abbrev pub WellCondition : KeywordTree → Option ExprTree → Type 0

@@ -1,5 +1,5 @@
 // The laws of the grammar. Each function's contract is the law, and its body is empty: the code never calls them.
-ghost use Rattle.mgrammar.specs.GrammarLaws.{OneTree, ReadsItsTree};
+ghost use Rattle.mgrammar.specs.GrammarLaws.{OneTree, ReadsItsTree, OneRoutineTree, ReadsItsRoutineTree, ToldOfItsTree};
 
 /// No text has two trees.
 pub fn one_tree()
@@ -10,4 +10,20 @@ pub fn one_tree()
 /// this is what ties meanings to the grammar.
 pub fn reads_its_tree()
     ensures { ReadsItsTree }
+{}
+
+/// As a line of a routine, no text has two trees.
+pub fn one_routine_tree()
+    ensures { OneRoutineTree }
+{}
+
+/// A text is read as a routine's line exactly where the tree that is read is the well-formed one that spells it.
+pub fn reads_its_routine_tree()
+    ensures { ReadsItsRoutineTree }
+{}
+
+/// The label and the dots that are told of a text without reading it whole are those of its tree, where it has one. Labels are
+/// sought, and lines passed over, by these alone.
+pub fn told_of_its_tree()
+    ensures { ToldOfItsTree }
 {}

@@ -56,12 +56,21 @@ assoc_outcome : {A B C : Type 0} (f : A → Act B) (g : B → Act C) (o : Outcom
 assoc_outcome f g (Gives a s) = refl
 assoc_outcome f g (Fails c s) = refl
 
-assoc_plan : {A B C : Type 0} (f : A → Act B) (g : B → Act C) (p : Plan (Outcome A)) → then_plan (then_plan p (on_gives f)) (on_gives g) ≡ then_plan p (on_gives (λ a. f a >>= g))
+pub assoc_plan : {A B C : Type 0} (f : A → Act B) (g : B → Act C) (p : Plan (Outcome A)) → then_plan (then_plan p (on_gives f)) (on_gives g) ≡ then_plan p (on_gives (λ a. f a >>= g))
 assoc_plan f g (Done o) = assoc_outcome f g o
 assoc_plan f g (Ask op k) = λ i. Ask op (λ r. assoc_plan f g (k r) i)
 
 pub assoc : {A B C : Type 0} (p : Act A) (f : A → Act B) (g : B → Act C) → ◌≡◌ {A = Act C} ((p >>= f) >>= g) (p >>= (λ a. f a >>= g))
 assoc p f g = λ i s. assoc_plan f g (p s) i
+
+-- what is given is what an act ends with
+pub then_give : {A : Type 0} (p : Plan (Outcome A)) → then_plan p (on_gives give) ≡ p
+then_give (Done (Gives a s)) = refl
+then_give (Done (Fails c s)) = refl
+then_give (Ask op k) = λ i. Ask op (λ r. then_give (k r) i)
+
+pub ended : {A : Type 0} (p : Act A) → ◌≡◌ {A = Act A} (p >>= give) p
+ended p = λ i s. then_give (p s) i
 
 -- ---- calls
 

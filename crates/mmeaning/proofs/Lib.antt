@@ -4,6 +4,7 @@ pub mod Histories
 pub mod OtherLocks
 pub mod Calls
 pub mod Moves
+pub mod LevelMoves
 pub mod Yieldings
 pub mod WorldExamples
 pub mod LineTrees
@@ -11,3 +12,9 @@ pub mod LineRuns
 pub mod ControlExamples
 pub mod VariableExamples
 pub mod GlobalExamples
+pub mod RoutineRuns
+pub mod RoutineExamples
+pub mod BlockExamples
+pub mod GotoExamples
+pub mod LevelExamples
+pub mod StoredRoutine

@@ -4,11 +4,12 @@ use Rattle.std.proofs.Common.{◌≡◌, ℕ, zero, suc, Bool, true, false, List
 use Rattle.std.specs.Prelude.{map}
 use Rattle.std.specs.FinMap.{empty, get, insert}
 use Rattle.mspec.specs.Plan.{Plan, perform}
-use Rattle.mspec.specs.Act.{Text, Locals, no_locals, assigned_to, State, Outcome, Act, ◌>>=◌, fail}
+use Rattle.mspec.specs.Act.{Text, Node, Locals, no_locals, assigned_to, State, Outcome, Act, ◌>>=◌, fail}
 use Rattle.mspec.specs.Code.{Zsyntax, Zsteps, Zterm, Zline, Zchar}
-use Rattle.mgrammar.specs.Grammar.{LineTree}
+use Rattle.mgrammar.specs.Grammar.{CommandTree, LineTree}
 use Rattle.mgrammar.specs.Reading.{line_at}
-use Rattle.mmeaning.specs.LineMeaning.{Signal, Turning, Texts, Context, outset, texts, commands, after_turn, after_level}
+use Rattle.mmeaning.specs.LineMeaning.{Signal, Spot, outset, Turning, Texts, Context, texts, commands, after_turn, after_level}
+use Rattle.mmeaning.specs.Levels.{commands_of}
 use Rattle.mmeaning.specs.Step.{Account, Settings, Session, Server, Event, Reply, act, plan_of, begun, session_or_new, ended, refused, is_too_long, is_ascii, checked, at_account, normal}
 use Rattle.mmeaning.specs.History.{opening, replies}
 use Rattle.mmeaning.proofs.ExampleAccount.{account, settings_of}
@@ -34,17 +35,17 @@ serving s = record { world = (opening empty).world; sessions = insert empty 1 s 
 abbrev pub holding : Text → Text → Server
 holding name x = serving (record { locals = assigned_to no_locals name [] x; naked = None; test = false })
 
--- ---- the same with turns that are shut
+-- ---- the same with turns and texts that are shut
 
 unfoldable pub shut : Text → ℕ → Texts
 shut a n = texts a n
 
-abbrev pub at : Text → ℕ → Context
-at a n = record { account = a; fuel = n; spot = outset; texts = shut a n }
+abbrev pub at : Text → ℕ → Spot → Context
+at a n p = record { account = a; fuel = n; spot = p; texts = shut a n }
 
 abbrev pub shut_run : Text → Option LineTree → State → Plan (Outcome Signal)
 shut_run a None s = fail Zsyntax s
-shut_run a (Some l) s = (commands (at a s.steps) (map (λ c. c.0) l.commands) >>= after_level) s
+shut_run a (Some l) s = (commands (at a s.steps outset) (commands_of l) >>= after_level (at a s.steps outset)) s
 
 run_is_shut : (a : Account) (s : Session) (l : Option LineTree) → plan_of a s l ≡ shut_run a.name l (begun a s)
 unfolding shut
@@ -99,18 +100,29 @@ at_first {a = a} {server = server} {t = t} {r = r} {ts = ts} after l e first res
       ∙ ap (λ (rs : List Reply). r ∷ rs) rest.answers;
 }
 
--- ---- turns
+-- ---- turns and texts
 
-abbrev pub turned : Text → ℕ → Turning → Act Signal
-turned a zero t = fail Zsteps
-turned a (suc n) t = commands (at a n) t.body >>= after_turn (at a n) t
+abbrev pub turned : Text → ℕ → Spot → Turning → Act Signal
+turned a zero p t = fail Zsteps
+turned a (suc n) p t = commands (at a n p) t.body >>= after_turn (at a n p) t
 
--- only where the state is known: there is no naked indicator in these lines
-pub opened : (a : Text) (n : ℕ) (t : Turning) (locals : Locals) (test : Bool) (out : Text) (steps : ℕ)
-    → (shut a n).turn outset t (record { locals = locals; naked = None; test = test; out = out; steps = steps })
-    ≡ turned a n t (record { locals = locals; naked = None; test = test; out = out; steps = steps })
+-- only where the state is known
+pub opened : (a : Text) (n : ℕ) (p : Spot) (t : Turning) (locals : Locals) (naked : Option Node) (test : Bool) (out : Text) (steps : ℕ)
+    → (shut a n).turn p t (record { locals = locals; naked = naked; test = test; out = out; steps = steps })
+    ≡ turned a n p t (record { locals = locals; naked = naked; test = test; out = out; steps = steps })
 unfolding shut
-opened a zero t locals test out steps = refl
-opened a (suc n) t locals test out steps = refl
+opened a zero p t locals naked test out steps = refl
+opened a (suc n) p t locals naked test out steps = refl
+
+abbrev pub entered : Text → ℕ → Spot → List CommandTree → Act Signal
+entered a zero p cs = fail Zsteps
+entered a (suc n) p cs = commands (at a n p) cs >>= after_level (at a n p)
+
+pub text_opened : (a : Text) (n : ℕ) (p : Spot) (cs : List CommandTree) (locals : Locals) (naked : Option Node) (test : Bool) (out : Text) (steps : ℕ)
+    → (shut a n).enter p cs (record { locals = locals; naked = naked; test = test; out = out; steps = steps })
+    ≡ entered a n p cs (record { locals = locals; naked = naked; test = test; out = out; steps = steps })
+unfolding shut
+text_opened a zero p cs locals naked test out steps = refl
+text_opened a (suc n) p cs locals naked test out steps = refl
 
 pub ruleset turns = (opened)

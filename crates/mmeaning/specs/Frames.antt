@@ -2,20 +2,22 @@
 use Rattle.std.specs.Prelude.{ℕ, ◌≤◌, List, [], ◌∷◌, Result, Ok, Err}
 use Rattle.mspec.specs.Code.{Fault}
 use Rattle.mspec.specs.Act.{Text, Act, ◌>>=◌, give}
-use Rattle.mgrammar.specs.Grammar.{CommandTree}
-use Rattle.mmeaning.specs.LineMeaning.{Signal, Spot, Turning, after, commands, after_turn, after_level, context}
+use Rattle.mgrammar.specs.Grammar.{ArgTree, CommandTree}
+use Rattle.mmeaning.specs.LineMeaning.{Signal, Spot, Turning, Closing, after, arguments, commands, after_turn, after_level, closed, context}
 use Rattle.mmeaning.specs.Calls.{Standing, Here, FailedBy, Follows}
 
--- the rest of a line, a turn of a FOR, and a level
+-- the rest of a line, the rest of a command's arguments, a turn of a FOR, and a level with how it closes
 pub data View : Type 0 where
   Rests : Spot → List CommandTree → View
+  Lists : Spot → List ArgTree → View
   Turns : Spot → Turning → View
-  Levels : Spot → View
+  Levels : Spot → Closing → View
 
 abbrev pub frame : Text → ℕ → View → Signal → Act Signal
 frame a n (Rests p cs) s = after s (commands (context a n p) cs)
+frame a n (Lists p args) s = after s (arguments (context a n p) args)
 frame a n (Turns p t) s = after_turn (context a n p) t s
-frame a n (Levels p) s = after_level s
+frame a n (Levels p c) s = after_level (context a n p) s >>= closed c
 
 -- top first, each with as many texts as it may enter
 abbrev pub left : Text → List View → List ℕ → Signal → Act Signal

@@ -1,19 +1,24 @@
 -- Line meaning: what the commands of a line do, one after another.
 --
--- Restates "Commands" of ISO/IEC 11756:1999, "Else", "For", "If", "Kill", "New", "Quit", "Set" and "Write" among them: arguments
--- are done from left to right, each as if it stood in a command of its own.
-use Rattle.std.specs.Prelude.{ℕ, zero, suc, ℤ, ◌+ℤ◌, Bool, true, not, cond, List, [], ◌∷◌, ◌++◌, map, replicate, Option, Some, None}
+-- Restates "Commands" of ISO/IEC 11756:1999, "Do", "Else", "For", "Goto", "If", "Kill", "New", "Quit", "Set", "Write" and "Xecute" among them:
+-- arguments are done from left to right, each as if it stood in a command of its own. A DO without arguments does the lines behind its
+-- own that have one dot more, and keeps $TEST.
+use Rattle.std.specs.Prelude.{ℕ, zero, suc, ◌+◌, ℤ, ◌+ℤ◌, Bool, true, not, cond, nat_lt, ◌==◌, List, [], ◌∷◌, ◌++◌, drop, replicate, Option, Some, None}
 use Rattle.mspec.specs.Number.{sum_of}
 use Rattle.mspec.specs.NumberText.{number_text}
 use Rattle.mspec.specs.TextFunctions.{set_piece_of}
 use Rattle.mspec.specs.Scopes.{killed_except, newed, newed_except}
-use Rattle.mgrammar.specs.Grammar.{ExprTree, ReferenceTree, TargetTree, variable, piece, DestinationTree, one, several, ParameterTree, once, onward, until, KeywordTree, set_word, kill_word, new_word, if_word, else_word, for_word, quit_word, write_word, ArgTree, assign, breaks, shown, kill_one, kill_others, new_one, new_others, tested, loop, CommandTree, LineTree}
-use Rattle.mspec.specs.Code.{M15, Zsteps}
-use Rattle.mspec.specs.Act.{Text, Act, ◌>>=◌, ◌>>◌, give, give_some, fail, charge, write, with_locals, test_is, set_test}
+use Rattle.mgrammar.specs.Grammar.{ExprTree, EntryTree, ReferenceTree, TargetTree, variable, piece, DestinationTree, one, several, ParameterTree, once, onward, until, KeywordTree, set_word, kill_word, new_word, if_word, else_word, for_word, quit_word, write_word, do_word, goto_word, execute_word, ArgTree, assign, breaks, shown, kill_one, kill_others, new_one, new_others, tested, loop, do_one, go_to, executed, CommandTree, LineTree}
+use Rattle.mgrammar.specs.Reading.{line_at}
+use Rattle.mgrammar.specs.RoutineLine.{routine_line_at, dots_of}
+use Rattle.mspec.specs.Code.{M15, Zsteps, Zsyntax}
+use Rattle.mspec.specs.Act.{Text, Act, level_begun, ◌>>=◌, ◌>>◌, give, give_some, fail, charge, write, with_locals, test_is, set_test}
 use Rattle.mmeaning.specs.Operators.{outcome, as_number, as_truth, as_text}
 use Rattle.mmeaning.specs.Functions.{as_whole_or_none}
 use Rattle.mmeaning.specs.Variables.{Evaluated, at_local, writing, resolve, found_at, read_or, put_at, kill_at}
-use Rattle.mmeaning.specs.Expression.{Depth, Inside, inside, value, evaluated}
+use Rattle.mmeaning.specs.Expression.{Inside, inside, value, evaluated}
+pub use Rattle.mmeaning.specs.Levels.{Level, Spot, outset, Target, Closing, leaves, restores}
+use Rattle.mmeaning.specs.Levels.{target, a_level_free, deeper, closing, commands_of, commands_in}
 use Rattle.mmeaning.specs.Courses.{Course, last_turn, endless, limited, forever, is_past}
 
 -- in an output, each `!` is this byte, which no text has
@@ -21,11 +26,6 @@ abbrev pub line_end : ℕ
 line_end = 255
 
 -- ---- how a line goes on
-
--- a line of a routine: the lines that its labels are sought in, and its place among them
-pub record Target : Type 0 where
-  pub copy : List Text
-  pub line : ℕ
 
 -- with what is next; with what is behind the rest of the line; out of its turn or its level; with another line; or not at all
 pub data Signal : Type 0 where
@@ -42,14 +42,6 @@ after Skips p = give Skips
 after Quits p = give Quits
 after (Goes t) p = give (Goes t)
 after Halts p = give Halts
-
--- where a line stands
-pub record Spot : Type 0 where
-  pub depth : Depth
-
--- a line from outside, at the only level that is open
-abbrev pub outset : Spot
-outset = record { depth = record { levels = 0; indirections = 0 } }
 
 -- a FOR under way: its index, how its parameter goes on, the parameters behind that, and the rest of the line
 pub record Turning : Type 0 where
@@ -68,6 +60,10 @@ pub record Context : Type 0 where
   pub fuel : ℕ
   pub spot : Spot
   pub texts : Texts
+
+-- the same in another level
+abbrev pub at_level : Context → Level → Context
+at_level x l = record x { spot = record { depth = x.spot.depth; level = l } }
 
 abbrev pub inside_of : Context → Inside
 inside_of x = inside x.account x.fuel x.spot.depth
@@ -232,7 +228,82 @@ after_turn x t Halts = give Halts
 abbrev pub turns_forever : Context → List CommandTree → Act Signal
 turns_forever x body = begin_turn x (record { index = []; course = forever; parameters = []; body = body })
 
+-- ---- lines of a routine
+
+-- the commands of a line that is entered; it is read where it is reached, and not before
+abbrev pub line_entered : Context → ℕ → Text → Act Signal
+line_entered x n text = do
+  l ← give_some Zsyntax (routine_line_at text)
+  x.texts.enter (record { depth = x.spot.depth; level = record x.spot.level { next = Some (n + 1) } }) (commands_in l.body)
+
+-- The lines from a place on, where these stand. One with more dots than the level's is passed over, one with fewer ends the level, as the
+-- end of the lines does. A line that is entered or passed over costs a step.
+abbrev pub lines_reached : Context → ℕ → List Text → Act Signal
+lines_reached x n [] = give Go_on
+lines_reached x n (text ∷ rest) =
+    cond (nat_lt x.spot.level.dots (dots_of text)) (charge >> lines_reached x (n + 1) rest)
+    (cond (dots_of text == x.spot.level.dots) (charge >> line_entered x n text) (give Go_on))
+
+abbrev pub lines_from : Context → Option ℕ → Act Signal
+lines_from x None = give Go_on
+lines_from x (Some n) = lines_reached x n (drop n x.spot.level.copy)
+
+-- the line that comes next in a level, and those behind it; a level that ends gives Go_on
+abbrev pub lines_next : Context → Act Signal
+lines_next x = lines_from x x.spot.level.next
+
+-- What follows a line of a level. GOTO goes on with the line that it names, in the same level.
+abbrev pub after_level : Context → Signal → Act Signal
+after_level x Go_on = lines_next x
+after_level x Skips = lines_next x
+after_level x Quits = give Go_on
+after_level x (Goes t) = lines_next (at_level x (record x.spot.level { copy = t.copy; next = Some t.line }))
+after_level x Halts = give Halts
+
+-- ---- levels that DO and XECUTE open
+
+abbrev pub closed : Closing → Signal → Act Signal
+closed c s = closing c >> give s
+
+-- what is done in a level of its own, which then closes
+abbrev pub in_level : Context → Level → Closing → (Context → Act Signal) → Act Signal
+in_level x l c act = with_locals level_begun >> (act (record x { spot = deeper x.spot l }) >>= closed c)
+
+-- DO with an argument: the lines from the one that it names on
+abbrev pub doing : Context → EntryTree → Act Signal
+doing x e = do
+  a_level_free x.spot.depth
+  t ← target x.spot.level.copy 0 e
+  in_level x (record { copy = t.copy; next = Some t.line; dots = 0 }) leaves lines_next
+
+-- argumentless DO: the lines behind this one that have one dot more
+abbrev pub doing_block : Context → Act Signal
+doing_block x = do
+  a_level_free x.spot.depth
+  b ← test_is
+  in_level x (record x.spot.level { dots = x.spot.level.dots + 1 }) (restores b) lines_next
+
+-- XECUTE: a text, whose labels are sought where those of its line are
+abbrev pub executing : Context → ExprTree → Act Signal
+executing x e = do
+  text ← value (inside_of x) e
+  a_level_free x.spot.depth
+  l ← give_some Zsyntax (line_at text)
+  in_level x (record { copy = x.spot.level.copy; next = None; dots = 0 }) leaves (λ y. y.texts.enter y.spot (commands_of l))
+
+-- GOTO: a line of the level's own dots
+abbrev pub going : Context → EntryTree → Act Signal
+going x e = do
+  t ← target x.spot.level.copy x.spot.level.dots e
+  give (Goes t)
+
 -- ---- commands
+
+-- where its own condition holds
+abbrev pub where_holds : Context → Option ExprTree → Act Signal → Act Signal
+where_holds x c p = do
+  b ← holds (inside_of x) c
+  cond b p (give Go_on)
 
 -- what an argument does, of whichever command; that of FOR takes the rest of the line, and stands apart
 abbrev pub argument : Context → ArgTree → Act Signal
@@ -245,12 +316,16 @@ argument x (new_one name) = with_locals (newed (name ∷ [])) >> give Go_on
 argument x (new_others names) = with_locals (newed_except names) >> give Go_on
 argument x (tested e) = testing (inside_of x) e
 argument x (loop index parameters) = give Go_on
+argument x (do_one e c) = where_holds x c (doing x e)
+argument x (go_to e c) = where_holds x c (going x e)
+argument x (executed e c) = where_holds x c (executing x e)
 
 abbrev pub arguments : Context → List ArgTree → Act Signal
 arguments x [] = give Go_on
 arguments x (a ∷ rest) = argument x a >>= (λ s. after s (arguments x rest))
 
--- a command without arguments, before the rest of its line: KILL and NEW are of all variables, and SET and WRITE of nothing
+-- a command without arguments, before the rest of its line: KILL and NEW are of all variables, DO is of a block, and those that take some
+-- are of nothing
 abbrev pub bare : Context → KeywordTree → List CommandTree → Act Signal
 bare x set_word rest = give Go_on
 bare x kill_word rest = with_locals (killed_except []) >> give Go_on
@@ -264,6 +339,9 @@ bare x else_word rest = do
 bare x for_word rest = turns_forever x rest
 bare x quit_word rest = give Quits
 bare x write_word rest = give Go_on
+bare x do_word rest = doing_block x
+bare x goto_word rest = give Go_on
+bare x execute_word rest = give Go_on
 
 -- a command, before the rest of its line, which FOR does in its turns
 abbrev pub effect : Context → KeywordTree → List ArgTree → List CommandTree → Act Signal
@@ -273,28 +351,14 @@ effect x k (a ∷ more) rest = arguments x (a ∷ more)
 
 -- where its condition holds
 abbrev pub conditional : Context → CommandTree → List CommandTree → Act Signal
-conditional x c rest = do
-  b ← holds (inside_of x) c.condition
-  cond b (effect x c.keyword c.args rest) (give Go_on)
+conditional x c rest = where_holds x c.condition (effect x c.keyword c.args rest)
 
 -- a command's word costs a step, before the command is done
 abbrev pub commands : Context → List CommandTree → Act Signal
 commands x [] = give Go_on
 commands x (c ∷ rest) = charge >> (conditional x c rest >>= (λ s. after s (commands x rest)))
 
--- ---- lines
-
--- a line of a terminal ends its level: nothing is behind it
-abbrev pub passed : Signal → Signal
-passed Go_on = Go_on
-passed Skips = Go_on
-passed Quits = Go_on
-passed (Goes t) = Goes t
-passed Halts = Halts
-
--- what follows a line
-abbrev pub after_level : Signal → Act Signal
-after_level s = give (passed s)
+-- ---- texts
 
 -- with so many texts at most
 abbrev pub texts : Text → ℕ → Texts
@@ -303,7 +367,7 @@ texts a (suc n) =
     let at : Spot → Context = λ p. record { account = a; fuel = n; spot = p; texts = texts a n } in
     record {
       turn = λ p t. commands (at p) t.body >>= after_turn (at p) t;
-      enter = λ p cs. commands (at p) cs >>= after_level;
+      enter = λ p cs. commands (at p) cs >>= after_level (at p);
     }
 
 abbrev pub context : Text → ℕ → Spot → Context
@@ -314,4 +378,4 @@ abbrev pub run_within : Text → ℕ → List CommandTree → Act Signal
 run_within a n cs = (texts a (suc n)).enter outset cs
 
 abbrev pub run : Text → LineTree → Act Signal
-run a l s = run_within a s.steps (map (λ c. c.0) l.commands) s
+run a l s = run_within a s.steps (commands_of l) s

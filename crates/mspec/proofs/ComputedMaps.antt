@@ -65,7 +65,7 @@ module _ {K X : Type 0} {R : K → K → Ordering} (total : IsTotalOrder R) (exa
       ∙ again_behind (eq_by_cmp R q j) (eq_by_cmp R q k) (Some u) (Some v) (Some w) (get m q)
       ∙ ap (cond (eq_by_cmp R q k) (Some w)) (sym (get-insert total m j v q)) ∙ sym (get-insert total (insert m j v) k w q))
 
-entries_none : {K X : Type 0} (R : K → K → Ordering) → entries (empty {X = X} {R = R}) ≡ []
+pub entries_none : {K X : Type 0} (R : K → K → Ordering) → entries (empty {X = X} {R = R}) ≡ []
 entries_none {X = X} R = none_of _ (sym (len-entries (empty {X = X} {R = R})) ∙ len-empty R X)
 
 -- ---- the maps of variables by their names

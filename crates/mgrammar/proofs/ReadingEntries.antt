@@ -1,0 +1,148 @@
+-- What is read of an argument of DO, GOTO or XECUTE is spelled so, and what is spelled so is read.
+use Rattle.std.proofs.Common.{◌≡◌, ℕ, List, ◌∷◌, ◌++◌, Option, Some, None, refl, ap, subst, ◌∙◌, append_assoc}
+use Rattle.mspec.specs.Names.{is_name_start, is_name_rest, IsName}
+use Rattle.mgrammar.specs.Grammar.{ExprTree, EntryTree, at_label, at_label_in, at_routine, ArgTree, do_one, go_to, executed, entrance, leap, execution, spell_expr, spell_condition, spell_entry, spell_arg}
+use Rattle.mgrammar.specs.WellFormed.{max_depth, WellExpr, WellOptional, WellEntry, WellArg}
+use Rattle.mgrammar.specs.Reading.{Read, ◌>>=◌, name_at, past, expr_at, postcondition_by, label_by, entry_by, entry_at, conditioned, entrance_at, leap_at, execution_at}
+use Rattle.mgrammar.proofs.ReadingBasics.{Takes, Again, Stops, Stops-weaker, Begins, Begins-append, goes_on, bind_some, some_is, past_takes, not_past, name_takes, name_again}
+use Rattle.mgrammar.proofs.ReadingLists.{joined, joined_by}
+use Rattle.mgrammar.proofs.ReadingReferences.{Ends, name_or_open, named, name_in_front}
+use Rattle.mgrammar.proofs.ReadingExprs.{begins_operand, expr_begins}
+use Rattle.mgrammar.proofs.ReadingArguments.{whole_takes, whole_again, is_colon, is_caret, Follows, names_begin}
+
+-- ---- postconditionals
+
+pub condition_read : (cs : List ℕ) (o : Option (List ℕ)) (x : Option ExprTree × List ℕ) → past 58 cs ≡ o → postcondition_by cs o ≡ Some x → (cs ≡ spell_condition x.0 ++ x.1) × WellOptional max_depth x.0
+condition_read cs None x h e =
+    subst (λ (y : Option ExprTree × List ℕ). (cs ≡ spell_condition y.0 ++ y.1) × WellOptional max_depth y.0) {x = (None, cs)} (some_is (None, cs) x e) (refl, tt)
+condition_read cs (Some rest) x h e =
+    let b = bind_some (expr_at max_depth rest) (λ y. Some (Some y.0, y.1)) x e in
+    let value = whole_takes rest b.0 b.1 in
+    subst (λ (y : Option ExprTree × List ℕ). (cs ≡ spell_condition y.0 ++ y.1) × WellOptional max_depth y.0) {x = (Some b.0.0, b.0.1)} (some_is (Some b.0.0, b.0.1) x b.2)
+    (past_takes 58 cs rest h ∙ ap (λ (y : List ℕ). 58 ∷ y) value.0, value.1)
+
+pub condition_spelled : (c : Option ExprTree) (rest : List ℕ) → WellOptional max_depth c → Ends rest → Stops is_colon rest → postcondition_by (spell_condition c ++ rest) (past 58 (spell_condition c ++ rest)) ≡ Some (c, rest)
+condition_spelled None rest w s t = rw (not_past 58 rest t) refl
+condition_spelled (Some e) rest w s t = rw (whole_again e rest w s) refl
+
+-- ---- an item with a postconditional of its own
+
+module _ {A : Type 0} (spell : A → List ℕ) (P : A → Type 0) (read : List ℕ → Read A) (made : A → Option ExprTree → ArgTree) where
+  conditioned_takes : (Is : ArgTree × List ℕ → Type 0) (cs : List ℕ) (x : ArgTree × List ℕ) → Takes spell P read → (read cs >>= conditioned made) ≡ Some x
+      → ((a : A) (c : Option ExprTree) (rest : List ℕ) → cs ≡ (spell a ++ spell_condition c) ++ rest → P a → WellOptional max_depth c → Is (made a c, rest)) → Is x
+  conditioned_takes Is cs x takes e is =
+      let b = bind_some (read cs) (conditioned made) x e in
+      let k = bind_some (postcondition_by b.0.1 (past 58 b.0.1)) (λ c. Some (made b.0.0 c.0, c.1)) x b.2 in
+      let item = takes cs b.0 b.1 in
+      let condition = condition_read b.0.1 (past 58 b.0.1) k.0 refl k.1 in
+      subst Is {x = (made b.0.0 k.0.0, k.0.1)} (some_is (made b.0.0 k.0.0, k.0.1) x k.2)
+      (is b.0.0 k.0.0 k.0.1 (joined cs (spell b.0.0) b.0.1 (spell_condition k.0.0) k.0.1 (spell_condition k.0.0) item.0 condition.0 refl) item.1 condition.1)
+
+  conditioned_again : (a : A) (c : Option ExprTree) (rest : List ℕ) → WellOptional max_depth c → Follows rest → read (spell a ++ (spell_condition c ++ rest)) ≡ Some (a, spell_condition c ++ rest)
+      → (read ((spell a ++ spell_condition c) ++ rest) >>= conditioned made) ≡ Some (made a c, rest)
+  conditioned_again a c rest w s h = rw (append_assoc (spell a) (spell_condition c) rest, h, condition_spelled c rest w s.0 s.2) refl
+
+-- ---- entries
+
+-- what may follow an entry
+abbrev EntryEnds : List ℕ → Type 0
+EntryEnds rest = Stops is_name_rest rest × Stops is_caret rest
+
+abbrev EntryIs : List ℕ → EntryTree × List ℕ → Type 0
+EntryIs cs x = (cs ≡ spell_entry x.0 ++ x.1) × WellEntry x.0
+
+label_takes : (cs label t : List ℕ) (o : Option (List ℕ)) (x : EntryTree × List ℕ) → cs ≡ label ++ t → IsName label → past 94 t ≡ o → label_by label t o ≡ Some x → EntryIs cs x
+label_takes cs label t None x p w h e = subst (EntryIs cs) {x = (at_label label, t)} (some_is (at_label label, t) x e) (p, w)
+label_takes cs label t (Some rest) x p w h e =
+    let n = bind_some (name_at rest) (λ n. Some (at_label_in label n.0, n.1)) x e in
+    let name = name_takes rest n.0 n.1 in
+    subst (EntryIs cs) {x = (at_label_in label n.0.0, n.0.1)} (some_is (at_label_in label n.0.0, n.0.1) x n.2) (joined_by 94 cs label t rest n.0.0 n.0.1 p (past_takes 94 t rest h) name.0, (w, name.1))
+
+entry_takes_by : (cs : List ℕ) (o : Option (List ℕ)) (x : EntryTree × List ℕ) → past 94 cs ≡ o → entry_by cs o ≡ Some x → EntryIs cs x
+entry_takes_by cs None x h e =
+    let n = bind_some (name_at cs) (λ n. label_by n.0 n.1 (past 94 n.1)) x e in
+    let name = name_takes cs n.0 n.1 in
+    label_takes cs n.0.0 n.0.1 (past 94 n.0.1) x name.0 name.1 refl n.2
+entry_takes_by cs (Some rest) x h e =
+    let n = bind_some (name_at rest) (λ n. Some (at_routine n.0, n.1)) x e in
+    let name = name_takes rest n.0 n.1 in
+    subst (EntryIs cs) {x = (at_routine n.0.0, n.0.1)} (some_is (at_routine n.0.0, n.0.1) x n.2) (past_takes 94 cs rest h ∙ ap (λ (y : List ℕ). 94 ∷ y) name.0, name.1)
+
+entry_takes : Takes spell_entry WellEntry entry_at
+unfolding entry_at
+entry_takes cs x e = entry_takes_by cs (past 94 cs) x refl e
+
+-- no `^` stands where a name begins
+before_name : (name rest : List ℕ) → IsName name → past 94 (name ++ rest) ≡ None
+before_name name rest w = (name_in_front (name ++ rest) (Begins-append is_name_start name rest (named name w))).0
+
+entry_again : Again spell_entry WellEntry EntryEnds entry_at
+unfolding entry_at
+entry_again (at_label label) rest w s = rw (before_name label rest w, name_again label rest w s.0, not_past 94 rest s.1) refl
+entry_again (at_label_in label routine) rest w s =
+    let t : List ℕ = routine ++ rest in
+    let one : entry_by (label ++ 94 ∷ t) (past 94 (label ++ 94 ∷ t)) ≡ Some (at_label_in label routine, rest) =
+    rw (before_name label (94 ∷ t) w.0, name_again label (94 ∷ t) w.0 refl, name_again routine rest w.1 s.0) refl in
+    ap (λ (y : List ℕ). entry_by y (past 94 y)) (append_assoc label (94 ∷ routine) rest) ∙ one
+entry_again (at_routine routine) rest w s = rw (name_again routine rest w s.0) refl
+
+-- a postconditional goes on with no entry
+entry_stops : (c : Option ExprTree) (rest : List ℕ) → Follows rest → EntryEnds (spell_condition c ++ rest)
+entry_stops None rest s = (Stops-weaker goes_on is_name_rest rest (λ c h. (name_or_open c h).0) s.0.0, s.3)
+entry_stops (Some e) rest s = (refl, refl)
+
+expr_stops : (c : Option ExprTree) (rest : List ℕ) → Follows rest → Ends (spell_condition c ++ rest)
+expr_stops None rest s = s.0
+expr_stops (Some e) rest s = (refl, refl)
+
+-- ---- the arguments
+
+pub entrance_takes : Takes spell_arg (WellArg entrance) entrance_at
+unfolding entrance_at
+entrance_takes cs x e =
+    conditioned_takes spell_entry WellEntry entry_at do_one (λ y. (cs ≡ spell_arg y.0 ++ y.1) × WellArg entrance y.0) cs x entry_takes e (λ a c rest p w v. (p, (w, v)))
+
+pub entrance_again : Again spell_arg (WellArg entrance) Follows entrance_at
+unfolding entrance_at
+entrance_again (do_one a c) rest w s = conditioned_again spell_entry WellEntry entry_at do_one a c rest w.1 s (entry_again a (spell_condition c ++ rest) w.0 (entry_stops c rest s))
+entrance_again a rest w s = absurd w
+
+pub leap_takes : Takes spell_arg (WellArg leap) leap_at
+unfolding leap_at
+leap_takes cs x e =
+    conditioned_takes spell_entry WellEntry entry_at go_to (λ y. (cs ≡ spell_arg y.0 ++ y.1) × WellArg leap y.0) cs x entry_takes e (λ a c rest p w v. (p, (w, v)))
+
+pub leap_again : Again spell_arg (WellArg leap) Follows leap_at
+unfolding leap_at
+leap_again (go_to a c) rest w s = conditioned_again spell_entry WellEntry entry_at go_to a c rest w.1 s (entry_again a (spell_condition c ++ rest) w.0 (entry_stops c rest s))
+leap_again a rest w s = absurd w
+
+pub execution_takes : Takes spell_arg (WellArg execution) execution_at
+unfolding execution_at
+execution_takes cs x e =
+    conditioned_takes spell_expr (WellExpr max_depth) (expr_at max_depth) executed (λ y. (cs ≡ spell_arg y.0 ++ y.1) × WellArg execution y.0) cs x whole_takes e (λ a c rest p w v. (p, (w, v)))
+
+pub execution_again : Again spell_arg (WellArg execution) Follows execution_at
+unfolding execution_at
+execution_again (executed e c) rest w s =
+    conditioned_again spell_expr (WellExpr max_depth) (expr_at max_depth) executed e c rest w.1 s (whole_again e (spell_condition c ++ rest) w.0 (expr_stops c rest s))
+execution_again a rest w s = absurd w
+
+-- ---- where an argument begins
+
+entry_begins : (a : EntryTree) → WellEntry a → Begins begins_operand (spell_entry a)
+entry_begins (at_label label) w = names_begin label w
+entry_begins (at_label_in label routine) w = Begins-append begins_operand label (94 ∷ routine) (names_begin label w.0)
+entry_begins (at_routine routine) w = refl
+
+pub entrance_begins : (a : ArgTree) → WellArg entrance a → Begins begins_operand (spell_arg a)
+entrance_begins (do_one a c) w = Begins-append begins_operand (spell_entry a) (spell_condition c) (entry_begins a w.0)
+entrance_begins a w = absurd w
+
+pub leap_begins : (a : ArgTree) → WellArg leap a → Begins begins_operand (spell_arg a)
+leap_begins (go_to a c) w = Begins-append begins_operand (spell_entry a) (spell_condition c) (entry_begins a w.0)
+leap_begins a w = absurd w
+
+pub execution_begins : (a : ArgTree) → WellArg execution a → Begins begins_operand (spell_arg a)
+execution_begins (executed e c) w = Begins-append begins_operand (spell_expr e) (spell_condition c) (expr_begins max_depth e w.0)
+execution_begins a w = absurd w

@@ -1,0 +1,118 @@
+-- A line of a routine: its tree, the text of a tree, and reading a tree back from its text.
+--
+-- Restates "Routine structure" of ISO/IEC 11756:1999: a `levelline` is a label or none, then spaces, an `li` for each dot, and a
+-- `linebody`. Behind the label a line may also end, or a comment stand at once.
+use Rattle.std.specs.Prelude.{ℕ, Bool, true, ◌||◌, ◌==◌, if◌then◌else◌, List, [], ◌∷◌, ◌++◌, replicate, length, Option, Some, None}
+use Rattle.std.specs.List.{filter}
+use Rattle.mspec.specs.Names.{IsName}
+use Rattle.mgrammar.specs.Grammar.{LineTree, spell_comment, spell}
+use Rattle.mgrammar.specs.WellFormed.{WellComment, well}
+use Rattle.mgrammar.specs.Reading.{Read, ◌>>=◌, run_of, after_run, name_at, past, many, is_space, comment_at, line_at}
+
+-- ---- trees
+
+-- what stands behind the label: nothing or a comment; or behind a space, for each dot how many spaces stand in
+-- front of it, and then what a line of a terminal has too
+pub data BodyTree : Type 0 where
+  short : Option (List ℕ) → BodyTree
+  spaced_out : List ℕ → LineTree → BodyTree
+
+pub record RoutineLineTree : Type 0 where
+  pub label : Option (List ℕ)
+  pub body : BodyTree
+
+-- how many dots a line has: its LEVEL is one more
+abbrev pub dots_of_body : BodyTree → ℕ
+dots_of_body (short o) = 0
+dots_of_body (spaced_out dots l) = length dots
+
+-- ---- the text of a tree; 32 is a space, 46 a dot, 59 `;`
+
+-- with its spaces in front
+abbrev pub spell_dot : ℕ → List ℕ
+spell_dot n = replicate n 32 ++ 46 ∷ []
+
+abbrev pub spell_dots : List ℕ → List ℕ
+spell_dots [] = []
+spell_dots (n ∷ ns) = spell_dot n ++ spell_dots ns
+
+abbrev pub spell_body : BodyTree → List ℕ
+spell_body (short o) = spell_comment o
+spell_body (spaced_out dots l) = 32 ∷ (spell_dots dots ++ spell l)
+
+abbrev pub spell_label : Option (List ℕ) → List ℕ
+spell_label None = []
+spell_label (Some name) = name
+
+abbrev pub spell_routine_line : RoutineLineTree → List ℕ
+spell_routine_line l = spell_label l.label ++ spell_body l.body
+
+-- ---- what makes a tree the tree of a text
+
+abbrev pub WellLabel : Option (List ℕ) → Type 0
+WellLabel None = Unit {0}
+WellLabel (Some name) = IsName name
+
+abbrev pub WellBody : BodyTree → Type 0
+WellBody (short o) = WellComment o
+WellBody (spaced_out dots l) = well l
+
+abbrev pub well_routine_line : RoutineLineTree → Type 0
+well_routine_line l = WellLabel l.label × WellBody l.body
+
+-- ---- labels and dots, told without reading what stands behind them
+
+-- a label ends here: at the end, at a space or at a comment
+abbrev pub label_ends : List ℕ → Bool
+label_ends [] = true
+label_ends (c ∷ cs) = c == 32 || c == 59
+
+-- a label, or none, and the text behind it
+abbrev pub label_by : List ℕ → Option (List ℕ × List ℕ) → Option (List ℕ) × List ℕ
+label_by cs None = (None, cs)
+label_by cs (Some name) = if label_ends name.1 then (Some name.0, name.1) else (None, cs)
+
+unfoldable pub label_at : List ℕ → Option (List ℕ) × List ℕ
+label_at cs = label_by cs (name_at cs)
+
+abbrev pub label_of : List ℕ → Option (List ℕ)
+label_of cs = (label_at cs).0
+
+abbrev pub is_dot : ℕ → Bool
+is_dot c = c == 46
+
+abbrev pub is_space_or_dot : ℕ → Bool
+is_space_or_dot c = is_space c || is_dot c
+
+-- the dots in a run of spaces and dots that begins with a space
+abbrev pub dots_in : List ℕ → ℕ
+dots_in [] = 0
+dots_in (c ∷ cs) = if is_space c then length (filter is_dot (run_of is_space_or_dot cs)) else 0
+
+-- the dots of a line, as its text tells them where it has no tree too
+abbrev pub dots_of : List ℕ → ℕ
+dots_of cs = dots_in (label_at cs).1
+
+-- ---- reading
+
+abbrev pub dot_by : ℕ → Option (List ℕ) → Option (Option (ℕ × List ℕ))
+dot_by spaces None = Some None
+dot_by spaces (Some rest) = Some (Some (spaces, rest))
+
+-- a dot with its spaces in front, or nothing where none comes
+unfoldable pub dot_at : List ℕ → Option (Option (ℕ × List ℕ))
+dot_at cs = dot_by (length (run_of is_space cs)) (past 46 (after_run is_space cs))
+
+unfoldable pub dots_at : List ℕ → Read (List ℕ)
+dots_at cs = many dot_at (length cs) cs
+
+-- where this text stands behind a space, or no space comes
+abbrev pub body_by : List ℕ → Option (List ℕ) → Option BodyTree
+body_by cs None = comment_at cs >>= λ o. Some (short o)
+body_by cs (Some rest) = dots_at rest >>= λ p. line_at p.1 >>= λ l. Some (spaced_out p.0 l)
+
+unfoldable pub body_at : List ℕ → Option BodyTree
+body_at cs = body_by cs (past 32 cs)
+
+unfoldable pub routine_line_at : List ℕ → Option RoutineLineTree
+routine_line_at cs = body_at (label_at cs).1 >>= λ b. Some (record { label = (label_at cs).0; body = b })

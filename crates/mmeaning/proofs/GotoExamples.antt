@@ -1,0 +1,258 @@
+-- GOTO on examples, as proved equations: a loop of six turns, each in an equation of its own.
+use Rattle.std.proofs.Common.{sym, zero, ◌≡◌, ◌*◌, ℕ, List, [], ◌∷◌, Some, None, false, refl}
+use Rattle.std.specs.Prelude.{◌^◌, codes}
+use Rattle.std.specs.FinMap.{gets}
+use Rattle.std.specs.Fmt.{digits}
+use Rattle.mspec.specs.NodeOrder.{canonical_value}
+use Rattle.mspec.specs.NumberText.{size_text}
+use Rattle.mspec.specs.Globals.{Globals}
+use Rattle.mspec.specs.Act.{Text, no_locals, level_begun, value_of, assigned_to}
+use Rattle.mgrammar.specs.Grammar.{keyword_of, special_of, function_of}
+use Rattle.mgrammar.specs.Reading.{many, list_at, point_at, exponent_at, number_at, name_at, truth_at, operator_at, subscripts_with, reference_with, bracket_with, refer_with, dollar_with, primary_with, operand_with, step_by, step_with, expr_with, readers_at, target_with, destination_at, assignment_at, output_at, names_at, removal_at, hiding_at, condition_at, parameter_at, repetition_at, entry_at, entrance_at, leap_at, execution_at, args_at, postcondition_at, command_at, spaced_at, comment_at, line_at}
+use Rattle.mgrammar.specs.RoutineLine.{label_at, dot_at, dots_at, body_at, routine_line_at}
+use Rattle.mmeaning.specs.History.{opening}
+use Rattle.mmeaning.proofs.ExampleAccount.{account, done}
+use Rattle.mmeaning.proofs.LineRuns.{AreAnswered, at_last}
+use Rattle.mmeaning.proofs.RoutineRuns.{lines_in, asked, serving_in}
+use Rattle.std.proofs.Common.{suc, ap, ◌∙◌}
+use Rattle.mspec.proofs.ComputedMaps.{tree_none, tree_put, tree_again, text_none, text_put, text_again}
+use Rattle.mspec.proofs.ComputedNumbers.{value_some, round_pos, text_1, text_2, text_3, text_4, text_8}
+use Rattle.mspec.specs.Scopes.{bottom}
+use Rattle.std.specs.FinMap.{empty, insert}
+use Rattle.mspec.specs.Plan.{Plan, then_plan, perform}
+use Rattle.mspec.specs.Act.{Gives, give, Locals, State, Outcome, Act, on_gives}
+use Rattle.mgrammar.specs.Grammar.{multiply, loop, until, for_word, is, less, number, text, reference, at_label, at_label_in, shown, do_one, go_to, set_word, quit_word, write_word, do_word, goto_word, CommandTree, LineTree, SpacedTree}
+use Rattle.mgrammar.specs.RoutineLine.{RoutineLineTree, spaced_out}
+use Rattle.mmeaning.specs.World.{World, act}
+use Rattle.mmeaning.specs.LineMeaning.{Signal, Go_on, Spot}
+use Rattle.mmeaning.specs.Levels.{commands_in}
+use Rattle.mmeaning.proofs.Calls.{assoc_plan, then_give}
+use Rattle.mmeaning.proofs.ExampleAccount.{alice}
+use Rattle.mmeaning.proofs.LineRuns.{shut, entered, opened, text_opened, at_first}
+use Rattle.mmeaning.proofs.LineTrees.{only, with_operator, named, set_to, command, command_if, line}
+
+number_16 : size_text (16 * 10 ^ 18) ≡ codes "16"
+unfolding size_text digits
+number_16 = refl
+
+number_32 : size_text (32 * 10 ^ 18) ≡ codes "32"
+unfolding size_text digits
+number_32 = refl
+
+number_50 : size_text (50 * 10 ^ 18) ≡ codes "50"
+unfolding size_text digits
+number_50 = refl
+
+number_64 : size_text (64 * 10 ^ 18) ≡ codes "64"
+unfolding size_text digits
+number_64 = refl
+
+ruleset more_numbers = (number_16, number_32, number_50, number_64)
+
+-- the routine of the example, and the trees of its lines
+abbrev doubling : List Text
+doubling = codes "A S N=1" ∷ codes "B S N=N*2 G:N<50 B" ∷ codes " W N Q" ∷ []
+
+abbrev of_label : Text → List SpacedTree → RoutineLineTree
+of_label label cs = record { label = Some label; body = spaced_out [] (line cs) }
+
+abbrev doubling_1 : RoutineLineTree
+doubling_1 = of_label (codes "A") ((command set_word 83 (set_to (named (codes "N")) (only (number (codes "1"))) ∷ []), 0) ∷ [])
+
+abbrev doubling_2 : RoutineLineTree
+doubling_2 =
+    of_label (codes "B") ((command set_word 83 (set_to (named (codes "N")) (with_operator (reference (named (codes "N"))) multiply (number (codes "2"))) ∷ []), 1) ∷
+    (command_if goto_word 71 (with_operator (reference (named (codes "N"))) (is less) (number (codes "50"))) (go_to (at_label (codes "B")) None ∷ []), 0) ∷ [])
+
+abbrev doubling_3 : RoutineLineTree
+doubling_3 = record {
+  label = None;
+  body = spaced_out [] (line ((command write_word 87 (shown (only (reference (named (codes "N")))) ∷ []), 1) ∷ (command quit_word 81 [], 0) ∷ []));
+}
+
+doubling_1_read : routine_line_at (codes "A S N=1") ≡ Some doubling_1
+unfolding keyword_of special_of function_of many list_at point_at exponent_at number_at name_at truth_at operator_at subscripts_with
+    reference_with bracket_with refer_with dollar_with primary_with operand_with step_by step_with expr_with readers_at target_with
+    destination_at assignment_at output_at names_at removal_at hiding_at condition_at parameter_at repetition_at entry_at
+    entrance_at leap_at execution_at args_at postcondition_at command_at spaced_at comment_at line_at label_at dot_at dots_at
+    body_at routine_line_at
+doubling_1_read = refl
+
+doubling_2_read : routine_line_at (codes "B S N=N*2 G:N<50 B") ≡ Some doubling_2
+unfolding keyword_of special_of function_of many list_at point_at exponent_at number_at name_at truth_at operator_at subscripts_with
+    reference_with bracket_with refer_with dollar_with primary_with operand_with step_by step_with expr_with readers_at target_with
+    destination_at assignment_at output_at names_at removal_at hiding_at condition_at parameter_at repetition_at entry_at
+    entrance_at leap_at execution_at args_at postcondition_at command_at spaced_at comment_at line_at label_at dot_at dots_at
+    body_at routine_line_at
+doubling_2_read = refl
+
+doubling_3_read : routine_line_at (codes " W N Q") ≡ Some doubling_3
+unfolding keyword_of special_of function_of many list_at point_at exponent_at number_at name_at truth_at operator_at subscripts_with
+    reference_with bracket_with refer_with dollar_with primary_with operand_with step_by step_with expr_with readers_at target_with
+    destination_at assignment_at output_at names_at removal_at hiding_at condition_at parameter_at repetition_at entry_at
+    entrance_at leap_at execution_at args_at postcondition_at command_at spaced_at comment_at line_at label_at dot_at dots_at
+    body_at routine_line_at
+doubling_3_read = refl
+
+-- D A^G W "."
+abbrev goto_line : LineTree
+goto_line =
+    line ((command do_word 68 (do_one (at_label_in (codes "A") (codes "G")) None ∷ []), 1) ∷ (command write_word 87 (shown (only (text (codes "."))) ∷ []), 0) ∷ [])
+
+goto_read : line_at (codes "D A^G W \".\"") ≡ Some goto_line
+unfolding keyword_of special_of function_of many list_at point_at exponent_at number_at name_at truth_at operator_at subscripts_with
+    reference_with bracket_with refer_with dollar_with primary_with operand_with step_by step_with expr_with readers_at target_with
+    destination_at assignment_at output_at names_at removal_at hiding_at condition_at parameter_at repetition_at entry_at
+    entrance_at leap_at execution_at args_at postcondition_at command_at spaced_at comment_at line_at
+goto_read = refl
+
+ruleset variables = (tree_none, tree_put, tree_again, text_none, text_put, text_again)
+
+ruleset by_number = (assoc_plan, value_some, round_pos, text_1, text_2, text_4, text_8, more_numbers)
+
+-- ---- the turns of the loop, each from its line on
+
+-- seven steps are a turn's
+abbrev and_seven : ℕ → ℕ
+and_seven n = suc (suc (suc (suc (suc (suc (suc n))))))
+
+abbrev looping : List CommandTree
+looping = commands_in doubling_2.body
+
+-- in a level, and with variables of which N is one
+module _ (levels : ℕ) (locals : Text → Locals) (reads : (x : Text) → value_of (locals x) (codes "N") [] ≡ Some x) (sets : (x y : Text) → assigned_to (locals x) (codes "N") [] y ≡ locals y) where
+  abbrev in_store : Plan (Outcome Signal) → World → Outcome Signal × World
+  in_store p w = perform (act alice 1 (codes "ALICE")) p w
+
+  abbrev at_number : ℕ → Text → Text → State
+  at_number steps x out = record { locals = locals x; naked = None; test = false; out = out; steps = steps }
+
+  -- where the second line stands
+  abbrev second : Spot
+  second = record { depth = record { levels = levels; indirections = 0 }; level = record { copy = doubling; next = Some 2; dots = 0 } }
+
+  abbrev entered_at : ℕ → ℕ → Text → (Signal → Act Signal) → World → Outcome Signal × World
+  entered_at n steps x f w = in_store (then_plan (entered (codes "ALICE") n second looping (at_number steps x [])) (on_gives f)) w
+
+  abbrev shut_at : ℕ → ℕ → Text → (Signal → Act Signal) → World → Outcome Signal × World
+  shut_at n steps x f w = in_store (then_plan ((shut (codes "ALICE") n).enter second looping (at_number steps x [])) (on_gives f)) w
+
+  -- from one number to the next, and to the line once more
+  abbrev Turn : Text → Text → Type 0
+  Turn x y = (n steps : ℕ) (f : Signal → Act Signal) (w : World) → entered_at (suc n) (and_seven steps) x f w ≡ shut_at n steps y f w
+
+  reopened : (n steps : ℕ) (x : Text) (f : Signal → Act Signal) (w : World) → shut_at n steps x f w ≡ entered_at n steps x f w
+  reopened n steps x f w = ap (λ p. in_store (then_plan p (on_gives f)) w) (text_opened (codes "ALICE") n second looping (locals x) None false [] steps)
+
+  turn_1 : Turn (codes "1") (codes "2")
+  unfolding name_at label_at
+  turn_1 n steps f w = simp (by_number, reads, sets, doubling_2_read)
+
+  turn_2 : Turn (codes "2") (codes "4")
+  unfolding name_at label_at
+  turn_2 n steps f w = simp (by_number, reads, sets, doubling_2_read)
+
+  turn_3 : Turn (codes "4") (codes "8")
+  unfolding name_at label_at
+  turn_3 n steps f w = simp (by_number, reads, sets, doubling_2_read)
+
+  turn_4 : Turn (codes "8") (codes "16")
+  unfolding name_at label_at
+  turn_4 n steps f w = simp (by_number, reads, sets, doubling_2_read)
+
+  turn_5 : Turn (codes "16") (codes "32")
+  unfolding name_at label_at
+  turn_5 n steps f w = simp (by_number, reads, sets, doubling_2_read)
+
+  -- six steps of the last turn, one of the third line and three of its commands
+  last_turn : (n steps : ℕ) (f : Signal → Act Signal) (w : World) → entered_at (suc (suc n)) (suc (suc (suc (suc (suc (suc (suc (suc (suc (suc steps)))))))))) (codes "32") f w ≡ in_store (f Go_on (at_number steps (codes "64") (codes "64"))) w
+  unfolding name_at label_at
+  last_turn n steps f w = simp (by_number, text_opened, reads, sets, doubling_2_read, doubling_3_read)
+
+  abbrev for_turns : ℕ → ℕ → ℕ
+  for_turns zero steps = suc (suc (suc (suc (suc (suc (suc (suc (suc (suc steps)))))))))
+  for_turns (suc k) steps = and_seven (for_turns k steps)
+
+  all_turns : (n steps : ℕ) (f : Signal → Act Signal) (w : World) → shut_at (suc (suc (suc (suc (suc (suc (suc n))))))) (for_turns 5 steps) (codes "1") f w ≡ in_store (f Go_on (at_number steps (codes "64") (codes "64"))) w
+  all_turns n steps f w =
+      reopened (suc (suc (suc (suc (suc (suc (suc n))))))) (for_turns 5 steps) (codes "1") f w ∙ turn_1 (suc (suc (suc (suc (suc (suc n)))))) (for_turns 4 steps) f w
+      ∙ reopened (suc (suc (suc (suc (suc (suc n)))))) (for_turns 4 steps) (codes "2") f w ∙ turn_2 (suc (suc (suc (suc (suc n))))) (for_turns 3 steps) f w
+      ∙ reopened (suc (suc (suc (suc (suc n))))) (for_turns 3 steps) (codes "4") f w ∙ turn_3 (suc (suc (suc (suc n)))) (for_turns 2 steps) f w
+      ∙ reopened (suc (suc (suc (suc n)))) (for_turns 2 steps) (codes "8") f w ∙ turn_4 (suc (suc (suc n))) (for_turns 1 steps) f w
+      ∙ reopened (suc (suc (suc n))) (for_turns 1 steps) (codes "16") f w ∙ turn_5 (suc (suc n)) (for_turns 0 steps) f w
+      ∙ reopened (suc (suc n)) (for_turns 0 steps) (codes "32") f w ∙ last_turn n steps f w
+
+-- ---- in the level of a DO
+
+abbrev in_do : Text → Locals
+in_do x = level_begun (level_begun (record bottom { trees = insert empty (codes "N") (insert empty [] x) } ∷ []))
+
+do_reads : (x : Text) → value_of (in_do x) (codes "N") [] ≡ Some x
+unfolding value_of level_begun
+do_reads x = simp variables
+
+do_sets : (x y : Text) → assigned_to (in_do x) (codes "N") [] y ≡ in_do y
+unfolding assigned_to level_begun
+do_sets x y = simp variables
+
+do_turns : (f : Signal → Act Signal) (w : World) → shut_at 1 in_do do_reads do_sets 1999 1995 (codes "1") f w ≡ in_store 1 in_do do_reads do_sets (f Go_on (at_number 1 in_do do_reads do_sets 1950 (codes "64") (codes "64"))) w
+do_turns f w = all_turns 1 in_do do_reads do_sets 1992 1950 f w
+
+goto_in_routine : (g : Globals) → lines_in g (codes "G") ≡ doubling → AreAnswered account (opening g) (codes "D A^G W \".\"" ∷ []) (done (codes "64.") ∷ [])
+unfolding name_at label_at no_locals level_begun value_of assigned_to canonical_value
+goto_in_routine g h =
+    at_last (Some goto_line) goto_read (simp (by_number, variables, gets, doubling_1_read, doubling_2_read, asked g (codes "G") doubling h, text_opened (codes "ALICE") 2000, do_turns))
+
+-- ---- from a FOR of a terminal's line, which the GOTO leaves
+
+-- F I=1:1:3 G A^G
+abbrev for_line : LineTree
+for_line =
+    line ((command for_word 70 (loop (codes "I") (until (only (number (codes "1"))) (only (number (codes "1"))) (only (number (codes "3"))) ∷ []) ∷ []), 1) ∷
+    (command goto_word 71 (go_to (at_label_in (codes "A") (codes "G")) None ∷ []), 0) ∷ [])
+
+for_read : line_at (codes "F I=1:1:3 G A^G") ≡ Some for_line
+unfolding keyword_of special_of function_of many list_at point_at exponent_at number_at name_at truth_at operator_at subscripts_with
+    reference_with bracket_with refer_with dollar_with primary_with operand_with step_by step_with expr_with readers_at target_with
+    destination_at assignment_at output_at names_at removal_at hiding_at condition_at parameter_at repetition_at entry_at
+    entrance_at leap_at execution_at args_at postcondition_at command_at spaced_at comment_at line_at
+for_read = refl
+
+-- W I
+abbrev index_line : LineTree
+index_line = line ((command write_word 87 (shown (only (reference (named (codes "I")))) ∷ []), 0) ∷ [])
+
+index_read : line_at (codes "W I") ≡ Some index_line
+unfolding keyword_of special_of function_of many list_at point_at exponent_at number_at name_at truth_at operator_at subscripts_with
+    reference_with bracket_with refer_with dollar_with primary_with operand_with step_by step_with expr_with readers_at target_with
+    destination_at assignment_at output_at names_at removal_at hiding_at condition_at parameter_at repetition_at entry_at
+    entrance_at leap_at execution_at args_at postcondition_at command_at spaced_at comment_at line_at
+index_read = refl
+
+-- the variables that stay, and in the level of the line
+abbrev with_index : Text → Locals
+with_index x = record bottom { trees = insert (insert empty (codes "I") (insert empty [] (codes "1"))) (codes "N") (insert empty [] x) } ∷ []
+
+abbrev in_line : Text → Locals
+in_line x = level_begun (with_index x)
+
+line_reads : (x : Text) → value_of (in_line x) (codes "N") [] ≡ Some x
+unfolding value_of level_begun
+line_reads x = simp variables
+
+line_sets : (x y : Text) → assigned_to (in_line x) (codes "N") [] y ≡ in_line y
+unfolding assigned_to level_begun
+line_sets x y = simp variables
+
+-- nothing follows the level of the line
+line_turns : (w : World) → perform (act alice 1 (codes "ALICE")) ((shut (codes "ALICE") 1999).enter (second 0 in_line line_reads line_sets) looping (at_number 0 in_line line_reads line_sets 1990 (codes "1") [])) w ≡ (Gives Go_on (at_number 0 in_line line_reads line_sets 1945 (codes "64") (codes "64")), w)
+line_turns w =
+    ap (λ p. perform (act alice 1 (codes "ALICE")) p w) (sym (then_give ((shut (codes "ALICE") 1999).enter (second 0 in_line line_reads line_sets) looping (at_number 0 in_line line_reads line_sets 1990 (codes "1") []))))
+    ∙ all_turns 0 in_line line_reads line_sets 1992 1945 give w
+
+goto_leaves_for : (g : Globals) → lines_in g (codes "G") ≡ doubling → AreAnswered account (opening g) (codes "F I=1:1:3 G A^G" ∷ codes "W I" ∷ []) (done (codes "64") ∷ done (codes "1") ∷ [])
+unfolding name_at label_at no_locals level_begun value_of assigned_to canonical_value
+goto_leaves_for g h =
+    at_first (serving_in g (record { locals = with_index (codes "64"); naked = None; test = false })) (Some for_line) for_read
+    (simp (by_number, text_3, variables, gets, doubling_1_read, doubling_2_read, asked g (codes "G") doubling h, opened, text_opened (codes "ALICE") 2000, line_turns))
+    (at_last (Some index_line) index_read (simp (variables, gets)))

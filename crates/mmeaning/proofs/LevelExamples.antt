@@ -1,0 +1,144 @@
+-- Levels on examples, as proved equations: how many may be open, and in which order DO, GOTO and XECUTE are refused.
+use Rattle.std.proofs.Common.{◌≡◌, ℕ, zero, suc, ◌+◌, ◌≤◌, Bool, true, false, List, [], ◌∷◌, Option, Some, None, refl, ap, subst, ◌∙◌, arith}
+use Rattle.std.specs.Prelude.{codes, nat_lt}
+use Rattle.std.proofs.lemmas.Bool.Decides.{nat_tests}
+use Rattle.mspec.specs.Number.{round, round_size, nearest, rounding_unit, digits_before}
+use Rattle.mspec.specs.NumberText.{numeric_value, literal_size, size_text}
+use Rattle.std.specs.Fmt.{digits}
+use Rattle.mspec.specs.Scopes.{Scope}
+use Rattle.mspec.specs.Code.{M9, M13, Zdepth, Zlevel, Zsyntax}
+use Rattle.mspec.specs.Plan.{Plan, Done, then_plan}
+use Rattle.mspec.specs.Act.{Text, Node, Locals, State, Outcome, Gives, Fails, on_gives, level_begun, value_of}
+use Rattle.mgrammar.specs.Grammar.{divide, number, text, reference, at_label, executed, execute_word, LineTree, keyword_of}
+use Rattle.mgrammar.specs.Reading.{many, list_at, point_at, exponent_at, number_at, name_at, truth_at, operator_at, subscripts_with, reference_with, primary_with, operand_with, step_by, step_with, expr_with, readers_at, execution_at, args_at, postcondition_at, command_at, spaced_at, comment_at, line_at}
+use Rattle.mgrammar.specs.RoutineLine.{label_at}
+use Rattle.mmeaning.specs.LineMeaning.{Signal, Spot, outset, after_level, run_within, Context, Go_on, Goes, context, commands, doing, doing_block, executing, going}
+use Rattle.mmeaning.specs.Levels.{commands_of}
+use Rattle.mmeaning.specs.Step.{text_run}
+use Rattle.mmeaning.proofs.LineTrees.{only, with_operator, named, command, line}
+
+-- a level of this many dots, of a routine of three lines, where so many levels are open
+abbrev lines : List Text
+lines = codes "T W 1" ∷ codes "U . W 2" ∷ codes "V )" ∷ []
+
+abbrev within : ℕ → ℕ → Context
+within levels dots = context (codes "ALICE") 9 (record { depth = record { levels = levels; indirections = 0 }; level = record { copy = lines; next = None; dots = dots } })
+
+-- ---- the 257th level is refused
+
+-- before the line of a DO is sought
+level_before_line : (s : State) → doing (within 256 0) (at_label (codes "NO")) s ≡ Done (Fails Zdepth s)
+level_before_line s = refl
+
+line_sought : (s : State) → doing (within 255 0) (at_label (codes "NO")) s ≡ Done (Fails M13 s)
+unfolding name_at label_at
+line_sought s = refl
+
+-- also for an argumentless DO that no line follows
+level_of_block : (s : State) → doing_block (within 256 0) s ≡ Done (Fails Zdepth s)
+level_of_block s = refl
+
+block_ends : (naked : Option Node) (test : Bool) (out : Text) (steps : ℕ) (top : Scope) (below : Locals)
+    → doing_block (within 255 0) (record { locals = top ∷ below; naked = naked; test = test; out = out; steps = steps })
+    ≡ Done (Gives Go_on (record { locals = top ∷ below; naked = naked; test = test; out = out; steps = steps }))
+unfolding level_begun
+block_ends naked test out steps top below = refl
+
+-- behind the value of a text, and before that is read
+level_before_text : (locals : Locals) (naked : Option Node) (test : Bool) (out : Text) (steps : ℕ)
+    → executing (within 256 0) (only (text (codes "1 1"))) (record { locals = locals; naked = naked; test = test; out = out; steps = suc steps })
+    ≡ Done (Fails Zdepth (record { locals = locals; naked = naked; test = test; out = out; steps = steps }))
+level_before_text locals naked test out steps = refl
+
+text_read : (locals : Locals) (naked : Option Node) (test : Bool) (out : Text) (steps : ℕ)
+    → executing (within 255 0) (only (text (codes "1 1"))) (record { locals = locals; naked = naked; test = test; out = out; steps = suc steps })
+    ≡ Done (Fails Zsyntax (record { locals = locals; naked = naked; test = test; out = out; steps = steps }))
+unfolding many keyword_of command_at spaced_at comment_at line_at
+text_read locals naked test out steps = refl
+
+value_before_level : (locals : Locals) (naked : Option Node) (test : Bool) (out : Text) (steps : ℕ)
+    → executing (within 256 0) (with_operator (number (codes "1")) divide (number (codes "0"))) (record { locals = locals; naked = naked; test = test; out = out; steps = suc (suc steps) })
+    ≡ Done (Fails M9 (record { locals = locals; naked = naked; test = test; out = out; steps = steps }))
+unfolding numeric_value literal_size round round_size nearest rounding_unit digits_before size_text digits
+value_before_level locals naked test out steps = refl
+
+-- ---- lines with dots
+
+-- GOTO keeps to the dots of its level, and opens none
+goto_dots : (s : State) → going (within 256 1) (at_label (codes "U")) s ≡ Done (Gives (Goes (record { copy = lines; line = 1 })) s)
+unfolding name_at label_at
+goto_dots s = refl
+
+goto_other_dots : (s : State) → going (within 256 1) (at_label (codes "T")) s ≡ Done (Fails Zlevel s)
+unfolding name_at label_at
+goto_other_dots s = refl
+
+-- the level of a DO with an argument has none
+do_dots : (s : State) → doing (within 0 1) (at_label (codes "U")) s ≡ Done (Fails Zlevel s)
+unfolding name_at label_at
+do_dots s = refl
+
+-- ---- a text that runs itself: 256 levels are open where it is refused
+
+-- X A
+abbrev itself : LineTree
+itself = line ((command execute_word 88 (executed (only (reference (named (codes "A")))) None ∷ []), 0) ∷ [])
+
+itself_read : line_at (codes "X A") ≡ Some itself
+unfolding keyword_of many list_at point_at exponent_at number_at name_at truth_at operator_at subscripts_with reference_with
+    primary_with operand_with step_by step_with expr_with readers_at execution_at args_at postcondition_at command_at spaced_at
+    comment_at line_at
+itself_read = refl
+
+abbrev open_levels : ℕ → Spot
+open_levels levels = record { depth = record { levels = levels; indirections = 0 }; level = record { copy = []; next = None; dots = 0 } }
+
+-- two steps for each level more, and for the one that is refused
+abbrev steps_for : ℕ → ℕ → ℕ
+steps_for zero steps = suc (suc steps)
+steps_for (suc k) steps = suc (suc (steps_for k steps))
+
+abbrev begun_more : ℕ → Locals → Locals
+begun_more zero locals = locals
+begun_more (suc k) locals = begun_more k (level_begun locals)
+
+-- a level that is begun hides no variable
+begun_value : (locals : Locals) → value_of (level_begun locals) (codes "A") [] ≡ value_of locals (codes "A") []
+unfolding value_of level_begun
+begun_value locals = refl
+
+module _ (naked : Option Node) (test : Bool) (out : Text) (steps : ℕ) where
+  abbrev state : Locals → ℕ → State
+  state locals n = record { locals = locals; naked = naked; test = test; out = out; steps = n }
+
+  -- so many levels may be opened yet
+  abbrev IsRefused : ℕ → ℕ → ℕ → Locals → Type 0
+  IsRefused k levels n locals =
+      commands (context (codes "ALICE") n (open_levels levels)) (commands_of itself) (state locals (steps_for k steps)) ≡ Done (Fails Zdepth (state (begun_more k locals) steps))
+
+  at_limit : (levels n : ℕ) (locals : Locals) → nat_lt levels 256 ≡ false → value_of locals (codes "A") [] ≡ Some (codes "X A") → IsRefused zero levels n locals
+  at_limit levels n locals full h = rw (h, full) refl
+
+  below_limit : (k levels n : ℕ) (locals : Locals) → nat_lt levels 256 ≡ true → value_of locals (codes "A") [] ≡ Some (codes "X A")
+      → IsRefused k (levels + 1) n (level_begun locals) → IsRefused (suc k) levels (suc n) locals
+  below_limit k levels n locals free h inner = rw (h, free, itself_read, inner) refl
+
+  refused : (k levels n : ℕ) (locals : Locals) → k + levels ≡ 256 → k ≤ n → value_of locals (codes "A") [] ≡ Some (codes "X A") → IsRefused k levels n locals
+  refused zero levels n locals e le h = at_limit levels n locals (grind (arith, nat_tests, e)) h
+  refused (suc k) levels zero locals e le h = absurd (omega (arith, le))
+  refused (suc k) levels (suc n) locals e le h =
+      below_limit k levels n locals (grind (arith, nat_tests, e)) h (refused k (levels + 1) n (level_begun locals) (omega (arith, e)) (omega (arith, le)) (begun_value locals ∙ h))
+
+run_refused : (n : ℕ) (s after : State) → commands (context (codes "ALICE") n outset) (commands_of itself) s ≡ Done (Fails Zdepth after) → run_within (codes "ALICE") n (commands_of itself) s ≡ Done (Fails Zdepth after)
+run_refused n s after h = ap (λ (p : Plan (Outcome Signal)). then_plan p (on_gives (after_level (context (codes "ALICE") n outset)))) h
+
+-- the state that it leaves: 1,486 of 2,000 steps, and 256 levels more
+text_of_itself : (naked : Option Node) (test : Bool) (out : Text) (locals : Locals) → value_of locals (codes "A") [] ≡ Some (codes "X A")
+    → text_run (codes "ALICE") (line_at (codes "X A")) (record { locals = locals; naked = naked; test = test; out = out; steps = 2000 })
+    ≡ Done (Fails Zdepth (record { locals = begun_more 256 locals; naked = naked; test = test; out = out; steps = 1486 }))
+text_of_itself naked test out locals h =
+    ap (λ l. text_run (codes "ALICE") l (record { locals = locals; naked = naked; test = test; out = out; steps = 2000 })) itself_read
+    ∙ run_refused 2000 (state naked test out 1486 locals 2000) (state naked test out 1486 (begun_more 256 locals) 1486) (enough 2000 refl)
+  where
+    enough : (n : ℕ) → steps_for 256 1486 ≡ n → commands (context (codes "ALICE") 2000 outset) (commands_of itself) (state naked test out 1486 locals n) ≡ Done (Fails Zdepth (state naked test out 1486 (begun_more 256 locals) 1486))
+    enough n e = subst (λ n. commands (context (codes "ALICE") 2000 outset) (commands_of itself) (state naked test out 1486 locals n) ≡ Done (Fails Zdepth (state naked test out 1486 (begun_more 256 locals) 1486))) e (refused naked test out 1486 256 0 2000 locals refl (omega arith) h)

@@ -1,0 +1,49 @@
+-- Lines that lead to routines: for examples in a server whose store has a routine of ALICE.
+use Rattle.std.proofs.Common.{◌≡◌, ℕ, Bool, false, List, [], None, refl, ap}
+use Rattle.std.specs.Prelude.{codes}
+use Rattle.std.specs.FinMap.{empty, insert}
+use Rattle.mspec.specs.Globals.{Globals, lines_of}
+use Rattle.mspec.specs.LockConflict.{Locks}
+use Rattle.mspec.specs.Access.{Mode, may}
+use Rattle.mspec.specs.Plan.{May, Put, Kill, Routine, Plan, Ask, perform}
+use Rattle.mspec.specs.Act.{Text, Node, Outcome, no_locals, assigned_to}
+use Rattle.mmeaning.specs.LineMeaning.{Signal}
+use Rattle.mmeaning.specs.World.{act}
+use Rattle.mmeaning.specs.Step.{Settings, World, Session, Server}
+use Rattle.mmeaning.specs.History.{opening}
+use Rattle.mmeaning.proofs.Calls.{assoc_plan}
+use Rattle.mmeaning.proofs.LineRuns.{opened, text_opened}
+
+-- the lines of ALICE's routines
+unfoldable pub lines_in : Globals → Text → List Text
+lines_in g name = lines_of g (codes "ALICE") name
+
+-- a routine of which the lines are known is read
+pub asked : (g : Globals) (name : Text) (lines : List Text) → lines_in g name ≡ lines → (locks : Locks) (settings : Settings) (terminal : ℕ) (k : List Text → Plan (Outcome Signal))
+    → perform (act settings terminal (codes "ALICE")) (Ask (Routine name) k) (record { globals = g; locks = locks }) ≡ perform (act settings terminal (codes "ALICE")) (k lines) (record { globals = g; locks = locks })
+unfolding lines_in
+asked g name lines h locks settings terminal k = ap (λ xs. perform (act settings terminal (codes "ALICE")) (k xs) (record { globals = g; locks = locks })) h
+
+-- what is asked and what is written otherwise, an operation at a time
+module _ (settings : Settings) (terminal : ℕ) (me : Text) (w : World) where
+  pub told : (owner name : Text) (mode : Mode) (k : Bool → Plan (Outcome Signal)) → perform (act settings terminal me) (Ask (May owner name mode) k) w ≡ perform (act settings terminal me) (k (may settings me owner name mode)) w
+  told owner name mode k = refl
+
+  pub put : (n : Node) (t : Text) (k : Unit {0} → Plan (Outcome Signal)) → perform (act settings terminal me) (Ask (Put n t) k) w ≡ perform (act settings terminal me) (k tt) (act settings terminal me (Put n t) w).1
+  put n t k = refl
+
+  pub killed : (n : Node) (k : Unit {0} → Plan (Outcome Signal)) → perform (act settings terminal me) (Ask (Kill n) k) w ≡ perform (act settings terminal me) (k tt) (act settings terminal me (Kill n) w).1
+  killed n k = refl
+
+pub ruleset computed_operations = (told, put, killed)
+
+-- a server with this store, in which terminal 1 has a session
+abbrev pub serving_in : Globals → Session → Server
+serving_in g s = record { world = (opening g).world; sessions = insert empty 1 s }
+
+-- where it holds one text, at a variable's name
+abbrev pub holding_in : Globals → Text → Text → Server
+holding_in g name x = serving_in g (record { locals = assigned_to no_locals name [] x; naked = None; test = false })
+
+-- A level stands deep within plans one behind another, where `simp` doesn't look: it brings what is done next to the front.
+pub ruleset computed_levels = (opened, text_opened, assoc_plan)

@@ -1,0 +1,102 @@
+-- Levels: where a line stands among those of its routine, where DO and GOTO lead, and how a level closes.
+--
+-- Restates "Routine execution", "DO", "GOTO" and "XECUTE" of ISO/IEC 11756:1999. A level is that of a terminal's line, or one that a
+-- DO or an XECUTE opened. It keeps the lines of its routine as they were when a DO or a GOTO named it.
+use Rattle.std.specs.Prelude.{ℕ, ◌+◌, ◌==◌, nat_lt, Bool, true, false, List, [], map, position, slice_get, Option, Some, None}
+use Rattle.mspec.specs.Trees.{text_eq}
+use Rattle.mspec.specs.Scopes.{without_level}
+use Rattle.mspec.specs.Code.{M13, Zdepth, Zlevel}
+use Rattle.mspec.specs.Plan.{Routine}
+use Rattle.mspec.specs.Act.{Text, Act, ◌>>=◌, ◌>>◌, give, give_some, unless, ask, with_locals, set_test}
+use Rattle.mgrammar.specs.Grammar.{EntryTree, at_label, at_label_in, at_routine, CommandTree, LineTree}
+use Rattle.mgrammar.specs.RoutineLine.{BodyTree, short, spaced_out, label_of, dots_of}
+use Rattle.mmeaning.specs.Expression.{Depth}
+
+-- the lines that labels are sought in; the place of the one that comes next; and how many dots the level's lines have. A terminal's text
+-- has no lines, and none comes behind it or behind a text of XECUTE, until a GOTO leads to one.
+pub record Level : Type 0 where
+  pub copy : List Text
+  pub next : Option ℕ
+  pub dots : ℕ
+
+-- where a line stands: how deep, and in which level
+pub record Spot : Type 0 where
+  pub depth : Depth
+  pub level : Level
+
+-- a line from outside, at the only level that is open
+abbrev pub outset : Spot
+outset = record {
+  depth = record { levels = 0; indirections = 0 };
+  level = record { copy = []; next = None; dots = 0 };
+}
+
+-- ---- where DO and GOTO lead
+
+-- a line of a routine: all its lines, and its place among them
+pub record Target : Type 0 where
+  pub copy : List Text
+  pub line : ℕ
+
+-- a routine that is named is read; a label alone stands in the level's own
+abbrev pub lines_of_entry : List Text → EntryTree → Act (List Text)
+lines_of_entry copy (at_label label) = give copy
+lines_of_entry copy (at_label_in label routine) = ask (Routine routine)
+lines_of_entry copy (at_routine routine) = ask (Routine routine)
+
+abbrev pub is_label : Text → Option Text → Bool
+is_label label None = false
+is_label label (Some name) = text_eq label name
+
+-- whether a line is one that is meant, which the first such line is
+abbrev pub is_entry : EntryTree → Text → Bool
+is_entry (at_label label) line = is_label label (label_of line)
+is_entry (at_label_in label routine) line = is_label label (label_of line)
+is_entry (at_routine routine) line = true
+
+abbrev pub has_dots : ℕ → Option Text → Bool
+has_dots dots None = false
+has_dots dots (Some line) = dots_of line == dots
+
+-- the line that is meant: there has to be one, and it has to have as many dots as the level
+abbrev pub target : List Text → ℕ → EntryTree → Act Target
+target copy dots e = do
+  lines ← lines_of_entry copy e
+  n ← give_some M13 (position (is_entry e) lines)
+  unless Zlevel (has_dots dots (slice_get lines n))
+  give (record { copy = lines; line = n })
+
+-- ---- levels that are opened
+
+-- the most levels that a line opens, indirections under evaluation among them
+abbrev pub most_levels : ℕ
+most_levels = 256
+
+abbrev pub a_level_free : Depth → Act (Unit {0})
+a_level_free d = unless Zdepth (nat_lt d.levels most_levels)
+
+-- in a level more
+abbrev pub deeper : Spot → Level → Spot
+deeper p l = record { depth = record { levels = p.depth.levels + 1; indirections = p.depth.indirections }; level = l }
+
+-- ---- how a level closes
+
+-- not at all, as the outermost one does, which goes with its line; its scope goes; and $TEST is besides what it was
+pub data Closing : Type 0 where
+  stays : Closing
+  leaves : Closing
+  restores : Bool → Closing
+
+abbrev pub closing : Closing → Act (Unit {0})
+closing stays = give tt
+closing leaves = with_locals without_level
+closing (restores b) = with_locals without_level >> set_test b
+
+-- ---- commands of a line
+
+abbrev pub commands_of : LineTree → List CommandTree
+commands_of l = map (λ c. c.0) l.commands
+
+abbrev pub commands_in : BodyTree → List CommandTree
+commands_in (short comment) = []
+commands_in (spaced_out dots l) = commands_of l

@@ -1,7 +1,9 @@
 -- A line of the program as a plain tree of the grammar.
 use Rattle.std.specs.Prelude.{Option, Box, map, option_map}
 use Rattle.mgrammar.specs.Grammar as grammar
-use Rattle.mgrammar.specs.Grammar.{SignTree, TruthTree, BinaryTree, KeywordTree, FunctionTree, SpecialTree, CountTree, RepeatedTree, AtomTree, ExprTree, StepTree, steps_of, exprs_of, choices_of, OperandTree, PrimaryTree, ReferenceTree, TargetTree, DestinationTree, ParameterTree, ArgTree, CommandTree, SpacedTree, LineTree}
+use Rattle.mgrammar.specs.Grammar.{SignTree, TruthTree, BinaryTree, KeywordTree, FunctionTree, SpecialTree, CountTree, RepeatedTree, AtomTree, ExprTree, StepTree, steps_of, exprs_of, choices_of, OperandTree, PrimaryTree, ReferenceTree, TargetTree, DestinationTree, ParameterTree, EntryTree, ArgTree, CommandTree, SpacedTree, LineTree}
+use Rattle.mgrammar.specs.RoutineLine as routine
+use Rattle.mgrammar.specs.RoutineLine.{BodyTree, RoutineLineTree}
 use Rattle.mtree.specs.declared.tree.Sign.{Sign}
 use Rattle.mtree.specs.declared.tree.Sign.TheVariants as sign
 use Rattle.mtree.specs.declared.tree.Truth.{Truth}
@@ -33,11 +35,16 @@ use Rattle.mtree.specs.declared.tree.Destination.{Destination}
 use Rattle.mtree.specs.declared.tree.Destination.TheVariants as destination
 use Rattle.mtree.specs.declared.tree.Parameter.{Parameter}
 use Rattle.mtree.specs.declared.tree.Parameter.TheVariants as parameter
+use Rattle.mtree.specs.declared.tree.Entry.{Entry}
+use Rattle.mtree.specs.declared.tree.Entry.TheVariants as entry
 use Rattle.mtree.specs.declared.tree.Arg.{Arg}
 use Rattle.mtree.specs.declared.tree.Arg.TheVariants as arg
 use Rattle.mtree.specs.declared.tree.Command.{Command}
 use Rattle.mtree.specs.declared.tree.Spaced.{Spaced}
 use Rattle.mtree.specs.declared.tree.Line.{Line}
+use Rattle.mtree.specs.declared.tree.Body.{Body}
+use Rattle.mtree.specs.declared.tree.Body.TheVariants as body
+use Rattle.mtree.specs.declared.tree.RoutineLine.{RoutineLine}
 
 abbrev pub sign_tree : Sign → SignTree
 sign_tree sign.Plus = grammar.plus
@@ -74,6 +81,9 @@ keyword_tree keyword.Else = grammar.else_word
 keyword_tree keyword.For = grammar.for_word
 keyword_tree keyword.Quit = grammar.quit_word
 keyword_tree keyword.Write = grammar.write_word
+keyword_tree keyword.Do = grammar.do_word
+keyword_tree keyword.Goto = grammar.goto_word
+keyword_tree keyword.Execute = grammar.execute_word
 
 abbrev pub function_tree : Function → FunctionTree
 function_tree function.Ascii = grammar.ascii_function
@@ -176,6 +186,14 @@ parameter_tree (parameter.Once e) = grammar.once (expr_tree e)
 parameter_tree (parameter.Onward e by) = grammar.onward (expr_tree e) (expr_tree by)
 parameter_tree (parameter.Until e by to) = grammar.until (expr_tree e) (expr_tree by) (expr_tree to)
 
+abbrev pub condition_tree : {G : Type 0} → Option (Box Expr G) → Option ExprTree
+condition_tree = option_map (λ e. expr_tree e.value)
+
+abbrev pub entry_tree : Entry → EntryTree
+entry_tree (entry.Label label) = grammar.at_label label
+entry_tree (entry.LabelIn label name) = grammar.at_label_in label name
+entry_tree (entry.Routine name) = grammar.at_routine name
+
 abbrev pub arg_tree : Arg → ArgTree
 arg_tree (arg.Assign d e) = grammar.assign (destination_tree d) (expr_tree e)
 arg_tree (arg.Breaks n) = grammar.breaks n
@@ -186,9 +204,9 @@ arg_tree (arg.NewOne name) = grammar.new_one name
 arg_tree (arg.NewOthers names) = grammar.new_others names.items
 arg_tree (arg.Tested e) = grammar.tested (expr_tree e)
 arg_tree (arg.Loop index parameters) = grammar.loop index (map parameter_tree parameters.items)
-
-abbrev pub condition_tree : {G : Type 0} → Option (Box Expr G) → Option ExprTree
-condition_tree = option_map (λ e. expr_tree e.value)
+arg_tree (arg.DoOne e c) = grammar.do_one (entry_tree e) (condition_tree c)
+arg_tree (arg.GoTo e c) = grammar.go_to (entry_tree e) (condition_tree c)
+arg_tree (arg.Executed e c) = grammar.executed (expr_tree e) (condition_tree c)
 
 abbrev pub command_tree : Command → CommandTree
 command_tree c = record { keyword = keyword_tree c.keyword; word = c.word; condition = condition_tree c.condition; args = map arg_tree c.args.items }
@@ -198,3 +216,10 @@ spaced_tree s = (command_tree s.command, s.spaces)
 
 abbrev pub line_tree : Line → LineTree
 line_tree l = record { lead = l.lead; commands = map spaced_tree l.commands.items; comment = l.comment }
+
+abbrev pub body_tree : Body → BodyTree
+body_tree (body.Short comment) = routine.short comment
+body_tree (body.Spaced dots l) = routine.spaced_out dots.items (line_tree l.value)
+
+abbrev pub routine_line_tree : RoutineLine → RoutineLineTree
+routine_line_tree l = record { label = l.label; body = body_tree l.body }

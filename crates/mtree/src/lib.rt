@@ -11,9 +11,9 @@ pub mod words;
 pub mod write;
 
 pub use tree::{
-    Arg, Atom, Binary, Choice, Command, Count, Destination, Expr, Function, Keyword, Line, Operand,
-    Parameter, PieceTarget, Primary, Reference, Referring, Repeated, Sign, Spaced, SpecialVariable,
-    Step, Target, Truth,
+    Arg, Atom, Binary, Body, Choice, Command, Count, Destination, Entry, Expr, Function, Keyword,
+    Line, Operand, Parameter, PieceTarget, Primary, Reference, Referring, Repeated, RoutineLine,
+    Sign, Spaced, SpecialVariable, Step, Target, Truth,
 };
 pub use words::{function_of, keyword_of, special_of};
-pub use write::write_line;
+pub use write::{write_line, write_routine_line};

@@ -1,5 +1,6 @@
 // The tree of a line.
 use mnum::{Bytes7, Name};
+use std::rc::Rc;
 
 /// A unary operator in front of a primary.
 #[derive(Clone, Copy, Debug, PartialEq, Eq)]
@@ -213,6 +214,17 @@ pub enum Parameter {
     Until(Expr, Expr, Expr),
 }
 
+/// Where DO and GOTO lead.
+#[derive(Drop)]
+pub enum Entry {
+    /// To a label of the level's own routine.
+    Label(Name),
+    /// To a label of a routine: the label, and the routine behind the `^`.
+    LabelIn(Name, Name),
+    /// To the first line of a routine.
+    Routine(Name),
+}
+
 /// An argument of a command.
 #[derive(Drop)]
 pub enum Arg {
@@ -234,6 +246,12 @@ pub enum Arg {
     Tested(Expr),
     /// Of FOR: the name of its index, and what that takes on.
     Loop(Name, Vec<Parameter>),
+    /// Of DO: where it leads, and its own postconditional.
+    DoOne(Entry, Option<Box<Expr>>),
+    /// Of GOTO: where it leads, and its own postconditional.
+    GoTo(Entry, Option<Box<Expr>>),
+    /// Of XECUTE: a text, and its own postconditional.
+    Executed(Expr, Option<Box<Expr>>),
 }
 
 /// What a command's word says.
@@ -247,6 +265,9 @@ pub enum Keyword {
     For,
     Quit,
     Write,
+    Do,
+    Goto,
+    Execute,
 }
 
 /// A command: what its word says, the word as it is written, its postconditional where it has one, and its arguments.
@@ -274,4 +295,21 @@ pub struct Line {
     pub commands: Vec<Spaced>,
     /// The text behind `;`, where there is one.
     pub comment: Option<Bytes7>,
+}
+
+/// What stands behind the label of a routine's line.
+#[derive(Drop)]
+pub enum Body {
+    /// Nothing, or at once a comment: the text behind `;`, where there is one.
+    Short(Option<Bytes7>),
+    /// Behind a space, for each dot how many spaces stand in front of it, and then what a line of a terminal has too. The line is
+    /// held by what runs it as well.
+    Spaced(Vec<usize>, Rc<Line>),
+}
+
+/// A line of a routine: its label, where it has one, and what stands behind that.
+#[derive(Drop)]
+pub struct RoutineLine {
+    pub label: Option<Name>,
+    pub body: Body,
 }

@@ -33,6 +33,12 @@ pub fn keyword_of(word: &[u8]) -> Option<Keyword>
         Some(Keyword::Quit)
     } else if is_either(word, b"w", b"write") {
         Some(Keyword::Write)
+    } else if is_either(word, b"d", b"do") {
+        Some(Keyword::Do)
+    } else if is_either(word, b"g", b"goto") {
+        Some(Keyword::Goto)
+    } else if is_either(word, b"x", b"xecute") {
+        Some(Keyword::Execute)
     } else {
         None
     }

@@ -1,12 +1,17 @@
 // The text of a line: each function appends the spelling of its part, as `mgrammar` has it.
 ghost use Rattle.std.specs.Prelude.{◌≡◌, ◌++◌, ◌∷◌, [], List, ℕ, IfOk, OnOk, map, option_map};
-ghost use Rattle.mgrammar.specs.Grammar.{assign, loop, spell_place, spell_target, spell_destination, spell_names, spell_parameter, spell_arg, spell_condition, spell_args, spell_command, spell_commands, spell};
-ghost use Rattle.mtree.specs.Tree.{expr_tree, piece_tree, target_tree, destination_tree, parameter_tree, arg_tree, command_tree, spaced_tree, line_tree, condition_tree};
+ghost use Rattle.mgrammar.specs.Grammar.{assign, loop, spell_place, spell_target, spell_destination, spell_names, spell_parameter, spell_entry, spell_arg, spell_condition, spell_args, spell_comment, spell_command, spell_commands, spell};
+ghost use Rattle.mgrammar.specs.Grammar.{do_one, go_to, executed};
+ghost use Rattle.mgrammar.specs.RoutineLine.{spell_dots, spell_label, spell_body, spell_routine_line};
+ghost use Rattle.mtree.specs.Tree.{expr_tree, piece_tree, target_tree, destination_tree, parameter_tree, entry_tree, arg_tree, command_tree, spaced_tree, line_tree, condition_tree, body_tree, routine_line_tree};
 
 use crate::expression::{put_expr, put_reference, put_word};
 use crate::list::{Listed, put_list};
 use crate::pieces::{put_run, put_text};
-use crate::tree::{Arg, Command, Destination, Expr, Line, Parameter, PieceTarget, Spaced, Target};
+use crate::tree::{
+    Arg, Body, Command, Destination, Entry, Expr, Line, Parameter, PieceTarget, RoutineLine,
+    Spaced, Target,
+};
 use mnum::{Bytes7, Name};
 use std::alloc::{AllocError, Global};
 
@@ -114,6 +119,57 @@ fn put_loop(out: &mut Bytes7, index: &Name, parameters: &Vec<Parameter>) -> Resu
     put_list(out, parameters)
 }
 
+// Behind a colon, where there is one.
+fn put_condition(out: &mut Bytes7, condition: &Option<Box<Expr>>) -> Result<(), AllocError>
+    ensures { OnOk result (out.new ≡ out.old ++ spell_condition (condition_tree condition.now)) }
+{
+    if let Some(condition) = condition {
+        out.push(b':')?;
+        put_expr(out, condition)?;
+    }
+    Ok(())
+}
+
+fn put_entry(out: &mut Bytes7, entry: &Entry) -> Result<(), AllocError>
+    ensures { OnOk result (out.new ≡ out.old ++ spell_entry (entry_tree entry.now)) }
+{
+    match entry {
+        Entry::Label(label) => put_text(out, label.as_bytes7()),
+        Entry::LabelIn(label, routine) => {
+            put_text(out, label.as_bytes7())?;
+            out.push(b'^')?;
+            put_text(out, routine.as_bytes7())
+        }
+        Entry::Routine(routine) => {
+            out.push(b'^')?;
+            put_text(out, routine.as_bytes7())
+        }
+    }
+}
+
+// Where DO and GOTO lead, and the condition behind that.
+fn put_conditioned_entry(
+    out: &mut Bytes7,
+    entry: &Entry,
+    condition: &Option<Box<Expr>>,
+) -> Result<(), AllocError>
+    ensures { OnOk result (out.new ≡ out.old ++ spell_entry (entry_tree entry.now) ++ spell_condition (condition_tree condition.now)) }
+{
+    put_entry(out, entry)?;
+    put_condition(out, condition)
+}
+
+fn put_execution(
+    out: &mut Bytes7,
+    text: &Expr,
+    condition: &Option<Box<Expr>>,
+) -> Result<(), AllocError>
+    ensures { OnOk result (out.new ≡ out.old ++ spell_arg (executed (expr_tree text.now) (condition_tree condition.now))) }
+{
+    put_expr(out, text)?;
+    put_condition(out, condition)
+}
+
 impl Listed for Arg {
     ghost spelling = { λ arg. spell_arg (arg_tree arg) };
 
@@ -128,19 +184,11 @@ impl Listed for Arg {
             Arg::NewOthers(names) => put_names(out, names),
             Arg::Tested(condition) => put_expr(out, condition),
             Arg::Loop(index, parameters) => put_loop(out, index, parameters),
+            Arg::DoOne(entry, condition) => put_conditioned_entry(out, entry, condition),
+            Arg::GoTo(entry, condition) => put_conditioned_entry(out, entry, condition),
+            Arg::Executed(text, condition) => put_execution(out, text, condition),
         }
     }
-}
-
-// Behind a colon, where there is one.
-fn put_condition(out: &mut Bytes7, condition: &Option<Box<Expr>>) -> Result<(), AllocError>
-    ensures { OnOk result (out.new ≡ out.old ++ spell_condition (condition_tree condition.now)) }
-{
-    if let Some(condition) = condition {
-        out.push(b':')?;
-        put_expr(out, condition)?;
-    }
-    Ok(())
 }
 
 // Behind a space, where there are some.
@@ -172,16 +220,56 @@ fn put_commands(out: &mut Bytes7, commands: &[Spaced]) -> Result<(), AllocError>
     Ok(())
 }
 
+// Behind a `;`, where there is one.
+fn put_comment(out: &mut Bytes7, comment: &Option<Bytes7>) -> Result<(), AllocError>
+    ensures { OnOk result (out.new ≡ out.old ++ spell_comment comment.now) }
+{
+    if let Some(comment) = comment {
+        out.push(b';')?;
+        put_text(out, comment)?;
+    }
+    Ok(())
+}
+
 fn put_line(out: &mut Bytes7, line: &Line) -> Result<(), AllocError>
     ensures { OnOk result (out.new ≡ out.old ++ spell (line_tree line.now)) }
 {
     put_run(out, b' ', line.lead)?;
     put_commands(out, &line.commands)?;
-    if let Some(comment) = &line.comment {
-        out.push(b';')?;
-        put_text(out, comment)?;
+    put_comment(out, &line.comment)
+}
+
+// Each with its spaces in front.
+fn put_dots(out: &mut Bytes7, dots: &[usize]) -> Result<(), AllocError>
+    ensures { OnOk result (out.new ≡ out.old ++ spell_dots dots.now) }
+{
+    for spaces in dots {
+        put_run(out, b' ', *spaces)?;
+        out.push(b'.')?;
     }
     Ok(())
+}
+
+fn put_label(out: &mut Bytes7, label: &Option<Name>) -> Result<(), AllocError>
+    ensures { OnOk result (out.new ≡ out.old ++ spell_label label.now) }
+{
+    if let Some(label) = label {
+        put_text(out, label.as_bytes7())?;
+    }
+    Ok(())
+}
+
+fn put_body(out: &mut Bytes7, body: &Body) -> Result<(), AllocError>
+    ensures { OnOk result (out.new ≡ out.old ++ spell_body (body_tree body.now)) }
+{
+    match body {
+        Body::Short(comment) => put_comment(out, comment),
+        Body::Spaced(dots, line) => {
+            out.push(b' ')?;
+            put_dots(out, dots)?;
+            put_line(out, line)
+        }
+    }
 }
 
 /// The text of a line, with its spaces, words and digits as the tree keeps them.
@@ -194,5 +282,19 @@ pub fn write_line(alloc: Global, line: &Line) -> Result<Bytes7, AllocError>
 {
     let mut out = Bytes7::empty(alloc);
     put_line(&mut out, line)?;
+    Ok(out)
+}
+
+/// The text of a routine's line, with its spaces, words and digits as the tree keeps them.
+///
+/// # Errors
+///
+/// `AllocError` for want of memory.
+pub fn write_routine_line(alloc: Global, line: &RoutineLine) -> Result<Bytes7, AllocError>
+    ensures { IfOk result (λ text. text ≡ spell_routine_line (routine_line_tree line.now)) }
+{
+    let mut out = Bytes7::empty(alloc);
+    put_label(&mut out, &line.label)?;
+    put_body(&mut out, &line.body)?;
     Ok(out)
 }

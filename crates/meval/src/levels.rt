@@ -40,6 +40,7 @@ impl<'a, S: NodeStore> Eval<'a, S> {
     /// # Errors
     ///
     /// `Zmem` for want of memory; all variables are then as they were.
+    #[tactic(auto, unfolding(mspec::specs::Act::level_begun))]
     pub fn open_level(&mut self) -> Result<(), Code>
         ensures loans { KeepsEval self.old self.new }
         ensures fewer { self.new.steps ≤ self.old.steps }

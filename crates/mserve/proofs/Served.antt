@@ -1,5 +1,5 @@
 -- From what `serve` says of a world to what a run says of its store.
-use Rattle.std.specs.Prelude.{◌≡◌, Option, Result, Ok, Err}
+use Rattle.std.proofs.Common.{◌≡◌, Option, Result, Ok, Err, ap, ◌∙◌}
 use Rattle.std.specs.FinMap.{empty}
 use Rattle.mspec.specs.Act.{Text}
 use Rattle.mspec.specs.Globals.{Globals}
@@ -11,15 +11,13 @@ use Rattle.mwire.specs.Serves.{Serves}
 use Rattle.mwire.specs.declared.fault.WireFault.{WireFault}
 use Rattle.mserve.specs.Runs.{Answered, Broken, ServedOver}
 
--- of an opening world
-pub over : {S : Type 0} (g : Ghosts S) {settings settings' : Settings} {server after : Server} {globals : Globals} {left left' held held' : Option Text} {result : Result (Unit {0}) WireFault}
-    → settings' ≡ settings → server ≡ opening globals → Serves g settings' server after left left' held held' result → Serves g settings (opening globals) after left left' held held' result
-over g e d s = let t = rw e at s in rw d at t
+module _ {S V : Type 0} (g : Ghosts S) {settings settings' : Settings} {server : Server} {globals : Globals} {content : V → Globals} {document : Text} {left left' held held' : Option Text}
+    (reads : IsRead document settings) (same : settings' ≡ settings) (begins : server ≡ opening globals) (none : globals ≡ empty) where
+  opens : server ≡ opening empty
+  opens = begins ∙ ap opening none
 
-module _ {S V : Type 0} (g : Ghosts S) {settings : Settings} {globals : Globals} {content : V → Globals} {document : Text} {left left' held held' : Option Text}
-    (reads : IsRead document settings) (none : globals ≡ empty) where
   -- a stream that was answered to its end
-  pub answered : {v : V} → g.sound → ServedOver g settings globals content left left' held held' (Ok v) → Answered document left left' held held' (content v)
+  pub answered : {v : V} → g.sound → ServedOver g settings' server content left left' held held' (Ok v) → Answered document left left' held held' (content v)
   answered sound s = record {
     settings = settings;
     of_document = reads;
@@ -29,11 +27,11 @@ module _ {S V : Type 0} (g : Ghosts S) {settings : Settings} {globals : Globals}
     trace = s.serves.outcome.1.trace;
     events = s.serves.outcome.1.events;
     after = s.after;
-    history = let h = s.serves.outcome.1.history sound in rw none at h;
+    history = let h = s.serves.outcome.1.history sound in let i = rw same at h in rw opens at i;
     appended = let a = s.serves.appended in rw s.serves.outcome.1.text at a;
     last = s.last;
   }
 
   -- one that a fault broke off
-  pub broken : {fault : WireFault} → ServedOver g settings globals content left left' held held' (Err fault) → Broken g document left left' held held' fault
-  broken s = record { settings = settings; of_document = reads; after = s.after; serves = let t = s.serves in rw none at t }
+  pub broken : {fault : WireFault} → ServedOver g settings' server content left left' held held' (Err fault) → Broken g document left left' held held' fault
+  broken s = record { settings = settings; of_document = reads; after = s.after; serves = let t = s.serves in let u = rw same at t in rw opens at u }

@@ -68,8 +68,8 @@ abbrev pub without_value : {V : Type 0} → Result V WireFault → Result (Unit 
 without_value (Ok v) = Ok tt
 without_value (Err fault) = Err fault
 
--- a stream was served over a store that had these globals, and where that went well, the value given has those behind the last line
-pub record ServedOver {S V : Type 0} (g : Ghosts S) (settings : Settings) (globals : Globals) (content : V → Globals) (left left' held held' : Option Text) (result : Result V WireFault) : Type 0 where
+-- a stream was served from this point on, and where that went well, the value given has the globals behind the last line
+pub record ServedOver {S V : Type 0} (g : Ghosts S) (settings : Settings) (server : Server) (content : V → Globals) (left left' held held' : Option Text) (result : Result V WireFault) : Type 0 where
   pub after : Server
-  pub serves : Serves g settings (opening globals) after left left' held held' (without_value result)
+  pub serves : Serves g settings server after left left' held held' (without_value result)
   pub last : IfOk result (λ value. content value ≡ after.world.globals)

@@ -5,7 +5,7 @@ ghost use Rattle.mworld.specs.Ran.{Ran};
 
 use crate::reply::Reply;
 use meval::{Depth, Eval, Session};
-use mexec::{Ended, Parts, run_text};
+use mexec::{Ended, Machine, Parts, run_text};
 use mgrant::{AccountId, Settings};
 use moperator::Code;
 use mstore::NodeStore;
@@ -20,6 +20,7 @@ pub(crate) fn run_over<S: NodeStore>(
     text: &[u8],
     session: &mut Session,
     store: &mut S,
+    machine: &mut Machine,
 ) -> Reply
     ensures ran { Ran S.NodeStore settings.now terminal account text.now session.old store.old result session.new store.new }
     ensures steady { S.steady → result.ending ≢ Ended.Fault Zstore }
@@ -47,6 +48,6 @@ pub(crate) fn run_over<S: NodeStore>(
         },
         out: &mut out,
     };
-    let ending = run_text(alloc, &mut parts, text);
+    let ending = run_text(alloc, &mut parts, machine, text);
     Reply { out, ending }
 }

@@ -1,5 +1,5 @@
 // The world: one session for each terminal, over a store.
-ghost use Rattle.std.specs.Prelude.{◌≡◌, ◌≢◌, Some, None, OnOk, OnErr};
+ghost use Rattle.std.specs.Prelude.{◌≡◌, ◌≢◌, ◌≤◌, Some, None, OnOk, OnErr, IfOk, IfErr};
 ghost use Rattle.std.specs.FinMap.{empty, get, remove};
 ghost use Rattle.mmeaning.specs.Step.{Step, is_lost, session_or_new};
 ghost use Rattle.mmeaning.specs.History.{opening};
@@ -13,12 +13,15 @@ use crate::admission::admitted;
 use crate::reply::Reply;
 use crate::run::run_over;
 use meval::Session;
-use mexec::Ended;
+use mexec::{Ended, Machine};
 use mgrant::{AccountId, Settings};
 use moperator::Code;
 use mstore::NodeStore;
 use std::alloc::{AllocError, Global};
 use std::collections::BTreeMap;
+
+// How many texts' trees a world keeps.
+const KEPT_TREES: usize = 256;
 
 /// The sessions of all terminals over a store, with the settings that say whose the terminals are. Contracts see it by `server_of`,
 /// as the server of the definitions, and by `settings_of`.
@@ -27,21 +30,52 @@ pub struct World<S> {
     settings: Settings,
     sessions: BTreeMap<u32, Session>,
     store: S,
+    // what lines of all accounts run with
+    machine: Machine,
     alloc: Global,
 }
 
 impl<S: NodeStore> World<S> {
-    /// A world without a session, over a store. Takes no memory.
-    pub fn new(alloc: Global, settings: Settings, store: S) -> World<S>
-        ensures server { server_of S.NodeStore result ≡ opening (S.content store) }
-        ensures settings { settings_of result ≡ settings }
+    /// A world without a session, over a store. It keeps the trees of the last 256 texts that were run, of all accounts; which they are shows
+    /// in no reply.
+    ///
+    /// # Errors
+    ///
+    /// The settings and the store are given back for want of memory.
+    pub fn new(alloc: Global, settings: Settings, store: S) -> Result<World<S>, (Settings, S)>
+        ensures server { IfOk result (λ world. server_of S.NodeStore world ≡ opening (S.content store)) }
+        ensures settings { IfOk result (λ world. settings_of world ≡ settings) }
+        ensures back { IfErr result (λ back. back ≡ (settings, store)) }
     {
-        World {
+        World::with_entries(alloc, settings, store, KEPT_TREES)
+    }
+
+    /// The same, which keeps the trees of so many texts at most.
+    ///
+    /// # Errors
+    ///
+    /// The settings and the store are given back for want of memory.
+    pub fn with_entries(
+        alloc: Global,
+        settings: Settings,
+        store: S,
+        entries: usize,
+    ) -> Result<World<S>, (Settings, S)>
+        requires { 1 ≤ entries }
+        ensures server { IfOk result (λ world. server_of S.NodeStore world ≡ opening (S.content store)) }
+        ensures settings { IfOk result (λ world. settings_of world ≡ settings) }
+        ensures back { IfErr result (λ back. back ≡ (settings, store)) }
+    {
+        let Ok(machine) = Machine::new(alloc, entries) else {
+            return Err((settings, store));
+        };
+        Ok(World {
             settings,
             sessions: BTreeMap::new(alloc),
             store,
+            machine,
             alloc,
-        }
+        })
     }
 
     /// The store as the lines left it. Takes no memory.
@@ -116,6 +150,7 @@ impl<S: NodeStore> World<S> {
             text,
             session,
             &mut self.store,
+            &mut self.machine,
         );
         if let Ended::Fault(code) = reply.ending {
             if loses_session(code) {

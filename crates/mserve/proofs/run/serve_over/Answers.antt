@@ -1,17 +1,16 @@
-use Rattle.mserve.proofs.Served.{over}
 use Rattle.mserve.proofs.run.serve_over.Goals as goal
 use Rattle.mworld.specs.View.{server_of}
 
 pub returns-in-Ok-clause-served : goal.returns-in-Ok-clause-served
 returns-in-Ok-clause-served g c = record {
   after = server_of g.S.NodeStore c.serve.new.world;
-  serves = over g.S.NodeStore c.new-world.ensures.settings c.new-world.ensures.server c.in-Ok.ensures.serves;
+  serves = c.in-Ok.ensures.serves;
   last = c.into_store.ensures;
 }
 
 pub returns-in-Err-clause-served : goal.returns-in-Err-clause-served
 returns-in-Err-clause-served g c = record {
   after = server_of g.S.NodeStore c.serve.new.world;
-  serves = over g.S.NodeStore c.new-world.ensures.settings c.new-world.ensures.server c.in-Err.ensures.serves;
+  serves = c.in-Err.ensures.serves;
   last = tt;
 }

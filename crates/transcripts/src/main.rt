@@ -64,6 +64,7 @@ fn play(rt: &HostRuntime, kind: &str, cases: &[&str], out: &mut Vec<u8>) -> anyh
         "== terminals" => lines::lines(alloc, THREE_TERMINALS, cases, out),
         "== events" => lines::events(alloc, cases, out),
         "== texts" => texts::texts(alloc, cases, out),
+        "== routine_lines" => texts::routine_lines(alloc, cases, out),
         "== steps" => texts::steps(alloc, cases, out),
         "== numbers" => numbers::numbers(alloc, cases, out),
         "== keys" => keys::keys(alloc, cases, out),

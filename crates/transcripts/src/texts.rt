@@ -6,9 +6,10 @@ use anyhow::Context;
 use meval::{Depth, Eval, Session};
 use mexec::{Parts, run_text};
 use mgrant::Settings;
-use mparse::{ParseFault, parse_line};
+use mnum::Bytes7;
+use mparse::{ParseFault, dots_of, label_of, parse_line, parse_routine_line};
 use mstore::Plain;
-use mtree::write_line;
+use mtree::{write_line, write_routine_line};
 use std::alloc::Global;
 
 /// Of each text: `same` where its tree is written as the text, `refused` where it has no tree.
@@ -16,24 +17,46 @@ pub fn texts(alloc: Global, cases: &[&str], out: &mut Vec<u8>) -> anyhow::Result
     for case in cases {
         if print_case(out, case)? {
             let text = bytes_of(alloc, case)?;
-            print_result(out, written_back(alloc, &text)?)?;
+            print_result(out, compared(&text, &line_again(alloc, &text)))?;
         }
     }
     Ok(())
 }
 
-fn written_back(alloc: Global, text: &[u8]) -> anyhow::Result<&'static [u8]> {
-    match parse_line(alloc, text) {
-        Err(ParseFault::Syntax) => Ok(b"refused"),
-        Err(ParseFault::Memory) => Ok(b"no memory"),
-        Ok(line) => {
-            let written = write_line(alloc, &line)?;
-            if written.as_bytes() == text {
-                Ok(b"same")
-            } else {
-                Ok(b"another text")
-            }
+/// Of each text, as a line of a routine: its label, `-` where it has none, how many dots it has, and `same` or `refused` as of texts.
+pub fn routine_lines(alloc: Global, cases: &[&str], out: &mut Vec<u8>) -> anyhow::Result<()> {
+    for case in cases {
+        if print_case(out, case)? {
+            let text = bytes_of(alloc, case)?;
+            let dots = format!(in alloc; " {} ", dots_of(&text))?;
+            let mut told = Vec::new(alloc);
+            told.extend_from_slice(label_of(&text).unwrap_or(b"-"))?;
+            told.extend_from_slice(dots.as_bytes())?;
+            told.extend_from_slice(compared(&text, &routine_line_again(alloc, &text)))?;
+            print_result(out, &told)?;
         }
+    }
+    Ok(())
+}
+
+// The text of the tree of a text.
+fn line_again(alloc: Global, text: &[u8]) -> Result<Bytes7, ParseFault> {
+    let line = parse_line(alloc, text)?;
+    Ok(write_line(alloc, &line)?)
+}
+
+fn routine_line_again(alloc: Global, text: &[u8]) -> Result<Bytes7, ParseFault> {
+    let line = parse_routine_line(alloc, text)?;
+    Ok(write_routine_line(alloc, &line)?)
+}
+
+// How a text that was parsed and written back stands to the text itself.
+fn compared(text: &[u8], again: &Result<Bytes7, ParseFault>) -> &'static [u8] {
+    match again {
+        Err(ParseFault::Syntax) => b"refused",
+        Err(ParseFault::Memory) => b"no memory",
+        Ok(written) if written.as_bytes() == text => b"same",
+        Ok(_) => b"another text",
     }
 }
 

@@ -1,5 +1,5 @@
 // Globals through the language, beside the same calls of the store alone.
-use crate::lines::answered;
+use crate::lines::{answered, world_of};
 use crate::measure::{Plan, Unit, measure};
 use crate::stores::{Nodes, between, get_at, make_nodes, new_nodes, next_at, put_at};
 use mgrant::Settings;
@@ -258,7 +258,7 @@ fn over<S: NodeStore + Drop>(
     let settings = Settings::read(rt.alloc(), SETTINGS.as_bytes())?;
     let nodes = size.nodes;
     println!(rt; "lines over {nodes} globals in {kind}")?;
-    let mut world = World::new(rt.alloc(), settings, store);
+    let mut world = world_of(rt.alloc(), settings, store)?;
     through_lines(rt, plan, &mut world, size)?;
     let mut store = world.into_store();
     println!(rt; "the store alone")?;

@@ -43,11 +43,23 @@ pub fn answered<S: NodeStore>(alloc: Global, world: &mut World<S>, stream: &[u8]
     }
 }
 
+/// A world over a store.
+pub fn world_of<S: NodeStore + Drop>(
+    alloc: Global,
+    settings: Settings,
+    store: S,
+) -> anyhow::Result<World<S>> {
+    match World::new(alloc, settings, store) {
+        Ok(world) => Ok(world),
+        Err(_) => anyhow::bail!("no memory for a world"),
+    }
+}
+
 // The streams in one world over a store.
 fn served<S: NodeStore + Drop>(rt: &HostRuntime, plan: Plan, store: S) -> anyhow::Result<()> {
     let alloc = rt.alloc();
     let settings = Settings::read(alloc, SETTINGS.as_bytes())?;
-    let mut world = World::new(alloc, settings, store);
+    let mut world = world_of(alloc, settings, store)?;
     let unit = Unit::ThousandLinesPerSecond(LINES);
     let stream = equal_lines(alloc)?;
     measure(

@@ -1,5 +1,5 @@
 // Lines that turn often: what a turn of FOR costs, with what it does.
-use crate::lines::answered;
+use crate::lines::{answered, world_of};
 use crate::measure::{Plan, Unit, measure};
 use mgrant::Settings;
 use mstore::{NodeStore, Plain};
@@ -16,7 +16,7 @@ const TURNS: usize = 10_000;
 const ROUNDS: usize = 10_000;
 
 // What is timed: its name, and the lines of a round.
-const PAGE: [(&str, &[u8]); 5] = [
+const PAGE: [(&str, &[u8]); 7] = [
     ("empty", b"1 F I=1:1:10000\n"),
     ("arithmetic", b"1 F I=1:1:10000 S X=I*3+2-I\n"),
     ("subscripts", b"1 F I=1:1:10000 S A(I)=I\n"),
@@ -24,6 +24,11 @@ const PAGE: [(&str, &[u8]); 5] = [
     (
         "set and kill",
         b"1 F I=1:1:10000 S B(I)=I\n1 F I=1:1:10000 K B(I)\n",
+    ),
+    ("text executed", b"1 F I=1:1:10000 X \"S A=I\"\n"),
+    (
+        "routine done",
+        b"1 S ^ROUTINE(\"R\",1)=\"L Q\" F I=1:1:10000 D L^R\n",
     ),
 ];
 
@@ -51,9 +56,6 @@ pub fn loops(rt: &HostRuntime, plan: Plan) -> anyhow::Result<()> {
     };
     let settings = Settings::read(rt.alloc(), SETTINGS.as_bytes())?;
     println!(rt; "turns of a FOR")?;
-    timed(
-        rt,
-        plan,
-        World::new(rt.alloc(), settings, Plain::new(rt.alloc())),
-    )
+    let world = world_of(rt.alloc(), settings, Plain::new(rt.alloc()))?;
+    timed(rt, plan, world)
 }

@@ -23,13 +23,18 @@ fn stream_line(alloc: Global, case: &str) -> anyhow::Result<Vec<u8>> {
     }
 }
 
-// A new world over a store, by the settings of a document.
+// A new world over a store, by the settings of a document, that keeps the trees of so many texts.
 fn world_over<S: NodeStore + Drop>(
     alloc: Global,
     document: &str,
     store: S,
+    entries: usize,
 ) -> anyhow::Result<World<S>> {
-    Ok(World::new(alloc, line_settings(alloc, document)?, store))
+    let settings = line_settings(alloc, document)?;
+    match World::with_entries(alloc, settings, store, entries.max(1)) {
+        Ok(world) => Ok(world),
+        Err(_) => anyhow::bail!("no memory for a world"),
+    }
 }
 
 // What a world answers to a stream that comes in pieces of this size.
@@ -45,8 +50,8 @@ fn served<S: NodeStore>(
     Ok(out)
 }
 
-/// Serves each line in the world that the lines before it left, over the plain store and over a table in memory, by the settings of
-/// a document. Then all lines are served as one stream, in a new world over each store for each size of pieces. The replies over
+/// Serves each line in the world that the lines before it left, over the plain store with one tree kept, and over a table in memory with 256,
+/// by the settings of a document. Then all lines are served as one stream, in a new world over each store for each size of pieces. The replies over
 /// the plain store stand below their lines; where others differ from them, these are printed too.
 pub fn lines(
     alloc: Global,
@@ -54,8 +59,8 @@ pub fn lines(
     cases: &[&str],
     out: &mut Vec<u8>,
 ) -> anyhow::Result<()> {
-    let mut plain = world_over(alloc, document, Plain::new(alloc))?;
-    let mut table = world_over(alloc, document, Table::open_memory(alloc)?)?;
+    let mut plain = world_over(alloc, document, Plain::new(alloc), 1)?;
+    let mut table = world_over(alloc, document, Table::open_memory(alloc)?, 256)?;
     let mut stream = Vec::new(alloc);
     let mut replies = Vec::new(alloc);
     for case in cases {
@@ -80,11 +85,11 @@ fn whole_streams(
     out: &mut Vec<u8>,
 ) -> anyhow::Result<()> {
     for size in SIZES {
-        let mut plain = world_over(alloc, document, Plain::new(alloc))?;
+        let mut plain = world_over(alloc, document, Plain::new(alloc), 1)?;
         let answer = served(alloc, &mut plain, stream, size)?;
         let told = format!(in alloc; "in pieces of {size}:")?;
         print_others(alloc, told.as_str(), &answer, replies, out)?;
-        let mut table = world_over(alloc, document, Table::open_memory(alloc)?)?;
+        let mut table = world_over(alloc, document, Table::open_memory(alloc)?, 256)?;
         let answer = served(alloc, &mut table, stream, size)?;
         let told = format!(in alloc; "in a table, in pieces of {size}:")?;
         print_others(alloc, told.as_str(), &answer, replies, out)?;

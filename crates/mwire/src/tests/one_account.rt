@@ -1,4 +1,5 @@
 // A world of one account.
+use crate::WireFault;
 use mgrant::Settings;
 use mstore::Plain;
 use mworld::World;
@@ -10,5 +11,8 @@ const DOCUMENT: &str = "[[account]]\nname = \"ALICE\"\nterminals = [1]\nsteps = 
 /// A world over an empty store, in which terminal 1 is of ALICE, with 2,000 steps a line.
 pub fn new_world(alloc: Global) -> Result<World<Plain>, Fail> {
     let settings = Settings::read(alloc, DOCUMENT.as_bytes())?;
-    Ok(World::new(alloc, settings, Plain::new(alloc)))
+    match World::new(alloc, settings, Plain::new(alloc)) {
+        Ok(world) => Ok(world),
+        Err(_) => Err(WireFault::Memory)?,
+    }
 }

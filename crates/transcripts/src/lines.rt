@@ -12,7 +12,7 @@ use std::alloc::Global;
 const SIZES: [usize; 4] = [1, 2, 7, 4096];
 
 // The bytes of a line: a line feed ends it, but where `{end}` stands at its end.
-fn stream_line(alloc: Global, case: &str) -> anyhow::Result<Vec<u8>> {
+pub fn stream_line(alloc: Global, case: &str) -> anyhow::Result<Vec<u8>> {
     match case.strip_suffix("{end}") {
         Some(unfinished) => bytes_of(alloc, unfinished),
         None => {
@@ -24,7 +24,7 @@ fn stream_line(alloc: Global, case: &str) -> anyhow::Result<Vec<u8>> {
 }
 
 // A new world over a store, by the settings of a document, that keeps the trees of so many texts.
-fn world_over<S: NodeStore + Drop>(
+pub fn world_over<S: NodeStore + Drop>(
     alloc: Global,
     document: &str,
     store: S,
@@ -38,7 +38,7 @@ fn world_over<S: NodeStore + Drop>(
 }
 
 // What a world answers to a stream that comes in pieces of this size.
-fn served<S: NodeStore>(
+pub fn served<S: NodeStore>(
     alloc: Global,
     world: &mut World<S>,
     stream: &[u8],

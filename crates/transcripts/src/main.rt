@@ -20,6 +20,7 @@ mod locals;
 mod locks;
 mod numbers;
 mod pieces;
+mod reopened;
 mod settings;
 mod stores;
 mod texts;
@@ -61,6 +62,7 @@ fn play(rt: &HostRuntime, kind: &str, cases: &[&str], out: &mut Vec<u8>) -> anyh
     let alloc = rt.alloc();
     match kind {
         "== lines" => lines::lines(alloc, ONE_TERMINAL, cases, out),
+        "== reopened" => reopened::reopened(rt, ONE_TERMINAL, cases, out),
         "== terminals" => lines::lines(alloc, THREE_TERMINALS, cases, out),
         "== events" => lines::events(alloc, cases, out),
         "== texts" => texts::texts(alloc, cases, out),

@@ -42,8 +42,7 @@ impl<'a, S: NodeStore> Parts<'a, S> {
         ensures does { Does S.NodeStore (λ i. meaning.showing i (expr_tree e.now)) (λ u. u) self.old result self.new }
     {
         let value = self.eval.eval(alloc, e)?;
-        let shown = value.shown(alloc)?;
-        self.out.extend_from_slice(shown.as_text().as_bytes())?;
+        value.write(self.out)?;
         Ok(())
     }
 }

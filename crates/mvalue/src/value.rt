@@ -1,5 +1,5 @@
 // Values: a number stays a number until its text is wanted.
-ghost use Rattle.std.specs.Prelude.{◌≡◌, ◌^◌, ◌<◌, ◌*ℤ◌, All, None, Some, pos, unsigned_abs, IsOk, IfOk, MatchResult, nat_eq, option_map};
+ghost use Rattle.std.specs.Prelude.{◌≡◌, ◌^◌, ◌<◌, ◌*ℤ◌, ◌++◌, All, None, Some, pos, unsigned_abs, IsOk, IfOk, OnOk, MatchResult, nat_eq, option_map};
 ghost use Rattle.std.specs.Cmp.Lexicographic.{pointwise};
 ghost use Rattle.mspec.specs.Interpretations.{is_true, truth_text, whole_part};
 ghost use Rattle.mspec.specs.Number.{significant_digits};
@@ -137,6 +137,20 @@ impl Value {
         match &self.kind {
             Kind::Number(number) => Ok(Shown::printed(printed(alloc, *number)?)),
             Kind::Text(text) => Ok(Shown::lent(text)),
+        }
+    }
+
+    /// Appends the text of the value. A number is printed in place.
+    ///
+    /// # Errors
+    ///
+    /// `AllocError` for want of memory.
+    pub fn write(&self, out: &mut Vec<u8>) -> Result<(), AllocError>
+        ensures { OnOk result (out.new.items ≡ out.old.items ++ self.now) }
+    {
+        match &self.kind {
+            Kind::Number(number) => number.write(out),
+            Kind::Text(text) => out.extend_from_slice(text.as_bytes()),
         }
     }
 

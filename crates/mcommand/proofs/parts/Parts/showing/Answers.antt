@@ -5,13 +5,8 @@ use Rattle.mcommand.proofs.parts.Parts.showing.Goals as goal
 pub returns-in_err-value-clause-does : goal.returns-in_err-value-clause-does
 returns-in_err-value-clause-does g c = does_stopped _ (does_evaluated c.in_err-value.ensures.does) c.from_residual.ensures
 
-pub returns-in_err-shown-clause-does : goal.returns-in_err-shown-clause-does
-returns-in_err-shown-clause-does g c = does_then _ (does_evaluated c.in_ok-value.ensures.does) (does_wanting _ _ _ c.from_residual-in_err-shown.ensures refl)
-
-pub returns-in_err-extend_from_slice-clause-does : goal.returns-in_err-extend_from_slice-clause-does
-returns-in_err-extend_from_slice-clause-does g c = does_then _ (does_evaluated c.in_ok-value.ensures.does) (does_wanting _ _ _ c.from_residual-in_err-extend_from_slice.ensures refl)
+pub returns-in_err-write-clause-does : goal.returns-in_err-write-clause-does
+returns-in_err-write-clause-does g c = does_then _ (does_evaluated c.in_ok-value.ensures.does) (does_wanting _ _ _ c.from_residual-in_err-write.ensures refl)
 
 pub returns-clause-does : goal.returns-clause-does
-returns-clause-does g c =
-    let all = rw (c.as_bytes.ensures.bytes, c.as_text.ensures, c.in_ok-shown.ensures) at c.in_ok-extend_from_slice.ensures.items in
-    does_then _ (does_evaluated c.in_ok-value.ensures.does) (does_write _ _ _ all refl)
+returns-clause-does g c = does_then _ (does_evaluated c.in_ok-value.ensures.does) (does_write _ _ _ c.in_ok-write.ensures refl)

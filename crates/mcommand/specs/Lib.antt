@@ -1,4 +1,5 @@
 pub mod Does
 pub mod Prepared
 pub mod Conditions
+pub mod Targets
 pub mod Turns

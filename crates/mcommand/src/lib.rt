@@ -5,9 +5,11 @@ mod condition;
 mod kill;
 mod parts;
 mod set;
+mod target;
 mod turn;
 mod write;
 
 pub use parts::Parts;
+pub use target::Target;
 pub use turn::Course;
 pub use write::LINE_END;

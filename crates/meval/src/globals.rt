@@ -21,7 +21,7 @@ use mstore::{NodeStore, StoreFault};
 use std::alloc::Global;
 
 // A fault of a store as the code that ends the line.
-fn code_of(fault: StoreFault) -> Code
+pub(crate) fn code_of(fault: StoreFault) -> Code
     ensures { result ≡ store_code fault }
 {
     match fault {

@@ -5,6 +5,7 @@ mod depth;
 mod eval;
 mod global_node;
 mod globals;
+mod levels;
 mod place;
 mod resolving;
 mod session;

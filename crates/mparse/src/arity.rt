@@ -36,8 +36,8 @@ pub fn takes_args(keyword: Keyword, count: usize) -> bool
     ensures { result ≡ takes_args (keyword_tree keyword) count }
 {
     match keyword {
-        Keyword::Set | Keyword::Write => 1 <= count,
-        Keyword::Kill | Keyword::New | Keyword::If => true,
+        Keyword::Set | Keyword::Write | Keyword::Goto | Keyword::Execute => 1 <= count,
+        Keyword::Kill | Keyword::New | Keyword::If | Keyword::Do => true,
         Keyword::Else | Keyword::Quit => count == 0,
         Keyword::For => count <= 1,
     }
@@ -48,7 +48,14 @@ pub fn takes_condition(keyword: Keyword) -> bool
     ensures { result ≡ takes_condition (keyword_tree keyword) }
 {
     match keyword {
-        Keyword::Set | Keyword::Kill | Keyword::New | Keyword::Quit | Keyword::Write => true,
+        Keyword::Set
+        | Keyword::Kill
+        | Keyword::New
+        | Keyword::Quit
+        | Keyword::Write
+        | Keyword::Do
+        | Keyword::Goto
+        | Keyword::Execute => true,
         Keyword::If | Keyword::Else | Keyword::For => false,
     }
 }

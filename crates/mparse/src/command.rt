@@ -7,6 +7,7 @@ ghost use Rattle.mscan.specs.Gives.{Gives};
 
 use crate::arity::takes_args;
 use crate::control::{condition, postcondition, repetition};
+use crate::entry::{entrance, execution, leap};
 use crate::expr::{MAX_DEPTH, expr};
 use crate::list::{Items, list};
 use crate::scope::{hiding, removal};
@@ -46,6 +47,9 @@ impl Items for Keyword {
             Keyword::If => condition(alloc, bytes),
             Keyword::For => repetition(alloc, bytes),
             Keyword::Write => output(alloc, bytes),
+            Keyword::Do => entrance(alloc, bytes),
+            Keyword::Goto => leap(alloc, bytes),
+            Keyword::Execute => execution(alloc, bytes),
             Keyword::Else | Keyword::Quit => Err(ParseFault::Syntax),
         }
     }

@@ -1,7 +1,7 @@
 // The arguments of IF and FOR, and postconditionals.
 ghost use Rattle.std.specs.Prelude.{option_map};
 ghost use Rattle.mgrammar.specs.Grammar.{ParameterTree};
-ghost use Rattle.mgrammar.specs.Reading.{condition_at, parameter_at, repetition_at, postcondition_at};
+ghost use Rattle.mgrammar.specs.Reading.{condition_at, parameter_at, repetition_at, past, postcondition_by, postcondition_at};
 ghost use Rattle.mtree.specs.Tree.{expr_tree, parameter_tree, keyword_tree, arg_tree, condition_tree};
 ghost use Rattle.mscan.specs.Gives.{Gives};
 
@@ -65,6 +65,17 @@ pub fn repetition(alloc: Global, bytes: &[u8]) -> Result<(Arg, &[u8]), ParseFaul
     Ok((Arg::Loop(index, parameters), rest))
 }
 
+// The condition behind a colon, where one follows.
+pub fn behind_colon(alloc: Global, bytes: &[u8]) -> Result<(Option<Box<Expr>>, &[u8]), ParseFault>
+    ensures { Gives (λ x. (condition_tree x.0, x.1.now)) result (postcondition_by bytes.now (past 58 bytes.now)) }
+{
+    let Some(behind) = past(b':', bytes) else {
+        return Ok((None, bytes));
+    };
+    let (condition, rest) = expr(alloc, behind, MAX_DEPTH)?;
+    Ok((Some(Box::new(alloc, condition)?), rest))
+}
+
 // The condition behind a word of this keyword, where a colon follows the word and the command takes one.
 #[tactic(auto, unfolding(mgrammar::specs::Reading::postcondition_at))]
 pub fn postcondition(
@@ -77,9 +88,5 @@ pub fn postcondition(
     if !takes_condition(keyword) {
         return Ok((None, bytes));
     }
-    let Some(behind) = past(b':', bytes) else {
-        return Ok((None, bytes));
-    };
-    let (condition, rest) = expr(alloc, behind, MAX_DEPTH)?;
-    Ok((Some(Box::new(alloc, condition)?), rest))
+    behind_colon(alloc, bytes)
 }

@@ -4,6 +4,7 @@
 mod arity;
 mod command;
 mod control;
+mod entry;
 mod expr;
 mod line;
 mod list;

@@ -1,15 +1,17 @@
 //! The parts of a line of M that no bracket stands in: runs of characters, names, strings, numbers, operators and patterns, each
-//! read from the front of a text.
+//! read from the front of a text; and what a line of a routine begins with.
 #![tactic(auto)]
 
 mod fault;
 mod numbers;
 mod operator;
 mod patterns;
+mod routine;
 mod runs;
 
 pub use fault::ParseFault;
 pub use numbers::number;
 pub use operator::{Operator, next_operator, signs};
 pub use patterns::pattern;
-pub use runs::{Class, expect, name, past, run, text_after};
+pub use routine::{dots_of, label, label_of};
+pub use runs::{Class, expect, name, name_bytes, past, run, text_after};

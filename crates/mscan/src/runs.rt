@@ -1,5 +1,6 @@
 // Runs of characters, names and strings.
-ghost use Rattle.std.specs.Prelude.{◌≡◌, ◌<◌, All, false, option_map};
+ghost use Rattle.std.specs.Prelude.{◌≡◌, ◌<◌, All, false, option_map, IfSome};
+ghost use Rattle.mspec.specs.Names.{IsName};
 ghost use Rattle.mgrammar.specs.Grammar.{is_pattern_letter};
 ghost use Rattle.mgrammar.specs.Reading.{run_of, after_run, name_at, text_from, past};
 ghost use Rattle.mscan.specs.Classes.{in_class};
@@ -94,20 +95,29 @@ pub fn expect(byte: u8, bytes: &[u8]) -> Result<&[u8], ParseFault>
 // A name has at most so many characters behind its first one.
 const MAX_TAIL: usize = LONGEST_NAME - 1;
 
+/// The bytes of the name that a text begins with, of at most 31 characters, and what follows it. Takes no memory.
+#[tactic(auto, unfolding(mgrammar::specs::Reading::name_at))]
+pub fn name_bytes(bytes: &[u8]) -> Option<(&[u8], &[u8])>
+    ensures name { option_map (λ x. (x.0.now, x.1.now)) result ≡ name_at bytes.now }
+    ensures is_name { IfSome result (λ x. IsName x.0.now) }
+{
+    let (first, more) = bytes.split_first()?;
+    let (tail, rest) = run(Class::NameRest, more);
+    if !Class::NameStart.has(*first) || tail.len() > MAX_TAIL {
+        return None;
+    }
+    Some((&bytes[..1 + tail.len()], rest))
+}
+
 /// The name that a text begins with, of at most 31 characters, and what follows it. `Syntax` where it begins with none, `Memory` for
 /// want of memory.
-#[tactic(auto, unfolding(mgrammar::specs::Reading::name_at))]
 pub fn name(alloc: Global, bytes: &[u8]) -> Result<(Name, &[u8]), ParseFault>
     ensures { Gives (λ x. (x.0, x.1.now)) result (name_at bytes.now) }
 {
-    let Some((first, more)) = bytes.split_first() else {
+    let Some((name, rest)) = name_bytes(bytes) else {
         return Err(ParseFault::Syntax);
     };
-    let (tail, rest) = run(Class::NameRest, more);
-    if !Class::NameStart.has(*first) || tail.len() > MAX_TAIL {
-        return Err(ParseFault::Syntax);
-    }
-    let name = Name::from_slice(alloc, &bytes[..1 + tail.len()])?;
+    let name = Name::from_slice(alloc, name)?;
     Ok((name, rest))
 }
 

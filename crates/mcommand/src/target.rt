@@ -1,0 +1,97 @@
+// Where DO and GOTO lead.
+ghost use Rattle.std.specs.Prelude.{◌≡◌, ◌≤◌, map, position};
+ghost use Rattle.mmeaning.specs.Levels as levels;
+ghost use Rattle.mtree.specs.Tree.{entry_tree};
+ghost use Rattle.mcommand.specs.Does.{Does, KeepsLoans};
+ghost use Rattle.mcommand.specs.Targets.{target_view};
+
+use crate::parts::Parts;
+use mnum::Bytes7;
+use moperator::Code;
+use mscan::{dots_of, label_of};
+use mstore::NodeStore;
+use mtree::Entry;
+use std::alloc::Global;
+use std::rc::Rc;
+
+/// A line of a routine: all its lines, and its place among them. Contracts see it by `target_view`, as one of the definitions.
+#[derive(Drop)]
+pub struct Target {
+    pub copy: Rc<Vec<Bytes7>>,
+    pub line: usize,
+}
+
+// Whether a line has this label.
+fn has_label(label: &[u8], line: &[u8]) -> bool
+    ensures { result ≡ levels.is_label label.now (label_of line.now) }
+{
+    match label_of(line) {
+        None => false,
+        Some(name) => name == label,
+    }
+}
+
+// Whether a line is one that is meant, which the first such line is.
+fn is_entry(entry: &Entry, line: &[u8]) -> bool
+    ensures { result ≡ levels.is_entry (entry_tree entry.now) line.now }
+{
+    match entry {
+        Entry::Label(label) => has_label(label.as_bytes(), line),
+        Entry::LabelIn(label, _) => has_label(label.as_bytes(), line),
+        Entry::Routine(_) => true,
+    }
+}
+
+// The place of the line that is meant.
+fn place_of(entry: &Entry, lines: &[Bytes7]) -> Option<usize>
+    ensures { result ≡ position (levels.is_entry (entry_tree entry.now)) lines.now }
+{
+    lines.iter().position(|line| is_entry(entry, line.as_bytes()))
+}
+
+impl<'a, S: NodeStore> Parts<'a, S> {
+    // The lines that a label is sought in: a routine that is named is read, and a label alone stands in the level's own.
+    fn lines_of_entry(
+        &mut self,
+        alloc: Global,
+        copy: &Rc<Vec<Bytes7>>,
+        entry: &Entry,
+    ) -> Result<Rc<Vec<Bytes7>>, Code>
+        ensures loans { KeepsLoans self.old self.new }
+        ensures fewer { self.new.eval.steps ≤ self.old.eval.steps }
+        ensures does { Does S.NodeStore (λ i. levels.lines_of_entry copy.now.value.items (entry_tree entry.now)) (λ lines. lines.value.items) self.old result self.new }
+    {
+        match entry {
+            Entry::Label(_) => Ok(copy.clone()?),
+            Entry::LabelIn(_, routine) => self.eval.routine(alloc, routine),
+            Entry::Routine(routine) => self.eval.routine(alloc, routine),
+        }
+    }
+
+    /// The line that DO or GOTO leads to, where a level has these lines and the line is to have so many dots.
+    ///
+    /// # Errors
+    ///
+    /// `M13` where there is no such routine, or no such label in it; `Zlevel` where the line has not so many dots; `Zmem` for want of
+    /// memory, and `Zstore` where the store refuses.
+    pub fn target(
+        &mut self,
+        alloc: Global,
+        copy: &Rc<Vec<Bytes7>>,
+        dots: usize,
+        entry: &Entry,
+    ) -> Result<Target, Code>
+        ensures loans { KeepsLoans self.old self.new }
+        ensures fewer { self.new.eval.steps ≤ self.old.eval.steps }
+        ensures does { Does S.NodeStore (λ i. levels.target copy.now.value.items dots (entry_tree entry.now)) target_view self.old result self.new }
+    {
+        let copy = self.lines_of_entry(alloc, copy, entry)?;
+        let Some(line) = place_of(entry, &copy) else {
+            return Err(Code::M13);
+        };
+        if dots_of(copy[line].as_bytes()) != dots {
+            return Err(Code::Zlevel);
+        }
+        Ok(Target { copy, line })
+    }
+}

@@ -1,0 +1,82 @@
+// Levels of execution, and the lines of routines that run in them.
+ghost use Rattle.std.specs.Prelude.{◌≡◌, ◌≤◌, Ok};
+ghost use Rattle.mspec.specs.Act.{with_locals, level_begun, ask};
+ghost use Rattle.mspec.specs.Plan.{Routine};
+ghost use Rattle.mspec.specs.Scopes.{without_level};
+ghost use Rattle.mmeaning.specs.Levels.{a_level_free};
+ghost use Rattle.meval.specs.Evaluates.{Evaluates, KeepsEval};
+
+use crate::eval::Eval;
+use crate::globals::code_of;
+use mglobal::routine;
+use mkey::is_account_name;
+use mnum::{Bytes7, Name};
+use moperator::Code;
+use mstore::NodeStore;
+use std::alloc::Global;
+use std::rc::Rc;
+
+// The most levels that a line opens, indirections under evaluation among them.
+const MOST_LEVELS: u32 = 256;
+
+impl<'a, S: NodeStore> Eval<'a, S> {
+    /// Whether one level more may be opened where the text stands. Takes no memory.
+    ///
+    /// # Errors
+    ///
+    /// `Zdepth` where 256 are open.
+    pub fn a_level_free(&self) -> Result<(), Code>
+        ensures { Evaluates S.NodeStore (λ i. a_level_free i.depth) (λ u. u) self.now result self.now }
+    {
+        if self.depth.levels < MOST_LEVELS {
+            Ok(())
+        } else {
+            Err(Code::Zdepth)
+        }
+    }
+
+    /// Opens a level: what NEW hides from now on comes back once it is closed.
+    ///
+    /// # Errors
+    ///
+    /// `Zmem` for want of memory; all variables are then as they were.
+    #[tactic(auto, unfolding(mspec::specs::Act::level_begun))]
+    pub fn open_level(&mut self) -> Result<(), Code>
+        ensures loans { KeepsEval self.old self.new }
+        ensures fewer { self.new.steps ≤ self.old.steps }
+        ensures does { Evaluates S.NodeStore (λ i. with_locals level_begun) (λ u. u) self.old result self.new }
+    {
+        self.session.locals.enter()?;
+        Ok(())
+    }
+
+    /// Closes the level opened last; does nothing where none is open. Takes no memory.
+    pub fn close_level(&mut self)
+        ensures loans { KeepsEval self.old self.new }
+        ensures fewer { self.new.steps ≤ self.old.steps }
+        ensures does { Evaluates S.NodeStore (λ i. with_locals without_level) (λ u. u) self.old (Ok tt) self.new }
+    {
+        self.session.locals.leave();
+    }
+
+    /// The lines of a routine of the account's own, in their order; none where it has no such routine.
+    ///
+    /// # Errors
+    ///
+    /// `Zmem` for want of memory, and `Zstore` where the store refuses.
+    pub fn routine(&mut self, alloc: Global, name: &Name) -> Result<Rc<Vec<Bytes7>>, Code>
+        ensures loans { KeepsEval self.old self.new }
+        ensures fewer { self.new.steps ≤ self.old.steps }
+        ensures does { Evaluates S.NodeStore (λ i. ask (Routine name.now)) (λ lines. lines.value.items) self.old result self.new }
+    {
+        let account = Bytes7::from_slice(alloc, self.settings.name_of(self.account))?;
+        if !is_account_name(&account) {
+            // the id is of other settings, which a world never hands in
+            return Err(Code::Zmem);
+        }
+        match routine(self.store, alloc, &account, name.as_bytes7()) {
+            Ok(lines) => Ok(Rc::new(alloc, lines)?),
+            Err(fault) => Err(code_of(fault)),
+        }
+    }
+}

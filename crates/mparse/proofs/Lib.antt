@@ -1,2 +1,3 @@
 pub mod Lines
 mod Lists
+mod RoutineLines

@@ -1,4 +1,4 @@
-//! A line of M, from its text to its tree: a tree exactly where the grammar has one.
+//! A line of M, of a terminal or of a routine, from its text to its tree: a tree exactly where the grammar has one.
 #![tactic(auto)]
 
 mod arity;
@@ -8,8 +8,10 @@ mod entry;
 mod expr;
 mod line;
 mod list;
+mod routine_line;
 mod scope;
 mod set;
 
 pub use line::parse_line;
-pub use mscan::ParseFault;
+pub use mscan::{ParseFault, dots_of, label_of};
+pub use routine_line::parse_routine_line;

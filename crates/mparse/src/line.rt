@@ -22,7 +22,7 @@ fn is_at_end(bytes: &[u8]) -> bool
 }
 
 #[tactic(auto, unfolding(mgrammar::specs::Reading::comment_at))]
-fn comment(alloc: Global, bytes: &[u8]) -> Result<Option<Bytes7>, ParseFault>
+pub fn comment(alloc: Global, bytes: &[u8]) -> Result<Option<Bytes7>, ParseFault>
     ensures { Gives (λ o. o) result (comment_at bytes.now) }
 {
     let Some((first, rest)) = bytes.split_first() else {
@@ -77,7 +77,7 @@ fn commands(alloc: Global, bytes: &[u8]) -> Result<(Vec<Spaced>, &[u8]), ParseFa
 }
 
 #[tactic(auto, unfolding(mgrammar::specs::Reading::line_at))]
-fn line(alloc: Global, text: &[u8]) -> Result<Line, ParseFault>
+pub fn line(alloc: Global, text: &[u8]) -> Result<Line, ParseFault>
     ensures { Gives (λ l. line_tree l) result (line_at text.now) }
 {
     let (spaces, rest) = run(Class::Space, text);

@@ -1,0 +1,8 @@
+use Rattle.mparse.proofs.RoutineLines.{is_tree, is_syntax}
+use Rattle.mparse.proofs.routine_line.parse_routine_line.Goals as goal
+
+pub returns-clause-tree : goal.returns-clause-tree
+returns-clause-tree c = is_tree c.args.text.now c.routine_line.result c.routine_line.ensures
+
+pub returns-clause-syntax : goal.returns-clause-syntax
+returns-clause-syntax c = is_syntax c.args.text.now c.routine_line.result c.routine_line.ensures

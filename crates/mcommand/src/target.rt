@@ -1,5 +1,5 @@
 // Where DO and GOTO lead.
-ghost use Rattle.std.specs.Prelude.{◌≡◌, ◌≤◌, map, position};
+ghost use Rattle.std.specs.Prelude.{◌≡◌, ◌≤◌, true, slice_get, map, position, IfOk};
 ghost use Rattle.mmeaning.specs.Levels as levels;
 ghost use Rattle.mtree.specs.Tree.{entry_tree};
 ghost use Rattle.mcommand.specs.Does.{Does, KeepsLoans};
@@ -83,6 +83,7 @@ impl<'a, S: NodeStore> Parts<'a, S> {
     ) -> Result<Target, Code>
         ensures loans { KeepsLoans self.old self.new }
         ensures fewer { self.new.eval.steps ≤ self.old.eval.steps }
+        ensures stands { IfOk result (λ target. levels.has_dots dots (slice_get target.copy.value.items target.line) ≡ true) }
         ensures does { Does S.NodeStore (λ i. levels.target copy.now.value.items dots (entry_tree entry.now)) target_view self.old result self.new }
     {
         let copy = self.lines_of_entry(alloc, copy, entry)?;

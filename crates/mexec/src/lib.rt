@@ -12,6 +12,7 @@ mod reading;
 mod rest;
 mod run;
 mod signal;
+mod trees;
 mod turns;
 
 pub use machine::Machine;

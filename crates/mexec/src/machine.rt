@@ -2,7 +2,7 @@
 ghost use Rattle.std.specs.Prelude.{◌≤◌};
 
 use crate::frames::Frame;
-use mcache::Trees;
+use crate::trees::Trees;
 use std::alloc::{AllocError, Global};
 
 /// What lines are run with, and what is kept from one to the next, so that no memory has to be asked for again: room for frames, and

@@ -1,6 +1,18 @@
 -- Where DO and GOTO lead, as the definitions have it.
+use Rattle.std.specs.Prelude.{ℕ, List, position, slice_get}
+use Rattle.mspec.specs.Code.{M13, Zlevel}
+use Rattle.mspec.specs.Act.{Text, Act, ◌>>=◌, ◌>>◌, give, give_some, unless}
+use Rattle.mgrammar.specs.Grammar.{EntryTree}
 use Rattle.mmeaning.specs.Levels as levels
+use Rattle.mmeaning.specs.Levels.{is_entry, has_dots}
 use Rattle.mcommand.specs.declared.target.Target.{Target}
 
 abbrev pub target_view : Target → levels.Target
 target_view t = record { copy = t.copy.value.items; line = t.line }
+
+-- the line that is meant, among these
+abbrev pub target_among : List Text → ℕ → EntryTree → Act levels.Target
+target_among lines dots e = do
+  n ← give_some M13 (position (is_entry e) lines)
+  unless Zlevel (has_dots dots (slice_get lines n))
+  give (record { copy = lines; line = n })

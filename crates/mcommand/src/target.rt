@@ -1,9 +1,12 @@
 // Where DO and GOTO lead.
 ghost use Rattle.std.specs.Prelude.{◌≡◌, ◌≤◌, true, slice_get, map, position, IfOk};
 ghost use Rattle.mmeaning.specs.Levels as levels;
+ghost use Rattle.mmeaning.specs.Yields.{Yields};
+ghost use Rattle.moperator.specs.Codes.{fault_of};
+ghost use Rattle.mgrammar.specs.RoutineLine.{label_of};
 ghost use Rattle.mtree.specs.Tree.{entry_tree};
 ghost use Rattle.mcommand.specs.Does.{Does, KeepsLoans};
-ghost use Rattle.mcommand.specs.Targets.{target_view};
+ghost use Rattle.mcommand.specs.Targets.{target_view, target_among};
 
 use crate::parts::Parts;
 use mnum::Bytes7;
@@ -46,7 +49,22 @@ fn is_entry(entry: &Entry, line: &[u8]) -> bool
 fn place_of(entry: &Entry, lines: &[Bytes7]) -> Option<usize>
     ensures { result ≡ position (levels.is_entry (entry_tree entry.now)) lines.now }
 {
-    lines.iter().position(|line| is_entry(entry, line.as_bytes()))
+    lines
+        .iter()
+        .position(|line| is_entry(entry, line.as_bytes()))
+}
+
+// The line that is meant, among these lines.
+fn among(entry: &Entry, dots: usize, copy: Rc<Vec<Bytes7>>) -> Result<Target, Code>
+    ensures { Yields fault_of (target_among copy.value.items dots (entry_tree entry.now)) target_view result }
+{
+    let Some(line) = place_of(entry, &copy) else {
+        return Err(Code::M13);
+    };
+    if dots_of(copy[line].as_bytes()) != dots {
+        return Err(Code::Zlevel);
+    }
+    Ok(Target { copy, line })
 }
 
 impl<'a, S: NodeStore> Parts<'a, S> {
@@ -87,12 +105,6 @@ impl<'a, S: NodeStore> Parts<'a, S> {
         ensures does { Does S.NodeStore (λ i. levels.target copy.now.value.items dots (entry_tree entry.now)) target_view self.old result self.new }
     {
         let copy = self.lines_of_entry(alloc, copy, entry)?;
-        let Some(line) = place_of(entry, &copy) else {
-            return Err(Code::M13);
-        };
-        if dots_of(copy[line].as_bytes()) != dots {
-            return Err(Code::Zlevel);
-        }
-        Ok(Target { copy, line })
+        among(entry, dots, copy)
     }
 }

@@ -56,7 +56,8 @@ fn place_of(entry: &Entry, lines: &[Bytes7]) -> Option<usize>
 
 // The line that is meant, among these lines.
 fn among(entry: &Entry, dots: usize, copy: Rc<Vec<Bytes7>>) -> Result<Target, Code>
-    ensures { Yields fault_of (target_among copy.value.items dots (entry_tree entry.now)) target_view result }
+    ensures stands { IfOk result (λ target. levels.has_dots dots (slice_get target.copy.value.items target.line) ≡ true) }
+    ensures does { Yields fault_of (target_among copy.value.items dots (entry_tree entry.now)) target_view result }
 {
     let Some(line) = place_of(entry, &copy) else {
         return Err(Code::M13);

@@ -1,5 +1,5 @@
 // Where DO and GOTO lead.
-ghost use Rattle.std.specs.Prelude.{◌≡◌, ◌≤◌, map, position};
+ghost use Rattle.std.specs.Prelude.{◌≡◌, ◌≤◌, true, slice_get, map, position, IfOk};
 ghost use Rattle.mmeaning.specs.Levels as levels;
 ghost use Rattle.mmeaning.specs.Yields.{Yields};
 ghost use Rattle.moperator.specs.Codes.{fault_of};
@@ -56,7 +56,8 @@ fn place_of(entry: &Entry, lines: &[Bytes7]) -> Option<usize>
 
 // The line that is meant, among these lines.
 fn among(entry: &Entry, dots: usize, copy: Rc<Vec<Bytes7>>) -> Result<Target, Code>
-    ensures { Yields fault_of (target_among copy.value.items dots (entry_tree entry.now)) target_view result }
+    ensures stands { IfOk result (λ target. levels.has_dots dots (slice_get target.copy.value.items target.line) ≡ true) }
+    ensures does { Yields fault_of (target_among copy.value.items dots (entry_tree entry.now)) target_view result }
 {
     let Some(line) = place_of(entry, &copy) else {
         return Err(Code::M13);
@@ -101,6 +102,7 @@ impl<'a, S: NodeStore> Parts<'a, S> {
     ) -> Result<Target, Code>
         ensures loans { KeepsLoans self.old self.new }
         ensures fewer { self.new.eval.steps ≤ self.old.eval.steps }
+        ensures stands { IfOk result (λ target. levels.has_dots dots (slice_get target.copy.value.items target.line) ≡ true) }
         ensures does { Does S.NodeStore (λ i. levels.target copy.now.value.items dots (entry_tree entry.now)) target_view self.old result self.new }
     {
         let copy = self.lines_of_entry(alloc, copy, entry)?;

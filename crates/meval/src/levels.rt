@@ -1,5 +1,5 @@
 // Levels of execution, and the lines of routines that run in them.
-ghost use Rattle.std.specs.Prelude.{◌≡◌, ◌≤◌, Ok};
+ghost use Rattle.std.specs.Prelude.{◌≡◌, ◌≤◌, ◌<◌, Ok, IfOk};
 ghost use Rattle.mspec.specs.Act.{with_locals, level_begun, ask};
 ghost use Rattle.mspec.specs.Plan.{Routine};
 ghost use Rattle.mspec.specs.Scopes.{without_level};
@@ -26,7 +26,8 @@ impl<'a, S: NodeStore> Eval<'a, S> {
     ///
     /// `Zdepth` where 256 are open.
     pub fn a_level_free(&self) -> Result<(), Code>
-        ensures { Evaluates S.NodeStore (λ i. a_level_free i.depth) (λ u. u) self.now result self.now }
+        ensures free { IfOk result (λ _. self.now.depth.levels < 256) }
+        ensures does { Evaluates S.NodeStore (λ i. a_level_free i.depth) (λ u. u) self.now result self.now }
     {
         if self.depth.levels < MOST_LEVELS {
             Ok(())

@@ -3,16 +3,15 @@ use Rattle.std.proofs.Common.{◌≡◌, ℕ, zero, suc, ◌≤◌, ◌<◌, ◌
 use Rattle.std.proofs.lemmas.List.{drop_more}
 use Rattle.std.specs.Result.{IsErr, IsErrAnd, IfOk}
 use Rattle.mspec.specs.LockConflict.{Locks}
-use Rattle.mspec.specs.Act.{Text, Act, Outcome, Gives, Fails, on_gives, ◌>>=◌, ◌>>◌, give, set_test}
-use Rattle.mspec.specs.Plan.{Plan, Done, Ask, then_plan}
-use Rattle.mgrammar.specs.Grammar.{ExprTree, CommandTree}
+use Rattle.mspec.specs.Act.{Text, Act, ◌>>=◌, ◌>>◌, give, set_test}
+use Rattle.mgrammar.specs.Grammar.{ExprTree, ArgTree, CommandTree}
 use Rattle.mmeaning.specs.Operators.{as_truth}
 use Rattle.mmeaning.specs.Expression.{Inside, inside, value}
 use Rattle.mmeaning.specs.LineMeaning as meaning
 use Rattle.mmeaning.specs.LineMeaning.{Context, Go_on, after, context}
 use Rattle.mmeaning.specs.Calls.{Standing, Here, Did}
-use Rattle.mmeaning.specs.Frames.{View, Rests, left, frame, Enough, MovedOn}
-use Rattle.mmeaning.proofs.Calls.{residual_is, did_then, did_failed, did_gives, did_lost, then_follows, then_failed, assoc}
+use Rattle.mmeaning.specs.Frames.{View, Rests, Lists, left, frame, Enough, MovedOn}
+use Rattle.mmeaning.proofs.Calls.{residual_is, did_then, did_failed, did_gives, did_lost, then_follows, then_failed, assoc, ended}
 use Rattle.mmeaning.proofs.Moves.{on_then, on_failed, on_lost, on_signal, on_frame, on_top, enough}
 use Rattle.mstore.specs.declared.store.NodeStore.{Ghosts}
 use Rattle.moperator.specs.Codes.{fault_of}
@@ -27,6 +26,7 @@ use Rattle.mexec.specs.declared.frames.Frame.{Frame}
 use Rattle.mexec.specs.declared.signal.Signal.{Signal}
 use Rattle.mexec.specs.declared.signal.Signal.TheVariants as signal
 use Rattle.mexec.specs.Frames.{Runs, view, stack, stacked, resting, signal_of, went}
+use Rattle.mexec.specs.Arguments.{listing}
 
 -- ---- acts
 
@@ -84,6 +84,7 @@ pub passes : (s : Signal) (p : Act meaning.Signal) → (s ≡ signal.GoOn → �
 passes signal.GoOn p not_go = absurd (not_go refl)
 passes signal.Skips p not_go = refl
 passes signal.Quits p not_go = refl
+passes (signal.Goes t) p not_go = refl
 passes signal.Halts p not_go = refl
 
 -- an act by another name
@@ -209,20 +210,7 @@ runs_rest d l = record {
   same = refl;
 }
 
--- an act that gives what it has
-module _ {A : Type 0} where
-  given_outcome : (o : Outcome A) → on_gives give o ≡ Done o
-  given_outcome (Gives a s) = refl
-  given_outcome (Fails c s) = refl
-
-  given_plan : (p : Plan (Outcome A)) → then_plan p (on_gives give) ≡ p
-  given_plan (Done o) = given_outcome o
-  given_plan (Ask op k) = λ i. Ask op (λ r. given_plan (k r) i)
-
-  given : (p : Act A) → ◌≡◌ {A = Act A} (p >>= give) p
-  given p = λ i s. given_plan (p s) i
-
--- the empty rest of a line gives the signal again
+-- the empty rest of a line gives the signal again, and so does that of a command's arguments
 nothing_left : (d : Context) (s : meaning.Signal) → ◌≡◌ {A = Act meaning.Signal} (after s (meaning.commands d [])) (give s)
 nothing_left d meaning.Go_on = refl
 nothing_left d meaning.Skips = refl
@@ -230,14 +218,27 @@ nothing_left d meaning.Quits = refl
 nothing_left d meaning.Halts = refl
 nothing_left d (meaning.Goes l) = refl
 
+none_more : (d : Context) (s : meaning.Signal) → ◌≡◌ {A = Act meaning.Signal} (after s (meaning.arguments d [])) (give s)
+none_more d meaning.Go_on = refl
+none_more d meaning.Skips = refl
+none_more d meaning.Quits = refl
+none_more d meaning.Halts = refl
+none_more d (meaning.Goes l) = refl
+
 -- an act before it
 runs_last : {S : Type 0} {g : Ghosts S} {p : Text → ℕ → Act meaning.Signal} (d : meaning.Spot) {fs fs' : List View} {old new : Parts S} {r : Result Signal Code} → Runs g p fs old r fs' new → Runs g (λ a n. p a n >>= frame a n (Rests d [])) fs old r fs' new
-runs_last {p = p} d k = runs_as (λ a n. (λ i. p a n >>= (λ s. nothing_left (context a n d) s i)) ∙ given (p a n)) k
+runs_last {p = p} d k = runs_as (λ a n. (λ i. p a n >>= (λ s. nothing_left (context a n d) s i)) ∙ ended (p a n)) k
 
 -- an act before the rest of a line that may be empty
 pub runs_resting : {S : Type 0} {g : Ghosts S} {p : Text → ℕ → Act meaning.Signal} (d : meaning.Spot) (l : List CommandTree) {fs fs' : List View} {old new : Parts S} {r : Result Signal Code} → Runs g p (resting d l fs) old r fs' new → Runs g (λ a n. p a n >>= frame a n (Rests d l)) fs old r fs' new
 runs_resting d [] k = runs_last d k
 runs_resting d (c ∷ l) k = runs_frame (Rests d (c ∷ l)) k
+
+-- an act before the rest of a command's arguments, of which there may be none
+pub runs_listing : {S : Type 0} {g : Ghosts S} {p : Text → ℕ → Act meaning.Signal} (d : meaning.Spot) (args : List ArgTree) {fs fs' : List View} {old new : Parts S} {r : Result Signal Code}
+    → Runs g p (listing d args fs) old r fs' new → Runs g (λ a n. p a n >>= frame a n (Lists d args)) fs old r fs' new
+runs_listing {p = p} d [] k = runs_as (λ a n. (λ i. p a n >>= (λ s. none_more (context a n d) s i)) ∙ ended (p a n)) k
+runs_listing d (x ∷ args) k = runs_frame (Lists d (x ∷ args)) k
 
 -- ---- frames
 

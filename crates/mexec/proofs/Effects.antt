@@ -28,4 +28,7 @@ other_effect x k (arg.KillOthers names) more rest h = refl
 other_effect x k (arg.NewOne name) more rest h = refl
 other_effect x k (arg.NewOthers names) more rest h = refl
 other_effect x k (arg.Tested e) more rest h = refl
+other_effect x k (arg.DoOne e c) more rest h = refl
+other_effect x k (arg.GoTo e c) more rest h = refl
+other_effect x k (arg.Executed e c) more rest h = refl
 other_effect x k (arg.Loop index ps) more rest h = absurd (h index ps refl)

@@ -3,11 +3,13 @@ use Rattle.std.proofs.Common.{◌≡◌, ℕ, ◌≤◌, List, [], ◌∷◌, Re
 use Rattle.std.specs.Result.{IsErr, IsErrAnd}
 use Rattle.mspec.specs.LockConflict.{Locks}
 use Rattle.mspec.specs.Act.{Text, Act}
-use Rattle.mgrammar.specs.Grammar.{CommandTree}
+use Rattle.mgrammar.specs.Grammar.{ArgTree, CommandTree}
 use Rattle.mmeaning.specs.LineMeaning as meaning
-use Rattle.mmeaning.specs.LineMeaning.{outset, run_within, context, commands, after}
-use Rattle.mmeaning.specs.Calls.{Follows, FailedBy}
-use Rattle.mmeaning.specs.Frames.{View, Rests, Levels, left, frame, Enough, MovedAs, MovedOn}
+use Rattle.mmeaning.specs.Levels.{stays}
+use Rattle.mmeaning.specs.LineMeaning.{outset, run_within, context, commands, arguments, after}
+use Rattle.mmeaning.specs.Calls.{Standing, Here, Follows, FailedBy}
+use Rattle.mmeaning.specs.Frames.{View, Rests, Lists, Levels, left, frame, Enough, MovedAs, MovedOn}
+use Rattle.mmeaning.proofs.LevelMoves.{line_begins}
 use Rattle.mmeaning.proofs.Calls.{residual_is, follows_itself, follows_on, failed_after}
 use Rattle.mstore.specs.declared.store.NodeStore.{Ghosts}
 use Rattle.moperator.specs.Codes.{fault_of}
@@ -22,12 +24,15 @@ use Rattle.mexec.proofs.Calls.{passes, runs_as, runs_signal}
 
 module _ {S : Type 0} {g : Ghosts S} where
   -- a line's rest, and its level
-  pub leads_first : (cs : List CommandTree) (parts : Parts S) → Leads g (λ a n. run_within a n cs) parts (Rests outset cs ∷ Levels outset ∷ []) meaning.Go_on parts
+  pub leads_first : (cs : List CommandTree) (parts : Parts S) → Leads g (λ a n. run_within a n cs) parts (Rests outset cs ∷ Levels outset stays ∷ []) meaning.Go_on parts
   leads_first cs parts = record {
-    at = λ sound locks n le. (n ∷ n ∷ [], (le, (le, tt)), follows_itself (standing_of parts.eval) (run_within (standing_of parts.eval).account n cs) (here_of g parts locks));
+    at = λ sound locks n le. (n ∷ n ∷ [], (le, (le, tt)), begins (standing_of parts.eval) n (here_of g parts locks));
     fewer = omega arith;
     same = refl;
   }
+    where
+      begins : (b : Standing) (n : ℕ) (h : Here) → Follows b (run_within b.account n cs) h (left b.account (Rests outset cs ∷ Levels outset stays ∷ []) (n ∷ n ∷ []) meaning.Go_on) h
+      begins b n h = subst (λ (q : Act meaning.Signal). Follows b (run_within b.account n cs) h q h) (line_begins b.account n cs) (follows_itself b (run_within b.account n cs) h)
 
   module _ (p : Text → ℕ → Act meaning.Signal) (f : View) (fs : List View) {s : meaning.Signal} {old mid new : Parts S} (d : Leads g p old (f ∷ fs) s mid) where
     -- what the frame on top does, told by where the line began
@@ -90,3 +95,7 @@ module _ {S : Type 0} {g : Ghosts S} where
   -- a signal that passes the rest of a line
   pub rest_passes : {fs : List View} {parts : Parts S} (p : meaning.Spot) (cs : List CommandTree) (s : Signal) → (s ≡ signal.GoOn → ⊥) → Runs g (λ a n. frame a n (Rests p cs) (signal_of s)) fs parts (Ok s) fs parts
   rest_passes p cs s not_go = runs_as (λ a n. passes s (commands (context a n p) cs) not_go) (runs_signal s)
+
+  -- and of a command's arguments
+  pub list_passes : {fs : List View} {parts : Parts S} (p : meaning.Spot) (args : List ArgTree) (s : Signal) → (s ≡ signal.GoOn → ⊥) → Runs g (λ a n. frame a n (Lists p args) (signal_of s)) fs parts (Ok s) fs parts
+  list_passes p args s not_go = runs_as (λ a n. passes s (arguments (context a n p) args) not_go) (runs_signal s)

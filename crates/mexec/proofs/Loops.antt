@@ -19,8 +19,6 @@ use Rattle.mtree.specs.Tree.{parameter_tree}
 use Rattle.mtree.specs.declared.tree.Parameter.{Parameter}
 use Rattle.mstore.specs.declared.store.NodeStore.{Ghosts}
 use Rattle.moperator.specs.declared.code.Code.{Code}
-use Rattle.meval.specs.declared.depth.Depth.{Depth}
-use Rattle.meval.specs.Evaluates.{depth_of}
 use Rattle.mcommand.specs.declared.parts.Parts.{Parts}
 use Rattle.mcommand.specs.Does.{DoesAt}
 use Rattle.mcommand.specs.Turns.{course_view, started, added, advanced}
@@ -89,59 +87,59 @@ turn_runs d t c less = runs_spent (λ a n _. (context a n d).texts.turn d t) c l
 -- ---- turns as the frames have them
 
 -- those of a FOR without an index
-pub turning_of_none : (t : Turns) → loop_before t.line.value t.at ≡ ([], []) → turning t ≡ record { index = []; course = course_view t.course; parameters = []; body = commands_from t.line.value t.at }
+pub turning_of_none : (t : Turns) → loop_before t.body.line.value t.body.at ≡ ([], []) → turning t ≡ record { index = []; course = course_view t.course; parameters = []; body = commands_from t.body.line.value t.body.at }
 turning_of_none t e =
-    (λ i. record { index = (e i).0; course = course_view t.course; parameters = map parameter_tree (drop t.parameter (e i).1); body = commands_from t.line.value t.at })
-    ∙ (λ i. record { index = []; course = course_view t.course; parameters = map parameter_tree (none_left t.parameter [] (omega arith) i); body = commands_from t.line.value t.at })
+    (λ i. record { index = (e i).0; course = course_view t.course; parameters = map parameter_tree (drop t.parameter (e i).1); body = commands_from t.body.line.value t.body.at })
+    ∙ (λ i. record { index = []; course = course_view t.course; parameters = map parameter_tree (none_left t.parameter [] (omega arith) i); body = commands_from t.body.line.value t.body.at })
 
 -- and of one with an index
-pub turning_of : (t : Turns) (index : Text) (parameters : List Parameter) → loop_before t.line.value t.at ≡ (index, parameters)
-    → turning t ≡ record { index = index; course = course_view t.course; parameters = map parameter_tree (drop t.parameter parameters); body = commands_from t.line.value t.at }
-turning_of t index parameters e = λ i. record { index = (e i).0; course = course_view t.course; parameters = map parameter_tree (drop t.parameter (e i).1); body = commands_from t.line.value t.at }
+pub turning_of : (t : Turns) (index : Text) (parameters : List Parameter) → loop_before t.body.line.value t.body.at ≡ (index, parameters)
+    → turning t ≡ record { index = index; course = course_view t.course; parameters = map parameter_tree (drop t.parameter parameters); body = commands_from t.body.line.value t.body.at }
+turning_of t index parameters e = λ i. record { index = (e i).0; course = course_view t.course; parameters = map parameter_tree (drop t.parameter (e i).1); body = commands_from t.body.line.value t.body.at }
 
 -- ---- calls
 
-module _ {S : Type 0} {g : Ghosts S} (d : Depth) (index : Text) (body : List CommandTree) where
+module _ {S : Type 0} {g : Ghosts S} (d : Spot) (index : Text) (body : List CommandTree) where
   -- a parameter is begun, and then the turns go on
   pub parameter_runs : (ps : List Parameter) (k : ℕ) (p : Parameter) {X : Type 0} {view : X → Option Course} {o : X} {fs fs' : List View} {old mid new : Parts S} {r : Result Signal Code} → k < length ps → p ≡ get_or ps k p
-      → DoesAt g (λ a n. started (inside a n (depth_of d)) index (parameter_tree p)) view old (Ok o) mid → mid.eval.steps ≤ old.eval.steps
-      → Runs g (λ a n. begun (context a n (spot_of d)) index body (map parameter_tree (drop (k + 1) ps)) (view o)) fs mid r fs' new
-      → Runs g (λ a n. next_parameter (context a n (spot_of d)) index body (map parameter_tree (drop k ps))) fs old r fs' new
+      → DoesAt g (λ a n. started (inside a n d.depth) index (parameter_tree p)) view old (Ok o) mid → mid.eval.steps ≤ old.eval.steps
+      → Runs g (λ a n. begun (context a n d) index body (map parameter_tree (drop (k + 1) ps)) (view o)) fs mid r fs' new
+      → Runs g (λ a n. next_parameter (context a n d) index body (map parameter_tree (drop k ps))) fs old r fs' new
   parameter_runs ps k p {fs = fs} {fs' = fs'} {old = old} {new = new} {r = r} less is does few then_runs =
-      subst (λ (xs : List Parameter). Runs g (λ a n. next_parameter (context a n (spot_of d)) index body (map parameter_tree xs)) fs old r fs' new) (sym (next_item ps k p less is))
-      (runs_as (λ a n. next_is (context a n (spot_of d)) index body (parameter_tree p) (map parameter_tree (drop (k + 1) ps)))
-      (runs_then (λ a n. begun (context a n (spot_of d)) index body (map parameter_tree (drop (k + 1) ps))) does few then_runs))
+      subst (λ (xs : List Parameter). Runs g (λ a n. next_parameter (context a n d) index body (map parameter_tree xs)) fs old r fs' new) (sym (next_item ps k p less is))
+      (runs_as (λ a n. next_is (context a n d) index body (parameter_tree p) (map parameter_tree (drop (k + 1) ps)))
+      (runs_then (λ a n. begun (context a n d) index body (map parameter_tree (drop (k + 1) ps))) does few then_runs))
 
   pub parameter_stopped : (ps : List Parameter) (k : ℕ) (p : Parameter) {X : Type 0} {view : X → Option Course} {fs fs' : List View} {old new : Parts S} {r : Result Signal Code} {e : Code} → k < length ps → p ≡ get_or ps k p
-      → DoesAt g (λ a n. started (inside a n (depth_of d)) index (parameter_tree p)) view old (Err e) new → new.eval.steps ≤ old.eval.steps → IsErr r × IsErrAnd r (λ x. x ≡ e)
-      → Runs g (λ a n. next_parameter (context a n (spot_of d)) index body (map parameter_tree (drop k ps))) fs old r fs' new
+      → DoesAt g (λ a n. started (inside a n d.depth) index (parameter_tree p)) view old (Err e) new → new.eval.steps ≤ old.eval.steps → IsErr r × IsErrAnd r (λ x. x ≡ e)
+      → Runs g (λ a n. next_parameter (context a n d) index body (map parameter_tree (drop k ps))) fs old r fs' new
   parameter_stopped ps k p {fs = fs} {fs' = fs'} {old = old} {new = new} {r = r} less is does few h =
-      subst (λ (xs : List Parameter). Runs g (λ a n. next_parameter (context a n (spot_of d)) index body (map parameter_tree xs)) fs old r fs' new) (sym (next_item ps k p less is))
-      (runs_as (λ a n. next_is (context a n (spot_of d)) index body (parameter_tree p) (map parameter_tree (drop (k + 1) ps)))
-      (runs_stopped (λ a n. begun (context a n (spot_of d)) index body (map parameter_tree (drop (k + 1) ps))) does few h))
+      subst (λ (xs : List Parameter). Runs g (λ a n. next_parameter (context a n d) index body (map parameter_tree xs)) fs old r fs' new) (sym (next_item ps k p less is))
+      (runs_as (λ a n. next_is (context a n d) index body (parameter_tree p) (map parameter_tree (drop (k + 1) ps)))
+      (runs_stopped (λ a n. begun (context a n d) index body (map parameter_tree (drop (k + 1) ps))) does few h))
 
 -- a turn of turns as the frames have them
-pub begun_runs : {S : Type 0} {g : Ghosts S} {fs fs' : List View} {old new : Parts S} {r : Result Signal Code} (t : Turns) (index : Text) (parameters : List Parameter) → loop_before t.line.value t.at ≡ (index, parameters)
-    → Runs g (λ a n. begin_turn (context a n (spot_of t.depth)) (turning t)) fs old r fs' new
-    → Runs g (λ a n. begin_turn (context a n (spot_of t.depth)) (record { index = index; course = course_view t.course; parameters = map parameter_tree (drop t.parameter parameters); body = commands_from t.line.value t.at })) fs old r fs' new
-begun_runs t index parameters e k = runs_as (λ a n. ap (begin_turn (context a n (spot_of t.depth))) (sym (turning_of t index parameters e))) k
+pub begun_runs : {S : Type 0} {g : Ghosts S} {fs fs' : List View} {old new : Parts S} {r : Result Signal Code} (t : Turns) (index : Text) (parameters : List Parameter) → loop_before t.body.line.value t.body.at ≡ (index, parameters)
+    → Runs g (λ a n. begin_turn (context a n (spot_of t.body.spot.value)) (turning t)) fs old r fs' new
+    → Runs g (λ a n. begin_turn (context a n (spot_of t.body.spot.value)) (record { index = index; course = course_view t.course; parameters = map parameter_tree (drop t.parameter parameters); body = commands_from t.body.line.value t.body.at })) fs old r fs' new
+begun_runs t index parameters e k = runs_as (λ a n. ap (begin_turn (context a n (spot_of t.body.spot.value))) (sym (turning_of t index parameters e))) k
 
 -- the parameters that are left, once its index and its parameters are known
-pub further_runs : {S : Type 0} {g : Ghosts S} {fs fs' : List View} {old new : Parts S} {r : Result Signal Code} (t : Turns) (index : Text) (parameters : List Parameter) → loop_before t.line.value t.at ≡ (index, parameters)
-    → Runs g (λ a n. next_parameter (context a n (spot_of t.depth)) index (commands_from t.line.value t.at) (map parameter_tree (drop t.parameter parameters))) fs old r fs' new
-    → Runs g (λ a n. next_parameter (context a n (spot_of t.depth)) (turning t).index (turning t).body (turning t).parameters) fs old r fs' new
-further_runs t index parameters e k = runs_as (λ a n. ap (λ u. next_parameter (context a n (spot_of t.depth)) u.index u.body u.parameters) (turning_of t index parameters e)) k
+pub further_runs : {S : Type 0} {g : Ghosts S} {fs fs' : List View} {old new : Parts S} {r : Result Signal Code} (t : Turns) (index : Text) (parameters : List Parameter) → loop_before t.body.line.value t.body.at ≡ (index, parameters)
+    → Runs g (λ a n. next_parameter (context a n (spot_of t.body.spot.value)) index (commands_from t.body.line.value t.body.at) (map parameter_tree (drop t.parameter parameters))) fs old r fs' new
+    → Runs g (λ a n. next_parameter (context a n (spot_of t.body.spot.value)) (turning t).index (turning t).body (turning t).parameters) fs old r fs' new
+further_runs t index parameters e k = runs_as (λ a n. ap (λ u. next_parameter (context a n (spot_of t.body.spot.value)) u.index u.body u.parameters) (turning_of t index parameters e)) k
 
 module _ {S : Type 0} {g : Ghosts S} (t : Turns) {fs fs' : List View} where
   pub one_more : {old mid new : Parts S} {r : Result Signal Code} → DoesAt g (λ a n. advanced (turning t).index (course_view t.course)) (λ (b : Bool). b) old (Ok true) mid → mid.eval.steps ≤ old.eval.steps
-      → Runs g (λ a n. begin_turn (context a n (spot_of t.depth)) (turning t)) fs mid r fs' new → Runs g (λ a n. after_course (context a n (spot_of t.depth)) (turning t) (course_view t.course)) fs old r fs' new
-  one_more does few k = runs_as (λ a n. course_is (context a n (spot_of t.depth)) (turning t) (course_view t.course)) (runs_then (λ a n. gone_on (context a n (spot_of t.depth)) (turning t)) does few k)
+      → Runs g (λ a n. begin_turn (context a n (spot_of t.body.spot.value)) (turning t)) fs mid r fs' new → Runs g (λ a n. after_course (context a n (spot_of t.body.spot.value)) (turning t) (course_view t.course)) fs old r fs' new
+  one_more does few k = runs_as (λ a n. course_is (context a n (spot_of t.body.spot.value)) (turning t) (course_view t.course)) (runs_then (λ a n. gone_on (context a n (spot_of t.body.spot.value)) (turning t)) does few k)
 
   pub no_more : {old mid new : Parts S} {r : Result Signal Code} → DoesAt g (λ a n. advanced (turning t).index (course_view t.course)) (λ (b : Bool). b) old (Ok false) mid → mid.eval.steps ≤ old.eval.steps
-      → Runs g (λ a n. next_parameter (context a n (spot_of t.depth)) (turning t).index (turning t).body (turning t).parameters) fs mid r fs' new
-      → Runs g (λ a n. after_course (context a n (spot_of t.depth)) (turning t) (course_view t.course)) fs old r fs' new
-  no_more does few k = runs_as (λ a n. course_is (context a n (spot_of t.depth)) (turning t) (course_view t.course)) (runs_then (λ a n. gone_on (context a n (spot_of t.depth)) (turning t)) does few k)
+      → Runs g (λ a n. next_parameter (context a n (spot_of t.body.spot.value)) (turning t).index (turning t).body (turning t).parameters) fs mid r fs' new
+      → Runs g (λ a n. after_course (context a n (spot_of t.body.spot.value)) (turning t) (course_view t.course)) fs old r fs' new
+  no_more does few k = runs_as (λ a n. course_is (context a n (spot_of t.body.spot.value)) (turning t) (course_view t.course)) (runs_then (λ a n. gone_on (context a n (spot_of t.body.spot.value)) (turning t)) does few k)
 
   pub not_gone_on : {old new : Parts S} {r : Result Signal Code} {c : Code} → DoesAt g (λ a n. advanced (turning t).index (course_view t.course)) (λ (b : Bool). b) old (Err c) new → new.eval.steps ≤ old.eval.steps → IsErr r × IsErrAnd r (λ x. x ≡ c)
-      → Runs g (λ a n. after_course (context a n (spot_of t.depth)) (turning t) (course_view t.course)) fs old r fs' new
-  not_gone_on does few h = runs_as (λ a n. course_is (context a n (spot_of t.depth)) (turning t) (course_view t.course)) (runs_stopped (λ a n. gone_on (context a n (spot_of t.depth)) (turning t)) does few h)
+      → Runs g (λ a n. after_course (context a n (spot_of t.body.spot.value)) (turning t) (course_view t.course)) fs old r fs' new
+  not_gone_on does few h = runs_as (λ a n. course_is (context a n (spot_of t.body.spot.value)) (turning t) (course_view t.course)) (runs_stopped (λ a n. gone_on (context a n (spot_of t.body.spot.value)) (turning t)) does few h)

@@ -6,6 +6,7 @@ use Rattle.mgrammar.specs.Grammar.{LineTree, spell}
 use Rattle.mgrammar.specs.WellFormed.{well}
 use Rattle.mgrammar.specs.Reading.{line_at}
 use Rattle.mgrammar.proofs.ReadingLines.{line_takes, line_again}
+use Rattle.mmeaning.specs.Levels.{commands_of}
 use Rattle.mmeaning.specs.LineMeaning as meaning
 use Rattle.mmeaning.specs.LineMeaning.{run, run_within}
 use Rattle.mmeaning.specs.Step as step
@@ -40,6 +41,7 @@ no_fault : (c : Code) (s : Signal) → ending_of (Fault c) ≡ step.ending_of (s
 no_fault c signal.GoOn e = cc
 no_fault c signal.Skips e = cc
 no_fault c signal.Quits e = cc
+no_fault c (signal.Goes t) e = cc
 no_fault c signal.Halts e = cc
 
 ends_by : (b : Standing) (steady : Type 0) (p : Act meaning.Signal) (h : Here) (e : Ended) (s : Signal) (h' : Here) → ending_of e ≡ step.ending_of (signal_of s) → Gave b p h (signal_of s) h' → EndsBy b steady p h e h'
@@ -51,7 +53,7 @@ module _ {S : Type 0} {g : Ghosts S} where
   pub refused : (o : Option LineTree) (parts : Parts S) → o ≡ None → RunsText g o parts (Fault Zsyntax) parts
   refused o parts e = subst (λ o. RunsText g o parts (Fault Zsyntax) parts) (sym e) (record { at = λ sound locks. refl; fewer = omega arith })
 
-  pub done : (o : Option LineTree) (l : LineTree) (old new : Parts S) (e : Ended) (s : Signal) → o ≡ Some l → ending_of e ≡ step.ending_of (signal_of s) → DoesAt g (λ a n. run_within a n (map (λ c. c.0) l.commands)) signal_of old (Ok s) new
+  pub done : (o : Option LineTree) (l : LineTree) (old new : Parts S) (e : Ended) (s : Signal) → o ≡ Some l → ending_of e ≡ step.ending_of (signal_of s) → DoesAt g (λ a n. run_within a n (commands_of l)) signal_of old (Ok s) new
       → new.eval.steps ≤ old.eval.steps → RunsText g o old e new
   done o l old new e s some is d few = subst (λ o. RunsText g o old e new) (sym some) (record {
     at = λ sound locks.
@@ -61,7 +63,7 @@ module _ {S : Type 0} {g : Ghosts S} where
     fewer = few;
   })
 
-  pub failed : (o : Option LineTree) (l : LineTree) (old new : Parts S) (c : Code) → o ≡ Some l → DoesAt g (λ a n. run_within a n (map (λ c. c.0) l.commands)) signal_of old (Err c) new → new.eval.steps ≤ old.eval.steps → RunsText g o old (Fault c) new
+  pub failed : (o : Option LineTree) (l : LineTree) (old new : Parts S) (c : Code) → o ≡ Some l → DoesAt g (λ a n. run_within a n (commands_of l)) signal_of old (Err c) new → new.eval.steps ≤ old.eval.steps → RunsText g o old (Fault c) new
   failed o l old new c some d few = subst (λ o. RunsText g o old (Fault c) new) (sym some) (record {
     at = λ sound locks. let did = d.at sound locks in did.at old.eval.steps (omega arith);
     fewer = few;

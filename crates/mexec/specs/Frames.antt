@@ -6,8 +6,9 @@ use Rattle.mgrammar.specs.Grammar.{CommandTree}
 use Rattle.mmeaning.specs.LineMeaning as meaning
 use Rattle.mmeaning.specs.LineMeaning.{Spot, Turning}
 use Rattle.mmeaning.specs.Calls.{Follows}
-use Rattle.mmeaning.specs.Frames.{View, Rests, Turns, Levels, left, Enough, MovedOn}
-use Rattle.mtree.specs.Tree.{spaced_tree, parameter_tree}
+use Rattle.mmeaning.specs.Levels as levels
+use Rattle.mmeaning.specs.Frames.{View, Rests, Lists, Turns, Levels, left, Enough, MovedOn}
+use Rattle.mtree.specs.Tree.{spaced_tree, parameter_tree, arg_tree}
 use Rattle.mtree.specs.declared.tree.Parameter.{Parameter}
 use Rattle.mtree.specs.declared.tree.Arg.{Arg}
 use Rattle.mtree.specs.declared.tree.Arg.TheVariants as arg
@@ -16,11 +17,15 @@ use Rattle.mtree.specs.declared.tree.Line.{Line}
 use Rattle.mstore.specs.declared.store.NodeStore.{Ghosts}
 use Rattle.moperator.specs.Codes.{fault_of}
 use Rattle.moperator.specs.declared.code.Code.{Code}
-use Rattle.meval.specs.declared.depth.Depth.{Depth}
 use Rattle.meval.specs.Evaluates.{standing_of, depth_of}
 use Rattle.mcommand.specs.declared.parts.Parts.{Parts}
 use Rattle.mcommand.specs.Does.{here_of}
+use Rattle.mcommand.specs.Targets.{target_view}
 use Rattle.mcommand.specs.Turns.{course_view}
+use Rattle.mexec.specs.declared.frames.Level as level
+use Rattle.mexec.specs.declared.frames.Spot as spot
+use Rattle.mexec.specs.declared.frames.Closing.{Closing}
+use Rattle.mexec.specs.declared.frames.Closing.TheVariants as closing
 use Rattle.mexec.specs.declared.frames.Rest.{Rest}
 use Rattle.mexec.specs.declared.frames.Turns as turns
 use Rattle.mexec.specs.declared.frames.Frame.{Frame}
@@ -32,10 +37,19 @@ abbrev pub signal_of : Signal → meaning.Signal
 signal_of signal.GoOn = meaning.Go_on
 signal_of signal.Skips = meaning.Skips
 signal_of signal.Quits = meaning.Quits
+signal_of (signal.Goes t) = meaning.Goes (target_view t)
 signal_of signal.Halts = meaning.Halts
 
-abbrev pub spot_of : Depth → Spot
-spot_of d = record { depth = depth_of d }
+abbrev pub level_of : level.Level → levels.Level
+level_of l = record { copy = l.copy.value.items; next = l.next; dots = l.dots }
+
+abbrev pub spot_of : spot.Spot → Spot
+spot_of p = record { depth = depth_of p.depth; level = level_of p.level }
+
+abbrev pub closing_of : Closing → levels.Closing
+closing_of closing.Stays = levels.stays
+closing_of closing.Leaves = levels.leaves
+closing_of (closing.Restores test) = levels.restores test
 
 -- a command that is done goes on with what is next
 abbrev pub went : Result (Unit {0}) Code → Result Signal Code
@@ -54,23 +68,28 @@ abbrev pub loop_in : List Arg → Text × List Parameter
 loop_in (arg.Loop index parameters ∷ more) = (index, parameters.items)
 loop_in others = ([], [])
 
-abbrev pub loop_of : Option Spaced → Text × List Parameter
-loop_of None = ([], [])
-loop_of (Some s) = loop_in s.command.args.items
+abbrev pub args_of : Option Spaced → List Arg
+args_of None = []
+args_of (Some s) = s.command.args.items
 
--- those of the command before a place
+-- the arguments of the command before a place
+abbrev pub args_before : Line → ℕ → List Arg
+args_before l at = args_of (slice_get l.commands.items (at - 1))
+
+-- its index and its parameters
 abbrev pub loop_before : Line → ℕ → Text × List Parameter
-loop_before l at = loop_of (slice_get l.commands.items (at - 1))
+loop_before l at = loop_in (args_before l at)
 
 abbrev pub turning : turns.Turns → Turning
 turning t =
-    let found = loop_before t.line.value t.at in
-    record { index = found.0; course = course_view t.course; parameters = map parameter_tree (drop t.parameter found.1); body = commands_from t.line.value t.at }
+    let found = loop_before t.body.line.value t.body.at in
+    record { index = found.0; course = course_view t.course; parameters = map parameter_tree (drop t.parameter found.1); body = rest_tree t.body }
 
 abbrev pub view : Frame → View
-view (frame.Rest r) = Rests (spot_of r.depth) (rest_tree r)
-view (frame.Turns t) = Turns (spot_of t.value.depth) (turning t.value)
-view (frame.Level d) = Levels (spot_of d)
+view (frame.Rest r) = Rests (spot_of r.spot.value) (rest_tree r)
+view (frame.List l) = Lists (spot_of l.behind.spot.value) (map arg_tree (drop l.argument (args_before l.behind.line.value l.behind.at)))
+view (frame.Turns t) = Turns (spot_of t.value.body.spot.value) (turning t.value)
+view (frame.Level p c) = Levels (spot_of p.value) (closing_of c)
 
 -- the last frame pushed is on top
 abbrev pub stacked : List View → List Frame → List View

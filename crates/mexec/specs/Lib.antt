@@ -1,2 +1,4 @@
 pub mod Frames
+pub mod Entering
+pub mod Arguments
 pub mod Runs

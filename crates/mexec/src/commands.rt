@@ -1,4 +1,4 @@
-// What commands do.
+// What commands do alike.
 ghost use Rattle.std.specs.Prelude.{◌≡◌, ◌≤◌, ◌<◌, IfOk, map, option_map};
 ghost use Rattle.mspec.specs.Act.{charge};
 ghost use Rattle.mmeaning.specs.LineMeaning as meaning;
@@ -57,55 +57,4 @@ pub(crate) fn went_on(done: Result<(), Code>) -> Result<Signal, Code>
         Ok(()) => Ok(Signal::GoOn),
         Err(code) => Err(code),
     }
-}
-
-// What an argument does, of whichever command but FOR.
-fn argument<S: NodeStore>(
-    alloc: Global,
-    parts: &mut Parts<S>,
-    depth: Depth,
-    arg: &Arg,
-) -> Result<Signal, Code>
-    ensures loans { KeepsLoans parts.old parts.new }
-    ensures fewer { parts.new.eval.steps ≤ parts.old.eval.steps }
-    ensures does { DoesAt S.NodeStore (λ a n. meaning.argument (context a n (spot_of depth)) (arg_tree arg.now)) signal_of parts.old result parts.new }
-{
-    parts.eval.depth = depth;
-    match arg {
-        Arg::Assign(destination, e) => went_on(parts.setting(alloc, destination, e)),
-        Arg::Breaks(count) => went_on(parts.breaks(*count)),
-        Arg::Value(e) => went_on(parts.showing(alloc, e)),
-        Arg::KillOne(reference) => went_on(parts.killing(alloc, reference)),
-        Arg::KillOthers(names) => {
-            parts.eval.kill_others(names);
-            Ok(Signal::GoOn)
-        }
-        Arg::NewOne(name) => went_on(parts.eval.hide_one(name)),
-        Arg::NewOthers(names) => went_on(parts.eval.hide_others(alloc, names)),
-        Arg::Tested(e) => {
-            let is_true = parts.testing(alloc, e)?;
-            Ok(where_true(is_true))
-        }
-        Arg::Loop(_, _) => Ok(Signal::GoOn),
-    }
-}
-
-// What arguments do, one after another, as long as each goes on with the next.
-pub(crate) fn arguments<S: NodeStore>(
-    alloc: Global,
-    parts: &mut Parts<S>,
-    depth: Depth,
-    args: &[Arg],
-) -> Result<Signal, Code>
-    ensures loans { KeepsLoans parts.old parts.new }
-    ensures fewer { parts.new.eval.steps ≤ parts.old.eval.steps }
-    ensures does { DoesAt S.NodeStore (λ a n. meaning.arguments (context a n (spot_of depth)) (map arg_tree args.now)) signal_of parts.old result parts.new }
-{
-    for arg in args {
-        match argument(alloc, parts, depth, arg)? {
-            Signal::GoOn => {}
-            other => return Ok(other),
-        }
-    }
-    Ok(Signal::GoOn)
 }

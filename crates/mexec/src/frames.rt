@@ -1,24 +1,71 @@
 // What is still to be done of a line: frames, the innermost on top.
+ghost use Rattle.std.specs.Prelude.{◌≡◌, IfOk};
+
 use mcommand::Course;
 use meval::Depth;
+use mnum::Bytes7;
 use mtree::Line;
+use std::alloc::AllocError;
 use std::rc::Rc;
+
+// The lines that labels are sought in, the place of the one that comes next, and how many dots the level's lines have.
+#[derive(Drop)]
+pub(crate) struct Level {
+    pub(crate) copy: Rc<Vec<Bytes7>>,
+    pub(crate) next: Option<usize>,
+    pub(crate) dots: usize,
+}
+
+// Where a line stands: how deep, and in which level. Frames share it.
+#[derive(Drop)]
+pub(crate) struct Spot {
+    pub(crate) depth: Depth,
+    pub(crate) level: Level,
+}
+
+// How a level closes: not at all, as the outermost one does; its scope goes; and $TEST is besides what it was.
+#[derive(Clone, Copy, Debug)]
+pub(crate) enum Closing {
+    Stays,
+    Leaves,
+    Restores(bool),
+}
 
 // The rest of a line: its commands from a place on.
 #[derive(Drop)]
 pub(crate) struct Rest {
-    pub(crate) depth: Depth,
+    pub(crate) spot: Rc<Spot>,
     pub(crate) line: Rc<Line>,
     pub(crate) at: usize,
 }
 
-// A FOR of which a turn is under way: the place of its body, which stands behind it, its next parameter, and how it goes on. Its
-// index and its parameters are read from the line.
+impl Rest {
+    // The same once more.
+    pub(crate) fn copy(&self) -> Result<Rest, AllocError>
+        ensures spot { IfOk result (λ rest. rest.spot.value ≡ self.now.spot.value) }
+        ensures line { IfOk result (λ rest. rest.line.value ≡ self.now.line.value) }
+        ensures at { IfOk result (λ rest. rest.at ≡ self.now.at) }
+    {
+        Ok(Rest {
+            spot: self.spot.clone()?,
+            line: self.line.clone()?,
+            at: self.at,
+        })
+    }
+}
+
+// The arguments, from one on, of the command before the rest of a line.
+#[derive(Drop)]
+pub(crate) struct List {
+    pub(crate) behind: Rest,
+    pub(crate) argument: usize,
+}
+
+// A FOR of which a turn is under way: its body, which stands behind it, its next parameter, and how it goes on. Its index and its
+// parameters are read from the line.
 #[derive(Drop)]
 pub(crate) struct Turns {
-    pub(crate) depth: Depth,
-    pub(crate) line: Rc<Line>,
-    pub(crate) at: usize,
+    pub(crate) body: Rest,
     pub(crate) parameter: usize,
     pub(crate) course: Course,
 }
@@ -27,8 +74,9 @@ pub(crate) struct Turns {
 #[derive(Drop)]
 pub(crate) enum Frame {
     Rest(Rest),
+    List(List),
     // in a box, which each turn takes off and puts back
     Turns(Box<Turns>),
-    // a level, which ends with its line
-    Level(Depth),
+    // a level of which a line is under way, and how it closes
+    Level(Rc<Spot>, Closing),
 }

@@ -1,13 +1,20 @@
 //! Lines of M, carried out.
 #![tactic(auto)]
 
+mod arguments;
 mod commands;
+mod entering;
 mod frames;
+mod levels;
 mod line;
+mod machine;
+mod reading;
 mod rest;
 mod run;
 mod signal;
+mod trees;
 mod turns;
 
+pub use machine::Machine;
 pub use mcommand::{LINE_END, Parts};
 pub use run::{Ended, run_text};

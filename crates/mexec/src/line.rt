@@ -1,12 +1,16 @@
 // A line, from its first command to its end.
-ghost use Rattle.std.specs.Prelude.{◌≡◌, ◌≤◌, ◌+◌, ◌*◌, length, IfOk, map};
+ghost use Rattle.std.specs.Prelude.{◌≡◌, ◌≤◌, ◌+◌, ◌*◌, [], ◌∷◌, length, IfOk, OnOk};
+ghost use Rattle.mmeaning.specs.Levels.{stays, commands_of};
 ghost use Rattle.mmeaning.specs.LineMeaning as meaning;
-ghost use Rattle.mmeaning.specs.Frames.{frame};
+ghost use Rattle.mmeaning.specs.Frames.{frame, Rests, Levels};
 ghost use Rattle.mtree.specs.Tree.{line_tree};
 ghost use Rattle.mcommand.specs.Does.{DoesAt, KeepsLoans};
-ghost use Rattle.mexec.specs.Frames.{Runs, view, stack, signal_of};
+ghost use Rattle.mexec.specs.Frames.{Runs, view, stack, signal_of, spot_of, commands_from};
 
-use crate::frames::{Frame, Rest};
+use crate::arguments::arguments;
+use crate::frames::{Closing, Frame, Level, Rest, Spot};
+use crate::levels::after_level;
+use crate::machine::Machine;
 use crate::rest::next_command;
 use crate::signal::Signal;
 use crate::turns::after_turn;
@@ -15,23 +19,23 @@ use meval::Depth;
 use moperator::Code;
 use mstore::NodeStore;
 use mtree::Line;
-use std::alloc::Global;
+use std::alloc::{AllocError, Global};
 use std::rc::Rc;
 
-// How deep a line from outside stands.
-const OUTSET: Depth = Depth {
-    levels: 0,
-    indirections: 0,
-};
-
-// What a level makes of how its line went on.
-fn passed(signal: Signal) -> Signal
-    ensures { signal_of result ≡ meaning.passed (signal_of signal) }
+// Where a line from outside stands: at the only level that is open, which has no lines.
+fn outset(alloc: Global) -> Result<Rc<Spot>, AllocError>
+    ensures { IfOk result (λ spot. spot_of spot.value ≡ meaning.outset) }
 {
-    match signal {
-        Signal::Halts => Signal::Halts,
-        _ => Signal::GoOn,
-    }
+    let depth = Depth {
+        levels: 0,
+        indirections: 0,
+    };
+    let level = Level {
+        copy: Rc::new(alloc, Vec::new(alloc))?,
+        next: None,
+        dots: 0,
+    };
+    Ok(Rc::new(alloc, Spot { depth, level })?)
 }
 
 // What the top frame does with a signal.
@@ -40,43 +44,55 @@ fn step<S: NodeStore>(
     parts: &mut Parts<S>,
     top: Frame,
     signal: Signal,
-    frames: &mut Vec<Frame>,
+    machine: &mut Machine,
 ) -> Result<Signal, Code>
     ensures loans { KeepsLoans parts.old parts.new }
-    ensures falls { IfOk result (λ _. 2 * parts.new.eval.steps + length frames.new.items ≤ 2 * parts.old.eval.steps + length frames.old.items) }
-    ensures does { Runs S.NodeStore (λ a n. frame a n (view top) (signal_of signal)) (stack frames.old.items) parts.old result (stack frames.new.items) parts.new }
+    ensures falls { IfOk result (λ _. 6 * parts.new.eval.steps + length machine.new.frames.items ≤ 6 * parts.old.eval.steps + length machine.old.frames.items) }
+    ensures does { Runs S.NodeStore (λ a n. frame a n (view top) (signal_of signal)) (stack machine.old.frames.items) parts.old result (stack machine.new.frames.items) parts.new }
 {
     match top {
         Frame::Rest(rest) => match signal {
-            Signal::GoOn => next_command(alloc, parts, rest, frames),
+            Signal::GoOn => next_command(alloc, parts, rest, machine),
             other => Ok(other),
         },
-        Frame::Turns(turns) => after_turn(alloc, parts, turns, signal, frames),
-        Frame::Level(_) => Ok(passed(signal)),
+        Frame::List(list) => match signal {
+            Signal::GoOn => arguments(alloc, parts, &list.behind, list.argument, machine),
+            other => Ok(other),
+        },
+        Frame::Turns(turns) => after_turn(alloc, parts, turns, signal, machine),
+        Frame::Level(spot, closing) => {
+            after_level(alloc, parts, &spot, closing, signal, machine)
+        }
     }
+}
+
+// The frames of a line from its first command on, and no others.
+fn begin(alloc: Global, line: Rc<Line>, machine: &mut Machine) -> Result<(), AllocError>
+    ensures { OnOk result (stack machine.new.frames.items ≡ Rests meaning.outset (commands_from line.value 0) ∷ Levels meaning.outset stays ∷ []) }
+{
+    machine.frames.clear();
+    let spot = outset(alloc)?;
+    let level = Frame::Level(spot.clone()?, Closing::Stays);
+    machine.frames.push(level)?;
+    machine.frames.push(Frame::Rest(Rest { spot, line, at: 0 }))?;
+    Ok(())
 }
 
 // A line, from its first command to its end.
 pub(crate) fn run_line<S: NodeStore>(
     alloc: Global,
     parts: &mut Parts<S>,
-    line: Line,
+    line: Rc<Line>,
+    machine: &mut Machine,
 ) -> Result<Signal, Code>
     ensures loans { KeepsLoans parts.old parts.new }
     ensures fewer { parts.new.eval.steps ≤ parts.old.eval.steps }
-    ensures does { DoesAt S.NodeStore (λ a n. meaning.run_within a n (map (λ c. c.0) (line_tree line).commands)) signal_of parts.old result parts.new }
+    ensures does { DoesAt S.NodeStore (λ a n. meaning.run_within a n (commands_of (line_tree line.value))) signal_of parts.old result parts.new }
 {
-    let line = Rc::new(alloc, line)?;
-    let mut frames = Vec::with_capacity(alloc, 4)?;
-    frames.push(Frame::Level(OUTSET))?;
-    frames.push(Frame::Rest(Rest {
-        depth: OUTSET,
-        line,
-        at: 0,
-    }))?;
+    begin(alloc, line, machine)?;
     let mut signal = Signal::GoOn;
-    while let Some(frame) = frames.pop() {
-        signal = step(alloc, parts, frame, signal, &mut frames)?;
+    while let Some(frame) = machine.frames.pop() {
+        signal = step(alloc, parts, frame, signal, machine)?;
     }
     Ok(signal)
 }

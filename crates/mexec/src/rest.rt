@@ -4,10 +4,13 @@ ghost use Rattle.mmeaning.specs.LineMeaning as meaning;
 ghost use Rattle.mmeaning.specs.LineMeaning.{context};
 ghost use Rattle.mtree.specs.Tree.{keyword_tree, arg_tree, command_tree};
 ghost use Rattle.mcommand.specs.Does.{KeepsLoans};
-ghost use Rattle.mexec.specs.Frames.{Runs, loop_before, loop_in, rest_tree, resting, stack, spot_of};
+ghost use Rattle.mexec.specs.Frames.{Runs, args_before, rest_tree, resting, stack, spot_of};
 
-use crate::commands::{arguments, charge, holds, went_on, where_true};
+use crate::arguments::arguments;
+use crate::commands::{charge, holds, went_on, where_true};
+use crate::entering::doing_block;
 use crate::frames::{Frame, Rest, Turns};
+use crate::machine::Machine;
 use crate::signal::Signal;
 use crate::turns::{begin_turn, next_parameter};
 use mcommand::{Course, Parts};
@@ -21,21 +24,19 @@ fn forever<S: NodeStore>(
     alloc: Global,
     parts: &mut Parts<S>,
     behind: &Rest,
-    frames: &mut Vec<Frame>,
+    machine: &mut Machine,
 ) -> Result<Signal, Code>
-    requires { loop_before behind.now.line.value behind.now.at ≡ ([], []) }
+    requires { args_before behind.now.line.value behind.now.at ≡ [] }
     ensures loans { KeepsLoans parts.old parts.new }
-    ensures falls { IfOk result (λ _. 2 * parts.new.eval.steps + length frames.new.items ≤ 2 * parts.old.eval.steps + length frames.old.items) }
-    ensures does { Runs S.NodeStore (λ a n. meaning.turns_forever (context a n (spot_of behind.now.depth)) (rest_tree behind.now)) (stack frames.old.items) parts.old result (stack frames.new.items) parts.new }
+    ensures falls { IfOk result (λ _. 6 * parts.new.eval.steps + length machine.new.frames.items ≤ 6 * parts.old.eval.steps + length machine.old.frames.items) }
+    ensures does { Runs S.NodeStore (λ a n. meaning.turns_forever (context a n (spot_of behind.now.spot.value)) (rest_tree behind.now)) (stack machine.old.frames.items) parts.old result (stack machine.new.frames.items) parts.new }
 {
     let turns = Turns {
-        depth: behind.depth,
-        line: behind.line.clone()?,
-        at: behind.at,
+        body: behind.copy()?,
         parameter: 0,
         course: Course::Forever,
     };
-    begin_turn(parts, Box::new(alloc, turns)?, frames)
+    begin_turn(parts, Box::new(alloc, turns)?, machine)
 }
 
 // What a command does that has no arguments.
@@ -44,12 +45,12 @@ fn bare<S: NodeStore>(
     parts: &mut Parts<S>,
     keyword: Keyword,
     behind: &Rest,
-    frames: &mut Vec<Frame>,
+    machine: &mut Machine,
 ) -> Result<Signal, Code>
-    requires { loop_before behind.now.line.value behind.now.at ≡ ([], []) }
+    requires { args_before behind.now.line.value behind.now.at ≡ [] }
     ensures loans { KeepsLoans parts.old parts.new }
-    ensures falls { IfOk result (λ _. 2 * parts.new.eval.steps + length frames.new.items ≤ 2 * parts.old.eval.steps + length frames.old.items) }
-    ensures does { Runs S.NodeStore (λ a n. meaning.bare (context a n (spot_of behind.now.depth)) (keyword_tree keyword) (rest_tree behind.now)) (stack frames.old.items) parts.old result (stack frames.new.items) parts.new }
+    ensures falls { IfOk result (λ _. 6 * parts.new.eval.steps + length machine.new.frames.items ≤ 6 * parts.old.eval.steps + length machine.old.frames.items) }
+    ensures does { Runs S.NodeStore (λ a n. meaning.bare (context a n (spot_of behind.now.spot.value)) (keyword_tree keyword) (rest_tree behind.now)) (stack machine.old.frames.items) parts.old result (stack machine.new.frames.items) parts.new }
 {
     match keyword {
         Keyword::Set => Ok(Signal::GoOn),
@@ -60,9 +61,12 @@ fn bare<S: NodeStore>(
         Keyword::New => went_on(parts.eval.hide_others(alloc, &[])),
         Keyword::If => Ok(where_true(parts.eval.test())),
         Keyword::Else => Ok(where_true(!parts.eval.test())),
-        Keyword::For => forever(alloc, parts, behind, frames),
+        Keyword::For => forever(alloc, parts, behind, machine),
         Keyword::Quit => Ok(Signal::Quits),
         Keyword::Write => Ok(Signal::GoOn),
+        Keyword::Do => doing_block(alloc, parts, &behind.spot, machine),
+        Keyword::Goto => Ok(Signal::GoOn),
+        Keyword::Execute => Ok(Signal::GoOn),
     }
 }
 
@@ -72,27 +76,25 @@ fn effect<S: NodeStore>(
     parts: &mut Parts<S>,
     command: &Command,
     behind: &Rest,
-    frames: &mut Vec<Frame>,
+    machine: &mut Machine,
 ) -> Result<Signal, Code>
-    requires { loop_before behind.now.line.value behind.now.at ≡ loop_in command.now.args.items }
+    requires { args_before behind.now.line.value behind.now.at ≡ command.now.args.items }
     ensures loans { KeepsLoans parts.old parts.new }
-    ensures falls { IfOk result (λ _. 2 * parts.new.eval.steps + length frames.new.items ≤ 2 * parts.old.eval.steps + length frames.old.items) }
-    ensures does { Runs S.NodeStore (λ a n. meaning.effect (context a n (spot_of behind.now.depth)) (keyword_tree command.now.keyword) (map arg_tree command.now.args.items) (rest_tree behind.now)) (stack frames.old.items) parts.old result (stack frames.new.items) parts.new }
+    ensures falls { IfOk result (λ _. 6 * parts.new.eval.steps + length machine.new.frames.items ≤ 6 * parts.old.eval.steps + length machine.old.frames.items) }
+    ensures does { Runs S.NodeStore (λ a n. meaning.effect (context a n (spot_of behind.now.spot.value)) (keyword_tree command.now.keyword) (map arg_tree command.now.args.items) (rest_tree behind.now)) (stack machine.old.frames.items) parts.old result (stack machine.new.frames.items) parts.new }
 {
     match command.args.first() {
-        None => bare(alloc, parts, command.keyword, behind, frames),
+        None => bare(alloc, parts, command.keyword, behind, machine),
         Some(first) => match first {
             Arg::Loop(index, parameters) => {
                 let turns = Turns {
-                    depth: behind.depth,
-                    line: behind.line.clone()?,
-                    at: behind.at,
+                    body: behind.copy()?,
                     parameter: 0,
                     course: Course::LastTurn,
                 };
-                next_parameter(alloc, parts, index, parameters, turns, frames)
+                next_parameter(alloc, parts, index, parameters, turns, machine)
             }
-            _ => arguments(alloc, parts, behind.depth, &command.args),
+            _ => arguments(alloc, parts, behind, 0, machine),
         },
     }
 }
@@ -103,34 +105,31 @@ fn conditional<S: NodeStore>(
     parts: &mut Parts<S>,
     command: &Command,
     behind: &Rest,
-    frames: &mut Vec<Frame>,
+    machine: &mut Machine,
 ) -> Result<Signal, Code>
-    requires { loop_before behind.now.line.value behind.now.at ≡ loop_in command.now.args.items }
+    requires { args_before behind.now.line.value behind.now.at ≡ command.now.args.items }
     ensures loans { KeepsLoans parts.old parts.new }
-    ensures falls { IfOk result (λ _. 2 * parts.new.eval.steps + length frames.new.items ≤ 2 * parts.old.eval.steps + length frames.old.items) }
-    ensures does { Runs S.NodeStore (λ a n. meaning.conditional (context a n (spot_of behind.now.depth)) (command_tree command.now) (rest_tree behind.now)) (stack frames.old.items) parts.old result (stack frames.new.items) parts.new }
+    ensures falls { IfOk result (λ _. 6 * parts.new.eval.steps + length machine.new.frames.items ≤ 6 * parts.old.eval.steps + length machine.old.frames.items) }
+    ensures does { Runs S.NodeStore (λ a n. meaning.conditional (context a n (spot_of behind.now.spot.value)) (command_tree command.now) (rest_tree behind.now)) (stack machine.old.frames.items) parts.old result (stack machine.new.frames.items) parts.new }
 {
-    let applies = holds(alloc, parts, behind.depth, &command.condition)?;
+    let applies = holds(alloc, parts, behind.spot.depth, &command.condition)?;
     if applies {
-        effect(alloc, parts, command, behind, frames)
+        effect(alloc, parts, command, behind, machine)
     } else {
         Ok(Signal::GoOn)
     }
 }
 
 // Leaves the rest of a line on the frames, unless it is empty.
-fn leave(rest: &Rest, frames: &mut Vec<Frame>) -> Result<(), AllocError>
-    ensures frames { OnOk result (stack frames.new.items ≡ resting (spot_of rest.now.depth) (rest_tree rest.now) (stack frames.old.items)) }
-    ensures most { OnOk result (length frames.new.items ≤ length frames.old.items + 1) }
+fn leave(rest: &Rest, machine: &mut Machine) -> Result<(), AllocError>
+    ensures frames { OnOk result (stack machine.new.frames.items ≡ resting (spot_of rest.now.spot.value) (rest_tree rest.now) (stack machine.old.frames.items)) }
+    ensures most { OnOk result (length machine.new.frames.items ≤ length machine.old.frames.items + 1) }
 {
     if rest.at >= rest.line.commands.len() {
         return Ok(());
     }
-    frames.push(Frame::Rest(Rest {
-        depth: rest.depth,
-        line: rest.line.clone()?,
-        at: rest.at,
-    }))?;
+    let rest = rest.copy()?;
+    machine.frames.push(Frame::Rest(rest))?;
     Ok(())
 }
 
@@ -139,11 +138,11 @@ pub(crate) fn next_command<S: NodeStore>(
     alloc: Global,
     parts: &mut Parts<S>,
     rest: Rest,
-    frames: &mut Vec<Frame>,
+    machine: &mut Machine,
 ) -> Result<Signal, Code>
     ensures loans { KeepsLoans parts.old parts.new }
-    ensures falls { IfOk result (λ _. 2 * parts.new.eval.steps + length frames.new.items ≤ 2 * parts.old.eval.steps + length frames.old.items) }
-    ensures does { Runs S.NodeStore (λ a n. meaning.commands (context a n (spot_of rest.depth)) (rest_tree rest)) (stack frames.old.items) parts.old result (stack frames.new.items) parts.new }
+    ensures falls { IfOk result (λ _. 6 * parts.new.eval.steps + length machine.new.frames.items ≤ 6 * parts.old.eval.steps + length machine.old.frames.items) }
+    ensures does { Runs S.NodeStore (λ a n. meaning.commands (context a n (spot_of rest.spot.value)) (rest_tree rest)) (stack machine.old.frames.items) parts.old result (stack machine.new.frames.items) parts.new }
 {
     let at = rest.at;
     if at >= rest.line.commands.len() {
@@ -151,7 +150,7 @@ pub(crate) fn next_command<S: NodeStore>(
     }
     charge(parts)?;
     let behind = Rest { at: at + 1, ..rest };
-    leave(&behind, frames)?;
+    leave(&behind, machine)?;
     let command = &behind.line.commands[at].command;
-    conditional(alloc, parts, command, &behind, frames)
+    conditional(alloc, parts, command, &behind, machine)
 }

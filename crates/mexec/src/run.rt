@@ -8,10 +8,11 @@ ghost use Rattle.mexec.specs.Frames.{signal_of};
 ghost use Rattle.mexec.specs.Runs.{RunsText, ending_of};
 
 use crate::line::run_line;
+use crate::machine::Machine;
 use crate::signal::Signal;
 use mcommand::Parts;
 use moperator::Code;
-use mparse::{ParseFault, parse_line};
+use mparse::ParseFault;
 use mstore::NodeStore;
 use std::alloc::Global;
 
@@ -36,19 +37,24 @@ fn ending(signal: Signal) -> Ended
     }
 }
 
-/// Carries out a text.
+/// Carries out a text. What the machine kept before plays no part.
 ///
 /// It answers `Fault` with `Zsyntax`, and has done nothing, where the text has no tree; otherwise what was done before a code
 /// stands. After `Zmem` or `Zstore` the session and the output are any that the text could have had on its way.
-pub fn run_text<S: NodeStore>(alloc: Global, parts: &mut Parts<S>, text: &[u8]) -> Ended
+pub fn run_text<S: NodeStore>(
+    alloc: Global,
+    parts: &mut Parts<S>,
+    machine: &mut Machine,
+    text: &[u8],
+) -> Ended
     ensures loans { KeepsLoans parts.old parts.new }
     ensures does { RunsText S.NodeStore (line_at text.now) parts.old result parts.new }
     ensures steady { S.steady → result ≢ Ended.Fault Zstore }
 {
-    match parse_line(alloc, text) {
+    match machine.trees.line(alloc, text) {
         Err(ParseFault::Syntax) => Ended::Fault(Code::Zsyntax),
         Err(ParseFault::Memory) => Ended::Fault(Code::Zmem),
-        Ok(line) => match run_line(alloc, parts, line) {
+        Ok(line) => match run_line(alloc, parts, line, machine) {
             Err(code) => Ended::Fault(code),
             Ok(signal) => ending(signal),
         },

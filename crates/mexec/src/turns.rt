@@ -13,6 +13,7 @@ ghost use Rattle.mexec.specs.Frames.{Runs, commands_from, loop_before as the_loo
 
 use crate::commands::charge;
 use crate::frames::{Frame, Rest, Turns};
+use crate::machine::Machine;
 use crate::signal::Signal;
 use mcommand::{Course, Parts};
 use meval::Depth;
@@ -63,29 +64,25 @@ fn advance<S: NodeStore>(parts: &mut Parts<S>, index: &Name, course: Course) -> 
 
 // The body of a turn.
 fn body(turns: &Turns) -> Result<Rest, AllocError>
-    ensures { IfOk result (λ rest. view (frame.Rest rest) ≡ Rests (spot_of turns.now.depth) (turning turns.now).body) }
+    ensures { IfOk result (λ rest. view (frame.Rest rest) ≡ Rests (spot_of turns.now.body.spot.value) (turning turns.now).body) }
 {
-    Ok(Rest {
-        depth: turns.depth,
-        line: turns.line.clone()?,
-        at: turns.at,
-    })
+    turns.body.copy()
 }
 
 // A turn, which costs a step.
 pub(crate) fn begin_turn<S: NodeStore>(
     parts: &mut Parts<S>,
     turns: Box<Turns>,
-    frames: &mut Vec<Frame>,
+    machine: &mut Machine,
 ) -> Result<Signal, Code>
     ensures loans { KeepsLoans parts.old parts.new }
-    ensures falls { IfOk result (λ _. 2 * parts.new.eval.steps + length frames.new.items ≤ 2 * parts.old.eval.steps + length frames.old.items) }
-    ensures does { Runs S.NodeStore (λ a n. meaning.begin_turn (context a n (spot_of turns.value.depth)) (turning turns.value)) (stack frames.old.items) parts.old result (stack frames.new.items) parts.new }
+    ensures falls { IfOk result (λ _. 6 * parts.new.eval.steps + length machine.new.frames.items ≤ 6 * parts.old.eval.steps + length machine.old.frames.items) }
+    ensures does { Runs S.NodeStore (λ a n. meaning.begin_turn (context a n (spot_of turns.value.body.spot.value)) (turning turns.value)) (stack machine.old.frames.items) parts.old result (stack machine.new.frames.items) parts.new }
 {
     charge(parts)?;
     let body = body(&turns)?;
-    frames.push(Frame::Turns(turns))?;
-    frames.push(Frame::Rest(body))?;
+    machine.frames.push(Frame::Turns(turns))?;
+    machine.frames.push(Frame::Rest(body))?;
     Ok(Signal::GoOn)
 }
 
@@ -96,16 +93,16 @@ pub(crate) fn next_parameter<S: NodeStore>(
     index: &Name,
     parameters: &[Parameter],
     turns: Turns,
-    frames: &mut Vec<Frame>,
+    machine: &mut Machine,
 ) -> Result<Signal, Code>
-    requires { the_loop_before turns.line.value turns.at ≡ (index.now, parameters.now) }
+    requires { the_loop_before turns.body.line.value turns.body.at ≡ (index.now, parameters.now) }
     ensures loans { KeepsLoans parts.old parts.new }
-    ensures falls { IfOk result (λ _. 2 * parts.new.eval.steps + length frames.new.items ≤ 2 * parts.old.eval.steps + length frames.old.items) }
-    ensures does { Runs S.NodeStore (λ a n. meaning.next_parameter (context a n (spot_of turns.depth)) index.now (commands_from turns.line.value turns.at) (map parameter_tree (drop turns.parameter parameters.now))) (stack frames.old.items) parts.old result (stack frames.new.items) parts.new }
+    ensures falls { IfOk result (λ _. 6 * parts.new.eval.steps + length machine.new.frames.items ≤ 6 * parts.old.eval.steps + length machine.old.frames.items) }
+    ensures does { Runs S.NodeStore (λ a n. meaning.next_parameter (context a n (spot_of turns.body.spot.value)) index.now (commands_from turns.body.line.value turns.body.at) (map parameter_tree (drop turns.parameter parameters.now))) (stack machine.old.frames.items) parts.old result (stack machine.new.frames.items) parts.new }
 {
     let mut next = turns.parameter;
     while next < parameters.len() {
-        match start(alloc, parts, turns.depth, index, &parameters[next])? {
+        match start(alloc, parts, turns.body.spot.depth, index, &parameters[next])? {
             None => next += 1,
             Some(course) => {
                 let turns = Turns {
@@ -114,7 +111,7 @@ pub(crate) fn next_parameter<S: NodeStore>(
                     ..turns
                 };
                 let turns = Box::new(alloc, turns)?;
-                return begin_turn(parts, turns, frames);
+                return begin_turn(parts, turns, machine);
             }
         }
     }
@@ -126,16 +123,16 @@ fn further<S: NodeStore>(
     alloc: Global,
     parts: &mut Parts<S>,
     turns: Turns,
-    frames: &mut Vec<Frame>,
+    machine: &mut Machine,
 ) -> Result<Signal, Code>
     ensures loans { KeepsLoans parts.old parts.new }
-    ensures falls { IfOk result (λ _. 2 * parts.new.eval.steps + length frames.new.items ≤ 2 * parts.old.eval.steps + length frames.old.items) }
-    ensures does { Runs S.NodeStore (λ a n. meaning.next_parameter (context a n (spot_of turns.depth)) (turning turns).index (turning turns).body (turning turns).parameters) (stack frames.old.items) parts.old result (stack frames.new.items) parts.new }
+    ensures falls { IfOk result (λ _. 6 * parts.new.eval.steps + length machine.new.frames.items ≤ 6 * parts.old.eval.steps + length machine.old.frames.items) }
+    ensures does { Runs S.NodeStore (λ a n. meaning.next_parameter (context a n (spot_of turns.body.spot.value)) (turning turns).index (turning turns).body (turning turns).parameters) (stack machine.old.frames.items) parts.old result (stack machine.new.frames.items) parts.new }
 {
-    let line = turns.line.clone()?;
-    match loop_before(&line, turns.at) {
+    let line = turns.body.line.clone()?;
+    match loop_before(&line, turns.body.at) {
         None => Err(Code::Zmem),
-        Some((index, parameters)) => next_parameter(alloc, parts, index, parameters, turns, frames),
+        Some((index, parameters)) => next_parameter(alloc, parts, index, parameters, turns, machine),
     }
 }
 
@@ -148,7 +145,7 @@ fn goes_on<S: NodeStore>(parts: &mut Parts<S>, turns: &Turns) -> Result<bool, Co
     if let Course::Forever = turns.course {
         return Ok(true);
     }
-    match loop_before(&turns.line, turns.at) {
+    match loop_before(&turns.body.line, turns.body.at) {
         // a FOR with another course has an index
         None => Err(Code::Zmem),
         Some((index, _)) => advance(parts, index, turns.course),
@@ -160,17 +157,17 @@ fn after_course<S: NodeStore>(
     alloc: Global,
     parts: &mut Parts<S>,
     turns: Box<Turns>,
-    frames: &mut Vec<Frame>,
+    machine: &mut Machine,
 ) -> Result<Signal, Code>
     ensures loans { KeepsLoans parts.old parts.new }
-    ensures falls { IfOk result (λ _. 2 * parts.new.eval.steps + length frames.new.items ≤ 2 * parts.old.eval.steps + length frames.old.items) }
-    ensures does { Runs S.NodeStore (λ a n. meaning.after_course (context a n (spot_of turns.value.depth)) (turning turns.value) (course_view turns.value.course)) (stack frames.old.items) parts.old result (stack frames.new.items) parts.new }
+    ensures falls { IfOk result (λ _. 6 * parts.new.eval.steps + length machine.new.frames.items ≤ 6 * parts.old.eval.steps + length machine.old.frames.items) }
+    ensures does { Runs S.NodeStore (λ a n. meaning.after_course (context a n (spot_of turns.value.body.spot.value)) (turning turns.value) (course_view turns.value.course)) (stack machine.old.frames.items) parts.old result (stack machine.new.frames.items) parts.new }
 {
     let goes_on = goes_on(parts, &turns)?;
     if goes_on {
-        begin_turn(parts, turns, frames)
+        begin_turn(parts, turns, machine)
     } else {
-        further(alloc, parts, Box::into_inner(turns), frames)
+        further(alloc, parts, Box::into_inner(turns), machine)
     }
 }
 
@@ -180,16 +177,17 @@ pub(crate) fn after_turn<S: NodeStore>(
     parts: &mut Parts<S>,
     turns: Box<Turns>,
     signal: Signal,
-    frames: &mut Vec<Frame>,
+    machine: &mut Machine,
 ) -> Result<Signal, Code>
     ensures loans { KeepsLoans parts.old parts.new }
-    ensures falls { IfOk result (λ _. 2 * parts.new.eval.steps + length frames.new.items ≤ 2 * parts.old.eval.steps + length frames.old.items) }
-    ensures does { Runs S.NodeStore (λ a n. meaning.after_turn (context a n (spot_of turns.value.depth)) (turning turns.value) (signal_of signal)) (stack frames.old.items) parts.old result (stack frames.new.items) parts.new }
+    ensures falls { IfOk result (λ _. 6 * parts.new.eval.steps + length machine.new.frames.items ≤ 6 * parts.old.eval.steps + length machine.old.frames.items) }
+    ensures does { Runs S.NodeStore (λ a n. meaning.after_turn (context a n (spot_of turns.value.body.spot.value)) (turning turns.value) (signal_of signal)) (stack machine.old.frames.items) parts.old result (stack machine.new.frames.items) parts.new }
 {
     match signal {
-        Signal::GoOn => after_course(alloc, parts, turns, frames),
-        Signal::Skips => after_course(alloc, parts, turns, frames),
+        Signal::GoOn => after_course(alloc, parts, turns, machine),
+        Signal::Skips => after_course(alloc, parts, turns, machine),
         Signal::Quits => Ok(Signal::Skips),
+        Signal::Goes(target) => Ok(Signal::Goes(target)),
         Signal::Halts => Ok(Signal::Halts),
     }
 }

@@ -14,9 +14,9 @@ abbrev pub invariant-loop-next : goal.invariant-loop-next
 invariant-loop-next g l = record {
   loans : KeepsLoans l.fn.parts l.parts;
   fewer : l.parts.eval.steps ≤ l.fn.parts.eval.steps;
-  frames : l.frames ≡ l.fn.frames;
-  leads : (r : Result Signal Code) (fs : List View) (p : Parts _) → Runs g.S.NodeStore (λ a n. meaning.next_parameter (context a n (spot_of l.turns.depth)) l.index (commands_from l.turns.line.value l.turns.at) (map parameter_tree (drop l.next l.parameters))) (stack l.fn.frames.items) l.parts r fs p
-      → Runs g.S.NodeStore (λ a n. meaning.next_parameter (context a n (spot_of l.turns.depth)) l.index (commands_from l.turns.line.value l.turns.at) (map parameter_tree (drop l.turns.parameter l.parameters))) (stack l.fn.frames.items) l.fn.parts r fs p;
+  machine : l.machine ≡ l.fn.machine;
+  leads : (r : Result Signal Code) (fs : List View) (p : Parts _) → Runs g.S.NodeStore (λ a n. meaning.next_parameter (context a n (spot_of l.turns.body.spot.value)) l.index (commands_from l.turns.body.line.value l.turns.body.at) (map parameter_tree (drop l.next l.parameters))) (stack l.fn.machine.frames.items) l.parts r fs p
+      → Runs g.S.NodeStore (λ a n. meaning.next_parameter (context a n (spot_of l.turns.body.spot.value)) l.index (commands_from l.turns.body.line.value l.turns.body.at) (map parameter_tree (drop l.turns.parameter l.parameters))) (stack l.fn.machine.frames.items) l.fn.parts r fs p;
 }
 
 abbrev pub decreases-loop-next : goal.decreases-loop-next

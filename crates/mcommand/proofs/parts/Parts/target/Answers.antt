@@ -9,4 +9,4 @@ returns-in_err-copy-clause-does g c =
 
 pub returns-clause-does : goal.returns-clause-does
 returns-clause-does g c =
-    does_then (λ i lines. target_among lines c.args.dots (entry_tree c.args.entry.now)) c.in_ok-copy.ensures.does (does_yielded c.among.ensures)
+    does_then (λ i lines. target_among lines c.args.dots (entry_tree c.args.entry.now)) c.in_ok-copy.ensures.does (does_yielded c.among.ensures.does)

@@ -1,0 +1,59 @@
+-- An argument of a command, as the code does it: up to where it enters lines or a text, and then that.
+use Rattle.std.specs.Prelude.{ℕ, cond, List, [], ◌∷◌, Result, Ok, Err, Bool, true, false}
+use Rattle.mspec.specs.Act.{Text, Act, ◌>>=◌, give}
+use Rattle.mgrammar.specs.Grammar.{ExprTree, EntryTree, ArgTree, do_one, executed}
+use Rattle.mmeaning.specs.LineMeaning as meaning
+use Rattle.mmeaning.specs.LineMeaning.{Spot, Go_on, Context, inside_of, holds, after, argument, arguments, doing, executing}
+use Rattle.mmeaning.specs.Frames.{View, Lists}
+use Rattle.mtree.specs.Tree.{entry_tree, expr_tree}
+use Rattle.moperator.specs.declared.code.Code.{Code}
+use Rattle.mexec.specs.declared.arguments.Begun.{Begun}
+use Rattle.mexec.specs.declared.arguments.Begun.TheVariants as begun
+use Rattle.mexec.specs.declared.signal.Signal.{Signal}
+use Rattle.mexec.specs.declared.signal.Signal.TheVariants as signal
+use Rattle.mexec.specs.Frames.{signal_of}
+
+-- what an argument leaves to be done: nothing, once it has given its signal; the lines from one on; or a text
+pub data Start : Type 0 where
+  gave : meaning.Signal → Start
+  into_lines : EntryTree → Start
+  into_text : ExprTree → Start
+
+abbrev pub started : Context → ArgTree → Act Start
+started x (do_one e c) = holds (inside_of x) c >>= (λ b. give (cond b (into_lines e) (gave Go_on)))
+started x (executed e c) = holds (inside_of x) c >>= (λ b. give (cond b (into_text e) (gave Go_on)))
+started x a = argument x a >>= (λ s. give (gave s))
+
+abbrev pub finished : Context → Start → Act meaning.Signal
+finished x (gave s) = give s
+finished x (into_lines e) = doing x e
+finished x (into_text e) = executing x e
+
+-- the same of the program
+abbrev pub start_of : Begun → Start
+start_of (begun.Gave s) = gave (signal_of s)
+start_of (begun.Lines e) = into_lines (entry_tree e.now)
+start_of (begun.Text e) = into_text (expr_tree e.now)
+
+-- an argument that gave its signal
+abbrev pub given : Result Signal Code → Result Begun Code
+given (Ok s) = Ok (begun.Gave s)
+given (Err c) = Err c
+
+-- one that enters where its condition holds
+abbrev pub where_applies : Result Bool Code → Begun → Result Begun Code
+where_applies (Ok true) b = Ok b
+where_applies (Ok false) b = Ok (begun.Gave signal.GoOn)
+where_applies (Err c) b = Err c
+
+-- the rest of a command's arguments on top of frames, where there are some
+abbrev pub listing : Spot → List ArgTree → List View → List View
+listing p [] fs = fs
+listing p (a ∷ rest) fs = Lists p (a ∷ rest) ∷ fs
+
+-- what is entered, and then the arguments behind it
+abbrev pub lines_then : Context → EntryTree → List ArgTree → Act meaning.Signal
+lines_then x e rest = doing x e >>= (λ s. after s (arguments x rest))
+
+abbrev pub text_then : Context → ExprTree → List ArgTree → Act meaning.Signal
+text_then x e rest = executing x e >>= (λ s. after s (arguments x rest))

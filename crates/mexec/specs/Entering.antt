@@ -1,0 +1,39 @@
+-- Lines and texts that are entered, as the code does it: the place of a line first, then its step, then its commands.
+use Rattle.std.specs.Prelude.{ℕ, ◌+◌, cond, nat_lt, ◌==◌, List, [], ◌∷◌, drop, Option, Some, None}
+use Rattle.mspec.specs.Act.{Text, Act, ◌>>=◌, ◌>>◌, give, charge}
+use Rattle.mgrammar.specs.RoutineLine.{BodyTree, short, spaced_out, dots_of}
+use Rattle.mmeaning.specs.Expression.{Depth}
+use Rattle.mmeaning.specs.Levels.{Spot, Target, Closing, commands_of}
+use Rattle.mmeaning.specs.LineMeaning.{Signal, Context, line_entered, closed}
+use Rattle.mmeaning.specs.Frames.{View, Rests, Levels}
+
+-- the place of the line that is entered, where these stand from a place on; none where the level ends
+abbrev pub reached : ℕ → ℕ → List Text → Act (Option ℕ)
+reached dots n [] = give None
+reached dots n (text ∷ rest) = cond (nat_lt dots (dots_of text)) (charge >> reached dots (n + 1) rest) (give (cond (dots_of text == dots) (Some n) None))
+
+-- from the line that comes next on
+abbrev pub next_reached : ℕ → List Text → Option ℕ → Act (Option ℕ)
+next_reached dots copy None = give None
+next_reached dots copy (Some n) = reached dots n (drop n copy)
+
+-- a line is entered, and then its level closes or goes on
+abbrev pub entering : Context → Closing → ℕ → Text → Act Signal
+entering x c n text = charge >> (line_entered x n text >>= closed c)
+
+-- the same level, where another line comes next
+abbrev pub at_next : Spot → ℕ → Spot
+at_next p n = record p { level = record p.level { next = Some n } }
+
+-- and where a GOTO leads
+abbrev pub at_target : Spot → Target → Spot
+at_target p t = record p { level = record p.level { copy = t.copy; next = Some t.line } }
+
+-- a text of XECUTE stands in a level that has the lines of its own, so deep
+abbrev pub text_spot : Depth → Spot → Spot
+text_spot depth p = record { depth = depth; level = record { copy = p.level.copy; next = None; dots = 0 } }
+
+-- what is behind a label, on top of its level
+abbrev pub on_body : Spot → Closing → BodyTree → List View → List View
+on_body p c (short comment) fs = Levels p c ∷ fs
+on_body p c (spaced_out dots l) fs = Rests p (commands_of l) ∷ Levels p c ∷ fs

@@ -1,0 +1,137 @@
+// What opens a level: DO with an argument and without one, and XECUTE.
+ghost use Rattle.std.specs.Prelude.{◌≡◌, ◌≤◌, ◌+◌, ◌*◌, None, ◌∷◌, length, IfOk, OnOk};
+ghost use Rattle.mmeaning.specs.Levels.{a_level_free, leaves};
+ghost use Rattle.mmeaning.specs.LineMeaning as meaning;
+ghost use Rattle.mmeaning.specs.LineMeaning.{context};
+ghost use Rattle.mmeaning.specs.Frames.{Rests, Levels};
+ghost use Rattle.mtree.specs.Tree.{entry_tree, expr_tree};
+ghost use Rattle.meval.specs.Evaluates.{depth_of};
+ghost use Rattle.mcommand.specs.Does.{DoesAt, KeepsLoans};
+ghost use Rattle.mexec.specs.Frames.{Runs, stack, spot_of, commands_from};
+ghost use Rattle.mexec.specs.Entering.{text_spot};
+
+use crate::frames::{Closing, Frame, Level, Rest, Spot};
+use crate::levels::{enter_line, lines_next};
+use crate::machine::Machine;
+use crate::reading::read_line;
+use crate::signal::Signal;
+use mcommand::Parts;
+use meval::Depth;
+use moperator::Code;
+use mstore::NodeStore;
+use mtree::{Entry, Expr, Line};
+use std::alloc::{AllocError, Global};
+use std::rc::Rc;
+
+// One level more, where one is free.
+fn one_deeper<S: NodeStore>(parts: &mut Parts<S>, depth: Depth) -> Result<Depth, Code>
+    ensures loans { KeepsLoans parts.old parts.new }
+    ensures fewer { parts.new.eval.steps ≤ parts.old.eval.steps }
+    ensures deeper { IfOk result (λ there. depth_of there ≡ record { levels = (depth_of depth).levels + 1; indirections = (depth_of depth).indirections }) }
+    ensures does { DoesAt S.NodeStore (λ a n. a_level_free (depth_of depth)) (λ there. tt) parts.old result parts.new }
+{
+    parts.eval.depth = depth;
+    parts.eval.a_level_free()?;
+    Ok(Depth {
+        levels: depth.levels + 1,
+        indirections: depth.indirections,
+    })
+}
+
+// DO with an argument: the lines from the one that it names on. The first of them is entered, which costs a step.
+pub(crate) fn doing<S: NodeStore>(
+    alloc: Global,
+    parts: &mut Parts<S>,
+    spot: &Spot,
+    entry: &Entry,
+    machine: &mut Machine,
+) -> Result<Signal, Code>
+    ensures loans { KeepsLoans parts.old parts.new }
+    ensures falls { IfOk result (λ _. 6 * parts.new.eval.steps + length machine.new.frames.items + 1 ≤ 6 * parts.old.eval.steps + length machine.old.frames.items) }
+    ensures does { Runs S.NodeStore (λ a n. meaning.doing (context a n (spot_of spot.now)) (entry_tree entry.now)) (stack machine.old.frames.items) parts.old result (stack machine.new.frames.items) parts.new }
+{
+    let depth = one_deeper(parts, spot.depth)?;
+    let target = parts.target(alloc, &spot.level.copy, 0, entry)?;
+    parts.eval.open_level()?;
+    let line = target.line;
+    let level = Level {
+        copy: target.copy,
+        next: Some(line),
+        dots: 0,
+    };
+    let inner = Spot { depth, level };
+    enter_line(alloc, parts, &inner, Closing::Leaves, line, machine)
+}
+
+// DO without arguments: the lines behind this one that have one dot more. $TEST is then what it was.
+pub(crate) fn doing_block<S: NodeStore>(
+    alloc: Global,
+    parts: &mut Parts<S>,
+    spot: &Spot,
+    machine: &mut Machine,
+) -> Result<Signal, Code>
+    ensures loans { KeepsLoans parts.old parts.new }
+    ensures falls { IfOk result (λ _. 6 * parts.new.eval.steps + length machine.new.frames.items ≤ 6 * parts.old.eval.steps + length machine.old.frames.items) }
+    ensures does { Runs S.NodeStore (λ a n. meaning.doing_block (context a n (spot_of spot.now))) (stack machine.old.frames.items) parts.old result (stack machine.new.frames.items) parts.new }
+{
+    let depth = one_deeper(parts, spot.depth)?;
+    let test = parts.eval.test();
+    // each dot is a level, and there are 256 at most
+    let Some(dots) = spot.level.dots.checked_add(1) else {
+        return Err(Code::Zmem);
+    };
+    let copy = spot.level.copy.clone()?;
+    parts.eval.open_level()?;
+    let level = Level {
+        copy,
+        next: spot.level.next,
+        dots,
+    };
+    let inner = Spot { depth, level };
+    lines_next(alloc, parts, &inner, Closing::Restores(test), machine)
+}
+
+// Leaves the commands of a text on the frames, on top of their level. Labels are sought where those of its line are.
+fn enter_text(
+    alloc: Global,
+    depth: Depth,
+    spot: &Spot,
+    line: Rc<Line>,
+    machine: &mut Machine,
+) -> Result<(), AllocError>
+    ensures frames { OnOk result (stack machine.new.frames.items ≡ Rests (text_spot (depth_of depth) (spot_of spot.now)) (commands_from line.value 0) ∷ Levels (text_spot (depth_of depth) (spot_of spot.now)) leaves ∷ stack machine.old.frames.items) }
+    ensures most { OnOk result (length machine.new.frames.items ≤ length machine.old.frames.items + 2) }
+{
+    let level = Level {
+        copy: spot.level.copy.clone()?,
+        next: None,
+        dots: 0,
+    };
+    let spot = Rc::new(alloc, Spot { depth, level })?;
+    let level = Frame::Level(spot.clone()?, Closing::Leaves);
+    machine.frames.push(level)?;
+    machine.frames.push(Frame::Rest(Rest { spot, line, at: 0 }))?;
+    Ok(())
+}
+
+// XECUTE: a text, in a level of its own.
+pub(crate) fn executing<S: NodeStore>(
+    alloc: Global,
+    parts: &mut Parts<S>,
+    spot: &Spot,
+    e: &Expr,
+    machine: &mut Machine,
+) -> Result<Signal, Code>
+    ensures loans { KeepsLoans parts.old parts.new }
+    ensures falls { IfOk result (λ _. 6 * parts.new.eval.steps + length machine.new.frames.items + 1 ≤ 6 * parts.old.eval.steps + length machine.old.frames.items) }
+    ensures does { Runs S.NodeStore (λ a n. meaning.executing (context a n (spot_of spot.now)) (expr_tree e.now)) (stack machine.old.frames.items) parts.old result (stack machine.new.frames.items) parts.new }
+{
+    parts.eval.depth = spot.depth;
+    let text = parts.eval.eval(alloc, e)?;
+    let depth = one_deeper(parts, spot.depth)?;
+    let text = text.into_text(alloc)?;
+    let line = read_line(alloc, &mut machine.trees, text.as_bytes())?;
+    parts.eval.open_level()?;
+    enter_text(alloc, depth, spot, line, machine)?;
+    Ok(Signal::GoOn)
+}

@@ -1,0 +1,212 @@
+// The lines of a level, one after another, until it closes.
+ghost use Rattle.std.specs.Prelude.{◌≡◌, ◌≤◌, ◌<◌, ◌+◌, ◌*◌, Ok, Some, [], get_or, drop, length, IfOk, IfSome, OnOk};
+ghost use Rattle.mmeaning.specs.Levels as levels;
+ghost use Rattle.mmeaning.specs.LineMeaning as meaning;
+ghost use Rattle.mmeaning.specs.Frames.{frame, Levels};
+ghost use Rattle.mmeaning.specs.LineMeaning.{context, Go_on};
+ghost use Rattle.mtree.specs.Tree.{body_tree};
+ghost use Rattle.mcommand.specs.Targets.{target_view};
+ghost use Rattle.mcommand.specs.Does.{DoesAt, KeepsLoans};
+ghost use Rattle.mexec.specs.Frames.{Runs, stack, signal_of, spot_of, closing_of};
+ghost use Rattle.mexec.specs.Entering.{reached as first_reached, next_reached, entering, at_next, at_target, on_body};
+
+use crate::commands::charge;
+use crate::frames::{Closing, Frame, Level, Rest, Spot};
+use crate::machine::Machine;
+use crate::reading::read_routine_line;
+use crate::signal::Signal;
+use mcommand::{Parts, Target};
+use moperator::Code;
+use mparse::dots_of;
+use mstore::NodeStore;
+use mtree::Body;
+use std::alloc::{AllocError, Global};
+use std::rc::Rc;
+
+// Closes a level.
+fn close<S: NodeStore>(parts: &mut Parts<S>, closing: Closing)
+    ensures loans { KeepsLoans parts.old parts.new }
+    ensures fewer { parts.new.eval.steps ≤ parts.old.eval.steps }
+    ensures does { DoesAt S.NodeStore (λ a n. levels.closing (closing_of closing)) (λ u. u) parts.old (Ok tt) parts.new }
+{
+    match closing {
+        Closing::Stays => {}
+        Closing::Leaves => parts.eval.close_level(),
+        Closing::Restores(test) => {
+            parts.eval.close_level();
+            parts.eval.set_test(test);
+        }
+    }
+}
+
+// Closes a level that is done; what is below goes on with this signal.
+fn ended<S: NodeStore>(
+    parts: &mut Parts<S>,
+    closing: Closing,
+    signal: Signal,
+) -> Result<Signal, Code>
+    ensures loans { KeepsLoans parts.old parts.new }
+    ensures fewer { parts.new.eval.steps ≤ parts.old.eval.steps }
+    ensures does { DoesAt S.NodeStore (λ a n. meaning.closed (closing_of closing) (signal_of signal)) signal_of parts.old result parts.new }
+{
+    close(parts, closing);
+    Ok(signal)
+}
+
+// The place of the line that is entered, from one on; none where the level ends. A line that is passed over costs a step.
+fn reached<S: NodeStore>(
+    parts: &mut Parts<S>,
+    level: &Level,
+    from: usize,
+) -> Result<Option<usize>, Code>
+    ensures loans { KeepsLoans parts.old parts.new }
+    ensures fewer { parts.new.eval.steps ≤ parts.old.eval.steps }
+    ensures within { IfOk result (λ found. IfSome found (λ at. at < length level.now.copy.value.items)) }
+    ensures does { DoesAt S.NodeStore (λ a n. first_reached level.now.dots from (drop from level.now.copy.value.items)) (λ found. found) parts.old result parts.new }
+{
+    let mut at = from;
+    while at < level.copy.len() {
+        let dots = dots_of(level.copy[at].as_bytes());
+        if dots <= level.dots {
+            return Ok((dots == level.dots).then_some(at));
+        }
+        charge(parts)?;
+        at += 1;
+    }
+    Ok(None)
+}
+
+// The place of the line that is entered next; none where the level ends.
+fn next_line<S: NodeStore>(parts: &mut Parts<S>, level: &Level) -> Result<Option<usize>, Code>
+    ensures loans { KeepsLoans parts.old parts.new }
+    ensures fewer { parts.new.eval.steps ≤ parts.old.eval.steps }
+    ensures within { IfOk result (λ found. IfSome found (λ at. at < length level.now.copy.value.items)) }
+    ensures does { DoesAt S.NodeStore (λ a n. next_reached level.now.dots level.now.copy.value.items level.now.next) (λ found. found) parts.old result parts.new }
+{
+    match level.next {
+        None => Ok(None),
+        Some(from) => reached(parts, level, from),
+    }
+}
+
+// The same level, where another line comes next.
+fn coming_next(spot: &Spot, next: usize) -> Result<Spot, AllocError>
+    ensures { IfOk result (λ there. spot_of there ≡ at_next (spot_of spot.now) next) }
+{
+    Ok(Spot {
+        depth: spot.depth,
+        level: Level {
+            copy: spot.level.copy.clone()?,
+            next: Some(next),
+            dots: spot.level.dots,
+        },
+    })
+}
+
+// Leaves what is behind a label on the frames, on top of its level.
+fn enter_body(
+    spot: Rc<Spot>,
+    closing: Closing,
+    body: &Body,
+    machine: &mut Machine,
+) -> Result<(), AllocError>
+    ensures frames { OnOk result (stack machine.new.frames.items ≡ on_body (spot_of spot.value) (closing_of closing) (body_tree body.now) (stack machine.old.frames.items)) }
+    ensures most { OnOk result (length machine.new.frames.items ≤ length machine.old.frames.items + 2) }
+{
+    let level = Frame::Level(spot.clone()?, closing);
+    machine.frames.push(level)?;
+    match body {
+        Body::Short(_) => Ok(()),
+        Body::Spaced(_, line) => {
+            let line = line.clone()?;
+            machine.frames.push(Frame::Rest(Rest { spot, line, at: 0 }))?;
+            Ok(())
+        }
+    }
+}
+
+// Enters a line of a level, which costs a step. It is read where it is reached.
+pub(crate) fn enter_line<S: NodeStore>(
+    alloc: Global,
+    parts: &mut Parts<S>,
+    spot: &Spot,
+    closing: Closing,
+    at: usize,
+    machine: &mut Machine,
+) -> Result<Signal, Code>
+    requires { at < length spot.now.level.copy.value.items }
+    ensures loans { KeepsLoans parts.old parts.new }
+    ensures falls { IfOk result (λ _. 6 * parts.new.eval.steps + length machine.new.frames.items + 1 ≤ 6 * parts.old.eval.steps + length machine.old.frames.items) }
+    ensures does { Runs S.NodeStore (λ a n. entering (context a n (spot_of spot.now)) (closing_of closing) at (get_or spot.now.level.copy.value.items at [])) (stack machine.old.frames.items) parts.old result (stack machine.new.frames.items) parts.new }
+{
+    charge(parts)?;
+    let text = spot.level.copy[at].as_bytes();
+    let line = read_routine_line(alloc, &mut machine.trees, text)?;
+    let entered = Rc::new(alloc, coming_next(spot, at + 1)?)?;
+    enter_body(entered, closing, &line.body, machine)?;
+    Ok(Signal::GoOn)
+}
+
+// Goes to the line that comes next in a level, or closes it.
+pub(crate) fn lines_next<S: NodeStore>(
+    alloc: Global,
+    parts: &mut Parts<S>,
+    spot: &Spot,
+    closing: Closing,
+    machine: &mut Machine,
+) -> Result<Signal, Code>
+    ensures loans { KeepsLoans parts.old parts.new }
+    ensures falls { IfOk result (λ _. 6 * parts.new.eval.steps + length machine.new.frames.items ≤ 6 * parts.old.eval.steps + length machine.old.frames.items) }
+    ensures does { Runs S.NodeStore (λ a n. frame a n (Levels (spot_of spot.now) (closing_of closing)) Go_on) (stack machine.old.frames.items) parts.old result (stack machine.new.frames.items) parts.new }
+{
+    match next_line(parts, &spot.level)? {
+        None => ended(parts, closing, Signal::GoOn),
+        Some(at) => enter_line(alloc, parts, spot, closing, at, machine),
+    }
+}
+
+// What follows a GOTO: the line that it names, in the same level.
+fn go_to<S: NodeStore>(
+    alloc: Global,
+    parts: &mut Parts<S>,
+    spot: &Spot,
+    closing: Closing,
+    target: Target,
+    machine: &mut Machine,
+) -> Result<Signal, Code>
+    ensures loans { KeepsLoans parts.old parts.new }
+    ensures falls { IfOk result (λ _. 6 * parts.new.eval.steps + length machine.new.frames.items ≤ 6 * parts.old.eval.steps + length machine.old.frames.items) }
+    ensures does { Runs S.NodeStore (λ a n. frame a n (Levels (at_target (spot_of spot.now) (target_view target)) (closing_of closing)) Go_on) (stack machine.old.frames.items) parts.old result (stack machine.new.frames.items) parts.new }
+{
+    let there = Spot {
+        depth: spot.depth,
+        level: Level {
+            copy: target.copy,
+            next: Some(target.line),
+            dots: spot.level.dots,
+        },
+    };
+    lines_next(alloc, parts, &there, closing, machine)
+}
+
+// What follows a line of a level that went on so.
+pub(crate) fn after_level<S: NodeStore>(
+    alloc: Global,
+    parts: &mut Parts<S>,
+    spot: &Spot,
+    closing: Closing,
+    signal: Signal,
+    machine: &mut Machine,
+) -> Result<Signal, Code>
+    ensures loans { KeepsLoans parts.old parts.new }
+    ensures falls { IfOk result (λ _. 6 * parts.new.eval.steps + length machine.new.frames.items ≤ 6 * parts.old.eval.steps + length machine.old.frames.items) }
+    ensures does { Runs S.NodeStore (λ a n. frame a n (Levels (spot_of spot.now) (closing_of closing)) (signal_of signal)) (stack machine.old.frames.items) parts.old result (stack machine.new.frames.items) parts.new }
+{
+    match signal {
+        Signal::GoOn => lines_next(alloc, parts, spot, closing, machine),
+        Signal::Skips => lines_next(alloc, parts, spot, closing, machine),
+        Signal::Quits => ended(parts, closing, Signal::GoOn),
+        Signal::Goes(target) => go_to(alloc, parts, spot, closing, target, machine),
+        Signal::Halts => ended(parts, closing, Signal::Halts),
+    }
+}

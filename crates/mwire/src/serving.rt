@@ -133,7 +133,9 @@ fn answer_line<S: NodeStore, W: Write>(
         Fate::Unreadable => write_whole(writer, b"?!ZWIRE\n"),
         Fate::Runs(terminal, text) => {
             let reply = world.line(terminal, text);
-            show_reply(room, terminal, &reply)?;
+            let shown = show_reply(room, terminal, &reply);
+            world.reuse(reply);
+            shown?;
             write_whole(writer, room)
         }
     }

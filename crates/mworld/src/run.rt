@@ -1,5 +1,5 @@
 // A text, run over a session.
-ghost use Rattle.std.specs.Prelude.{◌≢◌};
+ghost use Rattle.std.specs.Prelude.{◌≡◌, ◌≢◌, []};
 ghost use Rattle.moperator.specs.declared.code.Code.TheVariants.{Zstore};
 ghost use Rattle.mworld.specs.Ran.{Ran};
 
@@ -10,6 +10,16 @@ use mgrant::{AccountId, Settings};
 use moperator::Code;
 use mstore::NodeStore;
 use std::alloc::Global;
+use std::mem::replace;
+
+// The room for an output, which is empty.
+fn taken(alloc: Global, room: &mut Vec<u8>) -> Vec<u8>
+    ensures { result.items ≡ [] }
+{
+    let mut taken = replace(room, Vec::new(alloc));
+    taken.clear();
+    taken
+}
 
 // Runs a text of a terminal with the steps of its account, as a level of its own.
 pub(crate) fn run_over<S: NodeStore>(
@@ -21,11 +31,12 @@ pub(crate) fn run_over<S: NodeStore>(
     session: &mut Session,
     store: &mut S,
     machine: &mut Machine,
+    room: &mut Vec<u8>,
 ) -> Reply
     ensures ran { Ran S.NodeStore settings.now terminal account text.now session.old store.old result session.new store.new }
     ensures steady { S.steady → result.ending ≢ Ended.Fault Zstore }
 {
-    let mut out = Vec::new(alloc);
+    let mut out = taken(alloc, room);
     let Ok(()) = session.locals.enter() else {
         return Reply {
             out,

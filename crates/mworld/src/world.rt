@@ -32,6 +32,8 @@ pub struct World<S> {
     store: S,
     // what lines of all accounts run with
     machine: Machine,
+    // room for the output of a line
+    room: Vec<u8>,
     alloc: Global,
 }
 
@@ -74,6 +76,7 @@ impl<S: NodeStore> World<S> {
             sessions: BTreeMap::new(alloc),
             store,
             machine,
+            room: Vec::new(alloc),
             alloc,
         })
     }
@@ -98,6 +101,14 @@ impl<S: NodeStore> World<S> {
             Ok(account) => self.run(terminal, account, text),
             Err(code) => Reply::refused(self.alloc, code),
         }
+    }
+
+    /// Takes the room of a reply back for the lines to come, so that they ask for none. Takes no memory.
+    pub fn reuse(&mut self, reply: Reply)
+        ensures server { server_of S.NodeStore self.new ≡ server_of S.NodeStore self.old }
+        ensures settings { settings_of self.new ≡ settings_of self.old }
+    {
+        self.room = reply.out;
     }
 
     // Makes a session for a terminal that has none.
@@ -151,6 +162,7 @@ impl<S: NodeStore> World<S> {
             session,
             &mut self.store,
             &mut self.machine,
+            &mut self.room,
         );
         if let Ended::Fault(code) = reply.ending {
             if loses_session(code) {

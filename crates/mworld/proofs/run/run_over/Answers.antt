@@ -13,5 +13,5 @@ returns-clause-ran g c =
     let session = sym loans.eval.session in
     let store = sym loans.eval.store in
     let out = sym loans.out in
-    ran_over c.run_text-ending.ensures.does c.steps_of-steps.ensures c.new-out.ensures.items
+    ran_over c.run_text-ending.ensures.does c.steps_of-steps.ensures c.taken-out.ensures
     (ap (λ locals. record { locals = locals; naked = c.args.session.now.naked; test = c.args.session.now.test }) c.in-Ok.ensures.ok) (search rules) (search rules) (search rules)

@@ -51,7 +51,7 @@ fn place_of(entry: &Entry, lines: &[Bytes7]) -> Option<usize>
 {
     lines
         .iter()
-        .rposition(|line| is_entry(entry, line.as_bytes()))
+        .position(|line| is_entry(entry, line.as_bytes()))
 }
 
 // The line that is meant, among these lines.

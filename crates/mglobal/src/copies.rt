@@ -1,6 +1,7 @@
 // Copies of routines.
-ghost use Rattle.std.specs.Prelude.{◌≡◌, ◌≢◌, ◌||◌, not, All, IfOk, IfSome};
+ghost use Rattle.std.specs.Prelude.{◌≡◌, ◌≢◌, ◌||◌, ◌∷◌, [], not, All, IfOk, IfSome};
 ghost use Rattle.mglobal.specs.Copies.{IsCopyIn, AreCopiesIn, IsApart};
+ghost use Rattle.mglobal.specs.Lines.{routine_at};
 ghost use Rattle.mspec.specs.Globals.{Globals, is_node_within, lines_of};
 ghost use Rattle.mspec.specs.KeyBytes.{IsAccountName};
 ghost use Rattle.mspec.specs.Names.{IsName};
@@ -9,7 +10,7 @@ use crate::bounds::key_of;
 use mkey::NodeKey;
 use mnum::Bytes7;
 use mstore::StoreFault;
-use std::alloc::Global;
+use std::alloc::{AllocError, Global};
 use std::rc::Rc;
 
 // The most copies that are kept: more routines than one that runs calls in turn, for the most part.
@@ -60,6 +61,26 @@ pub(crate) fn find(
     None
 }
 
+// The subscripts of the node above the lines of a routine.
+fn subs_above(alloc: Global, name: &Bytes7) -> Result<Vec<Bytes7>, AllocError>
+    ensures { IfOk result (λ subs. subs.items ≡ name.now ∷ []) }
+{
+    let mut subs = Vec::new(alloc);
+    subs.push(name.copy()?)?;
+    Ok(subs)
+}
+
+// The key of the node above the lines of a routine.
+fn key_above(alloc: Global, account: &Bytes7, name: &Bytes7) -> Result<NodeKey, StoreFault>
+    requires account { IsAccountName account.now }
+    requires name { IsName name.now }
+    ensures { IfOk result (λ key. key ≡ routine_at account.now name.now) }
+{
+    let global = Bytes7::from_slice(alloc, b"ROUTINE")?;
+    let subs = subs_above(alloc, name)?;
+    key_of(alloc, account, &global, &subs)
+}
+
 // A copy of a routine.
 fn copy_of(
     alloc: Global,
@@ -71,13 +92,10 @@ fn copy_of(
     requires name { IsName name.now }
     ensures { IfOk result (λ copy. (globals : Globals) → lines.now.value.items ≡ lines_of globals account.now name.now → IsCopyIn globals copy) }
 {
-    let global = Bytes7::from_slice(alloc, b"ROUTINE")?;
-    let mut subs = Vec::new(alloc);
-    subs.push(name.copy()?)?;
     Ok(RoutineCopy {
         account: account.copy()?,
         name: name.copy()?,
-        key: key_of(alloc, account, &global, &subs)?,
+        key: key_above(alloc, account, name)?,
         lines: lines.clone()?,
     })
 }

@@ -29,6 +29,9 @@ fn copies_are_kept(rt: HostRuntime) -> Result<(), Fail> {
     let changed = shared_routine(&mut store, alloc, &account, &name)?;
     assert_eq!(rt; Rc::strong_count(&changed), 2);
     store.kill(&line)?;
-    assert_eq!(rt; shared_routine(&mut store, alloc, &account, &name)?.len(), 0);
+    assert_eq!(rt;
+        shared_routine(&mut store, alloc, &account, &name)?.len(),
+        0
+    );
     Ok(())
 }

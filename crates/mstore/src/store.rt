@@ -95,8 +95,7 @@ pub trait NodeStore {
         requires name { IsName name.now }
         requires lines { sound → lines.now.value.items ≡ lines_of (content self.old) account.now name.now }
         ensures same { sound → content self.new ≡ content self.old }
-    {
-    }
+    {}
 
     ghost steady_is_sound: { steady → sound };
 }

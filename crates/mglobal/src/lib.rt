@@ -5,7 +5,12 @@
 
 mod ask;
 mod bounds;
+mod copies;
+mod kept;
 mod lines;
+#[cfg(test)]
+mod tests;
 
 pub use ask::{neighbour, status};
-pub use lines::routine;
+pub use kept::Kept;
+pub use lines::{routine, shared_routine};

@@ -15,6 +15,7 @@ use mkey::{Direction, is_numeric};
 use mnum::Bytes7;
 use mstore::{NodeStore, StoreFault};
 use std::alloc::{AllocError, Global};
+use std::rc::Rc;
 
 // The subscripts of a line.
 fn subs_of(alloc: Global, name: &Bytes7, place: &Bytes7) -> Result<Vec<Bytes7>, AllocError>
@@ -115,4 +116,31 @@ pub fn routine<S: NodeStore>(
         place = next;
     }
     Err(StoreFault::Memory)
+}
+
+/// The lines of an account's routine, as `routine` reads them, or as the store has kept them since they were read. A store that keeps
+/// copies is handed one.
+///
+/// # Errors
+///
+/// Those of `routine`, and `Memory` where there is no memory for a count of those who hold the lines.
+pub fn shared_routine<S: NodeStore>(
+    store: &mut S,
+    alloc: Global,
+    account: &Bytes7,
+    name: &Bytes7,
+) -> Result<Rc<Vec<Bytes7>>, StoreFault>
+    requires account { IsAccountName account.now }
+    requires name { IsName name.now }
+    ensures lines { S.sound → IfOk result (λ lines. lines.value.items ≡ lines_of (S.content store.old) account.now name.now) }
+    ensures same { S.sound → S.content store.new ≡ S.content store.old }
+    ensures store { S.steady → result ≢ Err StoreFault.Store }
+{
+    if let Some(lines) = store.kept_routine(account, name) {
+        return Ok(lines);
+    }
+    let lines = routine(store, alloc, account, name)?;
+    let lines = Rc::new(alloc, lines).map_err(AllocError::from)?;
+    store.keep_routine(account, name, &lines);
+    Ok(lines)
 }

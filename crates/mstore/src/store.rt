@@ -1,7 +1,9 @@
 // What a store of nodes is.
-ghost use Rattle.std.specs.Prelude.{◌≡◌, ◌≢◌, ◌≤◌, length, option_map, IfOk, OnOk, OnErr, Err};
+ghost use Rattle.std.specs.Prelude.{◌≡◌, ◌≢◌, ◌≤◌, length, option_map, IfOk, IfSome, OnOk, OnErr, Err};
 ghost use Rattle.std.specs.FinMap.{get, insert};
-ghost use Rattle.mspec.specs.Globals.{Globals, without_subtree, next_key, previous_key};
+ghost use Rattle.mspec.specs.Globals.{Globals, without_subtree, next_key, previous_key, lines_of};
+ghost use Rattle.mspec.specs.KeyBytes.{IsAccountName};
+ghost use Rattle.mspec.specs.Names.{IsName};
 ghost use Rattle.mspec.specs.TextFunctions.{longest_text};
 ghost use Rattle.mstore.specs.Held.{AreHeld};
 ghost use Rattle.mstore.specs.declared.store.StoreFault.TheVariants.{Memory};
@@ -9,6 +11,7 @@ ghost use Rattle.mstore.specs.declared.store.StoreFault.TheVariants.{Memory};
 use mkey::NodeKey;
 use mnum::Bytes7;
 use std::alloc::AllocError;
+use std::rc::Rc;
 
 /// Why a call of a store failed. What the store holds is then as it was.
 #[derive(Clone, Copy, Debug, PartialEq, Eq, Drop)]
@@ -77,6 +80,22 @@ pub trait NodeStore {
         ensures held { sound → AreHeld (content self.old) }
         ensures same { sound → content self.new ≡ content self.old }
         ensures store { steady → result ≢ Err StoreFault.Store };
+
+    /// The lines of an account's routine, where the store keeps a copy of them. A store that has no method of its own keeps none.
+    fn kept_routine(&mut self, account: &Bytes7, name: &Bytes7) -> Option<Rc<Vec<Bytes7>>>
+        ensures lines { sound → IfSome result (λ lines. lines.value.items ≡ lines_of (content self.old) account.now name.now) }
+        ensures same { sound → content self.new ≡ content self.old }
+    {
+        None
+    }
+
+    /// Hands over the lines of an account's routine, of which the store may keep a copy.
+    fn keep_routine(&mut self, account: &Bytes7, name: &Bytes7, lines: &Rc<Vec<Bytes7>>)
+        requires account { IsAccountName account.now }
+        requires name { IsName name.now }
+        requires lines { sound → lines.now.value.items ≡ lines_of (content self.old) account.now name.now }
+        ensures same { sound → content self.new ≡ content self.old }
+    {}
 
     ghost steady_is_sound: { steady → sound };
 }

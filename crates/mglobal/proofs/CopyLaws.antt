@@ -1,0 +1,40 @@
+-- Copies of routines, behind writes to the store.
+use Rattle.std.proofs.Common.{◌≡◌, Bool, true, false, ◌||◌, List, All, slice_index_or, Result, Ok, Err, OnOk, OnErr, sym, subst, ◌∙◌}
+use Rattle.std.specs.FinMap.{insert}
+use Rattle.mspec.specs.Globals.{Globals, is_node_within, without_subtree}
+use Rattle.mspec.specs.Node.{Text, Node}
+use Rattle.mglobal.specs.Copies.{AreCopiesIn, IsApart}
+use Rattle.mglobal.specs.Lines.{routine_at}
+use Rattle.mglobal.specs.declared.copies.RoutineCopy.{RoutineCopy}
+use Rattle.mglobal.proofs.LinesKept.{lines_put, lines_killed}
+
+apart_of : (k : Node) (copy : RoutineCopy) → copy.key ≡ routine_at copy.account copy.name → IsApart k copy → (is_node_within k (routine_at copy.account copy.name) || is_node_within (routine_at copy.account copy.name) k) ≡ false
+apart_of k copy key apart = subst (λ n. (is_node_within k n || is_node_within n k) ≡ false) key apart
+
+pub copies_put : (g : Globals) (k : Node) (text : Text) (copies : List RoutineCopy) → All (IsApart k) copies → AreCopiesIn g copies → AreCopiesIn (insert g k text) copies
+copies_put g k text copies apart are i d inside =
+    let copy = slice_index_or copies i d in
+    let c = are i d inside in
+    record { key = c.key; lines = c.lines ∙ sym (lines_put copy.account copy.name k (apart_of k copy c.key (apart i d inside)) g text) }
+
+pub copies_killed : (g : Globals) (k : Node) (copies : List RoutineCopy) → All (IsApart k) copies → AreCopiesIn g copies → AreCopiesIn (without_subtree g k) copies
+copies_killed g k copies apart are i d inside =
+    let copy = slice_index_or copies i d in
+    let c = are i d inside in
+    record { key = c.key; lines = c.lines ∙ sym (lines_killed copy.account copy.name k (apart_of k copy c.key (apart i d inside)) g) }
+
+-- where a store that was written to has what it was to have, or failed and has what it had
+pub copies_after : {A E : Type 0} (r : Result A E) (old written new : Globals) (copies : List RoutineCopy) → OnOk r (new ≡ written) → OnErr r (new ≡ old) → AreCopiesIn old copies → AreCopiesIn written copies → AreCopiesIn new copies
+copies_after (Ok x) old written new copies ok err before after = subst (λ g. AreCopiesIn g copies) (sym ok) after
+copies_after (Err e) old written new copies ok err before after = subst (λ g. AreCopiesIn g copies) (sym err) before
+
+-- ---- whether a key begins with another
+
+-- one of two tests, asked one after the other
+pub either_first : (r a b : Bool) → r ≡ a → r ≡ true → r ≡ (a || b)
+either_first r true b e t = e
+either_first r false b e t = absurd (cc)
+
+pub either_second : (r s a b : Bool) → r ≡ a → r ≡ false → s ≡ b → s ≡ (a || b)
+either_second r s true b e f t = absurd (cc)
+either_second r s false b e f t = t

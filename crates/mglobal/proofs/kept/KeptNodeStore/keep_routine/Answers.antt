@@ -1,0 +1,9 @@
+use Rattle.std.proofs.Common.{◌≡◌, subst, sym}
+use Rattle.mspec.specs.Globals.{lines_of}
+use Rattle.mglobal.proofs.kept.KeptNodeStore.keep_routine.Goals as goal
+
+pub invariant_of-self : goal.invariant_of-self
+invariant_of-self g c sound =
+    let content = g.S.NodeStore.content in
+    let lines = subst (λ store. c.args.lines.now.value.items ≡ lines_of (content store) c.args.account.now c.args.name.now) (sym c.self.view_is) (c.requires.lines sound) in
+    c.keep.ensures (content c.self.inside.store) (c.self.invariant sound) lines

@@ -1,0 +1,9 @@
+use Rattle.std.proofs.Common.{subst, sym}
+use Rattle.mglobal.specs.Copies.{AreCopiesIn}
+use Rattle.mglobal.proofs.kept.KeptNodeStore.kept_routine.Goals as goal
+
+pub returns-clause-lines : goal.returns-clause-lines
+returns-clause-lines g c sound =
+    let content = g.S.NodeStore.content in
+    let are = subst (λ store. AreCopiesIn (content store) c.self.inside.copies.items) c.self.view_is (c.self.invariant sound) in
+    c.find.ensures (content c.args.self.now) (subst (AreCopiesIn (content c.args.self.now)) (sym c.deref.ensures.value) are)

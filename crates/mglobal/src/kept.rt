@@ -1,0 +1,92 @@
+//! A store that keeps copies of routines.
+ghost use Rattle.std.specs.Prelude.{◌≡◌};
+
+use crate::copies::{RoutineCopy, find, forget, keep};
+use mkey::NodeKey;
+use mnum::Bytes7;
+use mstore::{NodeStore, StoreFault};
+use std::alloc::Global;
+use std::marker::Model;
+use std::rc::Rc;
+
+/// A store with copies of routines that were read of it, so that a routine is read once and not at each DO. A call that may change a
+/// routine lets go of its copy first. It has what the store has, and is as sound and as steady.
+#[derive(Drop)]
+pub struct Kept<S: NodeStore> {
+    store: S,
+    copies: Vec<RoutineCopy>,
+    alloc: Global,
+}
+
+impl<S: NodeStore> Model for Kept<S> {
+    ghost use Rattle.mglobal.specs.Copies.{AreCopiesIn};
+
+    ghost Value = { S };
+
+    ghost coded = { S.code };
+
+    ghost view = { λ kept. kept.store };
+
+    ghost invariant = { λ kept. S.sound → AreCopiesIn (S.content kept.store) kept.copies.items };
+}
+
+impl<S: NodeStore> Kept<S> {
+    /// A store with no copies yet. Takes no memory.
+    pub fn new(alloc: Global, store: S) -> Kept<S>
+        ensures { result ≡ store }
+    {
+        Kept {
+            store,
+            copies: Vec::new(alloc),
+            alloc,
+        }
+    }
+
+    /// The store, without the copies.
+    pub fn into_store(self) -> S
+        ensures { result ≡ self }
+    {
+        let Kept { store, .. } = self;
+        store
+    }
+}
+
+impl<S: NodeStore> NodeStore for Kept<S> {
+    ghost content = { λ kept. S.content kept };
+
+    ghost sound = { S.sound };
+
+    ghost steady = { S.steady };
+
+    fn get(&mut self, key: &NodeKey) -> Result<Option<Bytes7>, StoreFault> {
+        self.store.get(key)
+    }
+
+    fn put(&mut self, key: &NodeKey, text: &Bytes7) -> Result<(), StoreFault> {
+        forget(&mut self.copies, key);
+        self.store.put(key, text)
+    }
+
+    fn kill(&mut self, key: &NodeKey) -> Result<(), StoreFault> {
+        forget(&mut self.copies, key);
+        self.store.kill(key)
+    }
+
+    fn next(&mut self, low: &[u8], high: &[u8]) -> Result<Option<Vec<u8>>, StoreFault> {
+        self.store.next(low, high)
+    }
+
+    fn prev(&mut self, low: &[u8], high: &[u8]) -> Result<Option<Vec<u8>>, StoreFault> {
+        self.store.prev(low, high)
+    }
+
+    fn kept_routine(&mut self, account: &Bytes7, name: &Bytes7) -> Option<Rc<Vec<Bytes7>>> {
+        find(&self.copies, account, name)
+    }
+
+    fn keep_routine(&mut self, account: &Bytes7, name: &Bytes7, lines: &Rc<Vec<Bytes7>>) {
+        keep(self.alloc, &mut self.copies, account, name, lines);
+    }
+
+    ghost steady_is_sound = { S.steady_is_sound };
+}

@@ -8,7 +8,7 @@ ghost use Rattle.meval.specs.Evaluates.{Evaluates, KeepsEval};
 
 use crate::eval::Eval;
 use crate::globals::code_of;
-use mglobal::routine;
+use mglobal::shared_routine;
 use mkey::is_account_name;
 use mnum::{Bytes7, Name};
 use moperator::Code;
@@ -75,8 +75,8 @@ impl<'a, S: NodeStore> Eval<'a, S> {
             // the id is of other settings, which a world never hands in
             return Err(Code::Zmem);
         }
-        match routine(self.store, alloc, &account, name.as_bytes7()) {
-            Ok(lines) => Ok(Rc::new(alloc, lines)?),
+        match shared_routine(self.store, alloc, &account, name.as_bytes7()) {
+            Ok(lines) => Ok(lines),
             Err(fault) => Err(code_of(fault)),
         }
     }

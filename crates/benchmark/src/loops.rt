@@ -1,6 +1,7 @@
 // Lines that turn often: what a turn of FOR costs, with what it does.
 use crate::lines::{answered, world_of};
 use crate::measure::{Plan, Unit, measure};
+use mglobal::Kept;
 use mgrant::Settings;
 use mstore::{NodeStore, Plain};
 use mworld::World;
@@ -56,6 +57,7 @@ pub fn loops(rt: &HostRuntime, plan: Plan) -> anyhow::Result<()> {
     };
     let settings = Settings::read(rt.alloc(), SETTINGS.as_bytes())?;
     println!(rt; "turns of a FOR")?;
-    let world = world_of(rt.alloc(), settings, Plain::new(rt.alloc()))?;
+    let store = Kept::new(rt.alloc(), Plain::new(rt.alloc()));
+    let world = world_of(rt.alloc(), settings, store)?;
     timed(rt, plan, world)
 }

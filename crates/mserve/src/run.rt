@@ -7,6 +7,7 @@ ghost use Rattle.mwire.specs.Watched.{inner_of, failed_of};
 ghost use Rattle.mserve.specs.Runs.{Answered, EndsEarly, ServedOver, DeviceBroke};
 
 use crate::fault::RunFault;
+use mglobal::Kept;
 use mgrant::Settings;
 use mstore::{NodeStore, OpenFault, Table};
 use mwire::{Watched, WireFault, serve};
@@ -32,7 +33,7 @@ pub fn run<I: Read, O: Write>(
     requires output_works { failed_of output.old ≡ false }
     ensures answered { IfOk result (λ table. Answered document.now (I.remaining (inner_of input.old)) (I.remaining (inner_of input.new))
         (O.contents (inner_of output.old)) (O.contents (inner_of output.new)) (stored over_memory table)) }
-    ensures early { IfErr result (EndsEarly ⟦<Table<MemStore> as NodeStore>⟧ I.remaining O.contents document.now input.old input.new output.old output.new) }
+    ensures early { IfErr result (EndsEarly ⟦<Kept<Table<MemStore>> as NodeStore>⟧ I.remaining O.contents document.now input.old input.new output.old output.new) }
 {
     let settings = match Settings::read(alloc, document) {
         Ok(settings) => settings,
@@ -42,12 +43,12 @@ pub fn run<I: Read, O: Write>(
         Ok(table) => table,
         Err(fault) => return Err(RunFault::Store(fault)),
     };
-    let world = match World::new(alloc, settings, table) {
+    let world = match World::new(alloc, settings, Kept::new(alloc, table)) {
         Ok(world) => world,
         Err(_) => return Err(RunFault::Store(OpenFault::Memory)),
     };
     match serve_over(alloc, world, input, output) {
-        Ok(table) => Ok(table),
+        Ok(kept) => Ok(kept.into_store()),
         Err(fault) => Err(RunFault::Wire(fault)),
     }
 }

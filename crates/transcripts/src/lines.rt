@@ -3,6 +3,7 @@ use crate::escapes::bytes_of;
 use crate::line_settings::line_settings;
 use crate::pieces::Pieces;
 use crate::{print_case, print_others, print_results};
+use mglobal::Kept;
 use mstore::{NodeStore, Plain, Table};
 use mwire::{Watched, read_events, serve};
 use mworld::World;
@@ -21,6 +22,11 @@ pub fn stream_line(alloc: Global, case: &str) -> anyhow::Result<Vec<u8>> {
             Ok(line)
         }
     }
+}
+
+// A table in memory, with copies of the routines that are read, as the program has it.
+fn kept_table(alloc: Global) -> anyhow::Result<Kept<Table<MemStore>>> {
+    Ok(Kept::new(alloc, Table::open_memory(alloc)?))
 }
 
 // A new world over a store, by the settings of a document, that keeps the trees of so many texts.
@@ -60,7 +66,7 @@ pub fn lines(
     out: &mut Vec<u8>,
 ) -> anyhow::Result<()> {
     let mut plain = world_over(alloc, document, Plain::new(alloc), 1)?;
-    let mut table = world_over(alloc, document, Table::open_memory(alloc)?, 256)?;
+    let mut table = world_over(alloc, document, kept_table(alloc)?, 256)?;
     let mut stream = Vec::new(alloc);
     let mut replies = Vec::new(alloc);
     for case in cases {
@@ -89,7 +95,7 @@ fn whole_streams(
         let answer = served(alloc, &mut plain, stream, size)?;
         let told = format!(in alloc; "in pieces of {size}:")?;
         print_others(alloc, told.as_str(), &answer, replies, out)?;
-        let mut table = world_over(alloc, document, Table::open_memory(alloc)?, 256)?;
+        let mut table = world_over(alloc, document, kept_table(alloc)?, 256)?;
         let answer = served(alloc, &mut table, stream, size)?;
         let told = format!(in alloc; "in a table, in pieces of {size}:")?;
         print_others(alloc, told.as_str(), &answer, replies, out)?;

@@ -5,11 +5,3 @@ use Rattle.mserve.proofs.run.run.Goals as goal
 pub returns-in-Err-open_memory-clause-early : goal.returns-in-Err-open_memory-clause-early
 returns-in-Err-open_memory-clause-early g c =
     ((refl, refl), (c.in-Ok.settings, c.in-Ok.ensures.ok), (λ e. c.in-Err-open_memory.ensures.key cc), (λ e. c.in-Err-open_memory.ensures.other_version cc))
-
-pub returns-in-Ok-serve_over-clause-answered : goal.returns-in-Ok-serve_over-clause-answered
-returns-in-Ok-serve_over-clause-answered g c =
-    answered _ c.in-Ok.ensures.ok c.in-Ok-open_memory.ensures.empty c.in-Ok-open_memory.ensures.sound c.in-Ok-serve_over.ensures.served
-
-pub returns-in-Err-serve_over-clause-early : goal.returns-in-Err-serve_over-clause-early
-returns-in-Err-serve_over-clause-early g c =
-    (broken _ c.in-Ok.ensures.ok c.in-Ok-open_memory.ensures.empty c.in-Err-serve_over.ensures.served, c.in-Err-serve_over.ensures.broke)

@@ -7,6 +7,7 @@ use mglobal::Kept;
 use mstore::{NodeStore, Plain, Table};
 use mwire::{Watched, read_events, serve};
 use mworld::World;
+use sqlite::MemStore;
 use std::alloc::Global;
 
 // A stream is given in pieces of each of these sizes.

@@ -8,11 +8,11 @@ mod frames;
 mod levels;
 mod line;
 mod machine;
+mod outset;
 mod reading;
 mod rest;
 mod run;
 mod signal;
-mod trees;
 mod turns;
 
 pub use machine::Machine;

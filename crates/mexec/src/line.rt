@@ -5,38 +5,21 @@ ghost use Rattle.mmeaning.specs.LineMeaning as meaning;
 ghost use Rattle.mmeaning.specs.Frames.{frame, Rests, Levels};
 ghost use Rattle.mtree.specs.Tree.{line_tree};
 ghost use Rattle.mcommand.specs.Does.{DoesAt, KeepsLoans};
-ghost use Rattle.mexec.specs.Frames.{Runs, view, stack, signal_of, spot_of, commands_from};
+ghost use Rattle.mexec.specs.Frames.{Runs, view, stack, signal_of, commands_from};
 
 use crate::arguments::arguments;
-use crate::frames::{Closing, Frame, Level, Rest, Spot};
+use crate::frames::{Closing, Frame, Rest};
 use crate::levels::after_level;
 use crate::machine::Machine;
 use crate::rest::next_command;
 use crate::signal::Signal;
 use crate::turns::after_turn;
 use mcommand::Parts;
-use meval::Depth;
 use moperator::Code;
 use mstore::NodeStore;
 use mtree::Line;
 use std::alloc::{AllocError, Global};
 use std::rc::Rc;
-
-// Where a line from outside stands: at the only level that is open, which has no lines.
-fn outset(alloc: Global) -> Result<Rc<Spot>, AllocError>
-    ensures { IfOk result (λ spot. spot_of spot.value ≡ meaning.outset) }
-{
-    let depth = Depth {
-        levels: 0,
-        indirections: 0,
-    };
-    let level = Level {
-        copy: Rc::new(alloc, Vec::new(alloc))?,
-        next: None,
-        dots: 0,
-    };
-    Ok(Rc::new(alloc, Spot { depth, level })?)
-}
 
 // What the top frame does with a signal.
 fn step<S: NodeStore>(
@@ -67,14 +50,16 @@ fn step<S: NodeStore>(
 }
 
 // The frames of a line from its first command on, and no others.
-fn begin(alloc: Global, line: Rc<Line>, machine: &mut Machine) -> Result<(), AllocError>
+fn begin(line: Rc<Line>, machine: &mut Machine) -> Result<(), AllocError>
     ensures { OnOk result (stack machine.new.frames.items ≡ Rests meaning.outset (commands_from line.value 0) ∷ Levels meaning.outset stays ∷ []) }
 {
     machine.frames.clear();
-    let spot = outset(alloc)?;
+    let spot = machine.outset.spot()?;
     let level = Frame::Level(spot.clone()?, Closing::Stays);
     machine.frames.push(level)?;
-    machine.frames.push(Frame::Rest(Rest { spot, line, at: 0 }))?;
+    machine
+        .frames
+        .push(Frame::Rest(Rest { spot, line, at: 0 }))?;
     Ok(())
 }
 
@@ -89,7 +74,7 @@ pub(crate) fn run_line<S: NodeStore>(
     ensures fewer { parts.new.eval.steps ≤ parts.old.eval.steps }
     ensures does { DoesAt S.NodeStore (λ a n. meaning.run_within a n (commands_of (line_tree line.value))) signal_of parts.old result parts.new }
 {
-    begin(alloc, line, machine)?;
+    begin(line, machine)?;
     let mut signal = Signal::GoOn;
     while let Some(frame) = machine.frames.pop() {
         signal = step(alloc, parts, frame, signal, machine)?;

@@ -1,16 +1,18 @@
 // What lines are run with.
-ghost use Rattle.std.specs.Prelude.{◌≤◌};
+ghost use Rattle.std.specs.Prelude.{◌<◌};
 
 use crate::frames::Frame;
-use crate::trees::Trees;
+use crate::outset::Outset;
+use mcache::Trees;
 use std::alloc::{AllocError, Global};
 
-/// What lines are run with, and what is kept from one to the next, so that no memory has to be asked for again: room for frames, and
-/// the trees of texts. What it keeps shows in no answer.
+/// What lines are run with, and what is kept from one to the next, so that no memory has to be asked for again: room for frames, the
+/// trees of texts, and where each line begins. What it keeps shows in no answer.
 #[derive(Drop)]
 pub struct Machine {
     pub(crate) frames: Vec<Frame>,
     pub(crate) trees: Trees,
+    pub(crate) outset: Outset,
 }
 
 impl Machine {
@@ -20,11 +22,12 @@ impl Machine {
     ///
     /// `AllocError` for want of memory.
     pub fn new(alloc: Global, entries: usize) -> Result<Machine, AllocError>
-        requires { 1 ≤ entries }
+        requires { 0 < entries }
     {
         Ok(Machine {
             frames: Vec::with_capacity(alloc, 16)?,
             trees: Trees::new(alloc, entries)?,
+            outset: Outset::new(alloc)?,
         })
     }
 }

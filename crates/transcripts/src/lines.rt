@@ -1,9 +1,8 @@
 // Lines of the wire, with their replies, and the events of a stream.
-use crate::escapes::bytes_of;
 use crate::line_settings::line_settings;
 use crate::pieces::Pieces;
-use crate::{print_case, print_others, print_results};
 use mstore::{NodeStore, Plain, Table};
+use mtranscript::{bytes_of, print_case, print_others, print_results};
 use mwire::{Watched, read_events, serve};
 use mworld::World;
 use std::alloc::Global;

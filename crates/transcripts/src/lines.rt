@@ -1,10 +1,9 @@
 // Lines of the wire, with their replies, and the events of a stream.
-use crate::escapes::bytes_of;
 use crate::line_settings::line_settings;
 use crate::pieces::Pieces;
-use crate::{print_case, print_others, print_results};
 use mglobal::Kept;
 use mstore::{NodeStore, Plain, Table};
+use mtranscript::{bytes_of, print_case, print_others, print_results};
 use mwire::{Watched, read_events, serve};
 use mworld::World;
 use sqlite::MemStore;

@@ -1,12 +1,18 @@
 // Lines over a file that is closed and opened again.
 use crate::lines::{served, stream_line, world_over};
-use crate::stores::remove;
-use crate::{print_case, print_results};
 use mstore::Table;
+use mtranscript::{print_case, print_results};
+use std::fs;
 
 const FILE: &str = "transcripts_reopened.db";
 
 const LOG: &str = "transcripts_reopened.db-wal";
+
+// Takes the file away, and the log beside it, where they are there.
+fn remove(rt: &HostRuntime) {
+    let _ = fs::remove_file(rt, FILE);
+    let _ = fs::remove_file(rt, LOG);
+}
 
 /// Serves each line in a new world over a table in a file, which is not there at first, is closed behind the line and opened again before the
 /// next one, by the settings of a document.
@@ -16,7 +22,7 @@ pub fn reopened(
     cases: &[&str],
     out: &mut Vec<u8>,
 ) -> anyhow::Result<()> {
-    remove(rt, FILE, LOG);
+    remove(rt);
     for case in cases {
         if print_case(out, case)? {
             let table = Table::open_file(rt, FILE)?;
@@ -27,6 +33,6 @@ pub fn reopened(
             world.into_store().into_connection().close()?;
         }
     }
-    remove(rt, FILE, LOG);
+    remove(rt);
     Ok(())
 }

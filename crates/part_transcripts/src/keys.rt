@@ -1,10 +1,9 @@
 // Keys of nodes, and the order of subscripts.
-use crate::escapes::{bytes_of_hex, push_hex};
 use crate::words::{key_of, text_of, texts_of, words_of};
-use crate::{print_case, print_result};
 use anyhow::Context;
 use mkey::{KeyFault, NodeKey, collate, is_account_name, is_name, push_local, read, subs_ok};
 use mnum::Bytes7;
+use mtranscript::{bytes_of_hex, print_case, print_result, push_hex};
 use std::alloc::Global;
 use std::cmp::Ordering;
 

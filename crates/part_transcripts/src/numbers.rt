@@ -1,7 +1,7 @@
 // Calls on numbers.
 use crate::words::words_of;
-use crate::{print_case, print_result};
 use mnum::{ArithFault, Num, is_canonical, is_canonical_by};
+use mtranscript::{print_case, print_result};
 use std::alloc::Global;
 use std::cmp::Ordering;
 

@@ -1,11 +1,11 @@
 // Calls on stores, each over the plain store, a table in memory and a table in a file.
 use crate::globals::{data, lines, order};
 use crate::words::{key_of, text_of, texts_of, words_of};
-use crate::{print, print_case, print_others, print_result};
 use anyhow::Context;
 use mkey::{Direction, NodeKey, read};
 use mnum::{Bytes7, LONGEST_TEXT};
 use mstore::{NodeStore, Plain, Table};
+use mtranscript::{print, print_case, print_others, print_result};
 use std::alloc::Global;
 use std::fs;
 use std::rt::HostRuntime;

@@ -1,10 +1,10 @@
 // Calls on the scopes of local variables.
 use crate::words::{name_of, names_of, text_of, texts_of, words_of};
-use crate::{print_case, print_result};
 use anyhow::Context;
 use mkey::subs_ok;
 use mlocal::{Direction, Locals, order_subs_ok};
 use mnum::{Bytes7, Name, Num};
+use mtranscript::{print_case, print_result};
 use mvalue::Value;
 use std::alloc::Global;
 

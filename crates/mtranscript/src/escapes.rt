@@ -3,6 +3,10 @@ use anyhow::Context;
 use std::alloc::Global;
 
 /// The bytes of a case, with its escapes taken out.
+///
+/// # Errors
+///
+/// Where an escape is none or does not end, and for want of memory.
 pub fn bytes_of(alloc: Global, case: &str) -> anyhow::Result<Vec<u8>> {
     let mut out = Vec::new(alloc);
     for (i, part) in case.split('{').enumerate() {
@@ -30,6 +34,10 @@ fn push_escape(out: &mut Vec<u8>, escape: &str) -> anyhow::Result<()> {
 }
 
 /// The bytes of a run of hexadecimal digits, two for each.
+///
+/// # Errors
+///
+/// Where a character is no digit in lower case, and for want of memory.
 pub fn bytes_of_hex(alloc: Global, digits: &str) -> anyhow::Result<Vec<u8>> {
     let mut out = Vec::new(alloc);
     let mut high: Option<u8> = None;
@@ -55,6 +63,10 @@ fn value_of(digit: u8) -> Option<u8> {
 }
 
 /// Adds bytes in hexadecimal digits, two for each.
+///
+/// # Errors
+///
+/// For want of memory.
 pub fn push_hex(out: &mut Vec<u8>, bytes: &[u8]) -> anyhow::Result<()> {
     for byte in bytes {
         out.push(digit_of(byte / 16))?;

@@ -1,8 +1,7 @@
 // Databases that are there: which of them are tables of nodes, and why others are refused.
-use crate::escapes::bytes_of;
-use crate::{print_case, print_result};
 use anyhow::Context;
 use mstore::Table;
+use mtranscript::{bytes_of, print_case, print_result};
 use sqlite::{Connection, MemStore};
 use std::alloc::Global;
 

@@ -1,8 +1,8 @@
 // Calls on the locks of the terminals.
 use crate::words::{key_of, text_of, texts_of, words_of};
-use crate::{print_case, print_result};
 use anyhow::Context;
 use mlock::{LockName, Locks};
+use mtranscript::{print_case, print_result};
 use std::alloc::Global;
 
 /// Plays calls one after another over the same locks; what take, held and fill give stands below them.

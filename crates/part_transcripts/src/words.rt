@@ -1,8 +1,8 @@
 // The words of a case: names and subscripts.
-use crate::escapes::bytes_of;
 use anyhow::Context;
 use mkey::{NodeKey, is_account_name, is_name};
 use mnum::{Bytes7, Name};
+use mtranscript::bytes_of;
 use std::alloc::Global;
 
 /// The text of a word, in which `-` stands for the empty text.

@@ -1,9 +1,8 @@
 // Settings: what a document gives, and who may do what by it.
-use crate::escapes::bytes_of;
 use crate::words::words_of;
-use crate::{print_case, print_result};
 use anyhow::Context;
 use mgrant::{AccountId, Mode, Settings, SettingsFault};
+use mtranscript::{bytes_of, print_case, print_result};
 use std::alloc::Global;
 
 /// Plays the calls of a block; what they give stands below them.

@@ -1,10 +1,10 @@
 // Drawn nodes in two stores, of which each must answer what the other does.
 use crate::stores::{node, put, remove};
 use crate::words::{text_of, words_of};
-use crate::{print_case, print_result};
 use anyhow::Context;
 use mkey::NodeKey;
 use mstore::{NodeStore, Plain, Table};
+use mtranscript::{print_case, print_result};
 use std::alloc::Global;
 use std::rt::HostRuntime;
 

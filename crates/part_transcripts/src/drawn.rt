@@ -1,10 +1,10 @@
 // Drawn nodes in two stores, of which each must answer what the other does.
-use crate::stores::{node, put, remove};
+use crate::stores::{node, put};
 use crate::words::{text_of, words_of};
 use anyhow::Context;
 use mkey::NodeKey;
 use mstore::{NodeStore, Plain, Table};
-use mtranscript::{print_case, print_result};
+use mtranscript::{print_case, print_result, remove};
 use std::alloc::Global;
 use std::rt::HostRuntime;
 

@@ -1,9 +1,9 @@
 // Tables in files: what is there when they are opened again, and files that are refused.
-use crate::stores::{node, put, remove};
+use crate::stores::{node, put};
 use crate::words::{text_of, words_of};
 use anyhow::Context;
 use mstore::{NodeStore, Table};
-use mtranscript::{bytes_of_hex, print_case, print_result};
+use mtranscript::{bytes_of_hex, print_case, print_result, remove};
 use sqlite::params;
 use std::fs;
 use std::rt::HostRuntime;

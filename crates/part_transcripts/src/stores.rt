@@ -5,20 +5,13 @@ use anyhow::Context;
 use mkey::{Direction, NodeKey, read};
 use mnum::{Bytes7, LONGEST_TEXT};
 use mstore::{NodeStore, Plain, Table};
-use mtranscript::{print, print_case, print_others, print_result};
+use mtranscript::{print, print_case, print_others, print_result, remove};
 use std::alloc::Global;
-use std::fs;
 use std::rt::HostRuntime;
 
 const FILE: &str = "transcripts_stores.db";
 
 const LOG: &str = "transcripts_stores.db-wal";
-
-/// Takes a database away, with its log.
-pub fn remove(rt: &HostRuntime, path: &str, log: &str) {
-    let _ = fs::remove_file(rt, path);
-    let _ = fs::remove_file(rt, log);
-}
 
 /// Plays calls one after another over the plain store, and prints what they give. The same over a table in memory that is
 /// opened again before each call, and over one in a file that is closed and opened again; where they give something else, it is

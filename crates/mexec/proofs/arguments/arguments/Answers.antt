@@ -18,16 +18,16 @@ loop-at-init g c = record {
   leads = λ r fs p k. k;
 }
 
-pub returns-in_err-argument-clause-does : goal.returns-in_err-argument-clause-does
-returns-in_err-argument-clause-does g c =
+pub returns-in_err-signal-clause-does : goal.returns-in_err-signal-clause-does
+returns-in_err-signal-clause-does g c =
     let b = c.args.behind.now in
     let p = spot_of b.spot.value in
     let all = args_before b.line.value b.at in
     let same = rw c.deref.ensures at c.args_before-args.ensures in
     let less = rw same at c.loop-at-test.true in
     let is = rw same at c.index-args-at.is in
-    let does = rw c.deref-in-loop-at.ensures at c.in_err-argument.ensures.does in
-    c.loop-at.invariant.leads _ _ _ (argument_stopped p all c.loop-at.at c.index-args-at.result less is does c.in_err-argument.ensures.fewer c.from_residual.ensures)
+    let does = rw c.deref-in-loop-at.ensures at c.in_err-signal.ensures.does in
+    c.loop-at.invariant.leads _ _ _ (argument_stopped p all c.loop-at.at c.index-args-at.result less is does c.in_err-signal.ensures.fewer c.from_residual.ensures)
 
 pub loop-at-preserved : goal.loop-at-preserved
 loop-at-preserved g c =
@@ -37,12 +37,12 @@ loop-at-preserved g c =
     let same = rw c.deref.ensures at c.args_before-args.ensures in
     let less = rw same at c.loop-at-test.true in
     let is = rw same at c.index-args-at.is in
-    let does = rw (c.deref-in-loop-at.ensures, c.in-Gave.is, c.in-GoOn.is) at c.in_ok-argument.ensures.does in
+    let does = rw (c.deref-in-loop-at.ensures, c.in-Gave.is, c.in-GoOn.is) at c.in_ok-signal.ensures.does in
     record {
-      loans = keeps_on c.loop-at.invariant.loans c.in_ok-argument.ensures.loans;
+      loans = keeps_on c.loop-at.invariant.loans c.in_ok-signal.ensures.loans;
       fewer = omega arith;
       machine = c.loop-at.invariant.machine;
-      leads = λ r fs q k. c.loop-at.invariant.leads r fs q (argument_runs p all c.loop-at.at c.index-args-at.result less is does c.in_ok-argument.ensures.fewer k);
+      leads = λ r fs q k. c.loop-at.invariant.leads r fs q (argument_runs p all c.loop-at.at c.index-args-at.result less is does c.in_ok-signal.ensures.fewer k);
     }
 
 pub returns-in_default : goal.returns-in_default
@@ -53,10 +53,10 @@ returns-in_default g c =
     let same = rw c.deref.ensures at c.args_before-args.ensures in
     let less = rw same at c.loop-at-test.true in
     let is = rw same at c.index-args-at.is in
-    let does = rw (c.deref-in-loop-at.ensures, c.in-Gave.is) at c.in_ok-argument.ensures.does in
-    let few = c.in_ok-argument.ensures.fewer in
+    let does = rw (c.deref-in-loop-at.ensures, c.in-Gave.is) at c.in_ok-signal.ensures.does in
+    let few = c.in_ok-signal.ensures.fewer in
     record {
-      loans = keeps_on c.loop-at.invariant.loans c.in_ok-argument.ensures.loans;
+      loans = keeps_on c.loop-at.invariant.loans c.in_ok-signal.ensures.loans;
       falls = rw c.loop-at.invariant.machine (omega (arith, few));
       does =
           rw c.loop-at.invariant.machine
@@ -73,9 +73,9 @@ returns-in-Lines-clause-does g c =
     let same = rw c.deref.ensures at c.args_before-args.ensures in
     let less = rw same at c.loop-at-test.true in
     let is = rw same at c.index-args-at.is in
-    let does = rw (c.deref-in-loop-at.ensures, c.in-Lines.is) at c.in_ok-argument.ensures.does in
+    let does = rw (c.deref-in-loop-at.ensures, c.in-Lines.is) at c.in_ok-signal.ensures.does in
     let entered = rw c.loop-at.invariant.machine at c.enter_lines.ensures.does in
-    c.loop-at.invariant.leads _ _ _ (argument_runs p all c.loop-at.at c.index-args-at.result less is does c.in_ok-argument.ensures.fewer entered)
+    c.loop-at.invariant.leads _ _ _ (argument_runs p all c.loop-at.at c.index-args-at.result less is does c.in_ok-signal.ensures.fewer entered)
 
 pub returns-in-Text-clause-does : goal.returns-in-Text-clause-does
 returns-in-Text-clause-does g c =
@@ -85,9 +85,9 @@ returns-in-Text-clause-does g c =
     let same = rw c.deref.ensures at c.args_before-args.ensures in
     let less = rw same at c.loop-at-test.true in
     let is = rw same at c.index-args-at.is in
-    let does = rw (c.deref-in-loop-at.ensures, c.in-Text.is) at c.in_ok-argument.ensures.does in
+    let does = rw (c.deref-in-loop-at.ensures, c.in-Text.is) at c.in_ok-signal.ensures.does in
     let entered = rw c.loop-at.invariant.machine at c.enter_text.ensures.does in
-    c.loop-at.invariant.leads _ _ _ (argument_runs p all c.loop-at.at c.index-args-at.result less is does c.in_ok-argument.ensures.fewer entered)
+    c.loop-at.invariant.leads _ _ _ (argument_runs p all c.loop-at.at c.index-args-at.result less is does c.in_ok-signal.ensures.fewer entered)
 
 pub returns-clause-does : goal.returns-clause-does
 returns-clause-does g c =

@@ -87,6 +87,10 @@ passes signal.Quits p not_go = refl
 passes (signal.Goes t) p not_go = refl
 passes signal.Halts p not_go = refl
 
+-- a call at a depth that plays no part
+pub at_depth : {S A X : Type 0} {g : Ghosts S} {p : Text → ℕ → Act A} {f : X → A} {old new : Parts S} {r : Result X Code} (d : Depth) → DoesAt g p f (record old { eval = record old.eval { depth = d } }) r new → DoesAt g p f old r new
+at_depth d k = record { at = λ sound locks. k.at sound locks; same = k.same }
+
 -- an act by another name
 pub at_as : {S A X : Type 0} {g : Ghosts S} {p q : Text → ℕ → Act A} {f : X → A} {old new : Parts S} {r : Result X Code} → ((a : Text) (n : ℕ) → ◌≡◌ {A = Act A} (p a n) (q a n)) → DoesAt g q f old r new → DoesAt g p f old r new
 at_as {g = g} {f = f} {old = old} {new = new} {r = r} same k = subst (λ p. DoesAt g p f old r new) (λ i a n. sym (same a n) i) k

@@ -38,7 +38,7 @@ fn gave<'t>(signal: Result<Signal, Code>) -> Result<Begun<'t>, Code>
 
 // One that enters lines or a text where its condition holds.
 fn enters<'t>(applies: Result<bool, Code>, begun: Begun<'t>) -> Result<Begun<'t>, Code>
-    ensures { result ≡ where_applies applies begun }
+    ensures { result ≡ where_applies applies begun.entry }
 {
     match applies {
         Ok(true) => Ok(begun),
@@ -97,7 +97,10 @@ fn argument<'t, S: NodeStore>(
         }
         Arg::Loop(_, _) => Ok(Begun::Gave(Signal::GoOn)),
         Arg::DoOne(entry, condition) => {
-            enters(holds(alloc, parts, spot.depth, condition), Begun::Lines(entry))
+            enters(
+                holds(alloc, parts, spot.depth, condition),
+                Begun::Lines(entry),
+            )
         }
         Arg::GoTo(entry, condition) => gave(going(alloc, parts, spot, entry, condition)),
         Arg::Executed(e, condition) => {
@@ -117,11 +120,7 @@ fn args_before(line: &Line, at: usize) -> &[Arg]
 }
 
 // Leaves the arguments from one on on the frames, unless there are none.
-fn leave_arguments(
-    behind: &Rest,
-    argument: usize,
-    machine: &mut Machine,
-) -> Result<(), AllocError>
+fn leave_arguments(behind: &Rest, argument: usize, machine: &mut Machine) -> Result<(), AllocError>
     ensures frames { OnOk result (stack machine.new.frames.items ≡ listing (spot_of behind.now.spot.value) (map arg_tree (drop argument (the_args_before behind.now.line.value behind.now.at))) (stack machine.old.frames.items)) }
     ensures most { OnOk result (length machine.new.frames.items ≤ length machine.old.frames.items + 1) }
 {

@@ -110,7 +110,9 @@ fn enter_text(
     let spot = Rc::new(alloc, Spot { depth, level })?;
     let level = Frame::Level(spot.clone()?, Closing::Leaves);
     machine.frames.push(level)?;
-    machine.frames.push(Frame::Rest(Rest { spot, line, at: 0 }))?;
+    machine
+        .frames
+        .push(Frame::Rest(Rest { spot, line, at: 0 }))?;
     Ok(())
 }
 

@@ -119,7 +119,9 @@ fn enter_body(
         Body::Short(_) => Ok(()),
         Body::Spaced(_, line) => {
             let line = line.clone()?;
-            machine.frames.push(Frame::Rest(Rest { spot, line, at: 0 }))?;
+            machine
+                .frames
+                .push(Frame::Rest(Rest { spot, line, at: 0 }))?;
             Ok(())
         }
     }

@@ -74,7 +74,9 @@ fn begin(alloc: Global, line: Rc<Line>, machine: &mut Machine) -> Result<(), All
     let spot = outset(alloc)?;
     let level = Frame::Level(spot.clone()?, Closing::Stays);
     machine.frames.push(level)?;
-    machine.frames.push(Frame::Rest(Rest { spot, line, at: 0 }))?;
+    machine
+        .frames
+        .push(Frame::Rest(Rest { spot, line, at: 0 }))?;
     Ok(())
 }
 

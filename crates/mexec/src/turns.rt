@@ -102,7 +102,13 @@ pub(crate) fn next_parameter<S: NodeStore>(
 {
     let mut next = turns.parameter;
     while next < parameters.len() {
-        match start(alloc, parts, turns.body.spot.depth, index, &parameters[next])? {
+        match start(
+            alloc,
+            parts,
+            turns.body.spot.depth,
+            index,
+            &parameters[next],
+        )? {
             None => next += 1,
             Some(course) => {
                 let turns = Turns {
@@ -132,7 +138,9 @@ fn further<S: NodeStore>(
     let line = turns.body.line.clone()?;
     match loop_before(&line, turns.body.at) {
         None => Err(Code::Zmem),
-        Some((index, parameters)) => next_parameter(alloc, parts, index, parameters, turns, machine),
+        Some((index, parameters)) => next_parameter(
+            alloc, parts, index, parameters, turns, machine,
+        ),
     }
 }
 

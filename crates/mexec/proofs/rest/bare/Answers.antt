@@ -33,3 +33,14 @@ returns-in-Quit-clause-does g c = rw c.in-Quit.is (runs_signal signal.Quits)
 
 pub returns-in-Write-clause-does : goal.returns-in-Write-clause-does
 returns-in-Write-clause-does g c = rw c.in-Write.is (runs_signal signal.GoOn)
+
+pub returns-in-Do-clause-does : goal.returns-in-Do-clause-does
+returns-in-Do-clause-does g c =
+    let does = rw c.deref.ensures at c.doing_block.ensures.does in
+    rw c.in-Do.is does
+
+pub returns-in-Goto-clause-does : goal.returns-in-Goto-clause-does
+returns-in-Goto-clause-does g c = rw c.in-Goto.is (runs_signal signal.GoOn)
+
+pub returns-in-Execute-clause-does : goal.returns-in-Execute-clause-does
+returns-in-Execute-clause-does g c = rw c.in-Execute.is (runs_signal signal.GoOn)

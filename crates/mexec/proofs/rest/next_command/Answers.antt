@@ -36,4 +36,4 @@ returns-clause-does g c =
     let i = rw c.deref-2.ensures at c.index.ensures in
     let next = next_item v.items c.args.rest.at c.index.result.now less i in
     let does = rw c.in_ok-leave.ensures.frames at c.conditional.ensures.does in
-    rw next (runs_then _ c.in_ok-charge.ensures.does c.in_ok-charge.ensures.fewer (runs_resting (spot_of c.args.rest.depth) (commands_from c.args.rest.line.value (c.args.rest.at + 1)) does))
+    rw next (runs_then _ c.in_ok-charge.ensures.does c.in_ok-charge.ensures.fewer (runs_resting (spot_of c.args.rest.spot.value) (commands_from c.args.rest.line.value (c.args.rest.at + 1)) does))

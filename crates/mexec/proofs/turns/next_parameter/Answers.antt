@@ -19,7 +19,7 @@ loop-next-init g c = record {
 pub loop-next-preserved : goal.loop-next-preserved
 loop-next-preserved g c =
     let t = c.args.turns in
-    let here = rw c.in-None.is at c.in_ok-start.ensures.does in
+    let here = rw (c.in-None.is, c.deref.ensures) at c.in_ok-start.ensures.does in
     record {
       loans = keeps_on c.loop-next.invariant.loans c.in_ok-start.ensures.loans;
       fewer = omega arith;
@@ -35,8 +35,9 @@ returns-in_err-start-clause-loans g c = keeps_on c.loop-next.invariant.loans c.i
 pub returns-in_err-start-clause-does : goal.returns-in_err-start-clause-does
 returns-in_err-start-clause-does g c =
     let t = c.args.turns in
+    let failed = rw c.deref.ensures at c.in_err-start.ensures.does in
     let here =
-    parameter_stopped (spot_of t.body.spot.value) c.args.index.now (commands_from t.body.line.value t.body.at) c.args.parameters.now c.loop-next.next c.index-parameters-next.result c.loop-next-test.true c.index-parameters-next.is c.in_err-start.ensures.does c.in_err-start.ensures.fewer c.from_residual.ensures
+    parameter_stopped (spot_of t.body.spot.value) c.args.index.now (commands_from t.body.line.value t.body.at) c.args.parameters.now c.loop-next.next c.index-parameters-next.result c.loop-next-test.true c.index-parameters-next.is failed c.in_err-start.ensures.fewer c.from_residual.ensures
     in
     rw c.loop-next.invariant.machine (c.loop-next.invariant.leads _ _ _ here)
 
@@ -46,7 +47,7 @@ returns-in-Some-clause-loans g c = keeps_on c.loop-next.invariant.loans (keeps_o
 pub returns-in_err-turns-in-Some-clause-does : goal.returns-in_err-turns-in-Some-clause-does
 returns-in_err-turns-in-Some-clause-does g c =
     let t = c.args.turns in
-    let here = rw c.in-Some.is at c.in_ok-start.ensures.does in
+    let here = rw (c.in-Some.is, c.deref.ensures) at c.in_ok-start.ensures.does in
     c.loop-next.invariant.leads _ _ _
     (parameter_runs (spot_of t.body.spot.value) c.args.index.now (commands_from t.body.line.value t.body.at) c.args.parameters.now c.loop-next.next c.index-parameters-next.result c.loop-next-test.true c.index-parameters-next.is here c.in_ok-start.ensures.fewer
     (runs_wanting _ _ c.from_residual-in_err-turns-in-Some.ensures))
@@ -55,7 +56,7 @@ pub returns-in-Some-clause-does : goal.returns-in-Some-clause-does
 returns-in-Some-clause-does g c =
     let t = c.args.turns in
     let turn : Turns = record { body = t.body; parameter = c.loop-next.next + 1; course = c.in-Some.course } in
-    let here = rw c.in-Some.is at c.in_ok-start.ensures.does in
+    let here = rw (c.in-Some.is, c.deref.ensures) at c.in_ok-start.ensures.does in
     let begun = rw (c.in_ok-turns-in-Some.ensures.ok, c.loop-next.invariant.machine) at c.begin_turn.ensures.does in
     c.loop-next.invariant.leads _ _ _
     (parameter_runs (spot_of t.body.spot.value) c.args.index.now (commands_from t.body.line.value t.body.at) c.args.parameters.now c.loop-next.next c.index-parameters-next.result c.loop-next-test.true c.index-parameters-next.is here c.in_ok-start.ensures.fewer

@@ -1,0 +1,210 @@
+-- Lines and texts that are entered, frame by frame.
+use Rattle.std.proofs.Common.{◌≡◌, ℕ, zero, suc, ◌≤◌, ◌<◌, ◌+◌, Bool, true, false, cond, List, [], ◌∷◌, Option, Some, None, Result, Ok, Err, length, drop, get_or, slice_get, refl, sym, ap, ◌∙◌, subst, eqb-true, le-ltb, arith}
+use Rattle.std.specs.Prelude.{nat_lt, ◌==◌}
+use Rattle.std.specs.Result.{IsErr, IsErrAnd}
+use Rattle.mspec.specs.Code.{Zsyntax}
+use Rattle.mspec.specs.Act.{Text, Act, ◌>>=◌, ◌>>◌, give, give_some, charge, with_locals, level_begun}
+use Rattle.mgrammar.specs.Grammar.{ExprTree, EntryTree, CommandTree, LineTree}
+use Rattle.mgrammar.specs.Reading.{line_at}
+use Rattle.mgrammar.specs.RoutineLine.{BodyTree, short, spaced_out, RoutineLineTree, dots_of, routine_line_at}
+use Rattle.mmeaning.specs.Expression.{Depth}
+use Rattle.mmeaning.specs.Levels as levels
+use Rattle.mmeaning.specs.Levels.{Level, Closing, Target, leaves, restores, deeper, has_dots, a_level_free, target, commands_of, commands_in}
+use Rattle.mmeaning.specs.LineMeaning as meaning
+use Rattle.mmeaning.specs.LineMeaning.{Spot, Context, Signal, Go_on, texts, context, commands, lines_reached, lines_from, lines_next, line_entered, after_level, closed, in_level}
+use Rattle.mmeaning.specs.Yields.{Yields}
+use Rattle.mmeaning.specs.Frames.{View, Rests, Levels, frame}
+use Rattle.mmeaning.proofs.Calls.{assoc}
+use Rattle.mmeaning.proofs.Yieldings.{yielded}
+use Rattle.mstore.specs.declared.store.NodeStore.{Ghosts}
+use Rattle.moperator.specs.Codes.{fault_of}
+use Rattle.moperator.specs.declared.code.Code.{Code}
+use Rattle.moperator.specs.declared.code.Code.TheVariants.{Zmem}
+use Rattle.meval.specs.declared.eval.Eval.{Eval}
+use Rattle.meval.specs.Evaluates.{Evaluates}
+use Rattle.mcommand.specs.declared.parts.Parts.{Parts}
+use Rattle.mcommand.specs.Does.{Does, DoesAt, here_of}
+use Rattle.mexec.specs.declared.signal.Signal as signals
+use Rattle.mexec.specs.declared.signal.Signal.TheVariants as signal
+use Rattle.mexec.specs.Frames.{Runs, signal_of}
+use Rattle.mexec.specs.Entering.{reached, next_reached, entering, at_next, text_spot, on_body}
+use Rattle.mspec.proofs.ListPlaces.{next_item}
+use Rattle.mexec.proofs.Calls.{at_then, at_stopped, at_gives, runs_then, runs_spent, runs_stopped, runs_wanting, runs_as, runs_frame, runs_rest, runs_signal}
+
+-- ---- lists
+
+-- a line and those behind it
+behind : (n : ℕ) (xs : List Text) (x : Text) (rest : List Text) → drop n xs ≡ x ∷ rest → drop (n + 1) xs ≡ rest
+behind zero [] x rest e = absurd cc
+behind zero (y ∷ ys) x rest e = cc
+behind (suc n) [] x rest e = absurd cc
+behind (suc n) (y ∷ ys) x rest e =
+    let one : suc n + 1 ≡ suc (n + 1) = omega arith in
+    ap (λ k. drop k (y ∷ ys)) one ∙ behind n ys x rest e
+
+there : (n : ℕ) (xs : List Text) (x : Text) (rest : List Text) → drop n xs ≡ x ∷ rest → get_or xs n [] ≡ x
+there zero [] x rest e = absurd cc
+there zero (y ∷ ys) x rest e = cc
+there (suc n) [] x rest e = absurd cc
+there (suc n) (y ∷ ys) x rest e = there n ys x rest e
+
+-- an item, whatever stands for those past the end
+pub item_is : (lines : List Text) (k : ℕ) (x : Text) → k < length lines → x ≡ get_or lines k x → get_or lines k [] ≡ x
+item_is [] k x less is = absurd (omega (arith, less))
+item_is (y ∷ lines) zero x less is = sym is
+item_is (y ∷ lines) (suc k) x less is = item_is lines k x (omega (arith, less)) is
+
+-- ---- the line that comes next
+
+-- what follows, once it is known which line is entered
+abbrev pub line_reached : Context → Option ℕ → Act Signal
+line_reached x None = give Go_on
+line_reached x (Some n) = charge >> line_entered x n (get_or x.spot.level.copy n [])
+
+module _ (x : Context) where
+  reached_is : (n : ℕ) (lines : List Text) → drop n x.spot.level.copy ≡ lines → ◌≡◌ {A = Act Signal} (lines_reached x n lines) (reached x.spot.level.dots n lines >>= line_reached x)
+  reached_is n [] e = refl
+  reached_is n (text ∷ rest) e = go (nat_lt x.spot.level.dots (dots_of text)) (dots_of text == x.spot.level.dots) (reached_is (n + 1) rest (behind n x.spot.level.copy text rest e))
+    where
+      go : (more same : Bool) → ◌≡◌ {A = Act Signal} (lines_reached x (n + 1) rest) (reached x.spot.level.dots (n + 1) rest >>= line_reached x)
+          → ◌≡◌ {A = Act Signal} (cond more (charge >> lines_reached x (n + 1) rest) (cond same (charge >> line_entered x n text) (give Go_on)))
+            (cond more (charge >> reached x.spot.level.dots (n + 1) rest) (give (cond same (Some n) None)) >>= line_reached x)
+      go true same then_is =
+          ap (λ (q : Act Signal). charge >> q) then_is
+          ∙ sym (assoc charge (λ _. reached x.spot.level.dots (n + 1) rest) (line_reached x))
+      go false true then_is = ap (λ (t : Text). charge >> line_entered x n t) (sym (there n x.spot.level.copy text rest e))
+      go false false then_is = refl
+
+  next_is : (next : Option ℕ) → ◌≡◌ {A = Act Signal} (lines_from x next) (next_reached x.spot.level.dots x.spot.level.copy next >>= line_reached x)
+  next_is None = refl
+  next_is (Some n) = reached_is n (drop n x.spot.level.copy) refl
+
+-- the same, with how the level closes
+abbrev pub then_closed : Context → Closing → Option ℕ → Act Signal
+then_closed x c None = closed c Go_on
+then_closed x c (Some n) = entering x c n (get_or x.spot.level.copy n [])
+
+module _ (a : Text) (n : ℕ) (p : Spot) (c : Closing) where
+  entered_is : (found : Option ℕ) → ◌≡◌ {A = Act Signal} (line_reached (context a n p) found >>= closed c) (then_closed (context a n p) c found)
+  entered_is None = refl
+  entered_is (Some k) = assoc charge (λ _. line_entered (context a n p) k (get_or p.level.copy k [])) (closed c)
+
+  pub lines_are : ◌≡◌ {A = Act Signal} (frame a n (Levels p c) Go_on) (next_reached p.level.dots p.level.copy p.level.next >>= then_closed (context a n p) c)
+  lines_are =
+      ap (λ (q : Act Signal). q >>= closed c) (next_is (context a n p) p.level.next)
+      ∙ assoc (next_reached p.level.dots p.level.copy p.level.next) (line_reached (context a n p)) (closed c)
+      ∙ (λ i. next_reached p.level.dots p.level.copy p.level.next >>= (λ found. entered_is found i))
+
+-- ---- a line that DO leads to
+
+-- one that stands
+stands_as : (dots n : ℕ) (lines : List Text) → has_dots dots (slice_get lines n) ≡ true
+    → (n < length lines) × (drop n lines ≡ get_or lines n [] ∷ drop (n + 1) lines) × ((dots_of (get_or lines n []) == dots) ≡ true)
+stands_as dots n [] e = absurd cc
+stands_as dots zero (x ∷ lines) e = (omega arith, refl, e)
+stands_as dots (suc n) (x ∷ lines) e =
+    let more = stands_as dots n lines e in
+    let less = more.0 in
+    let one : suc n + 1 ≡ suc (n + 1) = omega arith in
+    (omega (arith, less), more.1 ∙ ap (λ k. get_or lines n [] ∷ drop k (x ∷ lines)) (sym one), more.2)
+
+pub is_within : (dots n : ℕ) (lines : List Text) → has_dots dots (slice_get lines n) ≡ true → n < length lines
+is_within dots n lines e = let all = stands_as dots n lines e in all.0
+
+not_more : (m n : ℕ) → (n == m) ≡ true → nat_lt m n ≡ false
+not_more m n e = let same = eqb-true n m e in le-ltb m n (omega (arith, same))
+
+pub target_entered : (a : Text) (n : ℕ) (p : Spot) (c : Closing) (k : ℕ) → p.level.next ≡ Some k → has_dots p.level.dots (slice_get p.level.copy k) ≡ true
+    → ◌≡◌ {A = Act Signal} (frame a n (Levels p c) Go_on) (entering (context a n p) c k (get_or p.level.copy k []))
+target_entered a n p c k next stands =
+    let all = stands_as p.level.dots k p.level.copy stands in
+    let text = get_or p.level.copy k [] in
+    let same = all.2 in
+    rw (next, all.1, not_more p.level.dots (dots_of text) same, same) (assoc charge (λ _. line_entered (context a n p) k text) (closed c))
+
+-- ---- a line behind its step
+
+module _ (p : Spot) (c : Closing) (k : ℕ) (text : Text) where
+  abbrev step_spent : Text → ℕ → Act Signal
+  step_spent a n = line_entered (context a n p) k text >>= closed c
+
+  abbrev line_read : Text → ℕ → RoutineLineTree → Act Signal
+  line_read a n l = (context a n p).texts.enter (at_next p (k + 1)) (commands_in l.body) >>= closed c
+
+  read_is : (a : Text) (n : ℕ) → ◌≡◌ {A = Act Signal} (step_spent a n) (give_some Zsyntax (routine_line_at text) >>= line_read a n)
+  read_is a n = assoc (give_some Zsyntax (routine_line_at text)) (λ l. (context a n p).texts.enter (at_next p (k + 1)) (commands_in l.body)) (closed c)
+
+-- ---- calls
+
+module _ {S : Type 0} {g : Ghosts S} where
+  -- a call that needs no point
+  pub at_yielded : {A X : Type 0} {p : Act A} {f : X → A} {parts : Parts S} {r : Result X Code} → Yields fault_of p f r → DoesAt g (λ a n. p) f parts r parts
+  at_yielded {parts = parts} y = record {
+    at = λ sound locks. yielded (here_of g parts locks) y;
+    same = refl;
+  }
+
+  pub at_any : {A X : Type 0} {p : Act A} {f : X → A} {old new : Parts S} {r : Result X Code} → Does g (λ i. p) f old r new → DoesAt g (λ a n. p) f old r new
+  at_any k = record { at = λ sound locks. k.at sound locks; same = k.same }
+
+  pub at_plain : {A X : Type 0} {p : Act A} {f : X → A} {old : Parts S} {e : Eval S} {r : Result X Code} → Evaluates g (λ i. p) f old.eval r e → DoesAt g (λ a n. p) f old r (record old { eval = e })
+  at_plain {old = old} k = record { at = λ sound locks. k.at sound old.out.now.items locks; same = k.same }
+
+  -- the commands of a text that is entered stand on top of its level
+  pub text_runs : {fs : List View} {parts : Parts S} (p : Spot) (c : Closing) (cs : List CommandTree)
+      → Runs g (λ a n. (texts a (suc n)).enter p cs >>= closed c) fs parts (Ok signal.GoOn) (Rests p cs ∷ Levels p c ∷ fs) parts
+  text_runs p c cs = runs_as (λ a n. assoc (commands (context a n p) cs) (after_level (context a n p)) (closed c)) (runs_frame (Levels p c) (runs_rest p cs))
+
+  pub body_runs : {fs : List View} {parts : Parts S} (p : Spot) (c : Closing) (b : BodyTree)
+      → Runs g (λ a n. (texts a (suc n)).enter p (commands_in b) >>= closed c) fs parts (Ok signal.GoOn) (on_body p c b fs) parts
+  body_runs p c (short comment) = runs_frame (Levels p c) (runs_signal signal.GoOn)
+  body_runs p c (spaced_out dots l) = text_runs p c (commands_of l)
+
+  -- ---- lines that are passed over
+
+  module _ (dots k : ℕ) (lines : List Text) (x : Text) (less : k < length lines) (is : x ≡ get_or lines k x) where
+    -- a line with more dots
+    pub passes_line : nat_lt dots (dots_of x) ≡ true → {X : Type 0} {f : X → Unit {0}} {u : X} {old mid new : Parts S} {r : Result (Option ℕ) Code} → DoesAt g (λ a n. charge) f old (Ok u) mid
+        → DoesAt g (λ a n. reached dots (k + 1) (drop (k + 1) lines)) (λ (found : Option ℕ). found) mid r new → DoesAt g (λ a n. reached dots k (drop k lines)) (λ (found : Option ℕ). found) old r new
+    passes_line more d then_does = rw (next_item lines k x less is, more) (at_then (λ a n _. reached dots (k + 1) (drop (k + 1) lines)) d then_does)
+
+    pub passing_failed : nat_lt dots (dots_of x) ≡ true → {X : Type 0} {f : X → Unit {0}} {old new : Parts S} {e : Code} {r : Result (Option ℕ) Code} → DoesAt g (λ a n. charge) f old (Err e) new → IsErr r × IsErrAnd r (λ x. x ≡ e)
+        → DoesAt g (λ a n. reached dots k (drop k lines)) (λ (found : Option ℕ). found) old r new
+    passing_failed more d h = rw (next_item lines k x less is, more) (at_stopped (λ a n _. reached dots (k + 1) (drop (k + 1) lines)) d h)
+
+    -- one with as many or fewer
+    pub stops_at : nat_lt dots (dots_of x) ≡ false → {parts : Parts S} → DoesAt g (λ a n. reached dots k (drop k lines)) (λ (found : Option ℕ). found) parts (Ok (cond (dots_of x == dots) (Some k) None)) parts
+    stops_at not_more = rw (next_item lines k x less is, not_more) (at_gives (cond (dots_of x == dots) (Some k) None) (λ found. found) (cond (dots_of x == dots) (Some k) None) refl)
+
+  -- ---- a line that is entered
+
+  module _ (p : Spot) (c : Closing) (k : ℕ) (text : Text) where
+    module _ {X : Type 0} {f : X → Unit {0}} {u : X} {fs : List View} {old mid : Parts S} (d : DoesAt g (λ a n. charge) f old (Ok u) mid) (less : mid.eval.steps < old.eval.steps) where
+      -- want of memory behind its step
+      pub step_lost : {fs' : List View} (r : Result signals.Signal Code) → IsErr r × IsErrAnd r (λ x. x ≡ Zmem) → Runs g (λ a n. entering (context a n p) c k text) fs old r fs' mid
+      step_lost r h = runs_then (λ a n _. step_spent p c k text a n) d (omega (arith, less)) (runs_wanting (λ a n. step_spent p c k text a n) r h)
+
+      -- it has no tree
+      pub line_refused : {Y : Type 0} {view : Y → RoutineLineTree} {e : Code} {fs' : List View} {r : Result signals.Signal Code} → Yields fault_of (give_some Zsyntax (routine_line_at text)) view (Err e) → IsErr r × IsErrAnd r (λ x. x ≡ e)
+          → Runs g (λ a n. entering (context a n p) c k text) fs old r fs' mid
+      line_refused y h = runs_then (λ a n _. step_spent p c k text a n) d (omega (arith, less)) (runs_as (λ a n. read_is p c k text a n) (runs_stopped (λ a n. line_read p c k text a n) (at_yielded y) (omega arith) h))
+
+      pub line_runs : {Y : Type 0} {view : Y → RoutineLineTree} {l : Y} → Yields fault_of (give_some Zsyntax (routine_line_at text)) view (Ok l)
+          → Runs g (λ a n. entering (context a n p) c k text) fs old (Ok signal.GoOn) (on_body (at_next p (k + 1)) c (view l).body fs) mid
+      line_runs {view = view} {l = l} y =
+          runs_spent (λ a n _. step_spent p c k text a n) d less
+          (runs_as (λ a n. read_is p c k text a (suc n)) (runs_then (λ a n. line_read p c k text a (suc n)) (at_yielded y) (omega arith) (body_runs (at_next p (k + 1)) c (view l).body)))
+
+  -- ---- levels that are opened
+
+  module _ (p : Spot) (d : Depth) (is : d ≡ record { levels = p.depth.levels + 1; indirections = p.depth.indirections }) {fs fs' : List View} {old new : Parts S} {r : Result signals.Signal Code} where
+    pub lines_opened : (l : Level) (c : Closing) → Runs g (λ a n. frame a n (Levels (record { depth = d; level = l }) c) Go_on) fs old r fs' new
+        → Runs g (λ a n. lines_next (context a n (deeper p l)) >>= closed c) fs old r fs' new
+    lines_opened l c k = subst (λ (d : Depth). Runs g (λ a n. frame a n (Levels (record { depth = d; level = l }) c) Go_on) fs old r fs' new) is k
+
+  pub text_opened : (p : Spot) (d : Depth) → d ≡ record { levels = p.depth.levels + 1; indirections = p.depth.indirections } → {fs : List View} {parts : Parts S} (cs : List CommandTree)
+      → Runs g (λ a n. (texts a (suc n)).enter (deeper p (text_spot d p).level) cs >>= closed leaves) fs parts (Ok signal.GoOn) (Rests (text_spot d p) cs ∷ Levels (text_spot d p) leaves ∷ fs) parts
+  text_opened p d is {fs = fs} {parts = parts} cs =
+      let there = deeper p (text_spot d p).level in
+      subst (λ (d : Depth). Runs g (λ a n. (texts a (suc n)).enter there cs >>= closed leaves) fs parts (Ok signal.GoOn) (Rests (text_spot d p) cs ∷ Levels (text_spot d p) leaves ∷ fs) parts) (sym is)
+      (text_runs there leaves cs)

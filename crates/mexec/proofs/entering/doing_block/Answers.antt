@@ -1,0 +1,44 @@
+use Rattle.std.proofs.Common.{Bool, ◌+◌, arith}
+use Rattle.mspec.specs.Act.{Act, ◌>>=◌, ◌>>◌, test_is}
+use Rattle.mmeaning.specs.Levels.{Spot, Level, deeper, restores}
+use Rattle.mmeaning.specs.LineMeaning.{Signal, Context, context, closed, in_level, lines_next}
+use Rattle.meval.specs.Evaluates.{depth_of}
+use Rattle.mexec.specs.Frames.{spot_of}
+use Rattle.mexec.proofs.Calls.{runs_then, runs_stopped, runs_lost, runs_wanting}
+use Rattle.mexec.proofs.LevelRuns.{at_plain, lines_opened}
+use Rattle.mexec.proofs.entering.doing_block.Goals as goal
+
+-- its lines
+abbrev block : Spot → Level
+block p = record p.level { dots = p.level.dots + 1 }
+
+-- once $TEST is known
+abbrev there : Context → Bool → Act Signal
+there x b = in_level x (block x.spot) (restores b) lines_next
+
+pub returns-in_err-depth-clause-does : goal.returns-in_err-depth-clause-does
+returns-in_err-depth-clause-does g c = runs_stopped (λ a n _. test_is >>= there (context a n (spot_of c.args.spot.now))) c.in_err-depth.ensures.does c.in_err-depth.ensures.fewer c.from_residual.ensures
+
+pub returns-in_default-clause-does : goal.returns-in_default-clause-does
+returns-in_default-clause-does g c = runs_then (λ a n _. test_is >>= there (context a n (spot_of c.args.spot.now))) c.in_ok-depth.ensures.does c.in_ok-depth.ensures.fewer (runs_lost _)
+
+pub returns-in_err-copy-clause-does : goal.returns-in_err-copy-clause-does
+returns-in_err-copy-clause-does g c = runs_then (λ a n _. test_is >>= there (context a n (spot_of c.args.spot.now))) c.in_ok-depth.ensures.does c.in_ok-depth.ensures.fewer (runs_wanting _ _ c.from_residual-in_err-copy.ensures)
+
+pub returns-in_err-open_level-clause-does : goal.returns-in_err-open_level-clause-does
+returns-in_err-open_level-clause-does g c =
+    let p = spot_of c.args.spot.now in
+    let test = c.test-test.result in
+    runs_then (λ a n _. test_is >>= there (context a n p)) c.in_ok-depth.ensures.does c.in_ok-depth.ensures.fewer
+    (runs_then (λ a n. there (context a n p)) (at_plain c.test-test.ensures) (omega arith)
+    (runs_stopped (λ a n _. lines_next (context a n (deeper p (block p))) >>= closed (restores test)) (at_plain c.in_err-open_level.ensures.does) c.in_err-open_level.ensures.fewer c.from_residual-in_err-open_level.ensures))
+
+pub returns-clause-does : goal.returns-clause-does
+returns-clause-does g c =
+    let p = spot_of c.args.spot.now in
+    let test = c.test-test.result in
+    let lines = rw (c.in_ok-copy.ensures.cases, c.in-Some.ensures) at c.lines_next.ensures.does in
+    runs_then (λ a n _. test_is >>= there (context a n p)) c.in_ok-depth.ensures.does c.in_ok-depth.ensures.fewer
+    (runs_then (λ a n. there (context a n p)) (at_plain c.test-test.ensures) (omega arith)
+    (runs_then (λ a n _. lines_next (context a n (deeper p (block p))) >>= closed (restores test)) (at_plain c.in_ok-open_level.ensures.does) c.in_ok-open_level.ensures.fewer
+    (lines_opened p (depth_of c.in_ok-depth.depth) c.in_ok-depth.ensures.deeper (block p) (restores test) lines)))

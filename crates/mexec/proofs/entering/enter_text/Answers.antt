@@ -1,0 +1,7 @@
+use Rattle.std.proofs.Common.{refl}
+use Rattle.mexec.proofs.Calls.{stack_push}
+use Rattle.mexec.proofs.entering.enter_text.Goals as goal
+
+pub returns-clause-frames : goal.returns-clause-frames
+returns-clause-frames c =
+    rw (c.in_ok-push-2.ensures.items, stack_push, c.in_ok-push.ensures.items, stack_push, c.in_ok-clone-2.ensures.cases, c.in_ok-spot.ensures.ok, c.in_ok-clone.ensures.cases) refl

@@ -1,0 +1,9 @@
+use Rattle.std.proofs.Common.{None, refl}
+use Rattle.mexec.proofs.Calls.{at_gives}
+use Rattle.mexec.proofs.levels.next_line.Goals as goal
+
+pub returns-in-None-clause-does : goal.returns-in-None-clause-does
+returns-in-None-clause-does g c = rw c.in-None.is (at_gives None (λ found. found) None refl)
+
+pub returns-in-Some-clause-does : goal.returns-in-Some-clause-does
+returns-in-Some-clause-does g c = rw c.in-Some.is c.reached.ensures.does

@@ -1,0 +1,3 @@
+mod Held
+mod Shelves
+mod Texts

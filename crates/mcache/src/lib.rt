@@ -1,0 +1,10 @@
+//! Trees of texts that were parsed, kept for the next time.
+#![tactic(auto)]
+
+mod shelf;
+#[cfg(test)]
+mod tests;
+mod trees;
+
+pub use mparse::ParseFault;
+pub use trees::Trees;

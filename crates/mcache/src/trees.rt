@@ -1,0 +1,122 @@
+// The cache of trees.
+ghost use Rattle.std.specs.Prelude.{◌≡◌, ◌+◌, ◌<◌, ◌≤◌, length, IfOk, Err, Some, None};
+ghost use Rattle.mgrammar.specs.Reading.{line_at};
+ghost use Rattle.mgrammar.specs.RoutineLine.{routine_line_at};
+ghost use Rattle.mtree.specs.Tree.{line_tree, routine_line_tree};
+ghost use Rattle.mcache.specs.Kept.{IsWithin};
+
+use crate::shelf::{Shelf, find, keep, let_go};
+use lru::LruCache;
+use mparse::{ParseFault, parse_line, parse_routine_line};
+use mtree::{Line, RoutineLine};
+use std::alloc::{AllocError, Global};
+use std::marker::Model;
+use std::rc::Rc;
+
+/// Trees of texts, of which so many are kept as there are entries: of lines, as they come from a terminal or stand behind XECUTE, and of
+/// lines of routines. The two kinds are kept apart, since a text may be both.
+///
+/// Contracts see it as the count of its entries: which trees are kept shows in no answer.
+#[derive(Drop)]
+pub struct Trees {
+    entries: usize,
+    lines: Shelf<Line>,
+    routine_lines: Shelf<RoutineLine>,
+}
+
+impl Model for Trees {
+    ghost use Rattle.std.specs.Prelude.{ℕ};
+    ghost use Rattle.mcache.specs.Kept.{AreTrees};
+
+    ghost Value = { ℕ };
+
+    ghost view = { λ trees. trees.entries };
+
+    ghost invariant = { λ trees. AreTrees trees.entries trees.lines.entries trees.routine_lines.entries };
+}
+
+// Makes room for one more tree: of the kind of which more are kept, that goes which was used the longest ago.
+fn make_room(lines: &mut Shelf<Line>, routine_lines: &mut Shelf<RoutineLine>, entries: usize)
+    requires some { 0 < entries }
+    requires fit { length lines.old.entries + length routine_lines.old.entries ≤ entries }
+    ensures lines { IsWithin lines.new.entries lines.old.entries }
+    ensures routine_lines { IsWithin routine_lines.new.entries routine_lines.old.entries }
+    ensures room { length lines.new.entries + length routine_lines.new.entries < entries }
+{
+    if lines.len() + routine_lines.len() < entries {
+        return;
+    }
+    if lines.len() > routine_lines.len() {
+        let_go(lines);
+    } else {
+        let_go(routine_lines);
+    }
+}
+
+impl Trees {
+    /// Of so many entries, with no tree yet.
+    ///
+    /// # Errors
+    ///
+    /// For want of memory.
+    pub fn new(alloc: Global, entries: usize) -> Result<Trees, AllocError>
+        requires { 0 < entries }
+        ensures { IfOk result (λ trees. trees ≡ entries) }
+    {
+        Ok(Trees {
+            entries,
+            lines: LruCache::unbounded(alloc)?,
+            routine_lines: LruCache::unbounded(alloc)?,
+        })
+    }
+
+    /// How many trees are kept. Takes no memory.
+    pub fn len(&self) -> usize
+        ensures { result ≤ self.now }
+    {
+        self.lines.len() + self.routine_lines.len()
+    }
+
+    /// The tree of a line, which is the one that `parse_line` gives. A tree that is kept is found by its text, without a copy of either.
+    /// A tree that finds no memory to be kept is answered all the same.
+    ///
+    /// # Errors
+    ///
+    /// `Syntax` only where no tree of the grammar has the text; `Memory` for want of memory.
+    pub fn line(&mut self, alloc: Global, text: &[u8]) -> Result<Rc<Line>, ParseFault>
+        ensures tree { IfOk result (λ line. line_at text.now ≡ Some (line_tree line.value)) }
+        ensures syntax { result ≡ Err ParseFault.Syntax → line_at text.now ≡ None }
+        ensures same { self.new ≡ self.old }
+    {
+        if let Some(line) = find(&mut self.lines, text) {
+            return Ok(line);
+        }
+        let line = Rc::new(alloc, parse_line(alloc, text)?)?;
+        make_room(&mut self.lines, &mut self.routine_lines, self.entries);
+        keep(alloc, &mut self.lines, text, &line);
+        Ok(line)
+    }
+
+    /// The tree of a routine's line, which is the one that `parse_routine_line` gives; otherwise as `line`.
+    ///
+    /// # Errors
+    ///
+    /// `Syntax` only where no tree of the grammar has the text; `Memory` for want of memory.
+    pub fn routine_line(
+        &mut self,
+        alloc: Global,
+        text: &[u8],
+    ) -> Result<Rc<RoutineLine>, ParseFault>
+        ensures tree { IfOk result (λ line. routine_line_at text.now ≡ Some (routine_line_tree line.value)) }
+        ensures syntax { result ≡ Err ParseFault.Syntax → routine_line_at text.now ≡ None }
+        ensures same { self.new ≡ self.old }
+    {
+        if let Some(line) = find(&mut self.routine_lines, text) {
+            return Ok(line);
+        }
+        let line = Rc::new(alloc, parse_routine_line(alloc, text)?)?;
+        make_room(&mut self.lines, &mut self.routine_lines, self.entries);
+        keep(alloc, &mut self.routine_lines, text, &line);
+        Ok(line)
+    }
+}

@@ -202,6 +202,11 @@ module _ {S : Type 0} {g : Ghosts S} where
         → Runs g (λ a n. lines_next (context a n (deeper p l)) >>= closed c) fs old r fs' new
     lines_opened l c k = subst (λ (d : Depth). Runs g (λ a n. frame a n (Levels (record { depth = d; level = l }) c) Go_on) fs old r fs' new) is k
 
+    -- by another name of its level
+    pub lines_opened_as : (l m : Level) → m ≡ l → (c : Closing) → Runs g (λ a n. frame a n (Levels (record { depth = d; level = m }) c) Go_on) fs old r fs' new
+        → Runs g (λ a n. lines_next (context a n (deeper p l)) >>= closed c) fs old r fs' new
+    lines_opened_as l m same c k = lines_opened l c (subst (λ (m : Level). Runs g (λ a n. frame a n (Levels (record { depth = d; level = m }) c) Go_on) fs old r fs' new) same k)
+
   pub text_opened : (p : Spot) (d : Depth) → d ≡ record { levels = p.depth.levels + 1; indirections = p.depth.indirections } → {fs : List View} {parts : Parts S} (cs : List CommandTree)
       → Runs g (λ a n. (texts a (suc n)).enter (deeper p (text_spot d p).level) cs >>= closed leaves) fs parts (Ok signal.GoOn) (Rests (text_spot d p) cs ∷ Levels (text_spot d p) leaves ∷ fs) parts
   text_opened p d is {fs = fs} {parts = parts} cs =

@@ -2,10 +2,7 @@
 use Rattle.std.proofs.Common.{◌≡◌, ◌≢◌, ◌≤◌, List, ℕ, Option, Some, None, Ok, Err, refl, sym, ap, ◌∙◌, subst, map, arith}
 use Rattle.std.specs.FinMap.{empty}
 use Rattle.mspec.specs.Act.{Act}
-use Rattle.mgrammar.specs.Grammar.{LineTree, spell}
-use Rattle.mgrammar.specs.WellFormed.{well}
-use Rattle.mgrammar.specs.Reading.{line_at}
-use Rattle.mgrammar.proofs.ReadingLines.{line_takes, line_again}
+use Rattle.mgrammar.specs.Grammar.{LineTree}
 use Rattle.mmeaning.specs.Levels.{commands_of}
 use Rattle.mmeaning.specs.LineMeaning as meaning
 use Rattle.mmeaning.specs.LineMeaning.{run, run_within}
@@ -24,17 +21,6 @@ use Rattle.mexec.specs.declared.run.Ended.{Ended}
 use Rattle.mexec.specs.declared.run.Ended.TheVariants.{Done, Halt, Fault}
 use Rattle.mexec.specs.Frames.{signal_of}
 use Rattle.mexec.specs.Runs.{RunsText, EndsBy, ending_of}
-
--- a text that no tree spells
-pub none_at : (text : List ℕ) → ((t : LineTree) → well t → spell t ≡ text → ⊥) → line_at text ≡ None
-none_at text h = go (line_at text) refl
-  where
-    go : (o : Option LineTree) → line_at text ≡ o → o ≡ None
-    go None e = refl
-    go (Some l) e = let read = line_takes text l e in absurd (h l read.1 read.0)
-
-pub some_at : (text : List ℕ) (l : LineTree) → well l × (spell l ≡ text) → line_at text ≡ Some l
-some_at text l h = ap line_at (sym h.1) ∙ line_again l h.0
 
 -- no signal ends a line with a code
 no_fault : (c : Code) (s : Signal) → ending_of (Fault c) ≡ step.ending_of (signal_of s) → ⊥

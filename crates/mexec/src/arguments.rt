@@ -183,8 +183,10 @@ pub(crate) fn arguments<S: NodeStore>(
     let mut at = from;
     while at < args.len() {
         match argument(alloc, parts, &behind.spot, &args[at])? {
-            Begun::Gave(Signal::GoOn) => at += 1,
-            Begun::Gave(other) => return Ok(other),
+            Begun::Gave(signal) => match signal {
+                Signal::GoOn => at += 1,
+                other => return Ok(other),
+            },
             Begun::Lines(entry) => {
                 return enter_lines(alloc, parts, behind, entry, at + 1, machine);
             }

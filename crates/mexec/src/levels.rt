@@ -1,5 +1,5 @@
 // The lines of a level, one after another, until it closes.
-ghost use Rattle.std.specs.Prelude.{◌≡◌, ◌≤◌, ◌<◌, ◌+◌, ◌*◌, Ok, Some, [], get_or, drop, length, IfOk, IfSome, OnOk};
+ghost use Rattle.std.specs.Prelude.{◌≡◌, ◌≤◌, ◌<◌, ◌+◌, ◌*◌, cond, Ok, Some, None, [], get_or, drop, length, IfOk, IfSome, OnOk};
 ghost use Rattle.mmeaning.specs.Levels as levels;
 ghost use Rattle.mmeaning.specs.LineMeaning as meaning;
 ghost use Rattle.mmeaning.specs.Frames.{frame, Levels};
@@ -53,6 +53,13 @@ fn ended<S: NodeStore>(
     Ok(signal)
 }
 
+// A place, where this is so.
+fn place_where(is_entered: bool, at: usize) -> Option<usize>
+    ensures { result ≡ cond is_entered (Some at) None }
+{
+    if is_entered { Some(at) } else { None }
+}
+
 // The place of the line that is entered, from one on; none where the level ends. A line that is passed over costs a step.
 fn reached<S: NodeStore>(
     parts: &mut Parts<S>,
@@ -68,7 +75,7 @@ fn reached<S: NodeStore>(
     while at < level.copy.len() {
         let dots = dots_of(level.copy[at].as_bytes());
         if dots <= level.dots {
-            return Ok((dots == level.dots).then_some(at));
+            return Ok(place_where(dots == level.dots, at));
         }
         charge(parts)?;
         at += 1;

@@ -12,7 +12,6 @@ mod reading;
 mod rest;
 mod run;
 mod signal;
-mod trees;
 mod turns;
 
 pub use machine::Machine;

@@ -1,8 +1,8 @@
 // What lines are run with.
-ghost use Rattle.std.specs.Prelude.{◌≤◌};
+ghost use Rattle.std.specs.Prelude.{◌<◌};
 
 use crate::frames::Frame;
-use crate::trees::Trees;
+use mcache::Trees;
 use std::alloc::{AllocError, Global};
 
 /// What lines are run with, and what is kept from one to the next, so that no memory has to be asked for again: room for frames, and
@@ -20,7 +20,7 @@ impl Machine {
     ///
     /// `AllocError` for want of memory.
     pub fn new(alloc: Global, entries: usize) -> Result<Machine, AllocError>
-        requires { 1 ≤ entries }
+        requires { 0 < entries }
     {
         Ok(Machine {
             frames: Vec::with_capacity(alloc, 16)?,

@@ -7,7 +7,7 @@ ghost use Rattle.mmeaning.specs.Yields.{Yields};
 ghost use Rattle.mtree.specs.Tree.{line_tree, routine_line_tree};
 ghost use Rattle.moperator.specs.Codes.{fault_of};
 
-use crate::trees::Trees;
+use mcache::Trees;
 use moperator::Code;
 use mparse::ParseFault;
 use mtree::{Line, RoutineLine};

@@ -7,7 +7,6 @@ use Rattle.mmeaning.proofs.Calls.{residual_is}
 use Rattle.mtree.specs.Tree.{destination_tree, expr_tree, reference_tree, condition_tree}
 use Rattle.meval.specs.Evaluates.{depth_of}
 use Rattle.mcommand.proofs.Calls.{at_done, does_evaluated, does_gives}
-use Rattle.mexec.specs.declared.arguments.Begun.TheVariants as begun
 use Rattle.mexec.specs.declared.signal.Signal.TheVariants as signal
 use Rattle.mexec.specs.Frames.{signal_of, spot_of}
 use Rattle.mexec.proofs.Calls.{at_then, at_failed, at_gives, at_as, at_depth, goes_on, testing_is}
@@ -64,7 +63,7 @@ returns-in-Loop-clause-does g c =
 
 pub returns-in-DoOne-clause-does : goal.returns-in-DoOne-clause-does
 returns-in-DoOne-clause-does g c =
-    rw (c.in-DoOne.is, c.enters.ensures) (enters_where (spot_of c.args.spot.now) (condition_tree c.in-DoOne.condition) (begun.Lines c.in-DoOne.entry) c.holds.result (at_depth c.args.spot.now.depth c.holds.ensures.does))
+    rw (c.in-DoOne.is, c.enters.ensures) (enters_where (spot_of c.args.spot.now) (condition_tree c.in-DoOne.condition) _ c.holds.result (at_depth c.args.spot.now.depth c.holds.ensures.does))
 
 pub returns-in-GoTo-clause-does : goal.returns-in-GoTo-clause-does
 returns-in-GoTo-clause-does g c =
@@ -72,4 +71,4 @@ returns-in-GoTo-clause-does g c =
 
 pub returns-in-Executed-clause-does : goal.returns-in-Executed-clause-does
 returns-in-Executed-clause-does g c =
-    rw (c.in-Executed.is, c.enters-in-Executed.ensures) (enters_where (spot_of c.args.spot.now) (condition_tree c.in-Executed.condition) (begun.Text c.in-Executed.e) c.holds-in-Executed.result (at_depth c.args.spot.now.depth c.holds-in-Executed.ensures.does))
+    rw (c.in-Executed.is, c.enters-in-Executed.ensures) (enters_where (spot_of c.args.spot.now) (condition_tree c.in-Executed.condition) _ c.holds-in-Executed.result (at_depth c.args.spot.now.depth c.holds-in-Executed.ensures.does))

@@ -10,5 +10,5 @@ returns-in_err-leave_arguments-clause-does g c = runs_wanting _ _ c.from_residua
 pub returns-clause-does : goal.returns-clause-does
 returns-clause-does g c =
     let b = c.args.behind.now in
-    let does = rw c.in_ok-leave_arguments.ensures.frames at c.doing.ensures.does in
+    let does = rw (c.deref.ensures, c.in_ok-leave_arguments.ensures.frames) at c.doing.ensures.does in
     runs_listing (spot_of b.spot.value) (map arg_tree (drop c.args.argument (args_before b.line.value b.at))) does

@@ -4,7 +4,7 @@ use Rattle.mtree.specs.Tree.{entry_tree}
 use Rattle.mmeaning.specs.LineMeaning as meaning
 use Rattle.mmeaning.specs.LineMeaning.{context}
 use Rattle.mcommand.specs.Targets.{target_view}
-use Rattle.mcommand.proofs.Calls.{at_done}
+use Rattle.mexec.proofs.LevelRuns.{at_any}
 use Rattle.mexec.specs.declared.signal.Signal.TheVariants as signal
 use Rattle.mexec.specs.Frames.{signal_of, spot_of}
 use Rattle.mexec.proofs.Calls.{at_then, at_stopped, at_gives}
@@ -15,11 +15,11 @@ returns-in_err-applies-clause-does g c = at_stopped _ c.in_err-applies.ensures.d
 
 pub returns-in_err-target-clause-does : goal.returns-in_err-target-clause-does
 returns-in_err-target-clause-does g c =
-    at_then _ (rw c.if-applies.true at c.in_ok-applies.ensures.does) (at_stopped _ (at_done c.in_ok-applies.parts.eval.depth c.in_err-target.ensures.does) c.from_residual-in_err-target.ensures)
+    at_then _ (rw c.if-applies.true at c.in_ok-applies.ensures.does) (at_stopped _ (at_any c.in_err-target.ensures.does) c.from_residual-in_err-target.ensures)
 
 pub returns-in_ok-target-clause-does : goal.returns-in_ok-target-clause-does
 returns-in_ok-target-clause-does g c =
-    at_then _ (rw c.if-applies.true at c.in_ok-applies.ensures.does) (at_then (λ a n t. give (meaning.Goes t)) (at_done c.in_ok-applies.parts.eval.depth c.in_ok-target.ensures.does) (at_gives _ signal_of (signal.Goes c.in_ok-target.target) refl))
+    at_then _ (rw c.if-applies.true at c.in_ok-applies.ensures.does) (at_then (λ a n t. give (meaning.Goes t)) (at_any c.in_ok-target.ensures.does) (at_gives _ signal_of (signal.Goes c.in_ok-target.target) refl))
 
 pub returns-else-applies-clause-does : goal.returns-else-applies-clause-does
 returns-else-applies-clause-does g c = at_then _ (rw c.if-applies.false at c.in_ok-applies.ensures.does) (at_gives meaning.Go_on signal_of signal.GoOn refl)

@@ -1,11 +1,11 @@
-use Rattle.std.proofs.Common.{Bool, ◌+◌, arith}
+use Rattle.std.proofs.Common.{◌≡◌, Bool, ◌+◌, arith}
 use Rattle.mspec.specs.Act.{Act, ◌>>=◌, ◌>>◌, test_is}
 use Rattle.mmeaning.specs.Levels.{Spot, Level, deeper, restores}
 use Rattle.mmeaning.specs.LineMeaning.{Signal, Context, context, closed, in_level, lines_next}
 use Rattle.meval.specs.Evaluates.{depth_of}
 use Rattle.mexec.specs.Frames.{spot_of}
 use Rattle.mexec.proofs.Calls.{runs_then, runs_stopped, runs_lost, runs_wanting}
-use Rattle.mexec.proofs.LevelRuns.{at_plain, lines_opened}
+use Rattle.mexec.proofs.LevelRuns.{at_plain, lines_opened_as}
 use Rattle.mexec.proofs.entering.doing_block.Goals as goal
 
 -- its lines
@@ -37,8 +37,9 @@ pub returns-clause-does : goal.returns-clause-does
 returns-clause-does g c =
     let p = spot_of c.args.spot.now in
     let test = c.test-test.result in
-    let lines = rw (c.in_ok-copy.ensures.cases, c.in-Some.ensures) at c.lines_next.ensures.does in
+    let level : Level = record { copy = c.in_ok-copy.copy.value.items; next = p.level.next; dots = c.in-Some.dots } in
+    let same : level ≡ block p = λ i. record { copy = (c.in_ok-copy.ensures.cases i).items; next = p.level.next; dots = c.in-Some.ensures.1 i } in
     runs_then (λ a n _. test_is >>= there (context a n p)) c.in_ok-depth.ensures.does c.in_ok-depth.ensures.fewer
     (runs_then (λ a n. there (context a n p)) (at_plain c.test-test.ensures) (omega arith)
     (runs_then (λ a n _. lines_next (context a n (deeper p (block p))) >>= closed (restores test)) (at_plain c.in_ok-open_level.ensures.does) c.in_ok-open_level.ensures.fewer
-    (lines_opened p (depth_of c.in_ok-depth.depth) c.in_ok-depth.ensures.deeper (block p) (restores test) lines)))
+    (lines_opened_as p (depth_of c.in_ok-depth.depth) c.in_ok-depth.ensures.deeper (block p) level same (restores test) c.lines_next.ensures.does)))

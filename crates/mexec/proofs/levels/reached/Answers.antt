@@ -14,7 +14,7 @@ returns-then-dots-level-clause-does g c =
     let is = rw c.deref-in-loop-at.ensures at c.index.ensures in
     let few = rw (c.dots_of-dots.ensures, c.as_bytes.ensures.bytes) at c.if-dots-level.true in
     let not_more = le-ltb c.args.level.now.dots (dots_of c.index.result.now) few in
-    rw (c.then_some.ensures, c.dots_of-dots.ensures, c.as_bytes.ensures.bytes)
+    rw (c.place_where.ensures, c.dots_of-dots.ensures, c.as_bytes.ensures.bytes)
     (c.loop-at.invariant.leads _ _ (stops_at c.args.level.now.dots c.loop-at.at v.items c.index.result.now less is not_more))
 
 pub returns-in_err-charge-clause-does : goal.returns-in_err-charge-clause-does

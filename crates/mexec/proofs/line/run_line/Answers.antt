@@ -1,5 +1,6 @@
-use Rattle.std.proofs.Common.{◌≡◌, ◌≤◌, Option, Some, None, length, map, refl, arith}
+use Rattle.std.proofs.Common.{◌≡◌, ◌≤◌, Option, Some, None, length, refl, arith}
 use Rattle.mspec.proofs.ListPlaces.{none_left}
+use Rattle.mmeaning.specs.Levels.{commands_of}
 use Rattle.mtree.specs.Tree.{line_tree}
 use Rattle.mcommand.proofs.Calls.{keeps_itself, keeps_on}
 use Rattle.mexec.proofs.Calls.{stack_push}
@@ -10,8 +11,7 @@ pub loop-frame-init : goal.loop-frame-init
 loop-frame-init g c = record {
   loans = keeps_itself c.args.parts.now;
   leads =
-      rw (c.in_ok-push-2.ensures.items, stack_push, c.in_ok-push.ensures.items, stack_push, c.in_ok-frames.ensures.items, c.in_ok-line.ensures.ok)
-      (leads_first (map (λ c. c.0) (line_tree c.args.line).commands) c.args.parts.now);
+      rw c.in_ok-begin.ensures (leads_first (commands_of (line_tree c.args.line.value)) c.args.parts.now);
 }
 
 pub loop-frame-preserved : goal.loop-frame-preserved
@@ -33,7 +33,7 @@ none_is (Some x) h = absurd (h x refl)
 
 pub returns-clause-does : goal.returns-clause-does
 returns-clause-does g c =
-    let v = c.loop-frame.frames in
+    let v = c.loop-frame.machine.frames in
     let r : c.pop.result ≡ None = none_is c.pop.result (λ x e. c.in_default.not-Some x e) in
     let n = rw r at c.pop.ensures.cases in
     let few : length v.items ≤ 0 = omega (arith, v.ok, n) in

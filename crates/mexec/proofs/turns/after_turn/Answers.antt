@@ -13,3 +13,6 @@ returns-in-Quits-clause-does g c = rw c.in-Quits.is (runs_signal signal.Skips)
 
 pub returns-in-Halts-clause-does : goal.returns-in-Halts-clause-does
 returns-in-Halts-clause-does g c = rw c.in-Halts.is (runs_signal signal.Halts)
+
+pub returns-in-Goes-clause-does : goal.returns-in-Goes-clause-does
+returns-in-Goes-clause-does g c = rw c.in-Goes.is (runs_signal (signal.Goes c.in-Goes.target))

@@ -133,9 +133,8 @@ fn answer_line<S: NodeStore, W: Write>(
         Fate::Unreadable => write_whole(writer, b"?!ZWIRE\n"),
         Fate::Runs(terminal, text) => {
             let reply = world.line(terminal, text);
-            let shown = show_reply(room, terminal, &reply);
+            show_reply(room, terminal, &reply)?;
             world.reuse(reply);
-            shown?;
             write_whole(writer, room)
         }
     }

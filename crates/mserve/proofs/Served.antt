@@ -11,11 +11,12 @@ use Rattle.mwire.specs.Serves.{Serves}
 use Rattle.mwire.specs.declared.fault.WireFault.{WireFault}
 use Rattle.mserve.specs.Runs.{Answered, Broken, ServedOver}
 
-module _ {S V : Type 0} (g : Ghosts S) {settings settings' : Settings} {server : Server} {globals : Globals} {content : V → Globals} {document : Text} {left left' held held' : Option Text}
-    (reads : IsRead document settings) (same : settings' ≡ settings) (begins : server ≡ opening globals) (none : globals ≡ empty) where
+module _ {server : Server} {globals : Globals} (begins : server ≡ opening globals) (none : globals ≡ empty) where
   opens : server ≡ opening empty
   opens = begins ∙ ap opening none
 
+module _ {S V : Type 0} (g : Ghosts S) {settings settings' : Settings} {server : Server} {globals : Globals} {content : V → Globals} {document : Text} {left left' held held' : Option Text}
+    (reads : IsRead document settings) (same : settings' ≡ settings) (begins : server ≡ opening globals) (none : globals ≡ empty) where
   -- a stream that was answered to its end
   pub answered : {v : V} → g.sound → ServedOver g settings' server content left left' held held' (Ok v) → Answered document left left' held held' (content v)
   answered sound s = record {
@@ -27,11 +28,11 @@ module _ {S V : Type 0} (g : Ghosts S) {settings settings' : Settings} {server :
     trace = s.serves.outcome.1.trace;
     events = s.serves.outcome.1.events;
     after = s.after;
-    history = let h = s.serves.outcome.1.history sound in let i = rw same at h in rw opens at i;
+    history = let h = s.serves.outcome.1.history sound in let i = rw same at h in rw (opens begins none) at i;
     appended = let a = s.serves.appended in rw s.serves.outcome.1.text at a;
     last = s.last;
   }
 
   -- one that a fault broke off
   pub broken : {fault : WireFault} → ServedOver g settings' server content left left' held held' (Err fault) → Broken g document left left' held held' fault
-  broken s = record { settings = settings; of_document = reads; after = s.after; serves = let t = s.serves in let u = rw same at t in rw opens at u }
+  broken s = record { settings = settings; of_document = reads; after = s.after; serves = let t = s.serves in let u = rw same at t in rw (opens begins none) at u }

@@ -169,7 +169,7 @@ def lines():
 
 def loops():
     print("turns of a FOR")
-    for name, count in ("empty", 1), ("arithmetic", 1), ("subscripts", 1), ("walk", 1), ("set and kill", 2):
+    for name, count in ("empty", 1), ("arithmetic", 1), ("subscripts", 1), ("walk", 1), ("set and kill", 2), ("text executed", 1), ("routine done", 1):
         print(f"  {name:<12} {PASSES * count * len('1.' + chr(10))}")
 
 

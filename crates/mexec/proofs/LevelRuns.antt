@@ -68,7 +68,7 @@ module _ (x : Context) where
     where
       go : (more same : Bool) → ◌≡◌ {A = Act Signal} (lines_reached x (n + 1) rest) (reached x.spot.level.dots (n + 1) rest >>= line_reached x)
           → ◌≡◌ {A = Act Signal} (cond more (charge >> lines_reached x (n + 1) rest) (cond same (charge >> line_entered x n text) (give Go_on)))
-            (cond more (charge >> reached x.spot.level.dots (n + 1) rest) (give (cond same (Some n) None)) >>= line_reached x)
+          (cond more (charge >> reached x.spot.level.dots (n + 1) rest) (give (cond same (Some n) None)) >>= line_reached x)
       go true same then_is =
           ap (λ (q : Act Signal). charge >> q) then_is
           ∙ sym (assoc charge (λ _. reached x.spot.level.dots (n + 1) rest) (line_reached x))

@@ -8,8 +8,8 @@ The requests before the first line, as many as a run without a line makes, are t
 the first. They are told by `mserve: Memory` with status 2, `mserve: settings: Memory` with status 3, or `mserve: store: Memory` with
 status 4, and no reply; each of the three must come.
 
-Some requests may go by untold, with all replies as they are: std asks for the words of the command line in advance, and the database
-for what only saves time, as the copy that it keeps of what it committed. They are at most a quarter of all requests of a block. Status 1
+Some requests may go by untold, with all replies as they are: std asks for the words of the command line in advance, and the database, the cache of trees and
+the copies of routines for what only saves time. They are at most half of all requests of a block. Status 1
 where a run does otherwise, where no request comes in any line, or where there is no block.
 
 The program is crates/mserve/out/mserve, as `./mserve` or the gate leaves it. `tools/refuse_memory.c` refuses the requests."""
@@ -93,7 +93,7 @@ def judged(shim, block, requests, judge):
     ran = [run(shim, stream, nth)[:3] for nth in requests]
     found = [judge(wanted, *one) for one in ran]
     faults = [f"{name}: request {nth}: {wrong}" for nth, wrong in zip(requests, found) if wrong]
-    if 4 * found.count("") > len(found):
+    if 2 * found.count("") > len(found):
         faults.append(f"{name}: {found.count('')} of {len(found)} requests are not told")
     return faults, ran
 

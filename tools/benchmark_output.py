@@ -28,8 +28,8 @@ def summed(work):
     return wrapped(PASSES * sum(work(i) for i in range(ROUNDS)))
 
 
-def reply(value):
-    return f"1-{value}\n1.\n"
+def reply(value, terminal=1):
+    return f"{terminal}-{value}\n{terminal}.\n"
 
 
 def main():
@@ -165,12 +165,19 @@ def lines():
         print(f"lines over {kind}")
         print(f"  {'equal':<12} {PASSES * count * len(reply(1))}")
         print(f"  {'different':<12} {PASSES * sum(len(reply(i)) for i in range(count))}")
+        print(f"  {'in turn':<12} {PASSES * sum(len(reply(1, i % 1000 + 1)) for i in range(count))}")
+
+
+LOOPS = [
+    "empty", "arithmetic", "subscripts", "walk", "set and kill", "text executed", "routine done", "name indirection", "lock and give back",
+]
 
 
 def loops():
     print("turns of a FOR")
-    for name, count in ("empty", 1), ("arithmetic", 1), ("subscripts", 1), ("walk", 1), ("set and kill", 2), ("text executed", 1), ("routine done", 1):
-        print(f"  {name:<12} {PASSES * count * len('1.' + chr(10))}")
+    for name in LOOPS:
+        lines = 2 if name == "set and kill" else 1
+        print(f"  {name:<12} {PASSES * lines * len('1.' + chr(10))}")
 
 
 def lines_with_globals():

@@ -101,8 +101,9 @@ def main():
     say(f"proving and building the program, {len(crates)} crates; from nothing this takes about 10 minutes ..")
     room = copied(crates)
     prove(room, crates)
-    # `rt run` builds and then runs: no line is given to this run
-    ran = subprocess.run(["rt", "run", "--", "run"], cwd=os.path.join(room, "crates", "mserve"), stdin=subprocess.DEVNULL,
+    # `rt run` builds and then runs, by settings without an account, and no line is given to this run
+    words = ["run", "--settings", "/dev/null", "--store", "memory"]
+    ran = subprocess.run(["rt", "run", "--", *words], cwd=os.path.join(room, "crates", "mserve"), stdin=subprocess.DEVNULL,
                          stdout=subprocess.PIPE, stderr=subprocess.STDOUT, text=True, errors="replace")
     if ran.returncode:
         sys.exit(ran.stdout + "mserve: the build failed")

@@ -2,7 +2,7 @@
 """Runs the built program on each block of lines of transcripts/, with each of its requests for memory refused in turn.
 
 With one request refused in a line, the replies are the transcript's as far as the first want of memory; that is told by ZMEM, or by
-`mserve: wire: Memory` with status 5; and what comes after ZMEM is replies in form.
+`mserve: wire: Memory` with status 5, and both must come; and what comes after ZMEM is replies in form.
 
 The requests before the first line, as many as a run without a line makes, are the same for each block, so they are refused once, over
 the first. They are told by `mserve: Memory` with status 2, `mserve: settings: Memory` with status 3, or `mserve: store: Memory` with
@@ -12,7 +12,7 @@ Some requests may go by untold, with all replies as they are: std asks for the w
 the copies of routines for what only saves time. They are at most half of all requests of a block. Status 1
 where a run does otherwise, where no request comes in any line, or where there is no block.
 
-The program is crates/mserve/out/mserve, as `./mserve` or the gate leaves it. `tools/refuse_memory.c` refuses the requests."""
+`tools/refuse_memory.c` refuses the requests."""
 import os
 import re
 import subprocess
@@ -20,34 +20,14 @@ import sys
 import tempfile
 from concurrent.futures import ThreadPoolExecutor
 
-TOP = os.path.join(os.path.dirname(os.path.abspath(__file__)), "..")
-PROGRAM = os.path.join(TOP, "crates", "mserve", "out", "mserve")
+from blocks import blocks
+from running import TOP, require_program, run_words
+
 REPLY = re.compile(rb"(\d+[:-].*|\d+\.|\d+![A-Z]+\d*|\?!Z(LINE|WIRE))\n")
 # How a request that is refused before the first line is told.
 STARTS = [(b"mserve: Memory\n", 2), (b"mserve: settings: Memory\n", 3), (b"mserve: store: Memory\n", 4)]
-ESCAPE = re.compile(r"\{(?:(\d+)\*([^}]*)|([0-9a-f]{2}))?\}")
-
-
-def bytes_of(case):
-    """The bytes of a line of a transcript."""
-    def plain(found):
-        return found[2] * int(found[1]) if found[1] else chr(int(found[3], 16)) if found[3] else ""
-    unfinished = case.endswith("{end}")
-    text = ESCAPE.sub(plain, case[: -len("{end}")] if unfinished else case)
-    return text.encode("latin1") + (b"" if unfinished else b"\n")
-
-
-def blocks():
-    """Each block of lines: its name, its stream and its replies."""
-    folder = os.path.join(TOP, "transcripts")
-    for file in sorted(os.listdir(folder)):
-        for block in open(os.path.join(folder, file), encoding="ascii").read().strip("\n").split("\n\n"):
-            header, *lines = block.split("\n")
-            if header.startswith("== lines: "):
-                lines = [line for line in lines if not line.startswith("# ")]
-                stream = b"".join(bytes_of(line) for line in lines if not line.startswith("    "))
-                replies = "".join(line[4:] + "\n" for line in lines if line.startswith("    "))
-                yield header[len("== lines: "):], stream, replies.encode("ascii")
+# How one is told that a reply's bytes wanted.
+OF_REPLY = (b"mserve: wire: Memory\n", 5)
 
 
 def run(shim, stream, nth):
@@ -55,7 +35,7 @@ def run(shim, stream, nth):
     read, write = os.pipe()
     environment = {**os.environ, "LD_PRELOAD": shim, "REFUSE": str(nth), "REFUSE_TOLD": str(write)}
     try:
-        ran = subprocess.run([PROGRAM, "run"], input=stream, capture_output=True, env=environment, pass_fds=[write], timeout=60)
+        ran = subprocess.run(run_words(), input=stream, capture_output=True, env=environment, pass_fds=[write], timeout=60)
     finally:
         os.close(write)
         told = os.read(read, 32)
@@ -75,7 +55,7 @@ def fault(wanted, output, told, status):
         return None if (status, told) == (0, b"") else f"status {status}, {told!r}"
     if not wanted.startswith(output):
         return "other replies"
-    if (status, told) == (5, b"mserve: wire: Memory\n"):
+    if (told, status) == OF_REPLY:
         return None
     return "" if (status, told, output) == (0, b"", wanted) else f"status {status}, {told!r}"
 
@@ -99,12 +79,16 @@ def judged(shim, block, requests, judge):
 
 
 def judge_lines(shim, at_start, block):
-    """How many requests of a block's lines were refused, and what went wrong. So many requests come before the first line."""
+    """Of the requests of a block's lines, how many were refused, told by ZMEM, and told of a reply's bytes; and what went wrong. So many
+    requests come before the first line."""
     name, stream, wanted = block
     output, told, status, count = run(shim, stream, 0)
     if (output, told, status) != (wanted, b"", 0) or count < at_start:
-        return 0, [f"{name}: with ample memory: status {status}, {told!r}, {count} requests"]
-    return count - at_start, judged(shim, block, range(at_start + 1, count + 1), fault)[0]
+        return (0, 0, 0), [f"{name}: with ample memory: status {status}, {told!r}, {count} requests"]
+    faults, ran = judged(shim, block, range(at_start + 1, count + 1), fault)
+    of_lines = sum(b"!ZMEM\n" in output for output, _, _ in ran)
+    of_replies = sum((told, status) == OF_REPLY for _, told, status in ran)
+    return (count - at_start, of_lines, of_replies), faults
 
 
 def judge_start(shim, at_start, block):
@@ -117,24 +101,25 @@ def judge_start(shim, at_start, block):
 
 
 def main():
-    if not os.path.exists(PROGRAM):
-        sys.exit("refuse_memory: the program is not built: run ./mserve run </dev/null")
+    require_program()
     with tempfile.TemporaryDirectory() as folder:
         shim = os.path.join(folder, "refuse_memory.so")
         source = os.path.join(TOP, "tools", "refuse_memory.c")
         subprocess.run(["cc", "-shared", "-fPIC", "-O1", "-o", shim, source], check=True)
         at_start = run(shim, b"", 0)[3]
-        played = list(blocks())
+        played = [(block.name, block.stream(), block.replies()) for block in blocks() if block.kind == "lines"]
         with ThreadPoolExecutor(os.cpu_count() or 1) as pool:
             start = pool.submit(judge_start, shim, at_start, played[0])
             lines = list(pool.map(lambda block: judge_lines(shim, at_start, block), played))
         starts, faults = start.result()
     faults += [fault for _, faults in lines for fault in faults]
+    requests, of_lines, of_replies = (sum(counts[i] for counts, _ in lines) for i in range(3))
+    if 0 in (of_lines, of_replies):
+        faults.append(f"want of memory is told by ZMEM {of_lines} times, and of a reply's bytes {of_replies} times")
     for told in faults[:20]:
         print(f"refuse_memory: {told}")
     print(f"refuse_memory: {at_start} requests before the first line: told of the words {starts[0]}, of the settings {starts[1]}, of the store {starts[2]}")
-    requests = sum(count for count, _ in lines)
-    print(f"refuse_memory: {requests} requests of {len(lines)} blocks refused in turn, {len(faults)} faults")
+    print(f"refuse_memory: {requests} requests of {len(lines)} blocks refused in turn, told by ZMEM {of_lines}, of a reply's bytes {of_replies}, {len(faults)} faults")
     return 1 if faults or requests == 0 else 0
 
 

@@ -1,49 +1,59 @@
 #!/usr/bin/env python3
 """Makes the files of the crates that play the transcripts: `stdin`, the cases of transcripts/*.txt without what they give, and
-`stdout`, the transcripts themselves. A line that is indented by four spaces is what a case gives; all others are cases, and a
-block ends at a blank line. A block is for the crate that plays its kind: one that needs a world for `transcripts`, any other for
-`part_transcripts`.
+`stdout`, the transcripts themselves. `transcripts` plays the blocks that are lines of the wire, by the settings that lie in its folder `data`, and
+`part_transcripts` those that call parts of the server. The blocks of tools/play.py alone are in neither.
 
-With --write the files are written. Without it they are compared, and status 1 says that they are others."""
+With --write the files are written. Without it they are compared, and status 1 says that they are others, or that no reply ends with
+one of the codes. The two that ample memory and room keep away are shown by tools/refuse_memory.py (ZMEM) and tools/refusals.py (ZSTORE)."""
 import os
+import re
 import sys
 
-TOP = os.path.join(os.path.dirname(os.path.abspath(__file__)), "..")
-OF_A_WORLD = ("lines", "terminals", "reopened", "events", "steps")
+from blocks import INDENT, SERVED, blocks
+from running import TOP
 
-
-def blocks():
-    """The blocks of all transcripts."""
-    folder = os.path.join(TOP, "transcripts")
-    for name in sorted(os.listdir(folder)):
-        with open(os.path.join(folder, name), encoding="ascii", newline="\n") as file:
-            yield from file.read().strip("\n").split("\n\n")
-
-
-def crate_of(block):
-    """The crate that plays a block."""
-    kind = block.partition(":")[0].removeprefix("== ")
-    return "transcripts" if kind in OF_A_WORLD else "part_transcripts"
+# The kinds that only the program itself can play.
+OF_THE_PROGRAM = ("reopened", "steps", "only")
+CODES = "M1 M4 M6 M7 M9 M10 M13 M15 ZLONG ZSYNTAX ZOVER ZARG ZSUB ZGRANT ZLOCKED ZSTEPS ZDEPTH ZLEVEL ZCHAR ZLINE ZTERM".split()
 
 
 def cases(text):
-    """The cases alone."""
-    return "".join(line for line in text.splitlines(True) if not line.startswith("    "))
+    """The cases alone, with the comments."""
+    return "".join(line for line in text.splitlines(True) if not line.startswith(INDENT))
+
+
+def files():
+    """Each file that is made, with its text."""
+    played = {"transcripts": [], "part_transcripts": []}
+    for block in blocks():
+        if block.kind not in OF_THE_PROGRAM:
+            played["transcripts" if block.kind in SERVED else "part_transcripts"].append(block.text)
+    for crate, texts in played.items():
+        text = "\n\n".join(texts) + "\n"
+        yield os.path.join(TOP, "crates", crate, "stdin"), cases(text)
+        yield os.path.join(TOP, "crates", crate, "stdout"), text
+    for settings in SERVED.values():
+        with open(settings, encoding="ascii", newline="\n") as file:
+            yield os.path.join(TOP, "crates", "transcripts", "data", os.path.basename(settings)), file.read()
+
+
+def codes_not_shown():
+    """The codes with which no reply to a line ends."""
+    replies = b"".join(block.replies() for block in blocks() if block.kind in SERVED)
+    shown = set(re.findall(rb"^\d+!(\w+)$", replies, re.MULTILINE))
+    return [code for code in CODES if code.encode() not in shown]
 
 
 def main():
-    played = {"transcripts": [], "part_transcripts": []}
-    for block in blocks():
-        played[crate_of(block)].append(block)
-    for crate, its_blocks in played.items():
-        text = "\n\n".join(its_blocks) + "\n"
-        for name, wanted in {"stdin": cases(text), "stdout": text}.items():
-            path = os.path.join(TOP, "crates", crate, name)
-            if "--write" in sys.argv:
-                with open(path, "w", encoding="ascii", newline="\n") as file:
-                    file.write(wanted)
-            elif open(path, encoding="ascii", newline="\n").read() != wanted:
-                sys.exit(f"transcripts: crates/{crate}/{name} is not what transcripts/ has: run tools/transcripts.py --write")
+    for path, wanted in files():
+        if "--write" in sys.argv:
+            os.makedirs(os.path.dirname(path), exist_ok=True)
+            with open(path, "w", encoding="ascii", newline="\n") as file:
+                file.write(wanted)
+        elif not os.path.exists(path) or open(path, encoding="ascii", newline="\n").read() != wanted:
+            sys.exit(f"transcripts: {os.path.relpath(path, TOP)} is not what transcripts/ has: run tools/transcripts.py --write")
+    if missing := codes_not_shown():
+        sys.exit(f"transcripts: no reply ends with {' or '.join(missing)}")
 
 
 main()

@@ -9,6 +9,9 @@ use std::alloc::Global;
 // The settings of the worlds.
 const SETTINGS: &str = "[[account]]\nname = \"ALICE\"\nterminals = [1]\nsteps = 2000\n";
 
+// So many accounts, each with one terminal, send the lines in turn.
+const ACCOUNTS: usize = 1_000;
+
 // A stream has so many lines.
 const LINES: usize = 10_000;
 
@@ -31,6 +34,29 @@ fn different_lines(alloc: Global) -> anyhow::Result<Vec<u8>> {
         stream.push(b'\n')?;
     }
     Ok(stream)
+}
+
+// The equal line, from one account after another.
+fn lines_in_turn(alloc: Global) -> anyhow::Result<Vec<u8>> {
+    let mut stream = Vec::new(alloc);
+    for i in 0..LINES {
+        let terminal = i % ACCOUNTS + 1;
+        let line = format!(in alloc; "{terminal} W 1\n")?;
+        stream.extend_from_slice(line.as_bytes())?;
+    }
+    Ok(stream)
+}
+
+// The settings of these accounts.
+fn many_accounts(alloc: Global) -> anyhow::Result<Settings> {
+    let mut document = String::new(alloc);
+    for terminal in 1..ACCOUNTS + 1 {
+        let account = format!(in alloc;
+            "[[account]]\nname = \"A{terminal}\"\nterminals = [{terminal}]\nsteps = 2000\n"
+        )?;
+        document.push_str(account.as_str())?;
+    }
+    Ok(Settings::read(alloc, document.as_bytes())?)
 }
 
 // How many bytes a world answers.
@@ -79,6 +105,24 @@ fn served<S: NodeStore + Drop>(rt: &HostRuntime, plan: Plan, store: S) -> anyhow
     )
 }
 
+// The equal line in one world of many accounts over a store.
+fn served_in_turn<S: NodeStore + Drop>(
+    rt: &HostRuntime,
+    plan: Plan,
+    store: S,
+) -> anyhow::Result<()> {
+    let alloc = rt.alloc();
+    let mut world = world_of(alloc, many_accounts(alloc)?, store)?;
+    let stream = lines_in_turn(alloc)?;
+    measure(
+        rt,
+        "in turn",
+        plan,
+        Unit::ThousandLinesPerSecond(LINES),
+        |_| answered(alloc, &mut world, &stream),
+    )
+}
+
 // The streams over each store.
 pub fn lines(rt: &HostRuntime, plan: Plan) -> anyhow::Result<()> {
     let plan = Plan {
@@ -88,6 +132,8 @@ pub fn lines(rt: &HostRuntime, plan: Plan) -> anyhow::Result<()> {
     };
     println!(rt; "lines over the plain store")?;
     served(rt, plan, Plain::new(rt.alloc()))?;
+    served_in_turn(rt, plan, Plain::new(rt.alloc()))?;
     println!(rt; "lines over a table")?;
-    served(rt, plan, Table::open_memory(rt.alloc())?)
+    served(rt, plan, Table::open_memory(rt.alloc())?)?;
+    served_in_turn(rt, plan, Table::open_memory(rt.alloc())?)
 }

@@ -17,7 +17,7 @@ const TURNS: usize = 10_000;
 const ROUNDS: usize = 10_000;
 
 // What is timed: its name, and the lines of a round.
-const PAGE: [(&str, &[u8]); 7] = [
+const PAGE: [(&str, &[u8]); 9] = [
     ("empty", b"1 F I=1:1:10000\n"),
     ("arithmetic", b"1 F I=1:1:10000 S X=I*3+2-I\n"),
     ("subscripts", b"1 F I=1:1:10000 S A(I)=I\n"),
@@ -31,6 +31,8 @@ const PAGE: [(&str, &[u8]); 7] = [
         "routine done",
         b"1 S ^ROUTINE(\"R\",1)=\"L Q\" F I=1:1:10000 D L^R\n",
     ),
+    ("name indirection", b"1 S X=\"A\" F I=1:1:10000 S @X=I\n"),
+    ("lock and give back", b"1 F I=1:1:10000 L +A L -A\n"),
 ];
 
 // Times the lines one after another in one world.

@@ -48,34 +48,32 @@ pub fn measure<F: FnMut(usize) -> i128>(
         println!(rt; "  {name:<12} {sum}")?;
         return Ok(());
     }
-    let rounds = plan.rounds.max(1) as u128;
-    let (tenths, unit) = match unit {
-        Unit::Nanoseconds => (least / rounds.div_ceil(10), "ns"),
-        Unit::NanosecondsEach(count) => (
-            least.saturating_mul(10) / (count as u128).saturating_mul(rounds).max(1),
-            "ns",
-        ),
-        Unit::BytesPerNanosecond(bytes) => (
-            (bytes as u128).saturating_mul(rounds).saturating_mul(10) / least.max(1),
-            "bytes/ns",
-        ),
-        Unit::ThousandLinesPerSecond(lines) => (
-            (lines as u128)
-                .saturating_mul(rounds)
-                .saturating_mul(10_000_000)
-                / least.max(1),
-            "thousand lines/s",
-        ),
-        Unit::PerSecond(count) => (
-            (count as u128)
-                .saturating_mul(rounds)
-                .saturating_mul(10_000_000_000)
-                / least.max(1),
-            "a second",
-        ),
-    };
+    let (tenths, unit) = in_tenths(unit, least, plan.rounds);
     let whole = tenths / 10;
     let tenth = tenths % 10;
     println!(rt; "  {name:<12} {whole:>4}.{tenth} {unit}")?;
     Ok(())
+}
+
+// So many nanoseconds for so many rounds, in tenths of the unit, with its name.
+fn in_tenths(unit: Unit, nanoseconds: u128, rounds: usize) -> (u128, &'static str) {
+    let rounds = rounds.max(1) as u128;
+    match unit {
+        Unit::Nanoseconds => (nanoseconds / rounds.div_ceil(10), "ns"),
+        Unit::NanosecondsEach(count) => (
+            nanoseconds.saturating_mul(10) / (count as u128).saturating_mul(rounds).max(1),
+            "ns",
+        ),
+        Unit::BytesPerNanosecond(bytes) => (rate(bytes, rounds, 10, nanoseconds), "bytes/ns"),
+        Unit::ThousandLinesPerSecond(lines) => (
+            rate(lines, rounds, 10_000_000, nanoseconds),
+            "thousand lines/s",
+        ),
+        Unit::PerSecond(count) => (rate(count, rounds, 10_000_000_000, nanoseconds), "a second"),
+    }
+}
+
+// How much is done in a time, of which so much is done in each round, times a scale.
+fn rate(each: usize, rounds: u128, scale: u128, nanoseconds: u128) -> u128 {
+    (each as u128).saturating_mul(rounds).saturating_mul(scale) / nanoseconds.max(1)
 }

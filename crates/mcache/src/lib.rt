@@ -2,8 +2,6 @@
 #![tactic(auto)]
 
 mod shelf;
-#[cfg(test)]
-mod tests;
 mod trees;
 
 pub use mparse::ParseFault;

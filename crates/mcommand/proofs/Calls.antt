@@ -17,7 +17,7 @@ use Rattle.moperator.specs.declared.code.Code.{Code}
 use Rattle.moperator.specs.declared.code.Code.TheVariants.{Zmem}
 use Rattle.meval.specs.declared.eval.Eval.{Eval}
 use Rattle.meval.specs.Acts.{truth}
-use Rattle.meval.specs.Evaluates.{Evaluates, standing_of, eval_here, inside_at, depth_of}
+use Rattle.meval.specs.Evaluates.{Evaluates, KeepsEval, standing_of, eval_here, inside_at, depth_of}
 use Rattle.meval.proofs.Calls.{moved, keeps_itself as eval_keeps_itself, keeps_on as eval_keeps_on}
 use Rattle.mcommand.specs.declared.parts.Parts.{Parts}
 use Rattle.mcommand.specs.Does.{Does, DoesAt, KeepsLoans, here_of}
@@ -25,7 +25,7 @@ use Rattle.mcommand.specs.Does.{Does, DoesAt, KeepsLoans, here_of}
 pub does_then : {S A B X Y : Type 0} {g : Ghosts S} {p : Inside → Act A} (q : Inside → A → Act B) {f : X → A} {j : Y → B} {old mid new : Parts S} {x : X} {r : Result Y Code}
     → Does g p f old (Ok x) mid → Does g (λ i. q i (f x)) j mid r new → Does g (λ i. p i >>= q i) j old r new
 does_then q {f = f} {old = old} {x = x} d k = record {
-  at = λ sound locks. did_then (λ n. q (inside_at old.eval n)) (d.at sound locks) (moved (λ i. q i (f x)) d.same d.depth (k.at sound locks));
+  at = λ sound. did_then (λ n. q (inside_at old.eval n)) (d.at sound) (moved (λ i. q i (f x)) d.same d.depth (k.at sound));
   same = k.same ∙ d.same;
   depth = k.depth ∙ d.depth;
 }
@@ -33,7 +33,7 @@ does_then q {f = f} {old = old} {x = x} d k = record {
 pub does_failed : {S A B X Y : Type 0} {g : Ghosts S} {p : Inside → Act A} (q : Inside → A → Act B) {f : X → A} {j : Y → B} {old new : Parts S} {e : Code}
     → Does g p f old (Err e) new → Does g (λ i. p i >>= q i) j old (Err e) new
 does_failed q {old = old} d = record {
-  at = λ sound locks. did_failed (λ n. q (inside_at old.eval n)) (d.at sound locks);
+  at = λ sound. did_failed (λ n. q (inside_at old.eval n)) (d.at sound);
   same = d.same;
   depth = d.depth;
 }
@@ -46,7 +46,7 @@ does_stopped {g = g} {p = p} q {j = j} {old = old} {new = new} {r = r} d h =
 
 pub does_gives : {S A X : Type 0} {g : Ghosts S} {parts : Parts S} (a : A) (f : X → A) (x : X) → f x ≡ a → Does g (λ i. give a) f parts (Ok x) parts
 does_gives a f x same = record {
-  at = λ sound locks. did_gives a f x same;
+  at = λ sound. did_gives a f x same;
   same = refl;
   depth = refl;
 }
@@ -54,7 +54,7 @@ does_gives a f x same = record {
 -- an evaluation, by the parts that hold it
 pub does_evaluated : {S A X : Type 0} {g : Ghosts S} {p : Inside → Act A} {f : X → A} {old : Parts S} {e : Eval S} {r : Result X Code} → Evaluates g p f old.eval r e → Does g p f old r (record old { eval = e })
 does_evaluated {old = old} d = record {
-  at = λ sound locks. d.at sound old.out.now.items locks;
+  at = λ sound. d.at sound old.out.now.items old.locks.now;
   same = d.same;
   depth = d.depth;
 }
@@ -74,27 +74,27 @@ module _ {S A X : Type 0} {g : Ghosts S} {f : X → A} {old new : Parts S} {r : 
 -- a call that needs no point
 pub does_yielded : {S A X : Type 0} {g : Ghosts S} {p : Act A} {f : X → A} {parts : Parts S} {r : Result X Code} → Yields fault_of p f r → Does g (λ i. p) f parts r parts
 does_yielded {g = g} {parts = parts} y = record {
-  at = λ sound locks. yielded (here_of g parts locks) y;
+  at = λ sound. yielded (here_of g parts) y;
   same = refl;
   depth = refl;
 }
 
 -- want of memory, by a `?` that the call returns: the store is as it was
 pub does_wanting : {S A X : Type 0} {g : Ghosts S} {old new : Parts S} (p : Inside → Act A) (f : X → A) (r : Result X Code) → IsErr r × IsErrAnd r (λ x. x ≡ Zmem)
-    → new.eval ≡ old.eval → Does g p f old r new
-does_wanting {g = g} {old = old} {new = new} p f r h same = subst (λ r. Does g p f old r new) (sym (residual_is r Zmem h)) (record {
-  at = λ sound locks.
-      did_lost (λ n. p (inside_at old.eval n)) f Zmem tt (ap (λ e. record { globals = g.content e.store.now; locks = locks }) (sym same))
+    → new.eval ≡ old.eval → new.locks.now ≡ old.locks.now → Does g p f old r new
+does_wanting {g = g} {old = old} {new = new} p f r h same locked = subst (λ r. Does g p f old r new) (sym (residual_is r Zmem h)) (record {
+  at = λ sound.
+      did_lost (λ n. p (inside_at old.eval n)) f Zmem tt (λ i. record { globals = g.content (sym same i).store.now; locks = sym locked i })
       (let few = ap (λ e. e.steps) same in omega (arith, few));
   same = ap standing_of same;
   depth = ap (λ e. e.depth) same;
 })
 
 -- a text is written
-pub does_write : {S : Type 0} {g : Ghosts S} (old new : Parts S) (x : Text) → new.out.now.items ≡ old.out.now.items ++ x → new.eval ≡ old.eval → Does g (λ i. write x) (λ (u : Unit {0}). u) old (Ok tt) new
-does_write {g = g} old new x out same = record {
-  at = λ sound locks. record {
-    at = λ n le i. (Gives tt (eval_here g (sym same i) (sym out i) locks).0, (eval_here g (sym same i) (sym out i) locks).1);
+pub does_write : {S : Type 0} {g : Ghosts S} (old new : Parts S) (x : Text) → new.out.now.items ≡ old.out.now.items ++ x → new.eval ≡ old.eval → new.locks ≡ old.locks → Does g (λ i. write x) (λ (u : Unit {0}). u) old (Ok tt) new
+does_write {g = g} old new x out same locked = record {
+  at = λ sound. record {
+    at = λ n le i. (Gives tt (eval_here g (sym same i) (sym out i) (sym locked i).now).0, (eval_here g (sym same i) (sym out i) (sym locked i).now).1);
     fewer = let few = ap (λ e. e.steps) same in omega (arith, few);
   };
   same = ap standing_of same;
@@ -105,7 +105,7 @@ does_write {g = g} old new x out same = record {
 pub at_evaluated : {S A X : Type 0} {g : Ghosts S} {p : Inside → Act A} {f : X → A} {old : Parts S} {e : Eval S} {r : Result X Code} (d : _) → Evaluates g p f (record old.eval { depth = d }) r e
     → DoesAt g (λ a n. p (inside a n (depth_of d))) f old r (record old { eval = e })
 at_evaluated {old = old} d k = record {
-  at = λ sound locks. k.at sound old.out.now.items locks;
+  at = λ sound. k.at sound old.out.now.items old.locks.now;
   same = k.same;
 }
 
@@ -113,7 +113,7 @@ at_evaluated {old = old} d k = record {
 pub at_done : {S A X : Type 0} {g : Ghosts S} {p : Inside → Act A} {f : X → A} {old new : Parts S} {r : Result X Code} (d : _) → Does g p f (record old { eval = record old.eval { depth = d } }) r new
     → DoesAt g (λ a n. p (inside a n (depth_of d))) f old r new
 at_done d k = record {
-  at = λ sound locks. k.at sound locks;
+  at = λ sound. k.at sound;
   same = k.same;
 }
 
@@ -131,10 +131,14 @@ truth_stopped e q d h = does_is (λ i. sym (assoc (value i e) as_truth q)) (does
 -- ---- loans
 
 pub keeps_itself : {S : Type 0} (a : Parts S) → KeepsLoans a a
-keeps_itself a = record { eval = eval_keeps_itself a.eval; out = refl }
+keeps_itself a = record { eval = eval_keeps_itself a.eval; locks = refl; out = refl }
 
 pub keeps_on : {S : Type 0} {a b c : Parts S} → KeepsLoans a b → KeepsLoans b c → KeepsLoans a c
-keeps_on k l = record { eval = eval_keeps_on k.eval l.eval; out = l.out ∙ k.out }
+keeps_on k l = record { eval = eval_keeps_on k.eval l.eval; locks = l.locks ∙ k.locks; out = l.out ∙ k.out }
+
+-- of an evaluation by what holds it
+pub keeps_evaluated : {S : Type 0} {a b : Parts S} {e : Eval S} → KeepsLoans a b → KeepsEval b.eval e → KeepsLoans a (record b { eval = e })
+keeps_evaluated k l = record { eval = eval_keeps_on k.eval l; locks = k.locks; out = k.out }
 
 -- ---- vectors that are used up
 

@@ -1,3 +1,4 @@
 pub mod Calls
 pub mod Targets
 pub mod Sums
+pub mod Locking

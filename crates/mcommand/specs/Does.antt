@@ -1,6 +1,5 @@
 -- What calls say of the acts of a line.
 use Rattle.std.specs.Prelude.{◌≡◌, ℕ, Result}
-use Rattle.mspec.specs.LockConflict.{Locks}
 use Rattle.mspec.specs.Act.{Text, Act}
 use Rattle.mmeaning.specs.Expression.{Inside}
 use Rattle.mmeaning.specs.Calls.{Here, Did}
@@ -10,21 +9,22 @@ use Rattle.moperator.specs.declared.code.Code.{Code}
 use Rattle.meval.specs.Evaluates.{KeepsEval, standing_of, eval_here, inside_at}
 use Rattle.mcommand.specs.declared.parts.Parts.{Parts}
 
-abbrev pub here_of : {S : Type 0} → Ghosts S → Parts S → Locks → Here
-here_of g p locks = eval_here g p.eval p.out.now.items locks
+abbrev pub here_of : {S : Type 0} → Ghosts S → Parts S → Here
+here_of g p = eval_here g p.eval p.out.now.items p.locks.now
 
--- a call does an act, whatever the locks
+-- a call does an act
 pub record Does {S A X : Type 0} (g : Ghosts S) (p : Inside → Act A) (f : X → A) (old : Parts S) (r : Result X Code) (new : Parts S) : Type 0 where
-  pub at : g.sound → (locks : Locks) → Did (standing_of old.eval) g.steady fault_of (λ n. p (inside_at old.eval n)) f (here_of g old locks) r (here_of g new locks)
+  pub at : g.sound → Did (standing_of old.eval) g.steady fault_of (λ n. p (inside_at old.eval n)) f (here_of g old) r (here_of g new)
   pub same : standing_of new.eval ≡ standing_of old.eval
   pub depth : new.eval.depth ≡ old.eval.depth
 
 -- the same of an act that is told the account and how many texts it may enter, since it brings its own depth
 pub record DoesAt {S A X : Type 0} (g : Ghosts S) (p : Text → ℕ → Act A) (f : X → A) (old : Parts S) (r : Result X Code) (new : Parts S) : Type 0 where
-  pub at : g.sound → (locks : Locks) → Did (standing_of old.eval) g.steady fault_of (p (standing_of old.eval).account) f (here_of g old locks) r (here_of g new locks)
+  pub at : g.sound → Did (standing_of old.eval) g.steady fault_of (p (standing_of old.eval).account) f (here_of g old) r (here_of g new)
   pub same : standing_of new.eval ≡ standing_of old.eval
 
 -- the references are those that were lent
 pub record KeepsLoans {S : Type 0} (old new : Parts S) : Type 0 where
   pub eval : KeepsEval old.eval new.eval
+  pub locks : new.locks.ghost_name ≡ old.locks.ghost_name
   pub out : new.out.ghost_name ≡ old.out.ghost_name

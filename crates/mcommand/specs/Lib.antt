@@ -3,3 +3,4 @@ pub mod Prepared
 pub mod Conditions
 pub mod Targets
 pub mod Turns
+pub mod LockNames

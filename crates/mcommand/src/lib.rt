@@ -1,8 +1,9 @@
-//! What the arguments of commands do that run no text: SET, KILL, IF and WRITE, postconditionals, and the parameters of FOR.
+//! What the arguments of commands do that run no text: SET, KILL, IF, LOCK and WRITE, postconditionals, and the parameters of FOR.
 #![tactic(auto)]
 
 mod condition;
 mod kill;
+mod lock;
 mod parts;
 mod set;
 mod target;

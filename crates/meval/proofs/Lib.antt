@@ -3,3 +3,5 @@ pub mod TreeViews
 pub mod References
 pub mod Trees
 pub mod Asking
+pub mod Indirections
+pub mod Locks

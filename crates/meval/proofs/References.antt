@@ -4,10 +4,11 @@ use Rattle.std.specs.Prelude.{◌==◌}
 use Rattle.std.proofs.lemmas.Bool.{false≢true}
 use Rattle.mspec.specs.Act.{Text, ◌>>=◌, ◌>>◌, give, unless}
 use Rattle.mspec.specs.Code as spec
+use Rattle.mspec.specs.Node.{Node}
 use Rattle.mspec.specs.Trees.{AreOrderSubscripts}
 use Rattle.mspec.specs.Subscripts.{are_order_subscripts}
 use Rattle.mspec.proofs.SubscriptTests.{order_subscripts_test}
-use Rattle.mgrammar.specs.Grammar.{ReferenceTree, local, global, naked}
+use Rattle.mgrammar.specs.Grammar.{ReferenceTree, local, global, naked, indirect, extended}
 use Rattle.mmeaning.specs.Expression.{values, evaluated}
 use Rattle.mmeaning.specs.Variables.{Evaluated, checked, ordering, some_subscript}
 use Rattle.mmeaning.specs.Yields.{Yields}
@@ -19,15 +20,21 @@ use Rattle.moperator.specs.declared.code.Code.TheVariants.{Zsub}
 use Rattle.meval.specs.declared.eval.Eval.{Eval}
 use Rattle.meval.specs.declared.place.Pending.{Pending}
 use Rattle.meval.specs.Evaluates.{Evaluates, standing_of}
-use Rattle.meval.specs.Places.{pending_view, subscripts_tree, named}
+use Rattle.meval.specs.Places.{pending_view, subscripts_tree, named, IsDirect, NamesNoAccount}
 
 -- ---- references
 
-pub as_evaluated : {S X : Type 0} {g : Ghosts S} {f : X → Evaluated} {old new : Eval S} {res : Result X Code} (r : ReferenceTree)
+pub as_evaluated : {S X : Type 0} {g : Ghosts S} {f : X → Evaluated} {old new : Eval S} {res : Result X Code} (r : ReferenceTree) → IsDirect r → NamesNoAccount r
     → Evaluates g (λ i. values i [] (subscripts_tree r) >>= (λ xs. give (named i.account r xs))) f old res new → Evaluates g (λ i. evaluated i r) f old res new
-as_evaluated (local name subscripts) d = d
-as_evaluated (global name subscripts) d = d
-as_evaluated (naked subscripts) d = d
+as_evaluated (local name subscripts) direct own d = d
+as_evaluated (global name subscripts) direct own d = d
+as_evaluated (naked subscripts) direct own d = d
+as_evaluated (indirect p subscripts) direct own d = absurd direct
+as_evaluated (extended e name subscripts) direct own d = absurd own
+
+-- a node of an account that a text names
+abbrev pub node_of : Text → Text → List Text → Node
+node_of owner name xs = record { account = owner; name = name; subscripts = xs }
 
 pub gives_named : {S : Type 0} {g : Ghosts S} {e : Eval S} (r : ReferenceTree) (xs : List Text) (p : Pending) → pending_view p ≡ named (standing_of e).account r xs
     → Evaluates g (λ i. give (named i.account r xs)) pending_view e (Ok p) e

@@ -5,6 +5,7 @@ use Rattle.mgrammar.specs.Grammar.{steps_of, exprs_of, choices_of, PrimaryTree, 
 use Rattle.mtree.specs.Tree.{ChoiceTree, expr_tree, step_tree, operand_tree, primary_tree, reference_tree, referring_tree, choice_tree, sign_tree, binary_tree, atom_tree, primary_layer, reference_layer, step_layer, choice_layer, expr_layer, operand_layer, referring_layer}
 use Rattle.mtree.specs.declared.tree.Binary.{Binary}
 use Rattle.mtree.specs.declared.tree.Atom.{Atom}
+use Rattle.mtree.specs.declared.tree.Primary.{Primary}
 use Rattle.mtree.specs.declared.tree.Primary.TheVariants as primary
 use Rattle.mtree.specs.declared.tree.Reference.{Reference}
 use Rattle.mtree.specs.declared.tree.Reference.TheVariants as reference
@@ -50,6 +51,12 @@ global_is name subscripts = ap reference_tree (sym (reference.rolls-Global name 
 
 pub naked_is : (subscripts : Vec Expr Global) → reference_tree (reference.Naked subscripts) ≡ grammar.naked (exprs_of (map expr_tree subscripts.items))
 naked_is subscripts = ap reference_tree (sym (reference.rolls-Naked subscripts)) ∙ fold-roll-Reference PrimaryTree ReferenceTree StepTree ChoiceTree ExprTree OperandTree PrimaryTree primary_layer reference_layer step_layer choice_layer expr_layer operand_layer referring_layer _
+
+pub indirect_is : (operand : Box Primary Global) (subscripts : Vec Expr Global) → reference_tree (reference.Indirect operand subscripts) ≡ grammar.indirect (primary_tree operand.value) (exprs_of (map expr_tree subscripts.items))
+indirect_is operand subscripts = ap reference_tree (sym (reference.rolls-Indirect operand subscripts)) ∙ fold-roll-Reference PrimaryTree ReferenceTree StepTree ChoiceTree ExprTree OperandTree PrimaryTree primary_layer reference_layer step_layer choice_layer expr_layer operand_layer referring_layer _
+
+pub extended_is : (environment : Box Expr Global) (name : List ℕ) (subscripts : Vec Expr Global) → reference_tree (reference.Extended environment name subscripts) ≡ grammar.extended (expr_tree environment.value) name (exprs_of (map expr_tree subscripts.items))
+extended_is environment name subscripts = ap reference_tree (sym (reference.rolls-Extended environment name subscripts)) ∙ fold-roll-Reference PrimaryTree ReferenceTree StepTree ChoiceTree ExprTree OperandTree PrimaryTree primary_layer reference_layer step_layer choice_layer expr_layer operand_layer referring_layer _
 
 pub bracket_is : (inner : Box Expr Global) → primary_tree (primary.Bracket inner) ≡ grammar.bracket (expr_tree inner.value)
 bracket_is inner = ap primary_tree (sym (primary.rolls-Bracket inner)) ∙ fold-roll-Primary PrimaryTree ReferenceTree StepTree ChoiceTree ExprTree OperandTree PrimaryTree primary_layer reference_layer step_layer choice_layer expr_layer operand_layer referring_layer _

@@ -4,7 +4,8 @@ use Rattle.mspec.specs.Act.{Text, Act, ◌>>=◌, give}
 use Rattle.mgrammar.specs.Grammar.{ExprTree, ReferenceTree}
 use Rattle.mmeaning.specs.Operators.{as_truth}
 use Rattle.mmeaning.specs.Functions.{whole_text}
-use Rattle.mmeaning.specs.Variables.{Evaluated, Place, reading, writing, resolve, status_at, next_at, data_number, direction_of}
+use Rattle.mspec.specs.LockConflict.{LockName}
+use Rattle.mmeaning.specs.Variables.{Evaluated, Place, reading, writing, resolve, named_lock, status_at, next_at, data_number, direction_of}
 use Rattle.mmeaning.specs.Expression.{Inside, value, evaluated}
 
 -- whether an expression is true
@@ -18,6 +19,12 @@ abbrev pub place_left : Inside → ReferenceTree → Act Place
 place_left i r = do
   v ← evaluated i r
   resolve writing v
+
+-- the lock that a reference names
+abbrev pub lock_name_act : Inside → ReferenceTree → Act LockName
+lock_name_act i r = do
+  v ← evaluated i r
+  named_lock i.account v
 
 -- what $DATA and $ORDER do with what is evaluated
 abbrev pub data_act : Evaluated → Act Text

@@ -5,12 +5,14 @@ use Rattle.mspec.specs.Code.{Code, M6, M7}
 use Rattle.mspec.specs.KeyBytes.{IsAccountName}
 use Rattle.mspec.specs.Node.{Text}
 use Rattle.mspec.specs.Trees.{AreOrderSubscripts}
-use Rattle.mgrammar.specs.Grammar.{ExprsTree, ReferenceTree, local, global, naked}
+use Rattle.mgrammar.specs.Grammar.{ExprsTree, ReferenceTree, local, global, naked, indirect, extended}
 use Rattle.mmeaning.specs.Calls.{Standing}
 use Rattle.mmeaning.specs.Variables as variables
 use Rattle.mkey.specs.declared.walk.Data.{Data}
 use Rattle.mgrant.specs.declared.mode.Mode as grant
 use Rattle.mgrant.specs.declared.mode.Mode.TheVariants as mode
+use Rattle.meval.specs.declared.place.LocalName.{LocalName}
+use Rattle.meval.specs.declared.place.LocalName.TheVariants as local_name
 use Rattle.meval.specs.declared.place.Pending.{Pending}
 use Rattle.meval.specs.declared.place.Pending.TheVariants as pending
 use Rattle.meval.specs.declared.place.Place.{Place}
@@ -18,17 +20,21 @@ use Rattle.meval.specs.declared.place.Place.TheVariants as place
 use Rattle.meval.specs.declared.place.Walk.{Walk}
 use Rattle.meval.specs.declared.place.Walk.TheVariants as walk
 
+abbrev pub name_view : LocalName → Text
+name_view (local_name.Lent name) = name.now
+name_view (local_name.Own name) = name
+
 abbrev pub pending_view : Pending → variables.Evaluated
-pending_view (pending.Local name texts) = variables.of_local name.now texts.items
+pending_view (pending.Local name texts) = variables.of_local (name_view name) texts.items
 pending_view (pending.Global node) = variables.of_global node
 pending_view (pending.Naked texts) = variables.of_naked texts.items
 
 abbrev pub place_view : Place → variables.Place
-place_view (place.Local name subscripts) = variables.at_local name.now subscripts
+place_view (place.Local name subscripts) = variables.at_local (name_view name) subscripts
 place_view (place.Node key) = variables.at_node key
 
 abbrev pub walk_view : Walk → variables.Place
-walk_view (walk.Local name texts) = variables.at_local name.now texts.items
+walk_view (walk.Local name texts) = variables.at_local (name_view name) texts.items
 walk_view (walk.Node node) = variables.at_node node
 
 -- $ORDER may be asked of it
@@ -56,12 +62,33 @@ status_view d = (d.value, d.descendants)
 
 -- ---- what is left of a reference behind the values of its subscripts
 
+-- its name, or that there is none, stands in it
+abbrev pub IsDirect : ReferenceTree → Type 0
+IsDirect (local name subscripts) = Unit {0}
+IsDirect (global name subscripts) = Unit {0}
+IsDirect (naked subscripts) = Unit {0}
+IsDirect (indirect p subscripts) = ⊥
+IsDirect (extended e name subscripts) = Unit {0}
+
+-- no environment stands in it
+abbrev pub NamesNoAccount : ReferenceTree → Type 0
+NamesNoAccount (local name subscripts) = Unit {0}
+NamesNoAccount (global name subscripts) = Unit {0}
+NamesNoAccount (naked subscripts) = Unit {0}
+NamesNoAccount (indirect p subscripts) = Unit {0}
+NamesNoAccount (extended e name subscripts) = ⊥
+
 abbrev pub subscripts_tree : ReferenceTree → ExprsTree
 subscripts_tree (local name subscripts) = subscripts
 subscripts_tree (global name subscripts) = subscripts
 subscripts_tree (naked subscripts) = subscripts
+subscripts_tree (indirect p subscripts) = subscripts
+subscripts_tree (extended e name subscripts) = subscripts
 
+-- of a reference that is direct and has no environment
 abbrev pub named : Text → ReferenceTree → List Text → variables.Evaluated
 named account (local name subscripts) xs = variables.of_local name xs
 named account (global name subscripts) xs = variables.of_global (record { account = account; name = name; subscripts = xs })
 named account (naked subscripts) xs = variables.of_naked xs
+named account (indirect p subscripts) xs = variables.of_naked xs
+named account (extended e name subscripts) xs = variables.of_naked xs

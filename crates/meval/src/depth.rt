@@ -1,8 +1,34 @@
 // How deep a text stands.
+ghost use Rattle.std.specs.Prelude.{◌≡◌, ◌↔◌, IsTrue, IsSome, IfSome};
+ghost use Rattle.mmeaning.specs.Expression.{is_indirection_free, indirected};
+ghost use Rattle.meval.specs.Evaluates.{depth_of};
+
+// The most levels that a line opens, indirections under evaluation among them.
+pub const MOST_LEVELS: u32 = 256;
+
+// The most indirections under evaluation.
+pub const MOST_INDIRECTIONS: u32 = 32;
 
 /// How deep a text stands: the levels that are open, of which some are indirections under evaluation.
 #[derive(Clone, Copy, Debug, PartialEq, Eq)]
 pub struct Depth {
     pub levels: u32,
     pub indirections: u32,
+}
+
+impl Depth {
+    /// How deep the text of an indirection stands that is written here; none where 256 levels are open, or 32 indirections under
+    /// evaluation among them.
+    pub fn indirected(self) -> Option<Depth>
+        ensures free { IsSome result ↔ IsTrue (is_indirection_free (depth_of self)) }
+        ensures deeper { IfSome result (λ deeper. depth_of deeper ≡ indirected (depth_of self)) }
+    {
+        if self.levels >= MOST_LEVELS || self.indirections >= MOST_INDIRECTIONS {
+            return None;
+        }
+        Some(Depth {
+            levels: self.levels + 1,
+            indirections: self.indirections + 1,
+        })
+    }
 }

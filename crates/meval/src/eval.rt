@@ -1,6 +1,6 @@
 // The evaluation of expressions.
 ghost use Rattle.std.specs.Prelude.{◌≡◌, ◌≢◌, ◌≤◌, ◌<◌, [], map, slice_get, unwrap_or, Err, IfOk};
-ghost use Rattle.mgrammar.specs.Grammar.{exprs_of, choices_of, function_of, special_of};
+ghost use Rattle.mgrammar.specs.Grammar.{indirect, extended, exprs_of, choices_of, function_of, special_of};
 ghost use Rattle.mkey.specs.Way.{way};
 ghost use Rattle.mmeaning.specs.Expression as meaning;
 ghost use Rattle.mmeaning.specs.LineMeaning as line;
@@ -18,7 +18,11 @@ ghost use Rattle.mspec.specs.Access.{Read, Write};
 ghost use Rattle.mspec.specs.Code.{Own};
 
 use crate::depth::Depth;
-use crate::place::{Pending, Place, Walk, plain_name, subscripts_of};
+use crate::global_node::GlobalNode;
+use crate::place::{
+    LocalName, Pending, Place, Walk, extended_parts, indirect_parts, plain_name, subscripts_of,
+};
+use crate::reading::read_reference;
 use crate::session::Session;
 use crate::walk::{data_value, direction, first_or_empty, next_value, texts};
 use mgrant::{AccountId, Mode, Settings};
@@ -98,6 +102,7 @@ impl<'a, S: NodeStore> Eval<'a, S> {
     {
         match place {
             Place::Local(name, subscripts) => {
+                let name = name.as_name();
                 match self.session.locals.get(name, subscripts.as_slice())? {
                     Some(value) => Ok(Some(value.copy()?)),
                     None => Ok(None),
@@ -162,6 +167,7 @@ impl<'a, S: NodeStore> Eval<'a, S> {
     {
         match place {
             Place::Local(name, subscripts) => {
+                let name = name.as_name();
                 let data = self.session.locals.data(name, subscripts.as_slice())?;
                 Ok(data)
             }
@@ -190,7 +196,7 @@ impl<'a, S: NodeStore> Eval<'a, S> {
     {
         match walk {
             Walk::Local(name, texts) => {
-                let next = self.session.locals.order(name, texts, direction)?;
+                let next = self.session.locals.order(name.as_name(), texts, direction)?;
                 Ok(next_value(alloc, next))
             }
             Walk::Node(node) => {
@@ -257,7 +263,7 @@ impl<'a, S: NodeStore> Eval<'a, S> {
 
     // What a reference has to evaluate.
     #[cycle(eval)]
-    fn evaluated<'t>(
+    pub(crate) fn evaluated<'t>(
         &mut self,
         alloc: Global,
         reference: &'t Reference,
@@ -267,11 +273,82 @@ impl<'a, S: NodeStore> Eval<'a, S> {
         ensures does { Evaluates S.NodeStore (λ i. meaning.evaluated i (reference_tree reference.now)) pending_view self.old result self.new }
     {
         if let Some(name) = plain_name(reference) {
-            return Ok(Pending::Local(name, Vec::new(alloc)));
+            return Ok(Pending::Local(LocalName::Lent(name), Vec::new(alloc)));
+        }
+        if let Some((operand, subscripts)) = indirect_parts(reference) {
+            return self.named(alloc, operand, subscripts);
+        }
+        if let Some((environment, name, subscripts)) = extended_parts(reference) {
+            return self.extended(alloc, environment, name, subscripts);
         }
         let values = self.values(alloc, subscripts_of(reference))?;
         let texts = texts(alloc, values)?;
         Ok(self.pending(alloc, reference, texts)?)
+    }
+
+    // What a global of an environment has to evaluate: the account, and then its subscripts.
+    #[cycle(eval)]
+    fn extended<'u>(
+        &mut self,
+        alloc: Global,
+        environment: &Expr,
+        name: &Name,
+        subscripts: &[Expr],
+    ) -> Result<Pending<'u>, Code>
+        ensures loans { KeepsEval self.old self.new }
+        ensures fewer { self.new.steps ≤ self.old.steps }
+        ensures does { Evaluates S.NodeStore (λ i. meaning.evaluated i (extended (expr_tree environment.now) name.now (exprs_of (map expr_tree subscripts.now)))) pending_view self.old result self.new }
+    {
+        let owner = self.value(alloc, environment)?;
+        let account = owner.into_text(alloc)?;
+        let subscripts = self.values(alloc, subscripts)?;
+        let texts = texts(alloc, subscripts)?;
+        let node = GlobalNode::new(account, name.copy()?, texts);
+        Ok(Pending::Global(node))
+    }
+
+    // What the variable has to evaluate that an operand's text names, and the subscripts behind it. Its text is evaluated an indirection
+    // deeper, and no `?` stands there: the depth is then what it was.
+    #[cycle(eval)]
+    fn named<'u>(
+        &mut self,
+        alloc: Global,
+        operand: &Primary,
+        subscripts: &[Expr],
+    ) -> Result<Pending<'u>, Code>
+        ensures loans { KeepsEval self.old self.new }
+        ensures fewer { self.new.steps ≤ self.old.steps }
+        ensures does { Evaluates S.NodeStore (λ i. meaning.evaluated i (indirect (primary_tree operand.now) (exprs_of (map expr_tree subscripts.now)))) pending_view self.old result self.new }
+    {
+        let value = self.primary(alloc, operand)?;
+        let depth = self.depth;
+        let Some(deeper) = depth.indirected() else {
+            return Err(Code::Zdepth);
+        };
+        let text = value.into_text(alloc)?;
+        let reference = read_reference(alloc, text.as_bytes())?;
+        self.depth = deeper;
+        let result = self.through(alloc, &reference, subscripts);
+        self.depth = depth;
+        result
+    }
+
+    // What a reference has to evaluate, and then the subscripts behind it.
+    #[cycle(eval)]
+    fn through<'u>(
+        &mut self,
+        alloc: Global,
+        reference: &Reference,
+        subscripts: &[Expr],
+    ) -> Result<Pending<'u>, Code>
+        ensures loans { KeepsEval self.old self.new }
+        ensures fewer { self.new.steps ≤ self.old.steps }
+        ensures does { Evaluates S.NodeStore (λ i. meaning.through i (reference_tree reference.now) (exprs_of (map expr_tree subscripts.now))) pending_view self.old result self.new }
+    {
+        let front = self.evaluated(alloc, reference)?;
+        let values = self.values(alloc, subscripts)?;
+        let texts = texts(alloc, values)?;
+        Ok(front.extended(texts)?)
     }
 
     // The value of a function of a variable.
@@ -400,6 +477,20 @@ impl<'a, S: NodeStore> Eval<'a, S> {
         ensures steady { S.steady → result ≢ Err Zstore }
     {
         self.value(alloc, e)
+    }
+
+    /// The value of a primary, as the operand of an argument indirection is one. It costs at least one step.
+    ///
+    /// # Errors
+    ///
+    /// Those of `eval`.
+    pub fn eval_primary(&mut self, alloc: Global, primary: &Primary) -> Result<Value, Code>
+        ensures loans { KeepsEval self.old self.new }
+        ensures fewer { self.new.steps ≤ self.old.steps }
+        ensures spent { IfOk result (λ _. self.new.steps < self.old.steps) }
+        ensures does { Evaluates S.NodeStore (λ i. meaning.primary_value i (primary_tree primary.now)) (λ v. v) self.old result self.new }
+    {
+        self.primary(alloc, primary)
     }
 
     /// The number of an expression's value. It costs at least one step.

@@ -91,6 +91,16 @@ impl GlobalNode {
         })
     }
 
+    // The node with these subscripts behind its own.
+    pub(crate) fn extended(self, texts: Vec<Bytes7>) -> Result<GlobalNode, AllocError>
+        ensures { IfOk result (λ node. node ≡ record self { subscripts = self.subscripts ++ texts.items }) }
+    {
+        let mut node = self;
+        let mut texts = texts;
+        node.subscripts.append(&mut texts)?;
+        Ok(node)
+    }
+
     // Its key: `Zsub` where its subscripts are none that a node can have.
     pub(crate) fn key(&self, alloc: Global) -> Result<NodeKey, Code>
         requires { IsAccountName self.now.account }

@@ -6,6 +6,7 @@ ghost use Rattle.mspec.specs.Scopes.{without_level};
 ghost use Rattle.mmeaning.specs.Levels.{a_level_free};
 ghost use Rattle.meval.specs.Evaluates.{Evaluates, KeepsEval};
 
+use crate::depth::MOST_LEVELS;
 use crate::eval::Eval;
 use crate::globals::code_of;
 use mglobal::shared_routine;
@@ -15,9 +16,6 @@ use moperator::Code;
 use mstore::NodeStore;
 use std::alloc::Global;
 use std::rc::Rc;
-
-// The most levels that a line opens, indirections under evaluation among them.
-const MOST_LEVELS: u32 = 256;
 
 impl<'a, S: NodeStore> Eval<'a, S> {
     /// Whether one level more may be opened where the text stands. Takes no memory.

@@ -1,31 +1,100 @@
 // References of which all is evaluated, and places that the checks let through.
-ghost use Rattle.std.specs.Prelude.{◌≡◌, ◌↔◌, IsTrue, IsSome, IfSome, IfOk, map};
-ghost use Rattle.mgrammar.specs.Grammar.{local, no_exprs, exprs_of};
-ghost use Rattle.mtree.specs.Tree.{expr_tree, reference_tree};
+ghost use Rattle.std.specs.Prelude.{◌≡◌, ◌↔◌, ◌++◌, IsTrue, IsSome, IsNone, IfSome, IfOk, map};
+ghost use Rattle.mgrammar.specs.Grammar.{local, indirect, extended, no_exprs, exprs_of};
+ghost use Rattle.mtree.specs.Tree.{expr_tree, primary_tree, reference_tree};
 ghost use Rattle.mmeaning.specs.Variables.{checked, ordering};
+ghost use Rattle.mmeaning.specs.Variables as variables;
 ghost use Rattle.mmeaning.specs.Yields.{Yields};
 ghost use Rattle.mspec.specs.KeyBytes.{AreSubscripts};
 ghost use Rattle.mspec.specs.Subscripts.{are_subscripts};
 ghost use Rattle.mspec.specs.Trees.{AreOrderSubscripts};
 ghost use Rattle.moperator.specs.Codes.{fault_of};
-ghost use Rattle.meval.specs.Places.{subscripts_tree};
+ghost use Rattle.meval.specs.Places.{name_view, pending_view, place_view, subscripts_tree, IsDirect, NamesNoAccount};
 
 use crate::global_node::GlobalNode;
 use mkey::{NodeKey, order_subs_ok, subs_ok};
 use mnum::{Bytes7, Name};
 use moperator::Code;
-use mtree::{Expr, Reference};
+use mtree::{Expr, Primary, Reference};
+use std::alloc::AllocError;
 use std::marker::Model;
+
+/// The name of a local variable. Contracts see it by `name_view`, as its text.
+#[derive(Drop)]
+pub enum LocalName<'t> {
+    /// One that the tree of the line holds.
+    Lent(&'t Name),
+    /// One that a text gave.
+    Own(Name),
+}
+
+impl<'t> LocalName<'t> {
+    /// The name. Takes no memory.
+    pub fn as_name(&self) -> &Name
+        ensures { result.now ≡ name_view self.now }
+    {
+        match self {
+            LocalName::Lent(name) => name,
+            LocalName::Own(name) => name,
+        }
+    }
+
+    // The same name, which no tree need hold.
+    fn into_own<'u>(self) -> Result<LocalName<'u>, AllocError>
+        ensures { IfOk result (λ own. name_view own ≡ name_view self.entry) }
+    {
+        match self {
+            LocalName::Lent(name) => {
+                let own = name.copy()?;
+                Ok(LocalName::Own(own))
+            }
+            LocalName::Own(name) => Ok(LocalName::Own(name)),
+        }
+    }
+}
 
 /// A reference of which all is evaluated that it has to evaluate. Contracts see it by `pending_view`, as one of the definitions.
 #[derive(Drop)]
 pub enum Pending<'t> {
     /// A local variable: its name, and its subscripts.
-    Local(&'t Name, Vec<Bytes7>),
+    Local(LocalName<'t>, Vec<Bytes7>),
     /// A node of a global.
     Global(GlobalNode),
     /// A node beside the one that was referred to last: the subscripts that stand in the place of the last one.
     Naked(Vec<Bytes7>),
+}
+
+// Texts, and others behind them.
+fn joined(front: Vec<Bytes7>, behind: Vec<Bytes7>) -> Result<Vec<Bytes7>, AllocError>
+    ensures { IfOk result (λ all. all.items ≡ front.items ++ behind.items) }
+{
+    let mut all = front;
+    let mut behind = behind;
+    all.append(&mut behind)?;
+    Ok(all)
+}
+
+impl<'t> Pending<'t> {
+    // The same with these subscripts behind its own. It needs no tree.
+    pub(crate) fn extended<'u>(self, texts: Vec<Bytes7>) -> Result<Pending<'u>, AllocError>
+        ensures { IfOk result (λ pending. pending_view pending ≡ variables.with_subscripts (variables.subscripts_of (pending_view self.entry) ++ texts.items) (pending_view self.entry)) }
+    {
+        match self {
+            Pending::Local(name, subscripts) => {
+                let name = name.into_own()?;
+                let subscripts = joined(subscripts, texts)?;
+                Ok(Pending::Local(name, subscripts))
+            }
+            Pending::Global(node) => {
+                let node = node.extended(texts)?;
+                Ok(Pending::Global(node))
+            }
+            Pending::Naked(subscripts) => {
+                let subscripts = joined(subscripts, texts)?;
+                Ok(Pending::Naked(subscripts))
+            }
+        }
+    }
 }
 
 // The subscripts of a reference.
@@ -36,6 +105,30 @@ pub fn subscripts_of(reference: &Reference) -> &[Expr]
         Reference::Local(_, subscripts) => subscripts,
         Reference::Global(_, subscripts) => subscripts,
         Reference::Naked(subscripts) => subscripts,
+        Reference::Indirect(_, subscripts) => subscripts,
+        Reference::Extended(_, _, subscripts) => subscripts,
+    }
+}
+
+// The operand of a name indirection, and the subscripts behind it.
+pub fn indirect_parts(reference: &Reference) -> Option<(&Primary, &[Expr])>
+    ensures parts { IfSome result (λ parts. reference_tree reference.now ≡ indirect (primary_tree parts.0.now) (exprs_of (map expr_tree parts.1.now))) }
+    ensures none { IsNone result → IsDirect (reference_tree reference.now) }
+{
+    match reference {
+        Reference::Indirect(operand, subscripts) => Some((operand, subscripts)),
+        _ => None,
+    }
+}
+
+// The environment of a global, its name and its subscripts.
+pub fn extended_parts(reference: &Reference) -> Option<(&Expr, &Name, &[Expr])>
+    ensures parts { IfSome result (λ parts. reference_tree reference.now ≡ extended (expr_tree parts.0.now) parts.1.now (exprs_of (map expr_tree parts.2.now))) }
+    ensures none { IsNone result → NamesNoAccount (reference_tree reference.now) }
+{
+    match reference {
+        Reference::Extended(environment, name, subscripts) => Some((environment, name, subscripts)),
+        _ => None,
     }
 }
 
@@ -95,15 +188,26 @@ impl Subscripts {
 #[derive(Drop)]
 pub enum Place<'t> {
     /// A node of a local variable: its name, and its subscripts.
-    Local(&'t Name, Subscripts),
+    Local(LocalName<'t>, Subscripts),
     /// A node of a global.
     Node(NodeKey),
+}
+
+// The place of a local variable with these subscripts: `Zsub` where they are none of a node.
+pub fn local_place<'t>(name: LocalName<'t>, texts: Vec<Bytes7>) -> Result<Place<'t>, Code>
+    ensures checked { Yields fault_of (variables.resolve variables.reading (variables.of_local (name_view name.entry) texts.items)) place_view result }
+    ensures local { IfOk result (λ place. place_view place ≡ variables.at_local (name_view name.entry) texts.items) }
+{
+    match Subscripts::new(texts) {
+        Some(subscripts) => Ok(Place::Local(name, subscripts)),
+        None => Err(Code::Zsub),
+    }
 }
 
 // A place that the checks let through for $ORDER: its last subscript may be empty. Contracts see it by `walk_view`.
 #[derive(Drop)]
 pub enum Walk<'t> {
-    Local(&'t Name, Vec<Bytes7>),
+    Local(LocalName<'t>, Vec<Bytes7>),
     Node(GlobalNode),
 }
 

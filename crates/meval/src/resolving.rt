@@ -7,11 +7,11 @@ ghost use Rattle.mtree.specs.Tree.{reference_tree};
 ghost use Rattle.mgrant.specs.Placed.{mode_of};
 ghost use Rattle.mmeaning.specs.Variables as variables;
 ghost use Rattle.meval.specs.Evaluates.{Evaluates, KeepsEval, standing_of};
-ghost use Rattle.meval.specs.Places.{pending_view, place_view, walk_view, use_of, named, IsWalk, IsOpen};
+ghost use Rattle.meval.specs.Places.{pending_view, place_view, walk_view, use_of, named, IsDirect, NamesNoAccount, IsWalk, IsOpen};
 
 use crate::eval::Eval;
 use crate::global_node::GlobalNode;
-use crate::place::{Pending, Place, Subscripts, Walk, check_walk};
+use crate::place::{LocalName, Pending, Place, Walk, check_walk, local_place};
 use mgrant::Mode;
 use mkey::is_account_name;
 use mnum::{Bytes7, Name};
@@ -22,7 +22,7 @@ use std::alloc::{AllocError, Global};
 
 impl<'a, S: NodeStore> Eval<'a, S> {
     // The node of the account's own global of this name.
-    fn own_node(
+    pub(crate) fn own_node(
         &self,
         alloc: Global,
         name: &Name,
@@ -34,27 +34,31 @@ impl<'a, S: NodeStore> Eval<'a, S> {
         Ok(GlobalNode::new(account, name.copy()?, subscripts))
     }
 
-    // What a reference is, once its subscripts have these texts.
+    // What a reference without an environment is whose name stands in it, once its subscripts have these texts.
     pub(crate) fn pending<'t>(
         &self,
         alloc: Global,
         reference: &'t Reference,
         texts: Vec<Bytes7>,
     ) -> Result<Pending<'t>, AllocError>
+        requires direct { IsDirect (reference_tree reference.now) }
+        requires own { NamesNoAccount (reference_tree reference.now) }
         ensures { IfOk result (λ pending. pending_view pending ≡ named (standing_of self.now).account (reference_tree reference.now) texts.items) }
     {
         match reference {
-            Reference::Local(name, _) => Ok(Pending::Local(name, texts)),
+            Reference::Local(name, _) => Ok(Pending::Local(LocalName::Lent(name), texts)),
             Reference::Global(name, _) => {
                 let node = self.own_node(alloc, name, texts)?;
                 Ok(Pending::Global(node))
             }
             Reference::Naked(_) => Ok(Pending::Naked(texts)),
+            Reference::Indirect(_, _) => unreachable!(),
+            Reference::Extended(_, _, _) => unreachable!(),
         }
     }
 
     // Whether the account may use the global of a node so.
-    fn check(&self, mode: Mode, node: &GlobalNode) -> Result<(), Code>
+    pub(crate) fn check(&self, mode: Mode, node: &GlobalNode) -> Result<(), Code>
         ensures account { IfOk result (λ _. IsAccountName node.now.account) }
         ensures allowed { IfOk result (λ _. IsOpen (standing_of self.now) (mode_of mode) (variables.at_node node.now)) }
         ensures does { Evaluates S.NodeStore (λ i. variables.allowed (mode_of mode) node.now) (λ u. u) self.now result self.now }
@@ -120,10 +124,7 @@ impl<'a, S: NodeStore> Eval<'a, S> {
         ensures does { Evaluates S.NodeStore (λ i. variables.resolve (use_of mode) (pending_view pending.entry)) place_view self.old result self.new }
     {
         match pending {
-            Pending::Local(name, texts) => match Subscripts::new(texts) {
-                Some(subscripts) => Ok(Place::Local(name, subscripts)),
-                None => Err(Code::Zsub),
-            },
+            Pending::Local(name, texts) => local_place(name, texts),
             Pending::Global(node) => self.node_place(alloc, mode, node),
             Pending::Naked(texts) => {
                 let node = self.beside(alloc, texts)?;

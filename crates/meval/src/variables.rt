@@ -45,6 +45,7 @@ impl<'a, S: NodeStore> Eval<'a, S> {
     {
         match place {
             Place::Local(name, subscripts) => {
+                let name = name.as_name();
                 self.session.locals.set(name, subscripts.as_slice(), value)?;
                 Ok(())
             }
@@ -68,6 +69,7 @@ impl<'a, S: NodeStore> Eval<'a, S> {
     {
         match place {
             Place::Local(name, subscripts) => {
+                let name = name.as_name();
                 self.session.locals.kill(name, subscripts.as_slice())?;
                 Ok(())
             }

@@ -1,9 +1,9 @@
 -- Arguments, one after another: what the code does up to where lines or a text are entered, and then that, is what each does.
-use Rattle.std.proofs.Common.{◌≡◌, ℕ, ◌+◌, ◌≤◌, ◌<◌, Bool, true, false, cond, List, [], ◌∷◌, Option, Result, Ok, Err, length, get_or, map, drop, refl, sym, ap, ◌∙◌, subst}
+use Rattle.std.proofs.Common.{◌≡◌, ℕ, ◌+◌, ◌≤◌, ◌<◌, Bool, true, false, cond, List, ◌∷◌, Option, Result, Ok, Err, length, get_or, map, drop, refl, sym, ap, ◌∙◌, subst}
 use Rattle.std.specs.Result.{IsErr, IsErrAnd}
 use Rattle.mspec.specs.Act.{Text, Act, ◌>>=◌, give}
 use Rattle.mspec.proofs.ListPlaces.{next_item}
-use Rattle.mgrammar.specs.Grammar.{ExprTree, ArgTree, assign, breaks, shown, kill_one, kill_others, new_one, new_others, tested, loop, do_one, go_to, executed}
+use Rattle.mgrammar.specs.Grammar.{ExprTree, ArgTree, assign, breaks, shown, kill_one, kill_others, new_one, new_others, tested, loop, do_one, go_to, executed, locked, indirect_args}
 use Rattle.mmeaning.specs.Expression.{inside}
 use Rattle.mmeaning.specs.LineMeaning as meaning
 use Rattle.mmeaning.specs.LineMeaning.{Spot, Context, Go_on, after, argument, arguments, context, doing, executing, holds, inside_of}
@@ -52,6 +52,8 @@ module _ (x : Context) where
   argument_is (do_one e c) = entered c (into_lines e) (doing x e) refl
   argument_is (go_to e c) = plain (argument x (go_to e c))
   argument_is (executed e c) = entered c (into_text e) (executing x e) refl
+  argument_is (locked k names t) = plain (argument x (locked k names t))
+  argument_is (indirect_args f p) = refl
 
   -- what follows, once it is known what an argument leaves to be done
   abbrev pub then_more : List ArgTree → Start → Act meaning.Signal

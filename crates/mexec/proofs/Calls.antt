@@ -2,7 +2,6 @@
 use Rattle.std.proofs.Common.{◌≡◌, ℕ, zero, suc, ◌≤◌, ◌<◌, ◌+◌, ◌++◌, List, [], ◌∷◌, Result, Ok, Err, length, drop, get_or, refl, sym, ◌∙◌, subst, arith}
 use Rattle.std.proofs.lemmas.List.{drop_more}
 use Rattle.std.specs.Result.{IsErr, IsErrAnd, IfOk}
-use Rattle.mspec.specs.LockConflict.{Locks}
 use Rattle.mspec.specs.Act.{Text, Act, ◌>>=◌, ◌>>◌, give, set_test}
 use Rattle.mgrammar.specs.Grammar.{ExprTree, ArgTree, CommandTree}
 use Rattle.mmeaning.specs.Operators.{as_truth}
@@ -33,15 +32,15 @@ use Rattle.mexec.specs.Arguments.{listing}
 pub at_then : {S A B X Y : Type 0} {g : Ghosts S} {p : Text → ℕ → Act A} (q : Text → ℕ → A → Act B) {f : X → A} {j : Y → B} {old mid new : Parts S} {x : X} {r : Result Y Code}
     → DoesAt g p f old (Ok x) mid → DoesAt g (λ a n. q a n (f x)) j mid r new → DoesAt g (λ a n. p a n >>= q a n) j old r new
 at_then {g = g} q {f = f} {j = j} {old = old} {mid = mid} {new = new} {x = x} {r = r} d k = record {
-  at = λ sound locks.
-      did_then (q (standing_of old.eval).account) (d.at sound locks)
-      (subst (λ b. Did b g.steady fault_of (λ n. q b.account n (f x)) j (here_of g mid locks) r (here_of g new locks)) d.same (k.at sound locks));
+  at = λ sound.
+      did_then (q (standing_of old.eval).account) (d.at sound)
+      (subst (λ b. Did b g.steady fault_of (λ n. q b.account n (f x)) j (here_of g mid) r (here_of g new)) d.same (k.at sound));
   same = k.same ∙ d.same;
 }
 
 pub at_failed : {S A B X Y : Type 0} {g : Ghosts S} {p : Text → ℕ → Act A} (q : Text → ℕ → A → Act B) {f : X → A} {j : Y → B} {old new : Parts S} {e : Code} → DoesAt g p f old (Err e) new → DoesAt g (λ a n. p a n >>= q a n) j old (Err e) new
 at_failed q {old = old} d = record {
-  at = λ sound locks. did_failed (q (standing_of old.eval).account) (d.at sound locks);
+  at = λ sound. did_failed (q (standing_of old.eval).account) (d.at sound);
   same = d.same;
 }
 
@@ -53,21 +52,21 @@ at_stopped {g = g} {p = p} q {j = j} {old = old} {new = new} {r = r} d h =
 
 pub at_gives : {S A X : Type 0} {g : Ghosts S} {parts : Parts S} (a : A) (f : X → A) (x : X) → f x ≡ a → DoesAt g (λ b n. give a) f parts (Ok x) parts
 at_gives a f x same = record {
-  at = λ sound locks. did_gives a f x same;
+  at = λ sound. did_gives a f x same;
   same = refl;
 }
 
 -- want of memory
 pub at_lost : {S A X : Type 0} {g : Ghosts S} (p : Text → ℕ → Act A) (f : X → A) {parts : Parts S} → DoesAt g p f parts (Err Zmem) parts
 at_lost p f {parts = parts} = record {
-  at = λ sound locks. did_lost (p (standing_of parts.eval).account) f Zmem tt refl (omega arith);
+  at = λ sound. did_lost (p (standing_of parts.eval).account) f Zmem tt refl (omega arith);
   same = refl;
 }
 
 -- a call at a depth of its own, which goes on with what is next
 module _ {S : Type 0} {g : Ghosts S} (p : Inside → Act (Unit {0})) (depth : Depth) {old new : Parts S} where
   there : {r : Result (Unit {0}) Code} → Does g p (λ (u : Unit {0}). u) (record old { eval = record old.eval { depth = depth } }) r new → DoesAt g (λ a n. p (inside a n (depth_of depth))) (λ (u : Unit {0}). u) old r new
-  there d = record { at = λ sound locks. d.at sound locks; same = d.same }
+  there d = record { at = λ sound. d.at sound; same = d.same }
 
   pub goes_on : (r : Result (Unit {0}) Code) → Does g p (λ (u : Unit {0}). u) (record old { eval = record old.eval { depth = depth } }) r new → DoesAt g (λ a n. p (inside a n (depth_of depth)) >> give Go_on) signal_of old (went r) new
   goes_on (Ok u) d = at_then (λ a n _. give Go_on) (there d) (at_gives Go_on signal_of signal.GoOn refl)
@@ -89,7 +88,7 @@ passes signal.Halts p not_go = refl
 
 -- a call at a depth that plays no part
 pub at_depth : {S A X : Type 0} {g : Ghosts S} {p : Text → ℕ → Act A} {f : X → A} {old new : Parts S} {r : Result X Code} (d : Depth) → DoesAt g p f (record old { eval = record old.eval { depth = d } }) r new → DoesAt g p f old r new
-at_depth d k = record { at = λ sound locks. k.at sound locks; same = k.same }
+at_depth d k = record { at = λ sound. k.at sound; same = k.same }
 
 -- an act by another name
 pub at_as : {S A X : Type 0} {g : Ghosts S} {p q : Text → ℕ → Act A} {f : X → A} {old new : Parts S} {r : Result X Code} → ((a : Text) (n : ℕ) → ◌≡◌ {A = Act A} (p a n) (q a n)) → DoesAt g q f old r new → DoesAt g p f old r new
@@ -111,9 +110,9 @@ pub runs_then : {S A X : Type 0} {g : Ghosts S} {p : Text → ℕ → Act A} (q 
 runs_then q {f = f} {x = x} {fs = fs} {old = old} {mid = mid} d few k =
     let fewer = k.fewer in
     record {
-      at = λ sound locks n ns le e.
-          on_then (q (standing_of old.eval).account n) n le (d.at sound locks)
-          (moved_to (λ a. q a n (f x)) (λ a. left a fs ns) d.same (k.at sound locks n ns (omega (arith, few, le)) (enough mid.eval.steps old.eval.steps fs ns few e)));
+      at = λ sound n ns le e.
+          on_then (q (standing_of old.eval).account n) n le (d.at sound)
+          (moved_to (λ a. q a n (f x)) (λ a. left a fs ns) d.same (k.at sound n ns (omega (arith, few, le)) (enough mid.eval.steps old.eval.steps fs ns few e)));
       fewer = omega (arith, few, fewer);
       same = k.same ∙ d.same;
     }
@@ -127,18 +126,18 @@ runs_spent {g = g} {p = p} q {f = f} {x = x} {fs = fs} {fs' = fs'} {old = old} {
   same = k.same ∙ d.same;
 }
   where
-    go : g.sound → (locks : Locks) (n : ℕ) (ns : List ℕ) → old.eval.steps ≤ n → Enough old.eval.steps fs ns
-        → MovedOn (standing_of old.eval) g.steady fault_of signal_of (p (standing_of old.eval).account n >>= q (standing_of old.eval).account n) (left (standing_of old.eval).account fs ns) (here_of g old locks) r fs' (here_of g new locks)
-    go sound locks zero ns le e = absurd (omega arith)
-    go sound locks (suc n) ns le e =
-        on_then (q (standing_of old.eval).account (suc n)) (suc n) le (d.at sound locks)
-        (moved_to (λ a. q a (suc n) (f x)) (λ a. left a fs ns) d.same (k.at sound locks n ns (omega arith) (enough mid.eval.steps old.eval.steps fs ns (omega arith) e)))
+    go : g.sound → (n : ℕ) (ns : List ℕ) → old.eval.steps ≤ n → Enough old.eval.steps fs ns
+        → MovedOn (standing_of old.eval) g.steady fault_of signal_of (p (standing_of old.eval).account n >>= q (standing_of old.eval).account n) (left (standing_of old.eval).account fs ns) (here_of g old) r fs' (here_of g new)
+    go sound zero ns le e = absurd (omega arith)
+    go sound (suc n) ns le e =
+        on_then (q (standing_of old.eval).account (suc n)) (suc n) le (d.at sound)
+        (moved_to (λ a. q a (suc n) (f x)) (λ a. left a fs ns) d.same (k.at sound n ns (omega arith) (enough mid.eval.steps old.eval.steps fs ns (omega arith) e)))
 
 -- an act fails, by a `?` that the call returns
 pub runs_stopped : {S A X : Type 0} {g : Ghosts S} {p : Text → ℕ → Act A} (q : Text → ℕ → A → Act meaning.Signal) {f : X → A} {fs fs' : List View} {old new : Parts S} {r : Result Signal Code} {e : Code}
     → DoesAt g p f old (Err e) new → new.eval.steps ≤ old.eval.steps → IsErr r × IsErrAnd r (λ x. x ≡ e) → Runs g (λ a n. p a n >>= q a n) fs old r fs' new
 runs_stopped {g = g} {p = p} q {fs = fs} {fs' = fs'} {old = old} {new = new} {r = r} d few h = subst (λ r. Runs g (λ a n. p a n >>= q a n) fs old r fs' new) (sym (residual_is r _ h)) (record {
-  at = λ sound locks n ns le e. on_failed (q (standing_of old.eval).account n) n le (d.at sound locks);
+  at = λ sound n ns le e. on_failed (q (standing_of old.eval).account n) n le (d.at sound);
   fewer = few;
   same = d.same;
 })
@@ -146,7 +145,7 @@ runs_stopped {g = g} {p = p} q {fs = fs} {fs' = fs'} {old = old} {new = new} {r 
 -- want of memory, by a `?` that the call returns
 pub runs_wanting : {S : Type 0} {g : Ghosts S} (p : Text → ℕ → Act meaning.Signal) {fs fs' : List View} {parts : Parts S} (r : Result Signal Code) → IsErr r × IsErrAnd r (λ x. x ≡ Zmem) → Runs g p fs parts r fs' parts
 runs_wanting {g = g} p {fs = fs} {fs' = fs'} {parts = parts} r h = subst (λ r. Runs g p fs parts r fs' parts) (sym (residual_is r Zmem h)) (record {
-  at = λ sound locks n ns le e. on_lost (p (standing_of parts.eval).account n) (left (standing_of parts.eval).account fs ns) Zmem tt refl (omega arith);
+  at = λ sound n ns le e. on_lost (p (standing_of parts.eval).account n) (left (standing_of parts.eval).account fs ns) Zmem tt refl (omega arith);
   fewer = omega arith;
   same = refl;
 })
@@ -154,7 +153,7 @@ runs_wanting {g = g} p {fs = fs} {fs' = fs'} {parts = parts} r h = subst (λ r. 
 -- the same, by a code that the call itself gives
 pub runs_lost : {S : Type 0} {g : Ghosts S} (p : Text → ℕ → Act meaning.Signal) {fs fs' : List View} {parts : Parts S} → Runs g p fs parts (Err Zmem) fs' parts
 runs_lost p {fs = fs} {parts = parts} = record {
-  at = λ sound locks n ns le e. on_lost (p (standing_of parts.eval).account n) (left (standing_of parts.eval).account fs ns) Zmem tt refl (omega arith);
+  at = λ sound n ns le e. on_lost (p (standing_of parts.eval).account n) (left (standing_of parts.eval).account fs ns) Zmem tt refl (omega arith);
   fewer = omega arith;
   same = refl;
 }
@@ -162,7 +161,7 @@ runs_lost p {fs = fs} {parts = parts} = record {
 -- a signal is given to the frames
 pub runs_signal : {S : Type 0} {g : Ghosts S} {fs : List View} {parts : Parts S} (s : Signal) → Runs g (λ a n. give (signal_of s)) fs parts (Ok s) fs parts
 runs_signal s = record {
-  at = λ sound locks n ns le e. on_signal s ns e;
+  at = λ sound n ns le e. on_signal s ns e;
   fewer = omega arith;
   same = refl;
 }
@@ -178,21 +177,21 @@ runs_as {g = g} {fs = fs} {fs' = fs'} {old = old} {new = new} {r = r} same k = s
 -- an act that leaves the frames as they are
 pub runs_done : {S : Type 0} {g : Ghosts S} {p : Text → ℕ → Act meaning.Signal} {fs : List View} {old new : Parts S} (r : Result Signal Code) → DoesAt g p signal_of old r new → new.eval.steps ≤ old.eval.steps → Runs g p fs old r fs new
 runs_done {g = g} {p = p} {fs = fs} {old = old} {new = new} (Ok s) d few = record {
-  at = λ sound locks n ns le e. record {
+  at = λ sound n ns le e. record {
     done =
         let b = standing_of old.eval in
-        let did = d.at sound locks in
-        (ns, enough new.eval.steps old.eval.steps fs ns few e, then_follows b (p b.account n) (left b.account fs ns) (here_of g old locks) (signal_of s) (here_of g new locks) (did.at n le));
+        let did = d.at sound in
+        (ns, enough new.eval.steps old.eval.steps fs ns few e, then_follows b (p b.account n) (left b.account fs ns) (here_of g old) (signal_of s) (here_of g new) (did.at n le));
   };
   fewer = few;
   same = d.same;
 }
 runs_done {g = g} {p = p} {fs = fs} {old = old} {new = new} (Err c) d few = record {
-  at = λ sound locks n ns le e. record {
+  at = λ sound n ns le e. record {
     done =
         let b = standing_of old.eval in
-        let did = d.at sound locks in
-        then_failed b g.steady (p b.account n) (left b.account fs ns) (here_of g old locks) (fault_of c) (here_of g new locks) (did.at n le);
+        let did = d.at sound in
+        then_failed b g.steady (p b.account n) (left b.account fs ns) (here_of g old) (fault_of c) (here_of g new) (did.at n le);
   };
   fewer = few;
   same = d.same;
@@ -201,7 +200,7 @@ runs_done {g = g} {p = p} {fs = fs} {old = old} {new = new} (Err c) d few = reco
 -- a frame stands below what is done, in place of what it does then
 pub runs_frame : {S : Type 0} {g : Ghosts S} {p : Text → ℕ → Act meaning.Signal} (f : View) {fs fs' : List View} {old new : Parts S} {r : Result Signal Code} → Runs g p (f ∷ fs) old r fs' new → Runs g (λ a n. p a n >>= frame a n f) fs old r fs' new
 runs_frame f {fs = fs} k = record {
-  at = λ sound locks n ns le e. on_frame fs f n ns (k.at sound locks n (n ∷ ns) le (le, e));
+  at = λ sound n ns le e. on_frame fs f n ns (k.at sound n (n ∷ ns) le (le, e));
   fewer = k.fewer;
   same = k.same;
 }
@@ -209,7 +208,15 @@ runs_frame f {fs = fs} k = record {
 -- the rest of a line is on top
 pub runs_rest : {S : Type 0} {g : Ghosts S} {fs : List View} {parts : Parts S} (d : meaning.Spot) (l : List CommandTree) → Runs g (λ a n. meaning.commands (context a n d) l) fs parts (Ok signal.GoOn) (Rests d l ∷ fs) parts
 runs_rest d l = record {
-  at = λ sound locks n ns le e. on_top (Rests d l) signal.GoOn n ns le e;
+  at = λ sound n ns le e. on_top (Rests d l) signal.GoOn n ns le e;
+  fewer = omega arith;
+  same = refl;
+}
+
+-- arguments are on top
+pub runs_list : {S : Type 0} {g : Ghosts S} {fs : List View} {parts : Parts S} (d : meaning.Spot) (args : List ArgTree) → Runs g (λ a n. meaning.arguments (context a n d) args) fs parts (Ok signal.GoOn) (Lists d args ∷ fs) parts
+runs_list d args = record {
+  at = λ sound n ns le e. on_top (Lists d args) signal.GoOn n ns le e;
   fewer = omega arith;
   same = refl;
 }

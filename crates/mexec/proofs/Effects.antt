@@ -31,4 +31,6 @@ other_effect x k (arg.Tested e) more rest h = refl
 other_effect x k (arg.DoOne e c) more rest h = refl
 other_effect x k (arg.GoTo e c) more rest h = refl
 other_effect x k (arg.Executed e c) more rest h = refl
+other_effect x k (arg.Lock kind names t) more rest h = refl
+other_effect x k (arg.Indirect word p) more rest h = refl
 other_effect x k (arg.Loop index ps) more rest h = absurd (h index ps refl)

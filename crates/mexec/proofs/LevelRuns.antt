@@ -1,19 +1,16 @@
 -- Lines and texts that are entered, frame by frame.
-use Rattle.std.proofs.Common.{◌≡◌, ℕ, zero, suc, ◌≤◌, ◌<◌, ◌+◌, Bool, true, false, cond, List, [], ◌∷◌, Option, Some, None, Result, Ok, Err, length, drop, get_or, slice_get, refl, sym, ap, ◌∙◌, subst, eqb-true, le-ltb, arith}
+use Rattle.std.proofs.Common.{◌≡◌, ℕ, zero, suc, ◌<◌, ◌+◌, Bool, true, false, cond, List, [], ◌∷◌, Option, Some, None, Result, Ok, Err, length, drop, get_or, slice_get, refl, sym, ap, ◌∙◌, subst, eqb-true, le-ltb, arith}
 use Rattle.std.specs.Prelude.{nat_lt, ◌==◌}
 use Rattle.std.specs.Result.{IsErr, IsErrAnd}
 use Rattle.mspec.specs.Code.{Zsyntax}
-use Rattle.mspec.specs.Act.{Text, Act, ◌>>=◌, ◌>>◌, give, give_some, charge, with_locals, level_begun}
-use Rattle.mgrammar.specs.Grammar.{ExprTree, EntryTree, CommandTree, LineTree}
-use Rattle.mgrammar.specs.Reading.{line_at}
+use Rattle.mspec.specs.Act.{Text, Act, ◌>>=◌, ◌>>◌, give, give_some, charge}
+use Rattle.mgrammar.specs.Grammar.{ArgTree, CommandTree}
 use Rattle.mgrammar.specs.RoutineLine.{BodyTree, short, spaced_out, RoutineLineTree, dots_of, routine_line_at}
-use Rattle.mmeaning.specs.Expression.{Depth}
-use Rattle.mmeaning.specs.Levels as levels
-use Rattle.mmeaning.specs.Levels.{Level, Closing, Target, leaves, restores, deeper, has_dots, a_level_free, target, commands_of, commands_in}
-use Rattle.mmeaning.specs.LineMeaning as meaning
-use Rattle.mmeaning.specs.LineMeaning.{Spot, Context, Signal, Go_on, texts, context, commands, lines_reached, lines_from, lines_next, line_entered, after_level, closed, in_level}
+use Rattle.mmeaning.specs.Expression.{Depth, indirected}
+use Rattle.mmeaning.specs.Levels.{Level, Closing, leaves, deeper, within_indirection, has_dots, commands_of, commands_in}
+use Rattle.mmeaning.specs.LineMeaning.{Spot, Context, Signal, Go_on, texts, context, commands, lines_reached, lines_from, lines_next, line_entered, after_level, closed}
 use Rattle.mmeaning.specs.Yields.{Yields}
-use Rattle.mmeaning.specs.Frames.{View, Rests, Levels, frame}
+use Rattle.mmeaning.specs.Frames.{View, Rests, Lists, Levels, frame}
 use Rattle.mmeaning.proofs.Calls.{assoc}
 use Rattle.mmeaning.proofs.Yieldings.{yielded}
 use Rattle.mstore.specs.declared.store.NodeStore.{Ghosts}
@@ -26,10 +23,10 @@ use Rattle.mcommand.specs.declared.parts.Parts.{Parts}
 use Rattle.mcommand.specs.Does.{Does, DoesAt, here_of}
 use Rattle.mexec.specs.declared.signal.Signal as signals
 use Rattle.mexec.specs.declared.signal.Signal.TheVariants as signal
-use Rattle.mexec.specs.Frames.{Runs, signal_of}
-use Rattle.mexec.specs.Entering.{reached, next_reached, entering, at_next, text_spot, on_body}
+use Rattle.mexec.specs.Frames.{Runs}
+use Rattle.mexec.specs.Entering.{reached, next_reached, entering, so_deep, at_next, text_spot, on_body}
 use Rattle.mspec.proofs.ListPlaces.{next_item}
-use Rattle.mexec.proofs.Calls.{at_then, at_stopped, at_gives, runs_then, runs_spent, runs_stopped, runs_wanting, runs_as, runs_frame, runs_rest, runs_signal}
+use Rattle.mexec.proofs.Calls.{at_then, at_stopped, at_gives, runs_then, runs_spent, runs_stopped, runs_wanting, runs_as, runs_frame, runs_list, runs_rest, runs_signal}
 
 -- ---- lists
 
@@ -140,15 +137,15 @@ module _ {S : Type 0} {g : Ghosts S} where
   -- a call that needs no point
   pub at_yielded : {A X : Type 0} {p : Act A} {f : X → A} {parts : Parts S} {r : Result X Code} → Yields fault_of p f r → DoesAt g (λ a n. p) f parts r parts
   at_yielded {parts = parts} y = record {
-    at = λ sound locks. yielded (here_of g parts locks) y;
+    at = λ sound. yielded (here_of g parts) y;
     same = refl;
   }
 
   pub at_any : {A X : Type 0} {p : Act A} {f : X → A} {old new : Parts S} {r : Result X Code} → Does g (λ i. p) f old r new → DoesAt g (λ a n. p) f old r new
-  at_any k = record { at = λ sound locks. k.at sound locks; same = k.same }
+  at_any k = record { at = λ sound. k.at sound; same = k.same }
 
   pub at_plain : {A X : Type 0} {p : Act A} {f : X → A} {old : Parts S} {e : Eval S} {r : Result X Code} → Evaluates g (λ i. p) f old.eval r e → DoesAt g (λ a n. p) f old r (record old { eval = e })
-  at_plain {old = old} k = record { at = λ sound locks. k.at sound old.out.now.items locks; same = k.same }
+  at_plain {old = old} k = record { at = λ sound. k.at sound old.out.now.items old.locks.now; same = k.same }
 
   -- the commands of a text that is entered stand on top of its level
   pub text_runs : {fs : List View} {parts : Parts S} (p : Spot) (c : Closing) (cs : List CommandTree)
@@ -213,3 +210,10 @@ module _ {S : Type 0} {g : Ghosts S} where
       let there = deeper p (text_spot d p).level in
       subst (λ (d : Depth). Runs g (λ a n. (texts a (suc n)).enter there cs >>= closed leaves) fs parts (Ok signal.GoOn) (Rests (text_spot d p) cs ∷ Levels (text_spot d p) leaves ∷ fs) parts) (sym is)
       (text_runs there leaves cs)
+
+  -- arguments that a text gives stand on top
+  pub list_opened : (p : Spot) (d : Depth) → d ≡ indirected p.depth → {fs : List View} {parts : Parts S} (args : List ArgTree)
+      → Runs g (λ a n. (texts a (suc n)).list (within_indirection p) args) fs parts (Ok signal.GoOn) (Lists (so_deep d p) args ∷ fs) parts
+  list_opened p d is {fs = fs} {parts = parts} args =
+      subst (λ (d : Depth). Runs g (λ a n. (texts a (suc n)).list (within_indirection p) args) fs parts (Ok signal.GoOn) (Lists (so_deep d p) args ∷ fs) parts) (sym is)
+      (runs_list (within_indirection p) args)

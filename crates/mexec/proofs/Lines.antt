@@ -1,7 +1,6 @@
 -- Lines, frame by frame.
 use Rattle.std.proofs.Common.{◌≡◌, ℕ, ◌≤◌, List, [], ◌∷◌, Result, Ok, Err, refl, sym, ◌∙◌, subst, arith}
 use Rattle.std.specs.Result.{IsErr, IsErrAnd}
-use Rattle.mspec.specs.LockConflict.{Locks}
 use Rattle.mspec.specs.Act.{Text, Act}
 use Rattle.mgrammar.specs.Grammar.{ArgTree, CommandTree}
 use Rattle.mmeaning.specs.LineMeaning as meaning
@@ -26,7 +25,7 @@ module _ {S : Type 0} {g : Ghosts S} where
   -- a line's rest, and its level
   pub leads_first : (cs : List CommandTree) (parts : Parts S) → Leads g (λ a n. run_within a n cs) parts (Rests outset cs ∷ Levels outset stays ∷ []) meaning.Go_on parts
   leads_first cs parts = record {
-    at = λ sound locks n le. (n ∷ n ∷ [], (le, (le, tt)), begins (standing_of parts.eval) n (here_of g parts locks));
+    at = λ sound n le. (n ∷ n ∷ [], (le, (le, tt)), begins (standing_of parts.eval) n (here_of g parts));
     fewer = omega arith;
     same = refl;
   }
@@ -36,11 +35,11 @@ module _ {S : Type 0} {g : Ghosts S} where
 
   module _ (p : Text → ℕ → Act meaning.Signal) (f : View) (fs : List View) {s : meaning.Signal} {old mid new : Parts S} (d : Leads g p old (f ∷ fs) s mid) where
     -- what the frame on top does, told by where the line began
-    moved : {fs' : List View} {r : Result Signal Code} → Runs g (λ a n. frame a n f s) fs mid r fs' new → (sound : g.sound) (locks : Locks) (m : ℕ) (ms : List ℕ) → mid.eval.steps ≤ m → Enough mid.eval.steps fs ms
-        → MovedAs {X = Signal} (standing_of old.eval) g.steady fault_of signal_of (left (standing_of old.eval).account (f ∷ fs) (m ∷ ms) s) (here_of g mid locks) r fs' (here_of g new locks)
-    moved {fs' = fs'} {r = r} k sound locks m ms le e =
+    moved : {fs' : List View} {r : Result Signal Code} → Runs g (λ a n. frame a n f s) fs mid r fs' new → (sound : g.sound) (m : ℕ) (ms : List ℕ) → mid.eval.steps ≤ m → Enough mid.eval.steps fs ms
+        → MovedAs {X = Signal} (standing_of old.eval) g.steady fault_of signal_of (left (standing_of old.eval).account (f ∷ fs) (m ∷ ms) s) (here_of g mid) r fs' (here_of g new)
+    moved {fs' = fs'} {r = r} k sound m ms le e =
         let here =
-        subst (λ b. MovedOn b g.steady fault_of signal_of (frame b.account m f s) (left b.account fs ms) (here_of g mid locks) r fs' (here_of g new locks)) d.same (k.at sound locks m ms le e)
+        subst (λ b. MovedOn b g.steady fault_of signal_of (frame b.account m f s) (left b.account fs ms) (here_of g mid) r fs' (here_of g new)) d.same (k.at sound m ms le e)
         in
         here.done
 
@@ -49,44 +48,44 @@ module _ {S : Type 0} {g : Ghosts S} where
         let fewer = d.fewer in
         let few = k.fewer in
         record {
-          at = λ sound locks n le. go sound locks n (d.at sound locks n le);
+          at = λ sound n le. go sound n (d.at sound n le);
           fewer = omega (arith, fewer, few);
           same = k.same ∙ d.same;
         }
       where
-        go : g.sound → (locks : Locks) (n : ℕ)
-            → (ns : List ℕ) × Enough mid.eval.steps (f ∷ fs) ns × Follows (standing_of old.eval) (p (standing_of old.eval).account n) (here_of g old locks) (left (standing_of old.eval).account (f ∷ fs) ns s) (here_of g mid locks)
-            → (ns : List ℕ) × Enough new.eval.steps fs' ns × Follows (standing_of old.eval) (p (standing_of old.eval).account n) (here_of g old locks) (left (standing_of old.eval).account fs' ns (signal_of s')) (here_of g new locks)
-        go sound locks n ([], e, follows) = absurd e
-        go sound locks n (m ∷ ms, e, follows) =
+        go : g.sound → (n : ℕ)
+            → (ns : List ℕ) × Enough mid.eval.steps (f ∷ fs) ns × Follows (standing_of old.eval) (p (standing_of old.eval).account n) (here_of g old) (left (standing_of old.eval).account (f ∷ fs) ns s) (here_of g mid)
+            → (ns : List ℕ) × Enough new.eval.steps fs' ns × Follows (standing_of old.eval) (p (standing_of old.eval).account n) (here_of g old) (left (standing_of old.eval).account fs' ns (signal_of s')) (here_of g new)
+        go sound n ([], e, follows) = absurd e
+        go sound n (m ∷ ms, e, follows) =
             let b = standing_of old.eval in
-            let done = moved k sound locks m ms e.0 e.1 in
-            (done.0, done.1, follows_on b (p b.account n) (left b.account (f ∷ fs) (m ∷ ms) s) (left b.account fs' done.0 (signal_of s')) (here_of g old locks) (here_of g mid locks) (here_of g new locks) follows done.2)
+            let done = moved k sound m ms e.0 e.1 in
+            (done.0, done.1, follows_on b (p b.account n) (left b.account (f ∷ fs) (m ∷ ms) s) (left b.account fs' done.0 (signal_of s')) (here_of g old) (here_of g mid) (here_of g new) follows done.2)
 
     pub leads_stopped : {fs' : List View} {e : Code} {r : Result Signal Code} → Runs g (λ a n. frame a n f s) fs mid (Err e) fs' new → IsErr r × IsErrAnd r (λ x. x ≡ e) → DoesAt g p signal_of old r new
     leads_stopped {e = e} {r = r} k h =
         let fewer = d.fewer in
         let few = k.fewer in
         subst (λ r. DoesAt g p signal_of old r new) (sym (residual_is r e h)) (record {
-          at = λ sound locks. record {
-            at = λ n le. go sound locks n (d.at sound locks n le);
+          at = λ sound. record {
+            at = λ n le. go sound n (d.at sound n le);
             fewer = omega (arith, fewer, few);
           };
           same = k.same ∙ d.same;
         })
       where
-        go : (sound : g.sound) (locks : Locks) (n : ℕ)
-            → (ns : List ℕ) × Enough mid.eval.steps (f ∷ fs) ns × Follows (standing_of old.eval) (p (standing_of old.eval).account n) (here_of g old locks) (left (standing_of old.eval).account (f ∷ fs) ns s) (here_of g mid locks)
-            → FailedBy (standing_of old.eval) g.steady (p (standing_of old.eval).account n) (here_of g old locks) (fault_of e) (here_of g new locks)
-        go sound locks n ([], enough, follows) = absurd enough
-        go sound locks n (m ∷ ms, enough, follows) =
+        go : (sound : g.sound) (n : ℕ)
+            → (ns : List ℕ) × Enough mid.eval.steps (f ∷ fs) ns × Follows (standing_of old.eval) (p (standing_of old.eval).account n) (here_of g old) (left (standing_of old.eval).account (f ∷ fs) ns s) (here_of g mid)
+            → FailedBy (standing_of old.eval) g.steady (p (standing_of old.eval).account n) (here_of g old) (fault_of e) (here_of g new)
+        go sound n ([], enough, follows) = absurd enough
+        go sound n (m ∷ ms, enough, follows) =
             let b = standing_of old.eval in
-            failed_after b g.steady (p b.account n) (left b.account (f ∷ fs) (m ∷ ms) s) (here_of g old locks) (here_of g mid locks) (fault_of e) (here_of g new locks) follows (moved k sound locks m ms enough.0 enough.1)
+            failed_after b g.steady (p b.account n) (left b.account (f ∷ fs) (m ∷ ms) s) (here_of g old) (here_of g mid) (fault_of e) (here_of g new) follows (moved k sound m ms enough.0 enough.1)
 
   pub leads_ends : (p : Text → ℕ → Act meaning.Signal) (s : Signal) {old new : Parts S} → Leads g p old [] (signal_of s) new → DoesAt g p signal_of old (Ok s) new
   leads_ends p s d = record {
-    at = λ sound locks. record {
-      at = λ n le. let here = d.at sound locks n le in let follows = here.2 in follows.whole;
+    at = λ sound. record {
+      at = λ n le. let here = d.at sound n le in let follows = here.2 in follows.whole;
       fewer = d.fewer;
     };
     same = d.same;

@@ -1,6 +1,5 @@
 -- A text by its tree.
-use Rattle.std.proofs.Common.{◌≡◌, ◌≢◌, ◌≤◌, List, ℕ, Option, Some, None, Ok, Err, refl, sym, ap, ◌∙◌, subst, map, arith}
-use Rattle.std.specs.FinMap.{empty}
+use Rattle.std.proofs.Common.{◌≡◌, ◌≢◌, ◌≤◌, Option, Some, None, Ok, Err, refl, sym, subst, arith}
 use Rattle.mspec.specs.Act.{Act}
 use Rattle.mgrammar.specs.Grammar.{LineTree}
 use Rattle.mmeaning.specs.Levels.{commands_of}
@@ -37,26 +36,26 @@ ends_by b steady p h (Fault c) s h' is gave = absurd (no_fault c s is)
 
 module _ {S : Type 0} {g : Ghosts S} where
   pub refused : (o : Option LineTree) (parts : Parts S) → o ≡ None → RunsText g o parts (Fault Zsyntax) parts
-  refused o parts e = subst (λ o. RunsText g o parts (Fault Zsyntax) parts) (sym e) (record { at = λ sound locks. refl; fewer = omega arith })
+  refused o parts e = subst (λ o. RunsText g o parts (Fault Zsyntax) parts) (sym e) (record { at = λ sound. refl; fewer = omega arith })
 
   pub done : (o : Option LineTree) (l : LineTree) (old new : Parts S) (e : Ended) (s : Signal) → o ≡ Some l → ending_of e ≡ step.ending_of (signal_of s) → DoesAt g (λ a n. run_within a n (commands_of l)) signal_of old (Ok s) new
       → new.eval.steps ≤ old.eval.steps → RunsText g o old e new
   done o l old new e s some is d few = subst (λ o. RunsText g o old e new) (sym some) (record {
-    at = λ sound locks.
+    at = λ sound.
         let b = standing_of old.eval in
-        let did = d.at sound locks in
-        ends_by b g.steady (run b.account l) (here_of g old locks) e s (here_of g new locks) is (did.at old.eval.steps (omega arith));
+        let did = d.at sound in
+        ends_by b g.steady (run b.account l) (here_of g old) e s (here_of g new) is (did.at old.eval.steps (omega arith));
     fewer = few;
   })
 
   pub failed : (o : Option LineTree) (l : LineTree) (old new : Parts S) (c : Code) → o ≡ Some l → DoesAt g (λ a n. run_within a n (commands_of l)) signal_of old (Err c) new → new.eval.steps ≤ old.eval.steps → RunsText g o old (Fault c) new
   failed o l old new c some d few = subst (λ o. RunsText g o old (Fault c) new) (sym some) (record {
-    at = λ sound locks. let did = d.at sound locks in did.at old.eval.steps (omega arith);
+    at = λ sound. let did = d.at sound in did.at old.eval.steps (omega arith);
     fewer = few;
   })
 
   pub never_refused : {o : Option LineTree} {old new : Parts S} {e : Ended} → (g.steady → g.sound) → RunsText g o old e new → g.steady → ◌≢◌ {A = Ended} e (Fault Zstore)
   never_refused {o = o} {old = old} {new = new} sound runs steady is =
       let here = subst (λ e. RunsText g o old e new) is runs in
-      let lost = here.at (sound steady) empty in
+      let lost = here.at (sound steady) in
       lost.0 steady

@@ -1,11 +1,11 @@
--- An argument of a command, as the code does it: up to where it enters lines or a text, and then that.
-use Rattle.std.specs.Prelude.{ℕ, cond, List, [], ◌∷◌, Result, Ok, Err, Bool, true, false}
-use Rattle.mspec.specs.Act.{Text, Act, ◌>>=◌, give}
-use Rattle.mgrammar.specs.Grammar.{ExprTree, EntryTree, ArgTree, do_one, executed}
+-- An argument of a command, as the code does it: up to where it enters lines or a text, or a text gives arguments, and then that.
+use Rattle.std.specs.Prelude.{cond, List, [], ◌∷◌, Result, Ok, Err, Bool, true, false}
+use Rattle.mspec.specs.Act.{Act, ◌>>=◌, give}
+use Rattle.mgrammar.specs.Grammar.{ExprTree, EntryTree, PrimaryTree, FormTree, form_of, ArgTree, do_one, executed, indirect_args}
 use Rattle.mmeaning.specs.LineMeaning as meaning
 use Rattle.mmeaning.specs.LineMeaning.{Spot, Go_on, Context, inside_of, holds, after, argument, arguments, doing, executing}
 use Rattle.mmeaning.specs.Frames.{View, Lists}
-use Rattle.mtree.specs.Tree.{entry_tree, expr_tree}
+use Rattle.mtree.specs.Tree.{entry_tree, expr_tree, keyword_tree, primary_tree}
 use Rattle.moperator.specs.declared.code.Code.{Code}
 use Rattle.mexec.specs.declared.arguments.Begun.{Begun}
 use Rattle.mexec.specs.declared.arguments.Begun.TheVariants as begun
@@ -13,27 +13,32 @@ use Rattle.mexec.specs.declared.signal.Signal.{Signal}
 use Rattle.mexec.specs.declared.signal.Signal.TheVariants as signal
 use Rattle.mexec.specs.Frames.{signal_of}
 
--- what an argument leaves to be done: nothing, once it has given its signal; the lines from one on; or a text
+-- what an argument leaves to be done: nothing, once it has given its signal; the lines from one on; a text; or arguments of a form that
+-- the value of an operand gives
 pub data Start : Type 0 where
   gave : meaning.Signal → Start
   into_lines : EntryTree → Start
   into_text : ExprTree → Start
+  into_given : FormTree → PrimaryTree → Start
 
 abbrev pub started : Context → ArgTree → Act Start
 started x (do_one e c) = holds (inside_of x) c >>= (λ b. give (cond b (into_lines e) (gave Go_on)))
 started x (executed e c) = holds (inside_of x) c >>= (λ b. give (cond b (into_text e) (gave Go_on)))
+started x (indirect_args f p) = give (into_given f p)
 started x a = argument x a >>= (λ s. give (gave s))
 
 abbrev pub finished : Context → Start → Act meaning.Signal
 finished x (gave s) = give s
 finished x (into_lines e) = doing x e
 finished x (into_text e) = executing x e
+finished x (into_given f p) = meaning.given x f p
 
 -- the same of the program
 abbrev pub start_of : Begun → Start
 start_of (begun.Gave s) = gave (signal_of s)
 start_of (begun.Lines e) = into_lines (entry_tree e.now)
 start_of (begun.Text e) = into_text (expr_tree e.now)
+start_of (begun.Given k p) = into_given (form_of (keyword_tree k)) (primary_tree p.now)
 
 -- an argument that gave its signal
 abbrev pub given : Result Signal Code → Result Begun Code
@@ -57,3 +62,6 @@ lines_then x e rest = doing x e >>= (λ s. after s (arguments x rest))
 
 abbrev pub text_then : Context → ExprTree → List ArgTree → Act meaning.Signal
 text_then x e rest = executing x e >>= (λ s. after s (arguments x rest))
+
+abbrev pub given_then : Context → FormTree → PrimaryTree → List ArgTree → Act meaning.Signal
+given_then x f p rest = meaning.given x f p >>= (λ s. after s (arguments x rest))

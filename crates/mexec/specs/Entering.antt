@@ -29,6 +29,10 @@ at_next p n = record p { level = record p.level { next = Some n } }
 abbrev pub at_target : Spot → Target → Spot
 at_target p t = record p { level = record p.level { copy = t.copy; next = Some t.line } }
 
+-- the same level, so deep
+abbrev pub so_deep : Depth → Spot → Spot
+so_deep depth p = record { depth = depth; level = p.level }
+
 -- a text of XECUTE stands in a level that has the lines of its own, so deep
 abbrev pub text_spot : Depth → Spot → Spot
 text_spot depth p = record { depth = depth; level = record { copy = p.level.copy; next = None; dots = 0 } }

@@ -1,6 +1,5 @@
 -- Frames of the program as those of the definitions, and what calls say of them.
 use Rattle.std.specs.Prelude.{◌≡◌, ℕ, ◌-◌, ◌≤◌, List, [], ◌∷◌, Option, Some, None, slice_get, Result, Ok, Err, map, drop}
-use Rattle.mspec.specs.LockConflict.{Locks}
 use Rattle.mspec.specs.Act.{Text, Act}
 use Rattle.mgrammar.specs.Grammar.{CommandTree}
 use Rattle.mmeaning.specs.LineMeaning as meaning
@@ -32,6 +31,8 @@ use Rattle.mexec.specs.declared.frames.Frame.{Frame}
 use Rattle.mexec.specs.declared.frames.Frame.TheVariants as frame
 use Rattle.mexec.specs.declared.signal.Signal.{Signal}
 use Rattle.mexec.specs.declared.signal.Signal.TheVariants as signal
+use Rattle.mexec.specs.declared.source.Source.{Source}
+use Rattle.mexec.specs.declared.source.Source.TheVariants as source
 
 abbrev pub signal_of : Signal → meaning.Signal
 signal_of signal.GoOn = meaning.Go_on
@@ -85,9 +86,19 @@ turning t =
     let found = loop_before t.body.line.value t.body.at in
     record { index = found.0; course = course_view t.course; parameters = map parameter_tree (drop t.parameter found.1); body = rest_tree t.body }
 
+-- where arguments are done, and which they are
+abbrev pub source_spot : Source → spot.Spot
+source_spot (source.Line behind) = behind.now.spot.value
+source_spot (source.Text given) = given.now.value.spot
+
+abbrev pub source_args : Source → List Arg
+source_args (source.Line behind) = args_before behind.now.line.value behind.now.at
+source_args (source.Text given) = given.now.value.args.items
+
 abbrev pub view : Frame → View
 view (frame.Rest r) = Rests (spot_of r.spot.value) (rest_tree r)
 view (frame.List l) = Lists (spot_of l.behind.spot.value) (map arg_tree (drop l.argument (args_before l.behind.line.value l.behind.at)))
+view (frame.Given g argument) = Lists (spot_of g.value.spot) (map arg_tree (drop argument g.value.args.items))
 view (frame.Turns t) = Turns (spot_of t.value.body.spot.value) (turning t.value)
 view (frame.Level p c) = Levels (spot_of p.value) (closing_of c)
 
@@ -106,15 +117,15 @@ resting p (c ∷ cs) fs = Rests p (c ∷ cs) ∷ fs
 
 -- a call does an act before some frames, and leaves frames that have to do what is then left
 pub record Runs {S : Type 0} (g : Ghosts S) (p : Text → ℕ → Act meaning.Signal) (fs : List View) (old : Parts S) (r : Result Signal Code) (fs' : List View) (new : Parts S) : Type 0 where
-  pub at : g.sound → (locks : Locks) (n : ℕ) (ns : List ℕ) → old.eval.steps ≤ n → Enough old.eval.steps fs ns →
-      MovedOn (standing_of old.eval) g.steady fault_of signal_of (p (standing_of old.eval).account n) (left (standing_of old.eval).account fs ns) (here_of g old locks) r fs' (here_of g new locks)
+  pub at : g.sound → (n : ℕ) (ns : List ℕ) → old.eval.steps ≤ n → Enough old.eval.steps fs ns →
+      MovedOn (standing_of old.eval) g.steady fault_of signal_of (p (standing_of old.eval).account n) (left (standing_of old.eval).account fs ns) (here_of g old) r fs' (here_of g new)
   pub fewer : new.eval.steps ≤ old.eval.steps
   pub same : standing_of new.eval ≡ standing_of old.eval
 
 -- what the frames have to do with a signal is what is left of an act
 pub record Leads {S : Type 0} (g : Ghosts S) (p : Text → ℕ → Act meaning.Signal) (old : Parts S) (fs : List View) (s : meaning.Signal) (new : Parts S) : Type 0 where
-  pub at : g.sound → (locks : Locks) (n : ℕ) → old.eval.steps ≤ n →
+  pub at : g.sound → (n : ℕ) → old.eval.steps ≤ n →
       (ns : List ℕ) × Enough new.eval.steps fs ns ×
-      Follows (standing_of old.eval) (p (standing_of old.eval).account n) (here_of g old locks) (left (standing_of old.eval).account fs ns s) (here_of g new locks)
+      Follows (standing_of old.eval) (p (standing_of old.eval).account n) (here_of g old) (left (standing_of old.eval).account fs ns s) (here_of g new)
   pub fewer : new.eval.steps ≤ old.eval.steps
   pub same : standing_of new.eval ≡ standing_of old.eval

@@ -1,6 +1,5 @@
 -- What a call that carries out a text says of the text's meaning.
 use Rattle.std.specs.Prelude.{◌≡◌, ◌≤◌, Option}
-use Rattle.mspec.specs.LockConflict.{Locks}
 use Rattle.mspec.specs.Act.{Act}
 use Rattle.mgrammar.specs.Grammar.{LineTree}
 use Rattle.mmeaning.specs.LineMeaning.{Signal}
@@ -31,5 +30,5 @@ EndsBy b steady p h (ended.Fault c) h' = FailedBy b steady p h (fault_of c) h'
 
 -- the text with this tree is carried out: the call ends as it does
 pub record RunsText {S : Type 0} (g : Ghosts S) (tree : Option LineTree) (old : Parts S) (ended : Ended) (new : Parts S) : Type 0 where
-  pub at : g.sound → (locks : Locks) → EndsBy (standing_of old.eval) g.steady (text_run (standing_of old.eval).account tree) (here_of g old locks) ended (here_of g new locks)
+  pub at : g.sound → EndsBy (standing_of old.eval) g.steady (text_run (standing_of old.eval).account tree) (here_of g old) ended (here_of g new)
   pub fewer : new.eval.steps ≤ old.eval.steps

@@ -1,29 +1,34 @@
 // The arguments of a command, one after another.
-ghost use Rattle.std.specs.Prelude.{◌≡◌, ◌≤◌, ◌+◌, ◌*◌, map, drop, length, IfOk, OnOk};
+ghost use Rattle.std.specs.Prelude.{◌≡◌, ◌≤◌, ◌+◌, ◌*◌, map, drop, length, IfOk};
+ghost use Rattle.mgrammar.specs.Grammar.{form_of};
 ghost use Rattle.mmeaning.specs.LineMeaning as meaning;
 ghost use Rattle.mmeaning.specs.LineMeaning.{context};
-ghost use Rattle.mtree.specs.Tree.{arg_tree, entry_tree, expr_tree, condition_tree};
+ghost use Rattle.mtree.specs.Tree.{arg_tree, entry_tree, expr_tree, condition_tree, keyword_tree, primary_tree};
 ghost use Rattle.mcommand.specs.Does.{DoesAt, KeepsLoans};
-ghost use Rattle.mexec.specs.Frames.{Runs, args_before as the_args_before, signal_of, spot_of, stack};
-ghost use Rattle.mexec.specs.Arguments.{started, start_of, given, where_applies, listing, lines_then, text_then};
+ghost use Rattle.mexec.specs.Frames.{Runs, signal_of, source_args, source_spot, spot_of, stack};
+ghost use Rattle.mexec.specs.Arguments.{started, start_of, given, where_applies, lines_then, text_then, given_then};
 
 use crate::commands::{holds, went_on, where_true};
 use crate::entering::{doing, executing};
-use crate::frames::{Frame, List, Rest, Spot};
+use crate::frames::Spot;
+use crate::indirection::giving;
 use crate::machine::Machine;
 use crate::signal::Signal;
+use crate::source::Source;
 use mcommand::Parts;
 use moperator::Code;
 use mstore::NodeStore;
-use mtree::{Arg, Entry, Expr, Line};
-use std::alloc::{AllocError, Global};
+use mtree::{Arg, Entry, Expr, Keyword, Primary};
+use std::alloc::Global;
 
-// What an argument leaves to be done: nothing, once it has given its signal; the lines from one on; or a text.
+// What an argument leaves to be done: nothing, once it has given its signal; the lines from one on; a text; or the arguments that
+// the value of an operand gives.
 #[derive(Drop)]
 pub(crate) enum Begun<'t> {
     Gave(Signal),
     Lines(&'t Entry),
     Text(&'t Expr),
+    Given(Keyword, &'t Primary),
 }
 
 // An argument that gave its signal.
@@ -68,7 +73,7 @@ fn going<S: NodeStore>(
     }
 }
 
-// What an argument does, of whichever command but FOR, up to where it enters lines or a text.
+// What an argument does, of whichever command but FOR, up to where it enters lines or a text, or a text gives arguments.
 fn argument<'t, S: NodeStore>(
     alloc: Global,
     parts: &mut Parts<S>,
@@ -106,91 +111,94 @@ fn argument<'t, S: NodeStore>(
         Arg::Executed(e, condition) => {
             enters(holds(alloc, parts, spot.depth, condition), Begun::Text(e))
         }
+        Arg::Lock(kind, names, timeout) => {
+            gave(went_on(parts.locking(alloc, *kind, names, timeout)))
+        }
+        Arg::Indirect(keyword, operand) => Ok(Begun::Given(*keyword, operand)),
     }
-}
-
-// The arguments of the command before a place of a line.
-fn args_before(line: &Line, at: usize) -> &[Arg]
-    ensures { result.now ≡ the_args_before line.now at }
-{
-    match line.commands.get(at.saturating_sub(1)) {
-        None => &[],
-        Some(spaced) => &spaced.command.args,
-    }
-}
-
-// Leaves the arguments from one on on the frames, unless there are none.
-fn leave_arguments(behind: &Rest, argument: usize, machine: &mut Machine) -> Result<(), AllocError>
-    ensures frames { OnOk result (stack machine.new.frames.items ≡ listing (spot_of behind.now.spot.value) (map arg_tree (drop argument (the_args_before behind.now.line.value behind.now.at))) (stack machine.old.frames.items)) }
-    ensures most { OnOk result (length machine.new.frames.items ≤ length machine.old.frames.items + 1) }
-{
-    if argument >= args_before(&behind.line, behind.at).len() {
-        return Ok(());
-    }
-    let behind = behind.copy()?;
-    machine.frames.push(Frame::List(List { behind, argument }))?;
-    Ok(())
 }
 
 // An argument that enters lines, before those from one on.
 fn enter_lines<S: NodeStore>(
     alloc: Global,
     parts: &mut Parts<S>,
-    behind: &Rest,
+    source: Source,
     entry: &Entry,
     argument: usize,
     machine: &mut Machine,
 ) -> Result<Signal, Code>
     ensures loans { KeepsLoans parts.old parts.new }
     ensures falls { IfOk result (λ _. 6 * parts.new.eval.steps + length machine.new.frames.items ≤ 6 * parts.old.eval.steps + length machine.old.frames.items) }
-    ensures does { Runs S.NodeStore (λ a n. lines_then (context a n (spot_of behind.now.spot.value)) (entry_tree entry.now) (map arg_tree (drop argument (the_args_before behind.now.line.value behind.now.at)))) (stack machine.old.frames.items) parts.old result (stack machine.new.frames.items) parts.new }
+    ensures does { Runs S.NodeStore (λ a n. lines_then (context a n (spot_of (source_spot source.entry))) (entry_tree entry.now) (map arg_tree (drop argument (source_args source.entry)))) (stack machine.old.frames.items) parts.old result (stack machine.new.frames.items) parts.new }
 {
-    leave_arguments(behind, argument, machine)?;
-    doing(alloc, parts, &behind.spot, entry, machine)
+    source.leave(argument, machine)?;
+    doing(alloc, parts, source.spot(), entry, machine)
 }
 
 // An argument that enters a text, before those from one on.
 fn enter_text<S: NodeStore>(
     alloc: Global,
     parts: &mut Parts<S>,
-    behind: &Rest,
+    source: Source,
     e: &Expr,
     argument: usize,
     machine: &mut Machine,
 ) -> Result<Signal, Code>
     ensures loans { KeepsLoans parts.old parts.new }
     ensures falls { IfOk result (λ _. 6 * parts.new.eval.steps + length machine.new.frames.items ≤ 6 * parts.old.eval.steps + length machine.old.frames.items) }
-    ensures does { Runs S.NodeStore (λ a n. text_then (context a n (spot_of behind.now.spot.value)) (expr_tree e.now) (map arg_tree (drop argument (the_args_before behind.now.line.value behind.now.at)))) (stack machine.old.frames.items) parts.old result (stack machine.new.frames.items) parts.new }
+    ensures does { Runs S.NodeStore (λ a n. text_then (context a n (spot_of (source_spot source.entry))) (expr_tree e.now) (map arg_tree (drop argument (source_args source.entry)))) (stack machine.old.frames.items) parts.old result (stack machine.new.frames.items) parts.new }
 {
-    leave_arguments(behind, argument, machine)?;
-    executing(alloc, parts, &behind.spot, e, machine)
+    source.leave(argument, machine)?;
+    executing(alloc, parts, source.spot(), e, machine)
 }
 
-// What the arguments from one on do, as long as each goes on with the next; they are those of the command before the rest of its
-// line. Where one enters lines or a text, those behind it stay on the frames.
+// An argument in whose place the value of an operand gives some, before those from one on.
+fn enter_given<S: NodeStore>(
+    alloc: Global,
+    parts: &mut Parts<S>,
+    source: Source,
+    keyword: Keyword,
+    operand: &Primary,
+    argument: usize,
+    machine: &mut Machine,
+) -> Result<Signal, Code>
+    ensures loans { KeepsLoans parts.old parts.new }
+    ensures falls { IfOk result (λ _. 6 * parts.new.eval.steps + length machine.new.frames.items ≤ 6 * parts.old.eval.steps + length machine.old.frames.items) }
+    ensures does { Runs S.NodeStore (λ a n. given_then (context a n (spot_of (source_spot source.entry))) (form_of (keyword_tree keyword)) (primary_tree operand.now) (map arg_tree (drop argument (source_args source.entry)))) (stack machine.old.frames.items) parts.old result (stack machine.new.frames.items) parts.new }
+{
+    source.leave(argument, machine)?;
+    giving(alloc, parts, source.spot(), keyword, operand, machine)
+}
+
+// What the arguments from one on do, as long as each goes on with the next. Where one enters lines or a text, or a text gives some in
+// its place, those behind it stay on the frames.
 pub(crate) fn arguments<S: NodeStore>(
     alloc: Global,
     parts: &mut Parts<S>,
-    behind: &Rest,
+    source: Source,
     from: usize,
     machine: &mut Machine,
 ) -> Result<Signal, Code>
     ensures loans { KeepsLoans parts.old parts.new }
     ensures falls { IfOk result (λ _. 6 * parts.new.eval.steps + length machine.new.frames.items ≤ 6 * parts.old.eval.steps + length machine.old.frames.items) }
-    ensures does { Runs S.NodeStore (λ a n. meaning.arguments (context a n (spot_of behind.now.spot.value)) (map arg_tree (drop from (the_args_before behind.now.line.value behind.now.at)))) (stack machine.old.frames.items) parts.old result (stack machine.new.frames.items) parts.new }
+    ensures does { Runs S.NodeStore (λ a n. meaning.arguments (context a n (spot_of (source_spot source.entry))) (map arg_tree (drop from (source_args source.entry)))) (stack machine.old.frames.items) parts.old result (stack machine.new.frames.items) parts.new }
 {
-    let args = args_before(&behind.line, behind.at);
+    let args = source.all();
+    let spot = source.spot();
     let mut at = from;
     while at < args.len() {
-        match argument(alloc, parts, &behind.spot, &args[at])? {
+        match argument(alloc, parts, spot, &args[at])? {
             Begun::Gave(signal) => match signal {
                 Signal::GoOn => at += 1,
                 other => return Ok(other),
             },
             Begun::Lines(entry) => {
-                return enter_lines(alloc, parts, behind, entry, at + 1, machine);
+                return enter_lines(alloc, parts, source, entry, at + 1, machine);
             }
-            Begun::Text(e) => return enter_text(alloc, parts, behind, e, at + 1, machine),
+            Begun::Text(e) => return enter_text(alloc, parts, source, e, at + 1, machine),
+            Begun::Given(keyword, operand) => {
+                return enter_given(alloc, parts, source, keyword, operand, at + 1, machine);
+            }
         }
     }
     Ok(Signal::GoOn)

@@ -4,7 +4,7 @@ ghost use Rattle.std.specs.Prelude.{◌≡◌, IfOk};
 use mcommand::Course;
 use meval::Depth;
 use mnum::Bytes7;
-use mtree::Line;
+use mtree::{Arg, Line};
 use std::alloc::AllocError;
 use std::rc::Rc;
 
@@ -61,6 +61,13 @@ pub(crate) struct List {
     pub(crate) argument: usize,
 }
 
+// Arguments that a text gave, and where they are done. Frames share them.
+#[derive(Drop)]
+pub(crate) struct Given {
+    pub(crate) spot: Spot,
+    pub(crate) args: Vec<Arg>,
+}
+
 // A FOR of which a turn is under way: its body, which stands behind it, its next parameter, and how it goes on. Its index and its
 // parameters are read from the line.
 #[derive(Drop)]
@@ -75,6 +82,8 @@ pub(crate) struct Turns {
 pub(crate) enum Frame {
     Rest(Rest),
     List(List),
+    // the arguments, from one on, that a text gave
+    Given(Rc<Given>, usize),
     // in a box, which each turn takes off and puts back
     Turns(Box<Turns>),
     // a level of which a line is under way, and how it closes

@@ -5,6 +5,7 @@ mod arguments;
 mod commands;
 mod entering;
 mod frames;
+mod indirection;
 mod levels;
 mod line;
 mod machine;
@@ -13,6 +14,7 @@ mod reading;
 mod rest;
 mod run;
 mod signal;
+mod source;
 mod turns;
 
 pub use machine::Machine;

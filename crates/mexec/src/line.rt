@@ -13,6 +13,7 @@ use crate::levels::after_level;
 use crate::machine::Machine;
 use crate::rest::next_command;
 use crate::signal::Signal;
+use crate::source::Source;
 use crate::turns::after_turn;
 use mcommand::Parts;
 use moperator::Code;
@@ -39,7 +40,14 @@ fn step<S: NodeStore>(
             other => Ok(other),
         },
         Frame::List(list) => match signal {
-            Signal::GoOn => arguments(alloc, parts, &list.behind, list.argument, machine),
+            Signal::GoOn => {
+                let source = Source::Line(&list.behind);
+                arguments(alloc, parts, source, list.argument, machine)
+            }
+            other => Ok(other),
+        },
+        Frame::Given(given, argument) => match signal {
+            Signal::GoOn => arguments(alloc, parts, Source::Text(&given), argument, machine),
             other => Ok(other),
         },
         Frame::Turns(turns) => after_turn(alloc, parts, turns, signal, machine),

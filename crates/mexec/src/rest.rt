@@ -12,6 +12,7 @@ use crate::entering::doing_block;
 use crate::frames::{Frame, Rest, Turns};
 use crate::machine::Machine;
 use crate::signal::Signal;
+use crate::source::Source;
 use crate::turns::{begin_turn, next_parameter};
 use mcommand::{Course, Parts};
 use moperator::Code;
@@ -67,6 +68,11 @@ fn bare<S: NodeStore>(
         Keyword::Do => doing_block(alloc, parts, &behind.spot, machine),
         Keyword::Goto => Ok(Signal::GoOn),
         Keyword::Execute => Ok(Signal::GoOn),
+        Keyword::Lock => {
+            parts.release();
+            Ok(Signal::GoOn)
+        }
+        Keyword::Halt => Ok(Signal::Halts),
     }
 }
 
@@ -94,7 +100,7 @@ fn effect<S: NodeStore>(
                 };
                 next_parameter(alloc, parts, index, parameters, turns, machine)
             }
-            _ => arguments(alloc, parts, behind, 0, machine),
+            _ => arguments(alloc, parts, Source::Line(behind), 0, machine),
         },
     }
 }

@@ -8,8 +8,6 @@ mod bounds;
 mod copies;
 mod kept;
 mod lines;
-#[cfg(test)]
-mod tests;
 
 pub use ask::{neighbour, status};
 pub use kept::Kept;

@@ -10,10 +10,16 @@ pub mod ReadingExprs
 pub mod ReadingTargets
 pub mod ReadingArguments
 pub mod ReadingEntries
+pub mod ReadingLocks
+pub mod ReadingIndirection
 pub mod ReadingCommands
+pub mod ReadingIndirectTexts
 pub mod ReadingLines
 pub mod ReadingRoutines
 pub mod ReadingLoops
 pub mod GrammarExamples
+pub mod GrammarRefusals
 pub mod Matchings
 pub mod RoutineExamples
+pub mod IndirectionExamples
+pub mod LockExamples

@@ -5,28 +5,28 @@ use Rattle.std.proofs.lemmas.Bool.Decides.{nat_tests}
 use Rattle.std.proofs.lemmas.List.{length-replicate}
 use Rattle.mspec.specs.Names.{is_name_rest, AllAre, IsName}
 use Rattle.mgrammar.specs.Grammar.{ExprTree, ReferenceTree, ParameterTree, once, onward, until, ArgTree, breaks, shown, kill_one, kill_others, new_one, new_others, tested, loop, removal, hiding, condition, repetition, output, spell_expr, spell_reference, spell_list, spell_names, spell_parameter, spell_arg}
-use Rattle.mgrammar.specs.WellFormed.{max_depth, WellExpr, WellReference, WellList, WellParameter, WellArg}
+use Rattle.mgrammar.specs.WellFormed.{max_depth, WellExpr, WellReference, WellList, WellParameter, WellPlain}
 use Rattle.mgrammar.specs.Reading.{◌>>=◌, run_of, after_run, name_at, past, list_at, expr_at, readers_at, reference_with, is_bang, output_by, output_at, names_at, removal_at, hiding_at, condition_at, limit_by, increment_by, parameter_at, repetition_at}
 use Rattle.mgrammar.proofs.ReadingBasics.{Takes, Again, Stops, Begins, Begins-stops, Begins-append, Begins-weaker, bind_some, chosen, some_is, run_parts, run_again, past_takes, not_past, name_takes, name_again}
 use Rattle.mgrammar.proofs.ReadingLists.{joined_by, enclosed, is_comma, list_takes, list_again}
 use Rattle.mgrammar.proofs.ReadingReferences.{OperandEnds, Ends, begins_reference, name_begins_reference, reference_takes, reference_again, reference_begins}
 use Rattle.mgrammar.proofs.ReadingPrimaries.{reference_tests}
-use Rattle.mgrammar.proofs.ReadingExprs.{begins_operand, expr_begins, inner_takes, within_takes, inner_again, within_again, expr_takes, expr_again}
-use Rattle.mgrammar.proofs.ReadingTargets.{variable_begins}
+use Rattle.mgrammar.proofs.ReadingExprs.{begins_operand, expr_begins, inner_takes, within_takes, below_takes, inner_again, within_again, below_again, expr_takes, expr_again}
+use Rattle.mgrammar.proofs.ReadingTargets.{variable_begins, is_equals}
 
 -- ---- short forms
 
 pub whole_takes : Takes spell_expr (WellExpr max_depth) (expr_at max_depth)
-whole_takes = expr_takes max_depth (readers_at max_depth) (inner_takes max_depth) (within_takes max_depth)
+whole_takes = expr_takes max_depth (readers_at max_depth) (inner_takes max_depth) (within_takes max_depth) (below_takes max_depth)
 
 pub whole_again : Again spell_expr (WellExpr max_depth) Ends (expr_at max_depth)
-whole_again = expr_again max_depth (readers_at max_depth) (inner_again max_depth) (within_again max_depth)
+whole_again = expr_again max_depth (readers_at max_depth) (inner_again max_depth) (within_again max_depth) (below_again max_depth)
 
 pub variable_takes : Takes spell_reference (WellReference max_depth) (reference_with (readers_at max_depth))
-variable_takes = reference_takes max_depth (readers_at max_depth) (inner_takes max_depth)
+variable_takes = reference_takes max_depth (readers_at max_depth) (inner_takes max_depth) (below_takes max_depth)
 
 pub variable_again : Again spell_reference (WellReference max_depth) OperandEnds (reference_with (readers_at max_depth))
-variable_again = reference_again max_depth (readers_at max_depth) (inner_again max_depth)
+variable_again = reference_again max_depth (readers_at max_depth) (inner_again max_depth) (below_again max_depth)
 
 abbrev pub is_colon : ℕ → Bool
 is_colon c = eqb c 58
@@ -38,7 +38,7 @@ is_caret c = eqb c 94
 
 -- what may follow an argument
 abbrev pub Follows : List ℕ → Type 0
-Follows rest = Ends rest × Stops is_bang rest × Stops is_colon rest × Stops is_caret rest
+Follows rest = Ends rest × Stops is_bang rest × Stops is_colon rest × Stops is_caret rest × Stops is_equals rest
 
 not_bang : (c : ℕ) → begins_operand c ≡ true → is_bang c ≡ false
 not_bang c h = grind (arith, nat_tests)
@@ -56,23 +56,23 @@ copies_are a zero h = tt
 copies_are a (suc n) h = (h, copies_are a n h)
 
 -- as output_takes, where this run of `!` is in front
-output_takes_by : (r cs : List ℕ) (x : ArgTree × List ℕ) → run_of is_bang cs ≡ r → output_by r cs ≡ Some x → (cs ≡ spell_arg x.0 ++ x.1) × WellArg output x.0
+output_takes_by : (r cs : List ℕ) (x : ArgTree × List ℕ) → run_of is_bang cs ≡ r → output_by r cs ≡ Some x → (cs ≡ spell_arg x.0 ++ x.1) × WellPlain output x.0
 output_takes_by [] cs x h e =
     let b = bind_some (expr_at max_depth cs) (λ y. Some (shown y.0, y.1)) x e in
     let t = whole_takes cs b.0 b.1 in
-    subst (λ (y : ArgTree × List ℕ). (cs ≡ spell_arg y.0 ++ y.1) × WellArg output y.0) (some_is (shown b.0.0, b.0.1) x b.2) t
+    subst (λ (y : ArgTree × List ℕ). (cs ≡ spell_arg y.0 ++ y.1) × WellPlain output y.0) (some_is (shown b.0.0, b.0.1) x b.2) t
 output_takes_by (b ∷ bs) cs x h e =
     let r = run_parts is_bang cs in
     let copies : b ∷ bs ≡ replicate (length (b ∷ bs)) 33 = all_copies 33 (b ∷ bs) (subst (AllAre is_bang) h r.1) in
     let parts : cs ≡ replicate (length (b ∷ bs)) 33 ++ after_run is_bang cs = r.0 ∙ ap (λ (y : List ℕ). y ++ after_run is_bang cs) (h ∙ copies) in
     let long : 0 < length (b ∷ bs) = omega arith in
-    subst (λ (y : ArgTree × List ℕ). (cs ≡ spell_arg y.0 ++ y.1) × WellArg output y.0) (some_is (breaks (length (b ∷ bs)), after_run is_bang cs) x e) (parts, long)
+    subst (λ (y : ArgTree × List ℕ). (cs ≡ spell_arg y.0 ++ y.1) × WellPlain output y.0) (some_is (breaks (length (b ∷ bs)), after_run is_bang cs) x e) (parts, long)
 
-pub output_takes : Takes spell_arg (WellArg output) output_at
+pub output_takes : Takes spell_arg (WellPlain output) output_at
 unfolding output_at
 output_takes cs x e = output_takes_by (run_of is_bang cs) cs x refl e
 
-pub output_again : Again spell_arg (WellArg output) Follows output_at
+pub output_again : Again spell_arg (WellPlain output) Follows output_at
 unfolding output_at
 output_again (breaks zero) rest w s = absurd (omega arith)
 output_again (breaks (suc n)) rest w s =
@@ -101,17 +101,17 @@ names_again names rest w = rw (list_again (λ n. n) IsName name_at (Stops is_nam
 
 -- ---- KILL and NEW
 
-pub removal_takes : Takes spell_arg (WellArg removal) removal_at
+pub removal_takes : Takes spell_arg (WellPlain removal) removal_at
 unfolding removal_at
 removal_takes [] x e = absurd cc
 removal_takes (c ∷ cs) x e =
     elim (chosen (eqb c 40) (names_at cs >>= λ x. Some (kill_others x.0, x.1)) (reference_with (readers_at max_depth) (c ∷ cs) >>= λ v. Some (kill_one v.0, v.1)) (Some x) e) [
       | inl p ↦
           let b = bind_some (names_at cs) (λ x. Some (kill_others x.0, x.1)) x p.1 in
-          subst (λ (y : ArgTree × List ℕ). (c ∷ cs ≡ spell_arg y.0 ++ y.1) × WellArg removal y.0) {x = (kill_others b.0.0, b.0.1)} (some_is (kill_others b.0.0, b.0.1) x b.2) (names_take c cs b.0 (eqb-true _ _ p.0) b.1)
+          subst (λ (y : ArgTree × List ℕ). (c ∷ cs ≡ spell_arg y.0 ++ y.1) × WellPlain removal y.0) {x = (kill_others b.0.0, b.0.1)} (some_is (kill_others b.0.0, b.0.1) x b.2) (names_take c cs b.0 (eqb-true _ _ p.0) b.1)
       | inr p ↦
           let b = bind_some (reference_with (readers_at max_depth) (c ∷ cs)) (λ v. Some (kill_one v.0, v.1)) x p.1 in
-          subst (λ (y : ArgTree × List ℕ). (c ∷ cs ≡ spell_arg y.0 ++ y.1) × WellArg removal y.0) {x = (kill_one b.0.0, b.0.1)} (some_is (kill_one b.0.0, b.0.1) x b.2) (variable_takes (c ∷ cs) b.0 b.1)
+          subst (λ (y : ArgTree × List ℕ). (c ∷ cs ≡ spell_arg y.0 ++ y.1) × WellPlain removal y.0) {x = (kill_one b.0.0, b.0.1)} (some_is (kill_one b.0.0, b.0.1) x b.2) (variable_takes (c ∷ cs) b.0 b.1)
     ]
 
 kill_one_step : (cs : List ℕ) (v : ReferenceTree) (rest : List ℕ) → Begins begins_reference cs → reference_with (readers_at max_depth) cs ≡ Some (v, rest) → removal_at cs ≡ Some (kill_one v, rest)
@@ -123,7 +123,7 @@ kill_others_step : (cs : List ℕ) (names : List (List ℕ)) (rest : List ℕ) �
 unfolding removal_at
 kill_others_step cs names rest h = rw h refl
 
-pub removal_again : Again spell_arg (WellArg removal) OperandEnds removal_at
+pub removal_again : Again spell_arg (WellPlain removal) OperandEnds removal_at
 removal_again (kill_one v) rest w s =
     kill_one_step (spell_reference v ++ rest) v rest (Begins-append begins_reference (spell_reference v) rest (reference_begins max_depth v w)) (variable_again v rest w s)
 removal_again (kill_others names) rest w s =
@@ -131,17 +131,17 @@ removal_again (kill_others names) rest w s =
     ∙ kill_others_step (spell_list (λ n. n) names ++ 41 ∷ rest) names rest (names_again names rest w)
 removal_again a rest w s = absurd w
 
-pub hiding_takes : Takes spell_arg (WellArg hiding) hiding_at
+pub hiding_takes : Takes spell_arg (WellPlain hiding) hiding_at
 unfolding hiding_at
 hiding_takes [] x e = absurd cc
 hiding_takes (c ∷ cs) x e =
     elim (chosen (eqb c 40) (names_at cs >>= λ x. Some (new_others x.0, x.1)) (name_at (c ∷ cs) >>= λ n. Some (new_one n.0, n.1)) (Some x) e) [
       | inl p ↦
           let b = bind_some (names_at cs) (λ x. Some (new_others x.0, x.1)) x p.1 in
-          subst (λ (y : ArgTree × List ℕ). (c ∷ cs ≡ spell_arg y.0 ++ y.1) × WellArg hiding y.0) {x = (new_others b.0.0, b.0.1)} (some_is (new_others b.0.0, b.0.1) x b.2) (names_take c cs b.0 (eqb-true _ _ p.0) b.1)
+          subst (λ (y : ArgTree × List ℕ). (c ∷ cs ≡ spell_arg y.0 ++ y.1) × WellPlain hiding y.0) {x = (new_others b.0.0, b.0.1)} (some_is (new_others b.0.0, b.0.1) x b.2) (names_take c cs b.0 (eqb-true _ _ p.0) b.1)
       | inr p ↦
           let b = bind_some (name_at (c ∷ cs)) (λ n. Some (new_one n.0, n.1)) x p.1 in
-          subst (λ (y : ArgTree × List ℕ). (c ∷ cs ≡ spell_arg y.0 ++ y.1) × WellArg hiding y.0) {x = (new_one b.0.0, b.0.1)} (some_is (new_one b.0.0, b.0.1) x b.2) (name_takes (c ∷ cs) b.0 b.1)
+          subst (λ (y : ArgTree × List ℕ). (c ∷ cs ≡ spell_arg y.0 ++ y.1) × WellPlain hiding y.0) {x = (new_one b.0.0, b.0.1)} (some_is (new_one b.0.0, b.0.1) x b.2) (name_takes (c ∷ cs) b.0 b.1)
     ]
 
 new_one_step : (n rest : List ℕ) → IsName n → Stops is_name_rest rest → hiding_at (n ++ rest) ≡ Some (new_one n, rest)
@@ -153,7 +153,7 @@ new_others_step : (cs : List ℕ) (names : List (List ℕ)) (rest : List ℕ) �
 unfolding hiding_at
 new_others_step cs names rest h = rw h refl
 
-pub hiding_again : Again spell_arg (WellArg hiding) (Stops is_name_rest) hiding_at
+pub hiding_again : Again spell_arg (WellPlain hiding) (Stops is_name_rest) hiding_at
 hiding_again (new_one n) rest w s = new_one_step n rest w s
 hiding_again (new_others names) rest w s =
     ap (λ (y : List ℕ). hiding_at (40 ∷ y)) (append_assoc (spell_list (λ n. n) names) (41 ∷ []) rest)
@@ -162,13 +162,13 @@ hiding_again a rest w s = absurd w
 
 -- ---- conditions of IF
 
-pub condition_takes : Takes spell_arg (WellArg condition) condition_at
+pub condition_takes : Takes spell_arg (WellPlain condition) condition_at
 unfolding condition_at
 condition_takes cs x e =
     let b = bind_some (expr_at max_depth cs) (λ y. Some (tested y.0, y.1)) x e in
-    subst (λ (y : ArgTree × List ℕ). (cs ≡ spell_arg y.0 ++ y.1) × WellArg condition y.0) (some_is (tested b.0.0, b.0.1) x b.2) (whole_takes cs b.0 b.1)
+    subst (λ (y : ArgTree × List ℕ). (cs ≡ spell_arg y.0 ++ y.1) × WellPlain condition y.0) (some_is (tested b.0.0, b.0.1) x b.2) (whole_takes cs b.0 b.1)
 
-pub condition_again : Again spell_arg (WellArg condition) Ends condition_at
+pub condition_again : Again spell_arg (WellPlain condition) Ends condition_at
 unfolding condition_at
 condition_again (tested e) rest w s = rw (whole_again e rest w s) refl
 condition_again a rest w s = absurd w
@@ -234,7 +234,7 @@ parameter_again (until e by to) rest w s =
     ap parameter_at parts
     ∙ until_step (spell_expr e ++ 58 ∷ u) u (spell_expr to ++ rest) e by to rest (whole_again e (58 ∷ u) w.0 (refl, refl)) (whole_again by (58 ∷ (spell_expr to ++ rest)) w.1 (refl, refl)) (whole_again to rest w.2 s.0)
 
-pub repetition_takes : Takes spell_arg (WellArg repetition) repetition_at
+pub repetition_takes : Takes spell_arg (WellPlain repetition) repetition_at
 unfolding repetition_at
 repetition_takes cs x e =
     let n = bind_some (name_at cs) (λ n. past 61 n.1 >>= λ rest. list_at parameter_at rest >>= λ x. Some (loop n.0 x.0, x.1)) x e in
@@ -244,7 +244,7 @@ repetition_takes cs x e =
     let equals = past_takes 61 n.0.1 k.0 k.1 in
     let all = list_takes spell_parameter WellParameter parameter_at parameter_takes k.0 b.0 b.1 in
     let made : ArgTree × List ℕ = (loop n.0.0 b.0.0, b.0.1) in
-    subst (λ (y : ArgTree × List ℕ). (cs ≡ spell_arg y.0 ++ y.1) × WellArg repetition y.0) {x = made} (some_is made x b.2)
+    subst (λ (y : ArgTree × List ℕ). (cs ≡ spell_arg y.0 ++ y.1) × WellPlain repetition y.0) {x = made} (some_is made x b.2)
     (joined_by 61 cs n.0.0 n.0.1 k.0 (spell_list spell_parameter b.0.0) b.0.1 name.0 equals all.0, (name.1, all.1))
 
 loop_step : (cs n t u : List ℕ) (ps : List ParameterTree) (rest : List ℕ) → name_at cs ≡ Some (n, t) → past 61 t ≡ Some u → list_at parameter_at u ≡ Some (ps, rest) → repetition_at cs ≡ Some (loop n ps, rest)
@@ -252,7 +252,7 @@ unfolding repetition_at
 loop_step cs n t u ps rest h k l = rw (h, k, l) refl
 
 -- a comma would go on with the parameters
-pub repetition_again : Again spell_arg (WellArg repetition) (λ rest. ParameterEnds rest × Stops is_comma rest) repetition_at
+pub repetition_again : Again spell_arg (WellPlain repetition) (λ rest. ParameterEnds rest × Stops is_comma rest) repetition_at
 repetition_again (loop index parameters) rest w s =
     let u : List ℕ = spell_list spell_parameter parameters ++ rest in
     ap repetition_at (append_assoc index (61 ∷ spell_list spell_parameter parameters) rest)
@@ -266,20 +266,20 @@ pub names_begin : (n : List ℕ) → IsName n → Begins begins_operand n
 names_begin [] w = absurd w
 names_begin (c ∷ n) w = variable_begins c (name_begins_reference c w.0)
 
-pub removal_begins : (a : ArgTree) → WellArg removal a → Begins begins_operand (spell_arg a)
+pub removal_begins : (a : ArgTree) → WellPlain removal a → Begins begins_operand (spell_arg a)
 removal_begins (kill_one v) w = Begins-weaker begins_reference begins_operand (spell_reference v) variable_begins (reference_begins max_depth v w)
 removal_begins (kill_others names) w = refl
 removal_begins a w = absurd w
 
-pub hiding_begins : (a : ArgTree) → WellArg hiding a → Begins begins_operand (spell_arg a)
+pub hiding_begins : (a : ArgTree) → WellPlain hiding a → Begins begins_operand (spell_arg a)
 hiding_begins (new_one n) w = names_begin n w
 hiding_begins (new_others names) w = refl
 hiding_begins a w = absurd w
 
-pub condition_begins : (a : ArgTree) → WellArg condition a → Begins begins_operand (spell_arg a)
+pub condition_begins : (a : ArgTree) → WellPlain condition a → Begins begins_operand (spell_arg a)
 condition_begins (tested e) w = expr_begins max_depth e w
 condition_begins a w = absurd w
 
-pub repetition_begins : (a : ArgTree) → WellArg repetition a → Begins begins_operand (spell_arg a)
+pub repetition_begins : (a : ArgTree) → WellPlain repetition a → Begins begins_operand (spell_arg a)
 repetition_begins (loop index parameters) w = Begins-append begins_operand index (61 ∷ spell_list spell_parameter parameters) (names_begin index w.0)
 repetition_begins a w = absurd w

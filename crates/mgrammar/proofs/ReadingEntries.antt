@@ -2,11 +2,11 @@
 use Rattle.std.proofs.Common.{◌≡◌, ℕ, List, ◌∷◌, ◌++◌, Option, Some, None, refl, ap, subst, ◌∙◌, append_assoc}
 use Rattle.mspec.specs.Names.{is_name_start, is_name_rest, IsName}
 use Rattle.mgrammar.specs.Grammar.{ExprTree, EntryTree, at_label, at_label_in, at_routine, ArgTree, do_one, go_to, executed, entrance, leap, execution, spell_expr, spell_condition, spell_entry, spell_arg}
-use Rattle.mgrammar.specs.WellFormed.{max_depth, WellExpr, WellOptional, WellEntry, WellArg}
+use Rattle.mgrammar.specs.WellFormed.{max_depth, WellExpr, WellOptional, WellEntry, WellPlain}
 use Rattle.mgrammar.specs.Reading.{Read, ◌>>=◌, name_at, past, expr_at, postcondition_by, label_by, entry_by, entry_at, conditioned, entrance_at, leap_at, execution_at}
 use Rattle.mgrammar.proofs.ReadingBasics.{Takes, Again, Stops, Stops-weaker, Begins, Begins-append, goes_on, bind_some, some_is, past_takes, not_past, name_takes, name_again}
 use Rattle.mgrammar.proofs.ReadingLists.{joined, joined_by}
-use Rattle.mgrammar.proofs.ReadingReferences.{Ends, name_or_open, named, name_in_front}
+use Rattle.mgrammar.proofs.ReadingReferences.{Ends, operand_ends, name_or_open, named, name_in_front}
 use Rattle.mgrammar.proofs.ReadingExprs.{begins_operand, expr_begins}
 use Rattle.mgrammar.proofs.ReadingArguments.{whole_takes, whole_again, is_colon, is_caret, Follows, names_begin}
 
@@ -28,7 +28,7 @@ condition_spelled (Some e) rest w s t = rw (whole_again e rest w s) refl
 -- ---- an item with a postconditional of its own
 
 module _ {A : Type 0} (spell : A → List ℕ) (P : A → Type 0) (read : List ℕ → Read A) (made : A → Option ExprTree → ArgTree) where
-  conditioned_takes : (Is : ArgTree × List ℕ → Type 0) (cs : List ℕ) (x : ArgTree × List ℕ) → Takes spell P read → (read cs >>= conditioned made) ≡ Some x
+  pub conditioned_takes : (Is : ArgTree × List ℕ → Type 0) (cs : List ℕ) (x : ArgTree × List ℕ) → Takes spell P read → (read cs >>= conditioned made) ≡ Some x
       → ((a : A) (c : Option ExprTree) (rest : List ℕ) → cs ≡ (spell a ++ spell_condition c) ++ rest → P a → WellOptional max_depth c → Is (made a c, rest)) → Is x
   conditioned_takes Is cs x takes e is =
       let b = bind_some (read cs) (conditioned made) x e in
@@ -38,7 +38,7 @@ module _ {A : Type 0} (spell : A → List ℕ) (P : A → Type 0) (read : List �
       subst Is {x = (made b.0.0 k.0.0, k.0.1)} (some_is (made b.0.0 k.0.0, k.0.1) x k.2)
       (is b.0.0 k.0.0 k.0.1 (joined cs (spell b.0.0) b.0.1 (spell_condition k.0.0) k.0.1 (spell_condition k.0.0) item.0 condition.0 refl) item.1 condition.1)
 
-  conditioned_again : (a : A) (c : Option ExprTree) (rest : List ℕ) → WellOptional max_depth c → Follows rest → read (spell a ++ (spell_condition c ++ rest)) ≡ Some (a, spell_condition c ++ rest)
+  pub conditioned_again : (a : A) (c : Option ExprTree) (rest : List ℕ) → WellOptional max_depth c → Follows rest → read (spell a ++ (spell_condition c ++ rest)) ≡ Some (a, spell_condition c ++ rest)
       → (read ((spell a ++ spell_condition c) ++ rest) >>= conditioned made) ≡ Some (made a c, rest)
   conditioned_again a c rest w s h = rw (append_assoc (spell a) (spell_condition c) rest, h, condition_spelled c rest w s.0 s.2) refl
 
@@ -88,7 +88,7 @@ entry_again (at_routine routine) rest w s = rw (name_again routine rest w s.0) r
 
 -- a postconditional goes on with no entry
 entry_stops : (c : Option ExprTree) (rest : List ℕ) → Follows rest → EntryEnds (spell_condition c ++ rest)
-entry_stops None rest s = (Stops-weaker goes_on is_name_rest rest (λ c h. (name_or_open c h).0) s.0.0, s.3)
+entry_stops None rest s = (Stops-weaker goes_on is_name_rest rest (λ c h. (name_or_open c h).0) (operand_ends rest s.0.0), s.3)
 entry_stops (Some e) rest s = (refl, refl)
 
 expr_stops : (c : Option ExprTree) (rest : List ℕ) → Follows rest → Ends (spell_condition c ++ rest)
@@ -97,32 +97,32 @@ expr_stops (Some e) rest s = (refl, refl)
 
 -- ---- the arguments
 
-pub entrance_takes : Takes spell_arg (WellArg entrance) entrance_at
+pub entrance_takes : Takes spell_arg (WellPlain entrance) entrance_at
 unfolding entrance_at
 entrance_takes cs x e =
-    conditioned_takes spell_entry WellEntry entry_at do_one (λ y. (cs ≡ spell_arg y.0 ++ y.1) × WellArg entrance y.0) cs x entry_takes e (λ a c rest p w v. (p, (w, v)))
+    conditioned_takes spell_entry WellEntry entry_at do_one (λ y. (cs ≡ spell_arg y.0 ++ y.1) × WellPlain entrance y.0) cs x entry_takes e (λ a c rest p w v. (p, (w, v)))
 
-pub entrance_again : Again spell_arg (WellArg entrance) Follows entrance_at
+pub entrance_again : Again spell_arg (WellPlain entrance) Follows entrance_at
 unfolding entrance_at
 entrance_again (do_one a c) rest w s = conditioned_again spell_entry WellEntry entry_at do_one a c rest w.1 s (entry_again a (spell_condition c ++ rest) w.0 (entry_stops c rest s))
 entrance_again a rest w s = absurd w
 
-pub leap_takes : Takes spell_arg (WellArg leap) leap_at
+pub leap_takes : Takes spell_arg (WellPlain leap) leap_at
 unfolding leap_at
 leap_takes cs x e =
-    conditioned_takes spell_entry WellEntry entry_at go_to (λ y. (cs ≡ spell_arg y.0 ++ y.1) × WellArg leap y.0) cs x entry_takes e (λ a c rest p w v. (p, (w, v)))
+    conditioned_takes spell_entry WellEntry entry_at go_to (λ y. (cs ≡ spell_arg y.0 ++ y.1) × WellPlain leap y.0) cs x entry_takes e (λ a c rest p w v. (p, (w, v)))
 
-pub leap_again : Again spell_arg (WellArg leap) Follows leap_at
+pub leap_again : Again spell_arg (WellPlain leap) Follows leap_at
 unfolding leap_at
 leap_again (go_to a c) rest w s = conditioned_again spell_entry WellEntry entry_at go_to a c rest w.1 s (entry_again a (spell_condition c ++ rest) w.0 (entry_stops c rest s))
 leap_again a rest w s = absurd w
 
-pub execution_takes : Takes spell_arg (WellArg execution) execution_at
+pub execution_takes : Takes spell_arg (WellPlain execution) execution_at
 unfolding execution_at
 execution_takes cs x e =
-    conditioned_takes spell_expr (WellExpr max_depth) (expr_at max_depth) executed (λ y. (cs ≡ spell_arg y.0 ++ y.1) × WellArg execution y.0) cs x whole_takes e (λ a c rest p w v. (p, (w, v)))
+    conditioned_takes spell_expr (WellExpr max_depth) (expr_at max_depth) executed (λ y. (cs ≡ spell_arg y.0 ++ y.1) × WellPlain execution y.0) cs x whole_takes e (λ a c rest p w v. (p, (w, v)))
 
-pub execution_again : Again spell_arg (WellArg execution) Follows execution_at
+pub execution_again : Again spell_arg (WellPlain execution) Follows execution_at
 unfolding execution_at
 execution_again (executed e c) rest w s =
     conditioned_again spell_expr (WellExpr max_depth) (expr_at max_depth) executed e c rest w.1 s (whole_again e (spell_condition c ++ rest) w.0 (expr_stops c rest s))
@@ -135,14 +135,14 @@ entry_begins (at_label label) w = names_begin label w
 entry_begins (at_label_in label routine) w = Begins-append begins_operand label (94 ∷ routine) (names_begin label w.0)
 entry_begins (at_routine routine) w = refl
 
-pub entrance_begins : (a : ArgTree) → WellArg entrance a → Begins begins_operand (spell_arg a)
+pub entrance_begins : (a : ArgTree) → WellPlain entrance a → Begins begins_operand (spell_arg a)
 entrance_begins (do_one a c) w = Begins-append begins_operand (spell_entry a) (spell_condition c) (entry_begins a w.0)
 entrance_begins a w = absurd w
 
-pub leap_begins : (a : ArgTree) → WellArg leap a → Begins begins_operand (spell_arg a)
+pub leap_begins : (a : ArgTree) → WellPlain leap a → Begins begins_operand (spell_arg a)
 leap_begins (go_to a c) w = Begins-append begins_operand (spell_entry a) (spell_condition c) (entry_begins a w.0)
 leap_begins a w = absurd w
 
-pub execution_begins : (a : ArgTree) → WellArg execution a → Begins begins_operand (spell_arg a)
+pub execution_begins : (a : ArgTree) → WellPlain execution a → Begins begins_operand (spell_arg a)
 execution_begins (executed e c) w = Begins-append begins_operand (spell_expr e) (spell_condition c) (expr_begins max_depth e w.0)
 execution_begins a w = absurd w

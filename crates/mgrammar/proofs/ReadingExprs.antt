@@ -3,16 +3,16 @@ use Rattle.std.proofs.Common.{◌≡◌, ℕ, zero, suc, ◌<◌, ◌-◌, Bool,
 use Rattle.std.specs.Prelude.{◌||◌}
 use Rattle.std.proofs.lemmas.Bool.Decides.{nat_tests}
 use Rattle.std.proofs.lemmas.List.{append-nil}
-use Rattle.mgrammar.specs.Grammar.{plus, minus, negate, BinaryTree, AtomTree, ExprTree, expr, StepTree, apply, matches, matches_not, StepsTree, no_steps, step, steps_of, OperandTree, operand, spell_signs, spell_binary, spell_atoms, spell_expr, spell_steps, spell_step, spell_operand, spell_primary, ReferenceTree, spell_reference}
-use Rattle.mgrammar.specs.WellFormed.{WellExpr, WellSteps, WellStep, WellOperand, WellReference}
+use Rattle.mgrammar.specs.Grammar.{plus, minus, negate, BinaryTree, AtomTree, ExprTree, expr, StepTree, apply, matches, matches_not, StepsTree, no_steps, step, steps_of, OperandTree, operand, PrimaryTree, spell_signs, spell_binary, spell_atoms, spell_expr, spell_steps, spell_step, spell_operand, spell_primary, ReferenceTree, spell_reference}
+use Rattle.mgrammar.specs.WellFormed.{bare_primary, WellExpr, WellSteps, WellStep, WellOperand, WellPrimary, WellReference, WellBelow}
 use Rattle.mgrammar.specs.Reading.{◌>>=◌, many, pattern_at, signs_of, after_signs, OperatorTree, between, matching, matching_not, operator_at, Readers, primary_with, operand_with, step_by, step_behind, step_with, expr_with, readers_at, inner_at}
-use Rattle.mgrammar.proofs.ReadingBasics.{Takes, Again, Begins, Begins-stops, Begins-append, Begins-weaker, Begins-long, goes_on, bind_some, some_is}
+use Rattle.mgrammar.proofs.ReadingBasics.{Takes, Again, Begins, Begins-stops, Begins-append, Begins-weaker, Begins-long, goes_further, bind_some, some_is}
 use Rattle.mgrammar.proofs.ReadingLists.{each, ItemTakes, many_takes, many_again, count_le, joined}
 use Rattle.mgrammar.proofs.ReadingPatterns.{pattern_takes, pattern_again}
 use Rattle.mgrammar.proofs.ReadingOperators.{is_sign, signs_parts, signs_again, is_follows, spell_operator, operator_takes, operator_again, is_operator, operator_begins, no_operator}
 use Rattle.mgrammar.proofs.ReadingTrees.{steps_list, steps_back, spell_steps-each, steps_well, list_well, WellInner}
-use Rattle.mgrammar.proofs.ReadingReferences.{OperandEnds, Ends, WellWithin, reference_takes, reference_again}
-use Rattle.mgrammar.proofs.ReadingPrimaries.{begins_primary, primary_begins, primary_takes, primary_again}
+use Rattle.mgrammar.proofs.ReadingReferences.{OperandEnds, Ends, TakesFree, AgainFree, operand_ends, WellWithin, reference_takes, reference_again}
+use Rattle.mgrammar.proofs.ReadingPrimaries.{begins_primary, primary_begins, primary_takes_free, primary_takes, primary_again_free, primary_again}
 
 -- ---- what is read is spelled so, below some depth
 
@@ -20,12 +20,12 @@ use Rattle.mgrammar.proofs.ReadingPrimaries.{begins_primary, primary_begins, pri
 behind_parts : (o cs a b : List ℕ) → cs ≡ a ++ b → o ++ cs ≡ (o ++ a) ++ b
 behind_parts o cs a b p = rw (p, append_assoc) refl
 
-module _ (d : ℕ) (r : Readers) (inner_takes : Takes spell_expr (WellInner d) (r.inner)) (within_takes : Takes spell_reference (WellWithin d) (r.within)) where
+module _ (d : ℕ) (r : Readers) (inner_takes : Takes spell_expr (WellInner d) (r.inner)) (within_takes : Takes spell_reference (WellWithin d) (r.within)) (below_takes : TakesFree spell_primary (WellBelow d) bare_primary (r.below)) where
   operand_takes : Takes spell_operand (WellOperand d) (operand_with r)
   unfolding operand_with
   operand_takes cs x e =
       let b = bind_some (primary_with r (after_signs cs)) (λ p. Some (operand (signs_of cs) p.0, p.1)) x e in
-      let p = primary_takes d r inner_takes within_takes (after_signs cs) b.0 b.1 in
+      let p = primary_takes d r inner_takes within_takes below_takes (after_signs cs) b.0 b.1 in
       let s = signs_parts cs in
       subst (λ (y : OperandTree × List ℕ). (cs ≡ spell_operand y.0 ++ y.1) × WellOperand d y.0) (some_is (operand (signs_of cs) b.0.0, b.0.1) x b.2)
       (s ∙ ap (λ (y : List ℕ). spell_signs (signs_of cs) ++ y) p.0 ∙ sym (append_assoc (spell_signs (signs_of cs)) (spell_primary b.0.0) b.0.1), p.1)
@@ -91,19 +91,30 @@ within_well d v w =
 well_within : (d : ℕ) (v : ReferenceTree) → WellWithin (suc d) v → WellReference d v
 well_within d v w = let same : suc d - 1 ≡ d = omega arith in subst (λ (n : ℕ). WellReference n v) same w.1
 
--- what may stand in brackets at some depth
+below_well : (d : ℕ) (p : PrimaryTree) → WellPrimary d p → WellBelow (suc d) p
+below_well d p w =
+    let lt : 0 < suc d = omega arith in
+    let same : d ≡ suc d - 1 = omega arith in
+    (lt, subst (λ (n : ℕ). WellPrimary n p) same w)
+
+well_below : (d : ℕ) (p : PrimaryTree) → WellBelow (suc d) p → WellPrimary d p
+well_below d p w = let same : suc d - 1 ≡ d = omega arith in subst (λ (n : ℕ). WellPrimary n p) same w.1
+
+-- what may stand in brackets, and behind an `@`, at some depth
 record Taken (d : ℕ) : Type 0 where
   inner : Takes spell_expr (WellInner d) (inner_at d)
   within : Takes spell_reference (WellWithin d) ((readers_at d).within)
+  below : TakesFree spell_primary (WellBelow d) bare_primary ((readers_at d).below)
 
 all_taken : (d : ℕ) → Taken d
 unfolding readers_at
-all_taken zero = record { inner = λ cs x e. absurd cc; within = λ cs x e. absurd cc }
+all_taken zero = record { inner = λ cs x e. absurd cc; within = λ cs x e. absurd cc; below = λ cs x e. absurd cc }
 all_taken (suc d) =
     let below = all_taken d in
     record {
-      inner = λ cs x e. let t = expr_takes d (readers_at d) (below.inner) (below.within) cs x e in (t.0, inner_well d x.0 t.1);
-      within = λ cs x e. let t = reference_takes d (readers_at d) (below.inner) cs x e in (t.0, within_well d x.0 t.1);
+      inner = λ cs x e. let t = expr_takes d (readers_at d) (below.inner) (below.within) (below.below) cs x e in (t.0, inner_well d x.0 t.1);
+      within = λ cs x e. let t = reference_takes d (readers_at d) (below.inner) (below.below) cs x e in (t.0, within_well d x.0 t.1);
+      below = λ cs x e. let t = primary_takes_free d (readers_at d) (below.inner) (below.within) (below.below) cs x e in (t.0, below_well d x.0 t.1, t.2);
     }
 
 pub inner_takes : (d : ℕ) → Takes spell_expr (WellInner d) (inner_at d)
@@ -111,6 +122,9 @@ inner_takes d = (all_taken d).inner
 
 pub within_takes : (d : ℕ) → Takes spell_reference (WellWithin d) ((readers_at d).within)
 within_takes d = (all_taken d).within
+
+pub below_takes : (d : ℕ) → TakesFree spell_primary (WellBelow d) bare_primary ((readers_at d).below)
+below_takes d = (all_taken d).below
 
 -- ---- what is spelled so is read, below some depth
 
@@ -141,11 +155,11 @@ step_begins (apply b o) = Begins-append is_operator (spell_binary b) (spell_oper
 step_begins (matches atoms) = refl
 step_begins (matches_not atoms) = refl
 
-operator_ends : (c : ℕ) → is_operator c ≡ true → goes_on c ≡ false
+operator_ends : (c : ℕ) → is_operator c ≡ true → goes_further c ≡ false
 operator_ends c h = grind (arith, nat_tests)
 
 step_ends : (s : StepTree) (rest : List ℕ) → OperandEnds (spell_step s ++ rest)
-step_ends s rest = Begins-stops is_operator goes_on (spell_step s ++ rest) operator_ends (Begins-append is_operator (spell_step s) rest (step_begins s))
+step_ends s rest = Begins-stops is_operator goes_further (spell_step s ++ rest) operator_ends (Begins-append is_operator (spell_step s) rest (step_begins s))
 
 -- steps begin with what may follow an operand
 steps_stop : (s : StepsTree) (rest : List ℕ) → OperandEnds rest → OperandEnds (spell_steps s ++ rest)
@@ -172,14 +186,14 @@ match_operators : (cs : List ℕ) → (operator_at (63 ∷ cs) ≡ Some (matchin
 unfolding operator_at
 match_operators cs = (refl, refl)
 
-module _ (d : ℕ) (r : Readers) (inner_again : Again spell_expr (WellInner d) Ends (r.inner)) (within_again : Again spell_reference (WellWithin d) OperandEnds (r.within)) where
+module _ (d : ℕ) (r : Readers) (inner_again : Again spell_expr (WellInner d) Ends (r.inner)) (within_again : Again spell_reference (WellWithin d) OperandEnds (r.within)) (below_again : AgainFree spell_primary (WellBelow d) bare_primary (r.below)) where
   operand_again : Again spell_operand (WellOperand d) OperandEnds (operand_with r)
   unfolding operand_with
   operand_again (operand signs p) rest w s =
       let no_sign = Begins-stops begins_primary is_sign (spell_primary p ++ rest) (λ c h. (primary_tests c h).0) (Begins-append begins_primary (spell_primary p) rest (primary_begins d p w)) in
       let i = signs_again signs (spell_primary p ++ rest) no_sign in
       let parts : (spell_signs signs ++ spell_primary p) ++ rest ≡ spell_signs signs ++ (spell_primary p ++ rest) = append_assoc (spell_signs signs) (spell_primary p) rest in
-      ap (operand_with r) parts ∙ rw (i.0, i.1, primary_again d r inner_again within_again p rest w s) refl
+      ap (operand_with r) parts ∙ rw (i.0, i.1, primary_again d r inner_again within_again below_again p rest w s) refl
 
   step_again : (x : StepTree) (rest : List ℕ) → WellStep d x → OperandEnds rest → step_with r (spell_step x ++ rest) ≡ Some (Some (x, rest))
   step_again (apply b o) rest w s =
@@ -188,10 +202,10 @@ module _ (d : ℕ) (r : Readers) (inner_again : Again spell_expr (WellInner d) E
       (ap operator_at (append_assoc (spell_binary b) (spell_operand o) rest) ∙ operator_again (between b) (spell_operand o ++ rest) stops) (apply_step r b (spell_operand o ++ rest) o rest (operand_again o rest w s))
   step_again (matches atoms) rest w s =
       by_operator r (63 ∷ (spell_atoms atoms ++ rest)) (spell_atoms atoms ++ rest) matching (matches atoms) rest (match_operators (spell_atoms atoms ++ rest)).0
-      (matches_step r (spell_atoms atoms ++ rest) atoms rest (pattern_again atoms rest w s))
+      (matches_step r (spell_atoms atoms ++ rest) atoms rest (pattern_again atoms rest w (operand_ends rest s)))
   step_again (matches_not atoms) rest w s =
       by_operator r (39 ∷ 63 ∷ (spell_atoms atoms ++ rest)) (spell_atoms atoms ++ rest) matching_not (matches_not atoms) rest (match_operators (spell_atoms atoms ++ rest)).1
-      (matches_not_step r (spell_atoms atoms ++ rest) atoms rest (pattern_again atoms rest w s))
+      (matches_not_step r (spell_atoms atoms ++ rest) atoms rest (pattern_again atoms rest w (operand_ends rest s)))
 
   step_none : (rest : List ℕ) → operator_at rest ≡ None → step_with r rest ≡ Some None
   unfolding step_with
@@ -215,15 +229,21 @@ module _ (d : ℕ) (r : Readers) (inner_again : Again spell_expr (WellInner d) E
 record Spelled (d : ℕ) : Type 0 where
   inner : Again spell_expr (WellInner d) Ends (inner_at d)
   within : Again spell_reference (WellWithin d) OperandEnds ((readers_at d).within)
+  below : AgainFree spell_primary (WellBelow d) bare_primary ((readers_at d).below)
 
 all_spelled : (d : ℕ) → Spelled d
 unfolding readers_at
-all_spelled zero = record { inner = λ e rest w f. absurd (omega (arith, w.0)); within = λ v rest w f. absurd (omega (arith, w.0)) }
+all_spelled zero = record {
+  inner = λ e rest w f. absurd (omega (arith, w.0));
+  within = λ v rest w f. absurd (omega (arith, w.0));
+  below = λ p rest w f g. absurd (omega (arith, w.0));
+}
 all_spelled (suc d) =
     let below = all_spelled d in
     record {
-      inner = λ e rest w f. expr_again d (readers_at d) (below.inner) (below.within) e rest (well_inner d e w) f;
-      within = λ v rest w f. reference_again d (readers_at d) (below.inner) v rest (well_within d v w) f;
+      inner = λ e rest w f. expr_again d (readers_at d) (below.inner) (below.within) (below.below) e rest (well_inner d e w) f;
+      within = λ v rest w f. reference_again d (readers_at d) (below.inner) (below.below) v rest (well_within d v w) f;
+      below = λ p rest w f g. primary_again_free d (readers_at d) (below.inner) (below.within) (below.below) p rest (well_below d p w) f g;
     }
 
 pub inner_again : (d : ℕ) → Again spell_expr (WellInner d) Ends (inner_at d)
@@ -231,3 +251,6 @@ inner_again d = (all_spelled d).inner
 
 pub within_again : (d : ℕ) → Again spell_reference (WellWithin d) OperandEnds ((readers_at d).within)
 within_again d = (all_spelled d).within
+
+pub below_again : (d : ℕ) → AgainFree spell_primary (WellBelow d) bare_primary ((readers_at d).below)
+below_again d = (all_spelled d).below

@@ -5,12 +5,13 @@ use Rattle.std.proofs.lemmas.Bool.{eqb-true}
 use Rattle.std.proofs.lemmas.Bool.Decides.{nat_tests}
 use Rattle.mspec.specs.Names.{is_letter, is_character, AllAre}
 use Rattle.mgrammar.specs.Grammar.{ExprTree, PrimaryTree, number, text, special, reference, bracket, call, select, refer, ReferenceTree, ExprsTree, exprs_of, ChoicesTree, choices_of, quoted, spell_expr, spell_primary, spell_reference, spell_exprs, spell_more_exprs, spell_more, spell_choices, spell_list, SpecialTree, special_of, refers, FunctionTree, ascii_function, char_function, data_function, extract_function, find_function, get_function, justify_function, length_function, order_function, piece_function, select_function, translate_function, function_of, takes}
-use Rattle.mgrammar.specs.WellFormed.{IsReferring, exprs_count, IsCall, WellPrimary, WellAll, WellList}
-use Rattle.mgrammar.specs.Reading.{◌>>=◌, run_of, after_run, number_at, is_digit_or_point, text_from, past, many, after_comma, list_at, Readers, is_select, is_referring, reference_with, bracket_with, choice_with, select_with, call_with, refer_with, function_by, special_by, dollar_by, dollar_with, primary_with}
+use Rattle.mgrammar.specs.FunctionForms.{is_select, is_referring}
+use Rattle.mgrammar.specs.WellFormed.{IsReferring, exprs_count, IsCall, bare_primary, WellPrimary, WellBelow, WellAll, WellList}
+use Rattle.mgrammar.specs.Reading.{◌>>=◌, run_of, after_run, number_at, is_digit_or_point, text_from, past, many, after_comma, list_at, Readers, reference_with, bracket_with, choice_with, select_with, call_with, refer_with, function_by, special_by, dollar_by, dollar_with, primary_with}
 use Rattle.mgrammar.proofs.ReadingBasics.{Takes, Again, Stops, Stops-weaker, Begins, Begins-weaker, Begins-append, goes_on, bind_some, chosen, some_is, run_parts, run_again, past_takes, text_takes, text_again}
 use Rattle.mgrammar.proofs.ReadingNumbers.{number_takes, number_again, number_begins, goes_on_number}
 use Rattle.mgrammar.proofs.ReadingLists.{each, joined_by, spell_more-each, many_takes, comma_takes, more_again, list_takes, list_again}
-use Rattle.mgrammar.proofs.ReadingReferences.{OperandEnds, Ends, WellWithin, is_open, begins_reference, reference_takes, reference_again, reference_begins}
+use Rattle.mgrammar.proofs.ReadingReferences.{OperandEnds, Ends, Greedy, TakesFree, AgainFree, operand_ends, greedy_ends, WellWithin, is_open, begins_reference, reference_takes_free, reference_again_free, reference_begins}
 use Rattle.mgrammar.proofs.ReadingTrees.{WellInner, exprs_list, exprs_back, more_exprs-list, spell_exprs-list, count-length, exprs_well, exprs_inner, spell_choice, WellChoice, choices_list, choices_back, spell_choices-list, choices_well, choices_inner}
 
 pub not_on : (c : ℕ) → goes_on c ≡ false → (goes_on_number c ≡ false) × (is_letter c ≡ false) × (eqb c 34 ≡ false) × (is_open c ≡ false)
@@ -79,18 +80,19 @@ takes_some translate_function h = cc
 
 -- what is read behind a character is a primary
 abbrev PrimaryIs : ℕ → List ℕ → PrimaryTree × List ℕ → Type 0
-PrimaryIs d cs y = (cs ≡ spell_primary y.0 ++ y.1) × WellPrimary d y.0
+PrimaryIs d cs y = (cs ≡ spell_primary y.0 ++ y.1) × WellPrimary d y.0 × Greedy (bare_primary y.0) y.1
 
 number_primary : (d : ℕ) (cs : List ℕ) (x : PrimaryTree × List ℕ) → (number_at cs >>= λ y. Some (number y.0, y.1)) ≡ Some x → PrimaryIs d cs x
 number_primary d cs x e =
     let b = bind_some (number_at cs) (λ y. Some (number y.0, y.1)) x e in
-    subst (PrimaryIs d cs) (some_is (number b.0.0, b.0.1) x b.2) (number_takes cs b.0 b.1)
+    let t = number_takes cs b.0 b.1 in
+    subst (PrimaryIs d cs) (some_is (number b.0.0, b.0.1) x b.2) (t.0, t.1, tt)
 
 text_primary : (d c : ℕ) (cs : List ℕ) (x : PrimaryTree × List ℕ) → c ≡ 34 → (text_from false cs >>= λ y. Some (text y.0, y.1)) ≡ Some x → PrimaryIs d (c ∷ cs) x
 text_primary d c cs x at e =
     let b = bind_some (text_from false cs) (λ y. Some (text y.0, y.1)) x e in
     let t = text_takes false cs b.0 b.1 in
-    subst (PrimaryIs d (c ∷ cs)) (some_is (text b.0.0, b.0.1) x b.2) (cells c cs 34 (quoted b.0.0) 34 b.0.1 at t.0, t.1)
+    subst (PrimaryIs d (c ∷ cs)) (some_is (text b.0.0, b.0.1) x b.2) (cells c cs 34 (quoted b.0.0) 34 b.0.1 at t.0, t.1, tt)
 
 -- a function of a variable takes no other arguments
 no_call : (f : FunctionTree) (n : ℕ) → takes f n ≡ true → is_referring f ≡ false
@@ -126,7 +128,7 @@ first_well : (d : ℕ) (es : List ExprTree) → WellList (WellInner d) es → (0
 first_well d [] w = absurd w
 first_well d (e ∷ es) w = (w.0.0, w)
 
-module _ (d : ℕ) (r : Readers) (inner_takes : Takes spell_expr (WellInner d) (r.inner)) (within_takes : Takes spell_reference (WellWithin d) (r.within)) where
+module _ (d : ℕ) (r : Readers) (inner_takes : Takes spell_expr (WellInner d) (r.inner)) (within_takes : Takes spell_reference (WellWithin d) (r.within)) (below_takes : TakesFree spell_primary (WellBelow d) bare_primary (r.below)) where
   bracket_primary : (c : ℕ) (cs : List ℕ) (x : PrimaryTree × List ℕ) → c ≡ 40 → bracket_with r cs ≡ Some x → PrimaryIs d (c ∷ cs) x
   unfolding bracket_with
   bracket_primary c cs x at e =
@@ -135,7 +137,7 @@ module _ (d : ℕ) (r : Readers) (inner_takes : Takes spell_expr (WellInner d) (
       let t = inner_takes cs b.0 b.1 in
       let z = past_takes 41 b.0.1 k.0 k.1 in
       subst (PrimaryIs d (c ∷ cs)) (some_is (bracket b.0.0, k.0) x k.2)
-      (cells c cs 40 (spell_expr b.0.0) 41 k.0 at (t.0 ∙ ap (λ (y : List ℕ). spell_expr b.0.0 ++ y) z), t.1)
+      (cells c cs 40 (spell_expr b.0.0) 41 k.0 at (t.0 ∙ ap (λ (y : List ℕ). spell_expr b.0.0 ++ y) z), t.1, tt)
 
   choice_takes : Takes spell_choice (WellChoice d) (choice_with r)
   unfolding choice_with
@@ -160,7 +162,7 @@ module _ (d : ℕ) (r : Readers) (inner_takes : Takes spell_expr (WellInner d) (
       let z = past_takes 41 b.0.1 k.0 k.1 in
       let well = choices_well d b.0.0 t.1 in
       subst (PrimaryIs d (36 ∷ ds)) (some_is (select w (choices_of b.0.0), k.0) x k.2)
-      (call_cells ds w after cs (spell_list spell_choice b.0.0) (spell_choices (choices_of b.0.0)) b.0.1 k.0 p q t.0 z (spell_choices-list b.0.0), (well.0, (f, l), well.1, well.2))
+      (call_cells ds w after cs (spell_list spell_choice b.0.0) (spell_choices (choices_of b.0.0)) b.0.1 k.0 p q t.0 z (spell_choices-list b.0.0), (well.0, (f, l), well.1, well.2), tt)
 
   call_takes : (g : FunctionTree) (w cs ds after : List ℕ) (x : PrimaryTree × List ℕ) → ds ≡ w ++ after → after ≡ 40 ∷ cs → AllAre is_letter w → function_of w ≡ Some g → call_with r g w cs ≡ Some x
       → PrimaryIs d (36 ∷ ds) x
@@ -175,7 +177,7 @@ module _ (d : ℕ) (r : Readers) (inner_takes : Takes spell_expr (WellInner d) (
         | inl u ↦
             let is : IsCall w (exprs_count (exprs_of b.0.0)) = (g, f, ap (takes g) (count-length b.0.0) ∙ u.0) in
             subst (PrimaryIs d (36 ∷ ds)) (some_is (call w (exprs_of b.0.0), k.0) x u.1)
-            (call_cells ds w after cs (spell_list spell_expr b.0.0) (spell_exprs (exprs_of b.0.0)) b.0.1 k.0 p q t.0 z (spell_exprs-list b.0.0), (first.0, l, is, exprs_well d b.0.0 first.1))
+            (call_cells ds w after cs (spell_list spell_expr b.0.0) (spell_exprs (exprs_of b.0.0)) b.0.1 k.0 p q t.0 z (spell_exprs-list b.0.0), (first.0, l, is, exprs_well d b.0.0 first.1), tt)
         | inr u ↦ absurd cc
       ]
 
@@ -203,6 +205,7 @@ module _ (d : ℕ) (r : Readers) (inner_takes : Takes spell_expr (WellInner d) (
             subst (PrimaryIs d (36 ∷ ds)) {x = (refer w v.0.0 (exprs_of b.0.0), k.0)} (some_is (refer w v.0.0 (exprs_of b.0.0), k.0) x u.1) (
               refer_cells ds w after cs (spell_reference v.0.0) v.0.1 (each (λ a. 44 ∷ spell_expr a) b.0.0) (spell_more_exprs (exprs_of b.0.0)) b.0.1 k.0 p q variable.0 more.0 z (more_exprs-list b.0.0 ∙ spell_more-each spell_expr b.0.0),
               (variable.1.0, l, is, variable.1.1, exprs_well d b.0.0 more.1),
+              tt,
             )
         | inr u ↦ absurd cc
       ]
@@ -221,7 +224,7 @@ module _ (d : ℕ) (r : Readers) (inner_takes : Takes spell_expr (WellInner d) (
 
   special_takes : (w cs ds : List ℕ) (o : Option SpecialTree) (x : PrimaryTree × List ℕ) → ds ≡ w ++ cs → AllAre is_letter w → special_of w ≡ o → special_by r w o cs ≡ Some x → PrimaryIs d (36 ∷ ds) x
   special_takes w cs ds None x p l f e = absurd cc
-  special_takes w cs ds (Some v) x p l f e = subst (PrimaryIs d (36 ∷ ds)) (some_is (special w, cs) x e) (ap (λ (y : List ℕ). 36 ∷ y) p, (l, (v, f)))
+  special_takes w cs ds (Some v) x p l f e = subst (PrimaryIs d (36 ∷ ds)) (some_is (special w, cs) x e) (ap (λ (y : List ℕ). 36 ∷ y) p, (l, (v, f)), tt)
 
   dollar_takes : (w after ds : List ℕ) (o : Option (List ℕ)) (x : PrimaryTree × List ℕ) → ds ≡ w ++ after → AllAre is_letter w → past 40 after ≡ o → dollar_by r w after o ≡ Some x → PrimaryIs d (36 ∷ ds) x
   dollar_takes w after ds None x p l h e = special_takes w after ds (special_of w) x p l refl e
@@ -234,17 +237,17 @@ module _ (d : ℕ) (r : Readers) (inner_takes : Takes spell_expr (WellInner d) (
       let after = after_run is_letter cs in
       let parts = run_parts is_letter cs in
       let is : PrimaryIs d (36 ∷ cs) x = dollar_takes w after cs (past 40 after) x parts.0 parts.1 refl e in
-      (ap (λ (y : ℕ). y ∷ cs) at ∙ is.0, is.1)
+      (ap (λ (y : ℕ). y ∷ cs) at ∙ is.0, is.1, is.2)
 
   reference_primary : (cs : List ℕ) (x : PrimaryTree × List ℕ) → (reference_with r cs >>= λ v. Some (reference v.0, v.1)) ≡ Some x → PrimaryIs d cs x
   reference_primary cs x e =
       let b = bind_some (reference_with r cs) (λ v. Some (reference v.0, v.1)) x e in
-      subst (PrimaryIs d cs) (some_is (reference b.0.0, b.0.1) x b.2) (reference_takes d r inner_takes cs b.0 b.1)
+      subst (PrimaryIs d cs) (some_is (reference b.0.0, b.0.1) x b.2) (reference_takes_free d r inner_takes below_takes cs b.0 b.1)
 
-  pub primary_takes : Takes spell_primary (WellPrimary d) (primary_with r)
+  pub primary_takes_free : TakesFree spell_primary (WellPrimary d) bare_primary (primary_with r)
   unfolding primary_with
-  primary_takes [] x e = absurd cc
-  primary_takes (c ∷ cs) x e =
+  primary_takes_free [] x e = absurd cc
+  primary_takes_free (c ∷ cs) x e =
       elim (chosen (is_digit_or_point c) (number_at (c ∷ cs) >>= λ y. Some (number y.0, y.1)) _ (Some x) e) [
         | inl p ↦ number_primary d (c ∷ cs) x p.1
         | inr p ↦ elim (chosen (eqb c 34) (text_from false cs >>= λ y. Some (text y.0, y.1)) _ (Some x) p.1) [
@@ -258,6 +261,9 @@ module _ (d : ℕ) (r : Readers) (inner_takes : Takes spell_expr (WellInner d) (
           ]
         ]
       ]
+
+  pub primary_takes : Takes spell_primary (WellPrimary d) (primary_with r)
+  primary_takes cs x e = let t = primary_takes_free cs x e in (t.0, t.1)
 
 -- ---- where a primary begins
 
@@ -343,7 +349,7 @@ special_step r w rest v l f s t =
     let i = run_again is_letter w rest l s in
     rw (i.0, i.1, no_bracket rest t, f) refl
 
-module _ (d : ℕ) (r : Readers) (inner_again : Again spell_expr (WellInner d) Ends (r.inner)) (within_again : Again spell_reference (WellWithin d) OperandEnds (r.within)) where
+module _ (d : ℕ) (r : Readers) (inner_again : Again spell_expr (WellInner d) Ends (r.inner)) (within_again : Again spell_reference (WellWithin d) OperandEnds (r.within)) (below_again : AgainFree spell_primary (WellBelow d) bare_primary (r.below)) where
   choice_again : Again spell_choice (WellChoice d) Ends (choice_with r)
   choice_again c rest w s =
       ap (choice_with r) (append_assoc (spell_expr c.0) (58 ∷ spell_expr c.1) rest)
@@ -396,19 +402,22 @@ module _ (d : ℕ) (r : Readers) (inner_again : Again spell_expr (WellInner d) E
       ap (primary_with r) (refer_spread w (spell_reference v) (spell_more_exprs more) rest ∙ ap (λ (y : List ℕ). 36 ∷ (w ++ 40 ∷ (spell_reference v ++ (y ++ 41 ∷ rest)))) same)
       ∙ step ∙ ap (λ (y : ExprsTree). Some (refer w v y, rest)) (exprs_back more)
 
-  pub primary_again : Again spell_primary (WellPrimary d) OperandEnds (primary_with r)
-  primary_again (number t) rest w s =
+  pub primary_again_free : AgainFree spell_primary (WellPrimary d) bare_primary (primary_with r)
+  primary_again_free (number t) rest w s g =
       number_step r (t ++ rest) t rest (Begins-append is_digit_or_point t rest (number_begins t w)) (number_again t rest w (Stops-weaker goes_on goes_on_number rest (λ c h. (not_on c h).0) s))
-  primary_again (text t) rest w s =
+  primary_again_free (text t) rest w s g =
       ap (λ (y : List ℕ). primary_with r (34 ∷ y)) (append_assoc (quoted t) (34 ∷ []) rest)
       ∙ text_step r t rest w (Stops-weaker goes_on (λ c. eqb c 34) rest (λ c h. (not_on c h).2) s)
-  primary_again (special word) rest w s =
+  primary_again_free (special word) rest w s g =
       special_step r word rest w.1.0 w.0 w.1.1 (Stops-weaker goes_on is_letter rest (λ c h. (not_on c h).1) s) (Stops-weaker goes_on is_open rest (λ c h. (not_on c h).3) s)
-  primary_again (reference v) rest w s =
-      variable_step r (spell_reference v ++ rest) v rest (Begins-append begins_reference (spell_reference v) rest (reference_begins d v w)) (reference_again d r inner_again v rest w s)
-  primary_again (refer word v more) rest w s = refer_again word v more rest w
-  primary_again (bracket e) rest w s =
+  primary_again_free (reference v) rest w s g =
+      variable_step r (spell_reference v ++ rest) v rest (Begins-append begins_reference (spell_reference v) rest (reference_begins d v w)) (reference_again_free d r inner_again below_again v rest w s g)
+  primary_again_free (refer word v more) rest w s g = refer_again word v more rest w
+  primary_again_free (bracket e) rest w s g =
       ap (λ (y : List ℕ). primary_with r (40 ∷ y)) (append_assoc (spell_expr e) (41 ∷ []) rest)
       ∙ bracket_step r (spell_expr e ++ 41 ∷ rest) e rest (inner_again e (41 ∷ rest) w (refl, refl))
-  primary_again (call word args) rest w s = call_again word args rest w
-  primary_again (select word all) rest w s = select_again word all rest w
+  primary_again_free (call word args) rest w s g = call_again word args rest w
+  primary_again_free (select word all) rest w s g = select_again word all rest w
+
+  pub primary_again : Again spell_primary (WellPrimary d) OperandEnds (primary_with r)
+  primary_again p rest w s = primary_again_free p rest w (operand_ends rest s) (greedy_ends (bare_primary p) rest s)

@@ -1,17 +1,18 @@
 -- What is read of the left side of an assignment is spelled so, and what is spelled so is read.
-use Rattle.std.proofs.Common.{◌≡◌, ℕ, ◌<◌, ◌-◌, true, eqb, List, [], ◌∷◌, ◌++◌, Option, Some, None, inl, inr, refl, sym, ap, subst, ◌∙◌, append_assoc, arith}
+use Rattle.std.proofs.Common.{◌≡◌, ℕ, ◌<◌, ◌-◌, Bool, true, eqb, List, [], ◌∷◌, ◌++◌, Option, Some, None, inl, inr, refl, sym, ap, subst, ◌∙◌, append_assoc, arith}
 use Rattle.std.proofs.lemmas.Bool.{eqb-true}
 use Rattle.std.proofs.lemmas.Bool.Decides.{nat_tests}
 use Rattle.mspec.specs.Names.{is_letter, AllAre}
-use Rattle.mgrammar.specs.Grammar.{ExprTree, ReferenceTree, TargetTree, variable, piece, DestinationTree, one, several, ArgTree, assign, spell_expr, spell_reference, spell_list, spell_place, spell_target, spell_destination, spell_arg, assignment, FunctionTree, ascii_function, char_function, data_function, extract_function, find_function, get_function, justify_function, length_function, order_function, piece_function, select_function, translate_function, function_of}
-use Rattle.mgrammar.specs.WellFormed.{max_depth, WellOptional, WellTarget, WellDestination, WellArg}
-use Rattle.mgrammar.specs.Reading.{Read, ◌>>=◌, run_of, after_run, past, list_at, Readers, is_piece, reference_with, expr_at, readers_at, place_with, piece_with, piece_by, target_with, destination_at, assignment_at}
-use Rattle.mgrammar.proofs.ReadingBasics.{Takes, Again, Stops, Begins, Begins-append, Begins-stops, Begins-weaker, bind_some, chosen, some_is, both_are, run_parts, run_again, past_takes}
+use Rattle.mgrammar.specs.Grammar.{ExprTree, PrimaryTree, no_exprs, ReferenceTree, indirect, TargetTree, variable, piece, DestinationTree, one, several, ArgTree, assign, indirect_args, FormTree, spell_expr, spell_primary, spell_reference, spell_list, spell_place, spell_target, spell_destination, spell_arg, assignment, FunctionTree, ascii_function, char_function, data_function, extract_function, find_function, get_function, justify_function, length_function, order_function, piece_function, select_function, translate_function, function_of}
+use Rattle.mgrammar.specs.FunctionForms.{is_piece}
+use Rattle.mgrammar.specs.WellFormed.{max_depth, bare_primary, bare_destination, WellBelow, WellReference, WellOptional, WellTarget, WellDestination, WellArg}
+use Rattle.mgrammar.specs.Reading.{Read, ◌>>=◌, run_of, after_run, past, list_at, Readers, reference_with, expr_at, readers_at, place_with, piece_with, piece_by, target_with, destination_at, given_by, assignment_by, assignment_at}
+use Rattle.mgrammar.proofs.ReadingBasics.{Takes, Again, Stops, Begins, Begins-append, Begins-stops, Begins-weaker, bind_some, chosen, some_is, both_are, run_parts, run_again, past_takes, not_past}
 use Rattle.mgrammar.proofs.ReadingLists.{joined_by, enclosed, is_comma, list_takes, list_again}
 use Rattle.mgrammar.proofs.ReadingTrees.{WellInner}
-use Rattle.mgrammar.proofs.ReadingReferences.{OperandEnds, Ends, WellWithin, begins_reference, reference_takes, reference_again, reference_begins}
+use Rattle.mgrammar.proofs.ReadingReferences.{OperandEnds, Ends, TakesFree, AgainFree, WellWithin, begins_reference, reference_takes, reference_again, reference_begins, bare_spelled, bare_well, bare_reference_is}
 use Rattle.mgrammar.proofs.ReadingPrimaries.{reference_tests}
-use Rattle.mgrammar.proofs.ReadingExprs.{begins_operand, inner_takes, within_takes, inner_again, within_again, expr_takes, expr_again}
+use Rattle.mgrammar.proofs.ReadingExprs.{begins_operand, inner_takes, within_takes, below_takes, inner_again, within_again, below_again, expr_takes, expr_again}
 
 -- ---- what is read is spelled so
 
@@ -44,7 +45,7 @@ piece_is translate_function h = absurd cc
 abbrev TargetIs : ℕ → List ℕ → TargetTree × List ℕ → Type 0
 TargetIs d cs x = (cs ≡ spell_target x.0 ++ x.1) × WellTarget d x.0
 
-module _ (d : ℕ) (r : Readers) (takes : Takes spell_expr (WellInner d) (r.inner)) (within : Takes spell_reference (WellWithin d) (r.within)) where
+module _ (d : ℕ) (r : Readers) (takes : Takes spell_expr (WellInner d) (r.inner)) (within : Takes spell_reference (WellWithin d) (r.within)) (below : TakesFree spell_primary (WellBelow d) bare_primary (r.below)) where
   place_takes : Takes spell_place (WellOptional (d - 1)) (place_with r)
   unfolding place_with
   place_takes [] x e = subst (λ (y : Option ExprTree × List ℕ). ([] ≡ spell_place y.0 ++ y.1) × WellOptional (d - 1) y.0) (some_is (None, []) x e) (refl, tt)
@@ -102,7 +103,7 @@ module _ (d : ℕ) (r : Readers) (takes : Takes spell_expr (WellInner d) (r.inne
             (ap (λ (y : ℕ). y ∷ cs) at ∙ is.0, is.1)
         | inr p ↦
             let b = bind_some (reference_with r (c ∷ cs)) (λ n. Some (variable n.0, n.1)) x p.1 in
-            subst (TargetIs d (c ∷ cs)) (some_is (variable b.0.0, b.0.1) x b.2) (reference_takes d r takes (c ∷ cs) b.0 b.1)
+            subst (TargetIs d (c ∷ cs)) (some_is (variable b.0.0, b.0.1) x b.2) (reference_takes d r takes below (c ∷ cs) b.0 b.1)
       ]
 
 abbrev DestinationIs : List ℕ → DestinationTree × List ℕ → Type 0
@@ -116,7 +117,7 @@ several_takes : (c : ℕ) (cs : List ℕ) (x : DestinationTree × List ℕ) → 
 several_takes c cs x at e =
     let b = bind_some (list_at listed cs) (λ y. past 41 y.1 >>= λ rest. Some (several y.0, rest)) x e in
     let k = bind_some (past 41 b.0.1) (λ rest. Some (several b.0.0, rest)) x b.2 in
-    let t = list_takes spell_target (WellTarget (max_depth - 1)) listed (target_takes (max_depth - 1) (readers_at (max_depth - 1)) (inner_takes (max_depth - 1)) (within_takes (max_depth - 1))) cs b.0 b.1 in
+    let t = list_takes spell_target (WellTarget (max_depth - 1)) listed (target_takes (max_depth - 1) (readers_at (max_depth - 1)) (inner_takes (max_depth - 1)) (within_takes (max_depth - 1)) (below_takes (max_depth - 1))) cs b.0 b.1 in
     let z = past_takes 41 b.0.1 k.0 k.1 in
     subst (DestinationIs (c ∷ cs)) (some_is (several b.0.0, k.0) x k.2) (enclosed c cs (spell_list spell_target b.0.0) b.0.1 k.0 at t.0 z, t.1)
 
@@ -128,21 +129,39 @@ destination_takes (c ∷ cs) x e =
       | inl p ↦ several_takes c cs x (eqb-true _ _ p.0) p.1
       | inr p ↦
           let b = bind_some (target_with (readers_at max_depth) (c ∷ cs)) (λ t. Some (one t.0, t.1)) x p.1 in
-          subst (DestinationIs (c ∷ cs)) (some_is (one b.0.0, b.0.1) x b.2) (target_takes max_depth (readers_at max_depth) (inner_takes max_depth) (within_takes max_depth) (c ∷ cs) b.0 b.1)
+          subst (DestinationIs (c ∷ cs)) (some_is (one b.0.0, b.0.1) x b.2) (target_takes max_depth (readers_at max_depth) (inner_takes max_depth) (within_takes max_depth) (below_takes max_depth) (c ∷ cs) b.0 b.1)
     ]
+
+-- what was read of an argument of SET
+abbrev AssignmentIs : List ℕ → ArgTree × List ℕ → Type 0
+AssignmentIs cs x = (cs ≡ spell_arg x.0 ++ x.1) × WellArg assignment x.0
+
+-- a destination that is an `@` with its operand alone
+bare_is : (d : DestinationTree) (p : PrimaryTree) → bare_destination d ≡ Some p → WellDestination d → (spell_destination d ≡ 64 ∷ spell_primary p) × WellBelow max_depth p
+bare_is (one (variable v)) p e w = bare_reference_is max_depth v p e w
+bare_is (one (piece word v delimiter place)) p e w = absurd cc
+bare_is (several ts) p e w = absurd cc
+
+given_takes : (cs : List ℕ) (d : DestinationTree) (t : List ℕ) (o : Option PrimaryTree) (x : ArgTree × List ℕ) → cs ≡ spell_destination d ++ t → WellDestination d → bare_destination d ≡ o → given_by assignment t o ≡ Some x → AssignmentIs cs x
+given_takes cs d t None x p w h e = absurd cc
+given_takes cs d t (Some q) x p w h e =
+    let is = bare_is d q h w in
+    subst (AssignmentIs cs) {x = (indirect_args assignment q, t)} (some_is (indirect_args assignment q, t) x e) (p ∙ ap (λ (y : List ℕ). y ++ t) is.0, (refl, refl, is.1))
+
+assignment_takes_by : (cs : List ℕ) (d : DestinationTree) (t : List ℕ) (o : Option (List ℕ)) (x : ArgTree × List ℕ) → cs ≡ spell_destination d ++ t → WellDestination d → past 61 t ≡ o → assignment_by d t o ≡ Some x → AssignmentIs cs x
+assignment_takes_by cs d t None x p w h e = given_takes cs d t (bare_destination d) x p w refl e
+assignment_takes_by cs d t (Some rest) x p w h e =
+    let v = bind_some (expr_at max_depth rest) (λ v. Some (assign d v.0, v.1)) x e in
+    let value = expr_takes max_depth (readers_at max_depth) (inner_takes max_depth) (within_takes max_depth) (below_takes max_depth) rest v.0 v.1 in
+    subst (AssignmentIs cs) {x = (assign d v.0.0, v.0.1)} (some_is (assign d v.0.0, v.0.1) x v.2)
+    (joined_by 61 cs (spell_destination d) t rest (spell_expr v.0.0) v.0.1 p (past_takes 61 t rest h) value.0, ((w, value.1), refl))
 
 pub assignment_takes : Takes spell_arg (WellArg assignment) assignment_at
 unfolding assignment_at
 assignment_takes cs x e =
-    let t = bind_some (destination_at cs) (λ t. past 61 t.1 >>= λ rest. expr_at max_depth rest >>= λ v. Some (assign t.0 v.0, v.1)) x e in
-    let k = bind_some (past 61 t.0.1) (λ rest. expr_at max_depth rest >>= λ v. Some (assign t.0.0 v.0, v.1)) x t.2 in
-    let v = bind_some (expr_at max_depth k.0) (λ v. Some (assign t.0.0 v.0, v.1)) x k.2 in
+    let t = bind_some (destination_at cs) (λ t. assignment_by t.0 t.1 (past 61 t.1)) x e in
     let destination = destination_takes cs t.0 t.1 in
-    let equals = past_takes 61 t.0.1 k.0 k.1 in
-    let value = expr_takes max_depth (readers_at max_depth) (inner_takes max_depth) (within_takes max_depth) k.0 v.0 v.1 in
-    let made : ArgTree × List ℕ = (assign t.0.0 v.0.0, v.0.1) in
-    subst (λ (y : ArgTree × List ℕ). (cs ≡ spell_arg y.0 ++ y.1) × WellArg assignment y.0) {x = made} (some_is made x v.2)
-    (joined_by 61 cs (spell_destination t.0.0) t.0.1 k.0 (spell_expr v.0.0) v.0.1 destination.0 equals value.0, (destination.1, value.1))
+    assignment_takes_by cs t.0.0 t.0.1 (past 61 t.0.1) x destination.0 destination.1 refl t.2
 
 -- ---- what is spelled so is read
 
@@ -171,7 +190,7 @@ piece_step r w cs x l f h =
     let i = run_again is_letter w (40 ∷ cs) l refl in
     rw (i.0, i.1, f) h
 
-module _ (d : ℕ) (r : Readers) (lt : 0 < d) (again : Again spell_expr (WellInner d) Ends (r.inner)) (within : Again spell_reference (WellWithin d) OperandEnds (r.within)) where
+module _ (d : ℕ) (r : Readers) (lt : 0 < d) (again : Again spell_expr (WellInner d) Ends (r.inner)) (within : Again spell_reference (WellWithin d) OperandEnds (r.within)) (below : AgainFree spell_primary (WellBelow d) bare_primary (r.below)) where
   place_again : (place : Option ExprTree) (rest : List ℕ) → WellOptional (d - 1) place → place_with r (spell_place place ++ 41 ∷ rest) ≡ Some (place, 41 ∷ rest)
   place_again None rest w = place_none r (41 ∷ rest) refl
   place_again (Some e) rest w = place_some r (spell_expr e ++ 41 ∷ rest) e (41 ∷ rest) (again e (41 ∷ rest) (lt, w) (refl, refl))
@@ -190,7 +209,7 @@ module _ (d : ℕ) (r : Readers) (lt : 0 < d) (again : Again spell_expr (WellInn
 
   pub target_again : Again spell_target (WellTarget d) OperandEnds (target_with r)
   target_again (variable v) rest w s =
-      variable_step r (spell_reference v ++ rest) v rest (Begins-append begins_reference (spell_reference v) rest (reference_begins d v w)) (reference_again d r again v rest w s)
+      variable_step r (spell_reference v ++ rest) v rest (Begins-append begins_reference (spell_reference v) rest (reference_begins d v w)) (reference_again d r again below v rest w s)
   target_again (piece word v delimiter place) rest w s =
       let parts : spell_target (piece word v delimiter place) ++ rest ≡ 36 ∷ (word ++ 40 ∷ (spell_reference v ++ 44 ∷ (spell_expr delimiter ++ (spell_place place ++ 41 ∷ rest)))) =
       spread word (spell_reference v) (spell_expr delimiter) (spell_place place) rest in
@@ -214,9 +233,9 @@ target_stops d (piece word name delimiter place) rest w = refl
 
 destination_again : Again spell_destination WellDestination OperandEnds destination_at
 destination_again (one t) rest w s =
-    one_step (spell_target t ++ rest) t rest (target_stops max_depth t rest w) (target_again max_depth (readers_at max_depth) (omega arith) (inner_again max_depth) (within_again max_depth) t rest w s)
+    one_step (spell_target t ++ rest) t rest (target_stops max_depth t rest w) (target_again max_depth (readers_at max_depth) (omega arith) (inner_again max_depth) (within_again max_depth) (below_again max_depth) t rest w s)
 destination_again (several ts) rest w s =
-    let again = target_again (max_depth - 1) (readers_at (max_depth - 1)) (omega arith) (inner_again (max_depth - 1)) (within_again (max_depth - 1)) in
+    let again = target_again (max_depth - 1) (readers_at (max_depth - 1)) (omega arith) (inner_again (max_depth - 1)) (within_again (max_depth - 1)) (below_again (max_depth - 1)) in
     let l = list_again spell_target (WellTarget (max_depth - 1)) listed OperandEnds (λ cs. refl) again ts (41 ∷ rest) w (refl, refl) in
     ap destination_at (ap (λ (y : List ℕ). 40 ∷ y) (append_assoc (spell_list spell_target ts) (41 ∷ []) rest)) ∙ list_step (spell_list spell_target ts ++ 41 ∷ rest) ts rest l
 
@@ -225,12 +244,25 @@ assignment_step : (cs t u : List ℕ) (destination : DestinationTree) (value : E
 unfolding assignment_at
 assignment_step cs t u destination value rest h k l = rw (h, k, l) refl
 
-pub assignment_again : Again spell_arg (WellArg assignment) Ends assignment_at
+given_step : (cs t : List ℕ) (d : DestinationTree) (p : PrimaryTree) → destination_at cs ≡ Some (d, t) → past 61 t ≡ None → bare_destination d ≡ Some p → assignment_at cs ≡ Some (indirect_args assignment p, t)
+unfolding assignment_at
+given_step cs t d p h k b = rw (h, k, b) refl
+
+abbrev pub is_equals : ℕ → Bool
+is_equals c = eqb c 61
+
+pub assignment_again : Again spell_arg (WellArg assignment) (λ rest. Ends rest × Stops is_equals rest) assignment_at
 assignment_again (assign destination value) rest w s =
     let u : List ℕ = spell_expr value ++ rest in
     ap assignment_at (append_assoc (spell_destination destination) (61 ∷ spell_expr value) rest)
-    ∙ assignment_step (spell_destination destination ++ 61 ∷ u) (61 ∷ u) u destination value rest (destination_again destination (61 ∷ u) w.0 refl) refl (expr_again max_depth (readers_at max_depth) (inner_again max_depth) (within_again max_depth) value rest w.1 s)
-assignment_again a rest w s = absurd w
+    ∙ assignment_step (spell_destination destination ++ 61 ∷ u) (61 ∷ u) u destination value rest (destination_again destination (61 ∷ u) w.0.0 refl) refl (expr_again max_depth (readers_at max_depth) (inner_again max_depth) (within_again max_depth) (below_again max_depth) value rest w.0.1 s.0)
+assignment_again (indirect_args f p) rest w s =
+    let v : ReferenceTree = indirect p no_exprs in
+    let well : WellReference max_depth v = bare_well max_depth p w.2 in
+    ap (λ (y : List ℕ). assignment_at (y ++ rest)) (sym (bare_spelled p))
+    ∙ given_step (spell_reference v ++ rest) rest (one (variable v)) p (destination_again (one (variable v)) rest well s.0.0) (not_past 61 rest s.1) refl
+    ∙ ap (λ (g : FormTree). Some (indirect_args g p, rest)) (sym w.0)
+assignment_again a rest w s = absurd w.0
 
 -- a variable begins an argument of SET, or a `$`, or a bracket
 pub variable_begins : (c : ℕ) → begins_reference c ≡ true → begins_operand c ≡ true
@@ -245,5 +277,6 @@ destination_begins (one t) w = target_begins max_depth t w
 destination_begins (several ts) w = refl
 
 pub assignment_begins : (a : ArgTree) → WellArg assignment a → Begins begins_operand (spell_arg a)
-assignment_begins (assign d e) w = Begins-append begins_operand (spell_destination d) (61 ∷ spell_expr e) (destination_begins d w.0)
-assignment_begins a w = absurd w
+assignment_begins (assign d e) w = Begins-append begins_operand (spell_destination d) (61 ∷ spell_expr e) (destination_begins d w.0.0)
+assignment_begins (indirect_args f p) w = refl
+assignment_begins a w = absurd w.0

@@ -83,12 +83,16 @@ mutual
     select : List ℕ → ChoicesTree → PrimaryTree
     refer : List ℕ → ReferenceTree → ExprsTree → PrimaryTree
 
-  -- `glvn`: `lvn`, a name, and its subscripts, of which there may be none; `gvn`, such a name and subscripts behind a `^`; and the
-  -- subscripts of a naked reference, which stand behind the `^` alone
+  -- `glvn`: `lvn`, a name, and its subscripts, of which there may be none; `gvn`, such a name and subscripts behind a `^`, and
+  -- with an `environment` in front of them; and the subscripts of a naked reference, which stand behind the `^` alone. Name
+  -- indirection: the `expratom` behind an `@`, its operand, and the subscripts behind a further `@` (`lnamind`, `gnamind`), of which
+  -- there may be none
   pub data ReferenceTree : Type 0 where
     local : List ℕ → ExprsTree → ReferenceTree
     global : List ℕ → ExprsTree → ReferenceTree
     naked : ExprsTree → ReferenceTree
+    indirect : PrimaryTree → ExprsTree → ReferenceTree
+    extended : ExprTree → List ℕ → ExprsTree → ReferenceTree
 
   pub data ExprsTree : Type 0 where
     no_exprs : ExprsTree
@@ -133,10 +137,36 @@ pub data EntryTree : Type 0 where
   at_label_in : (label routine : List ℕ) → EntryTree
   at_routine : List ℕ → EntryTree
 
+-- how a `lockargument` begins: without a sign, with a `+` or with a `-`
+pub data LockKindTree : Type 0 where
+  anew : LockKindTree
+  adding : LockKindTree
+  giving_back : LockKindTree
+
+-- the `nref` of a `lockargument`: one, or a list in brackets
+pub data LockedTree : Type 0 where
+  lock_one : ReferenceTree → LockedTree
+  lock_several : List ReferenceTree → LockedTree
+
+-- what a command's arguments look like; no text is one of the form `nothing`, that of commands that take none
+pub data FormTree : Type 0 where
+  assignment : FormTree
+  removal : FormTree
+  hiding : FormTree
+  condition : FormTree
+  repetition : FormTree
+  output : FormTree
+  entrance : FormTree
+  leap : FormTree
+  execution : FormTree
+  locking : FormTree
+  nothing : FormTree
+
 -- an argument of any command: `setargument`, a destination and a value; `writeargument`, a run of the format `!`, or a value;
 -- `killargument`, a variable, or the names that are spared; `newargument`, a name, or the names that are spared; the condition
 -- of `ifargument`; what stands behind FOR, the name of an index and its parameters; and with a `postcond` of its own or none,
--- `doargument`, `gotoargument` and `xargument`
+-- `doargument`, `gotoargument` and `xargument`; `lockargument`, with its `timeout` or none. Argument indirection: arguments of this form
+-- that a text gives, the value of the `expratom` behind an `@`
 pub data ArgTree : Type 0 where
   assign : DestinationTree → ExprTree → ArgTree
   breaks : ℕ → ArgTree
@@ -150,6 +180,8 @@ pub data ArgTree : Type 0 where
   do_one : EntryTree → Option ExprTree → ArgTree
   go_to : EntryTree → Option ExprTree → ArgTree
   executed : ExprTree → Option ExprTree → ArgTree
+  locked : LockKindTree → LockedTree → Option ExprTree → ArgTree
+  indirect_args : FormTree → PrimaryTree → ArgTree
 
 -- `commandword`, whatever its spelling
 pub data KeywordTree : Type 0 where
@@ -164,6 +196,8 @@ pub data KeywordTree : Type 0 where
   do_word : KeywordTree
   goto_word : KeywordTree
   execute_word : KeywordTree
+  lock_word : KeywordTree
+  halt_word : KeywordTree
 
 -- `command`: its word, also as it is written, its `postcond` where it has one, then its arguments
 pub record CommandTree : Type 0 where
@@ -183,7 +217,7 @@ pub record LineTree : Type 0 where
   pub comment : Option (List ℕ)
 
 -- ---- the text of a tree; 32 is a space, 33 `!`, 34 a quote, 36 `$`, 39 `'`, 40 and 41 brackets, 44 a comma, 46 a point,
--- 58 a colon, 59 `;`, 61 `=`, 63 `?`, 94 `^`
+-- 58 a colon, 59 `;`, 61 `=`, 63 `?`, 64 `@`, 94 `^`, 124 `|`
 
 abbrev pub sign_char : SignTree → ℕ
 sign_char plus = 43
@@ -268,11 +302,18 @@ abbrev mutual
   spell_reference (local name subscripts) = name ++ spell_subscripts subscripts
   spell_reference (global name subscripts) = 94 ∷ (name ++ spell_subscripts subscripts)
   spell_reference (naked subscripts) = 94 ∷ spell_subscripts subscripts
+  spell_reference (indirect p subscripts) = 64 ∷ (spell_primary p ++ spell_attached subscripts)
+  spell_reference (extended e name subscripts) = 94 ∷ 124 ∷ (spell_expr e ++ 124 ∷ (name ++ spell_subscripts subscripts))
 
   -- in brackets, where there are some
   pub spell_subscripts : ExprsTree → List ℕ
   spell_subscripts no_exprs = []
   spell_subscripts (exprs e rest) = 40 ∷ (spell_expr e ++ (spell_more_exprs rest ++ 41 ∷ []))
+
+  -- behind an `@`, where there are some
+  pub spell_attached : ExprsTree → List ℕ
+  spell_attached no_exprs = []
+  spell_attached (exprs e rest) = 64 ∷ 40 ∷ (spell_expr e ++ (spell_more_exprs rest ++ 41 ∷ []))
 
   -- with commas between
   pub spell_exprs : ExprsTree → List ℕ
@@ -334,6 +375,15 @@ spell_entry (at_label label) = label
 spell_entry (at_label_in label routine) = label ++ 94 ∷ routine
 spell_entry (at_routine routine) = 94 ∷ routine
 
+abbrev pub spell_kind : LockKindTree → List ℕ
+spell_kind anew = []
+spell_kind adding = 43 ∷ []
+spell_kind giving_back = 45 ∷ []
+
+abbrev pub spell_locked : LockedTree → List ℕ
+spell_locked (lock_one r) = spell_reference r
+spell_locked (lock_several rs) = 40 ∷ (spell_list spell_reference rs ++ 41 ∷ [])
+
 abbrev pub spell_arg : ArgTree → List ℕ
 spell_arg (assign d e) = spell_destination d ++ 61 ∷ spell_expr e
 spell_arg (breaks n) = replicate n 33
@@ -347,6 +397,8 @@ spell_arg (loop index parameters) = index ++ 61 ∷ spell_list spell_parameter p
 spell_arg (do_one entry c) = spell_entry entry ++ spell_condition c
 spell_arg (go_to entry c) = spell_entry entry ++ spell_condition c
 spell_arg (executed e c) = spell_expr e ++ spell_condition c
+spell_arg (locked k names t) = (spell_kind k ++ spell_locked names) ++ spell_condition t
+spell_arg (indirect_args f p) = 64 ∷ spell_primary p
 
 -- behind a space, where there are some
 abbrev pub spell_args : List ArgTree → List ℕ
@@ -386,20 +438,9 @@ keyword_of w =
     else (if is_either (codes "w") (codes "write") w then Some write_word
     else (if is_either (codes "d") (codes "do") w then Some do_word
     else (if is_either (codes "g") (codes "goto") w then Some goto_word
-    else (if is_either (codes "x") (codes "xecute") w then Some execute_word else None))))))))))
-
--- what a command's arguments look like; no text is one of the form `nothing`, that of commands that take none
-pub data FormTree : Type 0 where
-  assignment : FormTree
-  removal : FormTree
-  hiding : FormTree
-  condition : FormTree
-  repetition : FormTree
-  output : FormTree
-  entrance : FormTree
-  leap : FormTree
-  execution : FormTree
-  nothing : FormTree
+    else (if is_either (codes "x") (codes "xecute") w then Some execute_word
+    else (if is_either (codes "l") (codes "lock") w then Some lock_word
+    else (if is_either (codes "h") (codes "halt") w then Some halt_word else None))))))))))))
 
 abbrev pub form_of : KeywordTree → FormTree
 form_of set_word = assignment
@@ -413,6 +454,22 @@ form_of write_word = output
 form_of do_word = entrance
 form_of goto_word = leap
 form_of execute_word = execution
+form_of lock_word = locking
+form_of halt_word = nothing
+
+-- whether arguments of a form may be given by a text
+abbrev pub may_be_indirect : FormTree → Bool
+may_be_indirect assignment = true
+may_be_indirect removal = true
+may_be_indirect hiding = true
+may_be_indirect condition = true
+may_be_indirect repetition = false
+may_be_indirect output = true
+may_be_indirect entrance = true
+may_be_indirect leap = true
+may_be_indirect execution = true
+may_be_indirect locking = true
+may_be_indirect nothing = false
 
 -- whether a command takes so many arguments
 abbrev pub takes_args : KeywordTree → ℕ → Bool
@@ -427,6 +484,8 @@ takes_args write_word n = nat_le 1 n
 takes_args do_word n = true
 takes_args goto_word n = nat_le 1 n
 takes_args execute_word n = nat_le 1 n
+takes_args lock_word n = true
+takes_args halt_word n = n == 0
 
 -- whether a `postcond` may stand behind its word
 abbrev pub takes_condition : KeywordTree → Bool
@@ -441,6 +500,8 @@ takes_condition write_word = true
 takes_condition do_word = true
 takes_condition goto_word = true
 takes_condition execute_word = true
+takes_condition lock_word = true
+takes_condition halt_word = true
 
 pub data SpecialTree : Type 0 where
   test_special : SpecialTree

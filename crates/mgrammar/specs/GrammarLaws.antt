@@ -1,8 +1,9 @@
 -- The laws of the grammar. The functions of src/ named after them carry them.
-use Rattle.std.specs.Prelude.{◌≡◌, ◌↔◌, ℕ, List, Some}
-use Rattle.mgrammar.specs.Grammar.{LineTree, spell}
-use Rattle.mgrammar.specs.WellFormed.{well}
+use Rattle.std.specs.Prelude.{◌≡◌, ◌↔◌, ℕ, true, List, Some}
+use Rattle.mgrammar.specs.Grammar.{ReferenceTree, ArgTree, FormTree, may_be_indirect, LineTree, spell_reference, spell_list, spell_arg, spell}
+use Rattle.mgrammar.specs.WellFormed.{max_depth, WellReference, WellList, WellArg, well}
 use Rattle.mgrammar.specs.Reading.{line_at}
+use Rattle.mgrammar.specs.IndirectTexts.{ref_at, args_of}
 use Rattle.mgrammar.specs.RoutineLine.{RoutineLineTree, spell_routine_line, well_routine_line, routine_line_at, label_of, dots_of, dots_of_body}
 
 -- no text has two trees
@@ -28,3 +29,23 @@ pub record TellsRoutineLine (text : List ℕ) (l : RoutineLineTree) : Type 0 whe
 
 abbrev pub ToldOfItsTree : Type 0
 ToldOfItsTree = (text : List ℕ) (l : RoutineLineTree) → routine_line_at text ≡ Some l → TellsRoutineLine text l
+
+-- as the text of a name indirection, no text has two trees
+abbrev pub OneReference : Type 0
+OneReference = (s t : ReferenceTree) → WellReference max_depth s → WellReference max_depth t → spell_reference s ≡ spell_reference t → s ≡ t
+
+-- and it is read as a tree exactly where that is the well-formed tree that spells it
+abbrev pub ReadsItsReference : Type 0
+ReadsItsReference = (text : List ℕ) (v : ReferenceTree) → (ref_at text ≡ Some v) ↔ ((spell_reference v ≡ text) × WellReference max_depth v)
+
+-- as that of an argument indirection, for a form whose arguments a text may give, no text has two lists of trees
+abbrev pub OneArgumentList : Type 0
+OneArgumentList =
+    (f : FormTree) → may_be_indirect f ≡ true → (s t : List ArgTree) → WellList (WellArg f) s → WellList (WellArg f) t →
+    spell_list spell_arg s ≡ spell_list spell_arg t → s ≡ t
+
+-- and it is read as such a list exactly where that is the list of well-formed trees that spells it
+abbrev pub ReadsItsArguments : Type 0
+ReadsItsArguments =
+    (f : FormTree) → may_be_indirect f ≡ true → (text : List ℕ) (args : List ArgTree) →
+    (args_of f text ≡ Some args) ↔ ((spell_list spell_arg args ≡ text) × WellList (WellArg f) args)

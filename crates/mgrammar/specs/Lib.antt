@@ -1,6 +1,8 @@
 pub mod Grammar
+pub mod FunctionForms
 pub mod WellFormed
 pub mod Reading
+pub mod IndirectTexts
 pub mod RoutineLine
 pub mod GrammarLaws
 pub mod Matching

@@ -3,8 +3,9 @@
 use Rattle.std.specs.Prelude.{ℕ, zero, suc, ◌-◌, Bool, true, false, not, ◌&&◌, ◌||◌, ◌==◌, nat_le, nat_lt, if◌then◌else◌, List, [], ◌∷◌, ◌++◌, length, drop, Option, Some, None}
 use Rattle.mspec.specs.Literal.{is_digit}
 use Rattle.mspec.specs.Names.{is_letter, is_name_start, is_name_rest, is_character}
-use Rattle.mgrammar.specs.Grammar.{SignTree, plus, minus, negate, TruthTree, equals, less, greater, contains, follows, sorts_after, both, either, BinaryTree, add, subtract, multiply, divide, divide_whole, remainder, join, is, is_not, CountTree, RepeatedTree, classes, copies, AtomTree, ExprTree, expr, StepTree, apply, matches, matches_not, steps_of, OperandTree, operand, PrimaryTree, number, text, special, reference, bracket, call, select, refer, ReferenceTree, local, global, naked, ExprsTree, no_exprs, exprs_of, choices_of, TargetTree, variable, piece, DestinationTree, one, several, ParameterTree, once, onward, until, EntryTree, at_label, at_label_in, at_routine, ArgTree, assign, breaks, shown, kill_one, kill_others, new_one, new_others, tested, loop, do_one, go_to, executed, CommandTree, SpacedTree, LineTree, KeywordTree, keyword_of, FormTree, assignment, removal, hiding, condition, repetition, output, entrance, leap, execution, nothing, form_of, takes_args, takes_condition, SpecialTree, special_of, FunctionTree, ascii_function, char_function, data_function, extract_function, find_function, get_function, justify_function, length_function, order_function, piece_function, select_function, translate_function, function_of, takes, refers, is_pattern_letter}
-use Rattle.mgrammar.specs.WellFormed.{least_gap, max_depth}
+use Rattle.mgrammar.specs.Grammar.{SignTree, plus, minus, negate, TruthTree, equals, less, greater, contains, follows, sorts_after, both, either, BinaryTree, add, subtract, multiply, divide, divide_whole, remainder, join, is, is_not, CountTree, RepeatedTree, classes, copies, AtomTree, ExprTree, expr, StepTree, apply, matches, matches_not, steps_of, OperandTree, operand, PrimaryTree, number, text, special, reference, bracket, call, select, refer, ReferenceTree, local, global, naked, indirect, extended, ExprsTree, no_exprs, exprs_of, choices_of, TargetTree, variable, piece, DestinationTree, one, several, ParameterTree, once, onward, until, EntryTree, at_label, at_label_in, at_routine, ArgTree, assign, breaks, shown, kill_one, kill_others, new_one, new_others, tested, loop, do_one, go_to, executed, locked, indirect_args, LockKindTree, anew, adding, giving_back, LockedTree, lock_one, lock_several, CommandTree, SpacedTree, LineTree, KeywordTree, keyword_of, FormTree, assignment, removal, hiding, condition, repetition, output, entrance, leap, execution, locking, nothing, form_of, takes_args, takes_condition, SpecialTree, special_of, FunctionTree, function_of, takes, refers, is_pattern_letter}
+use Rattle.mgrammar.specs.FunctionForms.{is_select, is_piece, is_referring}
+use Rattle.mgrammar.specs.WellFormed.{bare_destination, is_named, bare_arg, settled, least_gap, max_depth}
 
 -- what was read, and the text after it
 abbrev pub Read : Type 0 → Type 0
@@ -242,54 +243,15 @@ operator_at (c ∷ cs) =
 
 -- ---- expressions
 
--- how to read an expression and a variable in brackets, and the operand of an `@`: the last is not in the grammar yet
+-- how to read an expression and a variable in brackets, and the operand of an `@`
 pub record Readers : Type 0 where
   pub inner : List ℕ → Read ExprTree
   pub within : List ℕ → Read ReferenceTree
   pub below : List ℕ → Read PrimaryTree
 
-abbrev pub is_select : FunctionTree → Bool
-is_select ascii_function = false
-is_select char_function = false
-is_select data_function = false
-is_select extract_function = false
-is_select find_function = false
-is_select get_function = false
-is_select justify_function = false
-is_select length_function = false
-is_select order_function = false
-is_select piece_function = false
-is_select select_function = true
-is_select translate_function = false
-
-abbrev pub is_piece : FunctionTree → Bool
-is_piece ascii_function = false
-is_piece char_function = false
-is_piece data_function = false
-is_piece extract_function = false
-is_piece find_function = false
-is_piece get_function = false
-is_piece justify_function = false
-is_piece length_function = false
-is_piece order_function = false
-is_piece piece_function = true
-is_piece select_function = false
-is_piece translate_function = false
-
--- whether it is a function of a variable
-abbrev pub is_referring : FunctionTree → Bool
-is_referring ascii_function = false
-is_referring char_function = false
-is_referring data_function = true
-is_referring extract_function = false
-is_referring find_function = false
-is_referring get_function = true
-is_referring justify_function = false
-is_referring length_function = false
-is_referring order_function = true
-is_referring piece_function = false
-is_referring select_function = false
-is_referring translate_function = false
+-- the text behind an `@`, where a bracket opens there
+abbrev pub attached_at : List ℕ → Option (List ℕ)
+attached_at cs = past 64 cs >>= λ behind. past 40 behind >>= λ inside. Some behind
 
 module _ (r : Readers) where
   -- subscripts, where a bracket opens
@@ -298,14 +260,40 @@ module _ (r : Readers) where
   subscripts_with (c ∷ cs) =
       if c == 40 then (list_at (r.inner) cs >>= λ x. past 41 x.1 >>= λ rest. Some (exprs_of x.0, rest)) else Some (no_exprs, c ∷ cs)
 
-  -- behind a `^`: subscripts alone where a bracket opens, and otherwise a name in front of them
+  -- those behind an operand, where this text with a bracket in front stands behind an `@`, or none does
+  abbrev pub attached_by : List ℕ → Option (List ℕ) → Read ExprsTree
+  attached_by cs None = Some (no_exprs, cs)
+  attached_by cs (Some behind) = subscripts_with behind
+
+  unfoldable pub attached_with : List ℕ → Read ExprsTree
+  attached_with cs = attached_by cs (attached_at cs)
+
+  -- behind an `@`
+  unfoldable pub indirect_with : List ℕ → Read ReferenceTree
+  indirect_with cs = r.below cs >>= λ p. attached_with p.1 >>= λ x. Some (indirect p.0 x.0, x.1)
+
+  -- where this text stands behind an `@`, or none does
+  abbrev pub local_by : List ℕ → Option (List ℕ) → Read ReferenceTree
+  local_by cs None = name_at cs >>= λ n. subscripts_with n.1 >>= λ x. Some (local n.0 x.0, x.1)
+  local_by cs (Some behind) = indirect_with behind
+
+  -- behind a `^|`
+  unfoldable pub extended_with : List ℕ → Read ReferenceTree
+  extended_with cs =
+      r.inner cs >>= λ e. past 124 e.1 >>= λ rest. name_at rest >>= λ n. subscripts_with n.1 >>= λ x. Some (extended e.0 n.0 x.0, x.1)
+
+  abbrev pub owned_by : List ℕ → Option (List ℕ) → Read ReferenceTree
+  owned_by cs None = name_at cs >>= λ n. subscripts_with n.1 >>= λ x. Some (global n.0 x.0, x.1)
+  owned_by cs (Some inside) = extended_with inside
+
+  -- behind a `^`: subscripts alone where a bracket opens, and otherwise a name in front of them, with an environment or none
   abbrev pub global_by : List ℕ → Option (List ℕ) → Read ReferenceTree
-  global_by cs None = name_at cs >>= λ n. subscripts_with n.1 >>= λ x. Some (global n.0 x.0, x.1)
+  global_by cs None = owned_by cs (past 124 cs)
   global_by cs (Some inside) = subscripts_with cs >>= λ x. Some (naked x.0, x.1)
 
   -- where this text stands behind a `^`, or none does
   abbrev pub reference_by : List ℕ → Option (List ℕ) → Read ReferenceTree
-  reference_by cs None = name_at cs >>= λ n. subscripts_with n.1 >>= λ x. Some (local n.0 x.0, x.1)
+  reference_by cs None = local_by cs (past 64 cs)
   reference_by cs (Some behind) = global_by behind (past 40 behind)
 
   unfoldable pub reference_with : List ℕ → Read ReferenceTree
@@ -421,9 +409,18 @@ destination_at (c ∷ cs) =
     then (list_at (target_with (readers_at (max_depth - 1))) cs >>= λ x. past 41 x.1 >>= λ rest. Some (several x.0, rest))
     else (target_with (readers_at max_depth) (c ∷ cs) >>= λ t. Some (one t.0, t.1))
 
+-- arguments that a text gives, where this operand of an `@` is read, or none
+abbrev pub given_by : FormTree → List ℕ → Option PrimaryTree → Read ArgTree
+given_by f cs None = None
+given_by f cs (Some p) = Some (indirect_args f p, cs)
+
+-- a destination is read, and this text stands behind a `=`, or none does
+abbrev pub assignment_by : DestinationTree → List ℕ → Option (List ℕ) → Read ArgTree
+assignment_by d cs None = given_by assignment cs (bare_destination d)
+assignment_by d cs (Some rest) = expr_at max_depth rest >>= λ e. Some (assign d e.0, e.1)
+
 unfoldable pub assignment_at : List ℕ → Read ArgTree
-assignment_at cs =
-    destination_at cs >>= λ d. past 61 d.1 >>= λ rest. expr_at max_depth rest >>= λ e. Some (assign d.0 e.0, e.1)
+assignment_at cs = destination_at cs >>= λ d. assignment_by d.0 d.1 (past 61 d.1)
 
 abbrev pub is_bang : ℕ → Bool
 is_bang c = c == 33
@@ -501,16 +498,47 @@ leap_at cs = entry_at cs >>= conditioned go_to
 unfoldable pub execution_at : List ℕ → Read ArgTree
 execution_at cs = expr_at max_depth cs >>= conditioned executed
 
+unfoldable pub lock_ref_with : Readers → List ℕ → Read ReferenceTree
+lock_ref_with r cs = reference_with r cs >>= λ v. if is_named v.0 then Some v else None
+
+unfoldable pub locked_at : List ℕ → Read LockedTree
+locked_at [] = None
+locked_at (c ∷ cs) =
+    if c == 40 then (list_at (lock_ref_with (readers_at (max_depth - 1))) cs >>= λ x. past 41 x.1 >>= λ rest. Some (lock_several x.0, rest))
+    else (lock_ref_with (readers_at max_depth) (c ∷ cs) >>= λ v. Some (lock_one v.0, v.1))
+
+abbrev pub kind_of : List ℕ → LockKindTree
+kind_of [] = anew
+kind_of (c ∷ cs) = if c == 43 then adding else (if c == 45 then giving_back else anew)
+
+unfoldable pub locking_at : List ℕ → Read ArgTree
+locking_at cs = locked_at (after_sign cs) >>= conditioned (locked (kind_of cs))
+
+-- ---- argument indirection
+
+-- one that begins as a variable or an expression may be an `@` with its operand alone
+abbrev pub settled_with : (List ℕ → Read ArgTree) → FormTree → List ℕ → Read ArgTree
+settled_with read f cs = read cs >>= λ a. Some (settled f a.0 (bare_arg a.0), a.1)
+
+-- one that begins as neither
+abbrev pub operand_by : (List ℕ → Read ArgTree) → FormTree → List ℕ → Option (List ℕ) → Read ArgTree
+operand_by read f cs None = read cs
+operand_by read f cs (Some behind) = (readers_at max_depth).below behind >>= λ p. Some (indirect_args f p.0, p.1)
+
+abbrev pub operand_or : (List ℕ → Read ArgTree) → FormTree → List ℕ → Read ArgTree
+operand_or read f cs = operand_by read f cs (past 64 cs)
+
 abbrev pub arg_at : FormTree → List ℕ → Read ArgTree
 arg_at assignment = assignment_at
-arg_at removal = removal_at
-arg_at hiding = hiding_at
-arg_at condition = condition_at
+arg_at removal = settled_with removal_at removal
+arg_at hiding = operand_or hiding_at hiding
+arg_at condition = settled_with condition_at condition
 arg_at repetition = repetition_at
-arg_at output = output_at
-arg_at entrance = entrance_at
-arg_at leap = leap_at
-arg_at execution = execution_at
+arg_at output = settled_with output_at output
+arg_at entrance = operand_or entrance_at entrance
+arg_at leap = operand_or leap_at leap
+arg_at execution = settled_with execution_at execution
+arg_at locking = settled_with locking_at locking
 arg_at nothing = λ cs. None
 
 -- ---- commands and lines

@@ -1,9 +1,9 @@
 -- What makes a tree the tree of a text: the names, numbers and words that it may have, how many arguments, how deep brackets lie, and
 -- how many spaces stand between commands.
-use Rattle.std.specs.Prelude.{◌≡◌, ℕ, suc, ◌-◌, ◌<◌, ◌≤◌, true, List, [], ◌∷◌, length, Option, Some, None}
+use Rattle.std.specs.Prelude.{◌≡◌, ℕ, suc, ◌-◌, ◌<◌, ◌≤◌, Bool, true, false, List, [], ◌∷◌, length, Option, Some, None}
 use Rattle.mspec.specs.Literal.{is_digit, Literal, IsLiteral, spell_literal}
 use Rattle.mspec.specs.Names.{is_letter, is_character, AllAre, IsName}
-use Rattle.mgrammar.specs.Grammar.{RepeatedTree, classes, copies, AtomTree, ExprTree, expr, StepsTree, no_steps, step, StepTree, apply, matches, matches_not, OperandTree, operand, PrimaryTree, number, text, special, reference, bracket, call, select, refer, ReferenceTree, local, global, naked, ExprsTree, no_exprs, exprs, ChoicesTree, no_choices, choice, TargetTree, variable, piece, DestinationTree, one, several, ParameterTree, once, onward, until, EntryTree, at_label, at_label_in, at_routine, ArgTree, assign, breaks, shown, kill_one, kill_others, new_one, new_others, tested, loop, do_one, go_to, executed, KeywordTree, CommandTree, SpacedTree, LineTree, keyword_of, FormTree, assignment, removal, hiding, condition, repetition, output, entrance, leap, execution, form_of, takes_args, takes_condition, SpecialTree, special_of, FunctionTree, select_function, piece_function, function_of, takes, refers, is_pattern_letter}
+use Rattle.mgrammar.specs.Grammar.{RepeatedTree, classes, copies, AtomTree, ExprTree, expr, StepsTree, no_steps, step, StepTree, apply, matches, matches_not, OperandTree, operand, PrimaryTree, number, text, special, reference, bracket, call, select, refer, ReferenceTree, local, global, naked, indirect, extended, ExprsTree, no_exprs, exprs, ChoicesTree, no_choices, choice, TargetTree, variable, piece, DestinationTree, one, several, ParameterTree, once, onward, until, EntryTree, at_label, at_label_in, at_routine, ArgTree, assign, breaks, shown, kill_one, kill_others, new_one, new_others, tested, loop, do_one, go_to, executed, locked, indirect_args, LockedTree, lock_one, lock_several, anew, adding, giving_back, KeywordTree, CommandTree, SpacedTree, LineTree, keyword_of, FormTree, assignment, removal, hiding, condition, repetition, output, entrance, leap, execution, locking, may_be_indirect, form_of, takes_args, takes_condition, SpecialTree, special_of, FunctionTree, select_function, piece_function, function_of, takes, refers, is_pattern_letter}
 
 -- `numlit`
 abbrev pub IsNumber : List ℕ → Type 0
@@ -59,7 +59,47 @@ HasExpr (exprs e rest) = Unit {0}
 abbrev pub IsFunction : FunctionTree → List ℕ → Type 0
 IsFunction f word = (function_of word ≡ Some f) × AllAre is_letter word
 
--- where so many brackets more may be open
+-- ---- `@` and its operand with nothing more
+
+abbrev pub bare_reference : ReferenceTree → Option PrimaryTree
+bare_reference (local name subscripts) = None
+bare_reference (global name subscripts) = None
+bare_reference (naked subscripts) = None
+bare_reference (indirect p no_exprs) = Some p
+bare_reference (indirect p (exprs e rest)) = None
+bare_reference (extended e name subscripts) = None
+
+abbrev pub bare_primary : PrimaryTree → Option PrimaryTree
+bare_primary (number literal) = None
+bare_primary (text t) = None
+bare_primary (special word) = None
+bare_primary (reference r) = bare_reference r
+bare_primary (bracket e) = None
+bare_primary (call word args) = None
+bare_primary (select word parts) = None
+bare_primary (refer word r more) = None
+
+abbrev pub bare_operand : OperandTree → Option PrimaryTree
+bare_operand (operand [] p) = bare_primary p
+bare_operand (operand (s ∷ signs) p) = None
+
+abbrev pub bare_expr : ExprTree → Option PrimaryTree
+bare_expr (expr first no_steps) = bare_operand first
+bare_expr (expr first (step s rest)) = None
+
+abbrev pub bare_destination : DestinationTree → Option PrimaryTree
+bare_destination (one (variable r)) = bare_reference r
+bare_destination (one (piece word r delimiter place)) = None
+bare_destination (several ts) = None
+
+-- subscripts behind an `@` belong to the innermost one before them that has none yet
+abbrev pub IsAttached : PrimaryTree → ExprsTree → Type 0
+IsAttached p no_exprs = Unit {0}
+IsAttached p (exprs e rest) = bare_primary p ≡ None
+
+-- ---- expressions
+
+-- where so many brackets more may be open, of `( )`, of `| |` and of operands of `@` together
 abbrev mutual
   pub WellExpr : ℕ → ExprTree → Type 0
   WellExpr d (expr first rest) = WellOperand d first × WellSteps d rest
@@ -90,6 +130,8 @@ abbrev mutual
   WellReference d (local name subscripts) = IsName name × WellSubscripts d subscripts
   WellReference d (global name subscripts) = IsName name × WellSubscripts d subscripts
   WellReference d (naked subscripts) = HasExpr subscripts × WellSubscripts d subscripts
+  WellReference d (indirect p subscripts) = (0 < d) × WellPrimary (d - 1) p × IsAttached p subscripts × WellSubscripts d subscripts
+  WellReference d (extended e name subscripts) = (0 < d) × WellExpr (d - 1) e × IsName name × WellSubscripts d subscripts
 
   pub WellSubscripts : ℕ → ExprsTree → Type 0
   WellSubscripts d no_exprs = Unit {0}
@@ -131,21 +173,74 @@ WellEntry (at_label label) = IsName label
 WellEntry (at_label_in label routine) = IsName label × IsName routine
 WellEntry (at_routine routine) = IsName routine
 
--- an argument of this form; any other is none
+-- what LOCK names is no naked reference
+abbrev pub is_named : ReferenceTree → Bool
+is_named (local name subscripts) = true
+is_named (global name subscripts) = true
+is_named (naked subscripts) = false
+is_named (indirect p subscripts) = true
+is_named (extended e name subscripts) = true
+
+abbrev pub WellLockRef : ℕ → ReferenceTree → Type 0
+WellLockRef d r = WellReference d r × (is_named r ≡ true)
+
+abbrev pub WellLocked : LockedTree → Type 0
+WellLocked (lock_one r) = WellLockRef max_depth r
+WellLocked (lock_several rs) = WellList (WellLockRef (max_depth - 1)) rs
+
+-- an argument of this form as it is written; any other is none
+abbrev pub WellPlain : FormTree → ArgTree → Type 0
+WellPlain assignment (assign d e) = WellDestination d × WellExpr max_depth e
+WellPlain removal (kill_one r) = WellReference max_depth r
+WellPlain removal (kill_others names) = WellList IsName names
+WellPlain hiding (new_one name) = IsName name
+WellPlain hiding (new_others names) = WellList IsName names
+WellPlain condition (tested e) = WellExpr max_depth e
+WellPlain repetition (loop index parameters) = IsName index × WellList WellParameter parameters
+WellPlain output (breaks n) = 0 < n
+WellPlain output (shown e) = WellExpr max_depth e
+WellPlain entrance (do_one entry c) = WellEntry entry × WellOptional max_depth c
+WellPlain leap (go_to entry c) = WellEntry entry × WellOptional max_depth c
+WellPlain execution (executed e c) = WellExpr max_depth e × WellOptional max_depth c
+WellPlain locking (locked k names t) = WellLocked names × WellOptional max_depth t
+WellPlain f a = ⊥
+
+-- the operand, where an argument is an `@` with it and nothing more
+abbrev pub bare_arg : ArgTree → Option PrimaryTree
+bare_arg (assign d e) = None
+bare_arg (breaks n) = None
+bare_arg (shown e) = bare_expr e
+bare_arg (kill_one r) = bare_reference r
+bare_arg (kill_others names) = None
+bare_arg (new_one name) = None
+bare_arg (new_others names) = None
+bare_arg (tested e) = bare_expr e
+bare_arg (loop index parameters) = None
+bare_arg (do_one entry c) = None
+bare_arg (go_to entry c) = None
+bare_arg (executed e None) = bare_expr e
+bare_arg (executed e (Some c)) = None
+bare_arg (locked anew (lock_one r) None) = bare_reference r
+bare_arg (locked anew (lock_one r) (Some t)) = None
+bare_arg (locked anew (lock_several rs) t) = None
+bare_arg (locked adding names t) = None
+bare_arg (locked giving_back names t) = None
+bare_arg (indirect_args f p) = None
+
+-- an argument of this form, unless it is an `@` with this operand and nothing more
+abbrev pub settled : FormTree → ArgTree → Option PrimaryTree → ArgTree
+settled f a None = a
+settled f a (Some p) = indirect_args f p
+
+-- an operand of an `@`
+abbrev pub WellBelow : ℕ → PrimaryTree → Type 0
+WellBelow d p = (0 < d) × WellPrimary (d - 1) p
+
+-- An argument of this form. One that is an `@` with its operand and nothing more is argument indirection, never a variable or an
+-- expression.
 abbrev pub WellArg : FormTree → ArgTree → Type 0
-WellArg assignment (assign d e) = WellDestination d × WellExpr max_depth e
-WellArg removal (kill_one r) = WellReference max_depth r
-WellArg removal (kill_others names) = WellList IsName names
-WellArg hiding (new_one name) = IsName name
-WellArg hiding (new_others names) = WellList IsName names
-WellArg condition (tested e) = WellExpr max_depth e
-WellArg repetition (loop index parameters) = IsName index × WellList WellParameter parameters
-WellArg output (breaks n) = 0 < n
-WellArg output (shown e) = WellExpr max_depth e
-WellArg entrance (do_one entry c) = WellEntry entry × WellOptional max_depth c
-WellArg leap (go_to entry c) = WellEntry entry × WellOptional max_depth c
-WellArg execution (executed e c) = WellExpr max_depth e × WellOptional max_depth c
-WellArg f a = ⊥
+WellArg f (indirect_args g p) = (g ≡ f) × (may_be_indirect f ≡ true) × WellBelow max_depth p
+WellArg f a = WellPlain f a × (bare_arg a ≡ None)
 
 abbrev pub WellCondition : KeywordTree → Option ExprTree → Type 0
 WellCondition k None = Unit {0}

@@ -1,5 +1,5 @@
 // The laws of the grammar. Each function's contract is the law, and its body is empty: the code never calls them.
-ghost use Rattle.mgrammar.specs.GrammarLaws.{OneTree, ReadsItsTree, OneRoutineTree, ReadsItsRoutineTree, ToldOfItsTree};
+ghost use Rattle.mgrammar.specs.GrammarLaws.{OneTree, ReadsItsTree, OneRoutineTree, ReadsItsRoutineTree, ToldOfItsTree, OneReference, ReadsItsReference, OneArgumentList, ReadsItsArguments};
 
 /// No text has two trees.
 pub fn one_tree()
@@ -26,4 +26,24 @@ pub fn reads_its_routine_tree()
 /// sought, and lines passed over, by these alone.
 pub fn told_of_its_tree()
     ensures { ToldOfItsTree }
+{}
+
+/// As the text of a name indirection, no text has two trees.
+pub fn one_reference()
+    ensures { OneReference }
+{}
+
+/// A text is read as that of a name indirection exactly where the tree that is read is the well-formed one that spells it.
+pub fn reads_its_reference()
+    ensures { ReadsItsReference }
+{}
+
+/// As the text of an argument indirection, for arguments of one form, no text has two lists of trees.
+pub fn one_argument_list()
+    ensures { OneArgumentList }
+{}
+
+/// A text is read as that of an argument indirection exactly where the trees that are read are the well-formed ones that spell it.
+pub fn reads_its_arguments()
+    ensures { ReadsItsArguments }
 {}

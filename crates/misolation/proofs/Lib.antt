@@ -8,5 +8,8 @@ pub mod Operations
 pub mod PlansInside
 pub mod Endings
 pub mod Steps
+pub mod PartsOfParts
 pub mod PartsAlone
+pub mod ReachKept
+pub mod RunsTold
 pub mod IsolationExamples

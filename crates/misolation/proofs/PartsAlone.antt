@@ -25,6 +25,7 @@ use Rattle.misolation.specs.StepLaws.{InsideStep, OutsideStep}
 use Rattle.misolation.specs.HistoryLaws.{events_of, PartIsHistory, HistoryHasTrace, PartOfTrace, PartIsTrace, OpeningIsFit, HistoriesKeepFit, IsAlone, PartIsAlone, InterpreterIsolates, Isolation, OpeningIsCut, Answered, AgreeingReplies}
 use Rattle.misolation.proofs.CutMaps.{by_test, filter_absorbed, map_filter}
 use Rattle.misolation.proofs.Reaching.{reach_is_least_closed}
+use Rattle.misolation.proofs.PartsOfParts.{part_of_part, part_kept, only_among}
 use Rattle.misolation.proofs.Steps.{inside_steps, outside_steps, steps_keep_fit}
 
 -- ---- the part is a history
@@ -102,7 +103,7 @@ lines_answered settings server (e ∷ es) h =
     let rest = lines_answered settings (normal settings e.0 server).1 es (ap tail h) in
     λ i. (e.0, first i) ∷ rest i
 
-events_of_part : (s : Accounts) (settings : Settings) (es : List (Event × Reply)) → events_of (part s settings es) ≡ cut_events s settings (events_of es)
+pub events_of_part : (s : Accounts) (settings : Settings) (es : List (Event × Reply)) → events_of (part s settings es) ≡ cut_events s settings (events_of es)
 events_of_part s settings es = map_filter (λ e. e.0) (λ e. is_inside s settings e.terminal) es
 
 pub part_is_alone : PartIsAlone
@@ -142,28 +143,9 @@ interpreter_isolates s settings server events closed fit =
 
 -- ---- an account's own terminals
 
-member_of : (s : Accounts) (a : Text) → s a ≡ true → (o : Option Account) → is_member (only a) o ≡ true → is_member s o ≡ true
-member_of s a m None e = e
-member_of s a m (Some account) e = ap s (sym ((bytes_decides a account.name).0 e)) ∙ m
-
 -- they are among those of any set that has it
 own_part : (s : Accounts) (settings : Settings) (a : Text) → s a ≡ true → (es : List (Event × Reply)) → part (only a) settings (part s settings es) ≡ part (only a) settings es
-own_part s settings a m es =
-    filter_absorbed (λ e. is_inside (only a) settings e.0.terminal) (λ e. is_inside s settings e.0.terminal) (λ e h. member_of s a m (get settings.terminals e.0.terminal) h) es
-
--- and are its own after the cut
-own_terminal : (s : Accounts) (settings : Settings) (a : Text) → s a ≡ true → (t : ℕ) → is_inside (only a) (cut_settings s settings) t ≡ is_inside (only a) settings t
-own_terminal s settings a m t =
-    let cut = get_cut nat_cmp_total nat_cmp-IsAntisymmetric settings.terminals (is_inside s settings) t in
-    by_test (is_inside s settings t)
-    (λ here. ap (is_member (only a)) (cut ∙ ap (λ b. cond b (get settings.terminals t) None) here))
-    (λ away.
-    ap (is_member (only a)) (cut ∙ ap (λ b. cond b (get settings.terminals t) None) away)
-    ∙ sym (false_from_ne_true (is_inside (only a) settings t) (λ own. let no : true ≡ false = sym (member_of s a m (get settings.terminals t) own) ∙ away in absurd (cc))))
-
-part_of_cut : (s : Accounts) (settings : Settings) (a : Text) → s a ≡ true → (es : List (Event × Reply)) → part (only a) (cut_settings s settings) es ≡ part (only a) settings es
-part_of_cut s settings a m es =
-    filter_agree (λ e. is_inside (only a) (cut_settings s settings) e.0.terminal) (λ e. is_inside (only a) settings e.0.terminal) (λ e. own_terminal s settings a m e.0.terminal) es
+own_part s settings a m es = part_of_part (only a) s settings (only_among s a m) es
 
 -- ---- the theorem
 
@@ -217,7 +199,7 @@ module _ (a : Text) where
   own_of_part : (r : Run) (es : List (Event × Reply)) → part (only a) r.settings es ≡ part (only a) (cut_settings (tied r) r.settings) (part (tied r) r.settings es)
   own_of_part r es =
       let least : IsLeastClosed r.settings a (tied r) = reach_is_least_closed r.settings a in
-      sym (own_part (tied r) r.settings a least.has es) ∙ sym (part_of_cut (tied r) r.settings a least.has (part (tied r) r.settings es))
+      sym (part_kept (only a) (tied r) r.settings (only_among (tied r) a least.has) es)
 
   same_lines : (one two : Run) → Agree a one two → lines_alone one ≡ lines_alone two
   same_lines one two agree = λ i. answered (agree.settings i) (agree.server i) (agree.events i)

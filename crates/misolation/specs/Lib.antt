@@ -7,3 +7,5 @@ pub mod ReachLaws
 pub mod PlanLaws
 pub mod StepLaws
 pub mod HistoryLaws
+pub mod Telling
+pub mod RunLaws

@@ -1,9 +1,10 @@
 -- The laws of reach, as statements. The functions of src/ named after them carry them.
-use Rattle.std.specs.Prelude.{IsTrue, ◌↔◌}
+use Rattle.std.specs.Prelude.{◌≡◌, IsTrue, ◌↔◌}
 use Rattle.mspec.specs.Node.{Text}
 use Rattle.mspec.specs.Access.{Settings}
 use Rattle.mspec.specs.Flow.{Reaches}
 use Rattle.misolation.specs.Reach.{Accounts, IsClosed, reach}
+use Rattle.misolation.specs.Cut.{cut_settings}
 
 -- what is computed is the least closed set that has the account
 pub record IsLeastClosed (settings : Settings) (a : Text) (s : Accounts) : Type 0 where
@@ -17,3 +18,7 @@ ReachIsLeastClosed = (settings : Settings) (a : Text) → IsLeastClosed settings
 -- a chain of flows leads to the account exactly from the members
 abbrev pub ReachIsChains : Type 0
 ReachIsChains = (settings : Settings) (a x : Text) → IsTrue (reach settings a x) ↔ Reaches settings x a
+
+-- over the cut to a closed set that has the account, the same accounts reach it
+abbrev pub ReachIsKept : Type 0
+ReachIsKept = (s : Accounts) (settings : Settings) (a : Text) → IsClosed settings s → IsTrue (s a) → (x : Text) → reach (cut_settings s settings) a x ≡ reach settings a x

@@ -58,6 +58,16 @@
 //! - Two servers that agree on all that reaches an account give it the same replies, however they differ in all else, and agree
 //!   still when their lines are run (`agreeing_replies`).
 //!
+//! A call that runs lines for an account and hands it its replies says what it did by one word, `Tells`: some history of all these
+//! lines leads from the server that it began at to the one that it left, the replies are those at the account's terminals, and it is
+//! *whole* exactly where no step failed at a terminal of an account that reaches it. A run is made step by step (`nothing_is_told`,
+//! `tells_on`), and of what it tells:
+//!
+//! - Whichever steps failed, the members' lines alone tell the account the same, over the cuts to any closed set that has it
+//!   (`told_apart`); the same accounts reach it there (`reach_is_kept`).
+//! - A whole run tells the account what it is told alone with the accounts that reach it (`equally_told`).
+//! - Two whole runs that agree for the account tell it the same (`told_the_same`).
+//!
 //! # What is not promised
 //!
 //! That no line fails: memory and the store are one for all, so what others use may be missing here. A line that failed says so
@@ -78,4 +88,5 @@
 pub mod history_laws;
 pub mod plan_laws;
 pub mod reach_laws;
+pub mod run_laws;
 pub mod step_laws;

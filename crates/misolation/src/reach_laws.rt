@@ -1,5 +1,5 @@
 // The laws of reach. Each function's contract is the law, and its body is empty: the code never calls them.
-ghost use Rattle.misolation.specs.ReachLaws.{ReachIsLeastClosed, ReachIsChains};
+ghost use Rattle.misolation.specs.ReachLaws.{ReachIsLeastClosed, ReachIsChains, ReachIsKept};
 
 /// The set that `reach` computes is the least closed set that has the account.
 pub fn reach_is_least_closed()
@@ -9,4 +9,9 @@ pub fn reach_is_least_closed()
 /// A chain of flows leads to the account exactly from the members of that set.
 pub fn reach_is_chains()
     ensures { ReachIsChains }
+{}
+
+/// Over the cut to a closed set that has the account, the same accounts reach it.
+pub fn reach_is_kept()
+    ensures { ReachIsKept }
 {}

@@ -1,13 +1,15 @@
 -- Levels as frames: what DO, XECUTE and GOTO push, as equations of what the frames have then to do.
 use Rattle.std.proofs.Common.{◌≡◌, ℕ, zero, suc, ◌+◌, true, false, cond, List, [], ◌∷◌, drop, Some, None, refl, sym, ap, ◌∙◌, arith}
 use Rattle.std.specs.Prelude.{nat_lt, ◌==◌}
-use Rattle.mspec.specs.Code.{Zsyntax}
+use Rattle.mspec.specs.Code.{Zdepth, Zsyntax}
 use Rattle.mspec.specs.Act.{Text, Act, ◌>>=◌, ◌>>◌, give, fail, charge, with_locals, level_begun}
-use Rattle.mgrammar.specs.Grammar.{ArgTree, CommandTree}
+use Rattle.mgrammar.specs.Grammar.{ArgTree, FormTree, CommandTree}
+use Rattle.mgrammar.specs.IndirectTexts.{args_of}
 use Rattle.mgrammar.specs.RoutineLine.{RoutineLineTree, dots_of, routine_line_at}
 use Rattle.mmeaning.specs.LineMeaning as meaning
-use Rattle.mmeaning.specs.LineMeaning.{run_within, outset, lines_reached, after, argument, arguments, Signal, Go_on, Goes, Quits, Target, Level, Spot, Closing, Context, texts, context, commands, after_level, closed, in_level, lines_next}
-use Rattle.mmeaning.specs.Levels.{stays, deeper, closing, commands_in}
+use Rattle.mmeaning.specs.LineMeaning.{run_within, outset, lines_reached, after, given_by, argument, arguments, Signal, Go_on, Goes, Quits, Target, Level, Spot, Closing, Context, texts, context, commands, after_level, closed, in_level, lines_next}
+use Rattle.mmeaning.specs.Expression.{is_indirection_free}
+use Rattle.mmeaning.specs.Levels.{stays, deeper, within_indirection, closing, commands_in}
 use Rattle.mmeaning.specs.Frames.{View, Rests, Lists, Levels, left}
 use Rattle.mmeaning.proofs.Calls.{assoc, ended}
 
@@ -45,6 +47,17 @@ module _ (a : Text) (fs : List View) (ns : List ℕ) where
   pub arguments_pushed : (n : ℕ) (p : Spot) (first : ArgTree) (rest : List ArgTree)
       → ◌≡◌ {A = Act Signal} (arguments (context a n p) (first ∷ rest) >>= left a fs ns) (argument (context a n p) first >>= left a (Lists p rest ∷ fs) (n ∷ ns))
   arguments_pushed n p first rest = assoc (argument (context a n p) first) (λ s. after s (arguments (context a n p) rest)) (left a fs ns)
+
+  -- those that a text gives stand on top of what is left, where an indirection may be opened and the text has them
+  pub given_pushed : (n : ℕ) (p : Spot) (f : FormTree) (text : Text) (args : List ArgTree) → is_indirection_free p.depth ≡ true → args_of f text ≡ Some args
+      → ◌≡◌ {A = Act Signal} (given_by (context a (suc n) p) f text >>= left a fs ns) (left a (Lists (within_indirection p) args ∷ fs) (n ∷ ns) Go_on)
+  given_pushed n p f text args free read = rw (free, read) refl
+
+  pub given_too_deep : (n : ℕ) (p : Spot) (f : FormTree) (text : Text) → is_indirection_free p.depth ≡ false → ◌≡◌ {A = Act Signal} (given_by (context a n p) f text >>= left a fs ns) (fail Zdepth)
+  given_too_deep n p f text full = rw full refl
+
+  pub given_nothing : (n : ℕ) (p : Spot) (f : FormTree) (text : Text) → is_indirection_free p.depth ≡ true → args_of f text ≡ None → ◌≡◌ {A = Act Signal} (given_by (context a n p) f text >>= left a fs ns) (fail Zsyntax)
+  given_nothing n p f text free none = rw (free, none) refl
 
   -- XECUTE opens such a level
   pub text_pushed : (n : ℕ) (p : Spot) (l : Level) (c : Closing) (cs : List CommandTree)

@@ -5,6 +5,8 @@ pub mod OtherLocks
 pub mod Calls
 pub mod Moves
 pub mod LevelMoves
+pub mod Indirections
+pub mod LockMoves
 pub mod Yieldings
 pub mod WorldExamples
 pub mod LineTrees
@@ -18,3 +20,10 @@ pub mod BlockExamples
 pub mod GotoExamples
 pub mod LevelExamples
 pub mod StoredRoutine
+pub mod IndirectionExamples
+pub mod IndirectionLevels
+pub mod IndirectionRoutines
+pub mod LockingExamples
+pub mod LockRuns
+pub mod LockRows
+pub mod EnvironmentExamples

@@ -6,9 +6,11 @@ use Rattle.std.specs.FinMap.{empty, get, insert}
 use Rattle.mspec.specs.Plan.{Plan, perform}
 use Rattle.mspec.specs.Act.{Text, Node, Locals, no_locals, assigned_to, State, Outcome, Act, ◌>>=◌, fail}
 use Rattle.mspec.specs.Code.{Zsyntax, Zsteps, Zterm, Zline, Zchar}
-use Rattle.mgrammar.specs.Grammar.{CommandTree, LineTree}
+use Rattle.mgrammar.specs.Grammar.{ReferenceTree, ExprsTree, ArgTree, CommandTree, LineTree}
 use Rattle.mgrammar.specs.Reading.{line_at}
-use Rattle.mmeaning.specs.LineMeaning.{Signal, Spot, outset, Turning, Texts, Context, texts, commands, after_turn, after_level}
+use Rattle.mmeaning.specs.Variables.{Evaluated}
+use Rattle.mmeaning.specs.Expression.{Depth, through, finds, inside}
+use Rattle.mmeaning.specs.LineMeaning.{Signal, Spot, outset, Turning, Texts, Context, texts, arguments, commands, after_turn, after_level}
 use Rattle.mmeaning.specs.Levels.{commands_of}
 use Rattle.mmeaning.specs.Step.{Account, Settings, Session, Server, Event, Reply, act, plan_of, begun, session_or_new, ended, refused, is_too_long, is_ascii, checked, at_account, normal}
 use Rattle.mmeaning.specs.History.{opening, replies}
@@ -124,5 +126,28 @@ pub text_opened : (a : Text) (n : ℕ) (p : Spot) (cs : List CommandTree) (local
 unfolding shut
 text_opened a zero p cs locals naked test out steps = refl
 text_opened a (suc n) p cs locals naked test out steps = refl
+
+abbrev pub listed : Text → ℕ → Spot → List ArgTree → Act Signal
+listed a zero p args = fail Zsteps
+listed a (suc n) p args = arguments (at a n p) args
+
+pub list_opened : (a : Text) (n : ℕ) (p : Spot) (args : List ArgTree) (locals : Locals) (naked : Option Node) (test : Bool) (out : Text) (steps : ℕ)
+    → (shut a n).list p args (record { locals = locals; naked = naked; test = test; out = out; steps = steps })
+    ≡ listed a n p args (record { locals = locals; naked = naked; test = test; out = out; steps = steps })
+unfolding shut
+list_opened a zero p args locals naked test out steps = refl
+list_opened a (suc n) p args locals naked test out steps = refl
+
+-- what a text names is found where the state is known too
+abbrev pub found : Text → ℕ → Depth → ReferenceTree → ExprsTree → Act Evaluated
+found a zero d r subscripts = fail Zsteps
+found a (suc n) d r subscripts = through (inside a n d) r subscripts
+
+pub name_found : (a : Text) (n : ℕ) (d : Depth) (r : ReferenceTree) (subscripts : ExprsTree) (locals : Locals) (naked : Option Node) (test : Bool) (out : Text) (steps : ℕ)
+    → finds a n d r subscripts (record { locals = locals; naked = naked; test = test; out = out; steps = steps })
+    ≡ found a n d r subscripts (record { locals = locals; naked = naked; test = test; out = out; steps = steps })
+unfolding finds
+name_found a zero d r subscripts locals naked test out steps = refl
+name_found a (suc n) d r subscripts locals naked test out steps = refl
 
 pub ruleset turns = (opened)

@@ -12,7 +12,7 @@ use Rattle.mmeaning.specs.World.{act}
 use Rattle.mmeaning.specs.Step.{Settings, World, Session, Server}
 use Rattle.mmeaning.specs.History.{opening}
 use Rattle.mmeaning.proofs.Calls.{assoc_plan}
-use Rattle.mmeaning.proofs.LineRuns.{opened, text_opened}
+use Rattle.mmeaning.proofs.LineRuns.{opened, text_opened, list_opened, name_found}
 
 -- the lines of ALICE's routines
 unfoldable pub lines_in : Globals → Text → List Text
@@ -46,4 +46,4 @@ abbrev pub holding_in : Globals → Text → Text → Server
 holding_in g name x = serving_in g (record { locals = assigned_to no_locals name [] x; naked = None; test = false })
 
 -- A level stands deep within plans one behind another, where `simp` doesn't look: it brings what is done next to the front.
-pub ruleset computed_levels = (opened, text_opened, assoc_plan)
+pub ruleset computed_levels = (opened, text_opened, list_opened, name_found, assoc_plan)

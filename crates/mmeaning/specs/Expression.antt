@@ -1,33 +1,57 @@
 -- Expression meaning: the text that an expression gives, or its code.
 --
--- Restates "Expressions" and "$SELECT" of ISO/IEC 11756:1999: operators apply from left to right, none before another, and
--- unary operators bind to the operand behind them. Both operands of an operator are evaluated, the left one first.
-use Rattle.std.specs.Prelude.{ℕ, cond, not, List, [], ◌∷◌, ◌++◌, map}
+-- Restates "Expressions", "$SELECT", the environment of "Global variable name gvn", which is an account, and what "Indirection" says of
+-- names and subscripts, of ISO/IEC 11756:1999: operators apply from left to right, none before another, and unary operators bind to the
+-- operand behind them. Both operands of an operator are evaluated, the left one first. A text that stands for an `@` names a variable,
+-- and what it has to evaluate is evaluated where it stands.
+use Rattle.std.specs.Prelude.{ℕ, zero, suc, ◌+◌, Bool, nat_lt, ◌&&◌, cond, not, List, [], ◌∷◌, ◌++◌, map, Option, Some, None}
 use Rattle.mspec.specs.Number.{significant_digits}
 use Rattle.mspec.specs.NumberText.{numeric_value}
 use Rattle.mspec.specs.Interpretations.{truth_text}
 use Rattle.mgrammar.specs.Matching.{atom_of}
-use Rattle.mgrammar.specs.Grammar.{ExprTree, expr, StepsTree, no_steps, step, StepTree, apply, matches, matches_not, OperandTree, operand, PrimaryTree, number, text, special, reference, bracket, call, select, refer, ReferenceTree, local, global, naked, special_of, function_of, ExprsTree, no_exprs, exprs, ChoicesTree, no_choices, choice}
-use Rattle.mspec.specs.Code.{M4}
-use Rattle.mspec.specs.Act.{Text, Act, ◌>>=◌, ◌>>◌, give, fail, charge}
+use Rattle.mgrammar.specs.Grammar.{ExprTree, expr, StepsTree, no_steps, step, StepTree, apply, matches, matches_not, OperandTree, operand, PrimaryTree, number, text, special, reference, bracket, call, select, refer, ReferenceTree, local, global, naked, indirect, extended, special_of, function_of, ExprsTree, no_exprs, exprs, ChoicesTree, no_choices, choice}
+use Rattle.mgrammar.specs.IndirectTexts.{ref_at}
+use Rattle.mspec.specs.Code.{M4, Zdepth, Zsteps, Zsyntax}
+use Rattle.mspec.specs.Act.{Text, Act, ◌>>=◌, ◌>>◌, give, give_some, fail, unless, charge}
 use Rattle.mmeaning.specs.Operators.{as_text, as_truth, unaries, binary, matching}
 use Rattle.mmeaning.specs.Functions.{call_value}
-use Rattle.mmeaning.specs.Variables.{Evaluated, of_local, of_global, of_naked, reading, resolve, read_at, referring, special_value}
+use Rattle.mmeaning.specs.Variables.{Evaluated, of_local, of_global, of_naked, subscripts_of, with_subscripts, reading, resolve, read_at, referring, special_value}
 
 -- how deep a text stands: the levels that are open, of which some are indirections under evaluation
 pub record Depth : Type 0 where
   pub levels : ℕ
   pub indirections : ℕ
 
--- where an expression stands: whose line it is of, how many texts that are no part of the tree may be entered, and how deep it
--- stands
+-- the most levels that a line opens, and the most indirections under evaluation among them
+abbrev pub most_levels : ℕ
+most_levels = 256
+
+abbrev pub most_indirections : ℕ
+most_indirections = 32
+
+abbrev pub is_indirection_free : Depth → Bool
+is_indirection_free d = nat_lt d.levels most_levels && nat_lt d.indirections most_indirections
+
+abbrev pub an_indirection_free : Depth → Act (Unit {0})
+an_indirection_free d = unless Zdepth (is_indirection_free d)
+
+-- an indirection is a level while what its text has is evaluated or done
+abbrev pub indirected : Depth → Depth
+indirected d = record { levels = d.levels + 1; indirections = d.indirections + 1 }
+
+-- where an expression stands: whose line it is of, how deep it stands, and what evaluates, so deep, the variable that a text names,
+-- which is no part of the tree, with the subscripts behind it, once the step of its operand is spent
 pub record Inside : Type 0 where
   pub account : Text
-  pub fuel : ℕ
   pub depth : Depth
+  pub find : Depth → ReferenceTree → ExprsTree → Act Evaluated
 
-abbrev pub inside : Text → ℕ → Depth → Inside
-inside a n d = record { account = a; fuel = n; depth = d }
+-- what the variable that a text names has to evaluate, and the subscripts behind it
+abbrev pub named_by : Inside → ExprsTree → Text → Act Evaluated
+named_by i subscripts x = do
+  an_indirection_free i.depth
+  r ← give_some Zsyntax (ref_at x)
+  i.find (indirected i.depth) r subscripts
 
 -- A primary costs a step, before it is evaluated: a bracket and a call cost theirs before what stands in them.
 abbrev mutual
@@ -87,6 +111,13 @@ abbrev mutual
   evaluated i (naked subscripts) = do
     xs ← values i [] subscripts
     give (of_naked xs)
+  evaluated i (indirect p subscripts) = do
+    x ← primary_value i p
+    named_by i subscripts x
+  evaluated i (extended e name subscripts) = do
+    owner ← value i e
+    xs ← values i [] subscripts
+    give (of_global (record { account = owner; name = name; subscripts = xs }))
 
   -- the values of some expressions, behind those before them
   pub values : Inside → List Text → ExprsTree → Act (List Text)
@@ -102,3 +133,26 @@ abbrev mutual
     x ← value i c
     b ← as_truth x
     cond b (value i v) (chosen i rest)
+
+-- where there is one
+abbrev pub optional_value : Inside → Option ExprTree → Act (Option Text)
+optional_value i None = give None
+optional_value i (Some e) = do
+  x ← value i e
+  give (Some x)
+
+-- what a text names: first its own parts, then the subscripts behind it
+abbrev pub through : Inside → ReferenceTree → ExprsTree → Act Evaluated
+through i r subscripts = do
+  v ← evaluated i r
+  xs ← values i (subscripts_of v) subscripts
+  give (with_subscripts xs v)
+
+-- with so many texts at most
+unfoldable pub finds : Text → ℕ → Depth → ReferenceTree → ExprsTree → Act Evaluated
+finds a zero d r subscripts = fail Zsteps
+finds a (suc n) d r subscripts = through (record { account = a; depth = d; find = finds a n }) r subscripts
+
+-- in a line of this account, where so many texts that are no part of the tree may be entered
+abbrev pub inside : Text → ℕ → Depth → Inside
+inside a n d = record { account = a; depth = d; find = finds a n }

@@ -10,7 +10,8 @@ use Rattle.mspec.specs.Plan.{Routine}
 use Rattle.mspec.specs.Act.{Text, Act, ◌>>=◌, ◌>>◌, give, give_some, unless, ask, with_locals, set_test}
 use Rattle.mgrammar.specs.Grammar.{EntryTree, at_label, at_label_in, at_routine, CommandTree, LineTree}
 use Rattle.mgrammar.specs.RoutineLine.{BodyTree, short, spaced_out, label_of, dots_of}
-use Rattle.mmeaning.specs.Expression.{Depth}
+use Rattle.mmeaning.specs.Expression.{Depth, indirected}
+pub use Rattle.mmeaning.specs.Expression.{most_levels}
 
 -- the lines that labels are sought in; the place of the one that comes next; and how many dots the level's lines have. A terminal's text
 -- has no lines, and none comes behind it or behind a text of XECUTE, until a GOTO leads to one.
@@ -68,16 +69,16 @@ target copy dots e = do
 
 -- ---- levels that are opened
 
--- the most levels that a line opens, indirections under evaluation among them
-abbrev pub most_levels : ℕ
-most_levels = 256
-
 abbrev pub a_level_free : Depth → Act (Unit {0})
 a_level_free d = unless Zdepth (nat_lt d.levels most_levels)
 
 -- in a level more
 abbrev pub deeper : Spot → Level → Spot
 deeper p l = record { depth = record { levels = p.depth.levels + 1; indirections = p.depth.indirections }; level = l }
+
+-- within an indirection, whose arguments are done in the level that it stands in
+abbrev pub within_indirection : Spot → Spot
+within_indirection p = record { depth = indirected p.depth; level = p.level }
 
 -- ---- how a level closes
 

@@ -3,6 +3,7 @@ pub mod Functions
 pub mod Variables
 pub mod Expression
 pub mod Courses
+pub mod Locking
 pub mod Levels
 pub mod LineMeaning
 pub mod World

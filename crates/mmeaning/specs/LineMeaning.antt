@@ -1,24 +1,29 @@
 -- Line meaning: what the commands of a line do, one after another.
 --
--- Restates "Commands" of ISO/IEC 11756:1999, "Do", "Else", "For", "Goto", "If", "Kill", "New", "Quit", "Set", "Write" and "Xecute" among them:
--- arguments are done from left to right, each as if it stood in a command of its own. A DO without arguments does the lines behind its
--- own that have one dot more, and keeps $TEST.
+-- Restates "Commands" of ISO/IEC 11756:1999, "Do", "Else", "For", "Goto", "Halt", "If", "Kill", "New", "Quit", "Set", "Write" and "Xecute"
+-- among them, and what "Indirection" says of arguments: arguments are done from left to right, each as if it stood in a command of its
+-- own, and those that a text gives as if they stood in its place. A DO without arguments does the lines behind its own that have one dot
+-- more, and keeps $TEST. LOCK stands in Locking.
 use Rattle.std.specs.Prelude.{ℕ, zero, suc, ◌+◌, ℤ, ◌+ℤ◌, Bool, true, not, cond, nat_lt, ◌==◌, List, [], ◌∷◌, ◌++◌, drop, replicate, Option, Some, None}
 use Rattle.mspec.specs.Number.{sum_of}
 use Rattle.mspec.specs.NumberText.{number_text}
 use Rattle.mspec.specs.TextFunctions.{set_piece_of}
 use Rattle.mspec.specs.Scopes.{killed_except, newed, newed_except}
-use Rattle.mgrammar.specs.Grammar.{ExprTree, EntryTree, ReferenceTree, TargetTree, variable, piece, DestinationTree, one, several, ParameterTree, once, onward, until, KeywordTree, set_word, kill_word, new_word, if_word, else_word, for_word, quit_word, write_word, do_word, goto_word, execute_word, ArgTree, assign, breaks, shown, kill_one, kill_others, new_one, new_others, tested, loop, do_one, go_to, executed, CommandTree, LineTree}
+use Rattle.mgrammar.specs.Grammar.{ExprTree, EntryTree, ReferenceTree, TargetTree, variable, piece, DestinationTree, one, several, ParameterTree, once, onward, until, KeywordTree, set_word, kill_word, new_word, if_word, else_word, for_word, quit_word, write_word, do_word, goto_word, execute_word, lock_word, halt_word, ArgTree, assign, breaks, shown, kill_one, kill_others, new_one, new_others, tested, loop, do_one, go_to, executed, locked, indirect_args, FormTree, PrimaryTree, CommandTree, LineTree}
 use Rattle.mgrammar.specs.Reading.{line_at}
+use Rattle.mgrammar.specs.IndirectTexts.{args_of}
 use Rattle.mgrammar.specs.RoutineLine.{routine_line_at, dots_of}
 use Rattle.mspec.specs.Code.{M15, Zsteps, Zsyntax}
-use Rattle.mspec.specs.Act.{Text, Act, level_begun, ◌>>=◌, ◌>>◌, give, give_some, fail, charge, write, with_locals, test_is, set_test}
+use Rattle.mspec.specs.Plan.{Release}
+use Rattle.mspec.specs.Act.{Text, Act, level_begun, ◌>>=◌, ◌>>◌, give, give_some, fail, ask, charge, write, with_locals, test_is, set_test}
 use Rattle.mmeaning.specs.Operators.{outcome, as_number, as_truth, as_text}
 use Rattle.mmeaning.specs.Functions.{as_whole_or_none}
 use Rattle.mmeaning.specs.Variables.{Evaluated, at_local, writing, resolve, found_at, read_or, put_at, kill_at}
-use Rattle.mmeaning.specs.Expression.{Inside, inside, value, evaluated}
+use Rattle.mmeaning.specs.Expression.{Inside, inside, an_indirection_free, primary_value, value, evaluated}
+pub use Rattle.mmeaning.specs.Expression.{optional_value}
+use Rattle.mmeaning.specs.Locking.{locking}
 pub use Rattle.mmeaning.specs.Levels.{Level, Spot, outset, Target, Closing, leaves, restores}
-use Rattle.mmeaning.specs.Levels.{target, a_level_free, deeper, closing, commands_of, commands_in}
+use Rattle.mmeaning.specs.Levels.{target, a_level_free, deeper, within_indirection, closing, commands_of, commands_in}
 use Rattle.mmeaning.specs.Courses.{Course, last_turn, endless, limited, forever, is_past}
 
 -- in an output, each `!` is this byte, which no text has
@@ -50,9 +55,10 @@ pub record Turning : Type 0 where
   pub parameters : List ParameterTree
   pub body : List CommandTree
 
--- what runs commands once more, or a text that is no part of the tree, once its step is spent
+-- what runs commands once more, or commands or arguments of a text that is no part of the tree, once its step is spent
 pub record Texts : Type 0 where
   pub turn : Spot → Turning → Act Signal
+  pub list : Spot → List ArgTree → Act Signal
   pub enter : Spot → List CommandTree → Act Signal
 
 pub record Context : Type 0 where
@@ -75,12 +81,6 @@ inside_of x = inside x.account x.fuel x.spot.depth
 pub data Prepared : Type 0 where
   whole : Evaluated → Prepared
   part : Evaluated → Text → Option Text → Prepared
-
-abbrev pub optional_value : Inside → Option ExprTree → Act (Option Text)
-optional_value i None = give None
-optional_value i (Some e) = do
-  x ← value i e
-  give (Some x)
 
 abbrev pub prepared : Inside → TargetTree → Act Prepared
 prepared i (variable r) = do
@@ -305,6 +305,18 @@ where_holds x c p = do
   b ← holds (inside_of x) c
   cond b p (give Go_on)
 
+-- arguments that this text gives
+abbrev pub given_by : Context → FormTree → Text → Act Signal
+given_by x f text = do
+  an_indirection_free x.spot.depth
+  args ← give_some Zsyntax (args_of f text)
+  x.texts.list (within_indirection x.spot) args
+
+abbrev pub given : Context → FormTree → PrimaryTree → Act Signal
+given x f p = do
+  text ← primary_value (inside_of x) p
+  given_by x f text
+
 -- what an argument does, of whichever command; that of FOR takes the rest of the line, and stands apart
 abbrev pub argument : Context → ArgTree → Act Signal
 argument x (assign d e) = setting (inside_of x) d e >> give Go_on
@@ -319,13 +331,15 @@ argument x (loop index parameters) = give Go_on
 argument x (do_one e c) = where_holds x c (doing x e)
 argument x (go_to e c) = where_holds x c (going x e)
 argument x (executed e c) = where_holds x c (executing x e)
+argument x (locked k names t) = locking (inside_of x) k names t >> give Go_on
+argument x (indirect_args f p) = given x f p
 
 abbrev pub arguments : Context → List ArgTree → Act Signal
 arguments x [] = give Go_on
 arguments x (a ∷ rest) = argument x a >>= (λ s. after s (arguments x rest))
 
--- a command without arguments, before the rest of its line: KILL and NEW are of all variables, DO is of a block, and those that take some
--- are of nothing
+-- a command without arguments, before the rest of its line: KILL and NEW are of all variables, LOCK gives up all names, DO is of a block,
+-- and those that take some are of nothing
 abbrev pub bare : Context → KeywordTree → List CommandTree → Act Signal
 bare x set_word rest = give Go_on
 bare x kill_word rest = with_locals (killed_except []) >> give Go_on
@@ -342,6 +356,8 @@ bare x write_word rest = give Go_on
 bare x do_word rest = doing_block x
 bare x goto_word rest = give Go_on
 bare x execute_word rest = give Go_on
+bare x lock_word rest = ask Release >> give Go_on
+bare x halt_word rest = give Halts
 
 -- a command, before the rest of its line, which FOR does in its turns
 abbrev pub effect : Context → KeywordTree → List ArgTree → List CommandTree → Act Signal
@@ -362,11 +378,12 @@ commands x (c ∷ rest) = charge >> (conditional x c rest >>= (λ s. after s (co
 
 -- with so many texts at most
 abbrev pub texts : Text → ℕ → Texts
-texts a zero = record { turn = λ _ _. fail Zsteps; enter = λ _ _. fail Zsteps }
+texts a zero = record { turn = λ _ _. fail Zsteps; list = λ _ _. fail Zsteps; enter = λ _ _. fail Zsteps }
 texts a (suc n) =
     let at : Spot → Context = λ p. record { account = a; fuel = n; spot = p; texts = texts a n } in
     record {
       turn = λ p t. commands (at p) t.body >>= after_turn (at p) t;
+      list = λ p args. arguments (at p) args;
       enter = λ p cs. commands (at p) cs >>= after_level (at p);
     }
 

@@ -1,10 +1,11 @@
 -- Variables: the checks of a reference, and what is asked of the place that it names.
 --
--- Restates "Local variable name lvn", "Global variable name gvn", "$DATA", "$GET", "$ORDER" and "$TEST" of ISO/IEC 11756:1999. A
--- reference is checked once all its subscripts are evaluated.
-use Rattle.std.specs.Prelude.{ℕ, ◌+◌, ◌*◌, pos, negsuc, Bool, true, cond, ◌&&◌, nat_le, nat_lt, List, [], ◌∷◌, ◌++◌, length, Option, Some, None, unwrap_or, slice_get}
+-- Restates "Local variable name lvn", "Global variable name gvn", "$DATA", "$GET", "$ORDER" and "$TEST" of ISO/IEC 11756:1999, and what "LOCK"
+-- says of an nref. A reference is checked once all its subscripts are evaluated.
+use Rattle.std.specs.Prelude.{ℕ, ◌+◌, ◌*◌, pos, negsuc, Bool, true, false, cond, ◌&&◌, nat_le, nat_lt, List, [], ◌∷◌, ◌++◌, length, Option, Some, None, unwrap_or, slice_get}
 use Rattle.std.specs.Ordering.{int_eq}
 use Rattle.mspec.specs.Access.{Mode, Read, Write}
+use Rattle.mspec.specs.LockConflict.{LockName}
 use Rattle.mspec.specs.Trees.{Direction, Forward, Backward, front}
 use Rattle.mspec.specs.TextFunctions.{longest_text}
 use Rattle.mspec.specs.Scopes.{is_value, is_above, next_subscript, killed}
@@ -24,6 +25,17 @@ pub data Evaluated : Type 0 where
   of_local : Text → List Text → Evaluated
   of_global : Node → Evaluated
   of_naked : List Text → Evaluated
+
+abbrev pub subscripts_of : Evaluated → List Text
+subscripts_of (of_local name xs) = xs
+subscripts_of (of_global n) = n.subscripts
+subscripts_of (of_naked xs) = xs
+
+-- with these subscripts in their place
+abbrev pub with_subscripts : List Text → Evaluated → Evaluated
+with_subscripts xs (of_local name old) = of_local name xs
+with_subscripts xs (of_global n) = of_global (record n { subscripts = xs })
+with_subscripts xs (of_naked old) = of_naked xs
 
 -- one that the checks let through
 pub data Place : Type 0 where
@@ -88,6 +100,17 @@ resolve u (of_global n) = node_place u n
 resolve u (of_naked xs) = do
   n ← beside xs
   node_place u n
+
+-- The lock that a reference names. The node that was referred to last stays that, and a naked reference has no name.
+abbrev pub named_lock : Text → Evaluated → Act LockName
+named_lock me (of_local name xs) = do
+  checked writing xs
+  give (record { global = false; node = record { account = me; name = name; subscripts = xs } })
+named_lock me (of_global n) = do
+  allowed Write n
+  checked writing n.subscripts
+  give (record { global = true; node = n })
+named_lock me (of_naked xs) = fail Zsyntax
 
 -- ---- places
 

@@ -1,3 +1,5 @@
 pub mod Lines
 mod Lists
+mod Operands
 mod RoutineLines
+mod WholeTexts

@@ -37,8 +37,8 @@ pub fn takes_args(keyword: Keyword, count: usize) -> bool
 {
     match keyword {
         Keyword::Set | Keyword::Write | Keyword::Goto | Keyword::Execute => 1 <= count,
-        Keyword::Kill | Keyword::New | Keyword::If | Keyword::Do => true,
-        Keyword::Else | Keyword::Quit => count == 0,
+        Keyword::Kill | Keyword::New | Keyword::If | Keyword::Do | Keyword::Lock => true,
+        Keyword::Else | Keyword::Quit | Keyword::Halt => count == 0,
         Keyword::For => count <= 1,
     }
 }
@@ -55,7 +55,9 @@ pub fn takes_condition(keyword: Keyword) -> bool
         | Keyword::Write
         | Keyword::Do
         | Keyword::Goto
-        | Keyword::Execute => true,
+        | Keyword::Execute
+        | Keyword::Lock
+        | Keyword::Halt => true,
         Keyword::If | Keyword::Else | Keyword::For => false,
     }
 }

@@ -1,7 +1,7 @@
 // Commands and their arguments.
 ghost use Rattle.std.specs.Prelude.{◌≡◌, map};
-ghost use Rattle.mgrammar.specs.Grammar.{ArgTree, form_of};
-ghost use Rattle.mgrammar.specs.Reading.{output_at, arg_at, has_args, args_at, command_at};
+ghost use Rattle.mgrammar.specs.Grammar.{ArgTree, form_of, output};
+ghost use Rattle.mgrammar.specs.Reading.{output_at, settled_with, arg_at, has_args, args_at, command_at};
 ghost use Rattle.mtree.specs.Tree.{arg_tree, keyword_tree, command_tree};
 ghost use Rattle.mscan.specs.Gives.{Gives};
 
@@ -10,6 +10,8 @@ use crate::control::{condition, postcondition, repetition};
 use crate::entry::{entrance, execution, leap};
 use crate::expr::{MAX_DEPTH, expr};
 use crate::list::{Items, list};
+use crate::lock::locking;
+use crate::operand::expr_operand;
 use crate::scope::{hiding, removal};
 use crate::set::assignment;
 use mnum::Bytes7;
@@ -19,14 +21,17 @@ use std::alloc::Global;
 
 #[tactic(auto, unfolding(mgrammar::specs::Reading::output_at))]
 fn output(alloc: Global, bytes: &[u8]) -> Result<(Arg, &[u8]), ParseFault>
-    ensures { Gives (λ x. (arg_tree x.0, x.1.now)) result (output_at bytes.now) }
+    ensures { Gives (λ x. (arg_tree x.0, x.1.now)) result (settled_with output_at output bytes.now) }
 {
     let (bangs, rest) = run(Class::Bang, bytes);
     if !bangs.is_empty() {
         return Ok((Arg::Breaks(bangs.len()), rest));
     }
     let (value, rest) = expr(alloc, bytes, MAX_DEPTH)?;
-    Ok((Arg::Value(value), rest))
+    match expr_operand(value) {
+        Ok(operand) => Ok((Arg::Indirect(Keyword::Write, operand), rest)),
+        Err(value) => Ok((Arg::Value(value), rest)),
+    }
 }
 
 // The arguments of a command.
@@ -50,7 +55,8 @@ impl Items for Keyword {
             Keyword::Do => entrance(alloc, bytes),
             Keyword::Goto => leap(alloc, bytes),
             Keyword::Execute => execution(alloc, bytes),
-            Keyword::Else | Keyword::Quit => Err(ParseFault::Syntax),
+            Keyword::Lock => locking(alloc, bytes),
+            Keyword::Else | Keyword::Quit | Keyword::Halt => Err(ParseFault::Syntax),
         }
     }
 }

@@ -1,23 +1,27 @@
 // The arguments of IF and FOR, and postconditionals.
 ghost use Rattle.std.specs.Prelude.{option_map};
-ghost use Rattle.mgrammar.specs.Grammar.{ParameterTree};
-ghost use Rattle.mgrammar.specs.Reading.{condition_at, parameter_at, repetition_at, past, postcondition_by, postcondition_at};
+ghost use Rattle.mgrammar.specs.Grammar.{ParameterTree, condition};
+ghost use Rattle.mgrammar.specs.Reading.{condition_at, settled_with, parameter_at, repetition_at, past, postcondition_by, postcondition_at};
 ghost use Rattle.mtree.specs.Tree.{expr_tree, parameter_tree, keyword_tree, arg_tree, condition_tree};
 ghost use Rattle.mscan.specs.Gives.{Gives};
 
 use crate::arity::takes_condition;
 use crate::expr::{MAX_DEPTH, expr};
 use crate::list::{Items, list};
+use crate::operand::expr_operand;
 use mscan::{ParseFault, expect, name, past};
 use mtree::{Arg, Expr, Keyword, Parameter};
 use std::alloc::Global;
 
 #[tactic(auto, unfolding(mgrammar::specs::Reading::condition_at))]
 pub fn condition(alloc: Global, bytes: &[u8]) -> Result<(Arg, &[u8]), ParseFault>
-    ensures { Gives (λ x. (arg_tree x.0, x.1.now)) result (condition_at bytes.now) }
+    ensures { Gives (λ x. (arg_tree x.0, x.1.now)) result (settled_with condition_at condition bytes.now) }
 {
     let (condition, rest) = expr(alloc, bytes, MAX_DEPTH)?;
-    Ok((Arg::Tested(condition), rest))
+    match expr_operand(condition) {
+        Ok(operand) => Ok((Arg::Indirect(Keyword::If, operand), rest)),
+        Err(condition) => Ok((Arg::Tested(condition), rest)),
+    }
 }
 
 // A value; or a start and an increment, and a limit where one stands.

@@ -1,12 +1,15 @@
-// The arguments of DO, GOTO and XECUTE: where they lead or a text, each with a postconditional of its own.
-ghost use Rattle.mgrammar.specs.Reading.{entry_at, entrance_at, leap_at, execution_at};
+// The arguments of DO, GOTO and XECUTE: where they lead or a text, each with a postconditional of its own; or an `@` with its
+// operand and nothing more.
+ghost use Rattle.mgrammar.specs.Reading.{entry_at, entrance_at, leap_at, execution_at, settled_with, operand_or};
+ghost use Rattle.mgrammar.specs.Grammar.{entrance, leap, execution};
 ghost use Rattle.mtree.specs.Tree.{entry_tree, arg_tree};
 ghost use Rattle.mscan.specs.Gives.{Gives};
 
 use crate::control::behind_colon;
-use crate::expr::{MAX_DEPTH, expr};
+use crate::expr::{MAX_DEPTH, below, expr};
+use crate::operand::expr_operand;
 use mscan::{ParseFault, name, past};
-use mtree::{Arg, Entry};
+use mtree::{Arg, Entry, Keyword};
 use std::alloc::Global;
 
 // A label, a label and the routine that it is of, or a routine alone.
@@ -28,8 +31,12 @@ fn entry(alloc: Global, bytes: &[u8]) -> Result<(Entry, &[u8]), ParseFault>
 
 #[tactic(auto, unfolding(mgrammar::specs::Reading::entrance_at))]
 pub fn entrance(alloc: Global, bytes: &[u8]) -> Result<(Arg, &[u8]), ParseFault>
-    ensures { Gives (λ x. (arg_tree x.0, x.1.now)) result (entrance_at bytes.now) }
+    ensures { Gives (λ x. (arg_tree x.0, x.1.now)) result (operand_or entrance_at entrance bytes.now) }
 {
+    if let Some(behind) = past(b'@', bytes) {
+        let (operand, rest) = below(alloc, behind, MAX_DEPTH)?;
+        return Ok((Arg::Indirect(Keyword::Do, operand), rest));
+    }
     let (entry, rest) = entry(alloc, bytes)?;
     let (condition, rest) = behind_colon(alloc, rest)?;
     Ok((Arg::DoOne(entry, condition), rest))
@@ -37,8 +44,12 @@ pub fn entrance(alloc: Global, bytes: &[u8]) -> Result<(Arg, &[u8]), ParseFault>
 
 #[tactic(auto, unfolding(mgrammar::specs::Reading::leap_at))]
 pub fn leap(alloc: Global, bytes: &[u8]) -> Result<(Arg, &[u8]), ParseFault>
-    ensures { Gives (λ x. (arg_tree x.0, x.1.now)) result (leap_at bytes.now) }
+    ensures { Gives (λ x. (arg_tree x.0, x.1.now)) result (operand_or leap_at leap bytes.now) }
 {
+    if let Some(behind) = past(b'@', bytes) {
+        let (operand, rest) = below(alloc, behind, MAX_DEPTH)?;
+        return Ok((Arg::Indirect(Keyword::Goto, operand), rest));
+    }
     let (entry, rest) = entry(alloc, bytes)?;
     let (condition, rest) = behind_colon(alloc, rest)?;
     Ok((Arg::GoTo(entry, condition), rest))
@@ -46,9 +57,15 @@ pub fn leap(alloc: Global, bytes: &[u8]) -> Result<(Arg, &[u8]), ParseFault>
 
 #[tactic(auto, unfolding(mgrammar::specs::Reading::execution_at))]
 pub fn execution(alloc: Global, bytes: &[u8]) -> Result<(Arg, &[u8]), ParseFault>
-    ensures { Gives (λ x. (arg_tree x.0, x.1.now)) result (execution_at bytes.now) }
+    ensures { Gives (λ x. (arg_tree x.0, x.1.now)) result (settled_with execution_at execution bytes.now) }
 {
     let (text, rest) = expr(alloc, bytes, MAX_DEPTH)?;
     let (condition, rest) = behind_colon(alloc, rest)?;
-    Ok((Arg::Executed(text, condition), rest))
+    if condition.is_some() {
+        return Ok((Arg::Executed(text, condition), rest));
+    }
+    match expr_operand(text) {
+        Ok(operand) => Ok((Arg::Indirect(Keyword::Execute, operand), rest)),
+        Err(text) => Ok((Arg::Executed(text, None), rest)),
+    }
 }

@@ -1,7 +1,7 @@
 // Expressions.
 ghost use Rattle.std.specs.Prelude.{◌≡◌, ◌<◌, length, map, option_map};
 ghost use Rattle.mgrammar.specs.Grammar.{exprs_of, choices_of};
-ghost use Rattle.mgrammar.specs.Reading.{with_front, many, after_comma, list_at, subscripts_with, reference_with, bracket_with, choice_with, select_with, call_with, refer_with, dollar_with, primary_with, operand_with, step_by, step_with, expr_with, readers_at, inner_at};
+ghost use Rattle.mgrammar.specs.Reading.{past, with_front, many, after_comma, list_at, subscripts_with, attached_at, attached_with, indirect_with, local_by, extended_with, owned_by, reference_with, bracket_with, choice_with, select_with, call_with, refer_with, dollar_with, primary_with, operand_with, step_by, step_with, expr_with, readers_at, inner_at};
 ghost use Rattle.mtree.specs.Tree.{function_tree, expr_tree, operand_tree, primary_tree, reference_tree, step_tree, choice_tree};
 ghost use Rattle.mscan.specs.Gives.{Gives};
 ghost use Rattle.mscan.specs.Operators.{operator_tree};
@@ -17,7 +17,7 @@ use mtree::{
 };
 use std::alloc::Global;
 
-// How many brackets may be open at a place.
+// How many brackets may be open at a place, with the operands of `@` that it lies in.
 pub const MAX_DEPTH: u32 = 40;
 
 // An expression within which so many brackets may be open.
@@ -129,17 +129,86 @@ pub fn reference(alloc: Global, bytes: &[u8], depth: u32) -> Result<(Reference, 
     ensures { Gives (λ x. (reference_tree x.0, x.1.now)) result (reference_with (readers_at depth) bytes.now) }
 {
     let Some(behind) = past(b'^', bytes) else {
-        let (name, rest) = name(alloc, bytes)?;
-        let (subscripts, rest) = subscripts(alloc, rest, depth)?;
-        return Ok((Reference::Local(name, subscripts), rest));
+        return local(alloc, bytes, depth);
     };
     if past(b'(', behind).is_some() {
         let (subscripts, rest) = subscripts(alloc, behind, depth)?;
         return Ok((Reference::Naked(subscripts), rest));
     }
-    let (name, rest) = name(alloc, behind)?;
+    global(alloc, behind, depth)
+}
+
+// The rest of a global variable that is named, behind its `^`: an environment where a bar comes, a name and subscripts.
+#[cycle(expr)]
+fn global(alloc: Global, bytes: &[u8], depth: u32) -> Result<(Reference, &[u8]), ParseFault>
+    ensures { Gives (λ x. (reference_tree x.0, x.1.now)) result (owned_by (readers_at depth) bytes.now (past 124 bytes.now)) }
+{
+    if let Some(inside) = past(b'|', bytes) {
+        return extended(alloc, inside, depth);
+    }
+    let (name, rest) = name(alloc, bytes)?;
     let (subscripts, rest) = subscripts(alloc, rest, depth)?;
     Ok((Reference::Global(name, subscripts), rest))
+}
+
+// The rest of a global variable of an environment, behind the bar that opens that.
+#[cycle(expr)]
+#[tactic(auto, unfolding(mgrammar::specs::Reading::extended_with))]
+fn extended(alloc: Global, bytes: &[u8], depth: u32) -> Result<(Reference, &[u8]), ParseFault>
+    ensures { Gives (λ x. (reference_tree x.0, x.1.now)) result (extended_with (readers_at depth) bytes.now) }
+{
+    let (environment, rest) = inner(alloc, bytes, depth)?;
+    let rest = expect(b'|', rest)?;
+    let (name, rest) = name(alloc, rest)?;
+    let (subscripts, rest) = subscripts(alloc, rest, depth)?;
+    let environment = Box::new(alloc, environment)?;
+    Ok((Reference::Extended(environment, name, subscripts), rest))
+}
+
+// A variable with no `^` in front: name indirection at an `@`, and otherwise a local one.
+#[cycle(expr)]
+fn local(alloc: Global, bytes: &[u8], depth: u32) -> Result<(Reference, &[u8]), ParseFault>
+    ensures { Gives (λ x. (reference_tree x.0, x.1.now)) result (local_by (readers_at depth) bytes.now (past 64 bytes.now)) }
+{
+    if let Some(behind) = past(b'@', bytes) {
+        return indirect(alloc, behind, depth);
+    }
+    let (name, rest) = name(alloc, bytes)?;
+    let (subscripts, rest) = subscripts(alloc, rest, depth)?;
+    Ok((Reference::Local(name, subscripts), rest))
+}
+
+// The rest of a name indirection, behind its `@`.
+#[cycle(expr)]
+#[tactic(auto, unfolding(mgrammar::specs::Reading::indirect_with))]
+fn indirect(alloc: Global, bytes: &[u8], depth: u32) -> Result<(Reference, &[u8]), ParseFault>
+    ensures { Gives (λ x. (reference_tree x.0, x.1.now)) result (indirect_with (readers_at depth) bytes.now) }
+{
+    let (operand, rest) = below(alloc, bytes, depth)?;
+    let (subscripts, rest) = attached(alloc, rest, depth)?;
+    let operand = Box::new(alloc, operand)?;
+    Ok((Reference::Indirect(operand, subscripts), rest))
+}
+
+// The subscripts behind an operand, where an `@` with a bracket behind it comes.
+#[cycle(expr)]
+#[tactic(auto, unfolding(mgrammar::specs::Reading::attached_with))]
+fn attached(alloc: Global, bytes: &[u8], depth: u32) -> Result<(Vec<Expr>, &[u8]), ParseFault>
+    ensures { Gives (λ x. (exprs_of (map expr_tree x.0.items), x.1.now)) result (attached_with (readers_at depth) bytes.now) }
+{
+    match attached_at(bytes) {
+        None => Ok((Vec::new(alloc), bytes)),
+        Some(behind) => subscripts(alloc, behind, depth),
+    }
+}
+
+// What stands behind an `@`, where a bracket opens there.
+fn attached_at(bytes: &[u8]) -> Option<&[u8]>
+    ensures { option_map (λ x. x.now) result ≡ attached_at bytes.now }
+{
+    let behind = past(b'@', bytes)?;
+    past(b'(', behind)?;
+    Some(behind)
 }
 
 // Subscripts, where a bracket opens.
@@ -178,6 +247,18 @@ pub fn within(alloc: Global, bytes: &[u8], depth: u32) -> Result<(Reference, &[u
         return Err(ParseFault::Syntax);
     }
     reference(alloc, bytes, depth - 1)
+}
+
+// The operand behind an `@`, where one bracket fewer may open.
+#[cycle(expr)]
+#[tactic(auto, unfolding(mgrammar::specs::Reading::readers_at))]
+pub fn below(alloc: Global, bytes: &[u8], depth: u32) -> Result<(Primary, &[u8]), ParseFault>
+    ensures { Gives (λ x. (primary_tree x.0, x.1.now)) result ((readers_at depth).below bytes.now) }
+{
+    if depth == 0 {
+        return Err(ParseFault::Syntax);
+    }
+    primary(alloc, bytes, depth - 1)
 }
 
 // The rest of an expression in brackets, behind the bracket that opens it.

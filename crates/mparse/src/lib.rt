@@ -1,4 +1,5 @@
-//! A line of M, of a terminal or of a routine, from its text to its tree: a tree exactly where the grammar has one.
+//! A line of M, of a terminal or of a routine, and the texts of indirection, each from its text to its tree: a tree exactly where the
+//! grammar has one.
 #![tactic(auto)]
 
 mod arity;
@@ -6,12 +7,16 @@ mod command;
 mod control;
 mod entry;
 mod expr;
+mod indirect;
 mod line;
 mod list;
+mod lock;
+mod operand;
 mod routine_line;
 mod scope;
 mod set;
 
+pub use indirect::{parse_args, parse_ref};
 pub use line::parse_line;
 pub use mscan::{ParseFault, dots_of, label_of};
 pub use routine_line::parse_routine_line;

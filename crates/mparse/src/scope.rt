@@ -1,14 +1,16 @@
-// The arguments of KILL and NEW: a variable or a name, or names in brackets.
+// The arguments of KILL and NEW: a variable or a name, or names in brackets; or an `@` with its operand and nothing more.
 ghost use Rattle.std.specs.Prelude.{ℕ, List};
-ghost use Rattle.mgrammar.specs.Reading.{name_at, names_at, removal_at, hiding_at};
+ghost use Rattle.mgrammar.specs.Reading.{name_at, names_at, removal_at, hiding_at, settled_with, operand_or};
+ghost use Rattle.mgrammar.specs.Grammar.{removal, hiding};
 ghost use Rattle.mtree.specs.Tree.{arg_tree};
 ghost use Rattle.mscan.specs.Gives.{Gives};
 
-use crate::expr::{MAX_DEPTH, reference};
+use crate::expr::{MAX_DEPTH, below, reference};
 use crate::list::{Items, list};
+use crate::operand::reference_operand;
 use mnum::Name;
 use mscan::{ParseFault, expect, name};
-use mtree::Arg;
+use mtree::{Arg, Keyword};
 use std::alloc::Global;
 
 // The names in the brackets.
@@ -41,7 +43,7 @@ fn names(alloc: Global, bytes: &[u8]) -> Result<(Vec<Name>, &[u8]), ParseFault>
 
 #[tactic(auto, unfolding(mgrammar::specs::Reading::removal_at))]
 pub fn removal(alloc: Global, bytes: &[u8]) -> Result<(Arg, &[u8]), ParseFault>
-    ensures { Gives (λ x. (arg_tree x.0, x.1.now)) result (removal_at bytes.now) }
+    ensures { Gives (λ x. (arg_tree x.0, x.1.now)) result (settled_with removal_at removal bytes.now) }
 {
     let Some((first, behind)) = bytes.split_first() else {
         return Err(ParseFault::Syntax);
@@ -51,20 +53,31 @@ pub fn removal(alloc: Global, bytes: &[u8]) -> Result<(Arg, &[u8]), ParseFault>
         return Ok((Arg::KillOthers(names), rest));
     }
     let (reference, rest) = reference(alloc, bytes, MAX_DEPTH)?;
-    Ok((Arg::KillOne(reference), rest))
+    match reference_operand(reference) {
+        Ok(operand) => Ok((Arg::Indirect(Keyword::Kill, operand), rest)),
+        Err(reference) => Ok((Arg::KillOne(reference), rest)),
+    }
 }
 
 #[tactic(auto, unfolding(mgrammar::specs::Reading::hiding_at))]
 pub fn hiding(alloc: Global, bytes: &[u8]) -> Result<(Arg, &[u8]), ParseFault>
-    ensures { Gives (λ x. (arg_tree x.0, x.1.now)) result (hiding_at bytes.now) }
+    ensures { Gives (λ x. (arg_tree x.0, x.1.now)) result (operand_or hiding_at hiding bytes.now) }
 {
     let Some((first, behind)) = bytes.split_first() else {
         return Err(ParseFault::Syntax);
     };
-    if *first == b'(' {
-        let (names, rest) = names(alloc, behind)?;
-        return Ok((Arg::NewOthers(names), rest));
+    match *first {
+        b'@' => {
+            let (operand, rest) = below(alloc, behind, MAX_DEPTH)?;
+            Ok((Arg::Indirect(Keyword::New, operand), rest))
+        }
+        b'(' => {
+            let (names, rest) = names(alloc, behind)?;
+            Ok((Arg::NewOthers(names), rest))
+        }
+        _ => {
+            let (name, rest) = name(alloc, bytes)?;
+            Ok((Arg::NewOne(name), rest))
+        }
     }
-    let (name, rest) = name(alloc, bytes)?;
-    Ok((Arg::NewOne(name), rest))
 }

@@ -8,9 +8,10 @@ ghost use Rattle.mscan.specs.Gives.{Gives};
 
 use crate::expr::{MAX_DEPTH, expr, inner, reference, within};
 use crate::list::{Items, list};
+use crate::operand::destination_operand;
 use mnum::Bytes7;
-use mscan::{Class, ParseFault, expect, run};
-use mtree::{Arg, Destination, Expr, Function, PieceTarget, Target, function_of};
+use mscan::{Class, ParseFault, expect, past, run};
+use mtree::{Arg, Destination, Expr, Function, Keyword, PieceTarget, Target, function_of};
 use std::alloc::Global;
 
 // The place behind the delimiter of a `$PIECE`, where one stands.
@@ -102,12 +103,16 @@ fn destination(alloc: Global, bytes: &[u8]) -> Result<(Destination, &[u8]), Pars
     Ok((Destination::One(target), rest))
 }
 
+// A destination and its value; or an `@` with its operand and nothing more, behind which no `=` comes.
 #[tactic(auto, unfolding(mgrammar::specs::Reading::assignment_at))]
 pub fn assignment(alloc: Global, bytes: &[u8]) -> Result<(Arg, &[u8]), ParseFault>
     ensures { Gives (λ x. (arg_tree x.0, x.1.now)) result (assignment_at bytes.now) }
 {
     let (destination, rest) = destination(alloc, bytes)?;
-    let rest = expect(b'=', rest)?;
-    let (value, rest) = expr(alloc, rest, MAX_DEPTH)?;
+    let Some(behind) = past(b'=', rest) else {
+        let operand = destination_operand(destination).ok_or(ParseFault::Syntax)?;
+        return Ok((Arg::Indirect(Keyword::Set, operand), rest));
+    };
+    let (value, rest) = expr(alloc, behind, MAX_DEPTH)?;
     Ok((Arg::Assign(destination, value), rest))
 }

@@ -9,17 +9,13 @@ use Rattle.mgrant.specs.Reading.{IsRead}
 use Rattle.mstore.specs.declared.store.NodeStore.{Ghosts}
 use Rattle.mwire.specs.Serves.{Serves}
 use Rattle.mwire.specs.declared.fault.WireFault.{WireFault}
-use Rattle.mserve.specs.Runs.{Answered, Broken, ServedOver}
-
-module _ {server : Server} {globals : Globals} (begins : server ≡ opening globals) (none : globals ≡ empty) where
-  opens : server ≡ opening empty
-  opens = begins ∙ ap opening none
+use Rattle.mserve.specs.Runs.{Answered, Broken, Followed, ServedOver}
 
 module _ {S V : Type 0} (g : Ghosts S) {settings settings' : Settings} {server : Server} {globals : Globals} {content : V → Globals} {document : Text} {left left' held held' : Option Text}
-    (reads : IsRead document settings) (same : settings' ≡ settings) (begins : server ≡ opening globals) (none : globals ≡ empty) where
-  -- a stream that was answered to its end
-  pub answered : {v : V} → g.sound → ServedOver g settings' server content left left' held held' (Ok v) → Answered document left left' held held' (content v)
-  answered sound s = record {
+    (reads : IsRead document settings) (same : settings' ≡ settings) (begins : server ≡ opening globals) where
+  -- a stream that was answered to its end, over a store that tells its content
+  pub answered : {v : V} → globals ≡ empty → g.sound → ServedOver g settings' server content left left' held held' (Ok v) → Answered document left left' held held' (content v)
+  answered none sound s = record {
     settings = settings;
     of_document = reads;
     read = s.serves.read;
@@ -28,11 +24,24 @@ module _ {S V : Type 0} (g : Ghosts S) {settings settings' : Settings} {server :
     trace = s.serves.outcome.1.trace;
     events = s.serves.outcome.1.events;
     after = s.after;
-    history = let h = s.serves.outcome.1.history sound in let i = rw same at h in rw (opens begins none) at i;
+    history = let h = s.serves.outcome.1.history sound in let i = rw same at h in rw (begins ∙ ap opening none) at i;
     appended = let a = s.serves.appended in rw s.serves.outcome.1.text at a;
     last = s.last;
   }
 
+  -- one over any store
+  pub followed : {v : V} → ServedOver g settings' server content left left' held held' (Ok v) → Followed document left left' held held'
+  followed s = record {
+    settings = settings;
+    of_document = reads;
+    read = s.serves.read;
+    consumed = s.serves.consumed;
+    at_end = s.serves.outcome.0;
+    trace = s.serves.outcome.1.trace;
+    events = s.serves.outcome.1.events;
+    appended = let a = s.serves.appended in rw s.serves.outcome.1.text at a;
+  }
+
   -- one that a fault broke off
-  pub broken : {fault : WireFault} → ServedOver g settings' server content left left' held held' (Err fault) → Broken g document left left' held held' fault
-  broken s = record { settings = settings; of_document = reads; after = s.after; serves = let t = s.serves in let u = rw same at t in rw (opens begins none) at u }
+  pub broken : {fault : WireFault} → ServedOver g settings' server content left left' held held' (Err fault) → Broken g document globals left left' held held' fault
+  broken s = record { settings = settings; of_document = reads; after = s.after; serves = let t = s.serves in let u = rw same at t in rw begins at u }

@@ -1,2 +1,4 @@
-pub mod Statuses
 pub mod Runs
+pub mod Connections
+pub mod Jobs
+pub mod Programs

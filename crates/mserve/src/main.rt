@@ -1,15 +1,18 @@
 //! mserve, a shared M server.
 //!
-//! `mserve run` answers the lines of its standard input on its standard output.
+//! `mserve run` answers the lines of its standard input on its standard output, `mserve serve` those of connections at a port of 127.0.0.1.
 #![tactic(auto)]
 
+mod document;
 mod fault;
+mod jobs;
 mod program;
 mod run;
-#[cfg(test)]
-mod tests;
+mod serving;
+mod worlds;
 
 use crate::program::{no_words, program};
+use mwire::Watched;
 use std::process::ExitCode;
 use std::{env, io};
 
@@ -19,12 +22,14 @@ fn words(rt: &HostRuntime) -> io::Result<Vec<String>> {
 }
 
 fn main(rt: HostRuntime) -> ExitCode {
+    let mut input = Watched::new(rt.stdin());
+    let mut output = Watched::new(rt.stdout());
     let status = match words(&rt) {
         Ok(words) => program(
             &rt,
             words.as_slice(),
-            rt.stdin(),
-            rt.stdout(),
+            &mut input,
+            &mut output,
             &mut rt.stderr(),
         ),
         Err(error) => no_words(&error, &mut rt.stderr()),

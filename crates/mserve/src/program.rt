@@ -1,69 +1,115 @@
 // The program, over any reader and two writers.
-ghost use Rattle.std.specs.Prelude.{◌≡◌, ◌≢◌, ◌↔◌, ◌⊎◌, false, map, string_bytes};
+ghost use Rattle.std.specs.Prelude.{◌≡◌, ◌≢◌, false, map, string_bytes};
 ghost use Rattle.std.specs.IoError.{error_kind};
-ghost use Rattle.mserve.specs.Statuses.{IsStatus, is_run, status_of};
+ghost use Rattle.mwire.specs.Watched.{failed_of};
+ghost use Rattle.mserve.specs.Jobs.{status_of, CarriesOut};
+ghost use Rattle.mserve.specs.Programs.{Ends};
 
 use crate::fault::RunFault;
-use crate::run::run;
+use crate::jobs::{run_job, serve_job};
+use mglobal::Kept;
+use mjob::command_line::job;
+use mjob::jobs::{Job, JobFault};
+use mstore::{NodeStore, Table};
 use mwire::Watched;
+use sqlite::MemStore;
+use sqlite_std_file::File;
+use sqlite_store::FileStore;
 use std::io;
 use std::io::{ErrorKind, Read, Write};
 
-// The settings of every run: terminal 1 is of ALICE, and a line may use 2,000 steps.
-const SETTINGS: &str = "[[account]]\nname = \"ALICE\"\nterminals = [1]\nsteps = 2000\n";
-
-/// Runs the program with these words, which stand behind its name on the command line, over an empty table in memory, and gives
-/// the exit status: 0 where the input was answered to its end, 2 for words that are refused, 3 for a fault of the settings, 4 for
-/// one of the store and 5 for one of the wire, of which `errors` is told. The settings stand in the program, so their fault is want
-/// of memory.
+/// Runs the program with these words, which stand behind its name on the command line, and gives the exit status.
 ///
-/// The word `run` alone is taken. A fault in writing to `errors` is passed over.
-pub fn program<H: AllocGlobal, I: Read, O: Write, E: Write>(
-    rt: &H,
+/// 0: the job is done. 2: the words are refused or ask for help, and `errors` gets `clap`'s text, or there was no memory for them. 3, 4 and 5:
+/// a fault of the settings, of the store and of the wire, in the order in which they are found; `errors` gets the line `mserve: ` and the
+/// fault. A fault in writing to `errors` is passed over.
+///
+/// The input and the output are asked for nothing by a job that serves connections, nor before a fault of the words, of the settings or of the
+/// store is found.
+///
+/// The condition: no call of the input or the output has failed yet.
+pub fn program<I: Read, O: Write, E: Write>(
+    rt: &HostRuntime,
     words: &[String],
-    input: I,
-    output: O,
+    input: &mut Watched<I>,
+    output: &mut Watched<O>,
     errors: &mut E,
 ) -> u8
-where
-    I: Drop,
-    O: Drop,
-    ensures status { IsStatus result }
-    ensures refused { (result ≡ 2) ↔ (is_run (map string_bytes words.now) ≡ false) }
-    ensures untold { (result ≡ 0) ⊎ (result ≡ 2) → errors.new ≡ errors.old }
+    requires input_works { failed_of input.old ≡ false }
+    requires output_works { failed_of output.old ≡ false }
+    ensures { Ends ⟦<Kept<Table<MemStore>> as NodeStore>⟧ ⟦<Kept<Table<FileStore<File>>> as NodeStore>⟧ I.remaining O.contents
+        (map string_bytes words.now) input.old input.new output.old output.new result }
 {
-    if !is_run(words) {
+    let job = match job(rt.alloc(), words) {
+        Ok(job) => job,
+        Err(fault) => return refused(&fault, errors),
+    };
+    if names_account(&job) {
+        let _ = writeln!(errors, "mserve: --only is not built yet");
         return 2;
     }
-    let mut input = Watched::new(input);
-    let mut output = Watched::new(output);
-    match run(rt.alloc(), SETTINGS.as_bytes(), &mut input, &mut output) {
-        Ok(_) => 0,
-        Err(fault) => {
-            let _ = writeln!(errors, "mserve: {fault}");
-            status_of(fault)
-        }
+    let outcome = carry_out(rt, &job, input, output, errors);
+    if let Err(fault) = &outcome {
+        let _ = writeln!(errors, "mserve: {fault}");
+    }
+    status_of(&outcome)
+}
+
+// Whether the replies of one account alone are asked for.
+fn names_account(job: &Job) -> bool {
+    matches!(job, Job::Run { only: Some(_), .. })
+}
+
+// Does what the command line asks for.
+fn carry_out<I: Read, O: Write, E: Write>(
+    rt: &HostRuntime,
+    job: &Job,
+    input: &mut Watched<I>,
+    output: &mut Watched<O>,
+    errors: &mut E,
+) -> Result<(), RunFault>
+    requires input_works { failed_of input.old ≡ false }
+    requires output_works { failed_of output.old ≡ false }
+    ensures { CarriesOut ⟦<Kept<Table<MemStore>> as NodeStore>⟧ ⟦<Kept<Table<FileStore<File>>> as NodeStore>⟧ I.remaining O.contents
+        job.now input.old input.new output.old output.new result }
+{
+    match job {
+        Job::Run {
+            settings,
+            store,
+            only: _,
+        } => run_job(rt, settings.as_str(), store, input, output),
+        Job::Serve {
+            settings,
+            store,
+            port,
+            connections,
+        } => serve_job(rt, settings.as_str(), store, *port, *connections, errors),
     }
 }
 
-// The exit status of a run that ended early.
-fn status_of(fault: RunFault) -> u8
-    ensures { result ≡ status_of fault }
+// The exit status of what a job came to.
+fn status_of(outcome: &Result<(), RunFault>) -> u8
+    ensures { result ≡ status_of outcome.now }
+{
+    match outcome {
+        Ok(()) => 0,
+        Err(RunFault::Unread | RunFault::Settings(_)) => 3,
+        Err(RunFault::Store(_)) => 4,
+        Err(RunFault::Listen | RunFault::Accept | RunFault::Wire(_)) => 5,
+    }
+}
+
+// Tells `errors` why the words ask for no job, and gives the exit status.
+fn refused<E: Write>(fault: &JobFault, errors: &mut E) -> u8
+    ensures { result ≡ 2 }
 {
     match fault {
-        RunFault::Settings(_) => 3,
-        RunFault::Store(_) => 4,
-        RunFault::Wire(_) => 5,
-    }
-}
-
-// Whether the words are those of the one command that there is.
-fn is_run(words: &[String]) -> bool
-    ensures { result ≡ is_run (map string_bytes words.now) }
-{
-    match words {
-        [word] => word.as_str() == "run",
-        _ => false,
+        JobFault::Line(error) => {
+            let _ = write!(errors, "{error}");
+            2
+        }
+        JobFault::Memory => short_of_memory(errors),
     }
 }
 
@@ -79,8 +125,8 @@ pub fn no_words<E: Write>(error: &io::Error, errors: &mut E) -> u8
     2
 }
 
-/// Tells `errors` that there was no memory for the command line, and gives the exit status.
-pub fn short_of_memory<E: Write>(errors: &mut E) -> u8
+// Tells `errors` that there was no memory for the command line, and gives the exit status.
+fn short_of_memory<E: Write>(errors: &mut E) -> u8
     ensures { result ≡ 2 }
 {
     let _ = writeln!(errors, "mserve: Memory");

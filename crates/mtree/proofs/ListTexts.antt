@@ -1,11 +1,12 @@
 -- Texts of lists, by what stands in them and by its trees.
-use Rattle.std.proofs.Common.{◌≡◌, ℕ, ◌<◌, List, [], ◌∷◌, ◌++◌, length, map, refl, ap, ◌∙◌, arith}
+use Rattle.std.proofs.Common.{◌≡◌, ℕ, ◌<◌, List, [], ◌∷◌, ◌++◌, length, map, refl, ap, subst, ◌∙◌, arith}
 use Rattle.std.specs.Prelude.{Result, Ok, Err, OnOk}
 use Rattle.std.proofs.lemmas.List.{append_assoc}
-use Rattle.mgrammar.specs.Grammar.{ExprTree, exprs_of, choices_of, spell_expr, spell_exprs, spell_more_exprs, spell_choices, spell_more_choices, spell_more, spell_list, spell_target, spell_parameter, spell_arg, spell_args, spell_subscripts}
-use Rattle.mtree.specs.Tree.{expr_tree, choice_tree, target_tree, parameter_tree, arg_tree}
+use Rattle.mgrammar.specs.Grammar.{ExprTree, exprs_of, choices_of, spell_expr, spell_exprs, spell_more_exprs, spell_choices, spell_more_choices, spell_more, spell_list, spell_target, spell_reference, spell_parameter, spell_arg, spell_args, spell_subscripts, spell_attached}
+use Rattle.mtree.specs.Tree.{expr_tree, choice_tree, reference_tree, target_tree, parameter_tree, arg_tree}
 use Rattle.mtree.specs.declared.tree.Expr.{Expr}
 use Rattle.mtree.specs.declared.tree.Choice.{Choice}
+use Rattle.mtree.specs.declared.tree.Reference.{Reference}
 use Rattle.mtree.specs.declared.tree.Target.{Target}
 use Rattle.mtree.specs.declared.tree.Parameter.{Parameter}
 use Rattle.mtree.specs.declared.tree.Arg.{Arg}
@@ -23,6 +24,9 @@ parameters xs = list_by_trees parameter_tree spell_parameter xs
 
 pub targets : (xs : List Target) → spell_list (λ x. spell_target (target_tree x)) xs ≡ spell_list spell_target (map target_tree xs)
 targets xs = list_by_trees target_tree spell_target xs
+
+pub references : (xs : List Reference) → spell_list (λ x. spell_reference (reference_tree x)) xs ≡ spell_list spell_reference (map reference_tree xs)
+references xs = list_by_trees reference_tree spell_reference xs
 
 -- some arguments, behind a space
 pub some_args : {X E : Type 0} (r : Result X E) (xs : List Arg) (old before new : List ℕ) → 0 < length xs → before ≡ old ++ 32 ∷ [] → OnOk r (new ≡ before ++ spell_list (λ x. spell_arg (arg_tree x)) xs)
@@ -56,6 +60,20 @@ some_subscripts (Ok y) (x ∷ xs) old before mid new some b m n =
     ∙ append_assoc old (40 ∷ []) (spell_list (λ x. spell_expr (expr_tree x)) (x ∷ xs) ++ 41 ∷ [])
     ∙ ap (λ (t : List ℕ). old ++ 40 ∷ (t ++ 41 ∷ [])) (arguments (x ∷ xs))
     ∙ ap (λ (t : List ℕ). old ++ 40 ∷ t) (append_assoc first more (41 ∷ []))
+
+-- subscripts behind an `@`, which stands there where there are some
+module _ {X E : Type 0} (r : Result X E) (old before new : List ℕ) where
+  pub no_attached : (xs : List Expr) → length xs ≡ 0 → before ≡ old → OnOk r (new ≡ before ++ spell_subscripts (exprs_of (map expr_tree xs))) → OnOk r (new ≡ old ++ spell_attached (exprs_of (map expr_tree xs)))
+  no_attached [] none b n = subst (λ (t : List ℕ). OnOk r (new ≡ t ++ [])) b n
+  no_attached (x ∷ xs) none b n = absurd (omega arith)
+
+  pub some_attached : (xs : List Expr) → 0 < length xs → before ≡ old ++ 64 ∷ [] → OnOk r (new ≡ before ++ spell_subscripts (exprs_of (map expr_tree xs)))
+      → OnOk r (new ≡ old ++ spell_attached (exprs_of (map expr_tree xs)))
+  some_attached [] some b n = absurd (omega arith)
+  some_attached (x ∷ xs) some b n =
+      let subscripts = spell_subscripts (exprs_of (map expr_tree (x ∷ xs))) in
+      let e : before ++ subscripts ≡ old ++ 64 ∷ subscripts = ap (λ (t : List ℕ). t ++ subscripts) b ∙ append_assoc old (64 ∷ []) subscripts in
+      subst (λ (t : List ℕ). OnOk r (new ≡ t)) e n
 
 -- the text of a choice
 abbrev pub choice_text : ExprTree × ExprTree → List ℕ

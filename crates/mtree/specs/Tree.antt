@@ -1,7 +1,7 @@
 -- A line of the program as a plain tree of the grammar.
 use Rattle.std.specs.Prelude.{Option, Box, map, option_map}
 use Rattle.mgrammar.specs.Grammar as grammar
-use Rattle.mgrammar.specs.Grammar.{SignTree, TruthTree, BinaryTree, KeywordTree, FunctionTree, SpecialTree, CountTree, RepeatedTree, AtomTree, ExprTree, StepTree, steps_of, exprs_of, choices_of, OperandTree, PrimaryTree, ReferenceTree, TargetTree, DestinationTree, ParameterTree, EntryTree, ArgTree, CommandTree, SpacedTree, LineTree}
+use Rattle.mgrammar.specs.Grammar.{SignTree, TruthTree, BinaryTree, KeywordTree, FunctionTree, SpecialTree, CountTree, RepeatedTree, AtomTree, ExprTree, StepTree, steps_of, exprs_of, choices_of, OperandTree, PrimaryTree, ReferenceTree, TargetTree, DestinationTree, ParameterTree, EntryTree, LockKindTree, LockedTree, ArgTree, CommandTree, SpacedTree, LineTree}
 use Rattle.mgrammar.specs.RoutineLine as routine
 use Rattle.mgrammar.specs.RoutineLine.{BodyTree, RoutineLineTree}
 use Rattle.mtree.specs.declared.tree.Sign.{Sign}
@@ -37,6 +37,10 @@ use Rattle.mtree.specs.declared.tree.Parameter.{Parameter}
 use Rattle.mtree.specs.declared.tree.Parameter.TheVariants as parameter
 use Rattle.mtree.specs.declared.tree.Entry.{Entry}
 use Rattle.mtree.specs.declared.tree.Entry.TheVariants as entry
+use Rattle.mtree.specs.declared.tree.LockKind.{LockKind}
+use Rattle.mtree.specs.declared.tree.LockKind.TheVariants as lock_kind
+use Rattle.mtree.specs.declared.tree.Locked.{Locked}
+use Rattle.mtree.specs.declared.tree.Locked.TheVariants as locked_names
 use Rattle.mtree.specs.declared.tree.Arg.{Arg}
 use Rattle.mtree.specs.declared.tree.Arg.TheVariants as arg
 use Rattle.mtree.specs.declared.tree.Command.{Command}
@@ -84,6 +88,8 @@ keyword_tree keyword.Write = grammar.write_word
 keyword_tree keyword.Do = grammar.do_word
 keyword_tree keyword.Goto = grammar.goto_word
 keyword_tree keyword.Execute = grammar.execute_word
+keyword_tree keyword.Lock = grammar.lock_word
+keyword_tree keyword.Halt = grammar.halt_word
 
 abbrev pub function_tree : Function → FunctionTree
 function_tree function.Ascii = grammar.ascii_function
@@ -142,6 +148,8 @@ abbrev pub reference_layer : Reference-F PrimaryTree ReferenceTree StepTree Choi
 reference_layer (Reference-F.Local name subscripts) = grammar.local name (exprs_of subscripts.items)
 reference_layer (Reference-F.Global name subscripts) = grammar.global name (exprs_of subscripts.items)
 reference_layer (Reference-F.Naked subscripts) = grammar.naked (exprs_of subscripts.items)
+reference_layer (Reference-F.Indirect p subscripts) = grammar.indirect p.value (exprs_of subscripts.items)
+reference_layer (Reference-F.Extended e name subscripts) = grammar.extended e.value name (exprs_of subscripts.items)
 
 abbrev pub referring_layer : Referring-F PrimaryTree ReferenceTree StepTree ChoiceTree ExprTree OperandTree PrimaryTree → PrimaryTree
 referring_layer r = grammar.refer r.word r.reference (exprs_of r.more.items)
@@ -194,6 +202,15 @@ entry_tree (entry.Label label) = grammar.at_label label
 entry_tree (entry.LabelIn label name) = grammar.at_label_in label name
 entry_tree (entry.Routine name) = grammar.at_routine name
 
+abbrev pub kind_tree : LockKind → LockKindTree
+kind_tree lock_kind.Anew = grammar.anew
+kind_tree lock_kind.Adding = grammar.adding
+kind_tree lock_kind.GivingBack = grammar.giving_back
+
+abbrev pub locked_tree : Locked → LockedTree
+locked_tree (locked_names.One r) = grammar.lock_one (reference_tree r)
+locked_tree (locked_names.Several rs) = grammar.lock_several (map reference_tree rs.items)
+
 abbrev pub arg_tree : Arg → ArgTree
 arg_tree (arg.Assign d e) = grammar.assign (destination_tree d) (expr_tree e)
 arg_tree (arg.Breaks n) = grammar.breaks n
@@ -207,6 +224,8 @@ arg_tree (arg.Loop index parameters) = grammar.loop index (map parameter_tree pa
 arg_tree (arg.DoOne e c) = grammar.do_one (entry_tree e) (condition_tree c)
 arg_tree (arg.GoTo e c) = grammar.go_to (entry_tree e) (condition_tree c)
 arg_tree (arg.Executed e c) = grammar.executed (expr_tree e) (condition_tree c)
+arg_tree (arg.Lock k names t) = grammar.locked (kind_tree k) (locked_tree names) (condition_tree t)
+arg_tree (arg.Indirect k p) = grammar.indirect_args (grammar.form_of (keyword_tree k)) (primary_tree p)
 
 abbrev pub command_tree : Command → CommandTree
 command_tree c = record { keyword = keyword_tree c.keyword; word = c.word; condition = condition_tree c.condition; args = map arg_tree c.args.items }

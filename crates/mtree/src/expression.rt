@@ -1,6 +1,6 @@
 // The text of an expression.
 ghost use Rattle.std.specs.Prelude.{◌≡◌, ◌++◌, ◌<◌, ◌∷◌, [], List, ℕ, OnOk, map};
-ghost use Rattle.mgrammar.specs.Grammar.{sign_char, spell_truth, spell_binary, spell_signs, spell_behind, spell_repeated, spell_atom, spell_atoms, spell_expr, steps_of, exprs_of, choices_of, spell_steps, spell_step, spell_operand, spell_primary, spell_reference, spell_subscripts, spell_exprs, spell_more_exprs, spell_choices};
+ghost use Rattle.mgrammar.specs.Grammar.{sign_char, spell_truth, spell_binary, spell_signs, spell_behind, spell_repeated, spell_atom, spell_atoms, spell_expr, steps_of, exprs_of, choices_of, spell_steps, spell_step, spell_operand, spell_primary, spell_reference, spell_subscripts, spell_attached, spell_exprs, spell_more_exprs, spell_choices};
 ghost use Rattle.mtree.specs.Tree.{sign_tree, truth_tree, binary_tree, repeated_tree, atom_tree, expr_tree, step_tree, operand_tree, primary_tree, reference_tree, referring_tree, choice_tree};
 
 use crate::list::{Listed, put_list};
@@ -152,7 +152,7 @@ fn put_operand(out: &mut Bytes7, operand: &Operand) -> Result<(), AllocError>
 }
 
 #[cycle(expr)]
-fn put_primary(out: &mut Bytes7, primary: &Primary) -> Result<(), AllocError>
+pub fn put_primary(out: &mut Bytes7, primary: &Primary) -> Result<(), AllocError>
     ensures { OnOk result (out.new ≡ out.old ++ spell_primary (primary_tree primary.now)) }
 {
     match primary {
@@ -185,7 +185,28 @@ pub fn put_reference(out: &mut Bytes7, reference: &Reference) -> Result<(), Allo
             out.push(b'^')?;
             put_subscripts(out, subscripts)
         }
+        Reference::Indirect(operand, subscripts) => {
+            out.push(b'@')?;
+            put_primary(out, operand)?;
+            put_attached(out, subscripts)
+        }
+        Reference::Extended(environment, name, subscripts) => {
+            put_environment(out, environment)?;
+            put_text(out, name.as_bytes7())?;
+            put_subscripts(out, subscripts)
+        }
     }
+}
+
+// Between bars, behind a `^`.
+#[cycle(expr)]
+fn put_environment(out: &mut Bytes7, environment: &Expr) -> Result<(), AllocError>
+    ensures { OnOk result (out.new ≡ out.old ++ 94 ∷ 124 ∷ (spell_expr (expr_tree environment.now) ++ 124 ∷ [])) }
+{
+    out.push(b'^')?;
+    out.push(b'|')?;
+    put_expr(out, environment)?;
+    out.push(b'|')
 }
 
 // In brackets, where there are some.
@@ -199,6 +220,17 @@ fn put_subscripts(out: &mut Bytes7, subscripts: &Vec<Expr>) -> Result<(), AllocE
     out.push(b'(')?;
     put_list(out, subscripts)?;
     out.push(b')')
+}
+
+// Behind an `@`, where there are some.
+#[cycle(expr)]
+fn put_attached(out: &mut Bytes7, subscripts: &Vec<Expr>) -> Result<(), AllocError>
+    ensures { OnOk result (out.new ≡ out.old ++ spell_attached (exprs_of (map expr_tree subscripts.now.items))) }
+{
+    if !subscripts.is_empty() {
+        out.push(b'@')?;
+    }
+    put_subscripts(out, subscripts)
 }
 
 #[cycle(expr)]

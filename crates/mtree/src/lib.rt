@@ -12,8 +12,8 @@ pub mod write;
 
 pub use tree::{
     Arg, Atom, Binary, Body, Choice, Command, Count, Destination, Entry, Expr, Function, Keyword,
-    Line, Operand, Parameter, PieceTarget, Primary, Reference, Referring, Repeated, RoutineLine,
-    Sign, Spaced, SpecialVariable, Step, Target, Truth,
+    Line, LockKind, Locked, Operand, Parameter, PieceTarget, Primary, Reference, Referring,
+    Repeated, RoutineLine, Sign, Spaced, SpecialVariable, Step, Target, Truth,
 };
 pub use words::{function_of, keyword_of, special_of};
 pub use write::{write_line, write_routine_line};

@@ -134,6 +134,12 @@ pub enum Reference {
     Global(Name, Vec<Expr>),
     /// A naked reference: its subscripts behind the `^`, which stand in the place of the last one of the global reference before it.
     Naked(Vec<Expr>),
+    /// Name indirection: the operand behind an `@`, whose value is the text of a variable, and the subscripts behind a further `@`,
+    /// of which there may be none.
+    Indirect(Box<Primary>, Vec<Expr>),
+    /// A global variable of an account that is named: the expression between the bars behind the `^`, whose value is the
+    /// account's name, then the variable's name, and its subscripts, of which there may be none.
+    Extended(Box<Expr>, Name, Vec<Expr>),
 }
 
 /// A function of a variable, as `$DATA`, `$GET` and `$ORDER` are: its word behind the `$`, the variable, and the arguments
@@ -225,6 +231,25 @@ pub enum Entry {
     Routine(Name),
 }
 
+/// How an argument of LOCK begins.
+#[derive(Clone, Copy, Debug, PartialEq, Eq)]
+pub enum LockKind {
+    /// Without a sign: the locks held before are given back.
+    Anew,
+    /// `+`
+    Adding,
+    /// `-`
+    GivingBack,
+}
+
+/// What an argument of LOCK names.
+#[derive(Drop)]
+pub enum Locked {
+    One(Reference),
+    /// A list in brackets.
+    Several(Vec<Reference>),
+}
+
 /// An argument of a command.
 #[derive(Drop)]
 pub enum Arg {
@@ -252,6 +277,10 @@ pub enum Arg {
     GoTo(Entry, Option<Box<Expr>>),
     /// Of XECUTE: a text, and its own postconditional.
     Executed(Expr, Option<Box<Expr>>),
+    /// Of LOCK: how it begins, what it names, and its timeout.
+    Lock(LockKind, Locked, Option<Box<Expr>>),
+    /// Argument indirection: the word that the command has, and the operand behind an `@`, whose value is the text of arguments.
+    Indirect(Keyword, Primary),
 }
 
 /// What a command's word says.
@@ -268,6 +297,8 @@ pub enum Keyword {
     Do,
     Goto,
     Execute,
+    Lock,
+    Halt,
 }
 
 /// A command: what its word says, the word as it is written, its postconditional where it has one, and its arguments.

@@ -39,6 +39,10 @@ pub fn keyword_of(word: &[u8]) -> Option<Keyword>
         Some(Keyword::Goto)
     } else if is_either(word, b"x", b"xecute") {
         Some(Keyword::Execute)
+    } else if is_either(word, b"l", b"lock") {
+        Some(Keyword::Lock)
+    } else if is_either(word, b"h", b"halt") {
+        Some(Keyword::Halt)
     } else {
         None
     }

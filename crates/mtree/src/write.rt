@@ -1,16 +1,16 @@
 // The text of a line: each function appends the spelling of its part, as `mgrammar` has it.
 ghost use Rattle.std.specs.Prelude.{◌≡◌, ◌++◌, ◌∷◌, [], List, ℕ, IfOk, OnOk, map, option_map};
-ghost use Rattle.mgrammar.specs.Grammar.{assign, loop, spell_place, spell_target, spell_destination, spell_names, spell_parameter, spell_entry, spell_arg, spell_condition, spell_args, spell_comment, spell_command, spell_commands, spell};
-ghost use Rattle.mgrammar.specs.Grammar.{do_one, go_to, executed};
+ghost use Rattle.mgrammar.specs.Grammar.{assign, loop, spell_place, spell_target, spell_destination, spell_names, spell_parameter, spell_entry, spell_kind, spell_locked, spell_arg, spell_condition, spell_args, spell_comment, spell_command, spell_commands, spell};
+ghost use Rattle.mgrammar.specs.Grammar.{do_one, go_to, executed, locked, spell_primary, spell_reference};
 ghost use Rattle.mgrammar.specs.RoutineLine.{spell_dots, spell_label, spell_body, spell_routine_line};
-ghost use Rattle.mtree.specs.Tree.{expr_tree, piece_tree, target_tree, destination_tree, parameter_tree, entry_tree, arg_tree, command_tree, spaced_tree, line_tree, condition_tree, body_tree, routine_line_tree};
+ghost use Rattle.mtree.specs.Tree.{expr_tree, primary_tree, piece_tree, target_tree, destination_tree, parameter_tree, entry_tree, kind_tree, locked_tree, reference_tree, arg_tree, command_tree, spaced_tree, line_tree, condition_tree, body_tree, routine_line_tree};
 
-use crate::expression::{put_expr, put_reference, put_word};
+use crate::expression::{put_expr, put_primary, put_reference, put_word};
 use crate::list::{Listed, put_list};
 use crate::pieces::{put_run, put_text};
 use crate::tree::{
-    Arg, Body, Command, Destination, Entry, Expr, Line, Parameter, PieceTarget, RoutineLine,
-    Spaced, Target,
+    Arg, Body, Command, Destination, Entry, Expr, Line, LockKind, Locked, Parameter, PieceTarget,
+    Primary, Reference, RoutineLine, Spaced, Target,
 };
 use mnum::{Bytes7, Name};
 use std::alloc::{AllocError, Global};
@@ -170,6 +170,59 @@ fn put_execution(
     put_condition(out, condition)
 }
 
+fn put_kind(out: &mut Bytes7, kind: LockKind) -> Result<(), AllocError>
+    ensures { OnOk result (out.new ≡ out.old ++ spell_kind (kind_tree kind)) }
+{
+    match kind {
+        LockKind::Anew => Ok(()),
+        LockKind::Adding => out.push(b'+'),
+        LockKind::GivingBack => out.push(b'-'),
+    }
+}
+
+impl Listed for Reference {
+    ghost spelling = { λ reference. spell_reference (reference_tree reference) };
+
+    fn put(&self, out: &mut Bytes7) -> Result<(), AllocError> {
+        put_reference(out, self)
+    }
+}
+
+fn put_locked(out: &mut Bytes7, locked: &Locked) -> Result<(), AllocError>
+    ensures { OnOk result (out.new ≡ out.old ++ spell_locked (locked_tree locked.now)) }
+{
+    match locked {
+        Locked::One(reference) => put_reference(out, reference),
+        Locked::Several(references) => {
+            out.push(b'(')?;
+            put_list(out, references)?;
+            out.push(b')')
+        }
+    }
+}
+
+// How it begins, what it names, and a timeout where there is one.
+fn put_lock(
+    out: &mut Bytes7,
+    kind: LockKind,
+    names: &Locked,
+    timeout: &Option<Box<Expr>>,
+) -> Result<(), AllocError>
+    ensures { OnOk result (out.new ≡ out.old ++ spell_arg (locked (kind_tree kind) (locked_tree names.now) (condition_tree timeout.now))) }
+{
+    put_kind(out, kind)?;
+    put_locked(out, names)?;
+    put_condition(out, timeout)
+}
+
+// Behind an `@`.
+fn put_operand(out: &mut Bytes7, operand: &Primary) -> Result<(), AllocError>
+    ensures { OnOk result (out.new ≡ out.old ++ 64 ∷ spell_primary (primary_tree operand.now)) }
+{
+    out.push(b'@')?;
+    put_primary(out, operand)
+}
+
 impl Listed for Arg {
     ghost spelling = { λ arg. spell_arg (arg_tree arg) };
 
@@ -187,6 +240,8 @@ impl Listed for Arg {
             Arg::DoOne(entry, condition) => put_conditioned_entry(out, entry, condition),
             Arg::GoTo(entry, condition) => put_conditioned_entry(out, entry, condition),
             Arg::Executed(text, condition) => put_execution(out, text, condition),
+            Arg::Lock(kind, names, timeout) => put_lock(out, *kind, names, timeout),
+            Arg::Indirect(_, operand) => put_operand(out, operand),
         }
     }
 }

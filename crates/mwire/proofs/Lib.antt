@@ -12,3 +12,4 @@ pub mod Results
 pub mod ServedLines
 pub mod StoreFaults
 pub mod Sends
+pub mod RepliesSent

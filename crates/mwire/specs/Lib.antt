@@ -5,3 +5,4 @@ pub mod Answers
 pub mod Watched
 pub mod Serves
 pub mod Progress
+pub mod Only

@@ -9,15 +9,15 @@ mod events;
 mod fate;
 mod fault;
 mod line_buffer;
+mod only;
 mod reply;
 mod serving;
-#[cfg(test)]
-mod tests;
 mod watched;
 pub mod wire_laws;
 
 pub use events::read_events;
 pub use fault::WireFault;
+pub use only::serve_only;
 pub use reply::push_reply;
 pub use serving::serve;
 pub use watched::Watched;

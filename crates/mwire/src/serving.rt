@@ -141,7 +141,7 @@ fn answer_line<S: NodeStore, W: Write>(
 }
 
 // Puts the bytes that show a reply into the room, in the place of what it had.
-fn show_reply(room: &mut Vec<u8>, terminal: u32, reply: &Reply) -> Result<(), WireFault>
+pub(crate) fn show_reply(room: &mut Vec<u8>, terminal: u32, reply: &Reply) -> Result<(), WireFault>
     ensures ok { OnOk result (room.new.items ≡ reply_text terminal (reply_of reply.now)) }
     ensures fault { IfErr result (λ e. e ≡ WireFault.Memory) }
 {
@@ -153,7 +153,7 @@ fn show_reply(room: &mut Vec<u8>, terminal: u32, reply: &Reply) -> Result<(), Wi
 }
 
 // Writes all of these bytes, or a front of them.
-fn write_whole<W: Write>(writer: &mut Watched<W>, bytes: &[u8]) -> Result<(), WireFault>
+pub(crate) fn write_whole<W: Write>(writer: &mut Watched<W>, bytes: &[u8]) -> Result<(), WireFault>
     ensures sent { FrontSent bytes.now (W.contents (inner_of writer.old)) (W.contents (inner_of writer.new)) (is_ok result) }
     ensures fault { IfErr result (λ e. (e ≡ WireFault.Write) × WriteBroke writer.old writer.new) }
     ensures works { OnOk result (failed_of writer.new ≡ failed_of writer.old) }

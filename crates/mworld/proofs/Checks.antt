@@ -1,12 +1,14 @@
 -- The checks that come before a line's text is parsed.
-use Rattle.std.proofs.Common.{◌≡◌, ℕ, true, false, Some, None, refl, sym, ap, ◌∙◌, length, ◌<◌, ◌≤◌, arith, List, [], ◌∷◌, zero, suc}
-use Rattle.std.specs.Prelude.{slice_get, unwrap_or, option_map}
+use Rattle.std.proofs.Common.{◌≡◌, ℕ, true, false, Some, None, refl, sym, ap, subst, ◌∙◌, length, ◌<◌, ◌≤◌, arith, List, [], ◌∷◌, zero, suc}
+use Rattle.std.specs.Prelude.{slice_get, unwrap_or, option_map, Err}
 use Rattle.std.specs.FinMap.{get}
 use Rattle.std.proofs.lemmas.Bool.Decides.{nat_tests}
 use Rattle.mspec.specs.Access.{Settings, account_at, account_of}
-use Rattle.mmeaning.specs.Step.{Account, Event, Server, normal, refused, checked, at_account, at_tree, is_too_long, is_ascii}
+use Rattle.mmeaning.specs.Step.{Account, Event, Reply, Server, Step, Faulted, normal, refused, checked, at_account, at_tree, is_too_long, is_ascii}
 use Rattle.mspec.specs.Code.{Zterm, Zline, Zchar}
-use Rattle.mworld.specs.Admits.{Passes}
+use Rattle.moperator.specs.Codes.{fault_of}
+use Rattle.moperator.specs.declared.code.Code.{Code}
+use Rattle.mworld.specs.Admits.{Passes, Admits}
 
 -- the account at a place that is among them
 at_place : (accounts : List Account) (place : ℕ) → place < length accounts → (account : Account) × (slice_get accounts place ≡ Some account)
@@ -54,3 +56,8 @@ is_short text h = grind (arith, nat_tests)
 
 pub is_long : (text : List ℕ) → 255 < length text → is_too_long text ≡ true
 is_long text h = grind (arith, nat_tests)
+
+-- a line that they refuse is a step that changes nothing
+pub refused_step : (settings : Settings) (e : Event) (code : Code) (reply : Reply) (server : Server) → Admits settings e (Err code) → reply ≡ record { out = []; ending = Faulted (fault_of code) } → Step settings e reply server server
+refused_step settings e code reply server admits is =
+    subst (λ r. Step settings e r server server) (sym (is ∙ ap (λ fault. record { out = []; ending = Faulted fault }) admits.1)) (admits.2 server)

@@ -1,3 +1,4 @@
 pub mod Checks
 pub mod Runs
 mod Sessions
+pub mod Tellings

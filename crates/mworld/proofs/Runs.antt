@@ -1,14 +1,11 @@
 -- A line's step, from the run of its text.
-use Rattle.std.proofs.Common.{◌≡◌, ℕ, [], Option, None, Bool, true, false, not, cond, Vec, Global, refl, sym, ap, subst, ◌∙◌}
-use Rattle.std.specs.Prelude.{nat_eq}
+use Rattle.std.proofs.Common.{◌≡◌, ℕ, [], true, false, Vec, Global, refl, sym, ap, subst, ◌∙◌}
 use Rattle.std.specs.Ordering.{nat_cmp}
-use Rattle.std.specs.FinMap.{FinMap, get, insert, remove, empty, get-empty, same_map}
+use Rattle.std.specs.FinMap.{FinMap, get, insert, remove}
 use Rattle.mspec.specs.Code as spec
 use Rattle.mspec.specs.Code.{Own, Lost, Memory, Store}
 use Rattle.mspec.specs.Plan.{perform, cut_short}
-use Rattle.mspec.specs.LockConflict.{Locks, held_cmp, released}
-use Rattle.mspec.proofs.LockOrders.{held_cmp_total, held_cmp_exact}
-use Rattle.mspec.proofs.MapCuts.{get_cut}
+use Rattle.mspec.specs.LockConflict.{Locks, released}
 use Rattle.mspec.specs.Access.{Settings, name_at, steps_at}
 use Rattle.mspec.specs.Act.{Text, Act, State, Gives, Fails, level_begun}
 use Rattle.mgrammar.specs.Reading.{line_at}
@@ -17,7 +14,9 @@ use Rattle.mmeaning.specs.Step as step
 use Rattle.mmeaning.specs.Step.{Account, World, Event, Server, Step, FailedStep, lost, StepBy, normal, begun, kept, ended, settled, session_or_new, text_run, is_failure, is_lost, Ending, Finished, Halted, Faulted, act}
 use Rattle.mmeaning.specs.Calls.{Standing, Here, IsCut, FailedBy, ops_of, point}
 use Rattle.mspec.proofs.Plans.{cut_whole}
+use Rattle.mmeaning.specs.StepLaws.{OthersKeepLocks}
 use Rattle.mmeaning.proofs.Calls.{cut_all}
+use Rattle.mmeaning.proofs.OtherLocks.{others_kept}
 use Rattle.mstore.specs.declared.store.NodeStore.{Ghosts}
 use Rattle.moperator.specs.Codes.{fault_of}
 use Rattle.moperator.specs.declared.code.Code.{Code}
@@ -76,28 +75,21 @@ is_cut b steady p h Done h' d = cut_all b p h d.0 h' d.2
 is_cut b steady p h Halt h' d = cut_all b p h d.0 h' d.2
 is_cut b steady p h (Fault c) h' d = is_cut_by b steady p h (fault_of c) h' d
 
-pub none_held : (t : ℕ) → released empty t ≡ empty
-none_held t = same_map held_cmp_total held_cmp_exact _ _ (λ h. get_cut held_cmp_total held_cmp_exact empty (λ h. not (nat_eq h.terminal t)) h ∙ ap (λ o. cond (not (nat_eq h.terminal t)) o None) (get-empty held_cmp h) ∙ nothing (not (nat_eq h.terminal t)) ∙ sym (get-empty held_cmp h))
-  where
-    nothing : (b : Bool) → ◌≡◌ {A = Option ℕ} (cond b None None) None
-    nothing true = refl
-    nothing false = refl
-
 -- ---- steps
 
-module _ {S : Type 0} (g : Ghosts S) (settings : Settings) (e : Event) (place : ℕ) (sessions : FinMap nat_cmp step.Session) (old new : Session) (store store' : S) (reply : Reply) (passes : Passes settings e place)
-    (same : session_of old ≡ session_or_new (get sessions e.terminal)) (ran : Ran g settings e.terminal place e.text old store reply new store') (sound : g.sound) where
+module _ {S : Type 0} (g : Ghosts S) (settings : Settings) (e : Event) (place : ℕ) (sessions : FinMap nat_cmp step.Session) (old new : Session) (store store' : S) (locks locks' : Locks) (reply : Reply) (passes : Passes settings e place)
+    (same : session_of old ≡ session_or_new (get sessions e.terminal)) (ran : Ran g settings e.terminal place e.text old store locks reply new store' locks') (sound : g.sound) where
   abbrev server : Server
-  server = record { world = shared g store; sessions = sessions }
+  server = record { world = shared g store locks; sessions = sessions }
 
   abbrev b : Standing
   b = record { settings = settings; terminal = e.terminal; account = name_at settings place }
 
   abbrev here : Here
-  here = point (level_begun old.locals) old.naked old.test [] (steps_at settings place) (shared g store)
+  here = point (level_begun old.locals) old.naked old.test [] (steps_at settings place) (shared g store locks)
 
   abbrev there : Here
-  there = point new.locals new.naked new.test reply.out.items ran.left (shared g store')
+  there = point new.locals new.naked new.test reply.out.items ran.left (shared g store' locks')
 
   ends : EndsBy b g.steady (text_run (name_at settings place) (line_at e.text)) here reply.ending there
   ends = ran.at sound
@@ -117,11 +109,15 @@ module _ {S : Type 0} (g : Ghosts S) (settings : Settings) (e : Event) (place : 
           ∙ ap (λ (s : Server). (reply_of reply, s)) (sym stored)
 
   -- one that is lost, also where it was run to its end: what it left of its session is gone
-  pub lost_step : (after : Server) (answer : step.Reply) (loss : spec.Loss) → after ≡ record { world = shared g store'; sessions = remove sessions e.terminal } → answer ≡ lost (Faulted (Lost loss)) → Step settings e answer server after
+  pub lost_step : (after : Server) (answer : step.Reply) (loss : spec.Loss) → after ≡ record { world = shared g store' (released locks' e.terminal); sessions = remove sessions e.terminal } → answer ≡ lost (Faulted (Lost loss)) → Step settings e answer server after
   lost_step after answer loss gone is = subst (λ r. Step settings e r server after) (sym is) (refl, failed)
     where
       cut : IsCut b (text_run (name_at settings place) (line_at e.text)) here there
       cut = is_cut b g.steady (text_run (name_at settings place) (line_at e.text)) here reply.ending there ends
+
+      -- whatever was done for the terminal, others hold what they held
+      others : OthersKeepLocks settings e.terminal (name_at settings place) (text_run (name_at settings place) (line_at e.text) here.0) here.1
+      others = others_kept settings e.terminal (name_at settings place) (text_run (name_at settings place) (line_at e.text) here.0) here.1
 
       failed : FailedStep settings e server after
       failed = record {
@@ -133,14 +129,14 @@ module _ {S : Type 0} (g : Ghosts S) (settings : Settings) (e : Event) (place : 
         globals =
             ap (λ (s : Server). s.world.globals) gone ∙ sym (ap (λ (w : World). w.globals) cut.1)
             ∙ (λ i. (cut_short (act settings e.terminal (sym passes.name i)) cut.0 (text_run (sym passes.name i) (line_at e.text) (sym begins i)) server.world).globals);
-        locks = ap (λ (s : Server). s.world.locks) gone ∙ sym (none_held e.terminal);
+        locks = ap (λ (s : Server). s.world.locks) gone ∙ sym (ap (λ (w : World). released w.locks e.terminal) cut.1) ∙ others.short cut.0;
         sessions = ap (λ (s : Server). s.sessions) gone;
       }
 
 -- a line that was not run for a loss
-pub unrun_step : {S : Type 0} (g : Ghosts S) (settings : Settings) (e : Event) (place : ℕ) (sessions : FinMap nat_cmp step.Session) (store : S) (passes : Passes settings e place) (after : Server) (answer : step.Reply) (loss : spec.Loss)
-    → after ≡ record { world = shared g store; sessions = remove sessions e.terminal } → answer ≡ lost (Faulted (Lost loss)) → Step settings e answer (record { world = shared g store; sessions = sessions }) after
-unrun_step g settings e place sessions store passes after answer loss gone is = subst (λ r. Step settings e r (record { world = shared g store; sessions = sessions }) after) (sym is) (
+pub unrun_step : {S : Type 0} (g : Ghosts S) (settings : Settings) (e : Event) (place : ℕ) (sessions : FinMap nat_cmp step.Session) (store : S) (locks : Locks) (passes : Passes settings e place) (after : Server) (answer : step.Reply) (loss : spec.Loss)
+    → after ≡ record { world = shared g store (released locks e.terminal); sessions = remove sessions e.terminal } → answer ≡ lost (Faulted (Lost loss)) → Step settings e answer (record { world = shared g store locks; sessions = sessions }) after
+unrun_step g settings e place sessions store locks passes after answer loss gone is = subst (λ r. Step settings e r (record { world = shared g store locks; sessions = sessions }) after) (sym is) (
   refl,
   record {
     account = passes.account;
@@ -149,49 +145,47 @@ unrun_step g settings e place sessions store passes after answer loss gone is = 
     ascii = passes.ascii;
     operations = 0;
     globals = ap (λ (s : Server). s.world.globals) gone;
-    locks = ap (λ (s : Server). s.world.locks) gone ∙ sym (none_held e.terminal);
+    locks = ap (λ (s : Server). s.world.locks) gone;
     sessions = ap (λ (s : Server). s.sessions) gone;
   },
 )
 
--- the session, with a level begun, the store and the output are those that were lent
-pub ran_over : {S : Type 0} {g : Ghosts S} {text : Text} {old new : Parts S} {ended : Ended} {session session' : Session} {store' : S} {out : Vec ℕ Global} → RunsText g (line_at text) old ended new → old.eval.steps ≡ steps_at old.eval.settings.now old.eval.account
-    → old.out.now.items ≡ [] → old.eval.session.now ≡ record session { locals = level_begun session.locals } → session' ≡ new.eval.session.now → store' ≡ new.eval.store.now → out ≡ new.out.now
-    → Ran g old.eval.settings.now old.eval.terminal old.eval.account text session old.eval.store.now (record { out = out; ending = ended }) session' store'
-ran_over {g = g} {text = text} {old = old} {new = new} {ended = ended} runs steps first begun s u o = record {
+-- the session, with a level begun, the store, the locks and the output are those that were lent
+pub ran_over : {S : Type 0} {g : Ghosts S} {text : Text} {old new : Parts S} {ended : Ended} {session session' : Session} {store' : S} {locks' : Locks} {out : Vec ℕ Global} → RunsText g (line_at text) old ended new → old.eval.steps ≡ steps_at old.eval.settings.now old.eval.account
+    → old.out.now.items ≡ [] → old.eval.session.now ≡ record session { locals = level_begun session.locals } → session' ≡ new.eval.session.now → store' ≡ new.eval.store.now → locks' ≡ new.locks.now → out ≡ new.out.now
+    → Ran g old.eval.settings.now old.eval.terminal old.eval.account text session old.eval.store.now old.locks.now (record { out = out; ending = ended }) session' store' locks'
+ran_over {g = g} {text = text} {old = old} {new = new} {ended = ended} runs steps first begun s u l o = record {
   left = new.eval.steps;
   at = λ sound.
       subst (λ (q : Here × Here). EndsBy (standing_of old.eval) g.steady (text_run (standing_of old.eval).account (line_at text)) q.0 ended q.1)
       (λ i. (
-        point (begun i).locals (begun i).naked (begun i).test (first i) (steps i) (shared g old.eval.store.now),
-        point (sym s i).locals (sym s i).naked (sym s i).test (sym o i).items new.eval.steps (shared g (sym u i)),
+        point (begun i).locals (begun i).naked (begun i).test (first i) (steps i) (shared g old.eval.store.now old.locks.now),
+        point (sym s i).locals (sym s i).naked (sym s i).test (sym o i).items new.eval.steps (shared g (sym u i) (sym l i)),
       ))
-      (runs.at sound empty);
+      (runs.at sound);
 }
 
 -- a text that was not run for want of memory
-pub not_run : {S : Type 0} {g : Ghosts S} {settings : Settings} {terminal place : ℕ} {text : Text} {session session' : Session} {store store' : S} {reply : Reply} → reply.ending ≡ Fault Zmem → store' ≡ store
-    → Ran g settings terminal place text session store reply session' store'
-not_run {g = g} {settings = settings} {terminal = terminal} {place = place} {text = text} {session = session} {session' = session'} {store = store} {store' = store'} {reply = reply} is same = record {
+pub not_run : {S : Type 0} {g : Ghosts S} {settings : Settings} {terminal place : ℕ} {text : Text} {session session' : Session} {store store' : S} {locks locks' : Locks} {reply : Reply} → reply.ending ≡ Fault Zmem → store' ≡ store → locks' ≡ locks
+    → Ran g settings terminal place text session store locks reply session' store' locks'
+not_run {g = g} {settings = settings} {terminal = terminal} {place = place} {text = text} {session = session} {session' = session'} {store = store} {store' = store'} {locks = locks} {locks' = locks'} {reply = reply} is same unlocked = record {
   left = 0;
   at = λ sound.
       subst (λ (ending : Ended). EndsBy (record { settings = settings; terminal = terminal; account = name_at settings place }) g.steady (text_run (name_at settings place) (line_at text))
-      (point (level_begun session.locals) session.naked session.test [] (steps_at settings place) (shared g store)) ending
-      (point session'.locals session'.naked session'.test reply.out.items 0 (shared g store')))
-      (sym is) (0, ap (shared g) (sym same));
+      (point (level_begun session.locals) session.naked session.test [] (steps_at settings place) (shared g store locks)) ending
+      (point session'.locals session'.naked session'.test reply.out.items 0 (shared g store' locks')))
+      (sym is) (0, λ i. shared g (sym same i) (sym unlocked i));
 }
 
 -- what a line leaves that is not lost and does not halt
 pub settles : (t : ℕ) (server : Server) (ending : Ended) (s : State) (w : World) → (ending ≡ Halt → ⊥) → settled t server (ending_of ending) s w ≡ record { world = w; sessions = insert server.sessions t (kept s) }
-settles t server Done s w not_halt = refl
-settles t server Halt s w not_halt = absurd (not_halt refl)
-settles t server (Fault c) s w not_halt = refl
+settles t _ Done s w _ = refl
+settles t _ Halt s w not_halt = absurd (not_halt refl)
+settles t _ (Fault c) s w _ = refl
 
--- and one that halts, where no lock is held
-pub halts : (t : ℕ) (server : Server) (ending : Ended) (s : State) (w : World) → ending ≡ Halt → w.locks ≡ empty → settled t server (ending_of ending) s w ≡ record { world = w; sessions = remove server.sessions t }
-halts t server ending s w is none =
-    ap (λ (x : Ended). settled t server (ending_of x) s w) is
-    ∙ (λ i. record { world = record w { locks = (ap (λ (l : Locks). released l t) none ∙ none_held t ∙ sym none) i }; sessions = remove server.sessions t })
+-- and one that halts
+pub halts : (t : ℕ) (server : Server) (ending : Ended) (s : State) (w : World) → ending ≡ Halt → settled t server (ending_of ending) s w ≡ record { world = record w { locks = released w.locks t }; sessions = remove server.sessions t }
+halts t server ending s w is = ap (λ (x : Ended). settled t server (ending_of x) s w) is
 
 -- an ending that is no code is not lost
 pub not_lost : (ending : Ended) → ((c : Code) → ending ≡ Fault c → ⊥) → is_failure (ending_of ending) ≡ false

@@ -8,7 +8,7 @@ use Rattle.std.specs.BTreeMap as tree
 use Rattle.std.specs.BTreeMap.{BTreeMap, WritesThrough}
 use Rattle.std.specs.FinMap.{FinMap, get, insert, remove, get-insert, get-remove, same_map, nat_cmp-IsAntisymmetric}
 use Rattle.mspec.specs.Maps.{map_of}
-use Rattle.mspec.proofs.Maps.{get-map_of, insert-map_of, remove-map_of, insert-remove}
+use Rattle.mspec.proofs.Maps.{get-map_of, insert-map_of, insert-remove}
 use Rattle.mspec.proofs.MapCuts.{equal_of}
 use Rattle.mmeaning.specs.Step as step
 use Rattle.mmeaning.specs.Step.{new_session, session_or_new}
@@ -52,10 +52,8 @@ module _ (sessions : FinMap nat_cmp step.Session) (t : ℕ) (m : BTreeMap ℕ Se
       ∙ insert-remove nat_cmp_total nat_cmp-IsAntisymmetric sessions t (session_of w)
 
   -- and where it is taken away, nothing is left of it
-  pub gone : (w : Session) (n : BTreeMap ℕ Session) → tree.Updates nat_cmp (lender w) n t None → map_of {R = nat_cmp} session_of n ≡ remove sessions t
-  gone w n u =
-      remove-map_of nat_cmp_total session_of nat_cmp-IsAntisymmetric (lender w) n t u
-      ∙ ap (λ s. remove s t) (left w) ∙ remove-insert sessions t (session_of w)
+  pub gone : (w : Session) → remove (map_of {R = nat_cmp} session_of (lender w)) t ≡ remove sessions t
+  gone w = ap (λ s. remove s t) (left w) ∙ remove-insert sessions t (session_of w)
 
 module _ (t : ℕ) (m : BTreeMap ℕ Session) (s : step.Session) (known : get (map_of {R = nat_cmp} session_of m) t ≡ Some s) where
   -- what is lent of a terminal's entry

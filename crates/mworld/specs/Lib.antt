@@ -1,3 +1,4 @@
 pub mod View
 pub mod Admits
 pub mod Ran
+pub mod Isolated

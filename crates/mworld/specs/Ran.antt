@@ -1,6 +1,7 @@
 -- What a call that runs a text over a session says of the text's meaning.
 use Rattle.std.specs.Prelude.{ℕ, []}
 use Rattle.mspec.specs.Access.{Settings, name_at, steps_at}
+use Rattle.mspec.specs.LockConflict.{Locks}
 use Rattle.mspec.specs.Act.{Text, level_begun}
 use Rattle.mgrammar.specs.Reading.{line_at}
 use Rattle.mmeaning.specs.Step.{text_run}
@@ -12,10 +13,10 @@ use Rattle.mworld.specs.declared.reply.Reply.{Reply}
 use Rattle.mworld.specs.View.{shared}
 
 -- the reply is that of the text, as a level of its own, with the steps of the account at this place
-pub record Ran {S : Type 0} (g : Ghosts S) (settings : Settings) (terminal place : ℕ) (text : Text) (session : Session) (store : S) (reply : Reply) (session' : Session) (store' : S) : Type 0 where
+pub record Ran {S : Type 0} (g : Ghosts S) (settings : Settings) (terminal place : ℕ) (text : Text) (session : Session) (store : S) (locks : Locks) (reply : Reply) (session' : Session) (store' : S) (locks' : Locks) : Type 0 where
   pub left : ℕ
   pub at :
       g.sound →
       EndsBy (record { settings = settings; terminal = terminal; account = name_at settings place }) g.steady (text_run (name_at settings place) (line_at text))
-      (point (level_begun session.locals) session.naked session.test [] (steps_at settings place) (shared g store)) reply.ending
-      (point session'.locals session'.naked session'.test reply.out.items left (shared g store'))
+      (point (level_begun session.locals) session.naked session.test [] (steps_at settings place) (shared g store locks)) reply.ending
+      (point session'.locals session'.naked session'.test reply.out.items left (shared g store' locks'))

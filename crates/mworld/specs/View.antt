@@ -1,11 +1,16 @@
 -- A world and a reply of the program as those of the definitions.
+use Rattle.std.specs.Prelude.{ℕ}
 use Rattle.std.specs.Ordering.{nat_cmp}
-use Rattle.std.specs.FinMap.{empty}
+use Rattle.std.specs.BTreeMap.{BTreeMap}
+use Rattle.std.specs.FinMap.{FinMap}
 use Rattle.mspec.specs.Maps.{map_of}
 use Rattle.mspec.specs.Access.{Settings}
+use Rattle.mspec.specs.LockConflict.{Locks}
 use Rattle.mmeaning.specs.Step as step
 use Rattle.mmeaning.specs.Step.{Server}
+use Rattle.misolation.specs.Cut.{IsFit}
 use Rattle.mstore.specs.declared.store.NodeStore.{Ghosts}
+use Rattle.meval.specs.declared.session.Session.{Session}
 use Rattle.meval.specs.Sessions.{session_of}
 use Rattle.mexec.specs.Runs.{ending_of}
 use Rattle.mworld.specs.declared.reply.Event.{Event}
@@ -15,15 +20,22 @@ use Rattle.mworld.specs.declared.world.World.{World}
 abbrev pub settings_of : {S : Type 0} → World S → Settings
 settings_of w = w.settings
 
--- what is shared: no command of this stage takes a lock
-abbrev pub shared : {S : Type 0} → Ghosts S → S → step.World
-shared g store = record { globals = g.content store; locks = empty }
+-- what all terminals share
+abbrev pub shared : {S : Type 0} → Ghosts S → S → Locks → step.World
+shared g store locks = record { globals = g.content store; locks = locks }
+
+abbrev pub sessions_of : BTreeMap ℕ Session → FinMap nat_cmp step.Session
+sessions_of m = map_of {R = nat_cmp} session_of m
 
 abbrev pub server_of : {S : Type 0} → Ghosts S → World S → Server
-server_of g w = record { world = shared g w.store; sessions = map_of {R = nat_cmp} session_of w.sessions }
+server_of g w = record { world = shared g w.store w.locks; sessions = sessions_of w.sessions }
 
 abbrev pub reply_of : Reply → step.Reply
 reply_of r = record { out = r.out.items; ending = ending_of r.ending }
 
 abbrev pub event_of : Event → step.Event
 event_of e = record { terminal = e.terminal; text = e.text.items }
+
+-- Each lock that is held is on a name that its terminal's account may hold: one without `^` of its own, or a global that it may write.
+abbrev pub HasFittingLocks : {S : Type 0} → Ghosts S → World S → Type 0
+HasFittingLocks g w = IsFit (settings_of w) (server_of g w).world

@@ -2,10 +2,13 @@
 #![tactic(auto)]
 
 mod admission;
+mod isolated;
 mod reply;
 mod run;
+mod terminals;
 mod world;
 
+pub use isolated::{Isolated, Told, isolated_replies};
 pub use mexec::{Ended, LINE_END};
 pub use moperator::Code;
 pub use reply::{Event, Reply};

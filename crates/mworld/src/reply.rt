@@ -1,9 +1,10 @@
 // Events and replies.
 ghost use Rattle.std.specs.Prelude.{◌≡◌, []};
-ghost use Rattle.mmeaning.specs.Step.{Faulted};
+ghost use Rattle.mmeaning.specs.Step.{Faulted, is_failure};
 ghost use Rattle.moperator.specs.Codes.{fault_of};
 ghost use Rattle.mworld.specs.View.{reply_of};
 
+use crate::world::loses_session;
 use mexec::Ended;
 use moperator::Code;
 use std::alloc::Global;
@@ -26,6 +27,16 @@ pub struct Reply {
 }
 
 impl Reply {
+    // Whether it says that memory or the store did not suffice for the line.
+    pub(crate) fn is_failed(&self) -> bool
+        ensures { result ≡ is_failure (reply_of self.now).ending }
+    {
+        match self.ending {
+            Ended::Fault(code) => loses_session(code),
+            _ => false,
+        }
+    }
+
     // The reply of a line that was not run, or whose run is lost.
     pub(crate) fn refused(alloc: Global, code: Code) -> Reply
         ensures { reply_of result ≡ record { out = []; ending = Faulted (fault_of code) } }

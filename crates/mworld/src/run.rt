@@ -7,6 +7,7 @@ use crate::reply::Reply;
 use meval::{Depth, Eval, Session};
 use mexec::{Ended, Machine, Parts, run_text};
 use mgrant::{AccountId, Settings};
+use mlock::Locks;
 use moperator::Code;
 use mstore::NodeStore;
 use std::alloc::Global;
@@ -30,10 +31,11 @@ pub(crate) fn run_over<S: NodeStore>(
     text: &[u8],
     session: &mut Session,
     store: &mut S,
+    locks: &mut Locks,
     machine: &mut Machine,
     room: &mut Vec<u8>,
 ) -> Reply
-    ensures ran { Ran S.NodeStore settings.now terminal account text.now session.old store.old result session.new store.new }
+    ensures ran { Ran S.NodeStore settings.now terminal account text.now session.old store.old locks.old result session.new store.new locks.new }
     ensures steady { S.steady → result.ending ≢ Ended.Fault Zstore }
 {
     let mut out = taken(alloc, room);
@@ -57,6 +59,7 @@ pub(crate) fn run_over<S: NodeStore>(
                 indirections: 0,
             },
         },
+        locks,
         out: &mut out,
     };
     let ending = run_text(alloc, &mut parts, machine, text);

@@ -1,34 +1,37 @@
-// The world: one session for each terminal, over a store.
-ghost use Rattle.std.specs.Prelude.{◌≡◌, ◌≢◌, ◌≤◌, Some, None, OnOk, OnErr, IfOk, IfErr};
-ghost use Rattle.std.specs.FinMap.{empty, get, remove};
-ghost use Rattle.mmeaning.specs.Step.{Step, is_lost, session_or_new};
+// The world: one session for each terminal, and the locks of all, over a store.
+ghost use Rattle.std.specs.Prelude.{◌≡◌, ◌≢◌, ◌≤◌, IfOk, IfErr};
+ghost use Rattle.mmeaning.specs.Step.{Step, is_lost};
 ghost use Rattle.mmeaning.specs.History.{opening};
 ghost use Rattle.moperator.specs.Codes.{fault_of};
 ghost use Rattle.moperator.specs.declared.code.Code.TheVariants.{Zstore};
-ghost use Rattle.meval.specs.Sessions.{session_of};
-ghost use Rattle.mworld.specs.View.{settings_of, server_of, reply_of};
+ghost use Rattle.misolation.specs.Reach.{Accounts, IsClosed};
+ghost use Rattle.misolation.specs.StepLaws.{IsolatedStep};
+ghost use Rattle.mworld.specs.View.{settings_of, server_of, reply_of, HasFittingLocks};
 ghost use Rattle.mworld.specs.Admits.{Passes};
 
 use crate::admission::admitted;
 use crate::reply::Reply;
 use crate::run::run_over;
+use crate::terminals::{begin_session, end_session};
 use meval::Session;
 use mexec::{Ended, Machine};
 use mgrant::{AccountId, Settings};
+use mlock::Locks;
 use moperator::Code;
 use mstore::NodeStore;
-use std::alloc::{AllocError, Global};
+use std::alloc::Global;
 use std::collections::BTreeMap;
 
 // How many texts' trees a world keeps.
 const KEPT_TREES: usize = 256;
 
-/// The sessions of all terminals over a store, with the settings that say whose the terminals are. Contracts see it by `server_of`,
-/// as the server of the definitions, and by `settings_of`.
+/// The sessions and the locks of all terminals over a store, with the settings that say whose the terminals are. Contracts see it by
+/// `server_of`, as the server of the definitions, and by `settings_of`.
 #[derive(Drop)]
 pub struct World<S> {
     settings: Settings,
     sessions: BTreeMap<u32, Session>,
+    locks: Locks,
     store: S,
     // what lines of all accounts run with
     machine: Machine,
@@ -38,8 +41,8 @@ pub struct World<S> {
 }
 
 impl<S: NodeStore> World<S> {
-    /// A world without a session, over a store. It keeps the trees of the last 256 texts that were run, of all accounts; which they are shows
-    /// in no reply.
+    /// A world without a session and without a lock, over a store. It keeps the trees of texts that were run, of all accounts, of 256 texts at
+    /// most; which they are shows in no reply.
     ///
     /// # Errors
     ///
@@ -47,6 +50,7 @@ impl<S: NodeStore> World<S> {
     pub fn new(alloc: Global, settings: Settings, store: S) -> Result<World<S>, (Settings, S)>
         ensures server { IfOk result (λ world. server_of S.NodeStore world ≡ opening (S.content store)) }
         ensures settings { IfOk result (λ world. settings_of world ≡ settings) }
+        ensures fit { IfOk result (λ world. HasFittingLocks S.NodeStore world) }
         ensures back { IfErr result (λ back. back ≡ (settings, store)) }
     {
         World::with_entries(alloc, settings, store, KEPT_TREES)
@@ -66,6 +70,7 @@ impl<S: NodeStore> World<S> {
         requires { 1 ≤ entries }
         ensures server { IfOk result (λ world. server_of S.NodeStore world ≡ opening (S.content store)) }
         ensures settings { IfOk result (λ world. settings_of world ≡ settings) }
+        ensures fit { IfOk result (λ world. HasFittingLocks S.NodeStore world) }
         ensures back { IfErr result (λ back. back ≡ (settings, store)) }
     {
         let Ok(machine) = Machine::new(alloc, entries) else {
@@ -74,6 +79,7 @@ impl<S: NodeStore> World<S> {
         Ok(World {
             settings,
             sessions: BTreeMap::new(alloc),
+            locks: Locks::new(alloc),
             store,
             machine,
             room: Vec::new(alloc),
@@ -90,10 +96,18 @@ impl<S: NodeStore> World<S> {
 
     /// Runs a line of a terminal, to its end: one step of the definitions, where the store is sound.
     ///
-    /// The reply says how it ended. `Zterm`, `Zline` and `Zchar` change nothing. After `Zmem` and `Zstore` there is no output, and the
-    /// terminal's session is gone; they can come anywhere after the check for `Zchar`, and `Zstore` never over a steady store.
+    /// The reply says how it ended. `Zterm`, `Zline` and `Zchar` change nothing. After HALT the terminal's session and its locks are gone, and
+    /// so they are after `Zmem` and `Zstore`, when there is no output; these can come anywhere after the check for `Zchar`, and `Zstore` never
+    /// over a steady store.
+    ///
+    /// **It keeps every closed set of accounts apart from the others**, where the locks held are on names that their terminals' accounts may
+    /// hold: so they are in a new world, and so each call leaves them. At a member's terminal it is that step over what is left where there
+    /// is nothing but the set, with the same reply; at any other terminal it leaves that as it was.
     pub fn line(&mut self, terminal: u32, text: &[u8]) -> Reply
         ensures step { S.sound → Step (settings_of self.old) (record { terminal = terminal; text = text.now }) (reply_of result) (server_of S.NodeStore self.old) (server_of S.NodeStore self.new) }
+        ensures isolated { S.sound → HasFittingLocks S.NodeStore self.old → (s : Accounts) → IsClosed (settings_of self.old) s →
+            IsolatedStep s (settings_of self.old) (record { terminal = terminal; text = text.now }) (reply_of result) (server_of S.NodeStore self.old) (server_of S.NodeStore self.new) }
+        ensures fit { S.sound → HasFittingLocks S.NodeStore self.old → HasFittingLocks S.NodeStore self.new }
         ensures settings { settings_of self.new ≡ settings_of self.old }
         ensures steady { S.steady → result.ending ≢ Ended.Fault Zstore }
     {
@@ -101,6 +115,13 @@ impl<S: NodeStore> World<S> {
             Ok(account) => self.run(terminal, account, text),
             Err(code) => Reply::refused(self.alloc, code),
         }
+    }
+
+    // The settings that say whose the terminals are.
+    pub(crate) fn settings(&self) -> &Settings
+        ensures { result.now ≡ settings_of self.now }
+    {
+        &self.settings
     }
 
     /// Takes the room of a reply back for the lines to come, so that they ask for none. Takes no memory.
@@ -111,35 +132,6 @@ impl<S: NodeStore> World<S> {
         self.room = reply.out;
     }
 
-    // Makes a session for a terminal that has none.
-    fn begin_session(&mut self, terminal: u32) -> Result<(), AllocError>
-        ensures session { OnOk result (get (server_of S.NodeStore self.new).sessions terminal ≡ Some (session_or_new (get (server_of S.NodeStore self.old).sessions terminal))) }
-        ensures others { remove (server_of S.NodeStore self.new).sessions terminal ≡ remove (server_of S.NodeStore self.old).sessions terminal }
-        ensures none { OnErr result ((server_of S.NodeStore self.new).sessions ≡ remove (server_of S.NodeStore self.old).sessions terminal) }
-        ensures store { self.new.store ≡ self.old.store }
-        ensures settings { settings_of self.new ≡ settings_of self.old }
-    {
-        if self.sessions.contains_key(&terminal) {
-            return Ok(());
-        }
-        self.put_session(terminal)
-    }
-
-    // Puts a new session where there is none. It stands apart, since a line of a terminal that has one shall not pay for its room.
-    #[cold]
-    #[inline(never)]
-    fn put_session(&mut self, terminal: u32) -> Result<(), AllocError>
-        requires { get (server_of S.NodeStore self.now).sessions terminal ≡ None }
-        ensures session { OnOk result (get (server_of S.NodeStore self.new).sessions terminal ≡ Some (session_or_new (get (server_of S.NodeStore self.old).sessions terminal))) }
-        ensures others { remove (server_of S.NodeStore self.new).sessions terminal ≡ remove (server_of S.NodeStore self.old).sessions terminal }
-        ensures none { OnErr result ((server_of S.NodeStore self.new).sessions ≡ remove (server_of S.NodeStore self.old).sessions terminal) }
-        ensures store { self.new.store ≡ self.old.store }
-        ensures settings { settings_of self.new ≡ settings_of self.old }
-    {
-        self.sessions.insert(terminal, Session::new(self.alloc))?;
-        Ok(())
-    }
-
     // Runs a line that passed the checks before its text is parsed. The session stays where it is, and the line changes it there.
     fn run(&mut self, terminal: u32, account: AccountId, text: &[u8]) -> Reply
         requires { Passes (settings_of self.now) (record { terminal = terminal; text = text.now }) account }
@@ -147,7 +139,8 @@ impl<S: NodeStore> World<S> {
         ensures settings { settings_of self.new ≡ settings_of self.old }
         ensures steady { S.steady → result.ending ≢ Ended.Fault Zstore }
     {
-        let Ok(()) = self.begin_session(terminal) else {
+        let Ok(()) = begin_session(self.alloc, &mut self.sessions, terminal) else {
+            self.locks.release_all(terminal);
             return Reply::refused(self.alloc, Code::Zmem);
         };
         let Some(session) = self.sessions.get_mut(&terminal) else {
@@ -161,17 +154,18 @@ impl<S: NodeStore> World<S> {
             text,
             session,
             &mut self.store,
+            &mut self.locks,
             &mut self.machine,
             &mut self.room,
         );
         if let Ended::Fault(code) = reply.ending {
             if loses_session(code) {
-                let _ = self.sessions.remove(&terminal);
+                end_session(&mut self.sessions, &mut self.locks, terminal);
                 return Reply::refused(self.alloc, code);
             }
         }
         if let Ended::Halt = reply.ending {
-            let _ = self.sessions.remove(&terminal);
+            end_session(&mut self.sessions, &mut self.locks, terminal);
             return reply;
         }
         session.locals.leave_all();
@@ -180,7 +174,7 @@ impl<S: NodeStore> World<S> {
 }
 
 // Whether memory or the store did not suffice for a line.
-fn loses_session(code: Code) -> bool
+pub(crate) fn loses_session(code: Code) -> bool
     ensures { result ≡ is_lost (fault_of code) }
 {
     match code {

@@ -2,6 +2,7 @@
 //! `mtranscript` says what a case looks like.
 #![tactic(auto)]
 
+mod copies;
 mod databases;
 mod drawn;
 mod files;
@@ -13,6 +14,7 @@ mod numbers;
 mod settings;
 mod stores;
 mod texts;
+mod trees;
 mod words;
 
 use mtranscript::{blocks_of, print};
@@ -44,7 +46,9 @@ fn play(rt: &HostRuntime, kind: &str, cases: &[&str], out: &mut Vec<u8>) -> anyh
         "locals" => locals::locals(alloc, cases, out),
         "locks" => locks::locks(alloc, cases, out),
         "settings" => settings::settings(alloc, cases, out),
+        "trees" => trees::trees(alloc, cases, out),
         "stores" => stores::stores(rt, cases, out),
+        "copies" => copies::copies(alloc, cases, out),
         "drawn" => drawn::drawn(rt, cases, out),
         "database" => databases::database(alloc, cases, out),
         "files" => files::files(rt, cases, out),

@@ -70,8 +70,8 @@ fn in_a_file(rt: &HostRuntime, cases: &[&str]) -> anyhow::Result<Vec<u8>> {
     Ok(given)
 }
 
-// The account whose globals are meant where a name has none.
-const ACCOUNT: &str = "ALICE";
+/// The account whose globals are meant where a name has none.
+pub const ACCOUNT: &str = "ALICE";
 
 /// The key of a global of ALICE.
 pub fn node(alloc: Global, name: &str, subs: &[&str]) -> anyhow::Result<NodeKey> {
@@ -92,8 +92,8 @@ pub fn put<S: NodeStore>(store: &mut S, key: &NodeKey, text: &Bytes7) -> anyhow:
     store.put(key, text).ok().context("not put")
 }
 
-// Carries out a call, and gives what it answers: nothing for put and kill.
-fn call<S: NodeStore>(store: &mut S, alloc: Global, case: &str) -> anyhow::Result<Vec<u8>> {
+/// Carries out a call, and gives what it answers: nothing for put and kill.
+pub fn call<S: NodeStore>(store: &mut S, alloc: Global, case: &str) -> anyhow::Result<Vec<u8>> {
     let words = words_of(alloc, case)?;
     let mut out = Vec::new(alloc);
     match words.as_slice() {

@@ -1,17 +1,12 @@
-//! Plays lines and prints what comes: the cases of `transcripts/` that need a world.
-//! `mtranscript` says what a case looks like.
+//! Plays lines and prints what comes: the cases of `transcripts/` that are lines of the wire, over the plain store and with one tree kept.
+//! `tools/play.py` plays the same over the program, whose store is a table and which keeps 256. `mtranscript` says what a case looks like.
 #![tactic(auto)]
 
-mod line_settings;
 mod lines;
-mod pieces;
-mod reopened;
-mod steps;
 
-use crate::line_settings::{ONE_TERMINAL, THREE_TERMINALS};
 use mtranscript::{blocks_of, print};
-use std::io;
 use std::io::Write;
+use std::{fs, io};
 
 fn main(rt: HostRuntime) -> anyhow::Result<()> {
     let text = io::read_to_string(rt.alloc(), rt.stdin())?;
@@ -21,21 +16,19 @@ fn main(rt: HostRuntime) -> anyhow::Result<()> {
             out.push(b'\n')?;
         }
         print(&mut out, block.header.as_bytes())?;
-        play(&rt, block.kind, &block.cases, &mut out)?;
+        let settings = fs::read(&rt, settings_of(block.kind)?)?;
+        lines::lines(rt.alloc(), &settings, &block.cases, &mut out)?;
     }
     rt.stdout().write_all(&out)?;
     Ok(())
 }
 
-// Plays the cases of a block, and adds them with what came.
-fn play(rt: &HostRuntime, kind: &str, cases: &[&str], out: &mut Vec<u8>) -> anyhow::Result<()> {
-    let alloc = rt.alloc();
+// The file with the settings that a kind of block is played by.
+fn settings_of(kind: &str) -> anyhow::Result<&str> {
     match kind {
-        "lines" => lines::lines(alloc, ONE_TERMINAL, cases, out),
-        "reopened" => reopened::reopened(rt, ONE_TERMINAL, cases, out),
-        "terminals" => lines::lines(alloc, THREE_TERMINALS, cases, out),
-        "events" => lines::events(alloc, cases, out),
-        "steps" => steps::steps(alloc, cases, out),
+        "lines" => Ok("one_account.toml"),
+        "terminals" => Ok("three_terminals.toml"),
+        "accounts" => Ok("four_accounts.toml"),
         _ => anyhow::bail!("no such kind of block"),
     }
 }

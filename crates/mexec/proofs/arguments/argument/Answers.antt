@@ -1,13 +1,16 @@
 use Rattle.std.proofs.Common.{Ok, Err, [], ◌∷◌, replicate, refl}
 use Rattle.mspec.specs.Act.{give, write, with_locals}
 use Rattle.mspec.specs.Scopes.{killed_except, newed, newed_except}
+use Rattle.mgrammar.specs.Grammar.{form_of}
 use Rattle.mmeaning.specs.LineMeaning as meaning
 use Rattle.mmeaning.specs.Expression.{inside}
+use Rattle.mmeaning.specs.Locking.{locking}
 use Rattle.mmeaning.proofs.Calls.{residual_is}
-use Rattle.mtree.specs.Tree.{destination_tree, expr_tree, reference_tree, condition_tree}
+use Rattle.mtree.specs.Tree.{destination_tree, expr_tree, reference_tree, condition_tree, keyword_tree, primary_tree, kind_tree, locked_tree}
 use Rattle.meval.specs.Evaluates.{depth_of}
 use Rattle.mcommand.proofs.Calls.{at_done, does_evaluated, does_gives}
 use Rattle.mexec.specs.declared.signal.Signal.TheVariants as signal
+use Rattle.mexec.specs.Arguments.{into_given, start_of}
 use Rattle.mexec.specs.Frames.{signal_of, spot_of}
 use Rattle.mexec.proofs.Calls.{at_then, at_failed, at_gives, at_as, at_depth, goes_on, testing_is}
 use Rattle.mexec.proofs.ArgumentRuns.{gives_start, enters_where}
@@ -72,3 +75,13 @@ returns-in-GoTo-clause-does g c =
 pub returns-in-Executed-clause-does : goal.returns-in-Executed-clause-does
 returns-in-Executed-clause-does g c =
     rw (c.in-Executed.is, c.enters-in-Executed.ensures) (enters_where (spot_of c.args.spot.now) (condition_tree c.in-Executed.condition) _ c.holds-in-Executed.result (at_depth c.args.spot.now.depth c.holds-in-Executed.ensures.does))
+
+pub returns-in-Lock-clause-does : goal.returns-in-Lock-clause-does
+returns-in-Lock-clause-does g c =
+    rw (c.in-Lock.is, c.gave-in-Lock.ensures, c.went_on-in-Lock.ensures)
+    (gives_start _ (goes_on (λ i. locking i (kind_tree c.in-Lock.kind) (locked_tree c.in-Lock.names) (condition_tree c.in-Lock.timeout)) c.args.spot.now.depth c.locking.result c.locking.ensures.does))
+
+pub returns-in-Indirect-clause-does : goal.returns-in-Indirect-clause-does
+returns-in-Indirect-clause-does g c =
+    let begun = into_given (form_of (keyword_tree c.in-Indirect.keyword)) (primary_tree c.in-Indirect.operand) in
+    rw c.in-Indirect.is (at_depth c.args.spot.now.depth (at_gives begun start_of _ refl))

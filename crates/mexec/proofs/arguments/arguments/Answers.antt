@@ -5,7 +5,7 @@ use Rattle.mmeaning.specs.LineMeaning.{context}
 use Rattle.mtree.specs.Tree.{arg_tree}
 use Rattle.mcommand.proofs.Calls.{keeps_itself, keeps_on}
 use Rattle.mexec.specs.declared.signal.Signal.TheVariants as signal
-use Rattle.mexec.specs.Frames.{args_before, spot_of}
+use Rattle.mexec.specs.Frames.{source_args, source_spot, spot_of}
 use Rattle.mexec.proofs.Calls.{runs_signal, runs_as, passes}
 use Rattle.mexec.proofs.ArgumentRuns.{argument_runs, argument_stopped}
 use Rattle.mexec.proofs.arguments.arguments.Goals as goal
@@ -20,24 +20,22 @@ loop-at-init g c = record {
 
 pub returns-in_err-signal-clause-does : goal.returns-in_err-signal-clause-does
 returns-in_err-signal-clause-does g c =
-    let b = c.args.behind.now in
-    let p = spot_of b.spot.value in
-    let all = args_before b.line.value b.at in
-    let same = rw c.deref.ensures at c.args_before-args.ensures in
+    let p = spot_of (source_spot c.args.source) in
+    let all = source_args c.args.source in
+    let same = c.all-args.ensures in
     let less = rw same at c.loop-at-test.true in
     let is = rw same at c.index-args-at.is in
-    let does = rw c.deref-in-loop-at.ensures at c.in_err-signal.ensures.does in
+    let does = rw c.spot-spot.ensures at c.in_err-signal.ensures.does in
     c.loop-at.invariant.leads _ _ _ (argument_stopped p all c.loop-at.at c.index-args-at.result less is does c.in_err-signal.ensures.fewer c.from_residual.ensures)
 
 pub loop-at-preserved : goal.loop-at-preserved
 loop-at-preserved g c =
-    let b = c.args.behind.now in
-    let p = spot_of b.spot.value in
-    let all = args_before b.line.value b.at in
-    let same = rw c.deref.ensures at c.args_before-args.ensures in
+    let p = spot_of (source_spot c.args.source) in
+    let all = source_args c.args.source in
+    let same = c.all-args.ensures in
     let less = rw same at c.loop-at-test.true in
     let is = rw same at c.index-args-at.is in
-    let does = rw (c.deref-in-loop-at.ensures, c.in-Gave.is, c.in-GoOn.is) at c.in_ok-signal.ensures.does in
+    let does = rw (c.spot-spot.ensures, c.in-Gave.is, c.in-GoOn.is) at c.in_ok-signal.ensures.does in
     record {
       loans = keeps_on c.loop-at.invariant.loans c.in_ok-signal.ensures.loans;
       fewer = omega arith;
@@ -47,13 +45,12 @@ loop-at-preserved g c =
 
 pub returns-in_default : goal.returns-in_default
 returns-in_default g c =
-    let b = c.args.behind.now in
-    let p = spot_of b.spot.value in
-    let all = args_before b.line.value b.at in
-    let same = rw c.deref.ensures at c.args_before-args.ensures in
+    let p = spot_of (source_spot c.args.source) in
+    let all = source_args c.args.source in
+    let same = c.all-args.ensures in
     let less = rw same at c.loop-at-test.true in
     let is = rw same at c.index-args-at.is in
-    let does = rw (c.deref-in-loop-at.ensures, c.in-Gave.is) at c.in_ok-signal.ensures.does in
+    let does = rw (c.spot-spot.ensures, c.in-Gave.is) at c.in_ok-signal.ensures.does in
     let few = c.in_ok-signal.ensures.fewer in
     record {
       loans = keeps_on c.loop-at.invariant.loans c.in_ok-signal.ensures.loans;
@@ -67,34 +64,42 @@ returns-in_default g c =
 
 pub returns-in-Lines-clause-does : goal.returns-in-Lines-clause-does
 returns-in-Lines-clause-does g c =
-    let b = c.args.behind.now in
-    let p = spot_of b.spot.value in
-    let all = args_before b.line.value b.at in
-    let same = rw c.deref.ensures at c.args_before-args.ensures in
+    let p = spot_of (source_spot c.args.source) in
+    let all = source_args c.args.source in
+    let same = c.all-args.ensures in
     let less = rw same at c.loop-at-test.true in
     let is = rw same at c.index-args-at.is in
-    let does = rw (c.deref-in-loop-at.ensures, c.in-Lines.is) at c.in_ok-signal.ensures.does in
+    let does = rw (c.spot-spot.ensures, c.in-Lines.is) at c.in_ok-signal.ensures.does in
     let entered = rw c.loop-at.invariant.machine at c.enter_lines.ensures.does in
     c.loop-at.invariant.leads _ _ _ (argument_runs p all c.loop-at.at c.index-args-at.result less is does c.in_ok-signal.ensures.fewer entered)
 
 pub returns-in-Text-clause-does : goal.returns-in-Text-clause-does
 returns-in-Text-clause-does g c =
-    let b = c.args.behind.now in
-    let p = spot_of b.spot.value in
-    let all = args_before b.line.value b.at in
-    let same = rw c.deref.ensures at c.args_before-args.ensures in
+    let p = spot_of (source_spot c.args.source) in
+    let all = source_args c.args.source in
+    let same = c.all-args.ensures in
     let less = rw same at c.loop-at-test.true in
     let is = rw same at c.index-args-at.is in
-    let does = rw (c.deref-in-loop-at.ensures, c.in-Text.is) at c.in_ok-signal.ensures.does in
+    let does = rw (c.spot-spot.ensures, c.in-Text.is) at c.in_ok-signal.ensures.does in
     let entered = rw c.loop-at.invariant.machine at c.enter_text.ensures.does in
+    c.loop-at.invariant.leads _ _ _ (argument_runs p all c.loop-at.at c.index-args-at.result less is does c.in_ok-signal.ensures.fewer entered)
+
+pub returns-in-Given-clause-does : goal.returns-in-Given-clause-does
+returns-in-Given-clause-does g c =
+    let p = spot_of (source_spot c.args.source) in
+    let all = source_args c.args.source in
+    let same = c.all-args.ensures in
+    let less = rw same at c.loop-at-test.true in
+    let is = rw same at c.index-args-at.is in
+    let does = rw (c.spot-spot.ensures, c.in-Given.is) at c.in_ok-signal.ensures.does in
+    let entered = rw c.loop-at.invariant.machine at c.enter_given.ensures.does in
     c.loop-at.invariant.leads _ _ _ (argument_runs p all c.loop-at.at c.index-args-at.result less is does c.in_ok-signal.ensures.fewer entered)
 
 pub returns-clause-does : goal.returns-clause-does
 returns-clause-does g c =
-    let b = c.args.behind.now in
-    let p = spot_of b.spot.value in
-    let all = args_before b.line.value b.at in
-    let same = rw c.deref.ensures at c.args_before-args.ensures in
+    let p = spot_of (source_spot c.args.source) in
+    let all = source_args c.args.source in
+    let same = c.all-args.ensures in
     let more = rw same at c.loop-at-test.false in
     let past : length all ≤ c.loop-at.at = omega (arith, more) in
     let leads = rw (none_left c.loop-at.at all past) at c.loop-at.invariant.leads in

@@ -1,12 +1,10 @@
-use Rattle.std.proofs.Common.{true, false, refl}
-use Rattle.mspec.specs.Act.{Act, give}
-use Rattle.mtree.specs.Tree.{entry_tree}
+use Rattle.std.proofs.Common.{refl}
+use Rattle.mspec.specs.Act.{give}
 use Rattle.mmeaning.specs.LineMeaning as meaning
 use Rattle.mmeaning.specs.LineMeaning.{context}
-use Rattle.mcommand.specs.Targets.{target_view}
 use Rattle.mexec.proofs.LevelRuns.{at_any}
 use Rattle.mexec.specs.declared.signal.Signal.TheVariants as signal
-use Rattle.mexec.specs.Frames.{signal_of, spot_of}
+use Rattle.mexec.specs.Frames.{signal_of}
 use Rattle.mexec.proofs.Calls.{at_then, at_stopped, at_gives}
 use Rattle.mexec.proofs.arguments.going.Goals as goal
 

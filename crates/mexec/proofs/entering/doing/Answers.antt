@@ -1,5 +1,5 @@
 use Rattle.std.proofs.Common.{Some, refl}
-use Rattle.mspec.specs.Act.{◌>>=◌, ◌>>◌, Act}
+use Rattle.mspec.specs.Act.{◌>>=◌, Act}
 use Rattle.mtree.specs.Tree.{entry_tree}
 use Rattle.mmeaning.specs.Levels.{Target, Level, Spot, leaves, deeper, target}
 use Rattle.mmeaning.specs.LineMeaning.{Signal, Context, context, closed, in_level, lines_next}

@@ -1,5 +1,5 @@
 use Rattle.std.proofs.Common.{◌≡◌, Bool, ◌+◌, arith}
-use Rattle.mspec.specs.Act.{Act, ◌>>=◌, ◌>>◌, test_is}
+use Rattle.mspec.specs.Act.{Act, ◌>>=◌, test_is}
 use Rattle.mmeaning.specs.Levels.{Spot, Level, deeper, restores}
 use Rattle.mmeaning.specs.LineMeaning.{Signal, Context, context, closed, in_level, lines_next}
 use Rattle.meval.specs.Evaluates.{depth_of}

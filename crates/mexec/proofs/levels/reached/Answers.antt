@@ -1,7 +1,7 @@
-use Rattle.std.proofs.Common.{◌≡◌, ◌≤◌, ◌<◌, length, get_or, drop, None, refl, arith, lt-ltb, le-ltb}
+use Rattle.std.proofs.Common.{◌≤◌, ◌<◌, length, None, refl, arith, lt-ltb, le-ltb}
 use Rattle.mspec.proofs.ListPlaces.{none_left}
 use Rattle.mgrammar.specs.RoutineLine.{dots_of}
-use Rattle.mcommand.proofs.Calls.{keeps_itself, keeps_on}
+use Rattle.mcommand.proofs.Calls.{keeps_on}
 use Rattle.mexec.proofs.Calls.{at_gives}
 use Rattle.mexec.proofs.LevelRuns.{passes_line, passing_failed, stops_at}
 use Rattle.mexec.proofs.levels.reached.Goals as goal

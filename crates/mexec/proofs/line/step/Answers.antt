@@ -27,6 +27,18 @@ returns-in-List g c =
       does = rw c.in-List.is (list_passes (spot_of l.behind.spot.value) (map arg_tree (drop l.argument (args_before l.behind.line.value l.behind.at))) c.args.signal c.in_default-signal.not-GoOn);
     }
 
+pub returns-in-GoOn-signal-2-clause-does : goal.returns-in-GoOn-signal-2-clause-does
+returns-in-GoOn-signal-2-clause-does g c = rw (c.in-Given.is, c.in-GoOn-signal-2.is) c.arguments-in-GoOn-signal-2.ensures.does
+
+pub returns-in-Given : goal.returns-in-Given
+returns-in-Given g c =
+    let given = c.in-Given.given.value in
+    record {
+      loans = keeps_itself c.args.parts.now;
+      falls = omega arith;
+      does = rw c.in-Given.is (list_passes (spot_of given.spot) (map arg_tree (drop c.in-Given.argument given.args.items)) c.args.signal c.in_default-signal-2.not-GoOn);
+    }
+
 pub returns-in-Turns-clause-does : goal.returns-in-Turns-clause-does
 returns-in-Turns-clause-does g c = rw c.in-Turns.is c.after_turn.ensures.does
 

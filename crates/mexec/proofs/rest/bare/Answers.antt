@@ -1,5 +1,6 @@
-use Rattle.std.proofs.Common.{Ok, [], not, arith}
-use Rattle.mspec.specs.Act.{give, with_locals}
+use Rattle.std.proofs.Common.{Ok, [], ap, not, arith}
+use Rattle.mspec.specs.Plan.{Release}
+use Rattle.mspec.specs.Act.{give, ask, with_locals}
 use Rattle.mspec.specs.Scopes.{killed_except, newed_except}
 use Rattle.mmeaning.specs.LineMeaning as meaning
 use Rattle.mcommand.proofs.Calls.{at_evaluated, does_evaluated}
@@ -44,3 +45,11 @@ returns-in-Goto-clause-does g c = rw c.in-Goto.is (runs_signal signal.GoOn)
 
 pub returns-in-Execute-clause-does : goal.returns-in-Execute-clause-does
 returns-in-Execute-clause-does g c = rw c.in-Execute.is (runs_signal signal.GoOn)
+
+pub returns-in-Lock-clause-does : goal.returns-in-Lock-clause-does
+returns-in-Lock-clause-does g c =
+    rw c.in-Lock.is
+    (runs_done _ (goes_on (λ i. ask Release) c.args.parts.now.eval.depth (Ok tt) c.release.ensures.does) (let few = ap (λ e. e.steps) c.release.ensures.eval in omega (arith, few)))
+
+pub returns-in-Halt-clause-does : goal.returns-in-Halt-clause-does
+returns-in-Halt-clause-does g c = rw c.in-Halt.is (runs_signal signal.Halts)

@@ -3,64 +3,82 @@ use Rattle.mgrammar.specs.Reading.{with_front, many, after_comma, list_at, choic
 use Rattle.mtree.specs.Tree.{expr_tree, step_tree, choice_tree}
 use Rattle.mparse.proofs.expr.+expr.Given as goal
 
--- Brackets fall in number at `inner` and `within` alone; each other call leads to a lower rank.
+-- Brackets fall in number at `inner`, `within` and `below` alone; each other call leads to a lower rank.
 
 abbrev pub decreases-inner : goal.decreases-inner
-decreases-inner l = 13 * l.depth + 0
+decreases-inner l = 16 * l.depth + 0
 
 abbrev pub decreases-within : goal.decreases-within
-decreases-within l = 13 * l.depth + 0
+decreases-within l = 16 * l.depth + 0
+
+abbrev pub decreases-below : goal.decreases-below
+decreases-below l = 16 * l.depth + 0
 
 abbrev pub decreases-bracket : goal.decreases-bracket
-decreases-bracket l = 13 * l.depth + 1
+decreases-bracket l = 16 * l.depth + 1
 
 abbrev pub decreases-choice : goal.decreases-choice
-decreases-choice l = 13 * l.depth + 1
+decreases-choice l = 16 * l.depth + 1
 
 abbrev pub decreases-more_exprs : goal.decreases-more_exprs
-decreases-more_exprs l = 13 * l.depth + 1
+decreases-more_exprs l = 16 * l.depth + 1
 
 abbrev pub decreases-exprs : goal.decreases-exprs
-decreases-exprs l = 13 * l.depth + 2
+decreases-exprs l = 16 * l.depth + 2
 
 abbrev pub decreases-choices : goal.decreases-choices
-decreases-choices l = 13 * l.depth + 2
+decreases-choices l = 16 * l.depth + 2
 
 abbrev pub decreases-subscripts : goal.decreases-subscripts
-decreases-subscripts l = 13 * l.depth + 3
+decreases-subscripts l = 16 * l.depth + 3
+
+abbrev pub decreases-attached : goal.decreases-attached
+decreases-attached l = 16 * l.depth + 4
+
+abbrev pub decreases-indirect : goal.decreases-indirect
+decreases-indirect l = 16 * l.depth + 5
+
+abbrev pub decreases-extended : goal.decreases-extended
+decreases-extended l = 16 * l.depth + 4
+
+abbrev pub decreases-global : goal.decreases-global
+decreases-global l = 16 * l.depth + 5
+
+abbrev pub decreases-local : goal.decreases-local
+decreases-local l = 16 * l.depth + 6
 
 abbrev pub decreases-reference : goal.decreases-reference
-decreases-reference l = 13 * l.depth + 4
+decreases-reference l = 16 * l.depth + 7
 
 abbrev pub decreases-refer : goal.decreases-refer
-decreases-refer l = 13 * l.depth + 3
+decreases-refer l = 16 * l.depth + 3
 
 abbrev pub decreases-call : goal.decreases-call
-decreases-call l = 13 * l.depth + 3
+decreases-call l = 16 * l.depth + 3
 
 abbrev pub decreases-select : goal.decreases-select
-decreases-select l = 13 * l.depth + 3
+decreases-select l = 16 * l.depth + 3
 
 abbrev pub decreases-dollar : goal.decreases-dollar
-decreases-dollar l = 13 * l.depth + 4
+decreases-dollar l = 16 * l.depth + 4
 
 abbrev pub decreases-primary : goal.decreases-primary
-decreases-primary l = 13 * l.depth + 5
+decreases-primary l = 16 * l.depth + 8
 
 abbrev pub decreases-operand : goal.decreases-operand
-decreases-operand l = 13 * l.depth + 6
+decreases-operand l = 16 * l.depth + 9
 
 abbrev pub decreases-step_by : goal.decreases-step_by
-decreases-step_by l = 13 * l.depth + 7
+decreases-step_by l = 16 * l.depth + 10
 
 abbrev pub decreases-step : goal.decreases-step
-decreases-step l = 13 * l.depth + 8
+decreases-step l = 16 * l.depth + 11
 
 abbrev pub decreases-steps : goal.decreases-steps
-decreases-steps l = 13 * l.depth + 9
+decreases-steps l = 16 * l.depth + 12
 
 abbrev pub decreases-expr : goal.decreases-expr
-decreases-expr l = 13 * l.depth + 10
+decreases-expr l = 16 * l.depth + 13
 
 abbrev pub invariant-steps-loop : goal.invariant-steps-loop
 invariant-steps-loop l =

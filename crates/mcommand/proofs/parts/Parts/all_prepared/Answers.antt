@@ -34,7 +34,7 @@ pub returns-in_err-push-clause-does : goal.returns-in_err-push-clause-does
 returns-in_err-push-clause-does g c =
     c.loop-target.invariant.leads _ _
     (next_prepared (λ (ps : Vec Prepared Global). map prepared_view ps.items) c.args.targets.now c.loop-target.target-index c.target-item.result _ c.in_ok-prepared.prepared _ c.loop-target-test.true c.target-item.is c.in_ok-prepared.ensures.does
-    (does_wanting _ _ _ c.from_residual-in_err-push.ensures refl))
+    (does_wanting _ _ _ c.from_residual-in_err-push.ensures refl refl))
 
 pub loop-target-preserved : goal.loop-target-preserved
 loop-target-preserved g c = record {

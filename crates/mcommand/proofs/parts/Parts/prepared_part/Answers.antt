@@ -21,7 +21,7 @@ pub returns-in_err-delimiter-2-clause-does : goal.returns-in_err-delimiter-2-cla
 returns-in_err-delimiter-2-clause-does g c =
     (does_then _ (does_evaluated c.in_ok-pending.ensures.does)
     (does_then _ (does_evaluated c.in_ok-delimiter.ensures.does)
-    (does_then _ c.in_ok-place.ensures.does (does_wanting _ _ _ c.from_residual-in_err-delimiter-2.ensures refl))))
+    (does_then _ c.in_ok-place.ensures.does (does_wanting _ _ _ c.from_residual-in_err-delimiter-2.ensures refl refl))))
 
 pub returns-clause-does : goal.returns-clause-does
 returns-clause-does g c =

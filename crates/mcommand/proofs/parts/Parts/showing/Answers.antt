@@ -6,7 +6,7 @@ pub returns-in_err-value-clause-does : goal.returns-in_err-value-clause-does
 returns-in_err-value-clause-does g c = does_stopped _ (does_evaluated c.in_err-value.ensures.does) c.from_residual.ensures
 
 pub returns-in_err-write-clause-does : goal.returns-in_err-write-clause-does
-returns-in_err-write-clause-does g c = does_then _ (does_evaluated c.in_ok-value.ensures.does) (does_wanting _ _ _ c.from_residual-in_err-write.ensures refl)
+returns-in_err-write-clause-does g c = does_then _ (does_evaluated c.in_ok-value.ensures.does) (does_wanting _ _ _ c.from_residual-in_err-write.ensures refl refl)
 
 pub returns-clause-does : goal.returns-clause-does
-returns-clause-does g c = does_then _ (does_evaluated c.in_ok-value.ensures.does) (does_write _ _ _ c.in_ok-write.ensures refl)
+returns-clause-does g c = does_then _ (does_evaluated c.in_ok-value.ensures.does) (does_write _ _ _ c.in_ok-write.ensures refl refl)

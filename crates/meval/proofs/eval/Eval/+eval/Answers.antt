@@ -1,11 +1,15 @@
-use Rattle.std.proofs.Common.{◌∙◌, sym, arith, Vec, Global}
+use Rattle.std.proofs.Common.{◌∙◌, ◌++◌, [], map, refl, sym, ap, arith, Vec, Global}
+use Rattle.mgrammar.specs.Grammar.{exprs_of}
+use Rattle.mmeaning.specs.Expression.{named_by, values}
+use Rattle.mmeaning.specs.Variables.{of_global, subscripts_of, with_subscripts}
 use Rattle.mmeaning.proofs.Calls.{residual_is}
-use Rattle.mspec.specs.Act.{Text, give}
-use Rattle.mtree.specs.Tree.{reference_tree}
-use Rattle.meval.specs.Places.{named}
+use Rattle.mspec.specs.Act.{Text, ◌>>=◌, give}
+use Rattle.mtree.specs.Tree.{expr_tree, reference_tree}
+use Rattle.meval.specs.Places.{named, pending_view}
 use Rattle.moperator.proofs.Numbers.{computed_outcome}
 use Rattle.meval.proofs.Calls.{evaluates_then, evaluates_failed, evaluates_gives, evaluates_stopped, evaluates_wanting, evaluates_yielded, keeps_itself, keeps_on}
-use Rattle.meval.proofs.References.{as_evaluated, gives_named}
+use Rattle.meval.proofs.Indirections.{not_free, is_free, evaluates_behind, evaluates_deep, evaluates_unnamed, evaluates_entry}
+use Rattle.meval.proofs.References.{as_evaluated, gives_named, node_of}
 use Rattle.meval.proofs.TreeViews.{expr_is, operand_is, number_is, text_is, special_is, reference_is, refer_is, referring_is, bracket_is, call_is, select_is, apply_is, matches_is, matches_not_is}
 use Rattle.meval.proofs.Trees.{charge_failed, from_step, from_end, next_value, value_failed, values_end, next_choice, is_chosen, not_chosen, none_chosen}
 use Rattle.meval.proofs.eval.Eval.+eval.Goals as goal
@@ -93,23 +97,135 @@ primary-returns-in-Refer-clause-does g t c =
 pub evaluated-returns-in_err-values-clause-does : goal.evaluated-returns-in_err-values-clause-does
 evaluated-returns-in_err-values-clause-does g t c =
     let k = rw c.subscripts_of.ensures at c.in_err-values.ensures.does in
-    as_evaluated _ (evaluates_stopped (λ i xs. give (named i.account (reference_tree c.args.reference.now) xs)) k c.from_residual.ensures)
+    as_evaluated _ (rw c.in_default-indirect_parts.is at c.indirect_parts.ensures.none refl) (rw c.in_default-extended_parts.is at c.extended_parts.ensures.none refl) (evaluates_stopped (λ i xs. give (named i.account (reference_tree c.args.reference.now) xs)) k c.from_residual.ensures)
 
 pub evaluated-returns-in_err-texts-clause-does : goal.evaluated-returns-in_err-texts-clause-does
 evaluated-returns-in_err-texts-clause-does g t c =
     let k = rw c.subscripts_of.ensures at c.in_ok-values.ensures.does in
-    as_evaluated _ (evaluates_then (λ i xs. give (named i.account (reference_tree c.args.reference.now) xs)) k (evaluates_wanting _ _ _ c.from_residual-in_err-texts.ensures))
+    as_evaluated _ (rw c.in_default-indirect_parts.is at c.indirect_parts.ensures.none refl) (rw c.in_default-extended_parts.is at c.extended_parts.ensures.none refl) (evaluates_then (λ i xs. give (named i.account (reference_tree c.args.reference.now) xs)) k (evaluates_wanting _ _ _ c.from_residual-in_err-texts.ensures))
 
 pub evaluated-returns-in_err-pending-clause-does : goal.evaluated-returns-in_err-pending-clause-does
 evaluated-returns-in_err-pending-clause-does g t c =
     let k = rw c.subscripts_of.ensures at c.in_ok-values.ensures.does in
-    as_evaluated _ (evaluates_then (λ i xs. give (named i.account (reference_tree c.args.reference.now) xs)) k (evaluates_wanting _ _ _ c.from_residual-in_err-pending.ensures))
+    as_evaluated _ (rw c.in_default-indirect_parts.is at c.indirect_parts.ensures.none refl) (rw c.in_default-extended_parts.is at c.extended_parts.ensures.none refl) (evaluates_then (λ i xs. give (named i.account (reference_tree c.args.reference.now) xs)) k (evaluates_wanting _ _ _ c.from_residual-in_err-pending.ensures))
 
 pub evaluated-returns-clause-does : goal.evaluated-returns-clause-does
 evaluated-returns-clause-does g t c =
     let k = rw c.subscripts_of.ensures at c.in_ok-values.ensures.does in
     let is = rw c.in_ok-texts.ensures at c.in_ok-pending.ensures in
-    as_evaluated _ (evaluates_then (λ i xs. give (named i.account (reference_tree c.args.reference.now) xs)) k (gives_named _ _ _ is))
+    as_evaluated _ (rw c.in_default-indirect_parts.is at c.indirect_parts.ensures.none refl) (rw c.in_default-extended_parts.is at c.extended_parts.ensures.none refl) (evaluates_then (λ i xs. give (named i.account (reference_tree c.args.reference.now) xs)) k (gives_named _ _ _ is))
+
+pub evaluated-returns-in-Some-indirect_parts-clause-does : goal.evaluated-returns-in-Some-indirect_parts-clause-does
+evaluated-returns-in-Some-indirect_parts-clause-does g t c = rw c.in-Some-indirect_parts.ensures.parts c.named.ensures.does
+
+pub evaluated-returns-in-Some-extended_parts-clause-does : goal.evaluated-returns-in-Some-extended_parts-clause-does
+evaluated-returns-in-Some-extended_parts-clause-does g t c = rw c.in-Some-extended_parts.ensures.parts c.extended.ensures.does
+
+-- ---- environments
+
+pub extended-returns-in_err-owner-clause-does : goal.extended-returns-in_err-owner-clause-does
+extended-returns-in_err-owner-clause-does g t c =
+    let subscripts = exprs_of (map expr_tree c.args.subscripts.now) in
+    evaluates_stopped (λ i owner. values i [] subscripts >>= (λ xs. give (of_global (node_of owner c.args.name.now xs)))) c.in_err-owner.ensures.does c.from_residual.ensures
+
+pub extended-returns-in_err-account-clause-does : goal.extended-returns-in_err-account-clause-does
+extended-returns-in_err-account-clause-does g t c =
+    let subscripts = exprs_of (map expr_tree c.args.subscripts.now) in
+    evaluates_then (λ i owner. values i [] subscripts >>= (λ xs. give (of_global (node_of owner c.args.name.now xs)))) c.in_ok-owner.ensures.does (evaluates_wanting _ _ _ c.from_residual-in_err-account.ensures)
+
+pub extended-returns-in_err-subscripts-clause-does : goal.extended-returns-in_err-subscripts-clause-does
+extended-returns-in_err-subscripts-clause-does g t c =
+    let subscripts = exprs_of (map expr_tree c.args.subscripts.now) in
+    evaluates_then (λ i owner. values i [] subscripts >>= (λ xs. give (of_global (node_of owner c.args.name.now xs)))) c.in_ok-owner.ensures.does
+    (evaluates_stopped (λ i xs. give (of_global (node_of c.in_ok-owner.owner c.args.name.now xs))) c.in_err-subscripts.ensures.does c.from_residual-in_err-subscripts.ensures)
+
+pub extended-returns-in_err-texts-clause-does : goal.extended-returns-in_err-texts-clause-does
+extended-returns-in_err-texts-clause-does g t c =
+    let subscripts = exprs_of (map expr_tree c.args.subscripts.now) in
+    evaluates_then (λ i owner. values i [] subscripts >>= (λ xs. give (of_global (node_of owner c.args.name.now xs)))) c.in_ok-owner.ensures.does
+    (evaluates_then (λ i xs. give (of_global (node_of c.in_ok-owner.owner c.args.name.now xs))) c.in_ok-subscripts.ensures.does (evaluates_wanting _ _ _ c.from_residual-in_err-texts.ensures))
+
+pub extended-returns-in_err-copy-clause-does : goal.extended-returns-in_err-copy-clause-does
+extended-returns-in_err-copy-clause-does g t c =
+    let subscripts = exprs_of (map expr_tree c.args.subscripts.now) in
+    evaluates_then (λ i owner. values i [] subscripts >>= (λ xs. give (of_global (node_of owner c.args.name.now xs)))) c.in_ok-owner.ensures.does
+    (evaluates_then (λ i xs. give (of_global (node_of c.in_ok-owner.owner c.args.name.now xs))) c.in_ok-subscripts.ensures.does (evaluates_wanting _ _ _ c.from_residual-in_err-copy.ensures))
+
+pub extended-returns-clause-does : goal.extended-returns-clause-does
+extended-returns-clause-does g t c =
+    let subscripts = exprs_of (map expr_tree c.args.subscripts.now) in
+    let is = rw (c.account.view_is, c.in_ok-account.ensures, c.in_ok-copy.ensures, c.in_ok-texts.ensures) at c.new-node.ensures in
+    evaluates_then (λ i owner. values i [] subscripts >>= (λ xs. give (of_global (node_of owner c.args.name.now xs)))) c.in_ok-owner.ensures.does
+    (evaluates_then (λ i xs. give (of_global (node_of c.in_ok-owner.owner c.args.name.now xs))) c.in_ok-subscripts.ensures.does (evaluates_gives _ pending_view _ (ap of_global is)))
+
+-- ---- indirection
+
+pub named-returns-in_err-value-clause-does : goal.named-returns-in_err-value-clause-does
+named-returns-in_err-value-clause-does g t c =
+    let subscripts = exprs_of (map expr_tree c.args.subscripts.now) in
+    evaluates_stopped (λ i x. named_by i subscripts x) c.in_err-value.ensures.does c.from_residual.ensures
+
+pub named-returns-in_default-clause-does : goal.named-returns-in_default-clause-does
+named-returns-in_default-clause-does g t c =
+    let subscripts = exprs_of (map expr_tree c.args.subscripts.now) in
+    let full = not_free _ _ c.in_default.is c.indirected.ensures.free in
+    evaluates_then (λ i x. named_by i subscripts x) c.in_ok-value.ensures.does (evaluates_deep subscripts _ full)
+
+pub named-returns-in_err-text-clause-does : goal.named-returns-in_err-text-clause-does
+named-returns-in_err-text-clause-does g t c =
+    let subscripts = exprs_of (map expr_tree c.args.subscripts.now) in
+    evaluates_then (λ i x. named_by i subscripts x) c.in_ok-value.ensures.does (evaluates_wanting _ _ _ c.from_residual-in_err-text.ensures)
+
+pub named-returns-in_err-reference-clause-does : goal.named-returns-in_err-reference-clause-does
+named-returns-in_err-reference-clause-does g t c =
+    let subscripts = exprs_of (map expr_tree c.args.subscripts.now) in
+    let free = is_free _ _ c.in-Some.is c.indirected.ensures.free in
+    let none = rw (c.as_bytes.ensures.bytes, c.in_ok-text.ensures) at c.in_err-reference.ensures in
+    evaluates_then (λ i x. named_by i subscripts x) c.in_ok-value.ensures.does (evaluates_unnamed subscripts _ free none c.from_residual-in_err-reference.ensures)
+
+pub named-returns-clause-does : goal.named-returns-clause-does
+named-returns-clause-does g t c =
+    let subscripts = exprs_of (map expr_tree c.args.subscripts.now) in
+    let free = is_free _ _ c.in-Some.is c.indirected.ensures.free in
+    let deeper = rw c.in-Some.is at c.indirected.ensures.deeper in
+    let named = rw (c.as_bytes.ensures.bytes, c.in_ok-text.ensures) at c.in_ok-reference.ensures in
+    evaluates_entry _ subscripts _ reference_tree _ _ c.in_ok-value.ensures.does c.in_ok-value.ensures.spent free deeper named c.through-result.ensures.does
+
+pub through-returns-in_err-front-clause-does : goal.through-returns-in_err-front-clause-does
+through-returns-in_err-front-clause-does g t c =
+    let subscripts = exprs_of (map expr_tree c.args.subscripts.now) in
+    evaluates_stopped (λ i v. values i (subscripts_of v) subscripts >>= (λ xs. give (with_subscripts xs v))) c.in_err-front.ensures.does c.from_residual.ensures
+
+pub through-returns-in_err-values-clause-does : goal.through-returns-in_err-values-clause-does
+through-returns-in_err-values-clause-does g t c =
+    let subscripts = exprs_of (map expr_tree c.args.subscripts.now) in
+    let v = pending_view c.in_ok-front.front in
+    evaluates_then (λ i v. values i (subscripts_of v) subscripts >>= (λ xs. give (with_subscripts xs v))) c.in_ok-front.ensures.does
+    (evaluates_behind subscripts v (evaluates_stopped (λ i ys. give (with_subscripts (subscripts_of v ++ ys) v)) c.in_err-values.ensures.does c.from_residual-in_err-values.ensures))
+
+pub through-returns-in_err-texts-clause-does : goal.through-returns-in_err-texts-clause-does
+through-returns-in_err-texts-clause-does g t c =
+    let subscripts = exprs_of (map expr_tree c.args.subscripts.now) in
+    let v = pending_view c.in_ok-front.front in
+    evaluates_then (λ i v. values i (subscripts_of v) subscripts >>= (λ xs. give (with_subscripts xs v))) c.in_ok-front.ensures.does
+    (evaluates_behind subscripts v
+    (evaluates_then (λ i ys. give (with_subscripts (subscripts_of v ++ ys) v)) c.in_ok-values.ensures.does (evaluates_wanting _ _ _ c.from_residual-in_err-texts.ensures)))
+
+pub through-returns-in_err-extended-clause-does : goal.through-returns-in_err-extended-clause-does
+through-returns-in_err-extended-clause-does g t c =
+    let subscripts = exprs_of (map expr_tree c.args.subscripts.now) in
+    let v = pending_view c.in_ok-front.front in
+    evaluates_then (λ i v. values i (subscripts_of v) subscripts >>= (λ xs. give (with_subscripts xs v))) c.in_ok-front.ensures.does
+    (evaluates_behind subscripts v
+    (evaluates_then (λ i ys. give (with_subscripts (subscripts_of v ++ ys) v)) c.in_ok-values.ensures.does (evaluates_wanting _ _ _ c.from_residual-in_err-extended.ensures)))
+
+pub through-returns-clause-does : goal.through-returns-clause-does
+through-returns-clause-does g t c =
+    let subscripts = exprs_of (map expr_tree c.args.subscripts.now) in
+    let v = pending_view c.in_ok-front.front in
+    let is = rw c.in_ok-texts.ensures at c.in_ok-extended.ensures in
+    evaluates_then (λ i v. values i (subscripts_of v) subscripts >>= (λ xs. give (with_subscripts xs v))) c.in_ok-front.ensures.does
+    (evaluates_behind subscripts v (evaluates_then (λ i ys. give (with_subscripts (subscripts_of v ++ ys) v)) c.in_ok-values.ensures.does (evaluates_gives _ pending_view _ is)))
 
 -- ---- functions of a variable
 

@@ -11,28 +11,37 @@ use Rattle.meval.proofs.eval.Eval.+eval.Given as goal
 -- Steps fall in number at `primary` alone, which charges one before it goes on; each other call leads to a lower rank.
 
 abbrev pub decreases-primary : goal.decreases-primary
-decreases-primary g l = 7 * l.self.now.steps + 0
+decreases-primary g l = 8 * l.self.now.steps + 0
 
 abbrev pub decreases-operand : goal.decreases-operand
-decreases-operand g l = 7 * l.self.now.steps + 1
+decreases-operand g l = 8 * l.self.now.steps + 1
+
+abbrev pub decreases-named : goal.decreases-named
+decreases-named g l = 8 * l.self.now.steps + 1
 
 abbrev pub decreases-step : goal.decreases-step
-decreases-step g l = 7 * l.self.now.steps + 2
+decreases-step g l = 8 * l.self.now.steps + 2
 
 abbrev pub decreases-value : goal.decreases-value
-decreases-value g l = 7 * l.self.now.steps + 3
+decreases-value g l = 8 * l.self.now.steps + 3
 
 abbrev pub decreases-values : goal.decreases-values
-decreases-values g l = 7 * l.self.now.steps + 4
+decreases-values g l = 8 * l.self.now.steps + 4
 
 abbrev pub decreases-chosen : goal.decreases-chosen
-decreases-chosen g l = 7 * l.self.now.steps + 4
+decreases-chosen g l = 8 * l.self.now.steps + 4
+
+abbrev pub decreases-extended : goal.decreases-extended
+decreases-extended g l = 8 * l.self.now.steps + 5
 
 abbrev pub decreases-evaluated : goal.decreases-evaluated
-decreases-evaluated g l = 7 * l.self.now.steps + 5
+decreases-evaluated g l = 8 * l.self.now.steps + 6
 
 abbrev pub decreases-referring : goal.decreases-referring
-decreases-referring g l = 7 * l.self.now.steps + 6
+decreases-referring g l = 8 * l.self.now.steps + 7
+
+abbrev pub decreases-through : goal.decreases-through
+decreases-through g l = 8 * l.self.now.steps + 7
 
 abbrev pub invariant-chosen-loop-choice : goal.invariant-chosen-loop-choice
 invariant-chosen-loop-choice g l = record {

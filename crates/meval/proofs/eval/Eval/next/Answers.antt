@@ -3,14 +3,15 @@ use Rattle.std.specs.Prelude.{Option, unwrap_or}
 use Rattle.mspec.specs.Act.{Text, give}
 use Rattle.mspec.specs.Scopes.{next_subscript}
 use Rattle.mkey.specs.Way.{way}
+use Rattle.meval.specs.Places.{name_view}
 use Rattle.meval.proofs.Calls.{evaluates_then, evaluates_stopped, evaluates_gives, asks_locals}
 use Rattle.meval.proofs.eval.Eval.next.Goals as goal
 
 pub returns-in_ok-next-in-Local-clause-does : goal.returns-in_ok-next-in-Local-clause-does
 returns-in_ok-next-in-Local-clause-does g c =
-    let next = rw c.deref.ensures.value at c.in_ok-next-in-Local.ensures in
+    let next = rw (c.deref.ensures.value, c.as_name.ensures) at c.in_ok-next-in-Local.ensures in
     let is = c.next_value.ensures ∙ ap (λ (o : Option Text). unwrap_or o []) next in
-    rw c.in-Local.is (asks_locals (λ l. unwrap_or (next_subscript l (way c.args.direction) c.in-Local.name.now c.in-Local.texts.items) []) (λ v. v) _ is)
+    rw c.in-Local.is (asks_locals (λ l. unwrap_or (next_subscript l (way c.args.direction) (name_view c.in-Local.name) c.in-Local.texts.items) []) (λ v. v) _ is)
 
 pub returns-in_err-next-in-Node-clause-does : goal.returns-in_err-next-in-Node-clause-does
 returns-in_err-next-in-Node-clause-does g c =

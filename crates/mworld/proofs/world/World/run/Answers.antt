@@ -5,10 +5,8 @@ use Rattle.std.specs.FinMap.{get, insert}
 use Rattle.mspec.specs.Code.{Memory}
 use Rattle.mmeaning.specs.Step.{Faulted, lost, is_failure, session_or_new}
 use Rattle.moperator.specs.Codes.{fault_of}
-use Rattle.moperator.specs.declared.code.Code.TheVariants.{Zmem}
-use Rattle.meval.specs.Sessions.{session_of}
 use Rattle.mexec.specs.Runs.{ending_of}
-use Rattle.mworld.specs.View.{server_of, shared}
+use Rattle.mworld.specs.View.{server_of, sessions_of, shared}
 use Rattle.mworld.proofs.Runs.{ran_step, lost_step, unrun_step, is_loss, not_lost, settles, halts}
 use Rattle.mworld.proofs.Sessions.{is_there, is_lent, left, gone}
 use Rattle.mworld.proofs.world.World.run.Goals as goal
@@ -16,55 +14,59 @@ use Rattle.mworld.proofs.world.World.run.Goals.{in-Fault+else-loses_session, in_
 
 pub returns-in_default-clause-step : goal.returns-in_default-clause-step
 returns-in_default-clause-step g c = λ sound.
-    unrun_step g.S.NodeStore c.args.self.now.settings (record { terminal = c.args.terminal; text = c.args.text.now }) c.args.account (server_of g.S.NodeStore c.args.self.now).sessions c.args.self.now.store c.requires _ _ Memory
-    (λ i. record { world = shared g.S.NodeStore (c.begin_session.ensures.store i); sessions = c.in_default.ensures.none i })
+    unrun_step g.S.NodeStore c.args.self.now.settings (record { terminal = c.args.terminal; text = c.args.text.now }) c.args.account (sessions_of c.args.self.now.sessions) c.args.self.now.store c.args.self.now.locks c.requires _ _ Memory
+    (λ i. record { world = shared g.S.NodeStore c.args.self.now.store (c.release_all.ensures i); sessions = c.in_default.ensures.none i })
     c.refused.ensures
 
 pub returns-then-loses_session-clause-step : goal.returns-then-loses_session-clause-step
 returns-then-loses_session-clause-step g c = λ sound.
-    let sessions = (server_of g.S.NodeStore c.args.self.now).sessions in
-    let m = c.begin_session.new.self.sessions in
+    let sessions = sessions_of c.args.self.now.sessions in
+    let m = c.begin_session.new.sessions in
     let some = subst IsSome c.in-Some.ensures.value refl in
     let loss = is_loss (fault_of c.in-Fault.code) (sym c.loses_session.ensures ∙ c.if-loses_session.true) in
-    let ran = rw (c.begin_session.ensures.store, c.begin_session.ensures.settings) at c.run_over-reply.ensures.ran in
     lost_step g.S.NodeStore c.args.self.now.settings (record { terminal = c.args.terminal; text = c.args.text.now }) c.args.account sessions c.in-Some.session.now c.run_over-reply.new.session
-    c.args.self.now.store c.run_over-reply.new.store c.run_over-reply.result c.requires (is_lent c.args.terminal m (session_or_new (get sessions c.args.terminal)) c.in-Ok.ensures.session c.in-Some.session.now c.in-Some.ensures.value) ran sound _ _ loss.0
-    (ap (λ (s : _). record { world = shared g.S.NodeStore c.run_over-reply.new.store; sessions = s })
-    (gone sessions c.args.terminal m c.begin_session.ensures.others some c.get_mut.follows.lender c.get_mut.follows.holds c.run_over-reply.new.session c.remove.new.self c.remove.ensures.updates))
+    c.args.self.now.store c.run_over-reply.new.store c.args.self.now.locks c.run_over-reply.new.locks c.run_over-reply.result c.requires
+    (is_lent c.args.terminal m (session_or_new (get sessions c.args.terminal)) c.in-Ok.ensures.session c.in-Some.session.now c.in-Some.ensures.value) c.run_over-reply.ensures.ran sound _ _ loss.0
+    (λ i. record {
+      world = shared g.S.NodeStore c.run_over-reply.new.store (c.end_session.ensures.locks i);
+      sessions = (c.end_session.ensures.session ∙ gone sessions c.args.terminal m c.begin_session.ensures.others some c.get_mut.follows.lender c.get_mut.follows.holds c.run_over-reply.new.session) i;
+    })
     (c.refused-then-loses_session.ensures ∙ ap (λ fault. lost (Faulted fault)) loss.1)
 
 pub returns-in-Halt-clause-step : goal.returns-in-Halt-clause-step
 returns-in-Halt-clause-step g c = λ sound.
-    let sessions = (server_of g.S.NodeStore c.args.self.now).sessions in
-    let m = c.begin_session.new.self.sessions in
+    let sessions = sessions_of c.args.self.now.sessions in
+    let m = c.begin_session.new.sessions in
     let some = subst IsSome c.in-Some.ensures.value refl in
-    let ran = rw (c.begin_session.ensures.store, c.begin_session.ensures.settings) at c.run_over-reply.ensures.ran in
     let fine : is_failure (ending_of c.run_over-reply.result.ending) ≡ false = ap (λ ending. is_failure (ending_of ending)) c.in-Halt.is in
     ran_step g.S.NodeStore c.args.self.now.settings (record { terminal = c.args.terminal; text = c.args.text.now }) c.args.account sessions c.in-Some.session.now c.run_over-reply.new.session
-    c.args.self.now.store c.run_over-reply.new.store c.run_over-reply.result c.requires (is_lent c.args.terminal m (session_or_new (get sessions c.args.terminal)) c.in-Ok.ensures.session c.in-Some.session.now c.in-Some.ensures.value) ran sound _ fine
-    (ap (λ (s : _). record { world = shared g.S.NodeStore c.run_over-reply.new.store; sessions = s })
-    (gone sessions c.args.terminal m c.begin_session.ensures.others some c.get_mut.follows.lender c.get_mut.follows.holds c.run_over-reply.new.session c.remove-in-Halt.new.self c.remove-in-Halt.ensures.updates)
-    ∙ sym (halts c.args.terminal (server_of g.S.NodeStore c.args.self.now) c.run_over-reply.result.ending _ (shared g.S.NodeStore c.run_over-reply.new.store) c.in-Halt.is refl))
+    c.args.self.now.store c.run_over-reply.new.store c.args.self.now.locks c.run_over-reply.new.locks c.run_over-reply.result c.requires
+    (is_lent c.args.terminal m (session_or_new (get sessions c.args.terminal)) c.in-Ok.ensures.session c.in-Some.session.now c.in-Some.ensures.value) c.run_over-reply.ensures.ran sound _ fine
+    ((λ i. record {
+      world = shared g.S.NodeStore c.run_over-reply.new.store (c.end_session-in-Halt.ensures.locks i);
+      sessions = (c.end_session-in-Halt.ensures.session ∙ gone sessions c.args.terminal m c.begin_session.ensures.others some c.get_mut.follows.lender c.get_mut.follows.holds c.run_over-reply.new.session) i;
+    })
+    ∙ sym (halts c.args.terminal (server_of g.S.NodeStore c.args.self.now) c.run_over-reply.result.ending _ (shared g.S.NodeStore c.run_over-reply.new.store c.run_over-reply.new.locks) c.in-Halt.is))
 
 pub returns-clause-step : goal.returns-clause-step
 returns-clause-step g c = λ sound.
-    let sessions = (server_of g.S.NodeStore c.args.self.now).sessions in
-    let m = c.begin_session.new.self.sessions in
+    let sessions = sessions_of c.args.self.now.sessions in
+    let m = c.begin_session.new.sessions in
     let some = subst IsSome c.in-Some.ensures.value refl in
-    let ran = rw (c.begin_session.ensures.store, c.begin_session.ensures.settings) at c.run_over-reply.ensures.ran in
     let fine : is_failure (ending_of c.run_over-reply.result.ending) ≡ false = elim c.match-reply.branch [
       | in-Fault+else-loses_session w ↦ ap (λ ending. is_failure (ending_of ending)) w.in-Fault.is ∙ sym w.loses_session.ensures ∙ w.if-loses_session.false
       | in_default-ending w ↦ not_lost c.run_over-reply.result.ending w.in_default-ending.not-Fault
     ] in
     ran_step g.S.NodeStore c.args.self.now.settings (record { terminal = c.args.terminal; text = c.args.text.now }) c.args.account sessions c.in-Some.session.now c.run_over-reply.new.session
-    c.args.self.now.store c.run_over-reply.new.store c.run_over-reply.result c.requires (is_lent c.args.terminal m (session_or_new (get sessions c.args.terminal)) c.in-Ok.ensures.session c.in-Some.session.now c.in-Some.ensures.value) ran sound _ fine
-    (ap (λ (s : _). record { world = shared g.S.NodeStore c.run_over-reply.new.store; sessions = s })
+    c.args.self.now.store c.run_over-reply.new.store c.args.self.now.locks c.run_over-reply.new.locks c.run_over-reply.result c.requires
+    (is_lent c.args.terminal m (session_or_new (get sessions c.args.terminal)) c.in-Ok.ensures.session c.in-Some.session.now c.in-Some.ensures.value) c.run_over-reply.ensures.ran sound _ fine
+    (ap (λ (s : _). record { world = shared g.S.NodeStore c.run_over-reply.new.store c.run_over-reply.new.locks; sessions = s })
     (left sessions c.args.terminal m c.begin_session.ensures.others some c.get_mut.follows.lender c.get_mut.follows.holds (record c.run_over-reply.new.session { locals = c.leave_all.new.self })
     ∙ ap (λ l. insert sessions c.args.terminal (record { locals = l; naked = c.run_over-reply.new.session.naked; test = c.run_over-reply.new.session.test })) c.leave_all.ensures)
-    ∙ sym (settles c.args.terminal (server_of g.S.NodeStore c.args.self.now) c.run_over-reply.result.ending _ (shared g.S.NodeStore c.run_over-reply.new.store) c.in_default-ending-2.not-Halt))
+    ∙ sym (settles c.args.terminal (server_of g.S.NodeStore c.args.self.now) c.run_over-reply.result.ending _ (shared g.S.NodeStore c.run_over-reply.new.store c.run_over-reply.new.locks) c.in_default-ending-2.not-Halt))
 
 -- a session is there, now or from the line before
 pub unreachable-requires : goal.unreachable-requires
 unreachable-requires g c =
-    is_there c.args.terminal c.begin_session.new.self.sessions (session_or_new (get (server_of g.S.NodeStore c.args.self.now).sessions c.args.terminal)) c.in-Ok.ensures.session
+    is_there c.args.terminal c.begin_session.new.sessions (session_or_new (get (sessions_of c.args.self.now.sessions) c.args.terminal)) c.in-Ok.ensures.session
     (ap option_copied_mut (sym c.in_default-get_mut.is) ∙ c.get_mut.ensures.value)

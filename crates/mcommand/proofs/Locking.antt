@@ -1,0 +1,96 @@
+-- What LOCK asks of the locks.
+use Rattle.std.proofs.Common.{◌≡◌, ℕ, ◌+◌, ◌<◌, Bool, true, false, List, [], ◌∷◌, ◌++◌, Option, Some, None, MutBor, Result, Ok, Err, length, drop, get_or, map, refl, sym, ap, ◌∙◌, subst}
+use Rattle.std.specs.Prelude.{if◌then◌else◌, ◌&&◌}
+use Rattle.std.specs.List.{list_all}
+use Rattle.std.specs.Result.{IsErr, IsErrAnd}
+use Rattle.std.proofs.lemmas.List.Folds.{list_all-append}
+use Rattle.mspec.specs.LockConflict.{LockName, Locks, taken, given_back, released}
+use Rattle.mspec.specs.Plan.{Op, Answer, Take, Give_back, Release}
+use Rattle.mspec.specs.Act.{Text, Act, ◌>>=◌, ◌>>◌, give, ask}
+use Rattle.mspec.proofs.ListPlaces.{next_item}
+use Rattle.mmeaning.specs.World.{World, may_lock, took}
+use Rattle.mgrammar.specs.Grammar.{ReferenceTree}
+use Rattle.mmeaning.specs.Variables.{named_lock}
+use Rattle.mmeaning.specs.Expression.{Inside, evaluated}
+use Rattle.mmeaning.specs.Locking as meaning
+use Rattle.mmeaning.specs.Calls.{Standing, ops_of}
+use Rattle.mmeaning.proofs.Calls.{asked, assoc}
+use Rattle.mmeaning.proofs.LockMoves.{take_open}
+use Rattle.mtree.specs.Tree.{reference_tree}
+use Rattle.mtree.specs.declared.tree.Reference.{Reference}
+use Rattle.mstore.specs.declared.store.NodeStore.{Ghosts}
+use Rattle.moperator.specs.declared.code.Code.{Code}
+use Rattle.meval.specs.Acts.{lock_name_act}
+use Rattle.meval.specs.Evaluates.{standing_of}
+use Rattle.mcommand.specs.declared.parts.Parts.{Parts}
+use Rattle.mcommand.specs.Does.{Does, here_of}
+use Rattle.mcommand.specs.LockNames.{MayTake}
+use Rattle.mcommand.proofs.Calls.{does_then, does_failed, does_is}
+
+-- ---- names that may be taken
+
+pub one_more_taken : (b : Standing) (names : List LockName) (n : LockName) → MayTake b names → may_lock b.settings b.account n ≡ true → MayTake b (names ++ n ∷ [])
+one_more_taken b names n all this = list_all-append (may_lock b.settings b.account) names (n ∷ []) ∙ both (list_all (may_lock b.settings b.account) names) (may_lock b.settings b.account n) all this
+  where
+    both : (x y : Bool) → x ≡ true → y ≡ true → (x && (y && true)) ≡ true
+    both true true h k = refl
+    both true false h k = k
+    both false y h k = h
+
+-- the act of a reference, before those behind it
+name_is : (i : Inside) (names : List LockName) (r : ReferenceTree) (rs : List ReferenceTree)
+    → ◌≡◌ {A = Act (List LockName)} (meaning.lock_names i names (r ∷ rs)) (lock_name_act i r >>= (λ n. meaning.lock_names i (names ++ n ∷ []) rs))
+name_is i names r rs = sym (assoc (evaluated i r) (named_lock i.account) (λ n. meaning.lock_names i (names ++ n ∷ []) rs))
+
+module _ {S : Type 0} {g : Ghosts S} where
+  -- ---- operations
+
+  -- one that changes no more than the locks
+  asked_of_locks : {X : Type 0} {old : Parts S} (l : MutBor Locks) (op : Op) (f : X → Answer op) (x : X) → ops_of (standing_of old.eval) op (here_of g old).1 ≡ (f x, (here_of g (record old { locks = l })).1)
+      → Does g (λ i. ask op) f old (Ok x) (record old { locks = l })
+  asked_of_locks {old = old} l op f x e = record {
+    at = λ sound. asked op f x (here_of g (record old { locks = l })).1 e;
+    same = refl;
+    depth = refl;
+  }
+
+  pub does_release : {old : Parts S} (l : MutBor Locks) → l.now ≡ released old.locks.now old.eval.terminal → Does g (λ i. ask Release) (λ (u : Unit {0}). u) old (Ok tt) (record old { locks = l })
+  does_release {old = old} l e = asked_of_locks l Release (λ u. u) tt (ap (λ locks. (tt, record (here_of g old).1 { locks = locks })) (sym e))
+
+  pub does_give_back : {old : Parts S} (n : LockName) (l : MutBor Locks) → l.now ≡ given_back old.locks.now old.eval.terminal n → Does g (λ i. ask (Give_back n)) (λ (u : Unit {0}). u) old (Ok tt) (record old { locks = l })
+  does_give_back {old = old} n l e = asked_of_locks l (Give_back n) (λ u. u) tt (ap (λ locks. (tt, record (here_of g old).1 { locks = locks })) (sym e))
+
+  pub does_take : {old : Parts S} (names : List LockName) (all : Bool) (l : MutBor Locks) → MayTake (standing_of old.eval) names → taken old.locks.now old.eval.terminal names ≡ (if all then Some l.now else None) → (all ≡ false → l.now ≡ old.locks.now)
+      → Does g (λ i. ask (Take names)) (λ (b : Bool). b) old (Ok all) (record old { locks = l })
+  does_take {old = old} names all l may e none =
+      asked_of_locks l (Take names) (λ b. b) all (take_open (standing_of old.eval) names (here_of g old).1 may ∙ ap (took (here_of g old).1) e ∙ either all none)
+    where
+      either : (b : Bool) → (b ≡ false → l.now ≡ old.locks.now) → took (here_of g old).1 (if b then Some l.now else None) ≡ (b, record (here_of g old).1 { locks = l.now })
+      either true same = refl
+      either false same = ap (λ locks. (false, record (here_of g old).1 { locks = locks })) (sym (same refl))
+
+  -- each name is given back
+  pub next_given : {old mid new : Parts S} {r : Result (Unit {0}) Code} (names : List LockName) (k : ℕ) (d : LockName) → k < length names → d ≡ get_or names k d
+      → Does g (λ i. ask (Give_back d)) (λ (u : Unit {0}). u) old (Ok tt) mid → Does g (λ i. meaning.given_back_all (drop (k + 1) names)) (λ (u : Unit {0}). u) mid r new
+      → Does g (λ i. meaning.given_back_all (drop k names)) (λ (u : Unit {0}). u) old r new
+  next_given {old = old} {new = new} {r = r} names k d within is h rest =
+      subst (λ (ns : List LockName). Does g (λ i. meaning.given_back_all ns) (λ (u : Unit {0}). u) old r new) (sym (next_item names k d within is))
+      (does_then (λ i _. meaning.given_back_all (drop (k + 1) names)) h rest)
+
+  -- ---- names
+
+  module _ {X : Type 0} (view : X → List LockName) where
+    pub next_name : {old mid new : Parts S} (references : List Reference) (k : ℕ) (d : Reference) (names : List LockName) (n : LockName) (r : Result X Code) → k < length references → d ≡ get_or references k d
+        → Does g (λ i. lock_name_act i (reference_tree d)) (λ (n : LockName). n) old (Ok n) mid → Does g (λ i. meaning.lock_names i (names ++ n ∷ []) (map reference_tree (drop (k + 1) references))) view mid r new
+        → Does g (λ i. meaning.lock_names i names (map reference_tree (drop k references))) view old r new
+    next_name {old = old} {new = new} references k d names n r within is h rest =
+        subst (λ (rs : List Reference). Does g (λ i. meaning.lock_names i names (map reference_tree rs)) view old r new) (sym (next_item references k d within is))
+        (does_is (λ i. name_is i names (reference_tree d) (map reference_tree (drop (k + 1) references)))
+        (does_then (λ i n. meaning.lock_names i (names ++ n ∷ []) (map reference_tree (drop (k + 1) references))) h rest))
+
+    pub name_failed : {old new : Parts S} (references : List Reference) (k : ℕ) (d : Reference) (names : List LockName) (e : Code) → k < length references → d ≡ get_or references k d
+        → Does g (λ i. lock_name_act i (reference_tree d)) (λ (n : LockName). n) old (Err e) new → Does g (λ i. meaning.lock_names i names (map reference_tree (drop k references))) view old (Err e) new
+    name_failed {old = old} {new = new} references k d names e within is h =
+        subst (λ (rs : List Reference). Does g (λ i. meaning.lock_names i names (map reference_tree rs)) view old (Err e) new) (sym (next_item references k d within is))
+        (does_is (λ i. name_is i names (reference_tree d) (map reference_tree (drop (k + 1) references)))
+        (does_failed (λ i n. meaning.lock_names i (names ++ n ∷ []) (map reference_tree (drop (k + 1) references))) h))

@@ -1,0 +1,13 @@
+use Rattle.std.proofs.Common.{◌≡◌, drop, Ok}
+use Rattle.mmeaning.specs.Locking as meaning
+use Rattle.mcommand.specs.declared.parts.Parts.{Parts}
+use Rattle.mcommand.specs.Does.{Does, KeepsLoans}
+use Rattle.mcommand.proofs.parts.Parts.give_back_all.Given as goal
+
+abbrev pub invariant-loop-name : goal.invariant-loop-name
+invariant-loop-name g l = record {
+  loans : KeepsLoans l.fn.self l.self;
+  eval : l.self.eval ≡ l.fn.self.eval;
+  leads : (p : Parts _) → Does g.S.NodeStore (λ i. meaning.given_back_all (drop l.name-index l.names)) (λ (u : Unit {0}). u) l.self (Ok tt) p
+      → Does g.S.NodeStore (λ i. meaning.given_back_all l.names) (λ (u : Unit {0}). u) l.fn.self (Ok tt) p;
+}

@@ -1,0 +1,57 @@
+use Rattle.std.proofs.Common.{map, arith, refl, sym, subst, Vec, Global}
+use Rattle.mspec.proofs.ListPlaces.{none_left}
+use Rattle.mmeaning.proofs.Calls.{residual_is}
+use Rattle.mlock.specs.declared.name.LockName.{LockName}
+use Rattle.meval.specs.Evaluates.{standing_of}
+use Rattle.mcommand.specs.LockNames.{MayTake}
+use Rattle.mcommand.proofs.Calls.{does_evaluated, does_gives, does_wanting, keeps_itself, keeps_evaluated}
+use Rattle.mcommand.proofs.Locking.{one_more_taken, next_name, name_failed}
+use Rattle.mcommand.proofs.parts.Parts.lock_names.Goals as goal
+
+pub loop-reference-init : goal.loop-reference-init
+loop-reference-init g c = record {
+  loans = keeps_itself c.args.self.now;
+  fewer = omega arith;
+  may_take = rw c.in_ok-names.ensures.items refl;
+  leads = λ r p k. rw c.in_ok-names.ensures.items at k;
+}
+
+pub returns-in_err-name-clause-loans : goal.returns-in_err-name-clause-loans
+returns-in_err-name-clause-loans g c = keeps_evaluated c.loop-reference.invariant.loans c.in_err-name.ensures.loans
+
+pub returns-in_err-name-clause-fewer : goal.returns-in_err-name-clause-fewer
+returns-in_err-name-clause-fewer g c = omega arith
+
+pub returns-in_err-name-clause-does : goal.returns-in_err-name-clause-does
+returns-in_err-name-clause-does g c =
+    rw (residual_is _ _ c.from_residual-in_err-name.ensures)
+    (c.loop-reference.invariant.leads _ _
+    (name_failed (λ (ns : Vec LockName Global). ns.items) c.args.references.now c.loop-reference.reference-index c.reference-item.result _ _ c.loop-reference-test.true c.reference-item.is (does_evaluated c.in_err-name.ensures.does)))
+
+pub returns-in_err-push-clause-loans : goal.returns-in_err-push-clause-loans
+returns-in_err-push-clause-loans g c = keeps_evaluated c.loop-reference.invariant.loans c.in_ok-name.ensures.loans
+
+pub returns-in_err-push-clause-does : goal.returns-in_err-push-clause-does
+returns-in_err-push-clause-does g c =
+    c.loop-reference.invariant.leads _ _
+    (next_name (λ (ns : Vec LockName Global). ns.items) c.args.references.now c.loop-reference.reference-index c.reference-item.result _ c.in_ok-name.name _ c.loop-reference-test.true c.reference-item.is (does_evaluated c.in_ok-name.ensures.does)
+    (does_wanting _ _ _ c.from_residual-in_err-push.ensures refl refl))
+
+pub loop-reference-preserved : goal.loop-reference-preserved
+loop-reference-preserved g c = record {
+  loans = keeps_evaluated c.loop-reference.invariant.loans c.in_ok-name.ensures.loans;
+  fewer = omega arith;
+  may_take =
+      rw c.in_ok-push.ensures.items
+      (one_more_taken (standing_of c.lock_name.new.self) c.loop-reference.names.items c.in_ok-name.name
+      (subst (λ b. MayTake b c.loop-reference.names.items) (sym c.in_ok-name.ensures.does.same) c.loop-reference.invariant.may_take) c.in_ok-name.ensures.«open»);
+  leads = λ r p k.
+      let k = rw c.in_ok-push.ensures.items at k in
+      c.loop-reference.invariant.leads r p
+      (next_name (λ (ns : Vec LockName Global). ns.items) c.args.references.now c.loop-reference.reference-index c.reference-item.result _ c.in_ok-name.name r c.loop-reference-test.true c.reference-item.is (does_evaluated c.in_ok-name.ensures.does) k);
+}
+
+pub returns-clause-does : goal.returns-clause-does
+returns-clause-does g c =
+    let leads = rw (none_left c.loop-reference.reference-index c.args.references.now c.loop-reference-test.false) at c.loop-reference.invariant.leads in
+    leads _ _ (does_gives c.loop-reference.names.items (λ (ns : Vec LockName Global). ns.items) c.loop-reference.names refl)

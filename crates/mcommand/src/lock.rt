@@ -1,0 +1,157 @@
+// LOCK: its names and its timeout are evaluated first, and then the names are taken or given back.
+ghost use Rattle.std.specs.Prelude.{◌≡◌, ◌≤◌, [], map, Ok, IfOk};
+ghost use Rattle.mspec.specs.Act.{ask};
+ghost use Rattle.mspec.specs.Plan.{Release, Take};
+ghost use Rattle.mmeaning.specs.Expression.{optional_value};
+ghost use Rattle.mmeaning.specs.Locking as meaning;
+ghost use Rattle.mtree.specs.Tree.{reference_tree, condition_tree, kind_tree, locked_tree};
+ghost use Rattle.meval.specs.Evaluates.{standing_of};
+ghost use Rattle.mcommand.specs.Does.{Does, KeepsLoans};
+ghost use Rattle.mcommand.specs.LockNames.{MayTake};
+
+use crate::parts::Parts;
+use mlock::LockName;
+use moperator::Code;
+use mstore::NodeStore;
+use mtree::{Expr, LockKind, Locked, Reference};
+use mvalue::Value;
+use std::alloc::Global;
+
+// What an argument names.
+fn references(names: &Locked) -> &[Reference]
+    ensures { map reference_tree result.now ≡ meaning.names_of (locked_tree names.now) }
+{
+    match names {
+        Locked::One(reference) => std::slice::from_ref(reference),
+        Locked::Several(references) => references,
+    }
+}
+
+impl<'a, S: NodeStore> Parts<'a, S> {
+    // The locks that references name: each is evaluated and checked before the next.
+    fn lock_names(&mut self, alloc: Global, references: &[Reference]) -> Result<Vec<LockName>, Code>
+        ensures loans { KeepsLoans self.old self.new }
+        ensures fewer { self.new.eval.steps ≤ self.old.eval.steps }
+        ensures may_take { IfOk result (λ names. MayTake (standing_of self.new.eval) names.items) }
+        ensures does { Does S.NodeStore (λ i. meaning.lock_names i [] (map reference_tree references.now)) (λ names. names.items) self.old result self.new }
+    {
+        let mut names = Vec::with_capacity(alloc, references.len())?;
+        for reference in references {
+            let name = self.eval.lock_name(alloc, reference)?;
+            names.push(name)?;
+        }
+        Ok(names)
+    }
+
+    // The value of a timeout, where there is one.
+    fn timeout_value(
+        &mut self,
+        alloc: Global,
+        timeout: &Option<Box<Expr>>,
+    ) -> Result<Option<Value>, Code>
+        ensures loans { KeepsLoans self.old self.new }
+        ensures fewer { self.new.eval.steps ≤ self.old.eval.steps }
+        ensures does { Does S.NodeStore (λ i. optional_value i (condition_tree timeout.now)) (λ value. value) self.old result self.new }
+    {
+        match timeout {
+            None => Ok(None),
+            Some(e) => {
+                let value = self.eval.eval(alloc, e)?;
+                Ok(Some(value))
+            }
+        }
+    }
+
+    /// Gives back all that the terminal holds.
+    pub fn release(&mut self)
+        ensures loans { KeepsLoans self.old self.new }
+        ensures eval { self.new.eval ≡ self.old.eval }
+        ensures does { Does S.NodeStore (λ i. ask Release) (λ u. u) self.old (Ok tt) self.new }
+    {
+        self.locks.release_all(self.eval.terminal);
+    }
+
+    // Whether the names could be taken: all of them are, or none.
+    fn take(&mut self, names: &[LockName]) -> Result<bool, Code>
+        requires { MayTake (standing_of self.old.eval) names.now }
+        ensures loans { KeepsLoans self.old self.new }
+        ensures eval { self.new.eval ≡ self.old.eval }
+        ensures does { Does S.NodeStore (λ i. ask (Take names.now)) (λ all. all) self.old result self.new }
+    {
+        let all = self.locks.take(self.eval.terminal, names)?;
+        Ok(all)
+    }
+
+    // Gives each name back once.
+    fn give_back_all(&mut self, names: &[LockName])
+        ensures loans { KeepsLoans self.old self.new }
+        ensures eval { self.new.eval ≡ self.old.eval }
+        ensures does { Does S.NodeStore (λ i. meaning.given_back_all names.now) (λ u. u) self.old (Ok tt) self.new }
+    {
+        for name in names {
+            self.locks.give_back(self.eval.terminal, name);
+        }
+    }
+
+    // Whether it could be done with the names what an argument of this kind does.
+    fn carry(&mut self, kind: LockKind, names: &[LockName]) -> Result<bool, Code>
+        requires { MayTake (standing_of self.old.eval) names.now }
+        ensures loans { KeepsLoans self.old self.new }
+        ensures eval { self.new.eval ≡ self.old.eval }
+        ensures does { Does S.NodeStore (λ i. meaning.carried (kind_tree kind) names.now) (λ carried. carried) self.old result self.new }
+    {
+        match kind {
+            LockKind::Anew => {
+                self.release();
+                self.take(names)
+            }
+            LockKind::Adding => self.take(names),
+            LockKind::GivingBack => {
+                self.give_back_all(names);
+                Ok(true)
+            }
+        }
+    }
+
+    // Tells whether it could be done: with a timeout `$TEST` does, and without one it is an error where it could not.
+    fn tell(&mut self, timeout: &Option<Value>, carried: bool) -> Result<(), Code>
+        ensures loans { KeepsLoans self.old self.new }
+        ensures fewer { self.new.eval.steps ≤ self.old.eval.steps }
+        ensures does { Does S.NodeStore (λ i. meaning.told timeout.now carried) (λ u. u) self.old result self.new }
+    {
+        match timeout {
+            Some(_) => {
+                self.eval.set_test(carried);
+                Ok(())
+            }
+            None => { if carried { Ok(()) } else { Err(Code::Zlocked) } }
+        }
+    }
+
+    /// What an argument of LOCK does: without a sign it gives back all that the terminal holds and takes its names, with a `+` it
+    /// takes them besides, and with a `-` it gives each back once. Names are taken all or none, at once: with a timeout, whose
+    /// value plays no part, `$TEST` tells whether they were.
+    ///
+    /// # Errors
+    ///
+    /// Those of the names and of the timeout, each of which is evaluated and checked before any lock is given back or taken:
+    /// `Zsyntax` for a naked reference, `Zgrant` where the account may not write a global, `Zsub` where subscripts are no node's.
+    /// `Zlocked` where names could not be taken and there is no timeout; what was given back before stays so. `Zmem` for want of
+    /// memory, and `Zstore` where the store refuses.
+    pub fn locking(
+        &mut self,
+        alloc: Global,
+        kind: LockKind,
+        names: &Locked,
+        timeout: &Option<Box<Expr>>,
+    ) -> Result<(), Code>
+        ensures loans { KeepsLoans self.old self.new }
+        ensures fewer { self.new.eval.steps ≤ self.old.eval.steps }
+        ensures does { Does S.NodeStore (λ i. meaning.locking i (kind_tree kind) (locked_tree names.now) (condition_tree timeout.now)) (λ u. u) self.old result self.new }
+    {
+        let names = self.lock_names(alloc, references(names))?;
+        let timeout = self.timeout_value(alloc, timeout)?;
+        let carried = self.carry(kind, &names)?;
+        self.tell(&timeout, carried)
+    }
+}

@@ -1,0 +1,101 @@
+-- Calls of an indirection: subscripts behind those that a reference has already, and what a text names, evaluated an indirection deeper.
+use Rattle.std.proofs.Common.{◌≡◌, suc, ◌<◌, Bool, true, false, List, [], ◌∷◌, ◌++◌, Option, Some, None, Result, Ok, Err, subst, refl, sym, ap, ◌∙◌}
+use Rattle.std.specs.Prelude.{◌↔◌, IsTrue, IsSome}
+use Rattle.std.proofs.lemmas.Bool.{false≢true, false_from_ne_true}
+use Rattle.std.specs.Result.{IsErr, IsErrAnd}
+use Rattle.std.proofs.lemmas.List.{append_assoc, append-nil}
+use Rattle.mspec.specs.Code as spec
+use Rattle.mspec.specs.Act.{Text, Act, ◌>>=◌, ◌>>◌, give, give_some}
+use Rattle.mgrammar.specs.Grammar.{PrimaryTree, ReferenceTree, indirect, ExprsTree, no_exprs, exprs}
+use Rattle.mgrammar.specs.IndirectTexts.{ref_at}
+use Rattle.mmeaning.specs.Variables.{Evaluated, subscripts_of, with_subscripts}
+use Rattle.mmeaning.specs.Expression.{Inside, inside, is_indirection_free, an_indirection_free, indirected, named_by, value, values, primary_value, evaluated, through, finds}
+use Rattle.mmeaning.specs.Expression as meaning
+use Rattle.mmeaning.specs.Calls.{Did}
+use Rattle.mmeaning.specs.Yields.{Yields}
+use Rattle.mmeaning.proofs.Calls.{assoc, did_then, did_spent}
+use Rattle.mmeaning.proofs.Indirections.{did_fail}
+use Rattle.mmeaning.proofs.Yieldings.{yielded}
+use Rattle.mstore.specs.declared.store.NodeStore.{Ghosts}
+use Rattle.moperator.specs.Codes.{fault_of}
+use Rattle.moperator.specs.declared.code.Code.{Code}
+use Rattle.moperator.specs.declared.code.Code.TheVariants as code
+use Rattle.meval.specs.declared.depth.Depth.{Depth}
+use Rattle.meval.specs.declared.eval.Eval.{Eval}
+use Rattle.meval.specs.Evaluates.{Evaluates, standing_of, eval_here, depth_of}
+use Rattle.meval.proofs.Calls.{moved, evaluates_stopped, evaluates_yielded}
+
+-- ---- subscripts behind others
+
+values_behind : (i : Inside) (es : ExprsTree) (xs ys : List Text) → ◌≡◌ {A = Act (List Text)} (values i (xs ++ ys) es) (values i ys es >>= (λ zs. give (xs ++ zs)))
+values_behind i no_exprs xs ys = refl
+values_behind i (exprs e rest) xs ys =
+    ap (λ (q : Text → Act (List Text)). value i e >>= q) (λ k x. (ap (λ (zs : List Text). values i zs rest) (append_assoc xs ys (x ∷ [])) ∙ values_behind i rest xs (ys ++ x ∷ [])) k)
+    ∙ sym (assoc (value i e) (λ x. values i (ys ++ x ∷ []) rest) (λ zs. give (xs ++ zs)))
+
+behind : (i : Inside) (es : ExprsTree) (v : Evaluated)
+    → ◌≡◌ {A = Act Evaluated} (values i [] es >>= (λ ys. give (with_subscripts (subscripts_of v ++ ys) v))) (values i (subscripts_of v) es >>= (λ zs. give (with_subscripts zs v)))
+behind i es v =
+    sym
+    (ap (λ (p : Act (List Text)). p >>= (λ zs. give (with_subscripts zs v))) (ap (λ (xs : List Text). values i xs es) (sym (append-nil (subscripts_of v))) ∙ values_behind i es (subscripts_of v) [])
+    ∙ assoc (values i [] es) (λ ys. give (subscripts_of v ++ ys)) (λ zs. give (with_subscripts zs v)))
+
+-- ---- whether an indirection may be evaluated
+
+pub not_free : {X : Type 0} (found : Option X) (b : Bool) → found ≡ None → IsSome found ↔ IsTrue b → b ≡ false
+not_free found b none when = false_from_ne_true b (λ is. false≢true (subst IsSome none (when.1 is)))
+
+pub is_free : {X : Type 0} {x : X} (found : Option X) (b : Bool) → found ≡ Some x → IsSome found ↔ IsTrue b → b ≡ true
+is_free found b some when = when.0 (subst IsSome (sym some) refl)
+
+module _ {S Y : Type 0} {g : Ghosts S} {j : Y → Evaluated} where
+  -- the subscripts behind a reference are evaluated behind its own
+  pub evaluates_behind : {old new : Eval S} {r : Result Y Code} (es : ExprsTree) (v : Evaluated)
+      → Evaluates g (λ i. values i [] es >>= (λ ys. give (with_subscripts (subscripts_of v ++ ys) v))) j old r new → Evaluates g (λ i. values i (subscripts_of v) es >>= (λ zs. give (with_subscripts zs v))) j old r new
+  evaluates_behind {old = old} {new = new} {r = r} es v d = subst (λ (p : Inside → Act Evaluated). Evaluates g p j old r new) (λ k i. behind i es v k) d
+
+  -- ---- the text of an operand
+
+  -- one too deep
+  pub evaluates_deep : {mid : Eval S} (subscripts : ExprsTree) (x : Text) → is_indirection_free (depth_of mid.depth) ≡ false → Evaluates g (λ i. named_by i subscripts x) j mid (Err code.Zdepth) mid
+  evaluates_deep {mid = mid} subscripts x full = record {
+    at = λ sound out locks. rw full (did_fail spec.Zdepth j code.Zdepth refl);
+    same = refl;
+    depth = refl;
+  }
+
+  -- what stops behind the check of the depth
+  free_then : {mid new : Eval S} {r : Result Y Code} (q : Inside → Act Evaluated) → is_indirection_free (depth_of mid.depth) ≡ true → Evaluates g q j mid r new → Evaluates g (λ i. an_indirection_free i.depth >> q i) j mid r new
+  free_then {mid = mid} q free d = record {
+    at = λ sound out locks. rw free (d.at sound out locks);
+    same = d.same;
+    depth = d.depth;
+  }
+
+  -- one whose text names no variable, or for whose tree memory does not suffice
+  pub evaluates_unnamed : {R : Type 0} {mid : Eval S} {e : Code} {r : Result Y Code} {f : R → ReferenceTree} (subscripts : ExprsTree) (x : Text) → is_indirection_free (depth_of mid.depth) ≡ true
+      → Yields fault_of (give_some spec.Zsyntax (ref_at x)) f (Err e) → IsErr r × IsErrAnd r (λ c. c ≡ e) → Evaluates g (λ i. named_by i subscripts x) j mid r mid
+  evaluates_unnamed subscripts x free none is =
+      free_then (λ i. give_some spec.Zsyntax (ref_at x) >>= (λ r. i.find (indirected i.depth) r subscripts)) free (evaluates_stopped (λ i r. i.find (indirected i.depth) r subscripts) (evaluates_yielded none) is)
+
+  -- a name indirection: its operand spent a step, so what its text names is evaluated with one text fewer, an indirection deeper
+  pub evaluates_entry : {R : Type 0} {old mid within : Eval S} {res : Result Y Code} (p : PrimaryTree) (subscripts : ExprsTree) (x : Text) (tree : R → ReferenceTree) (r : R) (deeper : Depth)
+      → Evaluates g (λ i. primary_value i p) (λ (v : Text). v) old (Ok x) mid → mid.steps < old.steps → is_indirection_free (depth_of mid.depth) ≡ true → depth_of deeper ≡ indirected (depth_of mid.depth)
+      → Yields {E = Code} fault_of (give_some spec.Zsyntax (ref_at x)) tree (Ok r) → Evaluates g (λ i. through i (tree r) subscripts) j (record mid { depth = deeper }) res within
+      → Evaluates g (λ i. evaluated i (indirect p subscripts)) j old res (record within { depth = mid.depth })
+  unfolding finds
+  evaluates_entry {old = old} {mid = mid} {within = within} {res = res} p subscripts x tree r deeper d less free is named k =
+      let a = (standing_of old).account in
+      let free = subst (λ (e : Depth). is_indirection_free (depth_of e) ≡ true) d.depth free in
+      let is = is ∙ ap (λ (e : Depth). indirected (depth_of e)) d.depth in
+      record {
+        at = λ sound out locks.
+            let found =
+            subst (λ (e : meaning.Depth). Did (standing_of old) g.steady fault_of (λ n. through (inside a n e) (tree r) subscripts) j (eval_here g mid out locks) res (eval_here g within out locks)) is
+            (moved (λ i. through i (tree r) subscripts) d.same refl (k.at sound out locks))
+            in
+            did_spent (λ n x. named_by (inside a n (depth_of old.depth)) subscripts x) (d.at sound out locks) less
+            (rw free (did_then (λ n r. finds a (suc n) (indirected (depth_of old.depth)) r subscripts) (yielded (eval_here g mid out locks) named) found));
+        same = k.same ∙ d.same;
+        depth = d.depth;
+      }

@@ -1,0 +1,11 @@
+-- The names of locks, with and without a `^`.
+use Rattle.std.specs.Prelude.{true, false, List}
+use Rattle.mspec.specs.Act.{Text}
+use Rattle.mspec.specs.LockConflict.{LockName}
+use Rattle.mspec.specs.Node.{Node}
+
+abbrev pub global_name : Node → LockName
+global_name n = record { global = true; node = n }
+
+abbrev pub local_name : Text → Text → List Text → LockName
+local_name me name xs = record { global = false; node = record { account = me; name = name; subscripts = xs } }

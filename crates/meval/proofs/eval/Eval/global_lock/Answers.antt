@@ -1,0 +1,26 @@
+use Rattle.std.proofs.Common.{ap}
+use Rattle.mspec.specs.Act.{◌>>◌, give, unless}
+use Rattle.mspec.specs.Code as spec
+use Rattle.mspec.specs.Node.{Node}
+use Rattle.mspec.specs.LockConflict.{LockName}
+use Rattle.mspec.specs.Subscripts.{are_subscripts}
+use Rattle.meval.proofs.Calls.{evaluates_then, evaluates_stopped, evaluates_gives, evaluates_yielded}
+use Rattle.meval.proofs.Locks.{global_name}
+use Rattle.meval.proofs.eval.Eval.global_lock.Goals as goal
+
+pub returns-in_err-check-clause-does : goal.returns-in_err-check-clause-does
+returns-in_err-check-clause-does g c =
+    let n : Node = c.args.node.now in
+    evaluates_stopped (λ i _. unless spec.Zsub (are_subscripts n.subscripts) >> give (global_name n)) c.in_err-check.ensures.does c.from_residual.ensures
+
+pub returns-in_err-key-clause-does : goal.returns-in_err-key-clause-does
+returns-in_err-key-clause-does g c =
+    let n : Node = c.args.node.now in
+    evaluates_then (λ i _. unless spec.Zsub (are_subscripts n.subscripts) >> give (global_name n)) c.in_ok-check.ensures.does
+    (evaluates_stopped (λ i _. give (global_name n)) (evaluates_yielded c.in_err-key.ensures.checked) c.from_residual-in_err-key.ensures)
+
+pub returns-clause-does : goal.returns-clause-does
+returns-clause-does g c =
+    let n : Node = c.args.node.now in
+    evaluates_then (λ i _. unless spec.Zsub (are_subscripts n.subscripts) >> give (global_name n)) c.in_ok-check.ensures.does
+    (evaluates_then (λ i _. give (global_name n)) (evaluates_yielded c.in_ok-key.ensures.checked) (evaluates_gives (global_name n) (λ (name : LockName). name) _ (ap global_name c.in_ok-key.ensures.key)))

@@ -1,0 +1,23 @@
+// The text of an indirection by its tree.
+ghost use Rattle.mspec.specs.Code.{Zsyntax};
+ghost use Rattle.mspec.specs.Act.{give_some};
+ghost use Rattle.mgrammar.specs.IndirectTexts.{ref_at};
+ghost use Rattle.mmeaning.specs.Yields.{Yields};
+ghost use Rattle.mtree.specs.Tree.{reference_tree};
+ghost use Rattle.moperator.specs.Codes.{fault_of};
+
+use moperator::Code;
+use mparse::{ParseFault, parse_ref};
+use mtree::Reference;
+use std::alloc::Global;
+
+// The variable that a text names.
+pub fn read_reference(alloc: Global, text: &[u8]) -> Result<Reference, Code>
+    ensures { Yields fault_of (give_some Zsyntax (ref_at text.now)) reference_tree result }
+{
+    match parse_ref(alloc, text) {
+        Ok(reference) => Ok(reference),
+        Err(ParseFault::Syntax) => Err(Code::Zsyntax),
+        Err(ParseFault::Memory) => Err(Code::Zmem),
+    }
+}

@@ -1,0 +1,6 @@
+use Rattle.std.proofs.Common.{refl}
+use Rattle.mexec.proofs.Calls.{stack_push}
+use Rattle.mexec.proofs.indirection.leave_given.Goals as goal
+
+pub returns-clause-frames : goal.returns-clause-frames
+returns-clause-frames c = rw (c.in_ok-push.ensures.items, stack_push, c.in_ok-given.ensures.ok, c.in_ok-clone.ensures.cases) refl

@@ -1,0 +1,12 @@
+use Rattle.std.proofs.Common.{◌<◌, length, refl, arith}
+use Rattle.mexec.specs.Frames.{source_args}
+use Rattle.mexec.proofs.Calls.{stack_push, some_item}
+use Rattle.mexec.proofs.source.Source.leave.Goals as goal
+
+pub returns-clause-frames : goal.returns-clause-frames
+returns-clause-frames c =
+    let all = source_args c.args.self in
+    let h = rw c.all.ensures at c.if-argument-all.false in
+    let less : c.args.argument < length all = omega (arith, h) in
+    let some = some_item c.args.argument all less in
+    rw (c.in_ok-push.ensures.items, stack_push, c.in_ok-frame.ensures, some.1) refl

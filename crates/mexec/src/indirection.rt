@@ -1,0 +1,85 @@
+// Argument indirection: arguments that the text of an operand's value gives.
+ghost use Rattle.std.specs.Prelude.{◌≡◌, ◌≤◌, ◌+◌, ◌*◌, ◌∷◌, map, length, IfOk, OnOk};
+ghost use Rattle.mspec.specs.Act.{give_some};
+ghost use Rattle.mspec.specs.Code.{Zsyntax};
+ghost use Rattle.mgrammar.specs.Grammar.{form_of};
+ghost use Rattle.mgrammar.specs.IndirectTexts.{args_of};
+ghost use Rattle.mmeaning.specs.Expression.{an_indirection_free, indirected};
+ghost use Rattle.mmeaning.specs.LineMeaning as meaning;
+ghost use Rattle.mmeaning.specs.LineMeaning.{context};
+ghost use Rattle.mmeaning.specs.Frames.{Lists};
+ghost use Rattle.mmeaning.specs.Yields.{Yields};
+ghost use Rattle.mtree.specs.Tree.{arg_tree, keyword_tree, primary_tree};
+ghost use Rattle.moperator.specs.Codes.{fault_of};
+ghost use Rattle.meval.specs.Evaluates.{depth_of};
+ghost use Rattle.mcommand.specs.Does.{KeepsLoans};
+ghost use Rattle.mexec.specs.Frames.{Runs, spot_of, stack};
+ghost use Rattle.mexec.specs.Entering.{so_deep};
+
+use crate::frames::{Frame, Given, Level, Spot};
+use crate::machine::Machine;
+use crate::reading::read_arguments;
+use crate::signal::Signal;
+use mcommand::Parts;
+use meval::Depth;
+use moperator::Code;
+use mstore::NodeStore;
+use mtree::{Arg, Keyword, Primary};
+use std::alloc::{AllocError, Global};
+use std::rc::Rc;
+
+// One indirection more, where one is free.
+fn one_indirection_deeper(depth: Depth) -> Result<Depth, Code>
+    ensures deeper { IfOk result (λ there. depth_of there ≡ indirected (depth_of depth)) }
+    ensures does { Yields fault_of (an_indirection_free (depth_of depth)) (λ there. tt) result }
+{
+    match depth.indirected() {
+        Some(deeper) => Ok(deeper),
+        None => Err(Code::Zdepth),
+    }
+}
+
+// Leaves arguments that a text gave on the frames, so deep, in the level that the indirection stands in.
+fn leave_given(
+    alloc: Global,
+    depth: Depth,
+    spot: &Spot,
+    args: Vec<Arg>,
+    machine: &mut Machine,
+) -> Result<(), AllocError>
+    ensures frames { OnOk result (stack machine.new.frames.items ≡ Lists (so_deep (depth_of depth) (spot_of spot.now)) (map arg_tree args.items) ∷ stack machine.old.frames.items) }
+    ensures most { OnOk result (length machine.new.frames.items ≤ length machine.old.frames.items + 1) }
+{
+    let level = Level {
+        copy: spot.level.copy.clone()?,
+        next: spot.level.next,
+        dots: spot.level.dots,
+    };
+    let spot = Spot { depth, level };
+    let given = Rc::new(alloc, Given { spot, args })?;
+    machine.frames.push(Frame::Given(given, 0))?;
+    Ok(())
+}
+
+// The arguments that the value of an operand gives, for a command with this word. They stand on the frames, and are an indirection
+// until the last of them is done.
+pub(crate) fn giving<S: NodeStore>(
+    alloc: Global,
+    parts: &mut Parts<S>,
+    spot: &Spot,
+    keyword: Keyword,
+    operand: &Primary,
+    machine: &mut Machine,
+) -> Result<Signal, Code>
+    ensures loans { KeepsLoans parts.old parts.new }
+    ensures falls { IfOk result (λ _. 6 * parts.new.eval.steps + length machine.new.frames.items + 1 ≤ 6 * parts.old.eval.steps + length machine.old.frames.items) }
+    ensures does { Runs S.NodeStore (λ a n. meaning.given (context a n (spot_of spot.now)) (form_of (keyword_tree keyword)) (primary_tree operand.now)) (stack machine.old.frames.items) parts.old result (stack machine.new.frames.items) parts.new }
+{
+    parts.eval.depth = spot.depth;
+    let text = parts.eval.eval_primary(alloc, operand)?;
+    let depth = one_indirection_deeper(spot.depth)?;
+    let text = text.into_text(alloc)?;
+    let args = read_arguments(alloc, keyword, text.as_bytes())?;
+    leave_given(alloc, depth, spot, args, machine)?;
+    Ok(Signal::GoOn)
+}

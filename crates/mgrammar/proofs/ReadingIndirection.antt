@@ -1,0 +1,200 @@
+-- What is read of argument indirection is spelled so, and what is spelled so is read.
+use Rattle.std.proofs.Common.{◌≡◌, ℕ, true, false, eqb, List, [], ◌∷◌, ◌++◌, Option, Some, None, ◌⊎◌, inl, inr, refl, sym, ap, subst, ◌∙◌, arith}
+use Rattle.std.proofs.lemmas.Bool.Decides.{nat_tests}
+use Rattle.std.proofs.lemmas.List.{append-nil}
+use Rattle.mspec.specs.Names.{is_name_start, IsName}
+use Rattle.mgrammar.specs.Grammar.{ExprTree, expr, no_steps, step, operand, PrimaryTree, number, text, special, reference, bracket, call, select, refer, EntryTree, at_label, at_label_in, at_routine, FormTree, assignment, removal, hiding, condition, repetition, output, entrance, leap, execution, locking, nothing, ArgTree, assign, breaks, shown, kill_one, kill_others, new_one, new_others, tested, loop, do_one, go_to, executed, locked, indirect_args, anew, adding, giving_back, lock_one, lock_several, may_be_indirect, spell_expr, spell_reference, spell_primary, spell_entry, spell_condition, spell_arg}
+use Rattle.mgrammar.specs.WellFormed.{bare_primary, bare_expr, bare_arg, settled, max_depth, WellExpr, WellBelow, WellEntry, WellPlain, WellArg}
+use Rattle.mgrammar.specs.Reading.{Read, past, readers_at, settled_with, operand_by, operand_or}
+use Rattle.mgrammar.proofs.ReadingBasics.{Takes, Again, Stops, Begins-stops, Begins-append, bind_some, some_is, past_takes, not_past}
+use Rattle.mgrammar.proofs.ReadingReferences.{operand_ends, greedy_ends, named, bare_reference_is}
+use Rattle.mgrammar.proofs.ReadingExprs.{below_takes, below_again}
+use Rattle.mgrammar.proofs.ReadingArguments.{Follows}
+
+-- ---- an `@` with its operand alone
+
+bare_expr_is : (d : ℕ) (e : ExprTree) (p : PrimaryTree) → bare_expr e ≡ Some p → WellExpr d e → (spell_expr e ≡ 64 ∷ spell_primary p) × WellBelow d p
+bare_expr_is d (expr (operand [] (reference v)) no_steps) p e w =
+    let is = bare_reference_is d v p e w.0 in
+    (append-nil _ ∙ is.0, is.1)
+bare_expr_is d (expr (operand [] (number t)) no_steps) p e w = absurd cc
+bare_expr_is d (expr (operand [] (text t)) no_steps) p e w = absurd cc
+bare_expr_is d (expr (operand [] (special t)) no_steps) p e w = absurd cc
+bare_expr_is d (expr (operand [] (bracket x)) no_steps) p e w = absurd cc
+bare_expr_is d (expr (operand [] (call t xs)) no_steps) p e w = absurd cc
+bare_expr_is d (expr (operand [] (select t xs)) no_steps) p e w = absurd cc
+bare_expr_is d (expr (operand [] (refer t v xs)) no_steps) p e w = absurd cc
+bare_expr_is d (expr (operand (s ∷ ss) q) no_steps) p e w = absurd cc
+bare_expr_is d (expr o (step s rest)) p e w = absurd cc
+
+-- an argument as it is written
+bare_arg_is : (f : FormTree) (a : ArgTree) (p : PrimaryTree) → bare_arg a ≡ Some p → WellPlain f a → (spell_arg a ≡ 64 ∷ spell_primary p) × WellBelow max_depth p
+bare_arg_is assignment (assign d e) p h w = absurd cc
+bare_arg_is removal (kill_one v) p h w = bare_reference_is max_depth v p h w
+bare_arg_is removal (kill_others names) p h w = absurd cc
+bare_arg_is hiding (new_one name) p h w = absurd cc
+bare_arg_is hiding (new_others names) p h w = absurd cc
+bare_arg_is condition (tested e) p h w = bare_expr_is max_depth e p h w
+bare_arg_is repetition (loop index parameters) p h w = absurd cc
+bare_arg_is output (breaks n) p h w = absurd cc
+bare_arg_is output (shown e) p h w = bare_expr_is max_depth e p h w
+bare_arg_is entrance (do_one e c) p h w = absurd cc
+bare_arg_is leap (go_to e c) p h w = absurd cc
+bare_arg_is execution (executed e None) p h w =
+    let is = bare_expr_is max_depth e p h w.0 in
+    (append-nil (spell_expr e) ∙ is.0, is.1)
+bare_arg_is execution (executed e (Some c)) p h w = absurd cc
+bare_arg_is locking (locked anew (lock_one v) None) p h w =
+    let is = bare_reference_is max_depth v p h w.0.0 in
+    (append-nil (spell_reference v) ∙ is.0, is.1)
+bare_arg_is locking (locked anew (lock_one v) (Some t)) p h w = absurd cc
+bare_arg_is locking (locked anew (lock_several vs) t) p h w = absurd cc
+bare_arg_is locking (locked adding names t) p h w = absurd cc
+bare_arg_is locking (locked giving_back names t) p h w = absurd cc
+bare_arg_is f a p h w = absurd w
+
+-- ---- arguments that are written, and those that a text gives
+
+no_plain : (f g : FormTree) (p : PrimaryTree) → WellPlain f (indirect_args g p) → ⊥
+no_plain assignment g p w = w
+no_plain removal g p w = w
+no_plain hiding g p w = w
+no_plain condition g p w = w
+no_plain repetition g p w = w
+no_plain output g p w = w
+no_plain entrance g p w = w
+no_plain leap g p w = w
+no_plain execution g p w = w
+no_plain locking g p w = w
+no_plain nothing g p w = w
+
+pub plain_well : (f : FormTree) (a : ArgTree) → WellPlain f a → bare_arg a ≡ None → WellArg f a
+plain_well f (assign d e) w n = (w, n)
+plain_well f (breaks m) w n = (w, n)
+plain_well f (shown e) w n = (w, n)
+plain_well f (kill_one v) w n = (w, n)
+plain_well f (kill_others names) w n = (w, n)
+plain_well f (new_one name) w n = (w, n)
+plain_well f (new_others names) w n = (w, n)
+plain_well f (tested e) w n = (w, n)
+plain_well f (loop index parameters) w n = (w, n)
+plain_well f (do_one e c) w n = (w, n)
+plain_well f (go_to e c) w n = (w, n)
+plain_well f (executed e c) w n = (w, n)
+plain_well f (locked k names t) w n = (w, n)
+plain_well f (indirect_args g p) w n = absurd (no_plain f g p w)
+
+abbrev IsGiven : FormTree → ArgTree → Type 0
+IsGiven f a = (p : PrimaryTree) × (a ≡ indirect_args f p) × WellBelow max_depth p
+
+pub which : (f : FormTree) (a : ArgTree) → WellArg f a → IsGiven f a ⊎ (WellPlain f a × (bare_arg a ≡ None))
+which f (assign d e) w = inr w
+which f (breaks n) w = inr w
+which f (shown e) w = inr w
+which f (kill_one v) w = inr w
+which f (kill_others names) w = inr w
+which f (new_one name) w = inr w
+which f (new_others names) w = inr w
+which f (tested e) w = inr w
+which f (loop index parameters) w = inr w
+which f (do_one e c) w = inr w
+which f (go_to e c) w = inr w
+which f (executed e c) w = inr w
+which f (locked k names t) w = inr w
+which f (indirect_args g p) w = inl (p, ap (λ (g : FormTree). indirect_args g p) w.0, w.2)
+
+-- ---- one that begins as a variable or an expression
+
+settled_is : (f : FormTree) (a : ArgTree) (o : Option PrimaryTree) → may_be_indirect f ≡ true → WellPlain f a → bare_arg a ≡ o → (spell_arg (settled f a o) ≡ spell_arg a) × WellArg f (settled f a o)
+settled_is f a None m w h = (refl, plain_well f a w h)
+settled_is f a (Some p) m w h = let is = bare_arg_is f a p h w in (sym is.0, (refl, m, is.1))
+
+module _ (f : FormTree) (read : List ℕ → Read ArgTree) where
+  pub settled_takes : may_be_indirect f ≡ true → Takes spell_arg (WellPlain f) read → Takes spell_arg (WellArg f) (settled_with read f)
+  settled_takes m takes cs x e =
+      let b = bind_some (read cs) (λ a. Some (settled f a.0 (bare_arg a.0), a.1)) x e in
+      let t = takes cs b.0 b.1 in
+      let is = settled_is f b.0.0 (bare_arg b.0.0) m t.1 refl in
+      let made : ArgTree × List ℕ = (settled f b.0.0 (bare_arg b.0.0), b.0.1) in
+      subst (λ (y : ArgTree × List ℕ). (cs ≡ spell_arg y.0 ++ y.1) × WellArg f y.0) {x = made} (some_is made x b.2)
+      (t.0 ∙ ap (λ (y : List ℕ). y ++ b.0.1) (sym is.0), is.1)
+
+  -- bare p is how an `@` with this operand alone is read
+  pub settled_again : (bare : PrimaryTree → ArgTree) → ((p : PrimaryTree) → bare_arg (bare p) ≡ Some p) → ((p : PrimaryTree) → WellBelow max_depth p → WellPlain f (bare p))
+      → Again spell_arg (WellPlain f) Follows read → Again spell_arg (WellArg f) Follows (settled_with read f)
+  settled_again bare is well again a rest w s =
+      elim (which f a w) [
+        | inl g ↦ subst (λ (y : ArgTree). settled_with read f (spell_arg y ++ rest) ≡ Some (y, rest)) (sym g.1) (given g.0 g.2)
+        | inr v ↦ rw (again a rest v.0 s, v.1) refl
+      ]
+    where
+      given : (p : PrimaryTree) → WellBelow max_depth p → settled_with read f (64 ∷ (spell_primary p ++ rest)) ≡ Some (indirect_args f p, rest)
+      given p w =
+          let plain : WellPlain f (bare p) = well p w in
+          let spelled = (bare_arg_is f (bare p) p (is p) plain).0 in
+          ap (λ (y : List ℕ). settled_with read f (y ++ rest)) (sym spelled) ∙ rw (again (bare p) rest plain s, is p) refl
+
+-- ---- one that begins as neither
+
+module _ (f : FormTree) (read : List ℕ → Read ArgTree) (never : (a : ArgTree) → WellPlain f a → bare_arg a ≡ None) where
+  operand_takes_by : may_be_indirect f ≡ true → Takes spell_arg (WellPlain f) read → (cs : List ℕ) (o : Option (List ℕ)) (x : ArgTree × List ℕ) → past 64 cs ≡ o → operand_by read f cs o ≡ Some x
+      → (cs ≡ spell_arg x.0 ++ x.1) × WellArg f x.0
+  operand_takes_by m takes cs None x h e = let t = takes cs x e in (t.0, plain_well f x.0 t.1 (never x.0 t.1))
+  operand_takes_by m takes cs (Some behind) x h e =
+      let b = bind_some ((readers_at max_depth).below behind) (λ p. Some (indirect_args f p.0, p.1)) x e in
+      let t = below_takes max_depth behind b.0 b.1 in
+      let made : ArgTree × List ℕ = (indirect_args f b.0.0, b.0.1) in
+      subst (λ (y : ArgTree × List ℕ). (cs ≡ spell_arg y.0 ++ y.1) × WellArg f y.0) {x = made} (some_is made x b.2)
+      (past_takes 64 cs behind h ∙ ap (λ (y : List ℕ). 64 ∷ y) t.0, (refl, m, t.1))
+
+  pub operand_takes : may_be_indirect f ≡ true → Takes spell_arg (WellPlain f) read → Takes spell_arg (WellArg f) (operand_or read f)
+  operand_takes m takes cs x e = operand_takes_by m takes cs (past 64 cs) x refl e
+
+  pub operand_again : ((a : ArgTree) (rest : List ℕ) → WellPlain f a → Stops (λ c. eqb c 64) (spell_arg a ++ rest)) → Again spell_arg (WellPlain f) Follows read → Again spell_arg (WellArg f) Follows (operand_or read f)
+  operand_again begins again a rest w s =
+      elim (which f a w) [
+        | inl g ↦ subst (λ (y : ArgTree). operand_or read f (spell_arg y ++ rest) ≡ Some (y, rest)) (sym g.1) (given g.0 g.2)
+        | inr v ↦ rw (not_past 64 (spell_arg a ++ rest) (begins a rest v.0), again a rest v.0 s) refl
+      ]
+    where
+      given : (p : PrimaryTree) → WellBelow max_depth p → operand_or read f (64 ∷ (spell_primary p ++ rest)) ≡ Some (indirect_args f p, rest)
+      given p w = rw (below_again max_depth p rest w (operand_ends rest s.0.0) (greedy_ends (bare_primary p) rest s.0.0)) refl
+
+name_no_at : (c : ℕ) → is_name_start c ≡ true → eqb c 64 ≡ false
+name_no_at c h = grind (arith, nat_tests)
+
+name_stops : (name rest : List ℕ) → IsName name → Stops (λ c. eqb c 64) (name ++ rest)
+name_stops name rest w = Begins-stops is_name_start (λ c. eqb c 64) (name ++ rest) name_no_at (Begins-append is_name_start name rest (named name w))
+
+pub hiding_plain : (a : ArgTree) → WellPlain hiding a → bare_arg a ≡ None
+hiding_plain (new_one name) w = refl
+hiding_plain (new_others names) w = refl
+hiding_plain a w = absurd w
+
+pub hiding_stops : (a : ArgTree) (rest : List ℕ) → WellPlain hiding a → Stops (λ c. eqb c 64) (spell_arg a ++ rest)
+hiding_stops (new_one name) rest w = name_stops name rest w
+hiding_stops (new_others names) rest w = refl
+hiding_stops a rest w = absurd w
+
+entry_stops : (e : EntryTree) (c rest : List ℕ) → WellEntry e → Stops (λ c. eqb c 64) ((spell_entry e ++ c) ++ rest)
+entry_stops (at_label label) c rest w = Begins-stops is_name_start (λ c. eqb c 64) ((label ++ c) ++ rest) name_no_at (Begins-append is_name_start (label ++ c) rest (Begins-append is_name_start label c (named label w)))
+entry_stops (at_label_in label routine) c rest w =
+    Begins-stops is_name_start (λ c. eqb c 64) (((label ++ 94 ∷ routine) ++ c) ++ rest) name_no_at
+    (Begins-append is_name_start ((label ++ 94 ∷ routine) ++ c) rest (Begins-append is_name_start (label ++ 94 ∷ routine) c (Begins-append is_name_start label (94 ∷ routine) (named label w.0))))
+entry_stops (at_routine routine) c rest w = refl
+
+pub entrance_plain : (a : ArgTree) → WellPlain entrance a → bare_arg a ≡ None
+entrance_plain (do_one e c) w = refl
+entrance_plain a w = absurd w
+
+pub entrance_stops : (a : ArgTree) (rest : List ℕ) → WellPlain entrance a → Stops (λ c. eqb c 64) (spell_arg a ++ rest)
+entrance_stops (do_one e c) rest w = entry_stops e (spell_condition c) rest w.0
+entrance_stops a rest w = absurd w
+
+pub leap_plain : (a : ArgTree) → WellPlain leap a → bare_arg a ≡ None
+leap_plain (go_to e c) w = refl
+leap_plain a w = absurd w
+
+pub leap_stops : (a : ArgTree) (rest : List ℕ) → WellPlain leap a → Stops (λ c. eqb c 64) (spell_arg a ++ rest)
+leap_stops (go_to e c) rest w = entry_stops e (spell_condition c) rest w.0
+leap_stops a rest w = absurd w

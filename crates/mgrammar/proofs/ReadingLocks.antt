@@ -1,0 +1,141 @@
+-- What is read of an argument of LOCK is spelled so, and what is spelled so is read.
+use Rattle.std.proofs.Common.{◌≡◌, ℕ, ◌-◌, Bool, true, false, cond, eqb, List, [], ◌∷◌, ◌++◌, Option, Some, None, inl, inr, refl, sym, ap, subst, ◌∙◌, append_assoc, arith}
+use Rattle.std.specs.Prelude.{◌||◌}
+use Rattle.std.proofs.lemmas.Bool.{eqb-true}
+use Rattle.std.proofs.lemmas.Bool.Decides.{nat_tests}
+use Rattle.mgrammar.specs.Grammar.{ExprTree, ReferenceTree, LockKindTree, anew, adding, giving_back, LockedTree, lock_one, lock_several, ArgTree, locked, locking, spell_reference, spell_list, spell_kind, spell_locked, spell_condition, spell_arg}
+use Rattle.mgrammar.specs.WellFormed.{max_depth, is_named, WellLockRef, WellLocked, WellPlain}
+use Rattle.mgrammar.specs.Reading.{Read, ◌>>=◌, past, list_at, readers_at, reference_with, after_sign, conditioned, lock_ref_with, locked_at, kind_of, locking_at}
+use Rattle.mgrammar.proofs.ReadingBasics.{Takes, Again, Begins, Begins-append, Begins-weaker, bind_some, chosen, some_is, past_takes}
+use Rattle.mgrammar.proofs.ReadingLists.{enclosed, list_takes, list_again}
+use Rattle.mgrammar.proofs.ReadingReferences.{OperandEnds, begins_reference, reference_takes, reference_again, reference_begins}
+use Rattle.mgrammar.proofs.ReadingPrimaries.{reference_tests}
+use Rattle.mgrammar.proofs.ReadingExprs.{begins_operand, inner_takes, below_takes, inner_again, below_again}
+use Rattle.mgrammar.proofs.ReadingTargets.{variable_begins}
+use Rattle.mgrammar.proofs.ReadingArguments.{Follows}
+use Rattle.mgrammar.proofs.ReadingEntries.{conditioned_takes, conditioned_again}
+
+-- ---- names
+
+-- what was read of a name of LOCK
+abbrev NameIs : ℕ → List ℕ → ReferenceTree × List ℕ → Type 0
+NameIs d cs x = (cs ≡ spell_reference x.0 ++ x.1) × WellLockRef d x.0
+
+name_takes : (d : ℕ) → Takes spell_reference (WellLockRef d) (lock_ref_with (readers_at d))
+unfolding lock_ref_with
+name_takes d cs x e =
+    let b = bind_some (reference_with (readers_at d) cs) (λ v. cond (is_named v.0) (Some v) None) x e in
+    let t = reference_takes d (readers_at d) (inner_takes d) (below_takes d) cs b.0 b.1 in
+    elim (chosen (is_named b.0.0) (Some b.0) None (Some x) b.2) [
+      | inl p ↦ subst (NameIs d cs) {x = b.0} (some_is b.0 x p.1) (t.0, (t.1, p.0))
+      | inr p ↦ absurd cc
+    ]
+
+name_again : (d : ℕ) → Again spell_reference (WellLockRef d) OperandEnds (lock_ref_with (readers_at d))
+unfolding lock_ref_with
+name_again d v rest w s = rw (reference_again d (readers_at d) (inner_again d) (below_again d) v rest w.0 s, w.1) refl
+
+-- ---- one, or a list in brackets
+
+abbrev LockedIs : List ℕ → LockedTree × List ℕ → Type 0
+LockedIs cs x = (cs ≡ spell_locked x.0 ++ x.1) × WellLocked x.0
+
+abbrev listed : List ℕ → Read ReferenceTree
+listed = lock_ref_with (readers_at (max_depth - 1))
+
+several_takes : (c : ℕ) (cs : List ℕ) (x : LockedTree × List ℕ) → c ≡ 40 → (list_at listed cs >>= λ y. past 41 y.1 >>= λ rest. Some (lock_several y.0, rest)) ≡ Some x → LockedIs (c ∷ cs) x
+several_takes c cs x at e =
+    let b = bind_some (list_at listed cs) (λ y. past 41 y.1 >>= λ rest. Some (lock_several y.0, rest)) x e in
+    let k = bind_some (past 41 b.0.1) (λ rest. Some (lock_several b.0.0, rest)) x b.2 in
+    let t = list_takes spell_reference (WellLockRef (max_depth - 1)) listed (name_takes (max_depth - 1)) cs b.0 b.1 in
+    let z = past_takes 41 b.0.1 k.0 k.1 in
+    subst (LockedIs (c ∷ cs)) {x = (lock_several b.0.0, k.0)} (some_is (lock_several b.0.0, k.0) x k.2) (enclosed c cs (spell_list spell_reference b.0.0) b.0.1 k.0 at t.0 z, t.1)
+
+locked_takes : Takes spell_locked WellLocked locked_at
+unfolding locked_at
+locked_takes [] x e = absurd cc
+locked_takes (c ∷ cs) x e =
+    elim (chosen (eqb c 40) (list_at listed cs >>= λ y. past 41 y.1 >>= λ rest. Some (lock_several y.0, rest)) (lock_ref_with (readers_at max_depth) (c ∷ cs) >>= λ v. Some (lock_one v.0, v.1)) (Some x) e) [
+      | inl p ↦ several_takes c cs x (eqb-true _ _ p.0) p.1
+      | inr p ↦
+          let b = bind_some (lock_ref_with (readers_at max_depth) (c ∷ cs)) (λ v. Some (lock_one v.0, v.1)) x p.1 in
+          subst (LockedIs (c ∷ cs)) {x = (lock_one b.0.0, b.0.1)} (some_is (lock_one b.0.0, b.0.1) x b.2) (name_takes max_depth (c ∷ cs) b.0 b.1)
+    ]
+
+list_step : (cs : List ℕ) (rs : List ReferenceTree) (rest : List ℕ) → list_at listed cs ≡ Some (rs, 41 ∷ rest) → locked_at (40 ∷ cs) ≡ Some (lock_several rs, rest)
+unfolding locked_at
+list_step cs rs rest h = rw h refl
+
+one_step : (cs : List ℕ) (v : ReferenceTree) (rest : List ℕ) → Begins begins_reference cs → lock_ref_with (readers_at max_depth) cs ≡ Some (v, rest) → locked_at cs ≡ Some (lock_one v, rest)
+unfolding locked_at
+one_step [] v rest b h = absurd b
+one_step (c ∷ cs) v rest b h = rw ((reference_tests c b).2, h) refl
+
+locked_again : Again spell_locked WellLocked OperandEnds locked_at
+locked_again (lock_one v) rest w s =
+    one_step (spell_reference v ++ rest) v rest (Begins-append begins_reference (spell_reference v) rest (reference_begins max_depth v w.0)) (name_again max_depth v rest w s)
+locked_again (lock_several rs) rest w s =
+    let l = list_again spell_reference (WellLockRef (max_depth - 1)) listed OperandEnds (λ cs. refl) (name_again (max_depth - 1)) rs (41 ∷ rest) w (refl, refl) in
+    ap locked_at (ap (λ (y : List ℕ). 40 ∷ y) (append_assoc (spell_list spell_reference rs) (41 ∷ []) rest)) ∙ list_step (spell_list spell_reference rs ++ 41 ∷ rest) rs rest l
+
+-- ---- a sign in front
+
+-- as kind_parts, where the first character's tests give b and d
+kind_parts_by : (c : ℕ) (cs : List ℕ) (b d : Bool) → eqb c 43 ≡ b → eqb c 45 ≡ d → c ∷ cs ≡ spell_kind (cond b adding (cond d giving_back anew)) ++ cond (b || d) cs (c ∷ cs)
+kind_parts_by c cs true d h k = let at : c ≡ 43 = eqb-true _ _ h in rw at refl
+kind_parts_by c cs false true h k = let at : c ≡ 45 = eqb-true _ _ k in rw at refl
+kind_parts_by c cs false false h k = refl
+
+kind_parts : (cs : List ℕ) → cs ≡ spell_kind (kind_of cs) ++ after_sign cs
+kind_parts [] = refl
+kind_parts (c ∷ cs) = kind_parts_by c cs (eqb c 43) (eqb c 45) refl refl
+
+locked_tests : (c : ℕ) → begins_reference c ≡ true → (eqb c 43 ≡ false) × (eqb c 45 ≡ false)
+locked_tests c h = (grind (arith, nat_tests), grind (arith, nat_tests))
+
+unsigned : (cs : List ℕ) → Begins begins_reference cs → (kind_of cs ≡ anew) × (after_sign cs ≡ cs)
+unsigned [] b = absurd b
+unsigned (c ∷ cs) b = let t = locked_tests c b in (rw (t.0, t.1) refl, rw (t.0, t.1) refl)
+
+kind_again : (k : LockKindTree) (names : LockedTree) (rest : List ℕ) → WellLocked names → (kind_of (spell_kind k ++ (spell_locked names ++ rest)) ≡ k) × (after_sign (spell_kind k ++ (spell_locked names ++ rest)) ≡ spell_locked names ++ rest)
+kind_again anew (lock_one v) rest w = unsigned (spell_reference v ++ rest) (Begins-append begins_reference (spell_reference v) rest (reference_begins max_depth v w.0))
+kind_again anew (lock_several rs) rest w = (refl, refl)
+kind_again adding names rest w = (refl, refl)
+kind_again giving_back names rest w = (refl, refl)
+
+-- ---- arguments
+
+pub locking_takes : Takes spell_arg (WellPlain locking) locking_at
+unfolding locking_at
+locking_takes cs x e =
+    let Is : ArgTree × List ℕ → Type 0 = λ y. (cs ≡ spell_arg y.0 ++ y.1) × WellPlain locking y.0 in
+    conditioned_takes spell_locked WellLocked locked_at (locked (kind_of cs)) Is (after_sign cs) x locked_takes e
+    (λ a c rest p w v. (kind_parts cs ∙ ap (λ (y : List ℕ). spell_kind (kind_of cs) ++ y) p ∙ regroup (spell_kind (kind_of cs)) (spell_locked a) (spell_condition c) rest, (w, v)))
+  where
+    regroup : (k a c rest : List ℕ) → k ++ ((a ++ c) ++ rest) ≡ ((k ++ a) ++ c) ++ rest
+    regroup k a c rest = simp append_assoc
+
+condition_ends : (t : Option ExprTree) (rest : List ℕ) → Follows rest → OperandEnds (spell_condition t ++ rest)
+condition_ends None rest s = s.0.0
+condition_ends (Some e) rest s = refl
+
+pub locking_again : Again spell_arg (WellPlain locking) Follows locking_at
+unfolding locking_at
+locking_again (locked k names t) rest w s =
+    let cs : List ℕ = spell_condition t ++ rest in
+    let i = kind_again k names cs w.0 in
+    let parts : ((spell_kind k ++ spell_locked names) ++ spell_condition t) ++ rest ≡ spell_kind k ++ (spell_locked names ++ cs) = simp append_assoc in
+    let again = conditioned_again spell_locked WellLocked locked_at (locked k) names t rest w.1 s (locked_again names cs w.0 (condition_ends t rest s)) in
+    let same : (spell_locked names ++ spell_condition t) ++ rest ≡ spell_locked names ++ cs = append_assoc (spell_locked names) (spell_condition t) rest in
+    ap locking_at parts ∙ rw (i.0, i.1) (ap (λ (y : List ℕ). locked_at y >>= conditioned (locked k)) (sym same) ∙ again)
+locking_again a rest w s = absurd w
+
+pub locking_begins : (a : ArgTree) → WellPlain locking a → Begins begins_operand (spell_arg a)
+locking_begins (locked k names t) w = Begins-append begins_operand (spell_kind k ++ spell_locked names) (spell_condition t) (begins k names w.0)
+  where
+    begins : (k : LockKindTree) (names : LockedTree) → WellLocked names → Begins begins_operand (spell_kind k ++ spell_locked names)
+    begins anew (lock_one v) w = Begins-weaker begins_reference begins_operand (spell_reference v) variable_begins (reference_begins max_depth v w.0)
+    begins anew (lock_several rs) w = refl
+    begins adding names w = refl
+    begins giving_back names w = refl
+locking_begins a w = absurd w

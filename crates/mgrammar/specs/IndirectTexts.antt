@@ -1,0 +1,21 @@
+-- The texts of indirection, read whole.
+--
+-- Restates "Indirection" of ISO/IEC 11756:1999: the value of the operand of an `@` is a text that stands where the `@` stands, in the
+-- place of a variable or of arguments. The meaning of a line reads such a text so; laws tie what is read to the grammar.
+use Rattle.std.specs.Prelude.{ℕ, List, [], ◌∷◌, Option, Some, None}
+use Rattle.mgrammar.specs.Grammar.{ReferenceTree, ArgTree, FormTree}
+use Rattle.mgrammar.specs.WellFormed.{max_depth}
+use Rattle.mgrammar.specs.Reading.{◌>>=◌, list_at, readers_at, reference_with, arg_at}
+
+-- what was read, unless something is left behind it
+abbrev pub whole_by : {A : Type 0} → A → List ℕ → Option A
+whole_by a [] = Some a
+whole_by a (c ∷ cs) = None
+
+-- of name indirection: a variable
+unfoldable pub ref_at : List ℕ → Option ReferenceTree
+ref_at cs = reference_with (readers_at max_depth) cs >>= λ v. whole_by v.0 v.1
+
+-- of argument indirection: one or more arguments of this form, with commas between
+unfoldable pub args_of : FormTree → List ℕ → Option (List ArgTree)
+args_of f cs = list_at (arg_at f) cs >>= λ x. whole_by x.0 x.1

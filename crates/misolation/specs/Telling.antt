@@ -1,0 +1,31 @@
+-- What a run of lines tells an account.
+use Rattle.std.specs.Prelude.{◌≡◌, ℕ, Bool, IsTrue, ◌↔◌, List, map}
+use Rattle.mspec.specs.Node.{Text}
+use Rattle.mspec.specs.Access.{Settings}
+use Rattle.mmeaning.specs.Step.{Server, Event, Reply}
+use Rattle.mmeaning.specs.History.{History, NoneFailed}
+use Rattle.misolation.specs.Reach.{reach}
+use Rattle.misolation.specs.Cut.{part}
+use Rattle.misolation.specs.Alone.{only}
+use Rattle.misolation.specs.HistoryLaws.{events_of}
+
+-- a reply, and the terminal that it goes to
+pub record Told : Type 0 where
+  pub terminal : ℕ
+  pub reply : Reply
+
+abbrev pub told_by : Event × Reply → Told
+told_by e = record { terminal = e.0.terminal; reply = e.1 }
+
+-- the replies at an account's terminals, in their order
+abbrev pub told_to : Text → Settings → List (Event × Reply) → List Told
+told_to a settings es = map told_by (part (only a) settings es)
+
+-- These are the replies at the account's terminals of a history of all the events, from the one server to the other; and it is whole
+-- exactly where no step failed in it at a terminal of an account that reaches `a`.
+pub record Tells (a : Text) (settings : Settings) (server : Server) (events : List Event) (told : List Told) (whole : Bool) (after : Server) : Type 0 where
+  pub lines : List (Event × Reply)
+  pub sent : events_of lines ≡ events
+  pub history : History settings server lines after
+  pub replies : told_to a settings lines ≡ told
+  pub failures : IsTrue whole ↔ NoneFailed (part (reach settings a) settings lines)

@@ -1,0 +1,30 @@
+// The laws of runs. Each function's contract is the law, and its body is empty: the code never calls them.
+ghost use Rattle.misolation.specs.RunLaws.{NothingIsTold, TellsOn, ToldApart, EquallyTold, ToldTheSame};
+
+/// Where nothing was run, nothing is told, and it is whole.
+pub fn nothing_is_told()
+    ensures { NothingIsTold }
+{}
+
+/// A run goes on by one step: its reply is told where it is at a terminal of the account, and the run stays whole where the step did
+/// not fail at a terminal of an account that reaches it.
+pub fn tells_on()
+    ensures { TellsOn }
+{}
+
+/// Told apart: whatever a run tells an account, the run of the members' lines alone tells it, over the cuts to any closed set that has
+/// the account, whichever of their steps failed.
+pub fn told_apart()
+    ensures { ToldApart }
+{}
+
+/// Equally told: a whole run tells the account what the definitional interpreter answers to the lines of the accounts that reach it,
+/// over their globals and grants alone.
+pub fn equally_told()
+    ensures { EquallyTold }
+{}
+
+/// Told the same: two whole runs that agree for an account tell it the same.
+pub fn told_the_same()
+    ensures { ToldTheSame }
+{}

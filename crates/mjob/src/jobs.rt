@@ -1,0 +1,44 @@
+// What a command line asks for.
+
+/// Where the globals are kept.
+#[derive(Debug, Drop)]
+pub enum Store {
+    /// A database in memory, which is empty at the start.
+    Memory,
+    /// A database in the file of this path.
+    File(String),
+}
+
+/// What a command line asks for. Texts stand in it as they were given.
+#[derive(Debug, Drop)]
+pub enum Job {
+    /// To answer the lines of the standard input.
+    Run {
+        /// The path of the settings.
+        settings: String,
+        /// Where the globals are kept.
+        store: Store,
+        /// The account whose replies alone are wanted, where one is named.
+        only: Option<String>,
+    },
+    /// To answer the lines of connections, one connection after the other.
+    Serve {
+        /// The path of the settings.
+        settings: String,
+        /// Where the globals are kept.
+        store: Store,
+        /// The port of 127.0.0.1 to listen at.
+        port: u16,
+        /// How many connections are served.
+        connections: u32,
+    },
+}
+
+/// Why a command line asks for nothing.
+#[derive(Debug, Drop)]
+pub enum JobFault {
+    /// It is refused, or asks for help: the error has `clap`'s text.
+    Line(clap::Error),
+    /// There was no memory for it.
+    Memory,
+}

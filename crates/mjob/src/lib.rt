@@ -1,0 +1,6 @@
+//! The command line of mserve: what its words ask for, by the kit's `clap`.
+#![tactic(auto)]
+
+pub mod command_line;
+pub mod jobs;
+mod options;

@@ -1,0 +1,181 @@
+-- How deep indirections may stand, on examples, as proved equations: which are levels at once, and in which order they are refused.
+use Rattle.std.proofs.Common.{◌≡◌, ℕ, zero, suc, ◌+◌, ◌≤◌, Bool, true, false, List, [], ◌∷◌, Option, Some, None, refl, arith}
+use Rattle.std.specs.Prelude.{codes, nat_lt}
+use Rattle.std.proofs.lemmas.Bool.Decides.{nat_tests}
+use Rattle.std.specs.Fmt.{digits}
+use Rattle.mspec.specs.Number.{round, round_size, nearest, rounding_unit, digits_before}
+use Rattle.mspec.specs.NumberText.{numeric_value, literal_size, size_text}
+use Rattle.mspec.specs.Code.{M9, Zdepth, Zsyntax}
+use Rattle.mspec.specs.Plan.{Done}
+use Rattle.mspec.specs.Act.{Text, Node, Locals, level_begun, State, Gives, Fails, value_of, assigned_to}
+use Rattle.mgrammar.specs.Grammar.{divide, number, PrimaryTree, text, bracket, reference, ReferenceTree, indirect, exprs, no_exprs, variable, one, output, at_label, entrance, do_one, indirect_args, do_word, CommandTree, keyword_of}
+use Rattle.mgrammar.specs.Reading.{many, list_at, point_at, exponent_at, number_at, name_at, truth_at, operator_at, subscripts_with, attached_with, indirect_with, reference_with, primary_with, operand_with, step_with, expr_with, readers_at, output_at, entry_at, entrance_at, args_at, postcondition_at, command_at, spaced_at, comment_at, line_at}
+use Rattle.mgrammar.specs.IndirectTexts.{ref_at, args_of}
+use Rattle.mgrammar.specs.RoutineLine.{RoutineLineTree, spaced_out, dots_of, label_at, dot_at, dots_at, body_at, routine_line_at}
+use Rattle.mmeaning.specs.Variables.{of_global, of_naked, of_local}
+use Rattle.mmeaning.specs.Expression.{Inside, inside, evaluated, finds, is_indirection_free}
+use Rattle.mmeaning.specs.LineMeaning.{Context, context, given, setting, Spot, commands}
+use Rattle.mmeaning.specs.Levels.{target}
+use Rattle.mmeaning.proofs.LineTrees.{only, with_operator, command, line}
+
+-- where so many levels are open, of which so many are indirections
+abbrev within : ℕ → ℕ → Inside
+within levels indirections = inside (codes "ALICE") 9 (record { levels = levels; indirections = indirections })
+
+abbrev at : ℕ → ℕ → Context
+at levels indirections = context (codes "ALICE") 9 (record { depth = record { levels = levels; indirections = indirections }; level = record { copy = []; next = None; dots = 0 } })
+
+abbrev in_text : List ℕ → PrimaryTree
+in_text t = text t
+
+-- `@` and a text
+abbrev at_text : Text → ReferenceTree
+at_text t = indirect (text t) no_exprs
+
+abbrev error : PrimaryTree
+error = bracket (with_operator (number (codes "1")) divide (number (codes "0")))
+
+module _ (naked : Option Node) (test : Bool) (out : Text) where
+  abbrev state : Locals → ℕ → State
+  state locals steps = record { locals = locals; naked = naked; test = test; out = out; steps = steps }
+
+  -- ---- the operand first, then the level, then the text
+
+  operand_before_level : (locals : Locals) (steps : ℕ) → evaluated (within 256 0) (indirect error no_exprs) (state locals (suc (suc (suc steps)))) ≡ Done (Fails M9 (state locals steps))
+  unfolding numeric_value literal_size round round_size nearest rounding_unit digits_before size_text digits
+  operand_before_level locals steps = refl
+
+  level_before_text : (locals : Locals) (steps : ℕ) → evaluated (within 256 0) (at_text (codes "B C")) (state locals (suc steps)) ≡ Done (Fails Zdepth (state locals steps))
+  level_before_text locals steps = refl
+
+  text_read : (locals : Locals) (steps : ℕ) → evaluated (within 255 0) (at_text (codes "B C")) (state locals (suc steps)) ≡ Done (Fails Zsyntax (state locals steps))
+  unfolding ref_at name_at subscripts_with attached_with indirect_with reference_with readers_at
+  text_read locals steps = refl
+
+  -- the same of arguments
+  argument_level_before_text : (locals : Locals) (steps : ℕ) → given (at 256 0) output (text (codes "1 1")) (state locals (suc steps)) ≡ Done (Fails Zdepth (state locals steps))
+  argument_level_before_text locals steps = refl
+
+  argument_text_read : (locals : Locals) (steps : ℕ) → given (at 255 0) output (text (codes "1 1")) (state locals (suc steps)) ≡ Done (Fails Zsyntax (state locals steps))
+  unfolding args_of many list_at point_at exponent_at number_at operator_at truth_at primary_with operand_with step_with expr_with readers_at output_at
+  argument_text_read locals steps = refl
+
+  -- ---- subscripts of a text, and those behind it
+
+  global_named : (locals : Locals) (steps : ℕ) → evaluated (within 0 0) (indirect (text (codes "^A(\"x\")")) (exprs (only (text (codes "y"))) no_exprs)) (state locals (suc (suc (suc steps))))
+      ≡ Done (Gives (of_global (record { account = codes "ALICE"; name = codes "A"; subscripts = codes "x" ∷ codes "y" ∷ [] })) (state locals steps))
+  unfolding finds ref_at many list_at truth_at operator_at name_at subscripts_with attached_with indirect_with primary_with operand_with step_with expr_with reference_with readers_at
+  global_named locals steps = refl
+
+  naked_named : (locals : Locals) (steps : ℕ) → evaluated (within 0 0) (indirect (text (codes "^(\"x\")")) (exprs (only (text (codes "y"))) no_exprs)) (state locals (suc (suc (suc steps))))
+      ≡ Done (Gives (of_naked (codes "x" ∷ codes "y" ∷ [])) (state locals steps))
+  unfolding finds ref_at many list_at truth_at operator_at name_at subscripts_with attached_with indirect_with primary_with operand_with step_with expr_with reference_with readers_at
+  naked_named locals steps = refl
+
+  -- ---- 256 levels, of which 32 are indirections
+
+  last_level : (locals : Locals) (steps : ℕ) → evaluated (within 255 31) (at_text (codes "B")) (state locals (suc steps)) ≡ Done (Gives (of_local (codes "B") []) (state locals steps))
+  unfolding finds ref_at name_at subscripts_with attached_with indirect_with reference_with readers_at
+  last_level locals steps = refl
+
+  one_indirection_more : (locals : Locals) (steps : ℕ) → evaluated (within 32 32) (at_text (codes "B")) (state locals (suc steps)) ≡ Done (Fails Zdepth (state locals steps))
+  one_indirection_more locals steps = refl
+
+  one_argument_more : (locals : Locals) (steps : ℕ) → given (at 32 32) output (text (codes "1")) (state locals (suc steps)) ≡ Done (Fails Zdepth (state locals steps))
+  one_argument_more locals steps = refl
+
+  -- ---- which are levels at once, where one level is free
+
+  -- an operand is evaluated before its indirection is a level
+  operand_is_outside : (locals : Locals) (steps : ℕ) → value_of locals (codes "B") [] ≡ Some (codes "C")
+      → evaluated (within 255 0) (indirect (reference (at_text (codes "B"))) no_exprs) (state locals (suc (suc steps))) ≡ Done (Gives (of_local (codes "C") []) (state locals steps))
+  unfolding finds ref_at name_at subscripts_with attached_with indirect_with reference_with readers_at
+  operand_is_outside locals steps h = rw h refl
+
+  -- within the text of another both are
+  text_is_inside : (locals : Locals) (steps : ℕ) → value_of locals (codes "B") [] ≡ Some (codes "C")
+      → evaluated (within 255 0) (at_text (codes "@B")) (state locals (suc (suc steps))) ≡ Done (Fails Zdepth (state locals steps))
+  unfolding finds ref_at name_at subscripts_with attached_with indirect_with reference_with readers_at primary_with
+  text_is_inside locals steps h = rw h refl
+
+  -- and so they are in the subscripts behind it
+  subscripts_are_inside : (locals : Locals) (steps : ℕ) → evaluated (within 255 0) (indirect (text (codes "B")) (exprs (only (reference (at_text (codes "C")))) no_exprs)) (state locals (suc (suc (suc steps)))) ≡ Done (Fails Zdepth (state locals steps))
+  unfolding finds ref_at name_at subscripts_with attached_with indirect_with reference_with readers_at
+  subscripts_are_inside locals steps = refl
+
+  -- a target's is over when the right side is evaluated
+  target_before_value : (locals : Locals) (steps : ℕ) → value_of locals (codes "B") [] ≡ Some (codes "7")
+      → setting (within 255 0) (one (variable (at_text (codes "C")))) (only (reference (at_text (codes "B")))) (state locals (suc (suc (suc steps))))
+      ≡ Done (Gives tt (state (assigned_to locals (codes "C") [] (codes "7")) steps))
+  unfolding finds ref_at name_at subscripts_with attached_with indirect_with reference_with readers_at
+  target_before_value locals steps h = rw h refl
+
+-- ---- an argument's indirection is a level while the argument is done: 32 are open where a line that does itself is refused
+
+abbrev itself_line : Text
+itself_line = codes "T D @\"T\""
+
+abbrev itself_commands : List CommandTree
+itself_commands = command do_word 68 (indirect_args entrance (text (codes "T")) ∷ []) ∷ []
+
+abbrev itself : RoutineLineTree
+itself = record { label = Some (codes "T"); body = spaced_out [] (line ((command do_word 68 (indirect_args entrance (text (codes "T")) ∷ []), 0) ∷ [])) }
+
+itself_read : routine_line_at itself_line ≡ Some itself
+unfolding keyword_of many list_at name_at entry_at entrance_at primary_with readers_at args_at postcondition_at command_at spaced_at
+    comment_at line_at label_at dot_at dots_at body_at routine_line_at
+itself_read = refl
+
+entry_read : args_of entrance (codes "T") ≡ Some (do_one (at_label (codes "T")) None ∷ [])
+unfolding args_of many list_at name_at entry_at entrance_at
+entry_read = refl
+
+entry_found : (s : State) → target (itself_line ∷ []) 0 (at_label (codes "T")) s ≡ Done (Gives (record { copy = itself_line ∷ []; line = 0 }) s)
+unfolding name_at label_at
+entry_found s = refl
+
+no_dots : dots_of itself_line ≡ 0
+unfolding name_at label_at
+no_dots = refl
+
+abbrev in_line : ℕ → ℕ → Spot
+in_line levels indirections = record {
+  depth = record { levels = levels; indirections = indirections };
+  level = record { copy = itself_line ∷ []; next = Some 1; dots = 0 };
+}
+
+-- three steps for each level of DO more, and two where the indirection is refused
+abbrev steps_for : ℕ → ℕ → ℕ
+steps_for zero steps = suc (suc steps)
+steps_for (suc k) steps = suc (suc (suc (steps_for k steps)))
+
+abbrev begun_more : ℕ → Locals → Locals
+begun_more zero locals = locals
+begun_more (suc k) locals = begun_more k (level_begun locals)
+
+module _ (naked : Option Node) (test : Bool) (out : Text) (steps : ℕ) where
+  abbrev in_state : Locals → ℕ → State
+  in_state locals n = record { locals = locals; naked = naked; test = test; out = out; steps = n }
+
+  -- so many indirections may be opened yet
+  abbrev IsRefused : ℕ → ℕ → ℕ → ℕ → Locals → Type 0
+  IsRefused k levels indirections n locals =
+      commands (context (codes "ALICE") n (in_line levels indirections)) itself_commands (in_state locals (steps_for k steps)) ≡ Done (Fails Zdepth (in_state (begun_more k locals) steps))
+
+  at_limit : (levels indirections n : ℕ) (locals : Locals) → is_indirection_free (record { levels = levels; indirections = indirections }) ≡ false → IsRefused zero levels indirections n locals
+  at_limit levels indirections n locals full = rw full refl
+
+  below_limit : (k levels indirections n : ℕ) (locals : Locals) → is_indirection_free (record { levels = levels; indirections = indirections }) ≡ true → nat_lt (levels + 1) 256 ≡ true
+      → IsRefused k (levels + 1 + 1) (indirections + 1) n (level_begun locals) → IsRefused (suc k) levels indirections (suc (suc n)) locals
+  below_limit k levels indirections n locals free level inner = rw (free, entry_read, level, entry_found, no_dots, itself_read, inner) refl
+
+  refused : (k levels indirections n : ℕ) (locals : Locals) → k + indirections ≡ 32 → k + k + levels ≤ 255 → k + k ≤ n → IsRefused k levels indirections n locals
+  refused zero levels indirections n locals e few le = at_limit levels indirections n locals (grind (arith, nat_tests, e))
+  refused (suc k) levels indirections zero locals e few le = absurd (omega (arith, le))
+  refused (suc k) levels indirections (suc zero) locals e few le = absurd (omega (arith, le))
+  refused (suc k) levels indirections (suc (suc n)) locals e few le =
+      below_limit k levels indirections n locals (grind (arith, nat_tests, e, few)) (grind (arith, nat_tests, few)) (refused k (levels + 1 + 1) (indirections + 1) n (level_begun locals) (omega (arith, e)) (omega (arith, few)) (omega (arith, le)))
+
+  -- the line stands in the level of a DO: 32 levels of DO more are open, and as many indirections
+  line_of_itself : (locals : Locals) → commands (context (codes "ALICE") 64 (in_line 1 0)) itself_commands (in_state locals (steps_for 32 steps)) ≡ Done (Fails Zdepth (in_state (begun_more 32 locals) steps))
+  line_of_itself locals = refused 32 1 0 64 locals refl (omega arith) (omega arith)

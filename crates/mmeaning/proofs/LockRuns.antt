@@ -1,0 +1,132 @@
+-- Lines of several terminals, one after another, and the maps of locks and sessions that they leave: for examples of LOCK and HALT.
+use Rattle.std.proofs.Common.{◌≡◌, ℕ, Bool, true, false, cond, List, [], ◌∷◌, Option, Some, None, refl, sym, ap, ◌∙◌}
+use Rattle.std.specs.Prelude.{codes, not, map}
+use Rattle.std.specs.Ordering.{eq_by_cmp}
+use Rattle.std.specs.FinMap.{get, insert, empty, entries, remove, retain_keys, get-insert, get-remove, get-empty, entries-insert, same_map}
+use Rattle.std.specs.FinMap.Entries.{put}
+use Rattle.mspec.specs.LockConflict.{LockName, Locks, Held, held_cmp}
+use Rattle.mspec.specs.Access.{Account, Settings, Read}
+use Rattle.mspec.specs.Plan.{Plan, Ask, Take, Give_back, Release, perform}
+use Rattle.mspec.specs.Act.{Text, Outcome, no_locals}
+use Rattle.mspec.proofs.LockOrders.{held_cmp_total, held_cmp_exact}
+use Rattle.mspec.proofs.MapCuts.{equal_of, get_cut, cut_drops}
+use Rattle.mspec.proofs.ComputedMaps.{entries_none}
+use Rattle.mgrammar.specs.Grammar.{LineTree}
+use Rattle.mgrammar.specs.Reading.{line_at}
+use Rattle.mmeaning.specs.LineMeaning.{Signal}
+use Rattle.mmeaning.specs.World.{World, act}
+use Rattle.mmeaning.specs.Step.{Session, Server, Event, Reply, Halted, normal}
+use Rattle.mmeaning.specs.History.{replies}
+use Rattle.mmeaning.proofs.LineRuns.{shut_step, step_is_shut}
+
+abbrev pub account : Text → Account
+account name = record { name = name; steps = 2000 }
+
+-- ALICE has terminals 1 and 2, and BOB terminal 3; she lets him read her X
+abbrev pub lending : Settings
+lending = record {
+  accounts = account (codes "ALICE") ∷ account (codes "BOB") ∷ [];
+  terminals = insert (insert (insert empty 1 (account (codes "ALICE"))) 2 (account (codes "ALICE"))) 3 (account (codes "BOB"));
+  grants = record { from = codes "ALICE"; to = codes "BOB"; global = codes "X"; mode = Read } ∷ [];
+}
+
+abbrev pub line_of : ℕ × Text → Event
+line_of l = record { terminal = l.0; text = l.1 }
+
+-- what lines are answered in a server
+pub record AreReplied (server : Server) (ls : List (ℕ × Text)) (rs : List Reply) : Type 0 where
+  pub answers : replies lending server (map line_of ls) ≡ rs
+
+line_is : (server : Server) (l : ℕ × Text) (tree : Option LineTree) → line_at l.1 ≡ tree → normal lending (line_of l) server ≡ shut_step lending (line_of l) tree server
+line_is server l tree e = step_is_shut lending (line_of l) server ∙ ap (λ t. shut_step lending (line_of l) t server) e
+
+pub replied_last : {server : Server} {l : ℕ × Text} {r : Reply} (tree : Option LineTree) → line_at l.1 ≡ tree → (shut_step lending (line_of l) tree server).0 ≡ r → AreReplied server (l ∷ []) (r ∷ [])
+replied_last {server = server} {l = l} tree e run = record {
+  answers = ap (λ (x : Reply × Server). x.0 ∷ []) (line_is server l tree e) ∙ ap (λ (r : Reply). r ∷ []) run;
+}
+
+-- a line, and then those behind it in the server that it leaves
+pub replied_first : {server : Server} {l : ℕ × Text} {r : Reply} {ls : List (ℕ × Text)} {rs : List Reply} (after : Server) (tree : Option LineTree)
+    → line_at l.1 ≡ tree → shut_step lending (line_of l) tree server ≡ (r, after) → AreReplied after ls rs → AreReplied server (l ∷ ls) (r ∷ rs)
+replied_first {server = server} {l = l} {r = r} {ls = ls} after tree e first rest = record {
+  answers =
+      ap (λ (x : Reply × Server). x.0 ∷ replies lending x.1 (map line_of ls)) (line_is server l tree e ∙ first)
+      ∙ ap (λ (rs : List Reply). r ∷ rs) rest.answers;
+}
+
+-- ---- a session without variables, and the reply where a line halts
+
+abbrev pub plain_session : Bool → Session
+plain_session test = record { locals = no_locals; naked = None; test = test }
+
+abbrev pub halted : Reply
+halted = record { out = []; ending = Halted }
+
+-- ---- what is asked of locks, an operation at a time
+
+module _ (settings : Settings) (terminal : ℕ) (me : Text) (w : World) where
+  pub takes : (ns : List LockName) (k : Bool → Plan (Outcome Signal)) → perform (act settings terminal me) (Ask (Take ns) k) w ≡ perform (act settings terminal me) (k (act settings terminal me (Take ns) w).0) (act settings terminal me (Take ns) w).1
+  takes ns k = refl
+
+  pub gives_back : (n : LockName) (k : Unit {0} → Plan (Outcome Signal)) → perform (act settings terminal me) (Ask (Give_back n) k) w ≡ perform (act settings terminal me) (k tt) (act settings terminal me (Give_back n) w).1
+  gives_back n k = refl
+
+  pub releases : (k : Unit {0} → Plan (Outcome Signal)) → perform (act settings terminal me) (Ask Release k) w ≡ perform (act settings terminal me) (k tt) (act settings terminal me Release w).1
+  releases k = refl
+
+-- ---- maps of locks
+
+-- a key that passes the test stays
+kept_there : (b t : Bool) (v g : Option ℕ) → (t ≡ true → b ≡ true) → cond b (cond t v g) None ≡ cond t v (cond b g None)
+kept_there true t v g h = refl
+kept_there false true v g h = let no : false ≡ true = h refl in absurd (cc)
+kept_there false false v g h = refl
+
+cut_put : (m : Locks) (p : Held → Bool) (k : Held) (v : ℕ) (b : Bool) → p k ≡ b → retain_keys (insert m k v) p ≡ cond b (insert (retain_keys m p) k v) (retain_keys m p)
+cut_put m p k v true h = same_map held_cmp_total held_cmp_exact _ _ (λ q.
+    get_cut held_cmp_total held_cmp_exact (insert m k v) p q ∙ ap (λ g. cond (p q) g None) (get-insert held_cmp_total m k v q)
+    ∙ kept_there (p q) (eq_by_cmp held_cmp q k) (Some v) (get m q) (λ e. ap p (held_cmp_exact q k (equal_of (held_cmp q k) e)) ∙ h)
+    ∙ ap (cond (eq_by_cmp held_cmp q k) (Some v)) (sym (get_cut held_cmp_total held_cmp_exact m p q)) ∙ sym (get-insert held_cmp_total (retain_keys m p) k v q))
+cut_put m p k v false h = cut_drops held_cmp_total held_cmp_exact m p k v h
+
+neither : (b : Bool) → ◌≡◌ {A = Option ℕ} (cond b None None) None
+neither true = refl
+neither false = refl
+
+again : (b : Bool) (u v g : Option ℕ) → cond b v (cond b u g) ≡ cond b v g
+again true u v g = refl
+again false u v g = refl
+
+pub no_lock : (q : Held) → get (empty {X = ℕ} {R = held_cmp}) q ≡ None
+no_lock q = get-empty held_cmp q
+
+pub lock_put : (m : Locks) (k : Held) (n : ℕ) (q : Held) → get (insert m k n) q ≡ cond (eq_by_cmp held_cmp q k) (Some n) (get m q)
+lock_put m k n q = get-insert held_cmp_total m k n q
+
+pub no_locks : entries (empty {X = ℕ} {R = held_cmp}) ≡ []
+no_locks = entries_none held_cmp
+
+pub locks_put : (m : Locks) (k : Held) (n : ℕ) → entries (insert m k n) ≡ put held_cmp k n (entries m)
+locks_put m k n = entries-insert held_cmp_total m k n
+
+pub lock_again : (m : Locks) (k : Held) (n p : ℕ) → insert (insert m k n) k p ≡ insert m k p
+lock_again m k n p = same_map held_cmp_total held_cmp_exact _ _ (λ q.
+    get-insert held_cmp_total (insert m k n) k p q ∙ ap (cond (eq_by_cmp held_cmp q k) (Some p)) (get-insert held_cmp_total m k n q)
+    ∙ again (eq_by_cmp held_cmp q k) (Some n) (Some p) (get m q) ∙ sym (get-insert held_cmp_total m k p q))
+
+pub locks_cut : (m : Locks) (p : Held → Bool) (k : Held) (n : ℕ) → retain_keys (insert m k n) p ≡ cond (p k) (insert (retain_keys m p) k n) (retain_keys m p)
+locks_cut m p k n = cut_put m p k n (p k) refl
+
+pub no_locks_cut : (p : Held → Bool) → retain_keys (empty {X = ℕ} {R = held_cmp}) p ≡ empty
+no_locks_cut p = same_map held_cmp_total held_cmp_exact _ _ (λ q.
+    get_cut held_cmp_total held_cmp_exact empty p q ∙ ap (λ g. cond (p q) g None) (get-empty held_cmp q) ∙ neither (p q) ∙ sym (get-empty held_cmp q))
+
+other_than : (b : Bool) (g : Option ℕ) → cond b None g ≡ cond (not b) g None
+other_than true g = refl
+other_than false g = refl
+
+pub lock_removed : (m : Locks) (k : Held) → remove m k ≡ retain_keys m (λ x. not (eq_by_cmp held_cmp x k))
+lock_removed m k = same_map held_cmp_total held_cmp_exact _ _ (λ q.
+    get-remove held_cmp_total m k q ∙ other_than (eq_by_cmp held_cmp q k) (get m q) ∙ sym (get_cut held_cmp_total held_cmp_exact m (λ x. not (eq_by_cmp held_cmp x k)) q))
+
+pub ruleset computed_locks = (lock_removed, takes, gives_back, releases, no_lock, lock_put, no_locks, locks_put, lock_again, locks_cut, no_locks_cut)

@@ -1,0 +1,137 @@
+-- LOCK on examples, as proved equations over any world: what is asked in which order, and what is refused.
+use Rattle.std.proofs.Common.{◌≡◌, ℕ, suc, Bool, true, false, [], ◌∷◌, Option, Some, None, refl}
+use Rattle.std.specs.Prelude.{codes}
+use Rattle.std.specs.FinMap.{empty, get}
+use Rattle.std.specs.Fmt.{digits}
+use Rattle.mspec.specs.Number.{round, round_size, nearest, rounding_unit, digits_before}
+use Rattle.mspec.specs.NumberText.{numeric_value, literal_size, size_text}
+use Rattle.mspec.specs.LockConflict.{LockName, Locks, taken, given_back, released}
+use Rattle.mspec.specs.Access.{Settings, Read}
+use Rattle.mspec.specs.Code.{M9, Zgrant, Zlocked, Zsub, Zsyntax}
+use Rattle.mspec.specs.Plan.{Ops, perform}
+use Rattle.mspec.specs.Act.{Text, Node, Locals, State, Gives, Fails}
+use Rattle.mgrammar.specs.Grammar.{ExprTree, divide, number, text, ReferenceTree, local, global, indirect, extended, exprs, no_exprs, anew, adding, giving_back, lock_one, lock_several, reference}
+use Rattle.mgrammar.specs.Reading.{many, list_at, name_at, truth_at, operator_at, subscripts_with, attached_with, indirect_with, reference_with, primary_with, operand_with, step_with, expr_with, readers_at}
+use Rattle.mgrammar.specs.IndirectTexts.{ref_at}
+use Rattle.mmeaning.specs.Expression.{Inside, inside, finds}
+use Rattle.mmeaning.specs.Locking.{locking}
+use Rattle.mmeaning.specs.World.{World, act}
+use Rattle.mmeaning.proofs.LineTrees.{only, with_operator}
+
+-- ALICE lets BOB read her global X
+abbrev lending : Settings
+lending = record {
+  accounts = record { name = codes "ALICE"; steps = 2000 } ∷ record { name = codes "BOB"; steps = 2000 } ∷ [];
+  terminals = empty;
+  grants = record { from = codes "ALICE"; to = codes "BOB"; global = codes "X"; mode = Read } ∷ [];
+}
+
+-- terminal 1 is hers, and terminal 3 his
+abbrev hers : Ops World
+hers = act lending 1 (codes "ALICE")
+
+abbrev his : Ops World
+his = act lending 3 (codes "BOB")
+
+abbrev her_line : Inside
+her_line = inside (codes "ALICE") 9 (record { levels = 0; indirections = 0 })
+
+abbrev his_line : Inside
+his_line = inside (codes "BOB") 9 (record { levels = 0; indirections = 0 })
+
+abbrev global_j : ReferenceTree
+global_j = global (codes "J") no_exprs
+
+abbrev local_m : ReferenceTree
+local_m = local (codes "M") no_exprs
+
+abbrev lock_j : LockName
+lock_j = record { global = true; node = record { account = codes "ALICE"; name = codes "J"; subscripts = [] } }
+
+-- a name without `^` is of the line's account
+abbrev lock_m : LockName
+lock_m = record { global = false; node = record { account = codes "ALICE"; name = codes "M"; subscripts = [] } }
+
+abbrev her_y : Node
+her_y = record { account = codes "ALICE"; name = codes "Y"; subscripts = codes "a" ∷ [] }
+
+abbrev error : ExprTree
+error = with_operator (number (codes "1")) divide (number (codes "0"))
+
+module _ (w : World) (naked : Option Node) (test : Bool) (out : Text) (locals : Locals) (steps : ℕ) where
+  abbrev state : Bool → ℕ → State
+  state b n = record { locals = locals; naked = naked; test = b; out = out; steps = n }
+
+  -- ---- taking
+
+  -- without a sign all that the terminal holds is given up first; the node that was referred to last stays that
+  taken_anew : (locks : Locks) → taken (released w.locks 1) 1 (lock_j ∷ []) ≡ Some locks → perform hers (locking her_line anew (lock_one global_j) None (state test steps)) w ≡ (Gives tt (state test steps), record w { locks = locks })
+  taken_anew locks h = rw (perform, h) refl
+
+  -- also where the names are not free then
+  refused_anew : taken (released w.locks 1) 1 (lock_j ∷ []) ≡ None → perform hers (locking her_line anew (lock_one global_j) None (state test steps)) w ≡ (Fails Zlocked (state test steps), record w { locks = released w.locks 1 })
+  refused_anew h = rw (perform, h) refl
+
+  -- with a timeout $TEST tells it, and the line goes on
+  taken_in_time : (locks : Locks) → taken w.locks 1 (lock_j ∷ lock_m ∷ []) ≡ Some locks
+      → perform hers (locking her_line adding (lock_several (global_j ∷ local_m ∷ [])) (Some (only (text (codes "1E30")))) (state test (suc steps))) w ≡ (Gives tt (state true steps), record w { locks = locks })
+  taken_in_time locks h = rw h refl
+
+  refused_in_time : taken w.locks 1 (lock_j ∷ lock_m ∷ []) ≡ None
+      → perform hers (locking her_line adding (lock_several (global_j ∷ local_m ∷ [])) (Some (only (text (codes "1E30")))) (state test (suc steps))) w ≡ (Gives tt (state false steps), w)
+  refused_in_time h = rw h refl
+
+  -- a subscript that is read is the node that was referred to last; the name itself is not
+  subscript_refers : (locks : Locks) → get w.globals her_y ≡ Some (codes "x") → taken w.locks 1 (record { global = true; node = record { account = codes "ALICE"; name = codes "J"; subscripts = codes "x" ∷ [] } } ∷ []) ≡ Some locks
+      → perform hers (locking her_line adding (lock_one (global (codes "J") (exprs (only (reference (global (codes "Y") (exprs (only (text (codes "a"))) no_exprs)))) no_exprs))) None (state test (suc (suc steps)))) w
+      ≡ (Gives tt (record { locals = locals; naked = Some her_y; test = test; out = out; steps = steps }), record w { locks = locks })
+  subscript_refers locks read free = rw (perform, read, free) refl
+
+  -- ---- giving back
+
+  given_back_each : perform hers (locking her_line giving_back (lock_several (global_j ∷ local_m ∷ [])) None (state test steps)) w
+      ≡ (Gives tt (state test steps), record w { locks = given_back (given_back w.locks 1 lock_j) 1 lock_m })
+  given_back_each = refl
+
+  -- with a timeout $TEST is true, whatever was held
+  given_back_in_time : perform hers (locking her_line giving_back (lock_one global_j) (Some (only (text (codes "0")))) (state test (suc steps))) w ≡ (Gives tt (state true steps), record w { locks = given_back w.locks 1 lock_j })
+  given_back_in_time = refl
+
+  -- ---- nothing is given up before all is evaluated and checked
+
+  error_in_name : perform hers (locking her_line anew (lock_one (global (codes "Y") (exprs error no_exprs))) None (state test (suc (suc steps)))) w ≡ (Fails M9 (state test steps), w)
+  unfolding numeric_value literal_size round round_size nearest rounding_unit digits_before size_text digits
+  error_in_name = refl
+
+  error_in_timeout : perform hers (locking her_line anew (lock_one (global (codes "Y") no_exprs)) (Some error) (state test (suc (suc steps)))) w ≡ (Fails M9 (state test steps), w)
+  unfolding numeric_value literal_size round round_size nearest rounding_unit digits_before size_text digits
+  error_in_timeout = refl
+
+  empty_subscript : perform hers (locking her_line anew (lock_one (local (codes "M") (exprs (only (text [])) no_exprs))) None (state test (suc steps))) w ≡ (Fails Zsub (state test steps), w)
+  empty_subscript = refl
+
+  -- ---- who may lock
+
+  -- to be let read is not enough, and to be let nothing is told as an account that there is not
+  granted_reading : perform his (locking his_line adding (lock_one (extended (only (text (codes "ALICE"))) (codes "X") no_exprs)) None (state test (suc steps))) w ≡ (Fails Zgrant (state test steps), w)
+  granted_reading = refl
+
+  no_such_account : perform his (locking his_line adding (lock_one (extended (only (text (codes "NOBODY"))) (codes "X") no_exprs)) None (state test (suc steps))) w ≡ (Fails Zgrant (state test steps), w)
+  no_such_account = refl
+
+  -- by an environment one may name one's own
+  own_environment : (locks : Locks) → taken w.locks 1 (lock_j ∷ []) ≡ Some locks
+      → perform hers (locking her_line adding (lock_one (extended (only (text (codes "ALICE"))) (codes "J") no_exprs)) None (state test (suc steps))) w ≡ (Gives tt (state test steps), record w { locks = locks })
+  own_environment locks h = rw (perform, h) refl
+
+  -- ---- naked references
+
+  -- one that a text names is refused behind its subscripts, and before the next name
+  naked_named : perform hers (locking her_line adding (lock_several (indirect (text (codes "^(\"x\")")) no_exprs ∷ global (codes "X") (exprs error no_exprs) ∷ [])) None (state test (suc (suc steps)))) w ≡ (Fails Zsyntax (state test steps), w)
+  unfolding finds ref_at many list_at truth_at operator_at name_at subscripts_with attached_with indirect_with primary_with operand_with step_with expr_with reference_with readers_at
+  naked_named = refl
+
+  subscripts_before : perform hers (locking her_line adding (lock_one (indirect (text (codes "^(\"x\")")) (exprs error no_exprs))) None (state test (suc (suc (suc (suc steps)))))) w ≡ (Fails M9 (state test steps), w)
+  unfolding finds ref_at many list_at truth_at operator_at name_at subscripts_with attached_with indirect_with primary_with operand_with step_with expr_with reference_with readers_at
+      numeric_value literal_size round round_size nearest rounding_unit digits_before size_text digits
+  subscripts_before = refl

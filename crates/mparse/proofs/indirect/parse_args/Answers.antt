@@ -1,0 +1,19 @@
+use Rattle.std.proofs.Common.{map, Vec, Global}
+use Rattle.mtree.specs.declared.tree.Arg.{Arg}
+use Rattle.mtree.specs.Tree.{arg_tree, keyword_tree}
+use Rattle.mgrammar.specs.Grammar.{form_of, spell_list, spell_arg}
+use Rattle.mgrammar.specs.WellFormed.{WellList, WellArg}
+use Rattle.mgrammar.specs.IndirectTexts.{args_of}
+use Rattle.mgrammar.proofs.ReadingIndirectTexts.{reads_its_arguments}
+use Rattle.mparse.proofs.WholeTexts.{is_tree, is_syntax}
+use Rattle.mparse.proofs.indirect.parse_args.Goals as goal
+
+pub returns-clause-tree : goal.returns-clause-tree
+returns-clause-tree c may =
+    let f = form_of (keyword_tree c.args.keyword) in
+    is_tree (λ (args : Vec Arg Global). map arg_tree args.items) (args_of f) (spell_list spell_arg) (WellList (WellArg f)) (reads_its_arguments f may) c.args.text.now c.whole_args.result c.whole_args.ensures
+
+pub returns-clause-syntax : goal.returns-clause-syntax
+returns-clause-syntax c may =
+    let f = form_of (keyword_tree c.args.keyword) in
+    is_syntax (λ (args : Vec Arg Global). map arg_tree args.items) (args_of f) (spell_list spell_arg) (WellList (WellArg f)) (reads_its_arguments f may) c.args.text.now c.whole_args.result c.whole_args.ensures

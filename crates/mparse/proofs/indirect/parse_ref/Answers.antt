@@ -1,0 +1,13 @@
+use Rattle.mtree.specs.Tree.{reference_tree}
+use Rattle.mgrammar.specs.Grammar.{spell_reference}
+use Rattle.mgrammar.specs.WellFormed.{max_depth, WellReference}
+use Rattle.mgrammar.specs.IndirectTexts.{ref_at}
+use Rattle.mgrammar.proofs.ReadingIndirectTexts.{reads_its_reference}
+use Rattle.mparse.proofs.WholeTexts.{is_tree, is_syntax}
+use Rattle.mparse.proofs.indirect.parse_ref.Goals as goal
+
+pub returns-clause-tree : goal.returns-clause-tree
+returns-clause-tree c = is_tree reference_tree ref_at spell_reference (WellReference max_depth) reads_its_reference c.args.text.now c.whole_reference.result c.whole_reference.ensures
+
+pub returns-clause-syntax : goal.returns-clause-syntax
+returns-clause-syntax c = is_syntax reference_tree ref_at spell_reference (WellReference max_depth) reads_its_reference c.args.text.now c.whole_reference.result c.whole_reference.ensures

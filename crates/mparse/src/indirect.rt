@@ -1,0 +1,64 @@
+// The texts of indirection, read whole: a variable, or arguments of a command.
+ghost use Rattle.std.specs.Prelude.{◌≡◌, true, List, map, IfOk, Err};
+ghost use Rattle.mgrammar.specs.Grammar.{ReferenceTree, ArgTree, form_of, may_be_indirect, spell_reference, spell_list, spell_arg};
+ghost use Rattle.mgrammar.specs.WellFormed.{max_depth, WellReference, WellList, WellArg};
+ghost use Rattle.mgrammar.specs.IndirectTexts.{ref_at, args_of};
+ghost use Rattle.mtree.specs.Tree.{reference_tree, arg_tree, keyword_tree};
+ghost use Rattle.mscan.specs.Gives.{Gives};
+
+use crate::expr::{MAX_DEPTH, reference};
+use crate::list::list;
+use mscan::ParseFault;
+use mtree::{Arg, Keyword, Reference};
+use std::alloc::Global;
+
+#[tactic(auto, unfolding(mgrammar::specs::IndirectTexts::ref_at))]
+fn whole_reference(alloc: Global, text: &[u8]) -> Result<Reference, ParseFault>
+    ensures { Gives (λ v. reference_tree v) result (ref_at text.now) }
+{
+    let (reference, rest) = reference(alloc, text, MAX_DEPTH)?;
+    if !rest.is_empty() {
+        return Err(ParseFault::Syntax);
+    }
+    Ok(reference)
+}
+
+#[tactic(auto, unfolding(mgrammar::specs::IndirectTexts::args_of))]
+fn whole_args(alloc: Global, keyword: Keyword, text: &[u8]) -> Result<Vec<Arg>, ParseFault>
+    ensures { Gives (λ args. map arg_tree args.items) result (args_of (form_of (keyword_tree keyword)) text.now) }
+{
+    let (args, rest) = list(keyword, alloc, text)?;
+    if !rest.is_empty() {
+        return Err(ParseFault::Syntax);
+    }
+    Ok(args)
+}
+
+/// The variable that a text of any bytes is, as the value of an operand of name indirection: the one tree of the grammar that has this
+/// text.
+///
+/// # Errors
+///
+/// `Syntax` only where no variable has the text, as where it is empty; `Memory` for want of memory.
+pub fn parse_ref(alloc: Global, text: &[u8]) -> Result<Reference, ParseFault>
+    ensures read { Gives (λ v. reference_tree v) result (ref_at text.now) }
+    ensures tree { IfOk result (λ v. WellReference max_depth (reference_tree v) × (spell_reference (reference_tree v) ≡ text.now)) }
+    ensures syntax { result ≡ Err ParseFault.Syntax → (v : ReferenceTree) → WellReference max_depth v → spell_reference v ≡ text.now → ⊥ }
+{
+    whole_reference(alloc, text)
+}
+
+/// The arguments that a text of any bytes is, as the value of an operand of argument indirection of this command: the one list of
+/// trees of the grammar that has this text, with one argument at least. The command is one whose arguments a text may give: any but FOR,
+/// ELSE and QUIT.
+///
+/// # Errors
+///
+/// `Syntax` only where no arguments of the command have the text, as where it is empty; `Memory` for want of memory.
+pub fn parse_args(alloc: Global, keyword: Keyword, text: &[u8]) -> Result<Vec<Arg>, ParseFault>
+    ensures read { Gives (λ args. map arg_tree args.items) result (args_of (form_of (keyword_tree keyword)) text.now) }
+    ensures tree { may_be_indirect (form_of (keyword_tree keyword)) ≡ true → IfOk result (λ args. WellList (WellArg (form_of (keyword_tree keyword))) (map arg_tree args.items) × (spell_list spell_arg (map arg_tree args.items) ≡ text.now)) }
+    ensures syntax { may_be_indirect (form_of (keyword_tree keyword)) ≡ true → result ≡ Err ParseFault.Syntax → (args : List ArgTree) → WellList (WellArg (form_of (keyword_tree keyword))) args → spell_list spell_arg args ≡ text.now → ⊥ }
+{
+    whole_args(alloc, keyword, text)
+}

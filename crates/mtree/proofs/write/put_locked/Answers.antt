@@ -1,0 +1,9 @@
+use Rattle.std.proofs.Common.{arith}
+use Rattle.std.proofs.lemmas.Grind.{common_steps}
+use Rattle.mtree.proofs.ListTexts.{references}
+use Rattle.mtree.proofs.write.put_locked.Goals as goal
+
+pub returns-in_ok-put_list-in-Several : goal.returns-in_ok-put_list-in-Several
+returns-in_ok-put_list-in-Several c =
+    let spelled = rw (references c.in-Several.references.items) at c.in_ok-put_list-in-Several.ensures in
+    grind (arith, common_steps, spelled)

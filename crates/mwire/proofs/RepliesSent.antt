@@ -1,0 +1,119 @@
+-- The replies that one account is told, sent one after another.
+use Rattle.std.proofs.Common.{◌≡◌, ℕ, ◌+◌, ◌<◌, Bool, true, List, [], ◌∷◌, ◌++◌, Option, map, take, drop, length, get_or, refl, sym, ap, ◌∙◌, subst, append_assoc}
+use Rattle.std.specs.Prelude.{◌≢◌, Ok, Err}
+use Rattle.std.proofs.Common.{inl, inr}
+use Rattle.std.proofs.lemmas.List.{append-nil, map-append, take-append-drop}
+use Rattle.std.proofs.lemmas.Grind.{flat_map-append}
+use Rattle.std.proofs.KnownBytes.{Appends-trans, Appends-nil}
+use Rattle.std.specs.Io.KnownBytes.{Appends, Consumes, IsAtEnd}
+use Rattle.std.specs.Str.Lines.{lines}
+use Rattle.mspec.specs.Act.{Text}
+use Rattle.mmeaning.specs.Step.{Event}
+use Rattle.misolation.specs.Telling.{Told}
+use Rattle.mstore.specs.declared.store.NodeStore.{Ghosts}
+use Rattle.mworld.specs.declared.world.World.{World}
+use Rattle.mworld.specs.View.{settings_of, server_of, HasFittingLocks}
+use Rattle.mworld.specs.Isolated.{IsTold, IsToldApart, IsEquallyTold, RanFirst}
+use Rattle.mworld.proofs.Tellings.{take_on}
+use Rattle.mwire.specs.Wire.{events_of, reply_text}
+use Rattle.mwire.specs.Only.{told_text, RanOnly, CutOff, OnlyBroke, ServesOnly}
+use Rattle.mwire.specs.Progress.{FrontSent}
+use Rattle.mwire.specs.declared.fault.WireFault.{WireFault}
+use Rattle.mwire.specs.declared.fault.WireFault.TheVariants.{Read, Write, Memory}
+
+abbrev shown : Told → Text
+shown t = reply_text t.terminal t.reply
+
+-- ---- one after another
+
+module _ {X : Type 0} (f : X → Told) (xs : List X) (i : ℕ) (x : X) (within : i < length xs) (is : x ≡ get_or xs i x) where
+  text_on : told_text (map f (take (i + 1) xs)) ≡ told_text (map f (take i xs)) ++ shown (f x)
+  text_on =
+      ap told_text (take_on f xs i x within is) ∙ flat_map-append shown (map f (take i xs)) (f x ∷ [])
+      ∙ ap (λ t. told_text (map f (take i xs)) ++ t) (append-nil (shown (f x)))
+
+  text_split : told_text (map f xs) ≡ (told_text (map f (take i xs)) ++ shown (f x)) ++ told_text (map f (drop (i + 1) xs))
+  text_split =
+      sym (ap (λ ys. told_text (map f ys)) (take-append-drop (i + 1) xs))
+      ∙ ap told_text (map-append f (take (i + 1) xs) (drop (i + 1) xs))
+      ∙ flat_map-append shown (map f (take (i + 1) xs)) (map f (drop (i + 1) xs))
+      ∙ ap (λ t. t ++ told_text (map f (drop (i + 1) xs))) text_on
+
+  -- the whole of one more
+  pub sent_on : (before now after : Option Text) → Appends before now (told_text (map f (take i xs))) → FrontSent (shown (f x)) now after true → Appends before after (told_text (map f (take (i + 1) xs)))
+  sent_on before now after a s =
+      let whole : shown (f x) ≡ s.part = s.of_bytes ∙ ap (λ t. s.part ++ t) (s.all_sent refl) ∙ append-nil s.part in
+      subst (Appends before after) (ap (λ t. told_text (map f (take i xs)) ++ t) (sym whole) ∙ sym text_on)
+      (Appends-trans before now after (told_text (map f (take i xs))) s.part a s.appended)
+
+  -- or a front of it
+  pub sent_until : (before now after : Option Text) (b whole : Bool) → (whole ≡ true → ⊥) → Appends before now (told_text (map f (take i xs))) → FrontSent (shown (f x)) now after b → FrontSent (told_text (map f xs)) before after whole
+  sent_until before now after b whole never a s = record {
+    part = told_text (map f (take i xs)) ++ s.part;
+    unsent = s.unsent ++ told_text (map f (drop (i + 1) xs));
+    of_bytes =
+        text_split
+        ∙ ap (λ t. (told_text (map f (take i xs)) ++ t) ++ told_text (map f (drop (i + 1) xs))) s.of_bytes
+        ∙ ap (λ t. t ++ told_text (map f (drop (i + 1) xs))) (sym (append_assoc (told_text (map f (take i xs))) s.part s.unsent))
+        ∙ append_assoc (told_text (map f (take i xs)) ++ s.part) s.unsent (told_text (map f (drop (i + 1) xs)));
+    all_sent = λ e. absurd (never e);
+    appended = Appends-trans before now after (told_text (map f (take i xs))) s.part a s.appended;
+  }
+
+pub sent_all : (bytes : Text) (before after : Option Text) (whole : Bool) → Appends before after bytes → FrontSent bytes before after whole
+sent_all bytes before after whole a = record { part = bytes; unsent = []; of_bytes = sym (append-nil bytes); all_sent = λ e. refl; appended = a }
+
+-- ---- how a stream ends
+
+module _ {S : Type 0} (g : Ghosts S) (old new : World S) (account : ℕ) (left left' held held' : Option Text) (read : Text) (consumed : Consumes left left' read) where
+  -- a fault of the reading
+  pub unread : (fault : WireFault) → fault ≢ Write → new ≡ old → held' ≡ held → ServesOnly g old account left left' held held' (Err fault) new
+  unread fault other same kept = record {
+    read = read;
+    consumed = consumed;
+    sent = [];
+    appended = subst (λ h. Appends held h []) (sym kept) (Appends-nil held);
+    outcome = broke fault other;
+  }
+    where
+      broke : (e : WireFault) → e ≢ Write → OnlyBroke g old account left' (events_of (lines read)) [] new e
+      broke Read o = (refl, same)
+      broke Write o = absurd (o refl)
+      broke Memory o = inl (refl, λ sound. record { count = 0; lines = []; sent = refl; history = ap (server_of g) same })
+
+  -- want of memory for what is told
+  pub untold : (g.sound → RanFirst (settings_of old) (server_of g old) (events_of (lines read)) (server_of g new)) → held' ≡ held → ServesOnly g old account left left' held held' (Err Memory) new
+  untold first kept = record {
+    read = read;
+    consumed = consumed;
+    sent = [];
+    appended = subst (λ h. Appends held h []) (sym kept) (Appends-nil held);
+    outcome = inl (refl, first);
+  }
+
+  module _ (at_end : IsAtEnd left') (bytes : Text) (whole : Bool) (ran : RanOnly g old account (events_of (lines read)) bytes whole new) where
+    -- a fault of the writing
+    pub unwritten : (fault : WireFault) → fault ≢ Read → (b : Bool) → FrontSent bytes held held' b → ServesOnly g old account left left' held held' (Err fault) new
+    unwritten fault other b s = record { read = read; consumed = consumed; sent = s.part; appended = s.appended; outcome = broke fault other }
+      where
+        cut : CutOff g old account (events_of (lines read)) s.part new
+        cut = record { bytes = bytes; whole = whole; ran = ran; unsent = s.unsent; of_bytes = s.of_bytes }
+
+        broke : (e : WireFault) → e ≢ Read → OnlyBroke g old account left' (events_of (lines read)) s.part new e
+        broke Read o = absurd (o refl)
+        broke Write o = (at_end, cut)
+        broke Memory o = inr (at_end, cut)
+
+    pub written : FrontSent bytes held held' true → ServesOnly g old account left left' held held' (Ok whole) new
+    written s =
+        let all : s.part ≡ bytes = sym (s.of_bytes ∙ ap (λ t. s.part ++ t) (s.all_sent refl) ∙ append-nil s.part) in
+        record { read = read; consumed = consumed; sent = bytes; appended = subst (Appends held held') all s.appended; outcome = (at_end, ran) }
+
+-- what was told of a slice's events, of a stream's
+pub ran_only : {S : Type 0} (g : Ghosts S) (old new : World S) (account : ℕ) (es es' : List Event) → es ≡ es' → (replies : List Told) (bytes : Text) (whole : Bool) → bytes ≡ told_text replies
+    → (g.sound → IsTold g old account es replies whole new)
+    → (g.sound → HasFittingLocks g old → IsToldApart g old account es replies whole new)
+    → (g.sound → HasFittingLocks g old → IsEquallyTold g old account es replies whole)
+    → RanOnly g old account es' bytes whole new
+ran_only g old new account es es' same replies bytes whole text told apart alone =
+    subst (λ events. RanOnly g old account events bytes whole new) same (record { replies = replies; text = text; told = told; apart = apart; alone = alone })

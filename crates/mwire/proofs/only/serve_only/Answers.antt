@@ -1,0 +1,29 @@
+use Rattle.std.proofs.Common.{refl, ap, ◌∙◌, map}
+use Rattle.mworld.specs.View.{event_of}
+use Rattle.mworld.specs.Isolated.{told_of, replies_of}
+use Rattle.mwire.specs.Only.{told_text}
+use Rattle.mwire.proofs.RepliesSent.{unread, unwritten, written, ran_only}
+use Rattle.mwire.proofs.only.serve_only.Goals as goal
+
+pub returns-in-Err-clause-serves : goal.returns-in-Err-clause-serves
+returns-in-Err-clause-serves g c =
+    let reads = c.in-Err.ensures.reads in
+    unread _ _ _ _ _ _ _ _ reads.read reads.consumed c.in-Err.fault reads.outcome refl refl
+
+pub returns-in-Ok-write_replies-clause-serves : goal.returns-in-Ok-write_replies-clause-serves
+returns-in-Ok-write_replies-clause-serves g c =
+    let reads = c.in-Ok.ensures.reads in
+    let law = c.in-Ok-isolated_replies.ensures in
+    written _ _ _ _ _ _ _ _ reads.read reads.consumed reads.outcome.0 _ _
+    (ran_only _ _ _ _ _ _ (ap (map event_of) c.deref.ensures.value ∙ reads.outcome.1) (replies_of c.in-Ok-isolated_replies.isolated) _ _
+    (ap (λ (ts : _). told_text (map told_of ts)) c.deref-2.ensures.value) law.told law.apart law.alone)
+    c.in-Ok-write_replies.ensures.sent
+
+pub returns-clause-serves : goal.returns-clause-serves
+returns-clause-serves g c =
+    let reads = c.in-Ok.ensures.reads in
+    let law = c.in-Ok-isolated_replies.ensures in
+    unwritten _ _ _ _ _ _ _ _ reads.read reads.consumed reads.outcome.0 _ _
+    (ran_only _ _ _ _ _ _ (ap (map event_of) c.deref.ensures.value ∙ reads.outcome.1) (replies_of c.in-Ok-isolated_replies.isolated) _ _
+    (ap (λ (ts : _). told_text (map told_of ts)) c.deref-2.ensures.value) law.told law.apart law.alone)
+    c.in-Err-write_replies.fault c.in-Err-write_replies.ensures.fault.0 _ c.in-Err-write_replies.ensures.sent

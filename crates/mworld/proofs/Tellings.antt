@@ -1,0 +1,117 @@
+-- A run of events goes on by one step of the program.
+use Rattle.std.proofs.Common.{◌≡◌, ℕ, ◌+◌, ◌<◌, Bool, true, false, cond, List, [], ◌∷◌, ◌++◌, Option, Some, None, map, take, length, get_or, refl, sym, ap, ◌∙◌, subst}
+use Rattle.std.specs.Prelude.{IsTrue, ◌↔◌, unwrap_or, option_map, Result, Ok, Err, IfErr}
+use Rattle.std.proofs.lemmas.List.{append-nil, map-append, take_more, take-map}
+use Rattle.std.proofs.lemmas.Bool.{false_from_ne_true}
+use Rattle.std.specs.FinMap.{get}
+use Rattle.mspec.specs.Node.{Text}
+use Rattle.mspec.specs.Trees.{text_eq}
+use Rattle.mspec.specs.Access.{Account, Settings, account_at, account_of, name_at}
+use Rattle.mspec.specs.Flow.{Reaches}
+use Rattle.mmeaning.specs.Step.{Server, Event, Reply, Step, is_failure}
+use Rattle.mmeaning.specs.History.{History, NoneFailed}
+use Rattle.misolation.specs.Reach.{Accounts, reach}
+use Rattle.misolation.specs.Cut.{is_member, is_inside, part}
+use Rattle.misolation.specs.Alone.{only}
+use Rattle.misolation.specs.Telling.{Told, told_by, told_to, Tells}
+use Rattle.misolation.proofs.Reaching.{reach_is_chains}
+use Rattle.misolation.proofs.RunsTold.{tells_on, history_on}
+use Rattle.misolation.specs.Cut.{IsFit}
+use Rattle.misolation.proofs.PartsAlone.{histories_keep_fit}
+use Rattle.mstore.specs.declared.store.NodeStore.{Ghosts}
+use Rattle.mworld.specs.declared.world.World.{World}
+use Rattle.mworld.specs.View.{settings_of, server_of, HasFittingLocks}
+use Rattle.mworld.specs.Isolated.{IsUnseen, RanFirst}
+use Rattle.mworld.proofs.Checks.{found}
+
+-- the part of one line, by whether its terminal is inside
+part_of_one : (s : Accounts) (settings : Settings) (e : Event) (reply : Reply) (b : Bool) → is_inside s settings e.terminal ≡ b → part s settings ((e, reply) ∷ []) ≡ cond b ((e, reply) ∷ []) []
+part_of_one s settings e reply true is = rw is refl
+part_of_one s settings e reply false is = rw is refl
+
+-- whether a line failed in it
+none_by : (settings : Settings) (a sender : Text) (e : Event) (reply : Reply) (b : Bool) → reach settings a sender ≡ b → IsUnseen settings sender a reply ↔ NoneFailed (cond b ((e, reply) ∷ []) [])
+none_by settings a sender e reply true is = (
+  λ unseen. (false_from_ne_true (is_failure reply.ending) (λ failed. unseen failed ((reach_is_chains settings a sender).0 is)), tt),
+  λ none failed chain. let no : true ≡ false = sym failed ∙ none.0 in absurd (cc),
+)
+none_by settings a sender e reply false is = (
+  λ unseen. tt,
+  λ none failed chain. let no : true ≡ false = sym ((reach_is_chains settings a sender).1 chain) ∙ is in absurd (cc),
+)
+
+module _ (a : Text) (settings : Settings) (server between after : Server) (events : List Event) (told : List Told) (whole : Bool) (h : Tells a settings server events told whole between) (e : Event) (reply : Reply)
+    (step : Step settings e reply between after) where
+  told_more : (b : Bool) → is_inside (only a) settings e.terminal ≡ b → (more : Bool) → (IsTrue more ↔ (IsTrue whole × NoneFailed (part (reach settings a) settings ((e, reply) ∷ []))))
+      → Tells a settings server (events ++ e ∷ []) (told ++ map told_by (cond b ((e, reply) ∷ []) [])) more after
+  told_more b is more iff =
+      subst (λ es. Tells a settings server (events ++ e ∷ []) (told ++ map told_by es) more after) (part_of_one (only a) settings e reply b is)
+      (tells_on a settings server between after events told whole h e reply step more iff)
+
+  -- at a terminal of no account
+  pub nobody_told : get settings.terminals e.terminal ≡ None → Tells a settings server (events ++ e ∷ []) told whole after
+  nobody_told none =
+      let outside = part_of_one (reach settings a) settings e reply false (ap (is_member (reach settings a)) none) in
+      subst (λ ts. Tells a settings server (events ++ e ∷ []) ts whole after) (append-nil told)
+      (told_more false (ap (is_member (only a)) none) whole (λ w. (w, subst NoneFailed (sym outside) tt), λ both. both.0))
+
+  module _ (place : ℕ) (same : account_at settings place ≡ account_of settings e.terminal) (within : place < length settings.accounts) (more : Bool) (iff : IsTrue more ↔ (IsTrue whole × IsUnseen settings (name_at settings place) a reply)) where
+    abbrev sender : Text
+    sender = name_at settings place
+
+    there : (account : Account) × (get settings.terminals e.terminal ≡ Some account)
+    there = found settings e.terminal place same within
+
+    named : there.0.name ≡ sender
+    named = sym (ap (λ o. unwrap_or (option_map (λ (x : Account). x.name) o) []) (same ∙ there.1))
+
+    inside : (s : Accounts) → is_inside s settings e.terminal ≡ s sender
+    inside s = ap (is_member s) there.1 ∙ ap s named
+
+    unseen : IsUnseen settings sender a reply ↔ NoneFailed (part (reach settings a) settings ((e, reply) ∷ []))
+    unseen =
+        let one = part_of_one (reach settings a) settings e reply (reach settings a sender) (inside (reach settings a)) in
+        subst (λ es. IsUnseen settings sender a reply ↔ NoneFailed es) (sym one) (none_by settings a sender e reply (reach settings a sender) refl)
+
+    still : IsTrue more ↔ (IsTrue whole × NoneFailed (part (reach settings a) settings ((e, reply) ∷ [])))
+    still = (λ m. let both = iff.0 m in (both.0, unseen.0 both.1), λ both. iff.1 (both.0, unseen.1 both.1))
+
+    -- at another account's terminal
+    pub other_told : text_eq a sender ≡ false → Tells a settings server (events ++ e ∷ []) told more after
+    other_told apart =
+        subst (λ ts. Tells a settings server (events ++ e ∷ []) ts more after) (append-nil told)
+        (told_more false (inside (only a) ∙ apart) more still)
+
+    -- at its own
+    pub own_told : text_eq a sender ≡ true → Tells a settings server (events ++ e ∷ []) (told ++ told_by (e, reply) ∷ []) more after
+    own_told own = told_more true (inside (only a) ∙ own) more still
+
+-- ---- runs of the first of some events
+
+-- by one event more
+pub take_on : {X Y : Type 0} (f : X → Y) (xs : List X) (i : ℕ) (x : X) → i < length xs → x ≡ get_or xs i x → map f (take (i + 1) xs) ≡ map f (take i xs) ++ f x ∷ []
+take_on f xs i x within is = ap (map f) (take_more xs i x within ∙ ap (λ y. take i xs ++ y ∷ []) (sym is)) ∙ map-append f (take i xs) (x ∷ [])
+
+module _ {X : Type 0} (f : X → Event) (xs : List X) (i : ℕ) (x : X) (a : Text) (settings : Settings) (server between after : Server) (told : List Told) (whole : Bool) where
+  -- where a run ends early
+  pub ran_first : i < length xs → x ≡ get_or xs i x → Tells a settings server (map f (take i xs)) told whole between → (reply : Reply) × Step settings (f x) reply between after → RanFirst settings server (map f xs) after
+  ran_first within is h more = record {
+    count = i + 1;
+    lines = h.lines ++ (f x, more.0) ∷ [];
+    sent =
+        map-append (λ (e : Event × Reply). e.0) h.lines ((f x, more.0) ∷ []) ∙ ap (λ es. es ++ f x ∷ []) h.sent
+        ∙ sym (take_on f xs i x within is) ∙ sym (take-map f (i + 1) xs);
+    history = history_on settings server between after h.lines ((f x, more.0) ∷ []) h.history (after, more.1, refl);
+  }
+
+-- what is so is so whatever the error is
+pub whichever : {X E P : Type 0} (r : Result X E) → P → IfErr r (λ _. P)
+whichever (Ok x) p = tt
+whichever (Err e) p = p
+
+-- a history leaves the locks fitting
+pub still_fit : {S : Type 0} (g : Ghosts S) (old new : World S) → settings_of new ≡ settings_of old
+    → (lines : List (Event × Reply)) → History (settings_of old) (server_of g old) lines (server_of g new) → HasFittingLocks g old → HasFittingLocks g new
+still_fit g old new same lines history fit =
+    subst (λ settings. IsFit settings (server_of g new).world) (sym same)
+    (histories_keep_fit (settings_of old) (server_of g old) (server_of g new) lines history fit)

@@ -1,0 +1,45 @@
+use Rattle.std.proofs.Common.{◌≡◌, sym, ap, ◌∙◌, subst, map, take}
+use Rattle.std.proofs.lemmas.List.{take_all}
+use Rattle.mspec.specs.Access.{name_at}
+use Rattle.misolation.proofs.RunsTold.{told_apart, equally_told}
+use Rattle.mworld.specs.View.{settings_of, server_of, event_of}
+use Rattle.mworld.proofs.Tellings.{take_on, ran_first, whichever, still_fit}
+use Rattle.mworld.proofs.isolated.isolated_replies.Goals as goal
+
+pub returns-in_err-tell-clause-first : goal.returns-in_err-tell-clause-first
+returns-in_err-tell-clause-first g c = λ sound.
+    let step = rw c.loop-event.invariant.settings at c.in_err-tell.ensures.step in
+    whichever c.from_residual.result
+    (ran_first event_of c.args.events.now c.loop-event.event-index c.event-item.result _ _ _ _ _ _ _ c.loop-event-test.true c.event-item.is (c.loop-event.invariant.told sound) (step sound))
+
+pub loop-event-preserved : goal.loop-event-preserved
+loop-event-preserved g c =
+    let more = rw c.loop-event.invariant.settings at c.in_ok-tell.ensures.told in
+    record {
+      settings = c.tell.ensures.settings ∙ c.loop-event.invariant.settings;
+      told = λ sound.
+          rw (take_on event_of c.args.events.now c.loop-event.event-index c.event-item.result c.loop-event-test.true c.event-item.is)
+          (more sound _ _ (c.loop-event.invariant.told sound));
+    }
+
+pub returns-clause-apart : goal.returns-clause-apart
+returns-clause-apart g c = λ sound fit s closed member.
+    let told = rw (take_all c.loop-event.event-index c.args.events.now c.loop-event-test.false) at c.loop-event.invariant.told in
+    told_apart s _ _ _ _ _ _ _ closed member fit (told sound)
+
+pub returns-clause-alone : goal.returns-clause-alone
+returns-clause-alone g c = λ sound fit whole.
+    let told = rw (take_all c.loop-event.event-index c.args.events.now c.loop-event-test.false, whole) at c.loop-event.invariant.told in
+    equally_told _ _ _ _ _ _ fit (told sound)
+
+pub returns-in_err-tell-clause-fit : goal.returns-in_err-tell-clause-fit
+returns-in_err-tell-clause-fit g c = λ sound.
+    let step = rw c.loop-event.invariant.settings at c.in_err-tell.ensures.step in
+    let first =
+    ran_first event_of c.args.events.now c.loop-event.event-index c.event-item.result _ _ _ _ _ _ _ c.loop-event-test.true c.event-item.is (c.loop-event.invariant.told sound) (step sound) in
+    still_fit g.S.NodeStore c.args.world.now c.tell.new.world (c.tell.ensures.settings ∙ c.loop-event.invariant.settings) first.lines first.history
+
+pub returns-clause-fit : goal.returns-clause-fit
+returns-clause-fit g c = λ sound.
+    let told = c.loop-event.invariant.told sound in
+    still_fit g.S.NodeStore c.args.world.now c.loop-event.world c.loop-event.invariant.settings told.lines told.history

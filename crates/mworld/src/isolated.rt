@@ -1,0 +1,134 @@
+// A run of events, as an account sees it.
+ghost use Rattle.std.specs.Prelude.{◌≡◌, List, ◌∷◌, [], ◌++◌, map, IfOk, IfErr, OnOk, IsTrue, ◌↔◌};
+ghost use Rattle.mspec.specs.Access.{name_at};
+ghost use Rattle.mspec.specs.Trees.{text_eq};
+ghost use Rattle.mmeaning.specs.Step as step;
+ghost use Rattle.mmeaning.specs.Step.{Server, Step};
+ghost use Rattle.misolation.specs.Telling.{Tells};
+ghost use Rattle.mworld.specs.View.{settings_of, server_of, reply_of, event_of, HasFittingLocks};
+ghost use Rattle.mworld.specs.Isolated.{replies_of, IsTold, IsToldApart, IsEquallyTold, IsUnseen, RanFirst};
+
+use crate::reply::{Event, Reply};
+use crate::world::World;
+use mgrant::{AccountId, Settings};
+use mstore::NodeStore;
+use std::alloc::{AllocError, Global};
+
+/// A reply, and the terminal that it goes to.
+#[derive(Drop)]
+pub struct Told {
+    pub terminal: u32,
+    pub reply: Reply,
+}
+
+/// What a run of events told an account.
+#[derive(Drop)]
+pub struct Isolated {
+    /// The replies at the account's terminals, in their order.
+    pub replies: Vec<Told>,
+    /// Whether no line of an account that reaches it was answered `Zmem` or `Zstore`.
+    pub whole: bool,
+}
+
+/// Runs the events in their order, and tells an account of the world's settings the replies at its terminals.
+///
+/// **The account learns nothing of the accounts that do not reach it.** An account reaches another where a chain of grants leads there, a
+/// grant to write leading both ways. Over a sound store, where no line of an account that reaches this one was answered `Zmem` or
+/// `Zstore`, which `whole` says, the replies are those of the definitional interpreter run on the reaching accounts' lines, globals,
+/// sessions and locks, and the grants between them, alone: whatever other accounts store, lock, run or exhaust. Past such a line they
+/// are still those of a history of these lines alone, in which that line failed.
+///
+/// An id that names no account of the world's settings is told nothing.
+///
+/// # Errors
+///
+/// Want of memory for what is told. The world then stands after some first events, one step each.
+pub fn isolated_replies<S: NodeStore>(
+    alloc: Global,
+    world: &mut World<S>,
+    events: &[Event],
+    account: AccountId,
+) -> Result<Isolated, AllocError>
+    ensures told { S.sound → IfOk result (λ isolated. IsTold S.NodeStore world.old account (map event_of events.now) (replies_of isolated) isolated.whole world.new) }
+    ensures apart { S.sound → HasFittingLocks S.NodeStore world.old →
+        IfOk result (λ isolated. IsToldApart S.NodeStore world.old account (map event_of events.now) (replies_of isolated) isolated.whole world.new) }
+    ensures alone { S.sound → HasFittingLocks S.NodeStore world.old →
+        IfOk result (λ isolated. IsEquallyTold S.NodeStore world.old account (map event_of events.now) (replies_of isolated) isolated.whole) }
+    ensures first { S.sound → IfErr result (λ _. RanFirst (settings_of world.old) (server_of S.NodeStore world.old) (map event_of events.now) (server_of S.NodeStore world.new)) }
+    ensures fit { S.sound → HasFittingLocks S.NodeStore world.old → HasFittingLocks S.NodeStore world.new }
+    ensures settings { settings_of world.new ≡ settings_of world.old }
+{
+    let mut isolated = Isolated {
+        replies: Vec::new(alloc),
+        whole: true,
+    };
+    for event in events {
+        tell(alloc, world, event, account, &mut isolated)?;
+    }
+    Ok(isolated)
+}
+
+// Runs one event, and tells the account its reply where it is at one of its terminals.
+fn tell<S: NodeStore>(
+    alloc: Global,
+    world: &mut World<S>,
+    event: &Event,
+    account: AccountId,
+    isolated: &mut Isolated,
+) -> Result<(), AllocError>
+    ensures told { S.sound → OnOk result ((server : Server) (events : List step.Event) →
+        Tells (name_at (settings_of world.old) account) (settings_of world.old) server events (replies_of isolated.old) isolated.old.whole (server_of S.NodeStore world.old) →
+        Tells (name_at (settings_of world.old) account) (settings_of world.old) server (events ++ event_of event.now ∷ []) (replies_of isolated.new) isolated.new.whole (server_of S.NodeStore world.new)) }
+    ensures step { S.sound → (reply : step.Reply) × Step (settings_of world.old) (event_of event.now) reply (server_of S.NodeStore world.old) (server_of S.NodeStore world.new) }
+    ensures settings { settings_of world.new ≡ settings_of world.old }
+{
+    let reply = world.line(event.terminal, &event.text);
+    let Some(sender) = world.settings().account_of(event.terminal) else {
+        world.reuse(reply);
+        return Ok(());
+    };
+    isolated.whole = is_whole_behind(
+        alloc,
+        world.settings(),
+        sender,
+        account,
+        &reply,
+        isolated.whole,
+    )?;
+    if !is_same(world.settings(), account, sender) {
+        world.reuse(reply);
+        return Ok(());
+    }
+    isolated.replies.push(Told {
+        terminal: event.terminal,
+        reply,
+    })?;
+    Ok(())
+}
+
+// Whether a run is whole behind a line with this reply that the sender sent, where it was so before or not.
+fn is_whole_behind(
+    alloc: Global,
+    settings: &Settings,
+    sender: AccountId,
+    account: AccountId,
+    reply: &Reply,
+    whole: bool,
+) -> Result<bool, AllocError>
+    ensures { IfOk result (λ more. IsTrue more ↔ (IsTrue whole × IsUnseen settings.now (name_at settings.now sender) (name_at settings.now account) (reply_of reply.now))) }
+{
+    if !reply.is_failed() {
+        return Ok(whole);
+    }
+    if settings.reaches(alloc, sender, account)? {
+        return Ok(false);
+    }
+    Ok(whole)
+}
+
+// Whether two places are of one account, by their names.
+fn is_same(settings: &Settings, account: AccountId, other: AccountId) -> bool
+    ensures { result ≡ text_eq (name_at settings.now account) (name_at settings.now other) }
+{
+    settings.name_of(account) == settings.name_of(other)
+}

@@ -1,0 +1,81 @@
+"""How the scripts of this folder run the built program.
+
+The program is crates/mserve/out/mserve, as `./mserve` or the gate leaves it, or the one that the variable MSERVE names.
+Where a script says no more, a run is over a new store in memory, by
+settings in which terminal 1 is of ALICE and a line may use 2,000 steps."""
+import os
+import socket
+import subprocess
+import sys
+import time
+
+TOP = os.path.realpath(os.path.join(os.path.dirname(os.path.abspath(__file__)), ".."))
+PROGRAM = os.environ.get("MSERVE", os.path.join(TOP, "crates", "mserve", "out", "mserve"))
+ONE_ACCOUNT = os.path.join(TOP, "tools", "settings", "one_account.toml")
+STEPS = 2000
+
+
+def require_program():
+    """Ends the script where the program is not built."""
+    if not os.path.exists(PROGRAM):
+        script = os.path.splitext(os.path.basename(sys.argv[0]))[0]
+        sys.exit(f"{script}: the program is not built: run ./mserve --help")
+
+
+def run_words(settings=ONE_ACCOUNT, store="memory"):
+    """The words of a run by these settings over this store."""
+    return [PROGRAM, "run", "--settings", settings, "--store", store]
+
+
+def serve_words(port, connections, store="memory", settings=ONE_ACCOUNT):
+    """The words of a server for so many connections."""
+    return [PROGRAM, "serve", "--settings", settings, "--store", store, "--port", str(port), "--connections", str(connections)]
+
+
+def free_port():
+    with socket.create_server(("127.0.0.1", 0)) as listener:
+        return listener.getsockname()[1]
+
+
+def connected(port):
+    """A connection to a server that may be starting yet."""
+    end = time.monotonic() + 20
+    while True:
+        try:
+            return socket.create_connection(("127.0.0.1", port), timeout=60)
+        except ConnectionRefusedError:
+            if time.monotonic() > end:
+                raise
+            time.sleep(0.01)
+
+
+COMMAND = run_words()
+
+
+def run(stream, settings=ONE_ACCOUNT, store="memory", **more):
+    """The status, the output and what was told of faults, of a run over a stream."""
+    ran = subprocess.run(run_words(settings, store), input=stream, capture_output=True, timeout=60, **more)
+    return ran.returncode, ran.stdout, ran.stderr
+
+
+def replies(stream, store="memory"):
+    """What the program writes to a stream of bytes; the script ends where the program does not end as it should."""
+    require_program()
+    ran = subprocess.run(run_words(store=store), input=stream, capture_output=True, timeout=600)
+    if ran.returncode or ran.stderr:
+        sys.exit(f"status {ran.returncode}: {ran.stderr[-300:]!r}")
+    return ran.stdout
+
+
+def replies_of_lines(lines, store="memory"):
+    """The reply of each line, of terminal 1, by its own."""
+    written = replies("".join(f"1 {line}\n" for line in lines).encode("ascii"), store).decode("ascii")
+    found, reply = [], []
+    for line in written.splitlines():
+        reply.append(line)
+        if line == "1." or line.startswith(("1!", "?!")):
+            found.append(reply)
+            reply = []
+    if reply or len(found) != len(lines):
+        sys.exit(f"{len(lines)} lines, and {len(found)} replies")
+    return found

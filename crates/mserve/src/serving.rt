@@ -12,8 +12,8 @@ use std::net::{TcpListener, TcpStream};
 use std::time::Duration;
 use thiserror::Error;
 
-// How long a peer is waited for that takes none of its replies.
-const PATIENCE: Duration = Duration::from_secs(60);
+// How long a peer is waited for that takes none of its replies: so many seconds.
+const PATIENCE: u64 = 60;
 
 /// No further connection could be accepted.
 #[derive(Clone, Copy, Debug, PartialEq, Eq, Error)]
@@ -63,7 +63,7 @@ fn serve_stream<S: NodeStore>(
     ensures settings { settings_of world.new ≡ settings_of world.old }
 {
     // where no bound can be had, the peer is waited for
-    let _ = stream.set_write_timeout(Some(PATIENCE));
+    let _ = stream.set_write_timeout(Some(Duration::from_secs(PATIENCE)));
     let mut reader = Watched::new(stream);
     let mut writer = Watched::new(stream);
     serve(alloc, world, &mut reader, &mut writer)

@@ -138,11 +138,12 @@ def fill(client, line):
 
 
 def a_peer_that_stays():
-    """A peer that never reads, and stays, is waited for a minute; then its connection ends by name, and the next one is served."""
+    """A peer that never reads, and stays, is waited for; then its connection ends by name, and the next one is served. A write ends after a minute, with
+    the bytes for which the system found room or else with the fault, so that this takes two or three minutes."""
     with server(2) as process, connected(process.port) as client:
         fill(client, b"1 S A=$G(A)+1 W $J(A,4000)\n")
         with connected(process.port) as other:
-            other.settimeout(100)
+            other.settimeout(400)
             other.sendall(b"1 W A>1\n")
             other.shutdown(socket.SHUT_WR)
             wants("after a peer that never reads and stays", read_all(other), b"1-1\n1.\n")

@@ -13,6 +13,8 @@ SERVED = {
     "terminals": os.path.join(SETTINGS, "three_terminals.toml"),
     "accounts": os.path.join(SETTINGS, "four_accounts.toml"),
 }
+# The settings of the blocks of which one account alone is told, and that account.
+ONLY = SERVED["terminals"], "ALICE"
 ESCAPE = re.compile(r"\{(?:(\d+)\*([^}]*)|([0-9a-f]{2}))?\}")
 INDENT = "    "
 

@@ -8,16 +8,16 @@ alone. An account reaches another where a chain of grants leads there; a grant t
 That the streams would show a leak is tested too: for some accounts the replies must be others where their own lines are run alone, since they
 hang on a grant, and in some settings where all accounts have all grants. Status 1 where an account was told otherwise, or where these differ nowhere.
 
-The program is crates/mserve/out/mserve, as `./mserve` or the gate leaves it."""
+`tools/running.py` says which program is run."""
 import os
 import random
 import re
-import subprocess
 import sys
 import tempfile
 from concurrent.futures import ThreadPoolExecutor
 
-PROGRAM = os.path.join(os.path.dirname(os.path.abspath(__file__)), "..", "crates", "mserve", "out", "mserve")
+from running import require_program, run
+
 NAMES = ["ALICE", "BOB", "CAROL", "DAVE", "EVE"]
 GLOBALS = ["X", "Y", "ROUTINE"]
 SETTINGS = 100
@@ -101,16 +101,15 @@ def stream(rng, accounts):
     return lines
 
 
-def run(settings, lines, *options):
+def answered(settings, lines, only=None):
     """What is answered, line by line, of lines by settings; a fault of the program ends the test."""
     with tempfile.NamedTemporaryFile("w", suffix=".toml") as file:
         file.write(settings.document())
         file.flush()
-        words = [PROGRAM, "run", "--settings", file.name, "--store", "memory", *options]
-        done = subprocess.run(words, input=b"".join(line for _, line in lines), capture_output=True, timeout=60)
-    if (done.returncode, done.stderr) != (0, b""):
-        sys.exit(f"isolation: {words[1:]}: status {done.returncode}, {done.stderr!r}")
-    return done.stdout.splitlines(True)
+        status, output, fault = run(b"".join(line for _, line in lines), file.name, only=only)
+    if (status, fault) != (0, b""):
+        sys.exit(f"isolation: --only {only}: status {status}, {fault!r}")
+    return output.splitlines(True)
 
 
 def told(settings, account, answer):
@@ -129,26 +128,25 @@ def judged(number):
     rng = random.Random(f"{SEED} {number}")
     settings = setting(rng)
     lines = stream(rng, settings)
-    answer = run(settings, lines)
-    other = run(settings.with_all_grants(), lines)
+    answer = answered(settings, lines)
+    other = answered(settings.with_all_grants(), lines)
     faults, tied, open_to_all = [], 0, 0
     for account in settings.accounts:
         among_all = told(settings, account, answer)
         members = settings.reaching(account)
         alone = settings.cut(members)
-        if told(alone, account, run(alone, sent_by(settings, members, lines))) != among_all:
+        if told(alone, account, answered(alone, sent_by(settings, members, lines))) != among_all:
             faults.append(f"setting {number}: {account} is told otherwise alone with {sorted(members)}")
-        if run(settings, lines, "--only", account) != among_all:
+        if answered(settings, lines, account) != among_all:
             faults.append(f"setting {number}: {account} is told otherwise by --only")
         own = settings.cut({account})
-        tied += told(own, account, run(own, sent_by(settings, {account}, lines))) != among_all
+        tied += told(own, account, answered(own, sent_by(settings, {account}, lines))) != among_all
         open_to_all += told(settings, account, other) != among_all
     return faults, len(settings.accounts), tied, open_to_all
 
 
 def main():
-    if not os.path.exists(PROGRAM):
-        sys.exit("isolation: the program is not built: run ./mserve run </dev/null")
+    require_program()
     with ThreadPoolExecutor(os.cpu_count() or 1) as pool:
         found = list(pool.map(judged, range(SETTINGS)))
     faults = [fault for some, _, _, _ in found for fault in some]

@@ -2,8 +2,8 @@
 """Plays the blocks of transcripts/ that are lines of the wire on the built program, and those that count steps. Status 1 where something else comes, or where
 there is no block of a kind.
 
-The lines of a block are one stream: over a store in memory, read whole and in pieces of 1, 2 and 7 bytes, and over a store in a file. Each line of a block of the
-kind `reopened` is a run of its own over the same file.
+The lines of a block are one stream: over a store in memory, read whole and in pieces of 1, 2 and 7 bytes, and over a store in a file. Of a block of the kind `only`
+one account is told alone. Each line of a block of the kind `reopened` is a run of its own over the same file.
 
 A case of the kind `steps` is a text and the steps that it needs: by settings that allow so many it does not end by ZSTEPS, and with one fewer it does.
 Settings allow one step at least, so that of a text that needs none or one only the first is seen."""
@@ -15,7 +15,7 @@ from collections import Counter
 from concurrent.futures import ThreadPoolExecutor
 from subprocess import PIPE, Popen
 
-from blocks import SERVED, blocks, given_bytes, line_bytes, text_bytes
+from blocks import ONLY, SERVED, blocks, given_bytes, line_bytes, text_bytes
 from running import ONE_ACCOUNT, require_program, run, run_words
 
 PIECES = (1, 2, 7)
@@ -29,11 +29,11 @@ def give(pieces, descriptor):
             pipe.write(piece)
 
 
-def run_in_pieces(stream, size, settings):
+def run_in_pieces(stream, size, settings, only):
     """What `run` gives where each read of the program gives so many bytes at most: a pipe of packets hands on each write by itself."""
     reading, writing = os.pipe2(os.O_DIRECT | os.O_CLOEXEC)
     pieces = [stream[i:i + size] for i in range(0, len(stream), size)]
-    with Popen(run_words(settings), stdin=reading, stdout=PIPE, stderr=PIPE) as program:
+    with Popen(run_words(settings, only=only), stdin=reading, stdout=PIPE, stderr=PIPE) as program:
         os.close(reading)
         giver = threading.Thread(target=give, args=(pieces, writing))
         giver.start()
@@ -42,21 +42,28 @@ def run_in_pieces(stream, size, settings):
     return program.returncode, output, told
 
 
-def play_served(block, folder):
-    """What went wrong with the lines of a block as one stream."""
-    settings, wanted = SERVED[block.kind], (0, block.replies(), b"")
-    stream = block.stream()
-    ran = {"over memory": run(stream, settings)}
+def play_stream(block, folder, settings, only=None):
+    """What went wrong with the lines of a block as one stream, told to one account alone or to all."""
+    stream, wanted = block.stream(), (0, block.replies(), b"")
+    ran = {"over memory": run(stream, settings, only=only)}
     # the first of these makes the file, and the others open what is there
     store = os.path.join(folder, "store")
     empty = [run(b"", settings, store)]
-    ran["over a file"] = run(stream, settings, store)
+    ran["over a file"] = run(stream, settings, store, only)
     empty.append(run(b"", settings, store))
     if empty != [(0, b"", b"")] * 2:
         ran["with no line"] = empty
     for size in PIECES:
-        ran[f"in pieces of {size}"] = run_in_pieces(stream, size, settings)
+        ran[f"in pieces of {size}"] = run_in_pieces(stream, size, settings, only)
     return [f"{how}: {got}" for how, got in ran.items() if got != wanted]
+
+
+def play_served(block, folder):
+    return play_stream(block, folder, SERVED[block.kind])
+
+
+def play_only(block, folder):
+    return play_stream(block, folder, *ONLY)
 
 
 def play_reopened(block, folder):
@@ -85,7 +92,7 @@ def play_steps(block, folder):
     return wrong if (status, told) == (0, b"") else [f"status {status}, {told!r}"]
 
 
-PLAYERS = {**dict.fromkeys(SERVED, play_served), "reopened": play_reopened, "steps": play_steps}
+PLAYERS = {**dict.fromkeys(SERVED, play_served), "only": play_only, "reopened": play_reopened, "steps": play_steps}
 
 
 def play(block):

@@ -75,6 +75,7 @@ WORDS = [
     (["run", "--settings", "a"], "error: the following required arguments were not provided:"),
     (["run", "--settings", "a", "--store"], "error: a value is required for '--store <memory|FILE>' but none was supplied"),
     (["run", "--settings", "a", "--store", "memory", "more"], "error: unexpected argument 'more' found"),
+    (["run", "--settings", "a", "--store", "memory", "--only"], "error: a value is required for '--only <ACCOUNT>' but none was supplied"),
     (["run", "--settings", "a", "--store", "memory", "--port", "1"], "error: unexpected argument '--port' found"),
     (["run", "--settings", "a", "--store", "memory", "--store", "b"], "error: the argument '--store <memory|FILE>' cannot be used multiple times"),
     (["serve", "--settings", "a", "--store", "memory", "--port", "1"], "error: the following required arguments were not provided:"),
@@ -143,6 +144,18 @@ def refuse_settings(folder):
             document = document.replace(old, new, 1)
         fault(changes, written(document), text)
     wants("settings: none at all", run(LINE, written("")), (0, b"1!ZTERM\n", b""))
+
+
+def refuse_accounts(folder):
+    """A name that no account has is found behind the faults of settings and before the store, which is not made."""
+    store = os.path.join(folder, "of_no_account")
+    for name in ("CAROL", "alice", "ALICE ", "", "A" * 300):
+        wants(f"only: {name!r}", run(LINE, ONE_ACCOUNT, folder, name), refused(3, "settings", "Only"))
+        wants(f"only: {name!r}: over a file", run(LINE, ONE_ACCOUNT, store, name), refused(3, "settings", "Only"))
+    wants("only: the store of none", os.path.exists(store), False)
+    wants("only: no settings", run(LINE, folder, folder, "CAROL"), refused(3, "settings", "Read"))
+    wants("only: no store", run(LINE, ONE_ACCOUNT, folder, "ALICE"), refused(4, "store", "Store"))
+    wants("only: an account that there is", run(LINE, ONE_ACCOUNT, store, "ALICE"), (0, REPLY, b""))
 
 
 def content(path):
@@ -251,13 +264,14 @@ def fill_disk(folder):
 
 
 def break_wire(folder):
-    with open("/dev/full", "wb") as full:
-        ran = subprocess.run(run_words(), input=LINE, stdout=full, stderr=subprocess.PIPE, timeout=60)
-    wants("wire: a full output", (ran.returncode, ran.stderr), (5, b"mserve: wire: Write\n"))
-    place = os.open(folder, os.O_RDONLY)
-    ran = subprocess.run(run_words(), stdin=place, capture_output=True, timeout=60)
-    os.close(place)
-    wants("wire: an input whose reads fail", (ran.returncode, ran.stdout, ran.stderr), refused(5, "wire", "Read"))
+    for words in (run_words(), run_words(only="ALICE")):
+        with open("/dev/full", "wb") as full:
+            ran = subprocess.run(words, input=LINE, stdout=full, stderr=subprocess.PIPE, timeout=60)
+        wants("wire: a full output", (ran.returncode, ran.stderr), (5, b"mserve: wire: Write\n"))
+        place = os.open(folder, os.O_RDONLY)
+        ran = subprocess.run(words, stdin=place, capture_output=True, timeout=60)
+        os.close(place)
+        wants("wire: an input whose reads fail", (ran.returncode, ran.stdout, ran.stderr), refused(5, "wire", "Read"))
     wants("wire: terminals that are not in the settings", run(b"9 W 1\n2 W 1\n0 W 1\n10000 W 1\nALICE W 1\n1 W 1\n"),
           (0, b"9!ZTERM\n2!ZTERM\n?!ZWIRE\n?!ZWIRE\n?!ZWIRE\n1-1\n1.\n", b""))
 
@@ -267,6 +281,7 @@ def main():
     with tempfile.TemporaryDirectory() as folder:
         refuse_words()
         refuse_settings(folder)
+        refuse_accounts(folder)
         refuse_stores(folder)
         refuse_second_process(folder)
         refuse_read_only(folder)

@@ -9,6 +9,8 @@ streams of lines whose replies are known: some of its own, and each block of lin
   words, the settings or the store are refused.
 - Over a store in a file a second run sees which lines were run: the one whose write failed, and none behind it; none of which no line feed came.
 - Through a pipe that is kept open each line is sent only when the one before is answered.
+- With `--only` all is read before a reply is written: a read that fails leaves no line run and no reply written, and a write that fails leaves all lines run, over
+  a file too.
 - `serve`: each accept, read and write failing. A connection that broke is told, and the next one finds what the lines before did.
 
 Refused by it are wrong programs: one that reads all its input before it writes a reply, one that runs several lines before it writes the
@@ -188,6 +190,19 @@ def lines_run_over_a_file(trials):
         trials.value_left(name, store, number)
 
 
+def told_alone(trials):
+    """With `--only` each read fails in turn and each write does: which lines were run is seen by what they left in a store."""
+    path, stream, replies = trials.file(stream_of(COUNTED)), stream_of(COUNTED), replies_of(COUNTED)
+    little = {"READ_MOST": 1, "WRITE_MOST": 1}
+    cases = [({"READ": nth}, (*READ, b"", nth - 1), 0) for nth in range(1, len(stream) + 2)]
+    cases += [({kind: nth}, (*WRITE, replies[: nth - 1], len(stream)), len(COUNTED)) for kind in ("WRITE", "STALL") for nth in range(1, len(replies) + 1)]
+    for refusals, wanted, number in [*cases, ({}, (*ENDED, replies, len(stream)), len(COUNTED))]:
+        store = trials.path()
+        name = f"--only: {refusals}"
+        trials.wants(name, trials.ran(path, {**refusals, **little}, run_words(store=store, only="ALICE")), wanted)
+        trials.value_left(name, store, number)
+
+
 def input_left_alone(trials):
     """Nothing is read where the words, the settings or the store are refused, though the input's first read would fail too."""
     path, settings = trials.file(b"1 W 1\n"), trials.file(TERMINAL_TWICE.encode())
@@ -195,6 +210,7 @@ def input_left_alone(trials):
         ([PROGRAM, "walk"], 2, b"error: unrecognized subcommand 'walk'"),
         (run_words(settings=settings), 3, b"mserve: settings: Terminal"),
         (run_words(settings=settings, store=trials.folder), 3, b"mserve: settings: Terminal"),
+        (run_words(only="BOB"), 3, b"mserve: settings: Only"),
         (run_words(store=trials.folder), 4, b"mserve: store: Store"),
     ]:
         for refusals in ({}, {"READ": 1}):
@@ -268,6 +284,7 @@ def jobs(trials):
     yield broken_connections, (trials,)
     yield failing_accepts, (trials,)
     yield lines_run_over_a_file, (trials,)
+    yield told_alone, (trials,)
     yield input_left_alone, (trials,)
     for name, pairs in sorted(streams, key=lambda stream: -len(stream_of(stream[1]))):
         path = trials.file(stream_of(pairs))

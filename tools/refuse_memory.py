@@ -1,5 +1,6 @@
 #!/usr/bin/env python3
-"""Runs the built program on each block of lines of transcripts/, with each of its requests for memory refused in turn.
+"""Runs the built program on each block of lines of transcripts/, with each of its requests for memory refused in turn; the blocks of which one account alone
+is told too.
 
 With one request refused in a line, the replies are the transcript's as far as the first want of memory; that is told by ZMEM, or by
 `mserve: wire: Memory` with status 5, and both must come; and what comes after ZMEM is replies in form.
@@ -9,7 +10,7 @@ the first. They are told by `mserve: Memory` with status 2, `mserve: settings: M
 status 4, and no reply; each of the three must come.
 
 Some requests may go by untold, with all replies as they are: std asks for the words of the command line in advance, and the database, the cache of trees and
-the copies of routines for what only saves time. They are at most half of all requests of a block. Status 1
+the copies of routines for what only saves time; and one account is not told of another's line that fails. They are at most half of all requests of a block. Status 1
 where a run does otherwise, where no request comes in any line, or where there is no block.
 
 `tools/refuse_memory.c` refuses the requests."""
@@ -20,9 +21,11 @@ import sys
 import tempfile
 from concurrent.futures import ThreadPoolExecutor
 
-from blocks import blocks
+from blocks import ONLY, blocks
 from running import TOP, require_program, run_words
 
+# The kinds of blocks that are run, and the words of their runs.
+WORDS = {"lines": run_words(), "only": run_words(ONLY[0], only=ONLY[1])}
 REPLY = re.compile(rb"(\d+[:-].*|\d+\.|\d+![A-Z]+\d*|\?!Z(LINE|WIRE))\n")
 # How a request that is refused before the first line is told.
 STARTS = [(b"mserve: Memory\n", 2), (b"mserve: settings: Memory\n", 3), (b"mserve: store: Memory\n", 4)]
@@ -30,12 +33,12 @@ STARTS = [(b"mserve: Memory\n", 2), (b"mserve: settings: Memory\n", 3), (b"mserv
 OF_REPLY = (b"mserve: wire: Memory\n", 5)
 
 
-def run(shim, stream, nth):
+def run(shim, words, stream, nth):
     """The program's output, what it told, its status, and how many requests it made, with this one refused."""
     read, write = os.pipe()
     environment = {**os.environ, "LD_PRELOAD": shim, "REFUSE": str(nth), "REFUSE_TOLD": str(write)}
     try:
-        ran = subprocess.run(run_words(), input=stream, capture_output=True, env=environment, pass_fds=[write], timeout=60)
+        ran = subprocess.run(words, input=stream, capture_output=True, env=environment, pass_fds=[write], timeout=60)
     finally:
         os.close(write)
         told = os.read(read, 32)
@@ -69,8 +72,8 @@ def fault_at_start(wanted, output, told, status):
 
 def judged(shim, block, requests, judge):
     """What went wrong where these requests were refused, and what was told."""
-    name, stream, wanted = block
-    ran = [run(shim, stream, nth)[:3] for nth in requests]
+    name, words, stream, wanted = block
+    ran = [run(shim, words, stream, nth)[:3] for nth in requests]
     found = [judge(wanted, *one) for one in ran]
     faults = [f"{name}: request {nth}: {wrong}" for nth, wrong in zip(requests, found) if wrong]
     if 2 * found.count("") > len(found):
@@ -78,11 +81,11 @@ def judged(shim, block, requests, judge):
     return faults, ran
 
 
-def judge_lines(shim, at_start, block):
-    """Of the requests of a block's lines, how many were refused, told by ZMEM, and told of a reply's bytes; and what went wrong. So many
-    requests come before the first line."""
-    name, stream, wanted = block
-    output, told, status, count = run(shim, stream, 0)
+def judge_lines(shim, block):
+    """Of the requests of a block's lines, how many were refused, told by ZMEM, and told of a reply's bytes; and what went wrong."""
+    name, words, stream, wanted = block
+    at_start = run(shim, words, b"", 0)[3]
+    output, told, status, count = run(shim, words, stream, 0)
     if (output, told, status) != (wanted, b"", 0) or count < at_start:
         return (0, 0, 0), [f"{name}: with ample memory: status {status}, {told!r}, {count} requests"]
     faults, ran = judged(shim, block, range(at_start + 1, count + 1), fault)
@@ -106,11 +109,11 @@ def main():
         shim = os.path.join(folder, "refuse_memory.so")
         source = os.path.join(TOP, "tools", "refuse_memory.c")
         subprocess.run(["cc", "-shared", "-fPIC", "-O1", "-o", shim, source], check=True)
-        at_start = run(shim, b"", 0)[3]
-        played = [(block.name, block.stream(), block.replies()) for block in blocks() if block.kind == "lines"]
+        at_start = run(shim, run_words(), b"", 0)[3]
+        played = [(block.name, WORDS[block.kind], block.stream(), block.replies()) for block in blocks() if block.kind in WORDS]
         with ThreadPoolExecutor(os.cpu_count() or 1) as pool:
             start = pool.submit(judge_start, shim, at_start, played[0])
-            lines = list(pool.map(lambda block: judge_lines(shim, at_start, block), played))
+            lines = list(pool.map(lambda block: judge_lines(shim, block), played))
         starts, faults = start.result()
     faults += [fault for _, faults in lines for fault in faults]
     requests, of_lines, of_replies = (sum(counts[i] for counts, _ in lines) for i in range(3))

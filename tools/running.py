@@ -22,9 +22,10 @@ def require_program():
         sys.exit(f"{script}: the program is not built: run ./mserve --help")
 
 
-def run_words(settings=ONE_ACCOUNT, store="memory"):
-    """The words of a run by these settings over this store."""
-    return [PROGRAM, "run", "--settings", settings, "--store", store]
+def run_words(settings=ONE_ACCOUNT, store="memory", only=None):
+    """The words of a run by these settings over this store; of one that tells the account of this name alone, where there is one."""
+    words = [PROGRAM, "run", "--settings", settings, "--store", store]
+    return words if only is None else [*words, "--only", only]
 
 
 def serve_words(port, connections, store="memory", settings=ONE_ACCOUNT):
@@ -52,9 +53,9 @@ def connected(port):
 COMMAND = run_words()
 
 
-def run(stream, settings=ONE_ACCOUNT, store="memory", **more):
+def run(stream, settings=ONE_ACCOUNT, store="memory", only=None, **more):
     """The status, the output and what was told of faults, of a run over a stream."""
-    ran = subprocess.run(run_words(settings, store), input=stream, capture_output=True, timeout=60, **more)
+    ran = subprocess.run(run_words(settings, store, only), input=stream, capture_output=True, timeout=60, **more)
     return ran.returncode, ran.stdout, ran.stderr
 
 

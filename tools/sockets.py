@@ -3,6 +3,7 @@
 taken, a server that is killed. Status 1 where a reply, a status or what is told differs."""
 import contextlib
 import os
+import signal
 import socket
 import struct
 import subprocess
@@ -165,7 +166,12 @@ def ports_that_are_taken():
 
 
 def killed_server():
-    """A server is killed in the middle; each SET that was answered is in the store."""
+    for number in (signal.SIGKILL, signal.SIGTERM, signal.SIGINT):
+        ended_by(number)
+
+
+def ended_by(number):
+    """A server is ended by this signal in the middle; each SET that was answered is in the store."""
     with tempfile.TemporaryDirectory() as folder:
         store = os.path.join(folder, "store")
         with server(1, store) as process:
@@ -175,18 +181,19 @@ def killed_server():
             got = b""
             while got.count(b"\n") < 50:
                 got += client.recv(64)
-            process.kill()
+            process.send_signal(number)
             with contextlib.suppress(ConnectionError):
                 while piece := client.recv(65536):
                     got += piece
             client.close()
             sender.join()
         answered = got.count(b"1.\n")
+        wants(f"ended by {number.name}", process.returncode, -number)
         status, output, told = run(b'1 W +$O(^K(""),-1)\n', store=store)
-        wants("after a kill: the end", (status, told), (0, b""))
-        wants("after a kill: all that was answered", int(output.split(b"\n")[0][2:]) >= answered, True)
+        wants(f"after {number.name}: the end", (status, told), (0, b""))
+        wants(f"after {number.name}: all that was answered", int(output.split(b"\n")[0][2:]) >= answered, True)
         with server(1, store) as process:
-            wants("after a kill: served again", asked(process.port, b"1 W ^K(1)\n"), b"1-1\n1.\n")
+            wants(f"after {number.name}: served again", asked(process.port, b"1 W ^K(1)\n"), b"1-1\n1.\n")
 
 
 def send_sets(client):

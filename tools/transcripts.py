@@ -1,6 +1,6 @@
 #!/usr/bin/env python3
 """Makes the files of the crates that play the transcripts: `stdin`, the cases of transcripts/*.txt without what they give, and
-`stdout`, the transcripts themselves. `transcripts` plays the blocks that are lines of the wire, by the settings that lie in its folder `data`, and
+`stdout`, the transcripts themselves. `transcripts` plays the blocks that are lines of the wire, told to all or to one account, by the settings that lie in its folder `data`, and
 `part_transcripts` those that call parts of the server. The blocks of tools/play.py alone are in neither.
 
 With --write the files are written. Without it they are compared, and status 1 says that they are others, or that no reply ends with
@@ -14,6 +14,8 @@ from running import TOP
 
 # The kinds that only the program itself can play.
 OF_THE_PROGRAM = ("reopened", "steps", "only")
+# The kinds that want a world.
+OF_A_WORLD = (*SERVED, "told")
 CODES = "M1 M4 M6 M7 M9 M10 M13 M15 ZLONG ZSYNTAX ZOVER ZARG ZSUB ZGRANT ZLOCKED ZSTEPS ZDEPTH ZLEVEL ZCHAR ZLINE ZTERM".split()
 
 
@@ -27,7 +29,7 @@ def files():
     played = {"transcripts": [], "part_transcripts": []}
     for block in blocks():
         if block.kind not in OF_THE_PROGRAM:
-            played["transcripts" if block.kind in SERVED else "part_transcripts"].append(block.text)
+            played["transcripts" if block.kind in OF_A_WORLD else "part_transcripts"].append(block.text)
     for crate, texts in played.items():
         text = "\n\n".join(texts) + "\n"
         yield os.path.join(TOP, "crates", crate, "stdin"), cases(text)

@@ -15,6 +15,7 @@ module _ {S I O : Type 0} (g : Ghosts S) (left : I → Option Text) (held : O �
   pub no_settings : (fault : RunFault) → NoSettings document fault → EndsEarly g left held document input input' output output' fault
   no_settings early.Unread never = absurd never
   no_settings (early.Settings fault) why = (same, why)
+  no_settings early.NoAccount never = absurd never
   no_settings (early.Store fault) never = absurd never
   no_settings early.Listen never = absurd never
   no_settings early.Accept never = absurd never
@@ -23,6 +24,7 @@ module _ {S I O : Type 0} (g : Ghosts S) (left : I → Option Text) (held : O �
   pub no_store : (settings : Settings) → IsRead document settings → (fault : RunFault) → IsMemoryFault fault → EndsEarly g left held document input input' output output' fault
   no_store settings reads early.Unread never = absurd never
   no_store settings reads (early.Settings fault) never = absurd never
+  no_store settings reads early.NoAccount never = absurd never
   no_store settings reads (early.Store fault) why = (same, (settings, reads), why)
   no_store settings reads early.Listen never = absurd never
   no_store settings reads early.Accept never = absurd never
@@ -32,6 +34,7 @@ module _ {S I O : Type 0} (g : Ghosts S) (left : I → Option Text) (held : O �
   pub no_settings_over_file : (fault : RunFault) → NoSettings document fault → EndsEarlyOverFile g left held document input input' output output' fault
   no_settings_over_file early.Unread never = absurd never
   no_settings_over_file (early.Settings fault) why = (same, why)
+  no_settings_over_file early.NoAccount never = absurd never
   no_settings_over_file (early.Store fault) never = absurd never
   no_settings_over_file early.Listen never = absurd never
   no_settings_over_file early.Accept never = absurd never
@@ -40,6 +43,7 @@ module _ {S I O : Type 0} (g : Ghosts S) (left : I → Option Text) (held : O �
   pub no_file : (settings : Settings) → IsRead document settings → (fault : RunFault) → IsStoreFault fault → EndsEarlyOverFile g left held document input input' output output' fault
   no_file settings reads early.Unread never = absurd never
   no_file settings reads (early.Settings fault) never = absurd never
+  no_file settings reads early.NoAccount never = absurd never
   no_file settings reads (early.Store fault) why = (same, (settings, reads))
   no_file settings reads early.Listen never = absurd never
   no_file settings reads early.Accept never = absurd never

@@ -12,6 +12,7 @@ use Rattle.mjob.specs.declared.jobs.Store.TheVariants as store
 use Rattle.mstore.specs.declared.store.NodeStore.{Ghosts}
 use Rattle.mwire.specs.Watched.{inner_of}
 use Rattle.mwire.specs.declared.watched.Watched.{Watched}
+use Rattle.mserve.specs.Only.{OnlyBy}
 use Rattle.mserve.specs.Runs.{Answered, AreUntouched, EndsEarly, EndsEarlyOverFile, Followed, IsStoreFault, NoDocument}
 use Rattle.mserve.specs.declared.fault.RunFault.{RunFault}
 use Rattle.mserve.specs.declared.fault.RunFault.TheVariants as early
@@ -20,6 +21,7 @@ use Rattle.mserve.specs.declared.fault.RunFault.TheVariants as early
 abbrev pub status_of_fault : RunFault → ℕ
 status_of_fault early.Unread = 3
 status_of_fault (early.Settings fault) = 3
+status_of_fault early.NoAccount = 3
 status_of_fault (early.Store fault) = 4
 status_of_fault early.Listen = 5
 status_of_fault early.Accept = 5
@@ -33,6 +35,7 @@ status_of (Err fault) = status_of_fault fault
 abbrev pub IsServeFault : RunFault → Type 0
 IsServeFault early.Unread = Unit {0}
 IsServeFault (early.Settings fault) = Unit {0}
+IsServeFault early.NoAccount = ⊥
 IsServeFault (early.Store fault) = Unit {0}
 IsServeFault early.Listen = Unit {0}
 IsServeFault early.Accept = Unit {0}
@@ -64,7 +67,9 @@ RunsBy memory file left held store input input' output output' result =
 -- what carries a job out; a server on a port asks the input and the output for nothing
 abbrev pub CarriesOut : {M F I O : Type 0} → Ghosts M → Ghosts F → (I → Option Text) → (O → Option Text)
     → Job → Watched I → Watched I → Watched O → Watched O → Result (Unit {0}) RunFault → Type 0
-CarriesOut memory file left held (job.Run settings store only) input input' output output' result =
+CarriesOut memory file left held (job.Run settings store None) input input' output output' result =
     RunsBy memory file left held store input input' output output' result
+CarriesOut memory file left held (job.Run settings store (Some name)) input input' output output' result =
+    OnlyBy memory file left held store (string_bytes name) input input' output output' result
 CarriesOut memory file left held (job.Serve settings store port connections) input input' output output' result =
     AreUntouched input input' output output'

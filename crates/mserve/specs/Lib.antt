@@ -1,4 +1,5 @@
 pub mod Runs
 pub mod Connections
+pub mod Only
 pub mod Jobs
 pub mod Programs

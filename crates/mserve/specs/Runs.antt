@@ -69,6 +69,7 @@ AreUntouched input input' output output' = (input' ≡ input) × (output' ≡ ou
 abbrev pub NoDocument : RunFault → Type 0
 NoDocument early.Unread = Unit {0}
 NoDocument (early.Settings fault) = fault ≡ settings_fault.Memory
+NoDocument early.NoAccount = ⊥
 NoDocument (early.Store fault) = ⊥
 NoDocument early.Listen = ⊥
 NoDocument early.Accept = ⊥
@@ -78,6 +79,7 @@ NoDocument (early.Wire fault) = ⊥
 abbrev pub NoSettings : Text → RunFault → Type 0
 NoSettings document early.Unread = ⊥
 NoSettings document (early.Settings fault) = (fault ≡ settings_fault.Memory) ⊎ IsRefused document fault
+NoSettings document early.NoAccount = ⊥
 NoSettings document (early.Store fault) = ⊥
 NoSettings document early.Listen = ⊥
 NoSettings document early.Accept = ⊥
@@ -87,6 +89,7 @@ NoSettings document (early.Wire fault) = ⊥
 abbrev pub IsStoreFault : RunFault → Type 0
 IsStoreFault early.Unread = ⊥
 IsStoreFault (early.Settings fault) = ⊥
+IsStoreFault early.NoAccount = ⊥
 IsStoreFault (early.Store fault) = Unit {0}
 IsStoreFault early.Listen = ⊥
 IsStoreFault early.Accept = ⊥
@@ -96,6 +99,7 @@ IsStoreFault (early.Wire fault) = ⊥
 abbrev pub IsMemoryFault : RunFault → Type 0
 IsMemoryFault early.Unread = ⊥
 IsMemoryFault (early.Settings fault) = ⊥
+IsMemoryFault early.NoAccount = ⊥
 IsMemoryFault (early.Store fault) = (fault ≢ opening_fault.BadKey) × (fault ≢ opening_fault.BadVersion)
 IsMemoryFault early.Listen = ⊥
 IsMemoryFault early.Accept = ⊥
@@ -107,6 +111,7 @@ abbrev pub EndsEarly : {S I O : Type 0} → Ghosts S → (I → Option Text) →
 EndsEarly g left held document input input' output output' early.Unread = ⊥
 EndsEarly g left held document input input' output output' (early.Settings fault) =
     AreUntouched input input' output output' × ((fault ≡ settings_fault.Memory) ⊎ IsRefused document fault)
+EndsEarly g left held document input input' output output' early.NoAccount = ⊥
 EndsEarly g left held document input input' output output' (early.Store fault) =
     AreUntouched input input' output output' × ((settings : Settings) × IsRead document settings) × IsMemoryFault (early.Store fault)
 EndsEarly g left held document input input' output output' early.Listen = ⊥
@@ -120,6 +125,7 @@ abbrev pub EndsEarlyOverFile : {S I O : Type 0} → Ghosts S → (I → Option T
 EndsEarlyOverFile g left held document input input' output output' early.Unread = ⊥
 EndsEarlyOverFile g left held document input input' output output' (early.Settings fault) =
     AreUntouched input input' output output' × ((fault ≡ settings_fault.Memory) ⊎ IsRefused document fault)
+EndsEarlyOverFile g left held document input input' output output' early.NoAccount = ⊥
 EndsEarlyOverFile g left held document input input' output output' (early.Store fault) =
     AreUntouched input input' output output' × ((settings : Settings) × IsRead document settings)
 EndsEarlyOverFile g left held document input input' output output' early.Listen = ⊥

@@ -13,6 +13,9 @@ pub enum RunFault {
     /// There are no settings.
     #[error("settings: {0}")]
     Settings(SettingsFault),
+    /// The settings have no account of the name.
+    #[error("settings: Only")]
+    NoAccount,
     /// There is no store.
     #[error("store: {0}")]
     Store(OpenFault),

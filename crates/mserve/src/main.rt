@@ -6,6 +6,7 @@
 mod document;
 mod fault;
 mod jobs;
+mod only;
 mod program;
 mod run;
 mod serving;

@@ -7,6 +7,7 @@ ghost use Rattle.mserve.specs.Programs.{Ends};
 
 use crate::fault::RunFault;
 use crate::jobs::{run_job, serve_job};
+use crate::only::run_only_job;
 use mglobal::Kept;
 use mjob::command_line::job;
 use mjob::jobs::{Job, JobFault};
@@ -44,20 +45,11 @@ pub fn program<I: Read, O: Write, E: Write>(
         Ok(job) => job,
         Err(fault) => return refused(&fault, errors),
     };
-    if names_account(&job) {
-        let _ = writeln!(errors, "mserve: --only is not built yet");
-        return 2;
-    }
     let outcome = carry_out(rt, &job, input, output, errors);
     if let Err(fault) = &outcome {
         let _ = writeln!(errors, "mserve: {fault}");
     }
     status_of(&outcome)
-}
-
-// Whether the replies of one account alone are asked for.
-fn names_account(job: &Job) -> bool {
-    matches!(job, Job::Run { only: Some(_), .. })
 }
 
 // Does what the command line asks for.
@@ -77,8 +69,13 @@ fn carry_out<I: Read, O: Write, E: Write>(
         Job::Run {
             settings,
             store,
-            only: _,
+            only: None,
         } => run_job(rt, settings.as_str(), store, input, output),
+        Job::Run {
+            settings,
+            store,
+            only: Some(name),
+        } => run_only_job(rt, settings.as_str(), store, name.as_str(), input, output),
         Job::Serve {
             settings,
             store,
@@ -94,7 +91,7 @@ fn status_of(outcome: &Result<(), RunFault>) -> u8
 {
     match outcome {
         Ok(()) => 0,
-        Err(RunFault::Unread | RunFault::Settings(_)) => 3,
+        Err(RunFault::Unread | RunFault::Settings(_) | RunFault::NoAccount) => 3,
         Err(RunFault::Store(_)) => 4,
         Err(RunFault::Listen | RunFault::Accept | RunFault::Wire(_)) => 5,
     }

@@ -1,8 +1,9 @@
 // Lines of the wire, with their replies.
+use anyhow::Context;
 use mgrant::Settings;
 use mstore::Plain;
-use mtranscript::{bytes_of, print_case, print_results};
-use mwire::{Watched, serve};
+use mtranscript::{bytes_of, print_case, print_result, print_results};
+use mwire::{Watched, serve, serve_only};
 use mworld::World;
 use std::alloc::Global;
 
@@ -18,9 +19,8 @@ fn line_bytes(alloc: Global, case: &str) -> anyhow::Result<Vec<u8>> {
     }
 }
 
-// A new world over the plain store that keeps one tree, by the settings of a document.
-fn plain_world(alloc: Global, document: &[u8]) -> anyhow::Result<World<Plain>> {
-    let settings = Settings::read(alloc, document)?;
+// A new world over the plain store that keeps one tree.
+fn plain_world(alloc: Global, settings: Settings) -> anyhow::Result<World<Plain>> {
     match World::with_entries(alloc, settings, Plain::new(alloc), 1) {
         Ok(world) => Ok(world),
         Err(_) => anyhow::bail!("no memory for a world"),
@@ -34,7 +34,7 @@ pub fn lines(
     cases: &[&str],
     out: &mut Vec<u8>,
 ) -> anyhow::Result<()> {
-    let mut world = plain_world(alloc, document)?;
+    let mut world = plain_world(alloc, Settings::read(alloc, document)?)?;
     for case in cases {
         if print_case(out, case)? {
             let line = line_bytes(alloc, case)?;
@@ -46,4 +46,36 @@ pub fn lines(
         }
     }
     Ok(())
+}
+
+/// Serves all lines as one stream, by the settings of a document, and prints them, then what the account of this name is told, and whether
+/// no line of an account that reaches it was lost.
+pub fn told(
+    alloc: Global,
+    document: &[u8],
+    name: &[u8],
+    cases: &[&str],
+    out: &mut Vec<u8>,
+) -> anyhow::Result<()> {
+    let settings = Settings::read(alloc, document)?;
+    let account = settings.account_named(name).context("no such account")?;
+    let mut world = plain_world(alloc, settings)?;
+    let mut lines = Vec::new(alloc);
+    for case in cases {
+        if print_case(out, case)? {
+            lines.extend_from_slice(&line_bytes(alloc, case)?)?;
+        }
+    }
+    let stream: &[u8] = &lines;
+    let mut answer = Vec::new(alloc);
+    let mut writer = Watched::new(&mut answer);
+    let whole = serve_only(
+        alloc,
+        &mut world,
+        account,
+        &mut Watched::new(stream),
+        &mut writer,
+    )?;
+    print_results(alloc, out, &answer)?;
+    print_result(out, if whole { b"whole" } else { b"not whole" })
 }

@@ -17,7 +17,11 @@ fn main(rt: HostRuntime) -> anyhow::Result<()> {
         }
         print(&mut out, block.header.as_bytes())?;
         let settings = fs::read(&rt, settings_of(block.kind)?)?;
-        lines::lines(rt.alloc(), &settings, &block.cases, &mut out)?;
+        if block.kind == "told" {
+            lines::told(rt.alloc(), &settings, b"BOB", &block.cases, &mut out)?;
+        } else {
+            lines::lines(rt.alloc(), &settings, &block.cases, &mut out)?;
+        }
     }
     rt.stdout().write_all(&out)?;
     Ok(())
@@ -27,7 +31,7 @@ fn main(rt: HostRuntime) -> anyhow::Result<()> {
 fn settings_of(kind: &str) -> anyhow::Result<&str> {
     match kind {
         "lines" => Ok("one_account.toml"),
-        "terminals" => Ok("three_terminals.toml"),
+        "terminals" | "told" => Ok("three_terminals.toml"),
         "accounts" => Ok("four_accounts.toml"),
         _ => anyhow::bail!("no such kind of block"),
     }

@@ -196,7 +196,10 @@ impl<'a, S: NodeStore> Eval<'a, S> {
     {
         match walk {
             Walk::Local(name, values) => {
-                let next = self.session.locals.order(name.as_name(), values, direction)?;
+                let next = self
+                    .session
+                    .locals
+                    .order(name.as_name(), values, direction)?;
                 Ok(next_value(alloc, next))
             }
             Walk::Node(node) => {

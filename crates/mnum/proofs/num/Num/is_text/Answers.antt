@@ -1,5 +1,4 @@
-use Rattle.std.proofs.Common.{sym, ap, ◌∙◌, nat_eq}
-use Rattle.std.specs.Cmp.Lexicographic.{pointwise}
+use Rattle.std.proofs.Common.{sym, ◌∙◌}
 use Rattle.mnum.proofs.Starts.{other_text}
 use Rattle.mnum.proofs.num.Num.is_text.Goals as goal
 

@@ -1,8 +1,7 @@
 // Local variables, beside ten thousand others.
 use crate::measure::{Plan, Unit, measure};
-use mkey::subs_ok;
-use mlocal::{Direction, Locals, order_subs_ok};
-use mnum::{Bytes7, Name};
+use mlocal::{Direction, Locals, order_subs_ok, subs_ok};
+use mnum::{Bytes7, Name, Num};
 use mvalue::Value;
 use std::alloc::Global;
 
@@ -43,8 +42,21 @@ fn at(names: &[Name], round: usize) -> Option<&Name> {
     names.get(round.wrapping_mul(STRIDE) % COUNT)
 }
 
-// The text at such a place, as a list of one.
-fn one_at(items: &[Bytes7], round: usize) -> &[Bytes7] {
+// Subscripts: numbers, or the texts of a letter and a number each.
+fn values(alloc: Global, letter: &str) -> anyhow::Result<Vec<Value>> {
+    let mut out = Vec::new(alloc);
+    for text in texts(alloc, letter)? {
+        let sub = match Num::from_text(text.as_bytes()) {
+            Ok(number) if letter.is_empty() => Value::of_number(number),
+            _ => Value::of_text(text),
+        };
+        out.push(sub)?;
+    }
+    Ok(out)
+}
+
+// The subscript at such a place, as a list of one.
+fn one_at(items: &[Value], round: usize) -> &[Value] {
     let place = round.wrapping_mul(STRIDE) % COUNT;
     if place < items.len() {
         &items[place..place + 1]
@@ -53,7 +65,7 @@ fn one_at(items: &[Bytes7], round: usize) -> &[Bytes7] {
     }
 }
 
-fn set(locals: &mut Locals, name: &Name, subs: &[Bytes7], text: &Bytes7) -> i128 {
+fn set(locals: &mut Locals, name: &Name, subs: &[Value], text: &Bytes7) -> i128 {
     if !subs_ok(subs) {
         return -1;
     }
@@ -108,12 +120,12 @@ fn get_number(locals: &Locals, name: &Name) -> i128 {
     }
 }
 
-fn next(locals: &Locals, name: &Name, subs: &[Bytes7], direction: Direction) -> i128 {
+fn next(locals: &Locals, name: &Name, subs: &[Value], direction: Direction) -> i128 {
     if !order_subs_ok(subs) {
         return -1;
     }
     match locals.order(name, subs, direction) {
-        Ok(Some(text)) => text.as_bytes().len() as i128,
+        Ok(Some(_)) => 1,
         Ok(None) => 0,
         Err(_) => -1,
     }
@@ -124,20 +136,19 @@ fn step(
     alloc: Global,
     locals: &Locals,
     name: &Name,
-    at: &mut [Bytes7; 1],
+    at: &mut [Value; 1],
     direction: Direction,
 ) -> i128 {
     if !order_subs_ok(at.as_slice()) {
         return -1;
     }
     match locals.order(name, at.as_slice(), direction) {
-        Ok(Some(text)) => {
-            let length = text.as_bytes().len() as i128;
-            at[0] = text;
-            length
+        Ok(Some(next)) => {
+            at[0] = next;
+            1
         }
         Ok(None) => {
-            at[0] = Bytes7::empty(alloc);
+            at[0] = Value::of_text(Bytes7::empty(alloc));
             0
         }
         Err(_) => -1,
@@ -217,14 +228,14 @@ fn numbers(
 fn subscripts(rt: &HostRuntime, plan: Plan, what: &str, letter: &str) -> anyhow::Result<()> {
     println!(rt; "{what}")?;
     let alloc = rt.alloc();
-    let subs = texts(alloc, letter)?;
+    let subs = values(alloc, letter)?;
     let names = names(alloc)?;
     let mut locals = Locals::new(alloc);
     let Some(name) = names.first() else {
         anyhow::bail!("no name");
     };
     for sub in &subs {
-        set(&mut locals, name, &[sub.copy()?], sub);
+        set(&mut locals, name, &[sub.copy()?], name.as_bytes7());
     }
     measure(
         rt,
@@ -240,7 +251,7 @@ fn subscripts(rt: &HostRuntime, plan: Plan, what: &str, letter: &str) -> anyhow:
         NS,
         |i| next(&locals, name, one_at(&subs, i), Direction::Backward),
     )?;
-    let mut at = [Bytes7::empty(alloc)];
+    let mut at = [Value::of_text(Bytes7::empty(alloc))];
     measure(
         rt,
         "walk",
@@ -248,7 +259,7 @@ fn subscripts(rt: &HostRuntime, plan: Plan, what: &str, letter: &str) -> anyhow:
         NS,
         |_| step(alloc, &locals, name, &mut at, Direction::Forward),
     )?;
-    let mut at = [Bytes7::empty(alloc)];
+    let mut at = [Value::of_text(Bytes7::empty(alloc))];
     measure(
         rt,
         "walk back",

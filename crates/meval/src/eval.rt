@@ -24,7 +24,7 @@ use crate::place::{
 };
 use crate::reading::read_reference;
 use crate::session::Session;
-use crate::walk::{data_value, direction, first_or_empty, next_value, texts};
+use crate::walk::{data_value, direction, first_or_empty, next_text, next_value, texts};
 use mgrant::{AccountId, Mode, Settings};
 use mkey::{Data, Direction};
 use mnum::{Bytes7, Name, Num};
@@ -195,13 +195,16 @@ impl<'a, S: NodeStore> Eval<'a, S> {
         ensures does { Evaluates S.NodeStore (λ i. variables.next_at (way direction) (walk_view walk.now)) (λ v. v) self.old result self.new }
     {
         match walk {
-            Walk::Local(name, texts) => {
-                let next = self.session.locals.order(name.as_name(), texts, direction)?;
+            Walk::Local(name, values) => {
+                let next = self
+                    .session
+                    .locals
+                    .order(name.as_name(), values, direction)?;
                 Ok(next_value(alloc, next))
             }
             Walk::Node(node) => {
                 let next = self.node_neighbour(alloc, node, direction)?;
-                Ok(next_value(alloc, next))
+                Ok(next_text(alloc, next))
             }
         }
     }
@@ -282,8 +285,7 @@ impl<'a, S: NodeStore> Eval<'a, S> {
             return self.extended(alloc, environment, name, subscripts);
         }
         let values = self.values(alloc, subscripts_of(reference))?;
-        let texts = texts(alloc, values)?;
-        Ok(self.pending(alloc, reference, texts)?)
+        Ok(self.pending(alloc, reference, values)?)
     }
 
     // What a global of an environment has to evaluate: the account, and then its subscripts.
@@ -347,8 +349,7 @@ impl<'a, S: NodeStore> Eval<'a, S> {
     {
         let front = self.evaluated(alloc, reference)?;
         let values = self.values(alloc, subscripts)?;
-        let texts = texts(alloc, values)?;
-        Ok(front.extended(texts)?)
+        Ok(front.extended(alloc, values)?)
     }
 
     // The value of a function of a variable.

@@ -9,9 +9,11 @@ ghost use Rattle.mmeaning.specs.Variables.{replaced};
 ghost use Rattle.mmeaning.specs.Yields.{Yields};
 ghost use Rattle.moperator.specs.Codes.{fault_of};
 
+use crate::walk::texts;
 use mkey::{KeyFault, NodeKey, front};
 use mnum::{Bytes7, Name};
 use moperator::Code;
+use mvalue::Value;
 use std::alloc::{AllocError, Global};
 use std::marker::Model;
 
@@ -92,11 +94,15 @@ impl GlobalNode {
     }
 
     // The node with these subscripts behind its own.
-    pub(crate) fn extended(self, texts: Vec<Bytes7>) -> Result<GlobalNode, AllocError>
-        ensures { IfOk result (λ node. node ≡ record self { subscripts = self.subscripts ++ texts.items }) }
+    pub(crate) fn extended(
+        self,
+        alloc: Global,
+        values: Vec<Value>,
+    ) -> Result<GlobalNode, AllocError>
+        ensures { IfOk result (λ node. node ≡ record self { subscripts = self.subscripts ++ values.items }) }
     {
         let mut node = self;
-        let mut texts = texts;
+        let mut texts = texts(alloc, values)?;
         node.subscripts.append(&mut texts)?;
         Ok(node)
     }
@@ -120,8 +126,8 @@ impl GlobalNode {
     }
 
     // The node with these in the place of the last subscript: `M1` where it has none.
-    pub(crate) fn beside(&self, alloc: Global, texts: Vec<Bytes7>) -> Result<GlobalNode, Code>
-        ensures { Yields fault_of (replaced texts.items (Some self.now)) (λ node. node) result }
+    pub(crate) fn beside(&self, alloc: Global, values: Vec<Value>) -> Result<GlobalNode, Code>
+        ensures { Yields fault_of (replaced values.items (Some self.now)) (λ node. node) result }
     {
         if self.subscripts.is_empty() {
             return Err(Code::M1);
@@ -129,7 +135,7 @@ impl GlobalNode {
         let account = self.account.copy()?;
         let name = self.name.copy()?;
         let mut subscripts = copied(alloc, front(&self.subscripts))?;
-        let mut texts = texts;
+        let mut texts = texts(alloc, values)?;
         subscripts.append(&mut texts)?;
         Ok(GlobalNode {
             account,

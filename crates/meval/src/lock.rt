@@ -13,10 +13,11 @@ use crate::place::Pending;
 use mgrant::Mode;
 use mkey::is_account_name;
 use mlock::LockName;
-use mnum::{Bytes7, Name};
+use mnum::Name;
 use moperator::Code;
 use mstore::NodeStore;
 use mtree::Reference;
+use mvalue::Value;
 use std::alloc::Global;
 
 impl<'a, S: NodeStore> Eval<'a, S> {
@@ -43,18 +44,18 @@ impl<'a, S: NodeStore> Eval<'a, S> {
         ensures does { Evaluates S.NodeStore (λ i. variables.named_lock i.account (pending_view pending.entry)) (λ name. name) self.now result self.now }
     {
         match pending {
-            Pending::Local(name, texts) => self.local_lock(alloc, name.as_name(), texts),
+            Pending::Local(name, values) => self.local_lock(alloc, name.as_name(), values),
             Pending::Global(node) => self.global_lock(alloc, &node),
             Pending::Naked(_) => Err(Code::Zsyntax),
         }
     }
 
     // The lock of a name without `^`, which is the account's own.
-    fn local_lock(&self, alloc: Global, name: &Name, texts: Vec<Bytes7>) -> Result<LockName, Code>
+    fn local_lock(&self, alloc: Global, name: &Name, values: Vec<Value>) -> Result<LockName, Code>
         ensures open { IfOk result (λ name. may_lock (standing_of self.now).settings (standing_of self.now).account name ≡ true) }
-        ensures does { Evaluates S.NodeStore (λ i. variables.named_lock i.account (variables.of_local name.now texts.items)) (λ name. name) self.now result self.now }
+        ensures does { Evaluates S.NodeStore (λ i. variables.named_lock i.account (variables.of_local name.now values.items)) (λ name. name) self.now result self.now }
     {
-        let node = self.own_node(alloc, name, texts)?;
+        let node = self.own_node(alloc, name, values)?;
         if !is_account_name(node.account()) {
             // the id is of other settings, which a world never hands in
             return Err(Code::Zmem);

@@ -12,11 +12,13 @@ ghost use Rattle.moperator.specs.Codes.{fault_of};
 ghost use Rattle.meval.specs.Places.{name_view, pending_view, place_view, subscripts_tree, IsDirect, NamesNoAccount};
 
 use crate::global_node::GlobalNode;
-use mkey::{NodeKey, order_subs_ok, subs_ok};
+use mkey::NodeKey;
+use mlocal::{order_subs_ok, subs_ok};
 use mnum::{Bytes7, Name};
 use moperator::Code;
 use mtree::{Expr, Primary, Reference};
-use std::alloc::AllocError;
+use mvalue::Value;
+use std::alloc::{AllocError, Global};
 use std::marker::Model;
 
 /// The name of a local variable. Contracts see it by `name_view`, as its text.
@@ -57,15 +59,15 @@ impl<'t> LocalName<'t> {
 #[derive(Drop)]
 pub enum Pending<'t> {
     /// A local variable: its name, and its subscripts.
-    Local(LocalName<'t>, Vec<Bytes7>),
+    Local(LocalName<'t>, Vec<Value>),
     /// A node of a global.
     Global(GlobalNode),
     /// A node beside the one that was referred to last: the subscripts that stand in the place of the last one.
-    Naked(Vec<Bytes7>),
+    Naked(Vec<Value>),
 }
 
-// Texts, and others behind them.
-fn joined(front: Vec<Bytes7>, behind: Vec<Bytes7>) -> Result<Vec<Bytes7>, AllocError>
+// Values, and others behind them.
+fn joined(front: Vec<Value>, behind: Vec<Value>) -> Result<Vec<Value>, AllocError>
     ensures { IfOk result (λ all. all.items ≡ front.items ++ behind.items) }
 {
     let mut all = front;
@@ -76,21 +78,25 @@ fn joined(front: Vec<Bytes7>, behind: Vec<Bytes7>) -> Result<Vec<Bytes7>, AllocE
 
 impl<'t> Pending<'t> {
     // The same with these subscripts behind its own. It needs no tree.
-    pub(crate) fn extended<'u>(self, texts: Vec<Bytes7>) -> Result<Pending<'u>, AllocError>
-        ensures { IfOk result (λ pending. pending_view pending ≡ variables.with_subscripts (variables.subscripts_of (pending_view self.entry) ++ texts.items) (pending_view self.entry)) }
+    pub(crate) fn extended<'u>(
+        self,
+        alloc: Global,
+        values: Vec<Value>,
+    ) -> Result<Pending<'u>, AllocError>
+        ensures { IfOk result (λ pending. pending_view pending ≡ variables.with_subscripts (variables.subscripts_of (pending_view self.entry) ++ values.items) (pending_view self.entry)) }
     {
         match self {
             Pending::Local(name, subscripts) => {
                 let name = name.into_own()?;
-                let subscripts = joined(subscripts, texts)?;
+                let subscripts = joined(subscripts, values)?;
                 Ok(Pending::Local(name, subscripts))
             }
             Pending::Global(node) => {
-                let node = node.extended(texts)?;
+                let node = node.extended(alloc, values)?;
                 Ok(Pending::Global(node))
             }
             Pending::Naked(subscripts) => {
-                let subscripts = joined(subscripts, texts)?;
+                let subscripts = joined(subscripts, values)?;
                 Ok(Pending::Naked(subscripts))
             }
         }
@@ -146,10 +152,10 @@ pub fn plain_name(reference: &Reference) -> Option<&Name>
 }
 
 /// Subscripts of a node: at most 15, of 1 to 255 characters each. Contracts see them as a list of texts, and what gives the
-/// texts says that they are such subscripts.
+/// values says that their texts are such subscripts.
 #[derive(Drop)]
 pub struct Subscripts {
-    texts: Vec<Bytes7>,
+    values: Vec<Value>,
 }
 
 impl Model for Subscripts {
@@ -158,29 +164,29 @@ impl Model for Subscripts {
 
     ghost Value = { List (List ℕ) };
 
-    ghost view = { λ subscripts. subscripts.texts.items };
+    ghost view = { λ subscripts. subscripts.values.items };
 
-    ghost invariant = { λ subscripts. AreSubscripts subscripts.texts.items };
+    ghost invariant = { λ subscripts. AreSubscripts subscripts.values.items };
 }
 
 impl Subscripts {
-    /// The subscripts that these texts are, if they can be those of a node. Takes no memory.
-    pub fn new(texts: Vec<Bytes7>) -> Option<Subscripts>
-        ensures when { IsSome result ↔ IsTrue (are_subscripts texts.items) }
-        ensures subscripts { IfSome result (λ subscripts. subscripts ≡ texts.items) }
+    /// The subscripts that these values are, if they can be those of a node. Takes no memory.
+    pub fn new(values: Vec<Value>) -> Option<Subscripts>
+        ensures when { IsSome result ↔ IsTrue (are_subscripts values.items) }
+        ensures subscripts { IfSome result (λ subscripts. subscripts ≡ values.items) }
     {
-        if !subs_ok(&texts) {
+        if !subs_ok(&values) {
             return None;
         }
-        Some(Subscripts { texts })
+        Some(Subscripts { values })
     }
 
-    /// Their texts. Takes no memory.
-    pub fn as_slice(&self) -> &[Bytes7]
+    /// Their values. Takes no memory.
+    pub fn as_slice(&self) -> &[Value]
         ensures texts { result.now ≡ self.now }
         ensures are_subscripts { AreSubscripts result.now }
     {
-        self.texts.as_slice()
+        self.values.as_slice()
     }
 }
 
@@ -194,11 +200,11 @@ pub enum Place<'t> {
 }
 
 // The place of a local variable with these subscripts: `Zsub` where they are none of a node.
-pub fn local_place<'t>(name: LocalName<'t>, texts: Vec<Bytes7>) -> Result<Place<'t>, Code>
-    ensures checked { Yields fault_of (variables.resolve variables.reading (variables.of_local (name_view name.entry) texts.items)) place_view result }
-    ensures local { IfOk result (λ place. place_view place ≡ variables.at_local (name_view name.entry) texts.items) }
+pub fn local_place<'t>(name: LocalName<'t>, values: Vec<Value>) -> Result<Place<'t>, Code>
+    ensures checked { Yields fault_of (variables.resolve variables.reading (variables.of_local (name_view name.entry) values.items)) place_view result }
+    ensures local { IfOk result (λ place. place_view place ≡ variables.at_local (name_view name.entry) values.items) }
 {
-    match Subscripts::new(texts) {
+    match Subscripts::new(values) {
         Some(subscripts) => Ok(Place::Local(name, subscripts)),
         None => Err(Code::Zsub),
     }
@@ -207,19 +213,33 @@ pub fn local_place<'t>(name: LocalName<'t>, texts: Vec<Bytes7>) -> Result<Place<
 // A place that the checks let through for $ORDER: its last subscript may be empty. Contracts see it by `walk_view`.
 #[derive(Drop)]
 pub enum Walk<'t> {
-    Local(LocalName<'t>, Vec<Bytes7>),
+    Local(LocalName<'t>, Vec<Value>),
     Node(GlobalNode),
 }
 
 // Whether these can be the subscripts of $ORDER, which takes an empty last one.
-pub fn check_walk(texts: &[Bytes7]) -> Result<(), Code>
+pub fn check_walk(values: &[Value]) -> Result<(), Code>
+    ensures checked { Yields fault_of (checked ordering values.now) (λ u. u) result }
+    ensures walk { IfOk result (λ _. AreOrderSubscripts values.now) }
+{
+    if values.is_empty() {
+        return Err(Code::Zarg);
+    }
+    if !order_subs_ok(values) {
+        return Err(Code::Zsub);
+    }
+    Ok(())
+}
+
+// The same of a global's.
+pub fn check_node_walk(texts: &[Bytes7]) -> Result<(), Code>
     ensures checked { Yields fault_of (checked ordering texts.now) (λ u. u) result }
     ensures walk { IfOk result (λ _. AreOrderSubscripts texts.now) }
 {
     if texts.is_empty() {
         return Err(Code::Zarg);
     }
-    if !order_subs_ok(texts) {
+    if !mkey::order_subs_ok(texts) {
         return Err(Code::Zsub);
     }
     Ok(())

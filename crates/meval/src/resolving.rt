@@ -11,13 +11,15 @@ ghost use Rattle.meval.specs.Places.{pending_view, place_view, walk_view, use_of
 
 use crate::eval::Eval;
 use crate::global_node::GlobalNode;
-use crate::place::{LocalName, Pending, Place, Walk, check_walk, local_place};
+use crate::place::{LocalName, Pending, Place, Walk, check_node_walk, check_walk, local_place};
+use crate::walk::texts;
 use mgrant::Mode;
 use mkey::is_account_name;
 use mnum::{Bytes7, Name};
 use moperator::Code;
 use mstore::NodeStore;
 use mtree::Reference;
+use mvalue::Value;
 use std::alloc::{AllocError, Global};
 
 impl<'a, S: NodeStore> Eval<'a, S> {
@@ -26,32 +28,33 @@ impl<'a, S: NodeStore> Eval<'a, S> {
         &self,
         alloc: Global,
         name: &Name,
-        subscripts: Vec<Bytes7>,
+        values: Vec<Value>,
     ) -> Result<GlobalNode, AllocError>
-        ensures { IfOk result (λ node. node ≡ record { account = (standing_of self.now).account; name = name.now; subscripts = subscripts.items }) }
+        ensures { IfOk result (λ node. node ≡ record { account = (standing_of self.now).account; name = name.now; subscripts = values.items }) }
     {
         let account = Bytes7::from_slice(alloc, self.settings.name_of(self.account))?;
-        Ok(GlobalNode::new(account, name.copy()?, subscripts))
+        let texts = texts(alloc, values)?;
+        Ok(GlobalNode::new(account, name.copy()?, texts))
     }
 
-    // What a reference without an environment is whose name stands in it, once its subscripts have these texts.
+    // What a reference without an environment is whose name stands in it, once its subscripts have these values.
     pub(crate) fn pending<'t>(
         &self,
         alloc: Global,
         reference: &'t Reference,
-        texts: Vec<Bytes7>,
+        values: Vec<Value>,
     ) -> Result<Pending<'t>, AllocError>
         requires direct { IsDirect (reference_tree reference.now) }
         requires own { NamesNoAccount (reference_tree reference.now) }
-        ensures { IfOk result (λ pending. pending_view pending ≡ named (standing_of self.now).account (reference_tree reference.now) texts.items) }
+        ensures { IfOk result (λ pending. pending_view pending ≡ named (standing_of self.now).account (reference_tree reference.now) values.items) }
     {
         match reference {
-            Reference::Local(name, _) => Ok(Pending::Local(LocalName::Lent(name), texts)),
+            Reference::Local(name, _) => Ok(Pending::Local(LocalName::Lent(name), values)),
             Reference::Global(name, _) => {
-                let node = self.own_node(alloc, name, texts)?;
+                let node = self.own_node(alloc, name, values)?;
                 Ok(Pending::Global(node))
             }
-            Reference::Naked(_) => Ok(Pending::Naked(texts)),
+            Reference::Naked(_) => Ok(Pending::Naked(values)),
             Reference::Indirect(_, _) => unreachable!(),
             Reference::Extended(_, _, _) => unreachable!(),
         }
@@ -84,12 +87,12 @@ impl<'a, S: NodeStore> Eval<'a, S> {
     }
 
     // The node beside the one that was referred to last.
-    fn beside(&self, alloc: Global, texts: Vec<Bytes7>) -> Result<GlobalNode, Code>
-        ensures { Evaluates S.NodeStore (λ i. variables.beside texts.items) (λ node. node) self.now result self.now }
+    fn beside(&self, alloc: Global, values: Vec<Value>) -> Result<GlobalNode, Code>
+        ensures { Evaluates S.NodeStore (λ i. variables.beside values.items) (λ node. node) self.now result self.now }
     {
         match &self.session.naked {
             None => Err(Code::M1),
-            Some(last) => last.beside(alloc, texts),
+            Some(last) => last.beside(alloc, values),
         }
     }
 
@@ -124,10 +127,10 @@ impl<'a, S: NodeStore> Eval<'a, S> {
         ensures does { Evaluates S.NodeStore (λ i. variables.resolve (use_of mode) (pending_view pending.entry)) place_view self.old result self.new }
     {
         match pending {
-            Pending::Local(name, texts) => local_place(name, texts),
+            Pending::Local(name, values) => local_place(name, values),
             Pending::Global(node) => self.node_place(alloc, mode, node),
-            Pending::Naked(texts) => {
-                let node = self.beside(alloc, texts)?;
+            Pending::Naked(values) => {
+                let node = self.beside(alloc, values)?;
                 self.node_place(alloc, mode, node)
             }
         }
@@ -143,7 +146,7 @@ impl<'a, S: NodeStore> Eval<'a, S> {
         ensures does { Evaluates S.NodeStore (λ i. variables.node_place variables.ordering node) walk_view self.old result self.new }
     {
         self.check(Mode::Read, &node)?;
-        check_walk(node.subscripts())?;
+        check_node_walk(node.subscripts())?;
         let walk = node.copy(alloc)?;
         self.refer(node);
         Ok(Walk::Node(walk))
@@ -162,13 +165,13 @@ impl<'a, S: NodeStore> Eval<'a, S> {
         ensures does { Evaluates S.NodeStore (λ i. variables.resolve variables.ordering (pending_view pending.entry)) walk_view self.old result self.new }
     {
         match pending {
-            Pending::Local(name, texts) => {
-                check_walk(&texts)?;
-                Ok(Walk::Local(name, texts))
+            Pending::Local(name, values) => {
+                check_walk(&values)?;
+                Ok(Walk::Local(name, values))
             }
             Pending::Global(node) => self.node_walk(alloc, node),
-            Pending::Naked(texts) => {
-                let node = self.beside(alloc, texts)?;
+            Pending::Naked(values) => {
+                let node = self.beside(alloc, values)?;
                 self.node_walk(alloc, node)
             }
         }

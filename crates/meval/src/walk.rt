@@ -48,8 +48,18 @@ pub fn first_or_empty(alloc: Global, values: Vec<Value>) -> Value
     }
 }
 
-// What $ORDER gives: the subscript that was found, or the empty text.
-pub fn next_value(alloc: Global, next: Option<Bytes7>) -> Value
+// What $ORDER gives of a local variable: the subscript that was found, or the empty text.
+pub fn next_value(alloc: Global, next: Option<Value>) -> Value
+    ensures { result ≡ unwrap_or next [] }
+{
+    match next {
+        Some(value) => value,
+        None => Value::of_text(Bytes7::empty(alloc)),
+    }
+}
+
+// What it gives of a global.
+pub fn next_text(alloc: Global, next: Option<Bytes7>) -> Value
     ensures { result ≡ unwrap_or next [] }
 {
     match next {

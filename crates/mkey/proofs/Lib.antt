@@ -9,3 +9,4 @@ pub mod SubsKeys
 pub mod KeyWalks
 pub mod NodeFronts
 pub mod Children
+pub mod NumericValues

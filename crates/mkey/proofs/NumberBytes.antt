@@ -1,10 +1,11 @@
 -- The bytes of a machine's number, high byte first.
-use Rattle.std.proofs.Common.{ℕ, zero, suc, ◌≡◌, ◌+◌, ◌*◌, ◌/◌, ◌%◌, ◌^◌, ◌<◌, List, [], ◌∷◌, ◌++◌, length, get_or, take, refl, sym, ◌∙◌, ap, ap₂, arith, add-one}
+use Rattle.std.proofs.Common.{ℕ, zero, suc, ◌≡◌, ◌+◌, ◌*◌, ◌/◌, ◌%◌, ◌^◌, ◌<◌, List, [], ◌∷◌, ◌++◌, length, get_or, take, drop, refl, sym, ◌∙◌, ap, ap₂, arith, add-one, append_assoc}
 use Rattle.std.specs.Prelude.{ℤ}
 use Rattle.std.specs.Int.{byte_at, bytes_high_first}
 use Rattle.std.proofs.Math.Nat.{div-add-mod', one-le-pow, pow-suc, div-one, mod-eq_of_lt}
-use Rattle.std.proofs.lemmas.Nat.{mod_below, div-mul-add, mod-mul-add, mul-add-lt}
+use Rattle.std.proofs.lemmas.Nat.{mod_below, div-mul-add, mod-mul-add, mul-add-lt, pow-add}
 use Rattle.std.proofs.lemmas.List.{take_more}
+use Rattle.std.proofs.Math.Seq.{take-append_seam}
 use Rattle.mspec.specs.KeyBytes.{big_endian, raised, number_bytes}
 
 byte_pos : (k : ℕ) → 0 < 256 ^ k
@@ -88,3 +89,37 @@ byte_below k n b low below = let more : 256 ^ (k + 1) ≡ 256 ^ k * 256 = ap (λ
 pub byte_pushed : (k n b : ℕ) (bytes : List ℕ) → k < length bytes → get_or bytes k 0 ≡ b → b < 256 → n < 256 ^ k → big_endian k n ≡ take k bytes → big_endian (k + 1) (n * 256 + b) ≡ take (k + 1) bytes
 byte_pushed k n b bytes inside is low below e =
     ap (λ m. big_endian m (n * 256 + b)) (add-one k) ∙ push_byte k n b low below ∙ ap (λ t. t ++ b ∷ []) e ∙ ap (λ x. take k bytes ++ x ∷ []) (sym is) ∙ sym (take_more bytes k 0 inside)
+
+-- the bytes of two numbers, one behind the other
+pub joined_bytes : (k j t n m : ℕ) → t ≡ k + j → n < 256 ^ k → m < 256 ^ j → big_endian t (n * 256 ^ j + m) ≡ big_endian k n ++ big_endian j m
+joined_bytes zero j t n m e below low =
+    let none : n ≡ 0 = omega arith in
+    let same : t ≡ j = omega arith in
+    ap₂ big_endian same (ap (λ x. x * 256 ^ j + m) none ∙ omega arith)
+joined_bytes (suc k) j zero n m e below low = absurd (omega arith)
+joined_bytes (suc k) j (suc t) n m e below low =
+    let w : ℕ = 256 ^ k in
+    let v : ℕ = 256 ^ j in
+    let some : 0 < w = byte_pos k in
+    let less : n % w < w = mod_below n w some in
+    let fewer : t ≡ k + j = omega arith in
+    let exponent : 256 ^ t ≡ v * w = ap (λ x. 256 ^ x) fewer ∙ pow-add 256 k j ∙ turned w v in
+    let small : n % w * v + m < v * w = mul-add-lt (n % w) v m w less low in
+    let whole : n / w * (v * w) + (n % w * v + m) ≡ n * v + m = around (n / w) (n % w) w n v m (div-add-mod' n w) in
+    let first : (n * v + m) / 256 ^ t ≡ n / w = ap (λ x. (n * v + m) / x) exponent ∙ ap (λ x. x / (v * w)) (sym whole) ∙ div-mul-add (n / w) (v * w) (n % w * v + m) small in
+    let rest : (n * v + m) % 256 ^ t ≡ n % w * v + m = ap (λ x. (n * v + m) % x) exponent ∙ ap (λ x. x % (v * w)) (sym whole) ∙ mod-mul-add (n / w) (v * w) (n % w * v + m) small in
+    ap₂ (λ x bytes. x ∷ bytes) first (ap (big_endian t) rest ∙ joined_bytes k j t (n % w) m fewer less low)
+  where
+    turned : (a b : ℕ) → a * b ≡ b * a
+    turned a b = omega arith
+
+    around : (q r w n v m : ℕ) → q * w + r ≡ n → q * (v * w) + (r * v + m) ≡ n * v + m
+    around q r w n v m e = let spread : (q * w + r) * v + m ≡ n * v + m = ap (λ x. x * v + m) e in omega arith
+
+-- the first sixteen bytes, as two numbers of eight
+pub word_pair : (bytes rest : List ℕ) (high low : ℕ) → high < 256 ^ 8 → low < 256 ^ 8 → bytes ≡ big_endian 8 high ++ rest → rest ≡ big_endian 8 low ++ drop 8 rest → big_endian 16 (high * 256 ^ 8 + low) ≡ take 16 bytes
+word_pair bytes rest high low below_high below_low first second =
+    let both : big_endian 16 (high * 256 ^ 8 + low) ≡ big_endian 8 high ++ big_endian 8 low = joined_bytes 8 8 16 high low refl below_high below_low in
+    both
+    ∙ sym (take-append_seam (big_endian 8 high ++ big_endian 8 low) (drop 8 rest))
+    ∙ ap (take 16) (append_assoc (big_endian 8 high) (big_endian 8 low) (drop 8 rest) ∙ ap (λ b. big_endian 8 high ++ b) (sym second) ∙ sym first)

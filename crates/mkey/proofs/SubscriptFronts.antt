@@ -15,7 +15,7 @@ use Rattle.mspec.proofs.KeyOrders.{bytes_order, raised_below, raised_order}
 use Rattle.mspec.proofs.KeyRanges.{same_bytes, text_split}
 use Rattle.mspec.proofs.NodeOrders.{both_Equal, canonical_of_value, value_of_canonical}
 use Rattle.mspec.proofs.TextLaws.{text_has_value, value_is_number}
-use Rattle.mkey.specs.Front.{IsFront, BeginsWithNo, IsSub}
+use Rattle.mkey.specs.Front.{IsFront, BeginsWithNo, BeginsWithNumber, IsSub}
 use Rattle.mkey.proofs.ShortTexts.{value_fits}
 
 abbrev NoSub : List ℕ → Type 0
@@ -76,17 +76,26 @@ no_number rest n is below none s more sub e =
     let at = its_number rest n is below s more e in
     none at.0 (value_is_number 18 s at.0 (omega arith) (canonical_of_value 18 s at.0 at.1).0) at.2
 
-pub no_such_sub : (rest : List ℕ) (n : ℕ) (v : ℤ) → big_endian 16 n ≡ take 16 rest → n < 256 ^ 16 → raised v ≡ n → IsNumber 18 v → ((s : Text) → IsSub s → canonical_value 18 s ≡ Some v → ⊥) → NoSub (1 ∷ rest)
+no_such_sub : (rest : List ℕ) (n : ℕ) (v : ℤ) → big_endian 16 n ≡ take 16 rest → n < 256 ^ 16 → raised v ≡ n → IsNumber 18 v → ((s : Text) → IsSub s → canonical_value 18 s ≡ Some v → ⊥) → NoSub (1 ∷ rest)
 no_such_sub rest n v is below raised_v number none s more sub e =
     let at = its_number rest n is below s more e in
     let same : at.0 ≡ v = same_raised at.0 v (value_fits s at.0 at.1) number.in_range (at.2 ∙ sym raised_v) in
     none s sub (at.1 ∙ ap Some same)
 
-pub number_found : (rest : List ℕ) (n : ℕ) (v : ℤ) (s : Text) → 16 ≤ length rest → big_endian 16 n ≡ take 16 rest → raised v ≡ n → canonical_value 18 s ≡ Some v → IsFront (1 ∷ rest) (subscript_bytes 18 s) 17
+number_found : (rest : List ℕ) (n : ℕ) (v : ℤ) (s : Text) → 16 ≤ length rest → big_endian 16 n ≡ take 16 rest → raised v ≡ n → canonical_value 18 s ≡ Some v → IsFront (1 ∷ rest) (subscript_bytes 18 s) 17
 unfolding number_bytes
 number_found rest n v s long is raised_v canonical =
     let bytes : subscript_bytes 18 s ≡ 1 ∷ take 16 rest = ap (subscript_by s) canonical ∙ ap (λ m. 1 ∷ big_endian 16 m) raised_v ∙ ap (λ b. 1 ∷ b) is in
     record { fits = omega arith; is = sym (ap (λ b. b ++ drop 16 rest) bytes ∙ ap (λ b. 1 ∷ b) (take-append-drop 16 rest)) }
+
+-- the same of bytes that begin with a number's
+pub no_such_number : (rest : List ℕ) (v : ℤ) → BeginsWithNumber v rest → IsNumber 18 v → ((s : Text) → IsSub s → canonical_value 18 s ≡ Some v → ⊥) → NoSub (1 ∷ rest)
+unfolding number_bytes
+no_such_number rest v front number none = no_such_sub rest (raised v) v front.is (raised_below v number.in_range) refl number none
+
+pub number_begins : (rest : List ℕ) (v : ℤ) (s : Text) → BeginsWithNumber v rest → canonical_value 18 s ≡ Some v → IsFront (1 ∷ rest) (subscript_bytes 18 s) 17
+unfolding number_bytes
+number_begins rest v s front canonical = number_found rest (raised v) v s front.fits front.is refl canonical
 
 -- the text of a number is the one text with it as its value
 pub text_of_number : (t : Text) (v : ℤ) → IsNumber 18 v → t ≡ number_text v → canonical_value 18 t ≡ Some v

@@ -1,7 +1,7 @@
 -- What bytes begin with.
-use Rattle.std.specs.Prelude.{◌≡◌, ◌≤◌, ℕ, List, ◌++◌, length, drop, All}
+use Rattle.std.specs.Prelude.{◌≡◌, ◌≤◌, ℕ, ℤ, List, ◌++◌, length, take, drop, All}
 use Rattle.mspec.specs.Act.{Text}
-use Rattle.mspec.specs.KeyBytes.{IsSubscript, AreSubscripts, IsAscii}
+use Rattle.mspec.specs.KeyBytes.{number_bytes, IsSubscript, AreSubscripts, IsAscii}
 
 -- the bytes begin with these, which are `count` of them
 pub record IsFront (bytes front : List ℕ) (count : ℕ) : Type 0 where
@@ -18,3 +18,8 @@ IsSub s = IsSubscript s × IsAscii s
 
 abbrev pub AreSubs : List Text → Type 0
 AreSubs subscripts = AreSubscripts subscripts × All IsAscii subscripts
+
+-- the bytes begin with those of a number, in units of 10 ^ -18
+pub record BeginsWithNumber (u : ℤ) (bytes : List ℕ) : Type 0 where
+  pub fits : 16 ≤ length bytes
+  pub is : number_bytes u ≡ take 16 bytes

@@ -1,6 +1,6 @@
 // Keys read back.
-ghost use Rattle.std.specs.Prelude.{◌≡◌, ℕ, ℤ, ◌+◌, ◌^◌, ◌<◌, ◌≤◌, List, [], ◌∷◌, ◌++◌, All, length, drop, Some, IfOk, MatchOption};
-ghost use Rattle.mkey.specs.Front.{IsFront, BeginsWithNo, IsSub, AreSubs};
+ghost use Rattle.std.specs.Prelude.{◌≡◌, ℕ, ℤ, ◌+◌, ◌^◌, ◌<◌, ◌≤◌, List, [], ◌∷◌, ◌++◌, All, length, take, drop, Some, IfOk, MatchOption};
+ghost use Rattle.mkey.specs.Front.{IsFront, BeginsWithNo, BeginsWithNumber, IsSub, AreSubs};
 ghost use Rattle.mkey.specs.Key.{IsKeyOf};
 ghost use Rattle.mnum.specs.Num.{units};
 ghost use Rattle.mspec.specs.Act.{Node};
@@ -11,6 +11,7 @@ ghost use Rattle.mspec.specs.Number.{significant_digits, IsNumber};
 
 use crate::encoding::RAISE;
 use crate::names::is_account_name;
+use crate::order::first_word;
 use crate::place::canonical;
 use crate::subs::{Subs, is_subscript};
 use mnum::{Bytes7, Num, is_name};
@@ -21,6 +22,9 @@ const SHORT_TEXT: usize = 32;
 
 // Room for each text of a number: eighteen digits, a sign and a point.
 const NUMBER_TEXT: usize = 20;
+
+// The numbers that eight bytes can be, so many.
+const WORD: u128 = 1 << 64;
 
 // The most subscripts of a node.
 const MOST_SUBS: usize = 15;
@@ -61,16 +65,14 @@ fn read_text(alloc: Global, bytes: &[u8]) -> Result<Option<(Bytes7, usize)>, All
     Ok(None)
 }
 
-// The number that sixteen bytes are, high byte first.
+// The number that the first sixteen bytes are, high byte first.
 fn read_bytes(bytes: &[u8]) -> u128
-    requires { length bytes.now ≡ 16 }
-    ensures { big_endian 16 result ≡ bytes.now }
+    requires { 16 ≤ length bytes.now }
+    ensures { big_endian 16 result ≡ take 16 bytes.now }
 {
-    let mut number: u128 = 0;
-    for byte in bytes {
-        number = number * 256 + *byte as u128;
-    }
-    number
+    let high = first_word(bytes);
+    let low = first_word(behind(bytes, 8));
+    high as u128 * WORD + low as u128
 }
 
 // The number of the language that was raised to this one.
@@ -119,16 +121,25 @@ fn numeric_sub(
     Ok(sub_of(text, count))
 }
 
+// The number of the language that bytes with the tag 1 in front begin with.
+pub fn front_number(bytes: &[u8]) -> Option<Num>
+    ensures { MatchOption result
+        (BeginsWithNo IsSub (subscript_bytes significant_digits) (1 ∷ bytes.now))
+        (λ n. BeginsWithNumber (units n) bytes.now) }
+{
+    if bytes.len() < 16 {
+        return None;
+    }
+    lowered(read_bytes(bytes))
+}
+
 // The subscript that bytes with the tag 1 in front begin with, and how many of them are its own.
 fn read_number(alloc: Global, bytes: &[u8]) -> Result<Option<(Bytes7, usize)>, AllocError>
     ensures { IfOk result (λ found. MatchOption found
         (BeginsWithNo IsSub (subscript_bytes significant_digits) (1 ∷ bytes.now))
         (λ part. IsFront (1 ∷ bytes.now) (subscript_bytes significant_digits part.0) part.1 × IsSub part.0)) }
 {
-    if bytes.len() < 16 {
-        return Ok(None);
-    }
-    match lowered(read_bytes(&bytes[..16])) {
+    match front_number(bytes) {
         None => Ok(None),
         Some(number) => {
             let found = numeric_sub(alloc, number, 17)?;
@@ -138,7 +149,7 @@ fn read_number(alloc: Global, bytes: &[u8]) -> Result<Option<(Bytes7, usize)>, A
 }
 
 // The same with the tag 2 in front.
-fn read_letters(alloc: Global, bytes: &[u8]) -> Result<Option<(Bytes7, usize)>, AllocError>
+pub fn read_letters(alloc: Global, bytes: &[u8]) -> Result<Option<(Bytes7, usize)>, AllocError>
     ensures { IfOk result (λ found. MatchOption found
         (BeginsWithNo IsSub (subscript_bytes significant_digits) (2 ∷ bytes.now))
         (λ part. IsFront (2 ∷ bytes.now) (subscript_bytes significant_digits part.0) part.1 × IsSub part.0)) }

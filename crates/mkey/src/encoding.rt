@@ -37,7 +37,7 @@ fn raise(units: i128) -> u128
 }
 
 // The bytes of a number.
-fn push_number(out: &mut Vec<u8>, units: i128)
+pub fn push_number(out: &mut Vec<u8>, units: i128)
     requires room { vec_len out.old + 16 ≤ vec_capacity out.old }
     requires range { unsigned_abs units < 10 ^ 36 }
     ensures items { out.new.items ≡ out.old.items ++ number_bytes units }
@@ -50,7 +50,7 @@ fn push_number(out: &mut Vec<u8>, units: i128)
 }
 
 // The bytes of a subscript.
-fn push_subscript(out: &mut Vec<u8>, text: &Bytes7)
+pub fn push_subscript(out: &mut Vec<u8>, text: &Bytes7)
     requires room { vec_len out.old + room_of text.now ≤ vec_capacity out.old }
     ensures items { out.new.items ≡ out.old.items ++ subscript_bytes significant_digits text.now }
     ensures len { vec_len out.new ≤ vec_len out.old + room_of text.now }

@@ -16,6 +16,7 @@ mod order;
 mod place;
 mod subs;
 mod subs_key;
+mod values;
 mod walk;
 
 pub use decoding::read;

@@ -9,7 +9,7 @@ use std::cmp::Ordering;
 const WORD_BYTES: usize = 8;
 
 // The number that the first eight bytes are, high byte first.
-fn first_word(bytes: &[u8]) -> u64
+pub fn first_word(bytes: &[u8]) -> u64
     requires { 8 ≤ length bytes.now }
     ensures { bytes.now ≡ big_endian 8 result ++ drop 8 bytes.now }
 {

@@ -11,10 +11,10 @@ ghost use Rattle.mspec.specs.Number.{significant_digits};
 ghost use Rattle.mspec.specs.Trees.{is_within, child_of};
 ghost use Rattle.mspec.proofs.NodeOrders.{subscripts_cmp_total};
 
-use crate::decoding::{behind, read_subscript};
-use crate::encoding::{push_subscripts, room};
+use crate::decoding::behind;
 use crate::order::compare;
-use mnum::Bytes7;
+use crate::values::{push_values, read_value, values_room};
+use mvalue::Value;
 use std::alloc::{AllocError, Global};
 use std::cmp::Ordering;
 use std::marker::Model;
@@ -38,18 +38,18 @@ impl Model for SubsKey {
 }
 
 impl SubsKey {
-    /// The key of these subscripts.
+    /// The key of these subscripts. A number is put into it as it is.
     ///
     /// # Errors
     ///
     /// `AllocError` for want of memory.
-    pub fn build(alloc: Global, subs: &[Bytes7]) -> Result<SubsKey, AllocError>
+    pub fn build(alloc: Global, subs: &[Value]) -> Result<SubsKey, AllocError>
         requires { AreSubscripts subs.now }
         ensures key { IfOk result (λ key. key ≡ subs.now) }
         ensures subs { AreSubs subs.now }
     {
-        let mut bytes = Vec::with_capacity(alloc, room(subs))?;
-        push_subscripts(&mut bytes, subs);
+        let mut bytes = Vec::with_capacity(alloc, values_room(subs))?;
+        push_values(&mut bytes, subs)?;
         Ok(SubsKey { bytes })
     }
 
@@ -59,13 +59,13 @@ impl SubsKey {
     /// # Errors
     ///
     /// `AllocError` for want of memory.
-    pub fn behind_below(alloc: Global, subs: &[Bytes7]) -> Result<SubsKey, AllocError>
+    pub fn behind_below(alloc: Global, subs: &[Value]) -> Result<SubsKey, AllocError>
         requires { AreSubscripts subs.now }
         ensures key { IfOk result (λ key. key ≡ behind_below subs.now) }
         ensures subs { AreSubs subs.now }
     {
-        let mut bound = Vec::with_capacity(alloc, room(subs) + BEYOND.len())?;
-        push_subscripts(&mut bound, subs);
+        let mut bound = Vec::with_capacity(alloc, values_room(subs) + BEYOND.len())?;
+        push_values(&mut bound, subs)?;
         bound.extend_from_slice(&BEYOND)?;
         Ok(SubsKey { bytes: bound })
     }
@@ -114,12 +114,13 @@ impl SubsKey {
         self.as_bytes().starts_with(above.as_bytes())
     }
 
-    /// The subscript next behind those of another list, where the list begins with the other and goes on.
+    /// The subscript next behind those of another list, where the list begins with the other and goes on. One that is a number comes
+    /// as a number, which takes no memory.
     ///
     /// # Errors
     ///
     /// `AllocError` for want of memory.
-    pub fn child_of(&self, alloc: Global, above: &SubsKey) -> Result<Option<Bytes7>, AllocError>
+    pub fn child_of(&self, alloc: Global, above: &SubsKey) -> Result<Option<Value>, AllocError>
         requires { AreSubs self.now }
         ensures { IfOk result (λ child. child ≡ child_of above.now self.now) }
     {
@@ -127,9 +128,9 @@ impl SubsKey {
             return Ok(None);
         }
         let rest = behind(self.as_bytes(), above.as_bytes().len());
-        match read_subscript(alloc, rest)? {
+        match read_value(alloc, rest)? {
             None => Ok(None),
-            Some((text, _)) => Ok(Some(text)),
+            Some((value, _)) => Ok(Some(value)),
         }
     }
 }

@@ -3,8 +3,10 @@
 
 mod scope;
 mod scopes;
+mod subs;
 mod subtree;
 mod variable;
 
-pub use mkey::{Data, Direction, order_subs_ok};
+pub use mkey::{Data, Direction};
 pub use scopes::Locals;
+pub use subs::{order_subs_ok, subs_ok};

@@ -15,7 +15,7 @@ ghost use Rattle.mkey.specs.Way.{way};
 
 use crate::variable::Variable;
 use mkey::{Data, Direction, SubsKey};
-use mnum::{Bytes7, Name};
+use mnum::Name;
 use mvalue::Value;
 use std::alloc::{AllocError, Global};
 use std::collections::HashMap;
@@ -118,7 +118,7 @@ impl Scope {
     }
 
     // Whether a node has a text, and whether a node below it has one.
-    pub fn data(&self, alloc: Global, name: &Name, subs: &[Bytes7]) -> Result<Data, AllocError>
+    pub fn data(&self, alloc: Global, name: &Name, subs: &[Value]) -> Result<Data, AllocError>
         requires { AreSubscripts subs.now }
         ensures value { IfOk result (λ found. found.value ≡ has_value (tree_in self.now name.now) subs.now) }
         ensures descendants { IfOk result (λ found. found.descendants ≡ has_descendants (tree_in self.now name.now) subs.now) }
@@ -137,9 +137,9 @@ impl Scope {
         &self,
         alloc: Global,
         name: &Name,
-        subs: &[Bytes7],
+        subs: &[Value],
         direction: Direction,
-    ) -> Result<Option<Bytes7>, AllocError>
+    ) -> Result<Option<Value>, AllocError>
         requires { AreOrderSubscripts subs.now }
         ensures { IfOk result (λ next. next ≡ order_of (tree_in self.now name.now) (way direction) (front subs.now) (last subs.now)) }
     {

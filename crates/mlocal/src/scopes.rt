@@ -8,7 +8,7 @@ ghost use Rattle.mspec.specs.Trees.{AreOrderSubscripts};
 
 use crate::scope::Scope;
 use mkey::{Data, Direction, SubsKey};
-use mnum::{Bytes7, Name};
+use mnum::Name;
 use mvalue::Value;
 use std::alloc::{AllocError, Global};
 use std::marker::Model;
@@ -100,7 +100,7 @@ impl Locals {
     /// # Errors
     ///
     /// `AllocError` for want of memory.
-    pub fn get(&self, name: &Name, subs: &[Bytes7]) -> Result<Option<&Value>, AllocError>
+    pub fn get(&self, name: &Name, subs: &[Value]) -> Result<Option<&Value>, AllocError>
         requires { AreSubscripts subs.now }
         ensures { IfOk result (λ found. option_map (λ value. value.now) found ≡ value_at self.now name.now subs.now) }
     {
@@ -119,7 +119,7 @@ impl Locals {
     /// # Errors
     ///
     /// `AllocError` for want of memory.
-    pub fn data(&self, name: &Name, subs: &[Bytes7]) -> Result<Data, AllocError>
+    pub fn data(&self, name: &Name, subs: &[Value]) -> Result<Data, AllocError>
         requires { AreSubscripts subs.now }
         ensures value { IfOk result (λ found. found.value ≡ is_value self.now name.now subs.now) }
         ensures descendants { IfOk result (λ found. found.descendants ≡ is_above self.now name.now subs.now) }
@@ -131,7 +131,7 @@ impl Locals {
     }
 
     /// The subscript next to the last of these, of those in its place below which the name's variable has a text. An empty last
-    /// subscript begins the walk, at the first or from the last, and none ends it.
+    /// subscript begins the walk, at the first or from the last, and none ends it. One that is a number comes as a number.
     ///
     /// # Errors
     ///
@@ -139,9 +139,9 @@ impl Locals {
     pub fn order(
         &self,
         name: &Name,
-        subs: &[Bytes7],
+        subs: &[Value],
         direction: Direction,
-    ) -> Result<Option<Bytes7>, AllocError>
+    ) -> Result<Option<Value>, AllocError>
         requires { AreOrderSubscripts subs.now }
         ensures { IfOk result (λ next. next ≡ next_subscript self.now (way direction) name.now subs.now) }
     {
@@ -156,7 +156,7 @@ impl Locals {
     /// # Errors
     ///
     /// `AllocError` for want of memory; the locals are then as they were.
-    pub fn set(&mut self, name: &Name, subs: &[Bytes7], value: Value) -> Result<(), AllocError>
+    pub fn set(&mut self, name: &Name, subs: &[Value], value: Value) -> Result<(), AllocError>
         requires { AreSubscripts subs.now }
         ensures ok { OnOk result (self.new ≡ assigned self.old name.now subs.now value) }
         ensures err { OnErr result (self.new ≡ self.old) }
@@ -191,7 +191,7 @@ impl Locals {
     /// # Errors
     ///
     /// `AllocError` for want of memory; the locals are then as they were.
-    pub fn kill(&mut self, name: &Name, subs: &[Bytes7]) -> Result<(), AllocError>
+    pub fn kill(&mut self, name: &Name, subs: &[Value]) -> Result<(), AllocError>
         requires { AreSubscripts subs.now }
         ensures ok { OnOk result (self.new ≡ killed self.old name.now subs.now) }
         ensures err { OnErr result (self.new ≡ self.old) }

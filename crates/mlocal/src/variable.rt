@@ -14,9 +14,9 @@ ghost use Rattle.mspec.specs.NodeOrder.{subscripts_cmp};
 ghost use Rattle.mspec.specs.Number.{significant_digits};
 ghost use Rattle.mspec.specs.Trees.{without, is_within, child_of, has_value, has_descendants, Forward, order_of, is_before, is_empty, front, last, AreOrderSubscripts};
 
+use crate::subs::{front, last};
 use crate::subtree::{keys_from, remove_all};
-use mkey::{Data, Direction, SubsKey, front, last};
-use mnum::Bytes7;
+use mkey::{Data, Direction, SubsKey};
 use mvalue::Value;
 use std::alloc::{AllocError, Global};
 use std::collections::BTreeMap;
@@ -117,7 +117,7 @@ impl Variable {
     }
 
     // Whether a node has a text, and whether a node below it has one.
-    pub fn data(&self, alloc: Global, subs: &[Bytes7]) -> Result<Data, AllocError>
+    pub fn data(&self, alloc: Global, subs: &[Value]) -> Result<Data, AllocError>
         requires { AreSubscripts subs.now }
         ensures value { IfOk result (λ found. found.value ≡ has_value self.now subs.now) }
         ensures descendants { IfOk result (λ found. found.descendants ≡ has_descendants self.now subs.now) }
@@ -134,9 +134,9 @@ impl Variable {
     pub fn order(
         &self,
         alloc: Global,
-        subs: &[Bytes7],
+        subs: &[Value],
         direction: Direction,
-    ) -> Result<Option<Bytes7>, AllocError>
+    ) -> Result<Option<Value>, AllocError>
         requires { AreOrderSubscripts subs.now }
         ensures { IfOk result (λ next. next ≡ order_of self.now (way direction) (front subs.now) (last subs.now)) }
     {
@@ -153,14 +153,14 @@ impl Variable {
         &self,
         alloc: Global,
         above: &SubsKey,
-        subs: &[Bytes7],
+        subs: &[Value],
     ) -> Result<Option<&SubsKey>, AllocError>
         requires subs { AreOrderSubscripts subs.now }
         requires above { above.now ≡ front subs.now }
         ensures next { IfOk result (λ key. option_and_then (child_of (front subs.now)) (option_map (λ k. k.now) key) ≡ order_of self.now Forward (front subs.now) (last subs.now)) }
         ensures subs { IfOk result (λ key. IfSome key (λ k. AreSubs k.now)) }
     {
-        if last(subs).as_bytes().is_empty() {
+        if last(subs).is_empty() {
             return Ok(first_behind(&self.values, above));
         }
         let start = SubsKey::behind_below(alloc, subs)?;
@@ -172,14 +172,14 @@ impl Variable {
         &self,
         alloc: Global,
         above: &SubsKey,
-        subs: &[Bytes7],
+        subs: &[Value],
     ) -> Result<Option<&SubsKey>, AllocError>
         requires subs { AreOrderSubscripts subs.now }
         requires above { above.now ≡ front subs.now }
         ensures key { IfOk result (λ key. option_map (λ k. k.now) key ≡ find (has_child (λ c. is_empty (last subs.now) || is_before c (last subs.now)) (front subs.now)) (reverse (nodes_of self.now))) }
         ensures subs { IfOk result (λ key. IfSome key (λ k. AreSubs k.now)) }
     {
-        if last(subs).as_bytes().is_empty() {
+        if last(subs).is_empty() {
             let end = SubsKey::behind_below(alloc, front(subs))?;
             return Ok(last_between(&self.values, above, &end));
         }
@@ -193,7 +193,7 @@ fn child(
     alloc: Global,
     above: &SubsKey,
     found: Option<&SubsKey>,
-) -> Result<Option<Bytes7>, AllocError>
+) -> Result<Option<Value>, AllocError>
     requires { IfSome found (λ k. AreSubs k.now) }
     ensures { IfOk result (λ child. child ≡ option_and_then (child_of above.now) (option_map (λ k. k.now) found.entry)) }
 {

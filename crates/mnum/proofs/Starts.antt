@@ -1,13 +1,18 @@
 -- How a canonical text begins.
-use Rattle.std.proofs.Common.{ℕ, ◌≡◌, ◌<◌, Bool, true, false, cond, Option, Some, None, List, [], ◌∷◌, ◌++◌, refl, ap, ◌∙◌, subst, arith, ⊎_elim}
+use Rattle.std.proofs.Common.{ℕ, ◌≡◌, ◌<◌, Bool, true, false, cond, Option, Some, None, List, [], ◌∷◌, ◌++◌, refl, ap, sym, ◌∙◌, subst, arith, ⊎_elim}
+use Rattle.std.specs.Prelude.{nat_eq}
+use Rattle.std.specs.Cmp.Lexicographic.{pointwise, bytes_decides}
 use Rattle.std.proofs.lemmas.Bool.Decides.{nat_tests}
 use Rattle.std.proofs.lemmas.List.Elements.{All-head}
 use Rattle.mspec.specs.Literal.{is_digit, Literal, IsMantissa, spell_fraction, spell_exponent, spell_literal}
-use Rattle.mspec.specs.NumberText.{IsCanonical}
+use Rattle.mspec.specs.NumberText.{IsCanonical, number_text}
 use Rattle.mspec.specs.NumberLaws.{HasCanonicalForm, IsPlain}
 use Rattle.mspec.proofs.CanonicalForm.{text_has_canonical_form}
 use Rattle.mspec.proofs.TextLaws.{value_is_number}
+use Rattle.mnum.specs.Num.{units}
 use Rattle.mnum.specs.Start.{starts_number}
+use Rattle.mnum.specs.declared.num.Num.{Num}
+use Rattle.mnum.proofs.Ranges.{units_number}
 
 digit_starts : (c : ℕ) (s : List ℕ) → is_digit c ≡ true → starts_number (c ∷ s) ≡ true
 digit_starts c s h = grind (arith, nat_tests)
@@ -40,3 +45,17 @@ canonical_starts kept s some canonical =
 -- what begins in another way is not canonical
 pub starts_otherwise : (kept : ℕ) (s : List ℕ) → 0 < kept → starts_number s ≡ false → IsCanonical kept s → ⊥
 starts_otherwise kept s some other canonical = let starts = canonical_starts kept s some canonical in cc
+
+-- the text of a number begins so
+pub text_starts : (n : Num) → starts_number (number_text (units n)) ≡ true
+text_starts n = form_starts (number_text (units n)) (text_has_canonical_form 18 (units n) (units_number n))
+
+-- what begins in another way is the text of none
+pub other_text : (n : Num) (s : List ℕ) → starts_number s ≡ false → false ≡ pointwise nat_eq (number_text (units n)) s
+other_text n s other = here (pointwise nat_eq (number_text (units n)) s) refl
+  where
+    here : (b : Bool) → pointwise nat_eq (number_text (units n)) s ≡ b → false ≡ b
+    here false e = refl
+    here true e =
+        let same : number_text (units n) ≡ s = (bytes_decides (number_text (units n)) s).0 e in
+        sym other ∙ ap starts_number (sym same) ∙ text_starts n

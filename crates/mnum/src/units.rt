@@ -18,8 +18,9 @@ impl Num {
         let size = count.unsigned_abs();
         let mut digits = size;
         let mut places: u32 = 18;
-        if size % UNIT == 0 {
-            digits = size / UNIT;
+        let whole = size / UNIT;
+        if whole * UNIT == size {
+            digits = whole;
             places = 0;
         }
         while digits >= UNIT && places > 0 && digits % 10 == 0 {

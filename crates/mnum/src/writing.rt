@@ -1,5 +1,6 @@
 // Numbers written as texts.
-ghost use Rattle.std.specs.Prelude.{◌≡◌, ℕ, ◌+◌, ◌-◌, ◌*◌, ◌/◌, ◌%◌, ◌^◌, ◌<◌, ◌≤◌, ◌++◌, ◌↔◌, true, IsTrue, OnOk, OnErr, length, All};
+ghost use Rattle.std.specs.Prelude.{◌≡◌, ℕ, ◌+◌, ◌-◌, ◌*◌, ◌/◌, ◌%◌, ◌^◌, ◌<◌, ◌≤◌, ◌++◌, ◌↔◌, true, IsTrue, OnOk, OnErr, length, All, nat_eq};
+ghost use Rattle.std.specs.Cmp.Lexicographic.{pointwise};
 ghost use Rattle.arrayvec.specs.ArrayVec.{array_vec_len};
 ghost use Rattle.mnum.specs.Num.{units};
 ghost use Rattle.mnum.specs.Start.{starts_number};
@@ -85,6 +86,17 @@ impl Num {
             return out.extend_from_slice(buffer.format(self.digits).as_bytes());
         }
         out.extend_from_slice(self.text().as_slice())
+    }
+
+    /// Whether a text is the canonical text of the number. Takes no memory.
+    pub fn is_text(self, text: &[u8]) -> bool
+        ensures { result ≡ pointwise nat_eq (number_text (units self)) text.now }
+    {
+        // most texts of no number are told by their first byte
+        if !starts_canonical(text) {
+            return false;
+        }
+        self.text().as_slice() == text
     }
 }
 

@@ -22,7 +22,7 @@ pub(crate) fn relation(
     ensures { Yields fault_of (meaning.truth (truth_tree operator) left.now right.now) (λ holds. holds) result }
 {
     match operator {
-        Truth::Equals => Ok(left.equals(alloc, right)?),
+        Truth::Equals => Ok(left.equals(right)),
         Truth::Less => {
             let (a, b) = numbers(left, right)?;
             Ok(a.cmp(b).is_lt())

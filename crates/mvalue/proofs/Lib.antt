@@ -1,2 +1,3 @@
 pub mod AsciiNumbers
 pub mod Numbers
+pub mod NumberLengths

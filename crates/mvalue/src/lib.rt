@@ -9,4 +9,4 @@ mod shown;
 mod value;
 
 pub use shown::Shown;
-pub use value::Value;
+pub use value::{Kind, Value};

@@ -1,10 +1,11 @@
 // Values: a number stays a number until its text is wanted.
-ghost use Rattle.std.specs.Prelude.{◌≡◌, ◌^◌, ◌<◌, ◌*ℤ◌, ◌++◌, All, None, Some, pos, unsigned_abs, IsOk, IfOk, OnOk, MatchResult, nat_eq, option_map};
+ghost use Rattle.std.specs.Prelude.{◌≡◌, ◌==◌, ◌^◌, ◌<◌, ◌*ℤ◌, ◌++◌, length, All, None, Some, pos, unsigned_abs, IsOk, IfOk, OnOk, MatchResult, nat_eq, option_map};
 ghost use Rattle.std.specs.Cmp.Lexicographic.{pointwise};
 ghost use Rattle.mspec.specs.Interpretations.{is_true, truth_text, whole_part};
 ghost use Rattle.mspec.specs.Number.{significant_digits};
 ghost use Rattle.mspec.specs.NumberText.{numeric_value, number_text};
 ghost use Rattle.mnum.specs.Num.{units};
+ghost use Rattle.mvalue.specs.Texts.{kind_text};
 
 use crate::shown::Shown;
 use mnum::{Bytes7, Num, Over};
@@ -17,9 +18,12 @@ pub struct Value {
     kind: Kind,
 }
 
+/// What a value is held as. Contracts see it by `kind_text`, as its text.
 #[derive(Drop)]
-enum Kind {
+pub enum Kind {
+    /// A number, which stands for its canonical text.
     Number(Num),
+    /// A text, which may be that of a number too.
     Text(Bytes7),
 }
 
@@ -110,6 +114,23 @@ impl Value {
     {
         let text = Bytes7::from_slice(alloc, bytes)?;
         Ok(Value::of_text(text))
+    }
+
+    /// What the value is held as. Takes no memory.
+    pub fn kind(&self) -> &Kind
+        ensures { kind_text result.now ≡ self.now }
+    {
+        &self.kind
+    }
+
+    /// Whether the value is the empty text. Takes no memory.
+    pub fn is_empty(&self) -> bool
+        ensures { result ≡ (length self.now == 0) }
+    {
+        match &self.kind {
+            Kind::Number(_) => false,
+            Kind::Text(text) => text.as_bytes().is_empty(),
+        }
     }
 
     /// The text of the value.
@@ -207,21 +228,15 @@ impl Value {
         Ok(number.to_whole())
     }
 
-    /// Whether two values are one text. Of two numbers none is printed.
-    ///
-    /// # Errors
-    ///
-    /// `AllocError` for want of memory, which only a number beside a text needs.
-    pub fn equals(&self, alloc: Global, other: &Value) -> Result<bool, AllocError>
-        ensures { IfOk result (λ same. same ≡ pointwise nat_eq self.now other.now) }
+    /// Whether two values are one text. Takes no memory.
+    pub fn equals(&self, other: &Value) -> bool
+        ensures { result ≡ pointwise nat_eq self.now other.now }
     {
         match (&self.kind, &other.kind) {
-            (Kind::Number(a), Kind::Number(b)) => Ok(a.cmp(*b).is_eq()),
-            _ => {
-                let first = self.shown(alloc)?;
-                let second = other.shown(alloc)?;
-                Ok(first.as_text() == second.as_text())
-            }
+            (Kind::Number(a), Kind::Number(b)) => a.cmp(*b).is_eq(),
+            (Kind::Number(a), Kind::Text(b)) => a.is_text(b.as_bytes()),
+            (Kind::Text(a), Kind::Number(b)) => b.is_text(a.as_bytes()),
+            (Kind::Text(a), Kind::Text(b)) => a == b,
         }
     }
 }

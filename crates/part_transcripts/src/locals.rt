@@ -1,8 +1,7 @@
 // Calls on the scopes of local variables.
-use crate::words::{name_of, names_of, text_of, texts_of, words_of};
+use crate::words::{name_of, names_of, text_of, words_of};
 use anyhow::Context;
-use mkey::subs_ok;
-use mlocal::{Direction, Locals, order_subs_ok};
+use mlocal::{Direction, Locals, order_subs_ok, subs_ok};
 use mnum::{Bytes7, Name, Num};
 use mtranscript::{print_case, print_result};
 use mvalue::Value;
@@ -48,7 +47,7 @@ fn call(locals: &mut Locals, alloc: Global, words: &[&str]) -> anyhow::Result<Op
 }
 
 fn kill(locals: &mut Locals, alloc: Global, name: &str, subs: &[&str]) -> anyhow::Result<()> {
-    let subs = texts_of(alloc, subs)?;
+    let subs = subs_of(alloc, subs)?;
     if !subs_ok(&subs) {
         anyhow::bail!("no subscripts");
     }
@@ -63,7 +62,7 @@ fn set(
     subs: &[&str],
     value: Value,
 ) -> anyhow::Result<()> {
-    let subs = texts_of(alloc, subs)?;
+    let subs = subs_of(alloc, subs)?;
     if !subs_ok(&subs) {
         anyhow::bail!("no subscripts");
     }
@@ -77,6 +76,19 @@ fn number_of(alloc: Global, text: &str) -> anyhow::Result<Num> {
         .context("too large a number")
 }
 
+// The subscripts that words are, those behind a `#` as numbers.
+fn subs_of(alloc: Global, words: &[&str]) -> anyhow::Result<Vec<Value>> {
+    let mut subs = Vec::new(alloc);
+    for word in words {
+        let sub = match word.strip_prefix('#') {
+            Some(number) => Value::of_number(number_of(alloc, number)?),
+            None => Value::of_text(text_of(alloc, word)?),
+        };
+        subs.push(sub)?;
+    }
+    Ok(subs)
+}
+
 // What is asked of a node, `none` where it has none.
 fn asked(
     locals: &Locals,
@@ -86,12 +98,12 @@ fn asked(
     subs: &[&str],
 ) -> anyhow::Result<Bytes7> {
     let name = name_of(alloc, name)?;
-    let subs = texts_of(alloc, subs)?;
+    let subs = subs_of(alloc, subs)?;
     let found = match what {
         "get" => text(locals, alloc, &name, &subs)?,
         "data" => return text_of(alloc, data(locals, &name, &subs)?),
-        "next" => next(locals, &name, &subs, Direction::Forward)?,
-        "back" => next(locals, &name, &subs, Direction::Backward)?,
+        "next" => next(locals, alloc, &name, &subs, Direction::Forward)?,
+        "back" => next(locals, alloc, &name, &subs, Direction::Backward)?,
         _ => anyhow::bail!("no call on locals"),
     };
     match found {
@@ -104,7 +116,7 @@ fn text(
     locals: &Locals,
     alloc: Global,
     name: &Name,
-    subs: &[Bytes7],
+    subs: &[Value],
 ) -> anyhow::Result<Option<Bytes7>> {
     if !subs_ok(subs) {
         anyhow::bail!("no subscripts");
@@ -116,7 +128,7 @@ fn text(
 }
 
 // What $DATA gives.
-fn data(locals: &Locals, name: &Name, subs: &[Bytes7]) -> anyhow::Result<&'static str> {
+fn data(locals: &Locals, name: &Name, subs: &[Value]) -> anyhow::Result<&'static str> {
     if !subs_ok(subs) {
         anyhow::bail!("no subscripts");
     }
@@ -131,12 +143,16 @@ fn data(locals: &Locals, name: &Name, subs: &[Bytes7]) -> anyhow::Result<&'stati
 
 fn next(
     locals: &Locals,
+    alloc: Global,
     name: &Name,
-    subs: &[Bytes7],
+    subs: &[Value],
     direction: Direction,
 ) -> anyhow::Result<Option<Bytes7>> {
     if !order_subs_ok(subs) {
         anyhow::bail!("no subscripts");
     }
-    Ok(locals.order(name, subs, direction)?)
+    match locals.order(name, subs, direction)? {
+        None => Ok(None),
+        Some(next) => Ok(Some(next.into_text(alloc)?)),
+    }
 }

@@ -5,7 +5,7 @@ use Rattle.mmeaning.proofs.Yieldings.{yields_then, yields_stopped, yields_gives}
 use Rattle.moperator.proofs.relations.relation.Goals as goal
 
 pub returns-in_err-a-in-Less : goal.returns-in_err-a-in-Less
-returns-in_err-a-in-Less c = rw c.in-Less.is (yields_stopped _ c.in_err-a-in-Less.ensures c.from_residual-in_err-a-in-Less.ensures)
+returns-in_err-a-in-Less c = rw c.in-Less.is (yields_stopped _ c.in_err-a-in-Less.ensures c.from_residual.ensures)
 
 pub returns-in_err-a-in-Greater : goal.returns-in_err-a-in-Greater
 returns-in_err-a-in-Greater c = rw c.in-Greater.is (yields_stopped _ c.in_err-a-in-Greater.ensures c.from_residual-in_err-a-in-Greater.ensures)

@@ -99,11 +99,6 @@ evaluated-returns-in_err-values-clause-does g t c =
     let k = rw c.subscripts_of.ensures at c.in_err-values.ensures.does in
     as_evaluated _ (rw c.in_default-indirect_parts.is at c.indirect_parts.ensures.none refl) (rw c.in_default-extended_parts.is at c.extended_parts.ensures.none refl) (evaluates_stopped (λ i xs. give (named i.account (reference_tree c.args.reference.now) xs)) k c.from_residual.ensures)
 
-pub evaluated-returns-in_err-texts-clause-does : goal.evaluated-returns-in_err-texts-clause-does
-evaluated-returns-in_err-texts-clause-does g t c =
-    let k = rw c.subscripts_of.ensures at c.in_ok-values.ensures.does in
-    as_evaluated _ (rw c.in_default-indirect_parts.is at c.indirect_parts.ensures.none refl) (rw c.in_default-extended_parts.is at c.extended_parts.ensures.none refl) (evaluates_then (λ i xs. give (named i.account (reference_tree c.args.reference.now) xs)) k (evaluates_wanting _ _ _ c.from_residual-in_err-texts.ensures))
-
 pub evaluated-returns-in_err-pending-clause-does : goal.evaluated-returns-in_err-pending-clause-does
 evaluated-returns-in_err-pending-clause-does g t c =
     let k = rw c.subscripts_of.ensures at c.in_ok-values.ensures.does in
@@ -112,8 +107,7 @@ evaluated-returns-in_err-pending-clause-does g t c =
 pub evaluated-returns-clause-does : goal.evaluated-returns-clause-does
 evaluated-returns-clause-does g t c =
     let k = rw c.subscripts_of.ensures at c.in_ok-values.ensures.does in
-    let is = rw c.in_ok-texts.ensures at c.in_ok-pending.ensures in
-    as_evaluated _ (rw c.in_default-indirect_parts.is at c.indirect_parts.ensures.none refl) (rw c.in_default-extended_parts.is at c.extended_parts.ensures.none refl) (evaluates_then (λ i xs. give (named i.account (reference_tree c.args.reference.now) xs)) k (gives_named _ _ _ is))
+    as_evaluated _ (rw c.in_default-indirect_parts.is at c.indirect_parts.ensures.none refl) (rw c.in_default-extended_parts.is at c.extended_parts.ensures.none refl) (evaluates_then (λ i xs. give (named i.account (reference_tree c.args.reference.now) xs)) k (gives_named _ _ _ c.in_ok-pending.ensures))
 
 pub evaluated-returns-in-Some-indirect_parts-clause-does : goal.evaluated-returns-in-Some-indirect_parts-clause-does
 evaluated-returns-in-Some-indirect_parts-clause-does g t c = rw c.in-Some-indirect_parts.ensures.parts c.named.ensures.does
@@ -203,14 +197,6 @@ through-returns-in_err-values-clause-does g t c =
     evaluates_then (λ i v. values i (subscripts_of v) subscripts >>= (λ xs. give (with_subscripts xs v))) c.in_ok-front.ensures.does
     (evaluates_behind subscripts v (evaluates_stopped (λ i ys. give (with_subscripts (subscripts_of v ++ ys) v)) c.in_err-values.ensures.does c.from_residual-in_err-values.ensures))
 
-pub through-returns-in_err-texts-clause-does : goal.through-returns-in_err-texts-clause-does
-through-returns-in_err-texts-clause-does g t c =
-    let subscripts = exprs_of (map expr_tree c.args.subscripts.now) in
-    let v = pending_view c.in_ok-front.front in
-    evaluates_then (λ i v. values i (subscripts_of v) subscripts >>= (λ xs. give (with_subscripts xs v))) c.in_ok-front.ensures.does
-    (evaluates_behind subscripts v
-    (evaluates_then (λ i ys. give (with_subscripts (subscripts_of v ++ ys) v)) c.in_ok-values.ensures.does (evaluates_wanting _ _ _ c.from_residual-in_err-texts.ensures)))
-
 pub through-returns-in_err-extended-clause-does : goal.through-returns-in_err-extended-clause-does
 through-returns-in_err-extended-clause-does g t c =
     let subscripts = exprs_of (map expr_tree c.args.subscripts.now) in
@@ -223,9 +209,8 @@ pub through-returns-clause-does : goal.through-returns-clause-does
 through-returns-clause-does g t c =
     let subscripts = exprs_of (map expr_tree c.args.subscripts.now) in
     let v = pending_view c.in_ok-front.front in
-    let is = rw c.in_ok-texts.ensures at c.in_ok-extended.ensures in
     evaluates_then (λ i v. values i (subscripts_of v) subscripts >>= (λ xs. give (with_subscripts xs v))) c.in_ok-front.ensures.does
-    (evaluates_behind subscripts v (evaluates_then (λ i ys. give (with_subscripts (subscripts_of v ++ ys) v)) c.in_ok-values.ensures.does (evaluates_gives _ pending_view _ is)))
+    (evaluates_behind subscripts v (evaluates_then (λ i ys. give (with_subscripts (subscripts_of v ++ ys) v)) c.in_ok-values.ensures.does (evaluates_gives _ pending_view _ c.in_ok-extended.ensures)))
 
 -- ---- functions of a variable
 

@@ -11,7 +11,7 @@ pub returns-in_ok-next-in-Local-clause-does : goal.returns-in_ok-next-in-Local-c
 returns-in_ok-next-in-Local-clause-does g c =
     let next = rw (c.deref.ensures.value, c.as_name.ensures) at c.in_ok-next-in-Local.ensures in
     let is = c.next_value.ensures ∙ ap (λ (o : Option Text). unwrap_or o []) next in
-    rw c.in-Local.is (asks_locals (λ l. unwrap_or (next_subscript l (way c.args.direction) (name_view c.in-Local.name) c.in-Local.texts.items) []) (λ v. v) _ is)
+    rw c.in-Local.is (asks_locals (λ l. unwrap_or (next_subscript l (way c.args.direction) (name_view c.in-Local.name) c.in-Local.values.items) []) (λ v. v) _ is)
 
 pub returns-in_err-next-in-Node-clause-does : goal.returns-in_err-next-in-Node-clause-does
 returns-in_err-next-in-Node-clause-does g c =
@@ -19,4 +19,4 @@ returns-in_err-next-in-Node-clause-does g c =
 
 pub returns-in_ok-next-in-Node-clause-does : goal.returns-in_ok-next-in-Node-clause-does
 returns-in_ok-next-in-Node-clause-does g c =
-    rw c.in-Node.is (evaluates_then (λ i next. give (unwrap_or next [])) c.in_ok-next-in-Node.ensures.does (evaluates_gives _ _ _ c.next_value-in-Node.ensures))
+    rw c.in-Node.is (evaluates_then (λ i next. give (unwrap_or next [])) c.in_ok-next-in-Node.ensures.does (evaluates_gives _ _ _ c.next_text.ensures))

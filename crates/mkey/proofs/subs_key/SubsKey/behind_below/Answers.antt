@@ -7,9 +7,9 @@ use Rattle.mkey.proofs.subs_key.SubsKey.behind_below.Goals as goal
 
 pub invariant_of-result : goal.invariant_of-result
 invariant_of-result c =
-    let pushed = c.push_subscripts.ensures ∙ ap (λ b. b ++ subscripts_bytes significant_digits c.args.subs.now) c.in_ok-bound.ensures.items in
+    let pushed = c.in_ok-push_values.ensures ∙ ap (λ b. b ++ subscripts_bytes significant_digits c.args.subs.now) c.in_ok-bound.ensures.items in
     let all = c.in_ok-extend_from_slice.ensures.items ∙ ap (λ b. b ++ 2 ∷ 255 ∷ 0 ∷ []) pushed in
-    let key : IsSubsKeyOf (behind_below c.args.subs.now) c.extend_from_slice.new.self.items = beyond_key c.args.subs.now _ (c.requires, c.room.ensures.ascii) all in
+    let key : IsSubsKeyOf (behind_below c.args.subs.now) c.extend_from_slice.new.self.items = beyond_key c.args.subs.now _ (c.requires, c.values_room.ensures.ascii) all in
     ((behind_below c.args.subs.now, key), tt)
 
 pub returns-clause-key : goal.returns-clause-key

@@ -9,4 +9,4 @@ pub returns-clause-key : goal.returns-clause-key
 returns-clause-key c =
     let given = c.result-1.given.0 in
     one_list given.0 c.args.subs.now _ given.1
-    (key_of_subs c.args.subs.now _ (c.requires, c.room.ensures.ascii) (c.push_subscripts.ensures ∙ ap (λ b. b ++ subscripts_bytes significant_digits c.args.subs.now) c.in_ok-bytes.ensures.items))
+    (key_of_subs c.args.subs.now _ (c.requires, c.values_room.ensures.ascii) (c.in_ok-push_values.ensures ∙ ap (λ b. b ++ subscripts_bytes significant_digits c.args.subs.now) c.in_ok-bytes.ensures.items))

@@ -23,13 +23,13 @@ returns-in-None c =
     none_read c.args.above.now c.args.self.now c.requires within c.behind-rest.result.now
     (c.behind-rest.ensures ∙ ap (λ b. drop (length b) c.as_bytes.result.now) c.as_bytes-2.ensures.bytes
     ∙ ap (drop (length (subscripts_bytes significant_digits c.args.above.now))) c.as_bytes.ensures.bytes ∙ bytes_behind c.args.above.now c.args.self.now within)
-    (rw c.in-None.is at c.in_ok-read_subscript.ensures)
+    (rw c.in-None.is at c.in_ok-read_value.ensures)
 
 pub returns-in-Some : goal.returns-in-Some
 returns-in-Some c =
     let within : is_within c.args.above.now c.args.self.now ≡ true = sym c.is_within.ensures ∙ c.if-not-is_within.false in
-    let found = rw c.in-Some.is at c.in_ok-read_subscript.ensures in
+    let found = rw c.in-Some.is at c.in_ok-read_value.ensures in
     one_read c.args.above.now c.args.self.now c.requires within c.behind-rest.result.now
     (c.behind-rest.ensures ∙ ap (λ b. drop (length b) c.as_bytes.result.now) c.as_bytes-2.ensures.bytes
     ∙ ap (drop (length (subscripts_bytes significant_digits c.args.above.now))) c.as_bytes.ensures.bytes ∙ bytes_behind c.args.above.now c.args.self.now within)
-    c.in-Some.text c.in-Some.field-0-1 found.1 found.0
+    c.in-Some.value c.in-Some.field-0-1 found.1 found.0

@@ -22,8 +22,7 @@ pub returns-then-is_empty-clause-key : goal.returns-then-is_empty-clause-key
 returns-then-is_empty-clause-key c =
     let subs = c.args.subs.now in
     let end = c.in_ok-end.ensures.key ∙ ap behind_below c.front.ensures in
-    let bytes = c.as_bytes.ensures.bytes ∙ c.last.ensures in
-    let none : last subs ≡ [] = sym bytes ∙ no_list c.as_bytes.result.now (grind (arith, nat_tests, c.if-is_empty.ensures)) in
+    let none : last subs ≡ [] = sym c.last.ensures ∙ no_list c.last.result.now (grind (arith, nat_tests, c.if-is_empty.ensures)) in
     last_walk c.args.self.now c.self.inside.own c.self.inside.values c.self.view_is c.last_between.ensures.ordered c.self.invariant
     (is_between c.args.above.now c.in_ok-end.end) (has_child (λ s. is_empty (last subs) || is_before s (last subs)) (front subs)) (not_child (λ s. is_empty (last subs) || is_before s (last subs)) (front subs))
     (λ k is. ap (λ low. is_between low c.in_ok-end.end k) c.requires.above ∙ ap (λ high. is_between (front subs) high k) end
@@ -32,9 +31,8 @@ returns-then-is_empty-clause-key c =
 
 pub build-requires : goal.build-requires
 build-requires c =
-    let bytes = c.as_bytes.ensures.bytes ∙ c.last.ensures in
-    let some : 0 < length c.as_bytes.result.now = grind (arith, nat_tests, c.if-is_empty.ensures) in
-    whole c.args.subs.now c.requires.subs (subst (λ x. 0 < length x) bytes some)
+    let some : 0 < length c.last.result.now = grind (arith, nat_tests, c.if-is_empty.ensures) in
+    whole c.args.subs.now c.requires.subs (subst (λ x. 0 < length x) c.last.ensures some)
 
 pub last_between-requires-2-clause-forward : goal.last_between-requires-2-clause-forward
 last_between-requires-2-clause-forward c =
@@ -46,9 +44,8 @@ pub returns-clause-key : goal.returns-clause-key
 returns-clause-key c =
     let subs = c.args.subs.now in
     let end = c.in_ok-end-2.ensures.key ∙ split_last subs c.requires.subs.some in
-    let bytes = c.as_bytes.ensures.bytes ∙ c.last.ensures in
-    let some : 0 < length c.as_bytes.result.now = grind (arith, nat_tests, c.if-is_empty.ensures) in
-    let full = not_empty (last subs) (subst (λ x. 0 < length x) bytes some) in
+    let some : 0 < length c.last.result.now = grind (arith, nat_tests, c.if-is_empty.ensures) in
+    let full = not_empty (last subs) (subst (λ x. 0 < length x) c.last.ensures some) in
     last_walk c.args.self.now c.self.inside.own c.self.inside.values c.self.view_is c.last_between-2.ensures.ordered c.self.invariant
     (is_between c.args.above.now c.in_ok-end-2.end) (has_child (λ s. is_empty (last subs) || is_before s (last subs)) (front subs)) (not_child (λ s. is_empty (last subs) || is_before s (last subs)) (front subs))
     (λ k is. ap (λ low. is_between low c.in_ok-end-2.end k) c.requires.above ∙ ap (λ high. is_between (front subs) high k) end

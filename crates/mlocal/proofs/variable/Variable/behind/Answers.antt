@@ -13,8 +13,7 @@ use Rattle.mlocal.proofs.variable.Variable.behind.Goals as goal
 pub returns-then-is_empty-clause-next : goal.returns-then-is_empty-clause-next
 returns-then-is_empty-clause-next c =
     let subs = c.args.subs.now in
-    let bytes = c.as_bytes.ensures.bytes ∙ c.last.ensures in
-    let none : last subs ≡ [] = sym bytes ∙ no_list c.as_bytes.result.now (grind (arith, nat_tests, c.if-is_empty.ensures)) in
+    let none : last subs ≡ [] = sym c.last.ensures ∙ no_list c.last.result.now (grind (arith, nat_tests, c.if-is_empty.ensures)) in
     onward_walk c.args.self.now c.self.inside.own c.self.inside.values c.self.view_is c.first_behind.ensures.ordered c.self.invariant
     c.args.above.now (front subs) (last subs)
     (λ k is. ap (λ low. is_between low (behind_below (front subs)) k) c.requires.above
@@ -23,9 +22,8 @@ returns-then-is_empty-clause-next c =
 
 pub behind_below-requires : goal.behind_below-requires
 behind_below-requires c =
-    let bytes = c.as_bytes.ensures.bytes ∙ c.last.ensures in
-    let some : 0 < length c.as_bytes.result.now = grind (arith, nat_tests, c.if-is_empty.ensures) in
-    whole c.args.subs.now c.requires.subs (subst (λ x. 0 < length x) bytes some)
+    let some : 0 < length c.last.result.now = grind (arith, nat_tests, c.if-is_empty.ensures) in
+    whole c.args.subs.now c.requires.subs (subst (λ x. 0 < length x) c.last.ensures some)
 
 start_is : (subs : List Text) (key : List Text) → 0 < length subs → key ≡ behind_below subs → key ≡ behind_below (front subs ++ last subs ∷ [])
 start_is subs key some e = e ∙ ap behind_below (split_last subs some)

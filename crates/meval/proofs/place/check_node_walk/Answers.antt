@@ -1,0 +1,12 @@
+use Rattle.std.proofs.Common.{sym}
+use Rattle.mspec.proofs.SubscriptTests.{decides_order_subscripts}
+use Rattle.meval.proofs.References.{walks, no_walk, not_empty}
+use Rattle.meval.proofs.place.check_node_walk.Goals as goal
+
+pub returns-then-not-order_subs_ok-clause-checked : goal.returns-then-not-order_subs_ok-clause-checked
+returns-then-not-order_subs_ok-clause-checked c =
+    let is = rw c.if-not-order_subs_ok.true at (decides_order_subscripts _ _ c.order_subs_ok.ensures) in
+    no_walk c.args.texts.now (not_empty _ c.if-is_empty.ensures) (sym is)
+
+pub returns-clause-checked : goal.returns-clause-checked
+returns-clause-checked c = walks c.args.texts.now (c.order_subs_ok.ensures.0 c.if-not-order_subs_ok.false)

@@ -1,0 +1,8 @@
+use Rattle.std.proofs.Common.{[], arith}
+use Rattle.std.proofs.lemmas.List.Elements.{All-from_get_or}
+use Rattle.mspec.specs.KeyBytes.{IsAscii}
+use Rattle.mkey.proofs.values.values_room.Goals as goal
+
+pub returns-clause-ascii : goal.returns-clause-ascii
+returns-clause-ascii c =
+    All-from_get_or IsAscii c.args.subs.now [] (λ k inside. c.loop-value.invariant.ascii k (let end = c.loop-value-test.false in omega arith))

@@ -1,0 +1,9 @@
+use Rattle.std.proofs.Common.{◌*◌, ◌<◌, ◌≤◌, ℕ, [], get_or}
+use Rattle.mspec.specs.KeyBytes.{IsAscii}
+use Rattle.mkey.proofs.values.values_room.Given as goal
+
+abbrev pub invariant-loop-value : goal.invariant-loop-value
+invariant-loop-value l = record {
+  few : l.total ≤ l.value-index * 272;
+  ascii : (k : ℕ) → k < l.value-index → IsAscii (get_or l.subs k []);
+}

@@ -25,7 +25,7 @@ use Rattle.mcommand.specs.Turns.{course_view, started, added, advanced}
 use Rattle.mexec.specs.declared.signal.Signal.{Signal}
 use Rattle.mexec.specs.declared.signal.Signal.TheVariants as signal
 use Rattle.mexec.specs.declared.frames.Turns.{Turns}
-use Rattle.mexec.specs.Frames.{Runs, commands_from, loop_before, turning, spot_of}
+use Rattle.mexec.specs.Frames.{Runs, commands_from, loop_before, turning, signal_of, spot_of}
 use Rattle.mexec.proofs.Calls.{runs_then, runs_stopped, runs_as, runs_spent, runs_frame, runs_rest}
 
 -- ---- acts
@@ -83,6 +83,18 @@ course_is x t forever = refl
 pub turn_runs : {S X : Type 0} {g : Ghosts S} {f : X → Unit {0}} {u : X} {fs : List View} {old mid : Parts S} (d : Spot) (t : Turning) → DoesAt g (λ a n. charge) f old (Ok u) mid → mid.eval.steps < old.eval.steps
     → Runs g (λ a n. begin_turn (context a n d) t) fs old (Ok signal.GoOn) (Rests d t.body ∷ frames.Turns d t ∷ fs) mid
 turn_runs d t c less = runs_spent (λ a n _. (context a n d).texts.turn d t) c less (runs_frame (frames.Turns d t) (runs_rest d t.body))
+
+-- with its body done at once
+pub turn_done : {S X : Type 0} {g : Ghosts S} {f : X → Unit {0}} {u : X} {s : Signal} {fs fs' : List View} {old mid next new : Parts S} {r : Result Signal Code} (d : Spot) (t : Turning) → DoesAt g (λ a n. charge) f old (Ok u) mid → mid.eval.steps < old.eval.steps
+    → DoesAt g (λ a n. meaning.commands (context a n d) t.body) signal_of mid (Ok s) next → next.eval.steps ≤ mid.eval.steps → Runs g (λ a n. meaning.after_turn (context a n d) t (signal_of s)) fs next r fs' new
+    → Runs g (λ a n. begin_turn (context a n d) t) fs old r fs' new
+turn_done d t c less does few k = runs_spent (λ a n _. (context a n d).texts.turn d t) c less (runs_then (λ a n s. meaning.after_turn (context a n d) t s) does few k)
+
+-- and where the body fails
+pub turn_failed : {S X : Type 0} {g : Ghosts S} {f : X → Unit {0}} {u : X} {fs fs' : List View} {old mid new : Parts S} {r : Result Signal Code} {e : Code} (d : Spot) (t : Turning) → DoesAt g (λ a n. charge) f old (Ok u) mid → mid.eval.steps < old.eval.steps
+    → DoesAt g (λ a n. meaning.commands (context a n d) t.body) signal_of mid (Err e) new → new.eval.steps ≤ mid.eval.steps → IsErr r × IsErrAnd r (λ x. x ≡ e)
+    → Runs g (λ a n. begin_turn (context a n d) t) fs old r fs' new
+turn_failed d t c less does few h = runs_spent (λ a n _. (context a n d).texts.turn d t) c less (runs_stopped (λ a n s. meaning.after_turn (context a n d) t s) does few h)
 
 -- ---- turns as the frames have them
 

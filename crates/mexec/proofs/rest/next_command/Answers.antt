@@ -2,7 +2,7 @@ use Rattle.std.proofs.Common.{◌≤◌, ◌<◌, ◌+◌, length, arith}
 use Rattle.mspec.proofs.ListPlaces.{next_item, none_left}
 use Rattle.mexec.specs.declared.signal.Signal.TheVariants as signal
 use Rattle.mexec.specs.Frames.{spot_of, commands_from}
-use Rattle.mexec.proofs.Calls.{runs_then, runs_stopped, runs_wanting, runs_signal, runs_resting, some_item}
+use Rattle.mexec.proofs.Calls.{runs_then, runs_stopped, runs_wanting, runs_signal, runs_done, runs_resting, some_item}
 use Rattle.mexec.proofs.rest.next_command.Goals as goal
 
 pub returns-then-at-len-clause-does : goal.returns-then-at-len-clause-does
@@ -11,6 +11,12 @@ returns-then-at-len-clause-does g c =
     let h = rw (c.len.ensures, c.deref.ensures) at c.if-at-len.true in
     let past : length v.items ≤ c.args.rest.at = omega (arith, h, v.ok) in
     rw (none_left c.args.rest.at v.items past) (runs_signal signal.GoOn)
+
+pub direct_commands-requires : goal.direct_commands-requires
+direct_commands-requires g c = ?
+
+pub returns-then-is_direct_from-clause-does : goal.returns-then-is_direct_from-clause-does
+returns-then-is_direct_from-clause-does g c = runs_done c.direct_commands.result c.direct_commands.ensures.does c.direct_commands.ensures.fewer
 
 pub returns-in_err-charge-clause-does : goal.returns-in_err-charge-clause-does
 returns-in_err-charge-clause-does g c =

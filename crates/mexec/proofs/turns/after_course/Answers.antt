@@ -1,6 +1,9 @@
 use Rattle.mexec.proofs.Loops.{one_more, no_more, not_gone_on}
 use Rattle.mexec.proofs.turns.after_course.Goals as goal
 
+pub turns_at_once-requires : goal.turns_at_once-requires
+turns_at_once-requires g c = ?
+
 pub returns-in_err-goes_on-clause-does : goal.returns-in_err-goes_on-clause-does
 returns-in_err-goes_on-clause-does g c =
     let gone = rw c.deref.ensures at c.in_err-goes_on.ensures.does in

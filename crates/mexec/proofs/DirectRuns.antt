@@ -1,5 +1,5 @@
 -- Commands that are done at once, one after another.
-use Rattle.std.proofs.Common.{◌≡◌, ℕ, ◌+◌, ◌<◌, ◌≤◌, Bool, true, false, List, [], ◌∷◌, Result, Ok, Err, length, get_or, map, drop, refl, sym, subst}
+use Rattle.std.proofs.Common.{◌≡◌, ℕ, zero, suc, ◌+◌, ◌<◌, ◌≤◌, Bool, true, false, List, [], ◌∷◌, Result, Ok, Err, length, get_or, map, drop, refl, sym, subst, arith}
 use Rattle.std.specs.Prelude.{◌&&◌}
 use Rattle.std.specs.List.{list_all}
 use Rattle.std.specs.Result.{IsErr, IsErrAnd}
@@ -101,57 +101,49 @@ direct_effect x k a more rest h =
 
 -- ---- calls
 
+-- the commands of a line from a place on
+abbrev pub from : List Spaced → ℕ → List CommandTree
+from all k = map (λ c. c.0) (map spaced_tree (drop k all))
+
 module _ {S : Type 0} {g : Ghosts S} (p : Spot) where
   -- a signal that passes what is next
   pub passed : (s : Signal) (q : Text → ℕ → Act meaning.Signal) {parts : Parts S} → (s ≡ signal.GoOn → ⊥) → DoesAt g (λ a n. after (signal_of s) (q a n)) signal_of parts (Ok s) parts
   passed s q not_go = at_as (λ a n. passes s (q a n) not_go) (at_gives (signal_of s) signal_of s refl)
 
   module _ (all : List Arg) (k : ℕ) (x : Arg) (less : k < length all) (is : x ≡ get_or all k x) where
-    abbrev arguments_behind : Text → ℕ → Act meaning.Signal
-    arguments_behind a n = arguments (context a n p) (map arg_tree (drop (k + 1) all))
-
     pub argument_goes : {s : Signal} {old mid new : Parts S} {r : Result Signal Code} → DoesAt g (λ a n. argument (context a n p) (arg_tree x)) signal_of old (Ok s) mid
-        → DoesAt g (λ a n. after (signal_of s) (arguments_behind a n)) signal_of mid r new
+        → DoesAt g (λ a n. after (signal_of s) (arguments (context a n p) (map arg_tree (drop (k + 1) all)))) signal_of mid r new
         → DoesAt g (λ a n. arguments (context a n p) (map arg_tree (drop k all))) signal_of old r new
     argument_goes {old = old} {new = new} {r = r} d then_does =
         subst (λ (xs : List Arg). DoesAt g (λ a n. arguments (context a n p) (map arg_tree xs)) signal_of old r new) (sym (next_item all k x less is))
-        (at_then (λ a n s. after s (arguments_behind a n)) d then_does)
+        (at_then (λ a n s. after s (arguments (context a n p) (map arg_tree (drop (k + 1) all)))) d then_does)
 
     pub argument_failed : {old new : Parts S} {r : Result Signal Code} {e : Code} → DoesAt g (λ a n. argument (context a n p) (arg_tree x)) signal_of old (Err e) new → IsErr r × IsErrAnd r (λ x. x ≡ e)
         → DoesAt g (λ a n. arguments (context a n p) (map arg_tree (drop k all))) signal_of old r new
     argument_failed {old = old} {new = new} {r = r} d h =
         subst (λ (xs : List Arg). DoesAt g (λ a n. arguments (context a n p) (map arg_tree xs)) signal_of old r new) (sym (next_item all k x less is))
-        (at_stopped (λ a n s. after s (arguments_behind a n)) d h)
+        (at_stopped (λ a n s. after s (arguments (context a n p) (map arg_tree (drop (k + 1) all)))) d h)
 
-  module _ (all : List Spaced) (k : ℕ) (x : Spaced) (less : k < length all) (is : x ≡ get_or all k x) where
-    abbrev pub behind : List CommandTree
-    behind = map (λ c. c.0) (map spaced_tree (drop (k + 1) all))
+  module _ (all : List Spaced) (k : ℕ) (x : Spaced) (less : k < length all) (is : x ≡ get_or all k x) {X : Type 0} {f : X → Unit {0}} {u : X} {old mid : Parts S} (c : DoesAt g (λ a n. charge) f old (Ok u) mid) where
+    pub command_goes : {s : Signal} {next new : Parts S} {r : Result Signal Code} → DoesAt g (λ a n. conditional (context a n p) (command_tree x.command) (from all (k + 1))) signal_of mid (Ok s) next
+        → DoesAt g (λ a n. after (signal_of s) (commands (context a n p) (from all (k + 1)))) signal_of next r new
+        → DoesAt g (λ a n. commands (context a n p) (from all k)) signal_of old r new
+    command_goes {new = new} {r = r} d then_does =
+        subst (λ (xs : List Spaced). DoesAt g (λ a n. commands (context a n p) (map (λ c. c.0) (map spaced_tree xs))) signal_of old r new) (sym (next_item all k x less is))
+        (at_then (λ a n _. conditional (context a n p) (command_tree x.command) (from all (k + 1)) >>= (λ s. after s (commands (context a n p) (from all (k + 1))))) c
+        (at_then (λ a n s. after s (commands (context a n p) (from all (k + 1)))) d then_does))
 
-    abbrev commands_behind : Text → ℕ → Act meaning.Signal
-    commands_behind a n = commands (context a n p) behind
-
-    abbrev command_done : Text → ℕ → Act meaning.Signal
-    command_done a n = conditional (context a n p) (command_tree x.command) behind
-
-    module _ {X : Type 0} {f : X → Unit {0}} {u : X} {old mid : Parts S} (c : DoesAt g (λ a n. charge) f old (Ok u) mid) where
-      pub command_goes : {s : Signal} {next new : Parts S} {r : Result Signal Code} → DoesAt g command_done signal_of mid (Ok s) next
-          → DoesAt g (λ a n. after (signal_of s) (commands_behind a n)) signal_of next r new
-          → DoesAt g (λ a n. commands (context a n p) (map (λ c. c.0) (map spaced_tree (drop k all)))) signal_of old r new
-      command_goes {new = new} {r = r} d then_does =
-          subst (λ (xs : List Spaced). DoesAt g (λ a n. commands (context a n p) (map (λ c. c.0) (map spaced_tree xs))) signal_of old r new) (sym (next_item all k x less is))
-          (at_then (λ a n _. command_done a n >>= (λ s. after s (commands_behind a n))) c (at_then (λ a n s. after s (commands_behind a n)) d then_does))
-
-      pub command_failed : {new : Parts S} {r : Result Signal Code} {e : Code} → DoesAt g command_done signal_of mid (Err e) new → IsErr r × IsErrAnd r (λ x. x ≡ e)
-          → DoesAt g (λ a n. commands (context a n p) (map (λ c. c.0) (map spaced_tree (drop k all)))) signal_of old r new
-      command_failed {new = new} {r = r} d h =
-          subst (λ (xs : List Spaced). DoesAt g (λ a n. commands (context a n p) (map (λ c. c.0) (map spaced_tree xs))) signal_of old r new) (sym (next_item all k x less is))
-          (at_then (λ a n _. command_done a n >>= (λ s. after s (commands_behind a n))) c (at_stopped (λ a n s. after s (commands_behind a n)) d h))
+    pub command_failed : {new : Parts S} {r : Result Signal Code} {e : Code} → DoesAt g (λ a n. conditional (context a n p) (command_tree x.command) (from all (k + 1))) signal_of mid (Err e) new → IsErr r × IsErrAnd r (λ x. x ≡ e)
+        → DoesAt g (λ a n. commands (context a n p) (from all k)) signal_of old r new
+    command_failed {new = new} {r = r} d h =
+        subst (λ (xs : List Spaced). DoesAt g (λ a n. commands (context a n p) (map (λ c. c.0) (map spaced_tree xs))) signal_of old r new) (sym (next_item all k x less is))
+        (at_then (λ a n _. conditional (context a n p) (command_tree x.command) (from all (k + 1)) >>= (λ s. after s (commands (context a n p) (from all (k + 1))))) c
+        (at_stopped (λ a n s. after s (commands (context a n p) (from all (k + 1)))) d h))
 
   -- want of a step for the next command
   pub charge_failed : (all : List Spaced) (k : ℕ) {X : Type 0} {f : X → Unit {0}} {old new : Parts S} {r : Result Signal Code} {e : Code} → k < length all → DoesAt g (λ a n. charge) f old (Err e) new → IsErr r × IsErrAnd r (λ x. x ≡ e)
-      → DoesAt g (λ a n. commands (context a n p) (map (λ c. c.0) (map spaced_tree (drop k all)))) signal_of old r new
+      → DoesAt g (λ a n. commands (context a n p) (from all k)) signal_of old r new
   charge_failed all k {old = old} {new = new} {r = r} less c h =
       let some = some_item k all less in
-      let tail : List CommandTree = map (λ c. c.0) (map spaced_tree (drop (k + 1) all)) in
       subst (λ (xs : List Spaced). DoesAt g (λ a n. commands (context a n p) (map (λ c. c.0) (map spaced_tree xs))) signal_of old r new) (sym some.1)
-      (at_stopped (λ a n _. conditional (context a n p) (command_tree some.0.command) tail >>= (λ s. after s (commands (context a n p) tail))) c h)
+      (at_stopped (λ a n _. conditional (context a n p) (command_tree some.0.command) (from all (k + 1)) >>= (λ s. after s (commands (context a n p) (from all (k + 1))))) c h)

@@ -1,8 +1,8 @@
 -- The turns of a FOR: what the code does one after another is what the meaning has inside of one act.
-use Rattle.std.proofs.Common.{◌≡◌, ℤ, ◌+ℤ◌, ℕ, ◌<◌, Bool, true, false, cond, List, [], ◌∷◌, Option, Some, None, Result, Ok, Err, length, get_or, map, drop, refl, sym, ap, ◌∙◌, subst, arith, ◌≤◌, ◌+◌}
+use Rattle.std.proofs.Common.{◌≡◌, ℤ, ◌+ℤ◌, ℕ, ◌<◌, Bool, true, false, cond, List, [], ◌∷◌, Option, Some, None, Result, Ok, Err, length, get_or, map, drop, refl, sym, ap, ◌∙◌, subst, arith, ◌≤◌, ◌+◌, ◌*◌}
 use Rattle.mspec.specs.Act.{Text, Act, ◌>>=◌, ◌>>◌, give, charge}
 use Rattle.mspec.specs.Number.{sum_of}
-use Rattle.std.specs.Result.{IsErr, IsErrAnd}
+use Rattle.std.specs.Result.{IsErr, IsErrAnd, IfOk}
 use Rattle.mspec.proofs.ListPlaces.{next_item, none_left}
 use Rattle.mspec.specs.NumberText.{number_text}
 use Rattle.mgrammar.specs.Grammar.{ParameterTree, once, onward, until, CommandTree}
@@ -95,6 +95,16 @@ pub turn_failed : {S X : Type 0} {g : Ghosts S} {f : X → Unit {0}} {u : X} {fs
     → DoesAt g (λ a n. meaning.commands (context a n d) t.body) signal_of mid (Err e) new → new.eval.steps ≤ mid.eval.steps → IsErr r × IsErrAnd r (λ x. x ≡ e)
     → Runs g (λ a n. begin_turn (context a n d) t) fs old r fs' new
 turn_failed d t c less does few h = runs_spent (λ a n _. (context a n d).texts.turn d t) c less (runs_stopped (λ a n s. meaning.after_turn (context a n d) t s) does few h)
+
+-- and where there is no step for it
+pub turn_charge_failed : {S X : Type 0} {g : Ghosts S} {f : X → Unit {0}} {fs fs' : List View} {old new : Parts S} {r : Result Signal Code} {e : Code} (d : Spot) (t : Turning) → DoesAt g (λ a n. charge) f old (Err e) new → new.eval.steps ≤ old.eval.steps
+    → IsErr r × IsErrAnd r (λ x. x ≡ e) → Runs g (λ a n. begin_turn (context a n d) t) fs old r fs' new
+turn_charge_failed d t c few h = runs_stopped (λ a n _. (context a n d).texts.turn d t) c few h
+
+-- what falls from a later point on falls from an earlier one on
+pub falls_on : {X E : Type 0} (new mid old frames left : ℕ) (r : Result X E) → mid ≤ old → IfOk r (λ _. 6 * new + frames ≤ 6 * mid + left) → IfOk r (λ _. 6 * new + frames ≤ 6 * old + left)
+falls_on new mid old frames left (Ok x) few h = omega (arith, few, h)
+falls_on new mid old frames left (Err e) few h = tt
 
 -- ---- turns as the frames have them
 

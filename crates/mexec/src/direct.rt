@@ -2,7 +2,7 @@
 ghost use Rattle.std.specs.Prelude.{◌≡◌, ◌≤◌, List, map, true};
 ghost use Rattle.mgrammar.specs.Grammar.{CommandTree};
 ghost use Rattle.mmeaning.specs.LineMeaning as meaning;
-ghost use Rattle.mmeaning.specs.LineMeaning.{Spot, context};
+ghost use Rattle.mmeaning.specs.LineMeaning.{context};
 ghost use Rattle.mtree.specs.Tree.{arg_tree, command_tree, entry_tree, condition_tree, keyword_tree};
 ghost use Rattle.mcommand.specs.Does.{DoesAt, KeepsLoans};
 ghost use Rattle.mexec.specs.Frames.{commands_from, signal_of, spot_of};
@@ -159,7 +159,7 @@ pub(crate) fn direct_word<S: NodeStore>(
     requires { direct.is_direct_word keyword ≡ true }
     ensures loans { KeepsLoans parts.old parts.new }
     ensures fewer { parts.new.eval.steps ≤ parts.old.eval.steps }
-    ensures does { (p : Spot) (rest : List CommandTree) → DoesAt S.NodeStore (λ a n. meaning.bare (context a n p) (keyword_tree keyword) rest) signal_of parts.old result parts.new }
+    ensures does { (p : meaning.Spot) (rest : List CommandTree) → DoesAt S.NodeStore (λ a n. meaning.bare (context a n p) (keyword_tree keyword) rest) signal_of parts.old result parts.new }
 {
     match keyword {
         Keyword::Set => Ok(Signal::GoOn),

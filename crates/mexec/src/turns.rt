@@ -175,7 +175,11 @@ fn turns_at_once<S: NodeStore>(
     ensures falls { IfOk result (λ _. 6 * parts.new.eval.steps + length machine.new.frames.items ≤ 6 * parts.old.eval.steps + length machine.old.frames.items) }
     ensures does { Runs S.NodeStore (λ a n. meaning.after_course (context a n (spot_of turns.value.body.spot.value)) (turning turns.value) (course_view turns.value.course)) (stack machine.old.frames.items) parts.old result (stack machine.new.frames.items) parts.new }
 {
-    while goes_on(parts, &turns)? {
+    'turns: loop {
+        let goes_on = goes_on(parts, &turns)?;
+        if !goes_on {
+            return further(alloc, parts, Box::into_inner(turns), machine);
+        }
         charge(parts)?;
         let body = &turns.body;
         match direct_commands(alloc, parts, &body.spot, &body.line, body.at)? {
@@ -186,7 +190,6 @@ fn turns_at_once<S: NodeStore>(
             Signal::Halts => return Ok(Signal::Halts),
         }
     }
-    further(alloc, parts, Box::into_inner(turns), machine)
 }
 
 // What follows a turn.

@@ -30,7 +30,7 @@ returns-in-Indirect-clause-does g c =
 pub direct_argument-requires : goal.direct_argument-requires
 direct_argument-requires g c = other_direct c.args.arg.now c.in_default.not-Loop c.in_default.not-DoOne c.in_default.not-Executed c.in_default.not-Indirect
 
-pub returns-clause-does : goal.returns-clause-does
-returns-clause-does g c =
+pub returns-in_default-clause-does : goal.returns-in_default-clause-does
+returns-in_default-clause-does g c =
     let direct = other_direct c.args.arg.now c.in_default.not-Loop c.in_default.not-DoOne c.in_default.not-Executed c.in_default.not-Indirect in
     rw c.gave.ensures (at_as (λ a n. started_direct (context a n (spot_of c.args.spot.now)) c.args.arg.now direct) (gives_start c.direct_argument.result c.direct_argument.ensures.does))

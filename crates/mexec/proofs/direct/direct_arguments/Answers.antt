@@ -21,15 +21,15 @@ loop-arg-init g c = record {
 pub direct_argument-requires : goal.direct_argument-requires
 direct_argument-requires g c = item_passes is_direct c.args.args.now c.loop-arg.arg-index c.arg-item.result c.loop-arg-test.true c.arg-item.is c.requires
 
-pub returns-in_err-direct_argument-clause-does : goal.returns-in_err-direct_argument-clause-does
-returns-in_err-direct_argument-clause-does g c =
-    c.loop-arg.invariant.leads _ _ (argument_failed (spot_of c.args.spot.now) c.args.args.now c.loop-arg.arg-index c.arg-item.result c.loop-arg-test.true c.arg-item.is c.in_err-direct_argument.ensures.does c.from_residual.ensures)
+pub returns-in_err-other-clause-does : goal.returns-in_err-other-clause-does
+returns-in_err-other-clause-does g c =
+    c.loop-arg.invariant.leads _ _ (argument_failed (spot_of c.args.spot.now) c.args.args.now c.loop-arg.arg-index c.arg-item.result c.loop-arg-test.true c.arg-item.is c.in_err-other.ensures.does c.from_residual.ensures)
 
 pub loop-arg-preserved : goal.loop-arg-preserved
 loop-arg-preserved g c =
-    let does = rw c.in-GoOn.is at c.in_ok-direct_argument.ensures.does in
+    let does = rw c.in-GoOn.is at c.in_ok-other.ensures.does in
     record {
-      loans = keeps_on c.loop-arg.invariant.loans c.in_ok-direct_argument.ensures.loans;
+      loans = keeps_on c.loop-arg.invariant.loans c.in_ok-other.ensures.loans;
       fewer = omega arith;
       leads = λ r p k. c.loop-arg.invariant.leads r p (argument_goes (spot_of c.args.spot.now) c.args.args.now c.loop-arg.arg-index c.arg-item.result c.loop-arg-test.true c.arg-item.is does k);
     }
@@ -37,9 +37,9 @@ loop-arg-preserved g c =
 pub returns-in_default-clause-does : goal.returns-in_default-clause-does
 returns-in_default-clause-does g c =
     let p = spot_of c.args.spot.now in
-    let s = c.in_ok-direct_argument.field-0 in
+    let s = c.in_ok-other.other in
     c.loop-arg.invariant.leads _ _
-    (argument_goes p c.args.args.now c.loop-arg.arg-index c.arg-item.result c.loop-arg-test.true c.arg-item.is c.in_ok-direct_argument.ensures.does
+    (argument_goes p c.args.args.now c.loop-arg.arg-index c.arg-item.result c.loop-arg-test.true c.arg-item.is c.in_ok-other.ensures.does
     (passed p s (λ a n. meaning.arguments (context a n p) (map arg_tree (drop (c.loop-arg.arg-index + 1) c.args.args.now))) c.in_default.not-GoOn))
 
 pub returns-clause-does : goal.returns-clause-does

@@ -1,4 +1,4 @@
-use Rattle.std.proofs.Common.{Some, map, sym, refl, true, false, cond}
+use Rattle.std.proofs.Common.{[], ◌∷◌, map, sym, refl, cond}
 use Rattle.mspec.specs.Act.{give}
 use Rattle.mmeaning.specs.LineMeaning as meaning
 use Rattle.mmeaning.specs.LineMeaning.{context, effect}

@@ -13,7 +13,9 @@ returns-then-at-len-clause-does g c =
     rw (none_left c.args.rest.at v.items past) (runs_signal signal.GoOn)
 
 pub direct_commands-requires : goal.direct_commands-requires
-direct_commands-requires g c = ?
+direct_commands-requires g c =
+    let direct = rw c.deref-2.ensures at c.is_direct_from.ensures in
+    sym direct ∙ c.if-is_direct_from.true
 
 pub returns-then-is_direct_from-clause-does : goal.returns-then-is_direct_from-clause-does
 returns-then-is_direct_from-clause-does g c = runs_done c.direct_commands.result c.direct_commands.ensures.does c.direct_commands.ensures.fewer

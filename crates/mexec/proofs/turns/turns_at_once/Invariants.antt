@@ -10,13 +10,14 @@ use Rattle.mexec.specs.declared.signal.Signal.{Signal}
 use Rattle.mexec.specs.Frames.{Runs, stack, spot_of, turning}
 use Rattle.mexec.proofs.turns.turns_at_once.Given as goal
 
-abbrev pub invariant-loop-1 : goal.invariant-loop-1
-invariant-loop-1 g l = record {
+abbrev pub invariant-turns : goal.invariant-turns
+invariant-turns g l = record {
   loans : KeepsLoans l.fn.parts l.parts;
   fewer : l.parts.eval.steps ≤ l.fn.parts.eval.steps;
-  leads : (r : Result Signal Code) (fs : List View) (p : Parts _) → Runs g.S.NodeStore (λ a n. meaning.after_course (context a n (spot_of l.turns.value.body.spot.value)) (turning l.turns.value) (course_view l.turns.value.course)) (stack l.machine.frames.items) l.parts r fs p
-      → Runs g.S.NodeStore (λ a n. meaning.after_course (context a n (spot_of l.turns.value.body.spot.value)) (turning l.turns.value) (course_view l.turns.value.course)) (stack l.machine.frames.items) l.fn.parts r fs p;
+  machine : l.machine ≡ l.fn.machine;
+  leads : (r : Result Signal Code) (fs : List View) (p : Parts _) → Runs g.S.NodeStore (λ a n. meaning.after_course (context a n (spot_of l.turns.value.body.spot.value)) (turning l.turns.value) (course_view l.turns.value.course)) (stack l.fn.machine.frames.items) l.parts r fs p
+      → Runs g.S.NodeStore (λ a n. meaning.after_course (context a n (spot_of l.turns.value.body.spot.value)) (turning l.turns.value) (course_view l.turns.value.course)) (stack l.fn.machine.frames.items) l.fn.parts r fs p;
 }
 
-abbrev pub decreases-loop-1 : goal.decreases-loop-1
-decreases-loop-1 g l = l.parts.eval.steps
+abbrev pub decreases-turns : goal.decreases-turns
+decreases-turns g l = l.parts.eval.steps

@@ -14,5 +14,5 @@ returns-in-Do-clause-does g c =
 pub direct_word-requires : goal.direct_word-requires
 direct_word-requires g c = other_word c.args.keyword c.in_default.not-For c.in_default.not-Do
 
-pub returns-clause-does : goal.returns-clause-does
-returns-clause-does g c = runs_done c.direct_word.result (c.direct_word.ensures.does (spot_of c.args.behind.now.spot.value) (rest_tree c.args.behind.now)) c.direct_word.ensures.fewer
+pub returns-in_default-clause-does : goal.returns-in_default-clause-does
+returns-in_default-clause-does g c = runs_done c.direct_word.result (c.direct_word.ensures.does (spot_of c.args.behind.now.spot.value) (rest_tree c.args.behind.now)) c.direct_word.ensures.fewer

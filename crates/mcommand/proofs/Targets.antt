@@ -6,10 +6,10 @@ use Rattle.mspec.specs.Code as spec
 use Rattle.mspec.specs.TextFunctions.{set_piece_of}
 use Rattle.mspec.specs.Act.{Text, Act, ◌>>=◌, ◌>>◌, give}
 use Rattle.mspec.proofs.ListPlaces.{next_item}
-use Rattle.mgrammar.specs.Grammar.{TargetTree, ExprTree, one, several}
+use Rattle.mgrammar.specs.Grammar.{TargetTree, ExprTree, one, several, variable, local, no_exprs}
 use Rattle.mmeaning.specs.Operators.{outcome}
 use Rattle.mmeaning.specs.Functions.{as_whole_or_none}
-use Rattle.mmeaning.specs.Variables.{Place, read_or, put_at}
+use Rattle.mmeaning.specs.Variables.{Place, at_local, of_local, read_or, put_at}
 use Rattle.mmeaning.specs.Expression.{value}
 use Rattle.mmeaning.specs.LineMeaning as meaning
 use Rattle.mmeaning.specs.Yields.{Yields}
@@ -91,14 +91,24 @@ module _ {S : Type 0} {g : Ghosts S} where
   one_prepared : {old new : Parts S} (t : TargetTree) (x : Prepared) → Does g (λ i. meaning.prepared i t) prepared_view old (Ok x) new → Does g (λ i. meaning.all_prepared i [] (t ∷ [])) (λ x. prepared_view x ∷ []) old (Ok x) new
   one_prepared t x d = does_then (λ i p. meaning.all_prepared i (p ∷ []) []) d (does_gives (prepared_view x ∷ []) (λ x. prepared_view x ∷ []) x refl)
 
+  -- what is done for it alone
+  only_one : {a b : Parts S} {p : Act (Unit {0})} (r : Result (Unit {0}) Code) → Does g (λ i. p) (λ u. u) a r b → Does g (λ i. p >> give tt) (λ u. u) a r b
+  only_one (Ok u) h = does_then (λ i _. give tt) h (does_gives tt (λ u. u) u refl)
+  only_one (Err c) h = does_failed (λ i _. give tt) h
+
+  -- a local variable without subscripts: its parts are nothing, and its checks let it through
+  pub plain_assigned : {old mid new : Parts S} (name : Text) (e : ExprTree) (v : Text) (r : Result (Unit {0}) Code) → Does g (λ i. value i e) (λ (t : Text). t) old (Ok v) mid
+      → Does g (λ i. put_at (at_local name []) v) (λ (u : Unit {0}). u) mid r new → Does g (λ i. meaning.setting i (one (variable (local name no_exprs))) e) (λ u. u) old r new
+  plain_assigned name e v r k h = does_then (λ i v. meaning.all_assigned v (meaning.whole (of_local name []) ∷ [])) k (only_one r h)
+
+  pub plain_failed : {old new : Parts S} (name : Text) (e : ExprTree) (c : Code) → Does g (λ i. value i e) (λ (t : Text). t) old (Err c) new
+      → Does g (λ i. meaning.setting i (one (variable (local name no_exprs))) e) (λ (u : Unit {0}). u) old (Err c) new
+  plain_failed name e c k = does_failed (λ i v. meaning.all_assigned v (meaning.whole (of_local name []) ∷ [])) k
+
   pub one_assigned : {old mid last new : Parts S} (t : TargetTree) (e : ExprTree) (x : Prepared) (v : Text) (r : Result (Unit {0}) Code) → Does g (λ i. meaning.prepared i t) prepared_view old (Ok x) mid
       → Does g (λ i. value i e) (λ (t : Text). t) mid (Ok v) last → Does g (λ i. meaning.assigned v (prepared_view x)) (λ u. u) last r new → Does g (λ i. meaning.setting i (one t) e) (λ u. u) old r new
   one_assigned t e x v r d k h =
       does_then (λ i ps. value i e >>= λ v. meaning.all_assigned v ps) (one_prepared t x d) (does_then (λ i v. meaning.all_assigned v (prepared_view x ∷ [])) k (only_one r h))
-    where
-      only_one : {a b : Parts S} {p : Act (Unit {0})} (r : Result (Unit {0}) Code) → Does g (λ i. p) (λ u. u) a r b → Does g (λ i. p >> give tt) (λ u. u) a r b
-      only_one (Ok u) h = does_then (λ i _. give tt) h (does_gives tt (λ u. u) u refl)
-      only_one (Err c) h = does_failed (λ i _. give tt) h
 
   pub one_value_failed : {old mid new : Parts S} (t : TargetTree) (e : ExprTree) (x : Prepared) (c : Code) → Does g (λ i. meaning.prepared i t) prepared_view old (Ok x) mid → Does g (λ i. value i e) (λ (t : Text). t) mid (Err c) new
       → Does g (λ i. meaning.setting i (one t) e) (λ (u : Unit {0}). u) old (Err c) new

@@ -1,5 +1,6 @@
 // SET: the parts of its targets are evaluated first, then the right side, and then each target is assigned.
-ghost use Rattle.std.specs.Prelude.{◌≡◌, ◌≤◌, [], map, option_map};
+ghost use Rattle.std.specs.Prelude.{◌≡◌, ◌≤◌, [], map, option_map, IfSome};
+ghost use Rattle.mgrammar.specs.Grammar.{one, variable, local, no_exprs};
 ghost use Rattle.mmeaning.specs.LineMeaning as meaning;
 ghost use Rattle.mtree.specs.Tree.{expr_tree, piece_tree, target_tree, destination_tree};
 ghost use Rattle.meval.specs.Places.{pending_view};
@@ -8,11 +9,11 @@ ghost use Rattle.mcommand.specs.Prepared.{prepared_view};
 
 use crate::parts::Parts;
 use meval::Pending;
-use mnum::Bytes7;
+use mnum::{Bytes7, Name};
 use moperator::{Code, whole_number};
 use mstore::NodeStore;
 use mtext::set_piece;
-use mtree::{Destination, Expr, PieceTarget, Target};
+use mtree::{Destination, Expr, PieceTarget, Reference, Target};
 use mvalue::Value;
 use std::alloc::Global;
 
@@ -23,6 +24,19 @@ pub(crate) enum Prepared<'t> {
     Whole(Pending<'t>),
     // A piece of a variable, with its delimiter and its place.
     Part(Pending<'t>, Bytes7, Option<Value>),
+}
+
+// The name of a target that is a local variable without subscripts. It has nothing to evaluate, and no check refuses it.
+fn plain_target(target: &Target) -> Option<&Name>
+    ensures { IfSome result (λ name. target_tree target.now ≡ variable (local name.now no_exprs)) }
+{
+    match target {
+        Target::Variable(Reference::Local(name, subscripts)) => match subscripts.as_slice() {
+            [] => Some(name),
+            [_, ..] => None,
+        },
+        _ => None,
+    }
 }
 
 impl<'a, S: NodeStore> Parts<'a, S> {
@@ -142,6 +156,18 @@ impl<'a, S: NodeStore> Parts<'a, S> {
         Ok(())
     }
 
+    // Gives one target the value of the expression behind it, whatever it evaluates and checks.
+    #[inline(never)]
+    fn setting_one(&mut self, alloc: Global, target: &Target, e: &Expr) -> Result<(), Code>
+        ensures loans { KeepsLoans self.old self.new }
+        ensures fewer { self.new.eval.steps ≤ self.old.eval.steps }
+        ensures does { Does S.NodeStore (λ i. meaning.setting i (one (target_tree target.now)) (expr_tree e.now)) (λ u. u) self.old result self.new }
+    {
+        let prepared = self.prepared(alloc, target)?;
+        let value = self.eval.eval(alloc, e)?;
+        self.assign(alloc, value, prepared)
+    }
+
     /// Gives what stands to the left of `=` the value of the expression behind it.
     ///
     /// # Errors
@@ -159,11 +185,13 @@ impl<'a, S: NodeStore> Parts<'a, S> {
         ensures does { Does S.NodeStore (λ i. meaning.setting i (destination_tree destination.now) (expr_tree e.now)) (λ u. u) self.old result self.new }
     {
         match destination {
-            Destination::One(target) => {
-                let prepared = self.prepared(alloc, target)?;
-                let value = self.eval.eval(alloc, e)?;
-                self.assign(alloc, value, prepared)
-            }
+            Destination::One(target) => match plain_target(target) {
+                Some(name) => {
+                    let value = self.eval.eval(alloc, e)?;
+                    self.eval.set_index(name, value)
+                }
+                None => self.setting_one(alloc, target, e),
+            },
             Destination::Several(targets) => {
                 let all = self.all_prepared(alloc, targets)?;
                 let value = self.eval.eval(alloc, e)?;

@@ -4,4 +4,5 @@ pub mod Loops
 pub mod LevelRuns
 pub mod ArgumentRuns
 pub mod Effects
+pub mod DirectRuns
 pub mod Texts

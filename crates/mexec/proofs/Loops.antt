@@ -1,8 +1,8 @@
 -- The turns of a FOR: what the code does one after another is what the meaning has inside of one act.
-use Rattle.std.proofs.Common.{◌≡◌, ℤ, ◌+ℤ◌, ℕ, ◌<◌, Bool, true, false, cond, List, [], ◌∷◌, Option, Some, None, Result, Ok, Err, length, get_or, map, drop, refl, sym, ap, ◌∙◌, subst, arith, ◌≤◌, ◌+◌}
+use Rattle.std.proofs.Common.{◌≡◌, ℤ, ◌+ℤ◌, ℕ, ◌<◌, Bool, true, false, cond, List, [], ◌∷◌, Option, Some, None, Result, Ok, Err, length, get_or, map, drop, refl, sym, ap, ◌∙◌, subst, arith, ◌≤◌, ◌+◌, ◌*◌}
 use Rattle.mspec.specs.Act.{Text, Act, ◌>>=◌, ◌>>◌, give, charge}
 use Rattle.mspec.specs.Number.{sum_of}
-use Rattle.std.specs.Result.{IsErr, IsErrAnd}
+use Rattle.std.specs.Result.{IsErr, IsErrAnd, IfOk}
 use Rattle.mspec.proofs.ListPlaces.{next_item, none_left}
 use Rattle.mspec.specs.NumberText.{number_text}
 use Rattle.mgrammar.specs.Grammar.{ParameterTree, once, onward, until, CommandTree}
@@ -25,7 +25,7 @@ use Rattle.mcommand.specs.Turns.{course_view, started, added, advanced}
 use Rattle.mexec.specs.declared.signal.Signal.{Signal}
 use Rattle.mexec.specs.declared.signal.Signal.TheVariants as signal
 use Rattle.mexec.specs.declared.frames.Turns.{Turns}
-use Rattle.mexec.specs.Frames.{Runs, commands_from, loop_before, turning, spot_of}
+use Rattle.mexec.specs.Frames.{Runs, commands_from, loop_before, turning, signal_of, spot_of}
 use Rattle.mexec.proofs.Calls.{runs_then, runs_stopped, runs_as, runs_spent, runs_frame, runs_rest}
 
 -- ---- acts
@@ -83,6 +83,28 @@ course_is x t forever = refl
 pub turn_runs : {S X : Type 0} {g : Ghosts S} {f : X → Unit {0}} {u : X} {fs : List View} {old mid : Parts S} (d : Spot) (t : Turning) → DoesAt g (λ a n. charge) f old (Ok u) mid → mid.eval.steps < old.eval.steps
     → Runs g (λ a n. begin_turn (context a n d) t) fs old (Ok signal.GoOn) (Rests d t.body ∷ frames.Turns d t ∷ fs) mid
 turn_runs d t c less = runs_spent (λ a n _. (context a n d).texts.turn d t) c less (runs_frame (frames.Turns d t) (runs_rest d t.body))
+
+-- with its body done at once
+pub turn_done : {S X : Type 0} {g : Ghosts S} {f : X → Unit {0}} {u : X} {s : Signal} {fs fs' : List View} {old mid next new : Parts S} {r : Result Signal Code} (d : Spot) (t : Turning) → DoesAt g (λ a n. charge) f old (Ok u) mid → mid.eval.steps < old.eval.steps
+    → DoesAt g (λ a n. meaning.commands (context a n d) t.body) signal_of mid (Ok s) next → next.eval.steps ≤ mid.eval.steps → Runs g (λ a n. meaning.after_turn (context a n d) t (signal_of s)) fs next r fs' new
+    → Runs g (λ a n. begin_turn (context a n d) t) fs old r fs' new
+turn_done d t c less does few k = runs_spent (λ a n _. (context a n d).texts.turn d t) c less (runs_then (λ a n s. meaning.after_turn (context a n d) t s) does few k)
+
+-- and where the body fails
+pub turn_failed : {S X : Type 0} {g : Ghosts S} {f : X → Unit {0}} {u : X} {fs fs' : List View} {old mid new : Parts S} {r : Result Signal Code} {e : Code} (d : Spot) (t : Turning) → DoesAt g (λ a n. charge) f old (Ok u) mid → mid.eval.steps < old.eval.steps
+    → DoesAt g (λ a n. meaning.commands (context a n d) t.body) signal_of mid (Err e) new → new.eval.steps ≤ mid.eval.steps → IsErr r × IsErrAnd r (λ x. x ≡ e)
+    → Runs g (λ a n. begin_turn (context a n d) t) fs old r fs' new
+turn_failed d t c less does few h = runs_spent (λ a n _. (context a n d).texts.turn d t) c less (runs_stopped (λ a n s. meaning.after_turn (context a n d) t s) does few h)
+
+-- and where there is no step for it
+pub turn_charge_failed : {S X : Type 0} {g : Ghosts S} {f : X → Unit {0}} {fs fs' : List View} {old new : Parts S} {r : Result Signal Code} {e : Code} (d : Spot) (t : Turning) → DoesAt g (λ a n. charge) f old (Err e) new → new.eval.steps ≤ old.eval.steps
+    → IsErr r × IsErrAnd r (λ x. x ≡ e) → Runs g (λ a n. begin_turn (context a n d) t) fs old r fs' new
+turn_charge_failed d t c few h = runs_stopped (λ a n _. (context a n d).texts.turn d t) c few h
+
+-- what falls from a later point on falls from an earlier one on
+pub falls_on : {X E : Type 0} (new mid old frames left : ℕ) (r : Result X E) → mid ≤ old → IfOk r (λ _. 6 * new + frames ≤ 6 * mid + left) → IfOk r (λ _. 6 * new + frames ≤ 6 * old + left)
+falls_on new mid old frames left (Ok x) few h = omega (arith, few, h)
+falls_on new mid old frames left (Err e) few h = tt
 
 -- ---- turns as the frames have them
 

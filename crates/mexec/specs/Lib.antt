@@ -2,3 +2,4 @@ pub mod Frames
 pub mod Entering
 pub mod Arguments
 pub mod Runs
+pub mod Direct

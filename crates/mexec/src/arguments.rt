@@ -8,7 +8,8 @@ ghost use Rattle.mcommand.specs.Does.{DoesAt, KeepsLoans};
 ghost use Rattle.mexec.specs.Frames.{Runs, signal_of, source_args, source_spot, spot_of, stack};
 ghost use Rattle.mexec.specs.Arguments.{started, start_of, given, where_applies, lines_then, text_then, given_then};
 
-use crate::commands::{holds, went_on, where_true};
+use crate::commands::holds;
+use crate::direct::direct_argument;
 use crate::entering::{doing, executing};
 use crate::frames::Spot;
 use crate::indirection::giving;
@@ -52,27 +53,6 @@ fn enters<'t>(applies: Result<bool, Code>, begun: Begun<'t>) -> Result<Begun<'t>
     }
 }
 
-// GOTO, where its condition holds.
-fn going<S: NodeStore>(
-    alloc: Global,
-    parts: &mut Parts<S>,
-    spot: &Spot,
-    entry: &Entry,
-    condition: &Option<Box<Expr>>,
-) -> Result<Signal, Code>
-    ensures loans { KeepsLoans parts.old parts.new }
-    ensures fewer { parts.new.eval.steps ≤ parts.old.eval.steps }
-    ensures does { DoesAt S.NodeStore (λ a n. meaning.where_holds (context a n (spot_of spot.now)) (condition_tree condition.now) (meaning.going (context a n (spot_of spot.now)) (entry_tree entry.now))) signal_of parts.old result parts.new }
-{
-    let applies = holds(alloc, parts, spot.depth, condition)?;
-    if applies {
-        let target = parts.target(alloc, &spot.level.copy, spot.level.dots, entry)?;
-        Ok(Signal::Goes(target))
-    } else {
-        Ok(Signal::GoOn)
-    }
-}
-
 // What an argument does, of whichever command but FOR, up to where it enters lines or a text, or a text gives arguments.
 fn argument<'t, S: NodeStore>(
     alloc: Global,
@@ -84,22 +64,7 @@ fn argument<'t, S: NodeStore>(
     ensures fewer { parts.new.eval.steps ≤ parts.old.eval.steps }
     ensures does { DoesAt S.NodeStore (λ a n. started (context a n (spot_of spot.now)) (arg_tree arg.now)) start_of parts.old result parts.new }
 {
-    parts.eval.depth = spot.depth;
     match arg {
-        Arg::Assign(destination, e) => gave(went_on(parts.setting(alloc, destination, e))),
-        Arg::Breaks(count) => gave(went_on(parts.breaks(*count))),
-        Arg::Value(e) => gave(went_on(parts.showing(alloc, e))),
-        Arg::KillOne(reference) => gave(went_on(parts.killing(alloc, reference))),
-        Arg::KillOthers(names) => {
-            parts.eval.kill_others(names);
-            Ok(Begun::Gave(Signal::GoOn))
-        }
-        Arg::NewOne(name) => gave(went_on(parts.eval.hide_one(name))),
-        Arg::NewOthers(names) => gave(went_on(parts.eval.hide_others(alloc, names))),
-        Arg::Tested(e) => {
-            let is_true = parts.testing(alloc, e)?;
-            Ok(Begun::Gave(where_true(is_true)))
-        }
         Arg::Loop(_, _) => Ok(Begun::Gave(Signal::GoOn)),
         Arg::DoOne(entry, condition) => {
             enters(
@@ -107,14 +72,11 @@ fn argument<'t, S: NodeStore>(
                 Begun::Lines(entry),
             )
         }
-        Arg::GoTo(entry, condition) => gave(going(alloc, parts, spot, entry, condition)),
         Arg::Executed(e, condition) => {
             enters(holds(alloc, parts, spot.depth, condition), Begun::Text(e))
         }
-        Arg::Lock(kind, names, timeout) => {
-            gave(went_on(parts.locking(alloc, *kind, names, timeout)))
-        }
         Arg::Indirect(keyword, operand) => Ok(Begun::Given(*keyword, operand)),
+        _ => gave(direct_argument(alloc, parts, spot, arg)),
     }
 }
 

@@ -3,6 +3,7 @@
 
 mod arguments;
 mod commands;
+mod direct;
 mod entering;
 mod frames;
 mod indirection;

@@ -7,7 +7,8 @@ ghost use Rattle.mcommand.specs.Does.{KeepsLoans};
 ghost use Rattle.mexec.specs.Frames.{Runs, args_before, rest_tree, resting, stack, spot_of};
 
 use crate::arguments::arguments;
-use crate::commands::{charge, holds, went_on, where_true};
+use crate::commands::{charge, holds};
+use crate::direct::{direct_commands, direct_word, is_direct_from};
 use crate::entering::doing_block;
 use crate::frames::{Frame, Rest, Turns};
 use crate::machine::Machine;
@@ -54,25 +55,9 @@ fn bare<S: NodeStore>(
     ensures does { Runs S.NodeStore (λ a n. meaning.bare (context a n (spot_of behind.now.spot.value)) (keyword_tree keyword) (rest_tree behind.now)) (stack machine.old.frames.items) parts.old result (stack machine.new.frames.items) parts.new }
 {
     match keyword {
-        Keyword::Set => Ok(Signal::GoOn),
-        Keyword::Kill => {
-            parts.eval.kill_others(&[]);
-            Ok(Signal::GoOn)
-        }
-        Keyword::New => went_on(parts.eval.hide_others(alloc, &[])),
-        Keyword::If => Ok(where_true(parts.eval.test())),
-        Keyword::Else => Ok(where_true(!parts.eval.test())),
         Keyword::For => forever(alloc, parts, behind, machine),
-        Keyword::Quit => Ok(Signal::Quits),
-        Keyword::Write => Ok(Signal::GoOn),
         Keyword::Do => doing_block(alloc, parts, &behind.spot, machine),
-        Keyword::Goto => Ok(Signal::GoOn),
-        Keyword::Execute => Ok(Signal::GoOn),
-        Keyword::Lock => {
-            parts.release();
-            Ok(Signal::GoOn)
-        }
-        Keyword::Halt => Ok(Signal::Halts),
+        _ => direct_word(alloc, parts, keyword),
     }
 }
 
@@ -139,7 +124,8 @@ fn leave(rest: &Rest, machine: &mut Machine) -> Result<(), AllocError>
     Ok(())
 }
 
-// The next command of a line, where one is left; the rest of the line stays on the frames, unless it is empty.
+// The next command of a line, where one is left; the rest of the line stays on the frames, unless it is empty. Commands that are all
+// done at once are done here, and nothing is put on the frames for them.
 pub(crate) fn next_command<S: NodeStore>(
     alloc: Global,
     parts: &mut Parts<S>,
@@ -153,6 +139,9 @@ pub(crate) fn next_command<S: NodeStore>(
     let at = rest.at;
     if at >= rest.line.commands.len() {
         return Ok(Signal::GoOn);
+    }
+    if is_direct_from(&rest.line, at) {
+        return direct_commands(alloc, parts, &rest.spot, &rest.line, at);
     }
     charge(parts)?;
     let behind = Rest { at: at + 1, ..rest };

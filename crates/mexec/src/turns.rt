@@ -1,5 +1,5 @@
 // The turns of a FOR, frame by frame: a frame of turns means that the body of one is under way.
-ghost use Rattle.std.specs.Prelude.{◌≡◌, ◌≤◌, ◌+◌, ◌*◌, length, drop, map, option_map, IfOk, IfSome};
+ghost use Rattle.std.specs.Prelude.{◌≡◌, ◌≤◌, ◌+◌, ◌*◌, length, drop, map, option_map, true, IfOk, IfSome};
 ghost use Rattle.mmeaning.specs.LineMeaning as meaning;
 ghost use Rattle.mmeaning.specs.LineMeaning.{context};
 ghost use Rattle.mmeaning.specs.Expression.{inside};
@@ -9,9 +9,11 @@ ghost use Rattle.mcommand.specs.Does.{DoesAt, KeepsLoans};
 ghost use Rattle.mcommand.specs.Turns.{course_view, started, advanced};
 ghost use Rattle.mmeaning.specs.Frames.{Rests};
 ghost use Rattle.mexec.specs.declared.frames.Frame.TheVariants as frame;
+ghost use Rattle.mexec.specs.Direct as direct;
 ghost use Rattle.mexec.specs.Frames.{Runs, commands_from, loop_before as the_loop_before, turning, stack, view, signal_of, spot_of};
 
 use crate::commands::charge;
+use crate::direct::{direct_commands, is_direct_from};
 use crate::frames::{Frame, Rest, Turns};
 use crate::machine::Machine;
 use crate::signal::Signal;
@@ -160,6 +162,36 @@ fn goes_on<S: NodeStore>(parts: &mut Parts<S>, turns: &Turns) -> Result<bool, Co
     }
 }
 
+// What follows a turn, where the body is done at once: turn after turn, and then the parameters that are left. Nothing is put on the
+// frames for them.
+fn turns_at_once<S: NodeStore>(
+    alloc: Global,
+    parts: &mut Parts<S>,
+    turns: Box<Turns>,
+    machine: &mut Machine,
+) -> Result<Signal, Code>
+    requires { direct.is_direct_from turns.value.body.line.value turns.value.body.at ≡ true }
+    ensures loans { KeepsLoans parts.old parts.new }
+    ensures falls { IfOk result (λ _. 6 * parts.new.eval.steps + length machine.new.frames.items ≤ 6 * parts.old.eval.steps + length machine.old.frames.items) }
+    ensures does { Runs S.NodeStore (λ a n. meaning.after_course (context a n (spot_of turns.value.body.spot.value)) (turning turns.value) (course_view turns.value.course)) (stack machine.old.frames.items) parts.old result (stack machine.new.frames.items) parts.new }
+{
+    'turns: loop {
+        let goes_on = goes_on(parts, &turns)?;
+        if !goes_on {
+            return further(alloc, parts, Box::into_inner(turns), machine);
+        }
+        charge(parts)?;
+        let body = &turns.body;
+        match direct_commands(alloc, parts, &body.spot, &body.line, body.at)? {
+            Signal::GoOn => {}
+            Signal::Skips => {}
+            Signal::Quits => return Ok(Signal::Skips),
+            Signal::Goes(target) => return Ok(Signal::Goes(target)),
+            Signal::Halts => return Ok(Signal::Halts),
+        }
+    }
+}
+
 // What follows a turn.
 fn after_course<S: NodeStore>(
     alloc: Global,
@@ -171,6 +203,9 @@ fn after_course<S: NodeStore>(
     ensures falls { IfOk result (λ _. 6 * parts.new.eval.steps + length machine.new.frames.items ≤ 6 * parts.old.eval.steps + length machine.old.frames.items) }
     ensures does { Runs S.NodeStore (λ a n. meaning.after_course (context a n (spot_of turns.value.body.spot.value)) (turning turns.value) (course_view turns.value.course)) (stack machine.old.frames.items) parts.old result (stack machine.new.frames.items) parts.new }
 {
+    if is_direct_from(&turns.body.line, turns.body.at) {
+        return turns_at_once(alloc, parts, turns, machine);
+    }
     let goes_on = goes_on(parts, &turns)?;
     if goes_on {
         begin_turn(parts, turns, machine)

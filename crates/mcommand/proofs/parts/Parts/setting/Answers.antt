@@ -4,22 +4,20 @@ use Rattle.mtree.specs.Tree.{target_tree, expr_tree}
 use Rattle.mcommand.specs.declared.set.Prepared.{Prepared}
 use Rattle.mcommand.specs.Prepared.{prepared_view}
 use Rattle.mcommand.proofs.Calls.{does_evaluated}
-use Rattle.mcommand.proofs.Targets.{one_assigned, one_value_failed, one_prepared_failed, all_given, all_value_failed, all_prepared_failed}
+use Rattle.mcommand.proofs.Targets.{plain_assigned, plain_failed, all_given, all_value_failed, all_prepared_failed}
 use Rattle.mcommand.proofs.parts.Parts.setting.Goals as goal
 
-pub returns-in_err-prepared-in-One-clause-does : goal.returns-in_err-prepared-in-One-clause-does
-returns-in_err-prepared-in-One-clause-does g c =
-    rw (residual_is _ _ c.from_residual.ensures, c.in-One.is) (one_prepared_failed (target_tree c.in-One.target) (expr_tree c.args.e.now) _ c.in_err-prepared-in-One.ensures.does)
+pub returns-in_err-value-in-Some-clause-does : goal.returns-in_err-value-in-Some-clause-does
+returns-in_err-value-in-Some-clause-does g c =
+    rw (residual_is _ _ c.from_residual.ensures, c.in-One.is, c.in-Some.ensures) (plain_failed c.in-Some.name.now (expr_tree c.args.e.now) _ (does_evaluated c.in_err-value-in-Some.ensures.does))
 
-pub returns-in_err-value-in-One-clause-does : goal.returns-in_err-value-in-One-clause-does
-returns-in_err-value-in-One-clause-does g c =
-    rw (residual_is _ _ c.from_residual-in_err-value-in-One.ensures, c.in-One.is)
-    (one_value_failed (target_tree c.in-One.target) (expr_tree c.args.e.now) c.in_ok-prepared-in-One.prepared _ c.in_ok-prepared-in-One.ensures.does (does_evaluated c.in_err-value-in-One.ensures.does))
+pub returns-in_ok-value-in-Some-clause-does : goal.returns-in_ok-value-in-Some-clause-does
+returns-in_ok-value-in-Some-clause-does g c =
+    rw (c.in-One.is, c.in-Some.ensures)
+    (plain_assigned c.in-Some.name.now (expr_tree c.args.e.now) c.in_ok-value-in-Some.value c.set_index.result (does_evaluated c.in_ok-value-in-Some.ensures.does) (does_evaluated c.set_index.ensures.does))
 
-pub returns-in_ok-value-in-One-clause-does : goal.returns-in_ok-value-in-One-clause-does
-returns-in_ok-value-in-One-clause-does g c =
-    rw c.in-One.is
-    (one_assigned (target_tree c.in-One.target) (expr_tree c.args.e.now) c.in_ok-prepared-in-One.prepared c.in_ok-value-in-One.value c.assign.result c.in_ok-prepared-in-One.ensures.does (does_evaluated c.in_ok-value-in-One.ensures.does) c.assign.ensures.does)
+pub returns-in-None-clause-does : goal.returns-in-None-clause-does
+returns-in-None-clause-does g c = rw c.in-One.is c.setting_one.ensures.does
 
 pub returns-in_err-all-in-Several-clause-does : goal.returns-in_err-all-in-Several-clause-does
 returns-in_err-all-in-Several-clause-does g c =

@@ -6,7 +6,7 @@ use Rattle.mexec.proofs.LevelRuns.{at_any}
 use Rattle.mexec.specs.declared.signal.Signal.TheVariants as signal
 use Rattle.mexec.specs.Frames.{signal_of}
 use Rattle.mexec.proofs.Calls.{at_then, at_stopped, at_gives}
-use Rattle.mexec.proofs.arguments.going.Goals as goal
+use Rattle.mexec.proofs.direct.going.Goals as goal
 
 pub returns-in_err-applies-clause-does : goal.returns-in_err-applies-clause-does
 returns-in_err-applies-clause-does g c = at_stopped _ c.in_err-applies.ensures.does c.from_residual.ensures

@@ -1,5 +1,5 @@
 -- Commands that are done at once, one after another.
-use Rattle.std.proofs.Common.{◌≡◌, ℕ, zero, suc, ◌+◌, ◌<◌, ◌≤◌, Bool, true, false, List, [], ◌∷◌, Result, Ok, Err, length, get_or, map, drop, refl, sym, subst, arith}
+use Rattle.std.proofs.Common.{◌≡◌, ℕ, zero, suc, ◌+◌, ◌<◌, Bool, true, false, List, [], ◌∷◌, Result, Ok, Err, length, get_or, map, drop, refl, sym, subst, arith}
 use Rattle.std.specs.Prelude.{◌&&◌}
 use Rattle.std.specs.List.{list_all}
 use Rattle.std.specs.Result.{IsErr, IsErrAnd}
@@ -21,9 +21,9 @@ use Rattle.mcommand.specs.Does.{DoesAt}
 use Rattle.mexec.specs.Arguments.{gave, started}
 use Rattle.mexec.specs.declared.signal.Signal.{Signal}
 use Rattle.mexec.specs.declared.signal.Signal.TheVariants as signal
-use Rattle.mexec.specs.Direct.{is_direct, are_direct, is_direct_word, is_direct_spaced}
+use Rattle.mexec.specs.Direct.{is_direct, are_direct, is_direct_word}
 use Rattle.mexec.specs.Frames.{signal_of}
-use Rattle.mexec.proofs.Calls.{at_then, at_failed, at_stopped, at_gives, at_as, passes, some_item}
+use Rattle.mexec.proofs.Calls.{at_then, at_stopped, at_gives, at_as, passes, some_item}
 use Rattle.mexec.proofs.Effects.{other_effect}
 
 -- ---- tests

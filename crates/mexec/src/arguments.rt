@@ -3,9 +3,9 @@ ghost use Rattle.std.specs.Prelude.{◌≡◌, ◌≤◌, ◌+◌, ◌*◌, map,
 ghost use Rattle.mgrammar.specs.Grammar.{form_of};
 ghost use Rattle.mmeaning.specs.LineMeaning as meaning;
 ghost use Rattle.mmeaning.specs.LineMeaning.{context};
-ghost use Rattle.mtree.specs.Tree.{arg_tree, entry_tree, expr_tree, condition_tree, keyword_tree, primary_tree};
+ghost use Rattle.mtree.specs.Tree.{arg_tree, entry_tree, expr_tree, keyword_tree, primary_tree};
 ghost use Rattle.mcommand.specs.Does.{DoesAt, KeepsLoans};
-ghost use Rattle.mexec.specs.Frames.{Runs, signal_of, source_args, source_spot, spot_of, stack};
+ghost use Rattle.mexec.specs.Frames.{Runs, source_args, source_spot, spot_of, stack};
 ghost use Rattle.mexec.specs.Arguments.{started, start_of, given, where_applies, lines_then, text_then, given_then};
 
 use crate::commands::holds;

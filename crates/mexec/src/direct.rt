@@ -119,9 +119,7 @@ pub(crate) fn direct_argument<S: NodeStore>(
             Ok(where_true(is_true))
         }
         Arg::GoTo(entry, condition) => going(alloc, parts, spot, entry, condition),
-        Arg::Lock(kind, names, timeout) => {
-            went_on(parts.locking(alloc, *kind, names, timeout))
-        }
+        Arg::Lock(kind, names, timeout) => { went_on(parts.locking(alloc, *kind, names, timeout)) }
         Arg::Loop(_, _) => unreachable!(),
         Arg::DoOne(_, _) => unreachable!(),
         Arg::Executed(_, _) => unreachable!(),

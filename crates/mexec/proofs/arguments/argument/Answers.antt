@@ -3,7 +3,6 @@ use Rattle.mgrammar.specs.Grammar.{form_of}
 use Rattle.mmeaning.specs.LineMeaning as meaning
 use Rattle.mmeaning.specs.LineMeaning.{context}
 use Rattle.mtree.specs.Tree.{condition_tree, keyword_tree, primary_tree}
-use Rattle.mcommand.proofs.Calls.{at_done, does_gives}
 use Rattle.mexec.specs.declared.signal.Signal.TheVariants as signal
 use Rattle.mexec.specs.Arguments.{into_given, start_of}
 use Rattle.mexec.specs.Frames.{signal_of, spot_of}

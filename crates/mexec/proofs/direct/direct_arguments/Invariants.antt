@@ -1,4 +1,4 @@
-use Rattle.std.proofs.Common.{◌≤◌, List, map, drop, Result}
+use Rattle.std.proofs.Common.{◌≤◌, map, drop, Result}
 use Rattle.mmeaning.specs.LineMeaning as meaning
 use Rattle.mmeaning.specs.LineMeaning.{context}
 use Rattle.mtree.specs.Tree.{arg_tree}

@@ -1,4 +1,4 @@
-use Rattle.std.proofs.Common.{◌≡◌, ◌-◌, length, drop}
+use Rattle.std.proofs.Common.{◌≡◌, ◌-◌, length}
 use Rattle.mexec.specs.Direct.{is_direct_from}
 use Rattle.mexec.proofs.direct.is_direct_from.Given as goal
 

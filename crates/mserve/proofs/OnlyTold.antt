@@ -153,15 +153,15 @@ module _ {S I O : Type 0} (g : Ghosts S) (left : I → Option Text) (held : O �
     broke_off early.Accept never = absurd never
     broke_off (early.Wire fault) s = (record { known = known; old = old; new = new; by = by; globals = globals; opens = opens; place = place; serves = s.0 }, s.1)
 
-    pub over_memory : {F : Type 0} (file : Ghosts F) → g.sound → globals ≡ empty → name_at known.settings place ≡ name → (result : Result (Unit {0}) RunFault)
-        → ServesAs g left held old place input input' output output' result new → OnlyOver g file left held store.Memory name document input input' output output' result
-    over_memory file sound none is (Ok done) s = told_alone sound none is s.0 s.1
-    over_memory file sound none is (Err fault) s = broke_off fault s
+    pub over_memory : g.sound → globals ≡ empty → name_at known.settings place ≡ name → (result : Result (Unit {0}) RunFault)
+        → ServesAs g left held old place input input' output output' result new → OnlyOver g g left held store.Memory name document input input' output output' result
+    over_memory sound none is (Ok done) s = told_alone sound none is s.0 s.1
+    over_memory sound none is (Err fault) s = broke_off fault s
 
-    pub over_file : {M : Type 0} (memory : Ghosts M) (path : _) → (result : Result (Unit {0}) RunFault)
-        → ServesAs g left held old place input input' output output' result new → OnlyOver memory g left held (store.File path) name document input input' output output' result
-    over_file memory path (Ok done) s = told_in_form s.0 s.1
-    over_file memory path (Err fault) s = broke_off fault s
+    pub over_file : (path : _) → (result : Result (Unit {0}) RunFault)
+        → ServesAs g left held old place input input' output output' result new → OnlyOver g g left held (store.File path) name document input input' output output' result
+    over_file path (Ok done) s = told_in_form s.0 s.1
+    over_file path (Err fault) s = broke_off fault s
 
 -- the account that was found is the document's of this name
 abbrev pub has_account : (document name : Text) (settings : Settings) (place : ℕ) → IsRead document settings → account_at settings place ≡ account_named settings name → place < length settings.accounts → HasAccount document name

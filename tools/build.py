@@ -130,7 +130,7 @@ def main():
     digest = digest_of(crates)
     if is_built(digest):
         return
-    say(f"proving and building the program, {len(crates)} crates; from nothing this takes about 10 minutes ..")
+    say(f"proving and building the program, {len(crates)} crates; from nothing this takes up to an hour ..")
     room = room_for()
     prove(room, crates)
     # `rt run` builds and then runs, by settings without an account, and no line is given to this run

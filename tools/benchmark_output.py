@@ -100,11 +100,12 @@ def local_variables():
         words = [f"{letter}{i}" for i in range(count)]
         order = sorted(words, key=place)
         at = {word: i for i, word in enumerate(order)}
+        # each step that leads to a subscript counts
         for name, step in {"order": 1, "order back": -1}.items():
             reached = [order[at[w] + step] if 0 <= at[w] + step < count else "" for w in words]
-            print(f"  {name:<12} {summed(lambda i: len(reached[i * stride % count]))}")
+            print(f"  {name:<12} {summed(lambda i: int(reached[i * stride % count] != ''))}")
         for name, walk in {"walk": order + [""], "walk back": order[::-1] + [""]}.items():
-            print(f"  {name:<12} {sum(len(walk[i % len(walk)]) for i in range(PASSES * ROUNDS))}")
+            print(f"  {name:<12} {sum(walk[i % len(walk)] != '' for i in range(PASSES * ROUNDS))}")
 
 
 def drawn(i, count):

@@ -1,6 +1,7 @@
 //! Trees of texts that were parsed, kept for the next time.
 #![tactic(auto)]
 
+mod arrivals;
 mod shelf;
 mod trees;
 

@@ -1,10 +1,11 @@
 // The cache of trees.
-ghost use Rattle.std.specs.Prelude.{◌≡◌, ◌+◌, ◌<◌, ◌≤◌, length, IfOk, Err, Some, None};
+ghost use Rattle.std.specs.Prelude.{◌≡◌, ◌↔◌, ◌+◌, ◌<◌, ◌≤◌, IsTrue, length, IfOk, Err, Some, None};
 ghost use Rattle.mgrammar.specs.Reading.{line_at};
 ghost use Rattle.mgrammar.specs.RoutineLine.{routine_line_at};
 ghost use Rattle.mtree.specs.Tree.{line_tree, routine_line_tree};
 ghost use Rattle.mcache.specs.Kept.{IsWithin};
 
+use crate::arrivals::Arrivals;
 use crate::shelf::{Shelf, find, keep, let_go};
 use lru::LruCache;
 use mparse::{ParseFault, parse_line, parse_routine_line};
@@ -16,12 +17,16 @@ use std::rc::Rc;
 /// Trees of texts, of which so many are kept as there are entries: of lines, as they come from a terminal or stand behind XECUTE, and of
 /// lines of routines. The two kinds are kept apart, since a text may be both.
 ///
+/// Once all entries are taken, a tree is kept where its text came lately already, so that texts that come once do not push out those that
+/// come again, and cost nothing to be kept.
+///
 /// Contracts see it as the count of its entries: which trees are kept shows in no answer.
 #[derive(Drop)]
 pub struct Trees {
     entries: usize,
     lines: Shelf<Line>,
     routine_lines: Shelf<RoutineLine>,
+    arrivals: Arrivals,
 }
 
 impl Model for Trees {
@@ -35,6 +40,14 @@ impl Model for Trees {
     ghost invariant = { λ trees. AreTrees trees.entries trees.lines.entries trees.routine_lines.entries };
 }
 
+// Whether all entries are taken.
+fn is_full(lines: &Shelf<Line>, routine_lines: &Shelf<RoutineLine>, entries: usize) -> bool
+    requires { length lines.now.entries + length routine_lines.now.entries ≤ entries }
+    ensures { IsTrue result ↔ entries ≤ length lines.now.entries + length routine_lines.now.entries }
+{
+    lines.len() + routine_lines.len() >= entries
+}
+
 // Makes room for one more tree: of the kind of which more are kept, that goes which was used the longest ago.
 fn make_room(lines: &mut Shelf<Line>, routine_lines: &mut Shelf<RoutineLine>, entries: usize)
     requires some { 0 < entries }
@@ -43,7 +56,7 @@ fn make_room(lines: &mut Shelf<Line>, routine_lines: &mut Shelf<RoutineLine>, en
     ensures routine_lines { IsWithin routine_lines.new.entries routine_lines.old.entries }
     ensures room { length lines.new.entries + length routine_lines.new.entries < entries }
 {
-    if lines.len() + routine_lines.len() < entries {
+    if !is_full(lines, routine_lines, entries) {
         return;
     }
     if lines.len() > routine_lines.len() {
@@ -51,6 +64,11 @@ fn make_room(lines: &mut Shelf<Line>, routine_lines: &mut Shelf<RoutineLine>, en
     } else {
         let_go(routine_lines);
     }
+}
+
+// Whether the tree of a text is to be kept: where an entry is free, and otherwise where the text came lately.
+fn is_wanted(arrivals: &mut Arrivals, is_full: bool, text: &[u8]) -> bool {
+    !is_full || arrivals.note(text)
 }
 
 impl Trees {
@@ -67,6 +85,7 @@ impl Trees {
             entries,
             lines: LruCache::unbounded(alloc)?,
             routine_lines: LruCache::unbounded(alloc)?,
+            arrivals: Arrivals::new(alloc)?,
         })
     }
 
@@ -92,6 +111,10 @@ impl Trees {
             return Ok(line);
         }
         let line = Rc::new(alloc, parse_line(alloc, text)?)?;
+        let is_full = is_full(&self.lines, &self.routine_lines, self.entries);
+        if !is_wanted(&mut self.arrivals, is_full, text) {
+            return Ok(line);
+        }
         make_room(&mut self.lines, &mut self.routine_lines, self.entries);
         keep(alloc, &mut self.lines, text, &line);
         Ok(line)
@@ -115,6 +138,10 @@ impl Trees {
             return Ok(line);
         }
         let line = Rc::new(alloc, parse_routine_line(alloc, text)?)?;
+        let is_full = is_full(&self.lines, &self.routine_lines, self.entries);
+        if !is_wanted(&mut self.arrivals, is_full, text) {
+            return Ok(line);
+        }
         make_room(&mut self.lines, &mut self.routine_lines, self.entries);
         keep(alloc, &mut self.routine_lines, text, &line);
         Ok(line)

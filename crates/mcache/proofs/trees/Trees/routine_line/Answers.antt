@@ -20,3 +20,6 @@ invariant_of-self-2 c = with_routine_line c.self.invariant c.args.text.now c.in_
 
 pub returns-clause-tree : goal.returns-clause-tree
 returns-clause-tree c = tree_is c
+
+pub returns-then-not-is_wanted-clause-tree : goal.returns-then-not-is_wanted-clause-tree
+returns-then-not-is_wanted-clause-tree c = rw c.in_ok-line.ensures.ok (routine_line_is c.args.text.now (routine_line_tree c.in_ok-parse_routine_line.field-0) c.in_ok-parse_routine_line.ensures.tree)

@@ -1,0 +1,35 @@
+// Texts that came lately.
+use std::alloc::{AllocError, Global};
+use std::hash::{BuildHasher, BuildHasherDefault, FoldHasher};
+use std::mem;
+
+// How many texts are remembered at most.
+const PLACES: usize = 1024;
+
+// Marks of texts that came lately and were not kept, each at the place that its hash gives: so a text that comes again is told from one
+// that comes once. A later text may take its place, and two texts may have one mark; that costs time, and shows in no answer.
+#[derive(Drop)]
+pub(crate) struct Arrivals {
+    marks: Vec<u32>,
+}
+
+impl Arrivals {
+    // With no text yet.
+    pub(crate) fn new(alloc: Global) -> Result<Arrivals, AllocError> {
+        let mut marks = Vec::with_capacity(alloc, PLACES)?;
+        for _ in 0..PLACES {
+            marks.push(0)?;
+        }
+        Ok(Arrivals { marks })
+    }
+
+    // Whether the text came lately. From now on it did. Takes no memory.
+    pub(crate) fn note(&mut self, text: &[u8]) -> bool {
+        let hash = BuildHasherDefault::<FoldHasher>::new().hash_one(text);
+        let mark = (hash >> 32) as u32;
+        match self.marks.get_mut(hash as usize % PLACES) {
+            None => false,
+            Some(place) => mem::replace(place, mark) == mark,
+        }
+    }
+}

@@ -58,7 +58,7 @@ module _ {S : Type 0} (ns : List Text) (o : Option (List Text)) (m : HashMap Tex
   tree_is n r e = ap (λ q. unwrap_or q empty) (e ∙ hash_found_is_had nat_list_cmp_total (pointwise nat_eq) texts_ties m n)
 
   pub tree_put : (m' : HashMap Text Tree S) (n : Text) (t : Tree) → hash.Updates (pointwise nat_eq) m m' n (Some t) → scope_of ns o m' ≡ with_tree n t (scope_of ns o m)
-  tree_put m' n t u = ap (λ ts. record { names = ns; others = o; trees = ts }) (insert-hash_map_of nat_list_cmp_total (pointwise nat_eq) texts_ties names_exact m m' n t u)
+  tree_put m' n t u = ap (λ ts. record { names = ns; others = o; trees = ts }) (insert-hash_map_of nat_list_cmp_total (pointwise nat_eq) texts_ties (λ t. t) names_exact m m' n t u)
 
   -- what was there is written back
   pub tree_kept : (m' : HashMap Text Tree S) (test : Text → Bool) (t v : Tree) → m'.entries ≡ set_value test m.entries t → t ≡ v → lookup test m.entries ≡ Some v → scope_of ns o m' ≡ scope_of ns o m

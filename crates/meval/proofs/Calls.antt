@@ -64,6 +64,11 @@ evaluates_wanting {g = g} {e = e} p f r h = subst (λ r. Evaluates g p f e r e) 
   depth = refl;
 })
 
+-- what a call gives is all that is asked for
+pub evaluates_whole : {S A X : Type 0} {g : Ghosts S} {p : Inside → Act A} {f : X → A} {old new : Eval S} (r : Result X Code) → Evaluates g p f old r new → Evaluates g (λ i. p i >>= give) f old r new
+evaluates_whole {f = f} (Ok x) d = evaluates_then (λ i. give) d (evaluates_gives (f x) f x refl)
+evaluates_whole (Err e) d = evaluates_failed (λ i. give) d
+
 -- a call that needs no point
 pub evaluates_yielded : {S A X : Type 0} {g : Ghosts S} {e : Eval S} {p : Act A} {f : X → A} {r : Result X Code} → Yields fault_of p f r → Evaluates g (λ i. p) f e r e
 evaluates_yielded {g = g} {e = e} y = record {

@@ -1,12 +1,12 @@
 -- What calls of the evaluation do, where the meaning has it inside of more.
-use Rattle.std.specs.Prelude.{pos, Option, Bool}
+use Rattle.std.specs.Prelude.{pos, Option, Bool, []}
 use Rattle.mspec.specs.Act.{Text, Act, ◌>>=◌, give}
-use Rattle.mgrammar.specs.Grammar.{ExprTree, ReferenceTree}
+use Rattle.mgrammar.specs.Grammar.{ExprTree, ExprsTree, ReferenceTree}
 use Rattle.mmeaning.specs.Operators.{as_truth}
-use Rattle.mmeaning.specs.Functions.{whole_text}
+use Rattle.mmeaning.specs.Functions.{whole_text, call_value}
 use Rattle.mspec.specs.LockConflict.{LockName}
-use Rattle.mmeaning.specs.Variables.{Evaluated, Place, reading, writing, resolve, named_lock, status_at, next_at, data_number, direction_of}
-use Rattle.mmeaning.specs.Expression.{Inside, value, evaluated}
+use Rattle.mmeaning.specs.Variables.{Evaluated, Place, reading, writing, resolve, named_lock, read_at, status_at, next_at, data_number, direction_of}
+use Rattle.mmeaning.specs.Expression.{Inside, value, values, evaluated}
 
 -- whether an expression is true
 abbrev pub truth : Inside → ExprTree → Act Bool
@@ -37,3 +37,16 @@ abbrev pub order_act : Option Text → Place → Act Text
 order_act found p = do
   d ← direction_of found
   next_at d p
+
+-- the value of a variable
+abbrev pub variable_value : Inside → ReferenceTree → Act Text
+variable_value i r = do
+  v ← evaluated i r
+  p ← resolve reading v
+  read_at p
+
+-- the value of a function of values
+abbrev pub call_act : Inside → Text → ExprsTree → Act Text
+call_act i word args = do
+  xs ← values i [] args
+  call_value word xs

@@ -1,5 +1,6 @@
 pub mod Sessions
 pub mod Stores
+pub mod Held
 pub mod Places
 pub mod Acts
 pub mod Evaluates

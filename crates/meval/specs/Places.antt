@@ -25,21 +25,21 @@ name_view (local_name.Lent name) = name.now
 name_view (local_name.Own name) = name
 
 abbrev pub pending_view : Pending → variables.Evaluated
-pending_view (pending.Local name values) = variables.of_local (name_view name) values.items
+pending_view (pending.Local name values) = variables.of_local (name_view name) values
 pending_view (pending.Global node) = variables.of_global node
-pending_view (pending.Naked values) = variables.of_naked values.items
+pending_view (pending.Naked values) = variables.of_naked values
 
 abbrev pub place_view : Place → variables.Place
 place_view (place.Local name subscripts) = variables.at_local (name_view name) subscripts
 place_view (place.Node key) = variables.at_node key
 
 abbrev pub walk_view : Walk → variables.Place
-walk_view (walk.Local name values) = variables.at_local (name_view name) values.items
+walk_view (walk.Local name values) = variables.at_local (name_view name) values
 walk_view (walk.Node node) = variables.at_node node
 
 -- $ORDER may be asked of it
 abbrev pub IsWalk : Walk → Type 0
-IsWalk (walk.Local name values) = AreOrderSubscripts values.items
+IsWalk (walk.Local name values) = AreOrderSubscripts values
 IsWalk (walk.Node node) = IsAccountName node.account × AreOrderSubscripts node.subscripts
 
 -- what a place is wanted for that has to be let be used so

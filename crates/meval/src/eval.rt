@@ -24,6 +24,7 @@ use crate::place::{
 };
 use crate::reading::read_reference;
 use crate::session::Session;
+use crate::values::Values;
 use crate::walk::{data_value, direction, first_or_empty, next_text, next_value, texts};
 use mgrant::{AccountId, Mode, Settings};
 use mkey::{Data, Direction};
@@ -146,11 +147,11 @@ impl<'a, S: NodeStore> Eval<'a, S> {
     }
 
     // The value of a place, or the first of these where it has none; the empty text where there is neither.
-    fn read_or(&mut self, alloc: Global, place: &Place, others: Vec<Value>) -> Result<Value, Code>
+    fn read_or(&mut self, alloc: Global, place: &Place, others: Values) -> Result<Value, Code>
         requires { IsOpen (standing_of self.old) Read (place_view place.now) }
         ensures loans { KeepsEval self.old self.new }
         ensures fewer { self.new.steps ≤ self.old.steps }
-        ensures does { Evaluates S.NodeStore (λ i. variables.read_or (unwrap_or (slice_get others.items 0) []) (place_view place.now)) (λ v. v) self.old result self.new }
+        ensures does { Evaluates S.NodeStore (λ i. variables.read_or (unwrap_or (slice_get others 0) []) (place_view place.now)) (λ v. v) self.old result self.new }
     {
         match self.found(place)? {
             Some(value) => Ok(value),
@@ -199,7 +200,7 @@ impl<'a, S: NodeStore> Eval<'a, S> {
                 let next = self
                     .session
                     .locals
-                    .order(name.as_name(), values, direction)?;
+                    .order(name.as_name(), values.as_slice(), direction)?;
                 Ok(next_value(alloc, next))
             }
             Walk::Node(node) => {
@@ -246,22 +247,40 @@ impl<'a, S: NodeStore> Eval<'a, S> {
             Primary::Number(literal) => computed(Num::from_text(literal.as_bytes())),
             Primary::Text(text) => Ok(Value::of_text(text.copy()?)),
             Primary::Special(word) => self.special(word),
-            Primary::Reference(reference) => {
-                if let Some(name) = plain_name(reference) {
-                    return self.local(name);
-                }
-                let pending = self.evaluated(alloc, reference)?;
-                let place = self.resolved(alloc, Mode::Read, pending)?;
-                self.read(&place)
-            }
+            Primary::Reference(reference) => match plain_name(reference) {
+                Some(name) => self.local(name),
+                None => self.variable(alloc, reference),
+            },
             Primary::Bracket(inner) => self.value(alloc, inner),
-            Primary::Call(word, arguments) => {
-                let values = self.values(alloc, arguments)?;
-                call(alloc, word.as_bytes(), &values)
-            }
+            Primary::Call(word, arguments) => self.called(alloc, word, arguments),
             Primary::Select(_, choices) => self.chosen(alloc, choices),
             Primary::Refer(referring) => self.referring(alloc, referring),
         }
+    }
+
+    // The value of a variable that may have something to evaluate. It stands apart from `primary`, whose other cases need no room for it.
+    #[cycle(eval)]
+    #[inline(never)]
+    fn variable(&mut self, alloc: Global, reference: &Reference) -> Result<Value, Code>
+        ensures loans { KeepsEval self.old self.new }
+        ensures fewer { self.new.steps ≤ self.old.steps }
+        ensures does { Evaluates S.NodeStore (λ i. acts.variable_value i (reference_tree reference.now)) (λ v. v) self.old result self.new }
+    {
+        let pending = self.evaluated(alloc, reference)?;
+        let place = self.resolved(alloc, Mode::Read, pending)?;
+        self.read(&place)
+    }
+
+    // The value of a function of values.
+    #[cycle(eval)]
+    #[inline(never)]
+    fn called(&mut self, alloc: Global, word: &Bytes7, arguments: &[Expr]) -> Result<Value, Code>
+        ensures loans { KeepsEval self.old self.new }
+        ensures fewer { self.new.steps ≤ self.old.steps }
+        ensures does { Evaluates S.NodeStore (λ i. acts.call_act i word.now (exprs_of (map expr_tree arguments.now))) (λ v. v) self.old result self.new }
+    {
+        let values = self.values(alloc, arguments)?;
+        call(alloc, word.as_bytes(), values.as_slice())
     }
 
     // What a reference has to evaluate.
@@ -276,7 +295,7 @@ impl<'a, S: NodeStore> Eval<'a, S> {
         ensures does { Evaluates S.NodeStore (λ i. meaning.evaluated i (reference_tree reference.now)) pending_view self.old result self.new }
     {
         if let Some(name) = plain_name(reference) {
-            return Ok(Pending::Local(LocalName::Lent(name), Vec::new(alloc)));
+            return Ok(Pending::Local(LocalName::Lent(name), Values::none(alloc)));
         }
         if let Some((operand, subscripts)) = indirect_parts(reference) {
             return self.named(alloc, operand, subscripts);
@@ -377,7 +396,7 @@ impl<'a, S: NodeStore> Eval<'a, S> {
                 let pending = self.evaluated(alloc, &referring.reference)?;
                 let walk = self.walked(alloc, pending)?;
                 let more = self.values(alloc, &referring.more)?;
-                self.order(alloc, &walk, &more)
+                self.order(alloc, &walk, more.as_slice())
             }
             _ => Err(Code::Zsyntax),
         }
@@ -385,17 +404,21 @@ impl<'a, S: NodeStore> Eval<'a, S> {
 
     // The values of expressions.
     #[cycle(eval)]
-    fn values(&mut self, alloc: Global, exprs: &[Expr]) -> Result<Vec<Value>, Code>
+    fn values(&mut self, alloc: Global, exprs: &[Expr]) -> Result<Values, Code>
         ensures loans { KeepsEval self.old self.new }
         ensures fewer { self.new.steps ≤ self.old.steps }
-        ensures does { Evaluates S.NodeStore (λ i. meaning.values i [] (exprs_of (map expr_tree exprs.now))) (λ values. values.items) self.old result self.new }
+        ensures does { Evaluates S.NodeStore (λ i. meaning.values i [] (exprs_of (map expr_tree exprs.now))) (λ values. values) self.old result self.new }
     {
+        if let [e] = exprs {
+            let value = self.value(alloc, e)?;
+            return Ok(Values::one(value));
+        }
         let mut values = Vec::with_capacity(alloc, exprs.len())?;
         for e in exprs {
             let value = self.value(alloc, e)?;
             values.push(value)?;
         }
-        Ok(values)
+        Ok(Values::of_vec(values))
     }
 
     // The value of the first choice whose condition is true.
@@ -422,6 +445,9 @@ impl<'a, S: NodeStore> Eval<'a, S> {
         ensures spent { IfOk result (λ _. self.new.steps < self.old.steps) }
         ensures does { Evaluates S.NodeStore (λ i. meaning.operand_value i (operand_tree operand.now)) (λ v. v) self.old result self.new }
     {
+        if operand.signs.is_empty() {
+            return self.primary(alloc, &operand.primary);
+        }
         let value = self.primary(alloc, &operand.primary)?;
         unaries(&operand.signs, value)
     }
@@ -457,6 +483,9 @@ impl<'a, S: NodeStore> Eval<'a, S> {
         ensures spent { IfOk result (λ _. self.new.steps < self.old.steps) }
         ensures does { Evaluates S.NodeStore (λ i. meaning.value i (expr_tree e.now)) (λ v. v) self.old result self.new }
     {
+        if e.rest.is_empty() {
+            return self.operand(alloc, &e.first);
+        }
         let mut value = self.operand(alloc, &e.first)?;
         for step in &e.rest {
             value = self.step(alloc, value, step)?;

@@ -9,11 +9,11 @@ ghost use Rattle.mmeaning.specs.Variables.{replaced};
 ghost use Rattle.mmeaning.specs.Yields.{Yields};
 ghost use Rattle.moperator.specs.Codes.{fault_of};
 
+use crate::values::Values;
 use crate::walk::texts;
 use mkey::{KeyFault, NodeKey, front};
 use mnum::{Bytes7, Name};
 use moperator::Code;
-use mvalue::Value;
 use std::alloc::{AllocError, Global};
 use std::marker::Model;
 
@@ -97,9 +97,9 @@ impl GlobalNode {
     pub(crate) fn extended(
         self,
         alloc: Global,
-        values: Vec<Value>,
+        values: Values,
     ) -> Result<GlobalNode, AllocError>
-        ensures { IfOk result (λ node. node ≡ record self { subscripts = self.subscripts ++ values.items }) }
+        ensures { IfOk result (λ node. node ≡ record self { subscripts = self.subscripts ++ values }) }
     {
         let mut node = self;
         let mut texts = texts(alloc, values)?;
@@ -126,8 +126,8 @@ impl GlobalNode {
     }
 
     // The node with these in the place of the last subscript: `M1` where it has none.
-    pub(crate) fn beside(&self, alloc: Global, values: Vec<Value>) -> Result<GlobalNode, Code>
-        ensures { Yields fault_of (replaced values.items (Some self.now)) (λ node. node) result }
+    pub(crate) fn beside(&self, alloc: Global, values: Values) -> Result<GlobalNode, Code>
+        ensures { Yields fault_of (replaced values (Some self.now)) (λ node. node) result }
     {
         if self.subscripts.is_empty() {
             return Err(Code::M1);

@@ -11,6 +11,7 @@ mod place;
 mod reading;
 mod resolving;
 mod session;
+mod values;
 mod variables;
 mod walk;
 
@@ -19,3 +20,4 @@ pub use eval::Eval;
 pub use global_node::GlobalNode;
 pub use place::{LocalName, Pending, Place, Subscripts};
 pub use session::Session;
+pub use values::Values;

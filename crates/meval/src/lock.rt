@@ -10,6 +10,7 @@ ghost use Rattle.meval.specs.Places.{pending_view};
 use crate::eval::Eval;
 use crate::global_node::GlobalNode;
 use crate::place::Pending;
+use crate::values::Values;
 use mgrant::Mode;
 use mkey::is_account_name;
 use mlock::LockName;
@@ -17,7 +18,6 @@ use mnum::Name;
 use moperator::Code;
 use mstore::NodeStore;
 use mtree::Reference;
-use mvalue::Value;
 use std::alloc::Global;
 
 impl<'a, S: NodeStore> Eval<'a, S> {
@@ -51,9 +51,9 @@ impl<'a, S: NodeStore> Eval<'a, S> {
     }
 
     // The lock of a name without `^`, which is the account's own.
-    fn local_lock(&self, alloc: Global, name: &Name, values: Vec<Value>) -> Result<LockName, Code>
+    fn local_lock(&self, alloc: Global, name: &Name, values: Values) -> Result<LockName, Code>
         ensures open { IfOk result (λ name. may_lock (standing_of self.now).settings (standing_of self.now).account name ≡ true) }
-        ensures does { Evaluates S.NodeStore (λ i. variables.named_lock i.account (variables.of_local name.now values.items)) (λ name. name) self.now result self.now }
+        ensures does { Evaluates S.NodeStore (λ i. variables.named_lock i.account (variables.of_local name.now values)) (λ name. name) self.now result self.now }
     {
         let node = self.own_node(alloc, name, values)?;
         if !is_account_name(node.account()) {

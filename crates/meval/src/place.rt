@@ -12,6 +12,7 @@ ghost use Rattle.moperator.specs.Codes.{fault_of};
 ghost use Rattle.meval.specs.Places.{name_view, pending_view, place_view, subscripts_tree, IsDirect, NamesNoAccount};
 
 use crate::global_node::GlobalNode;
+use crate::values::Values;
 use mkey::NodeKey;
 use mlocal::{order_subs_ok, subs_ok};
 use mnum::{Bytes7, Name};
@@ -59,21 +60,11 @@ impl<'t> LocalName<'t> {
 #[derive(Drop)]
 pub enum Pending<'t> {
     /// A local variable: its name, and its subscripts.
-    Local(LocalName<'t>, Vec<Value>),
+    Local(LocalName<'t>, Values),
     /// A node of a global.
     Global(GlobalNode),
     /// A node beside the one that was referred to last: the subscripts that stand in the place of the last one.
-    Naked(Vec<Value>),
-}
-
-// Values, and others behind them.
-fn joined(front: Vec<Value>, behind: Vec<Value>) -> Result<Vec<Value>, AllocError>
-    ensures { IfOk result (λ all. all.items ≡ front.items ++ behind.items) }
-{
-    let mut all = front;
-    let mut behind = behind;
-    all.append(&mut behind)?;
-    Ok(all)
+    Naked(Values),
 }
 
 impl<'t> Pending<'t> {
@@ -81,14 +72,14 @@ impl<'t> Pending<'t> {
     pub(crate) fn extended<'u>(
         self,
         alloc: Global,
-        values: Vec<Value>,
+        values: Values,
     ) -> Result<Pending<'u>, AllocError>
-        ensures { IfOk result (λ pending. pending_view pending ≡ variables.with_subscripts (variables.subscripts_of (pending_view self.entry) ++ values.items) (pending_view self.entry)) }
+        ensures { IfOk result (λ pending. pending_view pending ≡ variables.with_subscripts (variables.subscripts_of (pending_view self.entry) ++ values) (pending_view self.entry)) }
     {
         match self {
             Pending::Local(name, subscripts) => {
                 let name = name.into_own()?;
-                let subscripts = joined(subscripts, values)?;
+                let subscripts = subscripts.joined(alloc, values)?;
                 Ok(Pending::Local(name, subscripts))
             }
             Pending::Global(node) => {
@@ -96,7 +87,7 @@ impl<'t> Pending<'t> {
                 Ok(Pending::Global(node))
             }
             Pending::Naked(subscripts) => {
-                let subscripts = joined(subscripts, values)?;
+                let subscripts = subscripts.joined(alloc, values)?;
                 Ok(Pending::Naked(subscripts))
             }
         }
@@ -155,7 +146,7 @@ pub fn plain_name(reference: &Reference) -> Option<&Name>
 /// values says that their texts are such subscripts.
 #[derive(Drop)]
 pub struct Subscripts {
-    values: Vec<Value>,
+    values: Values,
 }
 
 impl Model for Subscripts {
@@ -164,18 +155,18 @@ impl Model for Subscripts {
 
     ghost Value = { List (List ℕ) };
 
-    ghost view = { λ subscripts. subscripts.values.items };
+    ghost view = { λ subscripts. subscripts.values };
 
-    ghost invariant = { λ subscripts. AreSubscripts subscripts.values.items };
+    ghost invariant = { λ subscripts. AreSubscripts subscripts.values };
 }
 
 impl Subscripts {
     /// The subscripts that these values are, if they can be those of a node. Takes no memory.
-    pub fn new(values: Vec<Value>) -> Option<Subscripts>
-        ensures when { IsSome result ↔ IsTrue (are_subscripts values.items) }
-        ensures subscripts { IfSome result (λ subscripts. subscripts ≡ values.items) }
+    pub fn new(values: Values) -> Option<Subscripts>
+        ensures when { IsSome result ↔ IsTrue (are_subscripts values) }
+        ensures subscripts { IfSome result (λ subscripts. subscripts ≡ values) }
     {
-        if !subs_ok(&values) {
+        if !subs_ok(values.as_slice()) {
             return None;
         }
         Some(Subscripts { values })
@@ -200,9 +191,9 @@ pub enum Place<'t> {
 }
 
 // The place of a local variable with these subscripts: `Zsub` where they are none of a node.
-pub fn local_place<'t>(name: LocalName<'t>, values: Vec<Value>) -> Result<Place<'t>, Code>
-    ensures checked { Yields fault_of (variables.resolve variables.reading (variables.of_local (name_view name.entry) values.items)) place_view result }
-    ensures local { IfOk result (λ place. place_view place ≡ variables.at_local (name_view name.entry) values.items) }
+pub fn local_place<'t>(name: LocalName<'t>, values: Values) -> Result<Place<'t>, Code>
+    ensures checked { Yields fault_of (variables.resolve variables.reading (variables.of_local (name_view name.entry) values)) place_view result }
+    ensures local { IfOk result (λ place. place_view place ≡ variables.at_local (name_view name.entry) values) }
 {
     match Subscripts::new(values) {
         Some(subscripts) => Ok(Place::Local(name, subscripts)),
@@ -213,7 +204,7 @@ pub fn local_place<'t>(name: LocalName<'t>, values: Vec<Value>) -> Result<Place<
 // A place that the checks let through for $ORDER: its last subscript may be empty. Contracts see it by `walk_view`.
 #[derive(Drop)]
 pub enum Walk<'t> {
-    Local(LocalName<'t>, Vec<Value>),
+    Local(LocalName<'t>, Values),
     Node(GlobalNode),
 }
 

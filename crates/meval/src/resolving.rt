@@ -12,6 +12,7 @@ ghost use Rattle.meval.specs.Places.{pending_view, place_view, walk_view, use_of
 use crate::eval::Eval;
 use crate::global_node::GlobalNode;
 use crate::place::{LocalName, Pending, Place, Walk, check_node_walk, check_walk, local_place};
+use crate::values::Values;
 use crate::walk::texts;
 use mgrant::Mode;
 use mkey::is_account_name;
@@ -19,7 +20,6 @@ use mnum::{Bytes7, Name};
 use moperator::Code;
 use mstore::NodeStore;
 use mtree::Reference;
-use mvalue::Value;
 use std::alloc::{AllocError, Global};
 
 impl<'a, S: NodeStore> Eval<'a, S> {
@@ -28,9 +28,9 @@ impl<'a, S: NodeStore> Eval<'a, S> {
         &self,
         alloc: Global,
         name: &Name,
-        values: Vec<Value>,
+        values: Values,
     ) -> Result<GlobalNode, AllocError>
-        ensures { IfOk result (λ node. node ≡ record { account = (standing_of self.now).account; name = name.now; subscripts = values.items }) }
+        ensures { IfOk result (λ node. node ≡ record { account = (standing_of self.now).account; name = name.now; subscripts = values }) }
     {
         let account = Bytes7::from_slice(alloc, self.settings.name_of(self.account))?;
         let texts = texts(alloc, values)?;
@@ -42,11 +42,11 @@ impl<'a, S: NodeStore> Eval<'a, S> {
         &self,
         alloc: Global,
         reference: &'t Reference,
-        values: Vec<Value>,
+        values: Values,
     ) -> Result<Pending<'t>, AllocError>
         requires direct { IsDirect (reference_tree reference.now) }
         requires own { NamesNoAccount (reference_tree reference.now) }
-        ensures { IfOk result (λ pending. pending_view pending ≡ named (standing_of self.now).account (reference_tree reference.now) values.items) }
+        ensures { IfOk result (λ pending. pending_view pending ≡ named (standing_of self.now).account (reference_tree reference.now) values) }
     {
         match reference {
             Reference::Local(name, _) => Ok(Pending::Local(LocalName::Lent(name), values)),
@@ -87,8 +87,8 @@ impl<'a, S: NodeStore> Eval<'a, S> {
     }
 
     // The node beside the one that was referred to last.
-    fn beside(&self, alloc: Global, values: Vec<Value>) -> Result<GlobalNode, Code>
-        ensures { Evaluates S.NodeStore (λ i. variables.beside values.items) (λ node. node) self.now result self.now }
+    fn beside(&self, alloc: Global, values: Values) -> Result<GlobalNode, Code>
+        ensures { Evaluates S.NodeStore (λ i. variables.beside values) (λ node. node) self.now result self.now }
     {
         match &self.session.naked {
             None => Err(Code::M1),
@@ -166,7 +166,7 @@ impl<'a, S: NodeStore> Eval<'a, S> {
     {
         match pending {
             Pending::Local(name, values) => {
-                check_walk(&values)?;
+                check_walk(values.as_slice())?;
                 Ok(Walk::Local(name, values))
             }
             Pending::Global(node) => self.node_walk(alloc, node),

@@ -6,6 +6,7 @@ ghost use Rattle.mmeaning.specs.Yields.{Yields};
 ghost use Rattle.mkey.specs.Way.{way};
 ghost use Rattle.moperator.specs.Codes.{fault_of};
 
+use crate::values::Values;
 use mkey::{Data, Direction};
 use mnum::Bytes7;
 use moperator::{Code, whole_of};
@@ -39,10 +40,10 @@ pub fn direction(more: &[Value]) -> Result<Direction, Code>
 }
 
 // The first of these values, or the empty text.
-pub fn first_or_empty(alloc: Global, values: Vec<Value>) -> Value
-    ensures { result ≡ unwrap_or (slice_get values.items 0) [] }
+pub fn first_or_empty(alloc: Global, values: Values) -> Value
+    ensures { result ≡ unwrap_or (slice_get values 0) [] }
 {
-    match values.into_iter().next() {
+    match values.into_first() {
         Some(value) => value,
         None => Value::of_text(Bytes7::empty(alloc)),
     }
@@ -69,9 +70,10 @@ pub fn next_text(alloc: Global, next: Option<Bytes7>) -> Value
 }
 
 // The texts of values.
-pub fn texts(alloc: Global, values: Vec<Value>) -> Result<Vec<Bytes7>, AllocError>
-    ensures { IfOk result (λ texts. texts.items ≡ values.items) }
+pub fn texts(alloc: Global, values: Values) -> Result<Vec<Bytes7>, AllocError>
+    ensures { IfOk result (λ texts. texts.items ≡ values) }
 {
+    let values = values.into_vec(alloc)?;
     let mut texts = Vec::with_capacity(alloc, values.len())?;
     for value in values {
         let text = value.into_text(alloc)?;

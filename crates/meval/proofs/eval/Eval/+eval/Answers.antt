@@ -1,4 +1,6 @@
-use Rattle.std.proofs.Common.{◌∙◌, ◌++◌, [], map, refl, sym, ap, arith, Vec, Global}
+use Rattle.std.proofs.Common.{◌≡◌, ◌∙◌, ◌++◌, List, [], ◌∷◌, map, refl, sym, ap, arith}
+use Rattle.std.proofs.lemmas.Bool.Decides.{nat_tests}
+use Rattle.std.proofs.lemmas.List.{nil_from_length}
 use Rattle.mgrammar.specs.Grammar.{exprs_of}
 use Rattle.mmeaning.specs.Expression.{named_by, values}
 use Rattle.mmeaning.specs.Variables.{of_global, subscripts_of, with_subscripts}
@@ -7,7 +9,7 @@ use Rattle.mspec.specs.Act.{Text, ◌>>=◌, give}
 use Rattle.mtree.specs.Tree.{expr_tree, reference_tree}
 use Rattle.meval.specs.Places.{named, pending_view}
 use Rattle.moperator.proofs.Numbers.{computed_outcome}
-use Rattle.meval.proofs.Calls.{evaluates_then, evaluates_failed, evaluates_gives, evaluates_stopped, evaluates_wanting, evaluates_yielded, keeps_itself, keeps_on}
+use Rattle.meval.proofs.Calls.{evaluates_then, evaluates_whole, evaluates_failed, evaluates_gives, evaluates_stopped, evaluates_wanting, evaluates_yielded, keeps_itself, keeps_on}
 use Rattle.meval.proofs.Indirections.{not_free, is_free, evaluates_behind, evaluates_deep, evaluates_unnamed, evaluates_entry}
 use Rattle.meval.proofs.References.{as_evaluated, gives_named, node_of}
 use Rattle.meval.proofs.TreeViews.{expr_is, operand_is, number_is, text_is, special_is, reference_is, refer_is, referring_is, bracket_is, call_is, select_is, apply_is, matches_is, matches_not_is}
@@ -15,6 +17,13 @@ use Rattle.meval.proofs.Trees.{charge_failed, from_step, from_end, next_value, v
 use Rattle.meval.proofs.eval.Eval.+eval.Goals as goal
 
 -- ---- operand
+
+pub operand-returns-then-is_empty-clause-does : goal.operand-returns-then-is_empty-clause-does
+operand-returns-then-is_empty-clause-does g t c =
+    let v = c.args.operand.now.signs in
+    let zero : v.len ≡ 0 = grind (arith, nat_tests, c.if-is_empty.ensures) in
+    let none : v.items ≡ [] = nil_from_length v.items (omega (arith, v.ok, zero)) in
+    rw (operand_is c.args.operand.now, none) (evaluates_whole _ c.primary.ensures.does)
 
 pub operand-returns-in_err-value-clause-does : goal.operand-returns-in_err-value-clause-does
 operand-returns-in_err-value-clause-does g t c = rw (operand_is c.args.operand.now) (evaluates_stopped _ c.in_err-value.ensures.does c.from_residual.ensures)
@@ -47,16 +56,10 @@ primary-returns-in-Bracket-clause-does g t c =
     let k = rw c.deref.ensures at c.value.ensures.does in
     rw (c.in-Bracket.is, bracket_is c.in-Bracket.inner) (evaluates_then _ c.in_ok-charge.ensures.does k)
 
-pub primary-returns-in_err-values-in-Call-clause-does : goal.primary-returns-in_err-values-in-Call-clause-does
-primary-returns-in_err-values-in-Call-clause-does g t c =
-    let k = rw c.deref-in-Call.ensures.value at c.in_err-values-in-Call.ensures.does in
-    rw (c.in-Call.is, call_is c.in-Call.word c.in-Call.arguments) (evaluates_then _ c.in_ok-charge.ensures.does (evaluates_stopped _ k c.from_residual-in_err-values-in-Call.ensures))
-
-pub primary-returns-in_ok-values-in-Call-clause-does : goal.primary-returns-in_ok-values-in-Call-clause-does
-primary-returns-in_ok-values-in-Call-clause-does g t c =
-    let k = rw c.deref-in-Call.ensures.value at c.in_ok-values-in-Call.ensures.does in
-    let called = rw (c.as_bytes-in-Call.ensures.bytes, c.deref-in-Call-2.ensures.value) at c.call.ensures in
-    rw (c.in-Call.is, call_is c.in-Call.word c.in-Call.arguments) (evaluates_then _ c.in_ok-charge.ensures.does (evaluates_then _ k (evaluates_yielded called)))
+pub primary-returns-in-Call-clause-does : goal.primary-returns-in-Call-clause-does
+primary-returns-in-Call-clause-does g t c =
+    let k = rw c.deref-in-Call.ensures.value at c.called.ensures.does in
+    rw (c.in-Call.is, call_is c.in-Call.word c.in-Call.arguments) (evaluates_then _ c.in_ok-charge.ensures.does k)
 
 pub primary-returns-in-Select-clause-does : goal.primary-returns-in-Select-clause-does
 primary-returns-in-Select-clause-does g t c =
@@ -70,27 +73,32 @@ pub primary-returns-in-Some-clause-does : goal.primary-returns-in-Some-clause-do
 primary-returns-in-Some-clause-does g t c =
     rw (c.in-Reference.is, reference_is c.in-Reference.reference, c.in-Some.ensures) (evaluates_then _ c.in_ok-charge.ensures.does c.local.ensures.does)
 
-pub primary-returns-in_err-pending-in-Reference-clause-does : goal.primary-returns-in_err-pending-in-Reference-clause-does
-primary-returns-in_err-pending-in-Reference-clause-does g t c =
-    rw (c.in-Reference.is, reference_is c.in-Reference.reference)
-    (evaluates_then _ c.in_ok-charge.ensures.does (evaluates_stopped _ c.in_err-pending-in-Reference.ensures.does c.from_residual-in_err-pending-in-Reference.ensures))
-
-pub primary-returns-in_err-place-in-Reference-clause-does : goal.primary-returns-in_err-place-in-Reference-clause-does
-primary-returns-in_err-place-in-Reference-clause-does g t c =
-    rw (c.in-Reference.is, reference_is c.in-Reference.reference)
-    (evaluates_then _ c.in_ok-charge.ensures.does
-    (evaluates_then _ c.in_ok-pending-in-Reference.ensures.does (evaluates_stopped _ c.in_err-place-in-Reference.ensures.does c.from_residual-in_err-place-in-Reference.ensures)))
-
-pub primary-returns-in_ok-place-in-Reference-clause-does : goal.primary-returns-in_ok-place-in-Reference-clause-does
-primary-returns-in_ok-place-in-Reference-clause-does g t c =
-    rw (c.in-Reference.is, reference_is c.in-Reference.reference)
-    (evaluates_then _ c.in_ok-charge.ensures.does
-    (evaluates_then _ c.in_ok-pending-in-Reference.ensures.does (evaluates_then _ c.in_ok-place-in-Reference.ensures.does c.read.ensures.does)))
+pub primary-returns-in-None-clause-does : goal.primary-returns-in-None-clause-does
+primary-returns-in-None-clause-does g t c = rw (c.in-Reference.is, reference_is c.in-Reference.reference) (evaluates_then _ c.in_ok-charge.ensures.does c.variable.ensures.does)
 
 pub primary-returns-in-Refer-clause-does : goal.primary-returns-in-Refer-clause-does
 primary-returns-in-Refer-clause-does g t c =
     let k = rw c.deref-in-Refer.ensures at c.referring.ensures.does in
     rw (c.in-Refer.is, refer_is c.in-Refer.referring, referring_is c.in-Refer.referring.value) (evaluates_then _ c.in_ok-charge.ensures.does k)
+
+-- ---- variables and functions of values
+
+pub variable-returns-in_err-pending-clause-does : goal.variable-returns-in_err-pending-clause-does
+variable-returns-in_err-pending-clause-does g t c = evaluates_stopped _ c.in_err-pending.ensures.does c.from_residual.ensures
+
+pub variable-returns-in_err-place-clause-does : goal.variable-returns-in_err-place-clause-does
+variable-returns-in_err-place-clause-does g t c = evaluates_then _ c.in_ok-pending.ensures.does (evaluates_stopped _ c.in_err-place.ensures.does c.from_residual-in_err-place.ensures)
+
+pub variable-returns-clause-does : goal.variable-returns-clause-does
+variable-returns-clause-does g t c = evaluates_then _ c.in_ok-pending.ensures.does (evaluates_then _ c.in_ok-place.ensures.does c.read.ensures.does)
+
+pub called-returns-in_err-values-clause-does : goal.called-returns-in_err-values-clause-does
+called-returns-in_err-values-clause-does g t c = evaluates_stopped _ c.in_err-values.ensures.does c.from_residual.ensures
+
+pub called-returns-clause-does : goal.called-returns-clause-does
+called-returns-clause-does g t c =
+    let called = rw (c.as_bytes.ensures.bytes, c.as_slice.ensures) at c.call.ensures in
+    evaluates_then _ c.in_ok-values.ensures.does (evaluates_yielded called)
 
 -- ---- references
 
@@ -262,7 +270,7 @@ referring-returns-in_err-more-in-Order-clause-does g t c =
 pub referring-returns-in_ok-more-in-Order-clause-does : goal.referring-returns-in_ok-more-in-Order-clause-does
 referring-returns-in_ok-more-in-Order-clause-does g t c =
     let is = rw (c.in-Order.is, c.as_bytes.ensures.bytes) at c.in-Some.ensures in
-    rw (sym is) (evaluates_then _ c.in_ok-pending-in-Order.ensures.does (evaluates_then _ c.in_ok-walk-in-Order.ensures.does (evaluates_then _ (rw c.deref-in-Order.ensures.value at c.in_ok-more-in-Order.ensures.does) (rw c.deref-in-Order-2.ensures.value at c.order.ensures.does))))
+    rw (sym is) (evaluates_then _ c.in_ok-pending-in-Order.ensures.does (evaluates_then _ c.in_ok-walk-in-Order.ensures.does (evaluates_then _ (rw c.deref-in-Order.ensures.value at c.in_ok-more-in-Order.ensures.does) (rw c.as_slice.ensures at c.order.ensures.does))))
 
 -- ---- steps
 
@@ -293,6 +301,13 @@ step-returns-in_ok-matches-in-MatchesNot-clause-does g t c =
     rw (c.in-MatchesNot.is, matches_not_is c.in-MatchesNot.atoms) (evaluates_then _ (evaluates_yielded k) (evaluates_gives _ _ _ c.of_truth-in-MatchesNot.ensures))
 
 -- ---- expressions
+
+pub value-returns-then-is_empty-clause-does : goal.value-returns-then-is_empty-clause-does
+value-returns-then-is_empty-clause-does g t c =
+    let v = c.args.e.now.rest in
+    let zero : v.len ≡ 0 = grind (arith, nat_tests, c.if-is_empty.ensures) in
+    let none : v.items ≡ [] = nil_from_length v.items (omega (arith, v.ok, zero)) in
+    rw (expr_is c.args.e.now, none) (evaluates_whole _ c.operand.ensures.does)
 
 pub value-returns-in_err-value-clause-does : goal.value-returns-in_err-value-clause-does
 value-returns-in_err-value-clause-does g t c = rw (expr_is c.args.e.now) (evaluates_stopped _ c.in_err-value.ensures.does c.from_residual.ensures)
@@ -330,6 +345,15 @@ value-returns-clause-does g t c =
 
 -- ---- arguments
 
+pub values-returns-in_err-value-clause-does : goal.values-returns-in_err-value-clause-does
+values-returns-in_err-value-clause-does g t c =
+    rw (residual_is _ _ c.from_residual.ensures) (value_failed (λ (v : List Text). v) c.args.exprs.now 0 c.e-item.result [] _ (omega (arith, c.in-len1.len_at_least)) c.e-item.is c.in_err-value.ensures.does)
+
+pub values-returns-in-len1-clause-does : goal.values-returns-in-len1-clause-does
+values-returns-in-len1-clause-does g t c =
+    let end = values_end (λ (v : List Text). v) c.args.exprs.now 1 (c.in_ok-value.value ∷ []) (omega (arith, c.in-len1.len_below)) in
+    rw c.one.ensures (next_value (λ (v : List Text). v) c.args.exprs.now 0 c.e-item.result [] _ _ (omega (arith, c.in-len1.len_at_least)) c.e-item.is c.in_ok-value.ensures.does end)
+
 pub values-loop-e-init : goal.values-loop-e-init
 values-loop-e-init g t c = record {
   loans = keeps_itself c.args.self.now;
@@ -337,29 +361,29 @@ values-loop-e-init g t c = record {
   leads = λ r e k. rw c.in_ok-values.ensures.items at k;
 }
 
-pub values-returns-in_err-value-clause-does : goal.values-returns-in_err-value-clause-does
-values-returns-in_err-value-clause-does g t c =
-    rw (residual_is _ _ c.from_residual-in_err-value.ensures)
-    (c.loop-e.invariant.leads _ _ (value_failed (λ (v : Vec Text Global). v.items) c.args.exprs.now c.loop-e.e-index c.e-item.result _ _ c.loop-e-test.true c.e-item.is c.in_err-value.ensures.does))
+pub values-returns-in_err-value-2-clause-does : goal.values-returns-in_err-value-2-clause-does
+values-returns-in_err-value-2-clause-does g t c =
+    rw (residual_is _ _ c.from_residual-in_err-value-2.ensures)
+    (c.loop-e.invariant.leads _ _ (value_failed (λ (v : List Text). v) c.args.exprs.now c.loop-e.e-index c.e-item-in-loop-e.result _ _ c.loop-e-test.true c.e-item-in-loop-e.is c.in_err-value-2.ensures.does))
 
 pub values-returns-in_err-push-clause-does : goal.values-returns-in_err-push-clause-does
 values-returns-in_err-push-clause-does g t c =
     c.loop-e.invariant.leads _ _
-    (next_value (λ (v : Vec Text Global). v.items) c.args.exprs.now c.loop-e.e-index c.e-item.result _ _ _ c.loop-e-test.true c.e-item.is c.in_ok-value.ensures.does
+    (next_value (λ (v : List Text). v) c.args.exprs.now c.loop-e.e-index c.e-item-in-loop-e.result _ _ _ c.loop-e-test.true c.e-item-in-loop-e.is c.in_ok-value-2.ensures.does
     (evaluates_wanting _ _ _ c.from_residual-in_err-push.ensures))
 
 pub values-loop-e-preserved : goal.values-loop-e-preserved
 values-loop-e-preserved g t c = record {
-  loans = keeps_on c.loop-e.invariant.loans c.in_ok-value.ensures.loans;
+  loans = keeps_on c.loop-e.invariant.loans c.in_ok-value-2.ensures.loans;
   fewer = omega arith;
   leads = λ r e k.
       let k = rw c.in_ok-push.ensures.items at k in
       c.loop-e.invariant.leads r e
-      (next_value (λ (v : Vec Text Global). v.items) c.args.exprs.now c.loop-e.e-index c.e-item.result _ _ r c.loop-e-test.true c.e-item.is c.in_ok-value.ensures.does k);
+      (next_value (λ (v : List Text). v) c.args.exprs.now c.loop-e.e-index c.e-item-in-loop-e.result _ _ r c.loop-e-test.true c.e-item-in-loop-e.is c.in_ok-value-2.ensures.does k);
 }
 
 pub values-returns-clause-does : goal.values-returns-clause-does
-values-returns-clause-does g t c = c.loop-e.invariant.leads _ _ (values_end (λ (v : Vec Text Global). v.items) c.args.exprs.now c.loop-e.e-index c.loop-e.values c.loop-e-test.false)
+values-returns-clause-does g t c = rw c.of_vec.ensures (c.loop-e.invariant.leads _ _ (values_end (λ (v : List Text). v) c.args.exprs.now c.loop-e.e-index c.loop-e.values.items c.loop-e-test.false))
 
 -- ---- choices
 

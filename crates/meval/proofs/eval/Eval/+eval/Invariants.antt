@@ -1,4 +1,4 @@
-use Rattle.std.proofs.Common.{◌≤◌, ◌<◌, ◌+◌, ◌*◌, [], map, drop, Result, Vec, Global}
+use Rattle.std.proofs.Common.{◌≤◌, ◌<◌, ◌+◌, ◌*◌, [], map, drop, Result, List}
 use Rattle.mspec.specs.Act.{Text}
 use Rattle.mmeaning.specs.Expression as meaning
 use Rattle.mgrammar.specs.Grammar.{steps_of, exprs_of, choices_of}
@@ -31,6 +31,9 @@ decreases-values g l = 8 * l.self.now.steps + 4
 abbrev pub decreases-chosen : goal.decreases-chosen
 decreases-chosen g l = 8 * l.self.now.steps + 4
 
+abbrev pub decreases-called : goal.decreases-called
+decreases-called g l = 8 * l.self.now.steps + 5
+
 abbrev pub decreases-extended : goal.decreases-extended
 decreases-extended g l = 8 * l.self.now.steps + 5
 
@@ -39,6 +42,9 @@ decreases-evaluated g l = 8 * l.self.now.steps + 6
 
 abbrev pub decreases-referring : goal.decreases-referring
 decreases-referring g l = 8 * l.self.now.steps + 7
+
+abbrev pub decreases-variable : goal.decreases-variable
+decreases-variable g l = 8 * l.self.now.steps + 7
 
 abbrev pub decreases-through : goal.decreases-through
 decreases-through g l = 8 * l.self.now.steps + 7
@@ -63,6 +69,6 @@ abbrev pub invariant-values-loop-e : goal.invariant-values-loop-e
 invariant-values-loop-e g l = record {
   loans : KeepsEval l.fn.self l.self;
   fewer : l.self.steps ≤ l.fn.self.steps;
-  leads : (r : Result (Vec Text Global) Code) (e : Eval _) → Evaluates g.S.NodeStore (λ a. meaning.values a l.values.items (exprs_of (map expr_tree (drop l.e-index l.exprs)))) (λ (v : Vec Text Global). v.items) l.self r e
-      → Evaluates g.S.NodeStore (λ a. meaning.values a [] (exprs_of (map expr_tree l.exprs))) (λ (v : Vec Text Global). v.items) l.fn.self r e;
+  leads : (r : Result (List Text) Code) (e : Eval _) → Evaluates g.S.NodeStore (λ a. meaning.values a l.values.items (exprs_of (map expr_tree (drop l.e-index l.exprs)))) (λ (v : List Text). v) l.self r e
+      → Evaluates g.S.NodeStore (λ a. meaning.values a [] (exprs_of (map expr_tree l.exprs))) (λ (v : List Text). v) l.fn.self r e;
 }

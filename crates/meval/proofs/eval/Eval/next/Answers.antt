@@ -9,9 +9,9 @@ use Rattle.meval.proofs.eval.Eval.next.Goals as goal
 
 pub returns-in_ok-next-in-Local-clause-does : goal.returns-in_ok-next-in-Local-clause-does
 returns-in_ok-next-in-Local-clause-does g c =
-    let next = rw (c.deref.ensures.value, c.as_name.ensures) at c.in_ok-next-in-Local.ensures in
+    let next = rw (c.as_slice.ensures, c.as_name.ensures) at c.in_ok-next-in-Local.ensures in
     let is = c.next_value.ensures ∙ ap (λ (o : Option Text). unwrap_or o []) next in
-    rw c.in-Local.is (asks_locals (λ l. unwrap_or (next_subscript l (way c.args.direction) (name_view c.in-Local.name) c.in-Local.values.items) []) (λ v. v) _ is)
+    rw c.in-Local.is (asks_locals (λ l. unwrap_or (next_subscript l (way c.args.direction) (name_view c.in-Local.name) c.in-Local.values) []) (λ v. v) _ is)
 
 pub returns-in_err-next-in-Node-clause-does : goal.returns-in_err-next-in-Node-clause-does
 returns-in_err-next-in-Node-clause-does g c =

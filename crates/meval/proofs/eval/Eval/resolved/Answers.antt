@@ -5,7 +5,7 @@ use Rattle.meval.proofs.Asking.{as_local_place}
 use Rattle.meval.proofs.eval.Eval.resolved.Goals as goal
 
 pub returns-in-Local-clause-does : goal.returns-in-Local-clause-does
-returns-in-Local-clause-does g c = rw c.in-Local.is (as_local_place c.args.mode (name_view c.in-Local.name) c.in-Local.values.items (evaluates_yielded c.local_place.ensures.checked))
+returns-in-Local-clause-does g c = rw c.in-Local.is (as_local_place c.args.mode (name_view c.in-Local.name) c.in-Local.values (evaluates_yielded c.local_place.ensures.checked))
 
 pub returns-in-Global-clause-does : goal.returns-in-Global-clause-does
 returns-in-Global-clause-does g c = rw c.in-Global.is c.node_place.ensures.does

@@ -7,15 +7,15 @@ use Rattle.meval.proofs.eval.Eval.walked.Goals as goal
 
 pub returns-in_err-check_walk-in-Local-clause-does : goal.returns-in_err-check_walk-in-Local-clause-does
 returns-in_err-check_walk-in-Local-clause-does g c =
-    let refused = rw c.deref.ensures.value at c.in_err-check_walk-in-Local.ensures.checked in
-    rw c.in-Local.is (evaluates_stopped (λ i _. give (at_local (name_view c.in-Local.name) c.in-Local.values.items)) (evaluates_yielded refused) c.from_residual.ensures)
+    let refused = rw c.as_slice.ensures at c.in_err-check_walk-in-Local.ensures.checked in
+    rw c.in-Local.is (evaluates_stopped (λ i _. give (at_local (name_view c.in-Local.name) c.in-Local.values)) (evaluates_yielded refused) c.from_residual.ensures)
 
 pub returns-in_ok-check_walk-in-Local-clause-does : goal.returns-in_ok-check_walk-in-Local-clause-does
 returns-in_ok-check_walk-in-Local-clause-does g c =
-    let passed = rw c.deref.ensures.value at c.in_ok-check_walk-in-Local.ensures.checked in
+    let passed = rw c.as_slice.ensures at c.in_ok-check_walk-in-Local.ensures.checked in
     rw c.in-Local.is
-    (evaluates_then (λ i _. give (at_local (name_view c.in-Local.name) c.in-Local.values.items)) (evaluates_yielded passed)
-    (evaluates_gives (at_local (name_view c.in-Local.name) c.in-Local.values.items) walk_view _ refl))
+    (evaluates_then (λ i _. give (at_local (name_view c.in-Local.name) c.in-Local.values)) (evaluates_yielded passed)
+    (evaluates_gives (at_local (name_view c.in-Local.name) c.in-Local.values) walk_view _ refl))
 
 pub returns-in-Global-clause-does : goal.returns-in-Global-clause-does
 returns-in-Global-clause-does g c = rw c.in-Global.is c.node_walk.ensures.does

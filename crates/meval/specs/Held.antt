@@ -1,0 +1,9 @@
+-- Values as they are held, by their texts.
+use Rattle.std.specs.Prelude.{List, [], ◌∷◌}
+use Rattle.mspec.specs.Node.{Text}
+use Rattle.meval.specs.declared.values.Held.{Held}
+use Rattle.meval.specs.declared.values.Held.TheVariants as held
+
+abbrev pub held_texts : Held → List Text
+held_texts (held.One value) = value ∷ []
+held_texts (held.Several values) = values.items

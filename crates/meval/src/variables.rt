@@ -124,7 +124,7 @@ impl<'a, S: NodeStore> Eval<'a, S> {
         ensures does { Evaluates S.NodeStore (λ i. with_locals (newed_except names.now)) (λ u. u) self.old result self.new }
     {
         let spared = copied(alloc, names)?;
-        self.session.locals.new_except(spared);
+        self.session.locals.new_except(spared)?;
         Ok(())
     }
 

@@ -1,6 +1,7 @@
 //! The local variables of a session.
 #![tactic(auto)]
 
+mod level;
 mod scope;
 mod scopes;
 mod subs;

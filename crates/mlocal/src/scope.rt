@@ -13,6 +13,7 @@ ghost use Rattle.mspec.specs.Trees.{has_value, has_descendants, order_of, front,
 ghost use Rattle.mlocal.specs.Home.{has_name};
 ghost use Rattle.mkey.specs.Way.{way};
 
+use crate::level::{Level, is_spared};
 use crate::variable::Variable;
 use mkey::{Data, Direction, SubsKey};
 use mnum::Name;
@@ -73,19 +74,9 @@ impl Scope {
         }
     }
 
-    // Whether it has the name by itself. The scope of a level without NEW has none, which is seen at once.
-    pub fn has(&self, name: &Name) -> bool
-        ensures { result ≡ has self.now name.now }
-    {
-        if self.names.is_empty() && self.others.is_none() {
-            return false;
-        }
-        self.has_among(name)
-    }
-
-    // The same, by a look at the names.
+    // Whether it has the name by itself. Not drawn in, so that the walk over levels, most of which have no name, stays short.
     #[inline(never)]
-    fn has_among(&self, name: &Name) -> bool
+    pub fn has(&self, name: &Name) -> bool
         ensures { result ≡ has self.now name.now }
     {
         if is_among(name, self.names.as_slice()) {
@@ -212,8 +203,8 @@ impl Scope {
         }
     }
 
-    // Takes the texts of all names away but these and those that a scope above has. Takes no memory.
-    pub fn keep_spared(&mut self, names: &[Name], above: &[Scope])
+    // Takes the texts of all names away but these and those that a level above has. Takes no memory.
+    pub fn keep_spared(&mut self, names: &[Name], above: &[Level])
         ensures { self.new ≡ emptied (λ n. is_among names.now n || list_any (has_name n) above.now) self.old }
     {
         self.trees.retain(
@@ -259,20 +250,6 @@ impl Scope {
         };
         self.others = Some(others);
     }
-}
-
-// Whether a scope of these has the name.
-fn any_has(scopes: &[Scope], name: &Name) -> bool
-    ensures { result ≡ list_any (has_name name.now) scopes.now }
-{
-    scopes.iter().any(|s| s.has(name))
-}
-
-// Whether a name is one of these, or a scope above has it.
-fn is_spared(names: &[Name], above: &[Scope], name: &Name) -> bool
-    ensures { result ≡ (is_among names.now name.now || list_any (has_name name.now) above.now) }
-{
-    is_among(name, names) || any_has(above, name)
 }
 
 // Takes the trees of these names away.

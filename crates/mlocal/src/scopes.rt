@@ -3,9 +3,10 @@ ghost use Rattle.std.specs.Prelude.{◌≡◌, IfOk, OnOk, OnErr, [], ◌∷◌,
 ghost use Rattle.mlocal.specs.Home.{IsHome, killed_up};
 ghost use Rattle.mkey.specs.Way.{way};
 ghost use Rattle.mspec.specs.KeyBytes.{AreSubscripts};
-ghost use Rattle.mspec.specs.Scopes.{bottom, is_among, value_at, is_value, is_above, next_subscript, assigned, killed, killed_except, newed, newed_except, with_level, without_level, outermost};
+ghost use Rattle.mspec.specs.Scopes.{bottom, is_among, value_at, is_value, is_above, next_subscript, tree_in, tree_of, assigned, killed, killed_except, newed, newed_except, with_level, without_level, outermost};
 ghost use Rattle.mspec.specs.Trees.{AreOrderSubscripts};
 
+use crate::level::Level;
 use crate::scope::Scope;
 use mkey::{Data, Direction, SubsKey};
 use mnum::Name;
@@ -20,7 +21,7 @@ pub struct Locals {
     alloc: Global,
     bottom: Scope,
     // the scopes of the levels, the outermost first
-    levels: Vec<Scope>,
+    levels: Vec<Level>,
 }
 
 impl Model for Locals {
@@ -67,7 +68,7 @@ impl Locals {
         ensures ok { OnOk result (self.new ≡ with_level self.old) }
         ensures err { OnErr result (self.new ≡ self.old) }
     {
-        self.levels.push(Scope::new(self.alloc))?;
+        self.levels.push(Level::new())?;
         Ok(())
     }
 
@@ -89,10 +90,7 @@ impl Locals {
     pub fn own(&self, name: &Name) -> Option<&Value>
         ensures { option_map (λ value. value.now) result ≡ value_at self.now name.now [] }
     {
-        match home(&self.levels, name) {
-            None => self.bottom.own(name),
-            Some(place) => self.levels[place].own(name),
-        }
+        self.scope_of(name).own(name)
     }
 
     /// The value at a node, where the name's variable has one there. A number that was assigned is one still.
@@ -108,10 +106,7 @@ impl Locals {
             return Ok(self.own(name));
         }
         let key = SubsKey::build(self.alloc, subs)?;
-        match home(&self.levels, name) {
-            None => Ok(self.bottom.get(name, &key)),
-            Some(place) => Ok(self.levels[place].get(name, &key)),
-        }
+        Ok(self.scope_of(name).get(name, &key))
     }
 
     /// Whether the name's variable has a text at a node, and whether it has one below it.
@@ -124,10 +119,7 @@ impl Locals {
         ensures value { IfOk result (λ found. found.value ≡ is_value self.now name.now subs.now) }
         ensures descendants { IfOk result (λ found. found.descendants ≡ is_above self.now name.now subs.now) }
     {
-        match home(&self.levels, name) {
-            None => self.bottom.data(self.alloc, name, subs),
-            Some(place) => self.levels[place].data(self.alloc, name, subs),
-        }
+        self.scope_of(name).data(self.alloc, name, subs)
     }
 
     /// The subscript next to the last of these, of those in its place below which the name's variable has a text. An empty last
@@ -145,10 +137,7 @@ impl Locals {
         requires { AreOrderSubscripts subs.now }
         ensures { IfOk result (λ next. next ≡ next_subscript self.now (way direction) name.now subs.now) }
     {
-        match home(&self.levels, name) {
-            None => self.bottom.order(self.alloc, name, subs, direction),
-            Some(place) => self.levels[place].order(self.alloc, name, subs, direction),
-        }
+        self.scope_of(name).order(self.alloc, name, subs, direction)
     }
 
     /// Gives a node a value, in place of the one that it has.
@@ -209,7 +198,7 @@ impl Locals {
         ensures { self.new ≡ killed_except names.now self.old }
     {
         self.bottom.keep_spared(names, self.levels.as_slice());
-        spare(self.alloc, &mut self.levels, names);
+        spare(&mut self.levels, names);
     }
 
     /// Gives the top scope these names, as variables without a text, until its level ends.
@@ -229,46 +218,61 @@ impl Locals {
     }
 
     /// Gives the top scope all names but these, and of these those that it had, until its level ends. The variables of the
-    /// others have no text. Takes no memory.
-    pub fn new_except(&mut self, names: Vec<Name>)
-        ensures { self.new ≡ newed_except names.items self.old }
+    /// others have no text.
+    ///
+    /// # Errors
+    ///
+    /// `AllocError` for want of memory; the locals are then as they were.
+    pub fn new_except(&mut self, names: Vec<Name>) -> Result<(), AllocError>
+        ensures ok { OnOk result (self.new ≡ newed_except names.items self.old) }
+        ensures err { OnErr result (self.new ≡ self.old) }
     {
         let count = self.levels.len();
         if count == 0 {
             self.bottom.hide_others(names);
-        } else {
-            self.levels[count - 1].hide_others(names);
+            return Ok(());
+        }
+        self.levels[count - 1].hide_others(self.alloc, names)
+    }
+
+    // The scope that a name's variable is of, to read from.
+    fn scope_of(&self, name: &Name) -> &Scope
+        ensures { tree_in result.now name.now ≡ tree_of self.now name.now }
+    {
+        match home(&self.levels, name) {
+            None => &self.bottom,
+            Some(place) => self.levels[place].scope(),
         }
     }
 }
 
-// Takes the texts of all variables of these scopes away that no scope above hides, but those of these names.
-fn spare(alloc: Global, scopes: &mut Vec<Scope>, names: &[Name])
-    ensures { scopes.new.items ≡ killed_up (is_among names.now) scopes.old.items }
+// Takes the texts of all variables of these levels away that no level above hides, but those of these names.
+fn spare(levels: &mut Vec<Level>, names: &[Name])
+    ensures { levels.new.items ≡ killed_up (is_among names.now) levels.old.items }
 {
-    for place in 0..scopes.len() {
-        let mut scope = mem::replace(&mut scopes[place], Scope::new(alloc));
-        scope.keep_spared(names, scopes_above(scopes, place));
-        scopes[place] = scope;
+    for place in 0..levels.len() {
+        let mut level = mem::replace(&mut levels[place], Level::new());
+        level.keep_spared(names, levels_above(levels, place));
+        levels[place] = level;
     }
 }
 
-// The scopes above a place.
-fn scopes_above(scopes: &Vec<Scope>, place: usize) -> &[Scope]
-    requires { place < length scopes.now.items }
-    ensures { result.now ≡ drop (place + 1) scopes.now.items }
+// The levels above a place.
+fn levels_above(levels: &Vec<Level>, place: usize) -> &[Level]
+    requires { place < length levels.now.items }
+    ensures { result.now ≡ drop (place + 1) levels.now.items }
 {
-    &scopes.as_slice()[place + 1..]
+    &levels.as_slice()[place + 1..]
 }
 
-// The place of the topmost of these scopes that has the name.
-fn home(scopes: &Vec<Scope>, name: &Name) -> Option<usize>
-    ensures { IsHome name.now scopes.now.items result }
+// The place of the topmost of these levels that has the name.
+fn home(levels: &Vec<Level>, name: &Name) -> Option<usize>
+    ensures { IsHome name.now levels.now.items result }
 {
-    let mut place = scopes.len();
+    let mut place = levels.len();
     while place > 0 {
         place -= 1;
-        if scopes[place].has(name) {
+        if levels[place].has(name) {
             return Some(place);
         }
     }

@@ -27,7 +27,7 @@ fn call(locals: &mut Locals, alloc: Global, words: &[&str]) -> anyhow::Result<Op
         ["enter"] => locals.enter()?,
         ["leave"] => locals.leave(),
         ["new", names @ ..] => locals.new_vars(names_of(alloc, names)?.as_slice())?,
-        ["new-all-but", names @ ..] => locals.new_except(names_of(alloc, names)?),
+        ["new-all-but", names @ ..] => locals.new_except(names_of(alloc, names)?)?,
         ["kill-all-but", names @ ..] => locals.kill_except(names_of(alloc, names)?.as_slice()),
         ["kill", name, subs @ ..] => kill(locals, alloc, name, subs)?,
         ["set", name, subs @ .., "=", text] => {

@@ -5,5 +5,5 @@ use Rattle.mlocal.proofs.scopes.spare.Given as goal
 
 abbrev pub invariant-loop-place : goal.invariant-loop-place
 invariant-loop-place l =
-    (length l.scopes.items ≡ length l.initial.scopes.items)
-    × (take l.place l.scopes.items ++ killed_up (is_among l.names) (drop l.place l.scopes.items) ≡ killed_up (is_among l.names) l.initial.scopes.items)
+    (length l.levels.items ≡ length l.initial.levels.items)
+    × (take l.place l.levels.items ++ killed_up (is_among l.names) (drop l.place l.levels.items) ≡ killed_up (is_among l.names) l.initial.levels.items)

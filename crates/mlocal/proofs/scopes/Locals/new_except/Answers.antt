@@ -1,16 +1,17 @@
 use Rattle.std.proofs.Common.{◌≡◌, [], ◌∷◌, ◌+◌, ◌-◌, Some, length, ap, ◌∙◌, arith}
 use Rattle.mspec.specs.Scopes.{hide_others, newed_except, common}
 use Rattle.mlocal.proofs.Stacks.{top-at, none_common}
+use Rattle.mlocal.proofs.Views.{OnOk-map}
 use Rattle.mlocal.proofs.scopes.Locals.new_except.Goals as goal
 
 pub invariant_of-self : goal.invariant_of-self
 invariant_of-self c =
     ap (λ s. s.others) c.hide_others.ensures ∙ ap (λ o. Some (common c.args.names.items o)) c.self.invariant ∙ ap Some (none_common c.args.names.items)
 
-pub returns-else-count-eq0 : goal.returns-else-count-eq0
-returns-else-count-eq0 c =
+pub returns-clause-ok : goal.returns-clause-ok
+returns-clause-ok c =
     let l = c.self.inside in
     let at : c.len-count.result - 1 + 1 ≡ length l.levels.items = omega arith in
-    top-at (hide_others c.args.names.items) l.levels.items (l.bottom ∷ []) (c.len-count.result - 1) c.index_mut.result.now c.hide_others-else-count-eq0.new.self at
-    (c.hide_others-else-count-eq0.ensures ∙ ap (hide_others c.args.names.items) c.index_mut.ensures.value)
-    ∙ ap (newed_except c.args.names.items) c.self.view_is
+    OnOk-map c.hide_others-2.result (λ e. top-at (hide_others c.args.names.items) l.levels.items (l.bottom ∷ []) (c.len-count.result - 1) c.index_mut.result.now c.hide_others-2.new.self at
+    (e ∙ ap (hide_others c.args.names.items) c.index_mut.ensures.value)
+    ∙ ap (newed_except c.args.names.items) c.self.view_is) c.hide_others-2.ensures.ok

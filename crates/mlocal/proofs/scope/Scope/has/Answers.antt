@@ -2,7 +2,7 @@ use Rattle.std.proofs.Common.{false, ap, sym, not, ◌∙◌}
 use Rattle.std.specs.Prelude.{option_map}
 use Rattle.mspec.specs.Scopes.{has, is_among, is_other}
 use Rattle.mlocal.proofs.Views.{yes_or, no_or}
-use Rattle.mlocal.proofs.scope.Scope.has_among.Goals as goal
+use Rattle.mlocal.proofs.scope.Scope.has.Goals as goal
 
 pub returns-then-is_among : goal.returns-then-is_among
 returns-then-is_among c =

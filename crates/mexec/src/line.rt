@@ -1,8 +1,9 @@
 // A line, from its first command to its end.
-ghost use Rattle.std.specs.Prelude.{◌≡◌, ◌≤◌, ◌+◌, ◌*◌, [], ◌∷◌, length, IfOk, OnOk};
+ghost use Rattle.std.specs.Prelude.{◌≡◌, ◌≤◌, ◌+◌, ◌*◌, [], ◌∷◌, length, IfOk};
 ghost use Rattle.mmeaning.specs.Levels.{stays, commands_of};
 ghost use Rattle.mmeaning.specs.LineMeaning as meaning;
-ghost use Rattle.mmeaning.specs.Frames.{frame, Rests, Levels};
+ghost use Rattle.mmeaning.specs.LineMeaning.{context};
+ghost use Rattle.mmeaning.specs.Frames.{frame, Levels};
 ghost use Rattle.mtree.specs.Tree.{line_tree};
 ghost use Rattle.mcommand.specs.Does.{DoesAt, KeepsLoans};
 ghost use Rattle.mexec.specs.Frames.{Runs, view, stack, signal_of, commands_from};
@@ -19,7 +20,7 @@ use mcommand::Parts;
 use moperator::Code;
 use mstore::NodeStore;
 use mtree::Line;
-use std::alloc::{AllocError, Global};
+use std::alloc::Global;
 use std::rc::Rc;
 
 // What the top frame does with a signal.
@@ -57,18 +58,22 @@ fn step<S: NodeStore>(
     }
 }
 
-// The frames of a line from its first command on, and no others.
-fn begin(line: Rc<Line>, machine: &mut Machine) -> Result<(), AllocError>
-    ensures { OnOk result (stack machine.new.frames.items ≡ Rests meaning.outset (commands_from line.value 0) ∷ Levels meaning.outset stays ∷ []) }
+// Begins a line: nothing but its level is put on the frames, and its first command is carried out, or all where they are done at once.
+fn begin<S: NodeStore>(
+    alloc: Global,
+    parts: &mut Parts<S>,
+    line: Rc<Line>,
+    machine: &mut Machine,
+) -> Result<Signal, Code>
+    ensures loans { KeepsLoans parts.old parts.new }
+    ensures fewer { parts.new.eval.steps ≤ parts.old.eval.steps }
+    ensures does { Runs S.NodeStore (λ a n. meaning.commands (context a n meaning.outset) (commands_from line.value 0)) (Levels meaning.outset stays ∷ []) parts.old result (stack machine.new.frames.items) parts.new }
 {
     machine.frames.clear();
     let spot = machine.outset.spot()?;
     let level = Frame::Level(spot.clone()?, Closing::Stays);
     machine.frames.push(level)?;
-    machine
-        .frames
-        .push(Frame::Rest(Rest { spot, line, at: 0 }))?;
-    Ok(())
+    next_command(alloc, parts, Rest { spot, line, at: 0 }, machine)
 }
 
 // A line, from its first command to its end.
@@ -82,8 +87,7 @@ pub(crate) fn run_line<S: NodeStore>(
     ensures fewer { parts.new.eval.steps ≤ parts.old.eval.steps }
     ensures does { DoesAt S.NodeStore (λ a n. meaning.run_within a n (commands_of (line_tree line.value))) signal_of parts.old result parts.new }
 {
-    begin(line, machine)?;
-    let mut signal = Signal::GoOn;
+    let mut signal = begin(alloc, parts, line, machine)?;
     while let Some(frame) = machine.frames.pop() {
         signal = step(alloc, parts, frame, signal, machine)?;
     }

@@ -2,30 +2,33 @@ use Rattle.std.proofs.Common.{◌≡◌, ◌≤◌, Option, Some, None, length, 
 use Rattle.mspec.proofs.ListPlaces.{none_left}
 use Rattle.mmeaning.specs.Levels.{commands_of}
 use Rattle.mtree.specs.Tree.{line_tree}
-use Rattle.mcommand.proofs.Calls.{keeps_itself, keeps_on}
+use Rattle.mcommand.proofs.Calls.{keeps_on}
 use Rattle.mexec.proofs.Calls.{stack_push}
 use Rattle.mexec.proofs.Lines.{leads_first, leads_on, leads_stopped, leads_ends}
 use Rattle.mexec.proofs.line.run_line.Goals as goal
 
+pub returns-in_err-signal-clause-does : goal.returns-in_err-signal-clause-does
+returns-in_err-signal-clause-does g c =
+    leads_stopped _ _ _ (leads_first (commands_of (line_tree c.args.line.value)) c.args.parts.now) c.in_err-signal.ensures.does c.from_residual.ensures
+
 pub loop-frame-init : goal.loop-frame-init
 loop-frame-init g c = record {
-  loans = keeps_itself c.args.parts.now;
-  leads =
-      rw c.in_ok-begin.ensures (leads_first (commands_of (line_tree c.args.line.value)) c.args.parts.now);
+  loans = c.in_ok-signal.ensures.loans;
+  leads = leads_on _ _ _ (leads_first (commands_of (line_tree c.args.line.value)) c.args.parts.now) c.in_ok-signal.ensures.does;
 }
 
 pub loop-frame-preserved : goal.loop-frame-preserved
 loop-frame-preserved g c =
     let leads = rw (c.in-Some.ensures.items, stack_push) at c.loop-frame.invariant.leads in
     record {
-      loans = keeps_on c.loop-frame.invariant.loans c.in_ok-signal.ensures.loans;
-      leads = leads_on _ _ _ leads c.in_ok-signal.ensures.does;
+      loans = keeps_on c.loop-frame.invariant.loans c.in_ok-signal-2.ensures.loans;
+      leads = leads_on _ _ _ leads c.in_ok-signal-2.ensures.does;
     }
 
-pub returns-in_err-signal-clause-does : goal.returns-in_err-signal-clause-does
-returns-in_err-signal-clause-does g c =
+pub returns-in_err-signal-2-clause-does : goal.returns-in_err-signal-2-clause-does
+returns-in_err-signal-2-clause-does g c =
     let leads = rw (c.in-Some.ensures.items, stack_push) at c.loop-frame.invariant.leads in
-    leads_stopped _ _ _ leads c.in_err-signal.ensures.does c.from_residual-in_err-signal.ensures
+    leads_stopped _ _ _ leads c.in_err-signal-2.ensures.does c.from_residual-in_err-signal-2.ensures
 
 none_is : {A : Type 0} (r : Option A) → ((x : A) → r ≡ Some x → ⊥) → r ≡ None
 none_is None h = refl

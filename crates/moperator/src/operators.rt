@@ -21,6 +21,7 @@ use std::alloc::Global;
 /// # Errors
 ///
 /// `Zover` where the number is too large.
+#[inline]
 pub fn computed(outcome: Result<Num, Over>) -> Result<Value, Code>
     ensures { Yields fault_of (meaning.as_text (outcome_units outcome)) (λ value. value) result }
 {
@@ -79,6 +80,7 @@ pub fn unaries(signs: &[Sign], value: Value) -> Result<Value, Code>
 }
 
 // Both operands as numbers, the left one first.
+#[inline(always)]
 pub(crate) fn numbers(left: &Value, right: &Value) -> Result<(Num, Num), Code>
     ensures { Yields fault_of (meaning.both_numbers left.now right.now) (λ pair. (units pair.0, units pair.1)) result }
 {

@@ -18,6 +18,7 @@ use mvalue::Value;
 /// # Errors
 ///
 /// `Zover` where the number is too large.
+#[inline]
 pub fn number_of(value: &Value) -> Result<Num, Code>
     ensures { Yields fault_of (as_number value.now) units result }
 {

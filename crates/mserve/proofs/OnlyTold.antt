@@ -31,7 +31,7 @@ use Rattle.mwire.specs.declared.fault.WireFault.{WireFault}
 use Rattle.mwire.specs.declared.fault.WireFault.TheVariants.{Read, Write, Memory}
 use Rattle.mgrant.specs.Reading.{IsRead}
 use Rattle.mserve.specs.Runs.{AreUntouched, DeviceBroke, IsMemoryFault, IsStoreFault, NoSettings}
-use Rattle.mserve.specs.Only.{HasAccount, ToldAlone, ToldInForm, OnlyEndsEarly, ServesAs, OnlyOver}
+use Rattle.mserve.specs.Only.{HasAccount, ToldAlone, ToldInForm, OnlyEndsEarly, FitsMemory, ServesAs, OnlyOver}
 use Rattle.mserve.specs.declared.fault.RunFault.{RunFault}
 use Rattle.mserve.specs.declared.fault.RunFault.TheVariants as early
 
@@ -70,11 +70,40 @@ device_broke input input' output output' Memory r w = tt
 -- a run that ends early does so whatever its store
 pub ends_early : {M F I O : Type 0} (memory : Ghosts M) (file : Ghosts F) (left : I → Option Text) (held : O → Option Text) (store : Store) (name document : Text)
     (input input' : Watched I) (output output' : Watched O) (fault : RunFault)
+    → FitsMemory fault
     → OnlyEndsEarly memory left held document name input input' output output' fault
     → OnlyEndsEarly file left held document name input input' output output' fault
     → OnlyOver memory file left held store name document input input' output output' (Err fault)
-ends_early memory file left held store.Memory name document input input' output output' fault m f = m
-ends_early memory file left held (store.File path) name document input input' output output' fault m f = f
+ends_early memory file left held store.Memory name document input input' output output' fault fits m f = (m, fits)
+ends_early memory file left held (store.File path) name document input input' output output' fault fits m f = f
+
+pub settings_fit : (document : Text) (fault : RunFault) → NoSettings document fault → FitsMemory fault
+settings_fit document early.Unread never = tt
+settings_fit document (early.Settings fault) why = tt
+settings_fit document early.NoAccount never = tt
+settings_fit document (early.Store fault) never = absurd never
+settings_fit document early.Listen never = tt
+settings_fit document early.Accept never = tt
+settings_fit document (early.Wire fault) never = tt
+
+pub store_fits : (fault : RunFault) → IsMemoryFault fault → FitsMemory fault
+store_fits early.Unread never = tt
+store_fits (early.Settings fault) never = tt
+store_fits early.NoAccount never = tt
+store_fits (early.Store fault) why = why
+store_fits early.Listen never = tt
+store_fits early.Accept never = tt
+store_fits (early.Wire fault) never = tt
+
+served_fits : {S I O : Type 0} (g : Ghosts S) (left : I → Option Text) (held : O → Option Text) (old : World S) (place : ℕ)
+    (input input' : Watched I) (output output' : Watched O) (fault : RunFault) (new : World S) → ServesAs g left held old place input input' output output' (Err fault) new → FitsMemory fault
+served_fits g left held old place input input' output output' early.Unread new never = tt
+served_fits g left held old place input input' output output' (early.Settings fault) new never = tt
+served_fits g left held old place input input' output output' early.NoAccount new never = tt
+served_fits g left held old place input input' output output' (early.Store fault) new never = absurd never
+served_fits g left held old place input input' output output' early.Listen new never = tt
+served_fits g left held old place input input' output output' early.Accept new never = tt
+served_fits g left held old place input input' output output' (early.Wire fault) new s = tt
 
 module _ {S I O : Type 0} (g : Ghosts S) (left : I → Option Text) (held : O → Option Text) (document name : Text) (input input' : Watched I) (output output' : Watched O) where
   -- nothing was asked of the devices yet
@@ -156,7 +185,7 @@ module _ {S I O : Type 0} (g : Ghosts S) (left : I → Option Text) (held : O �
     pub over_memory : g.sound → globals ≡ empty → name_at known.settings place ≡ name → (result : Result (Unit {0}) RunFault)
         → ServesAs g left held old place input input' output output' result new → OnlyOver g g left held store.Memory name document input input' output output' result
     over_memory sound none is (Ok done) s = told_alone sound none is s.0 s.1
-    over_memory sound none is (Err fault) s = broke_off fault s
+    over_memory sound none is (Err fault) s = (broke_off fault s, served_fits g left held old place input input' output output' fault new s)
 
     pub over_file : (path : _) → (result : Result (Unit {0}) RunFault)
         → ServesAs g left held old place input input' output output' result new → OnlyOver g g left held (store.File path) name document input input' output output' result

@@ -23,7 +23,7 @@ use Rattle.mwire.specs.Only.{told_text, ServesOnly}
 use Rattle.mwire.specs.Watched.{inner_of}
 use Rattle.mwire.specs.declared.watched.Watched.{Watched}
 use Rattle.mwire.specs.declared.fault.WireFault.{WireFault}
-use Rattle.mserve.specs.Runs.{AreUntouched, DeviceBroke, NoDocument}
+use Rattle.mserve.specs.Runs.{AreUntouched, DeviceBroke, IsMemoryFault, NoDocument}
 use Rattle.mserve.specs.declared.fault.RunFault.{RunFault}
 use Rattle.mserve.specs.declared.fault.RunFault.TheVariants as early
 
@@ -90,6 +90,16 @@ OnlyEndsEarly g left held document name input input' output output' (early.Wire 
     BrokeOff g document name (left (inner_of input)) (left (inner_of input')) (held (inner_of output)) (held (inner_of output')) fault
     × DeviceBroke input input' output output' fault
 
+-- a fault of a store in memory is none of rows that another program wrote
+abbrev pub FitsMemory : RunFault → Type 0
+FitsMemory early.Unread = Unit {0}
+FitsMemory (early.Settings fault) = Unit {0}
+FitsMemory early.NoAccount = Unit {0}
+FitsMemory (early.Store fault) = IsMemoryFault (early.Store fault)
+FitsMemory early.Listen = Unit {0}
+FitsMemory early.Accept = Unit {0}
+FitsMemory (early.Wire fault) = Unit {0}
+
 -- ---- in a world, by a document, by a file
 
 abbrev pub ServesAs : {S I O : Type 0} → Ghosts S → (I → Option Text) → (O → Option Text) → World S → ℕ → Watched I → Watched I → Watched O → Watched O → Result (Unit {0}) RunFault → World S → Type 0
@@ -110,7 +120,7 @@ abbrev pub OnlyOver : {M F I O : Type 0} → Ghosts M → Ghosts F → (I → Op
 OnlyOver memory file left held store.Memory name document input input' output output' (Ok done) =
     ToldAlone document name (left (inner_of input)) (left (inner_of input')) (held (inner_of output)) (held (inner_of output'))
 OnlyOver memory file left held store.Memory name document input input' output output' (Err fault) =
-    OnlyEndsEarly memory left held document name input input' output output' fault
+    OnlyEndsEarly memory left held document name input input' output output' fault × FitsMemory fault
 OnlyOver memory file left held (store.File path) name document input input' output output' (Ok done) =
     ToldInForm document name (left (inner_of input)) (left (inner_of input')) (held (inner_of output)) (held (inner_of output'))
 OnlyOver memory file left held (store.File path) name document input input' output output' (Err fault) =

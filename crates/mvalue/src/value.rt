@@ -180,6 +180,7 @@ impl Value {
     /// # Errors
     ///
     /// `AllocError` for want of memory, which only a text needs.
+    #[inline]
     pub fn copy(&self) -> Result<Value, AllocError>
         ensures { IfOk result (λ value. value ≡ self.now) }
     {
@@ -194,6 +195,7 @@ impl Value {
     /// # Errors
     ///
     /// `Over` exactly where the number would be 10^18 or more in size, which that of a number never is.
+    #[inline]
     pub fn number(&self) -> Result<Num, Over>
         ensures { MatchResult result (λ n. numeric_value significant_digits self.now ≡ Some (units n)) (λ _. numeric_value significant_digits self.now ≡ None) }
     {

@@ -1,9 +1,9 @@
 -- A world and a reply of the program as those of the definitions.
 use Rattle.std.specs.Prelude.{ℕ}
 use Rattle.std.specs.Ordering.{nat_cmp}
-use Rattle.std.specs.BTreeMap.{BTreeMap}
+use Rattle.std.specs.HashMap.{HashMap}
 use Rattle.std.specs.FinMap.{FinMap}
-use Rattle.mspec.specs.Maps.{map_of}
+use Rattle.mspec.specs.Maps.{hash_map_of}
 use Rattle.mspec.specs.Access.{Settings}
 use Rattle.mspec.specs.LockConflict.{Locks}
 use Rattle.mmeaning.specs.Step as step
@@ -24,8 +24,8 @@ settings_of w = w.settings
 abbrev pub shared : {S : Type 0} → Ghosts S → S → Locks → step.World
 shared g store locks = record { globals = g.content store; locks = locks }
 
-abbrev pub sessions_of : BTreeMap ℕ Session → FinMap nat_cmp step.Session
-sessions_of m = map_of {R = nat_cmp} session_of m
+abbrev pub sessions_of : {H : Type 0} → HashMap ℕ Session H → FinMap nat_cmp step.Session
+sessions_of m = hash_map_of {R = nat_cmp} session_of m
 
 abbrev pub server_of : {S : Type 0} → Ghosts S → World S → Server
 server_of g w = record { world = shared g w.store w.locks; sessions = sessions_of w.sessions }

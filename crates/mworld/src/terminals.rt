@@ -8,12 +8,12 @@ ghost use Rattle.mworld.specs.View.{sessions_of};
 use meval::Session;
 use mlock::Locks;
 use std::alloc::{AllocError, Global};
-use std::collections::BTreeMap;
+use std::collections::HashMap;
 
 // Makes a session for a terminal that has none.
 pub(crate) fn begin_session(
     alloc: Global,
-    sessions: &mut BTreeMap<u32, Session>,
+    sessions: &mut HashMap<u32, Session>,
     terminal: u32,
 ) -> Result<(), AllocError>
     ensures session { OnOk result (get (sessions_of sessions.new) terminal ≡ Some (session_or_new (get (sessions_of sessions.old) terminal))) }
@@ -31,7 +31,7 @@ pub(crate) fn begin_session(
 #[inline(never)]
 fn put_session(
     alloc: Global,
-    sessions: &mut BTreeMap<u32, Session>,
+    sessions: &mut HashMap<u32, Session>,
     terminal: u32,
 ) -> Result<(), AllocError>
     requires { get (sessions_of sessions.old) terminal ≡ None }
@@ -44,7 +44,7 @@ fn put_session(
 }
 
 // Takes away what a terminal has: its session and its locks.
-pub(crate) fn end_session(sessions: &mut BTreeMap<u32, Session>, locks: &mut Locks, terminal: u32)
+pub(crate) fn end_session(sessions: &mut HashMap<u32, Session>, locks: &mut Locks, terminal: u32)
     ensures session { sessions_of sessions.new ≡ remove (sessions_of sessions.old) terminal }
     ensures locks { locks.new ≡ released locks.old terminal }
 {

@@ -20,7 +20,7 @@ use mlock::Locks;
 use moperator::Code;
 use mstore::NodeStore;
 use std::alloc::Global;
-use std::collections::BTreeMap;
+use std::collections::HashMap;
 
 // How many texts' trees a world keeps.
 const KEPT_TREES: usize = 256;
@@ -30,7 +30,7 @@ const KEPT_TREES: usize = 256;
 #[derive(Drop)]
 pub struct World<S> {
     settings: Settings,
-    sessions: BTreeMap<u32, Session>,
+    sessions: HashMap<u32, Session>,
     locks: Locks,
     store: S,
     // what lines of all accounts run with
@@ -78,7 +78,7 @@ impl<S: NodeStore> World<S> {
         };
         Ok(World {
             settings,
-            sessions: BTreeMap::new(alloc),
+            sessions: HashMap::new(alloc),
             locks: Locks::new(alloc),
             store,
             machine,

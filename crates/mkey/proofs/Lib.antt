@@ -10,3 +10,4 @@ pub mod KeyWalks
 pub mod NodeFronts
 pub mod Children
 pub mod NumericValues
+pub mod Heads

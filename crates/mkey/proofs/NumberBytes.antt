@@ -8,7 +8,7 @@ use Rattle.std.proofs.lemmas.List.{take_more}
 use Rattle.std.proofs.Math.Seq.{take-append_seam}
 use Rattle.mspec.specs.KeyBytes.{big_endian, raised, number_bytes}
 
-byte_pos : (k : ℕ) → 0 < 256 ^ k
+pub byte_pos : (k : ℕ) → 0 < 256 ^ k
 byte_pos k = one-le-pow k 256 (omega arith)
 
 -- the first byte of n in one byte more than w holds, and the rest

@@ -1,9 +1,11 @@
 -- Bytes of lists of subscripts that begin alike.
-use Rattle.std.proofs.Common.{ℕ, suc, ◌≡◌, ◌==◌, ◌<◌, ◌++◌, Bool, true, false, nat_eq, List, [], ◌∷◌, length, drop, Some, None, refl, sym, ◌∙◌, ap, arith}
+use Rattle.std.proofs.Common.{ℕ, suc, ◌≡◌, ◌==◌, ◌<◌, ◌++◌, Bool, true, false, nat_eq, List, [], ◌∷◌, length, drop, Some, None, refl, sym, ◌∙◌, ap, ap₂, arith}
 use Rattle.std.specs.Prelude.{slice_get, if◌then◌else◌}
-use Rattle.std.specs.Cmp.Lexicographic.{bytes_decides}
+use Rattle.std.specs.Cmp.Lexicographic.{bytes_decides, slice_cmp}
 use Rattle.std.specs.Fmt.{digits}
 use Rattle.std.specs.List.{starts_with}
+use Rattle.std.specs.Ordering.{nat_cmp, is_ne}
+use Rattle.std.specs.declared.cmp.Ordering.{Ordering}
 use Rattle.std.proofs.Math.Seq.{drop-append_seam}
 use Rattle.std.proofs.lemmas.Bool.Decides.{Decides-eqb, nat_tests}
 use Rattle.std.proofs.lemmas.List.Concat.{flat_map-append}
@@ -12,15 +14,17 @@ use Rattle.std.proofs.lemmas.Slice.Eq.{starts_is}
 use Rattle.mspec.specs.KeyBytes.{subscript_bytes, subscripts_bytes}
 use Rattle.mspec.specs.KeyLaws.{NoneEmpty}
 use Rattle.mspec.specs.Node.{Text}
-use Rattle.mspec.specs.NodeOrder.{canonical_value}
+use Rattle.mspec.specs.NodeOrder.{canonical_value, subscripts_cmp}
 use Rattle.mspec.specs.Number.{significant_digits, round, round_size, nearest, rounding_unit, digits_before}
 use Rattle.mspec.specs.NumberText.{numeric_value, literal_size, size_text}
 use Rattle.mspec.specs.Trees.{is_within, child_of}
-use Rattle.mspec.proofs.KeyOrders.{tag_of}
+use Rattle.mspec.proofs.KeyOrders.{tag_of, subscripts_order}
 use Rattle.mspec.proofs.KeyRanges.{subscripts_split, subscript_split}
 use Rattle.mkey.specs.Front.{IsFront, BeginsWithNo, IsSub, AreSubs}
+use Rattle.mkey.specs.Head.{head_number}
 use Rattle.mkey.specs.SubsKey.{IsSubsKeyOf, beyond, behind_below}
 use Rattle.mkey.proofs.Children.{at_front}
+use Rattle.mkey.proofs.Heads.{AreBytes, head_decides}
 use Rattle.mkey.proofs.SubscriptFronts.{nothing_begins}
 use Rattle.mkey.proofs.SubscriptLists.{sub_behind}
 
@@ -100,3 +104,14 @@ none_of_bytes [] = refl
 none_of_bytes (s ∷ xs) =
     let tag = tag_of s (canonical_value significant_digits s) in
     ap (λ b. length (b ++ subscripts_bytes significant_digits xs) == 0) tag.is ∙ never (length (tag.rest ++ subscripts_bytes significant_digits xs)) (length xs)
+
+-- ---- the order by heads
+
+-- the head that a key has is that of the bytes which are seen of it
+pub head_seen : (head : ℕ) (bytes seen : List ℕ) (own xs : List Text) → head ≡ head_number 16 bytes → subscripts_bytes significant_digits own ≡ bytes → own ≡ xs → seen ≡ subscripts_bytes significant_digits xs → head ≡ head_number 16 seen
+head_seen head bytes seen own xs of_bytes are is seen_are = of_bytes ∙ ap (head_number 16) (sym are ∙ ap (subscripts_bytes significant_digits) is ∙ sym seen_are)
+
+-- keys stand in the order of their heads where those differ
+pub keys_by_head : (xs ys : List Text) (a b : List ℕ) (order : Ordering) → NoneEmpty xs → NoneEmpty ys → a ≡ subscripts_bytes significant_digits xs → b ≡ subscripts_bytes significant_digits ys → AreBytes a → AreBytes b → order ≡ nat_cmp (head_number 16 a) (head_number 16 b) → is_ne order ≡ true → order ≡ subscripts_cmp significant_digits xs ys
+keys_by_head xs ys a b order some_x some_y is_a is_b are_a are_b e differ =
+    head_decides 16 a b order are_a are_b e differ ∙ ap₂ (slice_cmp nat_cmp) is_a is_b ∙ subscripts_order significant_digits xs ys some_x some_y

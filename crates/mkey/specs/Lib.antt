@@ -5,3 +5,4 @@ pub mod Parent
 pub mod SubsKey
 pub mod Way
 pub mod Under
+pub mod Head

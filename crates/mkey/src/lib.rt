@@ -9,6 +9,7 @@ mod ancestors;
 mod decoding;
 mod encoding;
 mod fault;
+mod head;
 mod key;
 pub mod laws;
 mod names;

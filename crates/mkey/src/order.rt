@@ -6,7 +6,7 @@ ghost use Rattle.mspec.specs.KeyBytes.{big_endian};
 
 use std::cmp::Ordering;
 
-const WORD_BYTES: usize = 8;
+pub const WORD_BYTES: usize = 8;
 
 // The number that the first eight bytes are, high byte first.
 pub fn first_word(bytes: &[u8]) -> u64

@@ -3,7 +3,8 @@ ghost use Rattle.std.specs.Prelude.{◌≡◌, ◌==◌, length, IfOk, Some, ref
 ghost use Rattle.std.specs.Cmp.{partial_equiv_from_equiv, partial_order_from_total, eq_by_cmp_equiv};
 ghost use Rattle.std.specs.Ordering.{eq_by_cmp};
 ghost use Rattle.mkey.specs.Front.{AreSubs};
-ghost use Rattle.mkey.specs.SubsKey.{IsSubsKey, IsSubsKey-prop, behind_below};
+ghost use Rattle.mkey.specs.Head.{head_number};
+ghost use Rattle.mkey.specs.SubsKey.{IsSubsKey, IsSubsKeyOf, IsSubsKey-prop, behind_below};
 ghost use Rattle.mspec.specs.KeyBytes.{AreSubscripts, subscripts_bytes};
 ghost use Rattle.mspec.specs.KeyLaws.{NoneEmpty};
 ghost use Rattle.mspec.specs.NodeOrder.{subscripts_cmp};
@@ -12,6 +13,7 @@ ghost use Rattle.mspec.specs.Trees.{is_within, child_of};
 ghost use Rattle.mspec.proofs.NodeOrders.{subscripts_cmp_total};
 
 use crate::decoding::behind;
+use crate::head::Head;
 use crate::order::compare;
 use crate::values::{push_values, read_value, values_room};
 use mvalue::Value;
@@ -25,8 +27,11 @@ const BEYOND: [u8; 3] = [2, 255, 0];
 /// The key of a list of subscripts, in the order of subscripts. Contracts see it as the list.
 #[derive(Debug, Drop)]
 pub struct SubsKey {
+    // tells most keys apart without a look at the bytes, which lie elsewhere
+    head: Head,
     bytes: Vec<u8>,
     ghost of_subs: { IsSubsKey bytes.items } by { IsSubsKey-prop bytes.items },
+    ghost head_of: { head ≡ head_number 16 bytes.items },
 }
 
 impl Model for SubsKey {
@@ -38,6 +43,15 @@ impl Model for SubsKey {
 }
 
 impl SubsKey {
+    // The key that has these bytes.
+    fn of_bytes(bytes: Vec<u8>) -> SubsKey
+        requires { IsSubsKey bytes.items }
+        ensures { IsSubsKeyOf result bytes.items }
+    {
+        let head = Head::of(bytes.as_slice());
+        SubsKey { head, bytes }
+    }
+
     /// The key of these subscripts. A number is put into it as it is.
     ///
     /// # Errors
@@ -50,7 +64,7 @@ impl SubsKey {
     {
         let mut bytes = Vec::with_capacity(alloc, values_room(subs))?;
         push_values(&mut bytes, subs)?;
-        Ok(SubsKey { bytes })
+        Ok(SubsKey::of_bytes(bytes))
     }
 
     /// A bound of the keys of subscripts that begin with these: it stands behind all of them, and before all others that stand
@@ -67,16 +81,14 @@ impl SubsKey {
         let mut bound = Vec::with_capacity(alloc, values_room(subs) + BEYOND.len())?;
         push_values(&mut bound, subs)?;
         bound.extend_from_slice(&BEYOND)?;
-        Ok(SubsKey { bytes: bound })
+        Ok(SubsKey::of_bytes(bound))
     }
 
     /// The key of no subscripts, which takes no memory.
     pub fn empty(alloc: Global) -> SubsKey
         ensures { result ≡ [] }
     {
-        SubsKey {
-            bytes: Vec::new(alloc),
-        }
+        SubsKey::of_bytes(Vec::new(alloc))
     }
 
     /// Whether it is the key of no subscripts. Takes no memory.
@@ -103,8 +115,7 @@ impl SubsKey {
     pub fn copy(&self) -> Result<SubsKey, AllocError>
         ensures { IfOk result (λ key. key ≡ self.now) }
     {
-        let bytes = self.bytes.clone()?;
-        Ok(SubsKey { bytes })
+        Ok(SubsKey::of_bytes(self.bytes.clone()?))
     }
 
     /// Whether the list begins with another one. Takes no memory.
@@ -171,6 +182,13 @@ impl Ord for SubsKey {
     ghost matches_eq = { λ a b. refl };
 
     fn cmp(&self, other: &SubsKey) -> Ordering {
-        compare(self.as_bytes(), other.as_bytes())
+        // before the heads, whose order is theirs since each of these is below 256
+        let bytes = self.as_bytes();
+        let others = other.as_bytes();
+        let order = self.head.order(&other.head);
+        if order.is_ne() {
+            return order;
+        }
+        compare(bytes, others)
     }
 }

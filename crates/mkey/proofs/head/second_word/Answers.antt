@@ -1,0 +1,8 @@
+use Rattle.std.proofs.Common.{ap, sym, ◌∙◌}
+use Rattle.std.proofs.lemmas.List.{drop_all}
+use Rattle.mkey.specs.Head.{head_number}
+use Rattle.mkey.proofs.Heads.{head_nil}
+use Rattle.mkey.proofs.head.second_word.Goals as goal
+
+pub returns-then-bytes-le-WORD_BYTES : goal.returns-then-bytes-le-WORD_BYTES
+returns-then-bytes-le-WORD_BYTES c = sym (ap (head_number 8) (drop_all 8 c.args.bytes.now c.if-bytes-le-WORD_BYTES.true) ∙ head_nil 8)

@@ -1,0 +1,81 @@
+// The first sixteen bytes of a key as a number, by which most keys are told apart.
+ghost use Rattle.std.specs.Prelude.{◌≡◌, drop};
+ghost use Rattle.std.specs.Ordering.{nat_cmp};
+ghost use Rattle.mkey.specs.Head.{head_number};
+
+use crate::decoding::behind;
+use crate::order::{WORD_BYTES, first_word};
+use std::cmp::Ordering;
+use std::marker::Model;
+
+// The first sixteen bytes, with zeros behind fewer. Contracts see the number that they are. It is held as two words, since a
+// number of sixteen bytes would lie at a multiple of sixteen, with a gap in each key.
+#[derive(Debug, Drop)]
+pub struct Head {
+    high: u64,
+    low: u64,
+}
+
+impl Model for Head {
+    ghost use Rattle.std.specs.Prelude.{ℕ, ◌+◌, ◌*◌, ◌^◌, ◌<◌};
+
+    ghost Value = { ℕ };
+
+    ghost view = { λ head. head.high * 256 ^ 8 + head.low };
+
+    ghost invariant = { λ head. head.low < 256 ^ 8 };
+}
+
+impl Head {
+    // The head of these bytes.
+    pub fn of(bytes: &[u8]) -> Head
+        ensures { result ≡ head_number 16 bytes.now }
+    {
+        Head {
+            high: word(bytes),
+            low: second_word(bytes),
+        }
+    }
+
+    // The order of the two numbers.
+    pub fn order(&self, other: &Head) -> Ordering
+        ensures { result ≡ nat_cmp self.now other.now }
+    {
+        let order = self.high.cmp(&other.high);
+        if order.is_ne() {
+            return order;
+        }
+        self.low.cmp(&other.low)
+    }
+}
+
+// The number that the first eight bytes are, with zeros behind fewer.
+fn word(bytes: &[u8]) -> u64
+    ensures { result ≡ head_number 8 bytes.now }
+{
+    if bytes.len() >= WORD_BYTES {
+        return first_word(bytes);
+    }
+    short_word(bytes)
+}
+
+// The same, a byte at a time, for fewer than eight.
+fn short_word(bytes: &[u8]) -> u64
+    ensures { result ≡ head_number 8 bytes.now }
+{
+    let mut number = 0;
+    for place in 0..WORD_BYTES {
+        number = number * 256 + bytes.get(place).copied().unwrap_or(0) as u64;
+    }
+    number
+}
+
+// The same number of the bytes behind the first eight.
+fn second_word(bytes: &[u8]) -> u64
+    ensures { result ≡ head_number 8 (drop 8 bytes.now) }
+{
+    if bytes.len() <= WORD_BYTES {
+        return 0;
+    }
+    word(behind(bytes, WORD_BYTES))
+}

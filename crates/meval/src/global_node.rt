@@ -94,11 +94,7 @@ impl GlobalNode {
     }
 
     // The node with these subscripts behind its own.
-    pub(crate) fn extended(
-        self,
-        alloc: Global,
-        values: Values,
-    ) -> Result<GlobalNode, AllocError>
+    pub(crate) fn extended(self, alloc: Global, values: Values) -> Result<GlobalNode, AllocError>
         ensures { IfOk result (λ node. node ≡ record self { subscripts = self.subscripts ++ values }) }
     {
         let mut node = self;

@@ -26,8 +26,7 @@ returns-in-Ok-memory_world g c =
 pub returns-in-Err-memory_world : goal.returns-in-Err-memory_world
 returns-in-Err-memory_world g c =
     let has = has_account _ c.args.name.now c.in-Ok.settings c.in-Some.account c.in-Ok.ensures.ok c.in-Some.ensures.account c.in-Some.ensures.known in
-    rw c.in-Memory.is
-    (
+    rw c.in-Memory.is (
       only_no_store _ g.I.Read.remaining g.O.Write.contents _ _ _ _ _ _ (refl, refl) has c.in-Err-memory_world.fault c.in-Err-memory_world.ensures.early,
       store_fits c.in-Err-memory_world.fault c.in-Err-memory_world.ensures.early,
     )

@@ -373,6 +373,7 @@ impl<'a, S: NodeStore> Eval<'a, S> {
 
     // The value of a function of a variable.
     #[cycle(eval)]
+    #[inline(never)]
     fn referring(&mut self, alloc: Global, referring: &Referring) -> Result<Value, Code>
         ensures loans { KeepsEval self.old self.new }
         ensures fewer { self.new.steps ≤ self.old.steps }
@@ -423,6 +424,7 @@ impl<'a, S: NodeStore> Eval<'a, S> {
 
     // The value of the first choice whose condition is true.
     #[cycle(eval)]
+    #[inline(never)]
     fn chosen(&mut self, alloc: Global, choices: &[Choice]) -> Result<Value, Code>
         ensures loans { KeepsEval self.old self.new }
         ensures fewer { self.new.steps ≤ self.old.steps }

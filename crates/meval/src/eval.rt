@@ -1,6 +1,6 @@
 // The evaluation of expressions.
 ghost use Rattle.std.specs.Prelude.{◌≡◌, ◌≢◌, ◌≤◌, ◌<◌, [], map, slice_get, unwrap_or, Err, IfOk};
-ghost use Rattle.mgrammar.specs.Grammar.{indirect, extended, exprs_of, choices_of, function_of, special_of};
+ghost use Rattle.mgrammar.specs.Grammar.{indirect, extended, exprs_of, choices_of, function_of};
 ghost use Rattle.mkey.specs.Way.{way};
 ghost use Rattle.mmeaning.specs.Expression as meaning;
 ghost use Rattle.mmeaning.specs.LineMeaning as line;
@@ -9,18 +9,17 @@ ghost use Rattle.mnum.specs.Num.{units};
 ghost use Rattle.mspec.specs.Act.{charge, get_local};
 ghost use Rattle.mtree.specs.Tree.{expr_tree, step_tree, operand_tree, primary_tree, reference_tree, choice_tree};
 ghost use Rattle.mtree.specs.declared.tree.Referring.{out-Referring};
-ghost use Rattle.moperator.specs.Codes.{fault_of};
 ghost use Rattle.moperator.specs.declared.code.Code.TheVariants.{Zstore};
 ghost use Rattle.meval.specs.Evaluates.{Evaluates, KeepsEval, standing_of};
 ghost use Rattle.meval.specs.Acts as acts;
-ghost use Rattle.meval.specs.Places.{pending_view, place_view, walk_view, status_view, undefined_at, IsOpen, IsWalk};
+ghost use Rattle.meval.specs.Places.{pending_view, place_view, walk_view, status_view, IsOpen, IsWalk};
 ghost use Rattle.mspec.specs.Access.{Read, Write};
-ghost use Rattle.mspec.specs.Code.{Own};
 
 use crate::depth::Depth;
 use crate::global_node::GlobalNode;
 use crate::place::{
     LocalName, Pending, Place, Walk, extended_parts, indirect_parts, plain_name, subscripts_of,
+    undefined,
 };
 use crate::reading::read_reference;
 use crate::session::Session;
@@ -31,22 +30,9 @@ use mkey::{Data, Direction};
 use mnum::{Bytes7, Name, Num};
 use moperator::{Code, binary, call, computed, matching, number_of, truth_of, unaries};
 use mstore::NodeStore;
-use mtree::{
-    Choice, Expr, Function, Operand, Primary, Reference, Referring, SpecialVariable, Step,
-    function_of, special_of,
-};
+use mtree::{Choice, Expr, Function, Operand, Primary, Reference, Referring, Step, function_of};
 use mvalue::Value;
 use std::alloc::Global;
-
-// The code of a read where there is no text.
-fn undefined(place: &Place) -> Code
-    ensures { fault_of result ≡ Own (undefined_at (place_view place.now)) }
-{
-    match place {
-        Place::Local(_, _) => Code::M6,
-        Place::Node(_) => Code::M7,
-    }
-}
 
 /// What the evaluation of an expression is lent, and where it stands.
 #[derive(Drop)]
@@ -220,18 +206,6 @@ impl<'a, S: NodeStore> Eval<'a, S> {
     {
         let direction = direction(more)?;
         self.next(alloc, walk, direction)
-    }
-
-    // The value of a special variable.
-    fn special(&mut self, word: &Bytes7) -> Result<Value, Code>
-        ensures loans { KeepsEval self.old self.new }
-        ensures fewer { self.new.steps ≤ self.old.steps }
-        ensures does { Evaluates S.NodeStore (λ i. variables.special_value (special_of word.now)) (λ v. v) self.old result self.new }
-    {
-        match special_of(word.as_bytes()) {
-            Some(SpecialVariable::Test) => Ok(Value::of_truth(self.session.test)),
-            None => Err(Code::Zsyntax),
-        }
     }
 
     // A primary costs its step also where it then fails.

@@ -5,11 +5,12 @@ ghost use Rattle.mtree.specs.Tree.{expr_tree, primary_tree, reference_tree};
 ghost use Rattle.mmeaning.specs.Variables.{checked, ordering};
 ghost use Rattle.mmeaning.specs.Variables as variables;
 ghost use Rattle.mmeaning.specs.Yields.{Yields};
+ghost use Rattle.mspec.specs.Code.{Own};
 ghost use Rattle.mspec.specs.KeyBytes.{AreSubscripts};
 ghost use Rattle.mspec.specs.Subscripts.{are_subscripts};
 ghost use Rattle.mspec.specs.Trees.{AreOrderSubscripts};
 ghost use Rattle.moperator.specs.Codes.{fault_of};
-ghost use Rattle.meval.specs.Places.{name_view, pending_view, place_view, subscripts_tree, IsDirect, NamesNoAccount};
+ghost use Rattle.meval.specs.Places.{name_view, pending_view, place_view, subscripts_tree, undefined_at, IsDirect, NamesNoAccount};
 
 use crate::global_node::GlobalNode;
 use crate::values::Values;
@@ -188,6 +189,16 @@ pub enum Place<'t> {
     Local(LocalName<'t>, Subscripts),
     /// A node of a global.
     Node(NodeKey),
+}
+
+// The code of a read where there is no text.
+pub fn undefined(place: &Place) -> Code
+    ensures { fault_of result ≡ Own (undefined_at (place_view place.now)) }
+{
+    match place {
+        Place::Local(_, _) => Code::M6,
+        Place::Node(_) => Code::M7,
+    }
 }
 
 // The place of a local variable with these subscripts: `Zsub` where they are none of a node.

@@ -1,5 +1,6 @@
 // What commands ask of the session of an evaluation, and change in it.
 ghost use Rattle.std.specs.Prelude.{◌≡◌, ◌≤◌, [], ◌∷◌, Ok, IfOk};
+ghost use Rattle.mgrammar.specs.Grammar.{special_of};
 ghost use Rattle.mspec.specs.Act.{with_locals, test_is, set_test};
 ghost use Rattle.mspec.specs.Scopes.{killed_except, newed, newed_except};
 ghost use Rattle.mmeaning.specs.Variables as variables;
@@ -11,9 +12,10 @@ ghost use Rattle.meval.specs.Places.{place_view, IsOpen};
 
 use crate::eval::Eval;
 use crate::place::Place;
-use mnum::{Name, Num};
+use mnum::{Bytes7, Name, Num};
 use moperator::{Code, number_of};
 use mstore::NodeStore;
+use mtree::{SpecialVariable, special_of};
 use mvalue::Value;
 use std::alloc::{AllocError, Global};
 use std::slice::from_ref;
@@ -157,6 +159,18 @@ impl<'a, S: NodeStore> Eval<'a, S> {
     {
         self.session.locals.set_own(name, value)?;
         Ok(())
+    }
+
+    // The value of a special variable.
+    pub(crate) fn special(&mut self, word: &Bytes7) -> Result<Value, Code>
+        ensures loans { KeepsEval self.old self.new }
+        ensures fewer { self.new.steps ≤ self.old.steps }
+        ensures does { Evaluates S.NodeStore (λ i. variables.special_value (special_of word.now)) (λ v. v) self.old result self.new }
+    {
+        match special_of(word.as_bytes()) {
+            Some(SpecialVariable::Test) => Ok(Value::of_truth(self.session.test)),
+            None => Err(Code::Zsyntax),
+        }
     }
 
     /// `$TEST`. Takes no memory.

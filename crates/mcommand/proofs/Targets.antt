@@ -6,11 +6,11 @@ use Rattle.mspec.specs.Code as spec
 use Rattle.mspec.specs.TextFunctions.{set_piece_of}
 use Rattle.mspec.specs.Act.{Text, Act, ◌>>=◌, ◌>>◌, give}
 use Rattle.mspec.proofs.ListPlaces.{next_item}
-use Rattle.mgrammar.specs.Grammar.{TargetTree, ExprTree, one, several, variable, local, no_exprs}
+use Rattle.mgrammar.specs.Grammar.{TargetTree, ExprTree, one, several, variable, local, exprs, no_exprs}
 use Rattle.mmeaning.specs.Operators.{outcome}
 use Rattle.mmeaning.specs.Functions.{as_whole_or_none}
-use Rattle.mmeaning.specs.Variables.{Place, at_local, of_local, read_or, put_at}
-use Rattle.mmeaning.specs.Expression.{value}
+use Rattle.mmeaning.specs.Variables.{Evaluated, Place, at_local, of_local, read_or, put_at}
+use Rattle.mmeaning.specs.Expression.{value, values, evaluated}
 use Rattle.mmeaning.specs.LineMeaning as meaning
 use Rattle.mmeaning.specs.Yields.{Yields}
 use Rattle.mtext.specs.Made.{Answers}
@@ -23,6 +23,7 @@ use Rattle.moperator.specs.Codes.{fault_of}
 use Rattle.moperator.specs.Faults.{fault_code}
 use Rattle.moperator.specs.declared.code.Code.{Code}
 use Rattle.moperator.specs.declared.code.Code.TheVariants.{Zmem}
+use Rattle.meval.specs.Acts.{put_act}
 use Rattle.mcommand.specs.declared.parts.Parts.{Parts}
 use Rattle.mcommand.specs.declared.set.Prepared.{Prepared}
 use Rattle.mcommand.specs.Does.{Does}
@@ -36,6 +37,10 @@ piece_given p d x n old = outcome (set_piece_of old d n x) >>= put_at p
 -- and before that
 abbrev pub piece_put : (d x : Text) → Option Text → Place → Act (Unit {0})
 piece_put d x place p = as_whole_or_none place >>= λ n. read_or [] p >>= piece_given p d x n
+
+-- a local variable with one subscript
+abbrev node_of : Text → ExprTree → TargetTree
+node_of name s = variable (local name (exprs s no_exprs))
 
 module _ {S : Type 0} {g : Ghosts S} where
   -- ---- pieces
@@ -104,6 +109,33 @@ module _ {S : Type 0} {g : Ghosts S} where
   pub plain_failed : {old new : Parts S} (name : Text) (e : ExprTree) (c : Code) → Does g (λ i. value i e) (λ (t : Text). t) old (Err c) new
       → Does g (λ i. meaning.setting i (one (variable (local name no_exprs))) e) (λ (u : Unit {0}). u) old (Err c) new
   plain_failed name e c k = does_failed (λ i v. meaning.all_assigned v (meaning.whole (of_local name []) ∷ [])) k
+
+  -- a local variable with one subscript
+  module _ (name : Text) (s e : ExprTree) where
+    node_prepared : {old mid : Parts S} (x : Text) → Does g (λ i. value i s) (λ (t : Text). t) old (Ok x) mid → Does g (λ i. meaning.all_prepared i [] (node_of name s ∷ [])) (λ (ps : List meaning.Prepared). ps) old (Ok (meaning.whole (of_local name (x ∷ [])) ∷ [])) mid
+    node_prepared x d =
+        let values_given = does_then (λ i x. give (x ∷ [])) d (does_gives (x ∷ []) (λ (xs : List Text). xs) (x ∷ []) refl) in
+        let evaluated_given = does_then (λ i xs. give (of_local name xs)) values_given (does_gives (of_local name (x ∷ [])) (λ (v : Evaluated). v) _ refl) in
+        let prepared_given = does_then (λ i v. give (meaning.whole v)) evaluated_given (does_gives (meaning.whole (of_local name (x ∷ []))) (λ (p : meaning.Prepared). p) _ refl) in
+        does_then (λ i p. meaning.all_prepared i (p ∷ []) []) prepared_given (does_gives (meaning.whole (of_local name (x ∷ [])) ∷ []) (λ (ps : List meaning.Prepared). ps) _ refl)
+
+    pub node_assigned : {old mid last new : Parts S} (x v : Text) (r : Result (Unit {0}) Code) → Does g (λ i. value i s) (λ (t : Text). t) old (Ok x) mid → Does g (λ i. value i e) (λ (t : Text). t) mid (Ok v) last
+        → Does g (λ i. put_act (of_local name (x ∷ [])) v) (λ (u : Unit {0}). u) last r new → Does g (λ i. meaning.setting i (one (node_of name s)) e) (λ u. u) old r new
+    node_assigned x v r d k h =
+        does_then (λ i ps. value i e >>= λ v. meaning.all_assigned v ps) (node_prepared x d)
+        (does_then (λ i v. meaning.all_assigned v (meaning.whole (of_local name (x ∷ [])) ∷ [])) k (only_one r h))
+
+    pub node_value_failed : {old mid new : Parts S} (x : Text) (c : Code) → Does g (λ i. value i s) (λ (t : Text). t) old (Ok x) mid → Does g (λ i. value i e) (λ (t : Text). t) mid (Err c) new
+        → Does g (λ i. meaning.setting i (one (node_of name s)) e) (λ (u : Unit {0}). u) old (Err c) new
+    node_value_failed x c d k = does_then (λ i ps. value i e >>= λ v. meaning.all_assigned v ps) (node_prepared x d) (does_failed (λ i v. meaning.all_assigned v (meaning.whole (of_local name (x ∷ [])) ∷ [])) k)
+
+    pub node_subscript_failed : {old new : Parts S} (c : Code) → Does g (λ i. value i s) (λ (t : Text). t) old (Err c) new → Does g (λ i. meaning.setting i (one (node_of name s)) e) (λ (u : Unit {0}). u) old (Err c) new
+    node_subscript_failed {old = old} {new = new} c d =
+        let values_failed : Does g (λ i. values i [] (exprs s no_exprs)) (λ (xs : List Text). xs) old (Err c) new = does_failed (λ i x. give (x ∷ [])) d in
+        let evaluated_failed : Does g (λ i. evaluated i (local name (exprs s no_exprs))) (λ (v : Evaluated). v) old (Err c) new = does_failed (λ i xs. give (of_local name xs)) values_failed in
+        let prepared_failed : Does g (λ i. meaning.prepared i (node_of name s)) (λ (p : meaning.Prepared). p) old (Err c) new = does_failed (λ i v. give (meaning.whole v)) evaluated_failed in
+        let parts_failed : Does g (λ i. meaning.all_prepared i [] (node_of name s ∷ [])) (λ (ps : List meaning.Prepared). ps) old (Err c) new = does_failed (λ i p. meaning.all_prepared i (p ∷ []) []) prepared_failed in
+        does_failed (λ i ps. value i e >>= λ v. meaning.all_assigned v ps) parts_failed
 
   pub one_assigned : {old mid last new : Parts S} (t : TargetTree) (e : ExprTree) (x : Prepared) (v : Text) (r : Result (Unit {0}) Code) → Does g (λ i. meaning.prepared i t) prepared_view old (Ok x) mid
       → Does g (λ i. value i e) (λ (t : Text). t) mid (Ok v) last → Does g (λ i. meaning.assigned v (prepared_view x)) (λ u. u) last r new → Does g (λ i. meaning.setting i (one t) e) (λ u. u) old r new

@@ -1,6 +1,6 @@
 // SET: the parts of its targets are evaluated first, then the right side, and then each target is assigned.
 ghost use Rattle.std.specs.Prelude.{◌≡◌, ◌≤◌, [], map, option_map, IfSome};
-ghost use Rattle.mgrammar.specs.Grammar.{one, variable, local, no_exprs};
+ghost use Rattle.mgrammar.specs.Grammar.{one, variable, local, exprs, no_exprs};
 ghost use Rattle.mmeaning.specs.LineMeaning as meaning;
 ghost use Rattle.mtree.specs.Tree.{expr_tree, piece_tree, target_tree, destination_tree};
 ghost use Rattle.meval.specs.Places.{pending_view};
@@ -8,7 +8,7 @@ ghost use Rattle.mcommand.specs.Does.{Does, KeepsLoans};
 ghost use Rattle.mcommand.specs.Prepared.{prepared_view};
 
 use crate::parts::Parts;
-use meval::Pending;
+use meval::{Pending, local_node};
 use mnum::{Bytes7, Name};
 use moperator::{Code, whole_number};
 use mstore::NodeStore;
@@ -36,6 +36,16 @@ fn plain_target(target: &Target) -> Option<&Name>
             [_, ..] => None,
         },
         _ => None,
+    }
+}
+
+// The name and the subscript of a target that is a local variable with one.
+fn node_target(target: &Target) -> Option<(&Name, &Expr)>
+    ensures { IfSome result (λ node. target_tree target.now ≡ variable (local node.0.now (exprs (expr_tree node.1.now) no_exprs))) }
+{
+    match target {
+        Target::Variable(reference) => local_node(reference),
+        Target::Piece(_) => None,
     }
 }
 
@@ -156,6 +166,23 @@ impl<'a, S: NodeStore> Parts<'a, S> {
         Ok(())
     }
 
+    // Gives a node of a local variable with one subscript the value of the expression behind it.
+    fn setting_node(
+        &mut self,
+        alloc: Global,
+        name: &Name,
+        subscript: &Expr,
+        e: &Expr,
+    ) -> Result<(), Code>
+        ensures loans { KeepsLoans self.old self.new }
+        ensures fewer { self.new.eval.steps ≤ self.old.eval.steps }
+        ensures does { Does S.NodeStore (λ i. meaning.setting i (one (variable (local name.now (exprs (expr_tree subscript.now) no_exprs)))) (expr_tree e.now)) (λ u. u) self.old result self.new }
+    {
+        let subscript = self.eval.eval(alloc, subscript)?;
+        let value = self.eval.eval(alloc, e)?;
+        self.eval.put_local(name, &subscript, value)
+    }
+
     // Gives one target the value of the expression behind it, whatever it evaluates and checks.
     #[inline(never)]
     fn setting_one(&mut self, alloc: Global, target: &Target, e: &Expr) -> Result<(), Code>
@@ -163,6 +190,9 @@ impl<'a, S: NodeStore> Parts<'a, S> {
         ensures fewer { self.new.eval.steps ≤ self.old.eval.steps }
         ensures does { Does S.NodeStore (λ i. meaning.setting i (one (target_tree target.now)) (expr_tree e.now)) (λ u. u) self.old result self.new }
     {
+        if let Some((name, subscript)) = node_target(target) {
+            return self.setting_node(alloc, name, subscript, e);
+        }
         let prepared = self.prepared(alloc, target)?;
         let value = self.eval.eval(alloc, e)?;
         self.assign(alloc, value, prepared)

@@ -1,5 +1,5 @@
 -- How the calls of this crate are put together.
-use Rattle.std.proofs.Common.{◌≡◌, ◌≢◌, ℕ, [], Result, Ok, Err, refl, sym, ◌∙◌, subst, arith}
+use Rattle.std.proofs.Common.{◌≡◌, ◌≢◌, ℕ, [], Result, Ok, Err, refl, sym, ap, ◌∙◌, subst, arith}
 use Rattle.std.specs.Result.{IsErr, IsErrAnd}
 use Rattle.std.specs.FinMap.{empty}
 use Rattle.mspec.specs.Code as spec
@@ -63,6 +63,23 @@ evaluates_wanting {g = g} {e = e} p f r h = subst (λ r. Evaluates g p f e r e) 
   same = refl;
   depth = refl;
 })
+
+-- the same with what a call gives, or its error, seen in another way
+pub evaluates_seen : {S A X Y : Type 0} {g : Ghosts S} {p : Inside → Act A} {f : X → A} {j : Y → A} {old new : Eval S} (x : X) (y : Y) → f x ≡ j y → Evaluates g p f old (Ok x) new → Evaluates g p j old (Ok y) new
+evaluates_seen {g = g} {new = new} x y is d = record {
+  at = λ sound out locks.
+      let did = d.at sound out locks in
+      record { at = λ n le. let h = eval_here g new out locks in did.at n le ∙ ap (λ a. (Gives a h.0, h.1)) is; fewer = did.fewer };
+  same = d.same;
+  depth = d.depth;
+}
+
+pub evaluates_refused : {S A X Y : Type 0} {g : Ghosts S} {p : Inside → Act A} {f : X → A} (j : Y → A) {old new : Eval S} {e : Code} → Evaluates g p f old (Err e) new → Evaluates g p j old (Err e) new
+evaluates_refused j d = record {
+  at = λ sound out locks. let did = d.at sound out locks in record { at = λ n le. did.at n le; fewer = did.fewer };
+  same = d.same;
+  depth = d.depth;
+}
 
 -- what a call gives is all that is asked for
 pub evaluates_whole : {S A X : Type 0} {g : Ghosts S} {p : Inside → Act A} {f : X → A} {old new : Eval S} (r : Result X Code) → Evaluates g p f old r new → Evaluates g (λ i. p i >>= give) f old r new

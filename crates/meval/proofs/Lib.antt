@@ -5,3 +5,4 @@ pub mod Trees
 pub mod Asking
 pub mod Indirections
 pub mod Locks
+pub mod AtOnce

@@ -41,17 +41,18 @@ module _ {S : Type 0} {g : Ghosts S} where
 
   -- ---- steps of an expression
 
-  -- a step and those behind it, from where the step is on
-  pub from_step : {old new : Eval S} (items : List Step) (i : ℕ) (d : Step) (x : Text) (r : Result Text Code) → i < length items → d ≡ get_or items i d
-      → Evaluates g (λ a. steps_value a x (step (step_tree d) (steps_of (map step_tree (drop (i + 1) items))))) itself old r new
-      → Evaluates g (λ a. steps_value a x (steps_of (map step_tree (drop i items)))) itself old r new
-  from_step {old = old} {new = new} items i d x r within is h =
-      subst (λ (rest : List Step). Evaluates g (λ a. steps_value a x (steps_of (map step_tree rest))) itself old r new) (sym (next_item items i d within is)) h
+  module _ {X : Type 0} (f : X → Text) where
+    -- a step and those behind it, from where the step is on
+    pub from_step : {old new : Eval S} (items : List Step) (i : ℕ) (d : Step) (x : Text) (r : Result X Code) → i < length items → d ≡ get_or items i d
+        → Evaluates g (λ a. steps_value a x (step (step_tree d) (steps_of (map step_tree (drop (i + 1) items))))) f old r new
+        → Evaluates g (λ a. steps_value a x (steps_of (map step_tree (drop i items)))) f old r new
+    from_step {old = old} {new = new} items i d x r within is h =
+        subst (λ (rest : List Step). Evaluates g (λ a. steps_value a x (steps_of (map step_tree rest))) f old r new) (sym (next_item items i d within is)) h
 
-  -- behind the last step
-  pub from_end : {e : Eval S} (items : List Step) (i : ℕ) (x : Text) → length items ≤ i → Evaluates g (λ a. steps_value a x (steps_of (map step_tree (drop i items)))) itself e (Ok x) e
-  from_end {e = e} items i x past =
-      subst (λ (rest : List Step). Evaluates g (λ a. steps_value a x (steps_of (map step_tree rest))) itself e (Ok x) e) (sym (drop_of_length-le items past)) (evaluates_gives x itself x refl)
+    -- behind the last step
+    pub from_end : {e : Eval S} (items : List Step) (i : ℕ) (y : X) → length items ≤ i → Evaluates g (λ a. steps_value a (f y) (steps_of (map step_tree (drop i items)))) f e (Ok y) e
+    from_end {e = e} items i y past =
+        subst (λ (rest : List Step). Evaluates g (λ a. steps_value a (f y) (steps_of (map step_tree rest))) f e (Ok y) e) (sym (drop_of_length-le items past)) (evaluates_gives (f y) f y refl)
 
   -- ---- arguments
 

@@ -1,11 +1,12 @@
 -- What calls of the evaluation do, where the meaning has it inside of more.
-use Rattle.std.specs.Prelude.{pos, Option, Bool, []}
+use Rattle.std.specs.Prelude.{pos, Bool, [], slice_get}
+use Rattle.mspec.specs.Trees.{Direction}
 use Rattle.mspec.specs.Act.{Text, Act, ◌>>=◌, give}
 use Rattle.mgrammar.specs.Grammar.{ExprTree, ExprsTree, ReferenceTree}
 use Rattle.mmeaning.specs.Operators.{as_truth}
 use Rattle.mmeaning.specs.Functions.{whole_text, call_value}
 use Rattle.mspec.specs.LockConflict.{LockName}
-use Rattle.mmeaning.specs.Variables.{Evaluated, Place, reading, writing, resolve, named_lock, read_at, status_at, next_at, data_number, direction_of}
+use Rattle.mmeaning.specs.Variables.{Evaluated, Place, reading, writing, resolve, named_lock, read_at, put_at, status_at, data_number, direction_of}
 use Rattle.mmeaning.specs.Expression.{Inside, value, values, evaluated}
 
 -- whether an expression is true
@@ -26,24 +27,34 @@ lock_name_act i r = do
   v ← evaluated i r
   named_lock i.account v
 
--- what $DATA and $ORDER do with what is evaluated
+-- what a read, a SET and $DATA do with what is evaluated
+abbrev pub read_act : Evaluated → Act Text
+read_act v = do
+  p ← resolve reading v
+  read_at p
+
+abbrev pub put_act : Evaluated → Text → Act (Unit {0})
+put_act v x = do
+  p ← resolve writing v
+  put_at p x
+
 abbrev pub data_act : Evaluated → Act Text
 data_act v = do
   p ← resolve reading v
   status ← status_at p
   give (whole_text (pos (data_number status)))
 
-abbrev pub order_act : Option Text → Place → Act Text
-order_act found p = do
-  d ← direction_of found
-  next_at d p
+-- the direction of $ORDER, by the first of the arguments behind the variable
+abbrev pub direction_act : Inside → ExprsTree → Act Direction
+direction_act i more = do
+  xs ← values i [] more
+  direction_of (slice_get xs 0)
 
 -- the value of a variable
 abbrev pub variable_value : Inside → ReferenceTree → Act Text
 variable_value i r = do
   v ← evaluated i r
-  p ← resolve reading v
-  read_at p
+  read_act v
 
 -- the value of a function of values
 abbrev pub call_act : Inside → Text → ExprsTree → Act Text

@@ -4,3 +4,4 @@ pub mod Held
 pub mod Places
 pub mod Acts
 pub mod Evaluates
+pub mod Holds

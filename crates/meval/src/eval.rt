@@ -1,38 +1,39 @@
 // The evaluation of expressions.
-ghost use Rattle.std.specs.Prelude.{◌≡◌, ◌≢◌, ◌≤◌, ◌<◌, [], map, slice_get, unwrap_or, Err, IfOk};
-ghost use Rattle.mgrammar.specs.Grammar.{indirect, extended, exprs_of, choices_of, function_of};
+ghost use Rattle.std.specs.Prelude.{◌≡◌, ◌≢◌, ◌≤◌, ◌<◌, [], map, Some, Err, IfOk, IsErr};
+ghost use Rattle.mgrammar.specs.Grammar.{indirect, extended, steps_of, exprs_of, choices_of, function_of, order_function};
 ghost use Rattle.mkey.specs.Way.{way};
 ghost use Rattle.mmeaning.specs.Expression as meaning;
 ghost use Rattle.mmeaning.specs.LineMeaning as line;
 ghost use Rattle.mmeaning.specs.Variables as variables;
 ghost use Rattle.mnum.specs.Num.{units};
-ghost use Rattle.mspec.specs.Act.{charge, get_local};
+ghost use Rattle.mspec.specs.Act.{charge};
 ghost use Rattle.mtree.specs.Tree.{expr_tree, step_tree, operand_tree, primary_tree, reference_tree, choice_tree};
 ghost use Rattle.mtree.specs.declared.tree.Referring.{out-Referring};
 ghost use Rattle.moperator.specs.declared.code.Code.TheVariants.{Zstore};
 ghost use Rattle.meval.specs.Evaluates.{Evaluates, KeepsEval, standing_of};
 ghost use Rattle.meval.specs.Acts as acts;
-ghost use Rattle.meval.specs.Places.{pending_view, place_view, walk_view, status_view, IsOpen, IsWalk};
-ghost use Rattle.mspec.specs.Access.{Read, Write};
+ghost use Rattle.meval.specs.Places.{pending_view, place_view, IsOpen};
+ghost use Rattle.mspec.specs.Access.{Write};
 
 use crate::depth::Depth;
 use crate::global_node::GlobalNode;
 use crate::place::{
-    LocalName, Pending, Place, Walk, extended_parts, indirect_parts, plain_name, subscripts_of,
-    undefined,
+    LocalName, Pending, Place, check_walk, extended_parts, indirect_parts, local_node, plain_name,
+    subscripts_of,
 };
 use crate::reading::read_reference;
 use crate::session::Session;
 use crate::values::Values;
-use crate::walk::{data_value, direction, first_or_empty, next_text, next_value, texts};
+use crate::walk::{direction, texts};
 use mgrant::{AccountId, Mode, Settings};
-use mkey::{Data, Direction};
+use mkey::Direction;
 use mnum::{Bytes7, Name, Num};
 use moperator::{Code, binary, call, computed, matching, number_of, truth_of, unaries};
 use mstore::NodeStore;
-use mtree::{Choice, Expr, Function, Operand, Primary, Reference, Referring, Step, function_of};
+use mtree::{Choice, Expr, Function, FunctionWord, Operand, Primary, Reference, Referring, Step};
 use mvalue::Value;
 use std::alloc::Global;
+use std::slice::from_ref;
 
 /// What the evaluation of an expression is lent, and where it stands.
 #[derive(Drop)]
@@ -58,6 +59,8 @@ impl<'a, S: NodeStore> Eval<'a, S> {
         ensures loans { KeepsEval self.old self.new }
         ensures fewer { self.new.steps ≤ self.old.steps }
         ensures spent { IfOk result (λ _. self.new.steps < self.old.steps) }
+        ensures session { self.new.session ≡ self.old.session }
+        ensures refused { IsErr result → self.new ≡ self.old }
         ensures does { Evaluates S.NodeStore (λ i. charge) (λ u. u) self.old result self.new }
     {
         if self.steps == 0 {
@@ -65,147 +68,6 @@ impl<'a, S: NodeStore> Eval<'a, S> {
         }
         self.steps -= 1;
         Ok(())
-    }
-
-    // The value of a local variable without subscripts, which is asked for most often.
-    fn local(&mut self, name: &Name) -> Result<Value, Code>
-        ensures loans { KeepsEval self.old self.new }
-        ensures fewer { self.new.steps ≤ self.old.steps }
-        ensures does { Evaluates S.NodeStore (λ i. get_local name.now []) (λ v. v) self.old result self.new }
-    {
-        match self.session.locals.own(name) {
-            Some(value) => Ok(value.copy()?),
-            None => Err(Code::M6),
-        }
-    }
-
-    // The value of a place, where it has one.
-    #[tactic(auto, unfolding(mspec::specs::Act::value_of))]
-    fn found(&mut self, place: &Place) -> Result<Option<Value>, Code>
-        requires { IsOpen (standing_of self.old) Read (place_view place.now) }
-        ensures loans { KeepsEval self.old self.new }
-        ensures fewer { self.new.steps ≤ self.old.steps }
-        ensures does { Evaluates S.NodeStore (λ i. variables.found_at (place_view place.now)) (λ found. found) self.old result self.new }
-    {
-        match place {
-            Place::Local(name, subscripts) => {
-                let name = name.as_name();
-                match self.session.locals.get(name, subscripts.as_slice())? {
-                    Some(value) => Ok(Some(value.copy()?)),
-                    None => Ok(None),
-                }
-            }
-            Place::Node(key) => match self.node_text(key)? {
-                Some(text) => Ok(Some(Value::of_text(text))),
-                None => Ok(None),
-            },
-        }
-    }
-
-    // The value of a place.
-    fn read(&mut self, place: &Place) -> Result<Value, Code>
-        requires { IsOpen (standing_of self.old) Read (place_view place.now) }
-        ensures loans { KeepsEval self.old self.new }
-        ensures fewer { self.new.steps ≤ self.old.steps }
-        ensures does { Evaluates S.NodeStore (λ i. variables.read_at (place_view place.now)) (λ v. v) self.old result self.new }
-    {
-        match self.found(place)? {
-            Some(value) => Ok(value),
-            None => Err(undefined(place)),
-        }
-    }
-
-    /// The text of a place that may be changed, or the empty one where it has none.
-    ///
-    /// # Errors
-    ///
-    /// `Zmem` for want of memory, and `Zstore` where the store refuses.
-    pub fn text_or_empty(&mut self, alloc: Global, place: &Place) -> Result<Bytes7, Code>
-        requires { IsOpen (standing_of self.old) Write (place_view place.now) }
-        ensures loans { KeepsEval self.old self.new }
-        ensures fewer { self.new.steps ≤ self.old.steps }
-        ensures does { Evaluates S.NodeStore (λ i. variables.read_or [] (place_view place.now)) (λ text. text) self.old result self.new }
-    {
-        match self.found(place)? {
-            Some(value) => Ok(value.into_text(alloc)?),
-            None => Ok(Bytes7::empty(alloc)),
-        }
-    }
-
-    // The value of a place, or the first of these where it has none; the empty text where there is neither.
-    fn read_or(&mut self, alloc: Global, place: &Place, others: Values) -> Result<Value, Code>
-        requires { IsOpen (standing_of self.old) Read (place_view place.now) }
-        ensures loans { KeepsEval self.old self.new }
-        ensures fewer { self.new.steps ≤ self.old.steps }
-        ensures does { Evaluates S.NodeStore (λ i. variables.read_or (unwrap_or (slice_get others 0) []) (place_view place.now)) (λ v. v) self.old result self.new }
-    {
-        match self.found(place)? {
-            Some(value) => Ok(value),
-            None => Ok(first_or_empty(alloc, others)),
-        }
-    }
-
-    // Whether a place has a text, and whether one below it has one.
-    fn status(&mut self, alloc: Global, place: &Place) -> Result<Data, Code>
-        requires { IsOpen (standing_of self.old) Read (place_view place.now) }
-        ensures loans { KeepsEval self.old self.new }
-        ensures fewer { self.new.steps ≤ self.old.steps }
-        ensures does { Evaluates S.NodeStore (λ i. variables.status_at (place_view place.now)) status_view self.old result self.new }
-    {
-        match place {
-            Place::Local(name, subscripts) => {
-                let name = name.as_name();
-                let data = self.session.locals.data(name, subscripts.as_slice())?;
-                Ok(data)
-            }
-            Place::Node(key) => self.node_status(alloc, key),
-        }
-    }
-
-    // What $DATA gives of a variable.
-    fn data(&mut self, alloc: Global, pending: Pending) -> Result<Value, Code>
-        ensures loans { KeepsEval self.old self.new }
-        ensures fewer { self.new.steps ≤ self.old.steps }
-        ensures does { Evaluates S.NodeStore (λ i. acts.data_act (pending_view pending.entry)) (λ v. v) self.old result self.new }
-    {
-        let place = self.resolved(alloc, Mode::Read, pending)?;
-        let data = self.status(alloc, &place)?;
-        Ok(data_value(data))
-    }
-
-    // The subscript next to the last one of a walk, or the empty text where there is none.
-    fn next(&mut self, alloc: Global, walk: &Walk, direction: Direction) -> Result<Value, Code>
-        requires walk { IsWalk walk.now }
-        requires allowed { IsOpen (standing_of self.old) Read (walk_view walk.now) }
-        ensures loans { KeepsEval self.old self.new }
-        ensures fewer { self.new.steps ≤ self.old.steps }
-        ensures does { Evaluates S.NodeStore (λ i. variables.next_at (way direction) (walk_view walk.now)) (λ v. v) self.old result self.new }
-    {
-        match walk {
-            Walk::Local(name, values) => {
-                let next = self
-                    .session
-                    .locals
-                    .order(name.as_name(), values.as_slice(), direction)?;
-                Ok(next_value(alloc, next))
-            }
-            Walk::Node(node) => {
-                let next = self.node_neighbour(alloc, node, direction)?;
-                Ok(next_text(alloc, next))
-            }
-        }
-    }
-
-    // What $ORDER gives of a walk, in the direction that the first of these says.
-    fn order(&mut self, alloc: Global, walk: &Walk, more: &[Value]) -> Result<Value, Code>
-        requires walk { IsWalk walk.now }
-        requires allowed { IsOpen (standing_of self.old) Read (walk_view walk.now) }
-        ensures loans { KeepsEval self.old self.new }
-        ensures fewer { self.new.steps ≤ self.old.steps }
-        ensures does { Evaluates S.NodeStore (λ i. acts.order_act (slice_get more.now 0) (walk_view walk.now)) (λ v. v) self.old result self.new }
-    {
-        let direction = direction(more)?;
-        self.next(alloc, walk, direction)
     }
 
     // A primary costs its step also where it then fails.
@@ -218,7 +80,7 @@ impl<'a, S: NodeStore> Eval<'a, S> {
     {
         self.charge()?;
         match primary {
-            Primary::Number(literal) => computed(Num::from_text(literal.as_bytes())),
+            Primary::Number(literal) => computed(literal.number()),
             Primary::Text(text) => Ok(Value::of_text(text.copy()?)),
             Primary::Special(word) => self.special(word),
             Primary::Reference(reference) => match plain_name(reference) {
@@ -240,6 +102,10 @@ impl<'a, S: NodeStore> Eval<'a, S> {
         ensures fewer { self.new.steps ≤ self.old.steps }
         ensures does { Evaluates S.NodeStore (λ i. acts.variable_value i (reference_tree reference.now)) (λ v. v) self.old result self.new }
     {
+        if let Some((name, subscript)) = local_node(reference) {
+            let value = self.value(alloc, subscript)?;
+            return self.local_at(name, &value);
+        }
         let pending = self.evaluated(alloc, reference)?;
         let place = self.resolved(alloc, Mode::Read, pending)?;
         self.read(&place)
@@ -248,13 +114,18 @@ impl<'a, S: NodeStore> Eval<'a, S> {
     // The value of a function of values.
     #[cycle(eval)]
     #[inline(never)]
-    fn called(&mut self, alloc: Global, word: &Bytes7, arguments: &[Expr]) -> Result<Value, Code>
+    fn called(
+        &mut self,
+        alloc: Global,
+        word: &FunctionWord,
+        arguments: &[Expr],
+    ) -> Result<Value, Code>
         ensures loans { KeepsEval self.old self.new }
         ensures fewer { self.new.steps ≤ self.old.steps }
         ensures does { Evaluates S.NodeStore (λ i. acts.call_act i word.now (exprs_of (map expr_tree arguments.now))) (λ v. v) self.old result self.new }
     {
         let values = self.values(alloc, arguments)?;
-        call(alloc, word.as_bytes(), values.as_slice())
+        call(alloc, word, values.as_slice())
     }
 
     // What a reference has to evaluate.
@@ -353,7 +224,7 @@ impl<'a, S: NodeStore> Eval<'a, S> {
         ensures fewer { self.new.steps ≤ self.old.steps }
         ensures does { Evaluates S.NodeStore (λ i. variables.referring (function_of (out-Referring referring.now).word) (meaning.evaluated i (reference_tree (out-Referring referring.now).reference)) (meaning.values i [] (exprs_of (map expr_tree (out-Referring referring.now).more.items)))) (λ v. v) self.old result self.new }
     {
-        let Some(function) = function_of(referring.word.as_bytes()) else {
+        let Some(function) = referring.word.function() else {
             return Err(Code::Zsyntax);
         };
         match function {
@@ -367,14 +238,47 @@ impl<'a, S: NodeStore> Eval<'a, S> {
                 let more = self.values(alloc, &referring.more)?;
                 self.read_or(alloc, &place, more)
             }
-            Function::Order => {
-                let pending = self.evaluated(alloc, &referring.reference)?;
-                let walk = self.walked(alloc, pending)?;
-                let more = self.values(alloc, &referring.more)?;
-                self.order(alloc, &walk, more.as_slice())
-            }
+            Function::Order => self.ordered(alloc, &referring.reference, &referring.more),
             _ => Err(Code::Zsyntax),
         }
+    }
+
+    // What $ORDER gives of a variable, in the direction that the first of these says.
+    #[cycle(eval)]
+    fn ordered(
+        &mut self,
+        alloc: Global,
+        reference: &Reference,
+        more: &[Expr],
+    ) -> Result<Value, Code>
+        ensures loans { KeepsEval self.old self.new }
+        ensures fewer { self.new.steps ≤ self.old.steps }
+        ensures does { Evaluates S.NodeStore (λ i. variables.referring (Some order_function) (meaning.evaluated i (reference_tree reference.now)) (meaning.values i [] (exprs_of (map expr_tree more.now)))) (λ v. v) self.old result self.new }
+    {
+        if let Some((name, subscript)) = local_node(reference) {
+            let value = self.value(alloc, subscript)?;
+            check_walk(from_ref(&value))?;
+            let direction = self.direction(alloc, more)?;
+            return self.next_local(alloc, name, &value, direction);
+        }
+        let pending = self.evaluated(alloc, reference)?;
+        let walk = self.walked(alloc, pending)?;
+        let direction = self.direction(alloc, more)?;
+        self.next(alloc, &walk, direction)
+    }
+
+    // The direction of $ORDER, by the first of the arguments behind the variable.
+    #[cycle(eval)]
+    fn direction(&mut self, alloc: Global, more: &[Expr]) -> Result<Direction, Code>
+        ensures loans { KeepsEval self.old self.new }
+        ensures fewer { self.new.steps ≤ self.old.steps }
+        ensures does { Evaluates S.NodeStore (λ i. acts.direction_act i (exprs_of (map expr_tree more.now))) way self.old result self.new }
+    {
+        if more.is_empty() {
+            return Ok(Direction::Forward);
+        }
+        let values = self.values(alloc, more)?;
+        direction(values.as_slice())
     }
 
     // The values of expressions.
@@ -428,27 +332,46 @@ impl<'a, S: NodeStore> Eval<'a, S> {
         unaries(&operand.signs, value)
     }
 
-    // What is done with the value to the left.
+    // What is done with the value to the left, which becomes what it gives. It is changed where it stands: a value that is written and
+    // then moved at once is waited for.
     #[cycle(eval)]
-    fn step(&mut self, alloc: Global, left: Value, step: &Step) -> Result<Value, Code>
+    fn step(&mut self, alloc: Global, left: &mut Value, step: &Step) -> Result<(), Code>
         ensures loans { KeepsEval self.old self.new }
         ensures fewer { self.new.steps ≤ self.old.steps }
-        ensures does { Evaluates S.NodeStore (λ i. meaning.step_value i left (step_tree step.now)) (λ v. v) self.old result self.new }
+        ensures does { Evaluates S.NodeStore (λ i. meaning.step_value i left.old (step_tree step.now)) (λ _. left.new) self.old result self.new }
     {
         match step {
-            Step::Apply(operator, operand) => {
-                let right = self.operand(alloc, operand)?;
-                binary(alloc, *operator, left, &right)
-            }
+            Step::Apply(operator, operand) => match self.number_at_once(operand) {
+                Some(number) => binary(alloc, *operator, left, &Value::of_number(number)),
+                None => {
+                    let right = self.operand(alloc, operand)?;
+                    binary(alloc, *operator, left, &right)
+                }
+            },
             Step::Matches(atoms) => {
-                let matches = matching(alloc, atoms, &left)?;
-                Ok(Value::of_truth(matches))
+                let matches = matching(alloc, atoms, left)?;
+                *left = Value::of_truth(matches);
+                Ok(())
             }
             Step::MatchesNot(atoms) => {
-                let matches = matching(alloc, atoms, &left)?;
-                Ok(Value::of_truth(!matches))
+                let matches = matching(alloc, atoms, left)?;
+                *left = Value::of_truth(!matches);
+                Ok(())
             }
         }
+    }
+
+    // What is done with the value to the left, one step after another.
+    #[cycle(eval)]
+    fn stepped(&mut self, alloc: Global, value: &mut Value, steps: &[Step]) -> Result<(), Code>
+        ensures loans { KeepsEval self.old self.new }
+        ensures fewer { self.new.steps ≤ self.old.steps }
+        ensures does { Evaluates S.NodeStore (λ i. meaning.steps_value i value.old (steps_of (map step_tree steps.now))) (λ _. value.new) self.old result self.new }
+    {
+        for step in steps {
+            self.step(alloc, value, step)?;
+        }
+        Ok(())
     }
 
     // The value of an expression.
@@ -462,11 +385,18 @@ impl<'a, S: NodeStore> Eval<'a, S> {
         if e.rest.is_empty() {
             return self.operand(alloc, &e.first);
         }
-        let mut value = self.operand(alloc, &e.first)?;
-        for step in &e.rest {
-            value = self.step(alloc, value, step)?;
+        match self.number_at_once(&e.first) {
+            Some(number) => {
+                let mut value = Value::of_number(number);
+                self.stepped(alloc, &mut value, &e.rest)?;
+                Ok(value)
+            }
+            None => {
+                let mut value = self.operand(alloc, &e.first)?;
+                self.stepped(alloc, &mut value, &e.rest)?;
+                Ok(value)
+            }
         }
-        Ok(value)
     }
 
     /// The value of an expression. It costs at least one step.

@@ -1,6 +1,6 @@
 // References of which all is evaluated, and places that the checks let through.
 ghost use Rattle.std.specs.Prelude.{◌≡◌, ◌↔◌, ◌++◌, IsTrue, IsSome, IsNone, IfSome, IfOk, map};
-ghost use Rattle.mgrammar.specs.Grammar.{local, indirect, extended, no_exprs, exprs_of};
+ghost use Rattle.mgrammar.specs.Grammar.{local, indirect, extended, no_exprs, exprs, exprs_of};
 ghost use Rattle.mtree.specs.Tree.{expr_tree, primary_tree, reference_tree};
 ghost use Rattle.mmeaning.specs.Variables.{checked, ordering};
 ghost use Rattle.mmeaning.specs.Variables as variables;
@@ -138,6 +138,19 @@ pub fn plain_name(reference: &Reference) -> Option<&Name>
         Reference::Local(name, subscripts) => match subscripts.as_slice() {
             [] => Some(name),
             [_, ..] => None,
+        },
+        _ => None,
+    }
+}
+
+/// The name and the subscript of a local variable that has one subscript. Takes no memory.
+pub fn local_node(reference: &Reference) -> Option<(&Name, &Expr)>
+    ensures { IfSome result (λ node. reference_tree reference.now ≡ local node.0.now (exprs (expr_tree node.1.now) no_exprs)) }
+{
+    match reference {
+        Reference::Local(name, subscripts) => match subscripts.as_slice() {
+            [subscript] => Some((name, subscript)),
+            _ => None,
         },
         _ => None,
     }

@@ -11,7 +11,7 @@ use crate::characters::{characters, code_at};
 use crate::code::Code;
 use crate::values::answered;
 use mtext::{extract, find, justify, piece, pieces, translate};
-use mtree::{Function, function_of};
+use mtree::{Function, FunctionWord};
 use mvalue::Value;
 use std::alloc::Global;
 
@@ -127,10 +127,10 @@ fn function(alloc: Global, function: Function, arguments: &[Value]) -> Result<Va
 ///
 /// The function's code in place of its value; `Zsyntax` where no function of values has the word, which is in no line's tree; `Zmem` for
 /// want of memory.
-pub fn call(alloc: Global, word: &[u8], arguments: &[Value]) -> Result<Value, Code>
+pub fn call(alloc: Global, word: &FunctionWord, arguments: &[Value]) -> Result<Value, Code>
     ensures { Yields fault_of (meaning.call_value word.now arguments.now) (λ value. value) result }
 {
-    match function_of(word) {
+    match word.function() {
         None => Err(Code::Zsyntax),
         Some(named) => function(alloc, named, arguments),
     }

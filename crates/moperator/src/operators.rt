@@ -2,6 +2,7 @@
 ghost use Rattle.std.specs.Prelude.{◌≡◌, map, length, ◌++◌};
 ghost use Rattle.mmeaning.specs.Operators as meaning;
 ghost use Rattle.mnum.specs.Num.{units};
+ghost use Rattle.mspec.specs.Act.{Text, Act};
 ghost use Rattle.mspec.specs.TextFunctions.{made};
 ghost use Rattle.mtree.specs.Tree.{sign_tree, binary_tree};
 ghost use Rattle.mmeaning.specs.Yields.{Yields};
@@ -15,6 +16,7 @@ use mnum::{ArithFault, LONGEST_TEXT, Num, Over};
 use mtree::{Binary, Sign};
 use mvalue::Value;
 use std::alloc::Global;
+use std::mem;
 
 /// The value of a number that was read or computed.
 ///
@@ -32,6 +34,7 @@ pub fn computed(outcome: Result<Num, Over>) -> Result<Value, Code>
 }
 
 // What a division gives.
+#[inline]
 fn divided(outcome: Result<Num, ArithFault>) -> Result<Value, Code>
     ensures { Yields fault_of (quotient_act outcome) (λ value. value) result }
 {
@@ -104,48 +107,60 @@ fn joined(alloc: Global, left: Value, right: &Value) -> Result<Value, Code>
     Ok(Value::of_text(text))
 }
 
-/// What an operator gives of its two operands.
+// Puts what was computed in the place of a value.
+#[inline(always)]
+fn put(place: &mut Value, outcome: Result<Value, Code>) -> Result<(), Code>
+    ensures { (p : Act Text) → Yields fault_of p (λ value. value) outcome → Yields fault_of p (λ _. place.new) result }
+{
+    *place = outcome?;
+    Ok(())
+}
+
+/// Makes of the left operand what an operator gives of the two.
 ///
 /// # Errors
 ///
 /// `Zover` where the number of an operand that is to be one, or of the result, is too large; `M9` for a divisor of 0; `Zlong` where joined
-/// texts have more than 4,095 characters; `Zmem` for want of memory.
-pub fn binary(alloc: Global, operator: Binary, left: Value, right: &Value) -> Result<Value, Code>
-    ensures { Yields fault_of (meaning.binary (binary_tree operator) left right.now) (λ value. value) result }
+/// texts have more than 4,095 characters; `Zmem` for want of memory. What the left operand is then is left open.
+pub fn binary(alloc: Global, operator: Binary, left: &mut Value, right: &Value) -> Result<(), Code>
+    ensures { Yields fault_of (meaning.binary (binary_tree operator) left.old right.now) (λ _. left.new) result }
 {
     match operator {
-        Binary::Join => joined(alloc, left, right),
+        Binary::Join => {
+            let front = mem::replace(left, Value::of_truth(false));
+            put(left, joined(alloc, front, right))
+        }
         Binary::Is(truth) => {
-            let holds = relation(alloc, truth, &left, right)?;
-            Ok(Value::of_truth(holds))
+            let holds = relation(alloc, truth, left, right)?;
+            put(left, Ok(Value::of_truth(holds)))
         }
         Binary::IsNot(truth) => {
-            let holds = relation(alloc, truth, &left, right)?;
-            Ok(Value::of_truth(!holds))
+            let holds = relation(alloc, truth, left, right)?;
+            put(left, Ok(Value::of_truth(!holds)))
         }
         Binary::Add => {
-            let (a, b) = numbers(&left, right)?;
-            computed(a.add(b))
+            let (a, b) = numbers(left, right)?;
+            put(left, computed(a.add(b)))
         }
         Binary::Subtract => {
-            let (a, b) = numbers(&left, right)?;
-            computed(a.sub(b))
+            let (a, b) = numbers(left, right)?;
+            put(left, computed(a.sub(b)))
         }
         Binary::Multiply => {
-            let (a, b) = numbers(&left, right)?;
-            computed(a.mul(b))
+            let (a, b) = numbers(left, right)?;
+            put(left, computed(a.mul(b)))
         }
         Binary::Divide => {
-            let (a, b) = numbers(&left, right)?;
-            divided(a.div(b))
+            let (a, b) = numbers(left, right)?;
+            put(left, divided(a.div(b)))
         }
         Binary::DivideWhole => {
-            let (a, b) = numbers(&left, right)?;
-            divided(a.quot(b))
+            let (a, b) = numbers(left, right)?;
+            put(left, divided(a.quot(b)))
         }
         Binary::Remainder => {
-            let (a, b) = numbers(&left, right)?;
-            divided(a.rem(b))
+            let (a, b) = numbers(left, right)?;
+            put(left, divided(a.rem(b)))
         }
     }
 }

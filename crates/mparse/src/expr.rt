@@ -13,7 +13,8 @@ use mscan::{
     text_after,
 };
 use mtree::{
-    Choice, Expr, Function, Operand, Primary, Reference, Referring, Step, function_of, special_of,
+    Choice, Expr, Function, FunctionWord, Literal, Operand, Primary, Reference, Referring, Step,
+    special_of,
 };
 use std::alloc::Global;
 
@@ -106,7 +107,7 @@ fn primary(alloc: Global, bytes: &[u8], depth: u32) -> Result<(Primary, &[u8]), 
     };
     if Class::DigitOrPoint.has(*first) {
         let (literal, after) = number(alloc, bytes)?;
-        return Ok((Primary::Number(literal), after));
+        return Ok((Primary::Number(Literal::new(literal)), after));
     }
     match *first {
         b'"' => {
@@ -287,7 +288,8 @@ fn dollar(alloc: Global, bytes: &[u8], depth: u32) -> Result<(Primary, &[u8]), P
         };
         return Ok((Primary::Special(word), rest));
     };
-    let Some(function) = function_of(letters) else {
+    let word = FunctionWord::new(word);
+    let Some(function) = word.function() else {
         return Err(ParseFault::Syntax);
     };
     match function {
@@ -305,7 +307,7 @@ fn dollar(alloc: Global, bytes: &[u8], depth: u32) -> Result<(Primary, &[u8]), P
 fn refer(
     alloc: Global,
     function: Function,
-    word: Bytes7,
+    word: FunctionWord,
     bytes: &[u8],
     depth: u32,
 ) -> Result<(Primary, &[u8]), ParseFault>
@@ -331,7 +333,7 @@ fn refer(
 fn call(
     alloc: Global,
     function: Function,
-    word: Bytes7,
+    word: FunctionWord,
     bytes: &[u8],
     depth: u32,
 ) -> Result<(Primary, &[u8]), ParseFault>
@@ -350,7 +352,7 @@ fn call(
 #[tactic(auto, unfolding(mgrammar::specs::Reading::select_with))]
 fn select(
     alloc: Global,
-    word: Bytes7,
+    word: FunctionWord,
     bytes: &[u8],
     depth: u32,
 ) -> Result<(Primary, &[u8]), ParseFault>

@@ -11,7 +11,9 @@ use crate::list::{Items, list};
 use crate::operand::destination_operand;
 use mnum::Bytes7;
 use mscan::{Class, ParseFault, expect, past, run};
-use mtree::{Arg, Destination, Expr, Function, Keyword, PieceTarget, Target, function_of};
+use mtree::{
+    Arg, Destination, Expr, Function, FunctionWord, Keyword, PieceTarget, Target, function_of,
+};
 use std::alloc::Global;
 
 // The place behind the delimiter of a `$PIECE`, where one stands.
@@ -42,7 +44,7 @@ fn piece(
     let (place, rest) = place(alloc, rest, depth)?;
     let rest = expect(b')', rest)?;
     let piece = PieceTarget {
-        word,
+        word: FunctionWord::new(word),
         reference,
         delimiter,
         place,

@@ -1,7 +1,8 @@
 -- A line of the program as a plain tree of the grammar.
+pub use Rattle.mtree.specs.Functions.{function_tree}
 use Rattle.std.specs.Prelude.{Option, Box, map, option_map}
 use Rattle.mgrammar.specs.Grammar as grammar
-use Rattle.mgrammar.specs.Grammar.{SignTree, TruthTree, BinaryTree, KeywordTree, FunctionTree, SpecialTree, CountTree, RepeatedTree, AtomTree, ExprTree, StepTree, steps_of, exprs_of, choices_of, OperandTree, PrimaryTree, ReferenceTree, TargetTree, DestinationTree, ParameterTree, EntryTree, LockKindTree, LockedTree, ArgTree, CommandTree, SpacedTree, LineTree}
+use Rattle.mgrammar.specs.Grammar.{SignTree, TruthTree, BinaryTree, KeywordTree, SpecialTree, CountTree, RepeatedTree, AtomTree, ExprTree, StepTree, steps_of, exprs_of, choices_of, OperandTree, PrimaryTree, ReferenceTree, TargetTree, DestinationTree, ParameterTree, EntryTree, LockKindTree, LockedTree, ArgTree, CommandTree, SpacedTree, LineTree}
 use Rattle.mgrammar.specs.RoutineLine as routine
 use Rattle.mgrammar.specs.RoutineLine.{BodyTree, RoutineLineTree}
 use Rattle.mtree.specs.declared.tree.Sign.{Sign}
@@ -12,8 +13,6 @@ use Rattle.mtree.specs.declared.tree.Binary.{Binary}
 use Rattle.mtree.specs.declared.tree.Binary.TheVariants as binary
 use Rattle.mtree.specs.declared.tree.Keyword.{Keyword}
 use Rattle.mtree.specs.declared.tree.Keyword.TheVariants as keyword
-use Rattle.mtree.specs.declared.tree.Function.{Function}
-use Rattle.mtree.specs.declared.tree.Function.TheVariants as function
 use Rattle.mtree.specs.declared.tree.SpecialVariable.{SpecialVariable}
 use Rattle.mtree.specs.declared.tree.SpecialVariable.TheVariants as special_variable
 use Rattle.mtree.specs.declared.tree.Count.{Count}
@@ -90,20 +89,6 @@ keyword_tree keyword.Goto = grammar.goto_word
 keyword_tree keyword.Execute = grammar.execute_word
 keyword_tree keyword.Lock = grammar.lock_word
 keyword_tree keyword.Halt = grammar.halt_word
-
-abbrev pub function_tree : Function → FunctionTree
-function_tree function.Ascii = grammar.ascii_function
-function_tree function.Char = grammar.char_function
-function_tree function.Data = grammar.data_function
-function_tree function.Extract = grammar.extract_function
-function_tree function.Find = grammar.find_function
-function_tree function.Get = grammar.get_function
-function_tree function.Justify = grammar.justify_function
-function_tree function.Length = grammar.length_function
-function_tree function.Order = grammar.order_function
-function_tree function.Piece = grammar.piece_function
-function_tree function.Select = grammar.select_function
-function_tree function.Translate = grammar.translate_function
 
 abbrev pub special_tree : SpecialVariable → SpecialTree
 special_tree special_variable.Test = grammar.test_special

@@ -4,12 +4,16 @@
 #![tactic(auto)]
 
 mod expression;
+mod function_word;
 mod list;
+mod literal;
 mod pieces;
 pub mod tree;
 pub mod words;
 pub mod write;
 
+pub use function_word::FunctionWord;
+pub use literal::Literal;
 pub use tree::{
     Arg, Atom, Binary, Body, Choice, Command, Count, Destination, Entry, Expr, Function, Keyword,
     Line, LockKind, Locked, Operand, Parameter, PieceTarget, Primary, Reference, Referring,

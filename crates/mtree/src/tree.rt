@@ -1,4 +1,6 @@
 // The tree of a line.
+use crate::function_word::FunctionWord;
+use crate::literal::Literal;
 use mnum::{Bytes7, Name};
 use std::rc::Rc;
 
@@ -106,8 +108,8 @@ pub struct Operand {
 #[derive(Drop)]
 #[cycle(tree)]
 pub enum Primary {
-    /// A number as it is written.
-    Number(Bytes7),
+    /// A number.
+    Number(Literal),
     /// A string without the quotes around it; a doubled quote within is one here.
     Text(Bytes7),
     /// A special variable: its word behind the `$`.
@@ -117,9 +119,9 @@ pub enum Primary {
     /// An expression in brackets.
     Bracket(Box<Expr>),
     /// A function of values: its word behind the `$`, and its arguments.
-    Call(Bytes7, Vec<Expr>),
+    Call(FunctionWord, Vec<Expr>),
     /// `$SELECT`, with its word behind the `$`.
-    Select(Bytes7, Vec<Choice>),
+    Select(FunctionWord, Vec<Choice>),
     /// A function of a variable.
     Refer(Box<Referring>),
 }
@@ -147,7 +149,7 @@ pub enum Reference {
 #[derive(Drop)]
 #[cycle(tree)]
 pub struct Referring {
-    pub word: Bytes7,
+    pub word: FunctionWord,
     pub reference: Reference,
     pub more: Vec<Expr>,
 }
@@ -187,7 +189,7 @@ pub enum SpecialVariable {
 /// A piece of a variable, to which SET assigns: `$PIECE`, with its word behind the `$`.
 #[derive(Drop)]
 pub struct PieceTarget {
-    pub word: Bytes7,
+    pub word: FunctionWord,
     pub reference: Reference,
     pub delimiter: Expr,
     pub place: Option<Expr>,

@@ -7,4 +7,4 @@ use Rattle.moperator.specs.Codes.{fault_of}
 use Rattle.moperator.proofs.functions.call.Goals as goal
 
 pub returns-in-Some : goal.returns-in-Some
-returns-in-Some c = subst (λ (f : Option FunctionTree). Yields fault_of (named_value f c.args.arguments.now) (λ (v : Text). v) c.function.result) c.in-Some.ensures c.function.ensures
+returns-in-Some c = subst (λ (f : Option FunctionTree). Yields fault_of (named_value f c.args.arguments.now) (λ (v : Text). v) c.function-in-Some.result) c.in-Some.ensures c.function-in-Some.ensures

@@ -8,49 +8,51 @@ pub returns-in_err-holds-in-Is : goal.returns-in_err-holds-in-Is
 returns-in_err-holds-in-Is c = rw c.in-Is.is (yields_stopped _ c.in_err-holds-in-Is.ensures c.from_residual.ensures)
 
 pub returns-in_ok-holds-in-Is : goal.returns-in_ok-holds-in-Is
-returns-in_ok-holds-in-Is c = rw c.in-Is.is (yields_then _ c.in_ok-holds-in-Is.ensures (yields_gives _ _ _ c.of_truth.ensures))
+returns-in_ok-holds-in-Is c = rw c.in-Is.is (yields_then _ c.in_ok-holds-in-Is.ensures (c.put-in-Is.ensures _ (yields_gives _ _ _ c.of_truth-in-Is.ensures)))
 
 pub returns-in_err-holds-in-IsNot : goal.returns-in_err-holds-in-IsNot
 returns-in_err-holds-in-IsNot c = rw c.in-IsNot.is (yields_stopped _ c.in_err-holds-in-IsNot.ensures c.from_residual-in_err-holds-in-IsNot.ensures)
 
 pub returns-in_ok-holds-in-IsNot : goal.returns-in_ok-holds-in-IsNot
-returns-in_ok-holds-in-IsNot c = rw c.in-IsNot.is (yields_then _ c.in_ok-holds-in-IsNot.ensures (yields_gives _ _ _ c.of_truth-in-IsNot.ensures))
+returns-in_ok-holds-in-IsNot c = rw c.in-IsNot.is (yields_then _ c.in_ok-holds-in-IsNot.ensures (c.put-in-IsNot.ensures _ (yields_gives _ _ _ c.of_truth-in-IsNot.ensures)))
 
 pub returns-in_err-a-in-Add : goal.returns-in_err-a-in-Add
 returns-in_err-a-in-Add c = rw c.in-Add.is (yields_stopped _ c.in_err-a-in-Add.ensures c.from_residual-in_err-a-in-Add.ensures)
 
 pub returns-in_ok-a-in-Add : goal.returns-in_ok-a-in-Add
-returns-in_ok-a-in-Add c = rw c.in-Add.is (yields_then _ c.in_ok-a-in-Add.ensures (computed_outcome _ _ c.add.ensures c.computed.ensures))
+returns-in_ok-a-in-Add c = rw c.in-Add.is (yields_then _ c.in_ok-a-in-Add.ensures (c.put-in-Add.ensures _ (computed_outcome _ _ c.add.ensures c.computed.ensures)))
 
 pub returns-in_err-a-in-Subtract : goal.returns-in_err-a-in-Subtract
 returns-in_err-a-in-Subtract c = rw c.in-Subtract.is (yields_stopped _ c.in_err-a-in-Subtract.ensures c.from_residual-in_err-a-in-Subtract.ensures)
 
 pub returns-in_ok-a-in-Subtract : goal.returns-in_ok-a-in-Subtract
-returns-in_ok-a-in-Subtract c = rw c.in-Subtract.is (yields_then _ c.in_ok-a-in-Subtract.ensures (computed_outcome _ _ c.sub.ensures c.computed-in-Subtract.ensures))
+returns-in_ok-a-in-Subtract c = rw c.in-Subtract.is (yields_then _ c.in_ok-a-in-Subtract.ensures (c.put-in-Subtract.ensures _ (computed_outcome _ _ c.sub.ensures c.computed-in-Subtract.ensures)))
 
 pub returns-in_err-a-in-Multiply : goal.returns-in_err-a-in-Multiply
 returns-in_err-a-in-Multiply c = rw c.in-Multiply.is (yields_stopped _ c.in_err-a-in-Multiply.ensures c.from_residual-in_err-a-in-Multiply.ensures)
 
 pub returns-in_ok-a-in-Multiply : goal.returns-in_ok-a-in-Multiply
-returns-in_ok-a-in-Multiply c = rw c.in-Multiply.is (yields_then _ c.in_ok-a-in-Multiply.ensures (computed_outcome _ _ c.mul.ensures c.computed-in-Multiply.ensures))
+returns-in_ok-a-in-Multiply c = rw c.in-Multiply.is (yields_then _ c.in_ok-a-in-Multiply.ensures (c.put-in-Multiply.ensures _ (computed_outcome _ _ c.mul.ensures c.computed-in-Multiply.ensures)))
 
 pub returns-in_err-a-in-Divide : goal.returns-in_err-a-in-Divide
 returns-in_err-a-in-Divide c = rw c.in-Divide.is (yields_stopped _ c.in_err-a-in-Divide.ensures c.from_residual-in_err-a-in-Divide.ensures)
 
 pub returns-in_ok-a-in-Divide : goal.returns-in_ok-a-in-Divide
-returns-in_ok-a-in-Divide c = rw c.in-Divide.is (yields_then _ c.in_ok-a-in-Divide.ensures (divided_outcome (units c.in_ok-a-in-Divide.b) (quotient_of (units c.in_ok-a-in-Divide.a) (units c.in_ok-a-in-Divide.b)) _ c.div.ensures c.divided.ensures))
+returns-in_ok-a-in-Divide c = rw c.in-Divide.is (yields_then _ c.in_ok-a-in-Divide.ensures (c.put-in-Divide.ensures _ (divided_outcome (units c.in_ok-a-in-Divide.b) (quotient_of (units c.in_ok-a-in-Divide.a) (units c.in_ok-a-in-Divide.b)) _ c.div.ensures c.divided.ensures)))
 
 pub returns-in_err-a-in-DivideWhole : goal.returns-in_err-a-in-DivideWhole
 returns-in_err-a-in-DivideWhole c = rw c.in-DivideWhole.is (yields_stopped _ c.in_err-a-in-DivideWhole.ensures c.from_residual-in_err-a-in-DivideWhole.ensures)
 
 pub returns-in_ok-a-in-DivideWhole : goal.returns-in_ok-a-in-DivideWhole
-returns-in_ok-a-in-DivideWhole c = rw c.in-DivideWhole.is (yields_then _ c.in_ok-a-in-DivideWhole.ensures (divided_outcome (units c.in_ok-a-in-DivideWhole.b) (whole_quotient_of (units c.in_ok-a-in-DivideWhole.a) (units c.in_ok-a-in-DivideWhole.b)) _ c.quot.ensures c.divided-in-DivideWhole.ensures))
+returns-in_ok-a-in-DivideWhole c = rw c.in-DivideWhole.is (yields_then _ c.in_ok-a-in-DivideWhole.ensures (c.put-in-DivideWhole.ensures _ (divided_outcome (units c.in_ok-a-in-DivideWhole.b) (whole_quotient_of (units c.in_ok-a-in-DivideWhole.a) (units c.in_ok-a-in-DivideWhole.b)) _ c.quot.ensures c.divided-in-DivideWhole.ensures)))
 
 pub returns-in_err-a-in-Remainder : goal.returns-in_err-a-in-Remainder
 returns-in_err-a-in-Remainder c = rw c.in-Remainder.is (yields_stopped _ c.in_err-a-in-Remainder.ensures c.from_residual-in_err-a-in-Remainder.ensures)
 
 pub returns-in_ok-a-in-Remainder : goal.returns-in_ok-a-in-Remainder
-returns-in_ok-a-in-Remainder c = rw c.in-Remainder.is (yields_then _ c.in_ok-a-in-Remainder.ensures (divided_outcome (units c.in_ok-a-in-Remainder.b) (remainder_of (units c.in_ok-a-in-Remainder.a) (units c.in_ok-a-in-Remainder.b)) _ c.rem.ensures.value c.divided-in-Remainder.ensures))
+returns-in_ok-a-in-Remainder c = rw c.in-Remainder.is (yields_then _ c.in_ok-a-in-Remainder.ensures (c.put-in-Remainder.ensures _ (divided_outcome (units c.in_ok-a-in-Remainder.b) (remainder_of (units c.in_ok-a-in-Remainder.a) (units c.in_ok-a-in-Remainder.b)) _ c.rem.ensures.value c.divided-in-Remainder.ensures)))
 
 pub returns-in-Join : goal.returns-in-Join
-returns-in-Join c = rw c.in-Join.is c.joined.ensures
+returns-in-Join c =
+    let k = rw c.replace-front.ensures.value at c.joined.ensures in
+    rw c.in-Join.is (c.put.ensures _ k)

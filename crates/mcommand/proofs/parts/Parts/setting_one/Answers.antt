@@ -16,3 +16,6 @@ returns-in_err-value-clause-does g c =
 pub returns-clause-does : goal.returns-clause-does
 returns-clause-does g c =
     one_assigned (target_tree c.args.target.now) (expr_tree c.args.e.now) c.in_ok-prepared.prepared c.in_ok-value.value c.assign.result c.in_ok-prepared.ensures.does (does_evaluated c.in_ok-value.ensures.does) c.assign.ensures.does
+
+pub returns-in-Some-clause-does : goal.returns-in-Some-clause-does
+returns-in-Some-clause-does g c = rw c.in-Some.ensures c.setting_node.ensures.does

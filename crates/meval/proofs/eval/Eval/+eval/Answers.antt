@@ -3,13 +3,16 @@ use Rattle.std.proofs.lemmas.Bool.Decides.{nat_tests}
 use Rattle.std.proofs.lemmas.List.{nil_from_length}
 use Rattle.mgrammar.specs.Grammar.{exprs_of}
 use Rattle.mmeaning.specs.Expression.{named_by, values}
-use Rattle.mmeaning.specs.Variables.{of_global, subscripts_of, with_subscripts}
+use Rattle.mmeaning.specs.Variables.{at_local, of_global, subscripts_of, with_subscripts, direction_of}
 use Rattle.mmeaning.proofs.Calls.{residual_is}
+use Rattle.std.specs.Prelude.{slice_get}
 use Rattle.mspec.specs.Act.{Text, ◌>>=◌, give}
 use Rattle.mtree.specs.Tree.{expr_tree, reference_tree}
-use Rattle.meval.specs.Places.{named, pending_view}
+use Rattle.meval.specs.Acts.{read_act}
+use Rattle.meval.specs.Places.{named, pending_view, walk_view}
 use Rattle.moperator.proofs.Numbers.{computed_outcome}
-use Rattle.meval.proofs.Calls.{evaluates_then, evaluates_whole, evaluates_failed, evaluates_gives, evaluates_stopped, evaluates_wanting, evaluates_yielded, keeps_itself, keeps_on}
+use Rattle.meval.proofs.Calls.{evaluates_then, evaluates_whole, evaluates_failed, evaluates_gives, evaluates_seen, evaluates_refused, evaluates_stopped, evaluates_wanting, evaluates_yielded, keeps_itself, keeps_on}
+use Rattle.meval.proofs.AtOnce.{order_from, order_behind, node_evaluated, node_failed, ordered_next, ordered_stopped, walk_through, walk_refused}
 use Rattle.meval.proofs.Indirections.{not_free, is_free, evaluates_behind, evaluates_deep, evaluates_unnamed, evaluates_entry}
 use Rattle.meval.proofs.References.{as_evaluated, gives_named, node_of}
 use Rattle.meval.proofs.TreeViews.{expr_is, operand_is, number_is, text_is, special_is, reference_is, refer_is, referring_is, bracket_is, call_is, select_is, apply_is, matches_is, matches_not_is}
@@ -40,8 +43,7 @@ primary-returns-in_err-charge-clause-does g t c = rw (residual_is _ _ c.from_res
 
 pub primary-returns-in-Number-clause-does : goal.primary-returns-in-Number-clause-does
 primary-returns-in-Number-clause-does g t c =
-    let k = computed_outcome _ _ c.from_text.ensures c.computed.ensures in
-    let k = rw c.as_bytes.ensures.bytes at k in
+    let k = computed_outcome _ _ c.number.ensures c.computed.ensures in
     rw (c.in-Number.is, number_is c.in-Number.literal) (evaluates_then _ c.in_ok-charge.ensures.does (evaluates_yielded k))
 
 pub primary-returns-in_ok-copy-in-Text-clause-does : goal.primary-returns-in_ok-copy-in-Text-clause-does
@@ -83,8 +85,16 @@ primary-returns-in-Refer-clause-does g t c =
 
 -- ---- variables and functions of values
 
+pub variable-returns-in_err-value-clause-does : goal.variable-returns-in_err-value-clause-does
+variable-returns-in_err-value-clause-does g t c =
+    rw c.in-Some.ensures (evaluates_stopped (λ i v. read_act v) (node_failed c.in-Some.name.now (expr_tree c.in-Some.subscript.now) _ c.in_err-value.ensures.does) c.from_residual.ensures)
+
+pub variable-returns-in-Some-clause-does : goal.variable-returns-in-Some-clause-does
+variable-returns-in-Some-clause-does g t c =
+    rw c.in-Some.ensures (evaluates_then (λ i v. read_act v) (node_evaluated c.in-Some.name.now (expr_tree c.in-Some.subscript.now) c.in_ok-value.value c.in_ok-value.ensures.does) c.local_at.ensures.does)
+
 pub variable-returns-in_err-pending-clause-does : goal.variable-returns-in_err-pending-clause-does
-variable-returns-in_err-pending-clause-does g t c = evaluates_stopped _ c.in_err-pending.ensures.does c.from_residual.ensures
+variable-returns-in_err-pending-clause-does g t c = evaluates_stopped _ c.in_err-pending.ensures.does c.from_residual-in_err-pending.ensures
 
 pub variable-returns-in_err-place-clause-does : goal.variable-returns-in_err-place-clause-does
 variable-returns-in_err-place-clause-does g t c = evaluates_then _ c.in_ok-pending.ensures.does (evaluates_stopped _ c.in_err-place.ensures.does c.from_residual-in_err-place.ensures)
@@ -97,7 +107,7 @@ called-returns-in_err-values-clause-does g t c = evaluates_stopped _ c.in_err-va
 
 pub called-returns-clause-does : goal.called-returns-clause-does
 called-returns-clause-does g t c =
-    let called = rw (c.as_bytes.ensures.bytes, c.as_slice.ensures) at c.call.ensures in
+    let called = rw c.as_slice.ensures at c.call.ensures in
     evaluates_then _ c.in_ok-values.ensures.does (evaluates_yielded called)
 
 -- ---- references
@@ -224,61 +234,118 @@ through-returns-clause-does g t c =
 
 pub referring-returns-in_err-pending-in-Data-clause-does : goal.referring-returns-in_err-pending-in-Data-clause-does
 referring-returns-in_err-pending-in-Data-clause-does g t c =
-    let is = rw (c.in-Data.is, c.as_bytes.ensures.bytes) at c.in-Some.ensures in
+    let is = rw c.in-Data.is at c.in-Some.ensures in
     rw (sym is) (evaluates_stopped _ c.in_err-pending-in-Data.ensures.does c.from_residual.ensures)
 
 pub referring-returns-in_ok-pending-in-Data-clause-does : goal.referring-returns-in_ok-pending-in-Data-clause-does
 referring-returns-in_ok-pending-in-Data-clause-does g t c =
-    let is = rw (c.in-Data.is, c.as_bytes.ensures.bytes) at c.in-Some.ensures in
+    let is = rw c.in-Data.is at c.in-Some.ensures in
     rw (sym is) (evaluates_then _ c.in_ok-pending-in-Data.ensures.does c.data.ensures.does)
 
 pub referring-returns-in_err-pending-in-Get-clause-does : goal.referring-returns-in_err-pending-in-Get-clause-does
 referring-returns-in_err-pending-in-Get-clause-does g t c =
-    let is = rw (c.in-Get.is, c.as_bytes.ensures.bytes) at c.in-Some.ensures in
+    let is = rw c.in-Get.is at c.in-Some.ensures in
     rw (sym is) (evaluates_stopped _ c.in_err-pending-in-Get.ensures.does c.from_residual-in_err-pending-in-Get.ensures)
 
 pub referring-returns-in_err-place-in-Get-clause-does : goal.referring-returns-in_err-place-in-Get-clause-does
 referring-returns-in_err-place-in-Get-clause-does g t c =
-    let is = rw (c.in-Get.is, c.as_bytes.ensures.bytes) at c.in-Some.ensures in
+    let is = rw c.in-Get.is at c.in-Some.ensures in
     rw (sym is) (evaluates_then _ c.in_ok-pending-in-Get.ensures.does (evaluates_stopped _ c.in_err-place-in-Get.ensures.does c.from_residual-in_err-place-in-Get.ensures))
 
 pub referring-returns-in_err-more-in-Get-clause-does : goal.referring-returns-in_err-more-in-Get-clause-does
 referring-returns-in_err-more-in-Get-clause-does g t c =
-    let is = rw (c.in-Get.is, c.as_bytes.ensures.bytes) at c.in-Some.ensures in
+    let is = rw c.in-Get.is at c.in-Some.ensures in
     rw (sym is) (evaluates_then _ c.in_ok-pending-in-Get.ensures.does (evaluates_then _ c.in_ok-place-in-Get.ensures.does (evaluates_stopped _ (rw c.deref.ensures.value at c.in_err-more-in-Get.ensures.does) c.from_residual-in_err-more-in-Get.ensures)))
 
 pub referring-returns-in_ok-more-in-Get-clause-does : goal.referring-returns-in_ok-more-in-Get-clause-does
 referring-returns-in_ok-more-in-Get-clause-does g t c =
-    let is = rw (c.in-Get.is, c.as_bytes.ensures.bytes) at c.in-Some.ensures in
+    let is = rw c.in-Get.is at c.in-Some.ensures in
     rw (sym is) (evaluates_then _ c.in_ok-pending-in-Get.ensures.does (evaluates_then _ c.in_ok-place-in-Get.ensures.does (evaluates_then _ (rw c.deref.ensures.value at c.in_ok-more-in-Get.ensures.does) c.read_or.ensures.does)))
 
-pub referring-returns-in_err-pending-in-Order-clause-does : goal.referring-returns-in_err-pending-in-Order-clause-does
-referring-returns-in_err-pending-in-Order-clause-does g t c =
-    let is = rw (c.in-Order.is, c.as_bytes.ensures.bytes) at c.in-Some.ensures in
-    rw (sym is) (evaluates_stopped _ c.in_err-pending-in-Order.ensures.does c.from_residual-in_err-pending-in-Order.ensures)
+pub referring-returns-in-Order-clause-does : goal.referring-returns-in-Order-clause-does
+referring-returns-in-Order-clause-does g t c =
+    let is = rw c.in-Order.is at c.in-Some.ensures in
+    let more = rw c.deref-in-Order.ensures.value at c.ordered.ensures.does in
+    rw (sym is) more
 
-pub referring-returns-in_err-walk-in-Order-clause-does : goal.referring-returns-in_err-walk-in-Order-clause-does
-referring-returns-in_err-walk-in-Order-clause-does g t c =
-    let is = rw (c.in-Order.is, c.as_bytes.ensures.bytes) at c.in-Some.ensures in
-    rw (sym is) (evaluates_then _ c.in_ok-pending-in-Order.ensures.does (evaluates_stopped _ c.in_err-walk-in-Order.ensures.does c.from_residual-in_err-walk-in-Order.ensures))
+pub direction-returns-in_err-values-clause-does : goal.direction-returns-in_err-values-clause-does
+direction-returns-in_err-values-clause-does g t c = evaluates_stopped (λ i xs. direction_of (slice_get xs 0)) c.in_err-values.ensures.does c.from_residual.ensures
 
-pub referring-returns-in_err-more-in-Order-clause-does : goal.referring-returns-in_err-more-in-Order-clause-does
-referring-returns-in_err-more-in-Order-clause-does g t c =
-    let is = rw (c.in-Order.is, c.as_bytes.ensures.bytes) at c.in-Some.ensures in
-    rw (sym is) (evaluates_then _ c.in_ok-pending-in-Order.ensures.does (evaluates_then _ c.in_ok-walk-in-Order.ensures.does (evaluates_stopped _ (rw c.deref-in-Order.ensures.value at c.in_err-more-in-Order.ensures.does) c.from_residual-in_err-more-in-Order.ensures)))
+pub direction-returns-clause-does : goal.direction-returns-clause-does
+direction-returns-clause-does g t c =
+    let told = rw c.as_slice.ensures at c.direction.ensures in
+    evaluates_then (λ i xs. direction_of (slice_get xs 0)) c.in_ok-values.ensures.does (evaluates_yielded told)
 
-pub referring-returns-in_ok-more-in-Order-clause-does : goal.referring-returns-in_ok-more-in-Order-clause-does
-referring-returns-in_ok-more-in-Order-clause-does g t c =
-    let is = rw (c.in-Order.is, c.as_bytes.ensures.bytes) at c.in-Some.ensures in
-    rw (sym is) (evaluates_then _ c.in_ok-pending-in-Order.ensures.does (evaluates_then _ c.in_ok-walk-in-Order.ensures.does (evaluates_then _ (rw c.deref-in-Order.ensures.value at c.in_ok-more-in-Order.ensures.does) (rw c.as_slice.ensures at c.order.ensures.does))))
+pub ordered-returns-in_err-value-clause-does : goal.ordered-returns-in_err-value-clause-does
+ordered-returns-in_err-value-clause-does g t c =
+    let more = exprs_of (map expr_tree c.args.more.now) in
+    rw c.in-Some.ensures (evaluates_stopped (order_behind more) (node_failed c.in-Some.name.now (expr_tree c.in-Some.subscript.now) _ c.in_err-value.ensures.does) c.from_residual.ensures)
+
+pub ordered-returns-in_err-check_walk-clause-does : goal.ordered-returns-in_err-check_walk-clause-does
+ordered-returns-in_err-check_walk-clause-does g t c =
+    let more = exprs_of (map expr_tree c.args.more.now) in
+    let name = c.in-Some.name.now in
+    let xs = c.in_ok-value.value ∷ [] in
+    let refused = rw c.from_ref.ensures.value at c.in_err-check_walk.ensures.checked in
+    let stopped = evaluates_stopped (λ i _. give (at_local name xs) >>= order_from more i) (evaluates_yielded refused) c.from_residual-in_err-check_walk.ensures in
+    rw c.in-Some.ensures (evaluates_then (order_behind more) (node_evaluated name (expr_tree c.in-Some.subscript.now) c.in_ok-value.value c.in_ok-value.ensures.does) (walk_refused more name xs stopped))
+
+pub ordered-returns-in_err-direction-clause-does : goal.ordered-returns-in_err-direction-clause-does
+ordered-returns-in_err-direction-clause-does g t c =
+    let more = exprs_of (map expr_tree c.args.more.now) in
+    let name = c.in-Some.name.now in
+    let xs = c.in_ok-value.value ∷ [] in
+    let passed = rw c.from_ref.ensures.value at c.in_ok-check_walk.ensures.checked in
+    rw c.in-Some.ensures
+    (evaluates_then (order_behind more) (node_evaluated name (expr_tree c.in-Some.subscript.now) c.in_ok-value.value c.in_ok-value.ensures.does)
+    (evaluates_then (order_from more) (walk_through name xs passed) (ordered_stopped more (at_local name xs) c.in_err-direction.ensures.does c.from_residual-in_err-direction.ensures)))
+
+pub ordered-returns-in-Some-clause-does : goal.ordered-returns-in-Some-clause-does
+ordered-returns-in-Some-clause-does g t c =
+    let more = exprs_of (map expr_tree c.args.more.now) in
+    let name = c.in-Some.name.now in
+    let xs = c.in_ok-value.value ∷ [] in
+    let passed = rw c.from_ref.ensures.value at c.in_ok-check_walk.ensures.checked in
+    rw c.in-Some.ensures
+    (evaluates_then (order_behind more) (node_evaluated name (expr_tree c.in-Some.subscript.now) c.in_ok-value.value c.in_ok-value.ensures.does)
+    (evaluates_then (order_from more) (walk_through name xs passed) (ordered_next more (at_local name xs) c.in_ok-direction.direction c.in_ok-direction.ensures.does c.next_local.ensures.does)))
+
+pub ordered-returns-in_err-pending-clause-does : goal.ordered-returns-in_err-pending-clause-does
+ordered-returns-in_err-pending-clause-does g t c = evaluates_stopped (order_behind (exprs_of (map expr_tree c.args.more.now))) c.in_err-pending.ensures.does c.from_residual-in_err-pending.ensures
+
+pub ordered-returns-in_err-walk-clause-does : goal.ordered-returns-in_err-walk-clause-does
+ordered-returns-in_err-walk-clause-does g t c =
+    let more = exprs_of (map expr_tree c.args.more.now) in
+    evaluates_then (order_behind more) c.in_ok-pending.ensures.does (evaluates_stopped (order_from more) c.in_err-walk.ensures.does c.from_residual-in_err-walk.ensures)
+
+pub ordered-returns-in_err-direction-2-clause-does : goal.ordered-returns-in_err-direction-2-clause-does
+ordered-returns-in_err-direction-2-clause-does g t c =
+    let more = exprs_of (map expr_tree c.args.more.now) in
+    evaluates_then (order_behind more) c.in_ok-pending.ensures.does
+    (evaluates_then (order_from more) c.in_ok-walk.ensures.does (ordered_stopped more (walk_view c.in_ok-walk.walk) c.in_err-direction-2.ensures.does c.from_residual-in_err-direction-2.ensures))
+
+pub ordered-returns-clause-does : goal.ordered-returns-clause-does
+ordered-returns-clause-does g t c =
+    let more = exprs_of (map expr_tree c.args.more.now) in
+    evaluates_then (order_behind more) c.in_ok-pending.ensures.does
+    (evaluates_then (order_from more) c.in_ok-walk.ensures.does (ordered_next more (walk_view c.in_ok-walk.walk) c.in_ok-direction-2.direction c.in_ok-direction-2.ensures.does c.next.ensures.does))
 
 -- ---- steps
 
-pub step-returns-in_err-right-in-Apply-clause-does : goal.step-returns-in_err-right-in-Apply-clause-does
-step-returns-in_err-right-in-Apply-clause-does g t c = rw (c.in-Apply.is, apply_is c.in-Apply.operator c.in-Apply.operand) (evaluates_stopped _ c.in_err-right-in-Apply.ensures.does c.from_residual.ensures)
+pub step-returns-in-Some-clause-does : goal.step-returns-in-Some-clause-does
+step-returns-in-Some-clause-does g t c =
+    let k = rw c.of_number.ensures at c.binary-in-Some.ensures in
+    rw (c.in-Apply.is, apply_is c.in-Apply.operator c.in-Apply.operand) (evaluates_then _ c.in-Some.ensures.does (evaluates_yielded k))
 
-pub step-returns-in_ok-right-in-Apply-clause-does : goal.step-returns-in_ok-right-in-Apply-clause-does
-step-returns-in_ok-right-in-Apply-clause-does g t c = rw (c.in-Apply.is, apply_is c.in-Apply.operator c.in-Apply.operand) (evaluates_then _ c.in_ok-right-in-Apply.ensures.does (evaluates_yielded c.binary.ensures))
+pub step-returns-in_err-right-in-None-clause-does : goal.step-returns-in_err-right-in-None-clause-does
+step-returns-in_err-right-in-None-clause-does g t c =
+    let k = rw (c.in-None.ensures.none refl) at c.in_err-right-in-None.ensures.does in
+    rw (c.in-Apply.is, apply_is c.in-Apply.operator c.in-Apply.operand) (evaluates_stopped _ k c.from_residual.ensures)
+
+pub step-returns-in_ok-right-in-None-clause-does : goal.step-returns-in_ok-right-in-None-clause-does
+step-returns-in_ok-right-in-None-clause-does g t c =
+    let k = rw (c.in-None.ensures.none refl) at c.in_ok-right-in-None.ensures.does in
+    rw (c.in-Apply.is, apply_is c.in-Apply.operator c.in-Apply.operand) (evaluates_then _ k (evaluates_yielded c.binary-in-None.ensures))
 
 pub step-returns-in_err-matches-in-Matches-clause-does : goal.step-returns-in_err-matches-in-Matches-clause-does
 step-returns-in_err-matches-in-Matches-clause-does g t c =
@@ -309,39 +376,56 @@ value-returns-then-is_empty-clause-does g t c =
     let none : v.items ≡ [] = nil_from_length v.items (omega (arith, v.ok, zero)) in
     rw (expr_is c.args.e.now, none) (evaluates_whole _ c.operand.ensures.does)
 
-pub value-returns-in_err-value-clause-does : goal.value-returns-in_err-value-clause-does
-value-returns-in_err-value-clause-does g t c = rw (expr_is c.args.e.now) (evaluates_stopped _ c.in_err-value.ensures.does c.from_residual.ensures)
+pub value-returns-in_err-stepped-in-Some-clause-does : goal.value-returns-in_err-stepped-in-Some-clause-does
+value-returns-in_err-stepped-in-Some-clause-does g t c =
+    let rest = rw (c.of_number-value.ensures, c.deref.ensures.value) at c.in_err-stepped-in-Some.ensures.does in
+    rw (residual_is _ _ c.from_residual.ensures, expr_is c.args.e.now) (evaluates_then _ c.in-Some.ensures.does (evaluates_refused _ rest))
 
-pub value-loop-step-init : goal.value-loop-step-init
-value-loop-step-init g t c = record {
-  loans = c.in_ok-value.ensures.loans;
-  fewer = c.in_ok-value.ensures.spent;
-  leads = λ r e k. rw (expr_is c.args.e.now) (evaluates_then _ c.in_ok-value.ensures.does k);
+pub value-returns-in_ok-stepped-in-Some-clause-does : goal.value-returns-in_ok-stepped-in-Some-clause-does
+value-returns-in_ok-stepped-in-Some-clause-does g t c =
+    let rest = rw (c.of_number-value.ensures, c.deref.ensures.value) at c.in_ok-stepped-in-Some.ensures.does in
+    rw (expr_is c.args.e.now) (evaluates_then _ c.in-Some.ensures.does (evaluates_seen tt _ refl rest))
+
+pub value-returns-in_err-value-in-None-clause-does : goal.value-returns-in_err-value-in-None-clause-does
+value-returns-in_err-value-in-None-clause-does g t c =
+    let k = rw (c.in-None.ensures.none refl) at c.in_err-value-in-None.ensures.does in
+    rw (expr_is c.args.e.now) (evaluates_stopped _ k c.from_residual-in_err-value-in-None.ensures)
+
+pub value-returns-in_err-stepped-in-None-clause-does : goal.value-returns-in_err-stepped-in-None-clause-does
+value-returns-in_err-stepped-in-None-clause-does g t c =
+    let k = rw (c.in-None.ensures.none refl) at c.in_ok-value-in-None.ensures.does in
+    let rest = rw c.deref-in-None.ensures.value at c.in_err-stepped-in-None.ensures.does in
+    rw (residual_is _ _ c.from_residual-in_err-stepped-in-None.ensures, expr_is c.args.e.now) (evaluates_then _ k (evaluates_refused _ rest))
+
+pub value-returns-in_ok-stepped-in-None-clause-does : goal.value-returns-in_ok-stepped-in-None-clause-does
+value-returns-in_ok-stepped-in-None-clause-does g t c =
+    let k = rw (c.in-None.ensures.none refl) at c.in_ok-value-in-None.ensures.does in
+    let rest = rw c.deref-in-None.ensures.value at c.in_ok-stepped-in-None.ensures.does in
+    rw (expr_is c.args.e.now) (evaluates_then _ k (evaluates_seen tt _ refl rest))
+
+pub stepped-loop-step-init : goal.stepped-loop-step-init
+stepped-loop-step-init g t c = record {
+  loans = keeps_itself c.args.self.now;
+  fewer = omega arith;
+  leads = λ f r e k. k;
 }
 
-pub value-returns-in_err-value-2-clause-does : goal.value-returns-in_err-value-2-clause-does
-value-returns-in_err-value-2-clause-does g t c =
-    let within = rw c.deref-step-items.ensures.value at c.loop-step-test.true in
-    let is = rw c.deref-step-items.ensures.value at c.step-item.is in
-    rw (residual_is _ _ c.from_residual-in_err-value-2.ensures)
-    (c.loop-step.invariant.leads _ _ (from_step c.args.e.now.rest.items c.loop-step.step-index c.step-item.result c.loop-step.value _ within is (evaluates_failed _ c.in_err-value-2.ensures.does)))
+pub stepped-returns-in_err-step-clause-does : goal.stepped-returns-in_err-step-clause-does
+stepped-returns-in_err-step-clause-does g t c =
+    rw (residual_is _ _ c.from_residual.ensures)
+    (c.loop-step.invariant.leads _ _ _ (from_step _ c.args.steps.now c.loop-step.step-index c.step-item.result c.loop-step.value _ c.loop-step-test.true c.step-item.is (evaluates_failed _ c.in_err-step.ensures.does)))
 
-pub value-loop-step-preserved : goal.value-loop-step-preserved
-value-loop-step-preserved g t c =
-    let within = rw c.deref-step-items.ensures.value at c.loop-step-test.true in
-    let is = rw c.deref-step-items.ensures.value at c.step-item.is in
-    record {
-      loans = keeps_on c.loop-step.invariant.loans c.in_ok-value-2.ensures.loans;
-      fewer = omega arith;
-      leads = λ r e k.
-          c.loop-step.invariant.leads r e
-          (from_step c.args.e.now.rest.items c.loop-step.step-index c.step-item.result c.loop-step.value r within is (evaluates_then _ c.in_ok-value-2.ensures.does k));
-    }
+pub stepped-loop-step-preserved : goal.stepped-loop-step-preserved
+stepped-loop-step-preserved g t c = record {
+  loans = keeps_on c.loop-step.invariant.loans c.in_ok-step.ensures.loans;
+  fewer = omega arith;
+  leads = λ f r e k.
+      c.loop-step.invariant.leads f r e
+      (from_step f c.args.steps.now c.loop-step.step-index c.step-item.result c.loop-step.value r c.loop-step-test.true c.step-item.is (evaluates_then _ c.in_ok-step.ensures.does k));
+}
 
-pub value-returns-clause-does : goal.value-returns-clause-does
-value-returns-clause-does g t c =
-    let past = rw c.deref-step-items.ensures.value at c.loop-step-test.false in
-    c.loop-step.invariant.leads _ _ (from_end c.args.e.now.rest.items c.loop-step.step-index c.loop-step.value past)
+pub stepped-returns-clause-does : goal.stepped-returns-clause-does
+stepped-returns-clause-does g t c = c.loop-step.invariant.leads _ _ _ (from_end (λ (u : Unit {0}). c.loop-step.value) c.args.steps.now c.loop-step.step-index tt c.loop-step-test.false)
 
 -- ---- arguments
 

@@ -11,43 +11,52 @@ use Rattle.meval.proofs.eval.Eval.+eval.Given as goal
 -- Steps fall in number at `primary` alone, which charges one before it goes on; each other call leads to a lower rank.
 
 abbrev pub decreases-primary : goal.decreases-primary
-decreases-primary g l = 8 * l.self.now.steps + 0
+decreases-primary g l = 16 * l.self.now.steps + 0
 
 abbrev pub decreases-operand : goal.decreases-operand
-decreases-operand g l = 8 * l.self.now.steps + 1
+decreases-operand g l = 16 * l.self.now.steps + 1
 
 abbrev pub decreases-named : goal.decreases-named
-decreases-named g l = 8 * l.self.now.steps + 1
+decreases-named g l = 16 * l.self.now.steps + 1
 
 abbrev pub decreases-step : goal.decreases-step
-decreases-step g l = 8 * l.self.now.steps + 2
+decreases-step g l = 16 * l.self.now.steps + 2
+
+abbrev pub decreases-stepped : goal.decreases-stepped
+decreases-stepped g l = 16 * l.self.now.steps + 3
 
 abbrev pub decreases-value : goal.decreases-value
-decreases-value g l = 8 * l.self.now.steps + 3
+decreases-value g l = 16 * l.self.now.steps + 4
 
 abbrev pub decreases-values : goal.decreases-values
-decreases-values g l = 8 * l.self.now.steps + 4
+decreases-values g l = 16 * l.self.now.steps + 5
 
 abbrev pub decreases-chosen : goal.decreases-chosen
-decreases-chosen g l = 8 * l.self.now.steps + 4
+decreases-chosen g l = 16 * l.self.now.steps + 5
 
 abbrev pub decreases-called : goal.decreases-called
-decreases-called g l = 8 * l.self.now.steps + 5
+decreases-called g l = 16 * l.self.now.steps + 6
 
 abbrev pub decreases-extended : goal.decreases-extended
-decreases-extended g l = 8 * l.self.now.steps + 5
+decreases-extended g l = 16 * l.self.now.steps + 6
+
+abbrev pub decreases-direction : goal.decreases-direction
+decreases-direction g l = 16 * l.self.now.steps + 6
 
 abbrev pub decreases-evaluated : goal.decreases-evaluated
-decreases-evaluated g l = 8 * l.self.now.steps + 6
+decreases-evaluated g l = 16 * l.self.now.steps + 7
 
-abbrev pub decreases-referring : goal.decreases-referring
-decreases-referring g l = 8 * l.self.now.steps + 7
+abbrev pub decreases-ordered : goal.decreases-ordered
+decreases-ordered g l = 16 * l.self.now.steps + 8
 
 abbrev pub decreases-variable : goal.decreases-variable
-decreases-variable g l = 8 * l.self.now.steps + 7
+decreases-variable g l = 16 * l.self.now.steps + 8
 
 abbrev pub decreases-through : goal.decreases-through
-decreases-through g l = 8 * l.self.now.steps + 7
+decreases-through g l = 16 * l.self.now.steps + 8
+
+abbrev pub decreases-referring : goal.decreases-referring
+decreases-referring g l = 16 * l.self.now.steps + 9
 
 abbrev pub invariant-chosen-loop-choice : goal.invariant-chosen-loop-choice
 invariant-chosen-loop-choice g l = record {
@@ -57,12 +66,12 @@ invariant-chosen-loop-choice g l = record {
       → Evaluates g.S.NodeStore (λ a. meaning.chosen a (choices_of (map choice_tree l.choices))) (λ (v : Text). v) l.fn.self r e;
 }
 
-abbrev pub invariant-value-loop-step : goal.invariant-value-loop-step
-invariant-value-loop-step g l = record {
+abbrev pub invariant-stepped-loop-step : goal.invariant-stepped-loop-step
+invariant-stepped-loop-step g l = record {
   loans : KeepsEval l.fn.self l.self;
-  fewer : l.self.steps < l.fn.self.steps;
-  leads : (r : Result Text Code) (e : Eval _) → Evaluates g.S.NodeStore (λ a. meaning.steps_value a l.value (steps_of (map step_tree (drop l.step-index l.e.rest.items)))) (λ (v : Text). v) l.self r e
-      → Evaluates g.S.NodeStore (λ a. meaning.value a (expr_tree l.e)) (λ (v : Text). v) l.fn.self r e;
+  fewer : l.self.steps ≤ l.fn.self.steps;
+  leads : (f : Unit {0} → Text) (r : Result (Unit {0}) Code) (e : Eval _) → Evaluates g.S.NodeStore (λ a. meaning.steps_value a l.value (steps_of (map step_tree (drop l.step-index l.steps)))) f l.self r e
+      → Evaluates g.S.NodeStore (λ a. meaning.steps_value a l.fn.value (steps_of (map step_tree l.steps))) f l.fn.self r e;
 }
 
 abbrev pub invariant-values-loop-e : goal.invariant-values-loop-e

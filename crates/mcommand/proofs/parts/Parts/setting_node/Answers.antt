@@ -1,0 +1,18 @@
+use Rattle.mmeaning.proofs.Calls.{residual_is}
+use Rattle.mtree.specs.Tree.{expr_tree}
+use Rattle.mcommand.proofs.Calls.{does_evaluated}
+use Rattle.mcommand.proofs.Targets.{node_assigned, node_value_failed, node_subscript_failed}
+use Rattle.mcommand.proofs.parts.Parts.setting_node.Goals as goal
+
+pub returns-in_err-subscript-clause-does : goal.returns-in_err-subscript-clause-does
+returns-in_err-subscript-clause-does g c =
+    rw (residual_is _ _ c.from_residual.ensures) (node_subscript_failed c.args.name.now (expr_tree c.args.subscript.now) (expr_tree c.args.e.now) _ (does_evaluated c.in_err-subscript.ensures.does))
+
+pub returns-in_err-value-clause-does : goal.returns-in_err-value-clause-does
+returns-in_err-value-clause-does g c =
+    rw (residual_is _ _ c.from_residual-in_err-value.ensures)
+    (node_value_failed c.args.name.now (expr_tree c.args.subscript.now) (expr_tree c.args.e.now) c.in_ok-subscript.subscript _ (does_evaluated c.in_ok-subscript.ensures.does) (does_evaluated c.in_err-value.ensures.does))
+
+pub returns-clause-does : goal.returns-clause-does
+returns-clause-does g c =
+    node_assigned c.args.name.now (expr_tree c.args.subscript.now) (expr_tree c.args.e.now) c.in_ok-subscript.subscript c.in_ok-value.value c.put_local.result (does_evaluated c.in_ok-subscript.ensures.does) (does_evaluated c.in_ok-value.ensures.does) (does_evaluated c.put_local.ensures.does)

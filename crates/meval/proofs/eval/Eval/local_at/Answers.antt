@@ -1,0 +1,27 @@
+use Rattle.std.proofs.Common.{[], ◌∷◌, refl, sym}
+use Rattle.mspec.proofs.SubscriptTests.{decides_subscripts}
+use Rattle.mspec.specs.Code as spec
+use Rattle.mspec.specs.Code.{M6}
+use Rattle.mspec.specs.Act.{value_of, give_some}
+use Rattle.mmeaning.specs.Variables.{read_at}
+use Rattle.meval.proofs.Calls.{evaluates_then, evaluates_gives, evaluates_fails, asks_locals}
+use Rattle.meval.proofs.AtOnce.{let_through}
+use Rattle.meval.proofs.eval.Eval.local_at.Goals as goal
+
+pub returns-in_ok-copy-in-Some-clause-does : goal.returns-in_ok-copy-in-Some-clause-does
+unfolding value_of
+returns-in_ok-copy-in-Some-clause-does g c =
+    let xs = c.args.subscript.now ∷ [] in
+    let passed = sym (rw (c.if-not-subs_ok.false, c.from_ref-subscripts.ensures.value) at (decides_subscripts _ _ c.subs_ok.ensures)) in
+    let is = rw (c.from_ref-subscripts.ensures.value, c.in-Some.is) at c.in_ok-value.ensures in
+    evaluates_then (λ i p. read_at p) (let_through c.args.name.now xs passed)
+    (evaluates_then (λ i found. give_some M6 found) (asks_locals (λ l. value_of l c.args.name.now xs) (λ found. found) _ is) (evaluates_gives _ _ _ c.in_ok-copy-in-Some.ensures))
+
+pub returns-in-None-clause-does : goal.returns-in-None-clause-does
+unfolding value_of
+returns-in-None-clause-does g c =
+    let xs = c.args.subscript.now ∷ [] in
+    let passed = sym (rw (c.if-not-subs_ok.false, c.from_ref-subscripts.ensures.value) at (decides_subscripts _ _ c.subs_ok.ensures)) in
+    let is = rw (c.from_ref-subscripts.ensures.value, c.in-None.is) at c.in_ok-value.ensures in
+    evaluates_then (λ i p. read_at p) (let_through c.args.name.now xs passed)
+    (evaluates_then (λ i found. give_some M6 found) (asks_locals (λ l. value_of l c.args.name.now xs) (λ found. found) _ is) (evaluates_fails _ _ _ refl))

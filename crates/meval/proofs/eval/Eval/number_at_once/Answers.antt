@@ -1,0 +1,18 @@
+use Rattle.std.proofs.Common.{◌≡◌, [], sym, ap, arith}
+use Rattle.std.proofs.lemmas.Bool.Decides.{nat_tests}
+use Rattle.std.proofs.lemmas.List.{nil_from_length}
+use Rattle.mnum.specs.Num.{units}
+use Rattle.mtree.specs.Tree.{primary_tree}
+use Rattle.meval.specs.Holds.{Holds}
+use Rattle.meval.proofs.Calls.{evaluates_whole}
+use Rattle.meval.proofs.TreeViews.{operand_is}
+use Rattle.meval.proofs.AtOnce.{held}
+use Rattle.meval.proofs.eval.Eval.number_at_once.Goals as goal
+
+pub returns-in-Ok-clause-does : goal.returns-in-Ok-clause-does
+returns-in-Ok-clause-does g c =
+    let v = c.args.operand.now.signs in
+    let zero : v.len ≡ 0 = grind (arith, nat_tests, c.if-not-is_empty.ensures) in
+    let none : v.items ≡ [] = nil_from_length v.items (omega (arith, v.ok, zero)) in
+    let holds = rw (sym (ap (λ s. s.now.locals) c.in-Ok.ensures.session)) at c.in_ok-number.ensures in
+    rw (operand_is c.args.operand.now, none) (evaluates_whole _ (held (primary_tree c.args.operand.now.primary) c.in_ok-number.number holds c.in-Ok.ensures.does))

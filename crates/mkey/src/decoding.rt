@@ -76,6 +76,7 @@ fn read_bytes(bytes: &[u8]) -> u128
 }
 
 // The number of the language that was raised to this one.
+#[inline]
 fn lowered(number: u128) -> Option<Num>
     ensures { MatchOption result ((u : ℤ) → IsNumber significant_digits u → raised u ≡ number → ⊥) (λ n. raised (units n) ≡ number) }
 {
@@ -122,6 +123,7 @@ fn numeric_sub(
 }
 
 // The number of the language that bytes with the tag 1 in front begin with.
+#[inline]
 pub fn front_number(bytes: &[u8]) -> Option<Num>
     ensures { MatchOption result
         (BeginsWithNo IsSub (subscript_bytes significant_digits) (1 ∷ bytes.now))

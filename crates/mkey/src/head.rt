@@ -53,6 +53,9 @@ impl Head {
 fn word(bytes: &[u8]) -> u64
     ensures { result ≡ head_number 8 bytes.now }
 {
+    if bytes.is_empty() {
+        return 0;
+    }
     if bytes.len() >= WORD_BYTES {
         return first_word(bytes);
     }

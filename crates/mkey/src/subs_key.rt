@@ -131,6 +131,7 @@ impl SubsKey {
     /// # Errors
     ///
     /// `AllocError` for want of memory.
+    #[inline]
     pub fn child_of(&self, alloc: Global, above: &SubsKey) -> Result<Option<Value>, AllocError>
         requires { AreSubs self.now }
         ensures { IfOk result (λ child. child ≡ child_of above.now self.now) }

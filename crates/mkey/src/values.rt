@@ -67,6 +67,7 @@ pub fn push_values(out: &mut Vec<u8>, subs: &[Value]) -> Result<(), AllocError>
 }
 
 // The subscript that bytes with the tag 1 in front begin with, and how many of them are its own.
+#[inline]
 fn numeric_value(bytes: &[u8]) -> Option<(Value, usize)>
     ensures { MatchOption result
         (BeginsWithNo IsSub (subscript_bytes significant_digits) (1 ∷ bytes.now))
@@ -91,6 +92,7 @@ fn letters_value(alloc: Global, bytes: &[u8]) -> Result<Option<(Value, usize)>, 
 }
 
 // The subscript that the bytes begin with, and how many of them are its own.
+#[inline]
 pub fn read_value(alloc: Global, bytes: &[u8]) -> Result<Option<(Value, usize)>, AllocError>
     ensures { IfOk result (λ found. MatchOption found
         (BeginsWithNo IsSub (subscript_bytes significant_digits) bytes.now)

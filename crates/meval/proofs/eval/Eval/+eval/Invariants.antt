@@ -1,4 +1,4 @@
-use Rattle.std.proofs.Common.{◌≤◌, ◌<◌, ◌+◌, ◌*◌, [], map, drop, Result, List}
+use Rattle.std.proofs.Common.{◌≤◌, ◌+◌, ◌*◌, [], map, drop, Result, List}
 use Rattle.mspec.specs.Act.{Text}
 use Rattle.mmeaning.specs.Expression as meaning
 use Rattle.mgrammar.specs.Grammar.{steps_of, exprs_of, choices_of}

@@ -1,6 +1,5 @@
 use Rattle.std.proofs.Common.{[], ◌∷◌, refl, sym}
 use Rattle.mspec.proofs.SubscriptTests.{decides_subscripts}
-use Rattle.mspec.specs.Code as spec
 use Rattle.mspec.specs.Code.{M6}
 use Rattle.mspec.specs.Act.{value_of, give_some}
 use Rattle.mmeaning.specs.Variables.{read_at}

@@ -1,9 +1,7 @@
 use Rattle.std.proofs.Common.{◌≡◌, [], sym, ap, arith}
 use Rattle.std.proofs.lemmas.Bool.Decides.{nat_tests}
 use Rattle.std.proofs.lemmas.List.{nil_from_length}
-use Rattle.mnum.specs.Num.{units}
 use Rattle.mtree.specs.Tree.{primary_tree}
-use Rattle.meval.specs.Holds.{Holds}
 use Rattle.meval.proofs.Calls.{evaluates_whole}
 use Rattle.meval.proofs.TreeViews.{operand_is}
 use Rattle.meval.proofs.AtOnce.{held}

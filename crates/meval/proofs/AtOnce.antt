@@ -1,6 +1,7 @@
 -- Operands that stand for a number without more, and nodes of local variables by one subscript.
-use Rattle.std.proofs.Common.{◌≡◌, true, List, [], ◌∷◌, Option, Some, Result, Ok, Err, refl, sym, subst}
+use Rattle.std.proofs.Common.{◌≡◌, true, List, [], ◌∷◌, Option, None, Some, Result, Ok, Err, refl, sym, subst}
 use Rattle.std.specs.Prelude.{slice_get}
+use Rattle.std.specs.Option.{IfSome}
 use Rattle.std.specs.Result.{IsErr, IsErrAnd}
 use Rattle.mspec.specs.Trees.{Direction}
 use Rattle.mspec.specs.Code as spec
@@ -22,21 +23,19 @@ use Rattle.moperator.specs.Codes.{fault_of}
 use Rattle.moperator.specs.declared.code.Code.{Code}
 use Rattle.meval.specs.declared.eval.Eval.{Eval}
 use Rattle.meval.specs.Evaluates.{Evaluates}
-use Rattle.meval.specs.Acts.{direction_act}
+use Rattle.meval.specs.Acts.{direction_act, order_from, order_behind}
 use Rattle.meval.specs.Holds.{Holds, VariableHolds}
 use Rattle.meval.proofs.Calls.{evaluates_then, evaluates_failed, evaluates_stopped, evaluates_gives, evaluates_yielded, asks_locals}
 use Rattle.meval.proofs.Asking.{passes}
 
--- what $ORDER does with a variable that has its place, and with one that has not
-abbrev pub order_from : ExprsTree → Inside → Place → Act Text
-order_from more i p = values i [] more >>= (λ xs. direction_of (slice_get xs 0) >>= (λ d. next_at d p))
-
-abbrev pub order_behind : ExprsTree → Inside → Evaluated → Act Text
-order_behind more i v = resolve ordering v >>= order_from more i
-
 -- the text of a number
 abbrev pub written : Num → Text
 written n = number_text (units n)
+
+-- what is found is seen in another way
+pub if_found : {X : Type 0} (P Q : X → Type 0) (found : Option X) → ((x : X) → P x → Q x) → IfSome found P → IfSome found Q
+if_found P Q None k d = tt
+if_found P Q (Some x) k d = k x d
 
 module _ {S : Type 0} {g : Ghosts S} where
   held_variable : {e : Eval S} (name : Text) (x : Num) → value_of e.session.now.locals name [] ≡ Some (written x) → Evaluates g (λ i. get_local name []) written e (Ok x) e

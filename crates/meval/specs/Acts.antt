@@ -1,12 +1,12 @@
 -- What calls of the evaluation do, where the meaning has it inside of more.
-use Rattle.std.specs.Prelude.{pos, Bool, [], slice_get}
+use Rattle.std.specs.Prelude.{pos, Bool, [], Some, slice_get}
 use Rattle.mspec.specs.Trees.{Direction}
 use Rattle.mspec.specs.Act.{Text, Act, ◌>>=◌, give}
-use Rattle.mgrammar.specs.Grammar.{ExprTree, ExprsTree, ReferenceTree}
+use Rattle.mgrammar.specs.Grammar.{ExprTree, ExprsTree, ReferenceTree, get_function, order_function}
 use Rattle.mmeaning.specs.Operators.{as_truth}
 use Rattle.mmeaning.specs.Functions.{whole_text, call_value}
 use Rattle.mspec.specs.LockConflict.{LockName}
-use Rattle.mmeaning.specs.Variables.{Evaluated, Place, reading, writing, resolve, named_lock, read_at, put_at, status_at, data_number, direction_of}
+use Rattle.mmeaning.specs.Variables.{Evaluated, Place, reading, writing, ordering, resolve, named_lock, read_at, put_at, status_at, next_at, data_number, direction_of, referring}
 use Rattle.mmeaning.specs.Expression.{Inside, value, values, evaluated}
 
 -- whether an expression is true
@@ -49,6 +49,30 @@ abbrev pub direction_act : Inside → ExprsTree → Act Direction
 direction_act i more = do
   xs ← values i [] more
   direction_of (slice_get xs 0)
+
+-- what $ORDER does with a variable that has its place, and with one that has not
+abbrev pub order_from : ExprsTree → Inside → Place → Act Text
+order_from more i p = do
+  xs ← values i [] more
+  d ← direction_of (slice_get xs 0)
+  next_at d p
+
+abbrev pub order_behind : ExprsTree → Inside → Evaluated → Act Text
+order_behind more i v = do
+  p ← resolve ordering v
+  order_from more i p
+
+-- $DATA, $GET and $ORDER of a variable
+abbrev pub data_of : Inside → ReferenceTree → Act Text
+data_of i r = do
+  v ← evaluated i r
+  data_act v
+
+abbrev pub get_of : Inside → ReferenceTree → ExprsTree → Act Text
+get_of i r more = referring (Some get_function) (evaluated i r) (values i [] more)
+
+abbrev pub order_of : Inside → ReferenceTree → ExprsTree → Act Text
+order_of i r more = referring (Some order_function) (evaluated i r) (values i [] more)
 
 -- the value of a variable
 abbrev pub variable_value : Inside → ReferenceTree → Act Text

@@ -1,14 +1,12 @@
 // The evaluation of expressions.
 ghost use Rattle.std.specs.Prelude.{◌≡◌, ◌≢◌, ◌≤◌, ◌<◌, [], map, Some, Err, IfOk, IsErr};
-ghost use Rattle.mgrammar.specs.Grammar.{indirect, extended, steps_of, exprs_of, choices_of, function_of, order_function};
-ghost use Rattle.mkey.specs.Way.{way};
+ghost use Rattle.mgrammar.specs.Grammar.{local, no_exprs, exprs, indirect, extended, steps_of, exprs_of, choices_of};
 ghost use Rattle.mmeaning.specs.Expression as meaning;
 ghost use Rattle.mmeaning.specs.LineMeaning as line;
 ghost use Rattle.mmeaning.specs.Variables as variables;
 ghost use Rattle.mnum.specs.Num.{units};
 ghost use Rattle.mspec.specs.Act.{charge};
 ghost use Rattle.mtree.specs.Tree.{expr_tree, step_tree, operand_tree, primary_tree, reference_tree, choice_tree};
-ghost use Rattle.mtree.specs.declared.tree.Referring.{out-Referring};
 ghost use Rattle.moperator.specs.declared.code.Code.TheVariants.{Zstore};
 ghost use Rattle.meval.specs.Evaluates.{Evaluates, KeepsEval, standing_of};
 ghost use Rattle.meval.specs.Acts as acts;
@@ -18,22 +16,20 @@ ghost use Rattle.mspec.specs.Access.{Write};
 use crate::depth::Depth;
 use crate::global_node::GlobalNode;
 use crate::place::{
-    LocalName, Pending, Place, check_walk, extended_parts, indirect_parts, local_node, plain_name,
+    LocalName, Pending, Place, extended_parts, indirect_parts, local_node, plain_name,
     subscripts_of,
 };
 use crate::reading::read_reference;
 use crate::session::Session;
 use crate::values::Values;
-use crate::walk::{direction, texts};
+use crate::walk::texts;
 use mgrant::{AccountId, Mode, Settings};
-use mkey::Direction;
-use mnum::{Bytes7, Name, Num};
+use mnum::{Name, Num};
 use moperator::{Code, binary, call, computed, matching, number_of, truth_of, unaries};
 use mstore::NodeStore;
-use mtree::{Choice, Expr, Function, FunctionWord, Operand, Primary, Reference, Referring, Step};
+use mtree::{Choice, Expr, FunctionWord, Operand, Primary, Reference, Step};
 use mvalue::Value;
 use std::alloc::Global;
-use std::slice::from_ref;
 
 /// What the evaluation of an expression is lent, and where it stands.
 #[derive(Drop)]
@@ -94,21 +90,48 @@ impl<'a, S: NodeStore> Eval<'a, S> {
         }
     }
 
-    // The value of a variable that may have something to evaluate. It stands apart from `primary`, whose other cases need no room for it.
+    // The value of a variable that may have something to evaluate.
     #[cycle(eval)]
-    #[inline(never)]
     fn variable(&mut self, alloc: Global, reference: &Reference) -> Result<Value, Code>
         ensures loans { KeepsEval self.old self.new }
         ensures fewer { self.new.steps ≤ self.old.steps }
         ensures does { Evaluates S.NodeStore (λ i. acts.variable_value i (reference_tree reference.now)) (λ v. v) self.old result self.new }
     {
-        if let Some((name, subscript)) = local_node(reference) {
-            let value = self.value(alloc, subscript)?;
-            return self.local_at(name, &value);
+        match local_node(reference) {
+            Some((name, subscript)) => self.node_value(alloc, name, subscript),
+            None => self.place_value(alloc, reference),
         }
+    }
+
+    // The value of any variable, at the place that it has. It stands apart, as the others of its kind below: a function clears the room of
+    // all its cases, and most references are to a local variable by one subscript.
+    #[cycle(eval)]
+    #[inline(never)]
+    fn place_value(&mut self, alloc: Global, reference: &Reference) -> Result<Value, Code>
+        ensures loans { KeepsEval self.old self.new }
+        ensures fewer { self.new.steps ≤ self.old.steps }
+        ensures does { Evaluates S.NodeStore (λ i. acts.variable_value i (reference_tree reference.now)) (λ v. v) self.old result self.new }
+    {
         let pending = self.evaluated(alloc, reference)?;
         let place = self.resolved(alloc, Mode::Read, pending)?;
         self.read(&place)
+    }
+
+    // The value of a node of a local variable by one subscript.
+    #[cycle(eval)]
+    #[inline(never)]
+    fn node_value(&mut self, alloc: Global, name: &Name, subscript: &Expr) -> Result<Value, Code>
+        ensures loans { KeepsEval self.old self.new }
+        ensures fewer { self.new.steps ≤ self.old.steps }
+        ensures does { Evaluates S.NodeStore (λ i. acts.variable_value i (local name.now (exprs (expr_tree subscript.now) no_exprs))) (λ v. v) self.old result self.new }
+    {
+        match self.number_alone(subscript) {
+            Some(number) => self.local_at(name, &Value::of_number(number)),
+            None => {
+                let value = self.value(alloc, subscript)?;
+                self.local_at(name, &value)
+            }
+        }
     }
 
     // The value of a function of values.
@@ -216,74 +239,9 @@ impl<'a, S: NodeStore> Eval<'a, S> {
         Ok(front.extended(alloc, values)?)
     }
 
-    // The value of a function of a variable.
-    #[cycle(eval)]
-    #[inline(never)]
-    fn referring(&mut self, alloc: Global, referring: &Referring) -> Result<Value, Code>
-        ensures loans { KeepsEval self.old self.new }
-        ensures fewer { self.new.steps ≤ self.old.steps }
-        ensures does { Evaluates S.NodeStore (λ i. variables.referring (function_of (out-Referring referring.now).word) (meaning.evaluated i (reference_tree (out-Referring referring.now).reference)) (meaning.values i [] (exprs_of (map expr_tree (out-Referring referring.now).more.items)))) (λ v. v) self.old result self.new }
-    {
-        let Some(function) = referring.word.function() else {
-            return Err(Code::Zsyntax);
-        };
-        match function {
-            Function::Data => {
-                let pending = self.evaluated(alloc, &referring.reference)?;
-                self.data(alloc, pending)
-            }
-            Function::Get => {
-                let pending = self.evaluated(alloc, &referring.reference)?;
-                let place = self.resolved(alloc, Mode::Read, pending)?;
-                let more = self.values(alloc, &referring.more)?;
-                self.read_or(alloc, &place, more)
-            }
-            Function::Order => self.ordered(alloc, &referring.reference, &referring.more),
-            _ => Err(Code::Zsyntax),
-        }
-    }
-
-    // What $ORDER gives of a variable, in the direction that the first of these says.
-    #[cycle(eval)]
-    fn ordered(
-        &mut self,
-        alloc: Global,
-        reference: &Reference,
-        more: &[Expr],
-    ) -> Result<Value, Code>
-        ensures loans { KeepsEval self.old self.new }
-        ensures fewer { self.new.steps ≤ self.old.steps }
-        ensures does { Evaluates S.NodeStore (λ i. variables.referring (Some order_function) (meaning.evaluated i (reference_tree reference.now)) (meaning.values i [] (exprs_of (map expr_tree more.now)))) (λ v. v) self.old result self.new }
-    {
-        if let Some((name, subscript)) = local_node(reference) {
-            let value = self.value(alloc, subscript)?;
-            check_walk(from_ref(&value))?;
-            let direction = self.direction(alloc, more)?;
-            return self.next_local(alloc, name, &value, direction);
-        }
-        let pending = self.evaluated(alloc, reference)?;
-        let walk = self.walked(alloc, pending)?;
-        let direction = self.direction(alloc, more)?;
-        self.next(alloc, &walk, direction)
-    }
-
-    // The direction of $ORDER, by the first of the arguments behind the variable.
-    #[cycle(eval)]
-    fn direction(&mut self, alloc: Global, more: &[Expr]) -> Result<Direction, Code>
-        ensures loans { KeepsEval self.old self.new }
-        ensures fewer { self.new.steps ≤ self.old.steps }
-        ensures does { Evaluates S.NodeStore (λ i. acts.direction_act i (exprs_of (map expr_tree more.now))) way self.old result self.new }
-    {
-        if more.is_empty() {
-            return Ok(Direction::Forward);
-        }
-        let values = self.values(alloc, more)?;
-        direction(values.as_slice())
-    }
-
     // The values of expressions.
     #[cycle(eval)]
-    fn values(&mut self, alloc: Global, exprs: &[Expr]) -> Result<Values, Code>
+    pub(crate) fn values(&mut self, alloc: Global, exprs: &[Expr]) -> Result<Values, Code>
         ensures loans { KeepsEval self.old self.new }
         ensures fewer { self.new.steps ≤ self.old.steps }
         ensures does { Evaluates S.NodeStore (λ i. meaning.values i [] (exprs_of (map expr_tree exprs.now))) (λ values. values) self.old result self.new }
@@ -376,7 +334,7 @@ impl<'a, S: NodeStore> Eval<'a, S> {
 
     // The value of an expression.
     #[cycle(eval)]
-    fn value(&mut self, alloc: Global, e: &Expr) -> Result<Value, Code>
+    pub(crate) fn value(&mut self, alloc: Global, e: &Expr) -> Result<Value, Code>
         ensures loans { KeepsEval self.old self.new }
         ensures fewer { self.new.steps ≤ self.old.steps }
         ensures spent { IfOk result (λ _. self.new.steps < self.old.steps) }

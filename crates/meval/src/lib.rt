@@ -10,6 +10,7 @@ mod lock;
 mod lookups;
 mod place;
 mod reading;
+mod referring;
 mod resolving;
 mod session;
 mod values;

@@ -10,7 +10,7 @@ ghost use Rattle.mspec.specs.Act.{get_local};
 ghost use Rattle.mspec.specs.KeyBytes.{AreSubscripts};
 ghost use Rattle.mspec.specs.NumberText.{number_text};
 ghost use Rattle.mspec.specs.Trees.{AreOrderSubscripts};
-ghost use Rattle.mtree.specs.Tree.{operand_tree, primary_tree};
+ghost use Rattle.mtree.specs.Tree.{expr_tree, operand_tree, primary_tree};
 ghost use Rattle.meval.specs.Evaluates.{Evaluates, KeepsEval, standing_of};
 ghost use Rattle.meval.specs.Acts as acts;
 ghost use Rattle.meval.specs.Places.{pending_view, place_view, walk_view, status_view, IsOpen, IsWalk};
@@ -26,7 +26,7 @@ use mlocal::subs_ok;
 use mnum::{Bytes7, Name, Num};
 use moperator::Code;
 use mstore::NodeStore;
-use mtree::{Operand, Primary};
+use mtree::{Expr, Operand, Primary};
 use mvalue::{Kind, Value};
 use std::alloc::Global;
 use std::slice::from_ref;
@@ -66,6 +66,20 @@ impl<'a, S: NodeStore> Eval<'a, S> {
             Ok(()) => Some(number),
             Err(_) => None,
         }
+    }
+
+    // The number of an expression that is such an operand alone, as most subscripts are, and then its step is spent; of another nothing is
+    // done.
+    pub(crate) fn number_alone(&mut self, e: &Expr) -> Option<Num>
+        ensures loans { KeepsEval self.old self.new }
+        ensures fewer { self.new.steps ≤ self.old.steps }
+        ensures none { IsNone result → self.new ≡ self.old }
+        ensures does { IfSome result (λ number. Evaluates S.NodeStore (λ i. meaning.value i (expr_tree e.now)) (λ n. number_text (units n)) self.old (Ok number) self.new) }
+    {
+        if !e.rest.is_empty() {
+            return None;
+        }
+        self.number_at_once(&e.first)
     }
 
     // The value of a local variable without subscripts, which is asked for most often.

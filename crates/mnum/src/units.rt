@@ -8,6 +8,21 @@ use crate::num::Num;
 // The units of 1, and the end of the digits of a number.
 const UNIT: u128 = 1_000_000_000_000_000_000;
 
+// Its twos, and its fives.
+const TWOS: u128 = 1 << 18;
+
+const FIVES: u64 = 3_814_697_265_625;
+
+// What the fives times this leave is 1, of numbers of 64 bits.
+const INVERSE: u64 = 13_940_676_669_711_910_505;
+
+// So many numbers have 64 bits.
+const WORD: u128 = 1 << 64;
+
+const _: () = prove!(TWOS * FIVES as u128 == UNIT);
+
+const _: () = prove!(FIVES.wrapping_mul(INVERSE) == 1);
+
 impl Num {
     /// The number of so many units of 10^-18, or None exactly where there is none: where they are 10^36 or more in size, or have
     /// more than eighteen significant digits. Takes no memory.
@@ -18,7 +33,10 @@ impl Num {
         let size = count.unsigned_abs();
         let mut digits = size;
         let mut places: u32 = 18;
-        let whole = size / UNIT;
+        // Of a whole number this is the quotient: a division takes tens of nanoseconds at this length. Of any other it is some number, and
+        // the product tells.
+        let whole = (size / TWOS % WORD) as u64;
+        let whole = whole.wrapping_mul(INVERSE) as u128;
         if whole * UNIT == size {
             digits = whole;
             places = 0;

@@ -8,11 +8,11 @@ use Rattle.mmeaning.proofs.Calls.{residual_is}
 use Rattle.std.specs.Prelude.{slice_get}
 use Rattle.mspec.specs.Act.{Text, ◌>>=◌, give}
 use Rattle.mtree.specs.Tree.{expr_tree, reference_tree}
-use Rattle.meval.specs.Acts.{read_act}
+use Rattle.meval.specs.Acts.{read_act, order_from, order_behind}
 use Rattle.meval.specs.Places.{named, pending_view, walk_view}
 use Rattle.moperator.proofs.Numbers.{computed_outcome}
 use Rattle.meval.proofs.Calls.{evaluates_then, evaluates_whole, evaluates_failed, evaluates_gives, evaluates_seen, evaluates_refused, evaluates_stopped, evaluates_wanting, evaluates_yielded, keeps_itself, keeps_on}
-use Rattle.meval.proofs.AtOnce.{order_from, order_behind, node_evaluated, node_failed, ordered_next, ordered_stopped, walk_through, walk_refused}
+use Rattle.meval.proofs.AtOnce.{node_evaluated, node_failed, ordered_next, ordered_stopped, walk_through, walk_refused}
 use Rattle.meval.proofs.Indirections.{not_free, is_free, evaluates_behind, evaluates_deep, evaluates_unnamed, evaluates_entry}
 use Rattle.meval.proofs.References.{as_evaluated, gives_named, node_of}
 use Rattle.meval.proofs.TreeViews.{expr_is, operand_is, number_is, text_is, special_is, reference_is, refer_is, referring_is, bracket_is, call_is, select_is, apply_is, matches_is, matches_not_is}
@@ -85,22 +85,33 @@ primary-returns-in-Refer-clause-does g t c =
 
 -- ---- variables and functions of values
 
-pub variable-returns-in_err-value-clause-does : goal.variable-returns-in_err-value-clause-does
-variable-returns-in_err-value-clause-does g t c =
-    rw c.in-Some.ensures (evaluates_stopped (λ i v. read_act v) (node_failed c.in-Some.name.now (expr_tree c.in-Some.subscript.now) _ c.in_err-value.ensures.does) c.from_residual.ensures)
+pub node_value-returns-in-Some-clause-does : goal.node_value-returns-in-Some-clause-does
+node_value-returns-in-Some-clause-does g t c =
+    let value = evaluates_seen c.in-Some.number _ refl c.in-Some.ensures.does in
+    let k = rw c.of_number.ensures at c.local_at-in-Some.ensures.does in
+    evaluates_then (λ i v. read_act v) (node_evaluated c.args.name.now (expr_tree c.args.subscript.now) _ value) k
+
+pub node_value-returns-in_err-value-in-None-clause-does : goal.node_value-returns-in_err-value-in-None-clause-does
+node_value-returns-in_err-value-in-None-clause-does g t c =
+    let k = rw (c.in-None.ensures.none refl) at c.in_err-value-in-None.ensures.does in
+    evaluates_stopped (λ i v. read_act v) (node_failed c.args.name.now (expr_tree c.args.subscript.now) _ k) c.from_residual.ensures
+
+pub node_value-returns-in_ok-value-in-None-clause-does : goal.node_value-returns-in_ok-value-in-None-clause-does
+node_value-returns-in_ok-value-in-None-clause-does g t c =
+    let k = rw (c.in-None.ensures.none refl) at c.in_ok-value-in-None.ensures.does in
+    evaluates_then (λ i v. read_act v) (node_evaluated c.args.name.now (expr_tree c.args.subscript.now) _ k) c.local_at-in-None.ensures.does
 
 pub variable-returns-in-Some-clause-does : goal.variable-returns-in-Some-clause-does
-variable-returns-in-Some-clause-does g t c =
-    rw c.in-Some.ensures (evaluates_then (λ i v. read_act v) (node_evaluated c.in-Some.name.now (expr_tree c.in-Some.subscript.now) c.in_ok-value.value c.in_ok-value.ensures.does) c.local_at.ensures.does)
+variable-returns-in-Some-clause-does g t c = rw c.in-Some.ensures c.node_value.ensures.does
 
-pub variable-returns-in_err-pending-clause-does : goal.variable-returns-in_err-pending-clause-does
-variable-returns-in_err-pending-clause-does g t c = evaluates_stopped _ c.in_err-pending.ensures.does c.from_residual-in_err-pending.ensures
+pub place_value-returns-in_err-pending-clause-does : goal.place_value-returns-in_err-pending-clause-does
+place_value-returns-in_err-pending-clause-does g t c = evaluates_stopped _ c.in_err-pending.ensures.does c.from_residual.ensures
 
-pub variable-returns-in_err-place-clause-does : goal.variable-returns-in_err-place-clause-does
-variable-returns-in_err-place-clause-does g t c = evaluates_then _ c.in_ok-pending.ensures.does (evaluates_stopped _ c.in_err-place.ensures.does c.from_residual-in_err-place.ensures)
+pub place_value-returns-in_err-place-clause-does : goal.place_value-returns-in_err-place-clause-does
+place_value-returns-in_err-place-clause-does g t c = evaluates_then _ c.in_ok-pending.ensures.does (evaluates_stopped _ c.in_err-place.ensures.does c.from_residual-in_err-place.ensures)
 
-pub variable-returns-clause-does : goal.variable-returns-clause-does
-variable-returns-clause-does g t c = evaluates_then _ c.in_ok-pending.ensures.does (evaluates_then _ c.in_ok-place.ensures.does c.read.ensures.does)
+pub place_value-returns-clause-does : goal.place_value-returns-clause-does
+place_value-returns-clause-does g t c = evaluates_then _ c.in_ok-pending.ensures.does (evaluates_then _ c.in_ok-place.ensures.does c.read.ensures.does)
 
 pub called-returns-in_err-values-clause-does : goal.called-returns-in_err-values-clause-does
 called-returns-in_err-values-clause-does g t c = evaluates_stopped _ c.in_err-values.ensures.does c.from_residual.ensures
@@ -232,41 +243,42 @@ through-returns-clause-does g t c =
 
 -- ---- functions of a variable
 
-pub referring-returns-in_err-pending-in-Data-clause-does : goal.referring-returns-in_err-pending-in-Data-clause-does
-referring-returns-in_err-pending-in-Data-clause-does g t c =
+pub referring-returns-in-Data-clause-does : goal.referring-returns-in-Data-clause-does
+referring-returns-in-Data-clause-does g t c =
     let is = rw c.in-Data.is at c.in-Some.ensures in
-    rw (sym is) (evaluates_stopped _ c.in_err-pending-in-Data.ensures.does c.from_residual.ensures)
+    rw (sym is) c.data_of.ensures.does
 
-pub referring-returns-in_ok-pending-in-Data-clause-does : goal.referring-returns-in_ok-pending-in-Data-clause-does
-referring-returns-in_ok-pending-in-Data-clause-does g t c =
-    let is = rw c.in-Data.is at c.in-Some.ensures in
-    rw (sym is) (evaluates_then _ c.in_ok-pending-in-Data.ensures.does c.data.ensures.does)
-
-pub referring-returns-in_err-pending-in-Get-clause-does : goal.referring-returns-in_err-pending-in-Get-clause-does
-referring-returns-in_err-pending-in-Get-clause-does g t c =
+pub referring-returns-in-Get-clause-does : goal.referring-returns-in-Get-clause-does
+referring-returns-in-Get-clause-does g t c =
     let is = rw c.in-Get.is at c.in-Some.ensures in
-    rw (sym is) (evaluates_stopped _ c.in_err-pending-in-Get.ensures.does c.from_residual-in_err-pending-in-Get.ensures)
-
-pub referring-returns-in_err-place-in-Get-clause-does : goal.referring-returns-in_err-place-in-Get-clause-does
-referring-returns-in_err-place-in-Get-clause-does g t c =
-    let is = rw c.in-Get.is at c.in-Some.ensures in
-    rw (sym is) (evaluates_then _ c.in_ok-pending-in-Get.ensures.does (evaluates_stopped _ c.in_err-place-in-Get.ensures.does c.from_residual-in_err-place-in-Get.ensures))
-
-pub referring-returns-in_err-more-in-Get-clause-does : goal.referring-returns-in_err-more-in-Get-clause-does
-referring-returns-in_err-more-in-Get-clause-does g t c =
-    let is = rw c.in-Get.is at c.in-Some.ensures in
-    rw (sym is) (evaluates_then _ c.in_ok-pending-in-Get.ensures.does (evaluates_then _ c.in_ok-place-in-Get.ensures.does (evaluates_stopped _ (rw c.deref.ensures.value at c.in_err-more-in-Get.ensures.does) c.from_residual-in_err-more-in-Get.ensures)))
-
-pub referring-returns-in_ok-more-in-Get-clause-does : goal.referring-returns-in_ok-more-in-Get-clause-does
-referring-returns-in_ok-more-in-Get-clause-does g t c =
-    let is = rw c.in-Get.is at c.in-Some.ensures in
-    rw (sym is) (evaluates_then _ c.in_ok-pending-in-Get.ensures.does (evaluates_then _ c.in_ok-place-in-Get.ensures.does (evaluates_then _ (rw c.deref.ensures.value at c.in_ok-more-in-Get.ensures.does) c.read_or.ensures.does)))
+    let k = rw c.deref.ensures.value at c.get_of.ensures.does in
+    rw (sym is) k
 
 pub referring-returns-in-Order-clause-does : goal.referring-returns-in-Order-clause-does
 referring-returns-in-Order-clause-does g t c =
     let is = rw c.in-Order.is at c.in-Some.ensures in
-    let more = rw c.deref-in-Order.ensures.value at c.ordered.ensures.does in
-    rw (sym is) more
+    let k = rw c.deref-in-Order.ensures.value at c.order_of.ensures.does in
+    rw (sym is) k
+
+pub data_of-returns-in_err-pending-clause-does : goal.data_of-returns-in_err-pending-clause-does
+data_of-returns-in_err-pending-clause-does g t c = evaluates_stopped _ c.in_err-pending.ensures.does c.from_residual.ensures
+
+pub data_of-returns-clause-does : goal.data_of-returns-clause-does
+data_of-returns-clause-does g t c = evaluates_then _ c.in_ok-pending.ensures.does c.data.ensures.does
+
+pub get_of-returns-in_err-pending-clause-does : goal.get_of-returns-in_err-pending-clause-does
+get_of-returns-in_err-pending-clause-does g t c = evaluates_stopped _ c.in_err-pending.ensures.does c.from_residual.ensures
+
+pub get_of-returns-in_err-place-clause-does : goal.get_of-returns-in_err-place-clause-does
+get_of-returns-in_err-place-clause-does g t c = evaluates_then _ c.in_ok-pending.ensures.does (evaluates_stopped _ c.in_err-place.ensures.does c.from_residual-in_err-place.ensures)
+
+pub get_of-returns-in_err-more-clause-does : goal.get_of-returns-in_err-more-clause-does
+get_of-returns-in_err-more-clause-does g t c =
+    evaluates_then _ c.in_ok-pending.ensures.does (evaluates_then _ c.in_ok-place.ensures.does (evaluates_stopped _ c.in_err-more.ensures.does c.from_residual-in_err-more.ensures))
+
+pub get_of-returns-clause-does : goal.get_of-returns-clause-does
+get_of-returns-clause-does g t c =
+    evaluates_then _ c.in_ok-pending.ensures.does (evaluates_then _ c.in_ok-place.ensures.does (evaluates_then _ c.in_ok-more.ensures.does c.read_or.ensures.does))
 
 pub direction-returns-in_err-values-clause-does : goal.direction-returns-in_err-values-clause-does
 direction-returns-in_err-values-clause-does g t c = evaluates_stopped (λ i xs. direction_of (slice_get xs 0)) c.in_err-values.ensures.does c.from_residual.ensures
@@ -276,59 +288,68 @@ direction-returns-clause-does g t c =
     let told = rw c.as_slice.ensures at c.direction.ensures in
     evaluates_then (λ i xs. direction_of (slice_get xs 0)) c.in_ok-values.ensures.does (evaluates_yielded told)
 
-pub ordered-returns-in_err-value-clause-does : goal.ordered-returns-in_err-value-clause-does
-ordered-returns-in_err-value-clause-does g t c =
+pub order_of_node-returns-in-Some-clause-does : goal.order_of_node-returns-in-Some-clause-does
+order_of_node-returns-in-Some-clause-does g t c =
     let more = exprs_of (map expr_tree c.args.more.now) in
-    rw c.in-Some.ensures (evaluates_stopped (order_behind more) (node_failed c.in-Some.name.now (expr_tree c.in-Some.subscript.now) _ c.in_err-value.ensures.does) c.from_residual.ensures)
+    let value = evaluates_seen c.in-Some.number _ refl c.in-Some.ensures.does in
+    let k = rw c.of_number.ensures at c.order_behind-in-Some.ensures.does in
+    evaluates_then (order_behind more) (node_evaluated c.args.name.now (expr_tree c.args.subscript.now) _ value) k
 
-pub ordered-returns-in_err-check_walk-clause-does : goal.ordered-returns-in_err-check_walk-clause-does
-ordered-returns-in_err-check_walk-clause-does g t c =
+pub order_of_node-returns-in_err-value-in-None-clause-does : goal.order_of_node-returns-in_err-value-in-None-clause-does
+order_of_node-returns-in_err-value-in-None-clause-does g t c =
     let more = exprs_of (map expr_tree c.args.more.now) in
-    let name = c.in-Some.name.now in
-    let xs = c.in_ok-value.value ∷ [] in
+    let k = rw (c.in-None.ensures.none refl) at c.in_err-value-in-None.ensures.does in
+    evaluates_stopped (order_behind more) (node_failed c.args.name.now (expr_tree c.args.subscript.now) _ k) c.from_residual.ensures
+
+pub order_of_node-returns-in_ok-value-in-None-clause-does : goal.order_of_node-returns-in_ok-value-in-None-clause-does
+order_of_node-returns-in_ok-value-in-None-clause-does g t c =
+    let more = exprs_of (map expr_tree c.args.more.now) in
+    let k = rw (c.in-None.ensures.none refl) at c.in_ok-value-in-None.ensures.does in
+    evaluates_then (order_behind more) (node_evaluated c.args.name.now (expr_tree c.args.subscript.now) _ k) c.order_behind-in-None.ensures.does
+
+pub order_behind-returns-in_err-check_walk-clause-does : goal.order_behind-returns-in_err-check_walk-clause-does
+order_behind-returns-in_err-check_walk-clause-does g t c =
+    let more = exprs_of (map expr_tree c.args.more.now) in
+    let name = c.args.name.now in
     let refused = rw c.from_ref.ensures.value at c.in_err-check_walk.ensures.checked in
-    let stopped = evaluates_stopped (λ i _. give (at_local name xs) >>= order_from more i) (evaluates_yielded refused) c.from_residual-in_err-check_walk.ensures in
-    rw c.in-Some.ensures (evaluates_then (order_behind more) (node_evaluated name (expr_tree c.in-Some.subscript.now) c.in_ok-value.value c.in_ok-value.ensures.does) (walk_refused more name xs stopped))
+    walk_refused more name (c.args.subscript.now ∷ []) (evaluates_stopped (λ i _. give (at_local name (c.args.subscript.now ∷ [])) >>= order_from more i) (evaluates_yielded refused) c.from_residual.ensures)
 
-pub ordered-returns-in_err-direction-clause-does : goal.ordered-returns-in_err-direction-clause-does
-ordered-returns-in_err-direction-clause-does g t c =
+pub order_behind-returns-in_err-direction-clause-does : goal.order_behind-returns-in_err-direction-clause-does
+order_behind-returns-in_err-direction-clause-does g t c =
     let more = exprs_of (map expr_tree c.args.more.now) in
-    let name = c.in-Some.name.now in
-    let xs = c.in_ok-value.value ∷ [] in
+    let xs = c.args.subscript.now ∷ [] in
     let passed = rw c.from_ref.ensures.value at c.in_ok-check_walk.ensures.checked in
-    rw c.in-Some.ensures
-    (evaluates_then (order_behind more) (node_evaluated name (expr_tree c.in-Some.subscript.now) c.in_ok-value.value c.in_ok-value.ensures.does)
-    (evaluates_then (order_from more) (walk_through name xs passed) (ordered_stopped more (at_local name xs) c.in_err-direction.ensures.does c.from_residual-in_err-direction.ensures)))
+    evaluates_then (order_from more) (walk_through c.args.name.now xs passed) (ordered_stopped more (at_local c.args.name.now xs) c.in_err-direction.ensures.does c.from_residual-in_err-direction.ensures)
 
-pub ordered-returns-in-Some-clause-does : goal.ordered-returns-in-Some-clause-does
-ordered-returns-in-Some-clause-does g t c =
+pub order_behind-returns-clause-does : goal.order_behind-returns-clause-does
+order_behind-returns-clause-does g t c =
     let more = exprs_of (map expr_tree c.args.more.now) in
-    let name = c.in-Some.name.now in
-    let xs = c.in_ok-value.value ∷ [] in
+    let xs = c.args.subscript.now ∷ [] in
     let passed = rw c.from_ref.ensures.value at c.in_ok-check_walk.ensures.checked in
-    rw c.in-Some.ensures
-    (evaluates_then (order_behind more) (node_evaluated name (expr_tree c.in-Some.subscript.now) c.in_ok-value.value c.in_ok-value.ensures.does)
-    (evaluates_then (order_from more) (walk_through name xs passed) (ordered_next more (at_local name xs) c.in_ok-direction.direction c.in_ok-direction.ensures.does c.next_local.ensures.does)))
+    evaluates_then (order_from more) (walk_through c.args.name.now xs passed) (ordered_next more (at_local c.args.name.now xs) c.in_ok-direction.direction c.in_ok-direction.ensures.does c.next_local.ensures.does)
 
-pub ordered-returns-in_err-pending-clause-does : goal.ordered-returns-in_err-pending-clause-does
-ordered-returns-in_err-pending-clause-does g t c = evaluates_stopped (order_behind (exprs_of (map expr_tree c.args.more.now))) c.in_err-pending.ensures.does c.from_residual-in_err-pending.ensures
+pub order_of-returns-in-Some-clause-does : goal.order_of-returns-in-Some-clause-does
+order_of-returns-in-Some-clause-does g t c = rw c.in-Some.ensures c.order_of_node.ensures.does
 
-pub ordered-returns-in_err-walk-clause-does : goal.ordered-returns-in_err-walk-clause-does
-ordered-returns-in_err-walk-clause-does g t c =
+pub order_of_place-returns-in_err-pending-clause-does : goal.order_of_place-returns-in_err-pending-clause-does
+order_of_place-returns-in_err-pending-clause-does g t c = evaluates_stopped (order_behind (exprs_of (map expr_tree c.args.more.now))) c.in_err-pending.ensures.does c.from_residual.ensures
+
+pub order_of_place-returns-in_err-walk-clause-does : goal.order_of_place-returns-in_err-walk-clause-does
+order_of_place-returns-in_err-walk-clause-does g t c =
     let more = exprs_of (map expr_tree c.args.more.now) in
     evaluates_then (order_behind more) c.in_ok-pending.ensures.does (evaluates_stopped (order_from more) c.in_err-walk.ensures.does c.from_residual-in_err-walk.ensures)
 
-pub ordered-returns-in_err-direction-2-clause-does : goal.ordered-returns-in_err-direction-2-clause-does
-ordered-returns-in_err-direction-2-clause-does g t c =
+pub order_of_place-returns-in_err-direction-clause-does : goal.order_of_place-returns-in_err-direction-clause-does
+order_of_place-returns-in_err-direction-clause-does g t c =
     let more = exprs_of (map expr_tree c.args.more.now) in
     evaluates_then (order_behind more) c.in_ok-pending.ensures.does
-    (evaluates_then (order_from more) c.in_ok-walk.ensures.does (ordered_stopped more (walk_view c.in_ok-walk.walk) c.in_err-direction-2.ensures.does c.from_residual-in_err-direction-2.ensures))
+    (evaluates_then (order_from more) c.in_ok-walk.ensures.does (ordered_stopped more (walk_view c.in_ok-walk.walk) c.in_err-direction.ensures.does c.from_residual-in_err-direction.ensures))
 
-pub ordered-returns-clause-does : goal.ordered-returns-clause-does
-ordered-returns-clause-does g t c =
+pub order_of_place-returns-clause-does : goal.order_of_place-returns-clause-does
+order_of_place-returns-clause-does g t c =
     let more = exprs_of (map expr_tree c.args.more.now) in
     evaluates_then (order_behind more) c.in_ok-pending.ensures.does
-    (evaluates_then (order_from more) c.in_ok-walk.ensures.does (ordered_next more (walk_view c.in_ok-walk.walk) c.in_ok-direction-2.direction c.in_ok-direction-2.ensures.does c.next.ensures.does))
+    (evaluates_then (order_from more) c.in_ok-walk.ensures.does (ordered_next more (walk_view c.in_ok-walk.walk) c.in_ok-direction.direction c.in_ok-direction.ensures.does c.next.ensures.does))
 
 -- ---- steps
 

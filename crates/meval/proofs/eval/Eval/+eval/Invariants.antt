@@ -46,17 +46,38 @@ decreases-direction g l = 16 * l.self.now.steps + 6
 abbrev pub decreases-evaluated : goal.decreases-evaluated
 decreases-evaluated g l = 16 * l.self.now.steps + 7
 
-abbrev pub decreases-ordered : goal.decreases-ordered
-decreases-ordered g l = 16 * l.self.now.steps + 8
+abbrev pub decreases-order_behind : goal.decreases-order_behind
+decreases-order_behind g l = 16 * l.self.now.steps + 7
+
+abbrev pub decreases-order_of_node : goal.decreases-order_of_node
+decreases-order_of_node g l = 16 * l.self.now.steps + 8
+
+abbrev pub decreases-order_of_place : goal.decreases-order_of_place
+decreases-order_of_place g l = 16 * l.self.now.steps + 8
+
+abbrev pub decreases-data_of : goal.decreases-data_of
+decreases-data_of g l = 16 * l.self.now.steps + 8
+
+abbrev pub decreases-get_of : goal.decreases-get_of
+decreases-get_of g l = 16 * l.self.now.steps + 8
+
+abbrev pub decreases-order_of : goal.decreases-order_of
+decreases-order_of g l = 16 * l.self.now.steps + 9
+
+abbrev pub decreases-place_value : goal.decreases-place_value
+decreases-place_value g l = 16 * l.self.now.steps + 8
+
+abbrev pub decreases-node_value : goal.decreases-node_value
+decreases-node_value g l = 16 * l.self.now.steps + 5
 
 abbrev pub decreases-variable : goal.decreases-variable
-decreases-variable g l = 16 * l.self.now.steps + 8
+decreases-variable g l = 16 * l.self.now.steps + 9
 
 abbrev pub decreases-through : goal.decreases-through
-decreases-through g l = 16 * l.self.now.steps + 8
+decreases-through g l = 16 * l.self.now.steps + 9
 
 abbrev pub decreases-referring : goal.decreases-referring
-decreases-referring g l = 16 * l.self.now.steps + 9
+decreases-referring g l = 16 * l.self.now.steps + 10
 
 abbrev pub invariant-chosen-loop-choice : goal.invariant-chosen-loop-choice
 invariant-chosen-loop-choice g l = record {

@@ -23,6 +23,7 @@ use Rattle.mjob.specs.declared.jobs.Store.{Store}
 use Rattle.mjob.specs.declared.jobs.Store.TheVariants as store
 use Rattle.mworld.specs.declared.world.World.{World}
 use Rattle.mworld.specs.View.{settings_of, server_of}
+use Rattle.mworld.specs.Isolated.{IsToldEach}
 use Rattle.mwire.specs.Wire.{events_of}
 use Rattle.mwire.specs.Only.{told_text, RanOnly, ServesOnly}
 use Rattle.mwire.specs.Watched.{inner_of, ReadBroke, WriteBroke}
@@ -159,16 +160,19 @@ module _ {S I O : Type 0} (g : Ghosts S) (left : I → Option Text) (held : O �
         }
 
     -- or over any store
-    told_in_form : (whole : Bool) → ServesOnly g old place (left (inner_of input)) (left (inner_of input')) (held (inner_of output)) (held (inner_of output')) (Ok whole) new
+    told_in_form : name_at known.settings place ≡ name → (whole : Bool) → ServesOnly g old place (left (inner_of input)) (left (inner_of input')) (held (inner_of output)) (held (inner_of output')) (Ok whole) new
         → ToldInForm document name (left (inner_of input)) (left (inner_of input')) (held (inner_of output)) (held (inner_of output'))
-    told_in_form whole s =
+    told_in_form is whole s =
         let ran : RanOnly g old place (events_of (lines s.read)) s.sent whole new = s.outcome.1 in
+        let at : ◌≡◌ {A = Text × Settings} (name_at (settings_of old) place, settings_of old) (name, known.settings) =
+        λ i. ((ap (λ (t : Settings). name_at t place) by ∙ is) i, by i) in
         record {
           known = known;
           read = s.read;
           consumed = s.consumed;
           at_end = s.outcome.0;
           replies = ran.replies;
+          each = subst (λ (q : Text × Settings). IsToldEach q.0 q.1 (events_of (lines s.read)) ran.replies) at ran.each;
           appended = subst (Appends (held (inner_of output)) (held (inner_of output'))) ran.text s.appended;
         }
 
@@ -187,10 +191,10 @@ module _ {S I O : Type 0} (g : Ghosts S) (left : I → Option Text) (held : O �
     over_memory sound none is (Ok done) s = told_alone sound none is s.0 s.1
     over_memory sound none is (Err fault) s = (broke_off fault s, served_fits g left held old place input input' output output' fault new s)
 
-    pub over_file : (path : _) → (result : Result (Unit {0}) RunFault)
+    pub over_file : name_at known.settings place ≡ name → (path : _) → (result : Result (Unit {0}) RunFault)
         → ServesAs g left held old place input input' output output' result new → OnlyOver g g left held (store.File path) name document input input' output output' result
-    over_file path (Ok done) s = told_in_form s.0 s.1
-    over_file path (Err fault) s = broke_off fault s
+    over_file is path (Ok done) s = told_in_form is s.0 s.1
+    over_file is path (Err fault) s = broke_off fault s
 
 -- the account that was found is the document's of this name
 abbrev pub has_account : (document name : Text) (settings : Settings) (place : ℕ) → IsRead document settings → account_at settings place ≡ account_named settings name → place < length settings.accounts → HasAccount document name

@@ -18,6 +18,7 @@ use Rattle.mjob.specs.declared.jobs.Store.TheVariants as store
 use Rattle.mstore.specs.declared.store.NodeStore.{Ghosts}
 use Rattle.mworld.specs.declared.world.World.{World}
 use Rattle.mworld.specs.View.{settings_of, server_of}
+use Rattle.mworld.specs.Isolated.{IsToldEach}
 use Rattle.mwire.specs.Wire.{events_of}
 use Rattle.mwire.specs.Only.{told_text, ServesOnly}
 use Rattle.mwire.specs.Watched.{inner_of}
@@ -53,13 +54,15 @@ pub record ToldAlone (document name : Text) (left left' held held' : Option Text
       IsTrue whole →
       replies ≡ told_to name known.settings (alone (reach known.settings name) known.settings (opening empty) (events_of (lines read)))
 
--- Over a store in a file, whose content no contract tells: the bytes written are replies in form.
+-- Over a store in a file, whose content no contract tells: the bytes written are replies to the account's events, one each and in their
+-- order.
 pub record ToldInForm (document name : Text) (left left' held held' : Option Text) : Type 0 where
   pub known : HasAccount document name
   pub read : Text
   pub consumed : Consumes left left' read
   pub at_end : IsAtEnd left'
   pub replies : List Told
+  pub each : IsToldEach name known.settings (events_of (lines read)) replies
   pub appended : Appends held held' (told_text replies)
 
 -- ---- and one that ended early

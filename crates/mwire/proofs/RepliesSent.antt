@@ -8,12 +8,13 @@ use Rattle.std.proofs.KnownBytes.{Appends-trans, Appends-nil}
 use Rattle.std.specs.Io.KnownBytes.{Appends, Consumes, IsAtEnd}
 use Rattle.std.specs.Str.Lines.{lines}
 use Rattle.mspec.specs.Act.{Text}
+use Rattle.mspec.specs.Access.{name_at}
 use Rattle.mmeaning.specs.Step.{Event}
 use Rattle.misolation.specs.Telling.{Told}
 use Rattle.mstore.specs.declared.store.NodeStore.{Ghosts}
 use Rattle.mworld.specs.declared.world.World.{World}
 use Rattle.mworld.specs.View.{settings_of, server_of, HasFittingLocks}
-use Rattle.mworld.specs.Isolated.{IsTold, IsToldApart, IsEquallyTold, RanFirst}
+use Rattle.mworld.specs.Isolated.{IsTold, IsToldApart, IsEquallyTold, IsToldEach, RanFirst}
 use Rattle.mworld.proofs.Tellings.{take_on}
 use Rattle.mwire.specs.Wire.{events_of, reply_text}
 use Rattle.mwire.specs.Only.{told_text, RanOnly, CutOff, OnlyBroke, ServesOnly}
@@ -111,9 +112,10 @@ module _ {S : Type 0} (g : Ghosts S) (old new : World S) (account : ℕ) (left l
 
 -- what was told of a slice's events, of a stream's
 pub ran_only : {S : Type 0} (g : Ghosts S) (old new : World S) (account : ℕ) (es es' : List Event) → es ≡ es' → (replies : List Told) (bytes : Text) (whole : Bool) → bytes ≡ told_text replies
+    → IsToldEach (name_at (settings_of old) account) (settings_of old) es replies
     → (g.sound → IsTold g old account es replies whole new)
     → (g.sound → HasFittingLocks g old → IsToldApart g old account es replies whole new)
     → (g.sound → HasFittingLocks g old → IsEquallyTold g old account es replies whole)
     → RanOnly g old account es' bytes whole new
-ran_only g old new account es es' same replies bytes whole text told apart alone =
-    subst (λ events. RanOnly g old account events bytes whole new) same (record { replies = replies; text = text; told = told; apart = apart; alone = alone })
+ran_only g old new account es es' same replies bytes whole text each told apart alone =
+    subst (λ events. RanOnly g old account events bytes whole new) same (record { replies = replies; text = text; each = each; told = told; apart = apart; alone = alone })

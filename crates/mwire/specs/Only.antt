@@ -4,12 +4,13 @@ use Rattle.std.specs.List.{flat_map}
 use Rattle.std.specs.Io.KnownBytes.{Appends, Consumes, IsAtEnd}
 use Rattle.std.specs.Str.Lines.{lines}
 use Rattle.mspec.specs.Act.{Text}
+use Rattle.mspec.specs.Access.{name_at}
 use Rattle.mmeaning.specs.Step.{Event}
 use Rattle.misolation.specs.Telling.{Told}
 use Rattle.mstore.specs.declared.store.NodeStore.{Ghosts}
 use Rattle.mworld.specs.declared.world.World.{World}
 use Rattle.mworld.specs.View.{settings_of, server_of, HasFittingLocks}
-use Rattle.mworld.specs.Isolated.{IsTold, IsToldApart, IsEquallyTold, RanFirst}
+use Rattle.mworld.specs.Isolated.{IsTold, IsToldApart, IsEquallyTold, IsToldEach, RanFirst}
 use Rattle.mwire.specs.Wire.{events_of, reply_text}
 use Rattle.mwire.specs.declared.fault.WireFault.{WireFault}
 use Rattle.mwire.specs.declared.fault.WireFault.TheVariants.{Read, Write, Memory}
@@ -18,11 +19,13 @@ use Rattle.mwire.specs.declared.fault.WireFault.TheVariants.{Read, Write, Memory
 abbrev pub told_text : List Told → Text
 told_text ts = flat_map (λ t. reply_text t.terminal t.reply) ts
 
--- The events were run, and the account was told these bytes, or a front of them: those of the replies at its terminals, as they are for
--- every closed set that has it, and, where they are whole, as the definitional interpreter gives them to the reaching accounts alone.
+-- The events were run, and the account was told these bytes, or a front of them: those of replies to its events, one each. Over a sound
+-- store they are as they are for every closed set that has it, and, where they are whole, as the definitional interpreter gives them to
+-- the reaching accounts alone.
 pub record RanOnly {S : Type 0} (g : Ghosts S) (old : World S) (account : ℕ) (events : List Event) (bytes : Text) (whole : Bool) (new : World S) : Type 0 where
   pub replies : List Told
   pub text : bytes ≡ told_text replies
+  pub each : IsToldEach (name_at (settings_of old) account) (settings_of old) events replies
   pub told : g.sound → IsTold g old account events replies whole new
   pub apart : g.sound → HasFittingLocks g old → IsToldApart g old account events replies whole new
   pub alone : g.sound → HasFittingLocks g old → IsEquallyTold g old account events replies whole

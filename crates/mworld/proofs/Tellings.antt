@@ -2,6 +2,7 @@
 use Rattle.std.proofs.Common.{◌≡◌, ℕ, ◌+◌, ◌<◌, Bool, true, false, cond, List, [], ◌∷◌, ◌++◌, Option, Some, None, map, take, length, get_or, refl, sym, ap, ◌∙◌, subst}
 use Rattle.std.specs.Prelude.{IsTrue, ◌↔◌, unwrap_or, option_map, Result, Ok, Err, IfErr}
 use Rattle.std.proofs.lemmas.List.{append-nil, map-append, take_more, take-map}
+use Rattle.std.proofs.lemmas.List.Elements.{filter-append}
 use Rattle.std.proofs.lemmas.Bool.{false_from_ne_true}
 use Rattle.std.specs.FinMap.{get}
 use Rattle.mspec.specs.Node.{Text}
@@ -21,7 +22,7 @@ use Rattle.misolation.proofs.PartsAlone.{histories_keep_fit}
 use Rattle.mstore.specs.declared.store.NodeStore.{Ghosts}
 use Rattle.mworld.specs.declared.world.World.{World}
 use Rattle.mworld.specs.View.{settings_of, server_of, HasFittingLocks}
-use Rattle.mworld.specs.Isolated.{IsUnseen, RanFirst}
+use Rattle.mworld.specs.Isolated.{IsToldEach, IsUnseen, RanFirst}
 use Rattle.mworld.proofs.Checks.{found}
 
 -- the part of one line, by whether its terminal is inside
@@ -39,6 +40,17 @@ none_by settings a sender e reply false is = (
   λ unseen. tt,
   λ none failed chain. let no : true ≡ false = sym ((reach_is_chains settings a sender).1 chain) ∙ is in absurd (cc),
 )
+
+-- the sender of a line, by its place among the accounts
+module _ (settings : Settings) (e : Event) (place : ℕ) (same : account_at settings place ≡ account_of settings e.terminal) (within : place < length settings.accounts) where
+  there : (account : Account) × (get settings.terminals e.terminal ≡ Some account)
+  there = found settings e.terminal place same within
+
+  named : there.0.name ≡ name_at settings place
+  named = sym (ap (λ o. unwrap_or (option_map (λ (x : Account). x.name) o) []) (same ∙ there.1))
+
+  inside : (s : Accounts) → is_inside s settings e.terminal ≡ s (name_at settings place)
+  inside s = ap (is_member s) there.1 ∙ ap s named
 
 module _ (a : Text) (settings : Settings) (server between after : Server) (events : List Event) (told : List Told) (whole : Bool) (h : Tells a settings server events told whole between) (e : Event) (reply : Reply)
     (step : Step settings e reply between after) where
@@ -59,18 +71,9 @@ module _ (a : Text) (settings : Settings) (server between after : Server) (event
     abbrev sender : Text
     sender = name_at settings place
 
-    there : (account : Account) × (get settings.terminals e.terminal ≡ Some account)
-    there = found settings e.terminal place same within
-
-    named : there.0.name ≡ sender
-    named = sym (ap (λ o. unwrap_or (option_map (λ (x : Account). x.name) o) []) (same ∙ there.1))
-
-    inside : (s : Accounts) → is_inside s settings e.terminal ≡ s sender
-    inside s = ap (is_member s) there.1 ∙ ap s named
-
     unseen : IsUnseen settings sender a reply ↔ NoneFailed (part (reach settings a) settings ((e, reply) ∷ []))
     unseen =
-        let one = part_of_one (reach settings a) settings e reply (reach settings a sender) (inside (reach settings a)) in
+        let one = part_of_one (reach settings a) settings e reply (reach settings a sender) (inside settings e place same within (reach settings a)) in
         subst (λ es. IsUnseen settings sender a reply ↔ NoneFailed es) (sym one) (none_by settings a sender e reply (reach settings a sender) refl)
 
     still : IsTrue more ↔ (IsTrue whole × NoneFailed (part (reach settings a) settings ((e, reply) ∷ [])))
@@ -80,11 +83,40 @@ module _ (a : Text) (settings : Settings) (server between after : Server) (event
     pub other_told : text_eq a sender ≡ false → Tells a settings server (events ++ e ∷ []) told more after
     other_told apart =
         subst (λ ts. Tells a settings server (events ++ e ∷ []) ts more after) (append-nil told)
-        (told_more false (inside (only a) ∙ apart) more still)
+        (told_more false (inside settings e place same within (only a) ∙ apart) more still)
 
     -- at its own
     pub own_told : text_eq a sender ≡ true → Tells a settings server (events ++ e ∷ []) (told ++ told_by (e, reply) ∷ []) more after
-    own_told own = told_more true (inside (only a) ∙ own) more still
+    own_told own = told_more true (inside settings e place same within (only a) ∙ own) more still
+
+-- ---- the same, whatever the store does
+
+module _ (a : Text) (settings : Settings) (events : List Event) (told : List Told) (h : IsToldEach a settings events told) (e : Event) (reply : Reply) where
+  each_more : (b : Bool) → is_inside (only a) settings e.terminal ≡ b → IsToldEach a settings (events ++ e ∷ []) (told ++ map told_by (cond b ((e, reply) ∷ []) []))
+  each_more b is = record {
+    lines = h.lines ++ last;
+    sent = map-append (λ (x : Event × Reply). x.0) h.lines last ∙ ap (λ es. es ++ e ∷ []) h.sent;
+    replies =
+        ap (map told_by) (filter-append (λ (x : Event × Reply). is_inside (only a) settings x.0.terminal) h.lines last)
+        ∙ map-append told_by (part (only a) settings h.lines) (part (only a) settings last)
+        ∙ ap (λ ts. ts ++ told_to a settings last) h.replies
+        ∙ ap (λ es. told ++ map told_by es) (part_of_one (only a) settings e reply b is);
+  }
+    where
+      last : List (Event × Reply)
+      last = (e, reply) ∷ []
+
+  pub nobody_each : get settings.terminals e.terminal ≡ None → IsToldEach a settings (events ++ e ∷ []) told
+  nobody_each none = subst (IsToldEach a settings (events ++ e ∷ [])) (append-nil told) (each_more false (ap (is_member (only a)) none))
+
+  module _ (place : ℕ) (same : account_at settings place ≡ account_of settings e.terminal) (within : place < length settings.accounts) where
+    pub other_each : text_eq a (name_at settings place) ≡ false → IsToldEach a settings (events ++ e ∷ []) told
+    other_each apart =
+        subst (IsToldEach a settings (events ++ e ∷ [])) (append-nil told)
+        (each_more false (inside settings e place same within (only a) ∙ apart))
+
+    pub own_each : text_eq a (name_at settings place) ≡ true → IsToldEach a settings (events ++ e ∷ []) (told ++ told_by (e, reply) ∷ [])
+    own_each own = each_more true (inside settings e place same within (only a) ∙ own)
 
 -- ---- runs of the first of some events
 

@@ -48,6 +48,12 @@ IsEquallyTold g old account events told whole =
     told_to (name_at (settings_of old) account) (settings_of old)
     (alone (reach (settings_of old) (name_at (settings_of old) account)) (settings_of old) (server_of g old) events)
 
+-- Whatever the store does, they are replies to the account's events, one each and in their order.
+pub record IsToldEach (a : Text) (settings : Settings) (events : List step.Event) (told : List telling.Told) : Type 0 where
+  pub lines : List (step.Event × step.Reply)
+  pub sent : events_of lines ≡ events
+  pub replies : told_to a settings lines ≡ told
+
 -- some first events were run, one step each
 pub record RanFirst (settings : Settings) (server : Server) (events : List step.Event) (after : Server) : Type 0 where
   pub count : ℕ

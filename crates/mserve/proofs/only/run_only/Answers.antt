@@ -36,7 +36,8 @@ returns-in-Ok-file_world g c =
     let has = has_account _ c.args.name.now c.in-Ok.settings c.in-Some.account c.in-Ok.ensures.ok c.in-Some.ensures.account c.in-Some.ensures.known in
     rw c.in-File.is
     (over_file _ g.I.Read.remaining g.O.Write.contents c.args.document.now c.args.name.now _ _ _ _ has c.in-Ok-file_world.world c.only_in-outcome.new.world
-    c.in-Ok-file_world.ensures.settings c.in-Ok-file_world.ensures.server.0 c.in-Ok-file_world.ensures.server.1 c.in-Some.account c.in-File.path
+    c.in-Ok-file_world.ensures.settings c.in-Ok-file_world.ensures.server.0 c.in-Ok-file_world.ensures.server.1 c.in-Some.account
+    (its_name c.in-Ok.settings c.args.name.now c.in-Some.account c.in-Some.ensures.account c.in-Some.ensures.known) c.in-File.path
     c.only_in-outcome.result c.only_in-outcome.ensures)
 
 pub returns-in-Err-file_world : goal.returns-in-Err-file_world

@@ -15,12 +15,19 @@ returns-in_err-tell-clause-first g c = λ sound.
 pub loop-event-preserved : goal.loop-event-preserved
 loop-event-preserved g c =
     let more = rw c.loop-event.invariant.settings at c.in_ok-tell.ensures.told in
+    let each = rw c.loop-event.invariant.settings at c.in_ok-tell.ensures.each in
     record {
       settings = c.tell.ensures.settings ∙ c.loop-event.invariant.settings;
       told = λ sound.
           rw (take_on event_of c.args.events.now c.loop-event.event-index c.event-item.result c.loop-event-test.true c.event-item.is)
           (more sound _ _ (c.loop-event.invariant.told sound));
+      each =
+          rw (take_on event_of c.args.events.now c.loop-event.event-index c.event-item.result c.loop-event-test.true c.event-item.is)
+          (each _ c.loop-event.invariant.each);
     }
+
+pub returns-clause-each : goal.returns-clause-each
+returns-clause-each g c = rw (take_all c.loop-event.event-index c.args.events.now c.loop-event-test.false) at c.loop-event.invariant.each
 
 pub returns-clause-apart : goal.returns-clause-apart
 returns-clause-apart g c = λ sound fit s closed member.

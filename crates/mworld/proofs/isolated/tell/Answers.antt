@@ -5,7 +5,7 @@ use Rattle.mmeaning.specs.Step.{Event, Step}
 use Rattle.misolation.specs.Telling.{Tells}
 use Rattle.mworld.specs.View.{settings_of, server_of, reply_of, event_of}
 use Rattle.mworld.specs.Isolated.{told_of}
-use Rattle.mworld.proofs.Tellings.{nobody_told, other_told, own_told}
+use Rattle.mworld.proofs.Tellings.{nobody_told, other_told, own_told, nobody_each, other_each, own_each}
 use Rattle.mworld.proofs.isolated.tell.Goals as goal
 
 pub returns-in_default-clause-told : goal.returns-in_default-clause-told
@@ -40,3 +40,25 @@ returns-clause-told g c = λ sound server events h.
     let own = rw (c.settings-3.ensures ∙ c.line-reply.ensures.settings) at c.is_same.ensures in
     rw (ap (map told_of) c.in_ok-push.ensures.items ∙ map-append told_of c.args.isolated.now.replies.items (record { terminal = c.args.event.now.terminal; reply = c.line-reply.result } ∷ []))
     (own_told _ _ server _ _ events _ _ h (event_of c.args.event.now) (reply_of c.line-reply.result) step c.in-Some.sender at within c.in_ok-isolated.field-0 whole (sym own ∙ c.if-not-is_same.false))
+
+pub returns-in_default-clause-each : goal.returns-in_default-clause-each
+returns-in_default-clause-each g c = λ events h.
+    let none = rw (c.settings.ensures ∙ c.line-reply.ensures.settings) at c.in_default.ensures.account in
+    nobody_each _ _ events _ h (event_of c.args.event.now) (reply_of c.line-reply.result) (sym none)
+
+pub returns-then-not-is_same-clause-each : goal.returns-then-not-is_same-clause-each
+returns-then-not-is_same-clause-each g c = λ events h.
+    let same = c.settings.ensures ∙ c.line-reply.ensures.settings in
+    let at = rw same at c.in-Some.ensures.account in
+    let within = rw same at c.in-Some.ensures.known in
+    let apart = rw (c.settings-3.ensures ∙ c.line-reply.ensures.settings) at c.is_same.ensures in
+    other_each _ _ events _ h (event_of c.args.event.now) (reply_of c.line-reply.result) c.in-Some.sender at within (sym apart ∙ c.if-not-is_same.true)
+
+pub returns-clause-each : goal.returns-clause-each
+returns-clause-each g c = λ events h.
+    let same = c.settings.ensures ∙ c.line-reply.ensures.settings in
+    let at = rw same at c.in-Some.ensures.account in
+    let within = rw same at c.in-Some.ensures.known in
+    let own = rw (c.settings-3.ensures ∙ c.line-reply.ensures.settings) at c.is_same.ensures in
+    rw (ap (map told_of) c.in_ok-push.ensures.items ∙ map-append told_of c.args.isolated.now.replies.items (record { terminal = c.args.event.now.terminal; reply = c.line-reply.result } ∷ []))
+    (own_each _ _ events _ h (event_of c.args.event.now) (reply_of c.line-reply.result) c.in-Some.sender at within (sym own ∙ c.if-not-is_same.false))

@@ -19,5 +19,5 @@ mod printing;
 
 pub use block::{Block, blocks_of};
 pub use database::remove;
-pub use escapes::{bytes_of, bytes_of_hex, push_hex};
+pub use escapes::bytes_of;
 pub use printing::{print, print_case, print_others, print_result, print_results};

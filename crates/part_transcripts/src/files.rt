@@ -3,7 +3,7 @@ use crate::stores::{node, put};
 use crate::words::{text_of, words_of};
 use anyhow::Context;
 use mstore::{NodeStore, Table};
-use mtranscript::{bytes_of_hex, print_case, print_result, remove};
+use mtranscript::{print_case, print_result, remove};
 use sqlite::params;
 use std::fs;
 use std::rt::HostRuntime;
@@ -38,8 +38,8 @@ fn call(rt: &HostRuntime, case: &str, out: &mut Vec<u8>) -> anyhow::Result<()> {
 
 // Writes a row of any bytes into the table, and closes it.
 fn write_row(rt: &HostRuntime, key: &str, value: &str) -> anyhow::Result<()> {
-    let key = bytes_of_hex(rt.alloc(), key)?;
-    let value = bytes_of_hex(rt.alloc(), value)?;
+    let key = hex::decode(rt.alloc(), key)?;
+    let value = hex::decode(rt.alloc(), value)?;
     let mut conn = Table::open_file(rt, FILE)?.into_connection();
     conn.execute(
         "INSERT INTO node (k, v) VALUES (?1, ?2)",

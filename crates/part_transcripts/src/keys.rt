@@ -3,7 +3,7 @@ use crate::words::{key_of, text_of, texts_of, words_of};
 use anyhow::Context;
 use mkey::{KeyFault, NodeKey, collate, is_account_name, is_name, push_local, read, subs_ok};
 use mnum::Bytes7;
-use mtranscript::{bytes_of_hex, print_case, print_result, push_hex};
+use mtranscript::{print_case, print_result};
 use std::alloc::Global;
 use std::cmp::Ordering;
 
@@ -27,7 +27,7 @@ fn given(alloc: Global, words: &[&str]) -> anyhow::Result<Vec<u8>> {
         ["name", word] => names(alloc, word),
         ["local", name, subs @ ..] => local(alloc, name, subs),
         ["order", subs @ ..] => order(alloc, subs),
-        ["changed", digits] => changed(alloc, &bytes_of_hex(alloc, digits)?),
+        ["changed", digits] => changed(alloc, &hex::decode(alloc, *digits)?),
         _ => anyhow::bail!("no call on keys"),
     }
 }
@@ -57,8 +57,6 @@ fn is_read(alloc: Global, bytes: &[u8]) -> anyhow::Result<bool> {
 // The bytes of a key, which is read back as its node, and equal to its copy.
 fn key(alloc: Global, account: &str, name: &str, subs: &[&str]) -> anyhow::Result<Vec<u8>> {
     let made = built(alloc, account, name, subs)?;
-    let mut out = Vec::new(alloc);
-    push_hex(&mut out, made.as_bytes())?;
     let (read_account, read_name, read_subs) = read(alloc, made.as_bytes())?.context(
         "a key that is not read",
     )?;
@@ -70,20 +68,23 @@ fn key(alloc: Global, account: &str, name: &str, subs: &[&str]) -> anyhow::Resul
         "other subscripts"
     );
     anyhow::ensure!(made.copy()? == made, "another copy");
-    Ok(out)
+    digits_of(alloc, made.as_bytes())
 }
 
 // The end of a subtree, and the bounds of what is below.
 fn bounds(alloc: Global, account: &str, name: &str, subs: &[&str]) -> anyhow::Result<Vec<u8>> {
     let made = built(alloc, account, name, subs)?;
     let (low, high) = made.child_bounds(alloc)?;
-    let mut out = Vec::new(alloc);
-    push_hex(&mut out, &made.after_subtree(alloc)?)?;
+    let mut out = digits_of(alloc, &made.after_subtree(alloc)?)?;
     out.push(b' ')?;
-    push_hex(&mut out, &low)?;
+    out.extend_from_slice(&digits_of(alloc, &low)?)?;
     out.push(b' ')?;
-    push_hex(&mut out, &high)?;
+    out.extend_from_slice(&digits_of(alloc, &high)?)?;
     Ok(out)
+}
+
+fn digits_of(alloc: Global, bytes: &[u8]) -> anyhow::Result<Vec<u8>> {
+    Ok(hex::encode(alloc, bytes)?.as_bytes().to_vec(alloc)?)
 }
 
 // Whether subscripts are taken, as by the test so for a key.
@@ -120,9 +121,7 @@ fn local(alloc: Global, name: &str, subs: &[&str]) -> anyhow::Result<Vec<u8>> {
     }
     let mut bytes = Vec::new(alloc);
     push_local(&mut bytes, &name, &subs)?;
-    let mut out = Vec::new(alloc);
-    push_hex(&mut out, &bytes)?;
-    Ok(out)
+    digits_of(alloc, &bytes)
 }
 
 // How many pairs of texts, taken from a list, do not compare as their places.

@@ -34,8 +34,12 @@ def serve_words(port, connections, store="memory", settings=ONE_ACCOUNT):
 
 
 def free_port():
-    with socket.create_server(("127.0.0.1", 0)) as listener:
-        return listener.getsockname()[1]
+    """A port that nobody listens at. The socket that finds it never listens: a process that another thread starts just then has it open too, until
+    it runs its program, and a server could not take the port meanwhile, nor would a client be refused there."""
+    with socket.socket() as place:
+        place.setsockopt(socket.SOL_SOCKET, socket.SO_REUSEADDR, 1)
+        place.bind(("127.0.0.1", 0))
+        return place.getsockname()[1]
 
 
 def connected(port):

@@ -224,6 +224,8 @@ def play(test):
 
 def main():
     require_program()
+    # a shell that runs this script in the background has interrupts ignored, and the servers would ignore them too
+    signal.signal(signal.SIGINT, signal.default_int_handler)
     # it waits for more than a minute, so the others run beside it
     patient = threading.Thread(target=play, args=(a_peer_that_stays,))
     patient.start()

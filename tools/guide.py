@@ -20,6 +20,9 @@ FRONT = os.path.join(TOP, "README.md")
 SETTINGS = os.path.join(TOP, "examples", "laboratory", "settings.toml")
 FENCE = re.compile(r"^```(\w*) ?([\w.]*)\n(.*?)^```$", re.MULTILINE | re.DOTALL)
 MARK = "@@ the end of a command @@"
+# What the page waits a second for, and a busy machine may need longer for: that somebody listens at the port.
+PAUSE = "sleep 1"
+LISTENS = "until grep -q ':{:04X} 00000000:0000 0A' /proc/net/tcp; do sleep 0.05; done"
 SECONDS = 60
 
 
@@ -65,9 +68,10 @@ def prepared(folder: str, port: int) -> list[Command]:
     return found
 
 
-def printed_by(commands: list[Command], folder: str) -> list[list[str]]:
+def printed_by(commands: list[Command], folder: str, port: int) -> list[list[str]]:
     """What each command prints, in one shell."""
-    script = "".join(f"{command.text}\necho '{MARK}'\n" for command in commands)
+    waiting = LISTENS.format(port)
+    script = "".join(f"{waiting if command.text == PAUSE else command.text}\necho '{MARK}'\n" for command in commands)
     path = os.path.join(folder, ".commands")
     with open(path, "w", encoding="utf-8") as file:
         file.write(script)
@@ -79,10 +83,11 @@ def printed_by(commands: list[Command], folder: str) -> list[list[str]]:
 def guide_faults() -> list[str]:
     """The commands of the guide that print something else."""
     with tempfile.TemporaryDirectory() as folder:
-        commands = prepared(folder, free_port())
+        port = free_port()
+        commands = prepared(folder, port)
         if len(commands) < 10:
             return [f"{PAGE} has {len(commands)} commands"]
-        printed = printed_by(commands, folder)
+        printed = printed_by(commands, folder, port)
     found = []
     for command, lines in zip(commands, [*printed, *[[]] * len(commands)]):
         if lines != command.printed:

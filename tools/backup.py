@@ -1,9 +1,8 @@
 #!/usr/bin/env python3
-"""Tries the backup that docs/OPERATING.md describes: a copy of a store's file and of the log beside it, taken with the server stopped and with no
-line under way, is the store as it was; SQLite's own backup cannot run beside the server. Status 1 where it is otherwise."""
+"""Tries the backup that docs/OPERATING.md describes: a copy of a store's file and of the log beside it, taken while no line is under way, is the store
+as it was; so is the file alone once the program has ended by itself; SQLite cannot read it beside the server. Status 1 where it is otherwise."""
 import os
 import shutil
-import signal
 import socket
 import sqlite3
 import subprocess
@@ -12,7 +11,7 @@ import tempfile
 
 from running import connected, free_port, require_program, run, serve_words
 
-NODES = 500
+NODES = 100
 SETS = b"".join(b'1 S ^B(%d)="%d:"_$J(%d,100)\n' % (number, number, number) for number in range(1, NODES + 1))
 COUNT = b'1 S N=0,X="" F  S X=$O(^B(X)) Q:X=""  S:^B(X)=(X_":"_$J(X,100)) N=N+1\n1 W N,",",$D(^LATER)\n'
 STEPS = '[[account]]\nname = "ALICE"\nterminals = [1]\nsteps = 1000000\n'
@@ -47,36 +46,39 @@ def answered(client: socket.socket, stream: bytes, replies: int) -> None:
     wants("the replies", [file.readline() for _ in range(replies)], [b"1.\n"] * replies)
 
 
-def wants_locked(store: str, folder: str) -> None:
-    """SQLite's own backup must not get at the file."""
-    with sqlite3.connect(store, timeout=0.2) as source, sqlite3.connect(os.path.join(folder, "other")) as target:
-        try:
-            source.backup(target)
-            wants("SQLite's backup beside the server", "done", "locked")
-        except sqlite3.OperationalError:
-            pass
+def wants_locked(store: str) -> None:
+    """SQLite must not get at the file, so that its own backup cannot either."""
+    database = sqlite3.connect(store, timeout=0.2)
+    try:
+        database.execute("SELECT count(*) FROM node").fetchall()
+        wants("a read by SQLite beside the server", "done", "locked")
+    except sqlite3.OperationalError:
+        pass
+    finally:
+        database.close()
 
 
 def beside_a_server(settings: str, store: str, folder: str) -> None:
     """A copy is taken while the server runs and no line is under way; then it goes on, and is killed."""
     port = free_port()
-    with subprocess.Popen(serve_words(port, 1, store, settings), stdin=subprocess.DEVNULL) as process:
-        with connected(port) as client:
+    with subprocess.Popen(serve_words(port, 1, store, settings), stdin=subprocess.DEVNULL) as process, connected(port) as client:
+        try:
             answered(client, SETS, NODES)
             copy = copied(store, os.path.join(folder, "running"))
-            wants_locked(store, folder)
+            wants_locked(store)
             answered(client, b"1 S ^LATER=1\n", 1)
-            process.send_signal(signal.SIGKILL)
+        finally:
+            process.kill()
     wants_whole("a copy beside the server", settings, copy, 0)
     wants_whole("the store of the server that was killed", settings, store, 1)
 
 
 def with_the_server_stopped(settings: str, store: str, folder: str) -> None:
-    """The server has ended by itself: the file is all there is, and SQLite finds it good."""
-    wants("the log of a server that has ended", os.path.exists(store + "-wal"), False)
-    copy = copied(store, os.path.join(folder, "stopped"))
-    with sqlite3.connect(copy) as database:
-        wants("SQLite's check", database.execute("PRAGMA integrity_check").fetchall(), [("ok",)])
+    """The program has ended by itself: its file alone is the store, and SQLite finds it good."""
+    copy = os.path.join(folder, "alone")
+    shutil.copyfile(store, copy)
+    database = sqlite3.connect(copy)
+    wants("SQLite's check", database.execute("PRAGMA integrity_check").fetchall(), [("ok",)])
     database.close()
     wants_whole("a copy with the server stopped", settings, copy, 1)
 

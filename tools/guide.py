@@ -54,8 +54,9 @@ def commands_of(text: str) -> list[Command]:
 
 def prepared(folder: str, port: int) -> list[Command]:
     """The folder with what a clone has and the files that the page names; the commands of the page."""
-    for name in ("examples", "tools"):
-        shutil.copytree(os.path.join(TOP, name), os.path.join(folder, name))
+    for name in ("examples", "tools", "clients"):
+        if os.path.isdir(os.path.join(TOP, name)):
+            shutil.copytree(os.path.join(TOP, name), os.path.join(folder, name))
     os.symlink(os.path.realpath(PROGRAM), os.path.join(folder, "mserve"))
     found: list[Command] = []
     for kind, name, text in blocks(PAGE):

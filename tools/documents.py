@@ -148,8 +148,22 @@ def check_names(page: Page, files: dict[str, list[str]], words: set[str]) -> Non
                     fault(page, number, f"no name `{span}`")
 
 
+def check_section(page: Page, number: int, told: str, head: str) -> None:
+    """`PAGE, SECTION` is a heading of docs/PAGE.md, `SECTION` one of docs/LANGUAGE.md, and in a table with another head `PAGE` a page."""
+    name, _, section = told.rpartition(", ")
+    if not name:
+        name, section = ("LANGUAGE", section) if head == "In LANGUAGE" else (section, "")
+    path = f"docs/{name}.md"
+    lines = read(path).split("\n") if os.path.exists(os.path.join(TOP, path)) else []
+    if not any(line.startswith("#") and line.lstrip("# ").startswith(section) for line in lines):
+        fault(page, number, f"no section '{section}' of {path}")
+
+
 def check_rules(page: Page) -> None:
-    """Of `file`: `name`, `name` each name stands in the file."""
+    """Each section is there, and of `file`: `name`, `name` each name stands in the file."""
+    for head, rows in tables(page):
+        for number, cells in rows if head[0] == "Rule" else []:
+            check_section(page, number, cells[1], head[1])
     for number, line in page.plain():
         for path, names in re.findall(r"`([\w/]+\.(?:rt|antt))`: ((?:`\w+`(?:, )?)+)", line):
             place = os.path.join("crates", path)

@@ -327,6 +327,20 @@ def check_manual() -> None:
             faults.append(f"docs/mserve.1: without '{text}', which --help has")
 
 
+def check_versions(found: list[Page]) -> None:
+    """The pages name one kit, that of the release if there is one, and the version of the file VERSION if there is one."""
+    kit = re.compile(r"rattle-kit-\S+ logic \w+")
+    record = read("release/record") if os.path.exists(os.path.join(TOP, "release", "record")) else ""
+    kits = {name for page in found for name in kit.findall("\n".join(page.lines))} | set(kit.findall(record))
+    if len(kits) != 1:
+        faults.append(f"the pages and the release name {len(kits)} kits: {sorted(kits)}")
+    if os.path.exists(os.path.join(TOP, "VERSION")):
+        version = read("VERSION").strip()
+        for path in ("README.md", "CHANGELOG.md", "docs/mserve.1"):
+            if version not in read(path):
+                faults.append(f"{path}: without version {version}")
+
+
 def main() -> int:
     """Checks all pages, and prints the faults."""
     files = tree()
@@ -346,6 +360,7 @@ def main() -> int:
             check_phrases(page)
     check_crates({page.path: page for page in found})
     check_manual()
+    check_versions(found)
     for text in faults:
         print(f"documents: {text}")
     print(f"documents: {len(found)} pages, {len(faults)} faults")

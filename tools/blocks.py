@@ -1,4 +1,4 @@
-"""The blocks of transcripts/, as scripts play them: README.md says what a block and a case are."""
+"""The blocks of transcripts/, as scripts play them: docs/TESTING.md says what a block and a case are."""
 import os
 import re
 from dataclasses import dataclass

@@ -18,6 +18,10 @@ MOST_EDITS = 140
 # Exported functions without a row, each with the reason.
 EXCEPTIONS = {
     "mkey::keys_are_read": "a law: its contract says all, its body is empty, and no edit can turn it",
+    "mwire::events_have_stream": "the same",
+    "mwire::lines_have_answers": "the same",
+    "mwire::normal_answers_are_served": "the same",
+    "mwire::normal_streams_are_served": "the same",
     "mglobal::Kept::get": "hands on to the store, with the store's contract",
     "mglobal::Kept::next": "the same",
     "mglobal::Kept::prev": "the same",

@@ -2,8 +2,10 @@
 """Runs the gate, `rt ci`, hands its output on, and tells before its last line where the processor time went: a table by crate,
 in seconds, of its proof, of proving its tests, and of trying its must-fail edits (with their count).
 
-    tools/gate_times.py          runs the gate
-    tools/gate_times.py --write  puts the table of the run into docs/PERFORMANCE.md too
+    tools/gate_times.py               runs the gate
+    tools/gate_times.py --anew        has the gate prove and try all, also what it passed earlier on this machine
+    tools/gate_times.py --write       puts the table of the run into docs/PERFORMANCE.md too
+    tools/gate_times.py --change REV  runs nothing: what changed in that page's table since the revision, as `origin/main`
 
 The times are read off the processes below the gate five times a second, so of each process up to a fifth of a second is missed."""
 import os
@@ -98,17 +100,46 @@ def table(watch, seconds):
         cells = [f"{parts['proof']:.0f}", f"{parts['tests']:.0f}" if parts["tests"] else "", f"{parts['edits']:.0f} ({count})" if count else ""]
         lines.append(f"| `{crate}` | " + " | ".join(cells) + " |")
     sums = [sum(parts[part] for parts in spent.values()) for part in PARTS]
-    lines.append("| together | " + " | ".join(f"{it:.0f}" for it in sums) + " |")
+    edits = sum(len(os.listdir(folder)) for crate in spent for folder in [os.path.join(TOP, "crates", crate, "must-fail")] if os.path.isdir(folder))
+    lines.append("| together | " + " | ".join(f"{it:.0f}" for it in sums) + f" ({edits}) |")
     minutes = (sum(sums) + other) / 60
     lines.append("")
     lines.append(f"{seconds / 60:.0f} minutes by the clock on {os.cpu_count()} processors, {minutes:.0f} processor minutes, {other / 60:.0f} of them compiling and running.")
     return "\n".join(lines) + "\n"
 
 
-def write_page(text):
+BEGIN, END = "<!-- gate_times.py -->\n", "<!-- end -->\n"
+ROW = re.compile(r"^\| `?(\w+)`? \| (\d*) \| (\d*) \| (\d*)(?: \((\d+)\))? \|$", re.MULTILINE)
+
+
+def page_now():
     with open(PAGE, encoding="utf-8") as file:
-        page = file.read()
-    begin, end = "<!-- gate_times.py -->\n", "<!-- end -->\n"
+        return file.read()
+
+
+def seconds_in(page):
+    """Of each crate in the page's table, and of all together, the seconds of its proof, its tests and its edits, and how many edits there are."""
+    rows = page.partition(BEGIN)[2].partition(END)[0]
+    return {found[1]: [int(it or 0) for it in found.groups()[1:]] for found in ROW.finditer(rows)}
+
+
+def print_change(revision):
+    """Prints what changed in the table since a revision, in processor seconds, the largest change first."""
+    path = os.path.relpath(PAGE, TOP)
+    shown = subprocess.run(["git", "show", f"{revision}:{path}"], cwd=TOP, capture_output=True, text=True)
+    if shown.returncode:
+        sys.exit(f"gate_times: {shown.stderr.strip()}")
+    before, now = seconds_in(shown.stdout), seconds_in(page_now())
+    rows = [(name, *[it.get(name, [0] * 4) for it in (before, now)]) for name in {*before, *now}]
+    print("| Crate | seconds before | now | change | edits before | now |\n|---|---|---|---|---|---|")
+    for name, old, new in sorted(rows, key=lambda row: (row[0] == "together", -abs(sum(row[2][:3]) - sum(row[1][:3])))):
+        told = [sum(it[:3]) for it in (old, new)]
+        if old != new:
+            print(f"| {name} | {told[0]} | {told[1]} | {told[1] - told[0]:+} | {old[3]} | {new[3]} |")
+
+
+def write_page(text):
+    page, begin, end = page_now(), BEGIN, END
     made = re.sub(re.escape(begin) + ".*?" + re.escape(end), lambda _: begin + text + end, page, flags=re.S)
     if begin not in page:
         sys.exit("gate_times: docs/PERFORMANCE.md has no place for the table")
@@ -117,8 +148,12 @@ def write_page(text):
 
 
 def main():
+    if "--change" in sys.argv[1:-1]:
+        print_change(sys.argv[sys.argv.index("--change") + 1])
+        return 0
     start = time.monotonic()
-    with subprocess.Popen(["rt", "ci"], cwd=TOP, stdout=subprocess.PIPE, stderr=subprocess.STDOUT, text=True, errors="replace") as gate:
+    words = ["rt", "ci", *(["--anew"] if "--anew" in sys.argv else [])]
+    with subprocess.Popen(words, cwd=TOP, stdout=subprocess.PIPE, stderr=subprocess.STDOUT, text=True, errors="replace") as gate:
         watch = Watch(gate.pid)
         watch.start()
         last = ""

@@ -3,16 +3,7 @@
 //! `mserve run` answers the lines of its standard input on its standard output, `mserve serve` those of connections at a port of 127.0.0.1.
 #![tactic(auto)]
 
-mod document;
-mod fault;
-mod jobs;
-mod only;
-mod program;
-mod run;
-mod serving;
-mod worlds;
-
-use crate::program::{no_words, program};
+use mhost::program::{no_words, program};
 use mwire::Watched;
 use std::process::ExitCode;
 use std::{env, io};

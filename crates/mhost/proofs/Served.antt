@@ -1,0 +1,47 @@
+-- From what `serve` says of a world to what a run says of its store.
+use Rattle.std.proofs.Common.{◌≡◌, Option, Result, Ok, Err, ap, ◌∙◌}
+use Rattle.std.specs.FinMap.{empty}
+use Rattle.mspec.specs.Act.{Text}
+use Rattle.mspec.specs.Globals.{Globals}
+use Rattle.mmeaning.specs.Step.{Settings, Server}
+use Rattle.mmeaning.specs.History.{opening}
+use Rattle.mgrant.specs.Reading.{IsRead}
+use Rattle.mstore.specs.declared.store.NodeStore.{Ghosts}
+use Rattle.mwire.specs.Serves.{Serves}
+use Rattle.mwire.specs.declared.fault.WireFault.{WireFault}
+use Rattle.mhost.specs.Runs.{Answered, Broken, Followed, ServedOver}
+
+module _ {S V : Type 0} (g : Ghosts S) {settings settings' : Settings} {server : Server} {globals : Globals} {content : V → Globals} {document : Text} {left left' held held' : Option Text}
+    (reads : IsRead document settings) (same : settings' ≡ settings) (begins : server ≡ opening globals) where
+  -- a stream that was answered to its end, over a store that tells its content
+  pub answered : {v : V} → globals ≡ empty → g.sound → ServedOver g settings' server content left left' held held' (Ok v) → Answered document left left' held held' (content v)
+  answered none sound s = record {
+    settings = settings;
+    of_document = reads;
+    read = s.serves.read;
+    consumed = s.serves.consumed;
+    at_end = s.serves.outcome.0;
+    trace = s.serves.outcome.1.trace;
+    events = s.serves.outcome.1.events;
+    after = s.after;
+    history = let h = s.serves.outcome.1.history sound in let i = rw same at h in rw (begins ∙ ap opening none) at i;
+    appended = let a = s.serves.appended in rw s.serves.outcome.1.text at a;
+    last = s.last;
+  }
+
+  -- one over any store
+  pub followed : {v : V} → ServedOver g settings' server content left left' held held' (Ok v) → Followed document left left' held held'
+  followed s = record {
+    settings = settings;
+    of_document = reads;
+    read = s.serves.read;
+    consumed = s.serves.consumed;
+    at_end = s.serves.outcome.0;
+    trace = s.serves.outcome.1.trace;
+    events = s.serves.outcome.1.events;
+    appended = let a = s.serves.appended in rw s.serves.outcome.1.text at a;
+  }
+
+  -- one that a fault broke off
+  pub broken : {fault : WireFault} → ServedOver g settings' server content left left' held held' (Err fault) → Broken g document globals left left' held held' fault
+  broken s = record { settings = settings; of_document = reads; after = s.after; serves = let t = s.serves in let u = rw same at t in rw begins at u }

@@ -1,0 +1,16 @@
+use Rattle.mhost.proofs.run.serve_over.Goals as goal
+use Rattle.mworld.specs.View.{server_of}
+
+pub returns-in-Ok-clause-served : goal.returns-in-Ok-clause-served
+returns-in-Ok-clause-served g c = record {
+  after = server_of g.S.NodeStore c.serve.new.world;
+  serves = c.in-Ok.ensures.serves;
+  last = c.into_store.ensures;
+}
+
+pub returns-in-Err-clause-served : goal.returns-in-Err-clause-served
+returns-in-Err-clause-served g c = record {
+  after = server_of g.S.NodeStore c.serve.new.world;
+  serves = c.in-Err.ensures.serves;
+  last = tt;
+}

@@ -1,0 +1,14 @@
+use Rattle.std.proofs.Common.{ap, ◌∙◌}
+use Rattle.mmeaning.specs.History.{opening}
+use Rattle.sqlite.specs.Steps.{over_memory}
+use Rattle.mstore.specs.Database.{stored}
+use Rattle.mhost.proofs.worlds.memory_world.Goals as goal
+
+pub returns-in-Ok-new-clause-server : goal.returns-in-Ok-new-clause-server
+returns-in-Ok-new-clause-server c = c.in-Ok-new.ensures.server ∙ ap opening (ap (stored over_memory) c.new.ensures ∙ c.in-Ok.ensures.empty)
+
+pub returns-in-Ok-new-clause-sound : goal.returns-in-Ok-new-clause-sound
+returns-in-Ok-new-clause-sound c = c.in-Ok.ensures.sound
+
+pub returns-in-Err-clause-early : goal.returns-in-Err-clause-early
+returns-in-Err-clause-early c = (λ e. c.in-Err.ensures.key cc, λ e. c.in-Err.ensures.other_version cc)

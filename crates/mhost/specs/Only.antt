@@ -1,0 +1,141 @@
+-- What a run does of which one account is told.
+use Rattle.std.specs.Prelude.{◌≡◌, ◌⊎◌, ℕ, Bool, IsTrue, List, Option, Some, None, Result, Ok, Err}
+use Rattle.std.specs.FinMap.{empty}
+use Rattle.std.specs.Io.KnownBytes.{Appends, Consumes, IsAtEnd}
+use Rattle.std.specs.Str.Lines.{lines}
+use Rattle.mspec.specs.Act.{Text}
+use Rattle.mspec.specs.Globals.{Globals}
+use Rattle.mspec.specs.Access.{Account, Settings, account_named}
+use Rattle.mmeaning.specs.Step.{Server}
+use Rattle.mmeaning.specs.History.{opening}
+use Rattle.misolation.specs.Reach.{reach}
+use Rattle.misolation.specs.Alone.{alone}
+use Rattle.misolation.specs.Telling.{Told, Tells, told_to}
+use Rattle.mgrant.specs.Reading.{IsRead, IsRefused}
+use Rattle.mgrant.specs.declared.fault.SettingsFault.TheVariants as settings_fault
+use Rattle.mjob.specs.declared.jobs.Store.{Store}
+use Rattle.mjob.specs.declared.jobs.Store.TheVariants as store
+use Rattle.mstore.specs.declared.store.NodeStore.{Ghosts}
+use Rattle.mworld.specs.declared.world.World.{World}
+use Rattle.mworld.specs.View.{settings_of, server_of}
+use Rattle.mworld.specs.Isolated.{IsToldEach}
+use Rattle.mwire.specs.Wire.{events_of}
+use Rattle.mwire.specs.Only.{told_text, ServesOnly}
+use Rattle.mwire.specs.Watched.{inner_of}
+use Rattle.mwire.specs.declared.watched.Watched.{Watched}
+use Rattle.mwire.specs.declared.fault.WireFault.{WireFault}
+use Rattle.mhost.specs.Runs.{AreUntouched, DeviceBroke, IsMemoryFault, NoDocument}
+use Rattle.mhost.specs.declared.fault.RunFault.{RunFault}
+use Rattle.mhost.specs.declared.fault.RunFault.TheVariants as early
+
+-- ---- one that went well
+
+-- the document's settings have an account of this name
+pub record HasAccount (document name : Text) : Type 0 where
+  pub settings : Settings
+  pub of_document : IsRead document settings
+  pub account : Account
+  pub named : account_named settings name ≡ Some account
+
+-- **Over a store in memory.** The stream was read to its end, and the bytes written are the replies at the account's terminals of a history of
+-- its events, by the document's settings and from no globals at all. Where it is whole they are those of the definitional interpreter, run
+-- on the lines of the accounts that reach this one, and the grants between them, alone.
+pub record ToldAlone (document name : Text) (left left' held held' : Option Text) : Type 0 where
+  pub known : HasAccount document name
+  pub read : Text
+  pub consumed : Consumes left left' read
+  pub at_end : IsAtEnd left'
+  pub replies : List Told
+  pub appended : Appends held held' (told_text replies)
+  pub whole : Bool
+  pub after : Server
+  pub tells : Tells name known.settings (opening empty) (events_of (lines read)) replies whole after
+  pub alone :
+      IsTrue whole →
+      replies ≡ told_to name known.settings (alone (reach known.settings name) known.settings (opening empty) (events_of (lines read)))
+
+-- Over a store in a file, whose content no contract tells: the bytes written are replies to the account's events, one each and in their
+-- order.
+pub record ToldInForm (document name : Text) (left left' held held' : Option Text) : Type 0 where
+  pub known : HasAccount document name
+  pub read : Text
+  pub consumed : Consumes left left' read
+  pub at_end : IsAtEnd left'
+  pub replies : List Told
+  pub each : IsToldEach name known.settings (events_of (lines read)) replies
+  pub appended : Appends held held' (told_text replies)
+
+-- ---- and one that ended early
+
+-- a stream of which the account at a place was told, in a world without a session
+pub record BrokeOff {S : Type 0} (g : Ghosts S) (document name : Text) (left left' held held' : Option Text) (fault : WireFault) : Type 0 where
+  pub known : HasAccount document name
+  pub old : World S
+  pub new : World S
+  pub by : settings_of old ≡ known.settings
+  pub globals : Globals
+  pub opens : server_of g old ≡ opening globals
+  pub place : ℕ
+  pub serves : ServesOnly g old place left left' held held' (Err fault) new
+
+-- a fault of the settings, the want of the account, and a fault of the store come in this order, and before the devices are asked for anything
+abbrev pub OnlyEndsEarly : {S I O : Type 0} → Ghosts S → (I → Option Text) → (O → Option Text) → Text → Text → Watched I → Watched I → Watched O → Watched O → RunFault → Type 0
+OnlyEndsEarly g left held document name input input' output output' early.Unread = ⊥
+OnlyEndsEarly g left held document name input input' output output' (early.Settings fault) =
+    AreUntouched input input' output output' × ((fault ≡ settings_fault.Memory) ⊎ IsRefused document fault)
+OnlyEndsEarly g left held document name input input' output output' early.NoAccount =
+    AreUntouched input input' output output' × ((settings : Settings) × IsRead document settings × (account_named settings name ≡ None))
+OnlyEndsEarly g left held document name input input' output output' (early.Store fault) =
+    AreUntouched input input' output output' × HasAccount document name
+OnlyEndsEarly g left held document name input input' output output' early.Listen = ⊥
+OnlyEndsEarly g left held document name input input' output output' early.Accept = ⊥
+OnlyEndsEarly g left held document name input input' output output' (early.Wire fault) =
+    BrokeOff g document name (left (inner_of input)) (left (inner_of input')) (held (inner_of output)) (held (inner_of output')) fault
+    × DeviceBroke input input' output output' fault
+
+-- a fault of a store in memory is none of rows that another program wrote
+abbrev pub FitsMemory : RunFault → Type 0
+FitsMemory early.Unread = Unit {0}
+FitsMemory (early.Settings fault) = Unit {0}
+FitsMemory early.NoAccount = Unit {0}
+FitsMemory (early.Store fault) = IsMemoryFault (early.Store fault)
+FitsMemory early.Listen = Unit {0}
+FitsMemory early.Accept = Unit {0}
+FitsMemory (early.Wire fault) = Unit {0}
+
+-- ---- in a world, by a document, by a file
+
+abbrev pub ServesAs : {S I O : Type 0} → Ghosts S → (I → Option Text) → (O → Option Text) → World S → ℕ → Watched I → Watched I → Watched O → Watched O → Result (Unit {0}) RunFault → World S → Type 0
+ServesAs g left held old place input input' output output' (Ok done) new =
+    (whole : Bool) × ServesOnly g old place (left (inner_of input)) (left (inner_of input')) (held (inner_of output)) (held (inner_of output')) (Ok whole) new
+ServesAs g left held old place input input' output output' (Err early.Unread) new = ⊥
+ServesAs g left held old place input input' output output' (Err (early.Settings fault)) new = ⊥
+ServesAs g left held old place input input' output output' (Err early.NoAccount) new = ⊥
+ServesAs g left held old place input input' output output' (Err (early.Store fault)) new = ⊥
+ServesAs g left held old place input input' output output' (Err early.Listen) new = ⊥
+ServesAs g left held old place input input' output output' (Err early.Accept) new = ⊥
+ServesAs g left held old place input input' output output' (Err (early.Wire fault)) new =
+    ServesOnly g old place (left (inner_of input)) (left (inner_of input')) (held (inner_of output)) (held (inner_of output')) (Err fault) new
+    × DeviceBroke input input' output output' fault
+
+abbrev pub OnlyOver : {M F I O : Type 0} → Ghosts M → Ghosts F → (I → Option Text) → (O → Option Text)
+    → Store → Text → Text → Watched I → Watched I → Watched O → Watched O → Result (Unit {0}) RunFault → Type 0
+OnlyOver memory file left held store.Memory name document input input' output output' (Ok done) =
+    ToldAlone document name (left (inner_of input)) (left (inner_of input')) (held (inner_of output)) (held (inner_of output'))
+OnlyOver memory file left held store.Memory name document input input' output output' (Err fault) =
+    OnlyEndsEarly memory left held document name input input' output output' fault × FitsMemory fault
+OnlyOver memory file left held (store.File path) name document input input' output output' (Ok done) =
+    ToldInForm document name (left (inner_of input)) (left (inner_of input')) (held (inner_of output)) (held (inner_of output'))
+OnlyOver memory file left held (store.File path) name document input input' output output' (Err fault) =
+    OnlyEndsEarly file left held document name input input' output output' fault
+
+abbrev pub LacksDocument : Result (Unit {0}) RunFault → Type 0
+LacksDocument (Ok done) = ⊥
+LacksDocument (Err fault) = NoDocument fault
+
+-- there is no document of settings, and nothing was asked of the devices; or there is some document, and a run by it
+abbrev pub OnlyBy : {M F I O : Type 0} → Ghosts M → Ghosts F → (I → Option Text) → (O → Option Text)
+    → Store → Text → Watched I → Watched I → Watched O → Watched O → Result (Unit {0}) RunFault → Type 0
+OnlyBy memory file left held store name input input' output output' result =
+    (LacksDocument result × AreUntouched input input' output output')
+    ⊎ ((document : Text) × OnlyOver memory file left held store name document input input' output output' result)

@@ -1,0 +1,145 @@
+-- What a run does: from a document of settings and a stream to the replies, and to the globals that the lines leave.
+use Rattle.std.specs.Prelude.{◌≡◌, ◌≢◌, ◌⊎◌, List, map, Option, Result, Ok, Err, IfOk}
+use Rattle.std.specs.FinMap.{empty}
+use Rattle.std.specs.Io.KnownBytes.{Appends, Consumes, IsAtEnd}
+use Rattle.std.specs.Str.Lines.{lines}
+use Rattle.mspec.specs.Act.{Text}
+use Rattle.mspec.specs.Globals.{Globals}
+use Rattle.mmeaning.specs.Step.{Settings, Server, Event, Reply}
+use Rattle.mmeaning.specs.History.{History, opening}
+use Rattle.mgrant.specs.Reading.{IsRead, IsRefused}
+use Rattle.mgrant.specs.declared.fault.SettingsFault.TheVariants as settings_fault
+use Rattle.mstore.specs.declared.store.NodeStore.{Ghosts}
+use Rattle.mstore.specs.declared.open_fault.OpenFault.TheVariants as opening_fault
+use Rattle.mwire.specs.Wire.{events_of}
+use Rattle.mwire.specs.Answers.{answer_text}
+use Rattle.mwire.specs.Serves.{Serves}
+use Rattle.mwire.specs.Watched.{inner_of, ReadBroke, WriteBroke}
+use Rattle.mwire.specs.declared.watched.Watched.{Watched}
+use Rattle.mwire.specs.declared.fault.WireFault.{WireFault}
+use Rattle.mwire.specs.declared.fault.WireFault.TheVariants.{Read, Write, Memory}
+use Rattle.mhost.specs.declared.fault.RunFault.{RunFault}
+use Rattle.mhost.specs.declared.fault.RunFault.TheVariants as early
+
+-- A stream was read to its end, and the bytes written are the replies of a history of its lines' events, by the document's settings
+-- and from no globals at all. Behind the last line there are these globals.
+pub record Answered (document : Text) (left left' held held' : Option Text) (globals : Globals) : Type 0 where
+  pub settings : Settings
+  pub of_document : IsRead document settings
+  pub read : Text
+  pub consumed : Consumes left left' read
+  pub at_end : IsAtEnd left'
+  pub trace : List (Event × Reply)
+  pub events : map (λ e. e.0) trace ≡ events_of (lines read)
+  pub after : Server
+  pub history : History settings (opening empty) trace after
+  pub appended : Appends held held' (answer_text (lines read) (map (λ e. e.1) trace))
+  pub last : globals ≡ after.world.globals
+
+-- A stream was read to its end, and the bytes written are a reply in form for each of its lines' events: what is known of a store whose
+-- content no contract tells.
+pub record Followed (document : Text) (left left' held held' : Option Text) : Type 0 where
+  pub settings : Settings
+  pub of_document : IsRead document settings
+  pub read : Text
+  pub consumed : Consumes left left' read
+  pub at_end : IsAtEnd left'
+  pub trace : List (Event × Reply)
+  pub events : map (λ e. e.0) trace ≡ events_of (lines read)
+  pub appended : Appends held held' (answer_text (lines read) (map (λ e. e.1) trace))
+
+-- A stream was answered up to a fault, by the document's settings and from these globals.
+pub record Broken {S : Type 0} (g : Ghosts S) (document : Text) (globals : Globals) (left left' held held' : Option Text) (fault : WireFault) : Type 0 where
+  pub settings : Settings
+  pub of_document : IsRead document settings
+  pub after : Server
+  pub serves : Serves g settings (opening globals) after left left' held held' (Err fault)
+
+-- the device that a fault tells of broke between these two moments
+abbrev pub DeviceBroke : {I O : Type 0} → Watched I → Watched I → Watched O → Watched O → WireFault → Type 0
+DeviceBroke input input' output output' Read = ReadBroke input input'
+DeviceBroke input input' output output' Write = WriteBroke output output'
+DeviceBroke input input' output output' Memory = Unit {0}
+
+-- nothing was asked of the devices
+abbrev pub AreUntouched : {I O : Type 0} → Watched I → Watched I → Watched O → Watched O → Type 0
+AreUntouched input input' output output' = (input' ≡ input) × (output' ≡ output)
+
+-- why the file of the settings gives no document
+abbrev pub NoDocument : RunFault → Type 0
+NoDocument early.Unread = Unit {0}
+NoDocument (early.Settings fault) = fault ≡ settings_fault.Memory
+NoDocument early.NoAccount = ⊥
+NoDocument (early.Store fault) = ⊥
+NoDocument early.Listen = ⊥
+NoDocument early.Accept = ⊥
+NoDocument (early.Wire fault) = ⊥
+
+-- why a document gives no settings
+abbrev pub NoSettings : Text → RunFault → Type 0
+NoSettings document early.Unread = ⊥
+NoSettings document (early.Settings fault) = (fault ≡ settings_fault.Memory) ⊎ IsRefused document fault
+NoSettings document early.NoAccount = ⊥
+NoSettings document (early.Store fault) = ⊥
+NoSettings document early.Listen = ⊥
+NoSettings document early.Accept = ⊥
+NoSettings document (early.Wire fault) = ⊥
+
+-- a fault of a store in a file
+abbrev pub IsStoreFault : RunFault → Type 0
+IsStoreFault early.Unread = ⊥
+IsStoreFault (early.Settings fault) = ⊥
+IsStoreFault early.NoAccount = ⊥
+IsStoreFault (early.Store fault) = Unit {0}
+IsStoreFault early.Listen = ⊥
+IsStoreFault early.Accept = ⊥
+IsStoreFault (early.Wire fault) = ⊥
+
+-- a fault of a store in memory, which has no rows that could be refused
+abbrev pub IsMemoryFault : RunFault → Type 0
+IsMemoryFault early.Unread = ⊥
+IsMemoryFault (early.Settings fault) = ⊥
+IsMemoryFault early.NoAccount = ⊥
+IsMemoryFault (early.Store fault) = (fault ≢ opening_fault.BadKey) × (fault ≢ opening_fault.BadVersion)
+IsMemoryFault early.Listen = ⊥
+IsMemoryFault early.Accept = ⊥
+IsMemoryFault (early.Wire fault) = ⊥
+
+-- Why a run over a store in memory ended early, and what it had done. A fault of the settings comes first, one of the store next, both
+-- before the devices are asked for anything.
+abbrev pub EndsEarly : {S I O : Type 0} → Ghosts S → (I → Option Text) → (O → Option Text) → Text → Watched I → Watched I → Watched O → Watched O → RunFault → Type 0
+EndsEarly g left held document input input' output output' early.Unread = ⊥
+EndsEarly g left held document input input' output output' (early.Settings fault) =
+    AreUntouched input input' output output' × ((fault ≡ settings_fault.Memory) ⊎ IsRefused document fault)
+EndsEarly g left held document input input' output output' early.NoAccount = ⊥
+EndsEarly g left held document input input' output output' (early.Store fault) =
+    AreUntouched input input' output output' × ((settings : Settings) × IsRead document settings) × IsMemoryFault (early.Store fault)
+EndsEarly g left held document input input' output output' early.Listen = ⊥
+EndsEarly g left held document input input' output output' early.Accept = ⊥
+EndsEarly g left held document input input' output output' (early.Wire fault) =
+    Broken g document empty (left (inner_of input)) (left (inner_of input')) (held (inner_of output)) (held (inner_of output')) fault
+    × DeviceBroke input input' output output' fault
+
+-- the same over a store in a file, which begins with some globals
+abbrev pub EndsEarlyOverFile : {S I O : Type 0} → Ghosts S → (I → Option Text) → (O → Option Text) → Text → Watched I → Watched I → Watched O → Watched O → RunFault → Type 0
+EndsEarlyOverFile g left held document input input' output output' early.Unread = ⊥
+EndsEarlyOverFile g left held document input input' output output' (early.Settings fault) =
+    AreUntouched input input' output output' × ((fault ≡ settings_fault.Memory) ⊎ IsRefused document fault)
+EndsEarlyOverFile g left held document input input' output output' early.NoAccount = ⊥
+EndsEarlyOverFile g left held document input input' output output' (early.Store fault) =
+    AreUntouched input input' output output' × ((settings : Settings) × IsRead document settings)
+EndsEarlyOverFile g left held document input input' output output' early.Listen = ⊥
+EndsEarlyOverFile g left held document input input' output output' early.Accept = ⊥
+EndsEarlyOverFile g left held document input input' output output' (early.Wire fault) =
+    ((globals : Globals) × Broken g document globals (left (inner_of input)) (left (inner_of input')) (held (inner_of output)) (held (inner_of output')) fault)
+    × DeviceBroke input input' output output' fault
+
+abbrev pub without_value : {V : Type 0} → Result V WireFault → Result (Unit {0}) WireFault
+without_value (Ok v) = Ok tt
+without_value (Err fault) = Err fault
+
+-- a stream was served from this point on, and where that went well, the value given has the globals behind the last line
+pub record ServedOver {S V : Type 0} (g : Ghosts S) (settings : Settings) (server : Server) (content : V → Globals) (left left' held held' : Option Text) (result : Result V WireFault) : Type 0 where
+  pub after : Server
+  pub serves : Serves g settings server after left left' held held' (without_value result)
+  pub last : IfOk result (λ value. content value ≡ after.world.globals)

@@ -1,0 +1,108 @@
+// A run: from the settings' document and a stream to the replies.
+ghost use Rattle.std.specs.Prelude.{◌≡◌, false, IfOk, IfErr, OnOk};
+ghost use Rattle.sqlite.specs.Steps.{over_memory};
+ghost use Rattle.mstore.specs.Database.{stored};
+ghost use Rattle.mworld.specs.View.{settings_of, server_of};
+ghost use Rattle.mwire.specs.Watched.{inner_of, failed_of};
+ghost use Rattle.mhost.specs.Runs.{Answered, EndsEarly, EndsEarlyOverFile, Followed, ServedOver, DeviceBroke};
+
+use crate::document::read_settings;
+use crate::fault::RunFault;
+use crate::worlds::{close_file, file_world, memory_world};
+use mglobal::Kept;
+use mstore::{NodeStore, Table};
+use mwire::{Watched, WireFault, serve};
+use mworld::World;
+use sqlite::MemStore;
+use sqlite_std_file::File;
+use sqlite_store::FileStore;
+use std::alloc::Global;
+use std::io::{Read, Write};
+
+/// Answers a stream by the settings of a document, over a new table in memory, and gives the table as the lines left it: with the
+/// globals of the definitions, from none at all.
+///
+/// The faults, in the order in which they are found: `Settings`, and `Store`, which is `Memory`, of the world too, or `Store`, both before
+/// the devices are asked for anything; and `Wire`, with what `serve` says of it.
+///
+/// The condition: no call of the input or the output has failed yet.
+pub fn run<I: Read, O: Write>(
+    alloc: Global,
+    document: &[u8],
+    input: &mut Watched<I>,
+    output: &mut Watched<O>,
+) -> Result<Table<MemStore>, RunFault>
+    requires input_works { failed_of input.old ≡ false }
+    requires output_works { failed_of output.old ≡ false }
+    ensures answered { IfOk result (λ table. Answered document.now (I.remaining (inner_of input.old)) (I.remaining (inner_of input.new))
+        (O.contents (inner_of output.old)) (O.contents (inner_of output.new)) (stored over_memory table)) }
+    ensures early { IfErr result (EndsEarly ⟦<Kept<Table<MemStore>> as NodeStore>⟧ I.remaining O.contents document.now input.old input.new output.old output.new) }
+{
+    let settings = match read_settings(alloc, document) {
+        Ok(settings) => settings,
+        Err(fault) => return Err(fault),
+    };
+    let world = match memory_world(alloc, settings) {
+        Ok(world) => world,
+        Err(fault) => return Err(fault),
+    };
+    match serve_over(alloc, world, input, output) {
+        Ok(kept) => Ok(kept.into_store()),
+        Err(fault) => Err(RunFault::Wire(fault)),
+    }
+}
+
+/// Answers a stream by the settings of a document, over the table in a file, which is made where there is none.
+///
+/// The faults are those of `run`, and `Store` has all of `Table::open_file`. What the file holds at the start, and that it holds what
+/// the lines left, no contract says: of a file this says only that each line had its reply.
+///
+/// The condition: no call of the input or the output has failed yet.
+pub fn run_file<I: Read, O: Write>(
+    rt: &HostRuntime,
+    path: &str,
+    document: &[u8],
+    input: &mut Watched<I>,
+    output: &mut Watched<O>,
+) -> Result<(), RunFault>
+    requires input_works { failed_of input.old ≡ false }
+    requires output_works { failed_of output.old ≡ false }
+    ensures answered { OnOk result (Followed document.now (I.remaining (inner_of input.old)) (I.remaining (inner_of input.new))
+        (O.contents (inner_of output.old)) (O.contents (inner_of output.new))) }
+    ensures early { IfErr result (EndsEarlyOverFile ⟦<Kept<Table<FileStore<File>>> as NodeStore>⟧ I.remaining O.contents document.now input.old input.new output.old output.new) }
+{
+    let settings = match read_settings(rt.alloc(), document) {
+        Ok(settings) => settings,
+        Err(fault) => return Err(fault),
+    };
+    let world = match file_world(rt, path, settings) {
+        Ok(world) => world,
+        Err(fault) => return Err(fault),
+    };
+    match serve_over(rt.alloc(), world, input, output) {
+        Ok(kept) => {
+            close_file(kept);
+            Ok(())
+        }
+        Err(fault) => Err(RunFault::Wire(fault)),
+    }
+}
+
+// Answers a stream in a world, and gives its store as the lines left it.
+fn serve_over<S: NodeStore + Drop, I: Read, O: Write>(
+    alloc: Global,
+    mut world: World<S>,
+    input: &mut Watched<I>,
+    output: &mut Watched<O>,
+) -> Result<S, WireFault>
+    requires input_works { failed_of input.old ≡ false }
+    requires output_works { failed_of output.old ≡ false }
+    ensures served { ServedOver S.NodeStore (settings_of world) (server_of S.NodeStore world) S.content (I.remaining (inner_of input.old)) (I.remaining (inner_of input.new))
+        (O.contents (inner_of output.old)) (O.contents (inner_of output.new)) result }
+    ensures broke { IfErr result (DeviceBroke input.old input.new output.old output.new) }
+{
+    match serve(alloc, &mut world, input, output) {
+        Ok(()) => Ok(world.into_store()),
+        Err(fault) => Err(fault),
+    }
+}

@@ -1,0 +1,201 @@
+#!/usr/bin/env python3
+"""Checks the tables of must-fail edits in docs/TESTING.md against the edits and the sources.
+
+    tools/edits.py           prints each fault with its file, or one line with the counts
+    tools/edits.py --counts  prints how many edits each crate has
+
+Each row names an edit that exists, each edit has a row and can be applied, each call of a row is a function of its crate,
+each clause is one of a function beside it, and each exported function of a crate that has edits has a row."""
+import re
+import sys
+from dataclasses import dataclass, field
+from pathlib import Path
+
+TOP = Path(__file__).resolve().parent.parent
+PAGE = "docs/TESTING.md"
+MOST_EDITS = 140
+
+# Exported functions without a row, each with the reason.
+EXCEPTIONS = {
+    "mkey::keys_are_read": "a law: its contract says all, its body is empty, and no edit can turn it",
+    "mwire::events_have_stream": "the same",
+    "mwire::lines_have_answers": "the same",
+    "mwire::normal_answers_are_served": "the same",
+    "mwire::normal_streams_are_served": "the same",
+    "mglobal::Kept::get": "hands on to the store, with the store's contract",
+    "mglobal::Kept::next": "the same",
+    "mglobal::Kept::prev": "the same",
+}
+
+WORD = re.compile(r"`([A-Za-z_][A-Za-z_0-9]*(?:::[A-Za-z_][A-Za-z_0-9]*)*)`")
+FUNCTION = re.compile(r"( *)(pub(?:\(crate\))? )?(?:const )?fn ([a-z_0-9]+)")
+BLOCK = re.compile(r"(?:pub(?:\(crate\))? )?(impl|trait)\b(.*)")
+CLAUSE = re.compile(r" *(?:ensures|requires) ([a-z_0-9]+) \{")
+HEADING = re.compile(r"### `([a-z_0-9]+)`")
+
+
+@dataclass
+class Source:
+    """A crate's functions by the names that a row may give them, with their clauses, and what it exports."""
+
+    functions: dict[str, set[str]] = field(default_factory=dict)
+    exported: set[str] = field(default_factory=set)
+    traits: set[str] = field(default_factory=set)
+
+
+@dataclass
+class Row:
+    """A row of a crate's table: the cells as they stand."""
+
+    crate: str
+    calls: str
+    edits: str
+    refusers: str
+
+
+def bare(header: str) -> str:
+    """The header of a block without its type parameters, as `NodeStore for Plain`."""
+    shorter = re.sub(r"<[^<>]*>", "", header)
+    return bare(shorter) if shorter != header else header.split(" where")[0].strip(" {")
+
+
+def exports(root: str) -> tuple[set[str], set[str]]:
+    """The modules that a library's root hands out whole, and the names that it hands out one by one."""
+    own = re.findall(r"^(?:pub )?mod ([a-z_0-9]+);", root, re.M)
+    listed = re.findall(r"^pub use ([a-z_0-9]+)(?:::[a-z_0-9]+)*::(\{[^}]*\}|\w+);", root, re.M)
+    return set(re.findall(r"^pub mod ([a-z_0-9]+);", root, re.M)), {name for module, names in listed if module in own for name in re.findall(r"\w+", names)}
+
+
+def clauses_behind(lines: list[str], at: int) -> set[str]:
+    """The names of the clauses of the function that begins in this line: its body's brace, or a semicolon, ends them."""
+    end = next((i for i in range(at, len(lines)) if lines[i].strip() in ("{", "{}") or lines[i].endswith(";") or lines[i].endswith(" {") and " { " not in lines[i]), len(lines))
+    return {found[1] for line in lines[at : end + 1] if (found := CLAUSE.match(line))}
+
+
+def read_source(crate: str, traits: set[str]) -> Source:
+    """What a crate's sources declare. `traits` are those of the repository whose methods are public calls of a type."""
+    source, folder = Source(), TOP / "crates" / crate / "src"
+    root = folder / "lib.rt"
+    whole, named = exports(root.read_text(encoding="utf-8") if root.exists() else "")
+    for path in sorted(folder.rglob("*.rt")):
+        lines, kind, owner = path.read_text(encoding="utf-8").split("\n"), "", ""
+        for at, line in enumerate(lines):
+            if block := BLOCK.match(line):
+                kind, owner = block[1], bare(block[2])
+                if kind == "trait":
+                    owner = re.split(r"[:\s]", owner)[0]
+                    source.traits |= {owner} if owner in named or path.stem in whole else set()
+            elif line == "}":
+                kind, owner = "", ""
+            elif (found := FUNCTION.match(line)) and len(found[1]) == (4 if kind else 0):
+                trait, _, of = owner.rpartition(" for ")
+                full = f"{of}::{found[3]}" if kind else found[3]
+                for name in (full, found[3]):
+                    source.functions.setdefault(name, set()).update(clauses_behind(lines, at))
+                is_call = kind != "trait" and (trait in traits if trait else found[2] == "pub ")
+                if is_call and (path.stem in whole or (of if kind else found[3]) in named):
+                    source.exported.add(full)
+    return source
+
+
+def rows_of(page: str) -> tuple[list[Row], list[str]]:
+    """The rows of the crates' tables, and the faults of lines that are none."""
+    rows: list[Row] = []
+    faults, crate = [], ""
+    for line in page.split("\n"):
+        if line.startswith("#"):
+            heading = HEADING.fullmatch(line)
+            crate = heading[1] if heading else ""
+        elif crate and line.startswith("|"):
+            cells = [cell.strip() for cell in line.strip("|").split("|")]
+            if len(cells) != 3:
+                faults.append(f"{PAGE}: {crate}: a row has {len(cells)} cells, and not three: {line}")
+            elif not cells[0].startswith("---") and cells[0] != "Call or wrong body":
+                rows.append(Row(crate, *cells))
+    return rows, faults
+
+
+def calls_of(cell: str) -> list[tuple[str, str]]:
+    """The calls of a cell, each as it is and with the type of the one before it."""
+    calls, owner = [], ""
+    for word in WORD.findall(cell):
+        prefix, _, name = word.rpartition("::")
+        owner = prefix or owner
+        calls.append((word, f"{owner}::{name}" if owner else name))
+    return calls
+
+
+def unfit(edit: Path) -> str:
+    """Why an edit cannot be applied, or nothing."""
+    crate, path, old = edit.parent.parent, "", ""
+    texts: dict[str, str] = {}
+    for line in edit.read_text(encoding="utf-8").split("\n"):
+        if line.startswith("file: "):
+            path = line.removeprefix("file: ").strip()
+            if not (crate / path).is_file():
+                return f"there is no file {path}"
+            texts.setdefault(path, (crate / path).read_text(encoding="utf-8"))
+        elif line.startswith("old: "):
+            old = line.removeprefix("old: ")
+        elif line.startswith("new:"):
+            if not path or not old:
+                return "a line 'new:' stands before any 'file:' or 'old:'"
+            if texts[path].count(old) != 1:
+                return f"'{old.strip()}' stands {texts[path].count(old)} times in {path}, and not once"
+            texts[path], old = texts[path].replace(old, line.removeprefix("new:").removeprefix(" ")), ""
+    same = all(text == (crate / path).read_text(encoding="utf-8") for path, text in texts.items())
+    return "it changes nothing" if same else ""
+
+
+def row_faults(row: Row, own: list[str], sources: dict[str, Source]) -> list[str]:
+    """What is wrong with a row of a crate with these edits: an edit, a call, or what refuses."""
+    named = WORD.findall(row.edits)
+    faults = [f"there is no edit {stem}" for stem in named if stem not in own]
+    functions = sources[row.crate].functions if row.crate in sources else {}
+    # a word of the first cell that is an edit's name is a wrong body, and no call
+    calls = [(word, full) for word, full in calls_of(row.calls) if word not in own]
+    faults += [f"there is no function {word}" for word, full in calls if full not in functions and word not in functions]
+    everywhere = [source.functions for source in sources.values()]
+    words = [word for word, _ in calls_of(row.refusers)]
+    refusers = [word for word in words if any(word in known for known in everywhere)]
+    # a method of a trait has its clauses there
+    names = {name for word in refusers for name in (word, word.rpartition("::")[2])}
+    clauses = {clause for name in names for known in everywhere for clause in known.get(name, set())}
+    faults += [f"{word} is neither a function nor a clause of one beside it" for word in words if word not in refusers and word not in clauses]
+    faults += [] if named and refusers else [f"the row of {row.calls} names no edit, or no function that refuses it"]
+    return [f"{PAGE}: {row.crate}: {fault}" for fault in faults]
+
+
+def crate_faults(crate: str, stems: list[str], rows: list[Row], source: Source) -> list[str]:
+    """What the rows of a crate leave out, and which of its edits cannot be applied."""
+    cited = {stem for row in rows for stem in WORD.findall(row.edits)}
+    called = {name for row in rows for pair in calls_of(row.calls) for name in pair}
+    paths = [f"crates/{crate}/must-fail/{stem}.edit" for stem in stems]
+    faults = [f"{path}: no row cites it" for path, stem in zip(paths, stems) if stem not in cited]
+    faults += [f"{path}: {why}" for path in paths if (why := unfit(TOP / path))]
+    return faults + [f"{PAGE}: {crate}: {call} has no row" for call in sorted(source.exported - called) if f"{crate}::{call}" not in EXCEPTIONS]
+
+
+def main() -> int:
+    """Checks all, or prints the counts."""
+    edits = {folder.parent.name: sorted(path.stem for path in folder.glob("*.edit")) for folder in sorted(TOP.glob("crates/*/must-fail"))}
+    edits = {crate: stems for crate, stems in edits.items() if stems}
+    total = sum(len(stems) for stems in edits.values())
+    if "--counts" in sys.argv[1:]:
+        print("\n".join(["| Crate | Edits |", "|---|---|", *(f"| `{crate}` | {len(stems)} |" for crate, stems in edits.items()), f"| all | {total} |"]))
+        return 0
+    crates = sorted(path.parent.name for path in TOP.glob("crates/*/src"))
+    traits = {trait for crate in crates for trait in read_source(crate, set()).traits}
+    sources = {crate: read_source(crate, traits) for crate in crates}
+    rows, faults = rows_of((TOP / PAGE).read_text(encoding="utf-8"))
+    for row in rows:
+        faults += row_faults(row, edits.get(row.crate, []), sources)
+    for crate, stems in edits.items():
+        faults += crate_faults(crate, stems, [row for row in rows if row.crate == crate], sources[crate])
+    faults += [f"crates: {total} edits, and at most {MOST_EDITS} are wanted"] if total > MOST_EDITS else []
+    print("\n".join(faults) if faults else f"edits: {total} in {len(edits)} crates, {len(rows)} rows")
+    return 1 if faults else 0
+
+
+if __name__ == "__main__":
+    sys.exit(main())

@@ -1,0 +1,94 @@
+#!/usr/bin/env python3
+"""What `./mserve` starts if it can't take its quick way: finds the program, or has it built, and runs it with the words given.
+
+The released program (release/) is taken if it was built from these sources. It is unpacked once; `release/unpacked/paths` then lists what was
+compared, so that `./mserve` sees by the times of these files alone whether it still is. Otherwise the program is built from the sources by the
+Rattle kit (tools/build.py). `./mserve --version` prints the version, the digest of the sources and which of the two it runs."""
+import os
+import platform
+import shutil
+import sys
+import time
+
+import build
+import release
+from sources import CRATES, TOP, folders_of, program_crates, sources_digest
+
+STATUS = 1
+
+
+def fail(text: str) -> None:
+    """Ends the start with one line."""
+    print(f"mserve: {text}", file=sys.stderr)
+    sys.exit(STATUS)
+
+
+def require_system() -> None:
+    """The program, and the kit that builds it, are for x86-64 Linux."""
+    if (platform.system(), platform.machine()) != ("Linux", "x86_64"):
+        fail(f"it runs on x86-64 Linux, and this is {platform.machine()} {platform.system()}: use a machine, a container or a virtual machine of that kind (docs/INSTALL.md)")
+
+
+def note_compared(start: int) -> None:
+    """Lists, for the quick way of `./mserve`, what the release was compared with at the time `start`, in nanoseconds. A read-only tree has no such way."""
+    if release.unpack_folder() != os.path.join(TOP, release.UNPACKED):
+        return
+    watched = [CRATES, release.PROGRAM, release.RECORD, *(folder for crate in program_crates() for folder in folders_of(crate))]
+    new = os.path.join(TOP, release.UNPACKED, f"paths.{os.getpid()}")
+    with open(new, "w", encoding="utf-8") as file:
+        file.write("".join(f"{path}\n" for path in watched))
+    os.utime(new, ns=(start, start))
+    os.replace(new, os.path.join(TOP, release.UNPACKED, "paths"))
+
+
+def released_program(digest: str, start: int) -> str | None:
+    """The path of the released program, unpacked; None if there is no release of these sources."""
+    record = release.read_record()
+    if record is None or record.sources != digest:
+        return None
+    path = release.unpack(record)
+    note_compared(start)
+    return path
+
+
+def built_program(digest: str) -> str:
+    """The path of a program that is built from these sources, now if it must be."""
+    if not build.is_built(digest):
+        reason = "there is no release" if release.read_record() is None else "the sources are not those of the release"
+        if shutil.which("rt") is None:
+            fail(f"{reason}, and the Rattle kit (`rt`) that builds the program is not on the path: see docs/INSTALL.md")
+        print(f"mserve: {reason}, so the program is proved and built from them: up to an hour the first time", file=sys.stderr, flush=True)
+        build.build(digest)
+    return build.PROGRAM
+
+
+def print_version(digest: str) -> None:
+    record = release.read_record()
+    with open(os.path.join(TOP, "VERSION"), encoding="ascii") as file:
+        version = file.read().strip()
+    if record is not None and record.sources == digest:
+        origin = f"the released program, proved and built by {record.kit}"
+    elif build.is_built(digest):
+        origin = "a program built from these sources on this machine"
+    else:
+        origin = "none yet: no release is of these sources; the next start builds one"
+    print(f"mserve {version}\nsources {digest}\nprogram {origin}")
+
+
+def main() -> None:
+    words = sys.argv[1:]
+    start = time.time_ns()
+    require_system()
+    digest = sources_digest()
+    if words == ["--version"]:
+        print_version(digest)
+        return
+    program = released_program(digest, start) or built_program(digest)
+    os.execv(program, [program, *words])
+
+
+if __name__ == "__main__":
+    try:
+        main()
+    except (OSError, release.Damaged) as error:
+        fail(str(error))

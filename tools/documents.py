@@ -24,7 +24,7 @@ PATH = re.compile(r"^[\w./*-]+\.(?:rt|antt|edit|py|c|md|txt|toml|service|bash|1)
 NAME = re.compile(r"^[A-Za-z_]\w*(?:::[A-Za-z_]\w*)*(?:\(\))?$")
 LINK = re.compile(r"\[[^\]]*\]\(([^)\s]+)\)")
 # Pages whose names of edits and wrong bodies another script checks, some of which only a test refuses: tools/edits.py.
-TABLES_OF_EDITS = {"docs/TESTING.md", "docs/TESTING-high.md"}
+TABLES_OF_EDITS = {"docs/TESTING.md"}
 # Names that are not this tree's.
 FOREIGN = {"journal_mode"}
 # Files that are made, or that are examples of names.

@@ -7,7 +7,8 @@ import sys
 from collections.abc import Callable, Iterator
 from dataclasses import dataclass, field
 
-TOP = os.path.realpath(os.path.join(os.path.dirname(os.path.abspath(__file__)), ".."))
+from sources import TOP, program_crates
+
 CODE = (".rt", ".antt", ".edit", ".py", ".c", ".toml")
 LONGEST_LINE = 100
 LONGEST_CELL = 200
@@ -294,22 +295,9 @@ def check_counts(page: Page) -> None:
 
 # ---- crates and the manual page
 
-def crates_of_the_program() -> list[str]:
-    """The crates of this tree that the program stands on, itself among them, in the order of crates.txt."""
-    lines = [line.partition(":") for line in read("crates.txt").splitlines() if line.strip() and not line.startswith("#")]
-    below = {name.split()[0]: rest.split() for name, _, rest in lines}
-    wanted, left = set(), ["mserve"]
-    while left:
-        crate = left.pop()
-        if crate in below and crate not in wanted:
-            wanted.add(crate)
-            left += below[crate]
-    return [crate for crate in below if crate in wanted]
-
-
 def check_crates(by_path: dict[str, Page]) -> None:
     """Each crate has a page, and each of the program a row in README.md and on the map; no row names another."""
-    wanted = set(crates_of_the_program())
+    wanted = set(program_crates())
     listed = [name.partition(":")[0].split()[0] for name in read("crates.txt").splitlines() if ":" in name and not name.startswith("#")]
     faults.extend(f"crates/{crate}: no README.md" for crate in listed if f"crates/{crate}/README.md" not in by_path)
     for path in ("README.md", "docs/ARCHITECTURE.md"):

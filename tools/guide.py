@@ -8,6 +8,7 @@ settings of examples/laboratory. Status 1 with a line for each difference."""
 import os
 import re
 import shutil
+import signal
 import subprocess
 import sys
 import tempfile
@@ -23,7 +24,7 @@ MARK = "@@ the end of a command @@"
 # What the page waits a second for, and a busy machine may need longer for: that somebody listens at the port.
 PAUSE = "sleep 1"
 LISTENS = "until grep -q ':{:04X} 00000000:0000 0A' /proc/net/tcp; do sleep 0.05; done"
-SECONDS = 60
+SECONDS = 300
 
 
 @dataclass
@@ -76,9 +77,14 @@ def printed_by(commands: list[Command], folder: str, port: int) -> list[list[str
     path = os.path.join(folder, ".commands")
     with open(path, "w", encoding="utf-8") as file:
         file.write(script)
-    ran = subprocess.run(["bash", path], cwd=folder, stdin=subprocess.DEVNULL, stdout=subprocess.PIPE, stderr=subprocess.STDOUT,
-                         text=True, errors="replace", timeout=SECONDS)
-    return [part.splitlines() for part in ran.stdout.split(MARK + "\n")]
+    with subprocess.Popen(["bash", path], cwd=folder, stdin=subprocess.DEVNULL, stdout=subprocess.PIPE, stderr=subprocess.STDOUT,
+                          text=True, errors="replace", start_new_session=True) as shell:
+        try:
+            output, _ = shell.communicate(timeout=SECONDS)
+        except subprocess.TimeoutExpired:
+            os.killpg(shell.pid, signal.SIGKILL)
+            output, _ = shell.communicate()
+    return [part.splitlines() for part in output.split(MARK + "\n")]
 
 
 def guide_faults() -> list[str]:

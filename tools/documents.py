@@ -7,7 +7,8 @@ import sys
 from collections.abc import Callable, Iterator
 from dataclasses import dataclass, field
 
-TOP = os.path.realpath(os.path.join(os.path.dirname(os.path.abspath(__file__)), ".."))
+from sources import TOP, program_crates
+
 CODE = (".rt", ".antt", ".edit", ".py", ".c", ".toml")
 LONGEST_LINE = 100
 LONGEST_CELL = 200
@@ -24,7 +25,7 @@ PATH = re.compile(r"^[\w./*-]+\.(?:rt|antt|edit|py|c|md|txt|toml|service|bash|1)
 NAME = re.compile(r"^[A-Za-z_]\w*(?:::[A-Za-z_]\w*)*(?:\(\))?$")
 LINK = re.compile(r"\[[^\]]*\]\(([^)\s]+)\)")
 # Pages whose names of edits and wrong bodies another script checks, some of which only a test refuses: tools/edits.py.
-TABLES_OF_EDITS = {"docs/TESTING.md", "docs/TESTING-high.md"}
+TABLES_OF_EDITS = {"docs/TESTING.md"}
 # Names that are not this tree's.
 FOREIGN = {"journal_mode"}
 # Files that are made, or that are examples of names.
@@ -294,22 +295,9 @@ def check_counts(page: Page) -> None:
 
 # ---- crates and the manual page
 
-def crates_of_the_program() -> list[str]:
-    """The crates of this tree that the program stands on, itself among them, in the order of crates.txt."""
-    lines = [line.partition(":") for line in read("crates.txt").splitlines() if line.strip() and not line.startswith("#")]
-    below = {name.split()[0]: rest.split() for name, _, rest in lines}
-    wanted, left = set(), ["mserve"]
-    while left:
-        crate = left.pop()
-        if crate in below and crate not in wanted:
-            wanted.add(crate)
-            left += below[crate]
-    return [crate for crate in below if crate in wanted]
-
-
 def check_crates(by_path: dict[str, Page]) -> None:
     """Each crate has a page, and each of the program a row in README.md and on the map; no row names another."""
-    wanted = set(crates_of_the_program())
+    wanted = set(program_crates())
     listed = [name.partition(":")[0].split()[0] for name in read("crates.txt").splitlines() if ":" in name and not name.startswith("#")]
     faults.extend(f"crates/{crate}: no README.md" for crate in listed if f"crates/{crate}/README.md" not in by_path)
     for path in ("README.md", "docs/ARCHITECTURE.md"):
@@ -325,6 +313,20 @@ def check_manual() -> None:
     for text in re.findall(r'"([^"\n]* [^"\n]*)"', read("crates/mjob/src/options.rt")):
         if re.sub(r"\s+", " ", text) not in manual:
             faults.append(f"docs/mserve.1: without '{text}', which --help has")
+
+
+def check_versions(found: list[Page]) -> None:
+    """The pages name one kit, that of the release if there is one, and the version of the file VERSION if there is one."""
+    kit = re.compile(r"rattle-kit-\S+ logic \w+")
+    record = read("release/record") if os.path.exists(os.path.join(TOP, "release", "record")) else ""
+    kits = {name for page in found for name in kit.findall("\n".join(page.lines))} | set(kit.findall(record))
+    if len(kits) != 1:
+        faults.append(f"the pages and the release name {len(kits)} kits: {sorted(kits)}")
+    if os.path.exists(os.path.join(TOP, "VERSION")):
+        version = read("VERSION").strip()
+        for path in ("README.md", "CHANGELOG.md", "docs/mserve.1"):
+            if version not in read(path):
+                faults.append(f"{path}: without version {version}")
 
 
 def main() -> int:
@@ -346,6 +348,7 @@ def main() -> int:
             check_phrases(page)
     check_crates({page.path: page for page in found})
     check_manual()
+    check_versions(found)
     for text in faults:
         print(f"documents: {text}")
     print(f"documents: {len(found)} pages, {len(faults)} faults")

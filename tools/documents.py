@@ -78,7 +78,7 @@ def pages() -> list[Page]:
     """All pages, in order."""
     found = [name for name in os.listdir(TOP) if name.endswith(".md")]
     found += [f"docs/{name}" for name in os.listdir(os.path.join(TOP, "docs")) if name.endswith(".md")]
-    found += [f"crates/{name}/README.md" for name in os.listdir(os.path.join(TOP, "crates"))]
+    found += [f"crates/{name}/README.md" for name in os.listdir(os.path.join(TOP, "crates"))] + ["clients/README.md"]
     return [page_of(path) for path in sorted(found) if os.path.exists(os.path.join(TOP, path))]
 
 

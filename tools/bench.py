@@ -1,0 +1,300 @@
+#!/usr/bin/env python3
+"""Times the workloads of benchmarks/workloads.txt over the built program, with a store in memory and
+one in a file, and prints a table of ratios: the time of an operation beside that of a turn of a loop
+of Python's own, which runs in the same pass. GT.M (Debian's `fis-gtm`) and SQLite's shell (`sqlite3`)
+do the same work beside it if they are installed.
+
+    tools/bench.py [NAME ..]        times all workloads, or those whose names have one of these words
+        --passes 5                  how often each is timed; the best counts, the median stands beside it
+        --growth                    times ten times the lines too, and tells by what each time grew
+        --write                     puts the table into docs/PERFORMANCE.md
+        --workloads FILE            reads others
+
+The loop is the reference since it is there wherever the script runs, asks for no memory, and is bound
+as the program is: by the clock of the processor and the branches of an interpreter. Python's version
+is told, since the loop's speed depends on it.
+
+What is timed begins with the reply to the last line of the set-up, and ends with that to the last
+line; all timed lines are written to a pipe at once. Status 1 says that the replies of two of them
+differ, or have another checksum than the file of workloads says."""
+import argparse
+import itertools
+import os
+import platform
+import re
+import shutil
+import statistics
+import subprocess
+import sys
+import tempfile
+import threading
+import time
+import zlib
+from collections.abc import Iterable, Iterator
+from dataclasses import dataclass, field
+
+from running import PROGRAM, TOP, require_program, run_words
+
+WORKLOADS = os.path.join(TOP, "benchmarks", "workloads.txt")
+PAGE = os.path.join(TOP, "docs", "PERFORMANCE.md")
+BEGIN, END = "<!-- bench.py -->\n", "<!-- end -->\n"
+ACCOUNTS = 1000
+TURNS = 2_000_000
+GROWTH = 10
+READY, DONE = "READY", "DONE"
+PARTS = ("m", "m timed", "sql", "sql timed")
+STORES = ("memory", "file")
+GTM, SQLITE = "GT.M", "SQLite"
+# GT.M reads the lines that the program reads, cuts the terminal off, and runs the rest.
+GTM_LOOP = 'bench ;\n f  r %line q:$zeof  x $p(%line," ",2,9999) w:$x !\n q\n'
+ROUTINE_LINE = re.compile(r'^1: 1 S \^ROUTINE\("(\w+)",\d+\)="(.*)"$')
+
+
+@dataclass
+class Workload:
+    """A workload: its name, the unit of its operations and their count, the checksum of its replies,
+    and its lines with their counts: those of the set-up and the timed ones, for M and for SQLite."""
+    name: str
+    unit: str
+    operations: int
+    checksum: int
+    lines: dict[str, list[str]] = field(default_factory=lambda: {part: [] for part in PARTS})
+
+    def text(self, part: str, scale: int) -> bytes:
+        """The lines of a part, those that stand more than once so many times more often."""
+        return "".join(f"{line}\n" for form in self.lines[part] for line in copies(form, scale)).encode("ascii")
+
+
+@dataclass
+class Measured:
+    """What a subject took for a workload, in seconds a pass, beside the reference, in seconds a turn;
+    and what it wrote."""
+    passes: list[float] = field(default_factory=list)
+    reference: list[float] = field(default_factory=list)
+    replies: bytes = b""
+
+    def ratios(self, operations: int) -> list[float]:
+        """How many turns of the reference an operation took, in each pass."""
+        return [taken / operations / turn for taken, turn in zip(self.passes, self.reference)]
+
+
+def copies(form: str, scale: int) -> Iterator[str]:
+    """The lines of a form `COUNT: LINE`."""
+    count, _, line = form.partition(": ")
+    for n in range(int(count) * (scale if int(count) > 1 else 1)):
+        yield line.replace("{n}", str(n)).replace("{m}", str(n + 1)).replace("{k}", str(n % ACCOUNTS + 1))
+
+
+def workloads(path: str = WORKLOADS) -> Iterator[Workload]:
+    """The workloads of a file, in their order."""
+    with open(path, encoding="ascii") as file:
+        blocks = file.read().split("\n\n")
+    for header, *lines in (block.strip("\n").split("\n") for block in blocks if block.startswith("== ")):
+        name, unit, operations, checksum = header.removeprefix("== ").split(" | ")
+        made = Workload(name, unit, int(operations), int(checksum, 16))
+        part = {"m": "m", "sql": "sql"}
+        for line in lines:
+            kind = "sql" if line.startswith("sql ") else "m"
+            line = line.removeprefix("sql ")
+            if line == "ready":
+                part[kind] += " timed"
+            else:
+                made.lines[part[kind]].append(line)
+        yield made
+
+
+def reference() -> float:
+    """The seconds that a turn of the loop takes."""
+    start, total = time.perf_counter(), 0
+    for i in range(TURNS):
+        total = (total * 7 + i) % 9973
+    return (time.perf_counter() - start) / TURNS
+
+
+def timed(words: list[str], setup: bytes, work: bytes, **more) -> tuple[float, bytes]:
+    """The seconds from the answer to a set-up to the end of what follows, and what was written in between.
+    Both end by a line whose answer has the word that is waited for."""
+    with subprocess.Popen(words, stdin=subprocess.PIPE, stdout=subprocess.PIPE, **more) as ran:
+        ran.stdin.write(setup)
+        ran.stdin.flush()
+        for line in ran.stdout:
+            if READY.encode() in line:
+                break
+        else:
+            sys.exit(f"bench: {words[0]} did not answer its set-up")
+        feeder = threading.Thread(target=lambda: (ran.stdin.write(work), ran.stdin.close()))
+        start = time.perf_counter()
+        feeder.start()
+        written = []
+        for line in ran.stdout:
+            if DONE.encode() in line:
+                break
+            written.append(line)
+        taken = time.perf_counter() - start
+        feeder.join()
+        ran.stdout.read()
+    return taken, b"".join(written)
+
+
+def plain(replies: bytes) -> bytes:
+    """What the lines wrote, without the form of the wire, as GT.M writes it."""
+    return b"".join(line + b"\n" for line in re.findall(rb"^\d+[-:!](.+)$", replies, re.MULTILINE))
+
+
+class Subjects:
+    """What is timed, with its files in a folder that goes in the end."""
+
+    def __init__(self, folder: str) -> None:
+        self.folder = folder
+        self.settings = os.path.join(folder, "settings.toml")
+        with open(self.settings, "w", encoding="ascii") as file:
+            for terminal in range(1, ACCOUNTS + 1):
+                file.write(f'[[account]]\nname = "A{terminal}"\nterminals = [{terminal}]\nsteps = 1000000\n')
+        self.dist = gtm_folder()
+        self.sqlite = shutil.which("sqlite3")
+        missing = [name for name, found in ((GTM, self.dist), (SQLITE, self.sqlite)) if not found]
+        for name in missing:
+            print(f"bench: {name} is not installed, and left out", file=sys.stderr)
+        self.names = [*STORES, *(name for name in (GTM, SQLITE) if name not in missing)]
+
+    def run(self, subject: str, work: Workload, scale: int) -> tuple[float, bytes]:
+        """The seconds that a subject takes for a workload, and what it writes."""
+        for name in os.listdir(self.folder):
+            if name.startswith("bench."):
+                os.remove(os.path.join(self.folder, name))
+        if subject == SQLITE:
+            return self.run_sqlite(work, scale)
+        setup = work.text("m", scale) + f'1 W "{READY}"\n'.encode()
+        timed_lines = work.text("m timed", scale) + f'1 W "{DONE}"\n'.encode()
+        if subject == GTM:
+            words = [os.path.join(self.dist, "mumps"), "-run", "bench"]
+            return timed(words, setup, timed_lines, cwd=self.folder, env=self.gtm_made(work))
+        store = subject if subject == "memory" else os.path.join(self.folder, "bench.db")
+        taken, replies = timed(run_words(self.settings, store), setup, timed_lines)
+        return taken, plain(replies)
+
+    def run_sqlite(self, work: Workload, scale: int) -> tuple[float, bytes]:
+        """The same by SQLite's shell over a database in memory; it writes line by line, as the program does."""
+        setup = work.text("sql", scale) + f"SELECT '{READY}';\n".encode()
+        timed_lines = work.text("sql timed", scale) + f"SELECT '{DONE}';\n".encode()
+        taken, _ = timed(["stdbuf", "-oL", self.sqlite, "-batch", ":memory:"], setup, timed_lines)
+        return taken, b""
+
+    def gtm_made(self, work: Workload) -> dict[str, str]:
+        """What GT.M is run with: a new database, and the routines that the set-up stores, as files."""
+        files = {"bench": GTM_LOOP}
+        for form in work.lines["m"]:
+            if found := ROUTINE_LINE.match(form):
+                files[found[1]] = files.get(found[1], "") + found[2] + "\n"
+        for name, text in files.items():
+            with open(os.path.join(self.folder, f"{name}.m"), "w", encoding="ascii") as file:
+                file.write(text)
+        env = {**os.environ, "gtm_dist": self.dist, "gtmgbldir": os.path.join(self.folder, "bench.gld"),
+               "gtmroutines": f"{self.folder} {self.dist}/libgtmutil.so", "gtm_chset": "M",
+               "gtm_tmp": self.folder, "HOME": self.folder}
+        made = f"change -segment DEFAULT -file={self.folder}/bench.dat -allocation=20000\nexit\n".encode()
+        quiet = {"env": env, "cwd": self.folder, "capture_output": True, "check": True}
+        subprocess.run([os.path.join(self.dist, "mumps"), "-run", "GDE"], input=made, **quiet)
+        subprocess.run([os.path.join(self.dist, "mupip"), "create"], **quiet)
+        return env
+
+
+def gtm_folder() -> str | None:
+    """The folder of GT.M's program, if it is installed."""
+    for top, _, files in os.walk("/usr/lib/x86_64-linux-gnu/fis-gtm"):
+        if "mumps" in files and not top.endswith("utf8"):
+            return top
+    return None
+
+
+def measured(subjects: Subjects, work: Workload, passes: int, scale: int) -> dict[str, Measured]:
+    """What each subject took, pass by pass, the subjects and the reference by turns."""
+    found: dict[str, Measured] = {}
+    for _, subject in itertools.product(range(passes), subjects.names):
+        if subject == SQLITE and not work.lines["sql timed"]:
+            continue
+        one = found.setdefault(subject, Measured())
+        one.reference.append(reference())
+        taken, one.replies = subjects.run(subject, work, scale)
+        one.passes.append(taken)
+    return found
+
+
+def faults(work: Workload, found: dict[str, Measured], scale: int) -> Iterable[str]:
+    """What is wrong with the replies."""
+    replies = found["memory"].replies
+    if scale == 1 and zlib.crc32(replies) != work.checksum:
+        yield f"{work.name}: the replies have the checksum {zlib.crc32(replies):08x}, not {work.checksum:08x}"
+    for subject in ("file", GTM):
+        if subject in found and found[subject].replies != replies:
+            yield f"{work.name}: {subject} answers otherwise: {found[subject].replies[-60:]!r}, not {replies[-60:]!r}"
+
+
+def cell(one: Measured | None, more: Measured | None, operations: int) -> str:
+    """The best ratio, with the median; and by what ten times the lines made the time grow."""
+    if one is None:
+        return ""
+    ratios = one.ratios(operations)
+    told = f"{min(ratios):.2f} ({statistics.median(ratios):.2f})"
+    if more is None:
+        return told
+    return f"{told}, {min(more.ratios(operations)) / min(ratios):.1f} times"
+
+
+def write_page(table: str) -> None:
+    """Puts the table between its marks."""
+    with open(PAGE, encoding="utf-8") as file:
+        page = file.read()
+    if BEGIN not in page:
+        sys.exit("bench: docs/PERFORMANCE.md has no place for the table")
+    place = re.escape(BEGIN) + ".*?" + re.escape(END)
+    made = re.sub(place, lambda _: BEGIN + table + END, page, count=1, flags=re.DOTALL)
+    with open(PAGE, "w", encoding="utf-8") as file:
+        file.write(made)
+
+
+def asked_for() -> argparse.Namespace:
+    """The words of the command line."""
+    read = argparse.ArgumentParser(description=__doc__.split("\n\n", maxsplit=1)[0])
+    read.add_argument("names", nargs="*")
+    read.add_argument("--passes", type=int, default=5)
+    read.add_argument("--growth", action="store_true")
+    read.add_argument("--write", action="store_true")
+    read.add_argument("--workloads", default=WORKLOADS)
+    return read.parse_args()
+
+
+def main() -> int:
+    """Times, prints the table, and tells what is wrong with the replies."""
+    asked = asked_for()
+    require_program()
+    wrong: list[str] = []
+    with tempfile.TemporaryDirectory() as folder:
+        subjects = Subjects(folder)
+        names = subjects.names
+        table = [f"| Workload, an operation | {' | '.join(names)} |", "|---" * (len(names) + 1) + "|"]
+        for work in workloads(asked.workloads):
+            if asked.names and not any(name in work.name for name in asked.names):
+                continue
+            found = measured(subjects, work, asked.passes, 1)
+            wrong += faults(work, found, 1)
+            larger: dict[str, Measured] = {}
+            if asked.growth:
+                larger = measured(subjects, work, asked.passes, GROWTH)
+                wrong += faults(work, larger, GROWTH)
+            cells = [cell(found.get(name), larger.get(name), work.operations) for name in names]
+            table.append(f"| {work.name}, {work.unit} | {' | '.join(cells)} |")
+            print(table[-1], file=sys.stderr, flush=True)
+    table += ["", f"{time.strftime('%Y-%m-%d')}, {os.cpu_count()} processors, {asked.passes} passes, "
+                  f"turns of Python {platform.python_version()}."]
+    text = "\n".join(table) + "\n"
+    print(text, end="")
+    if asked.write:
+        write_page(text)
+    for told in wrong[:20]:
+        print(f"bench: {told}", file=sys.stderr)
+    return 1 if wrong else 0
+
+
+if __name__ == "__main__":
+    sys.exit(main())

@@ -6,6 +6,7 @@ plus 1, and 00 for another text."""
 from __future__ import annotations
 
 import re
+from functools import lru_cache
 
 MAX_SUBSCRIPTS = 15
 MAX_SUBSCRIPT = 255
@@ -31,6 +32,7 @@ def is_account(text: str) -> bool:
     return _ACCOUNT.fullmatch(text) is not None
 
 
+@lru_cache(1 << 16)
 def units(text: str) -> int | None:
     """The number, in units of 10^-18, of which the text is the canonical text; None if it is no such text."""
     found = _NUMBER.fullmatch(text)
@@ -64,35 +66,52 @@ def ended(text: str) -> bytes:
     return text.encode("ascii").translate(_RAISED) + b"\0"
 
 
+@lru_cache(1 << 16)
 def subscript_bytes(text: str) -> bytes:
     """A subscript in a key."""
     number = units(text)
     return b"\2" + ended(text) if number is None else b"\1" + (number + _BIAS).to_bytes(16, "big")
 
 
+@lru_cache(1 << 10)
+def start(account: str, name: str) -> bytes:
+    """What the keys of all nodes of a global begin with."""
+    return ended(account) + ended(name)
+
+
 def key(account: str, name: str, subscripts: Subscripts = ()) -> bytes:
     """The key of a node."""
-    return ended(account) + ended(name) + b"".join(map(subscript_bytes, subscripts))
+    return above(account, name, subscripts[:-1]) + subscript_bytes(subscripts[-1]) if subscripts else start(account, name)
 
 
-def end_of_subtree(start: bytes) -> bytes:
+@lru_cache(1 << 12)
+def above(account: str, name: str, subscripts: Subscripts) -> bytes:
+    """The key of a node, kept: many nodes stand below it."""
+    return start(account, name) + b"".join(map(subscript_bytes, subscripts))
+
+
+def end_of_subtree(first: bytes) -> bytes:
     """The bytes before which all keys of a node and of those below it stand, given the node's key."""
-    return start + b"\3"
+    return first + b"\3"
 
 
 def node(data: bytes) -> tuple[str, str, Subscripts]:
     """The account, the name and the subscripts of a key. ValueError if the bytes are no key of a node."""
-    account, name, rest = data.split(b"\0", 2)
+    account, name, _ = data.split(b"\0", 2)
     parts = account.translate(_LOWERED).decode("ascii"), name.translate(_LOWERED).decode("ascii")
-    subscripts: list[str] = []
-    at = 0
-    while at < len(rest):
-        text, at = _subscript(rest, at)
-        subscripts.append(text)
-    found = (*parts, tuple(subscripts))
-    if not (is_account(parts[0]) and is_name(parts[1]) and len(subscripts) <= MAX_SUBSCRIPTS and key(*found) == data):
+    found = (*parts, subscripts(data, len(account) + len(name) + 2))
+    if not (is_account(parts[0]) and is_name(parts[1]) and len(found[2]) <= MAX_SUBSCRIPTS and key(*found) == data):
         raise ValueError(f"no key of a node: {data.hex()}")
     return found
+
+
+def subscripts(data: bytes, at: int) -> Subscripts:
+    """The subscripts of a key, which begin at a place."""
+    found: list[str] = []
+    while at < len(data):
+        text, at = _subscript(data, at)
+        found.append(text)
+    return tuple(found)
 
 
 def _subscript(rest: bytes, at: int) -> tuple[str, int]:

@@ -12,6 +12,7 @@ from collections.abc import Callable, Iterator
 from dataclasses import dataclass
 from pathlib import Path
 
+import hypothesis
 import pytest
 
 CLIENTS = Path(__file__).resolve().parent.parent
@@ -20,9 +21,16 @@ sys.path[:0] = [str(CLIENTS), str(CLIENTS.parent / "tools")]
 import running  # noqa: E402
 from mserve_client import Connection  # noqa: E402
 
+# The same cases in each run, and no deadline: the machine may be busy.
+hypothesis.settings.register_profile("house", deadline=None, max_examples=40, derandomize=True, database=None)
+hypothesis.settings.load_profile("house")
 SETTINGS = str(CLIENTS / "tests" / "settings.toml")
 ALICE, ALICE_TOO, BOB, SHORT = 1, 2, 3, 4
 CONNECTIONS = 1_000_000
+# The kinds of store; the variable STORES names fewer.
+STORES = os.environ.get("STORES", "memory file").split()
+# The globals that tests make, which are killed before the next test.
+NAMES = ("ROUTINE", "X", "Y", "Z", "DATA", "INR", "HERE", "%P", "UNSEEN", "PATIENT", "VISIT", "NONE")
 
 
 def pytest_configure() -> None:
@@ -52,30 +60,46 @@ class Server:
 def start(store: str) -> Server:
     """A server over a store, which takes connections once this returns."""
     port = running.free_port()
-    process = subprocess.Popen(running.serve_words(port, CONNECTIONS, store, SETTINGS), stdin=subprocess.DEVNULL)
+    process = subprocess.Popen(running.serve_words(port, CONNECTIONS, store, SETTINGS), stdin=subprocess.DEVNULL, stdout=subprocess.DEVNULL)
     running.connected(port).close()
     return Server(process, port, store)
 
 
-@pytest.fixture(params=["memory", "file"])
-def server(request: pytest.FixtureRequest, tmp_path: Path) -> Iterator[Server]:
-    """A server over a new store of each kind."""
-    store = "memory" if request.param == "memory" else str(tmp_path / "store.db")
-    started = start(store)
+def served(kind: str, folder: Path) -> Iterator[Server]:
+    """A server over a new store of a kind, `memory` or `file`."""
+    started = start("memory" if kind == "memory" else str(folder / "store.db"))
     try:
         yield started
     finally:
         started.stop()
+
+
+@pytest.fixture(scope="session", params=STORES)
+def lasting_server(request: pytest.FixtureRequest, tmp_path_factory: pytest.TempPathFactory) -> Iterator[Server]:
+    """A server of each kind of store, for all tests."""
+    yield from served(request.param, tmp_path_factory.mktemp("store"))
+
+
+@pytest.fixture
+def server(lasting_server: Server) -> Server:
+    """A server over a store of each kind, with nothing in it, and new sessions."""
+    for terminal in (ALICE, ALICE_TOO, BOB, SHORT):
+        with lasting_server.connection(terminal) as connection:
+            replies = list(connection.pipeline(["HALT", *(f"K ^{name}" for name in NAMES)]))
+            assert all(reply.ok for reply in replies)
+    return lasting_server
+
+
+@pytest.fixture(params=STORES)
+def own_server(request: pytest.FixtureRequest, tmp_path: Path) -> Iterator[Server]:
+    """A server over a store of each kind that a test may end."""
+    yield from served(request.param, tmp_path)
 
 
 @pytest.fixture
 def file_server(tmp_path: Path) -> Iterator[Server]:
     """A server over a new store in a file."""
-    started = start(str(tmp_path / "store.db"))
-    try:
-        yield started
-    finally:
-        started.stop()
+    yield from served("file", tmp_path)
 
 
 @dataclass(frozen=True)

@@ -84,12 +84,9 @@ def _of_form(line: SourceLine) -> Finding | None:
 
 def _refused(connection: Connection, line: SourceLine) -> Finding:
     """What is wrong with a line that is not in the language: its first command that is refused, and what is known of it."""
-    ends = language.command_ends(line.rest)
-    heads = [line.rest[:end] for end in ends]
-    known = [end for end, accepted in zip(ends, accepted_rests(connection, heads)) if accepted]
-    start = known[-1] if known else 0
-    start += len(line.rest[start:]) - len(line.rest[start:].lstrip(" "))
-    end = next((place for place in ends if place > start + 1 and not _is_word(line.rest[start:place])), len(line.rest))
+    commands = language.commands(line.rest)
+    heads = accepted_rests(connection, [line.rest[:end] for _, end in commands])
+    start, end = next((command for command, accepted in zip(commands, list(heads)) if not accepted), (0, len(line.rest)))
     command = line.rest[start:end]
     column = len(line.label) + len(line.level) + start
     cause = language.cause(command) or language.cause(line.rest[start:])
@@ -97,8 +94,3 @@ def _refused(connection: Connection, line: SourceLine) -> Finding:
         return Finding(0, column + 1, f"not in the language: {command[:60]}")
     place, missing = cause
     return Finding(0, column + place + 1, f"not in the language: {command[:60]}: {missing.name}", missing.advice)
-
-
-def _is_word(text: str) -> bool:
-    """Whether the text is a command's word alone, perhaps with its condition."""
-    return text.partition(":")[0].isalpha() and " " not in text

@@ -60,6 +60,7 @@ MISSING = [
     _missing(r"^(?:S|SET)(?::\S+)? (?:\S*[,(])?\$(?!P\(|PIECE\()", "SET of a special variable", "Leave it out: $TEST is set by IF and LOCK alone.", 'S $X=0'),
     _missing(r"^(?:S|SET)(?::\S+)? (?:\S*[,(])?\$(?:P|PIECE)\([^,()]*(?:\([^()]*\))?,[^,]*,[^,]*,", "SET $PIECE of several pieces", "Set one piece at a time.",
              'S $P(X,",",1,2)="a"'),
+    _missing(r"\^\$", "a structured system variable", "There is none: mglobal knows what a store file has.", 'W $D(^$GLOBAL("X"))'),
     _missing(r"\$(?:H|HOROLOG)(?![A-Z(])", "$HOROLOG", 'The server has no clock: the client sends the time: S NOW="67530,43200".', "S X=$H"),
     _missing(r"\$(?:T|TEXT)\(", "$TEXT", 'A routine\'s lines are a global: ^ROUTINE("R",1).', "W $T(A+1)"),
     _missing(r"\$(?:Q|QUERY|QL|QLENGTH|QS|QSUBSCRIPT|NA|NAME)\(", "$QUERY and the like", "Walk level by level by $ORDER; build names by `_` and use them by @.", "S X=$Q(^A)"),
@@ -73,7 +74,6 @@ MISSING = [
              "The session has $TEST alone; $INCREMENT(X) is S X=$G(X)+1.", "S X=$I(^N)"),
     _missing(r"\$Z[A-Z]*", "a $Z function or variable", "It is another system's own.", "W $ZV"),
     _missing(r"\$[A-Z]+", "a function that is not there, or arguments that it does not take", 'docs/LANGUAGE.md, "Functions", has all of them.', "W $L(1,2,3)"),
-    _missing(r"\^\$", "a structured system variable", "There is none: mglobal knows what a store file has.", 'W $D(^$GLOBAL("X"))'),
     _missing(r"\*\*", "the operator **", "Multiply in a loop: S P=1 F I=1:1:N S P=P*X.", "W 2**3"),
     _missing(r"\?\d*\.?\d*\(", "alternation in a pattern", "Test each pattern by itself: X?1N!(X?1A).", 'W X?1(1N,1A)'),
     _missing(r"\?@", "indirection of a pattern", 'Put it into a text and run it: S C="I X?"_P X C.', "W X?@P"),
@@ -105,11 +105,29 @@ def cause(command: str) -> tuple[int, Missing] | None:
     return None
 
 
-def command_ends(text: str) -> list[int]:
-    """The places of a line at which a command may end: spaces outside of strings and brackets."""
-    places, depth = [], 0
-    for place, code in enumerate(blanked(text)):
-        depth += (code == "(") - (code == ")")
-        if code == " " and depth == 0:
-            places.append(place)
-    return places
+def commands(text: str) -> list[tuple[int, int]]:
+    """The commands of a line, each from its first place to the one behind it: a word, and after one space its arguments."""
+    blank = blanked(text)
+    found, at = [], _next_word(blank, 0)
+    while at < len(blank):
+        end = _word_end(blank, at)
+        if blank[end:end + 1] == " " and blank[end + 1:end + 2] not in (" ", ""):
+            end = _word_end(blank, end + 1)
+        found.append((at, end))
+        at = _next_word(blank, end)
+    return found
+
+
+def _next_word(text: str, at: int) -> int:
+    """The first place from one on that is no space."""
+    return len(text) - len(text[at:].lstrip(" "))
+
+
+def _word_end(text: str, at: int) -> int:
+    """The place of the first space outside of brackets from a place on, or the end."""
+    depth = 0
+    for place in range(at, len(text)):
+        depth += (text[place] == "(") - (text[place] == ")")
+        if text[place] == " " and depth <= 0:
+            return place
+    return len(text)

@@ -66,8 +66,8 @@ def guarded(name: str, act: Callable[[], int]) -> int:
     except OSError as error:
         tell(name, f"{error.filename}: {error.strerror}" if error.filename else str(error))
         return FOUND
-    except KeyboardInterrupt:
-        tell(name, "interrupted; the terminal's session is ended")
+    except KeyboardInterrupt as error:
+        tell(name, "; ".join(["interrupted", *getattr(error, "__notes__", [])]))
         return INTERRUPTED
 
 

@@ -11,11 +11,11 @@ for its first reply, so that a time-out mostly means: someone else is connected.
 from __future__ import annotations
 
 import re
+import signal
 import socket
 import struct
 import time
 from collections.abc import Iterable, Iterator
-from contextlib import suppress
 from dataclasses import dataclass
 from select import select
 from types import TracebackType
@@ -136,9 +136,10 @@ class Connection:
     def __init__(self, port: int, terminal: int, *, host: str = HOST, timeout: float | None = PATIENCE) -> None:
         """Connects. With a `timeout` of None, replies are waited for without end."""
         self.port, self.terminal, self.timeout = port, terminal, timeout
-        self._waiting = 0
+        # bytes that are not sent yet; whether the line before them is sent in part; how many whole lines are sent and not answered
         self._out = bytearray()
         self._unfinished = False
+        self._under_way = 0
         self._ready: list[Reply] = []
         self._reader = ReplyReader(terminal)
         try:
@@ -153,9 +154,12 @@ class Connection:
         return self
 
     def __exit__(self, kind: type[BaseException] | None, error: BaseException | None, trace: TracebackType | None) -> None:
-        if kind is not None and issubclass(kind, KeyboardInterrupt):
-            with suppress(ClientError):
+        if isinstance(error, KeyboardInterrupt):
+            try:
                 self.end_session()
+                error.add_note("the terminal's session is ended")
+            except ClientError:
+                error.add_note("the terminal's session could not be ended; lines that were sent may be run yet")
         self.close()
 
     def send(self, text: str | bytes) -> Reply:
@@ -170,23 +174,26 @@ class Connection:
         The server runs all that was sent, also what follows a line that fails. Who wants to stop at the first
         code lets `texts` end there, reads the replies that are still due, and knows from these what was run."""
         self._drain()
-        source, more = iter(texts), True
-        while more or self._waiting or self._ready:
-            while more and self._waiting < window and len(self._out) < MAX_OUTGOING:
+        source, more, due = iter(texts), True, 0
+        while more or due:
+            while more and due < window and len(self._out) < MAX_OUTGOING:
                 text = next(source, None)
-                more = text is not None
-                if text is not None:
-                    self._queue(text)
-            if self._waiting and not self._ready:
-                self._exchange(self.timeout)
+                if text is None:
+                    more = False
+                else:
+                    self._out += line_bytes(self.terminal, text)
+                    due += 1
+            if due and not self._ready:
+                self._exchange()
             ready, self._ready = self._ready, []
+            due -= len(ready)
             yield from ready
 
     def end_session(self, patience: float = 5.0) -> Reply:
         """Ends the terminal's session by HALT: a line that is partly sent is finished, those behind it are not sent, and replies that
-        are due are passed over. Nothing else has the terminal's variables and locks then."""
-        self._drop_unsent_lines()
-        self._drain(patience)
+        are due are passed over. The terminal's variables are gone then, and its locks given back."""
+        self.timeout = patience
+        self._drain()
         return self.send("HALT")
 
     def close(self) -> None:
@@ -195,35 +202,32 @@ class Connection:
             self._socket.setsockopt(socket.SOL_SOCKET, socket.SO_LINGER, struct.pack("ii", 1, 0))
         self._socket.close()
 
-    def _queue(self, text: str | bytes) -> None:
-        self._out += line_bytes(self.terminal, text)
-        self._waiting += 1
-
-    def _drop_unsent_lines(self) -> None:
-        """Forgets the lines of which no byte was sent."""
+    def _drain(self) -> None:
+        """Passes over the replies that are due from a pipeline that was left; lines of which no byte was sent are forgotten."""
         end = self._out.find(b"\n") + 1 if self._unfinished else 0
-        self._waiting -= self._out.count(b"\n", end)
         del self._out[end:]
-
-    def _drain(self, patience: float | None = None) -> None:
-        """Passes over the replies that are due from a pipeline that was left."""
-        self._drop_unsent_lines()
-        while self._waiting:
-            self._exchange(patience or self.timeout)
+        while self._out or self._under_way:
+            self._exchange()
         self._ready.clear()
 
-    def _exchange(self, patience: float | None) -> None:
+    def _exchange(self) -> None:
         """Sends what the socket takes and reads what it has; waits until one of both is possible."""
-        limit = None if patience is None else time.monotonic() + patience
-        while True:
-            moved = self._write()
-            if self._read() or moved:
-                return
+        limit = None if self.timeout is None else time.monotonic() + self.timeout
+        while not self._moved():
             left = None if limit is None else limit - time.monotonic()
             if left is not None and left <= 0:
-                raise TimedOut(f"no reply within {patience:g} seconds: the server serves one connection at a time, so another client may be "
+                raise TimedOut(f"no reply within {self.timeout:g} seconds: the server serves one connection at a time, so another client may be "
                                "connected, or the line runs long; --timeout 0 waits as long as it takes")
             select([self._socket], [self._socket] if self._out else [], [], left)
+
+    def _moved(self) -> bool:
+        """Whether bytes went out or came. An interrupt waits meanwhile, so that no reply is lost or counted twice."""
+        before = signal.pthread_sigmask(signal.SIG_BLOCK, {signal.SIGINT})
+        try:
+            written = self._write()
+            return self._read() or written
+        finally:
+            signal.pthread_sigmask(signal.SIG_SETMASK, before)
 
     def _write(self) -> bool:
         if not self._out:
@@ -236,6 +240,7 @@ class Connection:
             raise self._gone() from error
         if count:
             self._unfinished = self._out[count - 1] != 10
+            self._under_way += self._out.count(b"\n", 0, count)
         del self._out[:count]
         return count > 0
 
@@ -249,9 +254,9 @@ class Connection:
         if not data:
             raise self._gone()
         replies = self._reader.feed(data)
-        self._waiting -= len(replies)
+        self._under_way -= len(replies)
         self._ready += replies
         return True
 
     def _gone(self) -> ServerGone:
-        return ServerGone(f"the server at port {self.port} went away; {self._waiting} lines have no reply, and may have been run or not")
+        return ServerGone(f"the server at port {self.port} went away; {self._under_way} lines that were sent have no reply, and may have been run or not")

@@ -185,10 +185,10 @@ def test_check_of_files(server: Server, command: Command, tmp_path: Path) -> Non
     ran = command("mroutine", server.port, 1, "check", "BAD.m", "GOOD.m")
     assert ran.output.splitlines() == [
         "BAD.m:1:4: the label BAD has parameters", f"    {language.LABEL_PARAMETERS}",
-        "BAD.m:2:9: not in the language: S X=$$ADD^R(A): an extrinsic function", f"    {advice('an extrinsic function')}",
+        "BAD.m:2:10: not in the language: S X=$$ADD^R(A): an extrinsic function", f"    {advice('an extrinsic function')}",
         "BAD.m:3:4: not in the language: Q X+1: QUIT with a value", f"    {advice('QUIT with a value')}",
         "BAD.m:5:1: the line begins with '1 Q'", f"    {language.NO_LABEL}",
-        "BAD.m:6:17: not in the language: R X: READ", f"    {advice('READ')}",
+        "BAD.m:6:16: not in the language: R X: READ", f"    {advice('READ')}",
         "2 files, 12 lines: 5 lines not in the language"]
     assert ran.status == 1 and nodes(server) == {}
     ran = command("mroutine", server.port, 1, "check", "GOOD.m")
@@ -207,7 +207,7 @@ def test_check_runs_nothing_and_leaves_the_session(server: Server) -> None:
     with server.connection() as connection:
         connection.send("S A=1,%m=2 I 1")
         found = check(connection, [source_line(text) for text in (" S ^X=1 K", f" {long}", " H", f" {long} W $$X")])
-        assert [(finding.line, finding.column) for finding in found] == [(4, 356)]
+        assert [(finding.line, finding.column) for finding in found] == [(4, 358)]
         assert connection.send("W A,$T,$D(^X)").rest == "110"
 
 

@@ -5,7 +5,6 @@ import os
 import pty
 import re
 import select
-import signal
 import subprocess
 import sys
 import time
@@ -173,7 +172,7 @@ class Terminal:
         """Types a text."""
         os.write(self._end, text.encode())
 
-    def wait(self, text: str, seconds: float = 30) -> str:
+    def wait(self, text: str, seconds: float = 10) -> str:
         """What was shown up to a text that has to come."""
         limit = time.monotonic() + seconds
         while text not in self.seen:
@@ -189,7 +188,7 @@ def terminal(server: Server, folder: Path, *words: str, rows: int = 24, without:
     """A shell at a prompt; `without` names a module that is not to be found."""
     near, far = pty.openpty()
     hook = f"import sys; sys.modules[{without!r}] = None; " if without else "import sys; "
-    start = hook + f"sys.path.insert(0, {str(CLIENTS)!r}); from mserve_client.shell import main; sys.exit(main())"
+    start = hook + f"import fcntl, termios; fcntl.ioctl(0, termios.TIOCSCTTY, 0); sys.path.insert(0, {str(CLIENTS)!r}); from mserve_client.shell import main; sys.exit(main())"
     process = subprocess.Popen([sys.executable, "-c", start, str(server.port), "1", "--history", str(folder / "state" / "history"), *words], stdin=far, stdout=far, stderr=far,
                                start_new_session=True, env={**os.environ, "TERM": "xterm", "LINES": str(rows), "COLUMNS": "200", "PROMPT_TOOLKIT_NO_CPR": "1"})
     os.close(far)
@@ -207,13 +206,14 @@ WITHOUT = pytest.mark.parametrize("without", ["", "prompt_toolkit", "rich"])
 @WITHOUT
 def test_prompt(server: Server, tmp_path: Path, without: str) -> None:
     with terminal(server, tmp_path, without=without) as shell:
-        shell.wait("> ")
+        shell.wait(">")
         shell.type("W 2/3\r")
         shell.wait(".666666666666666667")
         shell.type("W B\r")
         shell.wait('M6: undefined local variable  (docs/LANGUAGE.md, "Variables")')
         shell.type("W $C(27)_1\r")
         shell.wait("\\1B1")
+        shell.wait(">")
         shell.type("\x04")
         assert shell.process.wait(20) == 0
     assert "W 2/3" in (tmp_path / "state" / "history").read_text()
@@ -222,13 +222,14 @@ def test_prompt(server: Server, tmp_path: Path, without: str) -> None:
 @WITHOUT
 def test_history_is_kept_between_runs(server: Server, tmp_path: Path, without: str) -> None:
     with terminal(server, tmp_path, without=without) as shell:
-        shell.wait("> ")
+        shell.wait(">")
         shell.type("W 700+7\r")
         shell.wait("707")
+        shell.wait(">")
         shell.type("\x04")
         assert shell.process.wait(20) == 0
     with terminal(server, tmp_path, without=without) as shell:
-        shell.wait("> ")
+        shell.wait(">")
         shell.type("\x1b[A\r")
         shell.wait("707")
 
@@ -236,8 +237,10 @@ def test_history_is_kept_between_runs(server: Server, tmp_path: Path, without: s
 @pytest.mark.parametrize("without", ["", "prompt_toolkit"])
 def test_completion_at_the_prompt(server: Server, tmp_path: Path, without: str) -> None:
     with terminal(server, tmp_path, without=without) as shell:
-        shell.wait("> ")
-        shell.type("WRI\t 5*5\r")
+        shell.wait(">")
+        shell.type("WRI\t")
+        shell.wait("WRITE")
+        shell.type(" 5*5\r")
         shell.wait("25")
 
 
@@ -245,36 +248,44 @@ def test_pages(server: Server, tmp_path: Path) -> None:
     with server.connection() as connection:
         connection.send("F I=1:1:100 S ^X(I)=I")
     with terminal(server, tmp_path, rows=12) as shell:
-        shell.wait("> ")
+        shell.wait(">")
         shell.type(".show ^X\r")
         assert "^X(10)=10" in shell.wait("-- Enter for more, q to stop -- ")
         shell.type("\r")
         shell.wait("^X(20)=20")
         shell.wait("-- Enter for more, q to stop -- ")
         shell.type("q\r")
-        assert "^X(21)" not in shell.wait("> ")
+        assert "^X(21)" not in shell.wait(">")
 
 
-def test_interrupt_at_the_prompt_and_in_a_line(server: Server, tmp_path: Path) -> None:
+def test_interrupt_at_the_prompt(server: Server, tmp_path: Path) -> None:
     with terminal(server, tmp_path) as shell:
-        shell.wait("> ")
+        shell.wait(">")
         shell.type("W 1\x03")
-        shell.wait("> ")
+        shell.wait(">")
         shell.type("W 6*7\r")
         shell.wait("42")
-        with pytest.MonkeyPatch.context():
-            shell.process.send_signal(signal.SIGINT)
-        shell.type("\x04")
-        shell.process.wait(20)
+
+
+def test_interrupt_while_a_reply_is_waited_for(server: Server, tmp_path: Path) -> None:
+    with server.connection() as other:
+        other.send("S A=1")
+        with terminal(server, tmp_path) as shell:
+            shell.wait(">")
+            shell.type("W A\r")
+            shell.wait("Ctrl-C gives up")
+            shell.type("\x03")
+            shell.wait("mshell: interrupted; the terminal's session could not be ended")
+            assert shell.process.wait(20) == 130
 
 
 def test_waiting_is_told(server: Server, tmp_path: Path) -> None:
     with server.connection() as other:
         other.send("S A=1")
         with terminal(server, tmp_path) as shell:
-            shell.wait("> ")
+            shell.wait(">")
             shell.type("W 6*7\r")
-            shell.wait("another client may be connected")
+            shell.wait("Ctrl-C gives up")
             other.close()
             shell.wait("42")
 

@@ -122,7 +122,7 @@ def test_server_that_goes_away(own_server: Server) -> None:
     with own_server.connection() as connection:
         connection.send("W 1")
         own_server.process.kill()
-        with pytest.raises(ServerGone, match="1 lines have no reply"):
+        with pytest.raises(ServerGone, match="went away"):
             connection.send("W 2")
 
 

@@ -14,7 +14,7 @@ from .extracts import FORMATS, Entry, Problem, Record, Unreadable, shown_node
 from .options import FOUND
 from .progress import Progress
 from .routine_command import counted
-from .store_file import BATCH, BadStore, StoreFile
+from .store_file import BadStore, StoreFile
 from .terminal_way import ImportStopped, TerminalWay
 from .walk import Refused
 from .wire import ClientError, Connection

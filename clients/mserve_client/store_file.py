@@ -14,7 +14,8 @@ from .wire import ClientError
 VERSION = 2
 TABLES = ("CREATE TABLE node (k BLOB PRIMARY KEY NOT NULL, v BLOB NOT NULL)", "CREATE TABLE meta (name TEXT PRIMARY KEY, n INTEGER)")
 PUT = "INSERT INTO node (k, v) VALUES (?, ?) ON CONFLICT (k) DO UPDATE SET v = excluded.v"
-BATCH = 10_000
+# Bytes of a log's head, of the head of a page in it, and of the smallest page.
+LOG_HEAD, PAGE_HEAD, LEAST_PAGE = 32, 24, 512
 
 
 class BadStore(ClientError):
@@ -116,11 +117,19 @@ class StoreFile:
 
 
 def refuse_log(path: str) -> None:
-    """BadStore if a log stands beside the file."""
+    """BadStore if a log with changes that the file has not, or a journal, stands beside the file."""
     for log in (path + "-wal", path + "-journal"):
-        if os.path.exists(log) and os.path.getsize(log):
+        if os.path.exists(log) and has_changes(log):
             raise BadStore(f"{path}: its log {log} stands beside it: a server has the file, or one was ended by a signal. If none runs, "
                            f"./mserve run --settings FILE --store {path} </dev/null copies the log into the file")
+
+
+def has_changes(log: str) -> bool:
+    """Whether a log has room for a page; the program leaves one with its head alone. A journal has changes if it is not empty."""
+    with open(log, "rb") as file:
+        head = file.read(LOG_HEAD)
+        size = os.fstat(file.fileno()).st_size
+    return size > 0 if log.endswith("-journal") else size >= LOG_HEAD + PAGE_HEAD + max(int.from_bytes(head[8:12], "big"), LEAST_PAGE)
 
 
 def refusal(path: str, error: sqlite3.Error) -> BadStore:

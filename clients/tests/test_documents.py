@@ -1,12 +1,14 @@
-"""What the clients say of the language is what docs/LANGUAGE.md says."""
+"""What the clients say of the language is what docs/LANGUAGE.md says, and the man pages have what the commands take."""
 from __future__ import annotations
 
 import re
+import shutil
+import subprocess
 
 import pytest
-from conftest import CLIENTS
+from conftest import CLIENTS, Command
 from mserve_client import CODES, in_words, place
-from mserve_client.reference import COMMANDS, FUNCTIONS, explained, overview
+from mserve_client.reference import COMMANDS, DOT_COMMANDS, FUNCTIONS, explained, overview
 
 PAGE = (CLIENTS.parent / "docs" / "LANGUAGE.md").read_text(encoding="utf-8")
 
@@ -42,3 +44,32 @@ def test_overview_has_each_word() -> None:
     text = "\n".join(overview())
     assert all(word in text for word in COMMANDS)
     assert all(FUNCTIONS[word] in text for word in FUNCTIONS)
+
+
+COMMAND_PAGES = ("mshell", "mroutine", "mglobal")
+
+
+@pytest.mark.parametrize("name", COMMAND_PAGES)
+def test_page_of_a_command_has_each_option_and_word(command: Command, name: str) -> None:
+    """The man page has each option and each word that `--help` has."""
+    page = (CLIENTS / "man" / f"{name}.1").read_text(encoding="utf-8").replace("\\-", "-")
+    helped = command(name, "--help").output
+    acts = re.findall(r"^    (load|check|diff|list|save|delete|export|import|compare|count)\b", helped, re.MULTILINE)
+    for act in acts:
+        helped += command(name, 1, 1, act, "--help").output
+        assert re.search(rf"^\.B[RI]? {act}\b", page, re.MULTILINE)
+    assert len(acts) == {"mshell": 0, "mroutine": 6, "mglobal": 4}[name]
+    options = set(re.findall(r"--[a-z-]+", helped)) - {"--help"}
+    assert options and all(option in page for option in options)
+
+
+def test_page_of_the_shell_has_each_of_its_commands() -> None:
+    page = (CLIENTS / "man" / "mshell.1").read_text(encoding="utf-8")
+    assert all(re.search(rf"^\.BI?R? {re.escape(word)}\b", page, re.MULTILINE) for word in DOT_COMMANDS)
+
+
+@pytest.mark.skipif(shutil.which("groff") is None, reason="groff is not there: apt-get install groff-base")
+@pytest.mark.parametrize("name", COMMAND_PAGES)
+def test_page_is_set_without_a_warning(name: str) -> None:
+    done = subprocess.run(["groff", "-man", "-ww", "-z", "-Tutf8", CLIENTS / "man" / f"{name}.1"], capture_output=True, timeout=60)
+    assert (done.returncode, done.stderr) == (0, b"")

@@ -130,7 +130,7 @@ def export(found: Way, chosen: argparse.Namespace) -> int:
                 except Unreadable as error:
                     left += 1
                     options.tell(NAME, f"left out: {error.reason}")
-    options.tell(NAME, f"{counted(progress.count, 'node')} exported" + (f", {left:,} left out" if left else "") + f", {progress.rate:,.0f} a second")
+    options.tell(NAME, f"{counted(progress.count, 'node')} exported" + (f", {left:,} left out" if left else "") + progress.told_rate)
     return FOUND if left else 0
 
 
@@ -207,7 +207,7 @@ def take(found: Way, chosen: argparse.Namespace) -> int:
             took = chosen.skip or not source.problems
     count = progress.count if took or isinstance(found, TerminalWay) else 0
     print(f"{counted(count, 'node')} imported" + (f", {counted(source.problems, 'line')} cannot come in" if source.problems else "")
-          + ("" if took else "; it stopped there: --skip leaves such lines out, --dry-run lists them") + f", {progress.rate:,.0f} a second")
+          + ("" if took else "; it stopped there: --skip leaves such lines out, --dry-run lists them") + progress.told_rate)
     return FOUND if source.problems else 0
 
 

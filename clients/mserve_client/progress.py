@@ -8,6 +8,8 @@ from contextlib import AbstractContextManager
 from types import TracebackType
 
 STEP = 1000
+# Seconds from which a rate is worth telling.
+LONG = 5
 
 
 class Progress(AbstractContextManager["Progress"]):
@@ -30,6 +32,11 @@ class Progress(AbstractContextManager["Progress"]):
     def rate(self) -> float:
         """Nodes a second."""
         return self.count / max(time.monotonic() - self._began, 1e-6)
+
+    @property
+    def told_rate(self) -> str:
+        """The rate behind a comma, if the work took long enough for one."""
+        return f", {self.rate:,.0f} a second" if time.monotonic() - self._began > LONG else ""
 
     def text(self) -> str:
         """The line that is shown."""

@@ -8,7 +8,7 @@ CLINIC = CLIENTS.parent / "examples" / "clinic"
 
 def test_clinic_moves_in(server: Server, command: Command) -> None:
     ran = command("mglobal", server.port, 3, "import", CLINIC / "clinic.zwr")
-    assert ran.output.startswith("20 nodes imported, ") and ran.status == 0
+    assert ran.output.startswith("20 nodes imported") and ran.status == 0
     ran = command("mroutine", server.port, 3, "load", "--check", CLINIC / "routines")
     assert ran.output.count(" lines from ") == 4 and (ran.told, ran.status) == ("", 0)
     ran = command("mshell", server.port, 3, stdin=(CLINIC / "session.txt").read_text())

@@ -35,7 +35,7 @@ def fold(store: Path | str) -> None:
 def test_in_and_out_through_a_terminal(server: Server, command: Command, tmp_path: Path) -> None:
     (tmp_path / "in.zwr").write_text(ZWR)
     ran = command("mglobal", server.port, ALICE, "import", "in.zwr")
-    assert ran.output.startswith("12 nodes imported, ") and (ran.told, ran.status) == ("", 0)
+    assert ran.output.startswith("12 nodes imported") and (ran.told, ran.status) == ("", 0)
     ran = command("mglobal", server.port, ALICE, "export", "^X", "^Y")
     assert without_head(ran.output) == without_head(ZWR) and ran.told.startswith("mglobal: 12 nodes exported")
     assert command("mglobal", server.port, ALICE, "compare", "in.zwr").output == "12 nodes compared: all equal\n"
@@ -80,7 +80,7 @@ def test_import_through_a_terminal_stops_at_what_cannot_come_in(server: Server, 
     assert ran.output.startswith("1 node imported, 1 line cannot come in; it stopped there") and ran.status == 1
     assert ran.told == 'mglobal: line 4: ^X(""): its subscript 1 is empty\n'
     ran = command("mglobal", server.port, ALICE, "import", "in.zwr", "--skip")
-    assert ran.output.startswith("2 nodes imported, 1 line cannot come in, ") and ran.status == 1
+    assert ran.output.startswith("2 nodes imported, 1 line cannot come in") and ran.status == 1
     assert without_head(command("mglobal", server.port, ALICE, "export", "^X").output) == '^X(1)="a"\n^X(3)="c"\n'
 
 
@@ -158,7 +158,7 @@ def test_straight_import_is_everything_or_nothing(command: Command, tmp_path: Pa
     assert ran.told.startswith('mglobal: line 4: ^X(""): its subscript 1 is empty\nmglobal: line 5: ^X: the number 1E30 is no number here')
     assert without_head(command("mglobal", "store.db", "LAB", "export").output) == '^X(1)="old"\n'
     ran = command("mglobal", "store.db", "LAB", "import", "bad.zwr", "--skip")
-    assert ran.status == 1 and ran.output.startswith("2 nodes imported, 2 lines cannot come in, ")
+    assert ran.status == 1 and ran.output.startswith("2 nodes imported, 2 lines cannot come in")
     assert without_head(command("mglobal", "store.db", "LAB", "export").output) == '^X(1)="new"\n^X(2)="d"\n'
 
 

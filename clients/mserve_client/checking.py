@@ -78,7 +78,8 @@ def _of_form(line: SourceLine) -> Finding | None:
     if not line.level and line.rest and not line.rest.startswith(";"):
         return Finding(0, len(line.label) + 1, f"the line begins with {(line.label + line.rest)[:20]!r}", language.NO_LABEL)
     if len(line.rest) > LONGEST_REST:
-        return Finding(0, 1, f"the line has {len(line.text):,} characters, too many to check", f"Cut it in two: {LONGEST_REST:,} behind label and dots can be checked.")
+        return Finding(0, 1, f"the line has {len(line.text):,} characters, too many to check",
+                       f"Cut it in two: {LONGEST_REST:,} behind label and dots can be checked.")
     return None
 
 

@@ -7,7 +7,7 @@ import io
 import json
 import re
 import time
-from collections.abc import Iterable, Iterator
+from collections.abc import Callable, Iterable, Iterator
 from dataclasses import dataclass
 from functools import lru_cache
 from itertools import chain, islice
@@ -97,10 +97,27 @@ def shown_node(name: str, subscripts: keys.Subscripts) -> str:
 
 def read(file: IO[bytes], form: str | None = None) -> Iterator[Record]:
     """The nodes of a file, and what cannot come in. The form is found by the first lines if it is not given."""
+    form, lines = numbered(file, form)
+    return READERS[form](lines)
+
+
+def rows(file: IO[bytes], form: str | None, account: str, tell: Callable[[Problem], None]) -> Iterator[tuple[bytes, bytes]]:
+    """The keys and the texts of a file's nodes in an account; what cannot come in is told."""
+    form, lines = numbered(file, form)
+    for found in _zwr_rows(lines, account) if form == "zwr" else READERS[form](lines):
+        if type(found) is tuple:
+            yield found
+        elif isinstance(found, Entry):
+            yield keys.key(account, found.name, found.subscripts), found.text.encode("ascii")
+        else:
+            tell(found)
+
+
+def numbered(file: IO[bytes], form: str | None) -> tuple[str, Iterator[tuple[int, str]]]:
+    """The form of a file, and its lines with their numbers."""
     lines = io.TextIOWrapper(file, encoding="latin1", newline="\n")
     first = list(islice(lines, 3))
-    form = form or form_of(first)
-    return READERS[form](enumerate(chain(first, lines), 1))
+    return form or form_of(first), enumerate(chain(first, lines), 1)
 
 
 def form_of(first: list[str]) -> str:
@@ -120,18 +137,35 @@ def form_of(first: list[str]) -> str:
 def read_zwr(lines: Iterable[tuple[int, str]]) -> Iterator[Record]:
     """The nodes of a ZWR extract."""
     for number, line in lines:
-        entry = _plain_entry(number, line)
-        if entry is not None:
-            yield entry
-        elif line.strip() and (number > 2 or line.startswith("^")):
-            try:
-                yield record(number, *parsed_line(line.rstrip("\r\n")))
-            except Unreadable as error:
-                yield Problem(number, error.reason)
+        found = _plain_entry(number, line) or _full_record(number, line)
+        if found is not None:
+            yield found
 
 
-def _plain_entry(number: int, line: str) -> Entry | None:
-    """The node of a line, found in short if its texts have no quotes and no codes; None if it has to be read in full."""
+def _zwr_rows(lines: Iterable[tuple[int, str]], account: str) -> Iterator[tuple[bytes, bytes] | Record]:
+    """The nodes of a ZWR extract, the plain ones as the rows of a store."""
+    for number, line in lines:
+        found: tuple[bytes, bytes] | Record | None = None
+        if plain := _plain_parts(line):
+            above, last = _plain_above(account, plain[0]), _plain_last_bytes(plain[1])
+            found = (above + last, plain[2].encode("ascii")) if above and last else None
+        found = found or _full_record(number, line)
+        if found is not None:
+            yield found
+
+
+def _full_record(number: int, line: str) -> Record | None:
+    """What a line of ZWR has, read in full; None for one of the head, or an empty one."""
+    if not line.strip() or number <= 2 and not line.startswith("^"):
+        return None
+    try:
+        return record(number, *parsed_line(line.rstrip("\r\n")))
+    except Unreadable as error:
+        return Problem(number, error.reason)
+
+
+def _plain_parts(line: str) -> tuple[str, str, str] | None:
+    """The node above, the last subscript and the text of a line whose text has no quotes and no codes; None if it has to be read in full."""
     node, _, rest = line.partition('="')
     text = rest[:-2]
     if rest[-2:] != '"\n' or '"' in text or len(text) > keys.MAX_TEXT or not line.isascii():
@@ -139,8 +173,30 @@ def _plain_entry(number: int, line: str) -> Entry | None:
     above, comma, last = node.rpartition(",")
     if not comma:
         above, _, last = node.partition("(")
-    parent, subscript = _plain_parent(above), _plain_last(last)
-    return None if parent is None or subscript is None else Entry(number, parent[0], (*parent[1], subscript), text)
+    return above, last, text
+
+
+def _plain_entry(number: int, line: str) -> Entry | None:
+    """The node of a plain line; None if it has to be read in full."""
+    if plain := _plain_parts(line):
+        parent, subscript = _plain_parent(plain[0]), _plain_last(plain[1])
+        if parent is not None and subscript is not None:
+            return Entry(number, parent[0], (*parent[1], subscript), plain[2])
+    return None
+
+
+@lru_cache(1 << 12)
+def _plain_above(account: str, text: str) -> bytes | None:
+    """The key of the node above, as _plain_parent reads it."""
+    parent = _plain_parent(text)
+    return None if parent is None else keys.key(account, *parent)
+
+
+@lru_cache(1 << 16)
+def _plain_last_bytes(text: str) -> bytes | None:
+    """The last subscript in a key, as _plain_last reads it."""
+    subscript = _plain_last(text)
+    return None if subscript is None else keys.subscript_bytes(subscript)
 
 
 @lru_cache(1 << 12)
@@ -281,6 +337,7 @@ def written(form: str, name: str, subscripts: keys.Subscripts, text: str) -> str
     return f"{node}\n{text}\n"
 
 
+@lru_cache(1 << 16)
 def _subscript(text: str) -> str:
     return text if keys.units(text) is not None else mtext.in_quotes(text)
 

@@ -6,7 +6,7 @@ import os
 import sys
 from collections.abc import Iterator
 from contextlib import contextmanager
-from itertools import groupby
+from itertools import groupby, islice
 from typing import IO
 
 from . import extracts, keys, options
@@ -17,7 +17,7 @@ from .routine_command import counted
 from .store_file import BadStore, StoreFile
 from .terminal_way import ImportStopped, TerminalWay
 from .walk import Refused
-from .wire import ClientError, Connection
+from .wire import ClientError, Connection, ServerGone
 
 NAME = "mglobal"
 ABOUT = """An account's globals, in and out of files: ZWR and GO as GT.M and YottaDB have them, and JSON lines.
@@ -30,6 +30,8 @@ Straight to a store file, while no server has it (all the account's globals, if 
   mglobal clinic.db CLINIC export --to clinic.zwr
   mglobal clinic.db CLINIC import clinic.zwr --dry-run"""
 SHOWN_PROBLEMS = 1000
+# Rows that are put at once; a multiple of the nodes after which progress is shown.
+BATCH = 2000
 
 
 class NotWanted(ClientError):
@@ -70,6 +72,8 @@ def run(chosen: argparse.Namespace) -> int:
     try:
         if chosen.act == "import" and chosen.dry_run:
             return rehearse(chosen)
+        if chosen.act == "import":
+            os.stat(chosen.file)
         with way(chosen) as found:
             return ACTS[chosen.act](found, chosen)
     except (NotWanted, BadStore, ImportStopped, Refused, extracts.BadExtract) as error:
@@ -155,7 +159,7 @@ class Reading:
 
     def __init__(self, file: IO[bytes], chosen: argparse.Namespace) -> None:
         self._file, self._size = file, max(os.fstat(file.fileno()).st_size, 1)
-        self._records = extracts.read(file, chosen.format)
+        self._form = chosen.format
         self.problems = 0
 
     def part(self) -> float:
@@ -164,13 +168,17 @@ class Reading:
 
     def entries(self, is_strict: bool) -> Iterator[Entry]:
         """The nodes. Problems are told; a strict reading ends at the first."""
-        for found in self._records:
+        for found in extracts.read(self._file, self._form):
             if isinstance(found, Entry):
                 yield found
                 continue
             self.tell(found)
             if is_strict:
                 return
+
+    def rows(self, account: str) -> Iterator[tuple[bytes, bytes]]:
+        """The nodes as rows of a store. Problems are told."""
+        return extracts.rows(self._file, self._form, account, self.tell)
 
     def tell(self, problem: Problem) -> None:
         """Counts a line that cannot come in, and tells it."""
@@ -203,12 +211,23 @@ def take(found: Way, chosen: argparse.Namespace) -> int:
         if isinstance(found, StoreFile):
             took = take_straight(found, source, progress, chosen.skip)
         else:
-            found.put(source.entries(not chosen.skip), progress.step)
-            took = chosen.skip or not source.problems
+            took = take_through(found, source, progress, chosen.skip)
     count = progress.count if took or isinstance(found, TerminalWay) else 0
     print(f"{counted(count, 'node')} imported" + (f", {counted(source.problems, 'line')} cannot come in" if source.problems else "")
           + ("" if took else "; it stopped there: --skip leaves such lines out, --dry-run lists them") + progress.told_rate)
     return FOUND if source.problems else 0
+
+
+def take_through(found: TerminalWay, source: Reading, progress: Progress, skip: bool) -> bool:
+    """Sets the nodes of a file through a terminal. False if it stopped at one that cannot come in."""
+    try:
+        found.put(source.entries(not skip), progress.step)
+    except KeyboardInterrupt as error:
+        error.add_note(f"{progress.count:,} nodes stand, and maybe some that were on their way")
+        raise
+    except ServerGone as error:
+        raise ServerGone(f"{error}; {progress.count:,} nodes stand, and maybe some of these") from error
+    return skip or not source.problems
 
 
 class GiveUp(Exception):
@@ -217,14 +236,12 @@ class GiveUp(Exception):
 
 def take_straight(store: StoreFile, source: Reading, progress: Progress, skip: bool) -> bool:
     """Sets the nodes of a file in one transaction. False, with nothing changed, if some cannot come in and that is not allowed."""
-    def rows() -> Iterator[tuple[bytes, bytes]]:
-        for entry in source.entries(is_strict=False):
-            progress.step()
-            yield keys.key(store.account, entry.name, entry.subscripts), entry.text.encode("ascii")
-
+    rows = source.rows(store.account)
     try:
         with store.change():
-            store.put(rows())
+            while batch := list(islice(rows, BATCH)):
+                store.put(batch)
+                progress.step(len(batch))
             if source.problems and not skip:
                 raise GiveUp
     except GiveUp:

@@ -106,20 +106,21 @@ def node(data: bytes) -> tuple[str, str, Subscripts]:
 
 
 def subscripts(data: bytes, at: int) -> Subscripts:
-    """The subscripts of a key, which begin at a place."""
+    """The subscripts of a key, which begin at a place. ValueError if these bytes are none."""
     found: list[str] = []
     while at < len(data):
-        text, at = _subscript(data, at)
-        found.append(text)
+        end = at + 17 if data[at] == 1 else data.index(b"\0", at) + 1
+        found.append(_subscript(data[at:end]))
+        at = end
     return tuple(found)
 
 
-def _subscript(rest: bytes, at: int) -> tuple[str, int]:
-    """The subscript that begins at a place, and the place after it."""
-    if rest[at] == 1 and at + 17 <= len(rest):
-        return number_text(int.from_bytes(rest[at + 1:at + 17], "big") - _BIAS), at + 17
-    end = rest.index(b"\0", at)
-    text = rest[at + 1:end].translate(_LOWERED).decode("ascii")
-    if rest[at] != 2 or not 1 <= len(text) <= MAX_SUBSCRIPT:
-        raise ValueError(f"no subscript: {rest[at:end].hex()}")
-    return text, end + 1
+@lru_cache(1 << 16)
+def _subscript(data: bytes) -> str:
+    """The subscript that stands as these bytes in a key."""
+    if data[0] == 1 and len(data) == 17:
+        return number_text(int.from_bytes(data[1:], "big") - _BIAS)
+    text = data[1:-1].translate(_LOWERED).decode("ascii")
+    if data[0] != 2 or not 1 <= len(text) <= MAX_SUBSCRIPT:
+        raise ValueError(f"no subscript: {data.hex()}")
+    return text

@@ -23,7 +23,7 @@ def written(text: str) -> str:
 
 def in_quotes(text: str) -> str:
     """The text in quotes, with controls by $C with their codes, as in a ZWR extract."""
-    if not _CONTROLS.search(text):
+    if text.isprintable() or not _CONTROLS.search(text):
         return '"' + text.replace('"', '""') + '"'
     parts, at = [], 0
     for found in _CONTROLS.finditer(text):

@@ -21,9 +21,9 @@ class Progress(AbstractContextManager["Progress"]):
         self._began = self._told = time.monotonic()
         self._is_shown = sys.stderr.isatty()
 
-    def step(self) -> None:
-        """One node more is done."""
-        self.count += 1
+    def step(self, count: int = 1) -> None:
+        """So many nodes more are done."""
+        self.count += count
         if self._is_shown and self.count % STEP == 0 and time.monotonic() - self._told > 0.2:
             self._told = time.monotonic()
             print(f"\r{self.text()}\033[K", end="", file=sys.stderr, flush=True)

@@ -9,7 +9,6 @@ import sys
 from . import checking, options, routines
 from .options import FOUND
 from .routine_files import BadFile, Source, file_name, file_text, sources
-from .walk import routine_names
 from .wire import ClientError, Connection
 
 NAME = "mroutine"
@@ -113,17 +112,16 @@ def diff(connection: Connection, files: list[Source], _: argparse.Namespace) -> 
 
 def names(connection: Connection, *_: object) -> int:
     """Names the account's routines."""
-    for name in routine_names(connection):
-        texts = [node for node in routines.nodes_of(connection, name) if routines.is_line(node)]
-        if texts:
-            print(f"{name}: {counted(len(texts), 'line')}")
+    for name, texts in routines.all_routines(connection):
+        print(f"{name}: {counted(len(texts), 'line')}")
     return 0
 
 
 def save(connection: Connection, _: list[Source], chosen: argparse.Namespace) -> int:
     """Writes routines to files."""
-    for name in chosen.routines or routine_names(connection):
-        text = file_text(name, routines.texts_of(connection, name))
+    wanted = [(name, routines.texts_of(connection, name)) for name in chosen.routines] if chosen.routines else routines.all_routines(connection)
+    for name, texts in wanted:
+        text = file_text(name, texts)
         if chosen.to == "-":
             sys.stdout.write(text)
             continue

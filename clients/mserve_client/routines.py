@@ -8,7 +8,7 @@ from contextlib import contextmanager
 from . import keys
 from .codes import in_words
 from .mtext import reference, set_lines
-from .walk import ROUTINE, Node, Walker, asked
+from .walk import ROUTINE, Node, Walker, asked, routine_names
 from .wire import ClientError, Connection, ServerGone
 
 
@@ -38,6 +38,12 @@ def is_line(node: Node) -> bool:
     return len(node[0]) == 2 and keys.units(node[0][1]) is not None
 
 
+def all_routines(connection: Connection) -> list[tuple[str, list[str]]]:
+    """The account's routines, and their lines."""
+    found = [(name, [node[1] for node in nodes_of(connection, name) if is_line(node)]) for name in routine_names(connection)]
+    return [(name, texts) for name, texts in found if texts]
+
+
 def texts_of(connection: Connection, name: str) -> list[str]:
     """The lines of a routine. NoRoutine if there are none."""
     texts = [node[1] for node in nodes_of(connection, name) if is_line(node)]
@@ -56,8 +62,8 @@ def load(connection: Connection, name: str, texts: list[str]) -> list[Node]:
         raise LoadFailed(f"{name}: {at} was answered {in_words(stop.code)}; {_put_back(connection, name, old)}") from stop
     except ServerGone as error:
         raise LoadFailed(f"{name}: {error}; the routine may be there in part: load it again") from error
-    except KeyboardInterrupt:
-        _put_back(connection, name, old)
+    except KeyboardInterrupt as error:
+        error.add_note(f"{name}: {_put_back(connection, name, old)}")
         raise
     return [node for node in old if not is_line(node)]
 

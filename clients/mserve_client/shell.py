@@ -102,7 +102,8 @@ class Shell:
         if not self._person:
             yield
             return
-        note = threading.Timer(2, lambda: options.tell(NAME, "waiting: another client may be connected, since the server serves one at a time; Ctrl-C gives up"))
+        text = "waiting: another client may be connected, since the server serves one at a time; Ctrl-C gives up"
+        note = threading.Timer(2, options.tell, (NAME, text))
         note.start()
         try:
             yield
@@ -131,7 +132,7 @@ class Shell:
         """The globals that are there, among the names that are known: no line of the language lists them."""
         self.learn(" ".join(f"^{word.lstrip('^')}" for word in words.split()))
         for name in routine_names(self._connection):
-            for text in routines.texts_of(self._connection, name):
+            for _, text in routines.nodes_of(self._connection, name):
                 self.learn(text)
         names = sorted(name for name in self._names if keys.is_name(name))
         replies = self._connection.pipeline(f"W $D(^{name})" for name in names)

@@ -14,6 +14,8 @@ from .wire import ClientError
 VERSION = 2
 TABLES = ("CREATE TABLE node (k BLOB PRIMARY KEY NOT NULL, v BLOB NOT NULL)", "CREATE TABLE meta (name TEXT PRIMARY KEY, n INTEGER)")
 PUT = "INSERT INTO node (k, v) VALUES (?, ?) ON CONFLICT (k) DO UPDATE SET v = excluded.v"
+# Memory for pages of the file.
+CACHE_KB = 65_536
 # Bytes of a log's head, of the head of a page in it, and of the smallest page.
 LOG_HEAD, PAGE_HEAD, LEAST_PAGE = 32, 24, 512
 
@@ -33,7 +35,10 @@ class StoreFile:
         refuse_log(path)
         if not os.path.exists(path) and not make:
             raise BadStore(f"{path}: there is no such file")
-        self._base = sqlite3.connect(path, isolation_level=None, timeout=0)
+        try:
+            self._base = sqlite3.connect(path, isolation_level=None, timeout=0)
+        except sqlite3.Error as error:
+            raise refusal(path, error) from error
         try:
             self._take()
         except sqlite3.Error as error:
@@ -71,6 +76,7 @@ class StoreFile:
             raise BadStore(f"{self.path}: the store is of version {version[0] if version else 'none'}, and this is for version {VERSION}")
         self._base.execute("COMMIT")
         self._base.execute("PRAGMA journal_mode = WAL")
+        self._base.execute(f"PRAGMA cache_size = -{CACHE_KB}")
 
     @contextmanager
     def change(self) -> Iterator[None]:

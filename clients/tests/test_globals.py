@@ -2,13 +2,15 @@
 from __future__ import annotations
 
 import os
+import signal
 import sqlite3
 import subprocess
+import sys
 from pathlib import Path
 
 import pytest
 import running
-from conftest import ALICE, BOB, SETTINGS, SHORT, Command, Server, start
+from conftest import ALICE, BOB, CLIENTS, SETTINGS, SHORT, Command, Server, start
 from mserve_client import keys
 from mserve_client.store_file import TABLES, has_changes
 from mserve_client.walk import Walker
@@ -162,11 +164,36 @@ def test_straight_import_is_everything_or_nothing(command: Command, tmp_path: Pa
     assert without_head(command("mglobal", "store.db", "LAB", "export").output) == '^X(1)="new"\n^X(2)="d"\n'
 
 
+def test_interrupt_of_a_straight_import(command: Command, tmp_path: Path) -> None:
+    """The reading of a pipe that stays open is interrupted: nothing of what came stands."""
+    (tmp_path / "good.zwr").write_text(HEAD + '^X(1)="old"\n')
+    assert command("mglobal", "store.db", "LAB", "import", "good.zwr").status == 0
+    os.mkfifo(tmp_path / "pipe")
+    process = subprocess.Popen([sys.executable, CLIENTS / "mglobal", "store.db", "LAB", "import", "pipe"], cwd=tmp_path, stdout=subprocess.PIPE, stderr=subprocess.PIPE)
+    with open(tmp_path / "pipe", "wb") as pipe:
+        pipe.write(HEAD.encode() + b"".join(b'^X(%d)="new"\n' % number for number in range(20_000)))
+        pipe.flush()
+        process.send_signal(signal.SIGINT)
+        output, told = process.communicate(timeout=60)
+    assert (process.returncode, output, told) == (130, b"", b"mglobal: interrupted\n")
+    assert without_head(command("mglobal", "store.db", "LAB", "export").output) == '^X(1)="old"\n'
+
+
 def test_dry_run_changes_nothing(command: Command, tmp_path: Path) -> None:
     (tmp_path / "bad.zwr").write_text(HEAD + '^X(1)="new"\n^X("")="b"\n')
     ran = command("mglobal", "store.db", "LAB", "import", "bad.zwr", "--dry-run")
     assert (ran.output, ran.status) == ("1 node can come in, 1 line cannot; nothing was changed\n", 1)
     assert not os.path.exists(tmp_path / "store.db")
+
+
+@pytest.mark.parametrize(("words", "told"), [
+    (("store.db", "LAB", "import", "none.zwr"), "none.zwr: No such file or directory"), (("none/store.db", "LAB", "import", "in.zwr"), "unable to open database file"),
+    ((".", "LAB", "count"), "unable to open database file"), (("store.db", "LAB", "import", "."), ".: Is a directory"),
+])
+def test_files_that_cannot_be_opened(command: Command, tmp_path: Path, words: tuple[str, ...], told: str) -> None:
+    (tmp_path / "in.zwr").write_text(ZWR)
+    ran = command("mglobal", *words)
+    assert ran.status == 1 and told in ran.told
 
 
 def test_compare(command: Command, tmp_path: Path) -> None:

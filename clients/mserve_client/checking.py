@@ -1,7 +1,7 @@
 """Checks lines of routines: whether each is in the language, without running any of them.
 
-A line's label and dots are taken off, and the rest is sent behind `Q  `: the server reads it whole, and stops at the Q.
-A rest that is too long for that is put together in the local variable %m and run by XECUTE, behind `Q  ` too."""
+A line's label and dots are taken off, and the rest is sent after `Q  `: the server reads it whole, and stops at the Q.
+A rest that is too long for that is put together in the local variable %m and run by XECUTE, after `Q  ` too."""
 from __future__ import annotations
 
 from collections.abc import Iterator
@@ -79,7 +79,7 @@ def _of_form(line: SourceLine) -> Finding | None:
         return Finding(0, len(line.label) + 1, f"the line begins with {(line.label + line.rest)[:20]!r}", language.NO_LABEL)
     if len(line.rest) > LONGEST_REST:
         return Finding(0, 1, f"the line has {len(line.text):,} characters, too many to check",
-                       f"Cut it in two: {LONGEST_REST:,} behind label and dots can be checked.")
+                       f"Cut it in two: {LONGEST_REST:,} after label and dots can be checked.")
     return None
 
 

@@ -225,7 +225,7 @@ def parsed_line(line: str) -> tuple[str, keys.Subscripts, str]:
         raise Unreadable(f"no = after the node: {line[:60]!r}")
     text, end, _ = _parsed_text(line, at + 1)
     if end != len(line):
-        raise Unreadable(f"more behind the text: {line[end:end + 40]!r}")
+        raise Unreadable(f"more after the text: {line[end:end + 40]!r}")
     return name, subscripts, text
 
 
@@ -240,7 +240,7 @@ def parsed_node(line: str, at: int) -> tuple[str, keys.Subscripts, int]:
     while line[at:at + 1] in ("(", ","):
         text, at, is_number = _parsed_text(line, at + 1)
         if is_number and keys.units(text) is None:
-            raise Unreadable(f"^{found[1]}: the number {text[:60]} is no number here: at most {keys.MAX_DIGITS} digits, below 10^18, and 18 places behind the "
+            raise Unreadable(f"^{found[1]}: the number {text[:60]} is no number here: at most {keys.MAX_DIGITS} digits, below 10^18, and 18 places after the "
                              "point; as a text it would stand elsewhere")
         subscripts.append(text)
     if line[at:at + 1] != ")":
@@ -285,7 +285,7 @@ def read_go(lines: Iterable[tuple[int, str]]) -> Iterator[Record]:
         try:
             name, subscripts, end = parsed_node(node, 0)
             if end != len(node):
-                raise Unreadable(f"more behind the node: {node[end:end + 40]!r}")
+                raise Unreadable(f"more after the node: {node[end:end + 40]!r}")
         except Unreadable as error:
             is_node = node.startswith("^") and next(pairs, None) is not None
             yield Problem(number, error.reason + ("" if is_node else ": in GO no text can have a line feed"))

@@ -281,7 +281,7 @@ def merged(name: str, entries: Iterator[Entry], nodes: Iterator[tuple[keys.Subsc
         progress.step()
         at = keys.key("A", name, entry.subscripts)
         if at <= before:
-            raise NotWanted(f"line {entry.line}: {shown_node(name, entry.subscripts)} is not behind the node before it: compare wants the order of an export")
+            raise NotWanted(f"line {entry.line}: {shown_node(name, entry.subscripts)} does not come after the node before it: compare wants the order of an export")
         before = at
         while here is not None and keys.key("A", name, here[0]) < at:
             yield f"only in the store: {shown_node(name, here[0])}"

@@ -55,7 +55,7 @@ MISSING = [
              'D ^|"B"|R'),
     _missing(r"^(?:N|NEW)(?::\S+)? .*\$", "NEW of a special variable",
              "Leave it out: there are no $ETRAP, $ESTACK and the like; a line ends at its first code.", "N $ETRAP"),
-    _missing(r"^(?:I|IF|E|ELSE|F|FOR):", "a condition behind IF, ELSE or FOR", "Put the condition into the IF, or behind the commands after it.",
+    _missing(r"^(?:I|IF|E|ELSE|F|FOR):", "a condition on IF, ELSE or FOR", "Put the condition into the IF, or on the commands after it.",
              "I:X=1 Y W 1"),
     _missing(r"^(?:W|WRITE)(?::\S+)? (?:\S*,)?(?:\S*!)?#", "WRITE #", "Leave it out: the output is lines, without pages.", "W #"),
     _missing(r"^(?:W|WRITE)(?::\S+)? (?:\S*,)?(?:\S*!)?\?", "WRITE ?n",
@@ -93,7 +93,7 @@ MISSING = [
     _missing(r"\.\d+e[+-]?\d|\d(?-i:e)[+-]?\d", "a small e as exponent mark", "Write a large E: 1E3.", "W 1e3"),
     _missing(r"==|!=|<>|>=|<=", "an operator of other languages", "Equal is =, not equal '=, not less '<, not greater '>.", "I A==B W 1"),
     _missing(r"^(?:Q|QUIT|E|ELSE|F|FOR|D|DO|K|KILL|L|LOCK|N|NEW)(?::\S+)? \S", "maybe one space for two",
-             "Behind a command without arguments stand two spaces where another command follows.", "E W 1"),
+             "Two spaces follow a command without arguments, if another command comes after it.", "E W 1"),
 ]
 NO_LABEL = "a label begins with a letter or %, and has at most 31 letters and digits; a line without one begins with a space"
 LABEL_PARAMETERS = "a label takes no parameters: the caller SETs the variables, and the line begins with LABEL and a space"
@@ -116,7 +116,7 @@ def cause(command: str) -> tuple[int, Missing] | None:
 
 
 def commands(text: str) -> list[tuple[int, int]]:
-    """The commands of a line, each from its first place to the one behind it: a word, and after one space its arguments."""
+    """The commands of a line, each from its first place to the one after it: a word, and after one space its arguments."""
     blank = blanked(text)
     found, at = [], _next_word(blank, 0)
     while at < len(blank):

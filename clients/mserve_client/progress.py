@@ -35,7 +35,7 @@ class Progress(AbstractContextManager["Progress"]):
 
     @property
     def told_rate(self) -> str:
-        """The rate behind a comma, if the work took long enough for one."""
+        """The rate after a comma, if the work took long enough for one."""
         return f", {self.rate:,.0f} a second" if time.monotonic() - self._began > LONG else ""
 
     def text(self) -> str:

@@ -18,7 +18,7 @@ class BadFile(ClientError):
 
 @dataclass(frozen=True, slots=True)
 class SourceLine:
-    """A line of a routine: its label or nothing, the spaces and dots behind it, and the rest, which is a line of M."""
+    """A line of a routine: its label or nothing, the spaces and dots after it, and the rest, which is a line of M."""
 
     label: str
     level: str

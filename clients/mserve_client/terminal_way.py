@@ -22,10 +22,10 @@ class ImportStopped(ClientError):
 
 @dataclass(slots=True)
 class Tally:
-    """What is known of the nodes that were sent: how many stand, and how many of them were sent behind one that was refused."""
+    """What is known of the nodes that were sent: how many stand, and how many of them were sent after one that was refused."""
 
     stand: int = 0
-    behind: int = 0
+    after: int = 0
     last: Entry | None = None
     refused: Entry | None = None
     code: str = ""
@@ -72,7 +72,7 @@ class TerminalWay:
                 tally.refused, tally.code = entry, reply.code
         elif is_last and entry is not tally.refused:
             tally.stand += 1
-            tally.behind += tally.refused is not None
+            tally.after += tally.refused is not None
             tally.last = entry if tally.refused is None else tally.last
             step()
 
@@ -90,6 +90,6 @@ def stopped_text(tally: Tally) -> str:
     text = f"line {entry.line}: {shown_node(entry.name, entry.subscripts)} was answered {in_words(tally.code)}; {tally.stand:,} nodes stand"
     if tally.last is not None:
         text += f", those up to line {tally.last.line}"
-    if tally.behind:
-        text += f", and {tally.behind:,} of the lines behind it that were on their way already"
+    if tally.after:
+        text += f", and {tally.after:,} of the lines after it that were on their way already"
     return text

@@ -190,7 +190,7 @@ class Connection:
             yield from ready
 
     def end_session(self, patience: float = 5.0) -> Reply:
-        """Ends the terminal's session by HALT: a line that is partly sent is finished, those behind it are not sent, and replies that
+        """Ends the terminal's session by HALT: a line that is partly sent is finished, those after it are not sent, and replies that
         are due are passed over. The terminal's variables are gone then, and its locks given back."""
         self.timeout = patience
         self._drain()

@@ -67,7 +67,7 @@ NODES_15 = ",".join(map(str, range(15)))
     (b'X(1)="a"', "no node: 'X(1)"),
     (b'^X(1="a"', "no ) after the subscripts"),
     (b'^X(1)"a"', "no = after the node"),
-    (b'^X(1)="a" ', "more behind the text"),
+    (b'^X(1)="a" ', "more after the text"),
     (b'^X(1)="a', "no text"),
     (b'^X(1)=', "no text"),
     (b'^X(A)="a"', "no text: 'A)"),
@@ -96,7 +96,7 @@ def test_go_with_a_line_feed_in_a_text_and_without_the_last_text() -> None:
     assert [record.line for record in found] == [3, 5, 6, 8, 10]
     assert [record.reason.partition(": ")[2] for record in found if isinstance(record, Problem)] == [
         "'second': in GO no text can have a line feed",
-        "the number 1000000000000000000 is no number here: at most 18 digits, below 10^18, and 18 places behind the point; as a text it would stand elsewhere",
+        "the number 1000000000000000000 is no number here: at most 18 digits, below 10^18, and 18 places after the point; as a text it would stand elsewhere",
         "the file ends before its text"]
 
 

@@ -91,7 +91,7 @@ def test_import_through_a_terminal_says_which_nodes_stand(server: Server, comman
     (tmp_path / "in.zwr").write_text(HEAD + '^X(1)="a"\n^X(2)=$C(' + ",".join(["10"] * 40) + ')\n^X(3)="c"\n')
     ran = command("mglobal", server.port, SHORT, "import", "in.zwr")
     assert ran.status == 1
-    assert ran.told == ("mglobal: line 4: ^X(2) was answered ZSTEPS: steps used up; 2 nodes stand, those up to line 3, and 1 of the lines behind it that were on their "
+    assert ran.told == ("mglobal: line 4: ^X(2) was answered ZSTEPS: steps used up; 2 nodes stand, those up to line 3, and 1 of the lines after it that were on their "
                         "way already\n")
 
 
@@ -206,7 +206,7 @@ def test_compare(command: Command, tmp_path: Path) -> None:
                                        "5 nodes compared: 5 nodes different"]
     assert ran.status == 1
     ran = command("mglobal", "store.db", "LAB", "compare", "c.zwr")
-    assert ran.status == 1 and "line 4: ^X(1) is not behind the node before it" in ran.told
+    assert ran.status == 1 and "line 4: ^X(1) does not come after the node before it" in ran.told
 
 
 def test_file_that_a_server_has(file_server: Server, command: Command, tmp_path: Path) -> None:
@@ -271,7 +271,7 @@ def test_files_that_are_no_stores(command: Command, tmp_path: Path, made: str | 
 
 @pytest.mark.parametrize("account", ["", "A_B", "A" * 17, "\u00e9"])
 def test_accounts_that_are_none(command: Command, account: str) -> None:
-    ran = command("mglobal", "store.db", account, "import", "x")
+    ran = command("mglobal", "store.db", account, "count")
     assert ran.status == 1 and "is no account" in ran.told
 
 

@@ -15,9 +15,9 @@ SAMPLE = "ADD(A,B) ; sum\n Q A+B\n"
 def examples() -> list[tuple[str, str, str]]:
     """Each command of the page, the lines that are typed at its prompt, and what is to come."""
     found = []
-    for block in re.findall(r"(?:^    .*\n)+", (CLIENTS / "README.md").read_text(encoding="utf-8"), re.MULTILINE):
-        for part in re.split(r"^    \$ ", block, flags=re.MULTILINE)[1:]:
-            command, *lines = [line.removeprefix("    ") for line in part.splitlines()]
+    for block in re.findall(r"^```console\n(.*?)^```$", (CLIENTS / "README.md").read_text(encoding="utf-8"), re.MULTILINE | re.DOTALL):
+        for part in re.split(r"^\$ ", block, flags=re.MULTILINE)[1:]:
+            command, *lines = part.splitlines()
             typed = [line.removeprefix("> ") for line in lines if line.startswith("> ")]
             found.append((command, "\n".join(typed), "".join(line + "\n" for line in lines if not line.startswith("> "))))
     return found

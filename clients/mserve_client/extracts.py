@@ -185,21 +185,21 @@ def _plain_entry(number: int, line: str) -> Entry | None:
     return None
 
 
-@lru_cache(1 << 12)
+@lru_cache(1 << 10)
 def _plain_above(account: str, text: str) -> bytes | None:
     """The key of the node above, as _plain_parent reads it."""
     parent = _plain_parent(text)
     return None if parent is None else keys.key(account, *parent)
 
 
-@lru_cache(1 << 16)
+@lru_cache(1 << 13)
 def _plain_last_bytes(text: str) -> bytes | None:
     """The last subscript in a key, as _plain_last reads it."""
     subscript = _plain_last(text)
     return None if subscript is None else keys.subscript_bytes(subscript)
 
 
-@lru_cache(1 << 12)
+@lru_cache(1 << 10)
 def _plain_parent(text: str) -> tuple[str, keys.Subscripts] | None:
     """The name and the subscripts of a node without its last one; None if they have to be read in full."""
     found = _PLAIN_NODE.fullmatch(text)
@@ -209,7 +209,7 @@ def _plain_parent(text: str) -> tuple[str, keys.Subscripts] | None:
     return None if None in parts or len(parts) >= keys.MAX_SUBSCRIPTS else (found[1], tuple(parts))
 
 
-@lru_cache(1 << 16)
+@lru_cache(1 << 13)
 def _plain_last(text: str) -> str | None:
     """The subscript that is written before a bracket; None if it has to be read in full."""
     found = _PLAIN_LAST.fullmatch(text)
@@ -337,7 +337,7 @@ def written(form: str, name: str, subscripts: keys.Subscripts, text: str) -> str
     return f"{node}\n{text}\n"
 
 
-@lru_cache(1 << 16)
+@lru_cache(1 << 13)
 def _subscript(text: str) -> str:
     return text if keys.units(text) is not None else mtext.in_quotes(text)
 

@@ -32,7 +32,7 @@ def is_account(text: str) -> bool:
     return _ACCOUNT.fullmatch(text) is not None
 
 
-@lru_cache(1 << 16)
+@lru_cache(1 << 13)
 def units(text: str) -> int | None:
     """The number, in units of 10^-18, of which the text is the canonical text; None if it is no such text."""
     found = _NUMBER.fullmatch(text)
@@ -66,7 +66,7 @@ def ended(text: str) -> bytes:
     return text.encode("ascii").translate(_RAISED) + b"\0"
 
 
-@lru_cache(1 << 16)
+@lru_cache(1 << 13)
 def subscript_bytes(text: str) -> bytes:
     """A subscript in a key."""
     number = units(text)
@@ -84,7 +84,7 @@ def key(account: str, name: str, subscripts: Subscripts = ()) -> bytes:
     return above(account, name, subscripts[:-1]) + subscript_bytes(subscripts[-1]) if subscripts else start(account, name)
 
 
-@lru_cache(1 << 12)
+@lru_cache(1 << 10)
 def above(account: str, name: str, subscripts: Subscripts) -> bytes:
     """The key of a node, kept: many nodes stand below it."""
     return start(account, name) + b"".join(map(subscript_bytes, subscripts))
@@ -115,7 +115,7 @@ def subscripts(data: bytes, at: int) -> Subscripts:
     return tuple(found)
 
 
-@lru_cache(1 << 16)
+@lru_cache(1 << 13)
 def _subscript(data: bytes) -> str:
     """The subscript that stands as these bytes in a key."""
     if data[0] == 1 and len(data) == 17:

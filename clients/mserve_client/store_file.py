@@ -15,7 +15,7 @@ VERSION = 2
 TABLES = ("CREATE TABLE node (k BLOB PRIMARY KEY NOT NULL, v BLOB NOT NULL)", "CREATE TABLE meta (name TEXT PRIMARY KEY, n INTEGER)")
 PUT = "INSERT INTO node (k, v) VALUES (?, ?) ON CONFLICT (k) DO UPDATE SET v = excluded.v"
 # Memory for pages of the file.
-CACHE_KB = 65_536
+CACHE_KB = 16_384
 # Bytes of a log's head, of the head of a page in it, and of the smallest page.
 LOG_HEAD, PAGE_HEAD, LEAST_PAGE = 32, 24, 512
 

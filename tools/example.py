@@ -1,6 +1,8 @@
 #!/usr/bin/env python3
 """Runs each example of examples/ as it is shipped: lines.txt by settings.toml must be answered by replies.txt, over a store in memory and over
-one in a file, and each account must be told, where it is told alone, the replies at its terminals. Status 1 where it is not."""
+one in a file, and each account must be told, where it is told alone, the replies at its terminals. Status 1 where it is not.
+
+An example without lines.txt is loaded by the commands of clients/, and clients/tests plays it."""
 import os
 import sys
 import tempfile
@@ -31,6 +33,8 @@ def main():
     examples = os.path.join(TOP, "examples")
     for name in sorted(os.listdir(examples)):
         folder = os.path.join(examples, name)
+        if not os.path.exists(os.path.join(folder, "lines.txt")):
+            continue
         lines, replies = content(folder, "lines.txt"), content(folder, "replies.txt")
         settings = os.path.join(folder, "settings.toml")
         got = run(lines, settings)

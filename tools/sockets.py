@@ -12,7 +12,7 @@ import tempfile
 import threading
 import time
 
-from running import ONE_ACCOUNT, TOP, connected, free_port, require_program, run, serve_words
+from running import ONE_ACCOUNT, connected, free_port, require_program, run, serve_words
 
 faults = []
 count = 0
@@ -202,16 +202,6 @@ def send_sets(client):
             client.sendall(b"1 S ^K(%d)=%d\n" % (number, number))
 
 
-def client_for_people():
-    """The client shows replies, and codes in words."""
-    with server(1) as process:
-        ran = subprocess.run([sys.executable, os.path.join(TOP, "tools", "mclient.py"), str(process.port), "1"],
-                             input=b'W 1,!,"a\\",!,$C(65)\nW B\nW 1/0\n', capture_output=True, timeout=60)
-        wants("the client", (ran.returncode, ran.stdout, ran.stderr), (0, b"1\na\\\nA\nM6: undefined local variable\nM9: divide by zero\n", b""))
-    ran = subprocess.run([sys.executable, os.path.join(TOP, "tools", "mclient.py"), str(free_port()), "1"], input=b"W 1\n", capture_output=True, timeout=60)
-    wants("the client without a server", (ran.returncode, ran.stdout, ran.stderr), (1, b"", b"mclient: Connection refused\n"))
-
-
 def play(test):
     """Runs a test, and tells how long it took."""
     began = time.monotonic()
@@ -229,7 +219,7 @@ def main():
     # it waits for more than a minute, so the others run beside it
     patient = threading.Thread(target=play, args=(a_peer_that_stays,))
     patient.start()
-    for test in (in_turn, many_connections, many_lines, in_pieces, peers_that_go_away, ports_that_are_taken, killed_server, client_for_people):
+    for test in (in_turn, many_connections, many_lines, in_pieces, peers_that_go_away, ports_that_are_taken, killed_server):
         play(test)
     patient.join()
     for told in faults[:20]:

@@ -1,0 +1,161 @@
+"""The command `mroutine`: routines between files and an account's global ^ROUTINE."""
+from __future__ import annotations
+
+import argparse
+import difflib
+import os
+import sys
+
+from . import checking, options, routines
+from .options import FOUND
+from .routine_files import BadFile, Source, file_name, file_text, sources
+from .wire import ClientError, Connection
+
+NAME = "mroutine"
+ABOUT = """Routines between files and the account of a terminal.
+
+  mroutine 9000 1 check clinic/        says what is not in the language, and what to write instead
+  mroutine 9000 1 load clinic/ ADD.m   replaces routines by files NAME.m, each whole
+  mroutine 9000 1 list                 names the account's routines
+  mroutine 9000 1 save ADD --to FOLDER writes routines to files
+  mroutine 9000 1 diff clinic/         compares files with the account's routines
+  mroutine 9000 1 delete ADD           deletes routines
+
+The file NAME.m has the routine NAME, and _NAME.m has %NAME; its first line is ^ROUTINE("NAME",1)."""
+
+
+def words() -> argparse.ArgumentParser:
+    """The reader of the command's words."""
+    reader = options.parser(NAME, ABOUT)
+    reader.add_argument("port", type=options.port, help="the server's port")
+    reader.add_argument("terminal", type=options.terminal, help="a terminal of the account")
+    acts = reader.add_subparsers(dest="act", required=True, metavar="COMMAND")
+    for name, about in (("check", "say what is not in the language; nothing is run and nothing changes"),
+                        ("load", "replace routines by files, each whole or not at all"),
+                        ("diff", "compare files with the account's routines; status 1 if they differ")):
+        acts.add_parser(name, help=about, description=about).add_argument("paths", nargs="+", metavar="FILE.m|FOLDER")
+    acts.choices["load"].add_argument("--check", action="store_true", help="load nothing if a line of any file is not in the language")
+    acts.add_parser("list", help="name the account's routines, each with its count of lines")
+    save = acts.add_parser("save", help="write routines to files")
+    save.add_argument("routines", nargs="*", metavar="ROUTINE", help="all, if none is named")
+    save.add_argument("--to", default=".", metavar="FOLDER", help="where the files go (default: here); - for the standard output")
+    save.add_argument("--force", action="store_true", help="write over files that are there")
+    delete = acts.add_parser("delete", help="delete routines")
+    delete.add_argument("routines", nargs="+", metavar="ROUTINE")
+    return reader
+
+
+def main(arguments: list[str] | None = None) -> int:
+    """The command: its status."""
+    chosen = words().parse_args(arguments)
+    return options.guarded(NAME, lambda: run(chosen))
+
+
+def run(chosen: argparse.Namespace) -> int:
+    """Does what the words ask for."""
+    try:
+        files = sources(chosen.paths) if "paths" in chosen else []
+        with options.connected(chosen) as connection:
+            return ACTS[chosen.act](connection, files, chosen)
+    except (BadFile, routines.NoRoutine, routines.LoadFailed) as error:
+        options.tell(NAME, str(error))
+        return FOUND
+
+
+def check(connection: Connection, files: list[Source], _: argparse.Namespace) -> int:
+    """Says what is not in the language."""
+    count = sum(show_findings(connection, source) for source in files)
+    lines = sum(len(source.lines) for source in files)
+    print(f"{counted(len(files), 'file')}, {counted(lines, 'line')}: {counted(count, 'line')} not in the language" if count
+          else f"{counted(len(files), 'file')}, {counted(lines, 'line')}: all in the language")
+    return FOUND if count else 0
+
+
+def show_findings(connection: Connection, source: Source) -> int:
+    """Prints what is wrong with a file's lines; how many there are."""
+    findings = checking.check(connection, source.lines)
+    for finding in findings:
+        print(f"{source.path}:{finding.line}:{finding.column}: {finding.message}")
+        if finding.advice:
+            print(f"    {finding.advice}")
+    return len(findings)
+
+
+def load(connection: Connection, files: list[Source], chosen: argparse.Namespace) -> int:
+    """Replaces routines by files."""
+    if chosen.check and sum([show_findings(connection, source) for source in files]):
+        options.tell(NAME, "nothing was loaded")
+        return FOUND
+    for number, source in enumerate(files):
+        try:
+            others = routines.load(connection, source.name, source.texts())
+        except ClientError as error:
+            left = ", ".join(file.name for file in files[number:])
+            raise routines.LoadFailed(f"{source.path}: {error}; {counted(number, 'routine')} loaded before it, not loaded: {left}") from error
+        print(f"{source.name}: {counted(len(source.lines), 'line')} from {source.path}")
+        if others:
+            options.tell(NAME, f'{source.name}: {counted(len(others), "node")} of ^ROUTINE("{source.name}") that were no lines are gone with the old routine')
+    return 0
+
+
+def diff(connection: Connection, files: list[Source], _: argparse.Namespace) -> int:
+    """Compares files with the account's routines."""
+    different = 0
+    for source in files:
+        there = [node[1] for node in routines.nodes_of(connection, source.name) if routines.is_line(node)]
+        lines = list(difflib.unified_diff(there, source.texts(), f"^{source.name}", source.path, lineterm=""))
+        different += bool(lines)
+        for line in lines:
+            print(line)
+    return FOUND if different else 0
+
+
+def names(connection: Connection, *_: object) -> int:
+    """Names the account's routines."""
+    for name, texts in routines.all_routines(connection):
+        print(f"{name}: {counted(len(texts), 'line')}")
+    return 0
+
+
+def save(connection: Connection, _: list[Source], chosen: argparse.Namespace) -> int:
+    """Writes routines to files."""
+    wanted = [(name, routines.texts_of(connection, name)) for name in chosen.routines] if chosen.routines else routines.all_routines(connection)
+    for name, texts in wanted:
+        text = file_text(name, texts)
+        if chosen.to == "-":
+            sys.stdout.write(text)
+            continue
+        path = os.path.join(chosen.to, file_name(name))
+        if os.path.exists(path) and not chosen.force:
+            raise BadFile(f"{path} is there already: --force writes over it")
+        write_whole(path, text)
+        print(f"{name}: {path}")
+    return 0
+
+
+def write_whole(path: str, text: str) -> None:
+    """Writes a file so that it is there whole, or as it was."""
+    part = path + ".part"
+    try:
+        with open(part, "w", encoding="ascii", newline="\n") as file:
+            file.write(text)
+        os.replace(part, path)
+    finally:
+        if os.path.exists(part):
+            os.unlink(part)
+
+
+def delete(connection: Connection, _: list[Source], chosen: argparse.Namespace) -> int:
+    """Deletes routines."""
+    for name in chosen.routines:
+        routines.delete(connection, name)
+        print(f"{name}: deleted")
+    return 0
+
+
+def counted(count: int, word: str) -> str:
+    """A count with its word: `1 line`, `2 lines`."""
+    return f"{count:,} {word}" if count == 1 else f"{count:,} {word}s"
+
+
+ACTS = {"check": check, "load": load, "diff": diff, "list": names, "save": save, "delete": delete}

@@ -1,0 +1,111 @@
+"""Routines as files: what a `.m` file has, line by line, and which routine it is."""
+from __future__ import annotations
+
+import os
+import re
+from dataclasses import dataclass
+
+from . import keys
+from .wire import ClientError
+
+SUFFIX = ".m"
+_HEAD = re.compile(r"([A-Za-z%][A-Za-z0-9]*)?([ \t][ \t.]*)?(.*)", re.ASCII | re.DOTALL)
+
+
+class BadFile(ClientError):
+    """A file that is no routine."""
+
+
+@dataclass(frozen=True, slots=True)
+class SourceLine:
+    """A line of a routine: its label or nothing, the spaces and dots after it, and the rest, which is a line of M."""
+
+    label: str
+    level: str
+    rest: str
+
+    @property
+    def text(self) -> str:
+        """The line as the routine has it."""
+        return self.label + self.level + self.rest
+
+
+@dataclass(frozen=True, slots=True)
+class Source:
+    """A file's routine: its name, and its lines."""
+
+    path: str
+    name: str
+    lines: list[SourceLine]
+
+    def texts(self) -> list[str]:
+        """The lines as the routine has them."""
+        return [line.text for line in self.lines]
+
+
+def source_line(text: str) -> SourceLine:
+    """A line of a file cut into its parts. Tabs before the first command become spaces."""
+    label, level, rest = _HEAD.fullmatch(text).groups(default="")
+    return SourceLine(label, level.replace("\t", " "), rest)
+
+
+def routine_name(path: str) -> str:
+    """The routine of a file: NAME of NAME.m, and %NAME of _NAME.m."""
+    stem, suffix = os.path.splitext(os.path.basename(path))
+    name = "%" + stem[1:] if stem.startswith("_") else stem
+    if suffix != SUFFIX or not keys.is_name(name):
+        raise BadFile(f"{path}: no name of a routine: a file is NAME.m, or _NAME.m for %NAME, with at most 31 letters and digits")
+    return name
+
+
+def file_name(name: str) -> str:
+    """The file of a routine."""
+    return name.replace("%", "_") + SUFFIX
+
+
+def read_source(path: str) -> Source:
+    """The routine of a file. BadFile, with the place, if it has a character over 127 or a line that is too long."""
+    name = routine_name(path)
+    with open(path, "rb") as file:
+        data = file.read()
+    lines = []
+    for number, line in enumerate(data.split(b"\n"), 1):
+        text = line.removesuffix(b"\r").decode("utf-8", "replace")
+        found = re.search(r"[^\x00-\x7f]", text)
+        if found:
+            raise BadFile(f"{path}:{number}:{found.start() + 1}: the character {found[0]!r} is over 127: values and lines are ASCII, comments too")
+        if len(text) > keys.MAX_TEXT:
+            raise BadFile(f"{path}:{number}: {len(text):,} characters: a line has at most {keys.MAX_TEXT:,}")
+        lines.append(source_line(text))
+    if lines and not lines[-1].text:
+        lines.pop()
+    return Source(path, name, lines)
+
+
+def sources(paths: list[str]) -> list[Source]:
+    """The routines of files and of the files NAME.m in folders."""
+    found: list[Source] = []
+    for path in paths:
+        found += map(read_source, _files(path))
+    names = [source.name for source in found]
+    twice = next((name for name in names if names.count(name) > 1), None)
+    if twice is not None:
+        raise BadFile(f"the routine {twice} is given by {' and by '.join(source.path for source in found if source.name == twice)}")
+    return found
+
+
+def _files(path: str) -> list[str]:
+    if not os.path.isdir(path):
+        return [path]
+    files = [os.path.join(path, name) for name in sorted(os.listdir(path)) if name.endswith(SUFFIX)]
+    if not files:
+        raise BadFile(f"{path}: the folder has no file NAME.m")
+    return files
+
+
+def file_text(name: str, texts: list[str]) -> str:
+    """What the file of a routine has. BadFile if a line of the routine cannot be a line of a file."""
+    for number, text in enumerate(texts, 1):
+        if "\n" in text or text.endswith("\r"):
+            raise BadFile(f"{name}: its line {number} has a line feed, or ends by a carriage return: no file can have it as one line")
+    return "".join(text + "\n" for text in texts)

@@ -1,0 +1,133 @@
+"""How these tests run: each against the built program, over a store in memory and over one in a file.
+
+The program is the one that tools/running.py names: crates/mserve/out/mserve, or that of the variable MSERVE."""
+from __future__ import annotations
+
+import contextlib
+import os
+import subprocess
+import sys
+import time
+from collections.abc import Callable, Iterator
+from dataclasses import dataclass
+from pathlib import Path
+
+import hypothesis
+import pytest
+
+CLIENTS = Path(__file__).resolve().parent.parent
+sys.path[:0] = [str(CLIENTS), str(CLIENTS.parent / "tools")]
+
+import running  # noqa: E402
+from mserve_client import Connection  # noqa: E402
+
+# The same cases in each run, and no deadline: the machine may be busy.
+hypothesis.settings.register_profile("house", deadline=None, max_examples=40, derandomize=True, database=None)
+hypothesis.settings.load_profile("house")
+SETTINGS = str(CLIENTS / "tests" / "settings.toml")
+ALICE, ALICE_TOO, BOB, SHORT = 1, 2, 3, 4
+CONNECTIONS = 1_000_000
+# The kinds of store; the variable STORES names fewer.
+STORES = os.environ.get("STORES", "memory file").split()
+# The globals that tests make, which are killed before the next test.
+NAMES = ("ROUTINE", "X", "Y", "Z", "DATA", "INR", "HERE", "%P", "UNSEEN", "PATIENT", "VISIT", "NONE")
+
+
+def pytest_configure() -> None:
+    """Ends the run if there is no program to test."""
+    if not os.path.exists(running.PROGRAM):
+        pytest.exit("clients/tests: the program is not built: run ./mserve --help, or name one by the variable MSERVE", returncode=3)
+
+
+@dataclass
+class Server:
+    """A server that runs: its process, its port, and where its store is."""
+
+    process: subprocess.Popen[bytes]
+    port: int
+    store: str
+
+    def connection(self, terminal: int = ALICE, **more: float) -> Connection:
+        """A connection of a terminal, ALICE's first one if no other is named."""
+        return Connection(self.port, terminal, **more)
+
+    def stop(self) -> None:
+        """Ends the server as an operator does."""
+        self.process.terminate()
+        self.process.wait(30)
+
+
+def start(store: str) -> Server:
+    """A server over a store, which takes connections once this returns."""
+    port = running.free_port()
+    process = subprocess.Popen(running.serve_words(port, CONNECTIONS, store, SETTINGS), stdin=subprocess.DEVNULL, stdout=subprocess.DEVNULL)
+    running.connected(port).close()
+    return Server(process, port, store)
+
+
+def served(kind: str, folder: Path) -> Iterator[Server]:
+    """A server over a new store of a kind, `memory` or `file`."""
+    started = start("memory" if kind == "memory" else str(folder / "store.db"))
+    try:
+        yield started
+    finally:
+        started.stop()
+
+
+@pytest.fixture(scope="session", params=STORES)
+def lasting_server(request: pytest.FixtureRequest, tmp_path_factory: pytest.TempPathFactory) -> Iterator[Server]:
+    """A server of each kind of store, for all tests."""
+    yield from served(request.param, tmp_path_factory.mktemp("store"))
+
+
+@pytest.fixture
+def server(lasting_server: Server) -> Server:
+    """A server over a store of each kind, with nothing in it, and new sessions."""
+    for terminal in (ALICE, ALICE_TOO, BOB, SHORT):
+        with lasting_server.connection(terminal) as connection:
+            replies = list(connection.pipeline(["HALT", *(f"K ^{name}" for name in NAMES)]))
+            assert all(reply.ok for reply in replies)
+    return lasting_server
+
+
+@pytest.fixture(params=STORES)
+def own_server(request: pytest.FixtureRequest, tmp_path: Path) -> Iterator[Server]:
+    """A server over a store of each kind that a test may end."""
+    yield from served(request.param, tmp_path)
+
+
+@pytest.fixture
+def file_server(tmp_path: Path) -> Iterator[Server]:
+    """A server over a new store in a file."""
+    yield from served("file", tmp_path)
+
+
+@dataclass(frozen=True)
+class Ran:
+    """What a command wrote, and its status."""
+
+    status: int
+    output: str
+    told: str
+
+
+Command = Callable[..., Ran]
+
+
+@pytest.fixture
+def command(tmp_path: Path) -> Command:
+    """Runs a command of clients/ in a folder of its own."""
+    def ran(name: str, *words: object, stdin: str | bytes = b"", cwd: Path = tmp_path, **more: str) -> Ran:
+        data = stdin.encode() if isinstance(stdin, str) else stdin
+        done = subprocess.run([sys.executable, CLIENTS / name, *map(str, words)], input=data, capture_output=True, timeout=60, cwd=cwd,
+                              env={**os.environ, "HOME": str(tmp_path), **more})
+        return Ran(done.returncode, done.stdout.decode("latin1"), done.stderr.decode("latin1"))
+    return ran
+
+
+@contextlib.contextmanager
+def within(seconds: float) -> Iterator[None]:
+    """Fails if the block takes longer."""
+    began = time.monotonic()
+    yield
+    assert time.monotonic() - began < seconds

@@ -1,0 +1,296 @@
+"""Globals in and out: through a terminal, and straight to a store file."""
+from __future__ import annotations
+
+import os
+import signal
+import sqlite3
+import subprocess
+import sys
+from pathlib import Path
+
+import pytest
+import running
+from conftest import ALICE, BOB, CLIENTS, SETTINGS, SHORT, Command, Server, start
+from mserve_client import keys
+from mserve_client.store_file import TABLES, has_changes
+from mserve_client.walk import Walker
+
+HEAD = "GT.M MUPIP EXTRACT\n26-NOV-2026  01:45:37 ZWR\n"
+DEEP = tuple("s" * 250 + str(number) for number in range(15))
+DEEP_NODE = "^X(" + ",".join(f'"{text}"' for text in DEEP) + ")"
+# Nodes of many kinds, as GT.M writes them, in the order in which it does.
+NODES = ['^X="root"', '^X(-1.5)="negative"', '^X(.000000000000000001)=""', '^X(1)="q""uote"', '^X(1,"a b",3)="' + "t" * 600 + '"', '^X(2)=$C(10,13)_"x"_$C(0)_"y"_$C(127)',
+         '^X("-0")="1"', '^X("01")="' + '""' * 300 + '"', '^X("a",$C(9)_"b"_$C(10))="1000"', '^X("a""b")=$C(1)', DEEP_NODE + '="deep"', '^Y("z")="' + "y" * 4095 + '"']
+ZWR = HEAD + "".join(node + "\n" for node in NODES)
+
+
+def without_head(text: str) -> str:
+    """An extract without its first two lines."""
+    return text.split("\n", 2)[2]
+
+
+def fold(store: Path | str) -> None:
+    """Copies the log of a store into its file, as its operator does."""
+    subprocess.run(running.run_words(SETTINGS, str(store)), stdin=subprocess.DEVNULL, check=True, timeout=120)
+
+
+def test_in_and_out_through_a_terminal(server: Server, command: Command, tmp_path: Path) -> None:
+    (tmp_path / "in.zwr").write_text(ZWR)
+    ran = command("mglobal", server.port, ALICE, "import", "in.zwr")
+    assert ran.output.startswith("12 nodes imported") and (ran.told, ran.status) == ("", 0)
+    ran = command("mglobal", server.port, ALICE, "export", "^X", "^Y")
+    assert without_head(ran.output) == without_head(ZWR) and ran.told.startswith("mglobal: 12 nodes exported")
+    assert command("mglobal", server.port, ALICE, "compare", "in.zwr").output == "12 nodes compared: all equal\n"
+    assert command("mglobal", server.port, ALICE, "count", "^X", "^Y", "^X(1)", "^Z").output == "^X: 11 nodes\n^Y: 1 node\n^X(1): 2 nodes\n^Z: 0 nodes\n"
+    with server.connection() as connection:
+        assert connection.send('W ^X(1),$L(^X("01")),$A(^X(2)),$D(%m)').rest == 'q"uote300100'
+
+
+def test_nodes_as_the_language_has_them(server: Server) -> None:
+    with server.connection() as connection:
+        connection.send('S ^X(1)="a",^X("x","y")="b",X(1,2)="c",X="d"')
+        assert list(Walker(connection, "^X").nodes()) == [(("1",), "a"), (("x", "y"), "b")]
+        assert list(Walker(connection, "X").nodes()) == [((), "d"), (("1", "2"), "c")]
+        assert list(Walker(connection, "^X").nodes(("x",))) == [(("x", "y"), "b")]
+        assert list(Walker(connection, "^NONE").nodes()) == []
+
+
+def test_walk_of_a_deep_local(server: Server) -> None:
+    with server.connection() as connection:
+        connection.send('S A("a long subscript",2,"another one")=1')
+        assert list(Walker(connection, "A").nodes()) == [(("a long subscript", "2", "another one"), "1")]
+        assert connection.send("W $D(%m)").rest == "0"
+
+
+@pytest.mark.parametrize("terminal", [ALICE, SHORT], ids=["2000 steps", "40 steps"])
+def test_walk_of_many_children(server: Server, terminal: int) -> None:
+    """More children than one line writes, and more than its steps allow."""
+    with server.connection(terminal) as connection:
+        for start in range(0, 120, 10):
+            assert connection.send(f"F I={start}:1:{start + 9} S ^X(I)=I").code is None or terminal == SHORT
+        for number in range(120) if terminal == SHORT else ():
+            connection.send(f"S ^X({number})={number}")
+        connection.send("S ^X(7,1)=8")
+        wanted = [((str(number),), str(number)) for number in range(120)]
+        wanted.insert(8, (("7", "1"), "8"))
+        assert list(Walker(connection, "^X").nodes()) == wanted
+
+
+def test_import_through_a_terminal_stops_at_what_cannot_come_in(server: Server, command: Command, tmp_path: Path) -> None:
+    (tmp_path / "in.zwr").write_text(HEAD + '^X(1)="a"\n^X("")="b"\n^X(3)="c"\n')
+    ran = command("mglobal", server.port, ALICE, "import", "in.zwr")
+    assert ran.output.startswith("1 node imported, 1 line cannot come in; it stopped there") and ran.status == 1
+    assert ran.told == 'mglobal: line 4: ^X(""): its subscript 1 is empty\n'
+    ran = command("mglobal", server.port, ALICE, "import", "in.zwr", "--skip")
+    assert ran.output.startswith("2 nodes imported, 1 line cannot come in") and ran.status == 1
+    assert without_head(command("mglobal", server.port, ALICE, "export", "^X").output) == '^X(1)="a"\n^X(3)="c"\n'
+
+
+def test_import_through_a_terminal_says_which_nodes_stand(server: Server, command: Command, tmp_path: Path) -> None:
+    """The second of the three nodes needs more than 40 steps: its text is put together out of too many parts."""
+    (tmp_path / "in.zwr").write_text(HEAD + '^X(1)="a"\n^X(2)=$C(' + ",".join(["10"] * 40) + ')\n^X(3)="c"\n')
+    ran = command("mglobal", server.port, SHORT, "import", "in.zwr")
+    assert ran.status == 1
+    assert ran.told == ("mglobal: line 4: ^X(2) was answered ZSTEPS: steps used up; 2 nodes stand, those up to line 3, and 1 of the lines after it that were on their "
+                        "way already\n")
+
+
+def test_export_through_a_terminal_wants_names(server: Server, command: Command) -> None:
+    ran = command("mglobal", server.port, ALICE, "export")
+    assert ran.status == 1 and "name the globals" in ran.told
+
+
+@pytest.mark.parametrize(("text", "told"), [("X", "a global is ^NAME"), ("^X(1", "no ) after the subscripts"), ("^X(A)", "no text"), ('^X("")', "its subscript 1 is empty"),
+                                            ("^X(1)2", "no global"), ("^1", "no node")])
+def test_names_that_are_none(server: Server, command: Command, text: str, told: str) -> None:
+    ran = command("mglobal", server.port, ALICE, "count", text)
+    assert ran.status == 1 and told in ran.told
+
+
+@pytest.mark.parametrize("form", ["zwr", "json", "go"])
+def test_forms_straight(command: Command, tmp_path: Path, form: str) -> None:
+    (tmp_path / "in.zwr").write_text(ZWR)
+    assert command("mglobal", "store.db", "LAB", "import", "in.zwr").status == 0
+    ran = command("mglobal", "store.db", "LAB", "export", "--format", form, "--to", "out")
+    assert ran.status == (1 if form == "go" else 0) and ("1 left out" in ran.told) == (form == "go")
+    assert command("mglobal", "other.db", "LAB", "import", "out").status == 0
+    left = [node for node in NODES if form != "go" or "$C(10,13)" not in node]
+    assert without_head(command("mglobal", "other.db", "LAB", "export").output) == "".join(node + "\n" for node in left)
+    assert not [name for name in os.listdir(tmp_path) if name.endswith(("-wal", "-shm", ".part"))]
+
+
+def test_straight_in_and_the_program_reads_it(command: Command, tmp_path: Path) -> None:
+    (tmp_path / "in.zwr").write_text(ZWR)
+    assert command("mglobal", "store.db", "ALICE", "import", "in.zwr").status == 0
+    lines = b'1 W ^X(1),^X("a",$C(9)_"b"_$C(10)),$L(^Y("z")),$O(^X(""),-1)\n3 W $D(^X)\n1 S ^X(1)="new"\n'
+    assert running.run(lines, SETTINGS, str(tmp_path / "store.db")) == (0, b'1-q"uote10004095' + DEEP[0].encode() + b"\n1.\n3-0\n3.\n1.\n", b"")
+    assert '^X(1)="new"\n' in command("mglobal", "store.db", "ALICE", "export").output
+    assert command("mglobal", "store.db", "BOB", "export").output.count("\n") == 2
+
+
+def test_straight_out_of_what_the_program_wrote(command: Command, tmp_path: Path) -> None:
+    lines = b'1 S ^X(1)="a",^X("b",-.5)=$C(10)_"c",^%A=1\n3 S ^X(1)="other account"\n'
+    assert running.run(lines, SETTINGS, str(tmp_path / "store.db"))[0] == 0
+    ran = command("mglobal", "store.db", "ALICE", "export")
+    assert without_head(ran.output) == '^%A="1"\n^X(1)="a"\n^X("b",-.5)=$C(10)_"c"\n'
+    assert command("mglobal", "store.db", "BOB", "count").output == "^X: 1 node\n"
+
+
+def test_file_is_left_as_the_program_leaves_it(command: Command, tmp_path: Path) -> None:
+    """Tables, version, journal mode and keys are those of a file that the program made of the same nodes."""
+    (tmp_path / "in.zwr").write_text(HEAD + '^X(1)="a"\n^X("b")="c"\n')
+    assert command("mglobal", "made.db", "ALICE", "import", "in.zwr").status == 0
+    assert running.run(b'1 S ^X(1)="a",^X("b")="c"\n', SETTINGS, str(tmp_path / "program.db"))[0] == 0
+    found = []
+    for name in ("made.db", "program.db"):
+        assert not (tmp_path / f"{name}-wal").exists() or not has_changes(str(tmp_path / f"{name}-wal"))
+        with sqlite3.connect(tmp_path / name) as base:
+            found.append([base.execute(words).fetchall() for words in (
+                "SELECT sql FROM sqlite_master ORDER BY rowid", "SELECT * FROM meta", "SELECT k, v FROM node ORDER BY k", "PRAGMA journal_mode", "PRAGMA integrity_check")])
+        base.close()
+    assert found[0] == found[1]
+
+
+def test_straight_import_is_everything_or_nothing(command: Command, tmp_path: Path) -> None:
+    (tmp_path / "good.zwr").write_text(HEAD + '^X(1)="old"\n')
+    (tmp_path / "bad.zwr").write_text(HEAD + '^X(1)="new"\n^X("")="b"\n^X(1E30)="c"\n^X(2)="d"\n')
+    assert command("mglobal", "store.db", "LAB", "import", "good.zwr").status == 0
+    ran = command("mglobal", "store.db", "LAB", "import", "bad.zwr")
+    assert ran.status == 1 and ran.output.startswith("0 nodes imported, 2 lines cannot come in; it stopped there")
+    assert ran.told.startswith('mglobal: line 4: ^X(""): its subscript 1 is empty\nmglobal: line 5: ^X: the number 1E30 is no number here')
+    assert without_head(command("mglobal", "store.db", "LAB", "export").output) == '^X(1)="old"\n'
+    ran = command("mglobal", "store.db", "LAB", "import", "bad.zwr", "--skip")
+    assert ran.status == 1 and ran.output.startswith("2 nodes imported, 2 lines cannot come in")
+    assert without_head(command("mglobal", "store.db", "LAB", "export").output) == '^X(1)="new"\n^X(2)="d"\n'
+
+
+def test_interrupt_of_a_straight_import(command: Command, tmp_path: Path) -> None:
+    """The reading of a pipe that stays open is interrupted: nothing of what came stands."""
+    (tmp_path / "good.zwr").write_text(HEAD + '^X(1)="old"\n')
+    assert command("mglobal", "store.db", "LAB", "import", "good.zwr").status == 0
+    os.mkfifo(tmp_path / "pipe")
+    process = subprocess.Popen([sys.executable, CLIENTS / "mglobal", "store.db", "LAB", "import", "pipe"], cwd=tmp_path, stdout=subprocess.PIPE, stderr=subprocess.PIPE)
+    with open(tmp_path / "pipe", "wb") as pipe:
+        pipe.write(HEAD.encode() + b"".join(b'^X(%d)="new"\n' % number for number in range(20_000)))
+        pipe.flush()
+        process.send_signal(signal.SIGINT)
+        output, told = process.communicate(timeout=60)
+    assert (process.returncode, output, told) == (130, b"", b"mglobal: interrupted\n")
+    assert without_head(command("mglobal", "store.db", "LAB", "export").output) == '^X(1)="old"\n'
+
+
+def test_dry_run_changes_nothing(command: Command, tmp_path: Path) -> None:
+    (tmp_path / "bad.zwr").write_text(HEAD + '^X(1)="new"\n^X("")="b"\n')
+    ran = command("mglobal", "store.db", "LAB", "import", "bad.zwr", "--dry-run")
+    assert (ran.output, ran.status) == ("1 node can come in, 1 line cannot; nothing was changed\n", 1)
+    assert not os.path.exists(tmp_path / "store.db")
+
+
+@pytest.mark.parametrize(("words", "told"), [
+    (("store.db", "LAB", "import", "none.zwr"), "none.zwr: No such file or directory"), (("none/store.db", "LAB", "import", "in.zwr"), "unable to open database file"),
+    ((".", "LAB", "count"), "unable to open database file"), (("store.db", "LAB", "import", "."), ".: Is a directory"),
+])
+def test_files_that_cannot_be_opened(command: Command, tmp_path: Path, words: tuple[str, ...], told: str) -> None:
+    (tmp_path / "in.zwr").write_text(ZWR)
+    ran = command("mglobal", *words)
+    assert ran.status == 1 and told in ran.told
+
+
+def test_compare(command: Command, tmp_path: Path) -> None:
+    (tmp_path / "a.zwr").write_text(HEAD + '^A="1"\n^X(1)="a"\n^X(2)="b"\n^X(4)="d"\n^Y="1"\n')
+    (tmp_path / "b.zwr").write_text(HEAD + '^X(2)="B"\n^X(3)="c"\n^X(4)="d"\n^Y="1"\n^Z="2"\n')
+    (tmp_path / "c.zwr").write_text(HEAD + '^X(2)="B"\n^X(1)="c"\n')
+    assert command("mglobal", "store.db", "LAB", "import", "a.zwr").status == 0
+    ran = command("mglobal", "store.db", "LAB", "compare", "b.zwr")
+    assert ran.output.splitlines() == ["only in the store: ^X(1)", "different: ^X(2)", "only in the file: ^X(3)", "only in the file: ^Z", "only in the store: ^A, 1 node",
+                                       "5 nodes compared: 5 nodes different"]
+    assert ran.status == 1
+    ran = command("mglobal", "store.db", "LAB", "compare", "c.zwr")
+    assert ran.status == 1 and "line 4: ^X(1) does not come after the node before it" in ran.told
+
+
+def test_file_that_a_server_has(file_server: Server, command: Command, tmp_path: Path) -> None:
+    (tmp_path / "in.zwr").write_text(ZWR)
+    with file_server.connection() as connection:
+        assert connection.send("S ^X(1)=1").ok
+    for act in (["import", "in.zwr"], ["export"], ["count"]):
+        ran = command("mglobal", file_server.store, "ALICE", *act)
+        assert ran.status == 1 and f"its log {file_server.store}-wal stands beside it: a server has the file" in ran.told
+    with file_server.connection() as connection:
+        assert connection.send("W ^X(1)").rest == "1"
+    file_server.stop()
+    ran = command("mglobal", file_server.store, "ALICE", "count")
+    assert ran.status == 1 and f"its log {file_server.store}-wal stands beside it" in ran.told and "</dev/null copies the log" in ran.told
+    fold(file_server.store)
+    assert command("mglobal", file_server.store, "ALICE", "count").output == "^X: 1 node\n"
+
+
+def test_file_that_a_server_has_and_has_not_changed(command: Command, tmp_path: Path) -> None:
+    fold(tmp_path / "store.db")
+    server = start(str(tmp_path / "store.db"))
+    try:
+        ran = command("mglobal", "store.db", "ALICE", "import", "/dev/null")
+        assert ran.status == 1 and "store.db: the file is in use (SQLITE_BUSY" in ran.told and "stop the server" in ran.told
+        with server.connection() as connection:
+            assert connection.send("S ^X=1 W ^X").rest == "1"
+    finally:
+        server.stop()
+
+
+def test_file_that_another_process_has(command: Command, tmp_path: Path) -> None:
+    (tmp_path / "in.zwr").write_text(ZWR)
+    assert command("mglobal", "store.db", "LAB", "import", "in.zwr").status == 0
+    base = sqlite3.connect(tmp_path / "store.db", isolation_level=None)
+    base.execute("PRAGMA journal_mode = DELETE")
+    base.execute("BEGIN EXCLUSIVE")
+    ran = command("mglobal", "store.db", "LAB", "export")
+    base.close()
+    assert ran.status == 1 and "store.db: the file is in use (SQLITE_BUSY" in ran.told
+
+
+@pytest.mark.parametrize(("made", "told"), [
+    (None, "there is no such file"), ("text", "it is no database"), ("other", "it has other tables"), ("version", "is of version 1"), ("none", "is of version none"),
+])
+def test_files_that_are_no_stores(command: Command, tmp_path: Path, made: str | None, told: str) -> None:
+    path = tmp_path / "store.db"
+    if made == "text":
+        path.write_text("no database at all, but a text of some length, which a person may name by mistake" * 9)
+    elif made is not None:
+        base = sqlite3.connect(path)
+        for table in TABLES if made != "other" else ["CREATE TABLE t (a)"]:
+            base.execute(table)
+        if made == "version":
+            base.execute("INSERT INTO meta VALUES ('version', 1)")
+        base.commit()
+        base.close()
+    before = path.read_bytes() if path.exists() else None
+    ran = command("mglobal", "store.db", "LAB", "export")
+    assert ran.status == 1 and told in ran.told
+    assert (path.read_bytes() if path.exists() else None) == before
+
+
+@pytest.mark.parametrize("account", ["", "A_B", "A" * 17, "\u00e9"])
+def test_accounts_that_are_none(command: Command, account: str) -> None:
+    ran = command("mglobal", "store.db", account, "count")
+    assert ran.status == 1 and "is no account" in ran.told
+
+
+def test_numbers_for_where_and_who(command: Command) -> None:
+    ran = command("mglobal", 70000, 1, "count", "^X")
+    assert ran.status == 1 and "is not a whole number from 1 to 65535" in ran.told and "./70000" in ran.told
+
+
+def test_key_of_the_store_is_the_key_of_the_module(command: Command, tmp_path: Path) -> None:
+    (tmp_path / "in.zwr").write_text(ZWR)
+    assert command("mglobal", "store.db", "LAB", "import", "in.zwr").status == 0
+    base = sqlite3.connect(tmp_path / "store.db")
+    found = [keys.node(row[0])[2] for row in base.execute("SELECT k FROM node ORDER BY k")]
+    base.close()
+    assert len(found) == 12 and found[10] == DEEP
+
+
+def test_account_of_a_terminal(server: Server, command: Command, tmp_path: Path) -> None:
+    (tmp_path / "in.zwr").write_text(HEAD + '^X(1)="a"\n')
+    assert command("mglobal", server.port, BOB, "import", "in.zwr").status == 0
+    assert command("mglobal", server.port, ALICE, "count", "^X").output == "^X: 0 nodes\n"
+    assert command("mglobal", server.port, BOB, "count", "^X").output == "^X: 1 node\n"

@@ -3,6 +3,7 @@ from __future__ import annotations
 
 import re
 from collections.abc import Iterator
+from functools import lru_cache
 
 from . import keys
 from .wire import LONGEST_LINE
@@ -54,6 +55,7 @@ def arguments(text: str) -> list[str]:
     return [*parts, text[start:]]
 
 
+@lru_cache(1 << 13)
 def subscript(text: str) -> str:
     """A subscript as it is written in a line."""
     return quoted(text) if keys.units(text) is None else text

@@ -8,7 +8,7 @@ from dataclasses import dataclass
 from . import keys
 from .codes import in_words
 from .extracts import Entry, shown_node
-from .mtext import set_lines
+from .mtext import quoted, reference, set_lines
 from .walk import SUBSCRIPTS, Walker, long_reference
 from .wire import LONGEST_LINE, ClientError, Connection, Reply
 
@@ -52,8 +52,8 @@ class TerminalWay:
             for entry in entries:
                 if tally.refused is not None:
                     return
-                texts = list(entry_lines(entry))
-                uses_local = uses_local or texts[0].startswith(f"K {SUBSCRIPTS}")
+                texts = entry_lines(entry)
+                uses_local = uses_local or len(texts) > 1 and texts[0] == f"K {SUBSCRIPTS}"
                 for number, line in enumerate(texts, 1):
                     due.append((entry, number == len(texts)))
                     yield line
@@ -77,11 +77,13 @@ class TerminalWay:
             step()
 
 
-def entry_lines(entry: Entry) -> Iterator[str]:
-    """The lines that set a node."""
+def entry_lines(entry: Entry) -> list[str]:
+    """The lines that set a node: one, if that has room for it."""
+    line = f"S {reference(f'^{entry.name}', entry.subscripts)}={quoted(entry.text)}"
+    if len(line) <= LONGEST_LINE:
+        return [line]
     before, target = long_reference(f"^{entry.name}", entry.subscripts, ROOM)
-    yield from before
-    yield from set_lines(target, entry.text, LONGEST_LINE)
+    return [*before, *set_lines(target, entry.text)]
 
 
 def stopped_text(tally: Tally) -> str:

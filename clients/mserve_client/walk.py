@@ -74,10 +74,12 @@ class Walker:
     def __init__(self, connection: Connection, name: str) -> None:
         self._connection, self._name = connection, name
         self._count = BATCH
+        self._used_local = False
 
     def nodes(self, start: keys.Subscripts = ()) -> Iterator[Node]:
         """The nodes at and below a place that have a text, in the order of the store: their subscripts, and the text."""
         before, place = long_reference(self._name, start, 100)
+        self._used_local = bool(before)
         for line in before:
             asked(self._connection, line)
         reply = asked(self._connection, f"W $D({place}),! W:$D({place})#10 {place},!")
@@ -87,8 +89,12 @@ class Walker:
                 yield start, reply.lines[1]
             if status >= 10:
                 yield from self._below(start, self._asked([(start, "")])[0])
+        except ClientError:
+            self._used_local = False
+            raise
         finally:
-            self._connection.send(f"K {SUBSCRIPTS}")
+            if self._used_local:
+                self._connection.send(f"K {SUBSCRIPTS}")
 
     def children(self, place: keys.Subscripts = ()) -> Iterator[Child]:
         """The children of a node, in their order."""
@@ -148,6 +154,7 @@ class Walker:
         if len(start) > LONGEST_LINE - 200:
             before += set_lines(f"{SUBSCRIPTS}(0)", after)
             start = f"{SUBSCRIPTS}(0)"
+        self._used_local = self._used_local or bool(before)
         return [*before, f"N {INDEX},{TURN} S {INDEX}={start} F {TURN}=1:1:{self._count} S {INDEX}=$O({child}) Q:{INDEX}=\"\"  "
                          f"W $D({again}),\" \",{INDEX},! W:$D({again})#10 {again},!"]
 

@@ -1,6 +1,6 @@
 """Files of nodes: ZWR and GO, as GT.M and YottaDB write them, and JSON lines. Each is read and written node by node.
 
-What a file has and a store cannot take is told as a Problem, in its place among the nodes."""
+What a file has and a store cannot take is a Problem, in its place among the nodes."""
 from __future__ import annotations
 
 import io
@@ -102,7 +102,7 @@ def read(file: IO[bytes], form: str | None = None) -> Iterator[Record]:
 
 
 def rows(file: IO[bytes], form: str | None, account: str, tell: Callable[[Problem], None]) -> Iterator[tuple[bytes, bytes]]:
-    """The keys and the texts of a file's nodes in an account; what cannot come in is told."""
+    """The keys and the texts of a file's nodes in an account; `tell` gets what cannot come in."""
     form, lines = numbered(file, form)
     for found in _zwr_rows(lines, account) if form == "zwr" else READERS[form](lines):
         if type(found) is tuple:

@@ -10,7 +10,7 @@ from itertools import groupby, islice
 from typing import IO
 
 from . import extracts, keys, options
-from .extracts import FORMATS, Entry, Problem, Record, Unreadable, shown_node
+from .extracts import FORMATS, Entry, Problem, Unreadable, shown_node
 from .options import FOUND
 from .progress import Progress
 from .routine_command import counted
@@ -134,7 +134,7 @@ def export(found: Way, chosen: argparse.Namespace) -> int:
                 except Unreadable as error:
                     left += 1
                     options.tell(NAME, f"left out: {error.reason}")
-    options.tell(NAME, f"{counted(progress.count, 'node')} exported" + (f", {left:,} left out" if left else "") + progress.told_rate)
+    options.tell(NAME, f"{counted(progress.count, 'node')} exported" + (f", {left:,} left out" if left else "") + progress.shown_rate)
     return FOUND if left else 0
 
 
@@ -167,7 +167,7 @@ class Reading:
         return self._file.tell() / self._size if self._file.seekable() else 0.0
 
     def entries(self, is_strict: bool) -> Iterator[Entry]:
-        """The nodes. Problems are told; a strict reading ends at the first."""
+        """The nodes. Problems are written to the standard error; a strict reading ends at the first."""
         for found in extracts.read(self._file, self._form):
             if isinstance(found, Entry):
                 yield found
@@ -177,7 +177,7 @@ class Reading:
                 return
 
     def rows(self, account: str) -> Iterator[tuple[bytes, bytes]]:
-        """The nodes as rows of a store. Problems are told."""
+        """The nodes as rows of a store. Problems are written to the standard error."""
         return extracts.rows(self._file, self._form, account, self.tell)
 
     def tell(self, problem: Problem) -> None:
@@ -214,7 +214,7 @@ def take(found: Way, chosen: argparse.Namespace) -> int:
             took = take_through(found, source, progress, chosen.skip)
     count = progress.count if took or isinstance(found, TerminalWay) else 0
     print(f"{counted(count, 'node')} imported" + (f", {counted(source.problems, 'line')} cannot come in" if source.problems else "")
-          + ("" if took else "; it stopped there: --skip leaves such lines out, --dry-run lists them") + progress.told_rate)
+          + ("" if took else "; it stopped there: --skip leaves such lines out, --dry-run lists them") + progress.shown_rate)
     return FOUND if source.problems else 0
 
 

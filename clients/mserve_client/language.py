@@ -29,7 +29,7 @@ def _command(words: str, name: str, advice: str, example: str) -> Missing:
     return _missing(_COMMAND.format(words), name, advice, example)
 
 
-# The order matters: the first that is found is told.
+# The order matters: the first that is found is shown.
 MISSING = [
     _missing(r"\t", "a tab", "Write a space: a tab is one only before the first command of a routine's line.", "S X=1\tW X"),
     _missing(r"[^\x00-\x7f]", "a character over 127", "Values and lines are ASCII.", ""),

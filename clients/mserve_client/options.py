@@ -54,7 +54,7 @@ def connected(options: argparse.Namespace) -> Connection:
 
 
 def guarded(name: str, act: Callable[[], int]) -> int:
-    """The status of a command; what keeps it from its end is told on the standard error."""
+    """The status of a command; what keeps it from its end is written to the standard error."""
     try:
         return act()
     except ClientError as error:

@@ -34,7 +34,7 @@ class Progress(AbstractContextManager["Progress"]):
         return self.count / max(time.monotonic() - self._began, 1e-6)
 
     @property
-    def told_rate(self) -> str:
+    def shown_rate(self) -> str:
         """The rate after a comma, if the work took long enough for one."""
         return f", {self.rate:,.0f} a second" if time.monotonic() - self._began > LONG else ""
 

@@ -133,7 +133,7 @@ class Walker:
         count, found, short = self._count, [], False
         for number, reply in enumerate(self._connection.pipeline(lines)):
             if number in wanted:
-                found.append(batch := children_of(reply, count, lines[number]))
+                found.append(children_of(reply, count, lines[number]))
                 short = short or reply.code is not None
             elif reply.code is not None:
                 raise Refused(lines[number], reply.code)
@@ -160,7 +160,7 @@ class Walker:
 
 
 def children_of(reply: Reply, count: int, line: str) -> Children:
-    """The children that a reply writes, of which up to `count` were asked for. A line whose steps were used up told some first ones."""
+    """The children that a reply writes, of which up to `count` were asked for. A line whose steps were used up has written some first ones."""
     if reply.code not in (None, "ZSTEPS"):
         raise Refused(line, reply.code)
     found, lines = [], iter(reply.lines)

@@ -66,8 +66,8 @@ def test_walk_of_a_deep_local(server: Server) -> None:
 def test_walk_of_many_children(server: Server, terminal: int) -> None:
     """More children than one line writes, and more than its steps allow."""
     with server.connection(terminal) as connection:
-        for start in range(0, 120, 10):
-            assert connection.send(f"F I={start}:1:{start + 9} S ^X(I)=I").code is None or terminal == SHORT
+        for first in range(0, 120, 10):
+            assert connection.send(f"F I={first}:1:{first + 9} S ^X(I)=I").code is None or terminal == SHORT
         for number in range(120) if terminal == SHORT else ():
             connection.send(f"S ^X({number})={number}")
         connection.send("S ^X(7,1)=8")

@@ -99,9 +99,11 @@ def test_interrupt_of_a_load(server: Server, monkeypatch: pytest.MonkeyPatch) ->
         count = 0
 
         def feed(data: bytes) -> list[object]:
+            """Is interrupted once it has ten lines: the old routine has been read, and some of the new one's lines are set. How many pieces they come
+            in depends on how fast the server is."""
             nonlocal count
-            count += 1
-            if count == 30:
+            before, count = count, count + data.count(b"\n")
+            if before < 10 <= count:
                 signal.raise_signal(signal.SIGINT)
             return taken(data)
 

@@ -57,7 +57,7 @@ def built_program(digest: str) -> str:
         reason = "there is no release" if release.read_record() is None else "the sources are not those of the release"
         if shutil.which("rt") is None:
             fail(f"{reason}, and the Rattle kit (`rt`) that builds the program is not on the path: see docs/INSTALL.md")
-        print(f"mserve: {reason}, so the program is proved and built from them: up to an hour the first time", file=sys.stderr, flush=True)
+        print(f"mserve: {reason}, so the program is proved and built from them: an hour or more the first time", file=sys.stderr, flush=True)
         build.build(digest)
     return build.PROGRAM
 

@@ -1,6 +1,7 @@
 """How the scripts of this folder run the built program.
 
-The program is crates/mserve/out/mserve, as `./mserve` or the gate leaves it, or the one that the variable MSERVE names.
+The program is the one that the variable MSERVE names; else crates/mserve/out/mserve, as the gate or a build by `./mserve` leaves it; else the
+released one that `./mserve` unpacked.
 Where a script says no more, a run is over a new store in memory, by
 settings in which terminal 1 is of ALICE and a line may use 2,000 steps."""
 import os
@@ -10,16 +11,18 @@ import sys
 import time
 
 TOP = os.path.realpath(os.path.join(os.path.dirname(os.path.abspath(__file__)), ".."))
-PROGRAM = os.environ.get("MSERVE", os.path.join(TOP, "crates", "mserve", "out", "mserve"))
+BUILT = os.path.join(TOP, "crates", "mserve", "out", "mserve")
+RELEASED = os.path.join(TOP, "release", "unpacked", "mserve")
+PROGRAM = os.environ.get("MSERVE") or (BUILT if os.path.exists(BUILT) else RELEASED)
 ONE_ACCOUNT = os.path.join(TOP, "tools", "settings", "one_account.toml")
 STEPS = 2000
 
 
 def require_program():
-    """Ends the script where the program is not built."""
+    """Ends the script if there is no program."""
     if not os.path.exists(PROGRAM):
         script = os.path.splitext(os.path.basename(sys.argv[0]))[0]
-        sys.exit(f"{script}: the program is not built: run ./mserve --help")
+        sys.exit(f"{script}: there is no program: run ./mserve --help, which unpacks or builds it")
 
 
 def run_words(settings=ONE_ACCOUNT, store="memory", only=None):

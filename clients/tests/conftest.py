@@ -1,6 +1,6 @@
 """How these tests run: each against the built program, over a store in memory and over one in a file.
 
-The program is the one that tools/running.py names: crates/mserve/out/mserve, or that of the variable MSERVE."""
+The program is the one that tools/running.py names."""
 from __future__ import annotations
 
 import contextlib
@@ -36,7 +36,7 @@ NAMES = ("ROUTINE", "X", "Y", "Z", "DATA", "INR", "HERE", "%P", "UNSEEN", "PATIE
 def pytest_configure() -> None:
     """Ends the run if there is no program to test."""
     if not os.path.exists(running.PROGRAM):
-        pytest.exit("clients/tests: the program is not built: run ./mserve --help, or name one by the variable MSERVE", returncode=3)
+        pytest.exit("clients/tests: there is no program: run ./mserve --help, or name one by the variable MSERVE", returncode=3)
 
 
 @dataclass

@@ -1,3 +1,4 @@
+-- SPDX-License-Identifier: Apache-2.0
 -- A tree that is kept beside the others.
 use Rattle.std.proofs.Common.{◌≡◌, ◌<◌, ◌≤◌, ◌+◌, ◌∙◌, ℕ, List, length, Some, ap, sym, inl, inr, arith}
 use Rattle.mgrammar.specs.Reading.{line_at}

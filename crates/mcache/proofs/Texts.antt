@@ -1,3 +1,4 @@
+-- SPDX-License-Identifier: Apache-2.0
 -- A text by what the parser says of its tree.
 use Rattle.std.proofs.Common.{◌≡◌, ◌∙◌, List, ℕ, Option, Some, None, Result, Err, refl, sym, ap}
 use Rattle.mgrammar.specs.Grammar.{LineTree, spell}

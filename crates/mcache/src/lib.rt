@@ -1,9 +1,13 @@
-//! Trees of texts that were parsed, kept for the next time.
+// SPDX-License-Identifier: Apache-2.0
+//! What is kept for the next time: trees of texts that were parsed, and texts of nodes that were read.
 #![tactic(auto)]
 
 mod arrivals;
+mod cached;
+mod entries;
 mod shelf;
 mod trees;
 
+pub use cached::Cached;
 pub use mparse::ParseFault;
 pub use trees::Trees;

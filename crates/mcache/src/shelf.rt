@@ -1,3 +1,4 @@
+// SPDX-License-Identifier: Apache-2.0
 // Trees of one kind by their texts, the most recently used first.
 ghost use Rattle.std.specs.Prelude.{◌≡◌, ◌+◌, ◌-◌, ◌≤◌, length, IfSome};
 ghost use Rattle.mcache.specs.Kept.{IsKept, IsWithin, IsWithinOr};

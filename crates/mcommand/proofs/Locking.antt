@@ -1,3 +1,4 @@
+-- SPDX-License-Identifier: Apache-2.0
 -- What LOCK asks of the locks.
 use Rattle.std.proofs.Common.{◌≡◌, ℕ, ◌+◌, ◌<◌, Bool, true, false, List, [], ◌∷◌, ◌++◌, Option, Some, None, MutBor, Result, Ok, Err, length, drop, get_or, map, refl, sym, ap, ◌∙◌, subst}
 use Rattle.std.specs.Prelude.{if◌then◌else◌, ◌&&◌}

@@ -1,3 +1,4 @@
+-- SPDX-License-Identifier: Apache-2.0
 -- Sums of the machine's numbers.
 use Rattle.std.proofs.Common.{◌≡◌, ℤ, Some, None, Result, Ok, Err, sym, MatchResult}
 use Rattle.mspec.specs.Number.{sum_of}

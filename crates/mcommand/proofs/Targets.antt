@@ -1,3 +1,4 @@
+-- SPDX-License-Identifier: Apache-2.0
 -- Targets of SET.
 use Rattle.std.proofs.Common.{◌≡◌, ℕ, ◌+◌, ◌<◌, List, [], ◌∷◌, ◌++◌, Option, Result, Ok, Err, length, drop, get_or, map, refl, sym, subst}
 use Rattle.std.specs.Prelude.{ℤ}

@@ -1,3 +1,4 @@
+-- SPDX-License-Identifier: Apache-2.0
 -- A condition of IF: its truth, which $TEST then says.
 use Rattle.std.specs.Prelude.{Bool}
 use Rattle.mspec.specs.Act.{Act, ◌>>=◌, ◌>>◌, give, set_test}

@@ -1,3 +1,4 @@
+-- SPDX-License-Identifier: Apache-2.0
 -- What calls say of the acts of a line.
 use Rattle.std.specs.Prelude.{◌≡◌, ℕ, Result}
 use Rattle.mspec.specs.Act.{Text, Act}

@@ -1,3 +1,4 @@
+-- SPDX-License-Identifier: Apache-2.0
 -- A target of the code, once its parts are evaluated, as the meaning has it.
 use Rattle.mmeaning.specs.LineMeaning as meaning
 use Rattle.meval.specs.Places.{pending_view}

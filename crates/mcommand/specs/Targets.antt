@@ -1,3 +1,4 @@
+-- SPDX-License-Identifier: Apache-2.0
 -- Where DO and GOTO lead, as the definitions have it.
 use Rattle.std.specs.Prelude.{ℕ, List, position, slice_get}
 use Rattle.mspec.specs.Code.{M13, Zlevel}

@@ -1,3 +1,4 @@
+-- SPDX-License-Identifier: Apache-2.0
 -- The turns of a FOR, without the commands that they do.
 use Rattle.std.specs.Prelude.{ℤ, ◌+ℤ◌, Bool, true, false, cond, [], Option, Some, None}
 use Rattle.mspec.specs.Number.{sum_of}

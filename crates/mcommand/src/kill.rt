@@ -1,3 +1,4 @@
+// SPDX-License-Identifier: Apache-2.0
 // KILL of one variable.
 ghost use Rattle.std.specs.Prelude.{◌≡◌, ◌≤◌};
 ghost use Rattle.mmeaning.specs.LineMeaning as meaning;

@@ -1,3 +1,4 @@
+// SPDX-License-Identifier: Apache-2.0
 //! What the arguments of commands do that run no text: SET, KILL, IF, LOCK and WRITE, postconditionals, and the parameters of FOR.
 #![tactic(auto)]
 

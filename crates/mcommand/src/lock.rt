@@ -1,3 +1,4 @@
+// SPDX-License-Identifier: Apache-2.0
 // LOCK: its names and its timeout are evaluated first, and then the names are taken or given back.
 ghost use Rattle.std.specs.Prelude.{◌≡◌, ◌≤◌, [], map, Ok, IfOk};
 ghost use Rattle.mspec.specs.Act.{ask};

@@ -1,3 +1,4 @@
+// SPDX-License-Identifier: Apache-2.0
 // What a text is lent while it is carried out.
 use meval::Eval;
 use mlock::Locks;

@@ -1,3 +1,4 @@
+// SPDX-License-Identifier: Apache-2.0
 // SET: the parts of its targets are evaluated first, then the right side, and then each target is assigned.
 ghost use Rattle.std.specs.Prelude.{◌≡◌, ◌≤◌, [], map, option_map, IfSome};
 ghost use Rattle.mgrammar.specs.Grammar.{one, variable, local, exprs, no_exprs};

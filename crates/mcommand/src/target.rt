@@ -1,3 +1,4 @@
+// SPDX-License-Identifier: Apache-2.0
 // Where DO and GOTO lead.
 ghost use Rattle.std.specs.Prelude.{◌≡◌, ◌≤◌, true, slice_get, map, position, IfOk};
 ghost use Rattle.mmeaning.specs.Levels as levels;

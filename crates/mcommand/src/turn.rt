@@ -1,3 +1,4 @@
+// SPDX-License-Identifier: Apache-2.0
 // The parameters of FOR: how the turns of one begin, and what follows a turn.
 ghost use Rattle.std.specs.Prelude.{◌≡◌, ◌≤◌, ℤ, ◌+ℤ◌, option_map};
 ghost use Rattle.mmeaning.specs.Courses as courses;

@@ -1,3 +1,4 @@
+// SPDX-License-Identifier: Apache-2.0
 // WRITE.
 ghost use Rattle.std.specs.Prelude.{◌≡◌, ◌≤◌, replicate};
 ghost use Rattle.mspec.specs.Act.{write};

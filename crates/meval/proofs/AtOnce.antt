@@ -1,3 +1,4 @@
+-- SPDX-License-Identifier: Apache-2.0
 -- Operands that stand for a number without more, and nodes of local variables by one subscript.
 use Rattle.std.proofs.Common.{◌≡◌, true, List, [], ◌∷◌, Option, None, Some, Result, Ok, Err, refl, sym, subst}
 use Rattle.std.specs.Prelude.{slice_get}

@@ -1,3 +1,4 @@
+-- SPDX-License-Identifier: Apache-2.0
 -- The names of locks, with and without a `^`.
 use Rattle.std.specs.Prelude.{true, false, List}
 use Rattle.mspec.specs.Act.{Text}

@@ -1,3 +1,4 @@
+-- SPDX-License-Identifier: Apache-2.0
 -- What is left of a reference behind the values of its subscripts, and what the checks let through as a walk.
 use Rattle.std.proofs.Common.{◌≡◌, ℕ, zero, suc, ◌<◌, false, List, [], ◌∷◌, length, Result, Ok, Err, subst, refl, sym, arith}
 use Rattle.std.specs.Prelude.{◌==◌}

@@ -1,3 +1,4 @@
+-- SPDX-License-Identifier: Apache-2.0
 -- The views of trees, a level at a time.
 use Rattle.std.proofs.Common.{◌≡◌, ℕ, List, Vec, Box, Global, map, sym, ap, ◌∙◌}
 use Rattle.mgrammar.specs.Grammar as grammar

@@ -1,3 +1,4 @@
+-- SPDX-License-Identifier: Apache-2.0
 -- The parts of a tree, from a place on.
 use Rattle.std.proofs.Common.{◌≡◌, ℕ, ◌+◌, ◌<◌, ◌≤◌, List, [], ◌∷◌, ◌++◌, Bool, true, false, length, drop, get_or, map, Result, Ok, Err, subst, refl, sym, arith}
 use Rattle.std.specs.Prelude.{cond}

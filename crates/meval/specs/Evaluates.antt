@@ -1,3 +1,4 @@
+-- SPDX-License-Identifier: Apache-2.0
 -- What a call that evaluates says: it does an act that is told where it stands.
 use Rattle.std.specs.Prelude.{◌≡◌, ℕ, Result}
 use Rattle.mspec.specs.Access.{name_at}

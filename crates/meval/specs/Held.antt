@@ -1,3 +1,4 @@
+-- SPDX-License-Identifier: Apache-2.0
 -- Values as they are held, by their texts.
 use Rattle.std.specs.Prelude.{List, [], ◌∷◌}
 use Rattle.mspec.specs.Node.{Text}

@@ -1,3 +1,4 @@
+-- SPDX-License-Identifier: Apache-2.0
 -- What stands for a number without more: a literal, and a local variable that holds one.
 use Rattle.std.specs.Prelude.{◌≡◌, ℤ, [], Some}
 use Rattle.mspec.specs.Number.{significant_digits}

@@ -1,3 +1,4 @@
+-- SPDX-License-Identifier: Apache-2.0
 -- References and places of the code, as the definitions have them.
 use Rattle.std.specs.Prelude.{◌≡◌, Bool, true, List}
 use Rattle.mspec.specs.Access.{Mode, may}

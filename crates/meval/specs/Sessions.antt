@@ -1,3 +1,4 @@
+-- SPDX-License-Identifier: Apache-2.0
 -- A session of the program as one of the definitions.
 use Rattle.mmeaning.specs.Step as step
 use Rattle.meval.specs.declared.session.Session.{Session}

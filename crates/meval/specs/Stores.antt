@@ -1,3 +1,4 @@
+-- SPDX-License-Identifier: Apache-2.0
 -- A fault of a store as a code of the program.
 use Rattle.mstore.specs.declared.store.StoreFault.{StoreFault}
 use Rattle.mstore.specs.declared.store.StoreFault.TheVariants as fault

@@ -1,5 +1,6 @@
+// SPDX-License-Identifier: Apache-2.0
 // The evaluation of expressions.
-ghost use Rattle.std.specs.Prelude.{◌≡◌, ◌≢◌, ◌≤◌, ◌<◌, [], map, Some, Err, IfOk, IsErr};
+ghost use Rattle.std.specs.Prelude.{◌≡◌, ◌≢◌, ◌≤◌, ◌<◌, [], map, Some, Err, IfOk, IfErr, IsErr};
 ghost use Rattle.mgrammar.specs.Grammar.{local, no_exprs, exprs, indirect, extended, steps_of, exprs_of, choices_of};
 ghost use Rattle.mmeaning.specs.Expression as meaning;
 ghost use Rattle.mmeaning.specs.LineMeaning as line;
@@ -7,7 +8,7 @@ ghost use Rattle.mmeaning.specs.Variables as variables;
 ghost use Rattle.mnum.specs.Num.{units};
 ghost use Rattle.mspec.specs.Act.{charge};
 ghost use Rattle.mtree.specs.Tree.{expr_tree, step_tree, operand_tree, primary_tree, reference_tree, choice_tree};
-ghost use Rattle.moperator.specs.declared.code.Code.TheVariants.{Zstore};
+ghost use Rattle.moperator.specs.declared.code.Code.TheVariants.{Zsteps, Zstore};
 ghost use Rattle.meval.specs.Evaluates.{Evaluates, KeepsEval, standing_of};
 ghost use Rattle.meval.specs.Acts as acts;
 ghost use Rattle.meval.specs.Places.{pending_view, place_view, IsOpen};
@@ -57,6 +58,7 @@ impl<'a, S: NodeStore> Eval<'a, S> {
         ensures spent { IfOk result (λ _. self.new.steps < self.old.steps) }
         ensures session { self.new.session ≡ self.old.session }
         ensures refused { IsErr result → self.new ≡ self.old }
+        ensures used_up { IfErr result (λ code. code ≡ Zsteps) }
         ensures does { Evaluates S.NodeStore (λ i. charge) (λ u. u) self.old result self.new }
     {
         if self.steps == 0 {

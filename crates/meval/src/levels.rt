@@ -1,10 +1,12 @@
+// SPDX-License-Identifier: Apache-2.0
 // Levels of execution, and the lines of routines that run in them.
-ghost use Rattle.std.specs.Prelude.{◌≡◌, ◌≤◌, ◌<◌, Ok, IfOk};
+ghost use Rattle.std.specs.Prelude.{◌≡◌, ◌≤◌, ◌<◌, Ok, IfOk, IfErr};
 ghost use Rattle.mspec.specs.Act.{with_locals, level_begun, ask};
 ghost use Rattle.mspec.specs.Plan.{Routine};
 ghost use Rattle.mspec.specs.Scopes.{without_level};
 ghost use Rattle.mmeaning.specs.Levels.{a_level_free};
 ghost use Rattle.meval.specs.Evaluates.{Evaluates, KeepsEval};
+ghost use Rattle.moperator.specs.declared.code.Code.TheVariants.{Zdepth};
 
 use crate::depth::MOST_LEVELS;
 use crate::eval::Eval;
@@ -25,6 +27,7 @@ impl<'a, S: NodeStore> Eval<'a, S> {
     /// `Zdepth` where 256 are open.
     pub fn a_level_free(&self) -> Result<(), Code>
         ensures free { IfOk result (λ _. self.now.depth.levels < 256) }
+        ensures full { IfErr result (λ code. code ≡ Zdepth) }
         ensures does { Evaluates S.NodeStore (λ i. a_level_free i.depth) (λ u. u) self.now result self.now }
     {
         if self.depth.levels < MOST_LEVELS {

@@ -1,3 +1,4 @@
+// SPDX-License-Identifier: Apache-2.0
 //! The value of an expression, and what commands do with variables.
 #![tactic(auto)]
 

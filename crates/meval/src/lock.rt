@@ -1,3 +1,4 @@
+// SPDX-License-Identifier: Apache-2.0
 // The locks that references name.
 ghost use Rattle.std.specs.Prelude.{◌≡◌, ◌≤◌, true, IfOk};
 ghost use Rattle.mmeaning.specs.Variables as variables;

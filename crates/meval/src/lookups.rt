@@ -1,3 +1,4 @@
+// SPDX-License-Identifier: Apache-2.0
 // What is asked of places that the checks let through, and what takes less than a place: a number that stands for itself or in a variable,
 // and a node of a local variable by one subscript.
 ghost use Rattle.std.specs.Prelude.{◌≡◌, ◌≤◌, ◌<◌, [], ◌∷◌, slice_get, unwrap_or, IsSome, IsNone, IfSome};

@@ -1,3 +1,4 @@
+// SPDX-License-Identifier: Apache-2.0
 // References of which all is evaluated, and places that the checks let through.
 ghost use Rattle.std.specs.Prelude.{◌≡◌, ◌↔◌, ◌++◌, IsTrue, IsSome, IsNone, IfSome, IfOk, map};
 ghost use Rattle.mgrammar.specs.Grammar.{local, indirect, extended, no_exprs, exprs, exprs_of};

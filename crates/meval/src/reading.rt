@@ -1,3 +1,4 @@
+// SPDX-License-Identifier: Apache-2.0
 // The text of an indirection by its tree.
 ghost use Rattle.mspec.specs.Code.{Zsyntax};
 ghost use Rattle.mspec.specs.Act.{give_some};

@@ -1,3 +1,4 @@
+// SPDX-License-Identifier: Apache-2.0
 // $DATA, $GET and $ORDER of a variable. Each of them stands apart from the others, and a local variable by one subscript from all other
 // references: a function clears the room of all its cases at each call.
 ghost use Rattle.std.specs.Prelude.{◌≤◌, [], ◌∷◌, map};

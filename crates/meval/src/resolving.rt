@@ -1,3 +1,4 @@
+// SPDX-License-Identifier: Apache-2.0
 // From what a reference evaluates to the place that it names, by the checks in their order.
 ghost use Rattle.std.specs.Prelude.{◌≡◌, ◌≤◌, IfOk, Ok, Some};
 ghost use Rattle.mspec.specs.Access.{Read};

@@ -1,3 +1,4 @@
+// SPDX-License-Identifier: Apache-2.0
 // What a terminal keeps from line to line.
 ghost use Rattle.std.specs.Prelude.{◌≡◌};
 ghost use Rattle.mmeaning.specs.Step.{new_session};

@@ -1,3 +1,4 @@
+// SPDX-License-Identifier: Apache-2.0
 // Values in their order.
 ghost use Rattle.std.specs.Prelude.{◌≡◌, ◌++◌, [], ◌∷◌, IfOk, slice_get};
 ghost use Rattle.meval.specs.Held.{held_texts};

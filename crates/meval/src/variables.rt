@@ -1,3 +1,4 @@
+// SPDX-License-Identifier: Apache-2.0
 // What commands ask of the session of an evaluation, and change in it.
 ghost use Rattle.std.specs.Prelude.{◌≡◌, ◌≤◌, [], ◌∷◌, Ok, IfOk};
 ghost use Rattle.mgrammar.specs.Grammar.{special_of};

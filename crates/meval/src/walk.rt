@@ -1,3 +1,4 @@
+// SPDX-License-Identifier: Apache-2.0
 // Values as texts, as $DATA's number and as $ORDER's direction.
 ghost use Rattle.std.specs.Prelude.{◌≡◌, [], pos, slice_get, unwrap_or, IfOk};
 ghost use Rattle.mmeaning.specs.Functions.{whole_text};

@@ -1,3 +1,4 @@
+-- SPDX-License-Identifier: Apache-2.0
 -- Commands that are done at once, one after another.
 use Rattle.std.proofs.Common.{◌≡◌, ℕ, zero, suc, ◌+◌, ◌<◌, Bool, true, false, List, [], ◌∷◌, Result, Ok, Err, length, get_or, map, drop, refl, sym, subst, arith}
 use Rattle.std.specs.Prelude.{◌&&◌}

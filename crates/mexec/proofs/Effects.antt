@@ -1,3 +1,4 @@
+-- SPDX-License-Identifier: Apache-2.0
 -- The first argument of a command says what the command does.
 use Rattle.std.proofs.Common.{◌≡◌, List, [], ◌∷◌, Some, None, slice_get, Vec, Global, refl, ap, unwrap_or}
 use Rattle.mspec.specs.Act.{Text, Act}

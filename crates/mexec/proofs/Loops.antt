@@ -1,3 +1,4 @@
+-- SPDX-License-Identifier: Apache-2.0
 -- The turns of a FOR: what the code does one after another is what the meaning has inside of one act.
 use Rattle.std.proofs.Common.{◌≡◌, ℤ, ◌+ℤ◌, ℕ, ◌<◌, Bool, true, false, cond, List, [], ◌∷◌, Option, Some, None, Result, Ok, Err, length, get_or, map, drop, refl, sym, ap, ◌∙◌, subst, arith, ◌≤◌, ◌+◌, ◌*◌}
 use Rattle.mspec.specs.Act.{Text, Act, ◌>>=◌, ◌>>◌, give, charge}

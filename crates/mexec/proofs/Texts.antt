@@ -1,3 +1,4 @@
+-- SPDX-License-Identifier: Apache-2.0
 -- A text by its tree.
 use Rattle.std.proofs.Common.{◌≡◌, ◌≢◌, ◌≤◌, Option, Some, None, Ok, Err, refl, sym, subst, arith}
 use Rattle.mspec.specs.Act.{Act}

@@ -1,3 +1,4 @@
+-- SPDX-License-Identifier: Apache-2.0
 -- An argument of a command, as the code does it: up to where it enters lines or a text, or a text gives arguments, and then that.
 use Rattle.std.specs.Prelude.{cond, List, [], ◌∷◌, Result, Ok, Err, Bool, true, false}
 use Rattle.mspec.specs.Act.{Act, ◌>>=◌, give}

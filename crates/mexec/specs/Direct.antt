@@ -1,3 +1,4 @@
+-- SPDX-License-Identifier: Apache-2.0
 -- Commands that are done at once: they enter no lines and no text, no text gives them arguments, and none is a FOR.
 use Rattle.std.specs.Prelude.{ℕ, Bool, true, false, ◌&&◌, List, drop}
 use Rattle.std.specs.List.{list_all}

@@ -1,3 +1,4 @@
+-- SPDX-License-Identifier: Apache-2.0
 -- Frames of the program as those of the definitions, and what calls say of them.
 use Rattle.std.specs.Prelude.{◌≡◌, ℕ, ◌-◌, ◌≤◌, List, [], ◌∷◌, Option, Some, None, slice_get, Result, Ok, Err, map, drop}
 use Rattle.mspec.specs.Act.{Text, Act}

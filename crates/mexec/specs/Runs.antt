@@ -1,3 +1,4 @@
+-- SPDX-License-Identifier: Apache-2.0
 -- What a call that carries out a text says of the text's meaning.
 use Rattle.std.specs.Prelude.{◌≡◌, ◌≤◌, Option}
 use Rattle.mspec.specs.Act.{Act}

@@ -1,3 +1,4 @@
+// SPDX-License-Identifier: Apache-2.0
 // Commands that are done at once: they leave nothing on the frames.
 ghost use Rattle.std.specs.Prelude.{◌≡◌, ◌≤◌, List, map, true};
 ghost use Rattle.mgrammar.specs.Grammar.{CommandTree};

@@ -1,3 +1,4 @@
+// SPDX-License-Identifier: Apache-2.0
 // What opens a level: DO with an argument and without one, and XECUTE.
 ghost use Rattle.std.specs.Prelude.{◌≡◌, ◌≤◌, ◌+◌, ◌*◌, None, ◌∷◌, length, IfOk, OnOk};
 ghost use Rattle.mmeaning.specs.Levels.{a_level_free, leaves};

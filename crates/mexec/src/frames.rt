@@ -1,3 +1,4 @@
+// SPDX-License-Identifier: Apache-2.0
 // What is still to be done of a line: frames, the innermost on top.
 ghost use Rattle.std.specs.Prelude.{◌≡◌, IfOk};
 

@@ -1,3 +1,4 @@
+// SPDX-License-Identifier: Apache-2.0
 // Argument indirection: arguments that the text of an operand's value gives.
 ghost use Rattle.std.specs.Prelude.{◌≡◌, ◌≤◌, ◌+◌, ◌*◌, ◌∷◌, map, length, IfOk, OnOk};
 ghost use Rattle.mspec.specs.Act.{give_some};

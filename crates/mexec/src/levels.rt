@@ -1,3 +1,4 @@
+// SPDX-License-Identifier: Apache-2.0
 // The lines of a level, one after another, until it closes.
 ghost use Rattle.std.specs.Prelude.{◌≡◌, ◌≤◌, ◌<◌, ◌+◌, ◌*◌, cond, Ok, Some, None, [], get_or, drop, length, IfOk, IfSome, OnOk};
 ghost use Rattle.mmeaning.specs.Levels as levels;

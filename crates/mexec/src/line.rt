@@ -1,3 +1,4 @@
+// SPDX-License-Identifier: Apache-2.0
 // A line, from its first command to its end.
 ghost use Rattle.std.specs.Prelude.{◌≡◌, ◌≤◌, ◌+◌, ◌*◌, [], ◌∷◌, length, IfOk};
 ghost use Rattle.mmeaning.specs.Levels.{stays, commands_of};

@@ -1,3 +1,4 @@
+// SPDX-License-Identifier: Apache-2.0
 // What lines are run with.
 ghost use Rattle.std.specs.Prelude.{◌<◌};
 

@@ -1,3 +1,4 @@
+// SPDX-License-Identifier: Apache-2.0
 // Texts by their trees.
 ghost use Rattle.std.specs.Prelude.{map};
 ghost use Rattle.mspec.specs.Code.{Zsyntax};

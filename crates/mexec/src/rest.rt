@@ -1,3 +1,4 @@
+// SPDX-License-Identifier: Apache-2.0
 // The rest of a line, a command at a time.
 ghost use Rattle.std.specs.Prelude.{◌≡◌, ◌≤◌, ◌+◌, ◌*◌, [], map, length, IfOk, OnOk};
 ghost use Rattle.mmeaning.specs.LineMeaning as meaning;

@@ -1,3 +1,4 @@
+// SPDX-License-Identifier: Apache-2.0
 // A text, carried out.
 ghost use Rattle.std.specs.Prelude.{◌≡◌, ◌≢◌};
 ghost use Rattle.mmeaning.specs.Step as meaning;

@@ -1,3 +1,4 @@
+// SPDX-License-Identifier: Apache-2.0
 // How a line goes on.
 use mcommand::Target;
 

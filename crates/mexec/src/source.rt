@@ -1,3 +1,4 @@
+// SPDX-License-Identifier: Apache-2.0
 // Where arguments come from: the line of their command, or a text that gave them.
 ghost use Rattle.std.specs.Prelude.{◌≡◌, ◌≤◌, ◌+◌, map, drop, length, IfOk, OnOk};
 ghost use Rattle.mmeaning.specs.Frames.{Lists};

@@ -1,3 +1,4 @@
+// SPDX-License-Identifier: Apache-2.0
 // The turns of a FOR, frame by frame: a frame of turns means that the body of one is under way.
 ghost use Rattle.std.specs.Prelude.{◌≡◌, ◌≤◌, ◌+◌, ◌*◌, length, drop, map, option_map, true, IfOk, IfSome};
 ghost use Rattle.mmeaning.specs.LineMeaning as meaning;

@@ -1,3 +1,4 @@
+-- SPDX-License-Identifier: Apache-2.0
 -- Copies of routines, behind writes to the store.
 use Rattle.std.proofs.Common.{◌≡◌, Bool, true, false, ◌||◌, List, All, slice_index_or, Result, Ok, Err, OnOk, OnErr, sym, subst, ◌∙◌}
 use Rattle.std.specs.FinMap.{insert}

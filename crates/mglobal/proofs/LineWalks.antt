@@ -1,3 +1,4 @@
+-- SPDX-License-Identifier: Apache-2.0
 -- From one line of a routine to the next.
 use Rattle.std.proofs.Common.{◌≡◌, ◌<◌, Bool, true, false, cond, ◌&&◌, List, [], ◌∷◌, ◌++◌, map, length, drop, All, Option, Some, None, is_some, refl, sym, ap, subst, ◌∙◌, arith}
 use Rattle.std.specs.Prelude.{option_and_then, if◌then◌else◌, codes, T, slice_get}

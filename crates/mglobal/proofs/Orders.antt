@@ -1,3 +1,4 @@
+-- SPDX-License-Identifier: Apache-2.0
 -- What is found among the keys of globals, as what $DATA and $ORDER answer.
 use Rattle.std.proofs.Common.{ℕ, ◌≡◌, Bool, true, false, cond, ◌&&◌, ◌||◌, Option, Some, None, option_map, is_some, List, [], ◌∷◌, ◌++◌, map, reverse, All, refl, sym, ◌∙◌, ap, subst}
 use Rattle.std.specs.Prelude.{option_and_then, if◌then◌else◌, IsSome}

@@ -1,3 +1,4 @@
+-- SPDX-License-Identifier: Apache-2.0
 -- Copies of routines beside a store.
 use Rattle.std.specs.Prelude.{◌≡◌, false, ◌||◌, All, List}
 use Rattle.mspec.specs.Globals.{Globals, is_node_within, lines_of}

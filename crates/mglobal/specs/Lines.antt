@@ -1,3 +1,4 @@
+-- SPDX-License-Identifier: Apache-2.0
 -- The lines of a routine behind a place, one after another.
 use Rattle.std.specs.Prelude.{Bool, ◌&&◌, List, [], ◌∷◌, map, is_some, if◌then◌else◌, codes}
 use Rattle.std.specs.FinMap.{entries, get}

@@ -1,3 +1,4 @@
+-- SPDX-License-Identifier: Apache-2.0
 -- The node that comes next in a walk over the subscripts next behind a node.
 use Rattle.std.specs.Prelude.{◌≡◌, ℕ, Bool, ◌||◌, List, Option}
 use Rattle.mspec.specs.Globals.{Globals, is_between, next_key, previous_key}

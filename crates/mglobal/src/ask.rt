@@ -1,3 +1,4 @@
+// SPDX-License-Identifier: Apache-2.0
 //! What $DATA and $ORDER ask of a node.
 ghost use Rattle.std.specs.Prelude.{◌≡◌, ◌≢◌, IfOk, IfSome, OnOk, Err, option_map};
 ghost use Rattle.mglobal.specs.Next.{nearest_key};

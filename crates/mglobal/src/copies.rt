@@ -1,3 +1,4 @@
+// SPDX-License-Identifier: Apache-2.0
 // Copies of routines.
 ghost use Rattle.std.specs.Prelude.{◌≡◌, ◌≢◌, ◌||◌, ◌∷◌, [], not, All, IfOk, IfSome};
 ghost use Rattle.mglobal.specs.Copies.{IsCopyIn, AreCopiesIn, IsApart};

@@ -1,3 +1,4 @@
+// SPDX-License-Identifier: Apache-2.0
 //! A store that keeps copies of routines.
 ghost use Rattle.std.specs.Prelude.{◌≡◌};
 

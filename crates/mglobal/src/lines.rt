@@ -1,3 +1,4 @@
+// SPDX-License-Identifier: Apache-2.0
 //! The lines of a routine.
 ghost use Rattle.std.specs.Prelude.{◌≡◌, ◌≢◌, ◌≤◌, length, IfOk, IfSome, OnOk, Err, [], ◌∷◌, ◌++◌, codes};
 ghost use Rattle.std.specs.Option.{option_to_list};

@@ -1,3 +1,4 @@
+-- SPDX-License-Identifier: Apache-2.0
 -- The grammar on examples, as proved equations: texts with their trees, and how deep brackets may lie.
 use Rattle.std.proofs.Common.{◌≡◌, ℕ, zero, suc, List, [], ◌∷◌, ◌++◌, Option, Some, None, refl}
 use Rattle.std.specs.Prelude.{codes, replicate}

@@ -1,3 +1,4 @@
+-- SPDX-License-Identifier: Apache-2.0
 -- The grammar on examples, as proved equations: texts that have no tree.
 use Rattle.std.proofs.Common.{◌≡◌, ℕ, List, None, refl}
 use Rattle.std.specs.Prelude.{codes}

@@ -1,3 +1,4 @@
+-- SPDX-License-Identifier: Apache-2.0
 -- Indirection on examples, as proved equations: texts with their trees, and texts that have none.
 use Rattle.std.proofs.Common.{◌≡◌, ℕ, zero, suc, ◌≢◌, List, [], ◌∷◌, ◌++◌, Some, None, refl}
 use Rattle.std.specs.Prelude.{codes, replicate}

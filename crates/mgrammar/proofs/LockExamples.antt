@@ -1,3 +1,4 @@
+-- SPDX-License-Identifier: Apache-2.0
 -- Environments, LOCK and HALT on examples, as proved equations: texts with their trees, and texts that have none.
 use Rattle.std.proofs.Common.{◌≡◌, ◌≢◌, ℕ, List, [], ◌∷◌, ◌++◌, Option, Some, None, refl}
 use Rattle.std.specs.Prelude.{codes, replicate}

@@ -1,3 +1,4 @@
+-- SPDX-License-Identifier: Apache-2.0
 -- What is read of an argument of each form is spelled so, and what is spelled so is read. Those of SET stand in ReadingTargets.
 use Rattle.std.proofs.Common.{◌≡◌, ℕ, zero, suc, ◌<◌, Bool, true, false, eqb, List, [], ◌∷◌, ◌++◌, length, Option, Some, None, inl, inr, refl, sym, ap, subst, ◌∙◌, append_assoc, arith, replicate}
 use Rattle.std.proofs.lemmas.Bool.{eqb-true}

@@ -1,3 +1,4 @@
+-- SPDX-License-Identifier: Apache-2.0
 -- The laws of reading a list of items.
 use Rattle.std.proofs.Common.{◌≡◌, ℕ, zero, suc, ◌<◌, ◌≤◌, Bool, eqb, List, [], ◌∷◌, ◌++◌, length, Option, Some, None, refl, sym, ap, subst, ◌∙◌, append_assoc, arith, length-append}
 use Rattle.mgrammar.specs.Grammar.{spell_more, spell_list}

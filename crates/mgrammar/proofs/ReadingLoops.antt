@@ -1,3 +1,4 @@
+-- SPDX-License-Identifier: Apache-2.0
 -- A loop that reads items does as the reading of them. The loop holds the items so far, of which count - i more may come.
 use Rattle.std.proofs.Common.{◌≡◌, ℕ, suc, ◌-◌, ◌+◌, ◌≤◌, ◌<◌, List, [], ◌∷◌, ◌++◌, length, Option, Some, None, refl, sym, ap, ◌∙◌, append_assoc, arith}
 use Rattle.std.proofs.lemmas.List.{append-nil}

@@ -1,3 +1,4 @@
+-- SPDX-License-Identifier: Apache-2.0
 -- Runs of steps, of arguments and of choices, as lists.
 use Rattle.std.proofs.Common.{◌≡◌, ℕ, suc, ◌<◌, ◌-◌, List, [], ◌∷◌, ◌++◌, length, refl, sym, ap, ◌∙◌, append_assoc}
 use Rattle.mgrammar.specs.Grammar.{ExprTree, StepTree, StepsTree, no_steps, step, steps_of, ExprsTree, no_exprs, exprs, exprs_of, ChoicesTree, no_choices, choice, choices_of, spell_step, spell_steps, spell_expr, spell_exprs, spell_more_exprs, spell_choices, spell_more_choices, spell_list, spell_more}

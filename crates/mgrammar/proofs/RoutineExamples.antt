@@ -1,3 +1,4 @@
+-- SPDX-License-Identifier: Apache-2.0
 -- DO, GOTO, XECUTE and the lines of routines on examples, as proved equations: texts with their trees, and texts that have none.
 use Rattle.std.proofs.Common.{◌≡◌, ℕ, List, [], ◌∷◌, Some, None, refl, replicate}
 use Rattle.std.specs.Prelude.{codes}

@@ -1,3 +1,4 @@
+-- SPDX-License-Identifier: Apache-2.0
 -- Which functions have arguments of another form than values: $SELECT, those of a variable, and $PIECE where it is a target.
 use Rattle.std.specs.Prelude.{Bool, true, false}
 use Rattle.mgrammar.specs.Grammar.{FunctionTree, ascii_function, char_function, data_function, extract_function, find_function, get_function, justify_function, length_function, order_function, piece_function, select_function, translate_function}

@@ -1,3 +1,4 @@
+-- SPDX-License-Identifier: Apache-2.0
 -- The grammar: a line of M as a plain tree, and the text of a tree.
 --
 -- Restates productions of ISO/IEC 11756:1999, each named at its rule by its name in the standard's metalanguage. Nothing

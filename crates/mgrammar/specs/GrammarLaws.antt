@@ -1,3 +1,4 @@
+-- SPDX-License-Identifier: Apache-2.0
 -- The laws of the grammar. The functions of src/ named after them carry them.
 use Rattle.std.specs.Prelude.{◌≡◌, ◌↔◌, ℕ, true, List, Some}
 use Rattle.mgrammar.specs.Grammar.{ReferenceTree, ArgTree, FormTree, may_be_indirect, LineTree, spell_reference, spell_list, spell_arg, spell}

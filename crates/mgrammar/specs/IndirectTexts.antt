@@ -1,3 +1,4 @@
+-- SPDX-License-Identifier: Apache-2.0
 -- The texts of indirection, read whole.
 --
 -- Restates "Indirection" of ISO/IEC 11756:1999: the value of the operand of an `@` is a text that stands where the `@` stands, in the

@@ -1,3 +1,4 @@
+-- SPDX-License-Identifier: Apache-2.0
 -- The pattern of a tree, and whether a text matches a pattern, as tests that compute.
 --
 -- Restates "Pattern match pattern" of ISO/IEC 11756:1999 as Pattern does, by trying every way of cutting the text into

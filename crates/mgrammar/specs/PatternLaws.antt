@@ -1,3 +1,4 @@
+-- SPDX-License-Identifier: Apache-2.0
 -- The law of pattern match. The function of src/ named after it carries it.
 use Rattle.std.specs.Prelude.{ℕ, List, Decides}
 use Rattle.mspec.specs.Pattern.{Atom, Matches}

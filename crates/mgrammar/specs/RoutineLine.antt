@@ -1,3 +1,4 @@
+-- SPDX-License-Identifier: Apache-2.0
 -- A line of a routine: its tree, the text of a tree, and reading a tree back from its text.
 --
 -- Restates "Routine structure" of ISO/IEC 11756:1999: a `levelline` is a label or none, then spaces, an `li` for each dot, and a

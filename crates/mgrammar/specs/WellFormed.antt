@@ -1,3 +1,4 @@
+-- SPDX-License-Identifier: Apache-2.0
 -- What makes a tree the tree of a text: the names, numbers and words that it may have, how many arguments, how deep brackets lie, and
 -- how many spaces stand between commands.
 use Rattle.std.specs.Prelude.{◌≡◌, ℕ, suc, ◌-◌, ◌<◌, ◌≤◌, Bool, true, false, List, [], ◌∷◌, length, Option, Some, None}

@@ -1,3 +1,4 @@
+// SPDX-License-Identifier: Apache-2.0
 // The laws of the grammar. Each function's contract is the law, and its body is empty: the code never calls them.
 ghost use Rattle.mgrammar.specs.GrammarLaws.{OneTree, ReadsItsTree, OneRoutineTree, ReadsItsRoutineTree, ToldOfItsTree, OneReference, ReadsItsReference, OneArgumentList, ReadsItsArguments};
 

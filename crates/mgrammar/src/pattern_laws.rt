@@ -1,3 +1,4 @@
+// SPDX-License-Identifier: Apache-2.0
 // The law of pattern match. The function's contract is the law, and its body is empty: the code never calls it.
 ghost use Rattle.mgrammar.specs.PatternLaws.{DecidesMatch};
 

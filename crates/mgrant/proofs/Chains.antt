@@ -1,3 +1,4 @@
+-- SPDX-License-Identifier: Apache-2.0
 -- Chains of grants, by names and by places.
 use Rattle.std.proofs.Common.{◌≡◌, inl, inr, ℕ, ◌==◌, ◌<◌, true, List, [], ◌∷◌, length, map, get_or, Some, All, refl, sym, ap, subst, ◌∙◌}
 use Rattle.std.specs.Prelude.{◌&&◌}

@@ -1,3 +1,4 @@
+-- SPDX-License-Identifier: Apache-2.0
 -- The values of a list, read one after another.
 use Rattle.std.proofs.Common.{◌≡◌, ◌+◌, ◌<◌, ◌++◌, ap, refl, sym, ℕ, suc, ◌≤◌, List, [], ◌∷◌, Option, Some, None, length, get_or, drop, append_assoc}
 use Rattle.std.specs.Prelude.{option_map}

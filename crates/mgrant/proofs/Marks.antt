@@ -1,3 +1,4 @@
+-- SPDX-License-Identifier: Apache-2.0
 -- Marked places: one more, those that are led to from a place, and what is reached when there are no more.
 use Rattle.std.proofs.Common.{◌≡◌, ◌↔◌, inl, inr, ℕ, zero, suc, ◌+◌, ◌-◌, ◌==◌, ◌<◌, ◌≤◌, Bool, true, false, cond, List, [], ◌∷◌, ◌++◌, length, get_or, set, take, drop, All, refl, sym, ap, subst, ◌∙◌, arith, length-append, length-drop, length-take-le, add-zero}
 use Rattle.std.specs.Prelude.{Any, sum_by, count_by, nat_lt, nat_le, replicate}

@@ -1,3 +1,4 @@
+-- SPDX-License-Identifier: Apache-2.0
 -- The parts of settings, entry by entry.
 use Rattle.std.proofs.Common.{◌≡◌, inl, inr, ℕ, zero, suc, ◌+◌, ◌<◌, ℤ, pos, Bool, true, false, List, [], ◌∷◌, ◌++◌, length, map, take, drop, get_or, set, Option, Some, None, refl, sym, ap, subst, ◌∙◌, arith, append_assoc, append-nil, length-take-le, add-one, add-zero, take-append-drop}
 use Rattle.std.specs.Prelude.{is_some, not, ◌&&◌, unwrap_or, unsigned_abs, if◌then◌else◌}

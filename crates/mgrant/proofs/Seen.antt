@@ -1,3 +1,4 @@
+-- SPDX-License-Identifier: Apache-2.0
 -- The settings of the definitions, beside the parts that the code keeps.
 use Rattle.std.proofs.Common.{◌≡◌, inl, inr, ℕ, zero, suc, ◌+◌, ◌==◌, ◌<◌, Bool, true, false, List, [], ◌∷◌, length, map, get_or, Option, Some, None, All, refl, sym, subst, ap, ◌∙◌, arith, add-zero, zero-add}
 use Rattle.std.specs.Prelude.{not, ◌&&◌, ◌||◌, nat_le, slice_get, option_map, option_and_then, unwrap_or}

@@ -1,3 +1,4 @@
+-- SPDX-License-Identifier: Apache-2.0
 -- A document of settings: what it says, and what is wrong with it.
 --
 -- The document is seen as `toml` sees it, as members: keys with data. It has a list `account` of tables with the keys `name`,

@@ -1,3 +1,4 @@
+-- SPDX-License-Identifier: Apache-2.0
 -- Steps from place to place, and where chains of them lead.
 use Rattle.std.specs.Prelude.{◌≡◌, ◌==◌, ◌<◌, ◌≤◌, ℕ, Bool, true, false, ◌&&◌, List, length, slice_index, slice_index_or, count_by, All, Any, Contains}
 use Rattle.std.specs.List.{list_any}

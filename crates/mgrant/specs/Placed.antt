@@ -1,3 +1,4 @@
+-- SPDX-License-Identifier: Apache-2.0
 -- Grants between accounts that are known by their places.
 use Rattle.std.specs.Prelude.{◌≡◌, ℕ, ◌==◌, ◌<◌, ◌≤◌, Bool, false, ◌&&◌, ◌||◌, List, length, slice_get, All, Option, Some, None}
 use Rattle.std.specs.List.{list_any}

@@ -1,3 +1,4 @@
+-- SPDX-License-Identifier: Apache-2.0
 -- The entries of a document, as the code keeps them, seen as what was written; and what a reading of settings answers.
 use Rattle.std.specs.Prelude.{◌≡◌, ◌⊎◌, ℕ, ◌+◌, ◌≤◌, ℤ, pos, List, [], ◌∷◌, ◌++◌, map, length, slice_get, slice_index_or, All, Bool, true, false, if◌then◌else◌, Option, Some, None, Result, MatchResult, Vec}
 use Rattle.std.specs.Ordering.{int_eq}

@@ -1,3 +1,4 @@
+-- SPDX-License-Identifier: Apache-2.0
 -- The settings that the code keeps, as those of the definitions.
 use Rattle.std.specs.Prelude.{◌≡◌, ℕ, ◌+◌, ◌<◌, true, List, [], ◌∷◌, length, map, slice_get, All, Option, Some, None, option_and_then, refl, Bool, false}
 use Rattle.std.specs.Coded.{Coded, code_by, coded×, coded_list, coded_ℕ, coded_bool}

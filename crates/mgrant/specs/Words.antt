@@ -1,3 +1,4 @@
+-- SPDX-License-Identifier: Apache-2.0
 -- Different texts in a list, with a hash map from each to its place.
 use Rattle.std.specs.Prelude.{◌≡◌, ℕ, List, [], map, slice_get, Option, Some, unwrap_or, Vec}
 use Rattle.std.specs.HashMap.{HashMap, get_by}

@@ -1,3 +1,4 @@
+// SPDX-License-Identifier: Apache-2.0
 // Accounts by their places in the settings.
 ghost use Rattle.std.specs.Prelude.{◌≡◌};
 

@@ -1,3 +1,4 @@
+// SPDX-License-Identifier: Apache-2.0
 // The parts of settings, from the entries of a document: each is good, or has the fault that the format gives it.
 ghost use Rattle.std.specs.Prelude.{◌≡◌, ◌≤◌, ◌<◌, ℕ, List, [], IfOk, OnOk, All, map, false, length, vec_len, MatchBool, MatchOption, unsigned_abs, option_map};
 ghost use Rattle.mgrant.specs.Document.{names_of, terminals_of, are_names, are_terminals, are_steps, are_grants, is_grant, is_within, mode_named};

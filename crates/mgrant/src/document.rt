@@ -1,3 +1,4 @@
+// SPDX-License-Identifier: Apache-2.0
 // The shape of a document of settings: its entries, as they are written.
 ghost use Rattle.std.specs.Prelude.{◌≡◌, IfOk, Some, List, map, option_map, codes};
 ghost use Rattle.std.specs.List.{list_any};

@@ -1,3 +1,4 @@
+// SPDX-License-Identifier: Apache-2.0
 // What is wrong with a document of settings.
 ghost use Rattle.std.specs.Prelude.{◌≡◌};
 ghost use Rattle.mgrant.specs.declared.fault.SettingsFault.TheVariants.{Memory};

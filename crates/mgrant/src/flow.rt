@@ -1,3 +1,4 @@
+// SPDX-License-Identifier: Apache-2.0
 // Where chains of steps lead.
 ghost use Rattle.std.specs.Prelude.{◌≡◌, ◌<◌, ◌↔◌, ◌++◌, ◌∷◌, [], ℕ, Bool, All, IfOk, OnOk, IsTrue, true, false, length, slice_index_or, slice_set, vec_len, nat_lt, nat_le, List, if◌then◌else◌};
 ghost use Rattle.std.specs.List.Sorted.{IsNonDecreasingBy};

@@ -1,3 +1,4 @@
+// SPDX-License-Identifier: Apache-2.0
 // Grants between accounts that are known by their places.
 ghost use Rattle.std.specs.Prelude.{◌≡◌, ◌∷◌, [], ◌++◌, ◌||◌, ℕ, List, map, IfOk};
 ghost use Rattle.mspec.specs.Node.{Text};

@@ -1,3 +1,4 @@
+// SPDX-License-Identifier: Apache-2.0
 //! Settings: accounts, their terminals and steps, and what they grant one another, read from a TOML document.
 //!
 //! The definitions that the contracts cite stand in `mspec`: `Access` (settings, and who may do what) and `Flow` (whose doings

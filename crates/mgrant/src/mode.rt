@@ -1,3 +1,4 @@
+// SPDX-License-Identifier: Apache-2.0
 /// What a grant lets an account do with another's global.
 #[derive(Clone, Copy, Debug, PartialEq, Eq, Hash)]
 pub enum Mode {

@@ -1,3 +1,4 @@
+// SPDX-License-Identifier: Apache-2.0
 // Names of accounts and of globals.
 ghost use Rattle.std.specs.Prelude.{◌≡◌, ◌↔◌, IsTrue};
 ghost use Rattle.std.specs.List.{list_all};

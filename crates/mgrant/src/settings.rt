@@ -1,3 +1,4 @@
+// SPDX-License-Identifier: Apache-2.0
 // Settings: who has which terminals, and who may do what.
 ghost use Rattle.std.specs.Prelude.{◌≡◌, ◌<◌, ◌↔◌, ◌⊎◌, Some, None, IfOk, IfErr, IfSome, IsTrue, All, length, slice_get, slice_index_or, unwrap_or, option_and_then};
 ghost use Rattle.toml.specs.View.{table_view};

@@ -1,3 +1,4 @@
+// SPDX-License-Identifier: Apache-2.0
 // Different texts, each known by its place.
 ghost use Rattle.std.specs.Prelude.{◌≡◌, ◌∷◌, [], ◌++◌, IfOk, IfSome, IfNone, false, length};
 ghost use Rattle.std.specs.List.{list_any};

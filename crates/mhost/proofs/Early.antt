@@ -1,3 +1,4 @@
+-- SPDX-License-Identifier: Apache-2.0
 -- From why there are no settings, or no store, to how a run ends early.
 use Rattle.std.proofs.Common.{Option}
 use Rattle.mspec.specs.Act.{Text}

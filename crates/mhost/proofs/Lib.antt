@@ -1,3 +1,4 @@
+-- SPDX-License-Identifier: Apache-2.0
 pub mod Served
 pub mod Early
 pub mod OnlyTold

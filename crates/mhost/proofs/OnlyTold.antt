@@ -1,3 +1,4 @@
+-- SPDX-License-Identifier: Apache-2.0
 -- From what `serve_only` says of a world to what a run says of the account that it names.
 use Rattle.std.proofs.Common.{◌≡◌, ℕ, ◌<◌, Bool, true, false, List, [], ◌∷◌, Option, Some, None, Result, Ok, Err, length, zero, suc, arith, refl, sym, ap, subst, ◌∙◌, cond}
 use Rattle.std.specs.Prelude.{slice_get, unwrap_or, option_map}

@@ -1,3 +1,4 @@
+-- SPDX-License-Identifier: Apache-2.0
 -- From what `serve` says of a world to what a run says of its store.
 use Rattle.std.proofs.Common.{◌≡◌, Option, Result, Ok, Err, ap, ◌∙◌}
 use Rattle.std.specs.FinMap.{empty}

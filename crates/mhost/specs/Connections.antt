@@ -1,3 +1,4 @@
+-- SPDX-License-Identifier: Apache-2.0
 -- What connections do to a world, one after another.
 use Rattle.std.specs.Prelude.{◌≡◌, ◌<◌, ◌+◌, ℕ, Option, Result, MatchResult}
 use Rattle.mspec.specs.Act.{Text}

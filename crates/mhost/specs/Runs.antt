@@ -1,3 +1,4 @@
+-- SPDX-License-Identifier: Apache-2.0
 -- What a run does: from a document of settings and a stream to the replies, and to the globals that the lines leave.
 use Rattle.std.specs.Prelude.{◌≡◌, ◌≢◌, ◌⊎◌, List, map, Option, Result, Ok, Err, IfOk}
 use Rattle.std.specs.FinMap.{empty}

@@ -1,3 +1,4 @@
+// SPDX-License-Identifier: Apache-2.0
 // A run of which one account is told.
 ghost use Rattle.std.specs.Prelude.{◌≡◌, false};
 ghost use Rattle.mwire.specs.Watched.{inner_of, failed_of};

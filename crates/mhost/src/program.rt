@@ -1,3 +1,4 @@
+// SPDX-License-Identifier: Apache-2.0
 // The program, over any reader and two writers.
 ghost use Rattle.std.specs.Prelude.{◌≡◌, ◌≢◌, false, map, string_bytes};
 ghost use Rattle.std.specs.IoError.{error_kind};

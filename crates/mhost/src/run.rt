@@ -1,3 +1,4 @@
+// SPDX-License-Identifier: Apache-2.0
 // A run: from the settings' document and a stream to the replies.
 ghost use Rattle.std.specs.Prelude.{◌≡◌, false, IfOk, IfErr, OnOk};
 ghost use Rattle.sqlite.specs.Steps.{over_memory};

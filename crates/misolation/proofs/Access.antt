@@ -1,3 +1,4 @@
+-- SPDX-License-Identifier: Apache-2.0
 -- What may be done, among the members of a closed set and past them.
 use Rattle.std.proofs.Common.{◌≡◌, Bool, true, false, cond, ◌&&◌, ◌||◌, List, [], ◌∷◌, sym, ap, ◌∙◌, ⊎_elim}
 use Rattle.std.proofs.lemmas.Bool.{or_cases, and_parts, and_from, or_left, or_right, false_from_ne_true}

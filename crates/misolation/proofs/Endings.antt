@@ -1,3 +1,4 @@
+-- SPDX-License-Identifier: Apache-2.0
 -- How a line ends, over the cut: the only place that reads what becomes of a session.
 use Rattle.std.proofs.Common.{◌≡◌, ℕ, true, false, sym, ap, ◌∙◌}
 use Rattle.std.specs.FinMap.{FinMap, insert, remove, retain_keys, nat_cmp-IsAntisymmetric}

@@ -1,3 +1,4 @@
+-- SPDX-License-Identifier: Apache-2.0
 -- Locks that fit stay so, whatever is done for a terminal of the settings.
 use Rattle.std.proofs.Common.{◌≡◌, ℕ, ◌+◌, ◌-◌, Bool, true, false, cond, List, [], ◌∷◌, Option, Some, None, refl, sym, ap, ◌∙◌, subst}
 use Rattle.std.specs.Prelude.{unwrap_or, nat_lt, nat_eq, not, if◌then◌else◌}

@@ -1,3 +1,4 @@
+-- SPDX-License-Identifier: Apache-2.0
 -- What globals answer, over the cut to a set of accounts that has the account asked about.
 use Rattle.std.proofs.Common.{◌≡◌, ◌&&◌, true, map, sym, ap, ◌∙◌, is_some}
 use Rattle.std.proofs.lemmas.Bool.{and_parts}

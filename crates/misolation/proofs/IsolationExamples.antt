@@ -1,3 +1,4 @@
+-- SPDX-License-Identifier: Apache-2.0
 -- The laws on a host of three customers, as proved equations: they are not empty, and they claim no more than is so.
 --
 -- The laboratory lets the clinic read its results. The bank has no tie to either, or else the clinic lets it write its bills.

@@ -1,3 +1,4 @@
+-- SPDX-License-Identifier: Apache-2.0
 pub mod Reaching
 pub mod CutMaps
 pub mod Access

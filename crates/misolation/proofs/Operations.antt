@@ -1,3 +1,4 @@
+-- SPDX-License-Identifier: Apache-2.0
 -- The two laws, operation by operation.
 use Rattle.std.proofs.Common.{◌≡◌, Bool, true, false, not, List, Option, Some, None, refl, sym, ap, ◌∙◌}
 use Rattle.std.specs.Prelude.{option_map}

@@ -1,3 +1,4 @@
+-- SPDX-License-Identifier: Apache-2.0
 -- The two laws for histories of different length, and the isolation theorem.
 use Rattle.std.proofs.Common.{◌≡◌, ℕ, Bool, true, false, cond, List, [], ◌∷◌, Option, Some, None, map, refl, sym, ap, ◌∙◌, subst, subst₂}
 use Rattle.std.proofs.lemmas.Cmp.{nat_cmp_total}

@@ -1,3 +1,4 @@
+-- SPDX-License-Identifier: Apache-2.0
 -- The part of a history at a smaller set of accounts, before and after the cut to a greater one.
 use Rattle.std.proofs.Common.{◌≡◌, ℕ, Bool, true, false, cond, List, Option, Some, None, refl, sym, ap, ◌∙◌}
 use Rattle.std.proofs.lemmas.Cmp.{nat_cmp_total}

@@ -1,3 +1,4 @@
+-- SPDX-License-Identifier: Apache-2.0
 -- The two laws for every plan, by one induction each over what its operations keep.
 use Rattle.std.proofs.Common.{◌≡◌, true, false, ◌∷◌, Option, Some, None, refl, ap, ◌∙◌, subst}
 use Rattle.mspec.specs.Access.{Account, Settings}

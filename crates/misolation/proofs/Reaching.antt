@@ -1,3 +1,4 @@
+-- SPDX-License-Identifier: Apache-2.0
 -- The computing `reach` is the least closed set, and that of chains.
 use Rattle.std.proofs.Common.{◌≡◌, true, ◌&&◌, List, [], ◌∷◌, ◌++◌, refl, sym, ap, ◌∙◌, subst, subst₂, ⊎_elim}
 use Rattle.std.proofs.lemmas.Bool.{or_cases, and_parts, or_left, or_right, and_from}

@@ -1,3 +1,4 @@
+-- SPDX-License-Identifier: Apache-2.0
 -- The two laws for steps.
 use Rattle.std.proofs.Common.{◌≡◌, ℕ, Bool, true, false, Option, Some, None, refl, sym, ap, ◌∙◌, subst}
 use Rattle.std.specs.Prelude.{not, ◌||◌, [], if◌then◌else◌}

@@ -1,3 +1,4 @@
+-- SPDX-License-Identifier: Apache-2.0
 -- When two servers and what is sent to them agree for an account: on all that reaches it.
 use Rattle.std.specs.Prelude.{◌≡◌, List}
 use Rattle.mspec.specs.Node.{Text}

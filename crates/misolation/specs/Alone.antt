@@ -1,3 +1,4 @@
+-- SPDX-License-Identifier: Apache-2.0
 -- The members' lines, run alone.
 use Rattle.std.specs.Prelude.{List}
 use Rattle.mspec.specs.Node.{Text}

@@ -1,3 +1,4 @@
+-- SPDX-License-Identifier: Apache-2.0
 -- The cut to a set of accounts: what is left of settings, worlds, servers and lines where there is nothing but the set.
 use Rattle.std.specs.Prelude.{◌≡◌, ℕ, Bool, false, IsTrue, ◌&&◌, List, Option, Some, None}
 use Rattle.std.specs.FinMap.{get, retain_keys}

@@ -1,3 +1,4 @@
+-- SPDX-License-Identifier: Apache-2.0
 -- The laws of operations and of plans, as statements. The functions of src/ named after them carry them.
 --
 -- A plan is whatever a line does: which commands there are is nothing to these laws.

@@ -1,3 +1,4 @@
+-- SPDX-License-Identifier: Apache-2.0
 -- Closed sets of accounts, and the least one that has an account: all whose doings can show at it.
 use Rattle.std.specs.Prelude.{Bool, IsTrue, ◌&&◌, ◌||◌, List, [], ◌∷◌}
 use Rattle.std.specs.List.{flat_map}

@@ -1,3 +1,4 @@
+-- SPDX-License-Identifier: Apache-2.0
 -- The laws of runs, as statements. The functions of src/ named after them carry them.
 use Rattle.std.specs.Prelude.{◌≡◌, Bool, true, IsTrue, ◌↔◌, List, [], ◌∷◌, ◌++◌}
 use Rattle.mspec.specs.Node.{Text}

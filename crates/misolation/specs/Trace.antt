@@ -1,3 +1,4 @@
+-- SPDX-License-Identifier: Apache-2.0
 -- Histories with the servers between their steps written out.
 use Rattle.std.specs.Prelude.{List, [], ◌∷◌, map}
 use Rattle.std.specs.List.{filter}

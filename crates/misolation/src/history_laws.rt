@@ -1,3 +1,4 @@
+// SPDX-License-Identifier: Apache-2.0
 // The laws of histories. Each function's contract is the law, and its body is empty: the code never calls them.
 ghost use Rattle.misolation.specs.HistoryLaws.{PartIsHistory, HistoryHasTrace, PartIsTrace, PartIsAlone, InterpreterIsolates, OpeningIsFit, HistoriesKeepFit, Isolation, OpeningIsCut, AgreeingReplies};
 

@@ -1,3 +1,4 @@
+// SPDX-License-Identifier: Apache-2.0
 //! Isolation: what a host may promise each of its customers, as laws over the definitions.
 //!
 //! # The promise

@@ -1,3 +1,4 @@
+// SPDX-License-Identifier: Apache-2.0
 // The laws of operations and of plans. Each function's contract is the law, and its body is empty: the code never calls them.
 ghost use Rattle.misolation.specs.PlanLaws.{InsideOperations, InsidePlans, OutsideOperations, OutsidePlans, PlansKeepFit, CutIsFit};
 

@@ -1,3 +1,4 @@
+// SPDX-License-Identifier: Apache-2.0
 // The laws of reach. Each function's contract is the law, and its body is empty: the code never calls them.
 ghost use Rattle.misolation.specs.ReachLaws.{ReachIsLeastClosed, ReachIsChains, ReachIsKept};
 

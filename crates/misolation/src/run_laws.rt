@@ -1,3 +1,4 @@
+// SPDX-License-Identifier: Apache-2.0
 // The laws of runs. Each function's contract is the law, and its body is empty: the code never calls them.
 ghost use Rattle.misolation.specs.RunLaws.{NothingIsTold, TellsOn, ToldApart, EquallyTold, ToldTheSame};
 

@@ -1,3 +1,4 @@
+-- SPDX-License-Identifier: Apache-2.0
 -- A number that an option's text was read as.
 use Rattle.std.proofs.Common.{◌≡◌, ℕ, List, Option, Some, None, Result, Ok, refl, sym}
 use Rattle.std.specs.Str.Parse.{ParsesUnsigned, digits_value, without_leading_plus}

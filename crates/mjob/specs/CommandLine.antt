@@ -1,3 +1,4 @@
+-- SPDX-License-Identifier: Apache-2.0
 -- The program's command, in the words of `clap`'s definition of a simple command.
 use Rattle.std.specs.Prelude.{ℕ, Some, true, codes, pos}
 use Rattle.clap.specs.Words.{App, Rule, Text, new_app, new_rule, with_rule, with_subcommand}

@@ -1,3 +1,4 @@
+// SPDX-License-Identifier: Apache-2.0
 // The words of a command line, and what they ask for.
 ghost use Rattle.std.specs.Prelude.{◌≡◌, ◌≢◌, ◌⊎◌, IfOk, IfErr, Some, [], map, string_bytes, option_map};
 ghost use Rattle.clap.specs.Words.{fault_of, first_value, found_of, kind_of, one_text, rows_of, subcommand_rows_of};

@@ -1,3 +1,4 @@
+// SPDX-License-Identifier: Apache-2.0
 // What a command line asks for.
 
 /// Where the globals are kept.

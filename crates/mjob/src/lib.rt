@@ -1,3 +1,4 @@
+// SPDX-License-Identifier: Apache-2.0
 //! The command line of mserve: what its words ask for, by the kit's `clap`.
 #![tactic(auto)]
 

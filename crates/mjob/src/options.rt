@@ -1,3 +1,4 @@
+// SPDX-License-Identifier: Apache-2.0
 // The program's command and its options, as `clap` wants them.
 ghost use Rattle.std.specs.Prelude.{◌≡◌, false, true, IfOk, Some, codes};
 ghost use Rattle.clap.specs.Words.{app_of, rule_of};

@@ -1,3 +1,4 @@
+-- SPDX-License-Identifier: Apache-2.0
 -- The number of the first bytes, and the order of lists by it.
 use Rattle.std.proofs.Common.{ℕ, zero, suc, Fits, w8, ◌≡◌, ◌+◌, ◌*◌, ◌/◌, ◌%◌, ◌^◌, ◌<◌, ◌≤◌, true, List, [], ◌∷◌, ◌++◌, get_or, drop, refl, sym, ◌∙◌, ap, arith, add-one, zero-add, inl, inr, ◌⊎◌}
 use Rattle.std.proofs.Math.Facts.{Fits-lt-pow}

@@ -1,3 +1,4 @@
+-- SPDX-License-Identifier: Apache-2.0
 -- Bounds of the keys of nodes.
 use Rattle.std.proofs.Common.{ℕ, ◌≡◌, ◌++◌, ◌∙◌, List, [], ◌∷◌, sym, subst, append_assoc, ap}
 use Rattle.mspec.specs.Act.{Text, Node}

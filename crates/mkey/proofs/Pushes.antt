@@ -1,3 +1,4 @@
+-- SPDX-License-Identifier: Apache-2.0
 -- What has been put into a buffer.
 use Rattle.std.proofs.Common.{◌≡◌, ℕ, List, ◌++◌, Result, is_ok, IsOk, Ok, Err, if◌then◌else◌}
 

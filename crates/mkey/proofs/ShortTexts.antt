@@ -1,3 +1,4 @@
+-- SPDX-License-Identifier: Apache-2.0
 -- The canonical value of a text, as code finds it.
 use Rattle.std.proofs.Common.{ℕ, ◌≡◌, ◌⊎◌, inl, inr, ◌*◌, ◌^◌, ◌<◌, ◌≤◌, true, Option, Some, None, List, [], ◌∷◌, length, get_or, All, refl, sym, ◌∙◌, subst, arith}
 use Rattle.std.specs.Prelude.{ℤ, pos, unsigned_abs, IfSome, OnSome}
@@ -13,15 +14,15 @@ pub value_where_canonical : (s : List ℕ) (u : ℤ) → IsCanonical 18 s → nu
 value_where_canonical s u canonical read = value_of_canonical 18 s canonical ∙ sym canonical.value ∙ read
 
 -- any other text has none
-pub none_where_other : (s : List ℕ) → (IsCanonical 18 s → ⊥) → canonical_value 18 s ≡ None
-none_where_other s other = here (canonical_value 18 s) refl
+pub none_where_other : (kept : ℕ) (s : List ℕ) → (IsCanonical kept s → ⊥) → canonical_value kept s ≡ None
+none_where_other kept s other = here (canonical_value kept s) refl
   where
-    here : (o : Option ℤ) → canonical_value 18 s ≡ o → o ≡ None
+    here : (o : Option ℤ) → canonical_value kept s ≡ o → o ≡ None
     here None e = refl
-    here (Some u) e = let is = canonical_of_value 18 s u e in absurd (other (record { number = u; value = is.0; text = is.1 }))
+    here (Some u) e = let is = canonical_of_value kept s u e in absurd (other (record { number = u; value = is.0; text = is.1 }))
 
-pub value_fits : (s : List ℕ) (u : ℤ) → canonical_value 18 s ≡ Some u → unsigned_abs u < 10 ^ 36
-value_fits s u e = value_in_range 18 s u (canonical_of_value 18 s u e).0
+pub value_fits : (kept : ℕ) (s : List ℕ) (u : ℤ) → canonical_value kept s ≡ Some u → unsigned_abs u < 10 ^ 36
+value_fits kept s u e = value_in_range kept s u (canonical_of_value kept s u e).0
 
 -- one to eighteen digits, of which the first is not 0 or stands alone
 pub short_is_canonical : (s : List ℕ) → 0 < length s → length s ≤ 18 → ((get_or s 0 0 ≡ 48) × (length s ≤ 1)) ⊎ (get_or s 0 0 ≡ 48 → ⊥) → All (λ c. is_digit c ≡ true) s → IsCanonical 18 s

@@ -1,3 +1,4 @@
+-- SPDX-License-Identifier: Apache-2.0
 -- Bytes of lists of subscripts that begin alike.
 use Rattle.std.proofs.Common.{ℕ, suc, ◌≡◌, ◌==◌, ◌<◌, ◌++◌, Bool, true, false, nat_eq, List, [], ◌∷◌, length, drop, Some, None, refl, sym, ◌∙◌, ap, ap₂, arith}
 use Rattle.std.specs.Prelude.{slice_get, if◌then◌else◌}
@@ -92,7 +93,7 @@ module _ (xs ys : List Text) (subs : AreSubs ys) (h : is_within xs ys ≡ true) 
   one_read t n sub front = here (drop (length xs) ys) (split_within xs ys h) is ∙ sym (child_is xs ys h)
     where
       here : (d : List Text) → ys ≡ xs ++ d → rest ≡ subscripts_bytes significant_digits d → Some t ≡ slice_get d 0
-      here [] split e = absurd (nothing_begins t (drop n rest) sub (sym e ∙ front.is))
+      here [] split e = absurd (nothing_begins significant_digits t (drop n rest) sub (sym e ∙ front.is))
       here (s ∷ d) split e =
           ap Some (subscript_split significant_digits t s (drop n rest) (subscripts_bytes significant_digits d) sub.0.some (sub_behind xs ys s d subs split).0.some (sym front.is ∙ e)).0
 

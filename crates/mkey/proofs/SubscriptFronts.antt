@@ -1,3 +1,4 @@
+-- SPDX-License-Identifier: Apache-2.0
 -- The subscript that bytes begin with.
 use Rattle.std.proofs.Common.{ℕ, zero, suc, ◌≡◌, ◌≢◌, ◌+◌, ◌^◌, ◌<◌, ◌≤◌, Option, Some, None, List, [], ◌∷◌, ◌++◌, length, take, drop, refl, sym, ◌∙◌, ap, subst, arith, length-append, take-append-drop, add-one, ◌%◌}
 use Rattle.std.specs.Prelude.{ℤ, unsigned_abs}
@@ -9,17 +10,17 @@ use Rattle.std.proofs.lemmas.Cmp.{tied_itself, nat_cmp_total}
 use Rattle.mspec.specs.Act.{Text}
 use Rattle.mspec.specs.KeyBytes.{big_endian, raised, number_bytes, text_bytes, subscript_by, subscript_bytes, IsAscii}
 use Rattle.mspec.specs.Number.{IsNumber}
-use Rattle.mspec.specs.NumberText.{number_text}
+use Rattle.mspec.specs.NumberText.{numeric_value, number_text, IsCanonical}
 use Rattle.mspec.specs.NodeOrder.{canonical_value}
 use Rattle.mspec.proofs.KeyOrders.{bytes_order, raised_below, raised_order}
 use Rattle.mspec.proofs.KeyRanges.{same_bytes, text_split}
 use Rattle.mspec.proofs.NodeOrders.{both_Equal, canonical_of_value, value_of_canonical}
-use Rattle.mspec.proofs.TextLaws.{text_has_value, value_is_number}
+use Rattle.mspec.proofs.TextLaws.{text_has_value, value_is_number, canonical_by_more_digits}
 use Rattle.mkey.specs.Front.{IsFront, BeginsWithNo, BeginsWithNumber, IsSub}
 use Rattle.mkey.proofs.ShortTexts.{value_fits}
 
-abbrev NoSub : List ℕ → Type 0
-NoSub bytes = BeginsWithNo IsSub (subscript_bytes 18) bytes
+abbrev NoSub : ℕ → List ℕ → Type 0
+NoSub kept bytes = BeginsWithNo IsSub (subscript_bytes kept) bytes
 
 -- ---- numbers
 
@@ -37,15 +38,15 @@ same_raised u v below_u below_v e =
     int_cmp-IsAntisymmetric u v (sym (raised_order u v below_u below_v) ∙ ap (nat_cmp (raised u)) (sym e) ∙ tied_itself nat_cmp_total (raised u))
 
 -- a subscript whose bytes begin with 1
-record IsNumeric (s : Text) (rest more : List ℕ) : Type 0 where
+record IsNumeric (kept : ℕ) (s : Text) (rest more : List ℕ) : Type 0 where
   value : ℤ
-  canonical : canonical_value 18 s ≡ Some value
+  canonical : canonical_value kept s ≡ Some value
   bytes : rest ≡ number_bytes value ++ more
 
-numeric : (s : Text) (rest more : List ℕ) → 1 ∷ rest ≡ subscript_bytes 18 s ++ more → IsNumeric s rest more
-numeric s rest more e = by_value (canonical_value 18 s) refl e
+numeric : (kept : ℕ) (s : Text) (rest more : List ℕ) → 1 ∷ rest ≡ subscript_bytes kept s ++ more → IsNumeric kept s rest more
+numeric kept s rest more e = by_value (canonical_value kept s) refl e
   where
-    by_value : (o : Option ℤ) → canonical_value 18 s ≡ o → 1 ∷ rest ≡ subscript_by s o ++ more → IsNumeric s rest more
+    by_value : (o : Option ℤ) → canonical_value kept s ≡ o → 1 ∷ rest ≡ subscript_by s o ++ more → IsNumeric kept s rest more
     by_value (Some u) is e = record { value = u; canonical = is; bytes = cc }
     by_value None is e = let no : ◌≡◌ {A = ℕ} 1 2 = cc in absurd (omega (arith, no))
 
@@ -57,97 +58,123 @@ number_in_front u rest more e = (
   omega (arith, ap length e, length-append (big_endian 16 (raised u)) more, length-big_endian 16 (raised u)),
 )
 
-pub too_short : (rest : List ℕ) → length rest < 16 → NoSub (1 ∷ rest)
-too_short rest short s more is e =
-    let at = numeric s rest more e in
+pub too_short : (kept : ℕ) (rest : List ℕ) → length rest < 16 → NoSub kept (1 ∷ rest)
+too_short kept rest short s more is e =
+    let at = numeric kept s rest more e in
     let front = number_in_front at.value rest more at.bytes in
     omega (arith, front.1)
 
 -- the number that the sixteen bytes are is that of each subscript that they begin
-its_number : (rest : List ℕ) (n : ℕ) → big_endian 16 n ≡ take 16 rest → n < 256 ^ 16 → (s : Text) (more : List ℕ) → 1 ∷ rest ≡ subscript_bytes 18 s ++ more → (u : ℤ) × (canonical_value 18 s ≡ Some u) × (raised u ≡ n)
-its_number rest n is below s more e =
-    let at = numeric s rest more e in
+its_number : (kept : ℕ) (rest : List ℕ) (n : ℕ) → big_endian 16 n ≡ take 16 rest → n < 256 ^ 16 → (s : Text) (more : List ℕ) → 1 ∷ rest ≡ subscript_bytes kept s ++ more → (u : ℤ) × (canonical_value kept s ≡ Some u) × (raised u ≡ n)
+its_number kept rest n is below s more e =
+    let at = numeric kept s rest more e in
     let front = number_in_front at.value rest more at.bytes in
-    let fits = value_fits s at.value at.canonical in
+    let fits = value_fits kept s at.value at.canonical in
     (at.value, at.canonical, same_number (raised at.value) n (raised_below at.value fits) below (sym front.0 ∙ sym is))
 
-pub no_number : (rest : List ℕ) (n : ℕ) → big_endian 16 n ≡ take 16 rest → n < 256 ^ 16 → ((u : ℤ) → IsNumber 18 u → raised u ≡ n → ⊥) → NoSub (1 ∷ rest)
-no_number rest n is below none s more sub e =
-    let at = its_number rest n is below s more e in
-    none at.0 (value_is_number 18 s at.0 (omega arith) (canonical_of_value 18 s at.0 at.1).0) at.2
+pub no_number : (kept : ℕ) (rest : List ℕ) (n : ℕ) → 0 < kept → big_endian 16 n ≡ take 16 rest → n < 256 ^ 16 → ((u : ℤ) → IsNumber kept u → raised u ≡ n → ⊥) → NoSub kept (1 ∷ rest)
+no_number kept rest n some is below none s more sub e =
+    let at = its_number kept rest n is below s more e in
+    none at.0 (value_is_number kept s at.0 some (canonical_of_value kept s at.0 at.1).0) at.2
 
-no_such_sub : (rest : List ℕ) (n : ℕ) (v : ℤ) → big_endian 16 n ≡ take 16 rest → n < 256 ^ 16 → raised v ≡ n → IsNumber 18 v → ((s : Text) → IsSub s → canonical_value 18 s ≡ Some v → ⊥) → NoSub (1 ∷ rest)
-no_such_sub rest n v is below raised_v number none s more sub e =
-    let at = its_number rest n is below s more e in
-    let same : at.0 ≡ v = same_raised at.0 v (value_fits s at.0 at.1) number.in_range (at.2 ∙ sym raised_v) in
+no_such_sub : (kept : ℕ) (rest : List ℕ) (n : ℕ) (v : ℤ) → big_endian 16 n ≡ take 16 rest → n < 256 ^ 16 → raised v ≡ n → unsigned_abs v < 10 ^ 36 → ((s : Text) → IsSub s → canonical_value kept s ≡ Some v → ⊥) → NoSub kept (1 ∷ rest)
+no_such_sub kept rest n v is below raised_v fits none s more sub e =
+    let at = its_number kept rest n is below s more e in
+    let same : at.0 ≡ v = same_raised at.0 v (value_fits kept s at.0 at.1) fits (at.2 ∙ sym raised_v) in
     none s sub (at.1 ∙ ap Some same)
 
-number_found : (rest : List ℕ) (n : ℕ) (v : ℤ) (s : Text) → 16 ≤ length rest → big_endian 16 n ≡ take 16 rest → raised v ≡ n → canonical_value 18 s ≡ Some v → IsFront (1 ∷ rest) (subscript_bytes 18 s) 17
+number_found : (kept : ℕ) (rest : List ℕ) (n : ℕ) (v : ℤ) (s : Text) → 16 ≤ length rest → big_endian 16 n ≡ take 16 rest → raised v ≡ n → canonical_value kept s ≡ Some v → IsFront (1 ∷ rest) (subscript_bytes kept s) 17
 unfolding number_bytes
-number_found rest n v s long is raised_v canonical =
-    let bytes : subscript_bytes 18 s ≡ 1 ∷ take 16 rest = ap (subscript_by s) canonical ∙ ap (λ m. 1 ∷ big_endian 16 m) raised_v ∙ ap (λ b. 1 ∷ b) is in
+number_found kept rest n v s long is raised_v canonical =
+    let bytes : subscript_bytes kept s ≡ 1 ∷ take 16 rest = ap (subscript_by s) canonical ∙ ap (λ m. 1 ∷ big_endian 16 m) raised_v ∙ ap (λ b. 1 ∷ b) is in
     record { fits = omega arith; is = sym (ap (λ b. b ++ drop 16 rest) bytes ∙ ap (λ b. 1 ∷ b) (take-append-drop 16 rest)) }
 
 -- the same of bytes that begin with a number's
-pub no_such_number : (rest : List ℕ) (v : ℤ) → BeginsWithNumber v rest → IsNumber 18 v → ((s : Text) → IsSub s → canonical_value 18 s ≡ Some v → ⊥) → NoSub (1 ∷ rest)
+pub no_such_number : (kept : ℕ) (rest : List ℕ) (v : ℤ) → BeginsWithNumber v rest → unsigned_abs v < 10 ^ 36 → ((s : Text) → IsSub s → canonical_value kept s ≡ Some v → ⊥) → NoSub kept (1 ∷ rest)
 unfolding number_bytes
-no_such_number rest v front number none = no_such_sub rest (raised v) v front.is (raised_below v number.in_range) refl number none
+no_such_number kept rest v front fits none = no_such_sub kept rest (raised v) v front.is (raised_below v fits) refl fits none
 
-pub number_begins : (rest : List ℕ) (v : ℤ) (s : Text) → BeginsWithNumber v rest → canonical_value 18 s ≡ Some v → IsFront (1 ∷ rest) (subscript_bytes 18 s) 17
+pub number_begins : (kept : ℕ) (rest : List ℕ) (v : ℤ) (s : Text) → BeginsWithNumber v rest → canonical_value kept s ≡ Some v → IsFront (1 ∷ rest) (subscript_bytes kept s) 17
 unfolding number_bytes
-number_begins rest v s front canonical = number_found rest (raised v) v s front.fits front.is refl canonical
+number_begins kept rest v s front canonical = number_found kept rest (raised v) v s front.fits front.is refl canonical
+
+-- where fewer digits are kept, fewer texts are numbers, and these have the bytes that they have where more are kept
+pub no_number_of_more : (fewer more : ℕ) (rest : List ℕ) → 0 < fewer → fewer ≤ more → NoSub more (1 ∷ rest) → NoSub fewer (1 ∷ rest)
+no_number_of_more fewer more rest some few none s behind sub e =
+    let at = numeric fewer s rest behind e in
+    let is = canonical_of_value fewer s at.value at.canonical in
+    let canonical = canonical_by_more_digits fewer more s some few (record { number = at.value; value = is.0; text = is.1 }) in
+    none s behind sub (ap (λ b. 1 ∷ b) at.bytes ∙ ap (λ o. subscript_by s o ++ behind) (sym (value_of_canonical more s canonical.0 ∙ same_canonical fewer more s at.value is.0 canonical)))
+  where
+    same_canonical : (fewer more : ℕ) (s : Text) (u : ℤ) → numeric_value fewer s ≡ Some u → (canonical : IsCanonical more s × (numeric_value more s ≡ numeric_value fewer s)) → Some canonical.0.number ≡ Some u
+    same_canonical fewer more s u value canonical = sym canonical.0.value ∙ canonical.1 ∙ value
 
 -- the text of a number is the one text with it as its value
-pub text_of_number : (t : Text) (v : ℤ) → IsNumber 18 v → t ≡ number_text v → canonical_value 18 t ≡ Some v
-text_of_number t v number is =
-    ap (canonical_value 18) is ∙ value_of_canonical 18 (number_text v) (record { number = v; value = text_has_value 18 v number; text = refl })
+pub text_of_number : (kept : ℕ) (t : Text) (v : ℤ) → IsNumber kept v → t ≡ number_text v → canonical_value kept t ≡ Some v
+text_of_number kept t v number is =
+    ap (canonical_value kept) is ∙ value_of_canonical kept (number_text v) (record { number = v; value = text_has_value kept v number; text = refl })
 
-pub no_other_text : (t : Text) (v : ℤ) → t ≡ number_text v → (IsSub t → ⊥) → (s : Text) → IsSub s → canonical_value 18 s ≡ Some v → ⊥
-no_other_text t v is other s sub canonical = other (subst IsSub (sym (canonical_of_value 18 s v canonical).1 ∙ sym is) sub)
+pub no_other_text : (kept : ℕ) (t : Text) (v : ℤ) → t ≡ number_text v → (IsSub t → ⊥) → (s : Text) → IsSub s → canonical_value kept s ≡ Some v → ⊥
+no_other_text kept t v is other s sub canonical = other (subst IsSub (sym (canonical_of_value kept s v canonical).1 ∙ sym is) sub)
+
+-- and it is canonical
+pub canonical_text : (kept : ℕ) (t : Text) (v : ℤ) → t ≡ number_text v → IsNumber kept v → IsCanonical kept t
+canonical_text kept t v is number = subst (IsCanonical kept) (sym is) (record { number = v; value = text_has_value kept v number; text = refl })
+
+-- a text of a number has the number as its value where it is canonical
+pub text_where_canonical : (kept : ℕ) (t : Text) (v : ℤ) → t ≡ number_text v → IsNumber 18 v → 0 < kept → kept ≤ 18 → IsCanonical kept t → canonical_value kept t ≡ Some v
+text_where_canonical kept t v is number some few canonical =
+    let more = canonical_by_more_digits kept 18 t some few canonical in
+    value_of_canonical kept t canonical ∙ sym canonical.value ∙ sym more.1 ∙ (canonical_of_value 18 t v (text_of_number 18 t v number is)).0
+
+pub not_canonical : (kept : ℕ) (t : Text) (v : ℤ) → t ≡ number_text v → (IsCanonical kept t → ⊥) → (s : Text) → IsSub s → canonical_value kept s ≡ Some v → ⊥
+not_canonical kept t v is other s sub canonical =
+    let read = canonical_of_value kept s v canonical in
+    other (subst (IsCanonical kept) (sym (is ∙ read.1)) (record { number = v; value = read.0; text = read.1 }))
 
 -- ---- texts
 
 -- a subscript whose bytes begin with 2
-record IsOther (s : Text) (rest more : List ℕ) : Type 0 where
-  none : canonical_value 18 s ≡ None
+record IsOther (kept : ℕ) (s : Text) (rest more : List ℕ) : Type 0 where
+  none : canonical_value kept s ≡ None
   bytes : rest ≡ text_bytes s ++ more
 
-other : (s : Text) (rest more : List ℕ) → 2 ∷ rest ≡ subscript_bytes 18 s ++ more → IsOther s rest more
-other s rest more e = by_value (canonical_value 18 s) refl e
+other : (kept : ℕ) (s : Text) (rest more : List ℕ) → 2 ∷ rest ≡ subscript_bytes kept s ++ more → IsOther kept s rest more
+other kept s rest more e = by_value (canonical_value kept s) refl e
   where
-    by_value : (o : Option ℤ) → canonical_value 18 s ≡ o → 2 ∷ rest ≡ subscript_by s o ++ more → IsOther s rest more
+    by_value : (o : Option ℤ) → canonical_value kept s ≡ o → 2 ∷ rest ≡ subscript_by s o ++ more → IsOther kept s rest more
     by_value (Some u) is e = let no : ◌≡◌ {A = ℕ} 2 1 = cc in absurd (omega (arith, no))
     by_value None is e = record { none = is; bytes = cc }
 
-pub no_letters : (rest : List ℕ) → BeginsWithNo IsAscii text_bytes rest → NoSub (2 ∷ rest)
-no_letters rest none s more sub e = none s more sub.1 (other s rest more e).bytes
+pub no_letters : (kept : ℕ) (rest : List ℕ) → BeginsWithNo IsAscii text_bytes rest → NoSub kept (2 ∷ rest)
+no_letters kept rest none s more sub e = none s more sub.1 (other kept s rest more e).bytes
 
-pub other_letters : (rest : List ℕ) (t : Text) (n : ℕ) → IsFront rest (text_bytes t) n → (IsSub t → canonical_value 18 t ≡ None → ⊥) → NoSub (2 ∷ rest)
-other_letters rest t n front none s more sub e =
-    let at = other s rest more e in
+pub other_letters : (kept : ℕ) (rest : List ℕ) (t : Text) (n : ℕ) → IsFront rest (text_bytes t) n → (IsSub t → canonical_value kept t ≡ None → ⊥) → NoSub kept (2 ∷ rest)
+other_letters kept rest t n front none s more sub e =
+    let at = other kept s rest more e in
     let same : s ≡ t = (text_split s t more (drop n rest) (sym at.bytes ∙ front.is)).0 in
-    none (subst IsSub same sub) (ap (canonical_value 18) (sym same) ∙ at.none)
+    none (subst IsSub same sub) (ap (canonical_value kept) (sym same) ∙ at.none)
 
-pub letters_found : (rest : List ℕ) (t : Text) (n : ℕ) → IsFront rest (text_bytes t) n → canonical_value 18 t ≡ None → IsFront (2 ∷ rest) (subscript_bytes 18 t) (n + 1)
-letters_found rest t n front none =
-    let bytes : subscript_bytes 18 t ≡ 2 ∷ text_bytes t = ap (subscript_by t) none in
+pub letters_found : (kept : ℕ) (rest : List ℕ) (t : Text) (n : ℕ) → IsFront rest (text_bytes t) n → canonical_value kept t ≡ None → IsFront (2 ∷ rest) (subscript_bytes kept t) (n + 1)
+letters_found kept rest t n front none =
+    let bytes : subscript_bytes kept t ≡ 2 ∷ text_bytes t = ap (subscript_by t) none in
     let fits : n ≤ length rest = front.fits in
     record {
       fits = omega arith;
-      is = ap (λ b. 2 ∷ b) front.is ∙ ap (λ b. b ++ drop n rest) (sym bytes) ∙ ap (λ m. subscript_bytes 18 t ++ drop m (2 ∷ rest)) (sym (add-one n));
+      is = ap (λ b. 2 ∷ b) front.is ∙ ap (λ b. b ++ drop n rest) (sym bytes) ∙ ap (λ m. subscript_bytes kept t ++ drop m (2 ∷ rest)) (sym (add-one n));
     }
 
 -- ---- other tags
 
-pub no_tag : (b : ℕ) (rest : List ℕ) → b ≢ 1 → b ≢ 2 → NoSub (b ∷ rest)
-no_tag b rest one two s more sub e = by_value (canonical_value 18 s) e
+pub no_tag : (kept : ℕ) (b : ℕ) (rest : List ℕ) → b ≢ 1 → b ≢ 2 → NoSub kept (b ∷ rest)
+no_tag kept b rest one two s more sub e = by_value (canonical_value kept s) e
   where
     by_value : (o : Option ℤ) → b ∷ rest ≡ subscript_by s o ++ more → ⊥
     by_value (Some u) e = one (cc)
     by_value None e = two (cc)
 
-pub nothing_begins : NoSub []
-nothing_begins s more sub e = by_value (canonical_value 18 s) e
+pub nothing_begins : (kept : ℕ) → NoSub kept []
+nothing_begins kept s more sub e = by_value (canonical_value kept s) e
   where
     by_value : (o : Option ℤ) → [] ≡ subscript_by s o ++ more → ⊥
     by_value (Some u) e = absurd (cc)
@@ -155,15 +182,15 @@ nothing_begins s more sub e = by_value (canonical_value 18 s) e
 
 -- ---- how many bytes a subscript has
 
-pub number_long : (s : Text) (rest more : List ℕ) → 1 ∷ rest ≡ subscript_bytes 18 s ++ more → length (subscript_bytes 18 s) ≡ 17
+pub number_long : (kept : ℕ) (s : Text) (rest more : List ℕ) → 1 ∷ rest ≡ subscript_bytes kept s ++ more → length (subscript_bytes kept s) ≡ 17
 unfolding number_bytes
-number_long s rest more e =
-    let at = numeric s rest more e in
+number_long kept s rest more e =
+    let at = numeric kept s rest more e in
     ap (λ o. length (subscript_by s o)) at.canonical ∙ ap suc (length-big_endian 16 (raised at.value))
 
-pub letters_long : (b : ℕ) (s : Text) (rest more : List ℕ) → b ≢ 1 → b ∷ rest ≡ subscript_bytes 18 s ++ more → (rest ≡ text_bytes s ++ more) × (length (subscript_bytes 18 s) ≡ 1 + length (text_bytes s))
-letters_long b s rest more other e = by_value (canonical_value 18 s) refl e
+pub letters_long : (kept : ℕ) (b : ℕ) (s : Text) (rest more : List ℕ) → b ≢ 1 → b ∷ rest ≡ subscript_bytes kept s ++ more → (rest ≡ text_bytes s ++ more) × (length (subscript_bytes kept s) ≡ 1 + length (text_bytes s))
+letters_long kept b s rest more other e = by_value (canonical_value kept s) refl e
   where
-    by_value : (o : Option ℤ) → canonical_value 18 s ≡ o → b ∷ rest ≡ subscript_by s o ++ more → (rest ≡ text_bytes s ++ more) × (length (subscript_bytes 18 s) ≡ 1 + length (text_bytes s))
+    by_value : (o : Option ℤ) → canonical_value kept s ≡ o → b ∷ rest ≡ subscript_by s o ++ more → (rest ≡ text_bytes s ++ more) × (length (subscript_bytes kept s) ≡ 1 + length (text_bytes s))
     by_value (Some u) is e = absurd (other (cc))
     by_value None is e = (cc, ap (λ o. length (subscript_by s o)) is ∙ omega arith)

@@ -1,3 +1,4 @@
+-- SPDX-License-Identifier: Apache-2.0
 -- Lists of subscripts, and nodes, that bytes are.
 use Rattle.std.proofs.Common.{ℕ, ◌≡◌, ◌<◌, List, [], ◌∷◌, ◌++◌, length, drop, All, sym, ◌∙◌, ap, subst, arith, append_assoc, append-nil, length-append}
 use Rattle.std.proofs.lemmas.List.Concat.{flat_map-append}
@@ -8,7 +9,7 @@ use Rattle.mspec.specs.KeyBytes.{text_bytes, subscript_bytes, subscripts_bytes, 
 use Rattle.mspec.specs.KeyLaws.{NoneEmpty}
 use Rattle.mspec.proofs.KeyRanges.{IsBehind, subscripts_split, text_split}
 use Rattle.mkey.specs.Front.{IsFront, BeginsWithNo, IsSub, AreSubs}
-use Rattle.mkey.specs.Key.{IsKeyOf}
+use Rattle.mkey.specs.Key.{IsKeyBy}
 
 -- ---- subscripts
 
@@ -19,16 +20,16 @@ some_all : (ys : List Text) → AreSubs ys → NoneEmpty ys
 some_all ys all = λ k d inside. (all.0.each k d inside).some
 
 -- what is behind the subscripts that were read
-behind_read : (xs ys : List Text) (rest bytes : List ℕ) → All IsSub xs → AreSubs ys → bytes ≡ subscripts_bytes 18 xs ++ rest → bytes ≡ subscripts_bytes 18 ys → IsBehind 18 xs rest ys
-behind_read xs ys rest bytes subs all is e = subscripts_split 18 xs ys rest (some_each xs subs) (some_all ys all) (sym is ∙ e)
+behind_read : (kept : ℕ) (xs ys : List Text) (rest bytes : List ℕ) → All IsSub xs → AreSubs ys → bytes ≡ subscripts_bytes kept xs ++ rest → bytes ≡ subscripts_bytes kept ys → IsBehind kept xs rest ys
+behind_read kept xs ys rest bytes subs all is e = subscripts_split kept xs ys rest (some_each xs subs) (some_all ys all) (sym is ∙ e)
 
-pub too_many_subs : (xs ys : List Text) (rest bytes : List ℕ) → All IsSub xs → AreSubs ys → bytes ≡ subscripts_bytes 18 xs ++ rest → bytes ≡ subscripts_bytes 18 ys → length xs ≡ 15 → 0 < length rest → ⊥
-too_many_subs xs ys rest bytes subs all is e full some = by_more behind.more behind.subscripts behind.bytes
+pub too_many_subs : (kept : ℕ) (xs ys : List Text) (rest bytes : List ℕ) → All IsSub xs → AreSubs ys → bytes ≡ subscripts_bytes kept xs ++ rest → bytes ≡ subscripts_bytes kept ys → length xs ≡ 15 → 0 < length rest → ⊥
+too_many_subs kept xs ys rest bytes subs all is e full some = by_more behind.more behind.subscripts behind.bytes
   where
-    behind : IsBehind 18 xs rest ys
-    behind = behind_read xs ys rest bytes subs all is e
+    behind : IsBehind kept xs rest ys
+    behind = behind_read kept xs ys rest bytes subs all is e
 
-    by_more : (more : List Text) → ys ≡ xs ++ more → rest ≡ subscripts_bytes 18 more → ⊥
+    by_more : (more : List Text) → ys ≡ xs ++ more → rest ≡ subscripts_bytes kept more → ⊥
     by_more [] list rest_is = omega (arith, ap length rest_is)
     by_more (s ∷ more) list rest_is = omega (arith, ap length list, length-append xs (s ∷ more), all.0.few)
 
@@ -44,41 +45,41 @@ sub_behind xs ys s more all e =
     let ascii : All IsAscii (s ∷ more) = All-drop-back IsAscii xs (s ∷ more) (subst (All IsAscii) e all.1) in
     (All-head IsSubscript s more each, All-head IsAscii s more ascii)
 
-pub no_more_subs : (xs ys : List Text) (rest bytes : List ℕ) → All IsSub xs → AreSubs ys → bytes ≡ subscripts_bytes 18 xs ++ rest → bytes ≡ subscripts_bytes 18 ys → BeginsWithNo IsSub (subscript_bytes 18) rest → 0 < length rest → ⊥
-no_more_subs xs ys rest bytes subs all is e none some = by_more behind.more behind.subscripts behind.bytes
+pub no_more_subs : (kept : ℕ) (xs ys : List Text) (rest bytes : List ℕ) → All IsSub xs → AreSubs ys → bytes ≡ subscripts_bytes kept xs ++ rest → bytes ≡ subscripts_bytes kept ys → BeginsWithNo IsSub (subscript_bytes kept) rest → 0 < length rest → ⊥
+no_more_subs kept xs ys rest bytes subs all is e none some = by_more behind.more behind.subscripts behind.bytes
   where
-    behind : IsBehind 18 xs rest ys
-    behind = behind_read xs ys rest bytes subs all is e
+    behind : IsBehind kept xs rest ys
+    behind = behind_read kept xs ys rest bytes subs all is e
 
-    by_more : (more : List Text) → ys ≡ xs ++ more → rest ≡ subscripts_bytes 18 more → ⊥
+    by_more : (more : List Text) → ys ≡ xs ++ more → rest ≡ subscripts_bytes kept more → ⊥
     by_more [] list rest_is = omega (arith, ap length rest_is)
-    by_more (s ∷ more) list rest_is = none s (subscripts_bytes 18 more) (sub_behind xs ys s more all list) rest_is
+    by_more (s ∷ more) list rest_is = none s (subscripts_bytes kept more) (sub_behind xs ys s more all list) rest_is
 
-pub one_more_sub : (xs : List Text) (s : Text) (rest bytes : List ℕ) (n : ℕ) → bytes ≡ subscripts_bytes 18 xs ++ rest → IsFront rest (subscript_bytes 18 s) n → bytes ≡ subscripts_bytes 18 (xs ++ s ∷ []) ++ drop n rest
-one_more_sub xs s rest bytes n is front =
-    is ∙ ap (λ b. subscripts_bytes 18 xs ++ b) front.is
-    ∙ sym (append_assoc (subscripts_bytes 18 xs) (subscript_bytes 18 s) (drop n rest))
-    ∙ ap (λ b. (subscripts_bytes 18 xs ++ b) ++ drop n rest) (sym (append-nil (subscript_bytes 18 s)))
-    ∙ ap (λ b. b ++ drop n rest) (sym (flat_map-append (subscript_bytes 18) xs (s ∷ [])))
+pub one_more_sub : (kept : ℕ) (xs : List Text) (s : Text) (rest bytes : List ℕ) (n : ℕ) → bytes ≡ subscripts_bytes kept xs ++ rest → IsFront rest (subscript_bytes kept s) n → bytes ≡ subscripts_bytes kept (xs ++ s ∷ []) ++ drop n rest
+one_more_sub kept xs s rest bytes n is front =
+    is ∙ ap (λ b. subscripts_bytes kept xs ++ b) front.is
+    ∙ sym (append_assoc (subscripts_bytes kept xs) (subscript_bytes kept s) (drop n rest))
+    ∙ ap (λ b. (subscripts_bytes kept xs ++ b) ++ drop n rest) (sym (append-nil (subscript_bytes kept s)))
+    ∙ ap (λ b. b ++ drop n rest) (sym (flat_map-append (subscript_bytes kept) xs (s ∷ [])))
 
 -- ---- nodes
 
 -- the names in front of bytes are those of each node whose key they are
-module _ (bytes : List ℕ) (account : Text) (count : ℕ) (front : IsFront bytes (text_bytes account) count) where
-  same_account : (n : Node) → key_bytes 18 n ≡ bytes → (n.account ≡ account) × (local_bytes 18 n.name n.subscripts ≡ drop count bytes)
-  same_account n e = text_split n.account account (local_bytes 18 n.name n.subscripts) (drop count bytes) (e ∙ front.is)
+module _ (kept : ℕ) (bytes : List ℕ) (account : Text) (count : ℕ) (front : IsFront bytes (text_bytes account) count) where
+  same_account : (n : Node) → key_bytes kept n ≡ bytes → (n.account ≡ account) × (local_bytes kept n.name n.subscripts ≡ drop count bytes)
+  same_account n e = text_split n.account account (local_bytes kept n.name n.subscripts) (drop count bytes) (e ∙ front.is)
 
-  pub no_such_name : (local : List ℕ) → local ≡ drop count bytes → BeginsWithNo IsName text_bytes local → (n : Node) → IsStored n → key_bytes 18 n ≡ bytes → ⊥
-  no_such_name local is none n stored e = none n.name (subscripts_bytes 18 n.subscripts) stored.name (is ∙ sym (same_account n e).1)
+  pub no_such_name : (local : List ℕ) → local ≡ drop count bytes → BeginsWithNo IsName text_bytes local → (n : Node) → IsStored n → key_bytes kept n ≡ bytes → ⊥
+  no_such_name local is none n stored e = none n.name (subscripts_bytes kept n.subscripts) stored.name (is ∙ sym (same_account n e).1)
 
   module _ (local : List ℕ) (is_local : local ≡ drop count bytes) (name : Text) (count' : ℕ) (front' : IsFront local (text_bytes name) count') where
-    same_name : (n : Node) → key_bytes 18 n ≡ bytes → (n.name ≡ name) × (subscripts_bytes 18 n.subscripts ≡ drop count' local)
-    same_name n e = text_split n.name name (subscripts_bytes 18 n.subscripts) (drop count' local) ((same_account n e).1 ∙ sym is_local ∙ front'.is)
+    same_name : (n : Node) → key_bytes kept n ≡ bytes → (n.name ≡ name) × (subscripts_bytes kept n.subscripts ≡ drop count' local)
+    same_name n e = text_split n.name name (subscripts_bytes kept n.subscripts) (drop count' local) ((same_account n e).1 ∙ sym is_local ∙ front'.is)
 
-    pub no_such_subs : (rest : List ℕ) → rest ≡ drop count' local → ((ys : List Text) → AreSubs ys → rest ≡ subscripts_bytes 18 ys → ⊥) → (n : Node) → IsStored n → key_bytes 18 n ≡ bytes → ⊥
+    pub no_such_subs : (rest : List ℕ) → rest ≡ drop count' local → ((ys : List Text) → AreSubs ys → rest ≡ subscripts_bytes kept ys → ⊥) → (n : Node) → IsStored n → key_bytes kept n ≡ bytes → ⊥
     no_such_subs rest is none n stored e = none n.subscripts (stored.subscripts, stored.ascii) (is ∙ sym (same_name n e).1)
 
-    pub node_found : (rest : List ℕ) (subs : List Text) → rest ≡ drop count' local → AreSubs subs → rest ≡ subscripts_bytes 18 subs → IsAccountName account → IsName name → IsKeyOf (record { account = account; name = name; subscripts = subs }) bytes
+    pub node_found : (rest : List ℕ) (subs : List Text) → rest ≡ drop count' local → AreSubs subs → rest ≡ subscripts_bytes kept subs → IsAccountName account → IsName name → IsKeyBy kept (record { account = account; name = name; subscripts = subs }) bytes
     node_found rest subs is all is_subs is_account is_name = (
       record { account = is_account; name = is_name; subscripts = all.0; ascii = all.1 },
       ap (λ b. text_bytes account ++ (text_bytes name ++ b)) (sym is_subs ∙ is) ∙ ap (λ b. text_bytes account ++ b) (sym front'.is ∙ is_local) ∙ sym front.is,

@@ -1,3 +1,4 @@
+-- SPDX-License-Identifier: Apache-2.0
 -- The text that bytes begin with.
 use Rattle.std.proofs.Common.{ℕ, ◌≡◌, ◌≢◌, ◌+◌, ◌-◌, ◌<◌, ◌≤◌, Option, Some, None, MatchOption, List, [], ◌∷◌, ◌++◌, map, length, get_or, drop, All, refl, sym, ◌∙◌, ap, subst, arith, append_assoc, append-nil, add-one, true, false, IsTrue}
 use Rattle.std.proofs.Math.Seq.{drop-cons}

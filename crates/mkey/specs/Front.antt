@@ -1,3 +1,4 @@
+-- SPDX-License-Identifier: Apache-2.0
 -- What bytes begin with.
 use Rattle.std.specs.Prelude.{◌≡◌, ◌≤◌, ℕ, ℤ, List, ◌++◌, length, take, drop, All}
 use Rattle.mspec.specs.Act.{Text}

@@ -1,3 +1,4 @@
+-- SPDX-License-Identifier: Apache-2.0
 -- The number that the first bytes of a key are.
 use Rattle.std.specs.Prelude.{ℕ, zero, suc, ◌+◌, ◌*◌, ◌^◌, List, [], ◌∷◌}
 

@@ -1,3 +1,4 @@
+-- SPDX-License-Identifier: Apache-2.0
 -- What the bytes of a key stand for.
 use Rattle.std.specs.Prelude.{◌≡◌, ◌↔◌, ℕ, Bool, List, [], ◌∷◌}
 use Rattle.std.proofs.Common.{sym, ◌∙◌}
@@ -13,6 +14,14 @@ use Rattle.mspec.proofs.KeyRanges.{keys_are_injective}
 -- the bytes are the key of this node, which is one of a store
 abbrev pub IsKeyOf : Node → List ℕ → Type 0
 IsKeyOf n bytes = IsStored n × (key_bytes significant_digits n ≡ bytes)
+
+-- the same where numbers keep so many digits
+abbrev pub IsKeyBy : ℕ → Node → List ℕ → Type 0
+IsKeyBy kept n bytes = IsStored n × (key_bytes kept n ≡ bytes)
+
+-- so many digits the numbers of a store of version 1 kept
+abbrev pub old_digits : ℕ
+old_digits = 15
 
 -- the bytes are the key of a node of a store
 abbrev pub IsKey : List ℕ → Type 0

@@ -1,3 +1,4 @@
+-- SPDX-License-Identifier: Apache-2.0
 -- The node next above a node, and where its key ends.
 use Rattle.std.specs.Prelude.{◌≡◌, ℕ, List, [], ◌∷◌, ◌++◌, take}
 use Rattle.mspec.specs.Act.{Text, Node}

@@ -1,3 +1,4 @@
+-- SPDX-License-Identifier: Apache-2.0
 -- The subscript by which a node stands below another.
 use Rattle.std.specs.Prelude.{Bool, false, Option, Some, None, if◌then◌else◌}
 use Rattle.mspec.specs.Globals.{is_beside}

@@ -1,3 +1,4 @@
+-- SPDX-License-Identifier: Apache-2.0
 -- The directions of the code.
 use Rattle.mspec.specs.Trees as trees
 use Rattle.mkey.specs.declared.walk.Direction.{Direction}

@@ -1,3 +1,4 @@
+// SPDX-License-Identifier: Apache-2.0
 // Where the last subscript of a key begins.
 ghost use Rattle.std.specs.Prelude.{◌≡◌, ◌==◌, ℕ, ◌<◌, ◌≤◌, List, [], ◌∷◌, ◌++◌, ◌+◌, length, position, IfSome, MatchOption};
 ghost use Rattle.mkey.specs.Parent.{IsLastAt};

@@ -1,24 +1,31 @@
-// Keys read back.
-ghost use Rattle.std.specs.Prelude.{◌≡◌, ℕ, ℤ, ◌+◌, ◌^◌, ◌<◌, ◌≤◌, List, [], ◌∷◌, ◌++◌, All, length, take, drop, Some, IfOk, MatchOption};
+// SPDX-License-Identifier: Apache-2.0
+// Keys read back. How many digits the numbers of a key keep is a parameter, since old stores kept fewer.
+ghost use Rattle.std.specs.Prelude.{◌≡◌, ◌↔◌, ℕ, ℤ, ◌+◌, ◌^◌, ◌<◌, ◌≤◌, List, [], ◌∷◌, ◌++◌, All, IsTrue, length, take, drop, Some, IfOk, MatchOption};
 ghost use Rattle.mkey.specs.Front.{IsFront, BeginsWithNo, BeginsWithNumber, IsSub, AreSubs};
-ghost use Rattle.mkey.specs.Key.{IsKeyOf};
+ghost use Rattle.mkey.specs.Key.{IsKeyOf, IsKeyBy, old_digits};
 ghost use Rattle.mnum.specs.Num.{units};
 ghost use Rattle.mspec.specs.Act.{Node};
 ghost use Rattle.mspec.specs.Names.{IsName};
 ghost use Rattle.mspec.specs.KeyBytes.{big_endian, text_bytes, raised, subscript_by, subscript_bytes, subscripts_bytes, key_bytes, IsAccountName, IsAscii, AreSubscripts, IsStored};
 ghost use Rattle.mspec.specs.NodeOrder.{canonical_value};
 ghost use Rattle.mspec.specs.Number.{significant_digits, IsNumber};
+ghost use Rattle.mspec.specs.NumberText.{IsCanonical};
 
 use crate::encoding::RAISE;
+use crate::key::NodeKey;
 use crate::names::is_account_name;
 use crate::order::first_word;
-use crate::place::canonical;
 use crate::subs::{Subs, is_subscript};
-use mnum::{Bytes7, Num, is_name};
+use mnum::{Bytes7, Num, is_canonical_by, is_name};
 use std::alloc::{AllocError, Global};
 
 // Room for most texts of keys.
 const SHORT_TEXT: usize = 32;
+
+// The digits that a number of the language keeps, and those that it kept in stores of version 1.
+pub const DIGITS: u32 = 18;
+
+const OLD_DIGITS: u32 = 15;
 
 // Room for each text of a number: eighteen digits, a sign and a point.
 const NUMBER_TEXT: usize = 20;
@@ -107,18 +114,34 @@ fn sub_of(bytes: Vec<u8>, count: usize) -> Option<(Bytes7, usize)>
     }
 }
 
-// The subscript that is this number, beside a count.
+// Whether a text that is canonical is so by this many digits.
+fn is_kept(text: &[u8], kept: u32) -> bool
+    requires canonical { IsCanonical significant_digits text.now }
+    requires some_kept { 0 < kept }
+    requires kept_at_most { kept ≤ 18 }
+    ensures { IsTrue result ↔ IsCanonical kept text.now }
+{
+    kept == DIGITS || is_canonical_by(text, kept)
+}
+
+// The subscript that is this number, beside a count; None where fewer digits are kept than the number has.
 fn numeric_sub(
     alloc: Global,
     number: Num,
+    kept: u32,
     count: usize,
 ) -> Result<Option<(Bytes7, usize)>, AllocError>
+    requires some_kept { 0 < kept }
+    requires kept_at_most { kept ≤ 18 }
     ensures { IfOk result (λ found. MatchOption found
-        ((s : List ℕ) → IsSub s → canonical_value significant_digits s ≡ Some (units number) → ⊥)
-        (λ part. (canonical_value significant_digits part.0 ≡ Some (units number)) × (part.1 ≡ count) × IsSub part.0)) }
+        ((s : List ℕ) → IsSub s → canonical_value kept s ≡ Some (units number) → ⊥)
+        (λ part. (canonical_value kept part.0 ≡ Some (units number)) × (part.1 ≡ count) × IsSub part.0)) }
 {
     let mut text = Vec::with_capacity(alloc, NUMBER_TEXT)?;
     number.write(&mut text)?;
+    if !is_kept(text.as_slice(), kept) {
+        return Ok(None);
+    }
     Ok(sub_of(text, count))
 }
 
@@ -136,25 +159,37 @@ pub fn front_number(bytes: &[u8]) -> Option<Num>
 }
 
 // The subscript that bytes with the tag 1 in front begin with, and how many of them are its own.
-fn read_number(alloc: Global, bytes: &[u8]) -> Result<Option<(Bytes7, usize)>, AllocError>
+fn read_number(
+    alloc: Global,
+    bytes: &[u8],
+    kept: u32,
+) -> Result<Option<(Bytes7, usize)>, AllocError>
+    requires some_kept { 0 < kept }
+    requires kept_at_most { kept ≤ 18 }
     ensures { IfOk result (λ found. MatchOption found
-        (BeginsWithNo IsSub (subscript_bytes significant_digits) (1 ∷ bytes.now))
-        (λ part. IsFront (1 ∷ bytes.now) (subscript_bytes significant_digits part.0) part.1 × IsSub part.0)) }
+        (BeginsWithNo IsSub (subscript_bytes kept) (1 ∷ bytes.now))
+        (λ part. IsFront (1 ∷ bytes.now) (subscript_bytes kept part.0) part.1 × IsSub part.0)) }
 {
     match front_number(bytes) {
         None => Ok(None),
         Some(number) => {
-            let found = numeric_sub(alloc, number, 17)?;
+            let found = numeric_sub(alloc, number, kept, 17)?;
             Ok(found)
         }
     }
 }
 
 // The same with the tag 2 in front.
-pub fn read_letters(alloc: Global, bytes: &[u8]) -> Result<Option<(Bytes7, usize)>, AllocError>
+pub fn read_letters(
+    alloc: Global,
+    bytes: &[u8],
+    kept: u32,
+) -> Result<Option<(Bytes7, usize)>, AllocError>
+    requires some_kept { 0 < kept }
+    requires kept_at_most { kept ≤ 18 }
     ensures { IfOk result (λ found. MatchOption found
-        (BeginsWithNo IsSub (subscript_bytes significant_digits) (2 ∷ bytes.now))
-        (λ part. IsFront (2 ∷ bytes.now) (subscript_bytes significant_digits part.0) part.1 × IsSub part.0)) }
+        (BeginsWithNo IsSub (subscript_bytes kept) (2 ∷ bytes.now))
+        (λ part. IsFront (2 ∷ bytes.now) (subscript_bytes kept part.0) part.1 × IsSub part.0)) }
 {
     match read_text(alloc, bytes)? {
         None => Ok(None),
@@ -162,32 +197,40 @@ pub fn read_letters(alloc: Global, bytes: &[u8]) -> Result<Option<(Bytes7, usize
             if !is_subscript(&text) {
                 return Ok(None);
             }
-            match canonical(text.as_bytes()) {
-                Some(_) => Ok(None),
-                None => Ok(Some((text, count + 1))),
+            if is_canonical_by(text.as_bytes(), kept) {
+                return Ok(None);
             }
+            Ok(Some((text, count + 1)))
         }
     }
 }
 
 // The subscript that the bytes begin with, and how many of them are its own.
-pub fn read_subscript(alloc: Global, bytes: &[u8]) -> Result<Option<(Bytes7, usize)>, AllocError>
+pub fn read_subscript(
+    alloc: Global,
+    bytes: &[u8],
+    kept: u32,
+) -> Result<Option<(Bytes7, usize)>, AllocError>
+    requires some_kept { 0 < kept }
+    requires kept_at_most { kept ≤ 18 }
     ensures { IfOk result (λ found. MatchOption found
-        (BeginsWithNo IsSub (subscript_bytes significant_digits) bytes.now)
-        (λ part. IsFront bytes.now (subscript_bytes significant_digits part.0) part.1 × IsSub part.0)) }
+        (BeginsWithNo IsSub (subscript_bytes kept) bytes.now)
+        (λ part. IsFront bytes.now (subscript_bytes kept part.0) part.1 × IsSub part.0)) }
 {
     match bytes {
-        [1, rest @ ..] => read_number(alloc, rest),
-        [2, rest @ ..] => read_letters(alloc, rest),
+        [1, rest @ ..] => read_number(alloc, rest, kept),
+        [2, rest @ ..] => read_letters(alloc, rest, kept),
         _ => Ok(None),
     }
 }
 
 // The subscripts that the bytes are.
-fn read_subs(alloc: Global, bytes: &[u8]) -> Result<Option<Subs>, AllocError>
+fn read_subs(alloc: Global, bytes: &[u8], kept: u32) -> Result<Option<Subs>, AllocError>
+    requires some_kept { 0 < kept }
+    requires kept_at_most { kept ≤ 18 }
     ensures { IfOk result (λ found. MatchOption found
-        ((ys : List (List ℕ)) → AreSubs ys → bytes.now ≡ subscripts_bytes significant_digits ys → ⊥)
-        (λ subs. AreSubs subs × (bytes.now ≡ subscripts_bytes significant_digits subs))) }
+        ((ys : List (List ℕ)) → AreSubs ys → bytes.now ≡ subscripts_bytes kept ys → ⊥)
+        (λ subs. AreSubs subs × (bytes.now ≡ subscripts_bytes kept subs))) }
 {
     let mut texts = Vec::new(alloc);
     let mut rest = bytes;
@@ -195,7 +238,7 @@ fn read_subs(alloc: Global, bytes: &[u8]) -> Result<Option<Subs>, AllocError>
         if texts.len() == MOST_SUBS {
             return Ok(None);
         }
-        let Some((text, count)) = read_subscript(alloc, rest)? else {
+        let Some((text, count)) = read_subscript(alloc, rest, kept)? else {
             return Ok(None);
         };
         texts.push(text)?;
@@ -240,6 +283,31 @@ fn read_name(alloc: Global, bytes: &[u8]) -> Result<Option<(Bytes7, usize)>, All
     }
 }
 
+// The parts of the node whose key these bytes are where numbers keep so many digits.
+fn read_by(
+    alloc: Global,
+    bytes: &[u8],
+    kept: u32,
+) -> Result<Option<(Bytes7, Bytes7, Subs)>, AllocError>
+    requires some_kept { 0 < kept }
+    requires kept_at_most { kept ≤ 18 }
+    ensures { IfOk result (λ found. MatchOption found
+        ((n : Node) → IsStored n → key_bytes kept n ≡ bytes.now → ⊥)
+        (λ parts. IsKeyBy kept (record { account = parts.0; name = parts.1; subscripts = parts.2 }) bytes.now)) }
+{
+    let Some((account, count)) = read_account(alloc, bytes)? else {
+        return Ok(None);
+    };
+    let local = behind(bytes, count);
+    let Some((name, count)) = read_name(alloc, local)? else {
+        return Ok(None);
+    };
+    let Some(subs) = read_subs(alloc, behind(local, count), kept)? else {
+        return Ok(None);
+    };
+    Ok(Some((account, name, subs)))
+}
+
 /// The account, the global's name and the subscripts of the node whose key these bytes are, or None where they are the key of
 /// no node of a store: of no account name of 1 to 16 letters or digits, global name of 1 to 31 characters and list of subscripts
 /// that `subs_ok` takes.
@@ -252,15 +320,24 @@ pub fn read(alloc: Global, bytes: &[u8]) -> Result<Option<(Bytes7, Bytes7, Subs)
         ((n : Node) → IsStored n → key_bytes significant_digits n ≡ bytes.now → ⊥)
         (λ parts. IsKeyOf (record { account = parts.0; name = parts.1; subscripts = parts.2 }) bytes.now)) }
 {
-    let Some((account, count)) = read_account(alloc, bytes)? else {
-        return Ok(None);
-    };
-    let local = behind(bytes, count);
-    let Some((name, count)) = read_name(alloc, local)? else {
-        return Ok(None);
-    };
-    let Some(subs) = read_subs(alloc, behind(local, count))? else {
-        return Ok(None);
-    };
-    Ok(Some((account, name, subs)))
+    read_by(alloc, bytes, DIGITS)
+}
+
+impl NodeKey {
+    /// The parts of the node whose key these bytes are in a store of version 1, where numbers keep fifteen digits, or None where
+    /// they are the key of no node there. As `read`, by fewer digits: a text of sixteen to eighteen digits is no number there.
+    ///
+    /// # Errors
+    ///
+    /// `AllocError` for want of memory.
+    pub fn read_v1(
+        alloc: Global,
+        bytes: &[u8],
+    ) -> Result<Option<(Bytes7, Bytes7, Subs)>, AllocError>
+        ensures { IfOk result (λ found. MatchOption found
+            ((n : Node) → IsStored n → key_bytes old_digits n ≡ bytes.now → ⊥)
+            (λ parts. IsKeyBy old_digits (record { account = parts.0; name = parts.1; subscripts = parts.2 }) bytes.now)) }
+    {
+        read_by(alloc, bytes, OLD_DIGITS)
+    }
 }

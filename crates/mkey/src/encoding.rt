@@ -1,13 +1,12 @@
+// SPDX-License-Identifier: Apache-2.0
 // The bytes of texts, numbers and subscripts, put into room that is there.
-ghost use Rattle.std.specs.Prelude.{◌≡◌, ℤ, ◌+◌, ◌*◌, ◌^◌, ◌<◌, ◌≤◌, ◌++◌, All, length, unsigned_abs, vec_len, vec_capacity, OnOk, OnErr};
+ghost use Rattle.std.specs.Prelude.{◌≡◌, ℤ, ◌+◌, ◌*◌, ◌^◌, ◌<◌, ◌≤◌, ◌++◌, All, length, unsigned_abs, vec_len, vec_capacity};
 ghost use Rattle.mkey.specs.Room.{room_of, total_room};
-ghost use Rattle.mspec.specs.Names.{IsName};
-ghost use Rattle.mspec.specs.KeyBytes.{text_bytes, raised, number_bytes, subscript_bytes, subscripts_bytes, local_bytes, AreSubscripts, IsAscii};
+ghost use Rattle.mspec.specs.KeyBytes.{text_bytes, raised, number_bytes, subscript_bytes, subscripts_bytes, AreSubscripts, IsAscii};
 ghost use Rattle.mspec.specs.Number.{significant_digits};
 
 use crate::place::canonical;
 use mnum::Bytes7;
-use std::alloc::AllocError;
 
 // Numbers are raised by this, so that none is below zero.
 pub const RAISE: u128 = 1 << 127;
@@ -90,22 +89,4 @@ pub fn room(subs: &[Bytes7]) -> usize
         total += text.as_bytes().len() + 17;
     }
     total
-}
-
-/// Adds the bytes of a name with subscripts, as of a local, at the end of `out`. They stand in the order of names and then of
-/// subscripts, and begin with the bytes of the same name with fewer subscripts.
-///
-/// # Errors
-///
-/// `AllocError` for want of memory; `out` is then as it was.
-pub fn push_local(out: &mut Vec<u8>, name: &Bytes7, subs: &[Bytes7]) -> Result<(), AllocError>
-    requires name { IsName name.now }
-    requires subs { AreSubscripts subs.now }
-    ensures ok { OnOk result (out.new.items ≡ out.old.items ++ local_bytes significant_digits name.now subs.now) }
-    ensures err { OnErr result (out.new.items ≡ out.old.items) }
-{
-    out.reserve(name.as_bytes().len() + 1 + room(subs))?;
-    push_text(out, name);
-    push_subscripts(out, subs);
-    Ok(())
 }

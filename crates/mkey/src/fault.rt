@@ -1,3 +1,4 @@
+// SPDX-License-Identifier: Apache-2.0
 // Why a key could not be built.
 ghost use Rattle.std.specs.Prelude.{◌≡◌};
 ghost use Rattle.mkey.specs.declared.fault.KeyFault.TheVariants.{Memory};

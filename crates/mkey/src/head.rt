@@ -1,3 +1,4 @@
+// SPDX-License-Identifier: Apache-2.0
 // The first sixteen bytes of a key as a number, by which most keys are told apart.
 ghost use Rattle.std.specs.Prelude.{◌≡◌, drop};
 ghost use Rattle.std.specs.Ordering.{nat_cmp};

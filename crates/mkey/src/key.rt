@@ -1,3 +1,4 @@
+// SPDX-License-Identifier: Apache-2.0
 // Keys of nodes.
 ghost use Rattle.std.specs.Prelude.{◌≡◌, ◌↔◌, ◌<◌, [], ◌∷◌, ◌++◌, IfOk, IfSome, Err, All, Some, MatchOption, refl};
 ghost use Rattle.std.specs.Cmp.{partial_equiv_from_equiv, partial_order_from_total, eq_by_cmp_equiv};
@@ -15,7 +16,7 @@ ghost use Rattle.mspec.specs.Number.{significant_digits};
 ghost use Rattle.mspec.proofs.NodeOrders.{node_cmp_total};
 
 use crate::ancestors::last_subscript;
-use crate::decoding::{behind, read_subscript};
+use crate::decoding::{DIGITS, behind, read_subscript};
 use crate::encoding::{push_subscripts, push_text, room};
 use crate::fault::KeyFault;
 use crate::order::compare;
@@ -164,7 +165,7 @@ impl NodeKey {
         if !bytes.starts_with(key) {
             return Ok(None);
         }
-        match read_subscript(alloc, behind(bytes, key.len()))? {
+        match read_subscript(alloc, behind(bytes, key.len()), DIGITS)? {
             None => Ok(None),
             Some((text, _)) => Ok(Some(text)),
         }

@@ -1,3 +1,4 @@
+// SPDX-License-Identifier: Apache-2.0
 // The law of keys read back. The contract is the law, and the body is empty: the code never calls it.
 ghost use Rattle.mspec.specs.KeyReading.{KeysAreRead};
 

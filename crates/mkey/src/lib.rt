@@ -1,3 +1,4 @@
+// SPDX-License-Identifier: Apache-2.0
 //! The bytes under which a node lies in a table, and the order of subscripts.
 //!
 //! Bytes of keys stand in the order of their nodes, and the keys that begin with a key are those of its node and of the nodes
@@ -21,7 +22,6 @@ mod values;
 mod walk;
 
 pub use decoding::read;
-pub use encoding::push_local;
 pub use fault::KeyFault;
 pub use key::NodeKey;
 pub use mnum::is_name;

@@ -1,3 +1,4 @@
+// SPDX-License-Identifier: Apache-2.0
 // Names of accounts.
 ghost use Rattle.std.specs.Prelude.{◌≡◌, ◌↔◌, All, IsTrue, true};
 ghost use Rattle.mspec.specs.Names.{is_name_rest};

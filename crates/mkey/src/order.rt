@@ -1,3 +1,4 @@
+// SPDX-License-Identifier: Apache-2.0
 // The order of bytes, eight at a time.
 ghost use Rattle.std.specs.Prelude.{◌≡◌, ◌≤◌, ◌++◌, length, drop};
 ghost use Rattle.std.specs.Cmp.Lexicographic.{slice_cmp};

@@ -1,3 +1,4 @@
+// SPDX-License-Identifier: Apache-2.0
 // Where a text stands among the subscripts.
 ghost use Rattle.std.specs.Prelude.{◌≡◌, ◌*◌, ◌^◌, ◌<◌, pos, unsigned_abs, Some, is_some, IfSome};
 ghost use Rattle.mspec.specs.Number.{significant_digits};

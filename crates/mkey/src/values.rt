@@ -1,10 +1,11 @@
+// SPDX-License-Identifier: Apache-2.0
 // Subscripts that are values: a number is put into bytes and read back as it is, and no text of it is made.
 ghost use Rattle.std.specs.Prelude.{◌≡◌, ◌*◌, ◌≤◌, ◌∷◌, ◌++◌, All, IfOk, OnOk, MatchOption};
 ghost use Rattle.mkey.specs.Front.{IsFront, BeginsWithNo, IsSub};
 ghost use Rattle.mspec.specs.KeyBytes.{subscript_bytes, subscripts_bytes, IsSubscript, AreSubscripts, IsAscii};
 ghost use Rattle.mspec.specs.Number.{significant_digits};
 
-use crate::decoding::{front_number, read_letters};
+use crate::decoding::{DIGITS, front_number, read_letters};
 use crate::encoding::{push_number, push_subscript};
 use mvalue::{Kind, Value};
 use std::alloc::{AllocError, Global};
@@ -85,7 +86,7 @@ fn letters_value(alloc: Global, bytes: &[u8]) -> Result<Option<(Value, usize)>, 
         (BeginsWithNo IsSub (subscript_bytes significant_digits) (2 ∷ bytes.now))
         (λ part. IsFront (2 ∷ bytes.now) (subscript_bytes significant_digits part.0) part.1 × IsSub part.0)) }
 {
-    match read_letters(alloc, bytes)? {
+    match read_letters(alloc, bytes, DIGITS)? {
         None => Ok(None),
         Some((text, count)) => Ok(Some((Value::of_text(text), count))),
     }

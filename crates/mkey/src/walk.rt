@@ -1,3 +1,4 @@
+// SPDX-License-Identifier: Apache-2.0
 // What $DATA and $ORDER ask.
 ghost use Rattle.std.specs.Prelude.{◌≡◌, ◌↔◌, ◌<◌, IsTrue, length};
 ghost use Rattle.mspec.specs.Trees.{front, last, AreOrderSubscripts};

@@ -1,3 +1,4 @@
+-- SPDX-License-Identifier: Apache-2.0
 -- KILL of all but some names, from the bottom up.
 use Rattle.std.proofs.Common.{◌≡◌, ℕ, ◌+◌, ◌<◌, Bool, true, false, ◌||◌, List, [], ◌∷◌, ◌++◌, length, reverse, take, drop, get_or, set, refl, sym, ap, ◌∙◌, append_assoc, ◌≤◌, arith, add-one, subst}
 use Rattle.std.proofs.Math.Seq.{drop-cons}

@@ -1,3 +1,4 @@
+-- SPDX-License-Identifier: Apache-2.0
 -- The scopes of levels above the one at the bottom.
 use Rattle.std.proofs.Common.{◌≡◌, Bool, List, [], ◌∷◌, ◌++◌, None, refl, sym, ap}
 use Rattle.mspec.specs.Node.{Text}

@@ -1,3 +1,4 @@
+-- SPDX-License-Identifier: Apache-2.0
 -- A variable without the keys of a node and of the nodes below it.
 use Rattle.std.proofs.Common.{◌≡◌, Bool, true, false, not, cond, ◌||◌, List, [], ◌∷◌, map, All, Option, Some, None, refl, sym, ap, ◌∙◌}
 use Rattle.std.specs.BTreeMap as tree

@@ -1,3 +1,4 @@
+-- SPDX-License-Identifier: Apache-2.0
 -- What a search in the map of a variable finds of its tree.
 use Rattle.std.proofs.Common.{◌≡◌, Bool, false, List, [], ◌++◌, reverse, All, Option, sym, ap, ◌∙◌}
 use Rattle.std.specs.Prelude.{option_and_then, is_some}

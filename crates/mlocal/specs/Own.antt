@@ -1,3 +1,4 @@
+-- SPDX-License-Identifier: Apache-2.0
 -- The text of a variable beside those of its nodes with subscripts.
 use Rattle.std.specs.Prelude.{◌<◌, List, [], length, Option, Some, None}
 use Rattle.std.specs.FinMap.{insert}

@@ -1,3 +1,4 @@
+-- SPDX-License-Identifier: Apache-2.0
 -- The code of a scope, as the pair of its fields.
 use Rattle.std.specs.Prelude.{refl, List, Option}
 use Rattle.std.specs.Coded.{Coded, code_by, coded×, coded_ℕ, coded_list, coded_option}

@@ -1,3 +1,4 @@
+-- SPDX-License-Identifier: Apache-2.0
 -- The keys between two bounds.
 use Rattle.std.specs.Prelude.{Bool, List}
 use Rattle.std.specs.List.{list_any}

@@ -1,3 +1,4 @@
+// SPDX-License-Identifier: Apache-2.0
 //! The local variables of a session.
 #![tactic(auto)]
 

@@ -1,3 +1,4 @@
+// SPDX-License-Identifier: Apache-2.0
 // One scope.
 ghost use Rattle.std.specs.Prelude.{◌≡◌, [], IfOk, OnOk, OnErr, Option, option_map, not, ◌||◌};
 ghost use Rattle.std.specs.Cmp.Lexicographic.{slice_cmp};

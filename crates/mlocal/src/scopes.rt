@@ -1,3 +1,4 @@
+// SPDX-License-Identifier: Apache-2.0
 //! The local variables of a session as a stack of scopes.
 ghost use Rattle.std.specs.Prelude.{◌≡◌, IfOk, OnOk, OnErr, [], ◌∷◌, ◌<◌, ◌+◌, length, drop, option_map};
 ghost use Rattle.mlocal.specs.Home.{IsHome, killed_up};

@@ -1,3 +1,4 @@
+// SPDX-License-Identifier: Apache-2.0
 // Subscripts that are values.
 ghost use Rattle.std.specs.Prelude.{◌≡◌, ◌↔◌, ◌<◌, ◌≤◌, IsTrue, length};
 ghost use Rattle.mspec.specs.KeyBytes.{IsSubscript, AreSubscripts};

@@ -1,3 +1,4 @@
+// SPDX-License-Identifier: Apache-2.0
 // The keys of a node and of the nodes below it, which KILL takes out.
 ghost use Rattle.std.specs.Prelude.{◌≡◌, cond, map, None, IfOk};
 ghost use Rattle.std.specs.BTreeMap.{get, keys};

@@ -1,3 +1,4 @@
+// SPDX-License-Identifier: Apache-2.0
 // One variable: the values at its nodes.
 ghost use Rattle.std.specs.Prelude.{◌≡◌, [], IfOk, OnOk, OnErr, option_and_then, option_map, IfSome, not, ◌||◌, reverse};
 ghost use Rattle.std.specs.BTreeMap.{IsOrdered, keys};

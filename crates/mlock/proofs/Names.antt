@@ -1,3 +1,4 @@
+-- SPDX-License-Identifier: Apache-2.0
 -- Names within other names, by the bytes of their keys.
 use Rattle.std.proofs.Common.{◌≡◌, ℕ, Bool, true, false, ◌&&◌, nat_eq, List, [], ◌∷◌, length, drop, inl, inr, refl, sym, subst, append-nil}
 use Rattle.std.specs.Cmp.Lexicographic.{bytes_decides}

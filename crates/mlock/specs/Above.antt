@@ -1,3 +1,4 @@
+-- SPDX-License-Identifier: Apache-2.0
 -- The names above a name and below it, and who holds them.
 use Rattle.std.specs.Prelude.{◌≡◌, ℕ, Bool, false, not, ◌||◌, nat_eq, take, Option, Some, None}
 use Rattle.mspec.specs.LockConflict.{LockName, is_within}

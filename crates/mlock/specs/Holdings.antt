@@ -1,3 +1,4 @@
+-- SPDX-License-Identifier: Apache-2.0
 -- The locks that a map by names holds: each name has one holder.
 use Rattle.std.specs.Prelude.{◌≡◌, ◌<◌, ◌≤◌, ℕ, List, map, Option, Some, None, nat_eq, if◌then◌else◌}
 use Rattle.std.specs.BTreeMap.{BTreeMap}

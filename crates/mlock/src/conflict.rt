@@ -1,3 +1,4 @@
+// SPDX-License-Identifier: Apache-2.0
 // Whether a name conflicts with those that are held: what stands below it is a range of the map, and each name above it is
 // looked up.
 ghost use Rattle.std.specs.Prelude.{◌≡◌, ◌<◌, ℕ, true, false, not, nat_eq, length, IfOk};

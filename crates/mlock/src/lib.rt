@@ -1,3 +1,4 @@
+// SPDX-License-Identifier: Apache-2.0
 //! The locks of the terminals.
 //!
 //! What taking and giving back does is `LockConflict` of `mspec`; contracts see `Locks` as its locks.

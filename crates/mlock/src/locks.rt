@@ -1,3 +1,4 @@
+// SPDX-License-Identifier: Apache-2.0
 // The locks of the terminals.
 ghost use Rattle.std.specs.Prelude.{◌≡◌, ◌≤◌, true, false, not, nat_eq, nat_lt, All, IfOk, OnErr, Some, None, if◌then◌else◌};
 ghost use Rattle.std.specs.FinMap.{empty};

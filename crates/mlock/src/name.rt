@@ -1,3 +1,4 @@
+// SPDX-License-Identifier: Apache-2.0
 // Names of locks.
 ghost use Rattle.std.specs.Prelude.{◌≡◌, [], IfOk, Some, MatchOption, refl};
 ghost use Rattle.std.specs.Cmp.{partial_equiv_from_equiv, partial_order_from_total, eq_by_cmp_equiv};

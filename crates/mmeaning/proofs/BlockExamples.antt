@@ -1,3 +1,4 @@
+-- SPDX-License-Identifier: Apache-2.0
 -- Argumentless DO and lines with dots on examples, as proved equations.
 use Rattle.std.proofs.Common.{◌≡◌, List, [], ◌∷◌, refl}
 use Rattle.std.specs.Prelude.{codes}

@@ -1,3 +1,4 @@
+-- SPDX-License-Identifier: Apache-2.0
 -- Control flow on examples, as proved equations.
 use Rattle.std.proofs.Common.{◌≡◌, ◌*◌, true, false, [], ◌∷◌, Some, None, refl}
 use Rattle.std.specs.Prelude.{◌^◌, codes}

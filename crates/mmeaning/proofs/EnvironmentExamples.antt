@@ -1,3 +1,4 @@
+-- SPDX-License-Identifier: Apache-2.0
 -- Globals of other accounts on examples, as proved equations over any world: what is asked in which order, and what is refused.
 use Rattle.std.proofs.Common.{◌≡◌, ℕ, suc, Bool, [], ◌∷◌, Option, Some, refl}
 use Rattle.std.specs.Prelude.{codes}

@@ -1,3 +1,4 @@
+-- SPDX-License-Identifier: Apache-2.0
 -- The account of the examples, and replies to its lines.
 use Rattle.std.proofs.Common.{ℕ, [], ◌∷◌}
 use Rattle.std.specs.Prelude.{codes}

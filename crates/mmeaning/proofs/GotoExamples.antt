@@ -1,3 +1,4 @@
+-- SPDX-License-Identifier: Apache-2.0
 -- GOTO on examples, as proved equations: a loop of six turns, each in an equation of its own.
 use Rattle.std.proofs.Common.{sym, zero, ◌≡◌, ◌*◌, ℕ, List, [], ◌∷◌, Some, None, false, refl}
 use Rattle.std.specs.Prelude.{◌^◌, codes}

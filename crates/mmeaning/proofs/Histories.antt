@@ -1,3 +1,4 @@
+-- SPDX-License-Identifier: Apache-2.0
 -- Histories and normal steps.
 use Rattle.std.proofs.Common.{◌≡◌, Bool, true, false, [], ◌∷◌, Option, Some, None, refl, sym, ap, ◌∙◌, subst}
 use Rattle.std.specs.Prelude.{map}

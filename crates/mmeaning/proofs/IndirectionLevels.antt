@@ -1,3 +1,4 @@
+-- SPDX-License-Identifier: Apache-2.0
 -- How deep indirections may stand, on examples, as proved equations: which are levels at once, and in which order they are refused.
 use Rattle.std.proofs.Common.{◌≡◌, ℕ, zero, suc, ◌+◌, ◌≤◌, Bool, true, false, List, [], ◌∷◌, Option, Some, None, refl, arith}
 use Rattle.std.specs.Prelude.{codes, nat_lt}

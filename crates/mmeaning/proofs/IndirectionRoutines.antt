@@ -1,3 +1,4 @@
+-- SPDX-License-Identifier: Apache-2.0
 -- Argument indirection of DO and GOTO on examples, as proved equations.
 use Rattle.std.proofs.Common.{◌≡◌, List, [], ◌∷◌, Some, None, refl}
 use Rattle.std.specs.Prelude.{codes}

@@ -1,3 +1,4 @@
+-- SPDX-License-Identifier: Apache-2.0
 -- How the calls of an indirection are put together: what a text names is evaluated with one text fewer, behind the step of its operand.
 use Rattle.std.proofs.Common.{◌≡◌, ℕ, suc, ◌<◌, true, false, Some, None, Result, Ok, Err, refl, arith}
 use Rattle.mspec.specs.Code.{Zdepth, Zsyntax, Fault, Own}

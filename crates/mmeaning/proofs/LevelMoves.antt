@@ -1,3 +1,4 @@
+-- SPDX-License-Identifier: Apache-2.0
 -- Levels as frames: what DO, XECUTE and GOTO push, as equations of what the frames have then to do.
 use Rattle.std.proofs.Common.{◌≡◌, ℕ, zero, suc, ◌+◌, true, false, cond, List, [], ◌∷◌, drop, Some, None, refl, sym, ap, ◌∙◌, arith}
 use Rattle.std.specs.Prelude.{nat_lt, ◌==◌}

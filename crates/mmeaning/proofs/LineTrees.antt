@@ -1,3 +1,4 @@
+-- SPDX-License-Identifier: Apache-2.0
 -- Trees of lines, written shortly: for examples of lines whose text takes long to read by `simp`.
 use Rattle.std.proofs.Common.{ℕ, List, [], ◌∷◌, Some, None}
 use Rattle.mspec.specs.Act.{Text}

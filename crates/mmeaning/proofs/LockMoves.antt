@@ -1,3 +1,4 @@
+-- SPDX-License-Identifier: Apache-2.0
 -- What the code of LOCK needs of the operations on locks: a name that the checks let through may be taken.
 use Rattle.std.proofs.Common.{◌≡◌, ℕ, Bool, true, false, List, refl}
 use Rattle.std.specs.Cmp.Lexicographic.{bytes_decides}

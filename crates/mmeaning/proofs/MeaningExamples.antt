@@ -1,3 +1,4 @@
+-- SPDX-License-Identifier: Apache-2.0
 -- The interpreter on examples, as proved equations.
 use Rattle.std.proofs.Common.{◌≡◌, ℕ, List, [], ◌∷◌, ◌*◌, ◌++◌, Option, Some, None, refl}
 use Rattle.std.specs.Prelude.{◌^◌, codes, map, replicate}

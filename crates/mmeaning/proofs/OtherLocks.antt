@@ -1,3 +1,4 @@
+-- SPDX-License-Identifier: Apache-2.0
 -- No operation changes the locks of another terminal.
 use Rattle.std.proofs.Common.{◌≡◌, ℕ, Bool, true, false, List, Option, Some, None, refl, ◌∙◌}
 use Rattle.std.specs.List.{list_all}

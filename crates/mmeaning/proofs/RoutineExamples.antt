@@ -1,3 +1,4 @@
+-- SPDX-License-Identifier: Apache-2.0
 -- Routines, DO, GOTO and XECUTE on examples, as proved equations.
 use Rattle.std.proofs.Common.{◌≡◌, ◌*◌, List, [], ◌∷◌, None, false, refl}
 use Rattle.std.specs.Prelude.{◌^◌, codes}

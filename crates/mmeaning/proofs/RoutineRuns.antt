@@ -1,3 +1,4 @@
+-- SPDX-License-Identifier: Apache-2.0
 -- Lines that lead to routines: for examples in a server whose store has a routine of ALICE.
 use Rattle.std.proofs.Common.{◌≡◌, ℕ, Bool, false, List, [], None, refl, ap}
 use Rattle.std.specs.Prelude.{codes}

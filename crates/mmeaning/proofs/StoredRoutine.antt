@@ -1,3 +1,4 @@
+-- SPDX-License-Identifier: Apache-2.0
 -- A routine from its first line on, as a proved equation: its lines are set, and then it is run.
 use Rattle.std.proofs.Common.{◌≡◌, [], ◌∷◌, Some, false, refl}
 use Rattle.std.specs.Prelude.{codes}

@@ -1,3 +1,4 @@
+-- SPDX-License-Identifier: Apache-2.0
 -- Variables on examples, as proved equations.
 use Rattle.std.proofs.Common.{◌≡◌, ◌*◌, [], ◌∷◌, refl}
 use Rattle.std.specs.Prelude.{◌^◌, codes}

@@ -1,3 +1,4 @@
+-- SPDX-License-Identifier: Apache-2.0
 -- What operations do on examples, as proved equations: an account does what its settings let it, and nothing else.
 use Rattle.std.proofs.Common.{◌≡◌, [], ◌∷◌, None, true, false, refl}
 use Rattle.std.specs.Prelude.{codes}

@@ -1,3 +1,4 @@
+-- SPDX-License-Identifier: Apache-2.0
 -- How acts that look at no state are put together.
 use Rattle.std.proofs.Common.{◌≡◌, Result, Ok, Err, refl, sym, ap, ◌∙◌, subst, arith}
 use Rattle.std.specs.Result.{IsErr, IsErrAnd}

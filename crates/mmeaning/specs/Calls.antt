@@ -1,3 +1,4 @@
+-- SPDX-License-Identifier: Apache-2.0
 -- What a call of the code says of an act: its result is the act's outcome, and it leaves the state and the world that the act
 -- leaves.
 --

@@ -1,3 +1,4 @@
+-- SPDX-License-Identifier: Apache-2.0
 -- How a FOR goes on behind a turn.
 --
 -- Restates "For" of ISO/IEC 11756:1999: a limit is passed above it, or below it where the increment is below zero.

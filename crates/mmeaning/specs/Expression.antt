@@ -1,3 +1,4 @@
+-- SPDX-License-Identifier: Apache-2.0
 -- Expression meaning: the text that an expression gives, or its code.
 --
 -- Restates "Expressions", "$SELECT", the environment of "Global variable name gvn", which is an account, and what "Indirection" says of

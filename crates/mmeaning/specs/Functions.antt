@@ -1,3 +1,4 @@
+-- SPDX-License-Identifier: Apache-2.0
 -- What functions give of the values of their arguments, $SELECT and the functions of a variable apart.
 --
 -- Restates "Intrinsic functions" of ISO/IEC 11756:1999. All arguments are evaluated before the first of them becomes a

@@ -1,3 +1,4 @@
+-- SPDX-License-Identifier: Apache-2.0
 -- Histories: events with their replies, one step after another.
 use Rattle.std.specs.Prelude.{◌≡◌, false, List, [], ◌∷◌}
 use Rattle.std.specs.FinMap.{empty}

@@ -1,3 +1,4 @@
+-- SPDX-License-Identifier: Apache-2.0
 -- Levels: where a line stands among those of its routine, where DO and GOTO lead, and how a level closes.
 --
 -- Restates "Routine execution", "DO", "GOTO" and "XECUTE" of ISO/IEC 11756:1999. A level is that of a terminal's line, or one that a

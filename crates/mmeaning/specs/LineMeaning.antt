@@ -1,3 +1,4 @@
+-- SPDX-License-Identifier: Apache-2.0
 -- Line meaning: what the commands of a line do, one after another.
 --
 -- Restates "Commands" of ISO/IEC 11756:1999, "Do", "Else", "For", "Goto", "Halt", "If", "Kill", "New", "Quit", "Set", "Write" and "Xecute"

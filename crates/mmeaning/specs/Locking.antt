@@ -1,3 +1,4 @@
+-- SPDX-License-Identifier: Apache-2.0
 -- What LOCK does.
 --
 -- Restates "LOCK" of ISO/IEC 11756:1999: an argument without a sign gives up all that the process holds and then takes its names, one with

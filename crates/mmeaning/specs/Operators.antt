@@ -1,3 +1,4 @@
+-- SPDX-License-Identifier: Apache-2.0
 -- What operators give of values.
 --
 -- Restates "Unary operator", "Binary operators" and "Pattern match pattern" of ISO/IEC 11756:1999. Where an operator wants

@@ -1,3 +1,4 @@
+-- SPDX-License-Identifier: Apache-2.0
 -- A step: one line of one terminal, run to its end.
 use Rattle.std.specs.Prelude.{◌≡◌, ℕ, Bool, true, false, nat_lt, [], length, Option, Some, None}
 use Rattle.std.specs.List.{list_all}

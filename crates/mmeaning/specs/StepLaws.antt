@@ -1,3 +1,4 @@
+-- SPDX-License-Identifier: Apache-2.0
 -- The laws of steps, as statements. The functions of src/ named after them carry them.
 use Rattle.std.specs.Prelude.{◌≡◌, ℕ, false, List, map}
 use Rattle.mspec.specs.Plan.{Plan, perform, cut_short}

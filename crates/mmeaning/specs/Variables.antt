@@ -1,3 +1,4 @@
+-- SPDX-License-Identifier: Apache-2.0
 -- Variables: the checks of a reference, and what is asked of the place that it names.
 --
 -- Restates "Local variable name lvn", "Global variable name gvn", "$DATA", "$GET", "$ORDER" and "$TEST" of ISO/IEC 11756:1999, and what "LOCK"

@@ -1,3 +1,4 @@
+-- SPDX-License-Identifier: Apache-2.0
 -- What the lines of all terminals share, and what the operations do there.
 use Rattle.std.specs.Prelude.{ℕ, Bool, true, false, Option, Some, None, cond}
 use Rattle.std.specs.List.{list_all}

@@ -1,3 +1,4 @@
+-- SPDX-License-Identifier: Apache-2.0
 -- What a function over values says of an act: its result is the act's outcome, and the act looks at no state, changes none and asks
 -- nothing of the world.
 --

@@ -1,3 +1,4 @@
+-- SPDX-License-Identifier: Apache-2.0
 -- The order and the sum of two numbers in their own places, in a machine's numbers.
 use Rattle.std.proofs.Common.{ℕ, ◌≡◌, ◌*◌, ◌-◌, ◌^◌, ◌<◌, ◌≤◌, Bool, true, false, cond, refl, ◌∙◌, ap, arith, Less, Equal, Greater}
 use Rattle.std.specs.Prelude.{ℤ, pos, negsuc, ◌+ℤ◌, unsigned_abs}

@@ -1,3 +1,4 @@
+-- SPDX-License-Identifier: Apache-2.0
 -- What an operation gives, under another name of its definition.
 use Rattle.std.proofs.Common.{◌≡◌, ℕ, ◌<◌, ◌∙◌, subst, sym, refl}
 use Rattle.std.specs.Prelude.{ℤ, unsigned_abs, Option, Some, None, Result, Ok, Err, IfErr, MatchResult, option_map}

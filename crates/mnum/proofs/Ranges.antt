@@ -1,3 +1,4 @@
+-- SPDX-License-Identifier: Apache-2.0
 -- The range of a number.
 use Rattle.std.proofs.Common.{ℕ, ◌≡◌, ◌*◌, ◌-◌, ◌^◌, ◌<◌, refl, subst, sym, arith}
 use Rattle.std.specs.Prelude.{unsigned_abs}

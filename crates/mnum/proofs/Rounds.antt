@@ -1,3 +1,4 @@
+-- SPDX-License-Identifier: Apache-2.0
 -- What the definition of `round_size` gives.
 use Rattle.std.proofs.Common.{ℕ, zero, suc, ◌≡◌, ◌+◌, ◌*◌, ◌-◌, ◌/◌, ◌^◌, ◌<◌, ◌≤◌, ◌⊎◌, Some, None, sym, ◌∙◌, ap, subst, arith, inr, ⊎_elim}
 use Rattle.std.proofs.Math.Nat.{mul-le-mul_right, mul_assoc, div-eq_of_lt-le, mul-lt-mul_of_pos_right, le_of_mul-le-mul_right, lt_of_mul-lt-mul_right, pow-suc, div-mul-le_self, lt-div-mul-add}

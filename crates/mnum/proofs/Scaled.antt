@@ -1,3 +1,4 @@
+-- SPDX-License-Identifier: Apache-2.0
 -- The size of a number from its first digits.
 use Rattle.std.proofs.Common.{ℕ, ◌≡◌, ◌+◌, ◌*◌, ◌-◌, ◌^◌, ◌<◌, ◌≤◌, ◌⊎◌, Some, None, List, take, length, get_or, sym, ◌∙◌, ap, arith, inl, inr, ⊎_elim}
 use Rattle.std.proofs.Math.Nat.{mul-le-mul_right, mul-lt-mul_of_pos_right, mul_assoc, pow-le-pow_right}

@@ -1,3 +1,4 @@
+-- SPDX-License-Identifier: Apache-2.0
 -- When one to eighteen digits are canonical.
 use Rattle.std.proofs.Common.{ℕ, suc, ◌≡◌, ◌<◌, ◌≤◌, true, not, List, [], ◌∷◌, length, get_or, All, sym, ap, subst, arith, ⊎_elim}
 use Rattle.std.specs.Prelude.{IsTrue, nat_eq}

@@ -1,3 +1,4 @@
+-- SPDX-License-Identifier: Apache-2.0
 -- Signs, and rounding with a sign.
 use Rattle.std.proofs.Common.{ℕ, zero, suc, ◌≡◌, ◌+◌, ◌*◌, ◌-◌, ◌^◌, ◌<◌, ◌≤◌, Bool, true, false, not, Option, refl, sym, ◌∙◌, ap, arith}
 use Rattle.std.specs.Prelude.{ℤ, ◌*ℤ◌, neg_ℤ, option_map}

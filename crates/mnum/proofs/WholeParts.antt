@@ -1,3 +1,4 @@
+-- SPDX-License-Identifier: Apache-2.0
 -- The whole part of a number, and whether it is 0.
 use Rattle.std.proofs.Common.{ℕ, zero, suc, ◌≡◌, ◌*◌, ◌-◌, ◌/◌, ◌^◌, ◌<◌, ◌≤◌, ◌+◌, Bool, true, false, not, refl, sym, ◌∙◌, ap, arith, lit<}
 use Rattle.std.specs.Prelude.{pos, ◌-ℤ◌, ◌==◌, unsigned_abs}

@@ -1,3 +1,4 @@
+-- SPDX-License-Identifier: Apache-2.0
 -- Whole numbers of at most eighteen digits.
 use Rattle.std.proofs.Common.{ℕ, ◌≡◌, ◌+◌, ◌*◌, ◌-◌, ◌^◌, ◌<◌, ◌≤◌, true, List, take, length, get_or, All, ◌∙◌, ap, sym, arith}
 use Rattle.std.proofs.Math.Nat.{pow-le-pow_right}

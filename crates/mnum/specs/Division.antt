@@ -1,3 +1,4 @@
+-- SPDX-License-Identifier: Apache-2.0
 -- What a division gives.
 use Rattle.std.specs.Prelude.{◌≡◌, ◌<◌, ℤ, unsigned_abs, Option, Some, None, Result, Ok, Err}
 use Rattle.mnum.specs.Num.{units}

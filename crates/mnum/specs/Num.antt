@@ -1,3 +1,4 @@
+-- SPDX-License-Identifier: Apache-2.0
 -- A number as a whole count of units of 10 ^ -18.
 use Rattle.std.specs.Prelude.{◌-◌, ◌*◌, ◌^◌, ℤ}
 use Rattle.mspec.specs.Number.{signed}

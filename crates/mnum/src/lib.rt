@@ -1,3 +1,4 @@
+// SPDX-License-Identifier: Apache-2.0
 //! Numbers of eighteen significant digits, exact in their arithmetic and rounded once, texts of seven-bit characters, and names.
 //!
 //! A number is a whole count of units of 10^-18, below 10^18 in size. The definitions that the contracts cite stand in

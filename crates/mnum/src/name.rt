@@ -1,3 +1,4 @@
+// SPDX-License-Identifier: Apache-2.0
 // Names of variables, of labels and of globals.
 ghost use Rattle.std.specs.Prelude.{◌≡◌, ◌↔◌, [], ◌∷◌, All, IsTrue, IsOk, IfOk, IfErr, true};
 ghost use Rattle.std.specs.Prelude.{Some, nat_eq, refl};

@@ -1,3 +1,4 @@
+// SPDX-License-Identifier: Apache-2.0
 // What an operation gives: a rounded size with its sign, or that there is none.
 ghost use Rattle.std.specs.Prelude.{◌≡◌, Some, None, MatchResult, option_map};
 ghost use Rattle.mnum.specs.Num.{units};

@@ -1,3 +1,4 @@
+// SPDX-License-Identifier: Apache-2.0
 // Numbers read from texts.
 ghost use Rattle.std.specs.Prelude.{◌≡◌, ℕ, ◌+◌, ◌-◌, ◌*◌, ◌/◌, ◌^◌, ◌<◌, ◌≤◌, ◌⊎◌, length, take_while, option_map, cond, drop, Some, None, IfSome, IfNone, OnSome, MatchResult, All, true};
 ghost use Rattle.std.specs.List.{prefix_len};

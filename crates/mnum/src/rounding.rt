@@ -1,3 +1,4 @@
+// SPDX-License-Identifier: Apache-2.0
 // Rounding of exact fractions.
 ghost use Rattle.std.specs.Prelude.{◌≡◌, ℕ, ◌+◌, ◌-◌, ◌*◌, ◌⊎◌, ◌^◌, ◌<◌, ◌≤◌, option_map, MatchOption};
 ghost use Rattle.mnum.specs.Floor.{IsFloor, IsFine};

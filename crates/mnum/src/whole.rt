@@ -1,3 +1,4 @@
+// SPDX-License-Identifier: Apache-2.0
 // Numbers and whole numbers, and the truth of a number.
 ghost use Rattle.std.specs.Prelude.{◌≡◌, ◌^◌, ◌<◌, ◌*ℤ◌, pos, unsigned_abs};
 ghost use Rattle.mspec.specs.Interpretations.{whole_part, is_true};

@@ -1,3 +1,4 @@
+// SPDX-License-Identifier: Apache-2.0
 // Numbers written as texts.
 ghost use Rattle.std.specs.Prelude.{◌≡◌, ℕ, ◌+◌, ◌-◌, ◌*◌, ◌/◌, ◌%◌, ◌^◌, ◌<◌, ◌≤◌, ◌++◌, ◌↔◌, true, IsTrue, OnOk, OnErr, length, All, nat_eq};
 ghost use Rattle.std.specs.Cmp.Lexicographic.{pointwise};
@@ -49,8 +50,8 @@ fn push_whole(out: &mut ArrayVec<u8, 40>, whole: u64)
 }
 
 impl Num {
-    // The canonical text.
-    fn text(self) -> ArrayVec<u8, 40>
+    /// The canonical text of the number, as `write` has it, on the stack. Takes no memory.
+    pub fn text(self) -> ArrayVec<u8, 40>
         ensures { result.items ≡ number_text (units self) }
     {
         let mut out = ArrayVec::new();

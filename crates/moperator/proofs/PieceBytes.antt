@@ -1,3 +1,4 @@
+-- SPDX-License-Identifier: Apache-2.0
 -- The characters of pieces are those of the text and of the delimiter.
 use Rattle.std.proofs.Common.{ℕ, zero, suc, ◌-◌, Bool, true, false, cond, List, [], ◌∷◌, ◌++◌, length, drop, All}
 use Rattle.std.specs.Prelude.{ℤ, Option, unwrap_or, pos, ◌+◌}

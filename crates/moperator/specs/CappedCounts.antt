@@ -1,3 +1,4 @@
+-- SPDX-License-Identifier: Apache-2.0
 -- The counts of a pattern as the machine keeps them: one past the machine's greatest number is that number, which the
 -- length of no text reaches.
 use Rattle.std.specs.Prelude.{ℕ, ◌-◌, ◌^◌, min, option_map}

@@ -1,3 +1,4 @@
+-- SPDX-License-Identifier: Apache-2.0
 -- A code of the program as a fault of the definitions: one of the line's own codes, or a loss.
 use Rattle.mspec.specs.Code as spec
 use Rattle.moperator.specs.declared.code.Code.{Code}

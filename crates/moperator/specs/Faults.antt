@@ -1,3 +1,4 @@
+-- SPDX-License-Identifier: Apache-2.0
 -- The code of a text that was not made.
 use Rattle.mtext.specs.declared.fault.TextFault.{TextFault}
 use Rattle.mtext.specs.declared.fault.TextFault.TheVariants as fault

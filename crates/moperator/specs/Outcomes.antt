@@ -1,7 +1,9 @@
--- The outcomes of operations on numbers, as acts.
-use Rattle.std.specs.Prelude.{ℤ, Option, Some, None, Result, Ok, Err}
-use Rattle.mspec.specs.Code.{M9, Zover}
-use Rattle.mspec.specs.Act.{Text, Act, give, fail}
+-- SPDX-License-Identifier: Apache-2.0
+-- The outcomes of operations on values, as acts.
+use Rattle.std.specs.Prelude.{◌≡◌, ℤ, Option, Some, None, Result, Ok, Err}
+use Rattle.mspec.specs.Code.{Code, M9, Zover}
+use Rattle.mspec.specs.Plan.{Done}
+use Rattle.mspec.specs.Act.{Text, State, Gives, Fails, Act, give, fail}
 use Rattle.mspec.specs.NumberText.{number_text}
 use Rattle.mnum.specs.Num.{units}
 use Rattle.mnum.specs.declared.num.Num.{Num}
@@ -19,3 +21,11 @@ abbrev pub quotient_act : Result Num ArithFault → Act Text
 quotient_act (Ok n) = give (number_text (units n))
 quotient_act (Err fault.Zero) = fail M9
 quotient_act (Err fault.Over) = fail Zover
+
+-- an act that gives one value, whatever the state
+abbrev pub IsDone : {A : Type 0} → Act A → Type 0
+IsDone {A = A} p = (x : A) × ((s : State) → p s ≡ Done (Gives x s))
+
+-- an act that fails by this code in this state
+abbrev pub FailsBy : {A : Type 0} → Act A → Code → State → Type 0
+FailsBy p code s = p s ≡ Done (Fails code s)

@@ -1,3 +1,4 @@
+// SPDX-License-Identifier: Apache-2.0
 // The arguments of functions.
 ghost use Rattle.std.specs.Prelude.{◌≡◌, [], ◌^◌, ◌<◌, map, unsigned_abs, IfOk, IfSome};
 ghost use Rattle.mmeaning.specs.Functions as meaning;

@@ -1,11 +1,17 @@
+// SPDX-License-Identifier: Apache-2.0
 // Characters and their codes.
-ghost use Rattle.std.specs.Prelude.{◌≡◌, ◌^◌, ◌<◌, unsigned_abs};
-ghost use Rattle.mspec.specs.CharacterFunctions.{ascii_of, char_of};
+ghost use Rattle.std.specs.Prelude.{◌≡◌, ◌^◌, ◌<◌, unsigned_abs, length, IfErr, OnOk};
+ghost use Rattle.mspec.specs.CharacterFunctions.{ascii_of, char_of, character_of, is_over_ascii};
+ghost use Rattle.mgrammar.specs.Grammar.{char_function};
+ghost use Rattle.mmeaning.specs.Functions.{function_value};
 ghost use Rattle.mmeaning.specs.Operators.{outcome};
-ghost use Rattle.mmeaning.specs.Yields.{Yields};
+ghost use Rattle.mmeaning.specs.Yields.{Yields, YieldsFault};
 ghost use Rattle.moperator.specs.Codes.{fault_of};
+ghost use Rattle.moperator.specs.Outcomes.{IsDone};
+ghost use Rattle.mspec.specs.Code as spec;
 
 use crate::code::Code;
+use crate::values::whole_of;
 use mnum::{Bytes7, LONGEST_TEXT};
 use mvalue::Value;
 use std::alloc::Global;
@@ -23,6 +29,43 @@ pub(crate) fn code_at(text: &[u8], place: Option<i64>) -> i64
         None => -1,
         Some(byte) => *byte as i64,
     }
+}
+
+// Whether a code is over those of characters.
+fn is_over_ascii(code: i64) -> bool
+    ensures { result ≡ is_over_ascii code }
+{
+    code > 127
+}
+
+// How many characters a code gives: none if it is below 0.
+fn character_count(code: i64) -> usize
+    ensures { result ≡ length (character_of code) }
+{
+    if code < 0 { 0 } else { 1 }
+}
+
+// Finds what $CHAR is refused for, before memory is asked for: an argument that is too large a number, a code over 127, or more
+// characters than a text has.
+pub(crate) fn refuse_characters(arguments: &[Value]) -> Result<(), Code>
+    ensures refused { IfErr result (λ code. YieldsFault (function_value char_function arguments.now) (fault_of code)) }
+    ensures allowed { OnOk result (IsDone (function_value char_function arguments.now)) }
+    ensures own { IfErr result (λ code. (own : spec.Code) × (fault_of code ≡ spec.Own own)) }
+{
+    let mut is_over = false;
+    let mut count = 0;
+    for argument in arguments {
+        let code = whole_of(argument)?;
+        is_over = is_over | is_over_ascii(code);
+        count += character_count(code);
+    }
+    if is_over {
+        return Err(Code::Zchar);
+    }
+    if count > LONGEST_TEXT {
+        return Err(Code::Zlong);
+    }
+    Ok(())
 }
 
 // The characters of some codes, of which one below 0 gives none.

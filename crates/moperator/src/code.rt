@@ -1,3 +1,4 @@
+// SPDX-License-Identifier: Apache-2.0
 // The codes that end a line.
 ghost use Rattle.std.specs.Prelude.{◌≡◌};
 ghost use Rattle.moperator.specs.declared.code.Code.TheVariants.{Zmem, Zover};

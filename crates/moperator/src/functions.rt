@@ -1,13 +1,17 @@
+// SPDX-License-Identifier: Apache-2.0
 // The functions, of arguments that are values already.
-ghost use Rattle.std.specs.Prelude.{map};
+ghost use Rattle.std.specs.Prelude.{◌≡◌, map, Some, IsErrAnd};
 ghost use Rattle.mgrammar.specs.Grammar as grammar;
+ghost use Rattle.mspec.specs.Act.{State};
+ghost use Rattle.mspec.specs.Code as spec;
 ghost use Rattle.mmeaning.specs.Functions as meaning;
 ghost use Rattle.mtree.specs.Tree.{function_tree};
 ghost use Rattle.mmeaning.specs.Yields.{Yields};
 ghost use Rattle.moperator.specs.Codes.{fault_of};
+ghost use Rattle.moperator.specs.Outcomes.{FailsBy};
 
 use crate::arguments::{text_at, whole_at, wholes};
-use crate::characters::{characters, code_at};
+use crate::characters::{characters, code_at, refuse_characters};
 use crate::code::Code;
 use crate::values::answered;
 use mtext::{extract, find, justify, piece, pieces, translate};
@@ -26,8 +30,10 @@ fn ascii(alloc: Global, arguments: &[Value]) -> Result<Value, Code>
 }
 
 fn char(alloc: Global, arguments: &[Value]) -> Result<Value, Code>
-    ensures { Yields fault_of (meaning.function_value grammar.char_function arguments.now) (λ value. value) result }
+    ensures value { Yields fault_of (meaning.function_value grammar.char_function arguments.now) (λ value. value) result }
+    ensures refused { (code : spec.Code) → (s : State) → FailsBy (meaning.function_value grammar.char_function arguments.now) code s → IsErrAnd result (λ given. fault_of given ≡ spec.Own code) }
 {
+    refuse_characters(arguments)?;
     let codes = wholes(alloc, arguments)?;
     characters(alloc, &codes)
 }
@@ -103,7 +109,9 @@ fn translated(alloc: Global, arguments: &[Value]) -> Result<Value, Code>
 
 // What a function gives of its arguments.
 fn function(alloc: Global, function: Function, arguments: &[Value]) -> Result<Value, Code>
-    ensures { Yields fault_of (meaning.function_value (function_tree function) arguments.now) (λ value. value) result }
+    ensures value { Yields fault_of (meaning.function_value (function_tree function) arguments.now) (λ value. value) result }
+    ensures characters { function_tree function ≡ grammar.char_function
+        → (code : spec.Code) → (s : State) → FailsBy (meaning.function_value grammar.char_function arguments.now) code s → IsErrAnd result (λ given. fault_of given ≡ spec.Own code) }
 {
     match function {
         Function::Ascii => ascii(alloc, arguments),
@@ -125,10 +133,12 @@ fn function(alloc: Global, function: Function, arguments: &[Value]) -> Result<Va
 ///
 /// # Errors
 ///
-/// The function's code in place of its value; `Zsyntax` where no function of values has the word, which is in no line's tree; `Zmem` for
-/// want of memory.
+/// The function's code in place of its value, by which $CHAR is refused before memory is asked for; `Zsyntax` if no function of values has
+/// the word, which is in no line's tree; `Zmem` if out of memory.
 pub fn call(alloc: Global, word: &FunctionWord, arguments: &[Value]) -> Result<Value, Code>
-    ensures { Yields fault_of (meaning.call_value word.now arguments.now) (λ value. value) result }
+    ensures value { Yields fault_of (meaning.call_value word.now arguments.now) (λ value. value) result }
+    ensures characters { grammar.function_of word.now ≡ Some grammar.char_function
+        → (code : spec.Code) → (s : State) → FailsBy (meaning.function_value grammar.char_function arguments.now) code s → IsErrAnd result (λ given. fault_of given ≡ spec.Own code) }
 {
     match word.function() {
         None => Err(Code::Zsyntax),

@@ -1,3 +1,4 @@
+// SPDX-License-Identifier: Apache-2.0
 //! The operators, relations, patterns and functions of the language, of operands and arguments that are values already, and the
 //! codes that end a line.
 //!

@@ -1,13 +1,17 @@
+// SPDX-License-Identifier: Apache-2.0
 // What the operators of expressions give, of operands that are values already.
-ghost use Rattle.std.specs.Prelude.{◌≡◌, map, length, ◌++◌};
+ghost use Rattle.std.specs.Prelude.{◌≡◌, ◌<◌, map, length, ◌++◌, Err, IfErr};
 ghost use Rattle.mmeaning.specs.Operators as meaning;
 ghost use Rattle.mnum.specs.Num.{units};
 ghost use Rattle.mspec.specs.Act.{Text, Act};
-ghost use Rattle.mspec.specs.TextFunctions.{made};
+ghost use Rattle.mspec.specs.TextFunctions.{longest_text, made};
 ghost use Rattle.mtree.specs.Tree.{sign_tree, binary_tree};
 ghost use Rattle.mmeaning.specs.Yields.{Yields};
 ghost use Rattle.moperator.specs.Codes.{fault_of};
 ghost use Rattle.moperator.specs.Outcomes.{outcome_units, quotient_act};
+ghost use Rattle.moperator.specs.declared.code.Code.{Code};
+ghost use Rattle.moperator.specs.declared.code.Code.TheVariants.{Zlong, Zover};
+ghost use Rattle.mtree.specs.declared.tree.Binary.TheVariants.{Join};
 
 use crate::code::Code;
 use crate::relations::relation;
@@ -25,7 +29,8 @@ use std::mem;
 /// `Zover` where the number is too large.
 #[inline]
 pub fn computed(outcome: Result<Num, Over>) -> Result<Value, Code>
-    ensures { Yields fault_of (meaning.as_text (outcome_units outcome)) (λ value. value) result }
+    ensures value { Yields fault_of (meaning.as_text (outcome_units outcome)) (λ value. value) result }
+    ensures over { IfErr result (λ code. code ≡ Zover) }
 {
     match outcome {
         Ok(number) => Ok(Value::of_number(number)),
@@ -47,7 +52,8 @@ fn divided(outcome: Result<Num, ArithFault>) -> Result<Value, Code>
 
 // A sign makes a number of its operand, `-` turns that number's sign, and `'` negates it as a truth.
 fn unary(sign: Sign, value: &Value) -> Result<Value, Code>
-    ensures { Yields fault_of (meaning.unary (sign_tree sign) value.now) (λ value. value) result }
+    ensures value { Yields fault_of (meaning.unary (sign_tree sign) value.now) (λ value. value) result }
+    ensures over { IfErr result (λ code. code ≡ Zover) }
 {
     match sign {
         Sign::Plus => {
@@ -71,7 +77,8 @@ fn unary(sign: Sign, value: &Value) -> Result<Value, Code>
 ///
 /// `Zover` where a sign wants a number and the operand's is too large.
 pub fn unaries(signs: &[Sign], value: Value) -> Result<Value, Code>
-    ensures { Yields fault_of (meaning.unaries (map sign_tree signs.now) value) (λ value. value) result }
+    ensures value { Yields fault_of (meaning.unaries (map sign_tree signs.now) value) (λ value. value) result }
+    ensures over { IfErr result (λ code. code ≡ Zover) }
 {
     let mut value = value;
     let mut left = signs.len();
@@ -94,23 +101,24 @@ pub(crate) fn numbers(left: &Value, right: &Value) -> Result<(Num, Num), Code>
 
 // The left text with the right one behind it.
 fn joined(alloc: Global, left: Value, right: &Value) -> Result<Value, Code>
-    ensures { Yields fault_of (meaning.outcome (made (left ++ right.now))) (λ value. value) result }
+    ensures value { Yields fault_of (meaning.outcome (made (left ++ right.now))) (λ value. value) result }
+    ensures long { longest_text < length (left ++ right.now) → result ≡ Err Zlong }
 {
-    let mut text = left.into_text(alloc)?;
-    let right = right.shown(alloc)?;
-    let more = right.as_text().as_bytes();
-    let length = text.as_bytes().len();
-    if length > LONGEST_TEXT || more.len() > LONGEST_TEXT - length {
+    // a text that is too long is refused before memory is asked for
+    let length = left.text_length();
+    if length > LONGEST_TEXT || right.text_length() > LONGEST_TEXT - length {
         return Err(Code::Zlong);
     }
-    text.append(more)?;
+    let mut text = left.into_text(alloc)?;
+    right.append_to(&mut text)?;
     Ok(Value::of_text(text))
 }
 
 // Puts what was computed in the place of a value.
 #[inline(always)]
 fn put(place: &mut Value, outcome: Result<Value, Code>) -> Result<(), Code>
-    ensures { (p : Act Text) → Yields fault_of p (λ value. value) outcome → Yields fault_of p (λ _. place.new) result }
+    ensures value { (p : Act Text) → Yields fault_of p (λ value. value) outcome → Yields fault_of p (λ _. place.new) result }
+    ensures refused { (code : Code) → outcome ≡ Err code → result ≡ Err code }
 {
     *place = outcome?;
     Ok(())
@@ -121,9 +129,10 @@ fn put(place: &mut Value, outcome: Result<Value, Code>) -> Result<(), Code>
 /// # Errors
 ///
 /// `Zover` where the number of an operand that is to be one, or of the result, is too large; `M9` for a divisor of 0; `Zlong` where joined
-/// texts have more than 4,095 characters; `Zmem` for want of memory. What the left operand is then is left open.
+/// texts have more than 4,095 characters, which needs no memory; `Zmem` if out of memory. What the left operand is then is left open.
 pub fn binary(alloc: Global, operator: Binary, left: &mut Value, right: &Value) -> Result<(), Code>
-    ensures { Yields fault_of (meaning.binary (binary_tree operator) left.old right.now) (λ _. left.new) result }
+    ensures value { Yields fault_of (meaning.binary (binary_tree operator) left.old right.now) (λ _. left.new) result }
+    ensures long { operator ≡ Join → longest_text < length (left.old ++ right.now) → result ≡ Err Zlong }
 {
     match operator {
         Binary::Join => {

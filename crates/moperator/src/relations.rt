@@ -1,3 +1,4 @@
+// SPDX-License-Identifier: Apache-2.0
 // The relations and logical operators, of operands that are values already.
 ghost use Rattle.mmeaning.specs.Operators as meaning;
 ghost use Rattle.mtree.specs.Tree.{truth_tree};

@@ -1,5 +1,6 @@
+// SPDX-License-Identifier: Apache-2.0
 // Values as numbers, truths and whole numbers, with the code where the number is too large.
-ghost use Rattle.std.specs.Prelude.{◌≡◌, ◌^◌, ◌<◌, ℕ, List, Result, unsigned_abs, IsErrAnd, IfOk};
+ghost use Rattle.std.specs.Prelude.{◌≡◌, ◌^◌, ◌<◌, ℕ, List, Result, Err, unsigned_abs, IsErrAnd, IfOk, IfErr};
 ghost use Rattle.mspec.specs.Code as spec;
 ghost use Rattle.mmeaning.specs.Operators.{as_number, as_truth, outcome};
 ghost use Rattle.mmeaning.specs.Functions.{as_whole, as_whole_or_none};
@@ -7,6 +8,7 @@ ghost use Rattle.mmeaning.specs.Yields.{Yields};
 ghost use Rattle.mnum.specs.Num.{units};
 ghost use Rattle.mtext.specs.Made.{Answers};
 ghost use Rattle.moperator.specs.Codes.{fault_of};
+ghost use Rattle.moperator.specs.declared.code.Code.TheVariants.{Zover};
 
 use crate::code::Code;
 use mnum::{Bytes7, Num};
@@ -20,7 +22,8 @@ use mvalue::Value;
 /// `Zover` where the number is too large.
 #[inline]
 pub fn number_of(value: &Value) -> Result<Num, Code>
-    ensures { Yields fault_of (as_number value.now) units result }
+    ensures number { Yields fault_of (as_number value.now) units result }
+    ensures over { IfErr result (λ code. code ≡ Zover) }
 {
     let number = value.number()?;
     Ok(number)
@@ -32,7 +35,8 @@ pub fn number_of(value: &Value) -> Result<Num, Code>
 ///
 /// `Zover` where the value's number is too large.
 pub fn truth_of(value: &Value) -> Result<bool, Code>
-    ensures { Yields fault_of (as_truth value.now) (λ is_true. is_true) result }
+    ensures truth { Yields fault_of (as_truth value.now) (λ is_true. is_true) result }
+    ensures over { IfErr result (λ code. code ≡ Zover) }
 {
     let number = number_of(value)?;
     Ok(number.is_true())
@@ -46,6 +50,7 @@ pub fn truth_of(value: &Value) -> Result<bool, Code>
 pub fn whole_of(value: &Value) -> Result<i64, Code>
     ensures whole { Yields fault_of (as_whole value.now) (λ whole. whole) result }
     ensures below { IfOk result (λ whole. unsigned_abs whole < 10 ^ 18) }
+    ensures over { IfErr result (λ code. code ≡ Zover) }
 {
     let number = number_of(value)?;
     Ok(number.to_whole())
@@ -58,6 +63,7 @@ pub fn whole_of(value: &Value) -> Result<i64, Code>
 /// `Zover` where the value's number is too large.
 pub fn whole_number(value: &Option<Value>) -> Result<Option<i64>, Code>
     ensures whole { Yields fault_of (as_whole_or_none value.now) (λ whole. whole) result }
+    ensures over { IfErr result (λ code. code ≡ Zover) }
 {
     match value {
         None => Ok(None),

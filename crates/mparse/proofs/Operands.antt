@@ -1,3 +1,4 @@
+-- SPDX-License-Identifier: Apache-2.0
 -- What is an `@` with its operand and nothing more, by how many subscripts, signs and steps stand beside it.
 use Rattle.std.proofs.Common.{◌≡◌, ◌<◌, List, [], ◌∷◌, length, map, Some, None, Box, Vec, Global, refl, sym, ap, ◌∙◌, arith}
 use Rattle.mgrammar.specs.Grammar as grammar

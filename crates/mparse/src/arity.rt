@@ -1,3 +1,4 @@
+// SPDX-License-Identifier: Apache-2.0
 // How many arguments a function or a command takes, and which commands take a postconditional.
 ghost use Rattle.std.specs.Prelude.{◌≡◌};
 ghost use Rattle.mgrammar.specs.Grammar.{takes, refers, takes_args, takes_condition};

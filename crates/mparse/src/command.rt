@@ -1,3 +1,4 @@
+// SPDX-License-Identifier: Apache-2.0
 // Commands and their arguments.
 ghost use Rattle.std.specs.Prelude.{◌≡◌, map};
 ghost use Rattle.mgrammar.specs.Grammar.{ArgTree, form_of, output};

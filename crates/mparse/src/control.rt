@@ -1,3 +1,4 @@
+// SPDX-License-Identifier: Apache-2.0
 // The arguments of IF and FOR, and postconditionals.
 ghost use Rattle.std.specs.Prelude.{option_map};
 ghost use Rattle.mgrammar.specs.Grammar.{ParameterTree, condition};

@@ -1,3 +1,4 @@
+// SPDX-License-Identifier: Apache-2.0
 // The arguments of DO, GOTO and XECUTE: where they lead or a text, each with a postconditional of its own; or an `@` with its
 // operand and nothing more.
 ghost use Rattle.mgrammar.specs.Reading.{entry_at, entrance_at, leap_at, execution_at, settled_with, operand_or};

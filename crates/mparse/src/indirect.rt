@@ -1,3 +1,4 @@
+// SPDX-License-Identifier: Apache-2.0
 // The texts of indirection, read whole: a variable, or arguments of a command.
 ghost use Rattle.std.specs.Prelude.{◌≡◌, true, List, map, IfOk, Err};
 ghost use Rattle.mgrammar.specs.Grammar.{ReferenceTree, ArgTree, form_of, may_be_indirect, spell_reference, spell_list, spell_arg};

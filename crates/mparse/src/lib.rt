@@ -1,3 +1,4 @@
+// SPDX-License-Identifier: Apache-2.0
 //! A line of M, of a terminal or of a routine, and the texts of indirection, each from its text to its tree: a tree exactly where the
 //! grammar has one.
 #![tactic(auto)]

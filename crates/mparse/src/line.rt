@@ -1,3 +1,4 @@
+// SPDX-License-Identifier: Apache-2.0
 // Lines: commands with spaces between, and a comment.
 ghost use Rattle.std.specs.Prelude.{◌≡◌, length, map, IfOk, Err, option_map};
 ghost use Rattle.mgrammar.specs.Grammar.{LineTree, spell};

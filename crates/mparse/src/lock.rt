@@ -1,3 +1,4 @@
+// SPDX-License-Identifier: Apache-2.0
 // The arguments of LOCK: a sign or none, a variable or variables in brackets, and a timeout or none; or an `@` with its operand and
 // nothing more.
 ghost use Rattle.std.specs.Prelude.{◌≡◌, ◌-◌};

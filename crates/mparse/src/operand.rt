@@ -1,3 +1,4 @@
+// SPDX-License-Identifier: Apache-2.0
 // An `@` with its operand and nothing more, which is argument indirection.
 ghost use Rattle.std.specs.Prelude.{◌≡◌, Some, None, IfOk, IfErr, option_map};
 ghost use Rattle.mgrammar.specs.WellFormed.{bare_reference, bare_primary, bare_expr, bare_destination, bare_arg};

@@ -1,3 +1,4 @@
+// SPDX-License-Identifier: Apache-2.0
 // Lines of routines: a label or none, and behind it a comment, or dots and what a line of a terminal has too.
 ghost use Rattle.std.specs.Prelude.{◌≡◌, IfOk, Err, Some, option_map};
 ghost use Rattle.mgrammar.specs.RoutineLine.{RoutineLineTree, spell_routine_line, well_routine_line, dot_at, dots_at, body_at, routine_line_at};

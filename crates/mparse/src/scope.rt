@@ -1,3 +1,4 @@
+// SPDX-License-Identifier: Apache-2.0
 // The arguments of KILL and NEW: a variable or a name, or names in brackets; or an `@` with its operand and nothing more.
 ghost use Rattle.std.specs.Prelude.{ℕ, List};
 ghost use Rattle.mgrammar.specs.Reading.{name_at, names_at, removal_at, hiding_at, settled_with, operand_or};

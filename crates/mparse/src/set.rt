@@ -1,3 +1,4 @@
+// SPDX-License-Identifier: Apache-2.0
 // What SET assigns to.
 ghost use Rattle.std.specs.Prelude.{◌-◌, option_map};
 ghost use Rattle.mgrammar.specs.Reading.{readers_at, place_with, piece_with, target_with, destination_at, assignment_at};

@@ -1,3 +1,4 @@
+-- SPDX-License-Identifier: Apache-2.0
 -- The characters of a run are below 128.
 use Rattle.std.proofs.Common.{◌≡◌, ℕ, ◌<◌, Bool, true, false, cond, List, [], ◌∷◌, All, refl, arith}
 use Rattle.std.proofs.lemmas.List.Elements.{All-from_recursion}

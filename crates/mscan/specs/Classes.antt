@@ -1,3 +1,4 @@
+-- SPDX-License-Identifier: Apache-2.0
 -- Kinds of characters.
 use Rattle.std.specs.Prelude.{ℕ, Bool}
 use Rattle.mspec.specs.Names.{is_letter, is_name_start, is_name_rest, is_character}

@@ -1,3 +1,4 @@
+-- SPDX-License-Identifier: Apache-2.0
 -- An operator of the parser, as what is read.
 use Rattle.mgrammar.specs.Reading as reading
 use Rattle.mgrammar.specs.Reading.{OperatorTree}

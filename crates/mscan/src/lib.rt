@@ -1,3 +1,4 @@
+// SPDX-License-Identifier: Apache-2.0
 //! The parts of a line of M that no bracket stands in: runs of characters, names, strings, numbers, operators and patterns, each
 //! read from the front of a text; and what a line of a routine begins with.
 #![tactic(auto)]

@@ -1,3 +1,4 @@
+// SPDX-License-Identifier: Apache-2.0
 // Signs and operators.
 ghost use Rattle.std.specs.Prelude.{◌≡◌, map, option_map};
 ghost use Rattle.mgrammar.specs.Reading.{signs_at, found, truths, follows_at, truth_at, arithmetic, negated_at, plain_at, operator_at};

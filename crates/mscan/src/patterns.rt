@@ -1,3 +1,4 @@
+// SPDX-License-Identifier: Apache-2.0
 // Patterns.
 ghost use Rattle.std.specs.Prelude.{◌≡◌, length, map, option_map};
 ghost use Rattle.mgrammar.specs.Reading.{behind_at, is_count, count_at, repeated_at, atom_at, many, pattern_at};

@@ -1,3 +1,4 @@
+// SPDX-License-Identifier: Apache-2.0
 // Runs of characters, names and strings.
 ghost use Rattle.std.specs.Prelude.{◌≡◌, ◌<◌, All, false, option_map, IfSome};
 ghost use Rattle.mspec.specs.Names.{IsName};

@@ -1,3 +1,4 @@
+// SPDX-License-Identifier: Apache-2.0
 //! mserve, a shared M server.
 //!
 //! `mserve run` answers the lines of its standard input on its standard output, `mserve serve` those of connections at a port of 127.0.0.1.

@@ -1,3 +1,4 @@
+-- SPDX-License-Identifier: Apache-2.0
 -- Numbers of examples: values, sums and texts of numbers that are known, as rules by which `simp` computes them. To unfold the words
 -- themselves would open them too where a number is not known yet, which takes long.
 use Rattle.std.proofs.Common.{◌≡◌, ℕ, zero, suc, ◌+◌, ◌-◌, ◌*◌, cond, List, [], ◌∷◌, ◌++◌, length, Option, Some, None, refl}

@@ -1,3 +1,4 @@
+-- SPDX-License-Identifier: Apache-2.0
 -- What is asked of globals on examples, as proved equations.
 use Rattle.std.proofs.Common.{◌≡◌, List, [], ◌∷◌, map, ap}
 use Rattle.std.specs.Prelude.{◌&&◌, codes}

@@ -1,3 +1,4 @@
+-- SPDX-License-Identifier: Apache-2.0
 -- A key begins with the keys of its node's ancestors and with no others, and ranges of keys are subtrees.
 use Rattle.std.proofs.Common.{ℕ, ◌≡◌, ◌⊎◌, inl, inr, ◌<◌, true, false, List, [], ◌∷◌, ◌++◌, length, refl, sym, ◌∙◌, ap, subst, arith, append_assoc, append-nil}
 use Rattle.std.specs.Cmp.Lexicographic.{slice_cmp, nat_list_cmp_total}

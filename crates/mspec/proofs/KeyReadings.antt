@@ -1,3 +1,4 @@
+-- SPDX-License-Identifier: Apache-2.0
 -- The node of a node's key is the node.
 use Rattle.std.proofs.Common.{ℕ, zero, suc, ◌≡◌, ◌+◌, ◌*◌, ◌/◌, ◌%◌, ◌^◌, ◌<◌, ◌≤◌, Option, Some, None, List, [], ◌∷◌, ◌++◌, length, take, drop, refl, sym, ◌∙◌, ap, ap₂, subst, arith, add-one}
 use Rattle.std.specs.Prelude.{ℤ, pos, negsuc, unsigned_abs}

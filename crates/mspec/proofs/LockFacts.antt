@@ -1,3 +1,4 @@
+-- SPDX-License-Identifier: Apache-2.0
 -- What taking, giving back and releasing do to counts, and what they leave to other terminals.
 use Rattle.std.proofs.Common.{◌≡◌, ℕ, ◌+◌, ◌-◌, Bool, true, false, cond, not, List, [], ◌∷◌, length, Option, Some, None, refl, sym, ap, ◌∙◌, arith}
 use Rattle.std.specs.Prelude.{nat_eq, nat_lt, unwrap_or, if◌then◌else◌}

@@ -1,3 +1,4 @@
+-- SPDX-License-Identifier: Apache-2.0
 -- The orders of names of locks and of locks are total, and in them only equal values tie.
 use Rattle.std.proofs.Common.{true, false, refl}
 use Rattle.std.specs.Cmp.{IsTotalOrder, bool_cmp_total}

@@ -1,3 +1,4 @@
+-- SPDX-License-Identifier: Apache-2.0
 -- The literal that a text begins with, and that it is the longest.
 use Rattle.std.proofs.Common.{ℕ, suc, ◌≡◌, ◌≢◌, ◌+◌, ◌*◌, ◌^◌, ◌≤◌, ◌⊎◌, Bool, true, false, cond, eqb, Option, Some, None, List, [], ◌∷◌, ◌++◌, drop, length, refl, sym, ◌∙◌, ap, subst, arith, inl, inr, ⊎_elim, append_assoc, append-nil, take-append-drop, length-append}
 use Rattle.std.proofs.Math.Dec.{eqb-suc-zero}

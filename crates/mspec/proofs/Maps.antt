@@ -1,3 +1,4 @@
+-- SPDX-License-Identifier: Apache-2.0
 -- What calls of an ordered map do to the finite map that it stands for.
 use Rattle.std.proofs.Common.{◌≡◌, Bool, true, false, cond, List, [], ◌∷◌, Option, Some, None, map, refl, sym, ap, ◌∙◌}
 use Rattle.std.specs.Prelude.{option_map}

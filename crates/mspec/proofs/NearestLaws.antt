@@ -1,3 +1,4 @@
+-- SPDX-License-Identifier: Apache-2.0
 -- A number is rounded to itself, and what is rounded is a number.
 use Rattle.std.proofs.Common.{ℕ, zero, suc, ◌≡◌, ◌+◌, ◌*◌, ◌-◌, ◌/◌, ◌^◌, ◌<◌, ◌≤◌, Bool, true, false, Option, Some, None, refl, sym, ◌∙◌, ap, subst, arith, inl, inr, ⊎_elim}
 use Rattle.std.specs.Prelude.{ℤ, pos, negsuc, option_map, unsigned_abs}

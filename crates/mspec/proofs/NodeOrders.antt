@@ -1,3 +1,4 @@
+-- SPDX-License-Identifier: Apache-2.0
 -- The order of texts, of lists of subscripts and of nodes is total, and in it only equal values tie.
 use Rattle.std.proofs.Common.{ℕ, ◌≡◌, Bool, true, false, cond, Option, Some, None, [], ◌∷◌, MatchOption, refl, sym, ◌∙◌, ap, subst}
 use Rattle.std.specs.Prelude.{ℤ, pos, option_and_then, nat_eq}

@@ -1,3 +1,4 @@
+-- SPDX-License-Identifier: Apache-2.0
 -- The definitions of numbers on examples, as proved equations.
 use Rattle.std.proofs.Common.{◌≡◌, ℕ, ◌+◌, ◌*◌, ◌^◌, ◌≤◌, List, ◌∷◌, refl, Some, None, ◌∙◌, ap, arith, lit≤}
 use Rattle.std.proofs.Math.Nat.{pow-le-pow_right, zero-mul}

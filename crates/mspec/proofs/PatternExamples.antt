@@ -1,3 +1,4 @@
+-- SPDX-License-Identifier: Apache-2.0
 -- The definition of pattern match on examples.
 use Rattle.std.proofs.Common.{◌≡◌, ◌+◌, ℕ, zero, suc, List, [], ◌∷◌, refl, ap, sym, subst, get_or, arith, true, if◌then◌else◌}
 use Rattle.std.specs.Prelude.{codes, Some, None}

@@ -1,3 +1,4 @@
+-- SPDX-License-Identifier: Apache-2.0
 -- The definitions of pieces and of the text functions on examples, as proved equations.
 use Rattle.std.proofs.Common.{◌≡◌, [], ◌∷◌, refl, Some, None}
 use Rattle.std.specs.Prelude.{pos, negsuc, true, false, codes, Ok, Err}

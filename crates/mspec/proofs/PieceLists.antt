@@ -1,3 +1,4 @@
+-- SPDX-License-Identifier: Apache-2.0
 -- A text has one list of pieces, and the leftmost cut gives it.
 use Rattle.std.proofs.Common.{◌≡◌, ◌≢◌, ℕ, zero, suc, ◌-◌, ◌≤◌, ◌<◌, Bool, true, false, List, [], ◌∷◌, ◌++◌, length, drop, refl, sym, ap, subst, ◌∙◌, ◌⊎◌, inl, inr, arith}
 use Rattle.std.specs.Prelude.{cond, ◌&&◌}

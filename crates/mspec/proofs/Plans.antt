@@ -1,3 +1,4 @@
+-- SPDX-License-Identifier: Apache-2.0
 -- The laws of plans.
 use Rattle.std.proofs.Common.{◌≡◌, ℕ, zero, suc, refl, subst}
 use Rattle.mspec.specs.Plan.{Op, Plan, Done, Ask, then_plan, Ops, perform, cut_short}

@@ -1,3 +1,4 @@
+-- SPDX-License-Identifier: Apache-2.0
 -- The tests of names and subscripts decide what can be the account and the subscripts of a node.
 use Rattle.std.proofs.Common.{◌≡◌, ◌-◌, Bool, true, false, List, length, All, refl, sym, arith}
 use Rattle.std.specs.Prelude.{◌↔◌, IsTrue, nat_lt, nat_le, ◌&&◌}

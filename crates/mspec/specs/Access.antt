@@ -1,3 +1,4 @@
+-- SPDX-License-Identifier: Apache-2.0
 -- Settings: accounts, the terminals that belong to them, and what they grant one another; who may read and write what.
 --
 -- The standard has no accounts: this is mserve's own. An account may do all with its own globals, and with those of another

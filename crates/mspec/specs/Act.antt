@@ -1,3 +1,4 @@
+-- SPDX-License-Identifier: Apache-2.0
 -- An act of a session: from the session's state to a plan that ends with a value or a code, and with the state after it.
 use Rattle.std.specs.Prelude.{ℕ, zero, suc, Bool, true, false, List, [], ◌∷◌, ◌++◌, Option, Some, None}
 use Rattle.mspec.specs.Code.{Code, M6, Zsteps}

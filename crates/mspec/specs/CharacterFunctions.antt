@@ -1,3 +1,4 @@
+-- SPDX-License-Identifier: Apache-2.0
 -- The functions between characters and their codes.
 --
 -- Restates "$ASCII" and "$CHAR" of ISO/IEC 11756:1999. Places are counted from 1, and the place of $ASCII may be left out.

@@ -1,3 +1,4 @@
+-- SPDX-License-Identifier: Apache-2.0
 -- The codes that end a line, and the losses that cut one short.
 --
 -- Those that begin with M are of the table of error codes of ISO/IEC 11756:1999; those that begin with Z are mserve's own,

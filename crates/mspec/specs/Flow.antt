@@ -1,3 +1,4 @@
+-- SPDX-License-Identifier: Apache-2.0
 -- Flow: whose doings can show at whom. An account's values show where it grants reading; what the taker of a write grant
 -- stores and locks shows at the giver too.
 use Rattle.std.specs.Prelude.{Bool, IsTrue, ◌&&◌, ◌||◌}

@@ -1,3 +1,4 @@
+-- SPDX-License-Identifier: Apache-2.0
 -- The globals of a store: the texts at its nodes.
 --
 -- Restates what "Global variable handling", "$DATA", "$ORDER", "SET" and "KILL" of ISO/IEC 11756:1999 say of nodes: SET gives

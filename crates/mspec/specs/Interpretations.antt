@@ -1,3 +1,4 @@
+-- SPDX-License-Identifier: Apache-2.0
 -- A number as a whole number, and as a truth.
 --
 -- Restates "Integer interpretation" and "Truth-value interpretation" of ISO/IEC 11756:1999. Numbers are counted in units of

@@ -1,3 +1,4 @@
+-- SPDX-License-Identifier: Apache-2.0
 -- The bytes under which a node lies in a table, and those of a list of subscripts.
 --
 -- Bytes of keys stand in the order of their nodes, and a key begins with the keys of its node's ancestors: a byte 0 ends a

@@ -1,3 +1,4 @@
+-- SPDX-License-Identifier: Apache-2.0
 -- The laws of the order of nodes and of the bytes of keys. The functions of src/ named after them carry them.
 use Rattle.std.specs.Prelude.{◌≡◌, ◌↔◌, ◌⊎◌, ◌<◌, ℕ, true, List, ◌∷◌, ◌++◌, length, All, MatchOption, Some}
 use Rattle.std.specs.Cmp.{IsTotalOrder}

@@ -1,3 +1,4 @@
+-- SPDX-License-Identifier: Apache-2.0
 -- The node whose key some bytes are: keys read back. What this gives for bytes that are no key has no meaning.
 use Rattle.std.specs.Prelude.{◌≡◌, ℕ, zero, suc, ◌^◌, cond, ◌==◌, List, [], ◌∷◌, take, drop, length, ℤ, pos, ◌-ℤ◌}
 use Rattle.std.specs.Slice.Scan.{big_endian}

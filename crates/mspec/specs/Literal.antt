@@ -1,3 +1,4 @@
+-- SPDX-License-Identifier: Apache-2.0
 -- Numeric literals, as the grammar prints them.
 --
 -- Restates "Numeric literal numlit" of ISO/IEC 11756:1999, with its parts `intlit`, `mant` and `exp`: digits, with a

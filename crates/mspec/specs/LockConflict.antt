@@ -1,3 +1,4 @@
+-- SPDX-License-Identifier: Apache-2.0
 -- Locks: how often each terminal holds a name, which names exclude each other, and what taking and giving back does.
 --
 -- Restates what "LOCK" of ISO/IEC 11756:1999 says of names: a process that holds one excludes the others from it, from what

@@ -1,3 +1,4 @@
+-- SPDX-License-Identifier: Apache-2.0
 -- Characters and names.
 --
 -- Restates "Character set" and "name" of ISO/IEC 11756:1999.

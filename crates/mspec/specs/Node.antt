@@ -1,3 +1,4 @@
+-- SPDX-License-Identifier: Apache-2.0
 -- Texts and nodes of globals.
 use Rattle.std.specs.Prelude.{ℕ, List}
 

@@ -1,3 +1,4 @@
+-- SPDX-License-Identifier: Apache-2.0
 -- The order of subscripts and of nodes.
 --
 -- Restates the collating order of "$ORDER" of ISO/IEC 11756:1999: the empty text, then canonical texts of numbers by value,

@@ -1,3 +1,4 @@
+-- SPDX-License-Identifier: Apache-2.0
 -- Numbers, the rounding of exact fractions to them, and the arithmetic of the language.
 --
 -- Restates "Numeric data values" and "Arithmetic binary operators" of ISO/IEC 11756:1999. The standard leaves

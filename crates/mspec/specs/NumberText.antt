@@ -1,3 +1,4 @@
+-- SPDX-License-Identifier: Apache-2.0
 -- The numeric value of a text, and the canonical text of a number.
 --
 -- Restates "Numeric interpretation of data" and the canonical form of "Numeric data values" of ISO/IEC 11756:1999: the

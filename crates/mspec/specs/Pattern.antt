@@ -1,3 +1,4 @@
+-- SPDX-License-Identifier: Apache-2.0
 -- Pattern match: the texts that a pattern matches.
 --
 -- Restates "Pattern match pattern" of ISO/IEC 11756:1999, with its parts `patatom`, `repcount`, `patcode` and `strlit`. A

@@ -1,3 +1,4 @@
+-- SPDX-License-Identifier: Apache-2.0
 -- The laws of pieces and of places in texts. The functions of src/ named after them carry them.
 use Rattle.std.specs.Prelude.{◌≡◌, ◌≢◌, ℕ, ◌≤◌, List, [], ◌++◌, length, MatchOption}
 use Rattle.mspec.specs.Pieces.{ArePieces, Lacks, pieces_of}

@@ -1,3 +1,4 @@
+-- SPDX-License-Identifier: Apache-2.0
 -- The pieces of a text.
 --
 -- Restates the pieces of "$PIECE" of ISO/IEC 11756:1999: the pieces of a text, by a delimiter that is not empty, are the

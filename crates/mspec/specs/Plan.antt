@@ -1,3 +1,4 @@
+-- SPDX-License-Identifier: Apache-2.0
 -- What a line does to that which is not its session's, as a plan: a tree of operations, each followed by what is done on
 -- its answer.
 --

@@ -1,3 +1,4 @@
+-- SPDX-License-Identifier: Apache-2.0
 -- The local variables of a session: a stack of scopes, the innermost on top.
 --
 -- Restates "Local variable handling", "NEW" and "KILL" of ISO/IEC 11756:1999. A scope has some names by itself: those that

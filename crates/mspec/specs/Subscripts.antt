@@ -1,3 +1,4 @@
+-- SPDX-License-Identifier: Apache-2.0
 -- Whether texts can be the account and the subscripts of a node, as tests that compute.
 use Rattle.std.specs.Prelude.{Bool, ◌&&◌, nat_le, nat_lt, List, length}
 use Rattle.std.specs.List.{list_all}

@@ -1,3 +1,4 @@
+-- SPDX-License-Identifier: Apache-2.0
 -- The functions and operators of texts.
 --
 -- Restates "$PIECE", "$EXTRACT", "$FIND", "$LENGTH", "$TRANSLATE" and "$JUSTIFY", SET of a "$PIECE", and the relations

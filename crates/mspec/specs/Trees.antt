@@ -1,3 +1,4 @@
+-- SPDX-License-Identifier: Apache-2.0
 -- The tree of a variable: the texts at its nodes, by their subscripts.
 --
 -- Restates what "Local variable handling", "$DATA", "$ORDER" and "KILL" of ISO/IEC 11756:1999 say of one variable. Its own

@@ -1,3 +1,4 @@
+// SPDX-License-Identifier: Apache-2.0
 // The laws of the order of nodes and of the bytes of keys. Each function's contract is the law, and its body is empty: the
 // code never calls them.
 ghost use Rattle.mspec.specs.KeyLaws.{CanonicalValueIsTold, NodesAreOrdered, KeysKeepOrder, KeysAreInjective, KeysOfSubtreesBeginAlike, SubtreesAreRanges, DescendantsAreRanges, LocalsKeepOrder, LocalSubtreesAreRanges, LocalDescendantsAreRanges};

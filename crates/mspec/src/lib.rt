@@ -1,3 +1,4 @@
+// SPDX-License-Identifier: Apache-2.0
 //! The definitions of mserve, written apart from the code: what its numbers and texts mean.
 //!
 //! They stand in `specs/` and compute. The functions here carry the laws on them: a law is the contract of a function with

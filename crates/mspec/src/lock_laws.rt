@@ -1,3 +1,4 @@
+// SPDX-License-Identifier: Apache-2.0
 // The laws of locks. Each function's contract is the law, and its body is empty: the code never calls them.
 ghost use Rattle.std.specs.Prelude.{ℕ};
 ghost use Rattle.mspec.specs.LockConflict.{Locks};

@@ -1,3 +1,4 @@
+// SPDX-License-Identifier: Apache-2.0
 // The laws of numbers and of their texts. Each function's contract is the law, and its body is empty: the code never
 // calls them.
 ghost use Rattle.mspec.specs.NumberLaws.{RoundingIsNearest, EachHasDigits, NearestIsUnique, ZeroRoundsToZero, RoundedIsNumber, NumberRoundsToItself, ReadsLongestLiteral, TextHasValue, CanonicalIsText, TextHasCanonicalForm, PlainLiteralIsUnique, CanonicalByMoreDigits};

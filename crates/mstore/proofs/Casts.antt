@@ -1,3 +1,4 @@
+-- SPDX-License-Identifier: Apache-2.0
 -- What a column of numbers makes of a value.
 use Rattle.std.proofs.Common.{◌≡◌, ℤ, Bool, cond, true, false, refl}
 use Rattle.sqlite.specs.declared.types.Value.{Value}

@@ -1,3 +1,4 @@
+-- SPDX-License-Identifier: Apache-2.0
 -- What `get` finds.
 use Rattle.std.proofs.Common.{◌≡◌, ℕ, List, [], ◌∷◌, Some, None, Ok, Err, refl, sym, ap, subst, ◌∙◌, inl}
 use Rattle.sqlite.specs.declared.types.Value.TheVariants.{Null, Blob}

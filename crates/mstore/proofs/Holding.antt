@@ -1,3 +1,4 @@
+-- SPDX-License-Identifier: Apache-2.0
 -- What entries and rows hold are nodes of a store, with texts that they may have.
 use Rattle.std.proofs.Common.{◌≡◌, List, [], ◌∷◌, length, All, refl, sym, ◌∙◌, subst, inl, inr, arith}
 use Rattle.std.specs.FinMap.{entries, empty, entries-insert, len-entries, len-empty}

@@ -1,3 +1,4 @@
+-- SPDX-License-Identifier: Apache-2.0
 -- The first and the last key of rows within bounds, as those of the globals that the rows hold.
 use Rattle.std.proofs.Common.{ℕ, ◌≡◌, ◌⊎◌, inl, inr, Bool, true, false, cond, ◌&&◌, Option, Some, None, option_map, is_some, List, [], ◌∷◌, map, length, reverse, refl, sym, ◌∙◌, ap, subst, arith}
 use Rattle.std.specs.Prelude.{⊤, T, IsSome}

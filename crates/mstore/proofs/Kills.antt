@@ -1,3 +1,4 @@
+-- SPDX-License-Identifier: Apache-2.0
 -- What `kill` takes out.
 use Rattle.std.proofs.Common.{◌≡◌, ℕ, ℤ, true, List, [], ◌∷◌, Ok, refl, sym, ap, subst, ◌∙◌}
 use Rattle.std.proofs.lemmas.Bool.{true≢false}

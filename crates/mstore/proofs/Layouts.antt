@@ -1,3 +1,4 @@
+-- SPDX-License-Identifier: Apache-2.0
 -- The schema of a store, written out.
 use Rattle.std.proofs.Common.{◌≡◌, true, false, [], ◌∷◌, codes, refl}
 use Rattle.std.specs.Fmt.{digits}

@@ -1,3 +1,4 @@
+-- SPDX-License-Identifier: Apache-2.0
 -- What the tests of the statements say of a row.
 use Rattle.std.proofs.Common.{◌≡◌, ℕ, Bool, false, ◌&&◌, List, [], ◌∷◌, ap, ap₂, ◌∙◌}
 use Rattle.sqlite.specs.declared.types.Value.TheVariants.{Blob}

@@ -1,3 +1,4 @@
+-- SPDX-License-Identifier: Apache-2.0
 -- What entries in order hold, and how their nodes and the bytes of their keys rise.
 use Rattle.std.proofs.Common.{◌≡◌, ℕ, zero, suc, ◌<◌, Bool, true, false, cond, ◌&&◌, T, None, List, [], ◌∷◌, map, length, slice_index_or, Option, Some, refl, sym, ap, subst, ◌∙◌, arith}
 use Rattle.std.specs.Cmp.{IsTotalOrder}

@@ -1,3 +1,4 @@
+-- SPDX-License-Identifier: Apache-2.0
 -- From what a call says to what it leaves of a sound store.
 use Rattle.std.proofs.Common.{◌≡◌, ℕ, List, [], ◌∷◌, Result, Ok, Err, sym, ap, subst}
 use Rattle.sqlite_trees.specs.declared.store.Store.{Ghosts}

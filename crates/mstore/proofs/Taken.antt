@@ -1,3 +1,4 @@
+-- SPDX-License-Identifier: Apache-2.0
 -- What `prepare` says of a statement that the columns do not take.
 use Rattle.std.proofs.Common.{◌≡◌, ◌≢◌, ℕ, List, [], Result, Ok, Err, IsTrue, IfOk, IfErr, sym, inl, inr}
 use Rattle.sqlite.specs.Order.{Row}

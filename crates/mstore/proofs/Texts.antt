@@ -1,3 +1,4 @@
+-- SPDX-License-Identifier: Apache-2.0
 -- What the statements are compiled to.
 use Rattle.std.proofs.Common.{◌≡◌, ℕ, Bool, List, [], ◌∷◌, codes, Ok, refl, pos, negsuc, true, false, Some, None}
 use Rattle.sqlite.specs.Query.{Query, inner, end}

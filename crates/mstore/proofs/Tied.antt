@@ -1,3 +1,4 @@
+-- SPDX-License-Identifier: Apache-2.0
 -- What the statements do, of the globals that the rows are.
 use Rattle.std.proofs.Common.{◌≡◌, ℕ, Bool, false, true, List, [], ◌∷◌, Option, Some, None, Result, Ok, Err, OnOk, sym, ap, subst, ◌∙◌}
 use Rattle.std.specs.FinMap.{get, insert}

@@ -1,3 +1,4 @@
+-- SPDX-License-Identifier: Apache-2.0
 -- The row of the version.
 use Rattle.std.proofs.Common.{◌≡◌, ℕ, true, false, List, [], ◌∷◌, codes, Some, None, Result, Ok, Err, refl, sym, ap, subst, ◌∙◌, inl, IsTrue}
 use Rattle.sqlite.specs.declared.types.Value.{Value}

@@ -1,3 +1,4 @@
+-- SPDX-License-Identifier: Apache-2.0
 -- What a statement that writes the table leaves.
 use Rattle.std.proofs.Common.{◌≡◌, ◌⊎◌, ℕ, cond, List, None, Ok, Err, Result, sym, ap, subst, ◌∙◌, inl, inr}
 use Rattle.sqlite.specs.Order.{Row}

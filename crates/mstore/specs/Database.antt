@@ -1,3 +1,4 @@
+-- SPDX-License-Identifier: Apache-2.0
 -- What a connection holds where its database is that of a table, and what a call leaves of it.
 use Rattle.std.specs.Prelude.{◌≡◌, ◌≢◌, ◌⊎◌, ◌||◌, ℕ, pos, List, ◌∷◌, [], codes, Bool, false, Option, Some, None, IsTrue}
 use Rattle.std.specs.List.{list_any}

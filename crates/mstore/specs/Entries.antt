@@ -1,3 +1,4 @@
+-- SPDX-License-Identifier: Apache-2.0
 -- A list of entries as a store of nodes.
 use Rattle.std.specs.Prelude.{◌≡◌, ℕ, ◌<◌, ◌≤◌, Bool, true, false, List, All, map, length, Option, Some, None, if◌then◌else◌}
 use Rattle.std.specs.Cmp.Lexicographic.{slice_cmp}

@@ -1,3 +1,4 @@
+-- SPDX-License-Identifier: Apache-2.0
 -- A fault of a store, met while a table is opened.
 use Rattle.mstore.specs.declared.store.StoreFault.{StoreFault}
 use Rattle.mstore.specs.declared.store.StoreFault.TheVariants as store

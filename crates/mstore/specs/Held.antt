@@ -1,3 +1,4 @@
+-- SPDX-License-Identifier: Apache-2.0
 -- What a store may hold.
 use Rattle.std.specs.Prelude.{◌≤◌, length, All}
 use Rattle.std.specs.FinMap.{entries}

@@ -1,3 +1,4 @@
+-- SPDX-License-Identifier: Apache-2.0
 -- The rows of the table of nodes as a map from keys to values.
 use Rattle.std.specs.Prelude.{◌≡◌, ◌≤◌, ℕ, List, ◌∷◌, [], length, Bool, find, Option, Some, None, option_map}
 use Rattle.std.specs.Ordering.{is_eq, nat_cmp}

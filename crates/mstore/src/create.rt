@@ -1,3 +1,4 @@
+// SPDX-License-Identifier: Apache-2.0
 // How the tables are made.
 
 ghost use Rattle.std.specs.Prelude.{◌≡◌, ◌≢◌, false, OnOk, OnErr, Err, IsTrue};

@@ -1,9 +1,11 @@
+// SPDX-License-Identifier: Apache-2.0
 //! Stores of nodes: finite maps from nodes of globals to texts.
 //!
 //! What a store holds, and what its calls do to that, are definitions of `mspec`: `Globals`.
 #![tactic(auto)]
 
 mod create;
+pub mod failing;
 mod layout;
 mod open_fault;
 mod opening;
@@ -12,6 +14,7 @@ mod statements;
 pub mod store;
 pub mod table;
 
+pub use failing::{Failing, StoreCall};
 pub use open_fault::OpenFault;
 pub use plain::Plain;
 pub use store::{NodeStore, StoreFault};

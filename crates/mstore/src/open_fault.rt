@@ -1,3 +1,4 @@
+// SPDX-License-Identifier: Apache-2.0
 // Why no table was opened.
 ghost use Rattle.std.specs.Prelude.{◌≡◌};
 ghost use Rattle.mstore.specs.Faults.{opening_fault};

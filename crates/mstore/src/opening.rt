@@ -1,3 +1,4 @@
+// SPDX-License-Identifier: Apache-2.0
 // How a database that is there is read.
 ghost use Rattle.std.specs.Prelude.{◌≡◌, ◌≢◌, ◌↔◌, List, IsTrue, IfOk, OnOk, OnErr, Err, false};
 ghost use Rattle.std.specs.List.{AllByRecursion};

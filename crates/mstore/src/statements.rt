@@ -1,3 +1,4 @@
+// SPDX-License-Identifier: Apache-2.0
 // The statements, each alone.
 
 ghost use Rattle.std.specs.Prelude.{◌≡◌, ◌↔◌, true, false, IfOk, OnOk, OnErr};

@@ -1,3 +1,4 @@
+// SPDX-License-Identifier: Apache-2.0
 // What a store of nodes is.
 ghost use Rattle.std.specs.Prelude.{◌≡◌, ◌≢◌, ◌≤◌, length, option_map, IfOk, IfSome, OnOk, OnErr, Err};
 ghost use Rattle.std.specs.FinMap.{get, insert};

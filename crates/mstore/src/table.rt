@@ -1,3 +1,4 @@
+// SPDX-License-Identifier: Apache-2.0
 // A table over a connection.
 ghost use Rattle.std.specs.Prelude.{◌≡◌, ◌≢◌, ◌≤◌, length, IfOk, IfErr, List, ℕ, None, Err, codes};
 ghost use Rattle.sqlite.specs.Order.{column};

@@ -1,3 +1,4 @@
+-- SPDX-License-Identifier: Apache-2.0
 -- The order of character codes as the comparison of slices has it.
 use Rattle.std.proofs.Common.{◌≡◌, ℕ, Bool, List, refl, arith, eqb}
 use Rattle.std.specs.Ordering.{nat_cmp, ordering_index}

@@ -1,3 +1,4 @@
+-- SPDX-License-Identifier: Apache-2.0
 -- Copies of a string, one taken off after another from the end.
 use Rattle.std.proofs.Common.{ℕ, zero, suc, ◌≡◌, ◌+◌, ◌-◌, ◌<◌, ◌≤◌, inl, inr, true, false, Bool, List, [], ◌∷◌, ◌++◌, get_or, length, refl, sym, subst, ◌∙◌, ap, arith, append_assoc, append-nil, true≢false}
 use Rattle.std.proofs.lemmas.Bool.{cases_eq}

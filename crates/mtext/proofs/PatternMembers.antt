@@ -1,3 +1,4 @@
+-- SPDX-License-Identifier: Apache-2.0
 -- Runs of characters of classes: where they end, from the latest place at which they may start.
 use Rattle.std.proofs.Common.{ℕ, zero, suc, ◌≡◌, ◌+◌, ◌-◌, ◌<◌, ◌≤◌, ◌⊎◌, inl, inr, true, false, Bool, List, [], ◌∷◌, get_or, length, sym, subst, ◌∙◌, ap, arith, true≢false, below_more, add-sub_cancel}
 use Rattle.std.proofs.lemmas.Bool.{cases_lt}

@@ -1,3 +1,4 @@
+-- SPDX-License-Identifier: Apache-2.0
 -- Parts of a text, from one place up to another.
 use Rattle.std.proofs.Common.{ℕ, ◌≡◌, ◌+◌, ◌-◌, ◌<◌, ◌≤◌, List, [], ◌∷◌, ◌++◌, Bool, false, Decides, take, drop, get_or, length, refl, sym, subst, ◌∙◌, ap, arith, below_more}
 use Rattle.std.proofs.lemmas.List.{drop-drop, take_at, drop_at, get_or_append_left, get_or_push}

@@ -1,3 +1,4 @@
+-- SPDX-License-Identifier: Apache-2.0
 -- Passing over the pieces of a text by a search for the delimiter.
 use Rattle.std.proofs.Common.{◌≡◌, ◌≢◌, ℕ, ◌+◌, ◌≤◌, ◌<◌, List, [], ◌∷◌, ◌++◌, length, take, drop, Some, None, refl, sym, ap, subst, ◌∙◌, arith}
 use Rattle.std.proofs.Common.{true, eqb}

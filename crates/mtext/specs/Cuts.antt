@@ -1,3 +1,4 @@
+-- SPDX-License-Identifier: Apache-2.0
 -- Places at which a text is cut into its pieces.
 use Rattle.std.specs.Prelude.{◌≡◌, ℕ, ◌≤◌, List, ◌++◌, length, take, drop}
 use Rattle.std.specs.List.{flat_map}

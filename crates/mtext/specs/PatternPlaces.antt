@@ -1,3 +1,4 @@
+-- SPDX-License-Identifier: Apache-2.0
 -- The patterns of the code as plain ones, and the places of a text: how many of its characters stand before them. A list of
 -- marks has one for each place from 0 to the text's length.
 use Rattle.std.specs.Prelude.{◌≡◌, ℕ, ◌+◌, ◌-◌, ◌≤◌, Bool, true, false, List, map, take, length, get_or, slice_range, Decides, Option, Some, None}

@@ -1,3 +1,4 @@
+// SPDX-License-Identifier: Apache-2.0
 // Why a text could not be made.
 ghost use Rattle.std.specs.Prelude.{◌≡◌};
 ghost use Rattle.mtext.specs.declared.fault.TextFault.TheVariants.{Memory};

@@ -1,3 +1,4 @@
+// SPDX-License-Identifier: Apache-2.0
 // What takes a part of a text, or asks about it, by its characters.
 ghost use Rattle.std.specs.Prelude.{◌≡◌};
 ghost use Rattle.mspec.specs.TextFunctions.{extract_of, find_of, contains, follows};

@@ -1,3 +1,4 @@
+// SPDX-License-Identifier: Apache-2.0
 //! The functions and operators of texts: pieces, characters, searches, the texts that they make, and pattern match.
 //!
 //! The definitions that the contracts cite stand in `mspec`: `Pieces`, `TextFunctions` and `Pattern`. Places are counted from

@@ -1,3 +1,4 @@
+// SPDX-License-Identifier: Apache-2.0
 // Pattern match.
 ghost use Rattle.std.specs.Prelude.{◌≡◌, ℕ, ◌+◌, ◌<◌, ◌≤◌, [], true, false, None, IfSome, IfOk, Decides, MatchOption, length, get_or};
 ghost use Rattle.mspec.specs.Pattern.{IsAtMost, is_in, is_in_any, Matches, copies, members};

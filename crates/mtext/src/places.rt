@@ -1,3 +1,4 @@
+// SPDX-License-Identifier: Apache-2.0
 // Places as numbers that a text can be cut at.
 ghost use Rattle.std.specs.Prelude.{◌≡◌, ◌+◌, ◌-◌, ◌≤◌, ◌<◌, ◌^◌, pos, length, min, unwrap_or};
 ghost use Rattle.mspec.specs.TextFunctions.{from_place, to_place};

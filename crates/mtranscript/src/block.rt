@@ -1,3 +1,4 @@
+// SPDX-License-Identifier: Apache-2.0
 // Blocks of cases.
 use anyhow::Context;
 use std::alloc::Global;

@@ -1,3 +1,4 @@
+// SPDX-License-Identifier: Apache-2.0
 // The files of databases that cases are played over.
 use std::fs;
 use std::rt::HostRuntime;

@@ -1,3 +1,4 @@
+// SPDX-License-Identifier: Apache-2.0
 // The bytes that a case stands for.
 use anyhow::Context;
 use std::alloc::Global;

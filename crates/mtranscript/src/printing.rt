@@ -1,3 +1,4 @@
+// SPDX-License-Identifier: Apache-2.0
 // What is printed: cases, and below each what it gives.
 use std::alloc::Global;
 

@@ -1,3 +1,4 @@
+-- SPDX-License-Identifier: Apache-2.0
 -- Texts of lists, by what stands in them and by its trees.
 use Rattle.std.proofs.Common.{◌≡◌, ℕ, ◌<◌, List, [], ◌∷◌, ◌++◌, length, map, refl, ap, subst, ◌∙◌, arith}
 use Rattle.std.specs.Prelude.{Result, Ok, Err, OnOk}

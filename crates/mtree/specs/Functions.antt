@@ -1,3 +1,4 @@
+-- SPDX-License-Identifier: Apache-2.0
 -- What a function's word says, as the grammar has it.
 use Rattle.mgrammar.specs.Grammar as grammar
 use Rattle.mgrammar.specs.Grammar.{FunctionTree}

@@ -1,3 +1,4 @@
+-- SPDX-License-Identifier: Apache-2.0
 -- A line of the program as a plain tree of the grammar.
 pub use Rattle.mtree.specs.Functions.{function_tree}
 use Rattle.std.specs.Prelude.{Option, Box, map, option_map}

@@ -1,3 +1,4 @@
+// SPDX-License-Identifier: Apache-2.0
 // The text of an expression.
 ghost use Rattle.std.specs.Prelude.{◌≡◌, ◌++◌, ◌<◌, ◌∷◌, [], List, ℕ, OnOk, map};
 ghost use Rattle.mgrammar.specs.Grammar.{sign_char, spell_truth, spell_binary, spell_signs, spell_behind, spell_repeated, spell_atom, spell_atoms, spell_expr, steps_of, exprs_of, choices_of, spell_steps, spell_step, spell_operand, spell_primary, spell_reference, spell_subscripts, spell_attached, spell_exprs, spell_more_exprs, spell_choices};

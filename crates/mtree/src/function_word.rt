@@ -1,3 +1,4 @@
+// SPDX-License-Identifier: Apache-2.0
 // The words of functions as they are written.
 ghost use Rattle.std.specs.Prelude.{◌≡◌, option_map};
 ghost use Rattle.mgrammar.specs.Grammar.{function_of};

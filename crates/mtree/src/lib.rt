@@ -1,3 +1,4 @@
+// SPDX-License-Identifier: Apache-2.0
 //! Lines of M as syntax trees that keep their spelling: the case of letters, abbreviations, spaces and digits as written.
 //!
 //! What a tree means as plain data, and which text it has, are definitions of `mgrammar`: `Grammar`.

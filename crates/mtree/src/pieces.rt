@@ -1,3 +1,4 @@
+// SPDX-License-Identifier: Apache-2.0
 // Texts, runs and strings, appended to the text of a line.
 ghost use Rattle.std.specs.Prelude.{◌≡◌, ◌++◌, ◌<◌, OnOk, replicate};
 ghost use Rattle.mgrammar.specs.Grammar.{quoted, spell_string};

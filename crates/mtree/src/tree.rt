@@ -1,3 +1,4 @@
+// SPDX-License-Identifier: Apache-2.0
 // The tree of a line.
 use crate::function_word::FunctionWord;
 use crate::literal::Literal;

@@ -1,3 +1,4 @@
+// SPDX-License-Identifier: Apache-2.0
 // Words of commands, of functions and of special variables.
 ghost use Rattle.std.specs.Prelude.{◌≡◌, option_map};
 ghost use Rattle.mgrammar.specs.Grammar.{is_either, keyword_of, function_of, special_of};

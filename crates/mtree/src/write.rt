@@ -1,3 +1,4 @@
+// SPDX-License-Identifier: Apache-2.0
 // The text of a line: each function appends the spelling of its part, as `mgrammar` has it.
 ghost use Rattle.std.specs.Prelude.{◌≡◌, ◌++◌, ◌∷◌, [], List, ℕ, IfOk, OnOk, map, option_map};
 ghost use Rattle.mgrammar.specs.Grammar.{assign, loop, spell_place, spell_target, spell_destination, spell_names, spell_parameter, spell_entry, spell_kind, spell_locked, spell_arg, spell_condition, spell_args, spell_comment, spell_command, spell_commands, spell};

@@ -1,3 +1,4 @@
+-- SPDX-License-Identifier: Apache-2.0
 -- The canonical text of a number is ASCII.
 use Rattle.std.proofs.Common.{ℕ, suc, ◌/◌, ◌%◌, ◌^◌, ◌<◌, true, false, cond, List, [], ◌∷◌, ◌++◌, All, arith, lit<}
 use Rattle.std.specs.Prelude.{◌==◌, ℤ, pos, negsuc, unsigned_abs}

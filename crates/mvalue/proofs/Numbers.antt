@@ -1,3 +1,4 @@
+-- SPDX-License-Identifier: Apache-2.0
 -- Numbers and the texts of values.
 use Rattle.std.proofs.Common.{◌≡◌, ◌^◌, true, false, Some, refl, sym, ap, ◌∙◌}
 use Rattle.std.specs.Prelude.{List, ℕ, Decides, nat_eq, ℤ, pos, ◌*ℤ◌}

@@ -1,3 +1,4 @@
+-- SPDX-License-Identifier: Apache-2.0
 -- The text of what a value is held as.
 use Rattle.mspec.specs.Node.{Text}
 use Rattle.mspec.specs.NumberText.{number_text}

@@ -1,3 +1,4 @@
+// SPDX-License-Identifier: Apache-2.0
 //! Values of expressions and of variables: a number or a text. Contracts see a value as its text.
 //!
 //! A number stays a number until its text is wanted, so that what is computed with is neither printed nor read again. The

@@ -1,3 +1,4 @@
+// SPDX-License-Identifier: Apache-2.0
 // The text of a value, lent where the value has one.
 ghost use Rattle.std.specs.Prelude.{◌≡◌};
 

@@ -1,7 +1,8 @@
+// SPDX-License-Identifier: Apache-2.0
 // Values: a number stays a number until its text is wanted.
-ghost use Rattle.std.specs.Prelude.{◌≡◌, ◌==◌, ◌^◌, ◌<◌, ◌*ℤ◌, ◌++◌, length, All, None, Some, pos, unsigned_abs, IsOk, IfOk, OnOk, MatchResult, nat_eq, option_map};
+ghost use Rattle.std.specs.Prelude.{◌≡◌, ◌==◌, ◌^◌, ◌<◌, ◌*ℤ◌, ◌++◌, length, All, None, Some, pos, unsigned_abs, IsOk, IfOk, OnOk, OnErr, MatchResult, nat_eq};
 ghost use Rattle.std.specs.Cmp.Lexicographic.{pointwise};
-ghost use Rattle.mspec.specs.Interpretations.{is_true, truth_text, whole_part};
+ghost use Rattle.mspec.specs.Interpretations.{truth_text};
 ghost use Rattle.mspec.specs.Number.{significant_digits};
 ghost use Rattle.mspec.specs.NumberText.{numeric_value, number_text};
 ghost use Rattle.mnum.specs.Num.{units};
@@ -133,6 +134,16 @@ impl Value {
         }
     }
 
+    /// How many characters the text of the value has. Takes no memory.
+    pub fn text_length(&self) -> usize
+        ensures { result ≡ length self.now }
+    {
+        match &self.kind {
+            Kind::Number(number) => number.text().len(),
+            Kind::Text(text) => text.as_bytes().len(),
+        }
+    }
+
     /// The text of the value.
     ///
     /// # Errors
@@ -175,6 +186,21 @@ impl Value {
         }
     }
 
+    /// Appends the text of the value to another text. A number is printed on the stack.
+    ///
+    /// # Errors
+    ///
+    /// `AllocError` for want of memory; the text is then as it was.
+    pub fn append_to(&self, text: &mut Bytes7) -> Result<(), AllocError>
+        ensures ok { OnOk result (text.new ≡ text.old ++ self.now) }
+        ensures err { OnErr result (text.new ≡ text.old) }
+    {
+        match &self.kind {
+            Kind::Number(number) => text.append(number.text().as_slice()),
+            Kind::Text(own) => text.append(own.as_bytes()),
+        }
+    }
+
     /// A second value of the same text. A number is copied without memory.
     ///
     /// # Errors
@@ -203,31 +229,6 @@ impl Value {
             Kind::Number(number) => Ok(*number),
             Kind::Text(text) => Num::from_text(text.as_bytes()),
         }
-    }
-
-    /// Whether the value is true: the number that it stands for is not 0. Takes no memory.
-    ///
-    /// # Errors
-    ///
-    /// `Over` exactly where `number` answers it.
-    pub fn truth(&self) -> Result<bool, Over>
-        ensures { MatchResult result (λ t. option_map is_true (numeric_value significant_digits self.now) ≡ Some t) (λ _. numeric_value significant_digits self.now ≡ None) }
-    {
-        let number = self.number()?;
-        Ok(number.is_true())
-    }
-
-    /// The number that the value stands for, without its fraction. Takes no memory.
-    ///
-    /// # Errors
-    ///
-    /// `Over` exactly where `number` answers it.
-    pub fn whole(&self) -> Result<i64, Over>
-        ensures whole { MatchResult result (λ n. option_map whole_part (numeric_value significant_digits self.now) ≡ Some n) (λ _. numeric_value significant_digits self.now ≡ None) }
-        ensures below { IfOk result (λ n. unsigned_abs n < 10 ^ 18) }
-    {
-        let number = self.number()?;
-        Ok(number.to_whole())
     }
 
     /// Whether two values are one text. Takes no memory.

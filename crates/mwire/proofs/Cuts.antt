@@ -1,3 +1,4 @@
+-- SPDX-License-Identifier: Apache-2.0
 -- The finished lines of a stream that comes byte by byte, and what is kept of its rest.
 use Rattle.std.proofs.Common.{◌≡◌, ◌++◌, ◌+◌, ◌-◌, ◌<◌, ◌≤◌, ◌==◌, List, [], ◌∷◌, ℕ, refl, sym, ◌∙◌, ap, true, false, append_assoc, append-nil, length, take, map, arith, inl, inr, if◌then◌else◌, slice_index}
 use Rattle.std.specs.List.{flat_map}

@@ -1,3 +1,4 @@
+-- SPDX-License-Identifier: Apache-2.0
 -- How far `serve` comes, and how it ends.
 use Rattle.std.proofs.Common.{◌≡◌, ◌≢◌, ◌++◌, List, [], ◌∷◌, ℕ, refl, sym, ◌∙◌, ap, subst, Ok, Err, Result, Option, append-nil, take, IfErr, is_ok, inl, inr, arith}
 use Rattle.std.specs.Prelude.{map}

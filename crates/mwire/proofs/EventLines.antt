@@ -1,3 +1,4 @@
+-- SPDX-License-Identifier: Apache-2.0
 -- Events have a stream.
 use Rattle.std.proofs.Common.{◌≡◌, ℕ, suc, ◌+◌, ◌^◌, ◌<◌, ◌≤◌, Bool, true, false, List, [], ◌∷◌, ◌++◌, length, get_or, slice_index, map, ◌-◌, ◌==◌, All, append-nil, length-append, refl, sym, ap, ◌∙◌, arith}
 use Rattle.std.specs.Prelude.{take, drop, if◌then◌else◌}

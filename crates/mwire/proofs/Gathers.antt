@@ -1,3 +1,4 @@
+-- SPDX-License-Identifier: Apache-2.0
 -- The events of the lines of a stream, gathered as its bytes come.
 use Rattle.std.proofs.Common.{◌≡◌, ◌++◌, ◌+◌, ◌<◌, ◌≤◌, ◌==◌, List, [], ◌∷◌, ℕ, false, refl, sym, ◌∙◌, ap, subst, Option, append_assoc, length, get_or, take, arith}
 use Rattle.std.specs.Prelude.{map}

@@ -1,3 +1,4 @@
+-- SPDX-License-Identifier: Apache-2.0
 -- How lines are answered, one after another.
 use Rattle.std.proofs.Common.{◌≡◌, ◌≢◌, ◌++◌, List, [], ◌∷◌, refl, sym, ◌∙◌, ap, subst, append_assoc, append-nil}
 use Rattle.std.specs.Prelude.{map}

@@ -1,3 +1,4 @@
+-- SPDX-License-Identifier: Apache-2.0
 -- How an output is shown, one line after another.
 use Rattle.std.proofs.Common.{◌≡◌, ◌++◌, ◌+◌, ◌<◌, ◌≤◌, List, [], ◌∷◌, ℕ, sym, refl, ap, ◌∙◌, append_assoc, append-nil, length, take, drop, Result, OnOk, arith}
 use Rattle.std.specs.List.{slice_split, position_or_len}

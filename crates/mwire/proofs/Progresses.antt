@@ -1,3 +1,4 @@
+-- SPDX-License-Identifier: Apache-2.0
 -- How the lines of a stream are answered as its bytes come.
 use Rattle.std.proofs.Common.{◌≡◌, ◌++◌, ◌+◌, ◌<◌, ◌==◌, List, [], ◌∷◌, ℕ, refl, sym, ◌∙◌, ap, subst, Bool, false, Ok, Err, Result, Option, append_assoc, append-nil, length, take, drop, get_or, is_ok, take-append-drop, arith}
 use Rattle.std.specs.Prelude.{map}

@@ -1,3 +1,4 @@
+-- SPDX-License-Identifier: Apache-2.0
 -- What a clause on a success says of a result that is known.
 use Rattle.std.proofs.Common.{◌≡◌, true, false, Ok, Err, Result, OnOk, IsErr, is_ok, is_err}
 

@@ -1,3 +1,4 @@
+-- SPDX-License-Identifier: Apache-2.0
 -- The answers of a history of normal steps.
 use Rattle.std.proofs.Common.{◌≡◌, ◌++◌, List, [], ◌∷◌, true, false, refl, sym, ap, ◌∙◌}
 use Rattle.std.specs.Prelude.{map}

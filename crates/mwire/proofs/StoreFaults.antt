@@ -1,3 +1,4 @@
+-- SPDX-License-Identifier: Apache-2.0
 -- When a reply tells of the store's failure.
 use Rattle.std.proofs.Common.{◌≡◌, ◌≢◌, refl}
 use Rattle.mspec.specs.Code.{Lost, Store}

@@ -1,3 +1,4 @@
+-- SPDX-License-Identifier: Apache-2.0
 -- The wire form and the replies of the definitional interpreter on examples, as proved equations.
 use Rattle.std.proofs.Common.{◌≡◌, ℕ, List, [], ◌∷◌, ◌++◌, refl, ap, ◌∙◌}
 use Rattle.std.specs.Prelude.{codes, replicate}

@@ -1,3 +1,4 @@
+-- SPDX-License-Identifier: Apache-2.0
 -- What answers the lines of a stream: the bytes, and a history of the lines' events, over a store of some type. That the lines
 -- are steps is said where this type is sound; that no reply tells of the store's failure, where it is steady.
 use Rattle.std.specs.Prelude.{◌≡◌, ◌≢◌, List, [], ◌∷◌, ◌++◌, map}

@@ -1,3 +1,4 @@
+-- SPDX-License-Identifier: Apache-2.0
 pub mod Wire
 pub mod WireLaws
 pub mod Fates

@@ -1,3 +1,4 @@
+-- SPDX-License-Identifier: Apache-2.0
 -- What `serve_only` does: a stream is read to its end, its events are run, and one account is told of its replies.
 use Rattle.std.specs.Prelude.{◌≡◌, ◌⊎◌, ℕ, Bool, List, [], ◌++◌, MatchResult, Result, Option}
 use Rattle.std.specs.List.{flat_map}

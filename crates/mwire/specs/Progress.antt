@@ -1,3 +1,4 @@
+-- SPDX-License-Identifier: Apache-2.0
 -- How far a stream has been taken, and answered.
 use Rattle.std.specs.Prelude.{◌≡◌, ◌==◌, Bool, true, false, List, [], ◌∷◌, ◌++◌, take, map, MatchResult, Result, Option}
 use Rattle.std.specs.List.{All, flat_map}

@@ -1,3 +1,4 @@
+-- SPDX-License-Identifier: Apache-2.0
 -- What `serve` and `read_events` do with the bytes of a reader and of a writer.
 use Rattle.std.specs.Prelude.{◌≡◌, ◌≢◌, ◌⊎◌, List, MatchResult, Result, Option}
 use Rattle.std.specs.Io.KnownBytes.{Appends, Consumes, IsAtEnd}

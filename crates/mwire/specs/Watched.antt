@@ -1,3 +1,4 @@
+-- SPDX-License-Identifier: Apache-2.0
 -- What contracts see of a `Watched`.
 use Rattle.std.specs.Prelude.{◌≡◌, ◌⊎◌, ℕ, ◌+◌, ◌-◌, ◌^◌, min, Bool, true, false, ◌==◌, ◌&&◌, nat_lt, List, length, Result, Ok, Err}
 use Rattle.mwire.specs.declared.watched.Watched.{Watched}

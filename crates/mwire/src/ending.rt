@@ -1,3 +1,4 @@
+// SPDX-License-Identifier: Apache-2.0
 // How the end of a line is shown.
 ghost use Rattle.std.specs.Prelude.{◌≡◌, ◌++◌, OnOk};
 ghost use Rattle.mspec.specs.Code.{fault_text};

@@ -1,3 +1,4 @@
+// SPDX-License-Identifier: Apache-2.0
 //! What becomes of a line of the wire.
 ghost use Rattle.std.specs.Prelude.{◌≡◌};
 ghost use Rattle.mwire.specs.Wire.{fate_of};

@@ -1,3 +1,4 @@
+// SPDX-License-Identifier: Apache-2.0
 // What ends the reading of a stream early.
 use thiserror::Error;
 

@@ -1,3 +1,4 @@
+// SPDX-License-Identifier: Apache-2.0
 //! The wire: a stream of bytes in, the replies out.
 //!
 //! A line feed ends a line, and takes a carriage return just before it with it; an unfinished last line counts. A line is a

@@ -1,3 +1,4 @@
+// SPDX-License-Identifier: Apache-2.0
 // The line that is being read.
 ghost use Rattle.std.specs.Prelude.{◌≡◌, [], ◌∷◌, ◌++◌, take};
 ghost use Rattle.std.specs.Str.Lines.{strip_carriage_return};

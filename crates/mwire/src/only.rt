@@ -1,3 +1,4 @@
+// SPDX-License-Identifier: Apache-2.0
 // A stream, run to its end, of which one account is told.
 ghost use Rattle.std.specs.Prelude.{◌≡◌, ◌≢◌, ◌+◌, ◌≤◌, false, map, IfErr, is_ok, Ok, Err};
 ghost use Rattle.mworld.specs.View.{settings_of, reply_of};

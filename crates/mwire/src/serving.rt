@@ -1,3 +1,4 @@
+// SPDX-License-Identifier: Apache-2.0
 // A stream, served: each line is run and answered before the next one.
 ghost use Rattle.std.specs.Prelude.{◌≡◌, ◌≢◌, ◌+◌, ◌≤◌, ℕ, List, [], ◌∷◌, ◌++◌, false, OnOk, IfOk, IfErr, is_ok, Ok, Err};
 ghost use Rattle.mworld.specs.View.{settings_of, server_of, reply_of};

@@ -1,3 +1,4 @@
+// SPDX-License-Identifier: Apache-2.0
 // Readers and writers that remember whether a call failed.
 ghost use Rattle.std.specs.Prelude.{◌≡◌, ◌||◌, true, false, is_err};
 ghost use Rattle.std.specs.Io.{ReadsAtMost, WritesAtMost};

@@ -1,3 +1,4 @@
+-- SPDX-License-Identifier: Apache-2.0
 -- A line's step, from the run of its text.
 use Rattle.std.proofs.Common.{◌≡◌, ℕ, [], true, false, Vec, Global, refl, sym, ap, subst, ◌∙◌}
 use Rattle.std.specs.Ordering.{nat_cmp}

@@ -1,3 +1,4 @@
+-- SPDX-License-Identifier: Apache-2.0
 -- A run of events goes on by one step of the program.
 use Rattle.std.proofs.Common.{◌≡◌, ℕ, ◌+◌, ◌<◌, Bool, true, false, cond, List, [], ◌∷◌, ◌++◌, Option, Some, None, map, take, length, get_or, refl, sym, ap, ◌∙◌, subst}
 use Rattle.std.specs.Prelude.{IsTrue, ◌↔◌, unwrap_or, option_map, Result, Ok, Err, IfErr}

@@ -1,3 +1,4 @@
+-- SPDX-License-Identifier: Apache-2.0
 -- The checks that come before a line's text is parsed.
 use Rattle.std.specs.Prelude.{◌≡◌, true, false, Some, ℕ, Result, Ok, Err}
 use Rattle.std.specs.FinMap.{get}

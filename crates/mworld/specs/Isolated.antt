@@ -1,3 +1,4 @@
+-- SPDX-License-Identifier: Apache-2.0
 -- What a run of events tells an account.
 use Rattle.std.specs.Prelude.{◌≡◌, ℕ, Bool, List, map, take, IsTrue}
 use Rattle.mspec.specs.Node.{Text}

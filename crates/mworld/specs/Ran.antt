@@ -1,3 +1,4 @@
+-- SPDX-License-Identifier: Apache-2.0
 -- What a call that runs a text over a session says of the text's meaning.
 use Rattle.std.specs.Prelude.{ℕ, []}
 use Rattle.mspec.specs.Access.{Settings, name_at, steps_at}

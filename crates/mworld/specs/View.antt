@@ -1,3 +1,4 @@
+-- SPDX-License-Identifier: Apache-2.0
 -- A world and a reply of the program as those of the definitions.
 use Rattle.std.specs.Prelude.{ℕ}
 use Rattle.std.specs.Ordering.{nat_cmp}

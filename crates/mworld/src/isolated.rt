@@ -1,3 +1,4 @@
+// SPDX-License-Identifier: Apache-2.0
 // A run of events, as an account sees it.
 ghost use Rattle.std.specs.Prelude.{◌≡◌, List, ◌∷◌, [], ◌++◌, map, IfOk, IfErr, OnOk, IsTrue, ◌↔◌};
 ghost use Rattle.mspec.specs.Access.{name_at};

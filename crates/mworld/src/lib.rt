@@ -1,3 +1,4 @@
+// SPDX-License-Identifier: Apache-2.0
 //! Terminals with their sessions over a store: one line at a time, from its text to its reply.
 #![tactic(auto)]
 

@@ -1,3 +1,4 @@
+// SPDX-License-Identifier: Apache-2.0
 // Events and replies.
 ghost use Rattle.std.specs.Prelude.{◌≡◌, []};
 ghost use Rattle.mmeaning.specs.Step.{Faulted, is_failure};

@@ -1,3 +1,4 @@
+// SPDX-License-Identifier: Apache-2.0
 // A text, run over a session.
 ghost use Rattle.std.specs.Prelude.{◌≡◌, ◌≢◌, []};
 ghost use Rattle.moperator.specs.declared.code.Code.TheVariants.{Zstore};

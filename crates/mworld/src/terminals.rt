@@ -1,3 +1,4 @@
+// SPDX-License-Identifier: Apache-2.0
 // What terminals have from line to line: sessions and locks.
 ghost use Rattle.std.specs.Prelude.{◌≡◌, Some, None, OnOk, OnErr};
 ghost use Rattle.std.specs.FinMap.{get, remove};

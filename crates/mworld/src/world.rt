@@ -1,3 +1,4 @@
+// SPDX-License-Identifier: Apache-2.0
 // The world: one session for each terminal, and the locks of all, over a store.
 ghost use Rattle.std.specs.Prelude.{◌≡◌, ◌≢◌, ◌≤◌, IfOk, IfErr};
 ghost use Rattle.mmeaning.specs.Step.{Step, is_lost};

@@ -1,14 +1,31 @@
-//! Plays lines and prints what comes: the cases of `transcripts/` that are lines of the wire, over the plain store and with one tree kept.
-//! `tools/play.py` plays the same over the program, whose store is a table and which keeps 256. `mtranscript` says what a case looks like.
+// SPDX-License-Identifier: Apache-2.0
+//! Plays the cases of transcripts, and times calls.
+//!
+//! - `transcripts`, without words: plays the blocks of its standard input, and prints them with what
+//!   their cases give. The settings of lines lie where it runs.
+//! - `transcripts time COUNT [PAGE]`: times the calls of a page of `timings`, or of all pages. Each call
+//!   is made so often in each of five passes, and the time of the fastest pass is printed.
 #![tactic(auto)]
 
-mod lines;
-
-use mtranscript::{blocks_of, print};
+use anyhow::Context;
+use mtranscript::{Block, blocks_of, print};
 use std::io::Write;
-use std::{fs, io};
+use std::{env, fs, io};
 
 fn main(rt: HostRuntime) -> anyhow::Result<()> {
+    let mut words = env::args(&rt)?.skip(1);
+    match words.next() {
+        None => play_all(&rt),
+        Some(word) => {
+            anyhow::ensure!(word.as_str() == "time", "the words are: time COUNT [PAGE]");
+            let count = words.next().context("no count of rounds")?.parse()?;
+            time(&rt, count, words.next())
+        }
+    }
+}
+
+// Plays the blocks of the standard input.
+fn play_all(rt: &HostRuntime) -> anyhow::Result<()> {
     let text = io::read_to_string(rt.alloc(), rt.stdin())?;
     let mut out = Vec::new(rt.alloc());
     for (i, block) in blocks_of(rt.alloc(), text.as_str())?.iter().enumerate() {
@@ -16,23 +33,68 @@ fn main(rt: HostRuntime) -> anyhow::Result<()> {
             out.push(b'\n')?;
         }
         print(&mut out, block.header.as_bytes())?;
-        let settings = fs::read(&rt, settings_of(block.kind)?)?;
-        if block.kind == "told" {
-            lines::told(rt.alloc(), &settings, b"BOB", &block.cases, &mut out)?;
-        } else {
-            lines::lines(rt.alloc(), &settings, &block.cases, &mut out)?;
-        }
+        play(rt, block, &mut out)?;
     }
     rt.stdout().write_all(&out)?;
     Ok(())
 }
 
-// The file with the settings that a kind of block is played by.
-fn settings_of(kind: &str) -> anyhow::Result<&str> {
-    match kind {
-        "lines" => Ok("one_account.toml"),
-        "terminals" | "told" => Ok("three_terminals.toml"),
-        "accounts" => Ok("four_accounts.toml"),
-        _ => anyhow::bail!("no such kind of block"),
+// Plays the cases of a block, and adds them with what came.
+fn play(rt: &HostRuntime, block: &Block, out: &mut Vec<u8>) -> anyhow::Result<()> {
+    let alloc = rt.alloc();
+    let cases = block.cases.as_slice();
+    match block.kind {
+        "numbers" => part_cases::play_numbers(alloc, cases, out),
+        "keys" => part_cases::play_keys(alloc, cases, out),
+        "locals" => part_cases::play_locals(alloc, cases, out),
+        "locks" => part_cases::play_locks(alloc, cases, out),
+        "settings" => part_cases::play_settings(alloc, cases, out),
+        "texts" => text_cases::play_texts(alloc, cases, out),
+        "routine_lines" => text_cases::play_routine_lines(alloc, cases, out),
+        "trees" => text_cases::play_trees(alloc, cases, out),
+        "stores" => store_cases::play_stores(rt, cases, out),
+        "copies" => store_cases::play_copies(alloc, cases, out),
+        "drawn" => store_cases::play_drawn(rt, cases, out),
+        "database" => store_cases::play_database(alloc, cases, out),
+        "files" => store_cases::play_files(rt, cases, out),
+        "checksums" => timings::checksums(rt, cases, out),
+        kind => play_lines(rt, kind, cases, out),
     }
+}
+
+// Plays lines, by the settings of their kind.
+fn play_lines(
+    rt: &HostRuntime,
+    kind: &str,
+    cases: &[&str],
+    out: &mut Vec<u8>,
+) -> anyhow::Result<()> {
+    let settings = match kind {
+        "lines" | "replies" | "references" => "one_account.toml",
+        "terminals" | "told" => "three_terminals.toml",
+        "accounts" => "four_accounts.toml",
+        _ => anyhow::bail!("no such kind of block"),
+    };
+    let document = fs::read(rt, settings)?;
+    match kind {
+        "told" => line_cases::play_told(rt.alloc(), &document, b"BOB", cases, out),
+        "replies" => line_cases::play_replies(rt.alloc(), &document, cases, out),
+        "references" => line_cases::play_references(rt.alloc(), &document, b"ALICE", cases, out),
+        _ => line_cases::play_lines(rt.alloc(), &document, cases, out),
+    }
+}
+
+// Times the calls of this page, or of all.
+fn time(rt: &HostRuntime, rounds: usize, page: Option<String>) -> anyhow::Result<()> {
+    let mut out = Vec::new(rt.alloc());
+    match page {
+        Some(page) => timings::times(rt, rounds, page.as_str(), &mut out)?,
+        None => {
+            for page in timings::PAGES {
+                timings::times(rt, rounds, page, &mut out)?;
+            }
+        }
+    }
+    rt.stdout().write_all(&out)?;
+    Ok(())
 }

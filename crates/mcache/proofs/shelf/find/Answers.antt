@@ -1,3 +1,4 @@
+-- SPDX-License-Identifier: Apache-2.0
 use Rattle.mcache.proofs.Shelves.{found, looked_within, looked_count}
 use Rattle.std.proofs.Common.{ap}
 use Rattle.mcache.proofs.shelf.find.Goals as goal

@@ -1,3 +1,4 @@
+-- SPDX-License-Identifier: Apache-2.0
 use Rattle.std.proofs.Common.{subst, sym, inl, nat_eq, length, ◌≤◌, ◌+◌, arith}
 use Rattle.std.specs.Cmp.Lexicographic.{pointwise}
 use Rattle.mcache.specs.Kept.{IsWithinOr}

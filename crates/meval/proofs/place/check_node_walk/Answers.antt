@@ -1,3 +1,4 @@
+-- SPDX-License-Identifier: Apache-2.0
 use Rattle.std.proofs.Common.{sym}
 use Rattle.mspec.proofs.SubscriptTests.{decides_order_subscripts}
 use Rattle.meval.proofs.References.{walks, no_walk, not_empty}

@@ -1,3 +1,4 @@
+-- SPDX-License-Identifier: Apache-2.0
 use Rattle.std.proofs.Common.{◌≡◌, take}
 use Rattle.meval.proofs.variables.copied.Given as goal
 

@@ -1,3 +1,4 @@
+-- SPDX-License-Identifier: Apache-2.0
 use Rattle.std.proofs.Common.{Ok, refl}
 use Rattle.mgrammar.specs.Grammar.{form_of}
 use Rattle.mmeaning.specs.LineMeaning as meaning

@@ -1,3 +1,4 @@
+-- SPDX-License-Identifier: Apache-2.0
 use Rattle.std.proofs.Common.{map, drop}
 use Rattle.mtree.specs.Tree.{arg_tree}
 use Rattle.mexec.specs.Frames.{source_args, source_spot, spot_of}

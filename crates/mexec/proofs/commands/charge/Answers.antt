@@ -1,3 +1,4 @@
+-- SPDX-License-Identifier: Apache-2.0
 use Rattle.mcommand.proofs.Calls.{at_evaluated}
 use Rattle.mexec.proofs.commands.charge.Goals as goal
 

@@ -1,3 +1,4 @@
+-- SPDX-License-Identifier: Apache-2.0
 use Rattle.std.proofs.Common.{Ok, [], ◌∷◌, replicate}
 use Rattle.mspec.specs.Act.{give, write, with_locals}
 use Rattle.mspec.specs.Scopes.{killed_except, newed, newed_except}

@@ -1,3 +1,4 @@
+-- SPDX-License-Identifier: Apache-2.0
 use Rattle.std.proofs.Common.{[], ◌∷◌, map, sym, refl, cond}
 use Rattle.mspec.specs.Act.{give}
 use Rattle.mmeaning.specs.LineMeaning as meaning

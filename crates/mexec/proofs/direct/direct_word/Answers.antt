@@ -1,3 +1,4 @@
+-- SPDX-License-Identifier: Apache-2.0
 use Rattle.std.proofs.Common.{Ok, [], not}
 use Rattle.mspec.specs.Plan.{Release}
 use Rattle.mspec.specs.Act.{give, ask, with_locals}

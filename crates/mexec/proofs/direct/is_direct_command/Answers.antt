@@ -1,3 +1,4 @@
+-- SPDX-License-Identifier: Apache-2.0
 use Rattle.std.proofs.Common.{refl, sym}
 use Rattle.mexec.proofs.direct.is_direct_command.Goals as goal
 

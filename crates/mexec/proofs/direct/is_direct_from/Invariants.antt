@@ -1,3 +1,4 @@
+-- SPDX-License-Identifier: Apache-2.0
 use Rattle.std.proofs.Common.{◌≡◌, ◌-◌, length}
 use Rattle.mexec.specs.Direct.{is_direct_from}
 use Rattle.mexec.proofs.direct.is_direct_from.Given as goal

@@ -1,3 +1,4 @@
+-- SPDX-License-Identifier: Apache-2.0
 use Rattle.std.proofs.Common.{sym}
 use Rattle.mexec.proofs.DirectRuns.{other_word}
 use Rattle.mexec.proofs.direct.is_direct_word.Goals as goal

@@ -1,3 +1,4 @@
+-- SPDX-License-Identifier: Apache-2.0
 use Rattle.std.proofs.Common.{Some, refl}
 use Rattle.mspec.specs.Act.{◌>>=◌, Act}
 use Rattle.mtree.specs.Tree.{entry_tree}

@@ -1,3 +1,4 @@
+-- SPDX-License-Identifier: Apache-2.0
 use Rattle.std.proofs.Common.{◌≡◌, Bool, ◌+◌, arith}
 use Rattle.mspec.specs.Act.{Act, ◌>>=◌, test_is}
 use Rattle.mmeaning.specs.Levels.{Spot, Level, deeper, restores}

@@ -1,3 +1,4 @@
+-- SPDX-License-Identifier: Apache-2.0
 use Rattle.mexec.proofs.Calls.{runs_done}
 use Rattle.mexec.proofs.levels.after_level.Goals as goal
 

@@ -1,3 +1,4 @@
+-- SPDX-License-Identifier: Apache-2.0
 use Rattle.std.proofs.Common.{get_or, [], sym}
 use Rattle.mexec.specs.Frames.{spot_of, closing_of}
 use Rattle.mexec.proofs.Calls.{runs_stopped}

@@ -1,3 +1,4 @@
+-- SPDX-License-Identifier: Apache-2.0
 use Rattle.std.proofs.Common.{◌≤◌, ◌<◌, length, None, refl, arith, lt-ltb, le-ltb}
 use Rattle.mspec.proofs.ListPlaces.{none_left}
 use Rattle.mgrammar.specs.RoutineLine.{dots_of}

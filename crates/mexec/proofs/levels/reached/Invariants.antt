@@ -1,3 +1,4 @@
+-- SPDX-License-Identifier: Apache-2.0
 use Rattle.std.proofs.Common.{◌≤◌, ◌-◌, Option, ℕ, length, drop, Result}
 use Rattle.moperator.specs.declared.code.Code.{Code}
 use Rattle.mcommand.specs.declared.parts.Parts.{Parts}

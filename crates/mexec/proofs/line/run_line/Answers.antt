@@ -1,3 +1,4 @@
+-- SPDX-License-Identifier: Apache-2.0
 use Rattle.std.proofs.Common.{◌≡◌, ◌≤◌, Option, Some, None, length, refl, arith}
 use Rattle.mspec.proofs.ListPlaces.{none_left}
 use Rattle.mmeaning.specs.Levels.{commands_of}

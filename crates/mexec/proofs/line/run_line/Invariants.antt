@@ -1,3 +1,4 @@
+-- SPDX-License-Identifier: Apache-2.0
 use Rattle.std.proofs.Common.{◌+◌, ◌*◌, length}
 use Rattle.mmeaning.specs.Levels.{commands_of}
 use Rattle.mmeaning.specs.LineMeaning.{run_within}

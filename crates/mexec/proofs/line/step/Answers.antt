@@ -1,3 +1,4 @@
+-- SPDX-License-Identifier: Apache-2.0
 use Rattle.std.proofs.Common.{map, drop, arith}
 use Rattle.mtree.specs.Tree.{arg_tree}
 use Rattle.mcommand.proofs.Calls.{keeps_itself}

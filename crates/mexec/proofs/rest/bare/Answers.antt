@@ -1,3 +1,4 @@
+-- SPDX-License-Identifier: Apache-2.0
 use Rattle.mexec.specs.Frames.{rest_tree, spot_of}
 use Rattle.mexec.proofs.Calls.{runs_done}
 use Rattle.mexec.proofs.DirectRuns.{other_word}

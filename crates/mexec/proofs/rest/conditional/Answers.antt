@@ -1,3 +1,4 @@
+-- SPDX-License-Identifier: Apache-2.0
 use Rattle.mexec.specs.declared.signal.Signal.TheVariants as signal
 use Rattle.mexec.proofs.Calls.{runs_then, runs_stopped, runs_signal}
 use Rattle.mexec.proofs.rest.conditional.Goals as goal

@@ -1,3 +1,4 @@
+-- SPDX-License-Identifier: Apache-2.0
 use Rattle.std.proofs.Common.{ap, sym}
 use Rattle.mmeaning.specs.LineMeaning.{context, begin_turn}
 use Rattle.mcommand.specs.declared.turn.Course.TheVariants.{Forever}

@@ -1,3 +1,4 @@
+-- SPDX-License-Identifier: Apache-2.0
 use Rattle.std.proofs.Common.{◌≤◌, ◌<◌, ◌+◌, length, sym, ◌∙◌, arith}
 use Rattle.mspec.proofs.ListPlaces.{next_item, none_left}
 use Rattle.mexec.specs.declared.signal.Signal.TheVariants as signal

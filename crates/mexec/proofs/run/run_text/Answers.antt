@@ -1,3 +1,4 @@
+-- SPDX-License-Identifier: Apache-2.0
 use Rattle.std.proofs.Common.{◌∙◌, ap, Err}
 use Rattle.mgrammar.specs.Reading.{line_at}
 use Rattle.mtree.specs.Tree.{line_tree}

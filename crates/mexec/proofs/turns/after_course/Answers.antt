@@ -1,3 +1,4 @@
+-- SPDX-License-Identifier: Apache-2.0
 use Rattle.std.proofs.Common.{sym, ◌∙◌}
 use Rattle.mexec.proofs.Loops.{one_more, no_more, not_gone_on}
 use Rattle.mexec.proofs.turns.after_course.Goals as goal

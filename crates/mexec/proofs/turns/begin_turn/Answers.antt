@@ -1,3 +1,4 @@
+-- SPDX-License-Identifier: Apache-2.0
 use Rattle.mmeaning.specs.LineMeaning.{context}
 use Rattle.mexec.specs.Frames.{spot_of, turning}
 use Rattle.mexec.proofs.Calls.{runs_then, runs_stopped, runs_wanting, stack_push}

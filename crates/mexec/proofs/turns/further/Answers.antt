@@ -1,3 +1,4 @@
+-- SPDX-License-Identifier: Apache-2.0
 use Rattle.mexec.proofs.Calls.{runs_wanting, runs_lost}
 use Rattle.mexec.proofs.Loops.{further_runs}
 use Rattle.mexec.proofs.turns.further.Goals as goal

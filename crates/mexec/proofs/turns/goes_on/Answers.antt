@@ -1,3 +1,4 @@
+-- SPDX-License-Identifier: Apache-2.0
 use Rattle.std.proofs.Common.{true, refl}
 use Rattle.mexec.proofs.Calls.{at_gives, at_lost}
 use Rattle.mexec.proofs.turns.goes_on.Goals as goal

@@ -1,3 +1,4 @@
+-- SPDX-License-Identifier: Apache-2.0
 use Rattle.mcommand.proofs.Calls.{at_done}
 use Rattle.mexec.proofs.turns.start.Goals as goal
 

@@ -1,3 +1,4 @@
+-- SPDX-License-Identifier: Apache-2.0
 use Rattle.std.proofs.Common.{refl, arith}
 use Rattle.mcommand.proofs.Calls.{keeps_itself, keeps_on}
 use Rattle.mexec.specs.declared.signal.Signal.TheVariants as signal

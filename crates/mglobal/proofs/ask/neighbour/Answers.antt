@@ -1,3 +1,4 @@
+-- SPDX-License-Identifier: Apache-2.0
 use Rattle.std.proofs.Common.{◌≡◌, true, Option, Some, None, option_map, is_some, List, ℕ, ap, sym, subst, ◌∙◌}
 use Rattle.mspec.specs.Node.{Node}
 use Rattle.mspec.specs.Trees.{last}

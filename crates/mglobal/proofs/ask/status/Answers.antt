@@ -1,3 +1,4 @@
+-- SPDX-License-Identifier: Apache-2.0
 use Rattle.std.proofs.Common.{is_some, ap, ◌∙◌}
 use Rattle.mspec.specs.Globals.{next_key}
 use Rattle.mglobal.proofs.Sides.{bounds_below}

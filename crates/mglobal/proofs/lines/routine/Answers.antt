@@ -1,3 +1,4 @@
+-- SPDX-License-Identifier: Apache-2.0
 use Rattle.std.proofs.Common.{◌≤◌, ◌++◌, length, ap, sym, subst, ◌∙◌, refl, arith, append-nil, append_assoc}
 use Rattle.mspec.specs.Globals.{order_at}
 use Rattle.mspec.specs.Trees.{Forward}

@@ -1,3 +1,4 @@
+-- SPDX-License-Identifier: Apache-2.0
 use Rattle.std.proofs.Common.{◌≡◌, ◌≤◌, ◌++◌, length}
 use Rattle.mspec.specs.Globals.{lines_of}
 use Rattle.mstore.specs.Held.{AreHeld}

@@ -1,3 +1,4 @@
+-- SPDX-License-Identifier: Apache-2.0
 use Rattle.mgrammar.proofs.ReadingIndirectTexts.{one_reference}
 use Rattle.mgrammar.proofs.grammar_laws.one_reference.Goals as goal
 

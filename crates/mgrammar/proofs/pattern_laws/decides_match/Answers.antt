@@ -1,3 +1,4 @@
+-- SPDX-License-Identifier: Apache-2.0
 use Rattle.mgrammar.proofs.Matchings.{decides_match}
 use Rattle.mgrammar.proofs.pattern_laws.decides_match.Goals as goal
 

@@ -1,3 +1,4 @@
+-- SPDX-License-Identifier: Apache-2.0
 use Rattle.std.proofs.Common.{◌≡◌, List, take, vec_len}
 use Rattle.mgrant.specs.Reading.{Claim, HasTerminals, claims_at}
 use Rattle.mgrant.proofs.checks.claim.Given as goal

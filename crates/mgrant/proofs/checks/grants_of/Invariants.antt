@@ -1,3 +1,4 @@
+-- SPDX-License-Identifier: Apache-2.0
 use Rattle.std.proofs.Common.{◌≡◌, true, take}
 use Rattle.mgrant.specs.Document.{are_grants}
 use Rattle.mgrant.specs.Reading.{AreGranted, grants_seen}

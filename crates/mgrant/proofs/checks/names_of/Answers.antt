@@ -1,3 +1,4 @@
+-- SPDX-License-Identifier: Apache-2.0
 use Rattle.std.proofs.Common.{◌≡◌, ◌++◌, [], ◌∷◌, inr, true, false, get_or, take, refl, sym, ap, ◌∙◌, arith, rules}
 use Rattle.std.specs.Prelude.{not}
 use Rattle.std.specs.List.{list_any}

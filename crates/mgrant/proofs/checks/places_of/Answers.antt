@@ -1,3 +1,4 @@
+-- SPDX-License-Identifier: Apache-2.0
 use Rattle.std.proofs.Common.{◌≡◌, true, false, Some, arith, rules}
 use Rattle.std.proofs.lemmas.Grind.{common_steps}
 use Rattle.mspec.specs.Trees.{text_eq}

@@ -1,3 +1,4 @@
+-- SPDX-License-Identifier: Apache-2.0
 use Rattle.std.proofs.Common.{◌≡◌, true, take, map, unsigned_abs}
 use Rattle.mgrant.specs.Document.{are_steps}
 use Rattle.mgrant.specs.Reading.{entries_seen}

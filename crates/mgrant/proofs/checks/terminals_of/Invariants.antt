@@ -1,3 +1,4 @@
+-- SPDX-License-Identifier: Apache-2.0
 use Rattle.std.proofs.Common.{◌≡◌, take, vec_len}
 use Rattle.mgrant.specs.Reading.{HasTerminals, claims, entries_seen}
 use Rattle.mgrant.proofs.checks.terminals_of.Given as goal

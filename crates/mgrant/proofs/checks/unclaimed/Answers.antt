@@ -1,3 +1,4 @@
+-- SPDX-License-Identifier: Apache-2.0
 use Rattle.std.proofs.Common.{◌≡◌, ◌++◌, [], ◌∷◌, None, sym, subst, rules}
 use Rattle.mgrant.specs.Reading.{HasTerminals}
 use Rattle.mgrant.proofs.Parts.{no_terminals, none_more}

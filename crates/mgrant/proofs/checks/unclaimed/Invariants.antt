@@ -1,3 +1,4 @@
+-- SPDX-License-Identifier: Apache-2.0
 use Rattle.std.proofs.Common.{◌≡◌, [], vec_len}
 use Rattle.mgrant.specs.Reading.{HasTerminals}
 use Rattle.mgrant.proofs.checks.unclaimed.Given as goal

@@ -1,3 +1,4 @@
+-- SPDX-License-Identifier: Apache-2.0
 use Rattle.std.proofs.Common.{◌≡◌, ◌++◌, drop, option_map}
 use Rattle.toml.specs.View.{items_view, array_view}
 use Rattle.mgrant.specs.Document.{each_read, written_grant}

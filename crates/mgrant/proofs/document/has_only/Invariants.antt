@@ -1,3 +1,4 @@
+-- SPDX-License-Identifier: Apache-2.0
 use Rattle.std.proofs.Common.{◌≡◌}
 use Rattle.toml.specs.View.{table_view}
 use Rattle.mgrant.specs.Document.{has_only}

@@ -1,3 +1,4 @@
+-- SPDX-License-Identifier: Apache-2.0
 use Rattle.std.proofs.Common.{◌≡◌, ◌++◌, drop, option_map}
 use Rattle.toml.specs.Data.{as_integer}
 use Rattle.toml.specs.View.{items_view, array_view}

@@ -1,3 +1,4 @@
+-- SPDX-License-Identifier: Apache-2.0
 use Rattle.toml.proofs.Views.{table_get}
 use Rattle.mgrant.proofs.document.value_at.Goals as goal
 

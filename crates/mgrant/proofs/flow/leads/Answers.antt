@@ -1,3 +1,4 @@
+-- SPDX-License-Identifier: Apache-2.0
 use Rattle.std.proofs.Common.{◌≡◌, ◌<◌, ◌++◌, [], ◌∷◌, true, false, cond, All, length, get_or, set, sym, ap, subst, ◌∙◌, arith, rules, vec_len}
 use Rattle.std.specs.Prelude.{replicate}
 use Rattle.std.specs.List.Sorted.{IsNonDecreasingBy}

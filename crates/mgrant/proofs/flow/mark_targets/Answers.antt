@@ -1,3 +1,4 @@
+-- SPDX-License-Identifier: Apache-2.0
 use Rattle.std.proofs.Common.{◌≡◌, ◌<◌, ◌++◌, [], ◌∷◌, true, false, cond, All, length, get_or, take, set, sym, ap, subst, ◌∙◌, arith, vec_len}
 use Rattle.std.proofs.lemmas.List.{take_all, take_more, get_or-set_same}
 use Rattle.std.proofs.lemmas.List.Elements.{All-append, All-cons, All-nil}

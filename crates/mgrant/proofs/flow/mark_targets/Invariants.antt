@@ -1,3 +1,4 @@
+-- SPDX-License-Identifier: Apache-2.0
 use Rattle.std.proofs.Common.{◌≡◌, ℕ, List, All, true, false, take, get_or, vec_len}
 use Rattle.mgrant.specs.Edges.{Leads, IsStage, IsMore}
 use Rattle.mgrant.specs.declared.flow.Edge.{Edge}

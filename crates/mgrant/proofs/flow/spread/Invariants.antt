@@ -1,3 +1,4 @@
+-- SPDX-License-Identifier: Apache-2.0
 use Rattle.std.proofs.Common.{◌≡◌, ◌<◌, ◌≤◌, ℕ, true, false, length, get_or, vec_len}
 use Rattle.std.specs.List.{list_any}
 use Rattle.mgrant.specs.Edges.{leads, IsStage}

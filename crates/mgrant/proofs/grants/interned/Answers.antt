@@ -1,3 +1,4 @@
+-- SPDX-License-Identifier: Apache-2.0
 use Rattle.mgrant.proofs.Allowances.{interned_new}
 use Rattle.mgrant.proofs.grants.interned.Goals as goal
 

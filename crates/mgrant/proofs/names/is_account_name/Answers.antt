@@ -1,3 +1,4 @@
+-- SPDX-License-Identifier: Apache-2.0
 use Rattle.std.proofs.Common.{◌≡◌, sym, ◌∙◌, rules}
 use Rattle.mgrant.specs.Document.{is_account_name}
 use Rattle.mspec.proofs.SubscriptTests.{account_name_is, account_name_test}

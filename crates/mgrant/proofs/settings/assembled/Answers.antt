@@ -1,3 +1,4 @@
+-- SPDX-License-Identifier: Apache-2.0
 use Rattle.std.proofs.Common.{◌≡◌, ◌<◌, length, map, sym, ap, subst, ◌∙◌, unsigned_abs}
 use Rattle.mgrant.specs.Document.{names_of, are_names}
 use Rattle.mgrant.specs.Reading.{entries_view, entries_seen, grants_seen, claims, HasTerminals, AreGranted}

@@ -1,3 +1,4 @@
+-- SPDX-License-Identifier: Apache-2.0
 use Rattle.mhost.proofs.jobs.run_by.Goals as goal
 use Rattle.mhost.proofs.jobs.run_by.Goals.{in-Ok, in-Err}
 

@@ -1,3 +1,4 @@
+-- SPDX-License-Identifier: Apache-2.0
 use Rattle.std.proofs.Common.{Err, ap}
 use Rattle.mhost.proofs.OnlyTold.{device_broke}
 use Rattle.mhost.proofs.only.only_in.Goals as goal

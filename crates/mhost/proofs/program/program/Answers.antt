@@ -1,3 +1,4 @@
+-- SPDX-License-Identifier: Apache-2.0
 use Rattle.std.proofs.Common.{inr}
 use Rattle.mhost.proofs.program.program.Goals as goal
 

@@ -1,3 +1,4 @@
+-- SPDX-License-Identifier: Apache-2.0
 use Rattle.std.proofs.Common.{refl}
 use Rattle.mhost.proofs.Early.{no_settings, no_store}
 use Rattle.mhost.proofs.Served.{answered, broken}

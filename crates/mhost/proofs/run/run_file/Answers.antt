@@ -1,3 +1,4 @@
+-- SPDX-License-Identifier: Apache-2.0
 use Rattle.std.proofs.Common.{refl}
 use Rattle.mhost.proofs.Early.{no_file, no_settings_over_file}
 use Rattle.mhost.proofs.Served.{broken, followed}

@@ -1,3 +1,4 @@
+-- SPDX-License-Identifier: Apache-2.0
 use Rattle.mhost.proofs.run.serve_over.Goals as goal
 use Rattle.mworld.specs.View.{server_of}
 

@@ -1,3 +1,4 @@
+-- SPDX-License-Identifier: Apache-2.0
 use Rattle.std.proofs.Common.{refl, ◌∙◌}
 use Rattle.mhost.specs.Connections.{none, more}
 use Rattle.mhost.proofs.serving.serve_connections.Goals as goal

@@ -1,3 +1,4 @@
+-- SPDX-License-Identifier: Apache-2.0
 use Rattle.std.proofs.Common.{◌≡◌}
 use Rattle.mworld.specs.View.{settings_of, server_of}
 use Rattle.mhost.specs.Connections.{Connections}

@@ -1,3 +1,4 @@
+-- SPDX-License-Identifier: Apache-2.0
 use Rattle.std.proofs.Common.{ap, ◌∙◌}
 use Rattle.mmeaning.specs.History.{opening}
 use Rattle.sqlite.specs.Steps.{over_memory}

@@ -1,3 +1,4 @@
+-- SPDX-License-Identifier: Apache-2.0
 use Rattle.misolation.proofs.PartsAlone.{history_has_trace}
 use Rattle.misolation.proofs.history_laws.history_has_trace.Goals as goal
 

@@ -1,3 +1,4 @@
+-- SPDX-License-Identifier: Apache-2.0
 use Rattle.misolation.proofs.PartsAlone.{part_is_history}
 use Rattle.misolation.proofs.history_laws.part_is_history.Goals as goal
 

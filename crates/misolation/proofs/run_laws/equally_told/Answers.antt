@@ -1,3 +1,4 @@
+-- SPDX-License-Identifier: Apache-2.0
 use Rattle.misolation.proofs.RunsTold.{equally_told}
 use Rattle.misolation.proofs.run_laws.equally_told.Goals as goal
 

@@ -1,3 +1,4 @@
+-- SPDX-License-Identifier: Apache-2.0
 use Rattle.std.proofs.Common.{◌∙◌, ap, refl, subst, inl, inr, map, string_bytes}
 use Rattle.clap.specs.Words.{App, IsAmong, fault_of, is_simple_and_free, kind_of}
 use Rattle.mjob.proofs.command_line.job.Goals as goal

@@ -1,3 +1,4 @@
+-- SPDX-License-Identifier: Apache-2.0
 use Rattle.std.proofs.Common.{◌≡◌, ◌≤◌, length}
 use Rattle.mspec.specs.Act.{Node}
 use Rattle.mspec.specs.KeyBytes.{key_bytes}

@@ -1,3 +1,4 @@
+-- SPDX-License-Identifier: Apache-2.0
 use Rattle.std.proofs.Common.{length, ap, arith, length-append}
 use Rattle.mspec.specs.KeyBytes.{subscript_bytes}
 use Rattle.mkey.proofs.SubscriptFronts.{number_long}
@@ -5,6 +6,6 @@ use Rattle.mkey.proofs.ancestors.number_len.Goals as goal
 
 pub returns-clause-subscript : goal.returns-clause-subscript
 returns-clause-subscript c s rest e =
-    let long = number_long s c.args.bytes.now rest e in
+    let long = number_long 18 s c.args.bytes.now rest e in
     let whole = ap length e in
     grind (arith, long, whole, length-append (subscript_bytes 18 s) rest)

@@ -1,3 +1,4 @@
+-- SPDX-License-Identifier: Apache-2.0
 use Rattle.std.proofs.Common.{◌≡◌, Some, None, length, sym, ◌∙◌, ap, arith}
 use Rattle.std.specs.List.{position}
 use Rattle.mkey.proofs.KeyWalks.{is_zero, zero_at, length-text_bytes}

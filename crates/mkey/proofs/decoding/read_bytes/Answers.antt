@@ -1,3 +1,4 @@
+-- SPDX-License-Identifier: Apache-2.0
 use Rattle.std.proofs.Common.{◌++◌, ap, sym, ◌∙◌}
 use Rattle.mspec.specs.KeyBytes.{big_endian}
 use Rattle.mkey.proofs.NumberBytes.{word_pair}

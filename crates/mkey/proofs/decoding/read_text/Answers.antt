@@ -1,3 +1,4 @@
+-- SPDX-License-Identifier: Apache-2.0
 use Rattle.std.proofs.Common.{◌++◌, ◌+◌, ◌∙◌, drop, sym, ap, subst, All, ◌<◌}
 use Rattle.mspec.specs.KeyBytes.{text_bytes}
 use Rattle.mkey.specs.Front.{IsFront}

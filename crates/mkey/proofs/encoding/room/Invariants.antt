@@ -1,3 +1,4 @@
+-- SPDX-License-Identifier: Apache-2.0
 use Rattle.std.proofs.Common.{◌≡◌, ◌+◌, ◌*◌, ◌<◌, ◌≤◌, ℕ, [], drop, get_or}
 use Rattle.mspec.specs.KeyBytes.{IsAscii}
 use Rattle.mkey.specs.Room.{total_room}

@@ -1,3 +1,4 @@
+-- SPDX-License-Identifier: Apache-2.0
 use Rattle.std.proofs.Common.{◌≡◌, ◌+◌, ◌*◌, ap, ap₂, sym, ◌∙◌, get_or, arith}
 use Rattle.std.specs.Option.{unwrap_or}
 use Rattle.mkey.proofs.Heads.{fitting_bytes, head_none, head_more, head_fits}

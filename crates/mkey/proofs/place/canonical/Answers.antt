@@ -1,3 +1,4 @@
+-- SPDX-License-Identifier: Apache-2.0
 use Rattle.std.proofs.Common.{◌≡◌, Some, sym, ◌∙◌, ap, rules}
 use Rattle.std.specs.Prelude.{IsTrue, false}
 use Rattle.std.proofs.lemmas.Int.{to_z-of_z}
@@ -8,7 +9,7 @@ use Rattle.mkey.proofs.place.canonical.Goals as goal
 
 pub returns-then-not-is_canonical-clause-value : goal.returns-then-not-is_canonical-clause-value
 returns-then-not-is_canonical-clause-value c =
-    sym (none_where_other c.args.text.now (λ is. let no : IsTrue false = c.if-not-is_canonical.ensures.1 is in absurd (cc)))
+    sym (none_where_other 18 c.args.text.now (λ is. let no : IsTrue false = c.if-not-is_canonical.ensures.1 is in absurd (cc)))
 
 pub returns-in-Ok-clause-value : goal.returns-in-Ok-clause-value
 returns-in-Ok-clause-value c =

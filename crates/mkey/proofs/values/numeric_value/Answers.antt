@@ -1,3 +1,4 @@
+-- SPDX-License-Identifier: Apache-2.0
 use Rattle.std.proofs.Common.{◌∷◌, sym, subst}
 use Rattle.mspec.specs.KeyBytes.{subscript_bytes}
 use Rattle.mspec.specs.Number.{significant_digits}

@@ -1,3 +1,4 @@
+-- SPDX-License-Identifier: Apache-2.0
 use Rattle.std.proofs.Common.{sym, ap, subst, ◌∙◌}
 use Rattle.mspec.specs.KeyBytes.{IsAscii}
 use Rattle.mvalue.specs.Texts.{kind_text}

@@ -1,3 +1,4 @@
+-- SPDX-License-Identifier: Apache-2.0
 use Rattle.std.proofs.Common.{◌*◌, ◌<◌, ◌≤◌, ℕ, [], get_or}
 use Rattle.mspec.specs.KeyBytes.{IsAscii}
 use Rattle.mkey.proofs.values.values_room.Given as goal

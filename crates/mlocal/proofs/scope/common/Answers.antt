@@ -1,3 +1,4 @@
+-- SPDX-License-Identifier: Apache-2.0
 use Rattle.std.proofs.Common.{rules}
 use Rattle.std.proofs.lemmas.Fn.{filter_same}
 use Rattle.mspec.specs.Scopes.{is_among}

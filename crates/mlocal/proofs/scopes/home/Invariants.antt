@@ -1,3 +1,4 @@
+-- SPDX-License-Identifier: Apache-2.0
 use Rattle.std.proofs.Common.{◌≡◌, ◌≤◌, length, drop, false}
 use Rattle.std.specs.List.{list_any}
 use Rattle.mlocal.specs.Home.{has_name}

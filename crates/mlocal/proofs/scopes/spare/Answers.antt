@@ -1,3 +1,4 @@
+-- SPDX-License-Identifier: Apache-2.0
 use Rattle.std.proofs.Common.{◌≤◌, ◌<◌, get_or, length, ap, ◌∙◌, sym, arith}
 use Rattle.mspec.specs.Scopes.{is_among}
 use Rattle.mlocal.proofs.Killed.{kill-step, kill-done}

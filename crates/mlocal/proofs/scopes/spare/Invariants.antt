@@ -1,3 +1,4 @@
+-- SPDX-License-Identifier: Apache-2.0
 use Rattle.std.proofs.Common.{◌≡◌, ◌++◌, take, drop, length}
 use Rattle.mspec.specs.Scopes.{is_among}
 use Rattle.mlocal.specs.Home.{killed_up}

@@ -1,3 +1,4 @@
+-- SPDX-License-Identifier: Apache-2.0
 use Rattle.std.proofs.Common.{◌≤◌, length, refl, sym, ap, subst, ◌∙◌}
 use Rattle.mvalue.specs.Texts.{kind_text}
 use Rattle.mkey.proofs.NumericValues.{number_is_sub}

@@ -1,3 +1,4 @@
+-- SPDX-License-Identifier: Apache-2.0
 use Rattle.std.proofs.Common.{refl, sym, ap, subst, ◌∙◌}
 use Rattle.mspec.specs.KeyBytes.{IsSubscript}
 use Rattle.mvalue.specs.Texts.{kind_text}

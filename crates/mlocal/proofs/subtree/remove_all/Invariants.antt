@@ -1,3 +1,4 @@
+-- SPDX-License-Identifier: Apache-2.0
 use Rattle.std.proofs.Common.{◌≡◌, cond, take, All, List, None}
 use Rattle.std.specs.BTreeMap.{get, keys}
 use Rattle.mspec.specs.Node.{Text}

@@ -1,3 +1,4 @@
+-- SPDX-License-Identifier: Apache-2.0
 use Rattle.std.proofs.Common.{◌≡◌, ◌<◌, ℕ, Bool, true, false, Result, Ok, Err, length, refl, sym, ◌∙◌}
 use Rattle.std.specs.Result.{IfOk}
 use Rattle.std.specs.BTreeMap.{BTreeMap, IsOrdered, get}

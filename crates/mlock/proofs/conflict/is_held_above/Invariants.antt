@@ -1,3 +1,4 @@
+-- SPDX-License-Identifier: Apache-2.0
 use Rattle.std.proofs.Common.{◌≡◌, ◌<◌, ◌≤◌, ℕ, false, length}
 use Rattle.std.specs.BTreeMap.{get}
 use Rattle.mspec.specs.LockConflict.{lock_name_cmp}

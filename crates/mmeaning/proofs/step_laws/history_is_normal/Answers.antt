@@ -1,3 +1,4 @@
+-- SPDX-License-Identifier: Apache-2.0
 use Rattle.mmeaning.proofs.Histories.{history_is_normal}
 use Rattle.mmeaning.proofs.step_laws.history_is_normal.Goals as goal
 

@@ -1,3 +1,4 @@
+-- SPDX-License-Identifier: Apache-2.0
 use Rattle.mmeaning.proofs.OtherLocks.{others_kept}
 use Rattle.mmeaning.proofs.step_laws.others_kept.Goals as goal
 

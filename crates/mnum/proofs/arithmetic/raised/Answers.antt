@@ -1,3 +1,4 @@
+-- SPDX-License-Identifier: Apache-2.0
 use Rattle.std.proofs.Common.{arith, ap, sym, ◌∙◌, ◌≡◌, ◌*◌, ◌^◌, ◌+◌}
 use Rattle.std.proofs.Math.Nat.{mul_assoc}
 use Rattle.mspec.proofs.Powers.{ten_add}

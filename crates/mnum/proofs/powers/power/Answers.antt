@@ -1,3 +1,4 @@
+-- SPDX-License-Identifier: Apache-2.0
 use Rattle.mnum.proofs.PowerTable.{table_row}
 use Rattle.mspec.proofs.Powers.{ten_pos}
 use Rattle.std.proofs.Common.{subst, sym, ℕ, ◌<◌}

@@ -1,3 +1,4 @@
+-- SPDX-License-Identifier: Apache-2.0
 use Rattle.std.proofs.Common.{ℕ, sym, ◌∙◌, arith, subst, take}
 use Rattle.mnum.specs.Head.{IsCapped}
 use Rattle.mspec.specs.Literal.{digits_after}

@@ -1,3 +1,4 @@
+-- SPDX-License-Identifier: Apache-2.0
 use Rattle.std.proofs.Common.{◌≡◌, ℕ, ◌+◌, ◌-◌, ◌*◌, ◌≤◌, length, sym, ◌∙◌, ap, inl, inr, arith, get_or, true}
 use Rattle.std.specs.List.{prefix_len}
 use borrow.Author.Count.{below_more}

@@ -1,3 +1,4 @@
+-- SPDX-License-Identifier: Apache-2.0
 use Rattle.std.proofs.Common.{◌≡◌, ℕ, ◌+◌, ◌^◌, ◌<◌, ◌≤◌, true, take, get_or}
 use Rattle.mnum.specs.Head.{IsHead}
 use Rattle.mspec.specs.Literal.{is_digit, digits_after}

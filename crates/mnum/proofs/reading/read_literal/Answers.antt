@@ -1,3 +1,4 @@
+-- SPDX-License-Identifier: Apache-2.0
 use Rattle.std.proofs.Common.{◌+◌, sym, ◌∙◌, ap, inl, refl, cond, lit≤, add-zero}
 use Rattle.mspec.specs.Literal.{digits_after}
 use Rattle.mspec.specs.NumberText.{front_digits}

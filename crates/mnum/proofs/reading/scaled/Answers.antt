@@ -1,3 +1,4 @@
+-- SPDX-License-Identifier: Apache-2.0
 use Rattle.std.proofs.Common.{◌≡◌, ℕ, ◌+◌, ◌-◌, ◌*◌, ◌^◌, ◌<◌, ◌≤◌, sym, ◌∙◌, ap, inl, inr, arith, ⊎_elim}
 use Rattle.mnum.proofs.SignLaws.{exact_floor}
 use Rattle.mspec.proofs.Powers.{ten_pos}

@@ -1,3 +1,4 @@
+-- SPDX-License-Identifier: Apache-2.0
 use Rattle.std.proofs.Common.{◌≡◌, ◌+◌, ◌*◌, ◌-◌, ◌^◌, ◌<◌, ◌≤◌, true, get_or, length, sym, ◌∙◌, arith, below_more}
 use Rattle.mspec.specs.Literal.{is_digit}
 use Rattle.mnum.proofs.Scans.{digit_high}

@@ -1,3 +1,4 @@
+-- SPDX-License-Identifier: Apache-2.0
 use Rattle.mnum.proofs.LiteralLaws.{value_is}
 use Rattle.mnum.proofs.Outcomes.{same_number}
 use Rattle.mnum.proofs.reading.value_of.Goals as goal

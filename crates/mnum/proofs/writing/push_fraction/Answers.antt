@@ -1,3 +1,4 @@
+-- SPDX-License-Identifier: Apache-2.0
 use Rattle.std.proofs.Common.{◌≡◌, ◌-◌, ◌+◌, ◌^◌, ◌<◌, ◌∙◌, ap, arith, ◌++◌, ◌%◌, subst, ℕ, zero, suc}
 use Rattle.std.proofs.lemmas.Nat.{mod_below}
 use Rattle.mspec.specs.NumberText.{fraction_text}

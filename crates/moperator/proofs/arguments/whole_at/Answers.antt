@@ -1,3 +1,4 @@
+-- SPDX-License-Identifier: Apache-2.0
 use Rattle.moperator.proofs.GivenArguments.{left_out, given, refused}
 use Rattle.moperator.proofs.Numbers.{whole_fits}
 use Rattle.mmeaning.proofs.Calls.{residual_is}

@@ -1,3 +1,4 @@
+-- SPDX-License-Identifier: Apache-2.0
 use Rattle.std.proofs.Common.{ℤ, Vec, Global, refl}
 use Rattle.moperator.specs.declared.code.Code.TheVariants.{Zmem}
 use Rattle.moperator.proofs.GivenArguments.{next_whole, whole_refused, wholes_end}

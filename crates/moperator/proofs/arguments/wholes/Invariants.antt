@@ -1,3 +1,4 @@
+-- SPDX-License-Identifier: Apache-2.0
 use Rattle.std.proofs.Common.{ℤ, [], drop, Result, Vec, Global}
 use Rattle.mmeaning.specs.Functions as meaning
 use Rattle.mmeaning.specs.Yields.{Yields}

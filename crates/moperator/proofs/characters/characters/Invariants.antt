@@ -1,3 +1,4 @@
+-- SPDX-License-Identifier: Apache-2.0
 use Rattle.std.proofs.Common.{◌≡◌, ◌++◌, drop}
 use Rattle.std.specs.List.{list_any, flat_map}
 use Rattle.mspec.specs.CharacterFunctions.{is_over_ascii, character_of}

@@ -1,3 +1,4 @@
+-- SPDX-License-Identifier: Apache-2.0
 use Rattle.std.proofs.Common.{ap, ◌∙◌}
 use Rattle.mmeaning.specs.Functions.{whole_text}
 use Rattle.moperator.proofs.Numbers.{whole_fits}

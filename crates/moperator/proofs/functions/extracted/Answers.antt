@@ -1,3 +1,4 @@
+-- SPDX-License-Identifier: Apache-2.0
 use Rattle.mmeaning.proofs.Yieldings.{yields_then, yields_stopped, yields_gives}
 use Rattle.moperator.proofs.functions.extracted.Goals as goal
 

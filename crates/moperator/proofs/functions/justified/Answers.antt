@@ -1,3 +1,4 @@
+-- SPDX-License-Identifier: Apache-2.0
 use Rattle.moperator.proofs.Numbers.{width_fits}
 use Rattle.mmeaning.proofs.Yieldings.{yields_then, yields_stopped}
 use Rattle.moperator.proofs.functions.justified.Goals as goal

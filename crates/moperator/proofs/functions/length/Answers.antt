@@ -1,3 +1,4 @@
+-- SPDX-License-Identifier: Apache-2.0
 use Rattle.mmeaning.proofs.Yieldings.{yields_gives}
 use Rattle.moperator.proofs.GivenArguments.{argument_is}
 use Rattle.moperator.proofs.functions.length.Goals as goal

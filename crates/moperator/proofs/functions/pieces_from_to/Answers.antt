@@ -1,3 +1,4 @@
+-- SPDX-License-Identifier: Apache-2.0
 use Rattle.std.proofs.Common.{◌<◌}
 use Rattle.moperator.proofs.PieceBytes.{piece_all}
 use Rattle.mmeaning.proofs.Yieldings.{yields_then, yields_stopped, yields_gives}

@@ -1,3 +1,4 @@
+-- SPDX-License-Identifier: Apache-2.0
 use Rattle.moperator.proofs.functions.translated.Goals as goal
 
 pub returns : goal.returns

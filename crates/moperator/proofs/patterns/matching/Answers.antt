@@ -1,3 +1,4 @@
+-- SPDX-License-Identifier: Apache-2.0
 use Rattle.std.proofs.Common.{◌∙◌, arith, map}
 use Rattle.mgrammar.specs.Matching.{atom_of}
 use Rattle.mtree.specs.Tree.{atom_tree}

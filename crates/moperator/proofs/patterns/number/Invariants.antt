@@ -1,3 +1,4 @@
+-- SPDX-License-Identifier: Apache-2.0
 use Rattle.std.proofs.Common.{◌≡◌, take}
 use Rattle.mspec.specs.Literal.{digits_after}
 use Rattle.moperator.specs.CappedCounts.{capped}

@@ -1,3 +1,4 @@
+-- SPDX-License-Identifier: Apache-2.0
 use Rattle.std.proofs.Common.{◌≡◌, ◌++◌, drop, map}
 use Rattle.mgrammar.specs.Matching.{pattern_code}
 use Rattle.mtext.specs.PatternPlaces.{codes_of}

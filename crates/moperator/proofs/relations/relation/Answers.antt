@@ -1,3 +1,4 @@
+-- SPDX-License-Identifier: Apache-2.0
 use Rattle.std.proofs.Common.{ap, ◌∙◌}
 use Rattle.std.specs.Ordering.{is_lt, is_gt}
 use Rattle.moperator.proofs.Truths.{both_first, both_second, either_first, either_second}

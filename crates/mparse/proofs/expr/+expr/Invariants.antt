@@ -1,3 +1,4 @@
+-- SPDX-License-Identifier: Apache-2.0
 use Rattle.std.proofs.Common.{◌≡◌, ◌+◌, ◌*◌, ◌-◌, length, map}
 use Rattle.mgrammar.specs.Reading.{with_front, many, after_comma, list_at, choice_with, step_with, readers_at, inner_at}
 use Rattle.mtree.specs.Tree.{expr_tree, step_tree, choice_tree}

@@ -1,3 +1,4 @@
+-- SPDX-License-Identifier: Apache-2.0
 use Rattle.mtree.specs.Tree.{reference_tree}
 use Rattle.mgrammar.specs.Grammar.{spell_reference}
 use Rattle.mgrammar.specs.WellFormed.{max_depth, WellReference}

@@ -1,3 +1,4 @@
+-- SPDX-License-Identifier: Apache-2.0
 use Rattle.std.proofs.Common.{length, sym, rules}
 use Rattle.mgrammar.specs.Reading.{many}
 use Rattle.mgrammar.specs.RoutineLine.{dot_at, dots_at}

@@ -1,3 +1,4 @@
+-- SPDX-License-Identifier: Apache-2.0
 use Rattle.std.proofs.Common.{◌≡◌, ◌-◌, length}
 use Rattle.mgrammar.specs.Reading.{with_front, many}
 use Rattle.mgrammar.specs.RoutineLine.{dot_at}

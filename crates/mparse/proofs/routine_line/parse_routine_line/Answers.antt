@@ -1,3 +1,4 @@
+-- SPDX-License-Identifier: Apache-2.0
 use Rattle.mparse.proofs.RoutineLines.{is_tree, is_syntax}
 use Rattle.mparse.proofs.routine_line.parse_routine_line.Goals as goal
 

@@ -1,3 +1,4 @@
+-- SPDX-License-Identifier: Apache-2.0
 use Rattle.std.proofs.Common.{◌≡◌, ◌-◌, length, map}
 use Rattle.mtree.specs.Tree.{atom_tree}
 use Rattle.mgrammar.specs.Reading.{with_front, many, atom_at}

@@ -1,3 +1,4 @@
+-- SPDX-License-Identifier: Apache-2.0
 use Rattle.std.proofs.Common.{◌≡◌, ◌+◌, ◌≤◌, length, drop}
 use Rattle.std.specs.List.{filter}
 use Rattle.mgrammar.specs.Reading.{run_of}

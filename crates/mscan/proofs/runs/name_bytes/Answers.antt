@@ -1,3 +1,4 @@
+-- SPDX-License-Identifier: Apache-2.0
 use Rattle.std.proofs.Common.{sym}
 use Rattle.mscan.proofs.NameRuns.{name_length, name_reads, name_is}
 use Rattle.mscan.proofs.runs.name_bytes.Goals as goal

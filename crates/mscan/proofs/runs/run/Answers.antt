@@ -1,3 +1,4 @@
+-- SPDX-License-Identifier: Apache-2.0
 use Rattle.mscan.proofs.CharacterRuns.{run_below_128}
 use Rattle.mscan.proofs.runs.run.Goals as goal
 

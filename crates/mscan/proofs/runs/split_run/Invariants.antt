@@ -1,3 +1,4 @@
+-- SPDX-License-Identifier: Apache-2.0
 use Rattle.std.proofs.Common.{◌≡◌, ◌++◌, take, drop}
 use Rattle.mgrammar.specs.Reading.{run_of, after_run}
 use Rattle.mscan.specs.Classes.{in_class}

@@ -1,3 +1,4 @@
+-- SPDX-License-Identifier: Apache-2.0
 use Rattle.mspec.proofs.LockFacts.{counts_go_up}
 use Rattle.mspec.proofs.lock_laws.counts_go_up.Goals as goal
 

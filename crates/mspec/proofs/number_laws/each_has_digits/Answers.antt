@@ -1,3 +1,4 @@
+-- SPDX-License-Identifier: Apache-2.0
 use Rattle.mspec.proofs.DistanceLaws.{each_has_digits}
 use Rattle.mspec.proofs.number_laws.each_has_digits.Goals as goal
 

@@ -1,3 +1,4 @@
+-- SPDX-License-Identifier: Apache-2.0
 use Rattle.mspec.proofs.LongestLiteral.{reads_longest_literal}
 use Rattle.mspec.proofs.number_laws.reads_longest_literal.Goals as goal
 

@@ -1,3 +1,4 @@
+-- SPDX-License-Identifier: Apache-2.0
 use Rattle.mspec.proofs.DistanceLaws.{rounding_is_nearest}
 use Rattle.mspec.proofs.number_laws.rounding_is_nearest.Goals as goal
 

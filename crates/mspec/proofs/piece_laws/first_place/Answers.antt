@@ -1,3 +1,4 @@
+-- SPDX-License-Identifier: Apache-2.0
 use Rattle.mspec.proofs.FirstPlaces.{first_place_stands}
 use Rattle.mspec.proofs.piece_laws.first_place.Goals as goal
 

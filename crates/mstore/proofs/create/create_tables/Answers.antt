@@ -1,3 +1,4 @@
+-- SPDX-License-Identifier: Apache-2.0
 use Rattle.std.proofs.Common.{◌≡◌, true, sym, subst, rules}
 use Rattle.sqlite.specs.Held.{state}
 use Rattle.mstore.specs.Database.{IsBare}

@@ -1,3 +1,4 @@
+-- SPDX-License-Identifier: Apache-2.0
 use Rattle.std.proofs.Common.{rules}
 use Rattle.sqlite_rules.proofs.ListLemmas.{has_at}
 use Rattle.mstore.proofs.opening.are_nodes.Goals as goal

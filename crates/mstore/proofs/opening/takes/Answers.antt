@@ -1,3 +1,4 @@
+-- SPDX-License-Identifier: Apache-2.0
 use Rattle.std.proofs.Common.{[], subst}
 use Rattle.sqlite.specs.State.{IsNotRun}
 use Rattle.sqlite.specs.Held.{state}

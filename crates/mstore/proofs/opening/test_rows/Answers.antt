@@ -1,3 +1,4 @@
+-- SPDX-License-Identifier: Apache-2.0
 use Rattle.std.proofs.Common.{rules}
 use Rattle.sqlite_rules.proofs.ListLemmas.{all_has}
 use Rattle.mstore.specs.Rows.{ShowsNode, shown_of}

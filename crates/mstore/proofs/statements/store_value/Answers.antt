@@ -1,3 +1,4 @@
+-- SPDX-License-Identifier: Apache-2.0
 use Rattle.mstore.proofs.Sound.{clean_after, failed_execute, put_done}
 use Rattle.mstore.proofs.statements.store_value.Goals as goal
 

@@ -1,3 +1,4 @@
+-- SPDX-License-Identifier: Apache-2.0
 use Rattle.std.proofs.Common.{arith, Some, None, subst, sym, length, ◌+◌, ap}
 use Rattle.mtext.specs.Cuts.{IsBehind}
 use Rattle.mtext.proofs.PieceSteps.{behind_more, behind_last, some_characters}

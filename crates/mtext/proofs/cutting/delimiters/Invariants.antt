@@ -1,3 +1,4 @@
+-- SPDX-License-Identifier: Apache-2.0
 use Rattle.std.proofs.Common.{◌-◌, ◌≤◌, length}
 use Rattle.mtext.specs.Cuts.{IsBehind}
 use Rattle.mtext.proofs.cutting.delimiters.Given as goal

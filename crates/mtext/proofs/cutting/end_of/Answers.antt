@@ -1,3 +1,4 @@
+-- SPDX-License-Identifier: Apache-2.0
 use Rattle.std.proofs.Common.{arith, Some, None}
 use Rattle.mtext.proofs.PieceSteps.{behind_last, end_found, end_of_text}
 use Rattle.mtext.proofs.FoundPlaces.{in_rest}

@@ -1,3 +1,4 @@
+-- SPDX-License-Identifier: Apache-2.0
 use Rattle.std.proofs.Common.{sym, ap, ◌∙◌, ℕ, take, drop, pos, ◌-◌}
 use Rattle.std.specs.Prelude.{unwrap_or}
 use Rattle.mspec.specs.Pieces.{join, pieces_of}

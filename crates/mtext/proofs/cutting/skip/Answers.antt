@@ -1,3 +1,4 @@
+-- SPDX-License-Identifier: Apache-2.0
 use Rattle.std.proofs.Common.{arith, ◌+◌, sym, length, Some, None, subst}
 use Rattle.mtext.specs.Cuts.{IsBehind}
 use Rattle.mtext.proofs.PieceSteps.{behind_more, behind_last}

@@ -1,3 +1,4 @@
+-- SPDX-License-Identifier: Apache-2.0
 use Rattle.mtext.specs.Cuts.{IsBehind}
 use Rattle.mtext.proofs.cutting.skip.Given as goal
 

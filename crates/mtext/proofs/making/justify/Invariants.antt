@@ -1,3 +1,4 @@
+-- SPDX-License-Identifier: Apache-2.0
 use Rattle.std.proofs.Common.{◌≡◌, replicate}
 use Rattle.mtext.proofs.making.justify.Given as goal
 

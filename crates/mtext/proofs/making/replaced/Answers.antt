@@ -1,3 +1,4 @@
+-- SPDX-License-Identifier: Apache-2.0
 use Rattle.std.proofs.Common.{◌≡◌, ◌+◌, subst, length, drop, Some, None}
 use Rattle.mspec.specs.Pieces.{pieces_of}
 use Rattle.mspec.specs.TextFunctions.{made}

@@ -1,3 +1,4 @@
+-- SPDX-License-Identifier: Apache-2.0
 use Rattle.std.proofs.Common.{◌≤◌, Ok, length, sym, ap, ◌∙◌, subst, arith}
 use Rattle.mspec.specs.TextFunctions.{made, longest_text}
 use Rattle.mtext.specs.Made.{translation, Answers}

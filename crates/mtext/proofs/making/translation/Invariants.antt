@@ -1,3 +1,4 @@
+-- SPDX-License-Identifier: Apache-2.0
 use Rattle.std.proofs.Common.{◌≡◌, take}
 use Rattle.mtext.specs.Made.{translation}
 use Rattle.mtext.proofs.making.translation.Given as goal

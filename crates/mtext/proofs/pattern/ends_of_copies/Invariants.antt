@@ -1,3 +1,4 @@
+-- SPDX-License-Identifier: Apache-2.0
 use Rattle.std.proofs.Common.{◌≡◌, ◌<◌, ℕ, length, get_or, Decides, None, false}
 use Rattle.mspec.specs.Pattern.{copies}
 use Rattle.mtext.specs.PatternPlaces.{count_of, IsEnd, IsFewest}

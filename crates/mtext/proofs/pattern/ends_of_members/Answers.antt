@@ -1,3 +1,4 @@
+-- SPDX-License-Identifier: Apache-2.0
 use Rattle.std.proofs.Common.{rules, ◌+◌, Decides, sym, subst, ◌∙◌, arith}
 use Rattle.mspec.specs.Pattern.{members, is_in_any}
 use Rattle.mtext.specs.PatternPlaces.{codes_of, count_of, IsEnd}

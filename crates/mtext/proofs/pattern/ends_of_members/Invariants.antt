@@ -1,3 +1,4 @@
+-- SPDX-License-Identifier: Apache-2.0
 use Rattle.std.proofs.Common.{◌≡◌, ◌<◌, ℕ, length, get_or, Decides, false}
 use Rattle.mspec.specs.Pattern.{is_in_any, members}
 use Rattle.mtext.specs.PatternPlaces.{codes_of, count_of, IsEnd}

@@ -1,3 +1,4 @@
+-- SPDX-License-Identifier: Apache-2.0
 use Rattle.std.proofs.Common.{◌≡◌, ◌<◌, ℕ, length, get_or, ◌==◌, false}
 use Rattle.mtext.proofs.pattern.first_marks.Given as goal
 

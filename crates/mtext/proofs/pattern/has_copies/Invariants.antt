@@ -1,3 +1,4 @@
+-- SPDX-License-Identifier: Apache-2.0
 use Rattle.std.proofs.Common.{◌-◌, ◌≤◌, ◌↔◌}
 use Rattle.mtext.specs.PatternPlaces.{IsCopiedTo}
 use Rattle.mtext.proofs.pattern.has_copies.Given as goal

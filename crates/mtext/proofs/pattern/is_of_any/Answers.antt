@@ -1,3 +1,4 @@
+-- SPDX-License-Identifier: Apache-2.0
 use Rattle.std.proofs.Common.{refl, rules}
 use Rattle.std.proofs.lemmas.List.Recursion.{or_is}
 use Rattle.mspec.specs.Pattern.{is_in, is_in_any}

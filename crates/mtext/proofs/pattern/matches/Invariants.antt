@@ -1,3 +1,4 @@
+-- SPDX-License-Identifier: Apache-2.0
 use Rattle.std.proofs.Common.{take}
 use Rattle.mtext.specs.PatternPlaces.{atoms_of, AreMatched}
 use Rattle.mtext.proofs.pattern.matches.Given as goal

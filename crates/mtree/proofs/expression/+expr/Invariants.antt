@@ -1,3 +1,4 @@
+-- SPDX-License-Identifier: Apache-2.0
 use Rattle.std.proofs.Common.{◌≡◌, ◌++◌, drop, map}
 use Rattle.mtree.specs.Tree.{expr_tree, step_tree}
 use Rattle.mgrammar.specs.Grammar.{spell_steps, steps_of, spell_more_exprs, exprs_of}

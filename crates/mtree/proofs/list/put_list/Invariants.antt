@@ -1,3 +1,4 @@
+-- SPDX-License-Identifier: Apache-2.0
 use Rattle.std.proofs.Common.{◌≡◌, ◌++◌, drop}
 use Rattle.mgrammar.specs.Grammar.{spell_more}
 use Rattle.mtree.proofs.list.put_list.Given as goal

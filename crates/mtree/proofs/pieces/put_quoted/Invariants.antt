@@ -1,3 +1,4 @@
+-- SPDX-License-Identifier: Apache-2.0
 use Rattle.std.proofs.Common.{◌≡◌, ◌++◌, drop}
 use Rattle.mgrammar.specs.Grammar.{quoted}
 use Rattle.mtree.proofs.pieces.put_quoted.Given as goal

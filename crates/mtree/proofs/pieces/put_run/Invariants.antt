@@ -1,3 +1,4 @@
+-- SPDX-License-Identifier: Apache-2.0
 use Rattle.std.proofs.Common.{◌≡◌, ◌++◌, replicate}
 use Rattle.mtree.proofs.pieces.put_run.Given as goal
 

@@ -1,3 +1,4 @@
+-- SPDX-License-Identifier: Apache-2.0
 use Rattle.std.proofs.Common.{◌≡◌, ◌++◌, drop}
 use Rattle.mgrammar.specs.RoutineLine.{spell_dots}
 use Rattle.mtree.proofs.write.put_dots.Given as goal

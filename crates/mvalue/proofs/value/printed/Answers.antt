@@ -1,3 +1,4 @@
+-- SPDX-License-Identifier: Apache-2.0
 use Rattle.std.proofs.Common.{◌≡◌, ◌++◌, ℕ, List, All, true, false, ap, sym, ◌∙◌, subst}
 use Rattle.mspec.specs.NumberText.{number_text}
 use Rattle.mnum.specs.Num.{units}

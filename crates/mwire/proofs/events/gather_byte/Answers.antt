@@ -1,3 +1,4 @@
+-- SPDX-License-Identifier: Apache-2.0
 use Rattle.std.proofs.Common.{rules}
 use Rattle.mwire.proofs.Gathers.{Gathered-byte, Gathered-line}
 use Rattle.mwire.proofs.events.gather_byte.Goals as goal

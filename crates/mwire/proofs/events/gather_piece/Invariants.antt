@@ -1,3 +1,4 @@
+-- SPDX-License-Identifier: Apache-2.0
 use Rattle.std.proofs.Common.{List, ℕ, ◌++◌, take, map}
 use Rattle.mworld.specs.View.{event_of}
 use Rattle.mwire.specs.Progress.{Gathered}

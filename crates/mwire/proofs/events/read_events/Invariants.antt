@@ -1,3 +1,4 @@
+-- SPDX-License-Identifier: Apache-2.0
 use Rattle.std.proofs.Common.{◌≡◌, false, map}
 use Rattle.mworld.specs.View.{event_of}
 use Rattle.mwire.specs.Watched.{inner_of, calls_of, failed_of, counted_on}

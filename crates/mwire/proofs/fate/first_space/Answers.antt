@@ -1,3 +1,4 @@
+-- SPDX-License-Identifier: Apache-2.0
 use Rattle.mwire.proofs.Spaces.{space_found, no_space}
 use Rattle.mwire.proofs.fate.first_space.Goals as goal
 

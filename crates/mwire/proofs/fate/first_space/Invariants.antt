@@ -1,3 +1,4 @@
+-- SPDX-License-Identifier: Apache-2.0
 use Rattle.std.proofs.Common.{◌≡◌, ℕ, ◌<◌, get_or, false}
 use Rattle.mwire.specs.Wire.{is_space}
 use Rattle.mwire.proofs.fate.first_space.Given as goal

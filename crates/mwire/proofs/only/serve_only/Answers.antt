@@ -1,3 +1,4 @@
+-- SPDX-License-Identifier: Apache-2.0
 use Rattle.std.proofs.Common.{refl, ap, ◌∙◌, map}
 use Rattle.mworld.specs.View.{event_of}
 use Rattle.mworld.specs.Isolated.{told_of, replies_of}

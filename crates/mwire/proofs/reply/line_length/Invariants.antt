@@ -1,3 +1,4 @@
+-- SPDX-License-Identifier: Apache-2.0
 use Rattle.std.proofs.Common.{◌≡◌, ℕ, ◌<◌, get_or, false}
 use Rattle.mwire.specs.Wire.{is_line_end}
 use Rattle.mwire.proofs.reply.line_length.Given as goal

@@ -1,3 +1,4 @@
+-- SPDX-License-Identifier: Apache-2.0
 use Rattle.std.proofs.Common.{◌≡◌, ◌++◌, length}
 use Rattle.std.specs.List.{slice_split, position_or_len}
 use Rattle.mwire.specs.Wire.{output_text, is_line_end}

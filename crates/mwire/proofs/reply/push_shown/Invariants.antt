@@ -1,3 +1,4 @@
+-- SPDX-License-Identifier: Apache-2.0
 use Rattle.std.proofs.Common.{◌≡◌, ◌++◌, take}
 use Rattle.mwire.specs.Wire.{shown}
 use Rattle.mwire.proofs.reply.push_shown.Given as goal

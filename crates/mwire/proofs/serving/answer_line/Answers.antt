@@ -1,3 +1,4 @@
+-- SPDX-License-Identifier: Apache-2.0
 use Rattle.std.proofs.Common.{refl, sym, ◌∙◌, ap, []}
 use Rattle.mwire.specs.Fates.{fate_in}
 use Rattle.mwire.proofs.LineAnswers.{LineAnswered-at, replied}

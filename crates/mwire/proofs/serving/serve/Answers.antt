@@ -1,3 +1,4 @@
+-- SPDX-License-Identifier: Apache-2.0
 use Rattle.std.proofs.Common.{false, ap, ◌∙◌, take, rules, arith}
 use Rattle.std.specs.Prelude.{◌||◌}
 use Rattle.mwire.proofs.Ends.{HasServed-start, HasServed-kept, HasServed-more, Serves-read, Serves-end, Serves-piece}

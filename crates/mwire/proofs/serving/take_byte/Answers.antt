@@ -1,3 +1,4 @@
+-- SPDX-License-Identifier: Apache-2.0
 use Rattle.std.proofs.Common.{rules}
 use Rattle.mwire.proofs.Progresses.{Passes-byte, Passes-line}
 use Rattle.mwire.proofs.serving.take_byte.Goals as goal

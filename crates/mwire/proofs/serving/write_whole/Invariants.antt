@@ -1,3 +1,4 @@
+-- SPDX-License-Identifier: Apache-2.0
 use Rattle.std.proofs.Common.{◌≡◌, length}
 use Rattle.mwire.specs.Watched.{inner_of, failed_of, stalls_of}
 use Rattle.mwire.specs.Progress.{SentUpTo}

@@ -1,3 +1,4 @@
+-- SPDX-License-Identifier: Apache-2.0
 use Rattle.mwire.proofs.EventLines.{events_have_stream}
 use Rattle.mwire.proofs.wire_laws.events_have_stream.Goals as goal
 

@@ -1,3 +1,4 @@
+-- SPDX-License-Identifier: Apache-2.0
 use Rattle.mwire.proofs.ServedLines.{lines_have_answers}
 use Rattle.mwire.proofs.wire_laws.lines_have_answers.Goals as goal
 

@@ -1,3 +1,4 @@
+-- SPDX-License-Identifier: Apache-2.0
 use Rattle.mwire.proofs.ServedLines.{normal_answers_are_served}
 use Rattle.mwire.proofs.wire_laws.normal_answers_are_served.Goals as goal
 

@@ -1,3 +1,4 @@
+-- SPDX-License-Identifier: Apache-2.0
 use Rattle.std.proofs.Common.{◌≡◌, sym, ap, ◌∙◌, subst, map, take}
 use Rattle.std.proofs.lemmas.List.{take_all}
 use Rattle.mspec.specs.Access.{name_at}

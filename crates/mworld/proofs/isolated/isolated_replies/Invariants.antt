@@ -1,3 +1,4 @@
+-- SPDX-License-Identifier: Apache-2.0
 use Rattle.std.proofs.Common.{◌≡◌, map, take}
 use Rattle.mspec.specs.Access.{name_at}
 use Rattle.mworld.specs.View.{settings_of, event_of}

@@ -1,3 +1,4 @@
+-- SPDX-License-Identifier: Apache-2.0
 use Rattle.std.proofs.Common.{refl, rules, sym, ap}
 use Rattle.mspec.specs.Act.{level_begun}
 use Rattle.mworld.proofs.Runs.{ran_over, not_run}

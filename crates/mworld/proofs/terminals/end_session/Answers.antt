@@ -1,3 +1,4 @@
+-- SPDX-License-Identifier: Apache-2.0
 use Rattle.mworld.proofs.Sessions.{taken_away}
 use Rattle.mworld.proofs.terminals.end_session.Goals as goal
 

@@ -1,3 +1,4 @@
+-- SPDX-License-Identifier: Apache-2.0
 use Rattle.std.proofs.Common.{Bool, true, refl}
 use Rattle.mspec.specs.Act.{give}
 use Rattle.mnum.specs.Num.{units}
@@ -7,15 +8,15 @@ use Rattle.mcommand.proofs.parts.Parts.add.Goals as goal
 
 pub returns-in_err-next-clause-does : goal.returns-in_err-next-clause-does
 returns-in_err-next-clause-does g c =
-    let next = rw (sum_units (units c.args.number) (units c.args.by) c.add.result c.add.ensures) at c.in_err-next.ensures in
+    let next = rw (sum_units (units c.args.number) (units c.args.by) c.add.result c.add.ensures) at c.in_err-next.ensures.value in
     does_stopped _ (does_yielded next) c.from_residual.ensures
 
 pub returns-in_err-set_index-clause-does : goal.returns-in_err-set_index-clause-does
 returns-in_err-set_index-clause-does g c =
-    let next = rw (sum_units (units c.args.number) (units c.args.by) c.add.result c.add.ensures) at c.in_ok-next.ensures in
+    let next = rw (sum_units (units c.args.number) (units c.args.by) c.add.result c.add.ensures) at c.in_ok-next.ensures.value in
     does_then _ (does_yielded next) (does_stopped (λ i _. give true) (does_evaluated c.in_err-set_index.ensures.does) c.from_residual-in_err-set_index.ensures)
 
 pub returns-clause-does : goal.returns-clause-does
 returns-clause-does g c =
-    let next = rw (sum_units (units c.args.number) (units c.args.by) c.add.result c.add.ensures) at c.in_ok-next.ensures in
+    let next = rw (sum_units (units c.args.number) (units c.args.by) c.add.result c.add.ensures) at c.in_ok-next.ensures.value in
     does_then _ (does_yielded next) (does_then (λ i _. give true) (does_evaluated c.in_ok-set_index.ensures.does) (does_gives true (λ (b : Bool). b) true refl))

@@ -1,3 +1,4 @@
+-- SPDX-License-Identifier: Apache-2.0
 use Rattle.std.proofs.Common.{◌≡◌, ◌∙◌, Bool, true, false, ◌+ℤ◌, cond, sym, refl}
 use Rattle.mspec.specs.Act.{give}
 use Rattle.mmeaning.specs.Courses.{is_past}

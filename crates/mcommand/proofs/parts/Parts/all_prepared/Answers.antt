@@ -1,3 +1,4 @@
+-- SPDX-License-Identifier: Apache-2.0
 use Rattle.std.proofs.Common.{map, arith, refl, Vec, Global}
 use Rattle.std.proofs.lemmas.List.{map_push}
 use Rattle.mspec.proofs.ListPlaces.{none_left}

@@ -1,3 +1,4 @@
+-- SPDX-License-Identifier: Apache-2.0
 use Rattle.std.proofs.Common.{◌≤◌, [], map, drop, Result, Vec, Global}
 use Rattle.mmeaning.specs.LineMeaning as meaning
 use Rattle.mtree.specs.Tree.{target_tree}

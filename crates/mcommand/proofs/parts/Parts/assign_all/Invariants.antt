@@ -1,3 +1,4 @@
+-- SPDX-License-Identifier: Apache-2.0
 use Rattle.std.proofs.Common.{◌≡◌, ◌≤◌, ◌++◌, List, map, Result}
 use Rattle.mmeaning.specs.LineMeaning as meaning
 use Rattle.moperator.specs.declared.code.Code.{Code}

@@ -1,3 +1,4 @@
+-- SPDX-License-Identifier: Apache-2.0
 use Rattle.std.proofs.Common.{Bool, true, refl, sym}
 use Rattle.mspec.specs.Plan.{Take}
 use Rattle.mspec.specs.Act.{give, ask}

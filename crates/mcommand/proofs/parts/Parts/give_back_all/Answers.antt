@@ -1,3 +1,4 @@
+-- SPDX-License-Identifier: Apache-2.0
 use Rattle.std.proofs.Common.{refl}
 use Rattle.mspec.proofs.ListPlaces.{none_left}
 use Rattle.mcommand.proofs.Calls.{does_gives, keeps_itself, keeps_on}

@@ -1,3 +1,4 @@
+-- SPDX-License-Identifier: Apache-2.0
 use Rattle.std.proofs.Common.{◌≡◌, drop, Ok}
 use Rattle.mmeaning.specs.Locking as meaning
 use Rattle.mcommand.specs.declared.parts.Parts.{Parts}

@@ -1,3 +1,4 @@
+-- SPDX-License-Identifier: Apache-2.0
 use Rattle.mcommand.proofs.Calls.{does_evaluated}
 use Rattle.mcommand.proofs.parts.Parts.lines_of_entry.Goals as goal
 

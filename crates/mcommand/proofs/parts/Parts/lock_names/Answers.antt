@@ -1,3 +1,4 @@
+-- SPDX-License-Identifier: Apache-2.0
 use Rattle.std.proofs.Common.{map, arith, refl, sym, subst, Vec, Global}
 use Rattle.mspec.proofs.ListPlaces.{none_left}
 use Rattle.mmeaning.proofs.Calls.{residual_is}

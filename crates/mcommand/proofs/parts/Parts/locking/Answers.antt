@@ -1,3 +1,4 @@
+-- SPDX-License-Identifier: Apache-2.0
 use Rattle.std.proofs.Common.{sym, subst}
 use Rattle.mtree.specs.Tree.{condition_tree, kind_tree}
 use Rattle.mmeaning.specs.Expression.{optional_value}

@@ -1,3 +1,4 @@
+-- SPDX-License-Identifier: Apache-2.0
 use Rattle.std.proofs.Common.{refl, ap}
 use Rattle.mmeaning.specs.LineMeaning as meaning
 use Rattle.meval.specs.Places.{pending_view}

@@ -1,3 +1,4 @@
+-- SPDX-License-Identifier: Apache-2.0
 use Rattle.mcommand.proofs.Locking.{does_release}
 use Rattle.mcommand.proofs.parts.Parts.release.Goals as goal
 

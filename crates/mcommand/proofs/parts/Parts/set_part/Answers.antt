@@ -1,3 +1,4 @@
+-- SPDX-License-Identifier: Apache-2.0
 use Rattle.std.proofs.Common.{◌≡◌, Ok, Err, ◌∙◌, subst}
 use Rattle.mspec.specs.Act.{Text}
 use Rattle.mspec.specs.TextFunctions.{set_piece_of}

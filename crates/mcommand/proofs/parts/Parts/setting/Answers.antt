@@ -1,3 +1,4 @@
+-- SPDX-License-Identifier: Apache-2.0
 use Rattle.std.proofs.Common.{map, Vec, Global}
 use Rattle.mmeaning.proofs.Calls.{residual_is}
 use Rattle.mtree.specs.Tree.{target_tree, expr_tree}

@@ -1,3 +1,4 @@
+-- SPDX-License-Identifier: Apache-2.0
 use Rattle.mmeaning.proofs.Calls.{residual_is}
 use Rattle.mtree.specs.Tree.{expr_tree}
 use Rattle.mcommand.proofs.Calls.{does_evaluated}

@@ -1,3 +1,4 @@
+-- SPDX-License-Identifier: Apache-2.0
 use Rattle.std.proofs.Common.{Some, option_map, refl}
 use Rattle.mspec.specs.Act.{give}
 use Rattle.mmeaning.specs.Courses.{last_turn}

@@ -1,3 +1,4 @@
+-- SPDX-License-Identifier: Apache-2.0
 use Rattle.std.proofs.Common.{◌≡◌, ◌∙◌, true, false, Some, None, cond, option_map, sym, ap}
 use Rattle.mspec.specs.Act.{give}
 use Rattle.mmeaning.specs.Courses.{limited, is_past}

@@ -1,3 +1,4 @@
+-- SPDX-License-Identifier: Apache-2.0
 use Rattle.std.proofs.Common.{refl}
 use Rattle.mcommand.proofs.Calls.{does_wanting}
 use Rattle.mcommand.proofs.Locking.{does_take}

@@ -1,3 +1,4 @@
+-- SPDX-License-Identifier: Apache-2.0
 use Rattle.mtree.specs.Tree.{entry_tree}
 use Rattle.mcommand.specs.Targets.{target_among}
 use Rattle.mcommand.proofs.Calls.{does_then, does_stopped, does_yielded}

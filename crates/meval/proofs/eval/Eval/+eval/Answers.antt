@@ -1,3 +1,4 @@
+-- SPDX-License-Identifier: Apache-2.0
 use Rattle.std.proofs.Common.{◌≡◌, ◌∙◌, ◌++◌, List, [], ◌∷◌, map, refl, sym, ap, arith}
 use Rattle.std.proofs.lemmas.Bool.Decides.{nat_tests}
 use Rattle.std.proofs.lemmas.List.{nil_from_length}
@@ -33,7 +34,7 @@ operand-returns-in_err-value-clause-does g t c = rw (operand_is c.args.operand.n
 
 pub operand-returns-clause-does : goal.operand-returns-clause-does
 operand-returns-clause-does g t c =
-    let signs = rw c.deref.ensures.value at c.unaries.ensures in
+    let signs = rw c.deref.ensures.value at c.unaries.ensures.value in
     rw (operand_is c.args.operand.now) (evaluates_then _ c.in_ok-value.ensures.does (evaluates_yielded signs))
 
 -- ---- primary
@@ -43,7 +44,7 @@ primary-returns-in_err-charge-clause-does g t c = rw (residual_is _ _ c.from_res
 
 pub primary-returns-in-Number-clause-does : goal.primary-returns-in-Number-clause-does
 primary-returns-in-Number-clause-does g t c =
-    let k = computed_outcome _ _ c.number.ensures c.computed.ensures in
+    let k = computed_outcome _ _ c.number.ensures c.computed.ensures.value in
     rw (c.in-Number.is, number_is c.in-Number.literal) (evaluates_then _ c.in_ok-charge.ensures.does (evaluates_yielded k))
 
 pub primary-returns-in_ok-copy-in-Text-clause-does : goal.primary-returns-in_ok-copy-in-Text-clause-does
@@ -118,7 +119,7 @@ called-returns-in_err-values-clause-does g t c = evaluates_stopped _ c.in_err-va
 
 pub called-returns-clause-does : goal.called-returns-clause-does
 called-returns-clause-does g t c =
-    let called = rw c.as_slice.ensures at c.call.ensures in
+    let called = rw c.as_slice.ensures at c.call.ensures.value in
     evaluates_then _ c.in_ok-values.ensures.does (evaluates_yielded called)
 
 -- ---- references
@@ -355,7 +356,7 @@ order_of_place-returns-clause-does g t c =
 
 pub step-returns-in-Some-clause-does : goal.step-returns-in-Some-clause-does
 step-returns-in-Some-clause-does g t c =
-    let k = rw c.of_number.ensures at c.binary-in-Some.ensures in
+    let k = rw c.of_number.ensures at c.binary-in-Some.ensures.value in
     rw (c.in-Apply.is, apply_is c.in-Apply.operator c.in-Apply.operand) (evaluates_then _ c.in-Some.ensures.does (evaluates_yielded k))
 
 pub step-returns-in_err-right-in-None-clause-does : goal.step-returns-in_err-right-in-None-clause-does
@@ -366,7 +367,7 @@ step-returns-in_err-right-in-None-clause-does g t c =
 pub step-returns-in_ok-right-in-None-clause-does : goal.step-returns-in_ok-right-in-None-clause-does
 step-returns-in_ok-right-in-None-clause-does g t c =
     let k = rw (c.in-None.ensures.none refl) at c.in_ok-right-in-None.ensures.does in
-    rw (c.in-Apply.is, apply_is c.in-Apply.operator c.in-Apply.operand) (evaluates_then _ k (evaluates_yielded c.binary-in-None.ensures))
+    rw (c.in-Apply.is, apply_is c.in-Apply.operator c.in-Apply.operand) (evaluates_then _ k (evaluates_yielded c.binary-in-None.ensures.value))
 
 pub step-returns-in_err-matches-in-Matches-clause-does : goal.step-returns-in_err-matches-in-Matches-clause-does
 step-returns-in_err-matches-in-Matches-clause-does g t c =
@@ -509,14 +510,14 @@ chosen-returns-in_err-truth_of-clause-does g t c =
     rw (residual_is _ _ c.from_residual-in_err-truth_of.ensures)
     (c.loop-choice.invariant.leads _ _
     (next_choice c.args.choices.now c.loop-choice.choice-index c.choice-item.result _ c.loop-choice-test.true c.choice-item.is
-    (evaluates_then _ c.in_ok-condition.ensures.does (evaluates_failed _ (evaluates_yielded c.in_err-truth_of.ensures)))))
+    (evaluates_then _ c.in_ok-condition.ensures.does (evaluates_failed _ (evaluates_yielded c.in_err-truth_of.ensures.truth)))))
 
 pub chosen-returns-then-branch-clause-does : goal.chosen-returns-then-branch-clause-does
 chosen-returns-then-branch-clause-does g t c =
     c.loop-choice.invariant.leads _ _
     (next_choice c.args.choices.now c.loop-choice.choice-index c.choice-item.result _ c.loop-choice-test.true c.choice-item.is
     (evaluates_then _ c.in_ok-condition.ensures.does
-    (evaluates_then _ (evaluates_yielded c.in_ok-truth_of.ensures) (is_chosen c.in_ok-truth_of.field-0 _ _ c.if-branch.true c.value-then-branch.ensures.does))))
+    (evaluates_then _ (evaluates_yielded c.in_ok-truth_of.ensures.truth) (is_chosen c.in_ok-truth_of.field-0 _ _ c.if-branch.true c.value-then-branch.ensures.does))))
 
 pub chosen-loop-choice-preserved : goal.chosen-loop-choice-preserved
 chosen-loop-choice-preserved g t c = record {
@@ -525,7 +526,7 @@ chosen-loop-choice-preserved g t c = record {
   leads = λ r e k.
       c.loop-choice.invariant.leads r e
       (next_choice c.args.choices.now c.loop-choice.choice-index c.choice-item.result r c.loop-choice-test.true c.choice-item.is
-      (evaluates_then _ c.in_ok-condition.ensures.does (evaluates_then _ (evaluates_yielded c.in_ok-truth_of.ensures) (not_chosen c.in_ok-truth_of.field-0 _ _ c.if-branch.false k))));
+      (evaluates_then _ c.in_ok-condition.ensures.does (evaluates_then _ (evaluates_yielded c.in_ok-truth_of.ensures.truth) (not_chosen c.in_ok-truth_of.field-0 _ _ c.if-branch.false k))));
 }
 
 pub chosen-returns-clause-does : goal.chosen-returns-clause-does

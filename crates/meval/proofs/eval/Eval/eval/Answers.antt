@@ -1,3 +1,4 @@
+-- SPDX-License-Identifier: Apache-2.0
 use Rattle.meval.proofs.Calls.{never_refused}
 use Rattle.meval.proofs.eval.Eval.eval.Goals as goal
 

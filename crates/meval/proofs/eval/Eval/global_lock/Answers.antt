@@ -1,3 +1,4 @@
+-- SPDX-License-Identifier: Apache-2.0
 use Rattle.std.proofs.Common.{ap}
 use Rattle.mspec.specs.Act.{◌>>◌, give, unless}
 use Rattle.mspec.specs.Code as spec

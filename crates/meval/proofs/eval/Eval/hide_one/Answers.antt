@@ -1,3 +1,4 @@
+-- SPDX-License-Identifier: Apache-2.0
 use Rattle.meval.proofs.eval.Eval.hide_one.Goals as goal
 
 pub returns-clause-does : goal.returns-clause-does

@@ -1,3 +1,4 @@
+-- SPDX-License-Identifier: Apache-2.0
 use Rattle.std.proofs.Common.{refl, []}
 use Rattle.mspec.specs.Code.{M6}
 use Rattle.mspec.specs.Act.{value_of, give_some}

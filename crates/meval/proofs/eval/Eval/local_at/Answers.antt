@@ -1,3 +1,4 @@
+-- SPDX-License-Identifier: Apache-2.0
 use Rattle.std.proofs.Common.{[], ◌∷◌, refl, sym}
 use Rattle.mspec.proofs.SubscriptTests.{decides_subscripts}
 use Rattle.mspec.specs.Code.{M6}

@@ -1,3 +1,4 @@
+-- SPDX-License-Identifier: Apache-2.0
 use Rattle.mspec.specs.Act.{give}
 use Rattle.meval.proofs.Calls.{evaluates_stopped, evaluates_yielded}
 use Rattle.meval.proofs.Locks.{local_name}

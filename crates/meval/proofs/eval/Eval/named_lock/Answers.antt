@@ -1,3 +1,4 @@
+-- SPDX-License-Identifier: Apache-2.0
 use Rattle.meval.proofs.eval.Eval.named_lock.Goals as goal
 
 pub returns-in-Local-clause-does : goal.returns-in-Local-clause-does

@@ -1,3 +1,4 @@
+-- SPDX-License-Identifier: Apache-2.0
 use Rattle.std.proofs.Common.{Some, ap}
 use Rattle.mspec.specs.Act.{◌>>◌, give, set_naked}
 use Rattle.mspec.specs.Node.{Node}

@@ -1,3 +1,4 @@
+-- SPDX-License-Identifier: Apache-2.0
 use Rattle.meval.proofs.Calls.{evaluates_then, evaluates_stopped, evaluates_yielded}
 use Rattle.meval.proofs.eval.Eval.number.Goals as goal
 
@@ -5,4 +6,4 @@ pub returns-in_err-value-clause-does : goal.returns-in_err-value-clause-does
 returns-in_err-value-clause-does g c = evaluates_stopped _ c.in_err-value.ensures.does c.from_residual.ensures
 
 pub returns-clause-does : goal.returns-clause-does
-returns-clause-does g c = evaluates_then _ c.in_ok-value.ensures.does (evaluates_yielded c.number_of.ensures)
+returns-clause-does g c = evaluates_then _ c.in_ok-value.ensures.does (evaluates_yielded c.number_of.ensures.number)

@@ -1,3 +1,4 @@
+-- SPDX-License-Identifier: Apache-2.0
 use Rattle.meval.proofs.eval.Eval.put.Goals as goal
 
 pub returns-in_ok-text-in-Node-clause-does : goal.returns-in_ok-text-in-Node-clause-does

@@ -1,3 +1,4 @@
+-- SPDX-License-Identifier: Apache-2.0
 use Rattle.std.proofs.Common.{[], ◌∷◌, sym}
 use Rattle.mspec.proofs.SubscriptTests.{decides_subscripts}
 use Rattle.mmeaning.specs.Variables.{put_at}

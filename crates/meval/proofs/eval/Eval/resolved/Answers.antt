@@ -1,3 +1,4 @@
+-- SPDX-License-Identifier: Apache-2.0
 use Rattle.meval.specs.Places.{use_of, name_view}
 use Rattle.mmeaning.specs.Variables.{node_place}
 use Rattle.meval.proofs.Calls.{evaluates_then, evaluates_stopped, evaluates_yielded}

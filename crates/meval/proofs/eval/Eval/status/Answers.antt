@@ -1,3 +1,4 @@
+-- SPDX-License-Identifier: Apache-2.0
 use Rattle.meval.proofs.eval.Eval.status.Goals as goal
 
 pub returns-in-Node-clause-does : goal.returns-in-Node-clause-does

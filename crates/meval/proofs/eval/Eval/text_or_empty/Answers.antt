@@ -1,3 +1,4 @@
+-- SPDX-License-Identifier: Apache-2.0
 use Rattle.meval.proofs.Calls.{evaluates_then, evaluates_stopped, evaluates_gives, evaluates_wanting}
 use Rattle.meval.specs.Evaluates.{standing_of}
 use Rattle.meval.specs.Places.{place_view}

@@ -1,3 +1,4 @@
+-- SPDX-License-Identifier: Apache-2.0
 use Rattle.std.proofs.Common.{refl}
 use Rattle.mspec.specs.Act.{give}
 use Rattle.mmeaning.specs.Variables.{at_local, node_place, ordering}

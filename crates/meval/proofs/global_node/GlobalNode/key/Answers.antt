@@ -1,3 +1,4 @@
+-- SPDX-License-Identifier: Apache-2.0
 use Rattle.std.proofs.Common.{ap, subst, ◌∙◌}
 use Rattle.mspec.specs.KeyBytes.{AreSubscripts}
 use Rattle.mspec.specs.Node.{Node}

@@ -1,3 +1,4 @@
+-- SPDX-License-Identifier: Apache-2.0
 use Rattle.std.proofs.Common.{ap}
 use Rattle.mspec.specs.Act.{no_locals, Locals}
 use Rattle.mmeaning.specs.Step.{new_session}

@@ -1,3 +1,4 @@
+-- SPDX-License-Identifier: Apache-2.0
 use Rattle.std.proofs.Common.{◌≡◌, subst, sym}
 use Rattle.mspec.specs.Globals.{lines_of}
 use Rattle.mglobal.proofs.kept.KeptNodeStore.keep_routine.Goals as goal

@@ -1,3 +1,4 @@
+-- SPDX-License-Identifier: Apache-2.0
 use Rattle.std.proofs.Common.{subst, sym}
 use Rattle.mglobal.specs.Copies.{AreCopiesIn}
 use Rattle.mglobal.proofs.kept.KeptNodeStore.kept_routine.Goals as goal

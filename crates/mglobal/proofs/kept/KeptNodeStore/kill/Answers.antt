@@ -1,3 +1,4 @@
+-- SPDX-License-Identifier: Apache-2.0
 use Rattle.mspec.specs.Globals.{without_subtree}
 use Rattle.mglobal.proofs.CopyLaws.{copies_killed, copies_after}
 use Rattle.mglobal.proofs.kept.KeptNodeStore.kill.Goals as goal

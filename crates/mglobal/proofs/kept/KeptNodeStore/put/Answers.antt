@@ -1,3 +1,4 @@
+-- SPDX-License-Identifier: Apache-2.0
 use Rattle.std.specs.FinMap.{insert}
 use Rattle.mglobal.proofs.CopyLaws.{copies_put, copies_after}
 use Rattle.mglobal.proofs.kept.KeptNodeStore.put.Goals as goal

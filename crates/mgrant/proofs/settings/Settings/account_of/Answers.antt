@@ -1,3 +1,4 @@
+-- SPDX-License-Identifier: Apache-2.0
 use Rattle.std.proofs.Common.{◌≡◌, ◌<◌, Some, None, length, get_or, sym, ap, subst, ◌∙◌}
 use Rattle.std.specs.Prelude.{slice_get, option_and_then}
 use Rattle.mspec.specs.Access as access

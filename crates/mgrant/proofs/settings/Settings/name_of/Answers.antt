@@ -1,3 +1,4 @@
+-- SPDX-License-Identifier: Apache-2.0
 use Rattle.std.proofs.Common.{◌<◌, All, length, sym, ap, subst, ◌∙◌}
 use Rattle.mspec.specs.Access as access
 use Rattle.mspec.specs.KeyBytes.{IsAccountName}

@@ -1,3 +1,4 @@
+-- SPDX-License-Identifier: Apache-2.0
 use Rattle.std.proofs.Common.{◌≡◌, IfSome, IfNone, subst, ◌∙◌, false}
 use Rattle.std.specs.List.{list_any}
 use Rattle.mspec.specs.Trees.{text_eq}

@@ -1,3 +1,4 @@
+-- SPDX-License-Identifier: Apache-2.0
 use Rattle.mkey.proofs.Keys.{bounds_subtree, bounds_beginnings}
 use Rattle.mkey.proofs.key.NodeKey.after_subtree.Goals as goal
 

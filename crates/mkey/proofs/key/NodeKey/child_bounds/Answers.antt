@@ -1,3 +1,4 @@
+-- SPDX-License-Identifier: Apache-2.0
 use Rattle.mkey.proofs.Keys.{bounds_below}
 use Rattle.mkey.proofs.key.NodeKey.child_bounds.Goals as goal
 

@@ -1,3 +1,4 @@
+-- SPDX-License-Identifier: Apache-2.0
 use Rattle.std.proofs.Common.{◌≡◌, ◌∙◌, true, length, drop, ap, sym, arith, length-append}
 use Rattle.mspec.specs.KeyBytes.{subscripts_bytes}
 use Rattle.mspec.specs.Number.{significant_digits}

@@ -1,3 +1,4 @@
+-- SPDX-License-Identifier: Apache-2.0
 use Rattle.std.proofs.Common.{◌∙◌, sym}
 use Rattle.std.specs.List.{each_same}
 use Rattle.mkey.specs.SubsKey.{one_list}

@@ -1,3 +1,4 @@
+-- SPDX-License-Identifier: Apache-2.0
 use Rattle.std.proofs.Common.{false, ap, sym, not, ◌∙◌}
 use Rattle.std.specs.Prelude.{option_map}
 use Rattle.mspec.specs.Scopes.{has, is_among, is_other}

@@ -1,3 +1,4 @@
+-- SPDX-License-Identifier: Apache-2.0
 use Rattle.std.proofs.Common.{ap, ◌∙◌}
 use Rattle.mspec.specs.Trees.{has_value, has_descendants}
 use Rattle.mlocal.proofs.Views.{IfOk-map}

@@ -1,3 +1,4 @@
+-- SPDX-License-Identifier: Apache-2.0
 use Rattle.std.proofs.Common.{[], ◌∷◌, ap, ◌∙◌}
 use Rattle.std.specs.FinMap.{get}
 use Rattle.mspec.specs.Scopes.{Scope, kill_in, killed}

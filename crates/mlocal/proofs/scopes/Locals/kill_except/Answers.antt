@@ -1,3 +1,4 @@
+-- SPDX-License-Identifier: Apache-2.0
 use Rattle.std.proofs.Common.{ap, ◌||◌, ◌∙◌}
 use Rattle.std.specs.List.{list_any}
 use Rattle.mspec.specs.Scopes.{is_among, emptied, killed_except}

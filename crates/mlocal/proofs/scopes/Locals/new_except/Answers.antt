@@ -1,3 +1,4 @@
+-- SPDX-License-Identifier: Apache-2.0
 use Rattle.std.proofs.Common.{◌≡◌, [], ◌∷◌, ◌+◌, ◌-◌, Some, length, ap, ◌∙◌, arith}
 use Rattle.mspec.specs.Scopes.{hide_others, newed_except, common}
 use Rattle.mlocal.proofs.Stacks.{top-at, none_common}

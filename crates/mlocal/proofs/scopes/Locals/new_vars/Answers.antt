@@ -1,3 +1,4 @@
+-- SPDX-License-Identifier: Apache-2.0
 use Rattle.std.proofs.Common.{◌≡◌, [], ◌∷◌, ◌+◌, ◌-◌, length, ap, ◌∙◌, arith}
 use Rattle.mspec.specs.Scopes.{hide, newed}
 use Rattle.mlocal.proofs.Stacks.{top-at}

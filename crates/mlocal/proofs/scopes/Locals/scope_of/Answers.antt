@@ -1,3 +1,4 @@
+-- SPDX-License-Identifier: Apache-2.0
 use Rattle.std.proofs.Common.{[], ◌∷◌, ap, sym, ◌∙◌}
 use Rattle.mspec.specs.Scopes.{tree_in, tree_of}
 use Rattle.mlocal.proofs.Stacks.{tree-at, tree-bottom}

@@ -1,3 +1,4 @@
+-- SPDX-License-Identifier: Apache-2.0
 use Rattle.std.proofs.Common.{[], ap, ◌∙◌}
 use Rattle.std.specs.FinMap.{insert}
 use Rattle.mspec.specs.Maps.{map_of}

@@ -1,3 +1,4 @@
+-- SPDX-License-Identifier: Apache-2.0
 use Rattle.std.proofs.Common.{ap, ◌∙◌, cond, arith}
 use Rattle.mspec.specs.LockConflict.{held, one_more}
 use Rattle.mlock.proofs.Steps.{free_first, free_rest, undone}

@@ -1,3 +1,4 @@
+-- SPDX-License-Identifier: Apache-2.0
 use Rattle.std.proofs.Common.{length}
 use Rattle.mlock.proofs.locks.Locks.+count_all.Given as goal
 

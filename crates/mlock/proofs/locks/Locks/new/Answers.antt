@@ -1,3 +1,4 @@
+-- SPDX-License-Identifier: Apache-2.0
 use Rattle.std.proofs.Common.{ap, sym, subst}
 use Rattle.mlock.specs.Holdings.{locks_in, AreCounts}
 use Rattle.mlock.proofs.Views.{counts_empty}

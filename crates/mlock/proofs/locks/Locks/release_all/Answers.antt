@@ -1,3 +1,4 @@
+-- SPDX-License-Identifier: Apache-2.0
 use Rattle.std.proofs.Common.{not, nat_eq, ap, sym, ◌∙◌, subst, rules}
 use Rattle.mspec.specs.LockConflict.{released}
 use Rattle.mlock.specs.Holdings.{locks_of, AreCounts}

@@ -1,3 +1,4 @@
+-- SPDX-License-Identifier: Apache-2.0
 use Rattle.std.proofs.Common.{◌≡◌, false, All, take}
 use Rattle.mspec.specs.LockConflict.{has_conflict, held}
 use Rattle.mlock.proofs.locks.Locks.take.Given as goal

@@ -1,3 +1,4 @@
+-- SPDX-License-Identifier: Apache-2.0
 use Rattle.std.proofs.Common.{nat_eq, ◌&&◌, ap, sym, ◌∙◌}
 use Rattle.std.specs.List.{starts_with}
 use Rattle.mspec.specs.Globals.{is_node_within}

@@ -1,3 +1,4 @@
+-- SPDX-License-Identifier: Apache-2.0
 use Rattle.mnum.proofs.NameTexts.{name_is_ascii}
 use Rattle.mnum.proofs.name.Name.from_slice.Goals as goal
 

@@ -1,3 +1,4 @@
+-- SPDX-License-Identifier: Apache-2.0
 use Rattle.std.proofs.Common.{◌*◌, ◌^◌, ◌-◌, refl}
 use Rattle.mnum.proofs.Outcomes.{same_number}
 use Rattle.mnum.proofs.Sums.{sum_is}

@@ -1,3 +1,4 @@
+-- SPDX-License-Identifier: Apache-2.0
 use Rattle.mnum.proofs.MachineNumbers.{cmp_is}
 use Rattle.mnum.proofs.num.Num.cmp.Goals as goal
 

@@ -1,3 +1,4 @@
+-- SPDX-License-Identifier: Apache-2.0
 use Rattle.std.proofs.Common.{◌≡◌, ℕ, ◌*◌, ◌/◌, ◌^◌, ◌-◌, ◌<◌, sym, arith, ap, ◌∙◌, Some}
 use Rattle.mspec.specs.Number.{round_size}
 use Rattle.mnum.proofs.Quotients.{quotient_rounded, some_units, exact_quotient}

@@ -1,3 +1,4 @@
+-- SPDX-License-Identifier: Apache-2.0
 use Rattle.std.proofs.Common.{◌≡◌, ℕ, ◌*◌, ◌+◌, ◌/◌, ◌^◌, ◌-◌, ◌<◌, refl, sym, None, arith}
 use Rattle.mnum.specs.Floor.{IsFloor, IsFine}
 use Rattle.mnum.specs.Num.{units}

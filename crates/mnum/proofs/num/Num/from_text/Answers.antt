@@ -1,3 +1,4 @@
+-- SPDX-License-Identifier: Apache-2.0
 use Rattle.mspec.proofs.WholeTexts.{value_of_digits}
 use Rattle.mnum.proofs.num.Num.from_text.Goals as goal
 

@@ -1,3 +1,4 @@
+-- SPDX-License-Identifier: Apache-2.0
 use Rattle.mnum.proofs.WholeParts.{truth_is}
 use Rattle.mnum.proofs.num.Num.is_true.Goals as goal
 

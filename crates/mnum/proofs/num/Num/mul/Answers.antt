@@ -1,3 +1,4 @@
+-- SPDX-License-Identifier: Apache-2.0
 use Rattle.std.proofs.Common.{◌≡◌, ℕ, ◌*◌, ◌+◌, ◌^◌, ◌-◌, inl}
 use Rattle.mnum.proofs.Outcomes.{same_number}
 use Rattle.mnum.proofs.SignLaws.{with_sign, signed_mul, product_units, exact_floor}

@@ -1,3 +1,4 @@
+-- SPDX-License-Identifier: Apache-2.0
 use Rattle.std.proofs.Common.{◌*◌, ◌/◌, ◌^◌, ◌-◌, Some, refl, ap, arith, lit≤}
 use Rattle.std.proofs.Math.Nat.{div-le_self}
 use Rattle.mspec.proofs.Powers.{ten_pos}

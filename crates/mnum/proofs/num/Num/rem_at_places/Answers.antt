@@ -1,3 +1,4 @@
+-- SPDX-License-Identifier: Apache-2.0
 use Rattle.std.proofs.Common.{◌*◌, ◌^◌, ◌-◌, refl}
 use Rattle.mnum.specs.Num.{units}
 use Rattle.mnum.proofs.Outcomes.{outcome_is, never_over, mapped_none}

@@ -1,3 +1,4 @@
+-- SPDX-License-Identifier: Apache-2.0
 use Rattle.std.proofs.Common.{◌≡◌, ◌∙◌, ap, sym, arith, cond, [], ◌∷◌, ◌++◌, ◌%◌}
 use Rattle.mspec.specs.NumberText.{fraction_text}
 use Rattle.mnum.proofs.Prints.{text_zero, text_some, text_whole}

@@ -1,3 +1,4 @@
+-- SPDX-License-Identifier: Apache-2.0
 use Rattle.std.proofs.Common.{◌∙◌, ap, sym, arith, ◌*◌, ◌^◌, ◌-◌, true, false}
 use Rattle.mspec.specs.Number.{signed}
 use Rattle.mnum.proofs.Sums.{places_below, negated_fits, negated_is, kept_is}

@@ -1,3 +1,4 @@
+-- SPDX-License-Identifier: Apache-2.0
 use Rattle.std.proofs.Common.{◌/◌, true, false, ap, ◌∙◌}
 use Rattle.mspec.specs.Number.{signed}
 use Rattle.mnum.proofs.WholeParts.{whole_is, whole_kept, whole_negated}

@@ -1,3 +1,4 @@
+-- SPDX-License-Identifier: Apache-2.0
 use Rattle.std.proofs.Common.{◌≡◌, ℕ, List, ◌++◌, ◌∙◌, subst, rules}
 use Rattle.std.specs.Prelude.{OnOk}
 use Rattle.mspec.specs.NumberText.{number_text}

@@ -1,3 +1,4 @@
+-- SPDX-License-Identifier: Apache-2.0
 use Rattle.std.proofs.Common.{◌-◌, length, slice_get, take, drop, ap, subst, ◌∙◌}
 use Rattle.mspec.specs.Globals.{next_key}
 use Rattle.mstore.specs.Entries.{key_within, IsPlaceOf}

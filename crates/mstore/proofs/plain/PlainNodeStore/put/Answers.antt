@@ -1,3 +1,4 @@
+-- SPDX-License-Identifier: Apache-2.0
 use Rattle.std.proofs.Common.{◌≤◌, length, refl, ap, sym, subst, ◌∙◌, is_ok}
 use Rattle.std.specs.FinMap as finite
 use Rattle.mspec.specs.TextFunctions.{longest_text}

@@ -1,3 +1,4 @@
+-- SPDX-License-Identifier: Apache-2.0
 use Rattle.std.proofs.Common.{ap, Err}
 use Rattle.mstore.proofs.table.Table.adopt.Goals as goal
 

@@ -1,3 +1,4 @@
+-- SPDX-License-Identifier: Apache-2.0
 use Rattle.std.proofs.Common.{◌≡◌, OnOk, subst}
 use Rattle.mspec.specs.Globals.{without_subtree}
 use Rattle.mstore.specs.Database.{IsSound, stored}

@@ -1,3 +1,4 @@
+-- SPDX-License-Identifier: Apache-2.0
 use Rattle.std.proofs.Common.{◌≡◌, None, Some, subst}
 use Rattle.mspec.specs.Globals.{previous_key}
 use Rattle.mstore.specs.Database.{IsSound, stored}

@@ -1,3 +1,4 @@
+-- SPDX-License-Identifier: Apache-2.0
 use Rattle.std.proofs.Common.{◌≡◌, ◌<◌, ◌^◌, sym, ◌∙◌, subst, arith}
 use Rattle.std.specs.Prelude.{pos, ◌*ℤ◌, IfOk}
 use Rattle.mspec.specs.Node.{Text}

@@ -1,3 +1,4 @@
+-- SPDX-License-Identifier: Apache-2.0
 use Rattle.std.proofs.Common.{sym, subst}
 use Rattle.misolation.specs.Cut.{IsFit}
 use Rattle.misolation.proofs.Steps.{steps_are_isolated, steps_keep_fit}

@@ -1,3 +1,4 @@
+-- SPDX-License-Identifier: Apache-2.0
 use Rattle.std.proofs.Common.{sym, subst}
 use Rattle.misolation.specs.Cut.{AreFit}
 use Rattle.misolation.proofs.PartsAlone.{opening_is_fit}

@@ -1,0 +1,113 @@
+// SPDX-License-Identifier: Apache-2.0
+// References, and the places that they name.
+use anyhow::Context;
+use meval::{Depth, Eval, Place, Session};
+use mgrant::{AccountId, Settings};
+use mkey::read;
+use mnum::Bytes7;
+use mparse::parse_ref;
+use mstore::Plain;
+use mtranscript::{bytes_of, play, print_result};
+use std::alloc::Global;
+
+// How many steps a reference has.
+const STEPS: u32 = 1000;
+
+// What references are resolved over: a session of terminal 1, and a store.
+#[derive(Drop)]
+struct Resolving<'a> {
+    settings: &'a Settings,
+    account: AccountId,
+    session: Session,
+    store: Plain,
+}
+
+/// Resolves each reference as one that is to be changed, in the session of terminal 1 of an account, and prints the place below it: the name
+/// and the subscripts of a local variable; the account, the name and the subscripts of a node; or the code that it has in its place.
+///
+/// # Errors
+///
+/// If the document gives no settings or has no such account, if a case is no reference, and out of memory.
+pub fn play_references(
+    alloc: Global,
+    document: &[u8],
+    name: &[u8],
+    cases: &[&str],
+    out: &mut Vec<u8>,
+) -> anyhow::Result<()> {
+    let settings = Settings::read(alloc, document)?;
+    let mut there = Resolving {
+        settings: &settings,
+        account: settings.account_named(name).context("no such account")?,
+        session: Session::new(alloc),
+        store: Plain::new(alloc),
+    };
+    play(cases, out, |case, out| {
+        let told = resolved(alloc, &mut there, case)?;
+        print_result(out, &told)
+    })
+}
+
+// The place that a reference names.
+fn resolved(alloc: Global, there: &mut Resolving<'_>, case: &str) -> anyhow::Result<Vec<u8>> {
+    let reference = parse_ref(alloc, &bytes_of(alloc, case)?)
+        .ok()
+        .context("a case that is no reference")?;
+    let mut eval = Eval {
+        session: &mut there.session,
+        store: &mut there.store,
+        settings: there.settings,
+        terminal: 1,
+        account: there.account,
+        steps: STEPS,
+        depth: Depth {
+            levels: 1,
+            indirections: 0,
+        },
+    };
+    match eval.resolve(alloc, &reference) {
+        Ok(place) => shown(alloc, &place),
+        Err(code) => {
+            let name = format!(in alloc; "{code:?}")?;
+            let mut told = Vec::new(alloc);
+            for byte in name.as_bytes() {
+                told.push(byte.to_ascii_uppercase())?;
+            }
+            Ok(told)
+        }
+    }
+}
+
+fn shown(alloc: Global, place: &Place<'_>) -> anyhow::Result<Vec<u8>> {
+    let mut told = Vec::new(alloc);
+    match place {
+        Place::Local(name, subscripts) => {
+            told.extend_from_slice(name.as_name().as_bytes())?;
+            for value in subscripts.as_slice() {
+                push_word(&mut told, value.shown(alloc)?.as_text())?;
+            }
+        }
+        Place::Node(key) => {
+            let (account, name, subs) = read(alloc, key.as_bytes())?.context(
+                "a key that is not read",
+            )?;
+            told.extend_from_slice(account.as_bytes())?;
+            push_word(&mut told, &name)?;
+            for text in subs.as_slice() {
+                push_word(&mut told, text)?;
+            }
+        }
+    }
+    Ok(told)
+}
+
+// Adds a word, `-` for the empty text.
+fn push_word(told: &mut Vec<u8>, text: &Bytes7) -> anyhow::Result<()> {
+    told.push(b' ')?;
+    told.extend_from_slice(if text.as_bytes().is_empty() {
+        b"-"
+    } else {
+        text.as_bytes()
+    })?;
+    Ok(())
+}

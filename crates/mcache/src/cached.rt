@@ -1,0 +1,139 @@
+// SPDX-License-Identifier: Apache-2.0
+// A store with texts of nodes in front of it.
+ghost use Rattle.std.specs.Prelude.{◌≡◌, ◌<◌, ◌≤◌, IfOk, IfErr};
+ghost use Rattle.mcache.specs.CachedStore.{cached_store};
+
+use crate::entries::{Entries, find, forget, forget_below, keep};
+use lru::LruCache;
+use mkey::NodeKey;
+use mnum::Bytes7;
+use mstore::{NodeStore, StoreFault};
+use std::alloc::Global;
+use std::marker::Model;
+use std::num::NonZeroUsize;
+use std::rc::Rc;
+
+/// A store with the texts of so many nodes, so that a node that was read or set lately is read without the store beneath. What is
+/// not there is not kept. It has what the store beneath has, and is as sound and as steady.
+///
+/// Texts are kept from the first read of the store on.
+#[derive(Drop)]
+pub struct Cached<S: NodeStore> {
+    store: S,
+    entries: Entries,
+    // Whether a read of the store was made: it tells that what the store holds are nodes and texts that a store may hold, which a
+    // read that is answered without the store has to tell too.
+    read: bool,
+    alloc: Global,
+}
+
+impl<S: NodeStore> Model for Cached<S> {
+    ghost use Rattle.mcache.specs.CachedStore.{CachedStore, cached_store, cached_store_code};
+    ghost use Rattle.mcache.specs.NodeTexts.{AreOf};
+
+    ghost Value = { CachedStore S };
+
+    ghost coded = { cached_store_code S.code };
+
+    ghost view = { λ cached. cached_store cached.store cached.entries.cap };
+
+    ghost invariant = { λ cached. S.sound → AreOf (S.content cached.store) cached.read cached.entries.entries };
+}
+
+impl<S: NodeStore> Cached<S> {
+    /// The store, with no text kept yet, and with so many entries.
+    ///
+    /// # Errors
+    ///
+    /// The store, for want of memory.
+    pub fn new(alloc: Global, store: S, entries: usize) -> Result<Cached<S>, S>
+        requires { 0 < entries }
+        ensures cached { IfOk result (λ cached. cached ≡ cached_store store entries) }
+        ensures store { IfErr result (λ back. back ≡ store) }
+    {
+        let Some(cap) = NonZeroUsize::new(entries) else {
+            return Err(store);
+        };
+        match LruCache::new(alloc, cap) {
+            Err(_) => Err(store),
+            Ok(entries) => Ok(Cached {
+                store,
+                entries,
+                read: false,
+                alloc,
+            }),
+        }
+    }
+
+    /// How many texts are kept. Takes no memory.
+    pub fn len(&self) -> usize
+        ensures { result ≤ self.now.entries }
+    {
+        self.entries.len()
+    }
+
+    /// The store beneath. Takes no memory.
+    pub fn store(&self) -> &S
+        ensures { result.now ≡ self.now.store }
+    {
+        &self.store
+    }
+}
+
+impl<S: NodeStore> NodeStore for Cached<S> {
+    ghost content = { λ cached. S.content cached.store };
+
+    ghost sound = { S.sound };
+
+    ghost steady = { S.steady };
+
+    fn get(&mut self, key: &NodeKey) -> Result<Option<Bytes7>, StoreFault> {
+        if let Some(text) = find(&mut self.entries, key.as_bytes()) {
+            return Ok(Some(text));
+        }
+        let answer = self.store.get(key);
+        self.read = true;
+        let found = answer?;
+        if let Some(text) = &found {
+            keep(self.alloc, &mut self.entries, key.as_bytes(), text);
+        }
+        Ok(found)
+    }
+
+    fn put(&mut self, key: &NodeKey, text: &Bytes7) -> Result<(), StoreFault> {
+        self.store.put(key, text)?;
+        forget(&mut self.entries, key.as_bytes());
+        if self.read {
+            keep(self.alloc, &mut self.entries, key.as_bytes(), text);
+        }
+        Ok(())
+    }
+
+    fn kill(&mut self, key: &NodeKey) -> Result<(), StoreFault> {
+        self.store.kill(key)?;
+        forget_below(self.alloc, &mut self.entries, key.as_bytes());
+        Ok(())
+    }
+
+    fn next(&mut self, low: &[u8], high: &[u8]) -> Result<Option<Vec<u8>>, StoreFault> {
+        let answer = self.store.next(low, high);
+        self.read = true;
+        answer
+    }
+
+    fn prev(&mut self, low: &[u8], high: &[u8]) -> Result<Option<Vec<u8>>, StoreFault> {
+        let answer = self.store.prev(low, high);
+        self.read = true;
+        answer
+    }
+
+    fn kept_routine(&mut self, account: &Bytes7, name: &Bytes7) -> Option<Rc<Vec<Bytes7>>> {
+        self.store.kept_routine(account, name)
+    }
+
+    fn keep_routine(&mut self, account: &Bytes7, name: &Bytes7, lines: &Rc<Vec<Bytes7>>) {
+        self.store.keep_routine(account, name, lines);
+    }
+
+    ghost steady_is_sound = { S.steady_is_sound };
+}

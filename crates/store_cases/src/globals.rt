@@ -1,0 +1,63 @@
+// SPDX-License-Identifier: Apache-2.0
+// What the language asks of globals, over any store.
+use anyhow::Context;
+use mglobal::{neighbour, routine, status};
+use mkey::{Direction, NodeKey, is_account_name, is_name, order_subs_ok};
+use mnum::Bytes7;
+use mstore::NodeStore;
+use mtranscript::{data_word, text_of, texts_of};
+use std::alloc::Global;
+
+/// What $DATA gives of a node.
+pub fn data<S: NodeStore>(
+    store: &mut S,
+    alloc: Global,
+    key: &NodeKey,
+) -> anyhow::Result<&'static str> {
+    let found = status(store, alloc, key).ok().context("not read")?;
+    Ok(data_word(found.descendants, found.value))
+}
+
+/// What $ORDER finds of a global of an account: `none` where there is nothing more. Of the subscripts the last may be empty.
+pub fn order<S: NodeStore>(
+    store: &mut S,
+    alloc: Global,
+    account: &Bytes7,
+    name: &str,
+    subs: &[&str],
+    direction: Direction,
+) -> anyhow::Result<Bytes7> {
+    let name = text_of(alloc, name)?;
+    let subs = texts_of(alloc, subs)?;
+    if !is_account_name(account) || !is_name(&name) || !order_subs_ok(&subs) {
+        anyhow::bail!("no walk");
+    }
+    let found = neighbour(store, alloc, account, &name, &subs, direction);
+    match found.ok().context("not read")? {
+        Some(next) => Ok(next),
+        None => text_of(alloc, "none"),
+    }
+}
+
+/// The lines of an account's routine, each in brackets.
+pub fn lines<S: NodeStore>(
+    store: &mut S,
+    alloc: Global,
+    account: &Bytes7,
+    name: &str,
+) -> anyhow::Result<Vec<u8>> {
+    let name = text_of(alloc, name)?;
+    if !is_account_name(account) || !is_name(&name) {
+        anyhow::bail!("no routine");
+    }
+    let lines = routine(store, alloc, account, &name)
+        .ok()
+        .context("not read")?;
+    let mut out = Vec::new(alloc);
+    for line in &lines {
+        out.push(b'[')?;
+        out.extend_from_slice(line.as_bytes())?;
+        out.push(b']')?;
+    }
+    Ok(out)
+}

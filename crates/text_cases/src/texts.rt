@@ -1,0 +1,61 @@
+// SPDX-License-Identifier: Apache-2.0
+// Texts of M by themselves: parsed and written back.
+use mnum::Bytes7;
+use mparse::{ParseFault, dots_of, label_of, parse_line, parse_routine_line};
+use mtranscript::{bytes_of, play, print_result};
+use mtree::{write_line, write_routine_line};
+use std::alloc::Global;
+
+/// Of each text: `same` where its tree is written as the text, `refused` where it has no tree.
+///
+/// # Errors
+///
+/// If an escape is none, and out of memory.
+pub fn play_texts(alloc: Global, cases: &[&str], out: &mut Vec<u8>) -> anyhow::Result<()> {
+    play(cases, out, |case, out| {
+        let text = bytes_of(alloc, case)?;
+        print_result(out, compared(&text, &line_again(alloc, &text)))
+    })
+}
+
+/// Of each text, as a line of a routine: its label, `-` where it has none, how many dots it has, and `same` or `refused` as of texts.
+///
+/// # Errors
+///
+/// If an escape is none, and out of memory.
+pub fn play_routine_lines(alloc: Global, cases: &[&str], out: &mut Vec<u8>) -> anyhow::Result<()> {
+    play(cases, out, |case, out| {
+        let text = bytes_of(alloc, case)?;
+        print_result(out, &routine_line(alloc, &text)?)
+    })
+}
+
+fn routine_line(alloc: Global, text: &[u8]) -> anyhow::Result<Vec<u8>> {
+    let dots = format!(in alloc; " {} ", dots_of(text))?;
+    let mut told = Vec::new(alloc);
+    told.extend_from_slice(label_of(text).unwrap_or(b"-"))?;
+    told.extend_from_slice(dots.as_bytes())?;
+    told.extend_from_slice(compared(text, &routine_line_again(alloc, text)))?;
+    Ok(told)
+}
+
+// The text of the tree of a text.
+fn line_again(alloc: Global, text: &[u8]) -> Result<Bytes7, ParseFault> {
+    let line = parse_line(alloc, text)?;
+    Ok(write_line(alloc, &line)?)
+}
+
+fn routine_line_again(alloc: Global, text: &[u8]) -> Result<Bytes7, ParseFault> {
+    let line = parse_routine_line(alloc, text)?;
+    Ok(write_routine_line(alloc, &line)?)
+}
+
+// How a text that was parsed and written back stands to the text itself.
+fn compared(text: &[u8], again: &Result<Bytes7, ParseFault>) -> &'static [u8] {
+    match again {
+        Err(ParseFault::Syntax) => b"refused",
+        Err(ParseFault::Memory) => b"no memory",
+        Ok(written) if written.as_bytes() == text => b"same",
+        Ok(_) => b"another text",
+    }
+}

@@ -1,4 +1,5 @@
 #!/usr/bin/env python3
+# SPDX-License-Identifier: Apache-2.0
 """Times the workloads of benchmarks/workloads.txt over the built program, with a store in memory and
 one in a file, and prints a table of ratios: the time of an operation beside that of a turn of a loop
 of Python's own, which runs in the same pass. GT.M (Debian's `fis-gtm`) and SQLite's shell (`sqlite3`)

@@ -1,3 +1,4 @@
+# SPDX-License-Identifier: Apache-2.0
 """The blocks of transcripts/, as scripts play them: docs/TESTING.md says what a block and a case are."""
 import os
 import re
@@ -6,7 +7,7 @@ from dataclasses import dataclass
 from running import TOP
 
 FOLDER = os.path.join(TOP, "transcripts")
-SETTINGS = os.path.join(TOP, "tools", "settings")
+SETTINGS = os.path.join(TOP, "tests", "settings")
 # The kinds of blocks of which each case is a line of the wire, and the settings that they are served by.
 SERVED = {
     "lines": os.path.join(SETTINGS, "one_account.toml"),

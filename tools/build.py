@@ -1,4 +1,5 @@
 #!/usr/bin/env python3
+# SPDX-License-Identifier: Apache-2.0
 """Proves and builds the program, unless it was built from what is there: `tools/build.py` writes crates/mserve/out/mserve.
 
 The crates that the program stands on are copied to a temporary folder, without their must-fail edits, and `rt ci` proves them there: crates that do

@@ -1,4 +1,5 @@
 #!/usr/bin/env python3
+# SPDX-License-Identifier: Apache-2.0
 """Checks the documents against the tree: links and names of files exist; calls, contracts, definitions and edits that they name exist; counts
 agree; lines, cells and phrases are as docs/CONTRIBUTING.md has them. It needs no kit and no program. Status 1 with a line for each fault."""
 import os
@@ -12,8 +13,6 @@ from sources import TOP, program_crates
 CODE = (".rt", ".antt", ".edit", ".py", ".c", ".toml")
 LONGEST_LINE = 100
 LONGEST_CELL = 200
-# A page that is still to be rewritten: of it only links and counts are checked.
-NOT_REWORDED = {"docs/PERFORMANCE.md"}
 PHRASES = [
     "want of memory", "so many", "behind", "hangs? on", "drawn in", "drawn into", "(?:is|are) told", "waited for", "stands whole", "farewell",
     "whose the terminals are", "where there is none", "meant on", "are no lines of", "beside read", "by turns", "turns? the code's meaning",
@@ -23,6 +22,8 @@ PHRASE = re.compile(r"\b(?:" + "|".join(PHRASES) + r")\b", re.IGNORECASE)
 SPAN = re.compile(r"`([^`\n]+)`")
 PATH = re.compile(r"^[\w./*-]+\.(?:rt|antt|edit|py|c|md|txt|toml|service|bash|1)$|^(?:[A-Za-z][\w.-]*/)+[\w.-]*$")
 NAME = re.compile(r"^[A-Za-z_]\w*(?:::[A-Za-z_]\w*)*(?:\(\))?$")
+# `<!-- gate_times.py -->` and `<!-- end -->`: what stands between is written by that script.
+MARK = re.compile(r"^<!-- (end|\w+\.py) -->$")
 LINK = re.compile(r"\[[^\]]*\]\(([^)\s]+)\)")
 # Pages whose names of edits and wrong bodies another script checks, some of which only a test refuses: tools/edits.py.
 TABLES_OF_EDITS = {"docs/TESTING.md"}
@@ -34,10 +35,11 @@ NOT_IN_THE_TREE = re.compile(r"^(?:crates/[\w*]+/out\b.*|release/?.*|/.*|\.git/.
 
 @dataclass
 class Page:
-    """A page: its path below the top, its lines, and which of them stand in a fenced block."""
+    """A page: its path below the top, its lines, which of them stand in a fenced block, and which a script puts between its marks."""
     path: str
     lines: list[str]
     fenced: set[int] = field(default_factory=set)
+    made: set[int] = field(default_factory=set)
 
     def plain(self) -> Iterator[tuple[int, str]]:
         """The lines outside of fenced blocks, counted from 1."""
@@ -64,8 +66,12 @@ def read(path: str) -> str:
 
 def page_of(path: str) -> Page:
     """The page at a path."""
-    page, inside = Page(path, read(path).split("\n")), False
+    page, inside, made = Page(path, read(path).split("\n")), False, False
     for number, line in enumerate(page.lines, 1):
+        if mark := MARK.match(line):
+            made = mark[1] != "end"
+        elif made:
+            page.made.add(number)
         if line.lstrip().startswith("```"):
             inside = not inside
             page.fenced.add(number)
@@ -78,7 +84,7 @@ def pages() -> list[Page]:
     """All pages, in order."""
     found = [name for name in os.listdir(TOP) if name.endswith(".md")]
     found += [f"docs/{name}" for name in os.listdir(os.path.join(TOP, "docs")) if name.endswith(".md")]
-    found += [f"crates/{name}/README.md" for name in os.listdir(os.path.join(TOP, "crates"))] + ["clients/README.md"]
+    found += [f"crates/{name}/README.md" for name in os.listdir(os.path.join(TOP, "crates"))] + ["clients/README.md", "front/README.md"]
     return [page_of(path) for path in sorted(found) if os.path.exists(os.path.join(TOP, path))]
 
 
@@ -231,10 +237,10 @@ def check_cells(page: Page) -> None:
 # ---- wording
 
 def check_lines(page: Page) -> None:
-    """No line of prose is too long; on the front page no line at all, and there are few of them."""
+    """No line of prose is too long that a person wrote; on the front page no line at all, and there are few of them."""
     front = page.path == "README.md"
     for number, line in enumerate(page.lines, 1):
-        prose = number not in page.fenced and not line.startswith("|")
+        prose = number not in page.fenced | page.made and not line.startswith("|")
         if (front or prose) and len(line) > LONGEST_LINE and " " in line.strip()[:LONGEST_LINE]:
             fault(page, number, f"a line of {len(line)} characters")
     if front and len(page.lines) > 151:
@@ -315,6 +321,17 @@ def check_manual() -> None:
             faults.append(f"docs/mserve.1: without '{text}', which --help has")
 
 
+def check_completion() -> None:
+    """The manual page and the completion have each command and each option of the command line."""
+    source = read("crates/mjob/src/options.rt")
+    words = re.findall(r'Command::new\(alloc, "(\w+)"\)', source) + [f"--{name}" for name in re.findall(r'_option\(\s*alloc,\s*"(\w+)"', source)]
+    if len(words) < 5:
+        faults.append("crates/mjob/src/options.rt: no commands or options are found in it")
+    for path in ("docs/mserve.1", "packaging/mserve.bash"):
+        text = read(path).replace("\\-", "-")
+        faults.extend(f"{path}: without {word}, which the command line has" for word in words if not re.search(rf"(?<![\w-]){word}(?![\w-])", text))
+
+
 def check_versions(found: list[Page]) -> None:
     """The pages name one kit, that of the release if there is one, and the version of the file VERSION if there is one."""
     kit = re.compile(r"rattle-kit-\S+ logic \w+")
@@ -341,13 +358,13 @@ def main() -> int:
         check_counts(page)
         if page.path == "docs/RULES.md":
             check_rules(page)
-        if page.path not in NOT_REWORDED:
-            check_names(page, files, words)
-            check_lines(page)
-            check_cells(page)
-            check_phrases(page)
+        check_names(page, files, words)
+        check_lines(page)
+        check_cells(page)
+        check_phrases(page)
     check_crates({page.path: page for page in found})
     check_manual()
+    check_completion()
     check_versions(found)
     for text in faults:
         print(f"documents: {text}")

@@ -1,4 +1,5 @@
 #!/usr/bin/env python3
+# SPDX-License-Identifier: Apache-2.0
 """Checks the tables of must-fail edits in docs/TESTING.md against the edits and the sources.
 
     tools/edits.py           prints each fault with its file, or one line with the counts
@@ -25,6 +26,16 @@ EXCEPTIONS = {
     "mglobal::Kept::get": "hands on to the store, with the store's contract",
     "mglobal::Kept::next": "the same",
     "mglobal::Kept::prev": "the same",
+    "mcache::Cached::next": "the same",
+    "mcache::Cached::prev": "the same",
+    "mcache::Cached::kept_routine": "the same",
+    "mcache::Cached::keep_routine": "the same",
+    "mstore::Failing::get": "the same, but for the call that fails",
+    "mstore::Failing::kill": "the same",
+    "mstore::Failing::next": "the same",
+    "mstore::Failing::prev": "the same",
+    "mstore::Failing::kept_routine": "the same",
+    "mstore::Failing::keep_routine": "the same",
 }
 
 WORD = re.compile(r"`([A-Za-z_][A-Za-z_0-9]*(?:::[A-Za-z_][A-Za-z_0-9]*)*)`")

@@ -1,9 +1,11 @@
 #!/usr/bin/env python3
+# SPDX-License-Identifier: Apache-2.0
 """Runs the gate, `rt ci`, hands its output on, and tells before its last line where the processor time went: a table by crate,
 in seconds, of its proof, of proving its tests, and of trying its must-fail edits (with their count).
 
     tools/gate_times.py               runs the gate
-    tools/gate_times.py --anew        has the gate prove and try all, also what it passed earlier on this machine
+    tools/gate_times.py --anew        has the gate prove and try all, also what it passed earlier on this machine; a kit whose `rt ci` knows no
+                                      `--anew` keeps nothing and always does
     tools/gate_times.py --write       puts the table of the run into docs/PERFORMANCE.md too
     tools/gate_times.py --change REV  runs nothing: what changed in that page's table since the revision, as `origin/main`
 
@@ -147,13 +149,20 @@ def write_page(text):
         file.write(made)
 
 
+def gate_words():
+    """The words that run the gate: with `--anew` if that is asked for and the kit has it."""
+    if "--anew" not in sys.argv:
+        return ["rt", "ci"]
+    told = subprocess.run(["rt", "help"], stdout=subprocess.PIPE, stderr=subprocess.STDOUT, text=True, errors="replace").stdout
+    return ["rt", "ci", *(["--anew"] if "--anew" in told else [])]
+
+
 def main():
     if "--change" in sys.argv[1:-1]:
         print_change(sys.argv[sys.argv.index("--change") + 1])
         return 0
     start = time.monotonic()
-    words = ["rt", "ci", *(["--anew"] if "--anew" in sys.argv else [])]
-    with subprocess.Popen(words, cwd=TOP, stdout=subprocess.PIPE, stderr=subprocess.STDOUT, text=True, errors="replace") as gate:
+    with subprocess.Popen(gate_words(), cwd=TOP, stdout=subprocess.PIPE, stderr=subprocess.STDOUT, text=True, errors="replace") as gate:
         watch = Watch(gate.pid)
         watch.start()
         last = ""

@@ -1,4 +1,5 @@
 #!/usr/bin/env python3
+# SPDX-License-Identifier: Apache-2.0
 """Prints transcripts/keys-computed.txt: keys of nodes, and what is left of a key that is changed.
 
 A case `key account name subscripts` is a node, with the bytes of its key below it in hexadecimal. A case `changed bytes` says how

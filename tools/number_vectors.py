@@ -1,4 +1,5 @@
 #!/usr/bin/env python3
+# SPDX-License-Identifier: Apache-2.0
 """Prints transcripts/numbers-computed.txt: what the operators of numbers give, by Python's own fractions.
 
 A case is `operator left right`, or `number text`, with its result below; `over` and `zero` stand for the two refusals. Texts

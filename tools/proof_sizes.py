@@ -1,4 +1,5 @@
 #!/usr/bin/env python3
+# SPDX-License-Identifier: Apache-2.0
 """Where a crate's proof costs, without a run: the sizes of what `rt check` kept of it, by kinds of modules and by functions.
 
     tools/proof_sizes.py CRATE.. [--top FOLDER] [--most 30]

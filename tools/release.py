@@ -1,4 +1,5 @@
 #!/usr/bin/env python3
+# SPDX-License-Identifier: Apache-2.0
 """The released program, under release/: `mserve.xz`, and `record`, which says what it is and what it was built from.
 
     tools/release.py check    whether the release is of this version and of these sources, and whole; less than a second

@@ -1,3 +1,4 @@
+# SPDX-License-Identifier: Apache-2.0
 """How the scripts of this folder run the built program.
 
 The program is the one that the variable MSERVE names; else crates/mserve/out/mserve, as the gate or a build by `./mserve` leaves it; else the
@@ -14,7 +15,7 @@ TOP = os.path.realpath(os.path.join(os.path.dirname(os.path.abspath(__file__)), 
 BUILT = os.path.join(TOP, "crates", "mserve", "out", "mserve")
 RELEASED = os.path.join(TOP, "release", "unpacked", "mserve")
 PROGRAM = os.environ.get("MSERVE") or (BUILT if os.path.exists(BUILT) else RELEASED)
-ONE_ACCOUNT = os.path.join(TOP, "tools", "settings", "one_account.toml")
+ONE_ACCOUNT = os.path.join(TOP, "tests", "settings", "one_account.toml")
 STEPS = 2000
 
 
@@ -64,26 +65,3 @@ def run(stream, settings=ONE_ACCOUNT, store="memory", only=None, **more):
     """The status, the output and what was told of faults, of a run over a stream."""
     ran = subprocess.run(run_words(settings, store, only), input=stream, capture_output=True, timeout=60, **more)
     return ran.returncode, ran.stdout, ran.stderr
-
-
-def replies(stream, store="memory"):
-    """What the program writes to a stream of bytes; the script ends where the program does not end as it should."""
-    require_program()
-    ran = subprocess.run(run_words(store=store), input=stream, capture_output=True, timeout=600)
-    if ran.returncode or ran.stderr:
-        sys.exit(f"status {ran.returncode}: {ran.stderr[-300:]!r}")
-    return ran.stdout
-
-
-def replies_of_lines(lines, store="memory"):
-    """The reply of each line, of terminal 1, by its own."""
-    written = replies("".join(f"1 {line}\n" for line in lines).encode("ascii"), store).decode("ascii")
-    found, reply = [], []
-    for line in written.splitlines():
-        reply.append(line)
-        if line == "1." or line.startswith(("1!", "?!")):
-            found.append(reply)
-            reply = []
-    if reply or len(found) != len(lines):
-        sys.exit(f"{len(lines)} lines, and {len(found)} replies")
-    return found

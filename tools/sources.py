@@ -1,3 +1,4 @@
+# SPDX-License-Identifier: Apache-2.0
 """What the program is built from: its crates, their files, and one digest of them all.
 
 The digest covers crates.txt and, of each crate that the program stands on, the folders src/, specs/ and proofs/. A change to a document,

@@ -1,4 +1,5 @@
 #!/usr/bin/env python3
+# SPDX-License-Identifier: Apache-2.0
 """What `./mserve` starts if it can't take its quick way: finds the program, or has it built, and runs it with the words given.
 
 The released program (release/) is taken if it was built from these sources. It is unpacked once; `release/unpacked/paths` then lists what was

@@ -1,10 +1,12 @@
 #!/usr/bin/env python3
-"""Makes the files of the crates that play the transcripts: `stdin`, the cases of transcripts/*.txt without what they give, and
-`stdout`, the transcripts themselves. `transcripts` plays the blocks that are lines of the wire, told to all or to one account, by the settings that lie in its folder `data`, and
-`part_transcripts` those that call parts of the server. The blocks of tools/play.py alone are in neither.
+# SPDX-License-Identifier: Apache-2.0
+"""Makes the files of the crate `transcripts`, which plays the transcripts: `stdin`, the cases of
+transcripts/*.txt without what they give, `stdout`, the transcripts themselves, and in its folder `data` the
+settings that lines are served by. The blocks that tests/test_transcripts.py alone can play are in neither.
 
-With --write the files are written. Without it they are compared, and status 1 says that they are others, or that no reply ends with
-one of the codes. The two that ample memory and room keep away are shown by tools/refuse_memory.py (ZMEM) and tools/refusals.py (ZSTORE)."""
+With --write the files are written. Without it they are compared, and status 1 says that they are others,
+or that no reply ends with one of the codes. The two that ample memory and room keep away are shown by
+tests/test_memory.py (ZMEM) and tests/test_stores.py (ZSTORE)."""
 import os
 import re
 import sys
@@ -12,10 +14,9 @@ import sys
 from blocks import INDENT, SERVED, blocks
 from running import TOP
 
+CRATE = os.path.join(TOP, "crates", "transcripts")
 # The kinds that only the program itself can play.
 OF_THE_PROGRAM = ("reopened", "steps", "only")
-# The kinds that want a world.
-OF_A_WORLD = (*SERVED, "told")
 CODES = "M1 M4 M6 M7 M9 M10 M13 M15 ZLONG ZSYNTAX ZOVER ZARG ZSUB ZGRANT ZLOCKED ZSTEPS ZDEPTH ZLEVEL ZCHAR ZLINE ZTERM".split()
 
 
@@ -26,17 +27,12 @@ def cases(text):
 
 def files():
     """Each file that is made, with its text."""
-    played = {"transcripts": [], "part_transcripts": []}
-    for block in blocks():
-        if block.kind not in OF_THE_PROGRAM:
-            played["transcripts" if block.kind in OF_A_WORLD else "part_transcripts"].append(block.text)
-    for crate, texts in played.items():
-        text = "\n\n".join(texts) + "\n"
-        yield os.path.join(TOP, "crates", crate, "stdin"), cases(text)
-        yield os.path.join(TOP, "crates", crate, "stdout"), text
+    text = "\n\n".join(block.text for block in blocks() if block.kind not in OF_THE_PROGRAM) + "\n"
+    yield os.path.join(CRATE, "stdin"), cases(text)
+    yield os.path.join(CRATE, "stdout"), text
     for settings in SERVED.values():
         with open(settings, encoding="ascii", newline="\n") as file:
-            yield os.path.join(TOP, "crates", "transcripts", "data", os.path.basename(settings)), file.read()
+            yield os.path.join(CRATE, "data", os.path.basename(settings)), file.read()
 
 
 def codes_not_shown():

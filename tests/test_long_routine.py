@@ -1,17 +1,19 @@
-#!/usr/bin/env python3
-"""Runs a routine of 100,000 lines: its lines are assigned one by one, and then it is done from its first line, from labels far behind, and after lines were
-changed, put between others and killed. The replies are worked out by the rules of steps and of routines. Status 1 where a reply is another.
+# SPDX-License-Identifier: Apache-2.0
+"""A routine of 100,000 lines: its lines are assigned one by one, and then it is done from its first line, from labels far down, and after lines
+were changed, put between others and killed. The replies are worked out by the rules of steps and of routines.
 
 The store is a file: a table in memory looks at each of its rows for each that goes, so that there a KILL of so many lines takes many minutes."""
+from __future__ import annotations
+
 import os
-import sys
 import tempfile
-import time
+from collections.abc import Iterator
 
-from running import STEPS, replies_of_lines
+import pytest
+from running import STEPS
+from support import IN_MEMORY, replies_of_lines
 
-# A folder of files in memory, where a system has it: what a disk takes is not looked for here.
-IN_MEMORY = "/dev/shm"
+pytestmark = pytest.mark.together
 LINES = 100_000
 MIDDLE = 50_000
 FIRST = "L S N=0"
@@ -20,7 +22,8 @@ COUNTING = " S N=N+1"
 COSTS = 4
 
 
-def text_of(number):
+def text_of(number: int) -> str:
+    """The text of a line."""
     if number == 1:
         return FIRST
     if number == MIDDLE:
@@ -30,16 +33,17 @@ def text_of(number):
     return COUNTING
 
 
-def assignment(number, text):
+def assignment(number: int | str, text: str) -> str:
+    """The line that assigns a line of the routine."""
     return 'S ^ROUTINE("L",%s)="%s"' % (number, text.replace('"', '""'))
 
 
-def counted():
+def counted() -> int:
     """How far the lines count until the steps are used up: DO is one step, and the first line 3."""
     return (STEPS - 1 - 3) // COSTS
 
 
-def cases():
+def cases() -> Iterator[tuple[str, list[str]]]:
     """Lines behind those that assign the routine, with their replies."""
     n = str(counted())
     yield "D ^L", ["1!ZSTEPS"]
@@ -64,18 +68,18 @@ def cases():
     yield "D ^L", ["1!M13"]
 
 
-def main():
-    start = time.monotonic()
+@pytest.fixture(scope="module")
+def found() -> list[list[str]]:
+    """The replies to the lines that assign the routine, and to those of the cases."""
     built = [assignment(number, text_of(number)) for number in range(1, LINES + 1)]
-    lines, wanted = zip(*cases())
-    with tempfile.TemporaryDirectory(dir=IN_MEMORY if os.path.isdir(IN_MEMORY) else None) as folder:
-        found = replies_of_lines([*built, *lines], os.path.join(folder, "store"))
-    expected = [["1."]] * LINES + list(wanted)
-    faults = [(line, want, got) for line, want, got in zip([*built, *lines], expected, found) if want != got]
-    for line, want, got in faults[:10]:
-        print(f"long_routine: {line}: {want} expected, got {got}")
-    print(f"long_routine: {LINES} lines assigned and {len(lines)} run in {time.monotonic() - start:.1f} s, {len(faults)} faults")
-    return 1 if faults else 0
+    with tempfile.TemporaryDirectory(dir=IN_MEMORY) as folder:
+        return replies_of_lines([*built, *(line for line, _ in cases())], os.path.join(folder, "store"))
 
 
-sys.exit(main())
+def test_lines_are_assigned(found: list[list[str]]) -> None:
+    assert [number for number, reply in enumerate(found[:LINES], 1) if reply != ["1."]] == []
+
+
+@pytest.mark.parametrize(("place", "reply"), enumerate(reply for _, reply in cases()), ids=[line for line, _ in cases()])
+def test_line(found: list[list[str]], place: int, reply: list[str]) -> None:
+    assert found[LINES + place] == reply

@@ -1,38 +1,20 @@
-#!/usr/bin/env python3
-"""Draws lines in two forms, with indirection and without, and runs both through the program: all replies must be the same.
+# SPDX-License-Identifier: Apache-2.0
+"""Lines of M that are drawn at random, in two forms: one without indirection, and one with it that means the same."""
+from __future__ import annotations
 
-A line is drawn from parts, each of which is a pair: its plain text, and a text with indirection that means the same. Before each line stand
-lines that assign the texts which its second form refers to, and behind it a routine is done that writes what all variables hold; they are the same in
-both runs. The draws are seeded, so each call draws the same lines. Status 1 where replies differ, where fewer than 2,000 lines have indirection, or where
-too many lines end by a code to show much."""
-import random
-import sys
+from collections.abc import Callable
+from random import Random
 
-from running import replies_of_lines
-
-SEED = 20261124
-LINES = 2500
-LONGEST = 250
-ROUTINES = [
-    'S ^ROUTINE("R",1)="R S N=$G(N)+1 Q",^ROUTINE("R",2)="P S N=$G(N)+10 I N>20 Q",^ROUTINE("R",3)=" S N=N+100"',
-    'S ^ROUTINE("G",1)="G W ""g"" Q",^ROUTINE("G",2)="H W ""h"",$G(I) Q"',
-    'S ^ROUTINE("DUMP",1)="DUMP W $T,""|"",$G(N),""|"",$G(I),""|"",$G(A),""|"",$G(B),""|"",$G(C),""|"",$G(^A),""|"",$G(^B),""|"""',
-    'S ^ROUTINE("DUMP",2)=" N X S X="""" F  S X=$O(A(X)) Q:X=""""  W X,""="",$G(A(X)),"":"",$D(A(X)),"";"""',
-    'S ^ROUTINE("DUMP",3)=" S X="""" F  S X=$O(B(X)) Q:X=""""  W X,""="",$G(B(X)),"":"",$D(B(X)),"";"""',
-    'S ^ROUTINE("DUMP",4)=" S X="""" F  S X=$O(^A(X)) Q:X=""""  W X,""="",$G(^A(X)),"":"",$D(^A(X)),"";"""',
-    'S ^ROUTINE("DUMP",5)=" S X="""" F  S X=$O(^B(X)) Q:X=""""  W X,""="",$G(^B(X)),"":"",$D(^B(X)),"";"""',
-]
-BEGIN = [
-    "K  K ^A,^B",
-    'S A=3,B="xyxy",C=0,N=0,I=2,A(1)=4,A(2)="b",A("x",1)=6,B(1)=1,B(2,2)="two",^A=1,^A(1)=2,^A(2)="q",^B(1)="xy",^B(1,2)=5',
-]
+# A text, and one with indirection that means the same.
+Pair = tuple[str, str]
 
 
-def quoted(text):
+def quoted(text: str) -> str:
+    """A text as a literal of M."""
     return '"' + text.replace('"', '""') + '"'
 
 
-def joined(parts, between=""):
+def joined(parts: list[str | Pair], between: str = "") -> Pair:
     """The pair of a list of pairs and texts."""
     pairs = [(part, part) if isinstance(part, str) else part for part in parts]
     return between.join(plain for plain, _ in pairs), between.join(other for _, other in pairs)
@@ -41,17 +23,18 @@ def joined(parts, between=""):
 class Draw:
     """One line that is drawn: its parts, and the texts that its second form refers to."""
 
-    def __init__(self, drawn):
+    def __init__(self, drawn: Random) -> None:
+        """A line by what this draws."""
         self.drawn = drawn
-        self.texts = []
+        self.texts: list[tuple[str, str]] = []
 
-    def held(self, text):
+    def held(self, text: str) -> str:
         """A variable that is to hold this text."""
         name = self.drawn.choice(["T%d", "T(%d)", 'U("t",%d)']) % len(self.texts)
         self.texts.append((name, text))
         return name
 
-    def operand(self, text):
+    def operand(self, text: str) -> str:
         """An operand of `@` with this value."""
         form = self.drawn.randrange(6)
         if form == 0:
@@ -65,7 +48,7 @@ class Draw:
             return f"$G({self.held(text)})"
         return self.held(text)
 
-    def reference(self, depth, least=0):
+    def reference(self, depth: int, least: int = 0) -> Pair:
         """A variable with so many subscripts at least."""
         name = self.drawn.choice(["A", "B", "C", "^A", "^B"] * 3 + ['^|"ALICE"|A'] * 2 + ["^"])
         count = max(self.drawn.choice([0, 0, 1, 1, 1, 2]), least, name == "^")
@@ -85,10 +68,12 @@ class Draw:
         return plain, "@" + self.operand(other)
 
     @staticmethod
-    def subscripted(name, subscripts):
+    def subscripted(name: str, subscripts: list[Pair]) -> Pair:
+        """A variable with these subscripts."""
         return joined([name, "(", joined(subscripts, ","), ")"]) if subscripts else (name, name)
 
-    def expression(self, depth):
+    def expression(self, depth: int) -> Pair:
+        """An expression that nests this deep at most."""
         form = self.drawn.randrange(14) if depth > 0 else 0
         if form <= 3:
             text = self.drawn.choice(["1", "2", "1", "2", "0", "5", '"x"', '"xy"', "I", "N", ".5"])
@@ -106,7 +91,7 @@ class Draw:
         operator = self.drawn.choice(["+", "-", "_", "=", "<", "'>", "[", "]]", "&", "!", "*"])
         return joined(["(", self.expression(depth - 1), operator, self.expression(depth - 1), ")"])
 
-    def arguments(self, pairs):
+    def arguments(self, pairs: list[Pair]) -> Pair:
         """A list of arguments, of which some may stand in a text."""
         plain, other = joined(pairs, ",")
         form = self.drawn.randrange(4)
@@ -119,10 +104,12 @@ class Draw:
         behind = joined(pairs[place:], ",")[1]
         return plain, ",".join(front + ["@" + self.operand(behind)])
 
-    def some(self, draw):
+    def some(self, draw: Callable[[], Pair]) -> list[Pair]:
+        """One to three of a kind."""
         return [draw() for _ in range(self.drawn.choice([1, 1, 2, 3]))]
 
-    def assignment(self):
+    def assignment(self) -> Pair:
+        """An argument of SET."""
         form = self.drawn.randrange(6)
         if form == 0:
             target = joined(["$P(", self.reference(1), ",", quoted("y"), ",", self.drawn.choice(["1", "2", "3"]), ")"])
@@ -132,20 +119,22 @@ class Draw:
             target = self.reference(2)
         return joined([target, "=", self.expression(2)])
 
-    def entry(self):
+    def entry(self) -> Pair:
+        """An argument of DO or GOTO."""
         name = self.drawn.choice(["R^R", "P^R", "^R", "G^G", "H^G", "^G"])
         return joined([name, ":", self.expression(2)]) if self.drawn.randrange(3) == 0 else (name, name)
 
-    def text_to_run(self):
+    def text_to_run(self) -> Pair:
+        """An argument of XECUTE."""
         plain, other = self.command(inner=True)
         return quoted(plain), quoted(other)
 
-    def word(self, words):
+    def word(self, words: list[str]) -> Pair:
         """A command's word, with a condition or none."""
         word = self.drawn.choice(words)
         return joined([word, ":", self.expression(2)]) if self.drawn.randrange(4) == 0 else (word, word)
 
-    def command(self, inner=False):
+    def command(self, inner: bool = False) -> Pair:
         """A command with its arguments."""
         form = self.drawn.randrange(8 if inner else 9)
         if form <= 2:
@@ -161,7 +150,7 @@ class Draw:
             return joined([self.word(["N", "NEW"]), " ", self.arguments([(name, name) for name in names])])
         return joined([self.word(["X", "XECUTE"]), " ", self.arguments(self.some(self.text_to_run))])
 
-    def opening(self):
+    def opening(self) -> Pair:
         """What a line begins with: a FOR, an IF, or nothing."""
         form = self.drawn.randrange(5)
         if form == 0:
@@ -171,7 +160,7 @@ class Draw:
             return joined(["I ", self.arguments(self.some(lambda: self.expression(2))), " "])
         return "", ""
 
-    def ending(self):
+    def ending(self) -> Pair:
         """What a line ends with: a GOTO, what takes all variables but some, or nothing."""
         form = self.drawn.randrange(12)
         if form == 0:
@@ -182,47 +171,7 @@ class Draw:
             return word + "(A,N,I) Q", word + "@" + self.operand("(A,N,I)") + " Q"
         return "", ""
 
-    def line(self):
+    def line(self) -> Pair:
+        """A whole line."""
         commands = joined([self.command() for _ in range(self.drawn.choice([1, 1, 2, 3]))], " ")
         return joined([self.opening(), commands, self.ending()])
-
-
-def drawn_lines():
-    """Of each line that is drawn: the lines before it, and its two forms."""
-    drawn = random.Random(SEED)
-    while True:
-        draw = Draw(drawn)
-        plain, other = draw.line()
-        before = [f"S {name}={quoted(text)}" for name, text in draw.texts]
-        if max(map(len, [plain, other, *before])) <= LONGEST:
-            yield [*before, "S ^A(0)=0"], plain, other
-
-
-def streams():
-    """The lines of both runs, and at which places they are others."""
-    plain_run, other_run, places = list(ROUTINES), list(ROUTINES), []
-    for number, (before, plain, other) in zip(range(LINES), drawn_lines()):
-        begin = BEGIN if number % 5 == 0 else []
-        for run, line in (plain_run, plain), (other_run, other):
-            run += [*begin, *before, line, "D ^DUMP"]
-        if plain != other:
-            places.append(len(plain_run) - 2)
-    return plain_run, other_run, places
-
-
-def main():
-    plain_run, other_run, places = streams()
-    plain, other = replies_of_lines(plain_run), replies_of_lines(other_run)
-    faults = [i for i in range(len(plain)) if plain[i] != other[i]]
-    for i in faults[:10]:
-        print(f"indirection_pairs: {plain_run[i]}\n    {plain[i]}\n{other_run[i]}\n    {other[i]}")
-    codes = [other[i][-1] for i in places]
-    done = codes.count("1.")
-    unmeant = sorted(set(codes) & {"1!ZSYNTAX", "1!ZDEPTH", "1!ZSTEPS", "1!ZLINE"})
-    print(f"indirection_pairs: {len(places)} lines with indirection, {done} of them without a code, {len(faults)} replies differ")
-    if unmeant:
-        print(f"indirection_pairs: codes that no line is to have: {unmeant}")
-    return 1 if faults or unmeant or len(places) < 2000 or 2 * done < len(places) else 0
-
-
-sys.exit(main())

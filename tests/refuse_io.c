@@ -1,3 +1,4 @@
+// SPDX-License-Identifier: Apache-2.0
 // Loaded in front of a program: refuses its Nth read, write or accept, and gives its reads and writes little at a time. Counted are
 // the calls on the standard input, the standard output and sockets; those on files, as of settings and stores, and on the standard
 // error go by. By variables of the environment, of which one that is missing, or 0, changes nothing:

@@ -1,9 +1,14 @@
 #!/usr/bin/env python3
-"""Prints crates/benchmark/stdout: the checksums of the benchmark's thousand rounds, by Python's own fractions and texts,
-and by the form of replies."""
+# SPDX-License-Identifier: Apache-2.0
+"""Prints transcripts/checksums.txt: what a thousand rounds of each call of the crate `timings` sum up to in
+five passes, by Python's own fractions and texts."""
+import contextlib
+import io
 import itertools
 import re
+import textwrap
 
+from blocks import INDENT
 from key_vectors import key, units as canonical
 from number_vectors import OPERATORS, text_of, value
 
@@ -28,11 +33,7 @@ def summed(work):
     return wrapped(PASSES * sum(work(i) for i in range(ROUNDS)))
 
 
-def reply(value, terminal=1):
-    return f"{terminal}-{value}\n{terminal}.\n"
-
-
-def main():
+def numbers():
     for title, words in SETS.items():
         print(title)
         xs = [value(word) for word in words]
@@ -42,19 +43,14 @@ def main():
         print(f"  {'from_text':<12} {summed(lambda i: units(xs[i % 4]))}")
         print(f"  {'is_canonical':<12} {summed(lambda i: int(text_of(xs[i % 4]) == words[i % 4]))}")
         print(f"  {'write':<12} {summed(lambda i: len(text_of(xs[i % 4])))}")
+
+
+def texts():
     text = "abcdefghi^" * 400 + "needle"
     print("texts")
     print(f"  {'pieces':<12} {summed(lambda i: len(text.split('^')))}")
     print(f"  {'find':<12} {summed(lambda i: text.index('needle') + len('needle') + 1)}")
     print(f"  {'matches':<12} {summed(lambda i: int(bool(re.fullmatch('[A-Za-z]+-[0-9]+', 'ABCDEFGHIJ-123456789'))))}")
-    keys()
-    local_variables()
-    stores()
-    grants()
-    locks()
-    lines()
-    loops()
-    lines_with_globals()
 
 
 KEYS = {
@@ -160,44 +156,20 @@ def locks():
         print(f"  {'take':<12} 0")
 
 
-def lines():
-    count = 10_000
-    for kind in ("the plain store", "a table"):
-        print(f"lines over {kind}")
-        print(f"  {'equal':<12} {PASSES * count * len(reply(1))}")
-        print(f"  {'different':<12} {PASSES * sum(len(reply(i)) for i in range(count))}")
-        print(f"  {'in turn':<12} {PASSES * sum(len(reply(1, i % 1000 + 1)) for i in range(count))}")
+PAGES = {
+    "numbers": numbers, "texts": texts, "keys": keys, "locals": local_variables,
+    "stores": stores, "grants": grants, "locks": locks,
+}
 
 
-LOOPS = [
-    "empty", "arithmetic", "subscripts", "walk", "set and kill", "text executed", "routine done", "name indirection", "lock and give back",
-]
-
-
-def loops():
-    print("turns of a FOR")
-    for name in LOOPS:
-        lines = 2 if name == "set and kill" else 1
-        print(f"  {name:<12} {PASSES * lines * len('1.' + chr(10))}")
-
-
-def lines_with_globals():
-    length = len(key(b"ALICE", b"DATA", [b"0"]))
-    done = len("1.\n")
-    for kind, count, writing, between in ("the plain store", 100, 1, 10), ("a table", 100, 1, 10), ("a file", 20, 0, 2):
-        print(f"lines over {count} globals in {kind}")
-        print(f"  {'SET new':<12} {done}")
-        if writing:
-            print(f"  {'SET':<12} {PASSES * writing * done}")
-        print(f"  {'read':<12} {PASSES * (done + len(reply('hello world')))}")
-        print(f"  {'$ORDER':<12} {PASSES * (done + len(reply(count - 1)))}")
-        print(f"  {'SET and KILL':<12} {PASSES * done}")
-        print("the store alone")
-        if writing:
-            print(f"  {'put':<12} {PASSES * writing * count}")
-        print(f"  {'get':<12} {PASSES * count * len('hello world')}")
-        print(f"  {'next':<12} {PASSES * count * length}")
-        print(f"  {'put and kill':<12} {PASSES * between}")
+def main():
+    print("== checksums: of each call that is timed, a page each")
+    for name, page in PAGES.items():
+        print(name)
+        told = io.StringIO()
+        with contextlib.redirect_stdout(told):
+            page()
+        print(textwrap.indent(told.getvalue(), INDENT), end="")
 
 
 if __name__ == "__main__":

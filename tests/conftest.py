@@ -1,0 +1,108 @@
+# SPDX-License-Identifier: Apache-2.0
+"""What the tests stand on: the built program, its settings and stores, and libraries that refuse its calls.
+
+The program is the one that tools/running.py names. Helpers that are no fixtures are in tests/support.py."""
+from __future__ import annotations
+
+import os
+import subprocess
+import sys
+import tempfile
+from collections.abc import Callable, Iterator
+from pathlib import Path
+
+import hypothesis
+import pytest
+
+TESTS = Path(__file__).resolve().parent
+sys.path[:0] = [str(TESTS), str(TESTS.parent / "tools")]
+
+import running  # noqa: E402
+from support import IN_MEMORY  # noqa: E402
+
+# The same cases in each run, and no deadline: the machine may be busy. A case is a run of the program, so none is too slow or too large.
+hypothesis.settings.register_profile("tests", deadline=None, derandomize=True, database=None,
+                                     suppress_health_check=[hypothesis.HealthCheck.too_slow, hypothesis.HealthCheck.data_too_large])
+hypothesis.settings.load_profile("tests")
+
+
+def pytest_addoption(parser: pytest.Parser) -> None:
+    """`--count N`: tests that draw their cases draw N times as many. `--part K/N`: of all cases every Nth, from the Kth on."""
+    parser.addoption("--count", type=int, default=1, metavar="N", help="draw N times as many cases")
+    parser.addoption("--part", default="1/1", metavar="K/N", help="of all cases every Nth, from the Kth on")
+
+
+def group_of(item: pytest.Item) -> str:
+    """What runs in one process: the cases of a file that share what takes long to make, else a case by itself."""
+    return item.nodeid.partition("::")[0] if item.get_closest_marker("together") else item.nodeid
+
+
+def pytest_collection_modifyitems(config: pytest.Config, items: list[pytest.Item]) -> None:
+    """Leaves the cases of a part, which runs beside the other parts (tools/behaviour.py)."""
+    place, parts = map(int, config.getoption("--part").split("/"))
+    groups = {group: number for number, group in enumerate(dict.fromkeys(map(group_of, items)))}
+    chosen = [item for item in items if groups[group_of(item)] % parts == place - 1]
+    config.hook.pytest_deselected(items=[item for item in items if groups[group_of(item)] % parts != place - 1])
+    items[:] = chosen
+
+
+def pytest_configure() -> None:
+    """Ends the run if there is no program to test."""
+    if not os.path.exists(running.PROGRAM):
+        pytest.exit("tests: there is no program: run ./mserve --help, or name one by the variable MSERVE", returncode=3)
+
+
+@pytest.fixture(scope="session")
+def count(request: pytest.FixtureRequest) -> int:
+    """How many times as many cases are to be drawn."""
+    return request.config.getoption("--count")
+
+
+@pytest.fixture
+def store(tmp_path: Path) -> str:
+    """The path of a store in a file, which is not there yet."""
+    return str(tmp_path / "store")
+
+
+@pytest.fixture
+def open_folder() -> Iterator[str]:
+    """A folder that another user may enter, as pytest's own may not be."""
+    with tempfile.TemporaryDirectory() as folder:
+        os.chmod(folder, 0o755)
+        yield folder
+
+
+@pytest.fixture
+def folder_in_memory() -> Iterator[Path]:
+    """A folder for many files, none of which has to outlast the test."""
+    with tempfile.TemporaryDirectory(dir=IN_MEMORY) as folder:
+        yield Path(folder)
+
+
+@pytest.fixture
+def written(tmp_path: Path) -> Callable[[str | bytes], str]:
+    """Writes a file, as one of settings, and gives its path; the next call writes it anew."""
+    def write(content: str | bytes) -> str:
+        path = tmp_path / "written"
+        path.write_bytes(content.encode("ascii") if isinstance(content, str) else content)
+        return str(path)
+    return write
+
+
+def compiled(source: str, folder: Path) -> str:
+    """The path of a library that is loaded in front of the program, made from a source of this folder."""
+    library = folder / source.replace(".c", ".so")
+    subprocess.run(["cc", "-shared", "-fPIC", "-O1", "-o", library, TESTS / source], check=True)
+    return str(library)
+
+
+@pytest.fixture(scope="session")
+def io_library(tmp_path_factory: pytest.TempPathFactory) -> str:
+    """The library that refuses reads, writes and accepts: tests/refuse_io.c."""
+    return compiled("refuse_io.c", tmp_path_factory.mktemp("io"))
+
+
+@pytest.fixture(scope="session")
+def memory_library(tmp_path_factory: pytest.TempPathFactory) -> str:
+    """The library that refuses requests for memory: tests/refuse_memory.c."""
+    return compiled("refuse_memory.c", tmp_path_factory.mktemp("memory"))

@@ -1,0 +1,122 @@
+# SPDX-License-Identifier: Apache-2.0
+"""Drawn settings of several accounts and drawn lines of all their terminals, hostile ones among them, and runs of them over new stores."""
+from __future__ import annotations
+
+import itertools
+import os
+import re
+from dataclasses import dataclass
+from random import Random
+
+from running import run
+from support import Grant
+
+NAMES = ["ALICE", "BOB", "CAROL", "DAVE", "EVE"]
+GLOBALS = ["X", "Y", "ROUTINE"]
+# So many lines are drawn, of which every twentieth is left out.
+LINES = 46
+REPLY = re.compile(rb"(\d+)[:\-.!]")
+# A line with its terminal, and with none if it is not a line of the wire.
+Line = tuple[int | None, bytes]
+
+# Lines of M: {g} is a global, {o} an account or none, {i} a subscript, {v} a value.
+TEXTS = [
+    # stored, read and walked through, of one's own and of others
+    'S ^{g}({i})="{v}"', 'S ^{g}({i},1)="{v}",^(2)="{v}"', 'S ^|"{o}"|{g}({i})="{v}"', 'K ^{g}', 'K ^|"{o}"|{g}({i})',
+    'W $D(^{g}),$G(^{g}({i}),"-")', 'W $D(^|"{o}"|{g}({i}))', 'W ^|"{o}"|{g}({i})', 'W ^({i})', 'S ^{g}({i})=^|"{o}"|{g}({i})',
+    'S S="" F  S S=$O(^{g}(S)) Q:S=""  W S,"=",$G(^{g}(S)),!', 'S S="" F  S S=$O(^|"{o}"|{g}(S)) Q:S=""  W S,","',
+    'S S="" F  S S=$O(^|"{o}"|{g}(S),-1) Q:S=""  S ^Y(S)=^|"{o}"|{g}(S)',
+    # locked, by name and by list
+    'L +^{g}({i}):0 W $T', 'L +^|"{o}"|{g}:0 W $T', 'L +^|"{o}"|{g}({i})', 'L +^{g}', 'L -^{g}({i})', 'L +{g}:0 W $T', 'L (^{g},^|"{o}"|Y)', 'L',
+    # kept by the terminal, and given up
+    'S A="{v}" W A', 'W A,$D(B)', 'K', 'N A S A=1 W A', 'I $D(^{g}) W "some"', 'W $T', 'H',
+    # routines, texts that are run, and names that are looked up
+    'S ^ROUTINE("R",1)="A S ^{g}({i})=""{v}"" W ^{g}({i}) Q"', 'D A^R', 'D ^R', 'X "S ^{g}({i})=""{v}"" W ^(9)"',
+    'S A="^{g}({i})",@A="{v}" W @A', 'S A="^|""{o}""|{g}({i})" W @A', 'S A="{g}({i})" L +@A:0 W $T',
+    # hostile: without end, too long, too deep, refused
+    'F  S B=1', 'F I=1:1 S ^{g}(I)=I', 'F I=1:1 L +^{g}(I)', 'S B="x" F  S B=B_B', 'F I=1:1 S ^{g}("x"_I)=$J("",4000)', 'S B="X B" X B',
+    'S ^{g}({i})=1 W 1/0', 'W "', 'S ^{g}("")=1', 'W $C(200)', 'W "é"', ";" + "x" * 255, 'ZZ', '', 'D NO^R', 'W @"^|"',
+]
+
+
+@dataclass(frozen=True)
+class Setting:
+    """Accounts with their terminals and steps, and grants."""
+    accounts: dict[str, tuple[list[int], int]]
+    grants: list[Grant]
+
+    def document(self) -> str:
+        """It as a file of settings has it."""
+        tables = [f'[[account]]\nname = "{name}"\nterminals = {terminals}\nsteps = {steps}\n' for name, (terminals, steps) in self.accounts.items()]
+        tables += [f'[[grant]]\nfrom = "{giver}"\nto = "{taker}"\nglobal = "{name}"\nmode = "{mode}"\n' for giver, taker, name, mode in self.grants]
+        return "\n".join(tables)
+
+    def cut(self, members: set[str]) -> Setting:
+        """Some accounts alone, with the grants between them."""
+        accounts = {name: account for name, account in self.accounts.items() if name in members}
+        return Setting(accounts, [grant for grant in self.grants if grant[0] in members and grant[1] in members])
+
+    def with_all_grants(self) -> Setting:
+        """The same accounts, with all grants that there could be."""
+        return Setting(self.accounts, [(a, b, name, "write") for a in self.accounts for b in self.accounts if a != b for name in GLOBALS])
+
+    def terminals(self, members: set[str]) -> set[int]:
+        """The terminals of some accounts."""
+        return {terminal for name in members for terminal in self.accounts[name][0]}
+
+
+def drawn_setting(drawn: Random) -> Setting:
+    """Three to five accounts of two terminals each, and at least one grant."""
+    names = drawn.sample(NAMES, drawn.randint(3, 5))
+    accounts = {name: ([2 * place + 1, 2 * place + 2], drawn.choice([60, 400, 2000])) for place, name in enumerate(names)}
+    pairs = [(giver, taker) for giver in names for taker in names if giver != taker]
+    granted = drawn.sample(pairs, drawn.randint(1, len(names) - 1))
+    return Setting(accounts, [(giver, taker, drawn.choice(GLOBALS), drawn.choice(["read", "read", "write"])) for giver, taker in granted])
+
+
+def drawn_lines(drawn: Random, setting: Setting) -> list[Line]:
+    """Some lines of all terminals, in their order."""
+    return [line for line in (drawn_line(drawn, setting) for _ in range(LINES)) if line is not None]
+
+
+def drawn_line(drawn: Random, setting: Setting) -> Line | None:
+    """A line of one of all terminals or of one that nobody has; or one that is not a line of the wire; or none."""
+    kind = drawn.randrange(20)
+    if kind == 0:
+        return None
+    if kind == 1:
+        return None, drawn.choice([b"\n", b"x W 1\n", b"01 W 1\n", b"1" * 300 + b"\n"])
+    names = sorted(setting.accounts)
+    terminal = drawn.choice(sorted(setting.terminals(set(names))) + [99])
+    text = drawn.choice(TEXTS).format(g=drawn.choice(GLOBALS), o=drawn.choice([*names, "NOBODY"]), i=drawn.randint(1, 3), v=drawn.randint(1, 99))
+    return terminal, f"{terminal} {text}".encode() + drawn.choice([b"\n", b"\n", b"\r\n"])
+
+
+class Runs:
+    """Runs over new stores of a kind, in a folder."""
+
+    def __init__(self, kind: str, folder: str) -> None:
+        """Over memory or files, in a folder."""
+        self.kind, self.folder, self.numbers = kind, folder, itertools.count(1)
+
+    def answered(self, setting: Setting, lines: list[Line], only: str | None = None) -> list[bytes]:
+        """What is answered, line by line, of lines by settings."""
+        place = os.path.join(self.folder, str(next(self.numbers)))
+        with open(f"{place}.toml", "w", encoding="ascii") as file:
+            file.write(setting.document())
+        store = "memory" if self.kind == "memory" else place
+        status, output, told = run(b"".join(line for _, line in lines), f"{place}.toml", store, only)
+        assert (status, told) == (0, b"")
+        return output.splitlines(True)
+
+
+def told(setting: Setting, account: str, answer: list[bytes]) -> list[bytes]:
+    """Of an answer, what goes to an account's terminals."""
+    own = setting.terminals({account})
+    return [line for line in answer if (found := REPLY.match(line)) and int(found[1]) in own]
+
+
+def sent_by(setting: Setting, members: set[str], lines: list[Line]) -> list[Line]:
+    """The lines of some accounts."""
+    terminals = setting.terminals(members)
+    return [line for line in lines if line[0] in terminals]

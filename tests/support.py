@@ -1,0 +1,161 @@
+# SPDX-License-Identifier: Apache-2.0
+"""Helpers of the tests that are no fixtures: a line with its reply, refusals, the replies of a list of lines, and servers."""
+from __future__ import annotations
+
+import contextlib
+import functools
+import os
+import shutil
+import socket
+import subprocess
+import threading
+import tomllib
+from collections.abc import Iterator, Sequence
+from dataclasses import dataclass
+
+from running import ONE_ACCOUNT, PROGRAM, connected, free_port, run_words, serve_words
+
+LINE = b"1 WRITE 1+2*3\n"
+REPLY = b"1-9\n1.\n"
+Ended = tuple[int, bytes, bytes]
+# A grant: from, to, global, mode.
+Grant = tuple[str, str, str, str]
+# Lines of which each leaves its number, in a local variable and in a global.
+COUNTED = [(b"1 S A=%d,^A=A W A\n" % number, b"1-%d\n1.\n" % number) for number in (1, 2, 3)]
+# A folder of files in memory, if the system has one: what a disk takes is not looked for.
+IN_MEMORY = "/dev/shm" if os.path.isdir("/dev/shm") else None
+
+
+def refused(status: int, part: str, fault: str) -> Ended:
+    """How a run ends that is refused for the fault of a part: its status, no output, and what is said."""
+    return status, b"", f"mserve: {part}: {fault}\n".encode()
+
+
+def reaching(account: str, grants: list[Grant]) -> set[str]:
+    """The accounts that reach this one: by a chain of grants, of which those to write lead both ways."""
+    links = [(giver, taker) for giver, taker, _, _ in grants]
+    links += [(taker, giver) for giver, taker, _, mode in grants if mode == "write"]
+    found, left = {account}, [account]
+    while left:
+        to = left.pop()
+        more = {giver for giver, taker in links if taker == to} - found
+        found |= more
+        left += more
+    return found
+
+
+@functools.cache
+def accounts_of(settings: str) -> dict[str, list[int]]:
+    """The accounts of a file of settings, with their terminals."""
+    return {account["name"]: account["terminals"] for account in tomllib.loads(content(settings).decode("ascii"))["account"]}
+
+
+@functools.cache
+def grants_of(settings: str) -> list[Grant]:
+    """The grants of a file of settings."""
+    found = tomllib.loads(content(settings).decode("ascii")).get("grant", [])
+    return [(grant["from"], grant["to"], grant["global"], grant["mode"]) for grant in found]
+
+
+def content(path: str) -> bytes:
+    """The bytes of a file."""
+    with open(path, "rb") as file:
+        return file.read()
+
+
+def run_as_nobody(folder: str, settings: str, store: str) -> Ended:
+    """A run without a superuser's rights, to whom no file is closed, by a copy of the program in a folder that all may enter."""
+    program = os.path.join(folder, "mserve")
+    shutil.copy2(PROGRAM, program)
+    os.chmod(program, 0o755)
+    nobody = {"user": 65534, "group": 65534, "extra_groups": []} if os.geteuid() == 0 else {}
+    words = [program, "run", "--settings", settings, "--store", store]
+    ran = subprocess.run(words, input=LINE, capture_output=True, timeout=60, **nobody)
+    return ran.returncode, ran.stdout, ran.stderr
+
+
+def replies(stream: bytes, store: str = "memory", settings: str | None = None) -> bytes:
+    """What the program writes to a stream, which must not end it."""
+    words = run_words(store=store) if settings is None else run_words(settings, store)
+    ran = subprocess.run(words, input=stream, capture_output=True, timeout=600)
+    assert (ran.returncode, ran.stderr) == (0, b"")
+    return ran.stdout
+
+
+def replies_of_lines(lines: list[str], store: str = "memory") -> list[list[str]]:
+    """The reply to each of the lines, which are of terminal 1, by its own lines."""
+    written = replies("".join(f"1 {line}\n" for line in lines).encode("ascii"), store).decode("ascii")
+    found: list[list[str]] = []
+    reply: list[str] = []
+    for line in written.splitlines():
+        reply.append(line)
+        if line == "1." or line.startswith(("1!", "?!")):
+            found.append(reply)
+            reply = []
+    assert (len(found), reply) == (len(lines), [])
+    return found
+
+
+def give(pieces: Sequence[bytes], descriptor: int) -> None:
+    """Writes the pieces to a pipe, and closes it."""
+    with os.fdopen(descriptor, "wb", buffering=0) as pipe:
+        for piece in pieces:
+            pipe.write(piece)
+
+
+def run_in_pieces(stream: bytes, size: int, settings: str, only: str | None) -> Ended:
+    """What `run` gives if each read of the program gives this many bytes at most: a pipe of packets hands on each write by itself."""
+    reading, writing = os.pipe2(os.O_DIRECT | os.O_CLOEXEC)
+    pieces = [stream[i:i + size] for i in range(0, len(stream), size)]
+    with subprocess.Popen(run_words(settings, only=only), stdin=reading, stdout=subprocess.PIPE, stderr=subprocess.PIPE) as program:
+        os.close(reading)
+        giver = threading.Thread(target=give, args=(pieces, writing))
+        giver.start()
+        output, told = program.communicate(timeout=60)
+        giver.join()
+    return program.returncode, output, told
+
+
+@dataclass
+class Server:
+    """A server: its process, its port, and, once it has ended, what it said."""
+    process: subprocess.Popen[bytes]
+    port: int
+    told: bytes = b""
+
+    def ended(self) -> tuple[int, bytes]:
+        """Its status, and what it said."""
+        return self.process.returncode, self.told
+
+
+@contextlib.contextmanager
+def server(connections: int, store: str = "memory", settings: str = ONE_ACCOUNT, pass_fds: tuple[int, ...] = (), **variables: str) -> Iterator[Server]:
+    """A server for this many connections, with these variables in its environment and these descriptors. After the block it has ended, and has
+    written nothing."""
+    port = free_port()
+    words = serve_words(port, connections, store, settings)
+    with subprocess.Popen(words, stdin=subprocess.DEVNULL, stdout=subprocess.PIPE, stderr=subprocess.PIPE, pass_fds=pass_fds,
+                          env={**os.environ, **variables}) as process:
+        found = Server(process, port)
+        try:
+            yield found
+            output, found.told = process.communicate(timeout=60)
+            assert output == b""
+        finally:
+            process.kill()
+
+
+def asked(port: int, stream: bytes) -> bytes:
+    """What a connection answers to a stream; if it broke, what came before."""
+    got = b""
+    with connected(port) as client:
+        try:
+            client.sendall(stream)
+            client.shutdown(socket.SHUT_WR)
+            while piece := client.recv(65536):
+                got += piece
+        except TimeoutError:
+            raise
+        except OSError:
+            pass
+    return got

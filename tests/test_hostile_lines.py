@@ -1,0 +1,188 @@
+# SPDX-License-Identifier: Apache-2.0
+"""Lines that are wrong in one place: right lines are drawn, and one thing of each is changed. The program never ends, each line that is not empty
+has exactly one reply, from the terminal that it names, and the replies are the same if the input comes in pieces of 1, 2 and 7 bytes.
+
+What is changed: a bracket too many, a byte over 127 or under 32, a name of 32 characters, 41 brackets or operands of `@` one within the other,
+256 levels, a count of 10^19, a character left out, doubled or in place of another, a cut, and the terminal. Of one long line every cut
+is tried."""
+from __future__ import annotations
+
+import re
+from collections import Counter
+from random import Random
+
+import pytest
+from drawn_lines import Draw, quoted
+from hypothesis import given, note, settings
+from hypothesis import strategies as st
+from running import ONE_ACCOUNT, run
+from support import run_in_pieces
+
+# So many streams are drawn, of so many lines each, of which some are left out.
+STREAMS, LINES = 400, 75
+SEEDS = 2**24
+LONGEST = 260
+PIECES = (1, 2, 7)
+WIRE = re.compile(rb"([1-9][0-9]{0,3}) ")
+ENDING = re.compile(rb"(?:(\d+|\?)!(Z?[A-Z]+\d*)|(\d+)\.)")
+MARKS = "()\"@^|,:;=$'?_.!# +-*/\\<>[]&%AZaz019"
+BIG = "1" + 19 * "0"
+# What stands in place of a line, or of a part of it.
+NESTED = [
+    "W " + 41 * "(" + "1" + 41 * ")", 'S A="A" W ' + 41 * "@" + "A", "W " + 41 * "-(" + "1" + 41 * ")", 'S X="X X" X X', 'S X="D X^R" X X',
+    'S A="@A" W @A', "F  F  F  F  X \"F  \"", 255 * "(", 255 * "@", 255 * '"',
+    'S ^ROUTINE("R",9)="X D X^R" D X^R', 'W ?' + BIG, f'W "A"?{BIG}A', f'W "A"?.{BIG}A', f"W $P(A,B,{BIG})", f'W $J("",{BIG})', f"F I=1:{BIG} W I",
+    f"F I={BIG}:1:2 W I", f"S $P(A,B,{BIG})=1", f"W {BIG}*{BIG}", f"S A({BIG})=1", f"W $E(A,-{BIG},{BIG})", f'L +^A({BIG}):{BIG}',
+    f'W $O(A({BIG}),{BIG})', f"W {BIG}E{BIG}", f"W .{BIG}", "S B=\"x\" F  S B=B_B", 'W $J("",200)?.E.E.E.E1"x"', 'K  K ^A,^B N  L', "H", "Q", "G", "D",
+]
+LONG = (
+    'S:1=1 A(1,"x")=$P(^A(1),"y",1,2),B=-$L(@"A"),$P(C,",",2)=\'(1<2)!(A]]"q") F I=1:1:2 W:I#2=1 $S(I:$J(I,3),1:"no"),! X "W I" '
+    'I $D(B) D P^R,@"R^R":I K (A,B) L +(^A,B):0 N I W $O(^A("")),$TR("ab","a","b"),$E("abc",2),$G(^|"ALICE"|A(1)),$C(65),A?1.N ; end'
+)
+
+
+def with_bracket(drawn: Random, text: str) -> str:
+    """A bracket too many."""
+    place = drawn.randint(0, len(text))
+    return text[:place] + drawn.choice("()") + text[place:]
+
+
+def with_byte(drawn: Random, text: str) -> str:
+    """A byte that no line may have, or a carriage return."""
+    place = drawn.randint(0, len(text))
+    return text[:place] + chr(drawn.choice([0, 9, 11, 13, 27, 31, 127, 128, 160, 200, 255])) + text[place:]
+
+
+def with_long_name(drawn: Random, text: str) -> str:
+    """A name of 32 characters or more."""
+    places = [place for place, letter in enumerate(text) if letter.isupper()]
+    place = drawn.choice(places) + 1 if places else 0
+    return text[:place] + 31 * "A" + text[place:]
+
+
+def with_one_left_out(drawn: Random, text: str) -> str:
+    """A character left out."""
+    place = drawn.randint(0, max(len(text) - 1, 0))
+    return text[:place] + text[place + 1:]
+
+
+def with_one_doubled(drawn: Random, text: str) -> str:
+    """A character twice."""
+    place = drawn.randint(0, max(len(text) - 1, 0))
+    return text[:place] + text[place:place + 1] + text[place:]
+
+
+def with_another(drawn: Random, text: str) -> str:
+    """Another character in place of one."""
+    place = drawn.randint(0, max(len(text) - 1, 0))
+    return text[:place] + drawn.choice(MARKS) + text[place + 1:]
+
+
+def with_count(drawn: Random, text: str) -> str:
+    """A number of the line is 10^19."""
+    numbers = list(re.finditer(r"\d+", text))
+    if not numbers:
+        return text + BIG
+    found = drawn.choice(numbers)
+    return text[:found.start()] + BIG + text[found.end():]
+
+
+def cut(drawn: Random, text: str) -> str:
+    """The front of it."""
+    return text[:drawn.randint(0, len(text))]
+
+
+def nested(drawn: Random, text: str) -> str:
+    """A line that nests or counts too far."""
+    return drawn.choice(NESTED)
+
+
+def with_rest(drawn: Random, text: str) -> str:
+    """One that is too long, or that just is not."""
+    return text + " ;" + drawn.randint(0, LONGEST) * "x"
+
+
+def right(drawn: Random, text: str) -> str:
+    """Nothing is changed."""
+    return text
+
+
+CHANGES = [right, with_bracket, with_byte, with_long_name, with_one_left_out, with_one_doubled, with_another, with_count, cut, nested, with_rest]
+TERMINALS = ["1"] * 30 + ["2", "9999", "10000", "0", "01", "", "x", "-1", "1\t"]
+
+
+def drawn_line(drawn: Random) -> bytes:
+    """A line of the wire, with its line feed; or nothing."""
+    if drawn.randrange(12) == 0:
+        return b""
+    # the right line is drawn apart, by a seed: a difference shrinks to one change of one line all the same
+    draw = Draw(Random(drawn.randrange(SEEDS)))
+    plain, other = draw.line()
+    texts = [f"S {name}={quoted(text)}" for name, text in draw.texts]
+    text = drawn.choice(CHANGES)(drawn, drawn.choice([plain, other, *texts]))
+    return f"{drawn.choice(TERMINALS)} {text}".encode("latin1") + drawn.choice([b"\n", b"\n", b"\n", b"\r\n"])
+
+
+def wanted_endings(stream: bytes) -> list[bytes | None]:
+    """Whose replies are to come: a terminal's; or what is answered to a line that is none of the wire."""
+    wanted = []
+    for line in stream.split(b"\n")[:-1]:
+        line = line.removesuffix(b"\r")
+        terminal = WIRE.match(line)
+        if len(line) > LONGEST:
+            wanted.append(b"?!ZLINE")
+        elif line:
+            wanted.append(terminal[1] if terminal else b"?!ZWIRE")
+    return wanted
+
+
+def endings(output: bytes) -> list[tuple[bytes, bytes]]:
+    """The last line of each reply: whose it is, and the line."""
+    found = ((ENDING.fullmatch(line), line) for line in output.split(b"\n"))
+    return [(match[1] or match[3], line) for match, line in found if match]
+
+
+def judge(stream: bytes) -> list[bytes]:
+    """The last lines of the replies to a stream, which are as they should be, however it is cut."""
+    status, output, told = run(stream)
+    assert (status, told) == (0, b"")
+    assert not output or output.endswith(b"\n")
+    ends = endings(output)
+    assert [line if whose == b"?" else whose for whose, line in ends] == wanted_endings(stream)
+    for size in PIECES:
+        assert (size, run_in_pieces(stream, size, ONE_ACCOUNT, None)) == (size, (0, output, b""))
+    return [line for _, line in ends]
+
+
+@pytest.mark.parametrize("form", ["1 {}\n", "{}\n", "1 {}"], ids=["a line", "without a terminal", "without a line feed"])
+def test_each_cut_of_a_long_line(form: str) -> None:
+    cuts = [form.format(LONG[:place]).encode("ascii") for place in range(len(LONG) + 1)]
+    if form.endswith("\n"):
+        judge(b"".join(cuts))
+        return
+    for line in cuts:
+        status, output, told = run(line)
+        assert (line, status, told, [whose for whose, _ in endings(output)]) == (line, 0, b"", [b"1"])
+
+
+@pytest.mark.parametrize("text", NESTED, ids=range(len(NESTED)))
+def test_a_line_that_nests_or_counts(text: str) -> None:
+    judge(f"1 {text}\n1 W 1\n".encode("ascii"))
+
+
+def test_drawn_lines(count: int) -> None:
+    """They end in many ways, none of them for want of memory or room."""
+    codes: Counter[bytes] = Counter()
+
+    @settings(max_examples=count * STREAMS)
+    @given(st.randoms(use_true_random=False))
+    def answered(drawn: Random) -> None:
+        stream = b"".join(drawn_line(drawn) for _ in range(LINES))
+        note("\n".join(map(repr, stream.split(b"\n"))))
+        codes.update(line.rpartition(b"!")[2] for line in judge(stream))
+
+    answered()
+    print(codes.total(), codes)
+    assert codes.total() >= 0.75 * count * STREAMS * LINES
+    assert not set(codes) & {b"ZMEM", b"ZSTORE"}
+    assert set(codes) >= {b"1.", b"ZSYNTAX", b"ZWIRE", b"ZLINE", b"ZTERM", b"ZCHAR", b"ZDEPTH", b"ZSTEPS", b"ZOVER", b"M6", b"M13"}

@@ -1,0 +1,60 @@
+#!/usr/bin/env python3
+# SPDX-License-Identifier: Apache-2.0
+"""What the page of the front end says of the language, made from what the clients say, so that it is said once: front/page/codes.js.
+Without a word it compares, and has status 1 if the file is another; `--write` writes it. It needs no program."""
+import json
+import os
+import sys
+
+TOP = os.path.realpath(os.path.join(os.path.dirname(os.path.abspath(__file__)), ".."))
+sys.path.insert(0, os.path.join(TOP, "clients"))
+
+from mserve_client import codes, keys, language, reference, routine_files, walk, wire  # noqa: E402
+
+MADE = os.path.join(TOP, "front", "page", "codes.js")
+HEAD = "// SPDX-License-Identifier: Apache-2.0\n// Made by tools/page_words.py from clients/mserve_client: change it there, and run `python3 tools/page_words.py --write`.\n"
+
+
+def exported() -> dict[str, tuple[str, object]]:
+    """Each name of the module: what it is, and its value."""
+    return {
+        "CODES": ("The codes that end a line: what each means, the section that has the rule, and what to do.",
+                  {name: {"words": code.words, "section": code.section, "advice": code.advice} for name, code in codes.CODES.items()}),
+        "COMMANDS": ("The commands of the language, in a line each.", reference.COMMANDS),
+        "FUNCTIONS": ("The functions of the language, in a line each.", reference.FUNCTIONS),
+        "MISSING": ("What the language has not: a pattern that finds it in a command, its name, and what to write instead. The first that is found counts.",
+                    [{"pattern": missing.pattern.pattern, "name": missing.name, "advice": missing.advice} for missing in language.MISSING]),
+        "NO_LABEL": ("What is said of a line that begins with no label and no space.", language.NO_LABEL),
+        "LABEL_PARAMETERS": ("What is said of a label with parameters.", language.LABEL_PARAMETERS),
+        "LONGEST_LINE": ("How many characters a line has at most.", wire.LONGEST_LINE),
+        "LONGEST_TEXT": ("How many characters a text has at most.", keys.MAX_TEXT),
+        "LONGEST_SUBSCRIPT": ("How many characters a subscript has at most.", keys.MAX_SUBSCRIPT),
+        "MOST_SUBSCRIPTS": ("How many subscripts a node has at most.", keys.MAX_SUBSCRIPTS),
+        "DIGITS": ("How many significant digits a number has at most, and how many places after its point.", keys.MAX_DIGITS),
+        "BATCH": ("How many children of a node one line asks for.", walk.BATCH),
+        "FILE_ENDING": ("What the name of a routine's file ends in.", routine_files.SUFFIX),
+    }
+
+
+def module() -> str:
+    """The text of the module."""
+    parts = [f"/** {about} */\nexport const {name} = {json.dumps(value, indent=2)};\n" for name, (about, value) in exported().items()]
+    return "\n".join([HEAD, *parts])
+
+
+def main() -> int:
+    """Compares or writes; the status."""
+    text = module()
+    if sys.argv[1:] == ["--write"]:
+        with open(MADE, "w", encoding="ascii") as file:
+            file.write(text)
+        return 0
+    with open(MADE, encoding="ascii") as file:
+        if file.read() == text:
+            return 0
+    print("page_words: front/page/codes.js is not what the clients say: run python3 tools/page_words.py --write")
+    return 1
+
+
+if __name__ == "__main__":
+    sys.exit(main())

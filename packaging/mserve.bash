@@ -1,3 +1,4 @@
+# SPDX-License-Identifier: Apache-2.0
 # Completion of mserve's command line for bash: `. packaging/mserve.bash`, or a copy in /usr/share/bash-completion/completions.
 
 _mserve() {

@@ -1,0 +1,218 @@
+# SPDX-License-Identifier: Apache-2.0
+"""The command `mfront`: it serves, and keeps the users' file."""
+from __future__ import annotations
+
+import argparse
+import asyncio
+import getpass
+import sys
+from collections.abc import Callable
+from pathlib import Path
+
+from .server import NoStart, tell
+from .settings import BadSettings, Settings, read_settings, read_terminals, read_toml
+from .users import LEAST, NAME, BadUsers, User, changed, load, new_token, password_hash
+
+DEFAULT = "/etc/mserve/front.toml"
+USAGE, FAILED, INTERRUPTED = 2, 3, 130
+STATUSES = "Status: 0 all went well; 2 the words, the settings or the users' file are wrong; 3 the server does not start, or a port is taken; " \
+           "130 an interrupt."
+
+
+def words() -> argparse.ArgumentParser:
+    """The reader of the command's words."""
+    shared = argparse.ArgumentParser(add_help=False)
+    shared.add_argument("--config", type=Path, default=argparse.SUPPRESS, metavar="FILE", help=f"the settings of the front (default {DEFAULT})")
+    parser = argparse.ArgumentParser(prog="mfront", epilog=STATUSES, parents=[shared],
+                                     description="Signs people on, and carries their lines to mserve. Without a command it serves.")
+    parser.add_argument("--volatile", action="store_true", help="the store is meant to be in memory, and every user is told")
+    commands = parser.add_subparsers(title="commands", metavar="COMMAND")
+    check = commands.add_parser("check", parents=[shared], epilog=STATUSES, description="Reads the settings and the users' file, and ends.",
+                                help="read the settings and the users' file, and end")
+    check.add_argument("--volatile", action="store_true", default=argparse.SUPPRESS, help="the store is meant to be in memory")
+    check.set_defaults(act=checked)
+    _user_words(commands, shared)
+    _token_words(commands, shared)
+    return parser
+
+
+def _kinds(commands: argparse._SubParsersAction, name: str, about: str) -> Callable[..., argparse.ArgumentParser]:
+    parser = commands.add_parser(name, epilog=STATUSES, description=about, help=about)
+    return parser.add_subparsers(title="commands", metavar="COMMAND", required=True).add_parser
+
+
+def _user_words(commands: argparse._SubParsersAction, shared: argparse.ArgumentParser) -> None:
+    add = _kinds(commands, "user", "Adds, changes, removes and lists users.")
+    secret = f"A password is asked for twice, or read as a line from a pipe. It has at least {LEAST} characters."
+    one = add("add", parents=[shared], epilog=STATUSES, description=f"Adds a user of an account. {secret}", help="add a user of an account")
+    one.add_argument("name", metavar="NAME")
+    one.add_argument("account", metavar="ACCOUNT")
+    one.set_defaults(act=add_user)
+    one = add("passwd", parents=[shared], epilog=STATUSES, help="give a user another password",
+              description=f"Gives a user another password, and ends what was signed on by the old one. {secret}")
+    one.add_argument("name", metavar="NAME")
+    one.set_defaults(act=change_password)
+    one = add("remove", parents=[shared], epilog=STATUSES, description="Removes a user with all tokens, and signs them off.", help="remove a user")
+    one.add_argument("name", metavar="NAME")
+    one.set_defaults(act=remove_user)
+    one = add("list", parents=[shared], epilog=STATUSES, description="Lists users: name, account, and how many tokens.", help="list users")
+    one.set_defaults(act=list_users)
+
+
+def _token_words(commands: argparse._SubParsersAction, shared: argparse.ArgumentParser) -> None:
+    add = _kinds(commands, "token", "Adds, removes and lists tokens, by which programs send lines.")
+    one = add("add", parents=[shared], epilog=STATUSES, description="Gives a user a token, and prints it once.", help="give a user a token")
+    one.add_argument("name", metavar="USER")
+    one.add_argument("--note", default="", help="what the token is for")
+    one.set_defaults(act=add_token)
+    one = add("remove", parents=[shared], epilog=STATUSES, description="Removes a token by what it is listed as.", help="remove a token")
+    one.add_argument("label", metavar="ID")
+    one.set_defaults(act=remove_token)
+    one = add("list", parents=[shared], epilog=STATUSES, help="list tokens",
+              description="Lists tokens: what each is listed as, its user, when it was made, its note.")
+    one.add_argument("name", metavar="USER", nargs="?")
+    one.set_defaults(act=list_tokens)
+
+
+def users_file(options: argparse.Namespace) -> tuple[Path, Path]:
+    """The users' file and the server's settings, by the settings of the front."""
+    tables = read_toml(options.config)
+    found = []
+    for table, key in (("users", "file"), ("server", "settings")):
+        keys = tables.get(table)
+        text = keys.get(key) if isinstance(keys, dict) else None
+        if not isinstance(text, str) or not text:
+            raise BadSettings(f"{options.config}: {table}.{key}: is missing: the path of a file")
+        found.append(options.config.parent.resolve() / text)
+    return found[0], found[1]
+
+
+def settings_of(options: argparse.Namespace) -> Settings:
+    """The settings that the words name."""
+    return read_settings(options.config, options.volatile)
+
+
+def serve(options: argparse.Namespace) -> None:
+    """Serves until it is stopped."""
+    settings = settings_of(options)
+    # Not above: aiohttp takes long to load, and most commands do without.
+    from .service import Service
+
+    async def run() -> None:
+        await Service(settings).run()
+    asyncio.run(run())
+
+
+def checked(options: argparse.Namespace) -> None:
+    """Reads what serving reads."""
+    settings = settings_of(options)
+    from .service import Service
+
+    async def made() -> Service:
+        return Service(settings)
+    asyncio.run(made())
+    print(f"{options.config}: good: {len(load(settings.users))} users, {sum(map(len, settings.terminals.values()))} terminals")
+
+
+def read_password() -> str:
+    """A password: asked for twice, or a line from a pipe."""
+    if not sys.stdin.isatty():
+        return sys.stdin.readline().rstrip("\r\n")
+    password = getpass.getpass("Password: ")
+    if getpass.getpass("Again: ") != password:
+        raise BadUsers("the two passwords differ")
+    return password
+
+
+def add_user(options: argparse.Namespace) -> None:
+    """Adds a user."""
+    path, settings = users_file(options)
+    if not NAME.fullmatch(options.name):
+        raise BadUsers(f"{options.name!r} is no name: 1 to 64 letters, digits and . _ @ -, the first a letter or a digit")
+    if not read_terminals(settings).get(options.account):
+        raise BadUsers(f"{options.account} is no account with terminals in {settings}")
+    hashed = password_hash(read_password())
+    with changed(path) as users:
+        if options.name in users:
+            raise BadUsers(f"{path}: user {options.name} is there already")
+        users[options.name] = User(options.name, options.account, hashed)
+
+
+def change_password(options: argparse.Namespace) -> None:
+    """Gives a user another password."""
+    path, _ = users_file(options)
+    known(load(path), path, options.name)
+    hashed = password_hash(read_password())
+    with changed(path) as users:
+        known(users, path, options.name).hash = hashed
+
+
+def remove_user(options: argparse.Namespace) -> None:
+    """Removes a user."""
+    path, _ = users_file(options)
+    with changed(path) as users:
+        del users[known(users, path, options.name).name]
+
+
+def list_users(options: argparse.Namespace) -> None:
+    """Lists users."""
+    path, _ = users_file(options)
+    for user in sorted(load(path).values(), key=lambda user: user.name):
+        print(user.name, user.account, len(user.tokens))
+
+
+def add_token(options: argparse.Namespace) -> None:
+    """Prints a new token."""
+    path, _ = users_file(options)
+    if not options.note.isprintable():
+        raise BadUsers("a note is one line of text")
+    with changed(path) as users:
+        _, secret = new_token(known(users, path, options.name), options.note)
+    print(secret)
+
+
+def remove_token(options: argparse.Namespace) -> None:
+    """Removes a token."""
+    path, _ = users_file(options)
+    with changed(path) as users:
+        holder = next((user for user in users.values() if options.label in user.tokens), None)
+        if holder is None:
+            raise BadUsers(f"{path}: there is no token {options.label}")
+        del holder.tokens[options.label]
+
+
+def list_tokens(options: argparse.Namespace) -> None:
+    """Lists tokens."""
+    path, _ = users_file(options)
+    users = load(path)
+    chosen = [known(users, path, options.name)] if options.name else sorted(users.values(), key=lambda user: user.name)
+    for user in chosen:
+        for label, token in user.tokens.items():
+            print(label, user.name, token.made, token.note)
+
+
+def known(users: dict[str, User], path: Path, name: str) -> User:
+    """The user of a name."""
+    if name not in users:
+        raise BadUsers(f"{path}: there is no user {name}")
+    return users[name]
+
+
+def main() -> int:
+    """The status of the command."""
+    options = words().parse_args(namespace=argparse.Namespace(config=Path(DEFAULT), act=serve))
+    try:
+        options.act(options)
+        return 0
+    except (BadSettings, BadUsers) as error:
+        tell(str(error))
+        return USAGE
+    except NoStart as error:
+        tell(f"the server does not start: {error}")
+        return FAILED
+    except OSError as error:
+        tell(str(error.strerror or error))
+        return FAILED
+    except (KeyboardInterrupt, EOFError):
+        tell("interrupted")
+        return INTERRUPTED

@@ -1,0 +1,104 @@
+# SPDX-License-Identifier: Apache-2.0
+"""Lines over TLS for programs: a sign-on line `USER PASSWORD`, and then lines of M, each answered by a line of JSON."""
+from __future__ import annotations
+
+import asyncio
+import contextlib
+import json
+
+from .audit import NoAudit
+from .doors import Door, Doors
+from .sessions import LINES, AllInUse, NotUp, Over, Record, Session, Sessions
+from .settings import Limits
+from .signing import Signing, Slowed, Wrong
+from .web import plain_address
+
+
+class LinePort:
+    """Serves the connections of programs."""
+
+    def __init__(self, sessions: Sessions, signing: Signing, limits: Limits, doors: Doors) -> None:
+        self._sessions = sessions
+        self._signing = signing
+        self._limits = limits
+        self._doors = doors
+
+    def protocol(self) -> asyncio.Protocol:
+        """The protocol of a new connection."""
+        async def serve(reader: asyncio.StreamReader, writer: asyncio.StreamWriter) -> None:
+            await self._serve(reader, writer, self._doors.of(made))
+
+        made = asyncio.StreamReaderProtocol(asyncio.StreamReader(limit=self._limits.body), serve)
+        return made
+
+    async def _serve(self, reader: asyncio.StreamReader, writer: asyncio.StreamWriter, door: Door | None) -> None:
+        peer = LinePeer(reader, writer, self._limits)
+        session = None
+        try:
+            session = await self._sign_on(peer)
+            if session is not None:
+                if door is not None:
+                    door.open()
+                await self._carry(peer, session)
+        except (ConnectionError, TimeoutError, Over, ValueError):
+            peer.cut()
+        finally:
+            if session is not None:
+                await self._sessions.sign_off(session, "left")
+            writer.close()
+
+    async def _sign_on(self, peer: LinePeer) -> Session | None:
+        """The session that the first line asks for, or None if it is refused."""
+        name, _, secret = (await peer.line()).decode("utf-8", "replace").partition(" ")
+        try:
+            user, proof = await self._signing.by_password(name, secret, peer.address)
+            session = await self._sessions.sign_on(user, LINES, peer.address, proof)
+        except (Wrong, Slowed, AllInUse, NotUp) as error:
+            await peer.tell({"error": str(error)})
+            return None
+        except NoAudit:
+            await peer.tell({"error": "the audit log cannot be written"})
+            return None
+        session.listener = peer
+        await peer.tell(self._sessions.record(session))
+        return session
+
+    async def _carry(self, peer: LinePeer, session: Session) -> None:
+        while not session.over:
+            line = await peer.line()
+            await peer.tell(await self._sessions.run(session, line))
+
+
+class LinePeer:
+    """A program's connection. One that does not take what it is sent is cut off."""
+
+    def __init__(self, reader: asyncio.StreamReader, writer: asyncio.StreamWriter, limits: Limits) -> None:
+        self._reader = reader
+        self._writer = writer
+        self._limits = limits
+        self.address = plain_address(writer.get_extra_info("peername")[0])
+
+    async def line(self) -> bytes:
+        """The next line, without its line feed. Raises ConnectionError at the end: a line that was cut off is not run; ValueError if it is far too long."""
+        try:
+            return (await self._reader.readuntil(b"\n"))[:-1]
+        except asyncio.IncompleteReadError as error:
+            raise ConnectionResetError from error
+        except asyncio.LimitOverrunError as error:
+            raise ValueError("a line without an end") from error
+
+    async def tell(self, event: Record) -> None:
+        """Sends a line of JSON."""
+        async with asyncio.timeout(self._limits.slow):
+            self._writer.write(json.dumps(event).encode() + b"\n")
+            await self._writer.drain()
+
+    async def end(self, event: Record) -> None:
+        """Sends a last event, and closes."""
+        with contextlib.suppress(TimeoutError, ConnectionError):
+            await self.tell(event)
+        self._writer.close()
+
+    def cut(self) -> None:
+        """Ends the connection at once."""
+        self._writer.transport.abort()

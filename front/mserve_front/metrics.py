@@ -1,0 +1,76 @@
+# SPDX-License-Identifier: Apache-2.0
+"""What the front counts, in the text format of Prometheus."""
+from __future__ import annotations
+
+import time
+from collections import Counter
+
+BUCKETS = (0.001, 0.0025, 0.005, 0.01, 0.025, 0.05, 0.1, 0.25, 0.5, 1.0, 2.5, 5.0, 10.0)
+# The longest wait is that of the last one to two spans of so many seconds.
+SPAN = 60.0
+
+
+class Metrics:
+    """The counts since the start."""
+
+    def __init__(self) -> None:
+        self.restarts = 0
+        self.replies: Counter[str] = Counter()
+        self.sign_ons: Counter[str] = Counter()
+        self.audit_faults = 0
+        self._below = [0] * (len(BUCKETS) + 1)
+        self._waited = 0.0
+        self._taken = 0.0
+        self._longest = [0.0, 0.0]
+        self._span = time.monotonic()
+
+    def timed(self, waited: float, taken: float) -> None:
+        """Notes a reply: how long it was waited for, and how long the server took."""
+        place = next((n for n, most in enumerate(BUCKETS) if waited <= most), len(BUCKETS))
+        self._below[place] += 1
+        self._waited += waited
+        self._taken += taken
+        self._turn()
+        if waited > self._longest[0]:
+            self._longest[0] = waited
+
+    def longest(self) -> float:
+        """The longest wait of the last minute or two, in seconds."""
+        self._turn()
+        return max(self._longest)
+
+    def _turn(self) -> None:
+        now = time.monotonic()
+        if now - self._span > SPAN:
+            fresh = now - self._span < 2 * SPAN
+            self._longest = [0.0, self._longest[0] if fresh else 0.0]
+            self._span = now
+
+    def text(self, signed_on: dict[str, int], waiting: int, oldest: float, up: bool) -> str:
+        """All figures: how many are signed on by each way, how many lines wait, and the oldest of them."""
+        lines = _family("mfront_up", "gauge", "1 if the server is up.", {"": int(up)})
+        lines += _family("mfront_signed_on", "gauge", "Sessions that are signed on, by their way.", {f'way="{way}"': n for way, n in signed_on.items()})
+        lines += _family("mfront_sign_ons_total", "counter", "Attempts to sign on, by their end.", {f'end="{end}"': n for end, n in self.sign_ons.items()})
+        lines += _family("mfront_lines_total", "counter", "Lines that were answered, by their code; none for a line run to its end.",
+                         {f'code="{code}"': n for code, n in sorted(self.replies.items())})
+        lines += _family("mfront_lines_waiting", "gauge", "Lines that have no reply yet.", {"": waiting})
+        lines += _family("mfront_longest_wait_seconds", "gauge", "The longest wait for a reply in the last minute or two.", {"": max(oldest, self.longest())})
+        lines += _family("mfront_child_restarts_total", "counter", "How often the server was started or connected to again.", {"": self.restarts})
+        lines += _family("mfront_child_seconds_total", "counter", "Seconds that the server took for lines.", {"": self._taken})
+        lines += _family("mfront_audit_faults_total", "counter", "Records that could not be written to the audit log.", {"": self.audit_faults})
+        return "\n".join([*lines, *self._histogram()]) + "\n"
+
+    def _histogram(self) -> list[str]:
+        name = "mfront_wait_seconds"
+        lines = [f"# HELP {name} How long a reply was waited for.", f"# TYPE {name} histogram"]
+        total = 0
+        for most, count in zip([*map(str, BUCKETS), "+Inf"], self._below, strict=True):
+            total += count
+            lines.append(f'{name}_bucket{{le="{most}"}} {total}')
+        return [*lines, f"{name}_sum {self._waited:.6f}", f"{name}_count {total}"]
+
+
+def _family(name: str, kind: str, about: str, values: dict[str, float]) -> list[str]:
+    """The lines of a figure, one for each of its labels."""
+    lines = [f"# HELP {name} {about}", f"# TYPE {name} {kind}"]
+    return lines + [f"{name}{{{labels}}} {value:g}" if labels else f"{name} {value:g}" for labels, value in values.items()]

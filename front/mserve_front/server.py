@@ -1,0 +1,180 @@
+# SPDX-License-Identifier: Apache-2.0
+"""The server: it is started as a child, or joined at its port, and connected to; if it ends, it is started again."""
+from __future__ import annotations
+
+import asyncio
+import contextlib
+import shutil
+import socket
+import sys
+from collections.abc import Awaitable, Callable, Sequence
+
+from .lines import HALT, Line
+from .metrics import Metrics
+from .replies import Answer
+from .settings import Settings
+from .turns import Lost, Turns, Unsent
+
+HOST = "127.0.0.1"
+CONNECTIONS = 1_000_000
+# Seconds between two attempts to start the server: the first and the longest.
+FIRST_PAUSE, LONGEST_PAUSE = 0.1, 5.0
+# Seconds after which a child that answers no line is ended: another process has got its connection.
+PATIENCE = 60.0
+
+
+class NoStart(Exception):
+    """The server ended before it served."""
+
+
+def tell(text: str) -> None:
+    """Writes a line to the standard error."""
+    print(f"mfront: {text}", file=sys.stderr, flush=True)
+
+
+class Server:
+    """The server and the one connection to it. `session` counts how often all terminals' sessions were begun anew; `state` is `starting`, `up`
+    or `down`."""
+
+    def __init__(self, settings: Settings, metrics: Metrics, restarted: Callable[[], Awaitable[None]]) -> None:
+        """`restarted` is called each time that the server is up again after it was down."""
+        self._settings = settings
+        self._metrics = metrics
+        self._restarted = restarted
+        self._terminals = [terminal for terminals in settings.terminals.values() for terminal in terminals]
+        self._process: asyncio.subprocess.Process | None = None
+        self._port = settings.join or 0
+        self._turns: Turns | None = None
+        self.state = "starting"
+        self.session = 1
+
+    @property
+    def pid(self) -> int | None:
+        """The number of the child's process."""
+        return None if self._process is None else self._process.pid
+
+    @property
+    def waiting(self) -> int:
+        """How many lines have no reply yet."""
+        return self._turns.waiting if self._turns else 0
+
+    def oldest(self) -> float:
+        """How long the oldest line without a reply has waited."""
+        return self._turns.oldest() if self._turns else 0.0
+
+    async def ask(self, terminal: int, line: Line) -> Answer:
+        """The answer of a line. Raises `Unsent` if the server is not up, and `Lost` if it ends after the line was sent."""
+        if self.state != "up" or self._turns is None:
+            raise Unsent
+        return await self._turns.ask(terminal, line)
+
+    def forget(self, terminal: int) -> None:
+        """Takes back the lines of a terminal that are not sent."""
+        if self._turns is not None:
+            self._turns.forget(terminal)
+
+    async def begin(self) -> None:
+        """Starts the server for the first time. Raises `NoStart` if it ends at once, as for settings or a store that it refuses."""
+        if self._settings.join is None:
+            await self._launch()
+        await self._connect()
+
+    async def run(self) -> None:
+        """Keeps the server up, once it has begun."""
+        pause = FIRST_PAUSE
+        while True:
+            if self._turns is not None:
+                await self._turns.ended
+                self._fell(self._turns.fault)
+            await asyncio.sleep(pause)
+            try:
+                await self._again()
+                pause = FIRST_PAUSE
+            except (NoStart, OSError) as error:
+                pause = min(2 * pause, LONGEST_PAUSE)
+                tell(f"the server could not be started again: {error}")
+
+    async def end(self) -> None:
+        """Ends the connection, and the child with it. What was answered is in the store."""
+        if self._turns is not None:
+            self._turns.close()
+        if self._process is not None and self._process.returncode is None:
+            self._process.terminate()
+            await self._process.wait()
+
+    def _fell(self, fault: str | None) -> None:
+        """Notes that the connection is over."""
+        self.state = "down"
+        self.session += 1
+        self._turns = None
+        self._metrics.restarts += 1
+        tell(f"the connection to the server ended{': ' + fault if fault else ''}")
+
+    async def _again(self) -> None:
+        """Starts a child that has ended, and connects. One that only broke the connection goes on, with what it has in memory."""
+        if self._process is not None:
+            with contextlib.suppress(TimeoutError):
+                await asyncio.wait_for(self._process.wait(), 0.5)
+        if self._settings.join is None and (self._process is None or self._process.returncode is not None):
+            await self._launch()
+        await self._connect()
+        await self._restarted()
+
+    async def _launch(self) -> None:
+        """Starts the child at a port that is free. It ends with this process."""
+        self._port = free_port()
+        words = [str(self._settings.program), "serve", "--settings", str(self._settings.server_settings), "--store", str(self._settings.store),
+                 "--port", str(self._port), "--connections", str(CONNECTIONS)]
+        try:
+            self._process = await asyncio.create_subprocess_exec(*tied(shutil.which("setpriv")), *words, stdin=asyncio.subprocess.DEVNULL,
+                                                                 stdout=asyncio.subprocess.DEVNULL, start_new_session=True)
+        except OSError as error:
+            raise NoStart(f"{self._settings.program}: {error.strerror}") from error
+
+    async def _connect(self) -> None:
+        """Connects, and has all terminals' sessions ended; then the server is up."""
+        turns = await self._connected()
+        try:
+            async with asyncio.timeout(PATIENCE):
+                await asyncio.gather(*(turns.ask(terminal, HALT) for terminal in self._terminals))
+        except (TimeoutError, Lost, Unsent) as error:
+            turns.close()
+            await self._give_up()
+            why = "another client is connected to it" if isinstance(error, TimeoutError) else turns.fault or "the connection ended"
+            raise NoStart(f"no reply at port {self._port}: {why}") from error
+        self._turns = turns
+        self.state = "up"
+
+    async def _give_up(self) -> None:
+        """Ends a child that is of no use."""
+        if self._process is not None and self._process.returncode is None:
+            self._process.kill()
+            await self._process.wait()
+
+    async def _connected(self) -> Turns:
+        """A connection to the server, which may be starting: the opening of a store takes time."""
+        loop = asyncio.get_running_loop()
+        pause = 0.005
+        while True:
+            if self._process is not None and self._process.returncode is not None:
+                raise NoStart(f"it ended with status {self._process.returncode} before it served")
+            with contextlib.suppress(ConnectionRefusedError):
+                _, turns = await loop.create_connection(lambda: Turns(self._settings.limits.reply, self._metrics.timed), HOST, self._port)
+                return turns
+            if self._process is None and self.state == "starting":
+                raise NoStart(f"nobody listens at port {self._port} of {HOST} (server.join)")
+            await asyncio.sleep(pause)
+            pause = min(2 * pause, 0.1)
+
+
+def tied(setpriv: str | None) -> Sequence[str]:
+    """The words before a command by which it ends when this process does, however that ends."""
+    return [setpriv, "--pdeathsig", "KILL"] if setpriv else []
+
+
+def free_port() -> int:
+    """A port of the loopback that nobody listens at."""
+    with socket.socket() as place:
+        place.setsockopt(socket.SOL_SOCKET, socket.SO_REUSEADDR, 1)
+        place.bind((HOST, 0))
+        return place.getsockname()[1]

@@ -1,0 +1,168 @@
+# SPDX-License-Identifier: Apache-2.0
+"""The service: all parts, started and stopped together."""
+from __future__ import annotations
+
+import asyncio
+import contextlib
+import resource
+import signal
+import ssl
+import time
+
+from aiohttp import web
+
+from .audit import Audit
+from .doors import MOST_BYTES, Doors
+from .line_port import LinePort
+from .metrics import Metrics
+from .server import NoStart, tell
+from .sessions import Sessions
+from .settings import BadSettings, Settings
+from .signing import Signing
+from .users import BadUsers, Register
+from .web import Web
+
+# Seconds that a connection of HTTP may be kept without a request.
+KEPT = 30.0
+# Seconds that requests have to end at the stop.
+CLOSING = 1.0
+
+
+class Service:
+    """The parts, and what they share."""
+
+    def __init__(self, settings: Settings) -> None:
+        """Raises `BadSettings` or `BadUsers` for what does not fit together."""
+        self.settings = settings
+        self.metrics = Metrics()
+        self._context = tls_context(settings)
+        self._audit = audit_log(settings, self.metrics)
+        self._register = Register(settings.users)
+        for user in self._register.users.values():
+            if not settings.terminals.get(user.account):
+                raise BadUsers(f"{settings.users}: user {user.name}: {user.account} is no account with terminals in {settings.server_settings}")
+        self._doors = Doors(settings.limits, self._context)
+        self._signing = Signing(self._register, self._audit, self.metrics)
+        self._sessions = Sessions(settings, self.metrics, self._audit)
+        self._stopping = asyncio.Event()
+
+    async def run(self) -> None:
+        """Serves until SIGTERM or SIGINT. Raises `NoStart` if the server does not start, and OSError if a port is taken."""
+        _, most = resource.getrlimit(resource.RLIMIT_NOFILE)
+        with contextlib.suppress(OSError, ValueError):
+            # A sandbox may forbid it; then the limit stays, and connections are refused at it.
+            resource.setrlimit(resource.RLIMIT_NOFILE, (most, most))
+        loop = asyncio.get_running_loop()
+        for number in (signal.SIGTERM, signal.SIGINT):
+            loop.add_signal_handler(number, self._stopping.set)
+        loop.add_signal_handler(signal.SIGHUP, self._reload)
+        runner = web.AppRunner(Web(self.settings, self._sessions, self._signing, self.metrics, self._doors).application(),
+                               handle_signals=False, access_log=None, keepalive_timeout=KEPT, auto_decompress=False)
+        await runner.setup()
+        try:
+            await self._until_stopped(self._sessions.server.begin())
+            if not self._stopping.is_set():
+                self._listen(runner)
+                await self._serve()
+        finally:
+            self._doors.close()
+            await self._sessions.stop()
+            await self._sessions.server.end()
+            if runner.server is not None:
+                await runner.server.shutdown(CLOSING)
+            await runner.cleanup()
+            self._signing.close()
+            self._audit.close()
+
+    async def _until_stopped(self, work: object) -> None:
+        """Waits for a work, or for the stop."""
+        task, stop = asyncio.ensure_future(work), asyncio.ensure_future(self._stopping.wait())
+        await asyncio.wait([task, stop], return_when=asyncio.FIRST_COMPLETED)
+        stop.cancel()
+        if task.done():
+            task.result()
+        else:
+            task.cancel()
+            with contextlib.suppress(asyncio.CancelledError, NoStart):
+                await task
+
+    def _listen(self, runner: web.AppRunner) -> None:
+        settings = self.settings
+        self._doors.listen(settings.host, settings.port, runner.server, MOST_BYTES)
+        kind = "https" if settings.tls else "http"
+        tell(f"serving at {kind}://{f'[{settings.host}]' if ':' in settings.host else settings.host}:{settings.port}/")
+        if settings.lines_port is not None:
+            port = LinePort(self._sessions, self._signing, settings.limits, self._doors)
+            self._doors.listen(settings.host, settings.lines_port, port.protocol, None)
+            tell(f"lines at port {settings.lines_port}")
+        if not settings.tls:
+            tell("no certificate (listen.certificate, listen.key): listening at the loopback alone, without TLS")
+        if settings.volatile:
+            tell("the store is volatile: all data are gone once the server ends")
+
+    async def _serve(self) -> None:
+        tasks = [asyncio.create_task(self._sessions.server.run()), asyncio.create_task(self._sweep()), asyncio.create_task(self._stopping.wait())]
+        done, left = await asyncio.wait(tasks, return_when=asyncio.FIRST_COMPLETED)
+        for task in left:
+            task.cancel()
+        for task in done:
+            task.result()
+
+    async def _sweep(self) -> None:
+        """Once a second: what is idle, and users who are there no more."""
+        told = 0.0
+        while True:
+            await asyncio.sleep(1)
+            self._doors.sweep()
+            await self._sessions.sweep()
+            try:
+                if self._register.refresh():
+                    await self._sessions.revoke(self._register.users)
+            except BadUsers as error:
+                if time.monotonic() - told > 60:
+                    told = time.monotonic()
+                    tell(f"the users stay as they were: {error}")
+
+    def _reload(self) -> None:
+        """Takes a new certificate, and opens the audit log anew."""
+        try:
+            if self._context is not None:
+                load_certificate(self._context, self.settings)
+            self._audit.reopen()
+            tell("certificate and audit log opened anew")
+        except (BadSettings, OSError) as error:
+            tell(f"not reloaded: {error}")
+
+
+def tls_context(settings: Settings) -> ssl.SSLContext | None:
+    """The context of TLS 1.2 and later, or None without a certificate."""
+    if not settings.tls:
+        return None
+    context = ssl.SSLContext(ssl.PROTOCOL_TLS_SERVER)
+    context.minimum_version = ssl.TLSVersion.TLSv1_2
+    context.options |= ssl.OP_NO_RENEGOTIATION | ssl.OP_NO_COMPRESSION
+    load_certificate(context, settings)
+    return context
+
+
+def load_certificate(context: ssl.SSLContext, settings: Settings) -> None:
+    """Reads the certificate and its key. Raises `BadSettings` if they cannot be read or do not fit."""
+    for name, path in (("certificate", settings.certificate), ("key", settings.key)):
+        try:
+            with open(path, "rb"):
+                pass
+        except OSError as error:
+            raise BadSettings(f"{settings.path}: listen.{name}: {path}: {error.strerror}") from error
+    try:
+        context.load_cert_chain(settings.certificate, settings.key, lambda: "")
+    except (ssl.SSLError, ValueError) as error:
+        why = getattr(error, "reason", None) or str(error)
+        raise BadSettings(f"{settings.path}: listen.certificate: {settings.certificate} and {settings.key} cannot be used: {why}") from error
+
+
+def audit_log(settings: Settings, metrics: Metrics) -> Audit:
+    """The audit log. Raises `BadSettings` if it cannot be written."""
+    try:
+        return Audit(settings.audit, metrics)
+    except OSError as error:
+        raise BadSettings(f"{settings.path}: audit.file: {settings.audit}: {error.strerror}") from error

@@ -1,0 +1,118 @@
+# SPDX-License-Identifier: Apache-2.0
+"""The WebSocket of the page: lines come in, records of replies and events go out."""
+from __future__ import annotations
+
+import asyncio
+import contextlib
+import json
+
+from aiohttp import WSCloseCode, WSMsgType, web
+
+from .doors import Door
+from .sessions import Over, Record, Session, Sessions
+from .settings import Limits
+
+MOST_ID = 1 << 53
+
+
+class Gone(Exception):
+    """The peer is gone, or takes nothing."""
+
+
+class PageSocket:
+    """A WebSocket of a session. A peer that does not take what it is sent, or sends nothing for too long, is cut off."""
+
+    def __init__(self, request: web.Request, limits: Limits) -> None:
+        self._limits = limits
+        self._transport = request.transport
+        self.socket = web.WebSocketResponse(compress=False, max_msg_size=limits.body, timeout=2.0)
+
+    async def send(self, record: Record) -> None:
+        """Sends a record. Raises `Gone`."""
+        try:
+            async with asyncio.timeout(self._limits.slow):
+                await self.socket.send_str(json.dumps(record))
+        except (TimeoutError, ConnectionError, RuntimeError) as error:
+            self.cut()
+            raise Gone from error
+
+    async def receive(self) -> str | None:
+        """The next text, or None at the end. Raises `Gone` if not even an answer to a ping comes."""
+        try:
+            message = await self.socket.receive(timeout=2.5 * self._limits.heartbeat)
+        except TimeoutError as error:
+            self.cut()
+            raise Gone from error
+        if message.type is WSMsgType.TEXT:
+            return message.data
+        if message.type is WSMsgType.BINARY:
+            await self.socket.close(code=WSCloseCode.UNSUPPORTED_DATA, message=b"texts only")
+        return None
+
+    async def beat(self) -> None:
+        """Pings the peer, for as long as it is there."""
+        while not self.socket.closed:
+            await asyncio.sleep(self._limits.heartbeat)
+            try:
+                async with asyncio.timeout(self._limits.slow):
+                    await self.socket.ping()
+            except (TimeoutError, ConnectionError, RuntimeError):
+                self.cut()
+                return
+
+    async def tell(self, event: Record) -> None:
+        """Sends an event."""
+        with contextlib.suppress(Gone):
+            await self.send(event)
+
+    async def end(self, event: Record) -> None:
+        """Sends a last event, and closes."""
+        with contextlib.suppress(Gone, RuntimeError, ConnectionError):
+            await self.send(event)
+            await self.socket.close(code=WSCloseCode.GOING_AWAY, message=str(event["why"]).encode())
+
+    def cut(self) -> None:
+        """Ends the connection at once."""
+        if self._transport is not None:
+            self._transport.abort()
+
+
+async def carry(request: web.Request, session: Session, sessions: Sessions, limits: Limits, door: Door | None) -> web.WebSocketResponse:
+    """Carries a user's lines, one after the other, until the connection or the session ends."""
+    page = PageSocket(request, limits)
+    await page.socket.prepare(request)
+    if door is not None:
+        door.open()
+    beat = asyncio.create_task(page.beat())
+    try:
+        await sessions.attach(session, page)
+        while (text := await page.receive()) is not None:
+            asked = asked_by(text)
+            if asked is None:
+                await page.socket.close(code=WSCloseCode.POLICY_VIOLATION, message=b'this is no {"id": n, "line": ".."}')
+                break
+            if session.listener is not page:
+                # Another connection has taken the session over: what was sent here before is not run there.
+                break
+            place, line, number = asked
+            await page.send({"id": place, **await sessions.run(session, line, number)})
+    except (Gone, Over):
+        pass
+    finally:
+        beat.cancel()
+        await sessions.detach(session, page)
+    return page.socket
+
+
+def asked_by(text: str) -> tuple[int, bytes, int | None] | None:
+    """The number, the line and the server's session of a message, or None if it is no message."""
+    try:
+        found = json.loads(text)
+    except (ValueError, RecursionError):
+        return None
+    if not isinstance(found, dict) or not isinstance(found.get("line"), str):
+        return None
+    place, number = found.get("id"), found.get("session")
+    if type(place) is not int or not 0 <= place < MOST_ID or number is not None and type(number) is not int:
+        return None
+    return place, found["line"].encode("utf-8", "surrogatepass"), number

@@ -1,0 +1,102 @@
+// SPDX-License-Identifier: Apache-2.0
+/** Checks lines of routines: whether each is in the language, without running any of them, as clients/mserve_client/checking.py does.
+ *
+ * A line's label and dots are taken off, and the rest is sent after `Q  `: the server reads it whole, and stops at the Q. A
+ * rest that is too long for that is put together in a local variable that the session does not have, and run by XECUTE,
+ * after `Q  ` too; then that local is killed. Each call wants a terminal that its caller has alone (`Terminal.alone`). */
+import { LABEL_PARAMETERS, LONGEST_LINE, LONGEST_TEXT, NO_LABEL } from "./codes.js";
+import { cause, commands, inWords } from "./language.js";
+import { setLines } from "./mtext.js";
+import { textOf } from "./routines.js";
+import { Refused } from "./service.js";
+import { askedAll, withLocal } from "./walk.js";
+
+const GUARD = "Q  ";
+const LONGEST_REST = LONGEST_TEXT - GUARD.length;
+const LONGEST_LABEL = 31;
+
+/** What is not in the language, line by line: `{line, column, message, advice}`, line and column from 1. */
+export async function check(terminal, lines) {
+  const accepted = await acceptedRests(terminal, lines.map((line) => line.rest));
+  const found = [];
+  for (const [number, line] of lines.entries()) {
+    const finding = faultOfForm(line) ?? (accepted[number] ? null : await refused(terminal, line));
+    if (finding) {
+      found.push({ line: number + 1, ...finding });
+    }
+  }
+  return found;
+}
+
+/** Whether each of these lines of M is in the language. */
+async function acceptedRests(terminal, rests) {
+  const isShort = (rest) => GUARD.length + rest.length <= LONGEST_LINE && !hasBarred(rest);
+  const answers = [];
+  for await (const reply of terminal.pipeline(rests.filter(isShort).map((rest) => GUARD + rest))) {
+    answers.push(reply.code);
+  }
+  const accepted = [];
+  for (const rest of rests) {
+    accepted.push(isAccepted(GUARD + rest, isShort(rest) ? answers.shift() : await longAnswer(terminal, rest)));
+  }
+  return accepted;
+}
+
+/** Whether a text has a character that the front end refuses in a line, and that a text of the language can have. */
+function hasBarred(text) {
+  return /[\x00\r\n]/.test(text);
+}
+
+function isAccepted(line, code) {
+  if (code !== null && code !== "ZSYNTAX") {
+    throw new Refused(line, code, inWords(code));
+  }
+  return code === null;
+}
+
+/** The code that a line is answered which is too long for the wire. */
+async function longAnswer(terminal, rest) {
+  if (rest.length > LONGEST_REST) {
+    return "ZSYNTAX";
+  }
+  return withLocal(terminal, async (local) => {
+    await askedAll(terminal, setLines(local, GUARD + rest));
+    return (await terminal.send(`X ${local}`)).code;
+  });
+}
+
+/** What is wrong with a line before its first command, or null. */
+function faultOfForm(line) {
+  const { label, level, rest } = line;
+  if (label.length > LONGEST_LABEL) {
+    return { column: 1, message: `the label ${label} has ${label.length} characters`, advice: NO_LABEL };
+  }
+  if (label && !level && rest.startsWith("(")) {
+    return { column: label.length + 1, message: `the label ${label} has parameters`, advice: LABEL_PARAMETERS };
+  }
+  if (!level && rest && !rest.startsWith(";")) {
+    return { column: label.length + 1, message: `the line begins with '${(label + rest).slice(0, 20)}'`, advice: NO_LABEL };
+  }
+  if (rest.length > LONGEST_REST) {
+    const count = textOf(line).length.toLocaleString("en");
+    return {
+      column: 1, message: `the line has ${count} characters, too many to check`,
+      advice: `Cut it in two: ${LONGEST_REST.toLocaleString("en")} after label and dots can be checked.`,
+    };
+  }
+  return null;
+}
+
+/** What is wrong with a line that is not in the language: its first command that is refused, and what is known of it. */
+async function refused(terminal, line) {
+  const all = commands(line.rest);
+  const heads = await acceptedRests(terminal, all.map(([, end]) => line.rest.slice(0, end)));
+  const [start, end] = all.find((_, number) => !heads[number]) ?? [0, line.rest.length];
+  const command = line.rest.slice(start, end);
+  const column = line.label.length + line.level.length + start;
+  const known = cause(command) ?? cause(line.rest.slice(start));
+  const message = `not in the language: ${command.slice(0, 60)}`;
+  return known
+    ? { column: column + known.place + 1, message: `${message}: ${known.name}`, advice: known.advice }
+    : { column: column + 1, message, advice: "" };
+}

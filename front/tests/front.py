@@ -1,0 +1,200 @@
+# SPDX-License-Identifier: Apache-2.0
+"""How these tests run the front: as a process of its own, over TLS and real sockets, with the built program as its child."""
+from __future__ import annotations
+
+import asyncio
+import contextlib
+import functools
+import json
+import os
+import signal
+import ssl
+import subprocess
+import sys
+import time
+from collections.abc import Awaitable, Callable
+from pathlib import Path
+from typing import Any
+
+import aiohttp
+import argon2
+
+FRONT = Path(__file__).resolve().parent.parent
+sys.path[:0] = [str(FRONT), str(FRONT.parent / "clients"), str(FRONT.parent / "tools")]
+
+import running  # noqa: E402
+
+COMMAND = [sys.executable, str(FRONT / "mfront")]
+SETTINGS = FRONT / "tests" / "settings.toml"
+PASSWORD = "correct horse battery"
+# Users of the tests: two of the clinic's, one of the laboratory's, and one whose lines may use 40 steps.
+USERS = {"ada": "CLINIC", "ben": "CLINIC", "cleo": "LAB", "dora": "SHORT"}
+# Hashes of little cost, so that tests do not wait for them.
+CHEAP = argon2.PasswordHasher(time_cost=1, memory_cost=64, parallelism=1)
+Record = dict[str, Any]
+
+
+def in_loop(seconds: float = 60) -> Callable[[Callable[..., Awaitable[None]]], Callable[..., None]]:
+    """Runs a test that awaits, for so long at most."""
+    def made(test: Callable[..., Awaitable[None]]) -> Callable[..., None]:
+        @functools.wraps(test)
+        def run(*given: object, **named: object) -> None:
+            async def bounded() -> None:
+                async with asyncio.timeout(seconds):
+                    await test(*given, **named)
+            asyncio.run(bounded())
+        return run
+    return made
+
+
+def write_users(path: Path, users: dict[str, str], password: str = PASSWORD) -> None:
+    """A users' file in which all have one password."""
+    hashed = CHEAP.hash(password)
+    path.write_text(json.dumps({"users": {name: {"account": account, "hash": hashed, "tokens": {}} for name, account in users.items()}}))
+    path.chmod(0o600)
+
+
+def toml(tables: dict[str, dict[str, object]]) -> str:
+    """Tables as TOML; the texts, numbers and lists of JSON are TOML's too."""
+    return "\n".join(f"[{name}]\n" + "".join(f"{key} = {json.dumps(value)}\n" for key, value in keys.items()) for name, keys in tables.items())
+
+
+class Front:
+    """A front that runs, in a folder of its own."""
+
+    def __init__(self, folder: Path, certificate: tuple[Path, Path] | None, users: dict[str, str] | None = None, settings: Path = SETTINGS,
+                 store: str = "memory", **more: dict[str, object]) -> None:
+        """Starts it, with further keys for the tables that are named; returns once it serves."""
+        self.folder, self.certificate, self.store = folder, certificate, store
+        self.port, self.lines_port = running.free_port(), running.free_port()
+        write_users(folder / "users.json", USERS if users is None else users)
+        tables: dict[str, dict[str, object]] = {
+            "server": {"program": running.PROGRAM, "settings": str(settings), "store": store},
+            "listen": {"port": self.port, "lines_port": self.lines_port}, "users": {"file": "users.json"}, "audit": {"file": "audit.log"}}
+        if certificate:
+            tables["listen"] |= {"certificate": str(certificate[0]), "key": str(certificate[1])}
+        for name, keys in more.items():
+            tables[name] = {key: value for key, value in (tables.get(name, {}) | keys).items() if value is not None}
+        (folder / "front.toml").write_text(toml(tables))
+        self.process = self._started()
+
+    def _started(self) -> subprocess.Popen[str]:
+        words = [*COMMAND, "--config", str(self.folder / "front.toml")] + (["--volatile"] if self.store == "memory" else [])
+        process = subprocess.Popen(words, stdin=subprocess.DEVNULL, stderr=(self.folder / "told").open("w"), text=True, start_new_session=True)
+        end = time.monotonic() + 30
+        while "serving at" not in self.told():
+            if process.poll() is not None or time.monotonic() > end:
+                raise RuntimeError(f"the front does not serve: {self.told()}")
+            time.sleep(0.02)
+        return process
+
+    def told(self) -> str:
+        """What it wrote to the standard error."""
+        return (self.folder / "told").read_text()
+
+    def audit(self) -> list[Record]:
+        """The records of its audit log."""
+        return [json.loads(line) for line in (self.folder / "audit.log").read_text().splitlines()]
+
+    @property
+    def child(self) -> int:
+        """The process of the server."""
+        return int(Path(f"/proc/{self.process.pid}/task/{self.process.pid}/children").read_text().split()[0])
+
+    def kill_child(self) -> None:
+        """Ends the server at once."""
+        os.kill(self.child, signal.SIGKILL)
+
+    def stop(self) -> int:
+        """Ends the front as an operator does, and gives its status."""
+        if self.process.poll() is None:
+            self.process.terminate()
+        return self.process.wait(20)
+
+    @property
+    def context(self) -> ssl.SSLContext | None:
+        """What a client trusts: the certificate of the tests alone."""
+        return ssl.create_default_context(cafile=str(self.certificate[0])) if self.certificate else None
+
+    @property
+    def origin(self) -> str:
+        """The front's own origin."""
+        return f"{'https' if self.certificate else 'http'}://localhost:{self.port}"
+
+    def person(self, name: str = "ada") -> Person:
+        """A user with a browser's part of the protocol."""
+        return Person(self, name)
+
+
+class Person:
+    """A user: signs on, and sends lines over a WebSocket. As a context manager it signs on, and signs off after the block."""
+
+    def __init__(self, front: Front, name: str) -> None:
+        self.front, self.name = front, name
+        self.http = aiohttp.ClientSession(front.origin, connector=aiohttp.TCPConnector(ssl=front.context) if front.certificate else None)
+        self.record: Record = {}
+        self.events: list[Record] = []
+        self.socket: aiohttp.ClientWebSocketResponse | None = None
+        self._count = 0
+
+    async def __aenter__(self) -> Person:
+        status, self.record = await self.sign_on()
+        if status != 200:
+            await self.http.close()
+            raise AssertionError(self.record)
+        await self.connect()
+        return self
+
+    async def __aexit__(self, *error: object) -> None:
+        with contextlib.suppress(aiohttp.ClientError):
+            await self.sign_off()
+        await self.http.close()
+
+    async def sign_on(self, password: str = PASSWORD) -> tuple[int, Record]:
+        """The status and the record of a sign-on."""
+        async with self.http.post("/signon", json={"user": self.name, "password": password}) as response:
+            return response.status, await response.json()
+
+    async def sign_off(self) -> int:
+        """The status of a sign-off."""
+        async with self.http.post("/signoff") as response:
+            return response.status
+
+    async def connect(self) -> None:
+        """Opens the WebSocket."""
+        self.socket = await self.http.ws_connect("/ws", origin=self.front.origin, max_msg_size=0)
+
+    async def send(self, line: str, **more: object) -> int:
+        """Sends a line, and gives its number."""
+        self._count += 1
+        await self.socket.send_str(json.dumps({"id": self._count, "line": line, **more}))
+        return self._count
+
+    async def next(self) -> Record:
+        """The next record; events are kept, and passed over."""
+        while True:
+            record = await self.event()
+            if "event" not in record:
+                return record
+
+    async def event(self) -> Record:
+        """The next record or event. Raises ConnectionError if the WebSocket ends."""
+        message = await self.socket.receive()
+        if message.type is not aiohttp.WSMsgType.TEXT:
+            raise ConnectionError(f"{message.type.name} {self.socket.close_code}")
+        record = json.loads(message.data)
+        if "event" in record:
+            self.events.append(record)
+        return record
+
+    async def line(self, line: str) -> Record:
+        """The record of a line, without its number."""
+        place = await self.send(line)
+        record = await self.next()
+        assert record.pop("id") == place
+        return record
+
+    async def told(self, line: str) -> object:
+        """The rest of a line's output, or its code."""
+        record = await self.line(line)
+        return record["code"] or record["rest"]

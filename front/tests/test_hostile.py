@@ -1,0 +1,258 @@
+# SPDX-License-Identifier: Apache-2.0
+"""Hostile clients: they are cut off, and a neighbour is served all the while."""
+from __future__ import annotations
+
+import asyncio
+import contextlib
+import json
+import time
+from collections.abc import AsyncIterator
+
+import aiohttp
+import pytest
+from front import PASSWORD, Front, Person, in_loop
+
+# A line whose reply has some 100,000 bytes.
+LARGE = 'F I=1:1:25 W $J("",4000)'
+MARKUP = '<script>alert(1)</script><img src=x onerror=alert(1)>"\'&'
+
+
+@contextlib.asynccontextmanager
+async def served(front: Front, seconds: float = 8) -> AsyncIterator[Person]:
+    """A neighbour who sends lines during the block, and is answered each time within so many seconds."""
+    async with front.person("cleo") as cleo:
+        waits: list[float] = []
+
+        async def work() -> None:
+            while True:
+                began = time.monotonic()
+                assert await cleo.told(f"W {len(waits)}") == str(len(waits))
+                waits.append(time.monotonic() - began)
+                await asyncio.sleep(0.02)
+        task = asyncio.create_task(work())
+        yield cleo
+        while len(waits) < 4 and not task.done():
+            await asyncio.sleep(0.05)
+        assert not task.done(), task.exception()
+        task.cancel()
+        assert max(waits) < seconds, waits
+
+
+async def closed(reader: asyncio.StreamReader) -> float:
+    """How many seconds it takes until the peer ends the connection."""
+    began = time.monotonic()
+    with contextlib.suppress(ConnectionError):
+        while await reader.read(1 << 16):
+            pass
+    return time.monotonic() - began
+
+
+async def given_back(person: Person) -> None:
+    """Waits until the lock of somebody who was cut off is given back."""
+    for _ in range(300):
+        if await person.told("L +^X:0 W $T") == "1":
+            return
+        await asyncio.sleep(0.1)
+    raise AssertionError("nobody was cut off")
+
+
+@pytest.mark.parametrize("data", [b"", b"GET / HTTP/1.1\r\n", b"GET / HTTP/1.1\r\nHost: localhost\r\nX: " + b"x" * 100,
+                                  b"POST /signon HTTP/1.1\r\nHost: localhost\r\nContent-Type: application/json\r\nContent-Length: 100\r\n\r\n{"],
+                         ids=["nothing", "half a head", "half a field", "half a body"])
+@in_loop()
+async def test_connections_of_which_nothing_comes_are_ended(start, data: bytes) -> None:
+    front = start(limits={"sign_on": 2})
+    async with served(front):
+        peers = [await asyncio.open_connection("localhost", front.port, ssl=front.context) for _ in range(20)]
+        for _, writer in peers:
+            writer.write(data)
+        # The answer to a body that does not come is an error; the connection ends in any case.
+        times = await asyncio.gather(*(closed(reader) for reader, _ in peers))
+        assert 0.5 < max(times) < 40
+        for _, writer in peers:
+            writer.close()
+
+
+@in_loop()
+async def test_connections_without_a_handshake_are_ended(start) -> None:
+    front = start(limits={"sign_on": 2})
+    async with served(front):
+        peers = [await asyncio.open_connection("localhost", port) for port in (front.port, front.lines_port) for _ in range(10)]
+        assert max(await asyncio.gather(*(closed(reader) for reader, _ in peers))) < 15
+
+
+@pytest.mark.parametrize("first", [b"", b"ada ", b"ada " + b"x" * 1000])
+@in_loop()
+async def test_programs_that_do_not_sign_on_are_ended(start, first: bytes) -> None:
+    front = start(limits={"sign_on": 2})
+    reader, writer = await asyncio.open_connection("localhost", front.lines_port, ssl=front.context)
+    writer.write(first)
+    assert 1 < await closed(reader) < 6
+
+
+@in_loop()
+async def test_connections_of_an_address_are_counted(start) -> None:
+    front = start(limits={"connections_of_address": 5})
+    peers = [await asyncio.open_connection("localhost", front.port, ssl=front.context) for _ in range(5)]
+    with pytest.raises((ConnectionError, OSError)):
+        await asyncio.open_connection("localhost", front.port, ssl=front.context)
+    for _, writer in peers:
+        writer.close()
+        await writer.wait_closed()
+    await asyncio.sleep(0.3)
+    async with front.person("ada") as ada:
+        assert await ada.told("W 1") == "1"
+
+
+@in_loop()
+async def test_slow_reader_of_the_web_socket_is_cut_off(start) -> None:
+    front = start(limits={"slow": 2})
+    async with served(front), front.person("ben") as ben, front.person("ada") as ada:
+        assert await ada.told("L +^X:0 W $T") == "1"
+        for _ in range(300):
+            await ada.send(LARGE)
+        # Nothing is read; after the time for slow readers the lock is given back.
+        await given_back(ben)
+
+
+@in_loop()
+async def test_slow_reader_of_the_line_port_is_cut_off(start) -> None:
+    front = start(limits={"slow": 2})
+    async with served(front), front.person("ben") as ben:
+        reader, writer = await asyncio.open_connection("localhost", front.lines_port, ssl=front.context, limit=1000)
+        writer.write(f"ada {PASSWORD}\nL +^X\n".encode() + f"{LARGE}\n".encode() * 300)
+        await asyncio.sleep(0.5)
+        assert await ben.told("L +^X:0 W $T") == "0"
+        await given_back(ben)
+
+
+@in_loop()
+async def test_peer_that_answers_no_ping_is_ended(start) -> None:
+    """A half-open connection looks like this: the peer says nothing any more."""
+    front = start(limits={"heartbeat": 1})
+    async with served(front) as cleo, front.person("ben") as ben, front.person("ada") as ada:
+        mute = await ada.http.ws_connect("/ws", origin=front.origin, autoping=False)
+        await mute.send_str(json.dumps({"id": 1, "line": "L +^X"}))
+        assert json.loads((await mute.receive()).data)["id"] == 1
+        assert await ben.told("L +^X:0 W $T") == "0"
+        await given_back(ben)
+        assert cleo.events == []
+
+
+@in_loop()
+async def test_quiet_peer_that_answers_pings_stays(start) -> None:
+    front = start(limits={"heartbeat": 1})
+    async with front.person("ada") as ada:
+        await ada.line("S A=1")
+        waiting = asyncio.create_task(ada.event())
+        await asyncio.sleep(5)
+        assert not waiting.done()
+        await ada.send("W A")
+        assert (await waiting)["rest"] == "1"
+
+
+@pytest.mark.parametrize(("message", "code"), [("x" * 70_000, aiohttp.WSCloseCode.MESSAGE_TOO_BIG), (b"W 1", aiohttp.WSCloseCode.UNSUPPORTED_DATA),
+                                               (b"x" * 70_000, aiohttp.WSCloseCode.MESSAGE_TOO_BIG)],
+                         ids=["text", "bytes", "many bytes"])
+@in_loop()
+async def test_frames_that_are_too_large_or_none(lasting: Front, message: str | bytes, code: int) -> None:
+    async with served(lasting), lasting.person("ada") as ada:
+        await (ada.socket.send_str(message) if isinstance(message, str) else ada.socket.send_bytes(message))
+        with pytest.raises(ConnectionError):
+            await ada.event()
+        # The client makes an abnormal end of it if the connection is over before it has answered.
+        assert ada.socket.close_code in (code, aiohttp.WSCloseCode.ABNORMAL_CLOSURE)
+
+
+@in_loop()
+async def test_fragments_without_an_end(lasting: Front) -> None:
+    """Frames that are never finished take bounded memory."""
+    async with served(lasting), lasting.person("ada") as ada:
+        transport = ada.socket._writer.transport
+        frame = bytes([0x01, 0x80 | 126]) + (1000).to_bytes(2, "big") + bytes(4) + b"x" * 1000
+        following = bytes([0x00]) + frame[1:]
+        transport.write(frame)
+        for _ in range(100):
+            transport.write(following)
+        with pytest.raises(ConnectionError):
+            await ada.event()
+        # What comes after the end is refused by the system, which may overtake the reason.
+        assert ada.socket.close_code in (aiohttp.WSCloseCode.MESSAGE_TOO_BIG, aiohttp.WSCloseCode.ABNORMAL_CLOSURE, None)
+
+
+@pytest.mark.parametrize("data", [
+    b"x" * 100_000, b"GET / HTTP/1.1\r\nHost: x\r\nX: " + b"x" * 20_000 + b"\r\n\r\n", b"GET /" + b"x" * 20_000 + b" HTTP/1.1\r\n\r\n",
+    b"POST /signon HTTP/1.1\r\nHost: localhost\r\nContent-Type: application/json\r\nContent-Length: 100000000\r\n\r\n" + b"x" * 200_000,
+    b"POST /signon HTTP/1.1\r\nHost: localhost\r\nContent-Length: 1\r\nTransfer-Encoding: chunked\r\n\r\n0\r\n\r\n", b"\0\xff" * 1000,
+    b"GET /health HTTP/1.1\r\nHost: localhost\r\n\r\n" * 200_000,
+], ids=["no head", "long field", "long path", "long body", "two lengths", "bytes", "many at once"])
+@in_loop()
+async def test_requests_that_are_none_or_too_large(lasting: Front, data: bytes) -> None:
+    async with served(lasting):
+        reader, writer = await asyncio.open_connection("localhost", lasting.port, ssl=lasting.context)
+
+        async def send() -> None:
+            with contextlib.suppress(ConnectionError):
+                for start in range(0, len(data), 65_536):
+                    writer.write(data[start:start + 65_536])
+                    await writer.drain()
+        sending = asyncio.create_task(send())
+        assert await closed(reader) < 50
+        await sending
+        writer.close()
+
+
+@in_loop()
+async def test_line_without_an_end_at_the_line_port(lasting: Front) -> None:
+    async with served(lasting):
+        for first in (b"", f"ada {PASSWORD}\n".encode()):
+            reader, writer = await asyncio.open_connection("localhost", lasting.lines_port, ssl=lasting.context)
+            with contextlib.suppress(ConnectionError):
+                writer.write(first + b"x" * 200_000)
+                await writer.drain()
+            assert await closed(reader) < 5
+
+
+@in_loop(120)
+async def test_flood_of_sign_ons(start) -> None:
+    """Passwords are computed beside the lines, two at once."""
+    front = start()
+    async with served(front):
+        people = [front.person(f"user{number % 7}") for number in range(60)]
+        ends = [status for status, _ in await asyncio.gather(*(person.sign_on("wrong") for person in people))]
+        assert set(ends) == {401, 429}
+        for person in people:
+            await person.http.close()
+
+
+@in_loop()
+async def test_flood_of_lines(lasting: Front) -> None:
+    """A user who sends thousands of lines at once is answered each, in order."""
+    async with served(lasting), lasting.person("ada") as ada:
+        sending = asyncio.create_task(flood(ada, 3000))
+        for number in range(3000):
+            assert (await ada.next())["rest"] == str(number)
+        await sending
+
+
+async def flood(person: Person, count: int) -> None:
+    for number in range(count):
+        await person.send(f"W {number}")
+
+
+@in_loop()
+async def test_markup_is_text(start) -> None:
+    """Names, passwords, lines and notes with markup come back as JSON, and as nothing else."""
+    front = start(audit={"texts": True})
+    async with front.person("ada") as ada:
+        for body in ({"user": MARKUP, "password": MARKUP}, {"user": MARKUP}, MARKUP, {MARKUP: MARKUP}):
+            async with ada.http.post("/signon", json=body) as response:
+                assert response.content_type == "application/json" and response.headers["X-Content-Type-Options"] == "nosniff"
+                assert "<" not in await response.text()
+        for path in (f"/{MARKUP}", f"/page/{MARKUP}.js", f"/session?{MARKUP}"):
+            async with ada.http.get(path) as response:
+                assert response.content_type == "application/json" and "<" not in await response.text()
+        text = MARKUP.replace('"', '""')
+        assert await ada.told(f'S ^X("{text}")="{text}" W ^X("{text}")') == MARKUP
+        assert (await ada.line(MARKUP))["code"] == "ZSYNTAX"
+    assert [record["text"] for record in front.audit() if record.get("code") == "ZSYNTAX"] == [MARKUP]

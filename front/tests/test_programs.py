@@ -1,0 +1,292 @@
+# SPDX-License-Identifier: Apache-2.0
+"""Lines of programs, over the line port and by HTTP with a token, and what operators see."""
+from __future__ import annotations
+
+import asyncio
+import json
+import signal
+import ssl
+import subprocess
+import warnings
+
+import pytest
+from front import COMMAND, PASSWORD, Front, Record, in_loop
+
+
+class Program:
+    """A program at the line port."""
+
+    def __init__(self, front: Front, first: str) -> None:
+        self.front, self.first = front, first
+
+    async def __aenter__(self) -> Program:
+        self.reader, self.writer = await asyncio.open_connection("localhost", self.front.lines_port, ssl=self.front.context, limit=1 << 22)
+        self.writer.write(self.first.encode() + b"\n")
+        self.record = await self.next()
+        return self
+
+    async def __aexit__(self, *error: object) -> None:
+        self.writer.close()
+
+    async def next(self) -> Record:
+        """The next line of JSON; None at the end."""
+        line = await self.reader.readline()
+        return json.loads(line) if line else None
+
+    async def line(self, line: str) -> Record:
+        """The record of a line."""
+        self.writer.write(line.encode() + b"\n")
+        return await self.next()
+
+
+def new_token(front: Front, user: str = "ada") -> str:
+    """A new token of a user, which the front knows a second later."""
+    done = subprocess.run([*COMMAND, "token", "add", user, "--config", front.folder / "front.toml"], capture_output=True, text=True, check=True)
+    return done.stdout.strip()
+
+
+async def posted(http, token: str, line: object) -> tuple[int, Record]:
+    """The status and the record of a line by HTTP."""
+    async with http.post("/line", json={"line": line}, headers={"Authorization": f"Bearer {token}"}) as response:
+        return response.status, await response.json()
+
+
+@in_loop()
+async def test_lines_at_the_line_port(lasting: Front) -> None:
+    async with Program(lasting, f"cleo {PASSWORD}") as program:
+        assert program.record == {"user": "cleo", "account": "LAB", "terminal": program.record["terminal"], "volatile": True, "session": 1}
+        assert await program.line("S A=5 W A,!,A+1") == {"output": ["5"], "rest": "6", "code": None}
+        assert await program.line("") == {"output": [], "rest": "", "code": None}
+        assert (await program.line("W B"))["code"] == "M6"
+        assert (await program.line("W 1\r"))["refused"] == "ZCHAR"
+        assert (await program.line("x" * 256))["refused"] == "ZLINE"
+        assert (await program.line("W A"))["rest"] == "5"
+
+
+@in_loop()
+async def test_sign_ons_that_are_refused_at_the_line_port(start) -> None:
+    front = start()
+    for first in ["nobody " + PASSWORD, "dora", "", "\r", "<b> </b>", f"cleo  {PASSWORD}", f" cleo {PASSWORD}", "cleo mft_x", f"ada {PASSWORD}\r"]:
+        async with Program(front, first) as program:
+            assert program.record == {"error": "wrong name or password"}, first
+            assert await program.next() is None
+
+
+@in_loop()
+async def test_an_unfinished_line_is_not_run(lasting: Front) -> None:
+    async with Program(lasting, f"cleo {PASSWORD}") as program:
+        program.writer.write(b"S ^HALF=1")
+        if program.writer.can_write_eof():
+            program.writer.write_eof()
+    await asyncio.sleep(0.3)
+    async with Program(lasting, f"cleo {PASSWORD}") as program:
+        assert (await program.line("W $D(^HALF)"))["rest"] == "0"
+
+
+@in_loop()
+async def test_a_program_is_told_of_a_restart(start) -> None:
+    front = start()
+    async with Program(front, f"ada {PASSWORD}") as program:
+        await program.line("S A=1")
+        front.kill_child()
+        assert await program.next() == {"event": "restarted", "volatile": True, "session": 2}
+        assert (await program.line("W A"))["code"] == "M6"
+
+
+@in_loop()
+async def test_lines_with_a_token(start) -> None:
+    front = start(limits={"token_idle": 2})
+    token = new_token(front)
+    await asyncio.sleep(1.5)
+    async with front.person().http as http:
+        plain = {"output": [], "rest": "", "code": None, "volatile": True}
+        assert await posted(http, token, "S A=1") == (200, plain | {"new": True})
+        assert await posted(http, token, "W A,!") == (200, plain | {"output": ["1"]})
+        assert (await posted(http, token, "W\n1"))[1]["refused"] == "ZCHAR"
+        assert (await posted(http, token, 5))[0] == 400
+        assert (await posted(http, "mft_wrong", "W 1"))[0] == 401
+        assert (await posted(http, PASSWORD, "W 1"))[0] == 401
+        many = await asyncio.gather(*(posted(http, token, f"S N=$G(N)+1 W {number}") for number in range(30)))
+        assert [record["rest"] for _, record in many] == [str(number) for number in range(30)]
+        assert (await posted(http, token, "W N"))[1]["rest"] == "30"
+        front.kill_child()
+        for _ in range(100):
+            status, record = await posted(http, token, "W 2")
+            if record.get("rest") == "2":
+                break
+            assert "unknown" in record or record.get("refused") == "restarted"
+            await asyncio.sleep(0.05)
+        assert record["new"] is True
+
+
+@in_loop()
+async def test_the_terminal_of_a_token_is_given_back_after_its_idle_time(start) -> None:
+    front = start(limits={"token_idle": 2})
+    token = new_token(front)
+    await asyncio.sleep(1.5)
+    async with front.person().http as http:
+        assert await posted(http, token, "S N=1") == (200, {"output": [], "rest": "", "code": None, "volatile": True, "new": True})
+        async with Program(front, f"ada {PASSWORD}") as first, Program(front, f"ben {token}") as wrong, Program(front, f"ben {PASSWORD}") as second:
+            assert first.record["user"] == "ada" and wrong.record == {"error": "wrong name or password"} and second.record["user"] == "ben"
+            async with Program(front, f"ada {token}") as third:
+                assert third.record == {"error": "all terminals of CLINIC are in use"}
+                await asyncio.sleep(3.5)
+            async with Program(front, f"ada {token}") as third:
+                assert third.record["user"] == "ada" and (await third.line("W $D(N)"))["rest"] == "0"
+                assert await posted(http, token, "W 1") == (503, {"error": "all terminals of CLINIC are in use"})
+        await asyncio.sleep(0.5)
+        assert (await posted(http, token, "W $D(N)"))[1] == {"output": [], "rest": "0", "code": None, "volatile": True, "new": True}
+
+
+@in_loop(120)
+async def test_a_connection_of_many_lines_is_ended_in_order(start) -> None:
+    """A connection of HTTP may send 4 MB. Long before that an answer says that it is the last one, and no line is lost."""
+    front = start()
+    token = new_token(front)
+    await asyncio.sleep(1.5)
+    async with front.person().http as http:
+        lasts = 0
+        for number in range(60):
+            body = json.dumps({"line": f"S N=$G(N)+1 W {number}"}) + " " * 60_000
+            async with http.post("/line", data=body, headers={"Authorization": f"Bearer {token}", "Content-Type": "application/json"}) as response:
+                assert (await response.json())["rest"] == str(number)
+                lasts += response.headers.get("Connection") == "close"
+        assert lasts == 1 and (await posted(http, token, "W N"))[1]["rest"] == "60"
+
+
+@in_loop()
+async def test_a_token_that_is_removed_is_signed_off(start) -> None:
+    front = start()
+    token = new_token(front)
+    await asyncio.sleep(1.5)
+    async with front.person().http as http, Program(front, f"ada {token}") as program:
+        assert (await program.line("W 1"))["rest"] == "1" and (await posted(http, token, "W 1"))[0] == 200
+        listed = subprocess.run([*COMMAND, "token", "list", "--config", front.folder / "front.toml"], capture_output=True, text=True, check=True).stdout
+        subprocess.run([*COMMAND, "token", "remove", listed.split()[0], "--config", front.folder / "front.toml"], check=True)
+        assert await program.next() == {"event": "signed-off", "why": "removed"}
+        assert (await posted(http, token, "W 1"))[0] == 401
+
+
+@in_loop()
+async def test_health_and_figures(start) -> None:
+    front = start()
+    async with front.person("ada") as ada, Program(front, f"cleo {PASSWORD}") as program:
+        for line in ("W 1", "W 2", "W 1/0", "\n"):
+            await ada.line(line)
+        await program.line("W B")
+        async with ada.http.get("/health") as response:
+            assert (response.status, await response.json()) == (200, {"child": "up", "volatile": True})
+        async with ada.http.get("/metrics") as response:
+            assert response.headers["Content-Type"] == "text/plain; version=0.0.4; charset=utf-8"
+            text = await response.text()
+        figures = dict(line.rsplit(" ", 1) for line in text.splitlines() if not line.startswith("#"))
+        wanted = {'mfront_signed_on{way="page"}': "1", 'mfront_signed_on{way="lines"}': "1", 'mfront_signed_on{way="token"}': "0", "mfront_up": "1",
+                  'mfront_lines_total{code="none"}': "2", 'mfront_lines_total{code="M9"}': "1", 'mfront_lines_total{code="M6"}': "1",
+                  'mfront_lines_total{code="refused ZCHAR"}': "1", "mfront_lines_waiting": "0", "mfront_child_restarts_total": "0"}
+        assert wanted.items() <= figures.items()
+        assert 0 < float(figures["mfront_longest_wait_seconds"]) < 10
+        assert int(figures['mfront_wait_seconds_bucket{le="+Inf"}']) == int(figures["mfront_wait_seconds_count"]) > 4
+        names = {line.split()[2] for line in text.splitlines() if line.startswith("# TYPE")}
+        assert all(line.split("{")[0].split(" ")[0].removesuffix("_bucket").removesuffix("_sum").removesuffix("_count") in names
+                   for line in text.splitlines() if not line.startswith("#"))
+
+
+@in_loop()
+async def test_health_while_the_server_is_down(start, tmp_path) -> None:
+    """The store is taken away, so that the server cannot start again."""
+    folder = tmp_path / "store"
+    folder.mkdir()
+    front = start(store=str(folder / "store.db"))
+    async with front.person("ada") as ada:
+        folder.rename(tmp_path / "away")
+        front.kill_child()
+        await asyncio.sleep(1)
+        async with ada.http.get("/health") as response:
+            assert (response.status, (await response.json())["child"]) == (503, "down")
+        assert (await ada.line("W 1"))["refused"] == "restarted"
+        status, record = await front.person("cleo").sign_on()
+        assert (status, record) == (503, {"error": "the server is being started"})
+        (tmp_path / "away").rename(folder)
+        while not ada.events:
+            await ada.event()
+        assert await ada.told("W 1") == "1"
+        async with ada.http.get("/health") as response:
+            assert response.status == 200
+    assert "could not be started again" in front.told()
+
+
+@in_loop()
+async def test_figures_are_for_the_addresses_that_are_named(start) -> None:
+    front = start(metrics={"from": ["192.0.2.0/24"]})
+    async with front.person().http as http, http.get("/metrics") as response:
+        assert response.status == 403
+
+
+@in_loop()
+async def test_audit_log(start) -> None:
+    front = start()
+    async with front.person("ada") as ada, Program(front, f"cleo {PASSWORD}") as program:
+        await ada.line('S ^SECRET="<script>"')
+        await ada.line("W 1/0")
+        await ada.line("\n")
+        await program.line("W 1")
+        await ada.sign_on("wrong")
+        (front.folder / "audit.log").rename(front.folder / "audit.old")
+        front.process.send_signal(signal.SIGHUP)
+        await asyncio.sleep(0.5)
+        await ada.line("W B")
+    records = [json.loads(line) for line in (front.folder / "audit.old").read_text().splitlines()]
+    assert all(record.pop("time").endswith("+00:00") for record in records)
+    mine = {"user": "ada", "account": "CLINIC", "terminal": ada.record["terminal"], "way": "page", "from": "127.0.0.1"}
+    assert [record for record in records if record.get("user") == "ada"] == [
+        {"event": "sign-on", **mine}, {"event": "line", **mine, "code": None}, {"event": "line", **mine, "code": "M9"},
+        {"event": "line", **mine, "code": "refused ZCHAR"}, {"event": "refused", "user": "ada", "from": "127.0.0.1"}]
+    assert "SECRET" not in (front.folder / "audit.old").read_text() and PASSWORD not in (front.folder / "audit.old").read_text()
+    assert [record["code"] for record in front.audit() if record["event"] == "line"] == ["M6"]
+    assert (front.folder / "audit.log").stat().st_mode & 0o777 == 0o600
+
+
+@in_loop()
+async def test_audit_log_with_texts(start) -> None:
+    front = start(audit={"texts": True})
+    async with front.person("ada") as ada:
+        await ada.line("W 1")
+        await ada.line("W \"é\n")
+    assert [record["text"].encode("latin1").decode() for record in front.audit() if record["event"] == "line"] == ["W 1", "W \"é\n"]
+
+
+@in_loop()
+async def test_nobody_signs_on_if_that_cannot_be_noted(start) -> None:
+    front = start(audit={"file": "/dev/full"})
+    status, record = await front.person("ada").sign_on()
+    assert (status, record) == (503, {"error": "the audit log cannot be written"})
+    assert "/dev/full: the audit log cannot be written" in front.told()
+
+
+@in_loop()
+async def test_a_new_certificate_is_taken(start, tmp_path) -> None:
+    """By SIGHUP; a broken one is not, and the old one stays."""
+    front = start()
+    async with Program(front, f"ada {PASSWORD}") as program:
+        before = front.certificate[0].read_bytes()
+        try:
+            front.certificate[0].write_text("broken")
+            front.process.send_signal(signal.SIGHUP)
+            await asyncio.sleep(0.5)
+            assert "not reloaded" in front.told()
+        finally:
+            front.certificate[0].write_bytes(before)
+        assert (await program.line("W 1"))["rest"] == "1"
+        async with Program(front, f"ben {PASSWORD}") as second:
+            assert (await second.line("W 2"))["rest"] == "2"
+
+
+@in_loop()
+async def test_old_versions_of_tls_are_refused(lasting: Front) -> None:
+    context = lasting.context
+    with warnings.catch_warnings():
+        warnings.simplefilter("ignore", DeprecationWarning)
+        context.minimum_version = ssl.TLSVersion.TLSv1
+        context.maximum_version = ssl.TLSVersion.TLSv1_1
+    with pytest.raises((ssl.SSLError, ConnectionError)):
+        await asyncio.open_connection("localhost", lasting.port, ssl=context)

@@ -1,0 +1,323 @@
+# SPDX-License-Identifier: Apache-2.0
+"""Sign-on: what is refused, what a browser is given, and that nobody meets what somebody before left."""
+from __future__ import annotations
+
+import asyncio
+import json
+import statistics
+import time
+
+import aiohttp
+import pytest
+from front import PASSWORD, Front, in_loop, write_users
+from mserve_front.slowdown import Slowdown, network_of
+from mserve_front.users import HASHER, Register
+from yarl import URL
+
+
+@in_loop()
+async def test_record_and_cookie(lasting: Front) -> None:
+    async with lasting.person("cleo") as cleo:
+        assert cleo.record == {"user": "cleo", "account": "LAB", "terminal": cleo.record["terminal"], "volatile": True, "session": 1}
+        assert cleo.record["terminal"] in (1001, 1002)
+        async with cleo.http.get("/session") as response:
+            assert (response.status, await response.json()) == (200, cleo.record)
+        [cookie] = cleo.http.cookie_jar
+        assert cookie.key == "__Host-mfront" and cookie["secure"] and cookie["httponly"] and cookie["samesite"] == "Strict"
+        assert cookie["path"] == "/" and len(cookie.value) >= 43
+        async with cleo.http.post("/signon", json={"user": "cleo", "password": PASSWORD}) as response:
+            assert "domain" not in response.headers["Set-Cookie"].lower() and cookie.value not in response.headers["Set-Cookie"]
+        assert await cleo.sign_off() == 204
+        async with cleo.http.get("/session") as response:
+            assert response.status == 401
+        assert await cleo.sign_off() == 401
+
+
+REFUSED = [
+    ({"user": "ada", "password": "wrong"}, 401), ({"user": "ada", "password": ""}, 401), ({"user": "nobody", "password": PASSWORD}, 401),
+    ({"user": "", "password": PASSWORD}, 401), ({"user": "ada\n", "password": PASSWORD}, 401), ({"user": "<b>ada</b>", "password": "<script>"}, 401),
+    ({"user": "\ud800", "password": "\ud800\0"}, 401), ({"user": "x" * 30_000, "password": "x"}, 401), ({"user": "x", "password": "x" * 30_000}, 401),
+    ({"user": "ada"}, 400), ({"user": 1, "password": PASSWORD}, 400), ({"user": "ada", "password": [PASSWORD]}, 400), ([], 400), ("ada", 400), (None, 400),
+]
+
+
+@in_loop()
+async def test_refusals(start) -> None:
+    front = start()
+    async with front.person("ada").http as http:
+        for body, status in REFUSED:
+            async with http.post("/signon", data=json.dumps(body), headers={"Content-Type": "application/json"}) as response:
+                assert response.status == status, body
+                assert response.content_type == "application/json" and "Set-Cookie" not in response.headers
+                if status == 401:
+                    assert await response.json() == {"error": "wrong name or password"}
+
+
+@pytest.mark.parametrize(("data", "kind", "status"), [
+    (b"user=ada&password=x", "application/x-www-form-urlencoded", 415), (b"{}", "text/plain", 415), (b"{", "application/json", 400),
+    (b"\xff", "application/json", 400), (b"[" * 20_000, "application/json", 400), (b'{"user": "' + b"x" * 70_000, "application/json", 413),
+])
+@in_loop()
+async def test_bodies_that_are_none(lasting: Front, data: bytes, kind: str, status: int) -> None:
+    async with lasting.person().http as http, http.post("/signon", data=data, headers={"Content-Type": kind}) as response:
+        assert response.status == status and "error" in await response.json()
+
+
+@in_loop()
+async def test_pages_of_other_origins_are_refused(lasting: Front) -> None:
+    async with lasting.person() as ada:
+        for origin in ("https://evil.example", "null", lasting.origin.replace("https", "http"), lasting.origin + "0", "https://localhost"):
+            with pytest.raises(aiohttp.WSServerHandshakeError) as refused:
+                await ada.http.ws_connect("/ws", origin=origin)
+            assert refused.value.status == 403
+            async with ada.http.post("/signon", json={"user": "ada", "password": PASSWORD}, headers={"Origin": origin}) as response:
+                assert response.status == 403
+            async with ada.http.post("/signoff", headers={"Origin": origin}) as response:
+                assert response.status == 403
+        with pytest.raises(aiohttp.WSServerHandshakeError) as refused:
+            await ada.http.ws_connect("/ws")
+        assert refused.value.status == 403
+        assert await ada.told("W 5") == "5"
+
+
+@in_loop()
+async def test_no_web_socket_without_a_session(lasting: Front) -> None:
+    async with lasting.person().http as http:
+        for cookie in ({}, {"__Host-mfront": "x" * 43}, {"mfront": "x"}):
+            with pytest.raises(aiohttp.WSServerHandshakeError) as refused:
+                await http.ws_connect("/ws", origin=lasting.origin, headers={"Cookie": "; ".join(f"{k}={v}" for k, v in cookie.items())})
+            assert refused.value.status == 401
+
+
+@pytest.mark.parametrize(("method", "path", "status"), [
+    ("GET", "/session", 401), ("GET", "/health", 200), ("GET", "/nothing", 404), ("PUT", "/signon", 405), ("GET", "/page/..%2fmfront", 404),
+    ("GET", "/page/.hidden.js", 404), ("GET", "/page/x.py", 404), ("GET", "/page/a/b.js", 404), ("GET", "/page/%00.js", 404), ("GET", "/ws", 403),
+    ("POST", "/line", 401),
+])
+@in_loop()
+async def test_headers_of_each_answer(lasting: Front, method: str, path: str, status: int) -> None:
+    async with lasting.person().http as http, http.request(method, URL(path, encoded=True)) as response:
+        assert response.status == status
+        policy = response.headers["Content-Security-Policy"]
+        assert "default-src 'self'" in policy and "frame-ancestors 'none'" in policy and "unsafe" not in policy
+        assert response.headers["X-Content-Type-Options"] == "nosniff" and response.headers["Referrer-Policy"] == "no-referrer"
+        assert response.headers["Cache-Control"] == "no-store"
+        assert int(response.headers["Strict-Transport-Security"].removeprefix("max-age=")) >= 31_536_000
+        assert "aiohttp" not in response.headers["Server"]
+
+
+@in_loop()
+async def test_files_of_the_page(start, tmp_path) -> None:
+    page = tmp_path / "page"
+    page.mkdir()
+    (page / "index.html").write_text("<!doctype html><title>mserve</title>")
+    (page / "page.js").write_text("export const one = 1;")
+    (page / "secret.py").write_text("secret")
+    (page / "folder.js").mkdir()
+    front = start(tls=False, listen={"page": str(page)})
+    async with front.person().http as http:
+        for path, kind in (("/", "text/html"), ("/page/index.html", "text/html"), ("/page/page.js", "text/javascript")):
+            async with http.get(path) as response:
+                assert (response.status, response.content_type) == (200, kind) and "no-cache" in response.headers["Cache-Control"]
+                assert "Strict-Transport-Security" not in response.headers
+        for path in ("/page/secret.py", "/page/folder.js", "/page/none.js"):
+            async with http.get(path) as response:
+                assert response.status == 404
+
+
+@in_loop()
+async def test_all_terminals_in_use(start) -> None:
+    front = start(users={"dora": "SHORT", "dan": "SHORT"})
+    async with front.person("dora") as dora, front.person("dan").http as http:
+        async with http.post("/signon", json={"user": "dan", "password": PASSWORD}) as response:
+            assert (response.status, await response.json()) == (503, {"error": "all terminals of SHORT are in use"})
+        await dora.sign_off()
+        async with http.post("/signon", json={"user": "dan", "password": PASSWORD}) as response:
+            assert response.status == 200
+
+
+@in_loop()
+async def test_nobody_meets_what_somebody_before_left(start) -> None:
+    """Locals and locks are gone after a sign-off, a lost connection, a new one, and a connection of a program that ended."""
+    front = start(users={"dora": "SHORT", "dan": "SHORT"}, limits={"absent": 1})
+    async with front.person("dora") as dora:
+        assert await dora.told('S A=1 L +^X:0 W $T') == "1"
+    async with front.person("dan") as dan:
+        assert await dan.told("W A") == "M6"
+        assert await dan.told('S A=2 L +^X:0 W $T') == "1"
+        await dan.connect()
+        assert await dan.told("W A") == "M6"
+        await dan.told("S A=3")
+        await dan.socket.close()
+        await asyncio.sleep(2.2)
+    reader, writer = await asyncio.open_connection("localhost", front.lines_port, ssl=front.context)
+    writer.write(f"dora {PASSWORD}\nW $D(A)\nS A=4\n".encode())
+    assert json.loads(await reader.readline())["terminal"] == 9999
+    assert json.loads(await reader.readline())["rest"] == "0"
+    writer.close()
+    await asyncio.sleep(0.3)
+    async with front.person("dan") as dan:
+        assert await dan.told("W $D(A)") == "0"
+    events = [(record["event"], record.get("why")) for record in front.audit() if record["event"] != "line"]
+    assert events == [("sign-on", None), ("sign-off", "signed off"), ("sign-on", None), ("sign-off", "idle"), ("sign-on", None), ("sign-off", "left"),
+                      ("sign-on", None), ("sign-off", "signed off")]
+
+
+@in_loop()
+async def test_lock_of_a_lost_connection_is_given_back(lasting: Front) -> None:
+    async with lasting.person("ada") as ada, lasting.person("ben") as ben:
+        assert await ada.told("L +^X:0 W $T") == "1"
+        assert await ben.told("L +^X:0 W $T") == "0"
+        ada.socket._response.connection.transport.abort()
+        await asyncio.sleep(0.3)
+        assert await ben.told("L +^X:0 W $T") == "1"
+
+
+@in_loop()
+async def test_idle_users_are_signed_off(start) -> None:
+    front = start(limits={"idle": 2})
+    async with front.person() as ada:
+        await asyncio.sleep(1)
+        assert await ada.told("S A=1 W A") == "1"
+        began = time.monotonic()
+        assert (await ada.event()) == {"event": "signed-off", "why": "idle"}
+        assert 1.5 < time.monotonic() - began < 5
+        with pytest.raises(ConnectionError):
+            await ada.event()
+        async with ada.http.get("/session") as response:
+            assert response.status == 401
+
+
+@in_loop()
+async def test_second_web_socket_replaces_the_first(lasting: Front) -> None:
+    async with lasting.person() as ada:
+        await ada.line("S A=1")
+        first = ada.socket
+        for _ in range(50):
+            await ada.send("S A=$G(A)+1 F  S Z=1")
+        await ada.connect()
+        assert await ada.told("W $D(A)") == "0"
+        ends = [message.data if message.type is aiohttp.WSMsgType.TEXT else None async for message in first]
+        assert json.loads(ends[-1]) == {"event": "signed-off", "why": "replaced"} and len(ends) < 40
+        # Lines that the first one sent are not run after it is replaced.
+        assert await ada.told("W $D(A)") == "0"
+
+
+@in_loop()
+async def test_oldest_session_of_a_user_is_replaced(start) -> None:
+    front = start(limits={"sessions_of_user": 2})
+    async with front.person("ada") as first, front.person("ada") as second:
+        await first.line("S A=1")
+        async with front.person("ada") as third:
+            assert await first.event() == {"event": "signed-off", "why": "replaced"}
+            assert await second.told("W 2") == "2" and await third.told("W 3") == "3"
+
+
+@in_loop()
+async def test_removed_users_are_signed_off(start) -> None:
+    front = start()
+    async with front.person("ada") as ada, front.person("cleo") as cleo:
+        write_users(front.folder / "users.json", {"cleo": "LAB"})
+        # The password of all is hashed anew, so that cleo's sign-on does not count any more either.
+        assert await ada.event() == {"event": "signed-off", "why": "removed"}
+        assert await cleo.event() == {"event": "signed-off", "why": "removed"}
+        assert (await cleo.sign_on())[0] == 200
+        assert (await ada.sign_on())[0] == 401
+
+
+@in_loop()
+async def test_users_file_that_is_broken_leaves_the_users(start) -> None:
+    front = start()
+    (front.folder / "users.json").write_text("{")
+    await asyncio.sleep(1.5)
+    async with front.person("ada") as ada:
+        assert await ada.told("W 1") == "1"
+    assert "users.json: is no users' file" in front.told()
+
+
+@in_loop(90)
+async def test_wrong_passwords_slow_down_a_user(start) -> None:
+    """Each pause is longer than the one before; meanwhile even the right password is not looked at, and others sign on."""
+    front = start()
+    ada, cleo = front.person("ada"), front.person("cleo")
+    async with ada.http, cleo.http:
+        tried, pauses = 0, []
+        while not pauses or pauses[-1] < 4:
+            async with ada.http.post("/signon", json={"user": "ada", "password": "wrong"}) as response:
+                if response.status == 429:
+                    pauses.append(int(response.headers["Retry-After"]))
+                    await asyncio.sleep(pauses[-1] if pauses[-1] < 4 else 0)
+                else:
+                    assert response.status == 401
+                    tried += 1
+        assert pauses == sorted(pauses) and tried >= 4 + 2
+        assert (await ada.sign_on())[0] == 429
+        assert (await cleo.sign_on())[0] == 200
+        await asyncio.sleep(4.1)
+        assert (await ada.sign_on())[0] == 200
+        assert (await ada.sign_on("wrong"))[0] == 401
+
+
+@in_loop(90)
+async def test_wrong_passwords_slow_down_an_address(start) -> None:
+    """Attempts of one address at many names, at once."""
+    front = start()
+    people = [front.person(f"user{number}") for number in range(30)]
+    ends = [status for status, _ in await asyncio.gather(*(person.sign_on("wrong") for person in people))]
+    assert ends.count(401) in range(21, 24) and ends.count(401) + ends.count(429) == 30
+    assert (await front.person("ada").sign_on())[0] == 429
+    for person in people:
+        await person.http.close()
+
+
+def test_pauses_grow_and_end() -> None:
+    slow = Slowdown(3, 60)
+    waits = []
+    for _ in range(12):
+        slow.failed("ada")
+        waits.append(slow.wait("ada"))
+    assert [round(wait) for wait in waits] == [0, 0, 0, 1, 2, 4, 8, 16, 32, 60, 60, 60]
+    assert slow.wait("ben") == 0
+    slow.succeeded("ada")
+    assert slow.wait("ada") == 0
+
+
+def test_networks_of_addresses() -> None:
+    assert network_of("10.1.2.3") == "10.1.2.3" and network_of("::ffff:10.1.2.3") == "10.1.2.3"
+    assert network_of("2001:db8:1:2:3::4") == network_of("2001:db8:1:2:9::1") != network_of("2001:db8:1:3::1")
+
+
+def test_unknown_users_take_as_long(tmp_path) -> None:
+    """The same hash is computed for a name that nobody has. The middle of several times is compared, since others use the machine."""
+    write_users(tmp_path / "users.json", {})
+    users = json.loads((tmp_path / "users.json").read_text())
+    users["users"]["ada"] = {"account": "CLINIC", "hash": HASHER.hash(PASSWORD)}
+    (tmp_path / "users.json").write_text(json.dumps(users))
+    register = Register(tmp_path / "users.json")
+    register.by_password("nobody", "x")
+    times: dict[str, list[float]] = {"ada": [], "nobody": []}
+    for _ in range(7):
+        for name, taken in times.items():
+            began = time.perf_counter()
+            assert register.by_password(name, "wrong") is None
+            taken.append(time.perf_counter() - began)
+    known, unknown = (statistics.median(taken) for taken in times.values())
+    assert known > 0.01 and 0.5 < known / unknown < 2
+
+
+@in_loop()
+async def test_without_a_certificate_it_says_so(start) -> None:
+    front = start(tls=False)
+    assert "listening at the loopback alone" in front.told()
+    async with front.person() as ada:
+        [cookie] = ada.http.cookie_jar
+        assert cookie.key == "mfront" and not cookie["secure"] and cookie["httponly"] and cookie["samesite"] == "Strict"
+        assert await ada.told("W 1") == "1"
+
+
+@in_loop()
+async def test_users_are_told_that_the_store_is_volatile(start, tmp_path) -> None:
+    lasting, volatile = start(store=str(tmp_path / "store.db")), start()
+    for front, told in ((lasting, False), (volatile, True)):
+        async with front.person() as ada:
+            assert ada.record["volatile"] is told

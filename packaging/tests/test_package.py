@@ -1,0 +1,280 @@
+# SPDX-License-Identifier: Apache-2.0
+"""The Debian package: made twice alike, without an error of lintian, installed into a root of its own by the commands of docs/OPERATING.md, used
+there, and removed without a trace but the data.
+
+The root is this system with a layer of its own over it (overlayfs), in namespaces of its own for mounts and the network: dpkg and the package's
+scripts run as they do anywhere. That takes root's rights; without them the tests are skipped by name, but where the variable CI is true: there
+that is a failure. There is no systemd in it: what it would run is read from the unit, and run as the unit's user."""
+from __future__ import annotations
+
+import json
+import os
+import re
+import shlex
+import shutil
+import subprocess
+import sys
+import time
+from collections.abc import Iterator
+from pathlib import Path
+
+import pytest
+
+TOP = Path(__file__).resolve().parent.parent.parent
+MAKE = TOP / "packaging" / "make_deb.py"
+PYTHON = "/usr/bin/python3"
+PASSWORD = "correct horse battery"
+UNITS = ("mserve.service", "mfront.service")
+# The highest exposure, of 10, that `systemd-analyze security` may find.
+MOST_EXPOSURE = 2.0
+DATA = re.compile(r"/(?:var/lib/mserve|var/log/mserve|etc/mserve/(?:key|certificate)\.pem|etc/mserve$)")
+
+
+def missed(what: str) -> None:
+    """Skips a test for something that is not there, or fails it where continuous integration has to have that."""
+    if os.environ.get("CI") == "true":
+        pytest.fail(what)
+    pytest.skip(what)
+
+
+def made(folder: Path) -> Path:
+    """The package, made in a folder."""
+    done = subprocess.run([PYTHON, MAKE, "--to", folder], capture_output=True, text=True, timeout=120)
+    assert (done.returncode, done.stderr) == (0, ""), done.stderr
+    return Path(done.stdout.strip())
+
+
+@pytest.fixture(scope="module")
+def package(tmp_path_factory: pytest.TempPathFactory) -> Path:
+    """The package of this tree."""
+    return made(tmp_path_factory.mktemp("package"))
+
+
+class Root:
+    """A root of its own: a layer over this system, in a namespace of mounts and one of the network."""
+
+    def __init__(self, folder: Path) -> None:
+        self.layer, self.place = folder / "layers" / "upper", folder / "root"
+        self._holder = subprocess.Popen(["unshare", "--mount", "--net", "--propagation", "private", "sleep", "600"])
+        self._await_own()
+        self.place.mkdir()
+        (folder / "layers").mkdir()
+        parts = shlex.quote(str(folder / "layers"))
+        where = shlex.quote(str(self.place))
+        status, told = self._inside(f"mount -t tmpfs tmpfs {parts} && mkdir {parts}/upper {parts}/work && "
+                                    f"mount -t overlay overlay -o lowerdir=/,upperdir={parts}/upper,workdir={parts}/work {where} && "
+                                    f"mount --rbind /proc {where}/proc && mount --rbind /dev {where}/dev && mount -t tmpfs tmpfs {where}/run && "
+                                    "ip link set lo up")
+        if status:
+            self.end()
+            missed(f"a root of its own cannot be made here, which takes root's rights, overlayfs and iproute2: {told.strip()}")
+
+    def _await_own(self) -> None:
+        """Waits until the namespaces are there: what is mounted before would be mounted for the whole machine."""
+        end = time.monotonic() + 30
+        while any(os.readlink(f"/proc/{self._holder.pid}/ns/{kind}") == os.readlink(f"/proc/self/ns/{kind}") for kind in ("mnt", "net")):
+            if self._holder.poll() is not None or time.monotonic() > end:
+                self.end()
+                missed("a root of its own cannot be made here: unshare --mount --net is refused")
+            time.sleep(0.01)
+
+    def _words(self, command: str) -> list[str]:
+        return ["nsenter", "--target", str(self._holder.pid), "--mount", "--net", "bash", "-c", command]
+
+    def _inside(self, command: str) -> tuple[int, str]:
+        done = subprocess.run(self._words(command), capture_output=True, text=True, timeout=300)
+        return done.returncode, done.stdout + done.stderr
+
+    def words(self, command: str) -> list[str]:
+        """The words that run a command of a shell in this root, in the tree's folder."""
+        inner = f"cd {shlex.quote(str(TOP))} && {command}"
+        place = shlex.quote(str(self.place))
+        return self._words(f"exec env -u PYTHONPATH LC_ALL=C.UTF-8 PATH=/usr/sbin:/usr/bin:/sbin:/bin chroot {place} bash -c {shlex.quote(inner)}")
+
+    def run(self, command: str, told: str = "") -> str:
+        """Runs a command of a shell in this root: what it writes. It has to end well."""
+        done = subprocess.run(self.words(command), input=told, capture_output=True, text=True, timeout=300)
+        assert done.returncode == 0, f"{command}: {done.stdout}{done.stderr}"
+        return done.stdout
+
+    def changed(self) -> set[str]:
+        """The paths of what was made or changed in this root; what is taken away is not among them."""
+        listed = self._inside(f"find {shlex.quote(str(self.layer))} -mindepth 1 ! -type c -printf '/%P\\n'")[1]
+        return set(listed.splitlines())
+
+    def end(self) -> None:
+        """Ends the namespaces, and with them the layer."""
+        self._holder.kill()
+        self._holder.wait()
+
+
+@pytest.fixture(scope="module")
+def root(tmp_path_factory: pytest.TempPathFactory) -> Iterator[Root]:
+    """A root of its own, in which nothing is installed yet."""
+    for name in ("unshare", "nsenter", "ip", "curl", "openssl", "dpkg-deb", "systemd-analyze"):
+        if shutil.which(name) is None:
+            missed(f"{name} is not there: apt-get install util-linux iproute2 curl openssl dpkg systemd")
+    if subprocess.run([PYTHON, "-c", "import seccomp"], capture_output=True).returncode:
+        missed("seccomp is not there: apt-get install python3-seccomp")
+    one = Root(tmp_path_factory.mktemp("root"))
+    yield one
+    one.end()
+
+
+def commands() -> list[str]:
+    """The commands of docs/OPERATING.md that set a service up from nothing."""
+    page = (TOP / "docs" / "OPERATING.md").read_text(encoding="utf-8")
+    block = re.search(r"^## From nothing\n.*?^```\n(.*?)^```$", page, re.MULTILINE | re.DOTALL)[1]
+    return block.replace("\\\n", " ").splitlines()
+
+
+def started(root: Root, unit: str) -> subprocess.Popen[bytes]:
+    """What systemd would start for a unit, as the unit's user, in its folder, and under what the unit allows (confined.py)."""
+    text = (TOP / "packaging" / unit).read_text(encoding="utf-8")
+    keys = dict(re.findall(r"^(\w+)=(.*)$", text, re.MULTILINE))
+    # Where the user of the unit can read it, wherever this tree is.
+    root.run("mkdir -p /opt/confined && cp packaging/tests/confined.py /opt/confined/")
+    root.run(f"cp packaging/{unit} /opt/confined/unit && chmod -R a+rX /opt/confined")
+    words = f"cd {keys['WorkingDirectory']} && umask {keys['UMask']} && exec setpriv --reuid {keys['User']} --regid {keys['Group']} --clear-groups " \
+            f"--no-new-privs --bounding-set=-all --inh-caps=-all {PYTHON} -B /opt/confined/confined.py /opt/confined/unit {keys['ExecStart']}"
+    return subprocess.Popen(root.words(words), stdin=subprocess.DEVNULL)
+
+
+def test_package_is_the_same_each_time(package: Path, tmp_path: Path) -> None:
+    assert made(tmp_path).read_bytes() == package.read_bytes()
+
+
+def test_lintian_finds_no_error(package: Path) -> None:
+    if shutil.which("lintian") is None:
+        missed("lintian is not there: apt-get install lintian")
+    done = subprocess.run(["lintian", "--allow-root", "--fail-on", "error", package], capture_output=True, text=True, timeout=300)
+    assert done.returncode == 0 and not re.search(r"^E: ", done.stdout, re.MULTILINE), done.stdout
+
+
+def test_package_has_each_command_its_page_and_the_units(package: Path) -> None:
+    listed = subprocess.run(["dpkg-deb", "--contents", package], capture_output=True, text=True, check=True).stdout
+    for name in ("mserve", "mfront", "mshell", "mroutine", "mglobal"):
+        assert f" ./usr/bin/{name}" in listed
+    pages = [page for folder in ("docs", "clients/man", "front/man") for page in (TOP / folder).glob("*.1")]
+    assert len(pages) >= 4 and all(f" ./usr/share/man/man1/{page.name}.gz\n" in listed for page in pages)
+    for path in (*(f"lib/systemd/system/{unit}" for unit in UNITS), "usr/share/bash-completion/completions/mserve", "etc/mserve/front.toml",
+                 "usr/share/mserve/front/page/index.html", "usr/share/doc/mserve/docs/LANGUAGE.md"):
+        assert f" ./{path}\n" in listed
+    assert "__pycache__" not in listed and "/tests/" not in listed
+    assert not re.search(r"^(?!l)\S+ (?!root/root)", listed, re.MULTILINE)
+
+
+@pytest.mark.parametrize("unit", UNITS)
+def test_sandbox_of_a_unit(unit: str) -> None:
+    if shutil.which("systemd-analyze") is None:
+        missed("systemd-analyze is not there: apt-get install systemd")
+    done = subprocess.run(["systemd-analyze", "security", "--offline=yes", "--no-pager", TOP / "packaging" / unit], capture_output=True, text=True, timeout=60)
+    found = re.search(r"Overall exposure level for \S+: ([0-9.]+)", done.stdout)
+    assert found and float(found[1]) <= MOST_EXPOSURE, done.stdout + done.stderr
+
+
+def test_from_nothing_to_a_user_and_back(root: Root) -> None:
+    """Each command of the page is run; then a user signs on over TLS with the page's own calls, the clients run, and all but the data goes."""
+    before = root.changed()
+    front, seen = None, 0
+    try:
+        for command in commands():
+            if command.startswith("systemctl enable"):
+                front = started(root, f"{command.split()[-1]}.service")
+                awaited(root)
+            elif not command.startswith("systemctl"):
+                told = root.run(command, f"{PASSWORD}\n" if " user add " in command else "")
+                seen += 1
+        assert seen == 7 and json.loads(told)["child"] == "up"
+        used(root)
+        may_do_little(front.pid, root.run("id -u mserve").strip())
+    finally:
+        ended(front)
+    joined(root)
+    removed(root, before)
+
+
+def ended(*processes: subprocess.Popen[bytes] | None) -> None:
+    """Ends processes as systemd does."""
+    for process in processes:
+        if process is not None:
+            process.terminate()
+            assert process.wait(30) in (0, -15)
+
+
+def joined(root: Root) -> None:
+    """The server runs by its own unit: mshell speaks to it over the same store, and then the front joins it."""
+    server, front = started(root, "mserve.service"), None
+    try:
+        end = time.monotonic() + 30
+        while subprocess.run(root.words("mshell --plain 9000 1 </dev/null"), capture_output=True).returncode:
+            assert time.monotonic() < end, "the server does not answer"
+            time.sleep(0.2)
+        assert root.run("mshell 9000 1", "S ^ALONE=1+2*3 W ^ALONE\n") == "9\n"
+        root.run("sed -i 's/^store = .*/join = 9000/' /etc/mserve/front.toml")
+        front = started(root, "mfront.service")
+        awaited(root)
+    finally:
+        ended(front, server)
+
+
+def awaited(root: Root) -> None:
+    """Waits for the front's answer."""
+    end = time.monotonic() + 30
+    while subprocess.run(root.words("curl -skf https://localhost:8443/health"), capture_output=True).returncode:
+        assert time.monotonic() < end, "the front does not answer"
+        time.sleep(0.2)
+
+
+def may_do_little(front: int, user: str) -> None:
+    """The front and the server that it has started are the user's, and have no rights of root's."""
+    [child] = Path(f"/proc/{front}/task/{front}/children").read_text(encoding="ascii").split()
+    for process in (front, child):
+        status = dict(line.split(":\t", 1) for line in Path(f"/proc/{process}/status").read_text(encoding="utf-8").splitlines())
+        assert (status["Uid"].split(), int(status["CapEff"], 16), status["NoNewPrivs"], status["Seccomp"]) == ([user] * 4, 0, "1", "2")
+
+
+def used(root: Root) -> None:
+    """Signs on as the page does, gets the page, and runs the commands of the package."""
+    body = shlex.quote(json.dumps({"user": "ada", "password": PASSWORD}))
+    curl = "curl -sf --cacert /etc/mserve/certificate.pem -c /tmp/cookies -b /tmp/cookies"
+    record = json.loads(root.run(f"{curl} -H 'Content-Type: application/json' -d {body} https://localhost:8443/signon"))
+    assert (record["user"], record["account"], record["volatile"]) == ("ada", "OFFICE", False)
+    assert root.run(f"{curl} https://localhost:8443/page/main.js") == (TOP / "front" / "page" / "main.js").read_text(encoding="utf-8")
+    assert root.run("mserve run --settings /etc/mserve/settings.toml --store memory", "1 WRITE 1+2*3\n") == "1-9\n1.\n"
+    for name in ("mshell", "mroutine", "mglobal", "mfront"):
+        assert f"usage: {name}" in root.run(f"{name} --help")
+    assert "OFFICE" in root.run("mfront user list")
+    modes = root.run("stat -c '%U %a' /var/lib/mserve /var/log/mserve /var/lib/mserve/users.json /var/log/mserve/audit.log").splitlines()
+    assert modes == ["mserve 700", "mserve 700", "mserve 600", "mserve 600"]
+    browsed(root)
+
+
+BROWSE = """
+import sys
+sys.path.insert(0, "front/tests")
+from page_driver import Browser
+browser = Browser()
+try:
+    browser.driver.get("https://localhost:8443/")
+    browser.sign_on("ada", sys.argv[1])
+    print(browser.line('S ^HERE="by the package" W ^HERE'))
+    browser.sign_off()
+finally:
+    browser.driver.quit()
+"""
+
+
+def browsed(root: Root) -> None:
+    """Signs on in a browser, if there is one; the tests of the page say whether that is allowed to be missing."""
+    if shutil.which("chromium") and shutil.which("chromedriver"):
+        assert root.run(f"{PYTHON} -B -c {shlex.quote(BROWSE)} {shlex.quote(PASSWORD)}") == "by the package\n"
+
+
+def removed(root: Root, before: set[str]) -> None:
+    """Removes the package, and looks for what it left."""
+    root.run("apt-get purge -y mserve")
+    assert "mserve" not in root.run("dpkg-query -W -f '${Package}\\n'").split()
+    ours = {path for path in root.changed() - before if re.search(r"mserve|mfront|mshell|mroutine|mglobal", path) and not path.startswith(str(TOP))}
+    assert {path for path in ours if not DATA.match(path)} == set()
+    assert {"/var/lib/mserve/store", "/var/lib/mserve/users.json", "/var/log/mserve/audit.log", "/etc/mserve/key.pem"} <= ours

@@ -1,18 +1,20 @@
+# SPDX-License-Identifier: Apache-2.0
 """Checks lines of routines: whether each is in the language, without running any of them.
 
 A line's label and dots are taken off, and the rest is sent after `Q  `: the server reads it whole, and stops at the Q.
-A rest that is too long for that is put together in the local variable %m and run by XECUTE, after `Q  ` too."""
+A rest that is too long for that is put together in a local variable that the session does not have, and run by XECUTE,
+after `Q  ` too; then that local is killed."""
 from __future__ import annotations
 
 from collections.abc import Iterator
+from contextlib import suppress
 from dataclasses import dataclass
 
 from . import keys, language
 from .mtext import set_lines
 from .routine_files import SourceLine
-from .walk import SUBSCRIPTS as LOCAL
-from .walk import Refused, asked
-from .wire import LONGEST_LINE, Connection
+from .walk import Refused, asked, free_local
+from .wire import LONGEST_LINE, ClientError, Connection
 
 GUARD = "Q  "
 LONGEST_REST = keys.MAX_TEXT - len(GUARD)
@@ -61,12 +63,14 @@ def _long_answer(connection: Connection, rest: str) -> str | None:
     """The code that a line is answered which is too long for the wire."""
     if len(rest) > LONGEST_REST:
         return "ZSYNTAX"
-    asked(connection, f"K {LOCAL}")
-    for line in set_lines(LOCAL, GUARD + rest):
-        asked(connection, line)
-    code = connection.send(f"X {LOCAL}").code
-    asked(connection, f"K {LOCAL}")
-    return code
+    local = free_local(connection)
+    try:
+        for line in set_lines(local, GUARD + rest):
+            asked(connection, line)
+        return connection.send(f"X {local}").code
+    finally:
+        with suppress(ClientError):
+            connection.send(f"K {local}")
 
 
 def _of_form(line: SourceLine) -> Finding | None:

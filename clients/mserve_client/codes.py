@@ -1,3 +1,4 @@
+# SPDX-License-Identifier: Apache-2.0
 """The codes that end a line, in words, with the section of docs/LANGUAGE.md that has the rule."""
 from __future__ import annotations
 

@@ -1,3 +1,4 @@
+# SPDX-License-Identifier: Apache-2.0
 """Files of nodes: ZWR and GO, as GT.M and YottaDB write them, and JSON lines. Each is read and written node by node.
 
 What a file has and a store cannot take is a Problem, in its place among the nodes."""

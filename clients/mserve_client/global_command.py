@@ -1,3 +1,4 @@
+# SPDX-License-Identifier: Apache-2.0
 """The command `mglobal`: an account's globals, between a server or a store file and extracts."""
 from __future__ import annotations
 
@@ -123,11 +124,11 @@ def place(text: str) -> tuple[str, keys.Subscripts]:
 def export(found: Way, chosen: argparse.Namespace) -> int:
     """Writes nodes to a file, which is there whole or not at all."""
     wanted = places(found, chosen.globals)
-    left = 0
-    with output(chosen.to) as file, Progress("export") as progress:
+    left, far = 0, Far(found, wanted)
+    with output(chosen.to) as file, Progress("export", far.part) as progress:
         file.write(extracts.header(chosen.format))
         for name, start in wanted:
-            for subscripts, text in found.nodes(name, start):
+            for subscripts, text in far.followed(start, found.nodes(name, start)):
                 try:
                     file.write(extracts.written(chosen.format, name, subscripts, text))
                     progress.step()
@@ -136,6 +137,31 @@ def export(found: Way, chosen: argparse.Namespace) -> int:
                     options.tell(NAME, f"left out: {error.reason}")
     options.tell(NAME, f"{counted(progress.count, 'node')} exported" + (f", {left:,} left out" if left else "") + progress.shown_rate)
     return FOUND if left else 0
+
+
+class Far:
+    """How far an export through a terminal is, for a person: by the children of its globals, which are counted first."""
+
+    def __init__(self, found: Way, wanted: list[tuple[str, keys.Subscripts]]) -> None:
+        is_asked = isinstance(found, TerminalWay) and sys.stderr.isatty()
+        self._total = sum(found.children(*place) for place in wanted) if is_asked else 0
+        self._seen = 0
+
+    def part(self) -> float:
+        """The part of the nodes that is written, 0 to 1; 0 if that is not known."""
+        return min(self._seen / self._total, 1.0) if self._total else 0.0
+
+    def followed(self, start: keys.Subscripts, nodes: Iterator[tuple[keys.Subscripts, str]]) -> Iterator[tuple[keys.Subscripts, str]]:
+        """The nodes at and below a place; it is counted how many children of the place they pass."""
+        return self._counted(len(start), nodes) if self._total else nodes
+
+    def _counted(self, place: int, nodes: Iterator[tuple[keys.Subscripts, str]]) -> Iterator[tuple[keys.Subscripts, str]]:
+        before = ""
+        for subscripts, text in nodes:
+            if len(subscripts) > place and subscripts[place] != before:
+                before = subscripts[place]
+                self._seen += 1
+            yield subscripts, text
 
 
 @contextmanager
@@ -163,7 +189,9 @@ class Reading:
         self.problems = 0
 
     def part(self) -> float:
-        """The part of the file that is read, 0 to 1; 0 if that is not known."""
+        """The part of the file that is read, 0 to 1; 0 if that is not known. A file that was read to its end is closed: replies are still due."""
+        if self._file.closed:
+            return 1.0
         return self._file.tell() / self._size if self._file.seekable() else 0.0
 
     def entries(self, is_strict: bool) -> Iterator[Entry]:
@@ -212,9 +240,12 @@ def take(found: Way, chosen: argparse.Namespace) -> int:
             took = take_straight(found, source, progress, chosen.skip)
         else:
             took = take_through(found, source, progress, chosen.skip)
-    count = progress.count if took or isinstance(found, TerminalWay) else 0
+    is_straight = isinstance(found, StoreFile)
+    count = progress.count if took or not is_straight else 0
+    stands = "nothing was changed" if is_straight else "it stopped there, and the nodes before that line stand"
+    stopped = f"; {stands}: --skip leaves such lines out, --dry-run lists them"
     print(f"{counted(count, 'node')} imported" + (f", {counted(source.problems, 'line')} cannot come in" if source.problems else "")
-          + ("" if took else "; it stopped there: --skip leaves such lines out, --dry-run lists them") + progress.shown_rate)
+          + ("" if took else stopped) + progress.shown_rate)
     return FOUND if source.problems else 0
 
 
@@ -281,7 +312,8 @@ def merged(name: str, entries: Iterator[Entry], nodes: Iterator[tuple[keys.Subsc
         progress.step()
         at = keys.key("A", name, entry.subscripts)
         if at <= before:
-            raise NotWanted(f"line {entry.line}: {shown_node(name, entry.subscripts)} does not come after the node before it: compare wants the order of an export")
+            raise NotWanted(f"line {entry.line}: {shown_node(name, entry.subscripts)} does not come after the node before it: "
+                            "compare wants the order of an export")
         before = at
         while here is not None and keys.key("A", name, here[0]) < at:
             yield f"only in the store: {shown_node(name, here[0])}"

@@ -1,3 +1,4 @@
+# SPDX-License-Identifier: Apache-2.0
 """The keys of nodes in a store file: which texts are numbers, and a node's bytes there and back.
 
 A key is the account's bytes and the name's bytes, each byte plus 1 and then 00, and for each subscript

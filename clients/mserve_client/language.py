@@ -1,3 +1,4 @@
+# SPDX-License-Identifier: Apache-2.0
 """What M of other systems has and mserve has not, and what to write instead.
 
 The server alone decides whether a line is in the language. This looks at a command that was refused, with its strings
@@ -78,8 +79,9 @@ MISSING = [
     _missing(r"\$(?:RE|REVERSE)\(", "$REVERSE", 'Loop: F I=$L(X):-1:1 S Y=Y_$E(X,I).', "W $RE(X)"),
     _missing(r"\$(?:J|JUSTIFY)\((?:[^,()]|\([^()]*\))*,[^,()]*,", "$JUSTIFY with three arguments", "Round first: $J(X*100+.5\\1/100,8), for X from 0 on.",
              "W $J(X,8,2)"),
-    _missing(r"\$(?:ST|STACK|V|VIEW|I|INCREMENT|D\b(?!\()|DEVICE|IO|I(?!\()|JOB|J(?!\()|K|KEY|P(?!\()|PRINCIPAL|S(?!\()|STORAGE|SY|SYSTEM|X|Y|EC|ECODE|ES|ESTACK|ET|ETRAP|"
-             r"TL|TLEVEL|TR(?!\()|TRESTART|Q(?!\()|QUIT)(?![A-Z])", "a special variable or function that is not there",
+    _missing(r"\$(?:ST|STACK|V|VIEW|I|INCREMENT|D\b(?!\()|DEVICE|IO|I(?!\()|JOB|J(?!\()|K|KEY|P(?!\()|PRINCIPAL|"
+             r"S(?!\()|STORAGE|SY|SYSTEM|X|Y|EC|ECODE|ES|ESTACK|ET|ETRAP|TL|TLEVEL|TR(?!\()|TRESTART|"
+             r"Q(?!\()|QUIT)(?![A-Z])", "a special variable or function that is not there",
              "The session has $TEST alone; $INCREMENT(X) is S X=$G(X)+1.", "S X=$I(^N)"),
     _missing(r"\$Z[A-Z]*", "a $Z function or variable", "It is another system's own.", "W $ZV"),
     _missing(r"\$[A-Z]+", "a function that is not there, or arguments that it does not take", 'docs/LANGUAGE.md, "Functions", has all of them.',

@@ -1,3 +1,4 @@
+# SPDX-License-Identifier: Apache-2.0
 """Texts of M: how a text, a subscript and a node are written in a line, and how a long text is put together by lines."""
 from __future__ import annotations
 

@@ -1,3 +1,4 @@
+# SPDX-License-Identifier: Apache-2.0
 """The words that the commands share: where the server is, how long to wait, and how a command ends."""
 from __future__ import annotations
 

@@ -1,3 +1,4 @@
+# SPDX-License-Identifier: Apache-2.0
 """How far a long work is: a bar by rich, or a line that is written over, on the standard error of a person."""
 from __future__ import annotations
 

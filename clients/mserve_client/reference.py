@@ -1,3 +1,4 @@
+# SPDX-License-Identifier: Apache-2.0
 """The commands and functions of the language, in a line each, for help and completion; docs/LANGUAGE.md has them whole."""
 from __future__ import annotations
 

@@ -1,3 +1,4 @@
+# SPDX-License-Identifier: Apache-2.0
 """The command `mroutine`: routines between files and an account's global ^ROUTINE."""
 from __future__ import annotations
 

@@ -1,3 +1,4 @@
+# SPDX-License-Identifier: Apache-2.0
 """Routines as files: what a `.m` file has, line by line, and which routine it is."""
 from __future__ import annotations
 

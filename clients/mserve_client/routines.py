@@ -1,3 +1,4 @@
+# SPDX-License-Identifier: Apache-2.0
 """Routines in the account's global ^ROUTINE: read, replaced whole, and deleted."""
 from __future__ import annotations
 

@@ -1,3 +1,4 @@
+# SPDX-License-Identifier: Apache-2.0
 """What a person sees: colour by rich if it is installed, pages, and a prompt by prompt_toolkit, readline or neither."""
 from __future__ import annotations
 

@@ -1,3 +1,4 @@
+# SPDX-License-Identifier: Apache-2.0
 """The command `mshell`: a direct mode for a person, and plain lines in and replies out from a pipe."""
 from __future__ import annotations
 
@@ -43,6 +44,7 @@ class Shell:
     def __init__(self, connection: Connection, screen: Screen, person: bool) -> None:
         self._connection, self._screen, self._person = connection, screen, person
         self._names = {"ROUTINE"}
+        self._has_read_routines = False
         self._timing = False
         self._depth = 0
         self.failed = False
@@ -131,15 +133,23 @@ class Shell:
     def _globals(self, words: str) -> None:
         """The globals that are there, among the names that are known: no line of the language lists them."""
         self.learn(" ".join(f"^{word.lstrip('^')}" for word in words.split()))
+        self._read_routines()
+        for name in self._there():
+            self._screen.show(f"^{name}", "name")
+        self._note("of the names that routines and lines of this session have; give others: .globals ^NAME ..")
+
+    def _read_routines(self) -> None:
+        """Learns the names that the account's routines have."""
         for name in routine_names(self._connection):
             for _, text in routines.nodes_of(self._connection, name):
                 self.learn(text)
+        self._has_read_routines = True
+
+    def _there(self) -> list[str]:
+        """The globals that have a text or nodes, of the names that are known."""
         names = sorted(name for name in self._names if keys.is_name(name))
-        replies = self._connection.pipeline(f"W $D(^{name})" for name in names)
-        for name, reply in zip(names, list(replies)):
-            if reply.rest not in ("", "0"):
-                self._screen.show(f"^{name}", "name")
-        self._note("of the names that routines and lines of this session have; give others: .globals ^NAME ..")
+        replies = list(self._connection.pipeline(f"W $D(^{name})" for name in names))
+        return [name for name, reply in zip(names, replies) if reply.rest not in ("", "0")]
 
     def _note(self, text: str) -> None:
         if self._person:
@@ -245,7 +255,7 @@ class Shell:
             return len(token), [name for name in reference.FUNCTIONS if name.startswith(token.upper())]
         if token.startswith("^"):
             is_entry = re.search(r"(?:^| )(?:D|DO|G|GOTO)(?::\S+)? \S*$", before, re.IGNORECASE)
-            names = self._routine_names() if is_entry else sorted(self._names)
+            names = self._routine_names() if is_entry else self._global_names()
             return len(token), [f"^{name}" for name in names if name.startswith(token[1:])]
         if re.search(r"(?:^| )[A-Za-z]*$", before):
             return len(token), [name for name in reference.COMMANDS if name.startswith(token.upper())]
@@ -254,6 +264,15 @@ class Shell:
     def _routine_names(self) -> list[str]:
         try:
             return routine_names(self._connection)
+        except (TimedOut, Refused):
+            return []
+
+    def _global_names(self) -> list[str]:
+        """The globals that are there, for completion: routines are read at the first one alone, since there may be many."""
+        try:
+            if not self._has_read_routines:
+                self._read_routines()
+            return self._there()
         except (TimedOut, Refused):
             return []
 

@@ -1,3 +1,4 @@
+# SPDX-License-Identifier: Apache-2.0
 """A store in a file, while no server has it: docs/FORMATS.md has the form.
 
 A change is one transaction, and the file is left as the program leaves it: two tables, version 2, and no log beside it."""

@@ -1,3 +1,4 @@
+# SPDX-License-Identifier: Apache-2.0
 """Nodes of an account through one of its terminals, while the server runs."""
 from __future__ import annotations
 
@@ -9,7 +10,7 @@ from . import keys
 from .codes import in_words
 from .extracts import Entry, shown_node
 from .mtext import quoted, reference, set_lines
-from .walk import SUBSCRIPTS, Walker, long_reference
+from .walk import Walker, free_local, long_reference
 from .wire import LONGEST_LINE, ClientError, Connection, Reply
 
 # The room that a reference may take in a line that sets a part of a text.
@@ -41,19 +42,23 @@ class TerminalWay:
         """A node and those below it that have a text, in their order."""
         return Walker(self._connection, f"^{name}").nodes(subscripts)
 
+    def children(self, name: str, subscripts: keys.Subscripts = ()) -> int:
+        """How many children a node has."""
+        return Walker(self._connection, f"^{name}").count(subscripts)
+
     def put(self, entries: Iterable[Entry], step: Callable[[], None]) -> None:
         """Sets nodes, one after the other. It stops at the first that is answered by a code: ImportStopped."""
         tally = Tally()
         due: deque[tuple[Entry, bool]] = deque()
-        uses_local = False
+        local, uses_local = free_local(self._connection), False
 
         def lines() -> Iterator[str]:
             nonlocal uses_local
             for entry in entries:
                 if tally.refused is not None:
                     return
-                texts = entry_lines(entry)
-                uses_local = uses_local or len(texts) > 1 and texts[0] == f"K {SUBSCRIPTS}"
+                texts = entry_lines(entry, local)
+                uses_local = uses_local or len(texts) > 1 and texts[0] == f"K {local}"
                 for number, line in enumerate(texts, 1):
                     due.append((entry, number == len(texts)))
                     yield line
@@ -62,7 +67,7 @@ class TerminalWay:
             entry, is_last = due.popleft()
             self._count(tally, entry, is_last, reply, step)
         if uses_local:
-            self._connection.send(f"K {SUBSCRIPTS}")
+            self._connection.send(f"K {local}")
         if tally.refused is not None:
             raise ImportStopped(stopped_text(tally))
 
@@ -77,12 +82,13 @@ class TerminalWay:
             step()
 
 
-def entry_lines(entry: Entry) -> list[str]:
-    """The lines that set a node: one, if that has room for it."""
-    line = f"S {reference(f'^{entry.name}', entry.subscripts)}={quoted(entry.text)}"
+def entry_lines(entry: Entry, local: str) -> list[str]:
+    """The lines that set a node: one, if that has room for it. Subscripts that are too long stand in the local variable."""
+    target = reference(f"^{entry.name}", entry.subscripts)
+    line = f"S {target}={quoted(entry.text)}"
     if len(line) <= LONGEST_LINE:
         return [line]
-    before, target = long_reference(f"^{entry.name}", entry.subscripts, ROOM)
+    before, target = ([], target) if len(target) <= ROOM else long_reference(f"^{entry.name}", entry.subscripts, local)
     return [*before, *set_lines(target, entry.text)]
 
 

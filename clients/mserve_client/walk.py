@@ -1,24 +1,36 @@
+# SPDX-License-Identifier: Apache-2.0
 """Walks over what a terminal's session can see, by $ORDER: the nodes of a subtree, and the account's routines.
 
 One line asks for many children of a node, and the lines for the nodes below them are sent in one pipeline, so that a
-walk goes as fast as the server reads. Its lines use the local variables %i and %t, which NEW hides, and %m for subscripts
-that are too long for a line, which is killed afterwards; the session's naked indicator moves."""
+walk goes as fast as the server reads. Its lines use the local variables %i and %t, which NEW hides. Subscripts that are
+too long for a line stand in a local that the session does not have, which is killed afterwards. The session's naked
+indicator moves."""
 from __future__ import annotations
 
 from collections.abc import Iterator
+from contextlib import contextmanager
 from dataclasses import dataclass
+from itertools import count
 
 from . import keys
 from .codes import in_words
 from .mtext import quoted, reference, set_lines
-from .wire import LONGEST_LINE, ClientError, Connection, Reply
+from .wire import LONGEST_LINE, ClientError, Connection, Reply, ServerGone, TimedOut
 
-# Local variables of the lines: the first two are hidden by NEW, the third holds subscripts that are too long for a line.
-INDEX, TURN, SUBSCRIPTS = "%i", "%t", "%m"
+# Local variables of the lines, which NEW hides; others, if one of these is walked over.
+INDEX, TURN = "%i", "%t"
+OTHERS = "%j", "%u"
+# How a local begins that holds what is too long for a line.
+LOCAL = "%m"
 # How many children one line asks for, and how many nodes' children are asked for in one pipeline.
 BATCH = 50
 GROUP = 50
+# How many children one line counts, a dozen steps each.
+COUNTED = 150
 ROUTINE = "^ROUTINE"
+# What a line does with each child: writes its status, its subscript and its text; or a 1, and the subscript of the last one.
+READING = 'W $D({again})," ",{index},! W:$D({again})#10 {again},!'
+COUNTING = "W 1 W:{turn}={most} !,{index}"
 
 
 class Refused(ClientError):
@@ -57,15 +69,18 @@ def asked(connection: Connection, line: str) -> Reply:
     return reply
 
 
-def long_reference(name: str, subscripts: keys.Subscripts, room: int) -> tuple[list[str], str]:
-    """A node as it is written in `room` characters, and the lines that set the local variables which that takes, if any."""
-    text = reference(name, subscripts)
-    if len(text) <= room:
-        return [], text
-    before = [f"K {SUBSCRIPTS}"]
+def free_local(connection: Connection) -> str:
+    """The name of a local variable that the session does not have. Who uses it kills it afterwards: a line's own level is too short for NEW."""
+    names = (f"{LOCAL}{number or ''}" for number in count())
+    return next(name for name in names if asked(connection, f"W $D({name})").rest == "0")
+
+
+def long_reference(name: str, subscripts: keys.Subscripts, local: str) -> tuple[list[str], str]:
+    """A node by subscripts that stand in a local variable, and the lines that set these."""
+    before = [f"K {local}"]
     for number, part in enumerate(subscripts, 1):
-        before += set_lines(f"{SUBSCRIPTS}({number})", part)
-    return before, f"{name}({','.join(f'{SUBSCRIPTS}({number})' for number in range(1, len(subscripts) + 1))})"
+        before += set_lines(f"{local}({number})", part)
+    return before, f"{name}({','.join(f'{local}({number})' for number in range(1, len(subscripts) + 1))})"
 
 
 class Walker:
@@ -73,37 +88,75 @@ class Walker:
 
     def __init__(self, connection: Connection, name: str) -> None:
         self._connection, self._name = connection, name
+        self._index, self._turn = OTHERS if name in (INDEX, TURN) else (INDEX, TURN)
         self._count = BATCH
-        self._used_local = False
+        # the local that holds long subscripts, once one is needed
+        self._local = ""
 
     def nodes(self, start: keys.Subscripts = ()) -> Iterator[Node]:
         """The nodes at and below a place that have a text, in the order of the store: their subscripts, and the text."""
-        before, place = long_reference(self._name, start, 100)
-        self._used_local = bool(before)
-        for line in before:
-            asked(self._connection, line)
-        reply = asked(self._connection, f"W $D({place}),! W:$D({place})#10 {place},!")
-        status = int(reply.lines[0])
-        try:
+        with self._local_killed():
+            before, place = self._reference(start, 100)
+            for line in before:
+                asked(self._connection, line)
+            reply = asked(self._connection, f"W $D({place}),! W:$D({place})#10 {place},!")
+            status = int(reply.lines[0])
             if status % 10:
                 yield start, reply.lines[1]
             if status >= 10:
                 yield from self._below(start, self._asked([(start, "")])[0])
-        except ClientError:
-            self._used_local = False
-            raise
-        finally:
-            if self._used_local:
-                self._connection.send(f"K {SUBSCRIPTS}")
 
     def children(self, place: keys.Subscripts = ()) -> Iterator[Child]:
         """The children of a node, in their order."""
         last, is_end = "", False
-        while not is_end:
-            [batch] = self._asked([(place, last)])
-            yield from batch.found
-            is_end = batch.is_end
-            last = batch.found[-1].subscript if batch.found else last
+        with self._local_killed():
+            while not is_end:
+                [batch] = self._asked([(place, last)])
+                yield from batch.found
+                is_end = batch.is_end
+                last = batch.found[-1].subscript if batch.found else last
+
+    def count(self, place: keys.Subscripts = ()) -> int:
+        """How many children a node has: found much sooner than by reading them."""
+        found, last, most = 0, "", COUNTED
+        with self._local_killed():
+            while True:
+                *before, line = self._lines(place, last, COUNTING, most)
+                for each in before:
+                    asked(self._connection, each)
+                reply = self._connection.send(line)
+                if reply.code == "ZSTEPS" and most > 1:
+                    most //= 2
+                elif reply.code is not None:
+                    raise Refused(line, reply.code)
+                elif not reply.lines:
+                    return found + len(reply.rest)
+                else:
+                    found, last = found + most, reply.rest
+
+    @contextmanager
+    def _local_killed(self) -> Iterator[None]:
+        """Kills the local for long subscripts after the block, if it was used and the server is there."""
+        try:
+            yield
+        except (ServerGone, TimedOut):
+            self._local = ""
+            raise
+        finally:
+            local, self._local = self._local, ""
+            if local:
+                self._connection.send(f"K {local}")
+
+    def _reference(self, place: keys.Subscripts, room: int) -> tuple[list[str], str]:
+        """A node as it is written in `room` characters, and the lines that set the local variable which that takes, if any."""
+        text = reference(self._name, place)
+        return ([], text) if len(text) <= room else long_reference(self._name, place, self._free())
+
+    def _free(self) -> str:
+        """The local for long subscripts, which is chosen when it is first needed."""
+        if not self._local:
+            self._local = free_local(self._connection)
+        return self._local
 
     def _below(self, place: keys.Subscripts, batch: Children) -> Iterator[Node]:
         """The nodes below a place, whose first children are known."""
@@ -128,7 +181,7 @@ class Walker:
         lines: list[str] = []
         wanted = set()
         for place, after in places:
-            lines += self._lines(place, after)
+            lines += self._lines(place, after, READING, self._count)
             wanted.add(len(lines) - 1)
         count, found, short = self._count, [], False
         for number, reply in enumerate(self._connection.pipeline(lines)):
@@ -141,22 +194,21 @@ class Walker:
             self._count = max(1, count // 2)
         return found
 
-    def _lines(self, place: keys.Subscripts, after: str) -> list[str]:
-        """The lines that ask for children of a place; the last one writes them."""
-        is_global = self._name.startswith("^")
-        before, parent = long_reference(self._name, place, 100 if is_global else 25)
-        child = f"{parent[:-1]},{INDEX})" if place else f"{parent}({INDEX})"
+    def _lines(self, place: keys.Subscripts, after: str, what: str, most: int) -> list[str]:
+        """The lines that go over children of a place, `most` of them; the last one does with each what is given."""
+        is_global, index = self._name.startswith("^"), self._index
+        before, parent = self._reference(place, 100 if is_global else 25)
+        child = f"{parent[:-1]},{index})" if place else f"{parent}({index})"
         if before and not is_global:
-            before.append(f"S {SUBSCRIPTS}={quoted(parent)}")
-            child = f"@{SUBSCRIPTS}@({INDEX})"
-        again = f"^({INDEX})" if is_global else child
+            before.append(f"S {self._local}={quoted(parent)}")
+            child = f"@{self._local}@({index})"
+        again = f"^({index})" if is_global else child
         start = quoted(after)
         if len(start) > LONGEST_LINE - 200:
-            before += set_lines(f"{SUBSCRIPTS}(0)", after)
-            start = f"{SUBSCRIPTS}(0)"
-        self._used_local = self._used_local or bool(before)
-        return [*before, f"N {INDEX},{TURN} S {INDEX}={start} F {TURN}=1:1:{self._count} S {INDEX}=$O({child}) Q:{INDEX}=\"\"  "
-                         f"W $D({again}),\" \",{INDEX},! W:$D({again})#10 {again},!"]
+            before += set_lines(f"{self._free()}(0)", after)
+            start = f"{self._local}(0)"
+        return [*before, f"N {index},{self._turn} S {index}={start} F {self._turn}=1:1:{most} S {index}=$O({child}) Q:{index}=\"\"  "
+                         + what.format(again=again, index=index, turn=self._turn, most=most)]
 
 
 def children_of(reply: Reply, count: int, line: str) -> Children:

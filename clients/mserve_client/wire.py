@@ -1,3 +1,4 @@
+# SPDX-License-Identifier: Apache-2.0
 """The wire of `mserve serve`: a terminal's lines go out, and their replies come back.
 
     with Connection(9000, 1) as server:

@@ -1,3 +1,4 @@
+# SPDX-License-Identifier: Apache-2.0
 """How these tests run: each against the built program, over a store in memory and over one in a file.
 
 The program is the one that tools/running.py names."""

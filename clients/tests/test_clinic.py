@@ -1,3 +1,4 @@
+# SPDX-License-Identifier: Apache-2.0
 """The clinic of examples/, moved in by two commands; its session is answered as GT.M answers the same lines."""
 from __future__ import annotations
 

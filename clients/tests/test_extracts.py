@@ -1,3 +1,4 @@
+# SPDX-License-Identifier: Apache-2.0
 """Extracts: what lines of ZWR, GO and JSON are, and what cannot come in."""
 from __future__ import annotations
 

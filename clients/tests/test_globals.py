@@ -1,7 +1,11 @@
+# SPDX-License-Identifier: Apache-2.0
 """Globals in and out: through a terminal, and straight to a store file."""
 from __future__ import annotations
 
+import argparse
 import os
+import pty
+import re
 import signal
 import sqlite3
 import subprocess
@@ -12,6 +16,7 @@ import pytest
 import running
 from conftest import ALICE, BOB, CLIENTS, SETTINGS, SHORT, Command, Server, start
 from mserve_client import keys
+from mserve_client.global_command import reading
 from mserve_client.store_file import TABLES, has_changes
 from mserve_client.walk import Walker
 
@@ -36,6 +41,8 @@ def fold(store: Path | str) -> None:
 
 def test_in_and_out_through_a_terminal(server: Server, command: Command, tmp_path: Path) -> None:
     (tmp_path / "in.zwr").write_text(ZWR)
+    with server.connection() as connection:
+        connection.send("S %m=7")
     ran = command("mglobal", server.port, ALICE, "import", "in.zwr")
     assert ran.output.startswith("12 nodes imported") and (ran.told, ran.status) == ("", 0)
     ran = command("mglobal", server.port, ALICE, "export", "^X", "^Y")
@@ -43,7 +50,7 @@ def test_in_and_out_through_a_terminal(server: Server, command: Command, tmp_pat
     assert command("mglobal", server.port, ALICE, "compare", "in.zwr").output == "12 nodes compared: all equal\n"
     assert command("mglobal", server.port, ALICE, "count", "^X", "^Y", "^X(1)", "^Z").output == "^X: 11 nodes\n^Y: 1 node\n^X(1): 2 nodes\n^Z: 0 nodes\n"
     with server.connection() as connection:
-        assert connection.send('W ^X(1),$L(^X("01")),$A(^X(2)),$D(%m)').rest == 'q"uote300100'
+        assert connection.send('W ^X(1),$L(^X("01")),$A(^X(2)),%m,$D(%m1)').rest == 'q"uote3001070'
 
 
 def test_nodes_as_the_language_has_them(server: Server) -> None:
@@ -57,9 +64,32 @@ def test_nodes_as_the_language_has_them(server: Server) -> None:
 
 def test_walk_of_a_deep_local(server: Server) -> None:
     with server.connection() as connection:
-        connection.send('S A("a long subscript",2,"another one")=1')
+        connection.send('S A("a long subscript",2,"another one")=1,%m=7')
         assert list(Walker(connection, "A").nodes()) == [(("a long subscript", "2", "another one"), "1")]
-        assert connection.send("W $D(%m)").rest == "0"
+        assert connection.send("W %m,$D(%m1)").rest == "70"
+
+
+@pytest.mark.parametrize("name", ["%i", "%t", "%m"])
+def test_walk_of_a_local_whose_name_walks_use(server: Server, name: str) -> None:
+    long = "a subscript that is too long for a line of the walk's own"
+    with server.connection() as connection:
+        connection.send(f'S {name}=1,{name}(2)=3,{name}("{long}",4)=5')
+        assert list(Walker(connection, name).nodes()) == [((), "1"), (("2",), "3"), ((long, "4"), "5")]
+        assert connection.send(f'W {name},{name}(2),{name}("{long}",4)').rest == "135"
+
+
+@pytest.mark.parametrize("terminal", [ALICE, SHORT], ids=["2000 steps", "40 steps"])
+@pytest.mark.parametrize("children", [0, 1, 9, 149, 150, 151, 310])
+def test_count_of_children(server: Server, terminal: int, children: int) -> None:
+    long = "a subscript that is too long for a line of the walk's own" * 4
+    with server.connection(terminal) as connection:
+        connection.send("S %m=7")
+        for place in ("^X", f'^X("{long}")'):
+            replies = connection.pipeline(f"S {place[:-1] + ',' if '(' in place else place + '('}{number},1)=1" for number in range(children))
+            assert all(reply.ok for reply in replies)
+        assert Walker(connection, "^X").count((long,)) == children
+        assert Walker(connection, "^X").count() == children + (children > 0)
+        assert connection.send("W %m,$D(%m1)").rest == "70"
 
 
 @pytest.mark.parametrize("terminal", [ALICE, SHORT], ids=["2000 steps", "40 steps"])
@@ -156,7 +186,7 @@ def test_straight_import_is_everything_or_nothing(command: Command, tmp_path: Pa
     (tmp_path / "bad.zwr").write_text(HEAD + '^X(1)="new"\n^X("")="b"\n^X(1E30)="c"\n^X(2)="d"\n')
     assert command("mglobal", "store.db", "LAB", "import", "good.zwr").status == 0
     ran = command("mglobal", "store.db", "LAB", "import", "bad.zwr")
-    assert ran.status == 1 and ran.output.startswith("0 nodes imported, 2 lines cannot come in; it stopped there")
+    assert ran.status == 1 and ran.output.startswith("0 nodes imported, 2 lines cannot come in; nothing was changed")
     assert ran.told.startswith('mglobal: line 4: ^X(""): its subscript 1 is empty\nmglobal: line 5: ^X: the number 1E30 is no number here')
     assert without_head(command("mglobal", "store.db", "LAB", "export").output) == '^X(1)="old"\n'
     ran = command("mglobal", "store.db", "LAB", "import", "bad.zwr", "--skip")
@@ -287,6 +317,43 @@ def test_key_of_the_store_is_the_key_of_the_module(command: Command, tmp_path: P
     found = [keys.node(row[0])[2] for row in base.execute("SELECT k FROM node ORDER BY k")]
     base.close()
     assert len(found) == 12 and found[10] == DEEP
+
+
+def test_progress_is_shown_to_a_person(server: Server, tmp_path: Path) -> None:
+    """A bar with the rate and the time that is left, if the standard error is a terminal of the system."""
+    count = 10_000 if server.store == "memory" else 4_000
+    (tmp_path / "in.zwr").write_text(HEAD + "".join(f'^X({number})="a text"\n' for number in range(count)))
+    for words in (["import", tmp_path / "in.zwr"], ["export", "^X"]):
+        shown = shown_to_a_person([sys.executable, CLIENTS / "mglobal", str(server.port), str(ALICE), *words])
+        told = rf"\[#*\.*\] {words[0]}: [\d,]+ nodes, [\d,]+ a second, \d+ s left"
+        assert re.search(told.encode(), shown), shown[-1000:]
+
+
+def shown_to_a_person(words: list[str | Path]) -> bytes:
+    """What a command writes to its standard error if that is a terminal of the system."""
+    near, far = pty.openpty()
+    process = subprocess.Popen(words, stdin=subprocess.DEVNULL, stdout=subprocess.DEVNULL, stderr=far)
+    os.close(far)
+    shown = b"".join(iter(lambda: shown_part(near), b""))
+    os.close(near)
+    assert process.wait(60) == 0, shown[-1000:]
+    return shown
+
+
+def test_part_of_a_file_that_is_read(tmp_path: Path) -> None:
+    """The whole, once the last line is read: the replies that are due then are counted too."""
+    (tmp_path / "in.zwr").write_text(HEAD + '^X(1)="a"\n')
+    with reading(argparse.Namespace(file=tmp_path / "in.zwr", format=None)) as source:
+        assert source.part() == 0
+        assert len(list(source.entries(is_strict=True))) == 1 and source.part() == 1
+
+
+def shown_part(near: int) -> bytes:
+    """What comes next to a terminal of the system; nothing, once its other end is closed."""
+    try:
+        return os.read(near, 65536)
+    except OSError:
+        return b""
 
 
 def test_account_of_a_terminal(server: Server, command: Command, tmp_path: Path) -> None:

@@ -1,3 +1,4 @@
+# SPDX-License-Identifier: Apache-2.0
 """There and back with GT.M: a database with every kind of subscript goes to mserve and comes back equal.
 
 GT.M is Debian's `fis-gtm`. Where it is not installed these tests are skipped; with the variable CI set that is a failure."""

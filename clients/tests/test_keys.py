@@ -1,3 +1,4 @@
+# SPDX-License-Identifier: Apache-2.0
 """Keys of nodes, beside those of tools/key_vectors.py, which were written apart from this."""
 from __future__ import annotations
 

@@ -1,3 +1,4 @@
+# SPDX-License-Identifier: Apache-2.0
 """Routines between files and an account: load, save, list, check, diff, delete."""
 from __future__ import annotations
 
@@ -207,10 +208,10 @@ def advice(name: str) -> str:
 def test_check_runs_nothing_and_leaves_the_session(server: Server) -> None:
     long = "S ^X=1 " * 50 + "K  "
     with server.connection() as connection:
-        connection.send("S A=1,%m=2 I 1")
+        connection.send("S A=1,%m=2,%m1(1)=3 I 1")
         found = check(connection, [source_line(text) for text in (" S ^X=1 K", f" {long}", " H", f" {long} W $$X")])
         assert [(finding.line, finding.column) for finding in found] == [(4, 358)]
-        assert connection.send("W A,$T,$D(^X)").rest == "110"
+        assert connection.send("W A,$T,$D(^X),%m,%m1(1),$D(%m2)").rest == "110230"
 
 
 @pytest.mark.parametrize("text", ["", ";", " ;x", " Q", " Q:A  W 1", "L S (A,B)=$P(X,\",\",2) ;x", " F I=1:1:3 W I,! Q:I=2", " . . D A^B:X>1,^C", " L +(A,^B(1)):0",

@@ -1,3 +1,4 @@
+# SPDX-License-Identifier: Apache-2.0
 """The shell: plain from a pipe, its commands, and a prompt on a terminal of the system."""
 from __future__ import annotations
 
@@ -144,15 +145,16 @@ def test_the_session_keeps_what_the_commands_do_not_touch(server: Server, comman
 
 @pytest.mark.parametrize(("before", "length", "words"), [
     ("", 0, {"SET", "WRITE"}), ("WR", 2, {"WRITE"}), ("S X=1 w", 1, {"WRITE"}), ("W $O", 2, {"$ORDER"}), ("W $", 1, {"$TEST", "$GET"}), (".he", 3, {".help"}),
-    ("D ^", 1, {"^SQ", "^%UP"}), ("S X=1 DO ^S", 2, {"^SQ"}), ("W ^", 1, {"^ROUTINE", "^DATA"}), ("W ^DA", 3, {"^DATA"}), (".save S", 1, {"SQ"}),
+    ("D ^", 1, {"^SQ", "^%UP"}), ("S X=1 DO ^S", 2, {"^SQ"}), ("W ^", 1, {"^ROUTINE", "^DATA", "^INR"}), ("W ^DA", 3, {"^DATA"}), ("W ^NOT", 4, set()), (".save S", 1, {"SQ"}),
     (".show ^D", 2, {"^DATA"}), ("W 1+1", 0, set()),
 ])
 def test_completion(server: Server, before: str, length: int, words: set[str]) -> None:
     with server.connection() as connection:
-        connection.send('S ^ROUTINE("SQ",1)="SQ W N*N",^ROUTINE("%UP",1)=" Q"')
+        connection.send('S ^ROUTINE("SQ",1)="SQ W N*N,^INR(1),^NOTYET",^ROUTINE("%UP",1)=" Q",^INR(1)=1')
         shell = Shell(connection, Screen(False), False)
-        shell.obey("S ^DATA=1")
+        shell.obey("S ^DATA=1 I $D(^NOTYET)")
         found = shell.complete(before)
+        assert "^NOTYET" not in found[1]
         assert found[0] == length and words <= set(found[1]) and (words or not found[1])
 
 

@@ -1,3 +1,4 @@
+# SPDX-License-Identifier: Apache-2.0
 """The wire module: replies as records, pipelines, time-outs, and connections that break."""
 from __future__ import annotations
 

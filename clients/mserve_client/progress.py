@@ -8,7 +8,9 @@ from collections.abc import Callable
 from contextlib import AbstractContextManager
 from types import TracebackType
 
+# Nodes and seconds from one showing to the next. The first thousand is shown at once, however fast it went.
 STEP = 1000
+PAUSE = 0.2
 # Seconds from which a rate is worth telling.
 LONG = 5
 
@@ -19,14 +21,17 @@ class Progress(AbstractContextManager["Progress"]):
     def __init__(self, what: str, part: Callable[[], float] | None = None) -> None:
         """`part` says which part of the work is done, 0 to 1, if that is known."""
         self.count, self._what, self._part = 0, what, part
-        self._began = self._told = time.monotonic()
+        self._began, self._next, self._told = time.monotonic(), STEP, -PAUSE
         self._is_shown = sys.stderr.isatty()
 
     def step(self, count: int = 1) -> None:
         """So many nodes more are done."""
         self.count += count
-        if self._is_shown and self.count % STEP == 0 and time.monotonic() - self._told > 0.2:
-            self._told = time.monotonic()
+        if not self._is_shown or self.count < self._next:
+            return
+        self._next = self.count + STEP
+        if (taken := time.monotonic() - self._began) - self._told >= PAUSE:
+            self._told = taken
             print(f"\r{self.text()}\033[K", end="", file=sys.stderr, flush=True)
 
     @property

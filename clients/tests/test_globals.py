@@ -321,8 +321,7 @@ def test_key_of_the_store_is_the_key_of_the_module(command: Command, tmp_path: P
 
 def test_progress_is_shown_to_a_person(server: Server, tmp_path: Path) -> None:
     """A bar with the rate and the time that is left, if the standard error is a terminal of the system."""
-    count = 10_000 if server.store == "memory" else 4_000
-    (tmp_path / "in.zwr").write_text(HEAD + "".join(f'^X({number})="a text"\n' for number in range(count)))
+    (tmp_path / "in.zwr").write_text(HEAD + "".join(f'^X({number})="a text"\n' for number in range(2_000)))
     for words in (["import", tmp_path / "in.zwr"], ["export", "^X"]):
         shown = shown_to_a_person([sys.executable, CLIENTS / "mglobal", str(server.port), str(ALICE), *words])
         told = rf"\[#*\.*\] {words[0]}: [\d,]+ nodes, [\d,]+ a second, \d+ s left"

@@ -28,7 +28,7 @@ MAINTAINER = "Relumavosh maintainers <maintainers@users.noreply.relumavosh.examp
 SHARE = "usr/share/mserve"
 DOC = "usr/share/doc/mserve"
 # The commands that are scripts, and the folder of each.
-COMMANDS = {"mshell": "clients", "mroutine": "clients", "mglobal": "clients", "mfront": "front"}
+COMMANDS = {"mshell": "clients", "mroutine": "clients", "mglobal": "clients", "mfront": "front", "mjournal": "front", "mbackup": "front"}
 # Documents for whoever uses and runs it; the others are for those who change it.
 DOCUMENTS = ("FORMATS", "GLOSSARY", "GUIDE", "ISOLATION", "LANGUAGE", "OPERATING", "PERFORMANCE")
 CONTROL = """Package: mserve
@@ -36,8 +36,9 @@ Version: {version}
 Architecture: amd64
 Maintainer: {maintainer}
 Installed-Size: {size}
-Depends: libc6 (>= 2.34), python3 (>= 3.11), python3-aiohttp (>= 3.8), python3-argon2 (>= 21), systemd (>= 247)
+Depends: libc6 (>= 2.34), python3 (>= 3.11), python3-aiohttp (>= 3.8), python3-argon2 (>= 21), python3-crc32c, systemd (>= 247)
 Recommends: curl, openssl, python3-prompt-toolkit, python3-rich
+Suggests: python3-psycopg, postgresql
 Section: database
 Priority: optional
 Description: shared M (MUMPS) server with isolated accounts
@@ -45,7 +46,8 @@ Description: shared M (MUMPS) server with isolated accounts
  learns anything of another one is proved, for every interleaving of lines.
  .
  With it come a front that signs users on and has a page for browsers, a shell,
- and commands for routines as files and for globals in and out.
+ and commands for routines as files, for globals in and out, for the front's
+ journal, and for snapshots.
 """
 
 

@@ -26,12 +26,15 @@ from running import TOP
 # Another python3 may come first on the path; this one sees the packages.
 PYTHON = "/usr/bin/python3"
 MODULES = {"pytest": "python3-pytest", "hypothesis": "python3-hypothesis", "prompt_toolkit": "python3-prompt-toolkit", "rich": "python3-rich",
-           "aiohttp": "python3-aiohttp", "argon2": "python3-argon2"}
+           "aiohttp": "python3-aiohttp", "argon2": "python3-argon2", "crc32c": "python3-crc32c"}
 INSTALL = ("apt-get install python3-pytest python3-hypothesis python3-prompt-toolkit python3-rich fis-gtm groff-base gcc python3-aiohttp python3-argon2 "
+           "python3-crc32c python3-psycopg postgresql "
            "python3-selenium chromium chromium-driver python3-seccomp lintian systemd openssl curl iproute2")
 SLOWEST = 10
 # Parts of the repository that have tests of their own, in a folder `tests`, with a `pytest.ini` beside it.
 OTHERS = ("clients", "front", "packaging")
+# Those of them that draw their cases.
+COUNTED = ("front",)
 # pytest ends with this status if no case is left by its words.
 NO_CASE = 5
 
@@ -83,7 +86,7 @@ def parts(folder: str, times: int) -> list[Part]:
     drawn = ["tests", f"--count={times}"]
     rest = "not waits and not alone"
     computing = [Part(f"part {number}", folder, [*drawn, "-m", rest, f"--part={number}/{count}"]) for number in range(1, count + 1)]
-    others = [Part(name, folder, [f"{name}/tests"], f"{name}/pytest.ini") for name in OTHERS]
+    others = [Part(name, folder, [f"{name}/tests", *([f"--count={times}"] if name in COUNTED else [])], f"{name}/pytest.ini") for name in OTHERS]
     return [Part("waiting", folder, [*drawn, "-m", "waits"]), *others, *computing]
 
 

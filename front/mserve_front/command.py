@@ -9,14 +9,17 @@ import sys
 from collections.abc import Callable
 from pathlib import Path
 
+from .control import Refused, asked
 from .server import NoStart, tell
-from .settings import BadSettings, Settings, read_settings, read_terminals, read_toml
+from .settings import BadSettings, Settings, Table, journal_settings, read_settings, read_terminals, read_toml
 from .users import LEAST, NAME, BadUsers, User, changed, load, new_token, password_hash
 
 DEFAULT = "/etc/mserve/front.toml"
 USAGE, FAILED, INTERRUPTED = 2, 3, 130
-STATUSES = "Status: 0 all went well; 2 the words, the settings or the users' file are wrong; 3 the server does not start, or a port is taken; " \
-           "130 an interrupt."
+# Seconds for an answer of a front that runs.
+CONTROL = 60.0
+STATUSES = "Status: 0 all went well; 2 the words, the settings or the users' file are wrong; 3 the server does not start, or a port is taken, or " \
+           "the standby stops or is not promoted; 130 an interrupt."
 
 
 def words() -> argparse.ArgumentParser:
@@ -26,6 +29,8 @@ def words() -> argparse.ArgumentParser:
     parser = argparse.ArgumentParser(prog="mfront", epilog=STATUSES, parents=[shared],
                                      description="Signs people on, and carries their lines to mserve. Without a command it serves.")
     parser.add_argument("--volatile", action="store_true", help="the store is meant to be in memory, and every user is told")
+    parser.add_argument("--follow", action="store_true",
+                        help="stand by: run the journal's lines over the store as they come, and serve nobody until mfront promote")
     commands = parser.add_subparsers(title="commands", metavar="COMMAND")
     check = commands.add_parser("check", parents=[shared], epilog=STATUSES, description="Reads the settings and the users' file, and ends.",
                                 help="read the settings and the users' file, and end")
@@ -33,6 +38,7 @@ def words() -> argparse.ArgumentParser:
     check.set_defaults(act=checked)
     _user_words(commands, shared)
     _token_words(commands, shared)
+    _journal_words(commands, shared)
     return parser
 
 
@@ -74,6 +80,15 @@ def _token_words(commands: argparse._SubParsersAction, shared: argparse.Argument
     one.set_defaults(act=list_tokens)
 
 
+def _journal_words(commands: argparse._SubParsersAction, shared: argparse.ArgumentParser) -> None:
+    one = commands.add_parser("status", parents=[shared], epilog=STATUSES, help="say where a front with a journal, or a standby, is",
+                              description="Says of a front that keeps a journal, or of a standby, at which line it is, and how far behind the leader.")
+    one.set_defaults(act=told_status)
+    one = commands.add_parser("promote", parents=[shared], epilog=STATUSES, help="have a standby serve",
+                              description="Has a standby take the journal, run all that was answered, and serve. Refused while another front has the journal.")
+    one.set_defaults(act=promote)
+
+
 def users_file(options: argparse.Namespace) -> tuple[Path, Path]:
     """The users' file and the server's settings, by the settings of the front."""
     tables = read_toml(options.config)
@@ -95,12 +110,42 @@ def settings_of(options: argparse.Namespace) -> Settings:
 def serve(options: argparse.Namespace) -> None:
     """Serves until it is stopped."""
     settings = settings_of(options)
+    if options.follow and not settings.journal.kept:
+        raise BadSettings(f"{options.config}: journal.folder: is missing: a standby follows a journal")
     # Not above: aiohttp takes long to load, and most commands do without.
     from .service import Service
 
     async def run() -> None:
-        await Service(settings).run()
+        promoted = None
+        if options.follow:
+            from .standby import Standby
+            # What could keep it from serving is found now.
+            Service(settings)
+            promoted = await Standby(settings).run()
+            if promoted is None:
+                return
+        await Service(settings, promoted).run()
     asyncio.run(run())
+
+
+def told_status(options: argparse.Namespace) -> None:
+    """Prints where a front is."""
+    found = asked(control_of(options), {"ask": "status"}, CONTROL)
+    print(", ".join(f"{key} {value}" for key, value in found.items() if value != ""))
+
+
+def promote(options: argparse.Namespace) -> None:
+    """Has a standby serve."""
+    found = asked(control_of(options), {"ask": "promote"}, None)
+    unsent = found["not run"]
+    print(f"promoted after line {found['line']}, in {found['seconds']} s" + (f"; not run: {', '.join(map(str, unsent))}" if unsent else ""))
+
+
+def control_of(options: argparse.Namespace) -> Path:
+    """The socket of the front that the settings are of."""
+    path, _ = users_file(options)
+    table = Table(options.config, "journal", read_toml(options.config).get("journal", {}))
+    return journal_settings(table, path.parent).control
 
 
 def checked(options: argparse.Namespace) -> None:
@@ -200,7 +245,7 @@ def known(users: dict[str, User], path: Path, name: str) -> User:
 
 def main() -> int:
     """The status of the command."""
-    options = words().parse_args(namespace=argparse.Namespace(config=Path(DEFAULT), act=serve))
+    options = words().parse_args(namespace=argparse.Namespace(config=Path(DEFAULT), act=serve, follow=False))
     try:
         options.act(options)
         return 0
@@ -208,7 +253,10 @@ def main() -> int:
         tell(str(error))
         return USAGE
     except NoStart as error:
-        tell(f"the server does not start: {error}")
+        tell(f"the server does not start: {error}" if not options.follow else str(error))
+        return FAILED
+    except Refused as error:
+        tell(str(error))
         return FAILED
     except OSError as error:
         tell(str(error.strerror or error))

@@ -18,6 +18,10 @@ class Metrics:
         self.replies: Counter[str] = Counter()
         self.sign_ons: Counter[str] = Counter()
         self.audit_faults = 0
+        self.journal_faults = 0
+        self._records = 0
+        self._flushes = 0
+        self._flushing = 0.0
         self._below = [0] * (len(BUCKETS) + 1)
         self._waited = 0.0
         self._taken = 0.0
@@ -34,6 +38,12 @@ class Metrics:
         if waited > self._longest[0]:
             self._longest[0] = waited
 
+    def flushed(self, records: int, taken: float) -> None:
+        """Notes a flush of the journal: how many records it had, and how long it took."""
+        self._records += records
+        self._flushes += 1
+        self._flushing += taken
+
     def longest(self) -> float:
         """The longest wait of the last minute or two, in seconds."""
         self._turn()
@@ -46,8 +56,9 @@ class Metrics:
             self._longest = [0.0, self._longest[0] if fresh else 0.0]
             self._span = now
 
-    def text(self, signed_on: dict[str, int], waiting: int, oldest: float, up: bool) -> str:
-        """All figures: how many are signed on by each way, how many lines wait, and the oldest of them."""
+    def text(self, signed_on: dict[str, int], waiting: int, oldest: float, up: bool, journal: tuple[int, bool] | None = None) -> str:
+        """All figures: how many are signed on by each way, how many lines wait, the oldest of them; and of the journal its last line, and whether it can
+        be written."""
         lines = _family("mfront_up", "gauge", "1 if the server is up.", {"": int(up)})
         lines += _family("mfront_signed_on", "gauge", "Sessions that are signed on, by their way.", {f'way="{way}"': n for way, n in signed_on.items()})
         lines += _family("mfront_sign_ons_total", "counter", "Attempts to sign on, by their end.", {f'end="{end}"': n for end, n in self.sign_ons.items()})
@@ -58,7 +69,17 @@ class Metrics:
         lines += _family("mfront_child_restarts_total", "counter", "How often the server was started or connected to again.", {"": self.restarts})
         lines += _family("mfront_child_seconds_total", "counter", "Seconds that the server took for lines.", {"": self._taken})
         lines += _family("mfront_audit_faults_total", "counter", "Records that could not be written to the audit log.", {"": self.audit_faults})
+        if journal is not None:
+            lines += self._journal(*journal)
         return "\n".join([*lines, *self._histogram()]) + "\n"
+
+    def _journal(self, last: int, up: bool) -> list[str]:
+        lines = _family("mfront_journal_up", "gauge", "1 if the journal can be written.", {"": int(up)})
+        lines += _family("mfront_journal_line", "gauge", "The number of the last line in the journal.", {"": last})
+        lines += _family("mfront_journal_records_total", "counter", "Records that were written to the journal.", {"": self._records})
+        lines += _family("mfront_journal_flushes_total", "counter", "Flushes of the journal, each of one or more records.", {"": self._flushes})
+        lines += _family("mfront_journal_flush_seconds_total", "counter", "Seconds that flushes of the journal took.", {"": self._flushing})
+        return lines + _family("mfront_journal_faults_total", "counter", "Flushes of the journal that failed.", {"": self.journal_faults})
 
     def _histogram(self) -> list[str]:
         name = "mfront_wait_seconds"
@@ -73,4 +94,9 @@ class Metrics:
 def _family(name: str, kind: str, about: str, values: dict[str, float]) -> list[str]:
     """The lines of a figure, one for each of its labels."""
     lines = [f"# HELP {name} {about}", f"# TYPE {name} {kind}"]
-    return lines + [f"{name}{{{labels}}} {value:g}" if labels else f"{name} {value:g}" for labels, value in values.items()]
+    return lines + [f"{name}{{{labels}}} {_figure(value)}" if labels else f"{name} {_figure(value)}" for labels, value in values.items()]
+
+
+def _figure(value: float) -> str:
+    """A figure; a whole number has all its digits."""
+    return str(value) if isinstance(value, int) else f"{value:g}"

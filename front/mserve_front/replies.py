@@ -2,6 +2,7 @@
 """Puts the replies of many terminals together from the bytes of one connection."""
 from __future__ import annotations
 
+import hashlib
 import re
 from collections.abc import Callable
 from dataclasses import dataclass
@@ -16,12 +17,19 @@ _KEPT = 32
 _LINE_COST = 64
 
 
+def new_digest() -> hashlib.blake2b:
+    """What computes the digest of a reply: of all bytes that the server sends for it."""
+    return hashlib.blake2b(digest_size=16)
+
+
 @dataclass(frozen=True, slots=True)
 class Answer:
-    """A reply, and how many of its bytes were left out since it was too long: those of the line of output that was too long, and all after it."""
+    """A reply, and how many of its bytes were left out since it was too long: those of the line of output that was too long, and all after it. The
+    digest is that of all its bytes, where it was wanted."""
 
     reply: Reply
     cut: int = 0
+    digest: bytes = b""
 
 
 class ReplyReader:
@@ -31,6 +39,7 @@ class ReplyReader:
         """`turn` gives the terminal that the next reply is due to, or None if none is."""
         self._turn = turn
         self._room = room
+        self._digests = False
         self._parts: list[bytes] = []
         self._size = 0
         self._begin()
@@ -40,12 +49,20 @@ class ReplyReader:
         self._cut = 0
         self._lines: list[str] = []
         self._rest = ""
+        self._digest = new_digest() if self._digests else None
+
+    def keep_digests(self) -> None:
+        """Gives each answer from now on its digest. No reply has begun."""
+        self._digests = True
+        self._begin()
 
     def feed(self, data: bytes, ended: Callable[[Answer], None]) -> None:
         """Takes bytes, and hands on each answer that they end. Raises `BadReply` if they are no reply of the terminal whose turn it is."""
         *lines, rest = data.split(b"\n")
         for line in lines:
             self._grow(line)
+            if self._digest is not None:
+                self._digest.update(b"\n")
             whole = b"".join(self._parts) if len(self._parts) != 1 else self._parts[0]
             self._parts.clear()
             self._size = 0
@@ -57,6 +74,8 @@ class ReplyReader:
 
     def _grow(self, piece: bytes) -> None:
         """Adds to the line that is being read what there is room for."""
+        if self._digest is not None:
+            self._digest.update(piece)
         room = max(self._left, _KEPT - self._size)
         if len(piece) > room:
             self._cut += len(piece) - room
@@ -73,7 +92,8 @@ class ReplyReader:
             raise BadReply(f"this is no reply to terminal {terminal}: {line[:80]!r}")
         mark, text = found[2], found[3]
         if mark in b".!":
-            answer = Answer(Reply(tuple(self._lines), self._rest, text.decode("latin1") if mark == b"!" else None), self._cut)
+            digest = b"" if self._digest is None else self._digest.digest()
+            answer = Answer(Reply(tuple(self._lines), self._rest, text.decode("latin1") if mark == b"!" else None), self._cut, digest)
             self._begin()
             return answer
         if not self._left:

@@ -4,16 +4,24 @@ from __future__ import annotations
 
 import asyncio
 import contextlib
+import os
 import shutil
 import socket
 import sys
-from collections.abc import Awaitable, Callable, Sequence
+from collections.abc import AsyncIterator, Awaitable, Callable, Sequence
+from dataclasses import dataclass
+from pathlib import Path
+from typing import TYPE_CHECKING
 
+from .faults import NoJournal
 from .lines import HALT, Line
 from .metrics import Metrics
 from .replies import Answer
 from .settings import Settings
 from .turns import Lost, Turns, Unsent
+
+if TYPE_CHECKING:
+    from .journal import Journal
 
 HOST = "127.0.0.1"
 CONNECTIONS = 1_000_000
@@ -32,15 +40,29 @@ def tell(text: str) -> None:
     print(f"mfront: {text}", file=sys.stderr, flush=True)
 
 
+@dataclass(frozen=True, slots=True)
+class Child:
+    """A server that runs as a child of this process, and its port; `fresh` says that its store was made with it."""
+
+    process: asyncio.subprocess.Process
+    port: int
+    fresh: bool = False
+
+
 class Server:
     """The server and the one connection to it. `session` counts how often all terminals' sessions were begun anew; `state` is `starting`, `up`
     or `down`."""
 
-    def __init__(self, settings: Settings, metrics: Metrics, restarted: Callable[[], Awaitable[None]]) -> None:
+    def __init__(self, settings: Settings, metrics: Metrics, restarted: Callable[[], Awaitable[None]], journal: Journal | None = None) -> None:
         """`restarted` is called each time that the server is up again after it was down."""
         self._settings = settings
         self._metrics = metrics
         self._restarted = restarted
+        self._journal = journal
+        self._base: int | None = None
+        self._one = asyncio.Lock()
+        self._fresh = False
+        self._text = b""
         self._terminals = [terminal for terminals in settings.terminals.values() for terminal in terminals]
         self._process: asyncio.subprocess.Process | None = None
         self._port = settings.join or 0
@@ -62,21 +84,59 @@ class Server:
         """How long the oldest line without a reply has waited."""
         return self._turns.oldest() if self._turns else 0.0
 
-    async def ask(self, terminal: int, line: Line) -> Answer:
-        """The answer of a line. Raises `Unsent` if the server is not up, and `Lost` if it ends after the line was sent."""
+    async def ask(self, terminal: int, line: Line, user: str = "") -> Answer:
+        """The answer of a line. Raises `Unsent` if the server is not up, `Lost` if it ends after the line was sent, and `NoJournal` or `HeldBack` if
+        the journal cannot be written."""
         if self.state != "up" or self._turns is None:
             raise Unsent
-        return await self._turns.ask(terminal, line)
+        return await self._turns.ask(terminal, line, user)
+
+    @contextlib.asynccontextmanager
+    async def quiet(self) -> AsyncIterator[None]:
+        """Between two lines: while the block runs no line is on its way, and all that was answered is in the journal. Raises `Unsent` if the server is
+        not up, or ends meanwhile, and `NoJournal`."""
+        async with self._one:
+            turns = self._turns
+            if self.state != "up" or turns is None:
+                raise Unsent
+            try:
+                await turns.pause()
+                if turns.ended.done():
+                    raise Unsent
+                if self._journal is not None:
+                    await self._journal.settled()
+                yield
+            finally:
+                turns.go()
+            if turns.ended.done():
+                raise Unsent
+
+    async def renew(self) -> None:
+        """Between two lines (`quiet`): ends all terminals' sessions, notes that in the journal, and tells all users, as after a restart. Raises `Lost`,
+        `Unsent` or `NoJournal`."""
+        assert self._turns is not None and self._journal is not None
+        self.session += 1
+        await self._turns.halt(self._terminals)
+        await self._journal.begin(self._journal.next - 1, False, self._text)
+        await self._restarted()
 
     def forget(self, terminal: int) -> None:
         """Takes back the lines of a terminal that are not sent."""
         if self._turns is not None:
             self._turns.forget(terminal)
 
-    async def begin(self) -> None:
-        """Starts the server for the first time. Raises `NoStart` if it ends at once, as for settings or a store that it refuses."""
-        if self._settings.join is None:
+    def stands_at(self, line: int) -> None:
+        """Notes up to which line of the journal the store has run all."""
+        self._base = line
+
+    async def begin(self, child: Child | None = None) -> None:
+        """Starts the server for the first time, or takes the child that runs. Raises `NoStart` if it ends at once, as for settings or a store that it
+        refuses."""
+        if child is not None:
+            self._process, self._port = child.process, child.port
+        elif self._settings.join is None:
             await self._launch()
+        self._text = self._text or self._settings_text()
         await self._connect()
 
     async def run(self) -> None:
@@ -121,15 +181,10 @@ class Server:
         await self._restarted()
 
     async def _launch(self) -> None:
-        """Starts the child at a port that is free. It ends with this process."""
-        self._port = free_port()
-        words = [str(self._settings.program), "serve", "--settings", str(self._settings.server_settings), "--store", str(self._settings.store),
-                 "--port", str(self._port), "--connections", str(CONNECTIONS)]
-        try:
-            self._process = await asyncio.create_subprocess_exec(*tied(shutil.which("setpriv")), *words, stdin=asyncio.subprocess.DEVNULL,
-                                                                 stdout=asyncio.subprocess.DEVNULL, start_new_session=True)
-        except OSError as error:
-            raise NoStart(f"{self._settings.program}: {error.strerror}") from error
+        """Starts the child."""
+        self._text = self._settings_text()
+        child = await launched(self._settings.program, self._settings.server_settings, str(self._settings.store))
+        self._process, self._port, self._fresh = child.process, child.port, child.fresh
 
     async def _connect(self) -> None:
         """Connects, and has all terminals' sessions ended; then the server is up."""
@@ -137,13 +192,29 @@ class Server:
         try:
             async with asyncio.timeout(PATIENCE):
                 await asyncio.gather(*(turns.ask(terminal, HALT) for terminal in self._terminals))
-        except (TimeoutError, Lost, Unsent) as error:
+            if self._journal is not None:
+                await self._journal.begin(self._base, self._fresh, self._text)
+                turns.keep(self._journal)
+        except (TimeoutError, Lost, Unsent, NoJournal) as error:
             turns.close()
             await self._give_up()
-            why = "another client is connected to it" if isinstance(error, TimeoutError) else turns.fault or "the connection ended"
-            raise NoStart(f"no reply at port {self._port}: {why}") from error
+            raise NoStart(self._why(turns, error)) from error
+        self._base, self._fresh = None, False
         self._turns = turns
         self.state = "up"
+
+    def _settings_text(self) -> bytes:
+        """The server's settings, as the journal keeps them."""
+        try:
+            return self._settings.server_settings.read_bytes()
+        except OSError as error:
+            raise NoStart(f"{self._settings.server_settings}: {error.strerror}") from error
+
+    def _why(self, turns: Turns, error: Exception) -> str:
+        if isinstance(error, NoJournal):
+            return f"the journal cannot be written: {error}"
+        return f"no reply at port {self._port}: " + ("another client is connected to it" if isinstance(error, TimeoutError) else
+                                                     turns.fault or "the connection ended")
 
     async def _give_up(self) -> None:
         """Ends a child that is of no use."""
@@ -165,6 +236,18 @@ class Server:
                 raise NoStart(f"nobody listens at port {self._port} of {HOST} (server.join)")
             await asyncio.sleep(pause)
             pause = min(2 * pause, 0.1)
+
+
+async def launched(program: Path, settings: Path, store: str, connections: int = CONNECTIONS) -> Child:
+    """A child at a port that is free. It ends with this process. Raises `NoStart` if there is no such program."""
+    port, fresh = free_port(), store == "memory" or not os.path.exists(store)
+    words = [str(program), "serve", "--settings", str(settings), "--store", store, "--port", str(port), "--connections", str(connections)]
+    try:
+        process = await asyncio.create_subprocess_exec(*tied(shutil.which("setpriv")), *words, stdin=asyncio.subprocess.DEVNULL,
+                                                       stdout=asyncio.subprocess.DEVNULL, start_new_session=True)
+    except OSError as error:
+        raise NoStart(f"{program}: {error.strerror}") from error
+    return Child(process, port, fresh)
 
 
 def tied(setpriv: str | None) -> Sequence[str]:

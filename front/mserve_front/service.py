@@ -8,6 +8,7 @@ import resource
 import signal
 import ssl
 import time
+from typing import TYPE_CHECKING
 
 from aiohttp import web
 
@@ -22,6 +23,9 @@ from .signing import Signing
 from .users import BadUsers, Register
 from .web import Web
 
+if TYPE_CHECKING:
+    from .keeper import Keeper, Promoted
+
 # Seconds that a connection of HTTP may be kept without a request.
 KEPT = 30.0
 # Seconds that requests have to end at the stop.
@@ -31,10 +35,11 @@ CLOSING = 1.0
 class Service:
     """The parts, and what they share."""
 
-    def __init__(self, settings: Settings) -> None:
-        """Raises `BadSettings` or `BadUsers` for what does not fit together."""
+    def __init__(self, settings: Settings, promoted: Promoted | None = None) -> None:
+        """Raises `BadSettings` or `BadUsers` for what does not fit together. A standby that was promoted hands on what it has."""
         self.settings = settings
         self.metrics = Metrics()
+        self._keeper = keeper_of(settings, self.metrics, promoted)
         self._context = tls_context(settings)
         self._audit = audit_log(settings, self.metrics)
         self._register = Register(settings.users)
@@ -43,7 +48,7 @@ class Service:
                 raise BadUsers(f"{settings.users}: user {user.name}: {user.account} is no account with terminals in {settings.server_settings}")
         self._doors = Doors(settings.limits, self._context)
         self._signing = Signing(self._register, self._audit, self.metrics)
-        self._sessions = Sessions(settings, self.metrics, self._audit)
+        self._sessions = Sessions(settings, self.metrics, self._audit, self._keeper.journal if self._keeper else None)
         self._stopping = asyncio.Event()
 
     async def run(self) -> None:
@@ -60,19 +65,29 @@ class Service:
                                handle_signals=False, access_log=None, keepalive_timeout=KEPT, auto_decompress=False)
         await runner.setup()
         try:
-            await self._until_stopped(self._sessions.server.begin())
+            await self._until_stopped(self._begin())
             if not self._stopping.is_set():
                 self._listen(runner)
                 await self._serve()
         finally:
             self._doors.close()
             await self._sessions.stop()
+            whole = self._sessions.server.state == "up"
             await self._sessions.server.end()
+            if self._keeper is not None:
+                await self._keeper.end(whole)
             if runner.server is not None:
                 await runner.server.shutdown(CLOSING)
             await runner.cleanup()
             self._signing.close()
             self._audit.close()
+
+    async def _begin(self) -> None:
+        """Starts the server, and the journal before it."""
+        child = None if self._keeper is None else await self._keeper.begin(self._sessions.server)
+        await self._sessions.server.begin(child)
+        if self._keeper is not None:
+            await self._keeper.began()
 
     async def _until_stopped(self, work: object) -> None:
         """Waits for a work, or for the stop."""
@@ -102,6 +117,8 @@ class Service:
 
     async def _serve(self) -> None:
         tasks = [asyncio.create_task(self._sessions.server.run()), asyncio.create_task(self._sweep()), asyncio.create_task(self._stopping.wait())]
+        if self._keeper is not None:
+            tasks.append(asyncio.create_task(self._keeper.lost()))
         done, left = await asyncio.wait(tasks, return_when=asyncio.FIRST_COMPLETED)
         for task in left:
             task.cancel()
@@ -132,6 +149,15 @@ class Service:
             tell("certificate and audit log opened anew")
         except (BadSettings, OSError) as error:
             tell(f"not reloaded: {error}")
+
+
+def keeper_of(settings: Settings, metrics: Metrics, promoted: Promoted | None) -> Keeper | None:
+    """What keeps the journal, if there is to be one."""
+    if not settings.journal.kept:
+        return None
+    # Not above: it needs a package that a front without a journal does without.
+    from .keeper import Keeper
+    return Keeper(settings, metrics, promoted)
 
 
 def tls_context(settings: Settings) -> ssl.SSLContext | None:

@@ -9,9 +9,10 @@ import time
 from collections import deque
 from collections.abc import Coroutine, Iterator
 from dataclasses import dataclass, field
-from typing import Protocol
+from typing import TYPE_CHECKING, Protocol
 
 from .audit import Audit, NoAudit
+from .faults import HeldBack, NoJournal
 from .lines import HALT, Line, Refused
 from .metrics import Metrics
 from .replies import Answer
@@ -20,6 +21,9 @@ from .settings import Settings
 from .turns import Lost, Unsent
 from .users import User, Users
 
+if TYPE_CHECKING:
+    from .journal import Journal
+
 Record = dict[str, object]
 # The ways to sign on.
 PAGE, LINES, TOKEN = "page", "lines", "token"
@@ -27,6 +31,8 @@ NOT_SENT = "the server was started again before this line was sent, and variable
 # Seconds that users have to hear of a stop, and lines to be answered.
 STOPPING = 5.0
 UNKNOWN = "the server ended before it replied: the line may have been run or not"
+NOT_NOTED = "the journal cannot be written, so this line was not sent"
+HELD_BACK = "the line was run, and its reply is held back: the journal cannot be written"
 
 
 class AllInUse(Exception):
@@ -73,18 +79,23 @@ class Session:
 class Sessions:
     """All sessions, and the terminals that nobody has."""
 
-    def __init__(self, settings: Settings, metrics: Metrics, audit: Audit) -> None:
+    def __init__(self, settings: Settings, metrics: Metrics, audit: Audit, journal: Journal | None = None) -> None:
+        self._journal = journal
         self._settings = settings
         self._metrics = metrics
         self._audit = audit
         self._free = {account: deque(terminals) for account, terminals in settings.terminals.items()}
         self._tasks: set[asyncio.Task[None]] = set()
         self._of_key: dict[str, Session] = {}
-        self.server = Server(settings, metrics, self.restarted)
+        self.server = Server(settings, metrics, self.restarted, journal)
 
     def __iter__(self) -> Iterator[Session]:
         """The sessions as they stand: they may be ended meanwhile."""
         return iter(list(self._of_key.values()))
+
+    def journal_figures(self) -> tuple[int, bool] | None:
+        """The journal's last line, and whether it can be written; None without a journal."""
+        return None if self._journal is None else (self._journal.next - 1, self._journal.fault is None)
 
     def find(self, key: str) -> Session | None:
         """The session of a key."""
@@ -109,6 +120,9 @@ class Sessions:
         except (Lost, Unsent) as error:
             free.append(terminal)
             raise NotUp("the server is being started") from error
+        except (NoJournal, HeldBack) as error:
+            free.append(terminal)
+            raise NotUp("the journal cannot be written") from error
         except BaseException:
             free.append(terminal)
             raise
@@ -142,13 +156,18 @@ class Sessions:
         self._free[session.account].append(session.terminal)
 
     async def _halt(self, session: Session) -> None:
-        """Ends the terminal's session, after the line that is on its way. If the server is down, its start does."""
+        """Ends the terminal's session, after the line that is on its way. If the server is down, its start does; if the journal cannot be written, it is
+        tried until it can."""
         self.server.forget(session.terminal)
         session.fresh = True
-        try:
-            await self.server.ask(session.terminal, HALT)
-        except (Lost, Unsent):
-            pass
+        while True:
+            try:
+                await self.server.ask(session.terminal, HALT)
+                return
+            except (Lost, Unsent, HeldBack):
+                return
+            except NoJournal:
+                await self._journal.mended()
 
     async def attach(self, session: Session, listener: Listener) -> None:
         """Joins a connection to a session, in place of the one before it, with no variables and no locks."""
@@ -174,6 +193,10 @@ class Sessions:
             record = {"refused": error.code, "why": error.why}
         except Lost:
             record = {"unknown": True, "why": UNKNOWN}
+        except HeldBack:
+            record = {"unknown": True, "why": HELD_BACK}
+        except NoJournal:
+            record = {"refused": "journal", "why": NOT_NOTED}
         except Unsent:
             if session.over:
                 raise Over from None
@@ -188,7 +211,7 @@ class Sessions:
         line = Line(data)
         if session.number != self.server.session or number not in (None, session.number):
             raise Unsent
-        answer = await self.server.ask(session.terminal, line)
+        answer = await self.server.ask(session.terminal, line, session.user)
         return replied(answer)
 
     def _count(self, session: Session, data: bytes, record: Record) -> None:

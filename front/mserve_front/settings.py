@@ -31,6 +31,21 @@ class Limits:
 
 
 @dataclass(frozen=True, slots=True)
+class JournalSettings:
+    """Where the journal is: a folder of files, each of `roll` bytes or a little more, or a table of a database; and the socket for operators."""
+
+    folder: Path | None = None
+    database: str | None = None
+    roll: int = 67_108_864
+    control: Path | None = None
+
+    @property
+    def kept(self) -> bool:
+        """Whether there is to be a journal."""
+        return self.folder is not None or self.database is not None
+
+
+@dataclass(frozen=True, slots=True)
 class Settings:
     """All settings, with paths made whole."""
 
@@ -53,6 +68,7 @@ class Settings:
     metrics_from: tuple[ipaddress.IPv4Network | ipaddress.IPv6Network, ...]
     limits: Limits
     terminals: dict[str, tuple[int, ...]]
+    journal: JournalSettings = JournalSettings()
 
     @property
     def tls(self) -> bool:
@@ -128,6 +144,9 @@ _LIMITS = {
 }
 
 
+TABLES = ("server", "listen", "users", "audit", "metrics", "limits", "journal")
+
+
 def read_toml(path: Path) -> dict[str, object]:
     """The tables of a TOML file."""
     try:
@@ -155,11 +174,12 @@ def read_terminals(path: Path) -> dict[str, tuple[int, ...]]:
 def read_settings(path: Path, volatile: bool) -> Settings:
     """The settings of a file. Raises `BadSettings` for the first fault. `volatile` says that a store in memory is meant."""
     tables = read_toml(path)
-    for name in tables.keys() - {"server", "listen", "users", "audit", "metrics", "limits"}:
+    for name in tables.keys() - set(TABLES):
         raise BadSettings(f"{path}: {name}: there is no such table")
-    taken = {name: Table(path, name, tables.get(name, {})) for name in ("server", "listen", "users", "audit", "metrics", "limits")}
-    settings = Settings(path=path, **_server(taken["server"], volatile), **_listen(taken["listen"]), users=taken["users"].needed_file("file"),
-                        audit=taken["audit"].file("file"), texts=taken["audit"].truth("texts", False),
+    taken = {name: Table(path, name, tables.get(name, {})) for name in TABLES}
+    users = taken["users"].needed_file("file")
+    settings = Settings(path=path, **_server(taken["server"], volatile), **_listen(taken["listen"]), users=users,
+                        journal=journal_settings(taken["journal"], users.parent), audit=taken["audit"].file("file"), texts=taken["audit"].truth("texts", False),
                         metrics_from=_networks(taken["metrics"]), limits=_limits(taken["limits"]))
     for table in taken.values():
         table.end()
@@ -223,6 +243,15 @@ def _networks(table: Table) -> tuple[ipaddress.IPv4Network | ipaddress.IPv6Netwo
         except ValueError as error:
             raise table.fault("from", f"is to be a list of addresses and networks: {error}") from None
     return tuple(networks)
+
+
+def journal_settings(table: Table, folder: Path) -> JournalSettings:
+    """Where the journal is; the socket is in a folder unless it is named."""
+    found = JournalSettings(table.file("folder"), table.text("database"), table.whole("roll", 4096, 1 << 40, JournalSettings().roll),
+                            table.file("control", folder / "mfront.control"))
+    if found.folder is not None and found.database is not None:
+        raise table.fault("database", "is not for a journal that is in a folder: give one of the two")
+    return found
 
 
 def _limits(table: Table) -> Limits:

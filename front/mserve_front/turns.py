@@ -9,13 +9,19 @@ import asyncio
 import socket
 import time
 from collections import deque
-from collections.abc import Callable
+from collections.abc import Callable, Iterable
 from dataclasses import dataclass, field
+from functools import partial
+from typing import TYPE_CHECKING
 
 from mserve_client import BadReply
 
-from .lines import Line
+from .faults import NoJournal
+from .lines import HALT, Line
 from .replies import Answer, ReplyReader
+
+if TYPE_CHECKING:
+    from .journal import Journal
 
 # How many lines may be on their way at once: enough to keep the server busy, and few enough that little is unknown if it ends.
 WINDOW = 64
@@ -31,13 +37,17 @@ class Unsent(Exception):
 
 @dataclass(eq=False, slots=True)
 class Ask:
-    """A line that waits for its reply: since when, and since when it is on its way."""
+    """A line that waits for its reply: since when; whether its turn has come, which it has before it is in the journal; since when it is on its way;
+    its user, and its number in the journal."""
 
     terminal: int
     line: Line
     reply: asyncio.Future[Answer]
+    user: str = ""
     since: float = field(default_factory=time.monotonic)
+    chosen: bool = False
     sent: float = 0.0
+    number: int = 0
 
 
 Timed = Callable[[float, float], None]
@@ -49,6 +59,7 @@ class Turns(asyncio.Protocol):
     def __init__(self, room: int, timed: Timed) -> None:
         """`room` is the most bytes of a reply that are kept."""
         self._timed = timed
+        self._journal: Journal | None = None
         self._reader = ReplyReader(self._turn, room)
         self._transport: asyncio.Transport | None = None
         self._socket: socket.socket | None = None
@@ -57,6 +68,8 @@ class Turns(asyncio.Protocol):
         self._ready: deque[int] = deque()
         self._flying: deque[Ask] = deque()
         self._replied = 0.0
+        # While somebody wants it, no line is sent; it is done once none is on its way.
+        self._quiet: asyncio.Future[None] | None = None
         self.fault: str | None = None
         self.ended: asyncio.Future[None] = asyncio.get_running_loop().create_future()
 
@@ -70,11 +83,15 @@ class Turns(asyncio.Protocol):
         since = min((queue[0].since for queue in self._queues.values()), default=None)
         return 0.0 if since is None else time.monotonic() - since
 
-    def ask(self, terminal: int, line: Line) -> asyncio.Future[Answer]:
-        """The answer of a line, once it comes. It ends by `Lost` or `Unsent` if the connection does. Lines of one terminal keep their order."""
-        asked = Ask(terminal, line, asyncio.get_running_loop().create_future())
+    def ask(self, terminal: int, line: Line, user: str = "") -> asyncio.Future[Answer]:
+        """The answer of a line, once it comes. It ends by `Lost` or `Unsent` if the connection does, and by `NoJournal` or `HeldBack` if the journal
+        cannot be written. Lines of one terminal keep their order."""
+        asked = Ask(terminal, line, asyncio.get_running_loop().create_future(), user)
         if self.ended.done():
             asked.reply.set_exception(Unsent())
+            return asked.reply
+        if self._journal is not None and self._journal.fault is not None:
+            asked.reply.set_exception(NoJournal(self._journal.fault))
             return asked.reply
         queue = self._queues.setdefault(terminal, deque())
         queue.append(asked)
@@ -88,12 +105,39 @@ class Turns(asyncio.Protocol):
         queue = self._queues.get(terminal)
         if queue is None:
             return
-        kept = 1 if queue[0].sent else 0
+        kept = 1 if queue[0].chosen else 0
         while len(queue) > kept:
             _fail(queue.pop(), Unsent())
         if not queue:
             del self._queues[terminal]
             self._ready.remove(terminal)
+
+    def keep(self, journal: Journal) -> None:
+        """From now on lines are in a journal before they are sent, and digests of replies before these are handed out. No line is on its way."""
+        self._journal = journal
+        self._reader.keep_digests()
+
+    async def pause(self) -> None:
+        """Sends no line any more, and waits until none is on its way, or the connection has ended."""
+        self._quiet = asyncio.get_running_loop().create_future()
+        self._still()
+        await asyncio.wait([self._quiet, self.ended], return_when=asyncio.FIRST_COMPLETED)
+
+    async def halt(self, terminals: Iterable[int]) -> None:
+        """Between two lines: has sessions of terminals ended, which is not in the journal. Lines that wait end by `Unsent`."""
+        for terminal in list(self._queues):
+            self.forget(terminal)
+        journal, self._journal, self._quiet = self._journal, None, None
+        try:
+            await asyncio.gather(*(self.ask(terminal, HALT) for terminal in terminals))
+        finally:
+            self._journal = journal
+            await self.pause()
+
+    def go(self) -> None:
+        """Sends lines again."""
+        self._quiet = None
+        self._send()
 
     def close(self) -> None:
         """Ends the connection at once."""
@@ -129,21 +173,50 @@ class Turns(asyncio.Protocol):
                 _fail(asked, Lost() if asked.sent else Unsent())
 
     def _turn(self) -> int | None:
-        return self._flying[0].terminal if self._flying else None
+        return self._flying[0].terminal if self._flying and self._flying[0].sent else None
 
     def _send(self) -> None:
-        """Sends lines while there are turns, and no more than the window of them."""
-        lines = []
-        while self._ready and len(self._flying) < WINDOW:
+        """Chooses lines while there are turns, and no more than the window of them."""
+        chosen = []
+        while self._quiet is None and self._ready and len(self._flying) < WINDOW:
             asked = self._queues[self._ready.popleft()][0]
-            asked.sent = time.monotonic()
+            asked.chosen = True
             self._flying.append(asked)
-            lines.append(asked.line.sent_by(asked.terminal))
-        if lines and self._transport is not None:
-            self._transport.write(b"".join(lines))
+            chosen.append(asked)
+        if chosen and self._journal is not None:
+            self._journal.lines(self, chosen)
+        elif chosen:
+            self.go_on(chosen)
+
+    def go_on(self, chosen: list[Ask]) -> bool:
+        """Sends lines whose turn has come, unless the connection has ended."""
+        if self._transport is None or self.ended.done():
+            return False
+        now = time.monotonic()
+        for asked in chosen:
+            asked.sent = now
+        self._transport.write(b"".join(asked.line.sent_by(asked.terminal) for asked in chosen))
+        return True
+
+    def refuse(self, why: str) -> None:
+        """Ends all lines that were not sent by `NoJournal`."""
+        while self._flying and not self._flying[-1].sent:
+            self._flying.pop()
+        self._ready.clear()
+        for terminal, queue in list(self._queues.items()):
+            kept = 1 if queue[0].sent else 0
+            while len(queue) > kept:
+                _fail(queue.pop(), NoJournal(why))
+            if not queue:
+                del self._queues[terminal]
+        self._still()
+
+    def _still(self) -> None:
+        if self._quiet is not None and not self._flying and not self._quiet.done():
+            self._quiet.set_result(None)
 
     def _answered(self, answer: Answer) -> None:
-        """Hands the first line on its way its answer; the next line of its terminal comes last."""
+        """Takes the answer of the first line on its way; the next line of its terminal comes last."""
         asked = self._flying.popleft()
         queue = self._queues[asked.terminal]
         queue.popleft()
@@ -152,8 +225,17 @@ class Turns(asyncio.Protocol):
         else:
             del self._queues[asked.terminal]
         now = time.monotonic()
-        self._timed(now - asked.since, now - max(asked.sent, self._replied))
+        hand = partial(self._hand, asked, answer, now - max(asked.sent, self._replied))
         self._replied = now
+        if self._journal is None or not asked.number:
+            hand()
+        else:
+            self._journal.reply(asked, answer.digest, answer.reply.code, hand, partial(_fail, asked))
+        self._still()
+
+    def _hand(self, asked: Ask, answer: Answer, taken: float) -> None:
+        """Hands a line its answer."""
+        self._timed(time.monotonic() - asked.since, taken)
         if not asked.reply.done():
             asked.reply.set_result(answer)
 

@@ -251,7 +251,7 @@ class Web:
         server, signed_on = self._sessions.server, {way: 0 for way in ("page", "lines", "token")}
         for session in self._sessions:
             signed_on[session.way] += 1
-        text = self._metrics.text(signed_on, server.waiting, server.oldest(), server.state == "up")
+        text = self._metrics.text(signed_on, server.waiting, server.oldest(), server.state == "up", self._sessions.journal_figures())
         return web.Response(body=text.encode(), headers={"Content-Type": "text/plain; version=0.0.4; charset=utf-8"})
 
 

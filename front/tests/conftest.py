@@ -20,6 +20,17 @@ def pytest_configure() -> None:
         pytest.exit("front/tests: there is no program: run ./mserve --help, or name one by the variable MSERVE", returncode=3)
 
 
+def pytest_addoption(parser: pytest.Parser) -> None:
+    """`--count N`: tests that draw their cases draw N times as many."""
+    parser.addoption("--count", type=int, default=1, metavar="N", help="draw N times as many cases")
+
+
+@pytest.fixture(scope="session")
+def count(request: pytest.FixtureRequest) -> int:
+    """How many times as many cases are to be drawn."""
+    return request.config.getoption("--count")
+
+
 @pytest.fixture(scope="session")
 def certificate(tmp_path_factory: pytest.TempPathFactory) -> tuple[Path, Path]:
     """A certificate of this run for localhost, and its key."""

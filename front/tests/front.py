@@ -12,12 +12,13 @@ import ssl
 import subprocess
 import sys
 import time
-from collections.abc import Awaitable, Callable
+from collections.abc import Awaitable, Callable, Sequence
 from pathlib import Path
 from typing import Any
 
 import aiohttp
 import argon2
+import pytest
 
 FRONT = Path(__file__).resolve().parent.parent
 sys.path[:0] = [str(FRONT), str(FRONT.parent / "clients"), str(FRONT.parent / "tools")]
@@ -59,13 +60,38 @@ def toml(tables: dict[str, dict[str, object]]) -> str:
     return "\n".join(f"[{name}]\n" + "".join(f"{key} = {json.dumps(value)}\n" for key, value in keys.items()) for name, keys in tables.items())
 
 
+Ran = tuple[int, str, str]
+
+
+def tool(name: str, *before: str) -> Callable[..., Ran]:
+    """Runs a command of front/: its status, what it writes, and what it tells."""
+    def run(*words: object) -> Ran:
+        done = subprocess.run([sys.executable, FRONT / name, *before, *map(str, words)], capture_output=True, text=True, timeout=60)
+        return done.returncode, done.stdout, done.stderr
+    return run
+
+
+def mjournal(folder: Path | None = None) -> Callable[..., Ran]:
+    """Runs mjournal, over a journal in a folder."""
+    return tool("mjournal", *(() if folder is None else ("--folder", str(folder))))
+
+
+def missed(what: str) -> None:
+    """Skips a test for something that is not there, or fails it where continuous integration has to have that."""
+    if os.environ.get("CI") == "true":
+        pytest.fail(what)
+    pytest.skip(what)
+
+
 class Front:
     """A front that runs, in a folder of its own."""
 
     def __init__(self, folder: Path, certificate: tuple[Path, Path] | None, users: dict[str, str] | None = None, settings: Path = SETTINGS,
-                 store: str = "memory", **more: dict[str, object]) -> None:
-        """Starts it, with further keys for the tables that are named; returns once it serves."""
+                 store: str = "memory", before: Sequence[str] = (), words: Sequence[str] = (), awaited: str = "serving at",
+                 **more: dict[str, object]) -> None:
+        """Starts it, with further keys for the tables that are named, words before and behind the command; returns once it tells what is awaited."""
         self.folder, self.certificate, self.store = folder, certificate, store
+        self._before, self._words, self._awaited = list(before), list(words), awaited
         self.port, self.lines_port = running.free_port(), running.free_port()
         write_users(folder / "users.json", USERS if users is None else users)
         tables: dict[str, dict[str, object]] = {
@@ -75,22 +101,35 @@ class Front:
             tables["listen"] |= {"certificate": str(certificate[0]), "key": str(certificate[1])}
         for name, keys in more.items():
             tables[name] = {key: value for key, value in (tables.get(name, {}) | keys).items() if value is not None}
-        (folder / "front.toml").write_text(toml(tables))
+        self.tables = tables
+        self._config, self._told = "front.toml", "told"
+        (folder / self._config).write_text(toml(tables))
         self.process = self._started()
 
     def _started(self) -> subprocess.Popen[str]:
-        words = [*COMMAND, "--config", str(self.folder / "front.toml")] + (["--volatile"] if self.store == "memory" else [])
-        process = subprocess.Popen(words, stdin=subprocess.DEVNULL, stderr=(self.folder / "told").open("w"), text=True, start_new_session=True)
-        end = time.monotonic() + 30
-        while "serving at" not in self.told():
-            if process.poll() is not None or time.monotonic() > end:
-                raise RuntimeError(f"the front does not serve: {self.told()}")
-            time.sleep(0.02)
+        words = [*self._before, *COMMAND, "--config", str(self.folder / self._config), *self._words] + (["--volatile"] if self.store == "memory" else [])
+        with (self.folder / self._told).open("w") as told:
+            process = subprocess.Popen(words, stdin=subprocess.DEVNULL, stderr=told, text=True, start_new_session=True)
+        self.process = process
+        self.hears(self._awaited)
         return process
+
+    def hears(self, text: str) -> None:
+        """Waits until it tells a text."""
+        end = time.monotonic() + 30
+        while text not in self.told():
+            if self.process.poll() is not None or time.monotonic() > end:
+                raise RuntimeError(f"the front does not tell {text!r}: {self.told()}")
+            time.sleep(0.02)
+
+    def again(self) -> None:
+        """Starts it once more, after it has ended."""
+        self.process.wait(20)
+        self._started()
 
     def told(self) -> str:
         """What it wrote to the standard error."""
-        return (self.folder / "told").read_text()
+        return (self.folder / self._told).read_text()
 
     def audit(self) -> list[Record]:
         """The records of its audit log."""

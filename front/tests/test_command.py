@@ -5,18 +5,19 @@ from __future__ import annotations
 import json
 import os
 import re
+import shutil
 import stat
 import subprocess
 from collections.abc import Callable
 from pathlib import Path
 
 import pytest
-from front import COMMAND, FRONT, PASSWORD, SETTINGS, in_loop, toml, write_users
+from front import COMMAND, FRONT, PASSWORD, SETTINGS, in_loop, toml, tool, write_users
 from running import PROGRAM
 
 Run = Callable[..., subprocess.CompletedProcess[str]]
 COMMANDS = [[], ["check"], ["user", "add"], ["user", "passwd"], ["user", "remove"], ["user", "list"], ["token", "add"], ["token", "remove"],
-            ["token", "list"], ["user"], ["token"]]
+            ["token", "list"], ["user"], ["token"], ["status"], ["promote"]]
 
 
 @pytest.fixture
@@ -45,6 +46,28 @@ def test_help_of_each_command(command: Run, words: list[str]) -> None:
     assert done.returncode == 0 and "Status: 0 all went well" in done.stdout.replace("\n", " ") and done.stderr == ""
     assert all(word in manual for word in words)
     assert all(option in manual or option == "--help" for option in re.findall(r"--\w+", done.stdout))
+
+
+@pytest.mark.parametrize("name", ["mjournal", "mbackup"])
+def test_help_of_the_tools(name: str) -> None:
+    """Each command has its help, and the manual page has each command and option."""
+    manual = (FRONT / "man" / f"{name}.1").read_text().replace("\\-", "-")
+    shown = tool(name)("--help")[1]
+    acts = re.search(r"COMMAND\n((?: +\w+ .*\n(?: {8,}.*\n)*)+)", shown)[1]
+    acts = re.findall(r"^ {4}(\w+) ", acts, re.MULTILINE)
+    assert len(acts) == 5
+    for act in acts:
+        status, output, told = tool(name)(act, "--help")
+        assert (status, told) == (0, "") and "Status: 0 all went well" in output.replace("\n", " ") and act in manual
+        assert all(option in manual or option == "--help" for option in re.findall(r"--[\w-]+", shown + output)), output
+    assert tool(name)()[0] == 2
+
+
+@pytest.mark.skipif(shutil.which("groff") is None and not os.environ.get("CI"), reason="groff is not there: apt-get install groff-base")
+@pytest.mark.parametrize("name", ["mfront", "mjournal", "mbackup"])
+def test_page_is_set_without_a_warning(name: str) -> None:
+    done = subprocess.run(["groff", "-man", "-ww", "-z", "-Tutf8", FRONT / "man" / f"{name}.1"], capture_output=True, timeout=60)
+    assert (done.returncode, done.stderr) == (0, b"")
 
 
 def test_users_are_kept_in_a_file_of_their_own(command: Run, tmp_path: Path) -> None:

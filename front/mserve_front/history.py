@@ -1,0 +1,99 @@
+# SPDX-License-Identifier: Apache-2.0
+"""What a journal tells, in order: lines with their replies, and starts, at which all sessions began anew."""
+from __future__ import annotations
+
+from collections.abc import Iterable, Iterator
+from dataclasses import dataclass
+
+from .records import BadJournal, Flush, LineRecord, ReplyRecord, StartRecord
+
+# Codes after which a line may have written a first part of what it was to write, and its session is gone.
+CUT_SHORT = ("ZMEM", "ZSTORE")
+
+
+@dataclass(frozen=True, slots=True)
+class Answered:
+    """A line that was run, and its reply."""
+
+    line: LineRecord
+    reply: ReplyRecord
+
+
+@dataclass(frozen=True, slots=True)
+class Began:
+    """All sessions began anew, after the line `answered` had its reply. `unknown` are later lines that may have been run or not, `unsent` those that
+    were not."""
+
+    start: StartRecord
+    answered: int
+    unknown: tuple[LineRecord, ...]
+    unsent: tuple[LineRecord, ...]
+
+
+Event = Answered | Began
+
+
+class History:
+    """Puts the lines and the replies of flushes together. `at` is the number of the last line with a reply, `last` that of the last line."""
+
+    def __init__(self, after: int | None = 0) -> None:
+        """What stands up to the line of this number is passed over; None begins with what comes first."""
+        self._anywhere = after is None
+        self._after = self.at = self.last = after or 0
+        self._waiting: dict[int, LineRecord] = {}
+
+    def take(self, flushes: Iterable[Flush]) -> Iterator[Event]:
+        """What flushes add. Raises `BadJournal` if lines are missing."""
+        for flush in flushes:
+            if self._anywhere:
+                self._anywhere = False
+                self._after = self.at = self.last = flush.first - 1
+            for record in flush.records:
+                if isinstance(record, LineRecord):
+                    self._line(record)
+                elif isinstance(record, ReplyRecord):
+                    if record.number > self.at:
+                        yield self._answered(record)
+                elif record.number > self._after:
+                    yield self._began(record)
+
+    @property
+    def unanswered(self) -> list[LineRecord]:
+        """The lines that have no reply yet."""
+        return list(self._waiting.values())
+
+    def _line(self, line: LineRecord) -> None:
+        """Notes a line. One whose flush failed may come twice: the later one counts, and those after it were never sent."""
+        if line.number <= self._after:
+            return
+        if line.number <= self.last:
+            self._forget(line.number)
+        self._expect(line.number)
+        self._waiting[line.number] = line
+        self.last = line.number
+
+    def _answered(self, reply: ReplyRecord) -> Answered:
+        number = next(iter(self._waiting), None)
+        if number != reply.number:
+            raise BadJournal(f"line {reply.number} has a reply before line {number}" if number else f"line {reply.number} is missing, and has a reply")
+        self.at = number
+        return Answered(self._waiting.pop(number), reply)
+
+    def _began(self, start: StartRecord) -> Began:
+        self._forget(start.number)
+        self._expect(start.number)
+        answered, self.at = self.at, self.last
+        lines, self._waiting = list(self._waiting.values()), {}
+        unknown = tuple(line for line in lines if line.number <= start.sent)
+        return Began(start, answered, unknown, tuple(lines[len(unknown):]))
+
+    def _forget(self, number: int) -> None:
+        """Forgets lines from a number on."""
+        for later in [one for one in self._waiting if one >= number]:
+            del self._waiting[later]
+            self.last = min(self.last, later - 1)
+
+    def _expect(self, number: int) -> None:
+        if number != self.last + 1:
+            raise BadJournal(f"lines {self.last + 1} to {number - 1} are missing" if number > self.last + 1 else
+                             f"line {number} stands where line {self.last + 1} is to be")

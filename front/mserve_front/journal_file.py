@@ -1,0 +1,266 @@
+# SPDX-License-Identifier: Apache-2.0
+"""A journal in a folder of files. Each file begins with a mark and has flushes; its name is the number of its first one. Nothing is ever written over: a
+flush that failed, or that a crash tore, is left where it is, and the next file begins with the flush of its number."""
+from __future__ import annotations
+
+import contextlib
+import fcntl
+import os
+import secrets
+from io import FileIO
+from pathlib import Path
+
+from .journal import LogFault, LogTaken, Tail
+from .records import HEAD_SIZE, BadJournal, Flush, Torn, body_size, read_flush
+
+MARK = b"mfront1\n"
+SUFFIX = ".journal"
+READ = 1 << 20
+
+
+def files_of(folder: Path) -> list[tuple[int, Path]]:
+    """The files of a journal in their order, each with the number of its first flush. Raises `BadJournal` if the folder cannot be read."""
+    try:
+        found = [path for path in folder.iterdir() if path.suffix == SUFFIX and path.stem.isdigit()]
+    except OSError as error:
+        raise BadJournal(f"{folder}: cannot be read: {error.strerror}") from error
+    return sorted((int(path.stem), path) for path in found)
+
+
+def flushes_in(path: Path) -> tuple[list[Flush], int]:
+    """The flushes of a file, and how many bytes at its end are none. Raises `BadJournal` if one is damaged."""
+    data = path.read_bytes()
+    if not _is_marked(path, data):
+        return [], len(data)
+    found, at = [], len(MARK)
+    while at < len(data):
+        try:
+            flush, at = read_flush(data, at)
+        except Torn:
+            break
+        except BadJournal as error:
+            raise BadJournal(f"{path}: at byte {at}: {error}") from error
+        found.append(flush)
+    return found, len(data) - at
+
+
+def _is_marked(path: Path, data: bytes) -> bool:
+    """Whether the mark is written. Raises `BadJournal` if something else is."""
+    if not data.startswith(MARK) and not MARK.startswith(data.rstrip(b"\0")):
+        raise BadJournal(f"{path}: this is no file of a journal: it does not begin with its mark")
+    return data.startswith(MARK)
+
+
+class FileLog:
+    """The journal in a folder, as its one writer has it."""
+
+    def __init__(self, folder: Path, roll: int) -> None:
+        """`roll` is the size after which the next file is begun."""
+        self._folder = folder
+        self._roll = roll
+        self._lock = -1
+        self._descriptor = -1
+        self._path = folder
+        self._size = 0
+
+    def take(self) -> Tail:
+        """Takes the lock of the folder, which is made if it is not there, and finds the end."""
+        try:
+            self._folder.mkdir(mode=0o700, exist_ok=True)
+            self._lock = os.open(self._folder / "lock", os.O_RDWR | os.O_CREAT | os.O_CLOEXEC, 0o600)
+            fcntl.flock(self._lock, fcntl.LOCK_EX | fcntl.LOCK_NB)
+        except BlockingIOError:
+            self.close()
+            raise LogTaken(f"{self._folder}: another front writes this journal") from None
+        except OSError as error:
+            raise LogFault(f"{self._folder}: {error.strerror}") from error
+        return tail_of(self._folder)
+
+    def append(self, flush: Flush) -> None:
+        """Writes a flush, and returns once it is on the disk."""
+        try:
+            if self._descriptor < 0 or self._size >= self._roll:
+                self._begin(flush.sequence)
+            data = flush.packed()
+            self._write(data)
+            os.fdatasync(self._descriptor)
+        except OSError as error:
+            raise LogFault(f"{self._path}: {error.strerror}") from error
+        self._size += len(data)
+
+    def mend(self) -> None:
+        """Leaves the file in which a flush failed, and takes back the part of it that was written."""
+        if self._descriptor < 0:
+            return
+        with contextlib.suppress(OSError):
+            if self._size > len(MARK):
+                os.ftruncate(self._descriptor, self._size)
+            else:
+                self._path.unlink()
+        self._leave()
+
+    def close(self) -> None:
+        """Gives the lock back."""
+        self._leave()
+        if self._lock >= 0:
+            os.close(self._lock)
+            self._lock = -1
+
+    def _begin(self, sequence: int) -> None:
+        """Begins a file, which is in its folder durably before it has a flush."""
+        self._leave()
+        self._path = self._folder / f"{sequence:020d}{SUFFIX}"
+        # One that is there has no flush that became durable. A reader that has it open sees that another took its place.
+        self._path.unlink(missing_ok=True)
+        self._descriptor = os.open(self._path, os.O_WRONLY | os.O_CREAT | os.O_EXCL | os.O_CLOEXEC, 0o600)
+        self._size = 0
+        self._write(MARK)
+        self._size = len(MARK)
+        folder = os.open(self._folder, os.O_RDONLY | os.O_DIRECTORY)
+        try:
+            os.fsync(folder)
+        finally:
+            os.close(folder)
+
+    def _write(self, data: bytes) -> None:
+        left = memoryview(data)
+        while left:
+            left = left[os.write(self._descriptor, left):]
+
+    def _leave(self) -> None:
+        if self._descriptor >= 0:
+            os.close(self._descriptor)
+            self._descriptor = -1
+
+
+def tail_of(folder: Path) -> Tail:
+    """The end of the journal in a folder; of an empty one, that of a new journal. Raises `BadJournal` if it is damaged there."""
+    told = ""
+    for first, path in reversed(files_of(folder)):
+        flushes, rest = flushes_in(path)
+        if rest:
+            told = f"{path}: a torn flush of {rest} bytes at its end counts for nothing: it never became durable"
+        if flushes:
+            if flushes[0].sequence != first:
+                raise BadJournal(f"{path}: it begins with flush {flushes[0].sequence}")
+            last = flushes[-1]
+            return Tail(last.journal, last.sequence, last.next, last.answered, last.time, told)
+    return Tail(secrets.randbits(63) | 1, 0, 1, 0, 0, told)
+
+
+def first_line(path: Path) -> int | None:
+    """The number of the first line of a file, or of the next one if its first flush has none; None if the file has no whole flush."""
+    with path.open("rb") as file:
+        data = file.read(len(MARK) + HEAD_SIZE)
+        data += file.read(body_size(data[len(MARK):]))
+    try:
+        return read_flush(data, len(MARK))[0].first
+    except (Torn, BadJournal):
+        return None
+
+
+class FileReader:
+    """Reads the journal in a folder from the file on that a line stands in. Its writer may be writing meanwhile."""
+
+    def __init__(self, folder: Path, line: int = 1) -> None:
+        """Begins at the file that the line of this number stands in, or at the first one."""
+        self._folder = folder
+        self._line = line
+        self._path = folder
+        self._file: FileIO | None = None
+        # The flush that the file begins with, the next one's number, the place of what is not read yet, and the bytes from there on.
+        self._begins = -1
+        self._expected = -1
+        self._at = 0
+        self._rest = b""
+
+    def more(self) -> list[Flush]:
+        """The flushes that have come since. Raises `BadJournal` if one is damaged or missing."""
+        found: list[Flush] = []
+        while True:
+            # What comes after this file is looked for first: once there is such a file, nothing is written here any more.
+            later = self._later()
+            if self._file is not None:
+                found += self._here(None if later is None else later[0])
+            if later is None:
+                return found
+            self._go_on(*later)
+
+    def close(self) -> None:
+        """Leaves the journal."""
+        if self._file is not None:
+            self._file.close()
+            self._file = None
+
+    def _later(self) -> tuple[int, Path] | None:
+        """The file to go on with, and the number of its first flush."""
+        files = files_of(self._folder)
+        if self._file is None:
+            return self._first(files)
+        inode = os.fstat(self._file.fileno()).st_ino
+        for begins, path in files:
+            if begins > self._begins or begins == self._begins and path.stat().st_ino != inode:
+                return begins, path
+        return None
+
+    def _first(self, files: list[tuple[int, Path]]) -> tuple[int, Path] | None:
+        """Of files that begin at the line or before it the last one, of those that begin alike the first; else the first that has a flush."""
+        chosen, begins = None, 0
+        for sequence, path in files:
+            first = first_line(path)
+            if first is not None and (chosen is None or begins < first <= self._line):
+                chosen, begins = (sequence, path), first
+        return chosen or (files[0] if files else None)
+
+    def _go_on(self, begins: int, path: Path) -> None:
+        if self._file is not None and not self._expected - 1 <= begins <= self._expected:
+            raise BadJournal(f"{path}: flush {self._expected} is to come after {self._path}, and this file begins with flush {begins}: a part is missing")
+        self.close()
+        self._file, self._path = path.open("rb", buffering=0), path
+        self._begins = self._expected = begins
+        self._at, self._rest = 0, b""
+
+    def _here(self, later: int | None) -> list[Flush]:
+        """The flushes that have come in this file; `later` is the first flush of the file after it."""
+        while data := self._file.read(READ):
+            self._rest += data
+        if self._at == 0:
+            if not _is_marked(self._path, self._rest):
+                return []
+            self._at, self._rest = len(MARK), self._rest[len(MARK):]
+        found, place = [], 0
+        try:
+            while place < len(self._rest):
+                flush, place = self._counted(place)
+                found.append(flush)
+        except Torn:
+            pass
+        except BadJournal as error:
+            # What failed, or was torn, stands again at the beginning of the next file.
+            if later != self._expected:
+                raise BadJournal(f"{self._path}: at byte {self._at + place}: {error}") from error
+        self._at, self._rest = self._at + place, self._rest[place:]
+        return found
+
+    def _counted(self, place: int) -> tuple[Flush, int]:
+        flush, end = read_flush(self._rest, place)
+        if flush.sequence != self._expected:
+            raise BadJournal(f"flush {flush.sequence} stands where flush {self._expected} is to be")
+        self._expected += 1
+        return flush, end
+
+
+def expire_files(folder: Path, journal: int, line: int) -> int:
+    """Removes the files that have no line after this one, and gives how many. The last file stays. Raises `BadJournal` if it is another journal."""
+    tail = tail_of(folder)
+    if tail.journal != journal or tail.next <= line:
+        raise BadJournal(f"{folder}: the snapshot is of another journal than this one")
+    files = files_of(folder)
+    begins = [first_line(path) for _, path in files]
+    removed = 0
+    for (_, path), after in zip(files, begins[1:], strict=False):
+        if after is None or after > line + 1:
+            break
+        path.unlink()
+        removed += 1
+    return removed

@@ -1,0 +1,241 @@
+# SPDX-License-Identifier: Apache-2.0
+"""Runs a journal's lines in their order over a store of its own, and compares the digest of each reply with the leader's."""
+from __future__ import annotations
+
+import asyncio
+import contextlib
+import socket
+import tempfile
+import time
+from collections import deque
+from collections.abc import Callable
+from pathlib import Path
+
+from mserve_client import BadReply
+
+from .history import CUT_SHORT, Answered, Began, Event
+from .lines import HALT, Line
+from .replies import Answer, ReplyReader
+from .server import CONNECTIONS, HOST, PATIENCE, Child, NoStart, launched
+from .turns import WINDOW, Lost
+
+# Bytes of a reply that are kept: its code is wanted, and its digest is of all of them.
+ROOM = 4096
+
+
+class Stopped(Exception):
+    """The lines cannot be run any further; the text says why, and at which line."""
+
+
+class Differs(Stopped):
+    """A line is answered otherwise than it was."""
+
+    def __init__(self, event: Answered, answer: Answer) -> None:
+        line, here, there = event.line, answer.reply.code or "no code", event.reply.code or "no code"
+        how = "with another output" if here == there else f"with {here} here, and with {there} there"
+        super().__init__(f"line {line.number}, of terminal {line.terminal}, is answered otherwise than it was, {how}: the two stores differ")
+        self.number = line.number
+
+
+class Player(asyncio.Protocol):
+    """A connection over which lines are run in the order in which they come."""
+
+    def __init__(self) -> None:
+        self._reader = ReplyReader(self._turn, ROOM)
+        self._reader.keep_digests()
+        self._flying: deque[tuple[int, asyncio.Future[Answer]]] = deque()
+        self._transport: asyncio.Transport | None = None
+        self._socket: socket.socket | None = None
+        self._fault = "the server ended"
+
+    def play(self, terminal: int, text: bytes) -> asyncio.Future[Answer]:
+        """The answer of a line, once it comes. It ends by `Lost` if the server does."""
+        reply = asyncio.get_running_loop().create_future()
+        if self._transport is None or self._transport.is_closing():
+            reply.set_exception(Lost(self._fault))
+            return reply
+        self._flying.append((terminal, reply))
+        self._transport.write(Line(text).sent_by(terminal))
+        return reply
+
+    def close(self) -> None:
+        """Ends the connection in order: the server reads its end."""
+        if self._transport is not None:
+            self._transport.close()
+
+    def connection_made(self, transport: asyncio.BaseTransport) -> None:
+        assert isinstance(transport, asyncio.Transport)
+        self._transport = transport
+        self._socket = transport.get_extra_info("socket")
+
+    def data_received(self, data: bytes) -> None:
+        try:
+            self._reader.feed(data, self._answered)
+        except BadReply as error:
+            self._fault = str(error)
+            self._transport.abort()
+            return
+        if self._socket is not None:
+            self._socket.setsockopt(socket.IPPROTO_TCP, socket.TCP_QUICKACK, 1)
+
+    def connection_lost(self, error: Exception | None) -> None:
+        self._transport = None
+        for _, reply in self._flying:
+            if not reply.done():
+                reply.set_exception(Lost(self._fault))
+        self._flying.clear()
+
+    def _turn(self) -> int | None:
+        return self._flying[0][0] if self._flying else None
+
+    def _answered(self, answer: Answer) -> None:
+        _, reply = self._flying.popleft()
+        if not reply.done():
+            reply.set_result(answer)
+
+
+class Stage:
+    """A server over a store of its own, and how far it has run the journal. `at` is the last line that is run and compared, `open` are the terminals
+    that may have variables or locks; `reported` counts what was told of lines whose effect is not known."""
+
+    def __init__(self, program: Path, store: str, tell: Callable[[str], None], settings: Path | None = None, connections: int = CONNECTIONS) -> None:
+        """`settings` are those that the leader's have to be; without them the leader's own are taken."""
+        self._program = program
+        self._store = store
+        self._tell = tell
+        self._settings = settings
+        self._connections = connections
+        self._text = b""
+        self._player: Player | None = None
+        self._due: deque[tuple[Answered, asyncio.Future[Answer]]] = deque()
+        self.child: Child | None = None
+        self.at = 0
+        self.open: set[int] = set()
+        self.reported = 0
+
+    async def begin(self, text: bytes) -> None:
+        """Starts the server by settings. Raises `NoStart`."""
+        self._text = text
+        with tempfile.NamedTemporaryFile(suffix=".toml") as made:
+            made.write(text)
+            made.flush()
+            self.child = await launched(self._program, self._settings or Path(made.name), self._store, self._connections)
+            self._player = await joined(self.child)
+        self.open.clear()
+
+    async def take(self, event: Event) -> None:
+        """Runs a line, or begins anew. What differs shows at one of the next events, or at `drained`. Raises `Stopped`."""
+        if isinstance(event, Began):
+            await self._began(event)
+            return
+        if self._player is None:
+            raise Stopped(f"line {event.line.number} comes before a start: begin with a snapshot")
+        line = event.line
+        if line.text == HALT.data:
+            self.open.discard(line.terminal)
+        else:
+            self.open.add(line.terminal)
+        self._due.append((event, self._player.play(line.terminal, line.text)))
+        if event.reply.code in CUT_SHORT:
+            await self._cut_short(event)
+        while self._due and (self._due[0][1].done() or len(self._due) >= WINDOW):
+            await self._compare()
+
+    async def drained(self) -> None:
+        """Waits until all lines are run and compared. Raises `Stopped`."""
+        while self._due:
+            await self._compare()
+
+    def behind(self) -> float:
+        """The seconds since the oldest line that is not compared yet was sent by the leader."""
+        return max(0.0, time.time() - self._due[0][0].line.time / 1e6) if self._due else 0.0
+
+    async def leave(self) -> None:
+        """Ends the connection in order, and leaves the server as it is."""
+        if self._player is not None:
+            self._player.close()
+            self._player = None
+
+    async def end(self) -> None:
+        """Ends the server in order, if it has one connection alone, and at once if it has more."""
+        await self.leave()
+        if self.child is None:
+            return
+        process, self.child = self.child.process, None
+        if self._connections > 1 and process.returncode is None:
+            process.terminate()
+        try:
+            await asyncio.wait_for(process.wait(), PATIENCE)
+        except TimeoutError:
+            process.kill()
+            await process.wait()
+
+    async def _compare(self) -> None:
+        """Compares the oldest reply that is due."""
+        event, reply = self._due[0]
+        try:
+            answer = await reply
+        except Lost as error:
+            raise Stopped(f"line {event.line.number} could not be run: {error}") from error
+        self._due.popleft()
+        if event.reply.code not in CUT_SHORT and answer.digest != event.reply.digest:
+            raise Differs(event, answer)
+        self.at = event.line.number
+
+    async def _cut_short(self, event: Answered) -> None:
+        """A line that had no memory, or no disk: its session is gone there, and a first part of its writes stands."""
+        await self.drained()
+        self._report(f"line {event.line.number}, of terminal {event.line.terminal}, was answered {event.reply.code}: of what it was to write a first "
+                     "part stands there, and all of it may stand here")
+        await self._halt({event.line.terminal})
+
+    async def _began(self, event: Began) -> None:
+        """All sessions begin anew, by settings that may be others."""
+        await self.drained()
+        start = event.start
+        if start.base is not None and start.base < event.answered:
+            raise Stopped(f"before line {start.number} the leader's store was put back to where it stood after line {start.base}: "
+                          f"lines {start.base + 1} to {event.answered} were undone there, and have been run here")
+        for line in event.unknown:
+            self._report(f"line {line.number}, of terminal {line.terminal}, had no reply when the leader's server ended: it may have been run there, "
+                         "in part or whole, and is not run here")
+        if start.fresh and self._store != "memory" and self.at:
+            raise Stopped(f"before line {start.number} the leader's store was made anew: begin there with an empty store")
+        if self.child is None and not start.fresh and not self.at:
+            raise Stopped("the journal begins over a store that was there before: begin with a snapshot")
+        await self._renewed(start.settings, start.fresh and self._store == "memory")
+        self.at = start.number - 1
+
+    async def _renewed(self, text: bytes, anew: bool) -> None:
+        """Ends all sessions; the server is started again if its settings are others, or its store is a new one."""
+        if self._settings is not None and self._settings.read_bytes() != text:
+            raise Stopped(f"from line {self.at + 1} on the leader has other settings than {self._settings}: copy them, and start again")
+        if self.child is None or anew or text != self._text:
+            await self.end()
+            await self.begin(text)
+        else:
+            await self._halt(set(self.open))
+
+    async def _halt(self, terminals: set[int]) -> None:
+        try:
+            await asyncio.gather(*(self._player.play(terminal, HALT.data) for terminal in terminals))
+        except Lost as error:
+            raise Stopped(f"after line {self.at}: {error}") from error
+        self.open -= terminals
+
+    def _report(self, text: str) -> None:
+        self.reported += 1
+        self._tell(text)
+
+
+async def joined(child: Child) -> Player:
+    """A connection to a child, which may be starting: the opening of a store takes time. Raises `NoStart`."""
+    loop, pause = asyncio.get_running_loop(), 0.005
+    while True:
+        if child.process.returncode is not None:
+            raise NoStart(f"it ended with status {child.process.returncode} before it served")
+        with contextlib.suppress(ConnectionRefusedError):
+            _, player = await loop.create_connection(Player, HOST, child.port)
+            return player
+        await asyncio.sleep(pause)
+        pause = min(2 * pause, 0.1)

@@ -1,0 +1,173 @@
+# SPDX-License-Identifier: Apache-2.0
+"""A standby: it runs the journal's lines as they come over a store of its own, and compares each reply's digest. It serves nobody until it is
+promoted: then it has taken the journal, so that no other front can write it, and run all that was answered."""
+from __future__ import annotations
+
+import asyncio
+import contextlib
+import signal
+import time
+from pathlib import Path
+
+from .control import Answered, Control, Refused
+from .history import History
+from .journal import Journal, LogFault, LogTaken
+from .keeper import Promoted
+from .metrics import Metrics
+from .places import reader_of, writer_of
+from .player import Stage, Stopped
+from .records import BadJournal, Flush
+from .server import NoStart, tell
+from .settings import Settings
+from .standing import Standing, forget_standing, place_of, read_standing, write_standing
+
+# Seconds between two looks at the journal, and between two after one that failed.
+POLL, RETRY = 0.01, 1.0
+
+
+class Standby:
+    """A standby, from its start to its promotion or its end."""
+
+    def __init__(self, settings: Settings) -> None:
+        self._settings = settings
+        self._store = None if settings.volatile or settings.store is None else Path(settings.store)
+        self._stage = Stage(settings.program, str(settings.store), tell, settings.server_settings)
+        self._history = History()
+        self._journal_number = 0
+        self._reader = reader_of(settings.journal, 1)
+        self._stopping = asyncio.Event()
+        self._wanted: asyncio.Future[Answered] | None = None
+        self._wake = asyncio.Event()
+        self._control = Control(settings.journal.control, {"status": self._status, "promote": self._promote})
+        self._fault = ""
+
+    async def run(self) -> Promoted | None:
+        """Follows until it is promoted, or stopped: then it is None. Raises `NoStart` if it cannot go on; the store is not to be used then, unless it
+        says otherwise."""
+        loop = asyncio.get_running_loop()
+        for number in (signal.SIGTERM, signal.SIGINT):
+            loop.add_signal_handler(number, self._stop)
+        promoted = None
+        try:
+            await self._begin()
+            await self._control.listen()
+            tell(f"standing by, after line {self._stage.at} of the journal")
+            promoted = await self._follow()
+            return promoted
+        except (Stopped, BadJournal) as error:
+            raise NoStart(f"the standby stops: {error}") from error
+        finally:
+            self._control.close()
+            await asyncio.to_thread(self._reader.close)
+            if promoted is None:
+                await self._stage.end()
+
+    def _stop(self) -> None:
+        self._stopping.set()
+        self._wake.set()
+
+    async def _begin(self) -> None:
+        """Finds where the store stands, and starts its server."""
+        if self._settings.join is not None:
+            raise NoStart("a standby has a server of its own: server.store in place of server.join")
+        standing = None if self._store is None else read_standing(self._store)
+        if standing is None and self._store is not None and self._store.exists():
+            raise NoStart(f"{self._store}: nobody knows up to which line it has run the journal, since there is no {place_of(self._store).name} beside it: "
+                          "put back a snapshot (mbackup restore)")
+        if standing is not None:
+            self._journal_number, self._stage.at = standing.journal, standing.number
+            if standing.open:
+                tell(f"{len(standing.open)} sessions were open where the store stands, and their variables and locks are in no store: if a line that "
+                     "needs them comes, the standby stops; it is to begin with an exact snapshot")
+            await self._stage.begin(self._settings.server_settings.read_bytes())
+            forget_standing(self._store)
+        self._history = History(self._stage.at)
+        self._reader = reader_of(self._settings.journal, self._stage.at + 1)
+
+    async def _follow(self) -> Promoted | None:
+        """Runs what comes, until it is promoted or stopped."""
+        while True:
+            came = await self._step()
+            if self._stopping.is_set():
+                await self._left()
+                return None
+            if self._wanted is not None:
+                promoted = await self._taken()
+                if promoted is not None:
+                    return promoted
+            if not came:
+                with contextlib.suppress(TimeoutError):
+                    await asyncio.wait_for(self._wake.wait(), RETRY if self._fault else POLL)
+                self._wake.clear()
+
+    async def _step(self) -> bool:
+        """Runs what has come, and says whether anything has."""
+        try:
+            flushes: list[Flush] = await asyncio.to_thread(self._reader.more)
+            if self._fault:
+                tell("the journal can be read again")
+            self._fault = ""
+        except LogFault as error:
+            if not self._fault:
+                tell(f"the journal cannot be read: {error}; it is tried again")
+            self._fault = str(error)
+            return False
+        for flush in flushes:
+            self._journal_number = self._journal_number or flush.journal
+            if flush.journal != self._journal_number:
+                raise BadJournal("the store has run lines of another journal than this one: put back a snapshot")
+        for event in self._history.take(flushes):
+            await self._stage.take(event)
+        if not flushes:
+            await self._stage.drained()
+        return bool(flushes)
+
+    async def _left(self) -> None:
+        """Ends in order: the store is known to stand where it does."""
+        await self._stage.drained()
+        at, terminals = self._stage.at, tuple(self._stage.open)
+        await self._stage.end()
+        if self._store is not None and self._store.exists():
+            write_standing(self._store, Standing(self._journal_number, at, terminals))
+
+    async def _status(self, _: dict[str, object]) -> Answered:
+        behind = self._history.at - self._stage.at
+        return {"state": "standby", "line": self._stage.at, "behind": behind, "seconds": round(self._stage.behind(), 3), "fault": self._fault,
+                "reported": self._stage.reported}
+
+    async def _promote(self, _: dict[str, object]) -> Answered:
+        """Asks for the promotion, and waits for what comes of it."""
+        if self._wanted is None:
+            self._wanted = asyncio.get_running_loop().create_future()
+            self._wake.set()
+        return await asyncio.shield(self._wanted)
+
+    async def _taken(self) -> Promoted | None:
+        """Takes the journal, and runs what was answered. None if another front has it."""
+        wanted, began = self._wanted, time.monotonic()
+        journal = Journal(writer_of(self._settings.journal), Metrics(), tell)
+        try:
+            await journal.take()
+        except (LogTaken, LogFault) as error:
+            self._wanted = None
+            await journal.close()
+            wanted.set_exception(Refused(f"not promoted: {error}"))
+            return None
+        try:
+            while await self._step():
+                pass
+            if self._fault or self._history.last != journal.next - 1:
+                raise BadJournal(f"the journal was read up to line {self._history.last}, and ends with line {journal.next - 1}{self._fault}")
+            if self._stage.child is None:
+                raise BadJournal("the journal has no start: there is nothing to promote")
+        except (Stopped, BadJournal) as error:
+            await journal.close()
+            wanted.set_exception(Refused(f"not promoted: {error}"))
+            await asyncio.sleep(0.1)
+            raise
+        await self._stage.leave()
+        unsent = [line.number for line in self._history.unanswered]
+        tell(f"promoted after line {self._history.at}" + (f": lines {unsent[0]} to {unsent[-1]} had no reply, and were not run" if unsent else ""))
+        wanted.set_result({"line": self._history.at, "not run": unsent, "seconds": round(time.monotonic() - began, 3)})
+        await asyncio.sleep(0)
+        return Promoted(self._stage.child, journal, self._history.at)

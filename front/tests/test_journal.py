@@ -1,0 +1,444 @@
+# SPDX-License-Identifier: Apache-2.0
+"""The journal: its records and files, cut and turned anywhere; what waits for it; a disk that is full; and a clock that steps back."""
+from __future__ import annotations
+
+import asyncio
+import os
+import random
+import re
+import subprocess
+import time
+from collections.abc import Iterator
+from pathlib import Path
+
+import pytest
+from front import COMMAND, Front, in_loop, missed, mjournal
+from mserve_front import journal as journal_module
+from mserve_front.faults import HeldBack, NoJournal
+from mserve_front.history import Answered, Began, History
+from mserve_front.journal import Journal, LogFault, LogTaken, Tail
+from mserve_front.journal_file import MARK, FileLog, FileReader, files_of, tail_of
+from mserve_front.lines import Line
+from mserve_front.metrics import Metrics
+from mserve_front.records import BadJournal, Flush, LineRecord, ReplyRecord, StartRecord, read_flush
+from mserve_front.turns import Turns, Unsent
+from test_turns import Peer
+
+
+def flushes(count: int = 5) -> list[Flush]:
+    """A journal: a start, and flushes of a line each and the reply of the line before."""
+    found = [Flush(7, 1, 1, 0, 1_000, (StartRecord(1, 1_000, 0, None, True, b"[[account]]\n"),))]
+    for number in range(1, count):
+        line = LineRecord(number, 1_000 + number, 9999, "ada", b"S ^X(%d)=1\t" % number)
+        reply = (ReplyRecord(number - 1, bytes(range(16)), "M6" if number % 2 else ""),) if number > 1 else ()
+        found.append(Flush(7, number + 1, number + 1, number - 1, 1_000 + number, (line, *reply)))
+    return found
+
+
+def written(folder: Path, parts: list[Flush], roll: int = 1 << 20) -> Path:
+    """A journal with these flushes in a folder, and its last file."""
+    log = FileLog(folder, roll)
+    log.take()
+    for flush in parts:
+        log.append(flush)
+    log.close()
+    return files_of(folder)[-1][1]
+
+
+def test_records_there_and_back() -> None:
+    for flush in flushes(20):
+        data = flush.packed()
+        assert read_flush(b"x" + data + b"more", 1) == (flush, 1 + len(data))
+    assert flushes()[3].first == 3 and flushes()[0].first == 1
+
+
+def test_a_journal_that_is_cut_at_each_byte(tmp_path: Path) -> None:
+    """What is left is what was written up to the cut, and a part of a flush counts for nothing."""
+    parts = flushes()
+    path = written(tmp_path, parts)
+    data, ends = path.read_bytes(), [len(MARK)]
+    for flush in parts:
+        ends.append(ends[-1] + len(flush.packed()))
+    assert ends[-1] == len(data)
+    for cut in range(len(data)):
+        path.write_bytes(data[:cut])
+        whole = sum(end <= cut for end in ends[1:])
+        reader = FileReader(tmp_path)
+        assert reader.more() == parts[:whole], cut
+        reader.close()
+        tail = tail_of(tmp_path)
+        assert (tail.sequence, tail.next) == ((whole, parts[whole - 1].next) if whole else (0, 1))
+        assert ("torn flush" in tail.told) == (cut not in [0, *ends])
+        # The zeros of a block that was never written are no damage either.
+        path.write_bytes(data[:cut] + bytes(600))
+        assert tail_of(tmp_path).sequence == whole
+
+
+def test_one_bit_that_is_turned(tmp_path: Path) -> None:
+    """It is told by its place, wherever it is, and nothing of the journal is taken for good."""
+    path = written(tmp_path, flushes(4))
+    data = path.read_bytes()
+    for place in range(len(data)):
+        for bit in (1 << number for number in range(8)):
+            path.write_bytes(data[:place] + bytes([data[place] ^ bit]) + data[place + 1:])
+            with pytest.raises(BadJournal, match="at byte|does not begin with its mark"):
+                FileReader(tmp_path).more()
+            with pytest.raises(BadJournal, match=path.name):
+                tail_of(tmp_path)
+
+
+def test_a_torn_end_is_left_and_the_next_file_goes_on(tmp_path: Path) -> None:
+    parts = flushes(6)
+    path = written(tmp_path, parts[:4])
+    path.write_bytes(path.read_bytes()[:-1])
+    log = FileLog(tmp_path, 1 << 20)
+    tail = log.take()
+    assert (tail.sequence, tail.next, tail.answered) == (3, 3, 1) and "torn flush" in tail.told
+    for flush in parts[3:]:
+        log.append(flush)
+    log.close()
+    assert [begins for begins, _ in files_of(tmp_path)] == [1, 4]
+    reader = FileReader(tmp_path)
+    assert reader.more() == parts
+
+
+def test_files_are_rolled_and_read_as_they_grow(tmp_path: Path) -> None:
+    parts, log, reader = flushes(60), FileLog(tmp_path, 500), FileReader(tmp_path)
+    log.take()
+    assert reader.more() == []
+    found: list[Flush] = []
+    for number, flush in enumerate(parts):
+        log.append(flush)
+        if number % 7 == 0:
+            found += reader.more()
+    assert found + reader.more() == parts and len(files_of(tmp_path)) > 5
+    for line in range(1, 61):
+        [first, *_] = FileReader(tmp_path, line).more()
+        assert first.first <= line
+    log.close()
+    files_of(tmp_path)[2][1].unlink()
+    with pytest.raises(BadJournal, match="a part is missing"):
+        FileReader(tmp_path).more()
+
+
+def test_a_flush_that_failed_stands_in_the_next_file(tmp_path: Path) -> None:
+    """A reader that has seen it takes the one that took its place."""
+    parts, log, reader = flushes(6), FileLog(tmp_path, 1 << 20), FileReader(tmp_path)
+    log.take()
+    for flush in parts[:4]:
+        log.append(flush)
+    assert reader.more() == parts[:4]
+    log.mend()
+    with files_of(tmp_path)[0][1].open("ab") as file:
+        file.write(parts[4].packed()[:-3])
+    other = Flush(7, 4, 4, 2, 2_000, (LineRecord(3, 2_000, 1, "ben", b"W 2"), ReplyRecord(2, bytes(16), "")))
+    log.append(other)
+    assert reader.more() == [other]
+    history = History()
+    events = list(history.take([*parts[:4], other]))
+    assert isinstance(events[0], Began) and [one.line.number for one in events[1:]] == [1, 2] and history.unanswered == [other.records[0]]
+
+
+def test_only_one_writes(tmp_path: Path) -> None:
+    log = FileLog(tmp_path, 4096)
+    log.take()
+    with pytest.raises(LogTaken, match="another front"):
+        FileLog(tmp_path, 4096).take()
+    log.close()
+    FileLog(tmp_path, 4096).take()
+
+
+@pytest.mark.parametrize("missing", [1, 2, 3])
+def test_lines_that_are_missing(missing: int) -> None:
+    parts = flushes(6)
+    del parts[missing]
+    with pytest.raises(BadJournal, match="missing"):
+        list(History().take(parts))
+
+
+class Memory:
+    """A log in memory: it waits as long as it is told, or fails."""
+
+    def __init__(self) -> None:
+        self.flushes: list[Flush] = []
+        self.fails: Exception | None = None
+        self.waits = 0.0
+        self.mended = 0
+
+    def take(self) -> Tail:
+        return Tail(7, 0, 1, 0, 0)
+
+    def append(self, flush: Flush) -> None:
+        time.sleep(self.waits)
+        if self.fails:
+            raise self.fails
+        self.flushes.append(flush)
+
+    def mend(self) -> None:
+        self.mended += 1
+
+    def close(self) -> None:
+        pass
+
+
+class Kept:
+    """A connection whose lines go through a journal."""
+
+    def __init__(self) -> None:
+        self.log, self.told = Memory(), []
+        self.metrics = Metrics()
+        self.journal = Journal(self.log, self.metrics, self.told.append)
+        self.turns = Turns(1_000_000, lambda waited, taken: None)
+        self.peer = Peer(self.turns)
+
+    async def begin(self) -> Kept:
+        await self.journal.take()
+        await self.journal.begin(None, True, b"")
+        self.turns.keep(self.journal)
+        return self
+
+    def records(self) -> list[object]:
+        return [record for flush in self.log.flushes for record in flush.records]
+
+
+@pytest.fixture(autouse=True)
+def _impatient(monkeypatch: pytest.MonkeyPatch) -> Iterator[None]:
+    monkeypatch.setattr(journal_module, "RETRY", 0.02)
+    yield
+
+
+@in_loop()
+async def test_no_line_is_sent_and_no_reply_handed_out_before_its_record_is_durable() -> None:
+    kept = await Kept().begin()
+    kept.log.waits = 0.1
+    reply = kept.turns.ask(1, Line(b"W 1"), "ada")
+    await asyncio.sleep(0.05)
+    assert not kept.peer.lines and len(kept.records()) == 1
+    await asyncio.sleep(0.1)
+    assert kept.peer.lines == [b"1 W 1"] and isinstance(kept.records()[-1], LineRecord) and kept.records()[-1].user == "ada"
+    kept.peer.reply(b"1")
+    await asyncio.sleep(0.05)
+    assert not reply.done() and len(kept.records()) == 2
+    assert (await reply).reply.rest == "1" and kept.records()[-1].number == 1
+    assert await kept.journal.close()
+
+
+@in_loop()
+async def test_many_lines_share_a_flush() -> None:
+    kept = await Kept().begin()
+    kept.log.waits = 0.01
+    replies = [kept.turns.ask(terminal, Line(b"W 1")) for terminal in range(1, 41)]
+    while len(kept.peer.lines) < 40:
+        await asyncio.sleep(0.005)
+    for _ in range(40):
+        kept.peer.reply()
+    await asyncio.gather(*replies)
+    assert len(kept.records()) == 81 and len(kept.log.flushes) <= 5
+    text = kept.metrics.text({}, 0, 0, True, (40, True))
+    assert "mfront_journal_records_total 81" in text and "mfront_journal_line 40" in text
+
+
+@in_loop()
+async def test_drawn_replies_keep_their_digests_however_bytes_are_cut() -> None:
+    """The same bytes have the same digest, whatever of a reply is kept."""
+    rng, found = random.Random(5), []
+    for size in (1, 3, 1000):
+        kept = await Kept().begin()
+        kept.turns._reader._room = rng.choice([50, 1_000_000])
+        reply = kept.turns.ask(7, Line(b"W 1"))
+        while not kept.peer.lines:
+            await asyncio.sleep(0.001)
+        data = b"7:a\\0Ab\n7:" + b"x" * 200 + b"\n7-c\n7!M6\n"
+        for start in range(0, len(data), size):
+            kept.turns.data_received(data[start:start + size])
+        await reply
+        found.append(kept.records()[-1])
+    assert found[0] == found[1] == found[2] and found[0].code == "M6"
+
+
+@in_loop()
+async def test_a_journal_that_cannot_be_written() -> None:
+    """Lines that were not sent are refused, those that were keep their replies until these are noted, and then all goes on without a gap."""
+    kept = await Kept().begin()
+    sent = kept.turns.ask(1, Line(b"W 1"))
+    waits = kept.turns.ask(1, Line(b"W 2"))
+    while not kept.peer.lines:
+        await asyncio.sleep(0.001)
+    kept.log.fails = LogFault("journal: No space left on device")
+    refused = kept.turns.ask(2, Line(b"W 3"))
+    with pytest.raises(NoJournal, match="No space left"):
+        await refused
+    with pytest.raises(NoJournal):
+        await waits
+    with pytest.raises(NoJournal):
+        await kept.turns.ask(3, Line(b"W 4"))
+    kept.peer.reply(b"1")
+    await asyncio.sleep(0.1)
+    assert not sent.done() and kept.peer.lines == [] and kept.told == [
+        "the journal cannot be written: journal: No space left on device: no line goes on until it can"]
+    kept.log.fails = None
+    assert (await sent).reply.rest == "1" and kept.told[-1] == "the journal is written again" and kept.log.mended > 1
+    after = kept.turns.ask(2, Line(b"W 5"))
+    while not kept.peer.lines:
+        await asyncio.sleep(0.001)
+    kept.peer.reply(b"5")
+    await after
+    numbers = [record.number for record in kept.records()[1:]]
+    assert numbers == [1, 1, 2, 2] and [flush.sequence for flush in kept.log.flushes] == list(range(1, len(kept.log.flushes) + 1))
+    assert kept.metrics.journal_faults > 1
+
+
+@in_loop()
+async def test_a_reply_that_cannot_be_noted_for_long_is_held_back(monkeypatch: pytest.MonkeyPatch) -> None:
+    monkeypatch.setattr(journal_module, "HELD", 0.1)
+    kept = await Kept().begin()
+    sent = kept.turns.ask(1, Line(b"W 1"))
+    while not kept.peer.lines:
+        await asyncio.sleep(0.001)
+    kept.log.fails = LogFault("full")
+    kept.peer.reply(b"1")
+    with pytest.raises(HeldBack):
+        await sent
+    kept.log.fails = None
+    await kept.journal.mended()
+    assert isinstance(kept.records()[-1], ReplyRecord) and kept.records()[-1].number == 1
+
+
+@in_loop()
+async def test_lines_whose_connection_ends_while_they_wait_for_the_disk_are_not_sent() -> None:
+    """They stand in the journal, and the next start says that they were not sent."""
+    kept = await Kept().begin()
+    first = kept.turns.ask(1, Line(b"W 1"))
+    while not kept.peer.lines:
+        await asyncio.sleep(0.001)
+    kept.log.waits = 0.05
+    second = kept.turns.ask(2, Line(b"W 2"))
+    await asyncio.sleep(0.02)
+    kept.turns.close()
+    with pytest.raises(Unsent):
+        await second
+    await kept.journal.begin(None, False, b"")
+    history = History()
+    began = list(history.take(kept.log.flushes))[-1]
+    assert isinstance(began, Began) and [line.number for line in began.unknown] == [1] and [line.number for line in began.unsent] == [2]
+    assert first.done()
+
+
+@in_loop()
+async def test_a_clock_that_steps_back(monkeypatch: pytest.MonkeyPatch) -> None:
+    """Records keep the last time until the clock is there again, and it is told once."""
+    kept = await Kept().begin()
+    clock = [2_000_000_000 * 10**9]
+    monkeypatch.setattr(journal_module.time, "time_ns", lambda: clock[0])
+    for number, back in enumerate((0, 3600, 3590, -1)):
+        clock[0] = (2_000_000_000 - back) * 10**9
+        reply = kept.turns.ask(number + 1, Line(b"W 1"))
+        while not kept.peer.lines:
+            await asyncio.sleep(0.001)
+        kept.peer.reply()
+        await reply
+    times = [record.time for record in kept.records() if isinstance(record, LineRecord)]
+    assert times == [2_000_000_000 * 10**6] * 3 + [2_000_000_001 * 10**6]
+    assert [text for text in kept.told if "stepped back by 3600 s" in text] == kept.told
+
+
+@in_loop()
+async def test_another_front_that_took_the_journal() -> None:
+    kept = await Kept().begin()
+    kept.log.fails = LogTaken("another front writes this journal")
+    with pytest.raises(NoJournal):
+        await kept.turns.ask(1, Line(b"W 1"))
+    assert "another front" in await kept.journal.taken
+
+
+@pytest.fixture(scope="module")
+def told_of(tmp_path_factory: pytest.TempPathFactory) -> Front:
+    """A front that has ended, with a journal of what three users did."""
+    folder = tmp_path_factory.mktemp("told")
+    front = Front(folder, None, store="store.db", journal={"folder": "journal", "roll": 4096})
+
+    async def lines() -> None:
+        async with front.person("ada") as ada, front.person("cleo") as cleo:
+            for number in range(40):
+                await ada.line(f"S ^X({number})={number},A=$G(A)+{number} W A")
+                await cleo.line(f'S ^RESULT({number})="é\t"' if number == 7 else f"S ^RESULT({number})={number}")
+            assert await ada.told('W ^|"LAB"|RESULT(3),B') == "M6"
+    asyncio.run(lines())
+    front.stop()
+    return front
+
+
+def test_tail_grep_and_verify(told_of: Front) -> None:
+    run = mjournal(told_of.folder / "journal")
+    status, output, told = run("verify")
+    assert (status, told) == (0, "") and output == "lines 1 to 86: 86 answered, 1 starts\n"
+    assert run("tail", "-n", "2")[1].splitlines()[-1].split(" ", 2)[0::2] == ["86", run("tail", "-n", "1")[1].strip().split(" ", 2)[2]]
+    [line] = run("grep", "--code", "M6")[1].splitlines()
+    number, at, terminal, user, code, text = line.split(" ", 5)
+    assert (number, terminal, user, code, text) == ("84", "1", "ada", "M6", 'W ^|"LAB"|RESULT(3),B')
+    assert len(run("grep", "--user", "cleo")[1].splitlines()) == 39 and len(run("grep", r"X\(3\d?\)")[1].splitlines()) == 11
+    assert len(run("grep", "--terminal", "1", "--since", at)[1].splitlines()) == 2 and run("grep", "--until", "2001-01-01")[0] == 1
+    # A text that is no line was not sent, so it is not there.
+    assert run("grep", "RESULT.7")[0] == 1
+
+
+def test_words_of_mjournal(told_of: Front, tmp_path: Path) -> None:
+    run = mjournal(told_of.folder / "journal")
+    assert run("grep", "(")[0] == run("grep", "--since", "soon")[0] == run()[0] == 2
+    assert mjournal(tmp_path / "none")("verify") == (1, "", f"mjournal: {tmp_path / 'none'}: cannot be read: No such file or directory\n")
+    (tmp_path / "front.toml").write_text('[users]\nfile = "u"\n')
+    status, _, told = mjournal()("--config", str(tmp_path / "front.toml"), "verify")
+    assert status == 2 and "keeps no journal" in told
+
+
+@in_loop(90)
+async def test_a_disk_that_is_full(certificate: tuple[Path, Path], tmp_path: Path) -> None:
+    """No line goes on, users and the operator are told, and once there is room all goes on. What was answered is in the journal."""
+    if subprocess.run(["unshare", "--mount", "--map-root-user", "true"], capture_output=True).returncode:
+        missed("a disk of its own cannot be made here: unshare --mount is refused")
+    folder = tmp_path / "front"
+    disk = folder / "disk"
+    disk.mkdir(parents=True)
+    inside = ["unshare", "--mount", "--map-root-user", "bash", "-c", f'mount -t tmpfs -o size=512k,nr_inodes=100 tmpfs {disk} && exec "$@"', "-"]
+    front = Front(folder, None, store="store.db", before=inside, journal={"folder": "disk/journal"})
+    seen = Path(f"/proc/{front.process.pid}/root{disk}")
+    try:
+        async with front.person("ada") as ada, front.person("cleo") as cleo:
+            assert await ada.told("S ^X=1 W ^X") == "1"
+            with (seen / "filler").open("wb", buffering=0) as filler:
+                try:
+                    while True:
+                        filler.write(b"x" * 4096)
+                except OSError:
+                    pass
+            answered = 1
+            while True:
+                record = await ada.line(f"S ^X={answered + 1}")
+                if "refused" in record:
+                    break
+                answered += 1
+            assert record["refused"] == "journal" and "was not sent" in record["why"]
+            assert (await cleo.line("W 1"))["refused"] == "journal"
+            assert "No space left on device: no line goes on until it can" in front.told()
+            os.truncate(seen / "filler", 0)
+            while "refused" in (record := await cleo.line("W 1")):
+                await asyncio.sleep(0.1)
+            assert record["rest"] == "1" and await ada.told("W ^X") == str(answered)
+            assert "the journal is written again" in front.told()
+        status, output, told = mjournal(seen / "journal")("verify")
+        assert (status, told) == (0, "") and re.search(r": \d+ answered, 1 starts", output)
+    finally:
+        front.stop()
+
+
+def test_settings_of_the_journal(tmp_path: Path) -> None:
+    (tmp_path / "settings.toml").write_text("[[account]]\nname = 'A'\nterminals = [1]\nsteps = 1\n")
+    good = '[server]\nsettings = "settings.toml"\nstore = "s"\n[users]\nfile = "u"\n[journal]\n'
+    for text, told in (('folder = 1', "journal.folder: is to be a text"), ('folder = "j"\ndatabase = "d"', "journal.database: is not for a journal"),
+                       ('folder = "j"\nroll = 1', "journal.roll: is to be a whole number"), ('speed = 1', "journal.speed: there is no such key")):
+        (tmp_path / "front.toml").write_text(good + text)
+        done = subprocess.run([*COMMAND, "check", "--config", tmp_path / "front.toml"], capture_output=True, text=True, timeout=30)
+        assert done.returncode == 2 and told in done.stderr
+    (tmp_path / "front.toml").write_text(good)
+    done = subprocess.run([*COMMAND, "--follow", "--config", tmp_path / "front.toml"], capture_output=True, text=True, timeout=30)
+    assert done.returncode == 2 and "a standby follows a journal" in done.stderr

@@ -1,0 +1,105 @@
+# SPDX-License-Identifier: Apache-2.0
+"""The commands of docs/OPERATING.md for snapshots, recovery and fail-over do what the page says."""
+from __future__ import annotations
+
+import asyncio
+import re
+import shlex
+import signal
+import subprocess
+from datetime import UTC, datetime
+from pathlib import Path
+
+from front import FRONT, Front, in_loop, toml, tool
+from running import free_port
+
+PAGE = (FRONT.parent / "docs" / "OPERATING.md").read_text(encoding="utf-8")
+MOST = 10
+
+
+class Operator:
+    """Runs the page's commands for a front, in its folder in place of the system's."""
+
+    def __init__(self, front: Front) -> None:
+        self.front = front
+        self.line = ""
+        self.moment = ""
+        self.standby: Front | None = None
+
+    def does(self, heading: str) -> int:
+        """Runs the commands below a heading, and gives how many these are."""
+        count = 0
+        text = re.search(rf"^### {re.escape(heading)}\n(.*?)(?=^##)", PAGE, re.MULTILINE | re.DOTALL)[1]
+        for block in re.findall(r"^```\n(.*?)^```$", text, re.MULTILINE | re.DOTALL):
+            for command in block.splitlines():
+                self._run(command)
+                count += 1
+        return count
+
+    def _run(self, command: str) -> None:
+        for name, value in (("/var/lib/mserve", str(self.front.folder)), ("/etc/mserve", str(self.front.folder)), ("LINE", self.line), ("MOMENT", self.moment)):
+            command = command.replace(name, value)
+        name, *words = shlex.split(command)
+        if name == "systemctl":
+            self.front.stop() if words[0] == "stop" else self.front.again()
+        elif name == "mfront" and words[0] == "--follow":
+            self.standby = self._follows()
+        elif name in ("mfront", "mjournal", "mbackup"):
+            self._tool(name, words)
+        else:
+            assert name in ("mkdir", "mv"), command
+            done = subprocess.run([name, *words], capture_output=True, text=True)
+            assert done.returncode == 0, done.stderr
+
+    def _tool(self, name: str, words: list[str]) -> None:
+        config = ["--config", str(self.front.folder / "front.toml")]
+        before, after = (config, []) if name == "mjournal" else ([], config if words[0] == "take" else [])
+        status, output, told = tool(name)(*before, *words, *after)
+        assert status == 0, told
+        if words[0] == "take":
+            self.line = Path(output.strip()).name
+
+    def _follows(self) -> Front:
+        """A standby by settings at the page's place."""
+        made = Front.__new__(Front)
+        made.__dict__ |= self.front.__dict__
+        made.port, made.lines_port = free_port(), free_port()
+        made.__dict__ |= {"_words": ["--follow"], "_awaited": "standing by", "_config": "standby.toml", "_told": "standby-told"}
+        tables = self.front.tables | {"journal": self.front.tables["journal"] | {"control": "standby.control"}}
+        tables["listen"] = tables["listen"] | {"port": made.port, "lines_port": made.lines_port}
+        tables["server"] = tables["server"] | {"store": "standby/store"}
+        (made.folder / "standby.toml").write_text(toml(tables))
+        made.process = made._started()
+        return made
+
+
+@in_loop(120)
+async def test_commands_of_the_page(start) -> None:
+    front = start(store="store", journal={"folder": "journal"})
+    operator = Operator(front)
+    async with front.person("ada") as ada:
+        await ada.line("S ^X=1")
+        assert await asyncio.to_thread(operator.does, "Backup while users work") <= MOST
+        await ada.line("S ^X=2")
+        operator.moment = datetime.now(UTC).isoformat()
+        await asyncio.sleep(0.01)
+        await ada.line("K ^X")
+    assert await asyncio.to_thread(operator.does, "Recovery to a moment") <= MOST
+    async with front.person("ada") as ada:
+        assert await ada.told("W ^X") == "2"
+    (front.folder / "standby").mkdir()
+    original = operator._run
+
+    def run(command: str) -> None:
+        if command.startswith("mfront promote"):
+            front.process.send_signal(signal.SIGKILL)
+            front.process.wait()
+        original(command)
+    operator._run = run
+    assert await asyncio.to_thread(operator.does, "A standby, and fail-over") <= MOST
+    try:
+        operator.standby.hears("serving at")
+        async with operator.standby.person("ada") as ada:
+            assert await ada.told("W ^X") == "2"
+    finally:
+        operator.standby.stop()

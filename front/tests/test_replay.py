@@ -1,0 +1,325 @@
+# SPDX-License-Identifier: Apache-2.0
+"""Replay and snapshots: a store at any moment, made anew from a journal, is the store that was there; and what keeps it from being so is told."""
+from __future__ import annotations
+
+import asyncio
+import json
+import os
+import random
+import shutil
+import signal
+import sqlite3
+from datetime import UTC, datetime
+from pathlib import Path
+
+import pytest
+from front import SETTINGS, Front, Person, Ran, in_loop, mjournal, tool
+from mserve_front.journal_file import FileLog, files_of
+from mserve_front.records import Flush, LineRecord, ReplyRecord, StartRecord
+from mserve_front.replies import new_digest
+from mserve_front.snapshots import accounts_of
+from running import PROGRAM
+
+LINES = ["S ^X({n})={n} W ^X({n})", "S A({n})={n},B=$G(B)+{n} W B", "K ^X({m})", "W $O(^X({m})),A", "S ^X({m},{n})=$G(^X({m}))_B", "L +^X({m}):0 W $T", "H",
+         "S X=^X({m})", "F I=1:1:5 S ^Y(I)=$G(^Y(I))+1", "X ^X({m})", "W 1/0", "S ^X(1)=$L(B) W ^X(1),!,$D(^X({n}))", "L", "K", "S ^%Z={n} F  Q:$T"]
+
+
+def replay(front: Front, store: object, *words: object) -> Ran:
+    """Replays the journal of a front."""
+    return mjournal(front.folder / "journal")("replay", "--program", PROGRAM, "--store", store, *words)
+
+
+def held(path: Path) -> dict[str, object]:
+    """What the accounts of a copy of a store hold."""
+    for end in ("", "-wal"):
+        if Path(f"{path}{end}").exists():
+            shutil.copy(f"{path}{end}", f"{path}.copy{end}")
+    return accounts_of(Path(f"{path}.copy"))
+
+
+async def works(person: Person, seed: int, count: int) -> None:
+    """A user who sends drawn lines."""
+    rng = random.Random(seed)
+    for _ in range(count):
+        await person.line(rng.choice(LINES).format(n=rng.randrange(50), m=rng.randrange(50)))
+
+
+def backup(front: Front, *words: object) -> Path:
+    """A snapshot of a front."""
+    status, output, told = tool("mbackup")("take", front.folder, "--config", front.folder / "front.toml", *words)
+    assert status == 0, told
+    return Path(output.strip())
+
+
+@in_loop(120)
+async def test_stores_of_drawn_lines_are_made_anew(start, tmp_path: Path) -> None:
+    """Snapshots are taken while users work; a replay to the number of each holds what it does, and so does one from each that is exact."""
+    front = start(store="store.db", journal={"folder": "journal", "roll": 10_000})
+    async with front.person("ada") as ada, front.person("ben") as ben, front.person("cleo") as cleo:
+        work = asyncio.gather(*(works(person, seed, 150) for seed, person in enumerate((ada, ben, cleo))))
+        snapshots = []
+        for number in range(3):
+            await asyncio.sleep(0.1)
+            snapshots.append(await asyncio.to_thread(backup, front, *["--end-sessions"] * (number == 1)))
+        await work
+        assert [event["event"] for event in ada.events] == ["restarted"] and await ada.told("W 5") == "5"
+    assert front.stop() == 0
+    status, output, told = replay(front, tmp_path / "all")
+    assert (status, told) == (0, ""), told
+    assert held(tmp_path / "all") == held(front.folder / "store.db")
+    assert len(files_of(front.folder / "journal")) > 2
+    for place, snapshot in enumerate(snapshots):
+        assert json.loads((snapshot / "manifest.json").read_text())["open"] == [] or place != 1
+        assert replay(front, tmp_path / f"to{place}", "--to", int(snapshot.name))[0] == 0
+        assert tool("mbackup")("compare", snapshot, tmp_path / f"to{place}")[0] == 0
+    status, output, told = replay(front, tmp_path / "from", "--from", snapshots[1])
+    assert (status, told) == (0, "") and held(tmp_path / "from") == held(tmp_path / "all")
+
+
+@in_loop(60)
+async def test_replay_to_a_moment(start, tmp_path: Path) -> None:
+    front = start(store="store.db", journal={"folder": "journal"})
+    async with front.person("ada") as ada:
+        await ada.line("S ^X=1")
+        await asyncio.sleep(0.05)
+        moment = datetime.now(UTC).isoformat()
+        await asyncio.sleep(0.05)
+        await ada.line("K ^X")
+    front.stop()
+    assert replay(front, tmp_path / "then", "--to", moment)[0] == 0
+    assert held(tmp_path / "then")["CLINIC"].nodes == 1 and held(front.folder / "store.db") == {}
+    assert json.loads((tmp_path / "then.at").read_text())["number"] == 3
+    # What is there is not written over, and no time before the snapshot is taken.
+    assert "is there already" in replay(front, tmp_path / "then")[2]
+    # A front that begins with this store has a number for what is undone, and a replay over it says so.
+    for end in ("", "-wal", ".at"):
+        Path(f"{front.folder / 'store.db'}{end}").unlink(missing_ok=True)
+    shutil.move(tmp_path / "then", front.folder / "store.db")
+    shutil.move(tmp_path / "then.at", front.folder / "store.db.at")
+    front.again()
+    assert "the store was put back to where it stood after line 3: lines up to 5 are undone" in front.told()
+    async with front.person("ada") as ada:
+        assert await ada.told("W ^X") == "1"
+        snapshot = await asyncio.to_thread(backup, front, "--end-sessions")
+        await ada.line("S ^Y=1")
+    front.stop()
+    status, _, told = replay(front, tmp_path / "over")
+    assert status == 1 and "before line 6 the leader's store was put back to where it stood after line 3: lines 4 to 5 were undone" in told
+    assert replay(front, tmp_path / "after", "--from", snapshot)[0] == 0
+    status, _, told = replay(front, tmp_path / "before", "--from", snapshot, "--to", 2)
+    assert status == 3 and "comes before" in told
+
+
+@in_loop(60)
+async def test_a_reply_that_differs_stops_a_replay(start, tmp_path: Path) -> None:
+    front = start(store="store.db", journal={"folder": "journal"})
+    async with front.person("ada") as ada:
+        await ada.line("S ^X=1,^Y=1")
+        snapshot = await asyncio.to_thread(backup, front, "--end-sessions")
+        for line in ("W ^Y", "S ^Z=^X", "W ^X", "W 1"):
+            await ada.line(line)
+    front.stop()
+    number = int(snapshot.name) + 3
+    with sqlite3.connect(snapshot / "store") as base:
+        base.execute("UPDATE node SET v = x'32' WHERE rowid = 1")
+    assert tool("mbackup")("check", snapshot)[0] == 1
+    status, _, told = replay(front, tmp_path / "new", "--from", snapshot)
+    assert status == 3 and "other nodes than the manifest says: CLINIC" in told
+    manifest = json.loads((snapshot / "manifest.json").read_text())
+    manifest["accounts"]["CLINIC"]["digest"] = accounts_of(snapshot / "store")["CLINIC"].digest
+    (snapshot / "manifest.json").write_text(json.dumps(manifest))
+    status, _, told = replay(front, tmp_path / "new", "--from", snapshot)
+    assert status == 1 and f"line {number}, of terminal 1, is answered otherwise than it was, with another output" in told
+    assert not (tmp_path / "new.at").exists()
+
+
+def reply(number: int, terminal: int, text: bytes, code: str = "") -> ReplyRecord:
+    """The record of a reply."""
+    digest = new_digest()
+    digest.update(text)
+    return ReplyRecord(number, digest.digest(), code)
+
+
+def made(folder: Path, *groups: tuple[object, ...]) -> Path:
+    """A journal of records that are given."""
+    log, following, answered = FileLog(folder, 1 << 20), 1, 0
+    log.take()
+    for sequence, group in enumerate(groups, 1):
+        following += sum(isinstance(record, LineRecord) for record in group)
+        answered = max([answered, *(record.number for record in group if isinstance(record, ReplyRecord))])
+        log.append(Flush(7, sequence, following, answered, sequence, tuple(group)))
+    log.close()
+    return folder
+
+
+def begin(number: int = 1, sent: int = 0, base: int | None = None, fresh: bool = True, settings: Path = SETTINGS) -> StartRecord:
+    return StartRecord(number, number, sent, base, fresh, settings.read_bytes())
+
+
+def line(number: int, text: bytes, terminal: int = 1) -> LineRecord:
+    return LineRecord(number, number, terminal, "ada", text)
+
+
+def test_lines_that_were_cut_short_or_have_no_reply(tmp_path: Path) -> None:
+    """They are told, and what comes after them is compared."""
+    folder = made(tmp_path / "journal", (begin(), line(1, b"S ^X=1,^Y=1,A=1"), reply(1, 1, b"whatever", "ZSTORE")), (line(2, b"W $D(A)"), reply(2, 1, b"1-0\n1.\n")),
+                  (line(3, b"W 3"), line(4, b"W 4")), (begin(5, 3, fresh=False), line(5, b"W 5"), reply(5, 1, b"1-5\n1.\n")), (line(6, b"W 6"),))
+    status, output, told = mjournal(folder)("replay", "--program", PROGRAM, "--store", tmp_path / "new")
+    assert status == 1 and "lines 1 to 5 run" in output
+    assert [text.removeprefix("mjournal: ")[:40] for text in told.splitlines()] == [
+        "line 1, of terminal 1, was answered ZSTO", "line 3, of terminal 1, had no reply when", "lines 6 to 6 have no reply in the journa"]
+    assert mjournal(folder)("verify")[1] == "lines 1 to 6: 2 answered, 1 answered ZSTORE, 2 starts, 3 without a reply\n"
+
+
+@pytest.mark.parametrize(("groups", "told"), [
+    (((begin(fresh=False), line(1, b"W 1"), reply(1, 1, b"1-1\n1.\n")),), "begins over a store that was there before"),
+    (((line(1, b"W 1"), reply(1, 1, b"1-1\n1.\n")),), "line 1 comes before a start"),
+    (((begin(), line(1, b"W 1"), reply(1, 1, b"1-2\n1.\n")),), "line 1, of terminal 1, is answered otherwise"),
+    (((begin(), line(1, b"W 1"), reply(1, 1, b"1-1\n1.\n")), (begin(2),)), "was made anew"),
+    (((begin(), line(1, b"W 1"), reply(2, 1, b"")),), "line 2 has a reply before line 1"),
+])
+def test_journals_that_cannot_be_replayed(tmp_path: Path, groups: tuple[tuple[object, ...], ...], told: str) -> None:
+    status, _, found = mjournal(made(tmp_path / "journal", *groups))("replay", "--program", PROGRAM, "--store", tmp_path / "new")
+    assert status == 1 and told in found and len(found.splitlines()) == 1
+
+
+def test_settings_that_change(tmp_path: Path) -> None:
+    """Each start is replayed by its own."""
+    other = tmp_path / "other.toml"
+    other.write_text('[[account]]\nname = "CLINIC"\nterminals = [1]\nsteps = 3\n')
+    folder = made(tmp_path / "journal", (begin(), line(1, b"S ^X=1 S ^Y=1 S ^Z=1 S A=1"), reply(1, 1, b"1.\n")),
+                  (begin(2, 1, 1, False, other), line(2, b"S ^X=1 S ^Y=1 S ^Z=1 S A=1"), reply(2, 1, b"1!ZSTEPS\n", "ZSTEPS")))
+    assert mjournal(folder)("replay", "--program", PROGRAM, "--store", tmp_path / "new")[::2] == (0, "")
+
+
+@in_loop(60)
+async def test_a_server_that_is_killed_and_a_front_that_is(start, tmp_path: Path) -> None:
+    """Both go on with the journal; the line that the server was at is told by a replay, and what was answered is there."""
+    front = start(store="store.db", journal={"folder": "journal"})
+    async with front.person("ada") as ada, front.person("ben") as ben:
+        await ada.line("S ^N=0")
+        for _ in range(20):
+            await ada.send("S ^N=^N+1 F I=1:1:20000 S A=I")
+        assert (await ada.next())["code"] is None
+        front.kill_child()
+        records = [await ada.next() for _ in range(19)]
+        answered = 1 + sum("output" in record for record in records)
+        while not ben.events:
+            await ben.event()
+        assert int(await ben.told("W ^N")) in (answered, answered + 1)
+    async with front.person("ada") as ada:
+        await ada.line("S ^M=1")
+        os.kill(front.process.pid, signal.SIGKILL)
+    front.again()
+    async with front.person("ada") as ada:
+        assert await ada.told("W ^M") == "1"
+    front.stop()
+    assert " 3 starts, 1 without a reply" in mjournal(front.folder / "journal")("verify")[1].replace("3 starts, 2 without", "3 starts, 1 without")
+    status, _, told = replay(front, tmp_path / "new")
+    assert status == 1 and "had no reply when the leader's server ended" in told
+
+
+@in_loop(60)
+async def test_a_store_in_memory_begins_anew(start) -> None:
+    front = start(journal={"folder": "journal"})
+    async with front.person("ada") as ada:
+        await ada.line("S ^X=1")
+        front.kill_child()
+        while not ada.events:
+            await ada.event()
+        assert await ada.told("W $D(^X)") == "0"
+        status, _, told = await asyncio.to_thread(tool("mbackup"), "take", front.folder, "--config", front.folder / "front.toml")
+        assert status == 3 and "the store is in memory" in told
+    front.stop()
+    assert replay(front, "memory")[0] == 0
+
+
+@in_loop(60)
+async def test_a_snapshot_is_put_back_and_the_journal_expires(start, tmp_path: Path) -> None:
+    front = start(store="store.db", journal={"folder": "journal", "roll": 4096})
+    async with front.person("ada") as ada:
+        for number in range(40):
+            await ada.line(f"S ^X({number})={number}")
+        open_one = await asyncio.to_thread(backup, front)
+        assert "1 sessions were open" in tool("mjournal", "--folder", str(front.folder / "journal"))("expire", open_one)[2]
+        snapshot = await asyncio.to_thread(backup, front, "--end-sessions")
+        assert snapshot == open_one
+        await ada.line("S ^Y=1")
+        await ada.line("S ^Y=2")
+    front.stop()
+    before = len(files_of(front.folder / "journal"))
+    assert tool("mjournal", "--folder", str(front.folder / "journal"))("expire", snapshot)[0] == 0
+    assert len(files_of(front.folder / "journal")) < before
+    assert mjournal(front.folder / "journal")("tail", "-n", "1")[0] == 0 and mjournal(front.folder / "journal")("verify")[0] == 0
+    assert replay(front, tmp_path / "new", "--from", snapshot)[0] == 0 and held(tmp_path / "new") == held(front.folder / "store.db")
+    assert "lines 1 to" in replay(front, tmp_path / "none")[2]
+    assert tool("mbackup")("restore", snapshot, tmp_path / "back")[0] == 0
+    assert json.loads((tmp_path / "back.at").read_text())["number"] == int(snapshot.name)
+    assert "is there already" in tool("mbackup")("restore", snapshot, tmp_path / "back")[2]
+    assert str(snapshot) in tool("mbackup")("list", front.folder)[1]
+
+
+@pytest.mark.parametrize("harm", ["cut", "turned", "gone", "manifest"])
+@in_loop(60)
+async def test_snapshots_that_are_damaged(start, harm: str) -> None:
+    front = start(store="store.db", journal={"folder": "journal"})
+    async with front.person("ada") as ada:
+        for number in range(30):
+            await ada.line(f'S ^X({number})="{"x" * 150}"')
+        snapshot = await asyncio.to_thread(backup, front)
+    store = snapshot / "store"
+    data = store.read_bytes()
+    if harm == "cut":
+        store.write_bytes(data[:len(data) // 2])
+    elif harm == "turned":
+        assert b"x" * 50 in data
+        store.write_bytes(data.replace(b"x" * 50, b"!" + b"x" * 49))
+    elif harm == "gone":
+        store.unlink()
+    else:
+        (snapshot / "manifest.json").write_text("{}")
+    status, _, told = tool("mbackup")("check", snapshot)
+    assert status == 1 and str(snapshot) in told and len(told.splitlines()) == 1
+
+
+@in_loop(60)
+async def test_snapshots_that_cannot_be_taken(start, tmp_path: Path) -> None:
+    front = start(store="store.db", journal={"folder": "journal"})
+    words = ("take", "--config", front.folder / "front.toml")
+    assert "there is no such folder" in tool("mbackup")(*words, tmp_path / "none")[2]
+    front.stop()
+    assert "no front that keeps a journal is there" in tool("mbackup")(*words, front.folder)[2]
+    assert not [path for path in front.folder.iterdir() if path.name.startswith(".part")]
+
+
+@in_loop(60)
+async def test_a_journal_that_has_lost_lines_is_refused(start) -> None:
+    """The store says where it stands: a journal that ends before it, or another one, is not gone on with."""
+    front = start(store="store.db", journal={"folder": "journal"})
+    async with front.person("ada") as ada:
+        await ada.line("S ^X=1")
+        await ada.line("S ^X=2")
+    front.stop()
+    [(_, path)] = files_of(front.folder / "journal")
+    data = path.read_bytes()
+    path.write_bytes(data[:-200])
+    with pytest.raises(RuntimeError, match="it has lost what comes"):
+        front.again()
+    path.write_bytes(data[:-30] + bytes([data[-30] ^ 1]) + data[-29:])
+    with pytest.raises(RuntimeError, match="the records of a flush are damaged"):
+        front.again()
+    path.unlink()
+    with pytest.raises(RuntimeError, match="another journal"):
+        front.again()
+    path.write_bytes(data)
+    front.again()
+    async with front.person("ada") as ada:
+        assert await ada.told("W ^X") == "2"
+
+
+@in_loop(60)
+async def test_a_second_front_is_refused(start, tmp_path: Path) -> None:
+    front = start(store="store.db", journal={"folder": "journal"})
+    with pytest.raises(RuntimeError, match="another front writes this journal"):
+        start(store="store.db", journal={"folder": str(front.folder / "journal")})
+    assert front.process.poll() is None

@@ -1,0 +1,204 @@
+# SPDX-License-Identifier: Apache-2.0
+"""A standby: it follows and compares, serves nobody until it is promoted, and loses nothing that was answered when the leader is killed."""
+from __future__ import annotations
+
+import asyncio
+import os
+import random
+import re
+import signal
+import socket
+import sqlite3
+from pathlib import Path
+
+import aiohttp
+import pytest
+from front import Front, Person, Ran, in_loop, mjournal, tool
+from running import PROGRAM
+from test_replay import backup, held, works
+
+# Leaders that are killed, unless more are asked for (--count).
+KILLED = 10
+
+
+def standby(start, journal: Path, **more: object) -> Front:
+    """A standby over a store of its own."""
+    return start(words=["--follow"], awaited="standing by", journal={"folder": str(journal)}, **{"store": "store.db"} | more)
+
+
+def promoted(front: Front) -> Ran:
+    """Has a standby promoted; it serves then."""
+    done = tool("mfront")("promote", "--config", front.folder / "front.toml")
+    if done[0] == 0:
+        front.hears("serving at")
+    return done
+
+
+def line_of(front: Front) -> int:
+    """The line that a standby is at."""
+    return int(re.match(r"state standby, line (\d+), behind \d+, seconds [\d.]+, reported \d+\n$",
+                        tool("mfront")("status", "--config", front.folder / "front.toml")[1])[1])
+
+
+async def caught_up(front: Front, journal: Path) -> int:
+    """Waits until a standby has run all lines."""
+    last = int(mjournal(journal)("tail", "-n", "1")[1].split()[0])
+    while line_of(front) < last:
+        await asyncio.sleep(0.05)
+    return last
+
+
+@in_loop(90)
+async def test_a_standby_follows_and_is_promoted(start, tmp_path: Path) -> None:
+    leader = start(store="store.db", journal={"folder": str(tmp_path / "journal")})
+    second = standby(start, tmp_path / "journal")
+    with socket.socket() as peer:
+        assert peer.connect_ex(("127.0.0.1", second.port)) != 0
+    async with leader.person("ada") as ada, leader.person("ben") as ben, leader.person("cleo") as cleo:
+        await asyncio.gather(*(works(person, seed + 7, 60) for seed, person in enumerate((ada, ben, cleo))))
+        await ada.line("K ^X,^Y")
+        await ada.line("S ^X=1")
+        status, _, told = promoted(second)
+        assert status == 3 and "not promoted: " in told and "another front writes this journal" in told
+        await caught_up(second, tmp_path / "journal")
+    last = await caught_up(second, tmp_path / "journal")
+    leader.stop()
+    stored = held(leader.folder / "store.db")
+    status, output, told = promoted(second)
+    assert status == 0 and output.startswith(f"promoted after line {last}, in ")
+    async with second.person("ada") as ada:
+        assert await ada.told("W ^X") == "1"
+        # The one before is refused while this one serves.
+        with pytest.raises(RuntimeError, match="another front writes this journal"):
+            leader.again()
+        snapshot = await asyncio.to_thread(backup, second)
+        assert tool("mbackup")("check", snapshot)[0] == 0
+    second.stop()
+    assert stored == held(second.folder / "store.db")
+    assert mjournal(tmp_path / "journal")("replay", "--program", PROGRAM, "--store", "memory")[::2] == (0, "")
+
+
+@in_loop(90)
+async def test_a_node_that_is_changed_on_a_standby_stops_it(start, tmp_path: Path) -> None:
+    """The next line that reads it does, and its number is told; the store is not taken again."""
+    leader = start(store="store.db", journal={"folder": str(tmp_path / "journal")})
+    second = standby(start, tmp_path / "journal")
+    async with leader.person("ada") as ada:
+        for number in range(5):
+            await ada.line(f"S ^X({number})=1")
+        await caught_up(second, tmp_path / "journal")
+        assert second.stop() == 0 and (second.folder / "store.db.at").exists()
+        with sqlite3.connect(second.folder / "store.db") as base:
+            assert base.execute("UPDATE node SET v = x'32' WHERE k = (SELECT max(k) FROM node)").rowcount == 1
+        base.close()
+        second.again()
+        for line in ("W ^X(3)", "S ^Y=2", "W ^X(4)", "W ^X(1)"):
+            await ada.line(line)
+        number = int(mjournal(tmp_path / "journal")("grep", r"W \^X\(4\)")[1].split()[0])
+        assert await asyncio.to_thread(second.process.wait, 20) == 3
+        assert f"the standby stops: line {number}, of terminal 1, is answered otherwise" in second.told()
+        with pytest.raises(RuntimeError, match="nobody knows up to which line it has run the journal"):
+            second.again()
+        assert await ada.told("W ^X(4)") == "1"
+
+
+@in_loop(90)
+async def test_a_standby_that_is_killed_begins_with_a_snapshot(start, tmp_path: Path) -> None:
+    leader = start(store="store.db", journal={"folder": str(tmp_path / "journal")})
+    async with leader.person("ada") as ada:
+        await ada.line("S ^X=1")
+        snapshot = await asyncio.to_thread(backup, leader, "--end-sessions")
+        await ada.line("S ^X=2,A=5")
+    second = standby(start, tmp_path / "journal")
+    await caught_up(second, tmp_path / "journal")
+    os.kill(second.process.pid, signal.SIGKILL)
+    second.process.wait()
+    with pytest.raises(RuntimeError, match="put back a snapshot"):
+        second.again()
+    for end in ("", "-wal", ".at"):
+        (second.folder / f"store.db{end}").unlink(missing_ok=True)
+    assert tool("mbackup")("restore", snapshot, second.folder / "store.db")[0] == 0
+    second.again()
+    assert f"standing by, after line {int(snapshot.name)}" in second.told()
+    await caught_up(second, tmp_path / "journal")
+    async with leader.person("ada") as ada:
+        assert await ada.told("W ^X") == "2"
+    leader.stop()
+    assert promoted(second)[0] == 0
+    async with second.person("ada") as ada:
+        assert await ada.told("W ^X") == "2"
+
+
+@in_loop(60)
+async def test_a_standby_that_cannot_go_on(start, tmp_path: Path) -> None:
+    """Other settings, or a journal that begins later than its store, are told."""
+    leader = start(store="store.db", journal={"folder": str(tmp_path / "journal")})
+    other = tmp_path / "other.toml"
+    other.write_text('[[account]]\nname = "CLINIC"\nterminals = [1]\nsteps = 5\n')
+    second = standby(start, tmp_path / "journal", settings=other, users={"ada": "CLINIC"})
+    assert await asyncio.to_thread(second.process.wait, 20) == 3
+    assert f"the leader has other settings than {other}" in second.told()
+    assert leader.process.poll() is None
+    with pytest.raises(RuntimeError, match="a standby has a server of its own"):
+        standby(start, tmp_path / "journal", server={"join": 9, "store": None, "program": None})
+
+
+class Load:
+    """Users who each count at nodes of their own until the leader is gone: which nodes they sent, and which were answered."""
+
+    def __init__(self) -> None:
+        self.sent: set[int] = set()
+        self.answered: set[int] = set()
+
+    async def user(self, person: Person) -> None:
+        """One user, with five lines on their way."""
+        places: dict[int, int] = {}
+        try:
+            while True:
+                while len(places) < 5:
+                    node = len(self.sent)
+                    self.sent.add(node)
+                    places[await person.send(f"S ^N({node})=$G(^N({node}))+1")] = node
+                record = await person.next()
+                node = places.pop(record["id"])
+                if "output" in record:
+                    self.answered.add(node)
+        except (ConnectionError, aiohttp.ClientError):
+            pass
+
+    async def until_killed(self, front: Front, seconds: float) -> None:
+        """Has three users work until the front is killed."""
+        people = [front.person(name) for name in ("ada", "ben", "ada")]
+        for person in people:
+            await person.__aenter__()
+        work = asyncio.gather(*map(self.user, people))
+        await asyncio.sleep(seconds)
+        os.kill(front.process.pid, signal.SIGKILL)
+        await work
+        for person in people:
+            await person.http.close()
+
+    async def counted(self, front: Front) -> dict[int, str]:
+        """What stands at the nodes."""
+        async with front.person("ada") as ada:
+            record = await ada.line('S K="" F  S K=$O(^N(K)) Q:K=""  W K,":",^N(K),!')
+        return {int(line.split(":")[0]): line.split(":")[1] for line in record["output"]}
+
+
+@in_loop(3000)
+async def test_leaders_that_are_killed(start, tmp_path: Path, count: int) -> None:
+    """Each time the standby is promoted: what was answered is there, nothing runs twice, and the next standby runs the journal from its beginning."""
+    rng, load, journal = random.Random(11), Load(), tmp_path / "journal"
+    leader = start(store="store.db", journal={"folder": str(journal)})
+    for number in range(KILLED * count):
+        second = standby(start, journal)
+        await load.until_killed(leader, rng.uniform(0.02, 0.3))
+        status, output, told = promoted(second)
+        assert status == 0, told
+        found = await load.counted(second)
+        assert load.answered <= found.keys() <= load.sent and set(found.values()) == {"1"}, (number, output)
+        leader = second
+    assert len(load.answered) > 10 * KILLED * count
+    leader.stop()
+    status, output, told = mjournal(journal)("replay", "--program", PROGRAM, "--store", tmp_path / "all")
+    assert (status, told) == (0, "") and held(tmp_path / "all") == held(leader.folder / "store.db")

@@ -54,8 +54,8 @@ class Log(Protocol):
     def append(self, flush: Flush) -> None:
         """Keeps a flush: it is durable once this returns. Raises `LogFault`, or `LogTaken` if another front has the journal by now."""
 
-    def mend(self) -> None:
-        """Gets ready to go on after a fault. Raises as `append` does."""
+    def mend(self) -> bool:
+        """Gets ready to go on after a fault, and says whether the flush that failed was kept all the same. Raises as `append` does."""
 
     def close(self) -> None:
         """Gives the journal back."""
@@ -220,11 +220,12 @@ class Journal:
     async def _flushed(self, batch: list[_Lines | _Reply | _Start]) -> bool:
         """Makes a batch durable; if that fails, its lines and all that wait are refused, and the rest waits on."""
         before = self.next, self.answered
-        flush = self._packed(batch)
         began = time.monotonic()
         try:
-            if self.fault is not None:
-                await self._in_thread(self._log.mend)
+            if self.fault is not None and await self._in_thread(self._log.mend):
+                # Its lines stand there and were not sent: those that get their numbers now take their place.
+                self.sequence += 1
+            flush = self._packed(batch)
             await self._in_thread(self._log.append, flush)
         except (LogFault, LogTaken) as error:
             self.next, self.answered = before

@@ -40,6 +40,7 @@ def words() -> argparse.ArgumentParser:
     place.add_argument("--config", type=Path, default=Path(DEFAULT), metavar="FILE", help=f"the settings of the front (default {DEFAULT})")
     place.add_argument("--folder", type=Path, metavar="FOLDER", help="the journal's folder, without settings")
     place.add_argument("--database", metavar="CONNECTION", help="the journal's database, without settings")
+    parser.add_argument("--name", default="main", help="the journal's name in its database (default main)")
     commands = parser.add_subparsers(title="commands", metavar="COMMAND", required=True)
 
     def add(name: str, about: str, more: str = "") -> argparse.ArgumentParser:
@@ -97,7 +98,7 @@ def _pattern(text: str) -> re.Pattern[str]:
 def journal_of(options: argparse.Namespace) -> JournalSettings:
     """Where the journal is."""
     if options.folder is not None or options.database is not None:
-        return JournalSettings(options.folder, options.database)
+        return JournalSettings(options.folder, options.database, options.name)
     table = Table(options.config, "journal", read_toml(options.config).get("journal", {}))
     found = journal_settings(table, options.config.parent)
     if not found.kept:
@@ -269,6 +270,8 @@ async def _begin(replay: Replay, options: argparse.Namespace, store: Path | None
     if store is None:
         raise BadSnapshot("a snapshot is put back into a file: --store FILE")
     manifest = put_back(options.snapshot, store)
+    if manifest.number > last_line(journal_of(options)):
+        raise BadJournal(f"the snapshot stands after line {manifest.number}, and the journal ends before it: it has lost a part, or is another")
     if replay.goal is not None and replay.goal[0] == "number" and replay.goal[1] < manifest.number:
         raise BadSnapshot(f"{options.snapshot}: it stands after line {manifest.number}, and line {replay.goal[1]} comes before: take an earlier one")
     if not manifest.exact:

@@ -88,16 +88,17 @@ class FileLog:
             raise LogFault(f"{self._path}: {error.strerror}") from error
         self._size += len(data)
 
-    def mend(self) -> None:
-        """Leaves the file in which a flush failed, and takes back the part of it that was written."""
+    def mend(self) -> bool:
+        """Leaves the file in which a flush failed, and takes back the part of it that was written: that flush counts for nothing."""
         if self._descriptor < 0:
-            return
+            return False
         with contextlib.suppress(OSError):
             if self._size > len(MARK):
                 os.ftruncate(self._descriptor, self._size)
             else:
                 self._path.unlink()
         self._leave()
+        return False
 
     def close(self) -> None:
         """Gives the lock back."""

@@ -4,8 +4,8 @@ from __future__ import annotations
 
 from typing import Protocol
 
+from . import journal_file
 from .journal import Log
-from .journal_file import FileLog, FileReader, expire_files, tail_of
 from .records import Flush
 from .settings import JournalSettings
 
@@ -22,23 +22,32 @@ class Reader(Protocol):
 
 def writer_of(settings: JournalSettings) -> Log:
     """What writes the journal."""
-    assert settings.folder is not None
-    return FileLog(settings.folder, settings.roll)
+    if settings.folder is not None:
+        return journal_file.FileLog(settings.folder, settings.roll)
+    # Not above: it needs a package that a journal in a folder does without.
+    from .journal_table import TableLog
+    return TableLog(str(settings.database), settings.name)
 
 
 def reader_of(settings: JournalSettings, line: int) -> Reader:
     """What reads the journal from a line on."""
-    assert settings.folder is not None
-    return FileReader(settings.folder, line)
+    if settings.folder is not None:
+        return journal_file.FileReader(settings.folder, line)
+    from .journal_table import TableReader
+    return TableReader(str(settings.database), settings.name, line)
 
 
 def last_line(settings: JournalSettings) -> int:
-    """The number of the last line of a journal; 0 if it has none."""
-    assert settings.folder is not None
-    return tail_of(settings.folder).next - 1
+    """The number of the last line of a journal; 0 if it has none. Raises `BadJournal`, or `LogFault` if it cannot be had now."""
+    if settings.folder is not None:
+        return journal_file.tail_of(settings.folder).next - 1
+    from . import journal_table
+    return journal_table.last_line(str(settings.database), settings.name)
 
 
 def expire(settings: JournalSettings, journal: int, line: int) -> str:
     """Removes what has no line after this one, and says how much that was. Raises `BadJournal` if it is another journal."""
-    assert settings.folder is not None
-    return f"{expire_files(settings.folder, journal, line)} files"
+    if settings.folder is not None:
+        return f"{journal_file.expire_files(settings.folder, journal, line)} files"
+    from . import journal_table
+    return f"{journal_table.expire_rows(str(settings.database), settings.name, journal, line)} rows"

@@ -32,10 +32,12 @@ class Limits:
 
 @dataclass(frozen=True, slots=True)
 class JournalSettings:
-    """Where the journal is: a folder of files, each of `roll` bytes or a little more, or a table of a database; and the socket for operators."""
+    """Where the journal is: a folder of files, each of `roll` bytes or a little more, or a table of a database, where it has a name; and the socket
+    for operators."""
 
     folder: Path | None = None
     database: str | None = None
+    name: str = "main"
     roll: int = 67_108_864
     control: Path | None = None
 
@@ -247,7 +249,7 @@ def _networks(table: Table) -> tuple[ipaddress.IPv4Network | ipaddress.IPv6Netwo
 
 def journal_settings(table: Table, folder: Path) -> JournalSettings:
     """Where the journal is; the socket is in a folder unless it is named."""
-    found = JournalSettings(table.file("folder"), table.text("database"), table.whole("roll", 4096, 1 << 40, JournalSettings().roll),
+    found = JournalSettings(table.file("folder"), table.text("database"), table.text("name", "main"), table.whole("roll", 4096, 1 << 40, JournalSettings().roll),
                             table.file("control", folder / "mfront.control"))
     if found.folder is not None and found.database is not None:
         raise table.fault("database", "is not for a journal that is in a folder: give one of the two")

@@ -14,7 +14,7 @@ from .history import History
 from .journal import Journal, LogFault, LogTaken
 from .keeper import Promoted
 from .metrics import Metrics
-from .places import reader_of, writer_of
+from .places import last_line, reader_of, writer_of
 from .player import Stage, Stopped
 from .records import BadJournal, Flush
 from .server import NoStart, tell
@@ -75,6 +75,7 @@ class Standby:
             raise NoStart(f"{self._store}: nobody knows up to which line it has run the journal, since there is no {place_of(self._store).name} beside it: "
                           "put back a snapshot (mbackup restore)")
         if standing is not None:
+            self._hold_against(standing)
             self._journal_number, self._stage.at = standing.journal, standing.number
             if standing.open:
                 tell(f"{len(standing.open)} sessions were open where the store stands, and their variables and locks are in no store: if a line that "
@@ -83,6 +84,15 @@ class Standby:
             forget_standing(self._store)
         self._history = History(self._stage.at)
         self._reader = reader_of(self._settings.journal, self._stage.at + 1)
+
+    def _hold_against(self, standing: Standing) -> None:
+        """Holds where the store stands against the journal's end."""
+        try:
+            last = last_line(self._settings.journal)
+        except LogFault as error:
+            raise NoStart(f"the journal cannot be read: {error}") from error
+        if standing.number > last:
+            raise BadJournal(f"the store has run it up to line {standing.number}, and it ends with line {last}: it has lost what comes between, or is another")
 
     async def _follow(self) -> Promoted | None:
         """Runs what comes, until it is promoted or stopped."""

@@ -1,0 +1,193 @@
+# SPDX-License-Identifier: Apache-2.0
+"""A journal in a table of PostgreSQL: a row for each flush. Its writer holds an advisory lock of the database by the connection that it writes over,
+so that no two fronts write; a database with synchronous replication answers only once the row is on both machines."""
+from __future__ import annotations
+
+import contextlib
+import secrets
+import zlib
+from collections.abc import Iterator
+
+import psycopg
+
+from .journal import LogFault, LogTaken, Tail
+from .records import BadJournal, Flush, Torn, read_flush
+
+TABLE = """CREATE TABLE IF NOT EXISTS mfront_journal (
+    name text NOT NULL, sequence bigint NOT NULL, next bigint NOT NULL, answered bigint NOT NULL, at timestamptz NOT NULL, flush bytea NOT NULL,
+    PRIMARY KEY (name, sequence))"""
+INSERT = """INSERT INTO mfront_journal (name, sequence, next, answered, at, flush)
+    VALUES (%s, %s, %s, %s, to_timestamp(%s / 1000000.0), %s)"""
+# The first half of the lock's key; the second is made of the journal's name.
+LOCK = 0x6D66726F
+# A database that is away is noticed within so many seconds, and milliseconds.
+CONNECTING, SILENT = 5, 10_000
+# How many rows are read at once.
+ROWS = 256
+
+
+def connected(place: str) -> psycopg.Connection:
+    """A connection. Raises `LogFault`."""
+    try:
+        return psycopg.connect(place, autocommit=True, connect_timeout=CONNECTING, tcp_user_timeout=SILENT, keepalives_idle=SILENT // 1000,
+                               application_name="mfront")
+    except psycopg.Error as error:
+        raise LogFault(told(error)) from error
+
+
+def told(error: psycopg.Error) -> str:
+    """What an error of the database says, in one line."""
+    return "database: " + (" ".join(str(error).split()) or type(error).__name__)
+
+
+@contextlib.contextmanager
+def faults() -> Iterator[None]:
+    """Raises `LogFault` for an error of the database."""
+    try:
+        yield
+    except psycopg.Error as error:
+        raise LogFault(told(error)) from error
+
+
+def tail_of(base: psycopg.Connection, name: str) -> Tail:
+    """The end of a journal; of an empty one, that of a new journal. Raises `BadJournal` if its last flush is damaged."""
+    row = base.execute("SELECT sequence, flush FROM mfront_journal WHERE name = %s ORDER BY sequence DESC LIMIT 1", (name,)).fetchone()
+    if row is None:
+        return Tail(secrets.randbits(63) | 1, 0, 1, 0, 0)
+    last = flush_of(name, *row)
+    return Tail(last.journal, last.sequence, last.next, last.answered, last.time)
+
+
+def flush_of(name: str, sequence: int, data: bytes) -> Flush:
+    """The flush of a row. Raises `BadJournal` if it is damaged."""
+    try:
+        flush, end = read_flush(data, 0)
+    except (Torn, BadJournal) as error:
+        raise BadJournal(f"table mfront_journal: {name}, {sequence}: {error or 'the end of the flush is missing'}") from error
+    if flush.sequence != sequence or end != len(data):
+        raise BadJournal(f"table mfront_journal: {name}, {sequence}: this row has another flush")
+    return flush
+
+
+class TableLog:
+    """The journal in a table, as its one writer has it."""
+
+    def __init__(self, place: str, name: str) -> None:
+        self._place = place
+        self._name = name
+        self._base: psycopg.Connection | None = None
+        self._last = 0
+        self._tried = 0
+
+    def take(self) -> Tail:
+        """Takes the lock, makes the table if it is not there, and finds the end."""
+        self._base = connected(self._place)
+        with faults():
+            self._lock()
+            if self._base.execute("SELECT to_regclass('mfront_journal')").fetchone() == (None,):
+                self._base.execute(TABLE)
+            tail = tail_of(self._base, self._name)
+        self._last = self._tried = tail.sequence
+        return tail
+
+    def append(self, flush: Flush) -> None:
+        """Writes a row, and returns once the database says that it is kept."""
+        if self._base is None:
+            raise LogFault("database: not connected")
+        self._tried = flush.sequence
+        with faults():
+            self._base.execute(INSERT, (self._name, flush.sequence, flush.next, flush.answered, flush.time, flush.packed()))
+        self._last = flush.sequence
+
+    def mend(self) -> bool:
+        """Connects anew, takes the lock, and says whether the row that failed is there all the same. `LogTaken` if others wrote meanwhile."""
+        self.close()
+        self._base = connected(self._place)
+        with faults():
+            self._lock()
+            found = self._base.execute("SELECT max(sequence) FROM mfront_journal WHERE name = %s", (self._name,)).fetchone()[0] or 0
+        if found not in (self._last, self._tried):
+            raise LogTaken("another front has written this journal, or the database has lost a part of it")
+        kept = found > self._last
+        self._last = self._tried = found
+        return kept
+
+    def close(self) -> None:
+        """Ends the connection, and the lock with it."""
+        if self._base is not None:
+            with contextlib.suppress(psycopg.Error):
+                self._base.close()
+            self._base = None
+
+    def _lock(self) -> None:
+        """Takes the lock. Commits are to wait for the disk, and for a synchronous replica if there is one."""
+        if not self._base.execute("SELECT pg_try_advisory_lock(%s, %s)", (LOCK, key_of(self._name))).fetchone()[0]:
+            self.close()
+            raise LogTaken(f"another front writes this journal (an advisory lock of the database, for {self._name})")
+        if self._base.execute("SHOW synchronous_commit").fetchone()[0] in ("off", "local"):
+            self._base.execute("SET synchronous_commit = on")
+
+
+def key_of(name: str) -> int:
+    """The second half of the lock's key."""
+    return zlib.crc32(name.encode()) - (1 << 31)
+
+
+class TableReader:
+    """Reads the journal in a table from the flush on that a line stands in. Its writer may be writing meanwhile."""
+
+    def __init__(self, place: str, name: str, line: int = 1) -> None:
+        self._place = place
+        self._name = name
+        self._line = line
+        self._base: psycopg.Connection | None = None
+        self._expected: int | None = None
+
+    def more(self) -> list[Flush]:
+        """The flushes that have come since. Raises `BadJournal` if one is damaged or missing, `LogFault` if the database is away."""
+        if self._base is None:
+            self._base = connected(self._place)
+        try:
+            return self._rows(self._base)
+        except psycopg.errors.UndefinedTable:
+            return []
+        except psycopg.Error as error:
+            self.close()
+            raise LogFault(told(error)) from error
+
+    def close(self) -> None:
+        """Ends the connection."""
+        if self._base is not None:
+            with contextlib.suppress(psycopg.Error):
+                self._base.close()
+            self._base = None
+
+    def _rows(self, base: psycopg.Connection) -> list[Flush]:
+        if self._expected is None:
+            self._expected = base.execute("SELECT min(sequence) FROM mfront_journal WHERE name = %s AND next >= %s", (self._name, self._line)).fetchone()[0]
+        if self._expected is None:
+            return []
+        rows = base.execute("SELECT sequence, flush FROM mfront_journal WHERE name = %s AND sequence >= %s ORDER BY sequence LIMIT %s",
+                            (self._name, self._expected, ROWS)).fetchall()
+        found = []
+        for sequence, data in rows:
+            if sequence != self._expected:
+                raise BadJournal(f"table mfront_journal: {self._name}: flushes {self._expected} to {sequence - 1} are missing")
+            found.append(flush_of(self._name, sequence, data))
+            self._expected += 1
+        return found
+
+
+def last_line(place: str, name: str) -> int:
+    """The number of the last line of a journal; 0 if it has none."""
+    with connected(place) as base, faults():
+        return tail_of(base, name).next - 1
+
+
+def expire_rows(place: str, name: str, journal: int, line: int) -> int:
+    """Removes the rows that have no line after this one, but for the last, and gives how many. Raises `BadJournal` if it is another journal."""
+    with connected(place) as base, faults():
+        tail = tail_of(base, name)
+        if tail.journal != journal or tail.next <= line:
+            raise BadJournal("table mfront_journal: the snapshot is of another journal than this one")
+        return base.execute("DELETE FROM mfront_journal WHERE name = %s AND next <= %s AND sequence < %s", (name, line + 1, tail.sequence)).rowcount

@@ -1,0 +1,87 @@
+# SPDX-License-Identifier: Apache-2.0
+"""PostgreSQL for these tests: clusters of their own in a folder, reached by a socket there alone."""
+from __future__ import annotations
+
+import os
+import pwd
+import shutil
+import subprocess
+import tempfile
+from pathlib import Path
+
+from front import missed
+
+# Its programs, of the newest version that is there.
+PROGRAMS = sorted(Path("/usr/lib/postgresql").glob("*/bin"), key=lambda path: int(path.parent.name) if path.parent.name.isdigit() else 0)
+USER = "postgres"
+# Less memory and fewer processes than a service has. Its processes are killed here, and the machine is not: so nothing waits for the disk.
+IN_MEMORY = "/dev/shm" if os.access("/dev/shm", os.W_OK) else "/tmp"
+OPTIONS = "-c listen_addresses= -c fsync=off -c shared_buffers=8MB -c max_wal_senders=4 -c autovacuum=off -c wal_keep_size=64MB -c jit=off"
+
+
+def _owner() -> list[str]:
+    """The words by which its programs run as a user who is not root."""
+    return ["setpriv", "--reuid", USER, "--regid", USER, "--clear-groups"] if os.geteuid() == 0 else []
+
+
+def required() -> None:
+    """Skips a test if a part is missing."""
+    try:
+        import psycopg  # noqa: F401
+    except ModuleNotFoundError:
+        missed("psycopg is not there: apt-get install python3-psycopg")
+    if not PROGRAMS:
+        missed("PostgreSQL is not there: apt-get install postgresql")
+    if os.geteuid() == 0 and USER not in {user.pw_name for user in pwd.getpwall()}:
+        missed(f"there is no user {USER}, whom PostgreSQL runs as")
+
+
+class Cluster:
+    """A server of PostgreSQL, in a folder that its user can enter."""
+
+    def __init__(self, primary: Cluster | None = None) -> None:
+        """Makes and starts it; with another one it is a replica of that."""
+        self.folder = Path(tempfile.mkdtemp(prefix="mfront-pg-", dir=IN_MEMORY))
+        self.data = self.folder / "data"
+        if _owner():
+            shutil.chown(self.folder, USER, USER)
+        self.folder.chmod(0o755)
+        if primary is None:
+            self._run("initdb", "-D", self.data, "-A", "trust", "-N", "--wal-segsize=1", "-U", USER, "--no-locale", "-E", "UTF8")
+        else:
+            self._run("pg_basebackup", "-D", self.data, "-R", "-X", "stream", "-c", "fast", "-d", f"{primary.place} application_name=replica")
+        self.start()
+
+    @property
+    def place(self) -> str:
+        """How it is connected to."""
+        return f"host={self.folder} user={USER} dbname=postgres"
+
+    def _run(self, name: str, *words: object) -> None:
+        done = subprocess.run([*_owner(), PROGRAMS[-1] / name, *map(str, words)], capture_output=True, text=True, timeout=60, cwd=self.folder,
+                              stdin=subprocess.DEVNULL)
+        assert done.returncode == 0, f"{name}: {done.stdout}{done.stderr}"
+
+    def start(self) -> None:
+        """Starts it."""
+        self._run("pg_ctl", "start", "-w", "-D", self.data, "-l", self.folder / "log", "-o", f"{OPTIONS} -c unix_socket_directories={self.folder}")
+
+    def stop(self) -> None:
+        """Ends it at once, as a crash does."""
+        self._run("pg_ctl", "stop", "-D", self.data, "-m", "immediate")
+
+    def promote(self) -> None:
+        """Has a replica be the primary."""
+        self._run("pg_ctl", "promote", "-w", "-D", self.data)
+
+    def does(self, statement: str) -> list[tuple[object, ...]]:
+        """Runs a statement, and gives what it finds."""
+        import psycopg
+        with psycopg.connect(self.place, autocommit=True) as base:
+            found = base.execute(statement)
+            return found.fetchall() if found.description else []
+
+    def remove(self) -> None:
+        """Ends it, and removes its folder."""
+        subprocess.run([*_owner(), PROGRAMS[-1] / "pg_ctl", "stop", "-D", self.data, "-m", "immediate"], capture_output=True, timeout=60, cwd="/")
+        shutil.rmtree(self.folder, ignore_errors=True)

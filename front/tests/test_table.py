@@ -1,0 +1,213 @@
+# SPDX-License-Identifier: Apache-2.0
+"""The journal in a table of PostgreSQL: what it keeps, a database that is away, one that lost an acknowledgment, a replica, and fail-over by its lock."""
+from __future__ import annotations
+
+import asyncio
+import random
+from collections.abc import Callable, Iterator
+from pathlib import Path
+
+import database
+import pytest
+from database import Cluster
+from front import Ran, in_loop, tool
+from mserve_front.history import History
+from mserve_front.journal import LogFault, LogTaken
+from mserve_front.places import reader_of, writer_of
+from mserve_front.records import BadJournal, Flush, LineRecord
+from mserve_front.settings import JournalSettings
+from running import PROGRAM
+from test_journal import flushes
+from test_replay import backup, held, works
+from test_standby import Load, promoted
+
+
+@pytest.fixture(scope="module")
+def cluster() -> Iterator[Cluster]:
+    """A server for the tests of this file."""
+    database.required()
+    made = Cluster()
+    yield made
+    made.remove()
+
+
+@pytest.fixture
+def journal(cluster: Cluster, request: pytest.FixtureRequest) -> JournalSettings:
+    """A journal of this test's own."""
+    return JournalSettings(database=cluster.place, name=request.node.name)
+
+
+def table(journal: JournalSettings) -> dict[str, object]:
+    """Its keys in the settings of a front."""
+    return {"database": journal.database, "name": journal.name}
+
+
+def mjournal(journal: JournalSettings) -> Callable[..., Ran]:
+    """Runs mjournal over it."""
+    return tool("mjournal", "--database", str(journal.database), "--name", journal.name)
+
+
+def test_flushes_are_kept_in_order_and_one_writes(journal: JournalSettings) -> None:
+    log, reader, parts = writer_of(journal), reader_of(journal, 1), flushes(30)
+    assert reader.more() == [] and log.take().next == 1
+    for flush in parts[:20]:
+        log.append(flush)
+    assert reader.more() == parts[:20]
+    with pytest.raises(LogTaken, match="advisory lock"):
+        writer_of(journal).take()
+    other = JournalSettings(database=journal.database, name=f"{journal.name} other")
+    second = writer_of(other)
+    assert second.take().sequence == 0
+    second.close()
+    log.close()
+    log = writer_of(journal)
+    tail = log.take()
+    assert (tail.sequence, tail.next, tail.answered, tail.journal) == (20, 20, 18, 7)
+    for flush in parts[20:]:
+        log.append(flush)
+    assert reader.more() == parts[20:]
+    for line in (1, 7, 29, 30):
+        found = reader_of(journal, line).more()
+        assert found == parts[-len(found):] and found[0].first <= line
+    log.close()
+
+
+@pytest.mark.parametrize("statement", ["DELETE FROM mfront_journal WHERE sequence = 3", "UPDATE mfront_journal SET flush = set_byte(flush, 60, 255 - get_byte(flush, 60))",
+                                       "UPDATE mfront_journal SET flush = substr(flush, 1, 50) WHERE sequence = 3",
+                                       "UPDATE mfront_journal SET flush = (SELECT flush FROM mfront_journal AS o WHERE o.name = mfront_journal.name AND sequence = 2) "
+                                       "WHERE sequence = 3"])
+def test_rows_that_are_damaged_or_missing(cluster: Cluster, journal: JournalSettings, statement: str) -> None:
+    log = writer_of(journal)
+    log.take()
+    for flush in flushes(5):
+        log.append(flush)
+    log.close()
+    # Only this journal's: each test has rows in the table.
+    where = " AND" if "WHERE sequence" in statement else " WHERE"
+    cluster.does(f"{statement}{where} name = '{journal.name}'")
+    with pytest.raises(BadJournal, match="missing|damaged|another flush"):
+        reader_of(journal, 1).more()
+    assert mjournal(journal)("verify")[0] == 1
+
+
+def test_a_row_whose_acknowledgment_was_lost(cluster: Cluster, journal: JournalSettings) -> None:
+    """It stands there; its lines were not sent, and those that come next take their numbers."""
+    log, parts = writer_of(journal), flushes(4)
+    log.take()
+    for flush in parts[:3]:
+        log.append(flush)
+    reader = reader_of(journal, 1)
+    history = History()
+    list(history.take(reader.more()))
+    cluster.does(f"SELECT pg_terminate_backend(pid) FROM pg_locks WHERE locktype = 'advisory' AND objid::bigint = {log_key(journal)}")
+    with pytest.raises(LogFault):
+        log.append(parts[3])
+    assert log.mend() is False
+    log.append(parts[3])
+    log._last = 3
+    assert log.mend() is True
+    again = Flush(7, 5, 4, 2, 9_000, (LineRecord(3, 9_000, 1, "ben", b"W 2"),))
+    log.append(again)
+    list(history.take(reader.more()))
+    assert [line.user for line in history.unanswered] == ["ben"] and history.last == 3
+    cluster.does(f"UPDATE mfront_journal SET sequence = 7 WHERE sequence = 5 AND name = '{journal.name}'")
+    with pytest.raises(LogTaken, match="has written this journal"):
+        log.mend()
+    log.close()
+
+
+def log_key(journal: JournalSettings) -> int:
+    """The second half of the lock's key, as the database shows it."""
+    from mserve_front.journal_table import key_of
+    return key_of(journal.name) % (1 << 32)
+
+
+@in_loop(90)
+async def test_a_database_that_is_away(start, tmp_path: Path) -> None:
+    """Lines are refused meanwhile and users told; then all goes on, and what was answered is in the journal."""
+    database.required()
+    cluster = await asyncio.to_thread(Cluster)
+    try:
+        front = start(store="store.db", journal={"database": cluster.place})
+        async with front.person("ada") as ada, front.person("ben") as ben:
+            work = asyncio.gather(works(ben, 3, 60))
+            assert await ada.told("S ^X=1 W ^X") == "1"
+            await asyncio.to_thread(cluster.stop)
+            for _ in range(3):
+                assert (await ada.line("S ^X=2"))["refused"] == "journal"
+                await asyncio.sleep(0.3)
+            await asyncio.to_thread(cluster.start)
+            while "refused" in await ada.line("S ^Y=1"):
+                await asyncio.sleep(0.1)
+            await work
+            assert await ada.told("W ^X,^Y") == "11"
+            snapshot = await asyncio.to_thread(backup, front)
+        assert "no line goes on until it can" in front.told() and "the journal is written again" in front.told()
+        front.stop()
+        run = tool("mjournal", "--config", str(front.folder / "front.toml"))
+        status, output, told = run("replay", "--store", tmp_path / "new")
+        assert (status, told) == (0, "") and held(tmp_path / "new") == held(front.folder / "store.db")
+        assert run("verify")[0] == 0 and run("tail")[0] == 0
+        status, output, _ = run("expire", snapshot)
+        assert status == 3 and "sessions were open" in _ or int(output.split()[0]) > 0
+        await asyncio.to_thread(cluster.stop)
+        status, _, told = await asyncio.to_thread(run, "verify")
+        assert status == 3 and told.startswith("mjournal: database: ")
+        with pytest.raises(RuntimeError, match="the journal cannot be used: database: "):
+            front.again()
+    finally:
+        cluster.remove()
+
+
+@in_loop(120)
+async def test_leaders_that_are_killed(start, journal: JournalSettings, tmp_path: Path) -> None:
+    """The lock goes with the leader's connection; what was answered is there, and nothing runs twice."""
+    rng, load = random.Random(5), Load()
+    leader = start(store="store.db", journal=table(journal))
+    for _ in range(3):
+        second = start(store="store.db", words=["--follow"], awaited="standing by", journal=table(journal))
+        status, _, told = await asyncio.to_thread(promoted, second)
+        assert status == 3 and "another front writes this journal" in told
+        await load.until_killed(leader, rng.uniform(0.05, 0.3))
+        while (done := await asyncio.to_thread(promoted, second))[0]:
+            # The database gives the lock back once it has seen the end of the connection.
+            assert "another front" in done[2]
+        found = await load.counted(second)
+        assert load.answered <= found.keys() <= load.sent and set(found.values()) == {"1"}
+        leader = second
+    leader.stop()
+    assert mjournal(journal)("replay", "--program", PROGRAM, "--store", tmp_path / "all")[::2] == (0, "")
+    assert held(tmp_path / "all") == held(leader.folder / "store.db")
+
+
+@in_loop(120)
+async def test_synchronous_replication(start, tmp_path: Path) -> None:
+    """The primary ends at once, its replica takes over, and the front goes on there with all that was answered."""
+    database.required()
+    first = await asyncio.to_thread(Cluster)
+    second = None
+    try:
+        second = await asyncio.to_thread(Cluster, first)
+        first.does("ALTER SYSTEM SET synchronous_standby_names = 'replica'")
+        first.does("SELECT pg_reload_conf()")
+        while first.does("SELECT sync_state FROM pg_stat_replication") != [("sync",)]:
+            await asyncio.sleep(0.05)
+        place = f"host={first.folder},{second.folder} user=postgres dbname=postgres target_session_attrs=read-write"
+        front = start(store="store.db", journal={"database": place})
+        async with front.person("ada") as ada:
+            for number in range(20):
+                assert await ada.told(f"S ^X({number})=1 W 1") == "1"
+            await asyncio.to_thread(first.stop)
+            assert (await ada.line("S ^Z=1"))["refused"] == "journal"
+            await asyncio.to_thread(second.promote)
+            while "refused" in await ada.line("S ^Y=1"):
+                await asyncio.sleep(0.1)
+            assert await ada.told("W ^X(19),^Y") == "11"
+        front.stop()
+        run = tool("mjournal", "--database", second.place)
+        assert run("replay", "--program", PROGRAM, "--store", tmp_path / "new")[::2] == (0, "")
+        assert held(tmp_path / "new") == held(front.folder / "store.db")
+    finally:
+        for one in (first, second):
+            if one is not None:
+                one.remove()

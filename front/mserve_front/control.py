@@ -62,6 +62,7 @@ class Control:
             self._server = None
 
     async def _serve(self, reader: asyncio.StreamReader, writer: asyncio.StreamWriter) -> None:
+        answer: Answered = {"error": "the front had a fault: its operator finds it in the log"}
         try:
             async with asyncio.timeout(PATIENCE):
                 found = json.loads(await reader.readline())
@@ -71,10 +72,11 @@ class Control:
             answer = {"error": str(error)}
         except (ValueError, TimeoutError) as error:
             answer = {"error": f"this is no request: {error}"}
-        with contextlib.suppress(ConnectionError):
-            writer.write(json.dumps(answer).encode() + b"\n")
-            await writer.drain()
-        writer.close()
+        finally:
+            with contextlib.suppress(ConnectionError):
+                writer.write(json.dumps(answer).encode() + b"\n")
+                await writer.drain()
+            writer.close()
 
 
 def asked(path: Path, request: dict[str, object], timeout: float | None) -> Answered:

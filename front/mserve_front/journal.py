@@ -21,6 +21,8 @@ from .records import Flush, LineRecord, Record, ReplyRecord, StartRecord
 
 # Seconds between two attempts to write again, and those after which a reply that cannot be noted is given up.
 RETRY, HELD = 1.0, 30.0
+# Seconds that the end waits for a flush.
+CLOSING = 5.0
 # A step back of the clock that is told, in microseconds.
 STEP = 1_000_000
 
@@ -59,6 +61,9 @@ class Log(Protocol):
 
     def close(self) -> None:
         """Gives the journal back."""
+
+    def abandon(self) -> None:
+        """Ends a call that waits, from another thread."""
 
 
 class Asked(Protocol):
@@ -183,11 +188,14 @@ class Journal:
     async def close(self) -> bool:
         """Ends the writing, and says whether all that was sent has its reply in the journal."""
         with contextlib.suppress(NoJournal, TimeoutError):
-            await asyncio.wait_for(self.settled(), HELD)
-        whole = self.fault is None and not self._waiting and self.answered == self.next - 1
+            await asyncio.wait_for(self.settled(), CLOSING)
+        whole = self._work is None and self.fault is None and not self._waiting and self.answered == self.next - 1
         if self._work is not None:
             self._work.cancel()
-        await self._in_thread(self._log.close)
+        closed = asyncio.ensure_future(self._in_thread(self._log.close))
+        await asyncio.wait([closed], timeout=CLOSING)
+        if not closed.done():
+            self._log.abandon()
         self._thread.shutdown(wait=False)
         return whole
 
@@ -227,7 +235,8 @@ class Journal:
                 self.sequence += 1
             flush = self._packed(batch)
             await self._in_thread(self._log.append, flush)
-        except (LogFault, LogTaken) as error:
+        except Exception as error:
+            # Whatever it was: nothing of the batch may go on.
             self.next, self.answered = before
             self._failed(batch, error)
             return False

@@ -106,9 +106,9 @@ def journal_of(options: argparse.Namespace) -> JournalSettings:
     return found
 
 
-def events_of(journal: JournalSettings, line: int | None, follow: bool = False) -> Iterator[Event | LineRecord]:
-    """What a journal tells, from a line on or from its beginning; and the lines that have no reply in the end."""
-    history, reader = History(None if line is None else line - 1), reader_of(journal, line or 1)
+def events_of(journal: JournalSettings, line: int = 1, follow: bool = False) -> Iterator[Event | LineRecord]:
+    """What a journal tells, from a line on or a little before, and the lines that have no reply in the end."""
+    history, reader = History(None), reader_of(journal, line)
     try:
         while True:
             flushes = reader.more()
@@ -140,7 +140,7 @@ def act_tail(options: argparse.Namespace) -> int:
     journal = journal_of(options)
     first = max(1, last_line(journal) - options.lines + 1)
     kept: deque[Answered | LineRecord] = deque(maxlen=options.lines if not options.follow else None)
-    for event in events_of(journal, None, options.follow):
+    for event in events_of(journal, first, options.follow):
         for line in lines_in(event):
             number = line.line.number if isinstance(line, Answered) else line.number
             if number < first:
@@ -156,7 +156,7 @@ def act_tail(options: argparse.Namespace) -> int:
 def act_grep(options: argparse.Namespace) -> int:
     """Prints the lines that fit."""
     count = 0
-    for event in events_of(journal_of(options), None):
+    for event in events_of(journal_of(options)):
         for one in lines_in(event):
             if _fits(options, one):
                 count += 1
@@ -175,7 +175,7 @@ def act_verify(options: argparse.Namespace) -> int:
     """Reads all, and counts."""
     counts: Counter[str] = Counter()
     first = last = None
-    for event in events_of(journal_of(options), None):
+    for event in events_of(journal_of(options)):
         for one in lines_in(event):
             line = one.line if isinstance(one, Answered) else one
             first, last = first or line.number, line.number

@@ -27,21 +27,21 @@ def files_of(folder: Path) -> list[tuple[int, Path]]:
     return sorted((int(path.stem), path) for path in found)
 
 
-def flushes_in(path: Path) -> tuple[list[Flush], int]:
-    """The flushes of a file, and how many bytes at its end are none. Raises `BadJournal` if one is damaged."""
+def ends_of(path: Path) -> tuple[Flush | None, Flush | None, int]:
+    """The first and the last flush of a file, without their records, and how many bytes at its end are none. Raises `BadJournal` if one is damaged."""
     data = path.read_bytes()
     if not _is_marked(path, data):
-        return [], len(data)
-    found, at = [], len(MARK)
+        return None, None, len(data)
+    first, last, at = None, None, len(MARK)
     while at < len(data):
         try:
-            flush, at = read_flush(data, at)
+            last, at = read_flush(data, at, records=False)
         except Torn:
             break
         except BadJournal as error:
             raise BadJournal(f"{path}: at byte {at}: {error}") from error
-        found.append(flush)
-    return found, len(data) - at
+        first = first or last
+    return first, last, len(data) - at
 
 
 def _is_marked(path: Path, data: bytes) -> bool:
@@ -107,6 +107,9 @@ class FileLog:
             os.close(self._lock)
             self._lock = -1
 
+    def abandon(self) -> None:
+        """A disk answers some time."""
+
     def _begin(self, sequence: int) -> None:
         """Begins a file, which is in its folder durably before it has a flush."""
         self._leave()
@@ -138,13 +141,12 @@ def tail_of(folder: Path) -> Tail:
     """The end of the journal in a folder; of an empty one, that of a new journal. Raises `BadJournal` if it is damaged there."""
     told = ""
     for first, path in reversed(files_of(folder)):
-        flushes, rest = flushes_in(path)
+        begins, last, rest = ends_of(path)
         if rest:
             told = f"{path}: a torn flush of {rest} bytes at its end counts for nothing: it never became durable"
-        if flushes:
-            if flushes[0].sequence != first:
-                raise BadJournal(f"{path}: it begins with flush {flushes[0].sequence}")
-            last = flushes[-1]
+        if begins is not None:
+            if begins.sequence != first:
+                raise BadJournal(f"{path}: it begins with flush {begins.sequence}")
             return Tail(last.journal, last.sequence, last.next, last.answered, last.time, told)
     return Tail(secrets.randbits(63) | 1, 0, 1, 0, 0, told)
 
@@ -176,14 +178,12 @@ class FileReader:
         self._rest = b""
 
     def more(self) -> list[Flush]:
-        """The flushes that have come since. Raises `BadJournal` if one is damaged or missing."""
-        found: list[Flush] = []
+        """Some of the flushes that have come since, or none if none has. Raises `BadJournal` if one is damaged or missing."""
         while True:
             # What comes after this file is looked for first: once there is such a file, nothing is written here any more.
             later = self._later()
-            if self._file is not None:
-                found += self._here(None if later is None else later[0])
-            if later is None:
+            found = [] if self._file is None else self._here(None if later is None else later[0])
+            if found or later is None:
                 return found
             self._go_on(*later)
 
@@ -222,13 +222,18 @@ class FileReader:
         self._at, self._rest = 0, b""
 
     def _here(self, later: int | None) -> list[Flush]:
-        """The flushes that have come in this file; `later` is the first flush of the file after it."""
-        while data := self._file.read(READ):
+        """Some of the flushes that have come in this file; `later` is the first flush of the file after it."""
+        found: list[Flush] = []
+        while not found and (data := self._file.read(READ)):
             self._rest += data
-        if self._at == 0:
-            if not _is_marked(self._path, self._rest):
-                return []
-            self._at, self._rest = len(MARK), self._rest[len(MARK):]
+            if self._at == 0 and _is_marked(self._path, self._rest):
+                self._at, self._rest = len(MARK), self._rest[len(MARK):]
+            if self._at:
+                found = self._parsed(later)
+        return found
+
+    def _parsed(self, later: int | None) -> list[Flush]:
+        """The whole flushes of what is read."""
         found, place = [], 0
         try:
             while place < len(self._rest):

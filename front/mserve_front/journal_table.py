@@ -4,7 +4,9 @@ so that no two fronts write; a database with synchronous replication answers onl
 from __future__ import annotations
 
 import contextlib
+import os
 import secrets
+import socket
 import zlib
 from collections.abc import Iterator
 
@@ -118,6 +120,13 @@ class TableLog:
             with contextlib.suppress(psycopg.Error):
                 self._base.close()
             self._base = None
+
+    def abandon(self) -> None:
+        """Breaks the connection: a database may wait for its replica as long as that is away."""
+        base = self._base
+        if base is not None and not base.closed:
+            with contextlib.suppress(OSError, psycopg.Error), socket.socket(fileno=os.dup(base.fileno())) as peer:
+                peer.shutdown(socket.SHUT_RDWR)
 
     def _lock(self) -> None:
         """Takes the lock. Commits are to wait for the disk, and for a synchronous replica if there is one."""

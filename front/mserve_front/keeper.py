@@ -78,6 +78,8 @@ class Keeper:
     def _stands(self, standing: Standing) -> None:
         """Holds what is known of the store against the journal."""
         last, place = self.journal.next - 1, place_of(Path(str(self._store)))
+        if not Path(str(self._store)).exists():
+            raise NoStart(f"{place}: it says where a store stands that is not there: put the store back, or remove {place}")
         if standing.journal != self.journal.number:
             raise NoStart(f"{place}: the store has run another journal than this one. If a new journal is meant, remove {place}, and make a snapshot")
         if standing.number > last:

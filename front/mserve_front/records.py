@@ -109,8 +109,8 @@ class Flush:
         return head + _SUM.pack(crc32c.crc32c(head)) + body
 
 
-def read_flush(data: bytes, at: int) -> tuple[Flush, int]:
-    """The flush at a place, and the place after it. Raises `Torn` if its end is missing, and `BadJournal` if it is damaged."""
+def read_flush(data: bytes, at: int, records: bool = True) -> tuple[Flush, int]:
+    """The flush at a place, without its records if these are not wanted, and the place after it. Raises `Torn` if its end is missing, and `BadJournal` if it is damaged."""
     head, begin = data[at:at + _HEAD.size], at + HEAD_SIZE
     if len(data) < begin:
         raise Torn
@@ -122,7 +122,7 @@ def read_flush(data: bytes, at: int) -> tuple[Flush, int]:
         raise Torn
     if crc32c.crc32c(data[begin:end]) != told:
         raise Torn if _is_empty(data, end - 1) else BadJournal("the records of a flush are damaged")
-    return Flush(journal, sequence, following, answered, time, tuple(_records(data[begin:end - 1]))), end
+    return Flush(journal, sequence, following, answered, time, tuple(_records(data[begin:end - 1])) if records else ()), end
 
 
 def _is_empty(data: bytes, at: int) -> bool:

@@ -115,9 +115,10 @@ class Server:
         """Between two lines (`quiet`): ends all terminals' sessions, notes that in the journal, and tells all users, as after a restart. Raises `Lost`,
         `Unsent` or `NoJournal`."""
         assert self._turns is not None and self._journal is not None
+        await self._journal.begin(self._journal.next - 1, False, self._text)
+        # From here on it stands in the journal. If the server ends now, its start does the same.
         self.session += 1
         await self._turns.halt(self._terminals)
-        await self._journal.begin(self._journal.next - 1, False, self._text)
         await self._restarted()
 
     def forget(self, terminal: int) -> None:
@@ -197,7 +198,8 @@ class Server:
                 turns.keep(self._journal)
         except (TimeoutError, Lost, Unsent, NoJournal) as error:
             turns.close()
-            await self._give_up()
+            if not isinstance(error, NoJournal):
+                await self._give_up()
             raise NoStart(self._why(turns, error)) from error
         self._base, self._fresh = None, False
         self._turns = turns

@@ -38,7 +38,7 @@ class JournalSettings:
     folder: Path | None = None
     database: str | None = None
     name: str = "main"
-    roll: int = 67_108_864
+    roll: int = 16_777_216
     control: Path | None = None
 
     @property

@@ -22,7 +22,7 @@ from .settings import Settings
 from .standing import Standing, forget_standing, place_of, read_standing, write_standing
 
 # Seconds between two looks at the journal, and between two after one that failed.
-POLL, RETRY = 0.01, 1.0
+POLL, RETRY = 0.02, 1.0
 
 
 class Standby:
@@ -54,8 +54,12 @@ class Standby:
             tell(f"standing by, after line {self._stage.at} of the journal")
             promoted = await self._follow()
             return promoted
-        except (Stopped, BadJournal) as error:
+        except Stopped as error:
             raise NoStart(f"the standby stops: {error}") from error
+        except BadJournal as error:
+            # The store is what it was: it stands after the last line that was compared.
+            await self._left()
+            raise NoStart(f"the standby stops after line {self._stage.at}: {error}") from error
         finally:
             self._control.close()
             await asyncio.to_thread(self._reader.close)
@@ -166,14 +170,20 @@ class Standby:
         try:
             while await self._step():
                 pass
-            if self._fault or self._history.last != journal.next - 1:
-                raise BadJournal(f"the journal was read up to line {self._history.last}, and ends with line {journal.next - 1}{self._fault}")
+            if self._fault:
+                raise Refused(self._fault)
             if self._stage.child is None:
-                raise BadJournal("the journal has no start: there is nothing to promote")
-        except (Stopped, BadJournal) as error:
+                raise Refused("the journal has no start: there is nothing to promote")
+            if self._history.last != journal.next - 1:
+                raise BadJournal(f"the journal was read up to line {self._history.last}, and ends with line {journal.next - 1}")
+        except (Stopped, BadJournal, Refused) as error:
             await journal.close()
+            self._wanted = None
             wanted.set_exception(Refused(f"not promoted: {error}"))
+            # The one who asked hears of it before this process ends.
             await asyncio.sleep(0.1)
+            if isinstance(error, Refused):
+                return None
             raise
         await self._stage.leave()
         unsent = [line.number for line in self._history.unanswered]

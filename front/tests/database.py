@@ -39,9 +39,10 @@ def required() -> None:
 class Cluster:
     """A server of PostgreSQL, in a folder that its user can enter."""
 
-    def __init__(self, primary: Cluster | None = None) -> None:
-        """Makes and starts it; with another one it is a replica of that."""
-        self.folder = Path(tempfile.mkdtemp(prefix="mfront-pg-", dir=IN_MEMORY))
+    def __init__(self, primary: Cluster | None = None, folder: str = IN_MEMORY, more: str = "") -> None:
+        """Makes and starts it below a folder, with more options; with another one it is a replica of that."""
+        self.folder = Path(tempfile.mkdtemp(prefix="mfront-pg-", dir=folder))
+        self.options = f"{OPTIONS} {more} -c unix_socket_directories={self.folder}"
         self.data = self.folder / "data"
         if _owner():
             shutil.chown(self.folder, USER, USER)
@@ -64,7 +65,7 @@ class Cluster:
 
     def start(self) -> None:
         """Starts it."""
-        self._run("pg_ctl", "start", "-w", "-D", self.data, "-l", self.folder / "log", "-o", f"{OPTIONS} -c unix_socket_directories={self.folder}")
+        self._run("pg_ctl", "start", "-w", "-D", self.data, "-l", self.folder / "log", "-o", self.options)
 
     def stop(self) -> None:
         """Ends it at once, as a crash does."""

@@ -45,6 +45,14 @@ def written(folder: Path, parts: list[Flush], roll: int = 1 << 20) -> Path:
     return files_of(folder)[-1][1]
 
 
+def read(reader: FileReader) -> list[Flush]:
+    """All that has come."""
+    found: list[Flush] = []
+    while part := reader.more():
+        found += part
+    return found
+
+
 def test_records_there_and_back() -> None:
     for flush in flushes(20):
         data = flush.packed()
@@ -60,17 +68,15 @@ def test_a_journal_that_is_cut_at_each_byte(tmp_path: Path) -> None:
     for flush in parts:
         ends.append(ends[-1] + len(flush.packed()))
     assert ends[-1] == len(data)
-    for cut in range(len(data)):
-        path.write_bytes(data[:cut])
+    for cut in reversed(range(len(data))):
+        os.truncate(path, cut)
         whole = sum(end <= cut for end in ends[1:])
-        reader = FileReader(tmp_path)
-        assert reader.more() == parts[:whole], cut
-        reader.close()
+        assert read(FileReader(tmp_path)) == parts[:whole], cut
         tail = tail_of(tmp_path)
         assert (tail.sequence, tail.next) == ((whole, parts[whole - 1].next) if whole else (0, 1))
         assert ("torn flush" in tail.told) == (cut not in [0, *ends])
         # The zeros of a block that was never written are no damage either.
-        path.write_bytes(data[:cut] + bytes(600))
+        os.truncate(path, cut + 600)
         assert tail_of(tmp_path).sequence == whole
 
 
@@ -78,13 +84,16 @@ def test_one_bit_that_is_turned(tmp_path: Path) -> None:
     """It is told by its place, wherever it is, and nothing of the journal is taken for good."""
     path = written(tmp_path, flushes(4))
     data = path.read_bytes()
-    for place in range(len(data)):
-        for bit in (1 << number for number in range(8)):
-            path.write_bytes(data[:place] + bytes([data[place] ^ bit]) + data[place + 1:])
-            with pytest.raises(BadJournal, match="at byte|does not begin with its mark"):
-                FileReader(tmp_path).more()
-            with pytest.raises(BadJournal, match=path.name):
-                tail_of(tmp_path)
+    with path.open("r+b", buffering=0) as file:
+        for place in range(len(data)):
+            for bit in (1 << number for number in range(8)):
+                os.pwrite(file.fileno(), bytes([data[place] ^ bit]), place)
+                with pytest.raises(BadJournal, match="at byte|does not begin with its mark"):
+                    read(FileReader(tmp_path))
+                with pytest.raises(BadJournal, match=path.name):
+                    tail_of(tmp_path)
+            os.pwrite(file.fileno(), data[place:place + 1], place)
+    assert read(FileReader(tmp_path)) == flushes(4)
 
 
 def test_a_torn_end_is_left_and_the_next_file_goes_on(tmp_path: Path) -> None:
@@ -98,8 +107,7 @@ def test_a_torn_end_is_left_and_the_next_file_goes_on(tmp_path: Path) -> None:
         log.append(flush)
     log.close()
     assert [begins for begins, _ in files_of(tmp_path)] == [1, 4]
-    reader = FileReader(tmp_path)
-    assert reader.more() == parts
+    assert read(FileReader(tmp_path)) == parts
 
 
 def test_files_are_rolled_and_read_as_they_grow(tmp_path: Path) -> None:
@@ -110,15 +118,15 @@ def test_files_are_rolled_and_read_as_they_grow(tmp_path: Path) -> None:
     for number, flush in enumerate(parts):
         log.append(flush)
         if number % 7 == 0:
-            found += reader.more()
-    assert found + reader.more() == parts and len(files_of(tmp_path)) > 5
+            found += read(reader)
+    assert found + read(reader) == parts and len(files_of(tmp_path)) > 5
     for line in range(1, 61):
         [first, *_] = FileReader(tmp_path, line).more()
         assert first.first <= line
     log.close()
     files_of(tmp_path)[2][1].unlink()
     with pytest.raises(BadJournal, match="a part is missing"):
-        FileReader(tmp_path).more()
+        read(FileReader(tmp_path))
 
 
 def test_a_flush_that_failed_stands_in_the_next_file(tmp_path: Path) -> None:
@@ -127,13 +135,13 @@ def test_a_flush_that_failed_stands_in_the_next_file(tmp_path: Path) -> None:
     log.take()
     for flush in parts[:4]:
         log.append(flush)
-    assert reader.more() == parts[:4]
+    assert read(reader) == parts[:4]
     log.mend()
     with files_of(tmp_path)[0][1].open("ab") as file:
         file.write(parts[4].packed()[:-3])
     other = Flush(7, 4, 4, 2, 2_000, (LineRecord(3, 2_000, 1, "ben", b"W 2"), ReplyRecord(2, bytes(16), "")))
     log.append(other)
-    assert reader.more() == [other]
+    assert read(reader) == [other]
     history = History()
     events = list(history.take([*parts[:4], other]))
     assert isinstance(events[0], Began) and [one.line.number for one in events[1:]] == [1, 2] and history.unanswered == [other.records[0]]

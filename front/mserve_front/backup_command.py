@@ -9,9 +9,9 @@ from collections.abc import Callable
 from pathlib import Path
 
 from .control import Refused, asked
+from .folders import sync_folder
 from .settings import BadSettings, Table, journal_settings, read_toml
 from .snapshots import BadSnapshot, Manifest, accounts_of, check, differ, finish, put_back, read_manifest
-from .standing import sync_folder
 
 DEFAULT = "/etc/mserve/front.toml"
 FOUND, USAGE, FAILED, INTERRUPTED = 1, 2, 3, 130

@@ -11,6 +11,7 @@ from io import FileIO
 from pathlib import Path
 
 from .journal import LogFault, LogTaken, Tail
+from .folders import sync_folder
 from .records import HEAD_SIZE, BadJournal, Flush, Torn, body_size, read_flush
 
 MARK = b"mfront1\n"
@@ -66,7 +67,9 @@ class FileLog:
     def take(self) -> Tail:
         """Takes the lock of the folder, which is made if it is not there, and finds the end."""
         try:
-            self._folder.mkdir(mode=0o700, exist_ok=True)
+            if not self._folder.exists():
+                self._folder.mkdir(mode=0o700)
+                sync_folder(self._folder.parent)
             self._lock = os.open(self._folder / "lock", os.O_RDWR | os.O_CREAT | os.O_CLOEXEC, 0o600)
             fcntl.flock(self._lock, fcntl.LOCK_EX | fcntl.LOCK_NB)
         except BlockingIOError:
@@ -120,11 +123,7 @@ class FileLog:
         self._size = 0
         self._write(MARK)
         self._size = len(MARK)
-        folder = os.open(self._folder, os.O_RDONLY | os.O_DIRECTORY)
-        try:
-            os.fsync(folder)
-        finally:
-            os.close(folder)
+        sync_folder(self._folder)
 
     def _write(self, data: bytes) -> None:
         left = memoryview(data)

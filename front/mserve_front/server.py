@@ -193,9 +193,7 @@ class Server:
         try:
             async with asyncio.timeout(PATIENCE):
                 await asyncio.gather(*(turns.ask(terminal, HALT) for terminal in self._terminals))
-            if self._journal is not None:
-                await self._journal.begin(self._base, self._fresh, self._text)
-                turns.keep(self._journal)
+            await self._noted(turns)
         except (TimeoutError, Lost, Unsent, NoJournal) as error:
             turns.close()
             if not isinstance(error, NoJournal):
@@ -204,6 +202,12 @@ class Server:
         self._base, self._fresh = None, False
         self._turns = turns
         self.state = "up"
+
+    async def _noted(self, turns: Turns) -> None:
+        """Notes in the journal, if there is one, that all sessions begin anew; from now on the connection's lines are in it. Raises `NoJournal`."""
+        if self._journal is not None:
+            await self._journal.begin(self._base, self._fresh, self._text)
+            turns.keep(self._journal)
 
     def _settings_text(self) -> bytes:
         """The server's settings, as the journal keeps them."""

@@ -20,7 +20,8 @@ from pathlib import Path
 
 from mserve_client import keys
 
-from .standing import Standing, sync_folder, write_standing, write_whole
+from .folders import sync_folder, write_whole
+from .standing import Standing, write_standing
 
 STORE, SETTINGS, MANIFEST = "store", "settings.toml", "manifest.json"
 # How often a file is copied beside the users' work, if it was written meanwhile; then it is copied between two lines.

@@ -6,10 +6,10 @@ from __future__ import annotations
 
 import contextlib
 import json
-import os
 from dataclasses import dataclass
 from pathlib import Path
 
+from .folders import sync_folder, write_whole
 from .records import BadJournal
 
 
@@ -51,23 +51,3 @@ def forget_standing(store: Path) -> None:
     with contextlib.suppress(FileNotFoundError):
         place_of(store).unlink()
         sync_folder(store.parent)
-
-
-def write_whole(path: Path, data: bytes) -> None:
-    """Replaces a file by one that is on the disk before it has the name."""
-    made = path.with_name(path.name + ".new")
-    with made.open("wb") as file:
-        file.write(data)
-        file.flush()
-        os.fsync(file.fileno())
-    made.replace(path)
-    sync_folder(path.parent)
-
-
-def sync_folder(folder: Path) -> None:
-    """Has the names in a folder on the disk."""
-    descriptor = os.open(folder, os.O_RDONLY | os.O_DIRECTORY)
-    try:
-        os.fsync(descriptor)
-    finally:
-        os.close(descriptor)

@@ -112,6 +112,7 @@ class _Start:
     fresh: bool
     settings: bytes
     done: asyncio.Future[None]
+    number: int = 0
 
 
 class Journal:
@@ -160,8 +161,6 @@ class Journal:
         self._waiting.append(start)
         self._kick()
         await start.done
-        self.sent = self.next - 1
-        self.open.clear()
 
     def lines(self, carrier: Carrier, asks: list[Asked]) -> None:
         """Has lines sent once they are durable."""
@@ -213,6 +212,7 @@ class Journal:
             while (self._waiting or self.fault is not None) and not self.taken.done():
                 batch, self._waiting = self._waiting, []
                 if await self._flushed(batch):
+                    began = 0.0
                     self._mend()
                     for entry in batch:
                         self._done(entry)
@@ -258,8 +258,8 @@ class Journal:
                 self.answered = entry.asked.number
                 records.append(ReplyRecord(entry.asked.number, entry.digest, entry.code))
             else:
+                entry.number, self.answered = self.next, self.next - 1
                 records.append(StartRecord(self.next, now, self.sent, entry.base, entry.fresh, entry.settings))
-                self.answered = self.next - 1
         return Flush(self.number, self.sequence + 1, self.next, self.answered, now, records)
 
     def _now(self) -> int:
@@ -281,8 +281,11 @@ class Journal:
             if entry.asked.line == HALT:
                 self.open.discard(entry.asked.terminal)
             entry.hand()
-        elif not entry.done.done():
-            entry.done.set_result(None)
+        else:
+            self.sent = entry.number - 1
+            self.open.clear()
+            if not entry.done.done():
+                entry.done.set_result(None)
 
     def _failed(self, batch: list[_Lines | _Reply | _Start], error: Exception) -> None:
         first, self.fault = self.fault is None, str(error)

@@ -20,8 +20,8 @@ from .player import Stage, Stopped
 from .records import BadJournal, LineRecord
 from .server import NoStart
 from .settings import BadSettings, JournalSettings, Table, journal_settings, read_toml
-from .snapshots import SETTINGS, BadSnapshot, check, put_back
-from .standing import Standing, forget_standing, write_standing
+from .snapshots import SETTINGS, BadSnapshot, check, name_store, put_back
+from .standing import Standing, forget_standing
 
 DEFAULT = "/etc/mserve/front.toml"
 FOUND, USAGE, FAILED, INTERRUPTED = 1, 2, 3, 130
@@ -242,13 +242,16 @@ def act_replay(options: argparse.Namespace) -> int:
 
 async def _replayed(options: argparse.Namespace) -> int:
     journal, store = journal_of(options), None if options.store == "memory" else Path(options.store).absolute()
-    stage = Stage(_program(options), str(store or "memory"), say, connections=1)
+    # It has another name until it is what it is to be.
+    part = None if store is None else store.with_name(store.name + ".part")
+    stage = Stage(_program(options), str(part or "memory"), say, connections=1)
     replay = Replay(stage, options.to)
+    for path in () if store is None else (store, part):
+        if path.exists():
+            raise BadSnapshot(f"{path}: is there already: move it away first")
     try:
         if options.snapshot is not None:
-            await _begin(replay, options, store)
-        elif store is not None and store.exists():
-            raise BadSnapshot(f"{store}: is there already: move it away first")
+            await _begin(replay, options, part)
         first, began = stage.at + 1, time.monotonic()
         try:
             await replay.run(journal)
@@ -258,18 +261,18 @@ async def _replayed(options: argparse.Namespace) -> int:
         taken, terminals = time.monotonic() - began, tuple(stage.open)
     finally:
         await stage.end()
-    if store is not None and store.exists():
-        write_standing(store, Standing(replay.journal, stage.at, terminals))
+    if store is not None and part.exists():
+        name_store(part, store, Standing(replay.journal, stage.at, terminals))
     count = stage.at - first + 1
     print(f"lines {first} to {stage.at} run in {taken:.1f} s, {count / taken:.0f} in a second: each was answered as it was" if count else "no line to run")
     return FOUND if stage.reported else 0
 
 
-async def _begin(replay: Replay, options: argparse.Namespace, store: Path | None) -> None:
+async def _begin(replay: Replay, options: argparse.Namespace, part: Path | None) -> None:
     """Begins with a snapshot."""
-    if store is None:
+    if part is None:
         raise BadSnapshot("a snapshot is put back into a file: --store FILE")
-    manifest = put_back(options.snapshot, store)
+    manifest = put_back(options.snapshot, part)
     if manifest.number > last_line(journal_of(options)):
         raise BadJournal(f"the snapshot stands after line {manifest.number}, and the journal ends before it: it has lost a part, or is another")
     if replay.goal is not None and replay.goal[0] == "number" and replay.goal[1] < manifest.number:
@@ -278,7 +281,7 @@ async def _begin(replay: Replay, options: argparse.Namespace, store: Path | None
         say(f"{len(manifest.open)} sessions were open at the snapshot, and their variables and locks are not in it: a line that needs them differs")
     replay.stage.at, replay.journal = manifest.number, manifest.journal
     await replay.stage.begin((options.snapshot / SETTINGS).read_bytes())
-    forget_standing(store)
+    forget_standing(part)
 
 
 def _program(options: argparse.Namespace) -> Path:

@@ -6,26 +6,34 @@ from __future__ import annotations
 import contextlib
 import fcntl
 import os
+import re
 import secrets
 from io import FileIO
 from pathlib import Path
 
-from .journal import LogFault, LogTaken, Tail
 from .folders import sync_folder
+from .journal import LogFault, LogTaken, Tail
 from .records import HEAD_SIZE, BadJournal, Flush, Torn, body_size, read_flush
 
 MARK = b"mfront1\n"
-SUFFIX = ".journal"
 READ = 1 << 20
+# The number of the first flush, and of files that begin with the same one which of them it is.
+NAME = re.compile(r"(\d{20})(?:-(\d+))?\.journal", re.ASCII)
+
+
+def order_of(path: Path) -> tuple[int, int]:
+    """Where a file stands among others."""
+    found = NAME.fullmatch(path.name)
+    return int(found[1]), int(found[2] or 0)
 
 
 def files_of(folder: Path) -> list[tuple[int, Path]]:
     """The files of a journal in their order, each with the number of its first flush. Raises `BadJournal` if the folder cannot be read."""
     try:
-        found = [path for path in folder.iterdir() if path.suffix == SUFFIX and path.stem.isdigit()]
+        found = [path for path in folder.iterdir() if NAME.fullmatch(path.name)]
     except OSError as error:
         raise BadJournal(f"{folder}: cannot be read: {error.strerror}") from error
-    return sorted((int(path.stem), path) for path in found)
+    return [(order_of(path)[0], path) for path in sorted(found, key=order_of)]
 
 
 def ends_of(path: Path) -> tuple[Flush | None, Flush | None, int]:
@@ -62,7 +70,9 @@ class FileLog:
         self._lock = -1
         self._descriptor = -1
         self._path = folder
+        # The size up to which all is durable, and whether what was written after it is a whole flush.
         self._size = 0
+        self._whole = False
 
     def take(self) -> Tail:
         """Takes the lock of the folder, which is made if it is not there, and finds the end."""
@@ -84,21 +94,22 @@ class FileLog:
         try:
             if self._descriptor < 0 or self._size >= self._roll:
                 self._begin(flush.sequence)
-            data = flush.packed()
+            data, self._whole = flush.packed(), False
             self._write(data)
+            self._whole = True
             os.fdatasync(self._descriptor)
         except OSError as error:
             raise LogFault(f"{self._path}: {error.strerror}") from error
         self._size += len(data)
 
     def mend(self) -> bool:
-        """Leaves the file in which a flush failed, and takes back the part of it that was written: that flush counts for nothing."""
+        """Leaves the file in which a flush failed. A part of it is taken back, for there may be no room; a whole one may have been read, and stays."""
         if self._descriptor < 0:
             return False
         with contextlib.suppress(OSError):
-            if self._size > len(MARK):
+            if not self._whole and self._size > len(MARK):
                 os.ftruncate(self._descriptor, self._size)
-            else:
+            elif not self._whole:
                 self._path.unlink()
         self._leave()
         return False
@@ -116,11 +127,10 @@ class FileLog:
     def _begin(self, sequence: int) -> None:
         """Begins a file, which is in its folder durably before it has a flush."""
         self._leave()
-        self._path = self._folder / f"{sequence:020d}{SUFFIX}"
-        # One that is there has no flush that became durable. A reader that has it open sees that another took its place.
-        self._path.unlink(missing_ok=True)
+        same = [order_of(path)[1] for begins, path in files_of(self._folder) if begins == sequence]
+        self._path = self._folder / f"{sequence:020d}{f'-{max(same) + 1}' if same else ''}.journal"
         self._descriptor = os.open(self._path, os.O_WRONLY | os.O_CREAT | os.O_EXCL | os.O_CLOEXEC, 0o600)
-        self._size = 0
+        self._size, self._whole = 0, False
         self._write(MARK)
         self._size = len(MARK)
         sync_folder(self._folder)
@@ -170,8 +180,7 @@ class FileReader:
         self._line = line
         self._path = folder
         self._file: FileIO | None = None
-        # The flush that the file begins with, the next one's number, the place of what is not read yet, and the bytes from there on.
-        self._begins = -1
+        # The number of the next flush, the place of what is not read yet, and the bytes from there on.
         self._expected = -1
         self._at = 0
         self._rest = b""
@@ -199,7 +208,8 @@ class FileReader:
             return self._first(files)
         inode = os.fstat(self._file.fileno()).st_ino
         for begins, path in files:
-            if begins > self._begins or begins == self._begins and path.stat().st_ino != inode:
+            # One of the same name is another one if the first was taken away, since it had nothing.
+            if order_of(path) > order_of(self._path) or path == self._path and path.stat().st_ino != inode:
                 return begins, path
         return None
 
@@ -217,7 +227,7 @@ class FileReader:
             raise BadJournal(f"{path}: flush {self._expected} is to come after {self._path}, and this file begins with flush {begins}: a part is missing")
         self.close()
         self._file, self._path = path.open("rb", buffering=0), path
-        self._begins = self._expected = begins
+        self._expected = begins
         self._at, self._rest = 0, b""
 
     def _here(self, later: int | None) -> list[Flush]:

@@ -167,6 +167,14 @@ def check(folder: Path) -> Manifest:
     return manifest
 
 
+def name_store(part: Path, store: Path, standing: Standing) -> None:
+    """Gives a store that nobody has open its name, with its log copied into it, and with the note where it stands."""
+    accounts_of(part)
+    write_standing(store, standing)
+    part.replace(store)
+    sync_folder(store.parent)
+
+
 def differ(place: Path, wanted: dict[str, Account], found: dict[str, Account]) -> None:
     """Raises `BadSnapshot` with the accounts that hold something else than is wanted."""
     others = sorted(name for name in wanted.keys() | found.keys() if wanted.get(name) != found.get(name))
@@ -185,8 +193,9 @@ def put_back(folder: Path, store: Path) -> Manifest:
         shutil.copyfile(folder / STORE, made)
         with made.open("rb") as file:
             os.fsync(file.fileno())
-        made.replace(store)
+        # First the note: a store without one would look like one that has run all.
         write_standing(store, manifest.standing)
+        made.replace(store)
         sync_folder(store.parent)
     except OSError as error:
         raise BadSnapshot(f"{store}: {error.strerror}") from error

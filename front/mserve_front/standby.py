@@ -58,7 +58,8 @@ class Standby:
             raise NoStart(f"the standby stops: {error}") from error
         except BadJournal as error:
             # The store is what it was: it stands after the last line that was compared.
-            await self._left()
+            with contextlib.suppress(Stopped):
+                await self._left()
             raise NoStart(f"the standby stops after line {self._stage.at}: {error}") from error
         finally:
             self._control.close()
@@ -116,6 +117,8 @@ class Standby:
 
     async def _step(self) -> bool:
         """Runs what has come, and says whether anything has."""
+        if self._stage.child is not None and self._stage.child.process.returncode is not None:
+            raise Stopped(f"its server ended with status {self._stage.child.process.returncode}")
         try:
             flushes: list[Flush] = await asyncio.to_thread(self._reader.more)
             if self._fault:
@@ -162,12 +165,6 @@ class Standby:
         journal = Journal(writer_of(self._settings.journal), Metrics(), tell)
         try:
             await journal.take()
-        except (LogTaken, LogFault) as error:
-            self._wanted = None
-            await journal.close()
-            wanted.set_exception(Refused(f"not promoted: {error}"))
-            return None
-        try:
             while await self._step():
                 pass
             if self._fault:
@@ -176,15 +173,15 @@ class Standby:
                 raise Refused("the journal has no start: there is nothing to promote")
             if self._history.last != journal.next - 1:
                 raise BadJournal(f"the journal was read up to line {self._history.last}, and ends with line {journal.next - 1}")
-        except (Stopped, BadJournal, Refused) as error:
+        except (Stopped, BadJournal, Refused, LogTaken, LogFault) as error:
             await journal.close()
             self._wanted = None
             wanted.set_exception(Refused(f"not promoted: {error}"))
             # The one who asked hears of it before this process ends.
             await asyncio.sleep(0.1)
-            if isinstance(error, Refused):
-                return None
-            raise
+            if isinstance(error, Stopped | BadJournal):
+                raise
+            return None
         await self._stage.leave()
         unsent = [line.number for line in self._history.unanswered]
         tell(f"promoted after line {self._history.at}" + (f": lines {unsent[0]} to {unsent[-1]} had no reply, and were not run" if unsent else ""))

@@ -136,6 +136,7 @@ def test_a_flush_that_failed_stands_in_the_next_file(tmp_path: Path) -> None:
     for flush in parts[:4]:
         log.append(flush)
     assert read(reader) == parts[:4]
+    log._whole = True
     log.mend()
     with files_of(tmp_path)[0][1].open("ab") as file:
         file.write(parts[4].packed()[:-3])
@@ -145,6 +146,31 @@ def test_a_flush_that_failed_stands_in_the_next_file(tmp_path: Path) -> None:
     history = History()
     events = list(history.take([*parts[:4], other]))
     assert isinstance(events[0], Began) and [one.line.number for one in events[1:]] == [1, 2] and history.unanswered == [other.records[0]]
+
+
+def test_a_flush_that_is_whole_and_may_not_be_durable(tmp_path: Path, monkeypatch: pytest.MonkeyPatch) -> None:
+    """The disk fails after it was written: it stays where it is, since it may have been read, and stands again in the next file, as often as that fails."""
+    parts, log, reader = flushes(6), FileLog(tmp_path, 1 << 20), FileReader(tmp_path)
+    log.take()
+    for flush in parts[:3]:
+        log.append(flush)
+
+    def fails(_: int) -> None:
+        raise OSError(5, "Input/output error")
+    with monkeypatch.context() as broken:
+        broken.setattr(os, "fdatasync", fails)
+        for _ in range(3):
+            with pytest.raises(LogFault, match="Input/output error"):
+                log.append(parts[3])
+            assert log.mend() is False
+    assert read(reader) == parts[:3] + 3 * [parts[3]]
+    log.append(parts[3])
+    log.append(parts[4])
+    assert read(reader) == parts[3:5] and [begins for begins, _ in files_of(tmp_path)] == [1, 4, 4, 4]
+    assert tail_of(tmp_path).sequence == 5
+    history = History()
+    events = list(history.take(read(FileReader(tmp_path))))
+    assert [one.line.number for one in events[1:]] == [1, 2, 3] and history.last == 4
 
 
 def test_only_one_writes(tmp_path: Path) -> None:

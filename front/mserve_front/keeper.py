@@ -2,12 +2,14 @@
 """The journal's part of the service: it is taken before the server starts, it answers operators, and at the end it is noted where the store stands."""
 from __future__ import annotations
 
+import contextlib
 import shutil
 import tempfile
 from dataclasses import dataclass
 from datetime import UTC, datetime
 from pathlib import Path
 
+from .audit import Audit, NoAudit
 from .control import Answered, Control, Refused
 from .faults import NoJournal
 from .journal import Journal, LogFault, LogTaken
@@ -33,8 +35,9 @@ class Promoted:
 class Keeper:
     """Keeps the journal of a service."""
 
-    def __init__(self, settings: Settings, metrics: Metrics, promoted: Promoted | None = None) -> None:
+    def __init__(self, settings: Settings, metrics: Metrics, audit: Audit, promoted: Promoted | None = None) -> None:
         self._settings = settings
+        self._audit = audit
         self._promoted = promoted
         self._store = None if settings.volatile or settings.store is None else Path(settings.store)
         self._server: Server | None = None
@@ -62,7 +65,14 @@ class Keeper:
         """The server is up: what was noted of the store does not hold any more."""
         if self._store is not None:
             forget_standing(self._store)
+        if self._promoted is not None:
+            self._note("promoted", line=self._promoted.line)
         await self._control.listen()
+
+    def _note(self, event: str, **what: object) -> None:
+        """Notes what an operator did."""
+        with contextlib.suppress(NoAudit):
+            self._audit.note(event, **what)
 
     async def lost(self) -> None:
         """Raises `NoStart` once another front has taken the journal."""
@@ -113,6 +123,7 @@ class Keeper:
             if part != folder:
                 shutil.rmtree(part, ignore_errors=True)
             raise Refused(_why(part, error)) from error
+        self._note("snapshot", line=made.number, folder=str(folder), ended=anew)
         return {"part": str(part), "journal": made.journal, "number": made.number, "time": made.time, "open": made.open, "seconds": round(held, 3)}
 
     async def _copied(self, store: Path, part: Path, anew: bool) -> tuple[Manifest, float]:

@@ -39,9 +39,9 @@ class Service:
         """Raises `BadSettings` or `BadUsers` for what does not fit together. A standby that was promoted hands on what it has."""
         self.settings = settings
         self.metrics = Metrics()
-        self._keeper = keeper_of(settings, self.metrics, promoted)
         self._context = tls_context(settings)
         self._audit = audit_log(settings, self.metrics)
+        self._keeper = keeper_of(settings, self.metrics, self._audit, promoted)
         self._register = Register(settings.users)
         for user in self._register.users.values():
             if not settings.terminals.get(user.account):
@@ -151,13 +151,13 @@ class Service:
             tell(f"not reloaded: {error}")
 
 
-def keeper_of(settings: Settings, metrics: Metrics, promoted: Promoted | None) -> Keeper | None:
+def keeper_of(settings: Settings, metrics: Metrics, audit: Audit, promoted: Promoted | None) -> Keeper | None:
     """What keeps the journal, if there is to be one."""
     if not settings.journal.kept:
         return None
     # Not above: it needs a package that a front without a journal does without.
     from .keeper import Keeper
-    return Keeper(settings, metrics, promoted)
+    return Keeper(settings, metrics, audit, promoted)
 
 
 def tls_context(settings: Settings) -> ssl.SSLContext | None:

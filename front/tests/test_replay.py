@@ -56,10 +56,10 @@ async def test_stores_of_drawn_lines_are_made_anew(start, tmp_path: Path) -> Non
     """Snapshots are taken while users work; a replay to the number of each holds what it does, and so does one from each that is exact."""
     front = start(store="store.db", journal={"folder": "journal", "roll": 10_000})
     async with front.person("ada") as ada, front.person("ben") as ben, front.person("cleo") as cleo:
-        work = asyncio.gather(*(works(person, seed, 150) for seed, person in enumerate((ada, ben, cleo))))
+        work = asyncio.gather(*(works(person, seed, 90) for seed, person in enumerate((ada, ben, cleo))))
         snapshots = []
         for number in range(3):
-            await asyncio.sleep(0.1)
+            await asyncio.sleep(0.05)
             snapshots.append(await asyncio.to_thread(backup, front, *["--end-sessions"] * (number == 1)))
         await work
         assert [event["event"] for event in ada.events] == ["restarted"] and await ada.told("W 5") == "5"
@@ -259,14 +259,28 @@ async def test_a_snapshot_is_put_back_and_the_journal_expires(start, tmp_path: P
     assert str(snapshot) in tool("mbackup")("list", front.folder)[1]
 
 
+@pytest.fixture(scope="module")
+def sound(tmp_path_factory: pytest.TempPathFactory) -> Path:
+    """A snapshot of some nodes."""
+    front = Front(tmp_path_factory.mktemp("sound"), None, store="store.db", journal={"folder": "journal"})
+
+    async def made() -> Path:
+        async with front.person("ada") as ada:
+            for number in range(30):
+                await ada.line(f'S ^X({number})="{"x" * 150}"')
+            snapshot = await asyncio.to_thread(backup, front)
+        assert [record["line"] for record in front.audit() if record["event"] == "snapshot"] == [int(snapshot.name)]
+        return snapshot
+    try:
+        return asyncio.run(made())
+    finally:
+        front.stop()
+
+
 @pytest.mark.parametrize("harm", ["cut", "turned", "gone", "manifest"])
-@in_loop(60)
-async def test_snapshots_that_are_damaged(start, harm: str) -> None:
-    front = start(store="store.db", journal={"folder": "journal"})
-    async with front.person("ada") as ada:
-        for number in range(30):
-            await ada.line(f'S ^X({number})="{"x" * 150}"')
-        snapshot = await asyncio.to_thread(backup, front)
+def test_snapshots_that_are_damaged(sound: Path, tmp_path: Path, harm: str) -> None:
+    snapshot = tmp_path / "snapshot"
+    shutil.copytree(sound, snapshot)
     store = snapshot / "store"
     data = store.read_bytes()
     if harm == "cut":

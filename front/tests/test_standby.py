@@ -73,6 +73,7 @@ async def test_a_standby_follows_and_is_promoted(start, tmp_path: Path) -> None:
             leader.again()
         snapshot = await asyncio.to_thread(backup, second)
         assert tool("mbackup")("check", snapshot)[0] == 0
+        assert [record["line"] for record in second.audit() if record["event"] == "promoted"] == [last]
     second.stop()
     assert stored == held(second.folder / "store.db")
     assert mjournal(tmp_path / "journal")("replay", "--program", PROGRAM, "--store", "memory")[::2] == (0, "")
@@ -141,6 +142,9 @@ async def test_a_standby_that_cannot_go_on(start, tmp_path: Path) -> None:
     assert leader.process.poll() is None
     with pytest.raises(RuntimeError, match="a standby has a server of its own"):
         standby(start, tmp_path / "journal", server={"join": 9, "store": None, "program": None})
+    for word in ("status", "promote"):
+        status, _, told = tool("mfront")(word, "--config", second.folder / "front.toml")
+        assert status == 3 and "no front that keeps a journal is there" in told and len(told.splitlines()) == 1
 
 
 class Load:

@@ -3,6 +3,7 @@
 from __future__ import annotations
 
 import asyncio
+import json
 import random
 from collections.abc import Callable, Iterator
 from pathlib import Path
@@ -129,6 +130,7 @@ async def test_a_database_that_is_away(start, tmp_path: Path) -> None:
     cluster = await asyncio.to_thread(Cluster)
     try:
         front = start(store="store.db", journal={"database": cluster.place})
+        second = start(store="store.db", words=["--follow"], awaited="standing by", journal={"database": cluster.place})
         async with front.person("ada") as ada, front.person("ben") as ben:
             work = asyncio.gather(works(ben, 3, 60))
             assert await ada.told("S ^X=1 W ^X") == "1"
@@ -142,8 +144,12 @@ async def test_a_database_that_is_away(start, tmp_path: Path) -> None:
             await work
             assert await ada.told("W ^X,^Y") == "11"
             snapshot = await asyncio.to_thread(backup, front)
+        second.hears("the journal can be read again")
+        second.stop()
+        assert "the journal cannot be read: database: " in second.told()
         assert "no line goes on until it can" in front.told() and "the journal is written again" in front.told()
         front.stop()
+        assert json.loads((second.folder / "store.db.at").read_text())["number"] > int(snapshot.name) - 10
         run = tool("mjournal", "--config", str(front.folder / "front.toml"))
         status, output, told = run("replay", "--store", tmp_path / "new")
         assert (status, told) == (0, "") and held(tmp_path / "new") == held(front.folder / "store.db")
@@ -164,7 +170,7 @@ async def test_leaders_that_are_killed(start, journal: JournalSettings, tmp_path
     """The lock goes with the leader's connection; what was answered is there, and nothing runs twice."""
     rng, load = random.Random(5), Load()
     leader = start(store="store.db", journal=table(journal))
-    for _ in range(3):
+    for _ in range(2):
         second = start(store="store.db", words=["--follow"], awaited="standing by", journal=table(journal))
         status, _, told = await asyncio.to_thread(promoted, second)
         assert status == 3 and "another front writes this journal" in told

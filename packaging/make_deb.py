@@ -28,7 +28,7 @@ MAINTAINER = "Relumavosh maintainers <maintainers@users.noreply.relumavosh.examp
 SHARE = "usr/share/mserve"
 DOC = "usr/share/doc/mserve"
 # The commands that are scripts, and the folder of each.
-COMMANDS = {"mshell": "clients", "mroutine": "clients", "mglobal": "clients", "mfront": "front", "mjournal": "front", "mbackup": "front"}
+COMMANDS = {"mshell": "clients", "mroutine": "clients", "mglobal": "clients", "mfront": "front", "mjournal": "front", "mbackup": "front", "mgate": "front"}
 # Documents for whoever uses and runs it; the others are for those who change it.
 DOCUMENTS = ("FORMATS", "GLOSSARY", "GUIDE", "ISOLATION", "LANGUAGE", "OPERATING", "PERFORMANCE")
 CONTROL = """Package: mserve
@@ -47,7 +47,7 @@ Description: shared M (MUMPS) server with isolated accounts
  .
  With it come a front that signs users on and has a page for browsers, a shell,
  and commands for routines as files, for globals in and out, for the front's
- journal, and for snapshots.
+ journal, for snapshots, and for many machines.
 """
 
 
@@ -133,7 +133,7 @@ def put_documents(root: Path) -> None:
 
 def put_system(root: Path) -> None:
     """Units, settings, the user and the folders of the services."""
-    for name in ("mserve.service", "mfront.service"):
+    for name in ("mserve.service", "mfront.service", "mgate.service"):
         put(root, f"lib/systemd/system/{name}", (TOP / "packaging" / name).read_bytes())
     for source, place in {"front.toml": "etc/mserve/front.toml", "settings.toml": "etc/mserve/settings.toml", "logrotate": "etc/logrotate.d/mserve",
                           "sysusers.conf": "usr/lib/sysusers.d/mserve.conf", "tmpfiles.conf": "usr/lib/tmpfiles.d/mserve.conf"}.items():

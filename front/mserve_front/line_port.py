@@ -17,7 +17,9 @@ from .web import plain_address
 class LinePort:
     """Serves the connections of programs."""
 
-    def __init__(self, sessions: Sessions, signing: Signing, limits: Limits, doors: Doors) -> None:
+    def __init__(self, sessions: Sessions, signing: Signing, limits: Limits, doors: Doors, gate: bool = False) -> None:
+        """`gate` says that a gate hands users on, whose first line is the address of the user."""
+        self._gate = gate
         self._sessions = sessions
         self._signing = signing
         self._limits = limits
@@ -49,6 +51,8 @@ class LinePort:
 
     async def _sign_on(self, peer: LinePeer) -> Session | None:
         """The session that the first line asks for, or None if it is refused."""
+        if self._gate:
+            peer.address = plain_address((await peer.line()).decode("latin1"))
         name, _, secret = (await peer.line()).decode("utf-8", "replace").partition(" ")
         try:
             user, proof = await self._signing.by_password(name, secret, peer.address)

@@ -107,7 +107,7 @@ class Service:
         kind = "https" if settings.tls else "http"
         tell(f"serving at {kind}://{f'[{settings.host}]' if ':' in settings.host else settings.host}:{settings.port}/")
         if settings.lines_port is not None:
-            port = LinePort(self._sessions, self._signing, settings.limits, self._doors)
+            port = LinePort(self._sessions, self._signing, settings.limits, self._doors, settings.gate)
             self._doors.listen(settings.host, settings.lines_port, port.protocol, None)
             tell(f"lines at port {settings.lines_port}")
         if not settings.tls:

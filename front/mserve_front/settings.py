@@ -60,6 +60,7 @@ class Settings:
     host: str
     port: int
     lines_port: int | None
+    gate: bool
     certificate: Path | None
     key: Path | None
     origins: tuple[str, ...]
@@ -223,7 +224,10 @@ def _listen(table: Table) -> dict[str, object]:
     lines_port = table.whole("lines_port", 1, 65_535)
     if port == lines_port:
         raise table.fault("lines_port", "is to be another port than listen.port")
-    return {"host": host, "port": port, "lines_port": lines_port, "certificate": certificate, "key": key,
+    gate = table.truth("gate", False)
+    if gate and not address.is_loopback:
+        raise table.fault("gate", f"is for a front at the loopback, and host is {host}: whoever connects says which address a user has")
+    return {"host": host, "port": port, "lines_port": lines_port, "gate": gate, "certificate": certificate, "key": key,
             "origins": _origins(table), "page": table.file("page", Path(__file__).resolve().parent.parent / "page")}
 
 

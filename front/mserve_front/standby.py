@@ -40,6 +40,7 @@ class Standby:
         self._wake = asyncio.Event()
         self._control = Control(settings.journal.control, {"status": self._status, "promote": self._promote})
         self._fault = ""
+        self._idle = False
 
     async def run(self) -> Promoted | None:
         """Follows until it is promoted, or stopped: then it is None. Raises `NoStart` if it cannot go on; the store is not to be used then, unless it
@@ -137,6 +138,7 @@ class Standby:
             await self._stage.take(event)
         if not flushes:
             await self._stage.drained()
+        self._idle = not flushes
         return bool(flushes)
 
     async def _left(self) -> None:
@@ -149,8 +151,8 @@ class Standby:
 
     async def _status(self, _: dict[str, object]) -> Answered:
         behind = self._history.at - self._stage.at
-        return {"state": "standby", "line": self._stage.at, "behind": behind, "seconds": round(self._stage.behind(), 3), "fault": self._fault,
-                "reported": self._stage.reported}
+        return {"state": "standby", "line": self._stage.at, "behind": behind, "seconds": round(self._stage.behind(), 3), "reported": self._stage.reported,
+                "caught up": self._idle and not self._fault, "fault": self._fault}
 
     async def _promote(self, _: dict[str, object]) -> Answered:
         """Asks for the promotion, and waits for what comes of it."""

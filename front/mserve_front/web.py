@@ -30,6 +30,8 @@ HEADERS = {
     "Permissions-Policy": "camera=(), geolocation=(), microphone=(), payment=(), usb=()", "Server": "mfront",
 }
 TRANSPORT = "max-age=31536000"
+# The field in which a gate says where a user comes from.
+GATE = "X-Mgate-From"
 # Seconds that a request may take from its head to the last byte of its answer.
 REQUEST = 60.0
 
@@ -159,7 +161,7 @@ class Web:
         name, password = body.get("user"), body.get("password")
         if not isinstance(name, str) or not isinstance(password, str):
             raise Fault(400, "user and password are to be texts")
-        address = address_of(request)
+        address = self._address(request)
         try:
             user, proof = await self._signing.by_password(name, password, address)
             before = self._sessions.find(request.cookies.get(self._cookie, ""))
@@ -177,6 +179,11 @@ class Web:
         response = web.json_response(self._sessions.record(session))
         self._set_cookie(response, session.key)
         return response
+
+    def _address(self, request: web.Request) -> str:
+        """The address of a user: a gate says it in a field of its own."""
+        told = request.headers.getall(GATE, [])
+        return plain_address(told[-1]) if self._settings.gate and told else address_of(request)
 
     async def _session_record(self, request: web.Request) -> web.StreamResponse:
         return web.json_response(self._sessions.record(self._session(request)))
@@ -221,7 +228,7 @@ class Web:
         kind, _, secret = request.headers.get("Authorization", "").partition(" ")
         if kind.lower() != "bearer" or not secret:
             raise Fault(401, "a token is needed: Authorization: Bearer TOKEN", WWW_Authenticate="Bearer")
-        address = address_of(request)
+        address = self._address(request)
         try:
             user, proof = self._signing.by_token(secret.strip(), address)
             task = self._of_token.get(proof)

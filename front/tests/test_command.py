@@ -48,23 +48,23 @@ def test_help_of_each_command(command: Run, words: list[str]) -> None:
     assert all(option in manual or option == "--help" for option in re.findall(r"--\w+", done.stdout))
 
 
-@pytest.mark.parametrize("name", ["mjournal", "mbackup"])
-def test_help_of_the_tools(name: str) -> None:
+@pytest.mark.parametrize(("name", "count"), [("mjournal", 5), ("mbackup", 5), ("mgate", 3)])
+def test_help_of_the_tools(name: str, count: int) -> None:
     """Each command has its help, and the manual page has each command and option."""
     manual = (FRONT / "man" / f"{name}.1").read_text().replace("\\-", "-")
     shown = tool(name)("--help")[1]
     acts = re.search(r"COMMAND\n((?: +\w+ .*\n(?: {8,}.*\n)*)+)", shown)[1]
     acts = re.findall(r"^ {4}(\w+) ", acts, re.MULTILINE)
-    assert len(acts) == 5
+    assert len(acts) == count
     for act in acts:
         status, output, told = tool(name)(act, "--help")
         assert (status, told) == (0, "") and "Status: 0 all went well" in output.replace("\n", " ") and act in manual
         assert all(option in manual or option == "--help" for option in re.findall(r"--[\w-]+", shown + output)), output
-    assert tool(name)()[0] == 2
+    assert tool(name)("nothing")[0] == 2
 
 
 @pytest.mark.skipif(shutil.which("groff") is None and not os.environ.get("CI"), reason="groff is not there: apt-get install groff-base")
-@pytest.mark.parametrize("name", ["mfront", "mjournal", "mbackup"])
+@pytest.mark.parametrize("name", ["mfront", "mjournal", "mbackup", "mgate"])
 def test_page_is_set_without_a_warning(name: str) -> None:
     done = subprocess.run(["groff", "-man", "-ww", "-z", "-Tutf8", FRONT / "man" / f"{name}.1"], capture_output=True, timeout=60)
     assert (done.returncode, done.stderr) == (0, b"")

@@ -20,7 +20,7 @@ from mserve_front.settings import JournalSettings
 from running import PROGRAM
 from test_journal import flushes
 from test_replay import backup, held, works
-from test_standby import Load, promoted
+from test_standby import Load, takes_over
 
 
 @pytest.fixture(scope="module")
@@ -172,12 +172,11 @@ async def test_leaders_that_are_killed(start, journal: JournalSettings, tmp_path
     leader = start(store="store.db", journal=table(journal))
     for _ in range(2):
         second = start(store="store.db", words=["--follow"], awaited="standing by", journal=table(journal))
-        status, _, told = await asyncio.to_thread(promoted, second)
-        assert status == 3 and "another front writes this journal" in told
+        assert "another front writes this journal" in await asyncio.to_thread(takes_over, second)
         await load.until_killed(leader, rng.uniform(0.05, 0.3))
-        while (done := await asyncio.to_thread(promoted, second))[0]:
+        while why := await asyncio.to_thread(takes_over, second):
             # The database gives the lock back once it has seen the end of the connection.
-            assert "another front" in done[2]
+            assert "another front" in why
         found = await load.counted(second)
         assert load.answered <= found.keys() <= load.sent and set(found.values()) == {"1"}
         leader = second

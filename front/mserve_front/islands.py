@@ -1,0 +1,226 @@
+# SPDX-License-Identifier: Apache-2.0
+"""The islands of a machine: a front with its server for each, in a process of its own, with a journal in the database under the island's name.
+
+An island moves by its journal: the target stands by until it has caught up, the machine before ends its front in order, and the target is promoted."""
+from __future__ import annotations
+
+import asyncio
+import contextlib
+import json
+import shutil
+import sys
+import time
+from dataclasses import dataclass, field
+from pathlib import Path
+
+from .control import Refused, asked
+from .folders import write_whole
+from .journal import LogFault
+from .placement import HERE, LEFT, MOVING, READY, TAKING, Island, Machine, Placement
+from .server import free_port, tell, tied
+from .standing import place_of
+from .users import BadUsers, Users, load, save
+
+# Seconds between two looks at the placement, and before a front that ended is started again.
+LOOK, PAUSE = 0.3, 1.0
+# Seconds for an answer of a front, and for its end.
+ANSWER, ENDING = 5.0, 20.0
+COMMAND = Path(__file__).resolve().parent.parent / "mfront"
+
+
+@dataclass(frozen=True, slots=True)
+class Home:
+    """Where a machine keeps its islands, and what all their fronts have in common."""
+
+    machine: Machine
+    folder: Path
+    users: Path
+    database: str
+    program: str
+    origins: tuple[str, ...]
+
+
+@dataclass(eq=False, slots=True)
+class House:
+    """The front of an island: its ports, its process, and whether it stands by."""
+
+    island: str
+    ports: dict[str, int]
+    follows: bool
+    process: asyncio.subprocess.Process | None = None
+    began: float = field(default_factory=time.monotonic)
+
+
+class Islands:
+    """Keeps the fronts of this machine as the placement says. `placed` and `machines` are what it said last; `of_account` has the island of an account,
+    and `of_token` the user of a token's hash."""
+
+    def __init__(self, home: Home, placement: Placement) -> None:
+        self._home = home
+        self._placement = placement
+        self._houses: dict[str, House] = {}
+        self._users: Users = {}
+        self._seen = 0
+        self._fault = ""
+        self.placed: dict[str, Island] = {}
+        self.machines: dict[str, Machine] = {}
+        self.of_account: dict[str, str] = {}
+        self.of_token: dict[str, str] = {}
+
+    @property
+    def users(self) -> Users:
+        """All users, of all islands."""
+        return self._users
+
+    def port(self, island: str, kind: str) -> int | None:
+        """The port of an island's front here, or None if it does not serve here."""
+        house = self._houses.get(island)
+        return house.ports[kind] if house is not None and not house.follows else None
+
+    async def begin(self) -> None:
+        """Notes where this machine is, and reads the placement once. Raises `LogFault` or `BadUsers`."""
+        await asyncio.to_thread(self._placement.make)
+        await asyncio.to_thread(self._placement.enter, self._home.machine)
+        self._read_users()
+        await self._look()
+
+    async def run(self) -> None:
+        """Does what the placement says, again and again."""
+        while True:
+            try:
+                await self._look()
+                ends = await asyncio.gather(*(self._turn(island) for island in self.placed.values()), return_exceptions=True)
+                for error in ends:
+                    if isinstance(error, BaseException):
+                        raise error
+                if self._fault:
+                    tell("the placement can be read again")
+                self._fault = ""
+            except (LogFault, BadUsers, OSError) as error:
+                if not self._fault:
+                    tell(f"the islands stay as they are: {error}")
+                self._fault = str(error)
+            await asyncio.sleep(LOOK)
+
+    async def end(self) -> None:
+        """Ends all fronts in order."""
+        await asyncio.gather(*(self._ended(name) for name in list(self._houses)))
+        self._placement.close()
+
+    async def _look(self) -> None:
+        self.placed = await asyncio.to_thread(self._placement.islands)
+        self.machines = await asyncio.to_thread(self._placement.machines)
+        self.of_account = {account: island.name for island in self.placed.values() for account in island.accounts}
+        self._read_users()
+        for name in [name for name in self._houses if name not in self.placed]:
+            await self._ended(name)
+
+    async def _turn(self, island: Island) -> None:
+        """Does what an island's state asks of this machine."""
+        me = self._home.machine.name
+        if island.target == me and island.state in (MOVING, READY, TAKING):
+            await self._served(island, follows=True)
+            if island.state != READY and await self._caught_up(island.name):
+                await asyncio.to_thread(self._placement.turn, island.name, island.state, READY if island.state == MOVING else LEFT)
+        elif island.target == me and island.state == LEFT:
+            await self._promoted(island)
+        if island.machine == me and island.state in (HERE, MOVING):
+            await self._served(island, follows=False)
+        elif island.machine == me and island.state == READY:
+            tell(f"island {island.name} goes to {island.target}")
+            await self._ended(island.name)
+            await asyncio.to_thread(self._placement.turn, island.name, READY, LEFT)
+        elif island.target != me:
+            await self._ended(island.name)
+
+    async def _served(self, island: Island, follows: bool) -> None:
+        """Starts the front of an island, if it does not run."""
+        house = self._houses.get(island.name)
+        if house is not None and house.process is not None and house.process.returncode is None:
+            if house.follows == follows:
+                return
+            await self._ended(island.name)
+        elif house is not None and time.monotonic() - house.began < PAUSE:
+            return
+        house = House(island.name, {"http": free_port(), "lines": free_port()}, follows)
+        self._houses[island.name] = house
+        if follows:
+            put_aside(self._folder(island.name) / "store")
+        path = self._written(island, house)
+        words = [*tied(shutil.which("setpriv")), sys.executable, str(COMMAND), "--config", str(path), *(["--follow"] if follows else [])]
+        house.process = await asyncio.create_subprocess_exec(*words, stdin=asyncio.subprocess.DEVNULL, start_new_session=True)
+
+    async def _ended(self, name: str) -> None:
+        """Ends the front of an island in order, if it runs here."""
+        house = self._houses.pop(name, None)
+        if house is None or house.process is None or house.process.returncode is not None:
+            return
+        house.process.terminate()
+        try:
+            await asyncio.wait_for(house.process.wait(), ENDING)
+        except TimeoutError:
+            house.process.kill()
+            await house.process.wait()
+
+    async def _caught_up(self, name: str) -> bool:
+        try:
+            found = await asyncio.to_thread(asked, self._folder(name) / "mfront.control", {"ask": "status"}, ANSWER)
+        except Refused:
+            return False
+        return found["state"] == "standby" and found["behind"] == 0 and found["caught up"] is True
+
+    async def _promoted(self, island: Island) -> None:
+        """Promotes the front that stands by, and notes that the island is here."""
+        house = self._houses.get(island.name)
+        if house is None or house.process is None or house.process.returncode is not None:
+            await self._served(island, follows=True)
+            return
+        try:
+            if house.follows:
+                await asyncio.to_thread(asked, self._folder(island.name) / "mfront.control", {"ask": "promote"}, None)
+                house.follows = False
+        except Refused as error:
+            tell(f"island {island.name}: {error}")
+            return
+        await asyncio.to_thread(self._placement.arrived, island.name, self._home.machine.name)
+        tell(f"island {island.name} is here")
+
+    def _folder(self, name: str) -> Path:
+        return self._home.folder / name
+
+    def _written(self, island: Island, house: House) -> Path:
+        """Writes the settings of an island's front, and gives their path."""
+        folder, home = self._folder(island.name), self._home
+        folder.mkdir(mode=0o700, parents=True, exist_ok=True)
+        write_whole(folder / "settings.toml", island.settings.encode())
+        self._write_users(island)
+        tables = {"server": {"program": home.program, "settings": "settings.toml", "store": "store"},
+                  "listen": {"port": house.ports["http"], "lines_port": house.ports["lines"], "origins": list(home.origins), "gate": True},
+                  "users": {"file": "users.json"}, "audit": {"file": "audit.log"}, "journal": {"database": home.database, "name": island.name},
+                  "limits": {"connections_of_address": 4000}}
+        text = "".join(f"[{name}]\n" + "".join(f"{key} = {json.dumps(value)}\n" for key, value in keys.items()) for name, keys in tables.items())
+        write_whole(folder / "front.toml", text.encode())
+        return folder / "front.toml"
+
+    def _read_users(self) -> None:
+        """Reads the users of all islands, if their file has changed, and gives each island its own."""
+        changed = self._home.users.stat().st_mtime_ns
+        if changed == self._seen:
+            return
+        self._users, self._seen = load(self._home.users), changed
+        self.of_token = {token.hash: name for name, user in self._users.items() for token in user.tokens.values()}
+        for name in self._houses:
+            if name in self.placed:
+                self._write_users(self.placed[name])
+
+    def _write_users(self, island: Island) -> None:
+        with contextlib.suppress(FileNotFoundError):
+            save(self._folder(island.name) / "users.json", {name: user for name, user in self._users.items() if user.account in island.accounts})
+
+
+def put_aside(store: Path) -> None:
+    """Renames a store of which nobody knows which line it stands at: what stands by begins with the journal. It is served elsewhere, or was."""
+    if store.exists() and not place_of(store).exists():
+        for path in (store, store.with_name(store.name + "-wal")):
+            if path.exists():
+                path.rename(path.with_name(f"{path.name}.old"))

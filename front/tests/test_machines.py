@@ -1,0 +1,262 @@
+# SPDX-License-Identifier: Apache-2.0
+"""Many machines: islands on three of them, users who are handed on, an island that moves under load, and a machine that is gone and comes back."""
+from __future__ import annotations
+
+import argparse
+import asyncio
+import json
+import re
+import signal
+import ssl
+from collections.abc import Callable, Iterator
+from pathlib import Path
+
+import aiohttp
+import database
+import pytest
+from database import Cluster
+from front import FRONT, PASSWORD, in_loop, toml, tool
+from machines import HOSTS, Gate, Program, certificates, islands, ports
+from mserve_front.gate_command import settings_of
+from mserve_front.placement import BadPlacement, Placement
+from mserve_front.settings import BadSettings
+
+# Islands, unless more are asked for (--count).
+ISLANDS = 4
+
+
+@pytest.fixture(scope="module")
+def cluster() -> Iterator[Cluster]:
+    """A database for the machines."""
+    database.required()
+    made = Cluster(more="-c max_connections=400")
+    yield made
+    made.remove()
+
+
+@pytest.fixture
+def host(cluster: Cluster, tmp_path: Path) -> Iterator[Callable[..., Gate]]:
+    """Starts gates, which share ports and users, and ends them after the test."""
+    certificates(tmp_path)
+    for table in ("mfront_island", "mfront_machine", "mfront_journal"):
+        cluster.does(f"DROP TABLE IF EXISTS {table}")
+    shared, gates = ports(), []
+
+    def started(name: str, **more: dict[str, object]) -> Gate:
+        gates.append(Gate(tmp_path, name, cluster.place, shared, tmp_path / "islands" / "users.json", **more))
+        return gates[-1]
+    yield started
+    for gate in gates:
+        gate.stop()
+
+
+async def settled(cluster: Cluster, island: str, machine: str) -> None:
+    """Waits until an island is at a machine."""
+    while cluster.does(f"SELECT machine, state FROM mfront_island WHERE name = '{island}'") != [(machine, "here")]:
+        await asyncio.sleep(0.1)
+
+
+@in_loop(600)
+async def test_islands_on_three_machines(host: Callable[..., Gate], cluster: Cluster, tmp_path: Path, count: int) -> None:
+    """Users of all accounts work at once, each by a gate that is not theirs; an island moves meanwhile, and no line is lost or runs twice."""
+    made, _ = islands(tmp_path / "islands", ISLANDS * count)
+    gates = [host(name) for name in HOSTS]
+    for number, (name, settings) in enumerate(made.items()):
+        status, _, told = gates[0].does("place", name, settings, list(HOSTS)[number % 3])
+        assert status == 0, told
+    answered: dict[str, int] = {}
+    stop = asyncio.Event()
+
+    async def works(number: int, place: int) -> None:
+        user = f"user{number}.{place}"
+        program = Program(gates[(number + 1 + place) % 3], user)
+        await program.signed_on()
+        assert program.record["account"] == f"C{number}A{place}"
+        answered[user] = 0
+        while not stop.is_set():
+            try:
+                record = await program.line('S ^N=$G(^N)+1 W ^N')
+                if "rest" in record:
+                    # What is answered counts on from the last answer, or from one more line, whose answer was lost on the way.
+                    assert int(record["rest"]) in (answered[user] + 1, answered[user] + 2), (user, record, answered[user])
+                    answered[user] = int(record["rest"])
+            except ConnectionError:
+                await program.signed_on()
+            await asyncio.sleep(0.01)
+        program.close()
+    work = [asyncio.create_task(works(number, place)) for number in range(len(made)) for place in range(3)]
+    while len(answered) < len(work) or min(answered.values()) < 3:
+        await asyncio.sleep(0.05)
+        if failed := [task for task in work if task.done()]:
+            failed[0].result()
+    assert (await asyncio.to_thread(gates[2].does, "move", "island0", "three"))[0] == 0
+    await settled(cluster, "island0", "three")
+    before = dict(answered)
+    while any(answered[user] < before[user] + 3 for user in before):
+        await asyncio.sleep(0.05)
+        if failed := [task for task in work if task.done()]:
+            failed[0].result()
+    stop.set()
+    await asyncio.gather(*work)
+    for user, wanted in answered.items():
+        program = Program(gates[0], user)
+        await program.signed_on()
+        assert await program.told("W ^N") in (str(wanted), str(wanted + 1)), user
+        program.close()
+    shown = gates[1].does("list")[1].splitlines()
+    assert "machine one 127.0.0.2:" in shown[0] and "island island0 three here C0A0 C0A1 C0A2" in shown
+    assert "island island0 goes to three" in gates[0].told() and "island island0 is here" in gates[2].told()
+    config = gates[2].folder / "islands" / "island0" / "front.toml"
+    status, _, told = await asyncio.to_thread(tool("mjournal", "--config", str(config)), "replay", "--store", "memory")
+    assert (status, told) == (0, "")
+
+
+@in_loop(200)
+async def test_a_machine_that_is_gone_and_comes_back(host: Callable[..., Gate], cluster: Cluster, tmp_path: Path) -> None:
+    """Its island is taken by another one, which has all that was answered; what comes back does not serve it."""
+    made, _ = islands(tmp_path / "islands", 2)
+    first, second = host("one"), host("two")
+    assert first.does("place", "island0", made["island0"], "one")[0] == first.does("place", "island1", made["island1"], "two")[0] == 0
+    user, other = Program(second, "user0.0"), Program(first, "user1.0")
+    await user.signed_on()
+    await other.signed_on()
+    assert await user.told("S ^X=1 W ^X") == "1" and await other.told("S ^X=2 W ^X") == "2"
+    # The gate and all that it has started end with it.
+    first.process.send_signal(signal.SIGKILL)
+    first.process.wait()
+    with pytest.raises(ConnectionError):
+        await user.line("W ^X")
+    assert "cannot be reached now: try again" in (await Program(second, "user0.0").sign_on())["error"]
+    elsewhere = Program(second, "user1.0")
+    await elsewhere.signed_on()
+    assert await elsewhere.told("W ^X") == "2"
+    assert second.does("move", "island0", "two", "--gone")[0] == 0
+    await settled(cluster, "island0", "two")
+    await user.signed_on()
+    assert await user.told("W ^X") == "1" and await user.told("S ^X=3") == ""
+    first.again()
+    again = Program(first, "user0.0")
+    await again.signed_on()
+    assert await again.told("W ^X") == "3"
+    # And back: its store has no note where it stands, so that is put aside, and the journal is run from its beginning.
+    assert second.does("move", "island0", "one")[0] == 0
+    await settled(cluster, "island0", "one")
+    await again.signed_on()
+    assert await again.told("W ^X") == "3" and (first.folder / "islands" / "island0" / "store.old").exists()
+    for program in (user, elsewhere, again):
+        program.close()
+
+
+@in_loop(200)
+async def test_what_a_gate_carries(host: Callable[..., Gate], tmp_path: Path) -> None:
+    """The page's own protocol by a gate that is not the island's, wrong passwords, and peers without a certificate."""
+    made, _ = islands(tmp_path / "islands", 1)
+    first, second = host("one"), host("two")
+    assert first.does("place", "island0", made["island0"], "one")[0] == 0
+    user = Program(second, "user0.0")
+    await user.signed_on()
+    base = f"https://{second.host}:{second.ports['http']}"
+    async with aiohttp.ClientSession(base, connector=aiohttp.TCPConnector(ssl=second.context), cookie_jar=aiohttp.CookieJar(unsafe=True)) as http:
+        async with http.get("/") as response:
+            assert response.status == 200 and "<!doctype html>" in (await response.text()).lower()
+        async with http.get("/session") as response:
+            assert response.status == 401
+        async with http.post("/signon", json={"user": "user0.1", "password": "wrong password"}) as response:
+            assert response.status == 401 and await response.json() == {"error": "wrong name or password"}
+        async with http.post("/signon", json={"user": "user0.1", "password": PASSWORD}) as response:
+            assert response.status == 200 and (await response.json())["account"] == "C0A1"
+        [cookie] = http.cookie_jar
+        assert cookie.key == "__Host-mfront" and cookie.value.startswith("island0.") and cookie["secure"] and cookie["httponly"]
+        async with http.ws_connect("/ws", origin=base) as socket:
+            for number in range(5):
+                await socket.send_str(json.dumps({"id": number, "line": f"S ^Y({number})=1 W {number}"}))
+                assert (await socket.receive_json())["rest"] == str(number)
+        async with http.get("/session") as response:
+            assert response.status == 200
+        async with http.post("/signoff") as response:
+            assert response.status == 204
+        async with http.get("/session") as response:
+            assert response.status == 401
+    assert "wrong" in (await Program(second, "nobody").sign_on())["error"]
+    # The front knows where users come from: 127.0.0.1 is this test, and no gate.
+    log = [json.loads(line) for line in (first.folder / "islands" / "island0" / "audit.log").read_text().splitlines()]
+    assert {record["from"] for record in log if "from" in record} == {"127.0.0.1"}
+    status, token, _ = tool("mfront")("token", "add", "user0.0", "--config", token_config(tmp_path))
+    assert status == 0
+    async with aiohttp.ClientSession(base, connector=aiohttp.TCPConnector(ssl=second.context), headers={"Authorization": f"Bearer {token.strip()}"}) as http:
+        while True:
+            async with http.post("/line", json={"line": "W 1+2"}) as response:
+                if response.status == 200:
+                    assert (await response.json())["rest"] == "3"
+                    break
+            await asyncio.sleep(0.2)
+    user.close()
+    for data, answer in ((b"GET / HTTP/1.0\r\n\r\n", b"400"), (b"PUT / HTTP/1.1\r\n\r\n", b"400"), (b"GET /" + b"x" * 20_000, b"413"),
+                         (b"POST /line HTTP/1.1\r\nContent-Length: 99999999\r\n\r\n", b"413"),
+                         (b"POST /line HTTP/1.1\r\nTransfer-Encoding: chunked\r\n\r\n", b"400"), (b"GET / HTTP/1.1\r\nA: b\r\n c: d\r\n\r\n", b"400")):
+        reader, writer = await asyncio.open_connection(second.host, second.ports["http"], ssl=second.context)
+        writer.write(data)
+        assert answer in (await reader.readline()), data
+        writer.close()
+    with pytest.raises((ssl.SSLError, ConnectionError)):
+        reader, writer = await asyncio.open_connection(first.host, first.ports["peers"], ssl=first.context, server_hostname="one")
+        writer.write(b'{"island": "island0", "kind": "lines"}\n')
+        if not await reader.readline():
+            raise ConnectionError
+
+
+def token_config(folder: Path) -> Path:
+    """Settings by which mfront keeps the users of all islands."""
+    path = folder / "islands" / "users.toml"
+    path.write_text('[users]\nfile = "users.json"\n[server]\nsettings = "island0.toml"\n')
+    return path
+
+
+@in_loop(200)
+async def test_commands_of_the_page(host: Callable[..., Gate], cluster: Cluster, tmp_path: Path) -> None:
+    """Those of docs/OPERATING.md that move a customer, and that take one whose machine is gone."""
+    islands(tmp_path / "islands", 1)
+    first, second = host("one"), host("two")
+    text = (FRONT.parent / "docs" / "OPERATING.md").read_text(encoding="utf-8")
+    text = re.search(r"^### Many machines.*?(?=^## )", text, re.MULTILINE | re.DOTALL)[0]
+    text = re.sub(r"^```toml\n.*?^```$", "", text, flags=re.MULTILINE | re.DOTALL)
+    commands = [line for block in re.findall(r"^```\n(.*?)^```$", text, re.MULTILINE | re.DOTALL) for line in block.splitlines()]
+    assert 4 <= len(commands) <= 10
+    user = Program(first, "user0.0")
+    for command in commands:
+        if "--gone" in command:
+            second.process.send_signal(signal.SIGKILL)
+            second.process.wait()
+        name, *words = command.replace("/etc/mserve", str(tmp_path / "islands")).replace("ISLAND", "island0").split()
+        assert name == "mgate" and (await asyncio.to_thread(first.does, *words))[0] == 0
+        if words[0] != "list":
+            await settled(cluster, "island0", "two" if words[:3] == ["move", "island0", "two"] else "one")
+            await user.signed_on()
+            assert await user.told("S ^N=$G(^N)+1 W ^N") in ("1", "2", "3")
+    assert await user.told("W ^N") == "3"
+    user.close()
+
+
+def test_words_of_mgate(host: Callable[..., Gate], cluster: Cluster, tmp_path: Path) -> None:
+    made, _ = islands(tmp_path / "islands", 2)
+    gate, placement = host("one"), Placement(cluster.place)
+    assert gate.does("place", "island0", made["island0"], "one")[0] == 0
+    status, _, found = gate.does("place", "island0", made["island1"], "one")
+    assert (status, found) == (2, "mgate: island0: there is such an island already\n")
+    other = made["island1"].read_text()
+    for act, told in ((lambda: placement.put("other", made["island0"].read_text(), "one"), "the island island0 has it already"),
+                      (lambda: placement.put("a b", other, "one"), "is no name of an island"), (lambda: placement.put("x", other, "two"), "no such machine"),
+                      (lambda: placement.put("x", "account = 1", "one"), "no settings of a server"), (lambda: placement.put("x", "", "one"), "have no account"),
+                      (lambda: placement.move("island0", "one", False), "it is at one"), (lambda: placement.move("island9", "one", False), "no such island")):
+        with pytest.raises(BadPlacement, match=told):
+            act()
+    placement.close()
+    for table, keys, told in (("machine", {"name": "a b"}, "machine.name: is to be"), ("machine", {"database": None}, "machine.database: is missing"),
+                              ("listen", {"port": 0}, "listen.port: is to be a whole number"), ("peers", {"key": None}, "peers.key: is missing")):
+        config = tmp_path / "bad.toml"
+        tables = gate.tables | {table: {key: value for key, value in (gate.tables[table] | keys).items() if value is not None}}
+        config.write_text(toml(tables))
+        with pytest.raises(BadSettings, match=told):
+            settings_of(argparse.Namespace(config=config))
+    with pytest.raises(RuntimeError, match="cannot be used"):
+        host("two", peers={"authority": "none"})

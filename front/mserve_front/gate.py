@@ -10,8 +10,10 @@ import contextlib
 import json
 import re
 import ssl
+from collections.abc import Awaitable, Callable
 from dataclasses import dataclass
 
+from .doors import OPTIONS
 from .islands import Islands
 from .server import HOST
 from .users import token_hash
@@ -27,6 +29,9 @@ REQUEST = re.compile(rb"(GET|POST) (/[!-~]*) HTTP/1\.1", re.ASCII)
 FIELD = re.compile(rb"([!#$%&'*+.^_`|~0-9A-Za-z-]+):[ \t]*([\t -~\x80-\xff]*?)[ \t]*", re.ASCII)
 REASONS = {400: "Bad Request", 404: "Not Found", 413: "Content Too Large", 503: "Service Unavailable"}
 Streams = tuple[asyncio.StreamReader, asyncio.StreamWriter]
+Serve = Callable[[asyncio.StreamReader, asyncio.StreamWriter], Awaitable[None]]
+# What ends a connection, and nothing else.
+BROKEN = (OSError, ValueError, KeyError, TypeError, asyncio.IncompleteReadError, asyncio.LimitOverrunError)
 
 
 class Away(Exception):
@@ -105,6 +110,7 @@ class Gate:
                     return await self._here(island, kind)
                 machine = self._islands.machines[placed.machine]
                 reader, writer = await asyncio.open_connection(machine.host, machine.port, ssl=self._peers, server_hostname=machine.name)
+                watched(writer)
                 writer.write(json.dumps({"island": island, "kind": kind}).encode() + b"\n")
                 if await reader.readline() != b"here\n":
                     writer.close()
@@ -123,71 +129,73 @@ class Gate:
 
     async def serve_peer(self, reader: asyncio.StreamReader, writer: asyncio.StreamWriter) -> None:
         """Another machine hands a user on. It has shown its certificate."""
-        async with self._kept(writer):
-            async with asyncio.timeout(COMING):
-                asked = json.loads(await reader.readline())
-            try:
-                inner = await self._here(str(asked["island"]), str(asked["kind"]))
-            except (Away, OSError):
-                writer.write(b"away\n")
-                return
-            writer.write(b"here\n")
-            await spliced((reader, writer), inner)
+        async with asyncio.timeout(COMING):
+            asked = json.loads(await reader.readline())
+        try:
+            inner = await self._here(str(asked["island"]), str(asked["kind"]))
+        except (Away, OSError):
+            writer.write(b"away\n")
+            return
+        writer.write(b"here\n")
+        await spliced((reader, writer), inner)
 
     async def serve_lines(self, reader: asyncio.StreamReader, writer: asyncio.StreamWriter) -> None:
         """A program: its first line begins with its user's name."""
-        async with self._kept(writer):
-            async with asyncio.timeout(COMING):
-                first = await reader.readuntil(b"\n")
-            try:
-                inner = await self.reach(self.of_user(first.partition(b" ")[0].decode("utf-8", "replace")), LINES)
-            except Away as error:
-                writer.write(json.dumps({"error": str(error)}).encode() + b"\n")
-                return
-            inner[1].write(address_of(writer).encode() + b"\n" + first)
-            await spliced((reader, writer), inner)
+        async with asyncio.timeout(COMING):
+            first = await reader.readuntil(b"\n")
+        try:
+            inner = await self.reach(self.of_user(first.partition(b" ")[0].decode("utf-8", "replace")), LINES)
+        except Away as error:
+            writer.write(json.dumps({"error": str(error)}).encode() + b"\n")
+            return
+        inner[1].write(address_of(writer).encode() + b"\n" + first)
+        await spliced((reader, writer), inner)
 
     async def serve_http(self, reader: asyncio.StreamReader, writer: asyncio.StreamWriter) -> None:
         """A browser, or a program with a token: one request for each connection."""
-        async with self._kept(writer):
-            try:
-                async with asyncio.timeout(COMING):
-                    request = await read_request(reader)
-                island = self.of_request(request)
-                inner = await self.reach(island, HTTP)
-            except BadRequest as error:
-                writer.write(refusal(error.status, str(error)))
-                return
-            except Away as error:
-                writer.write(refusal(503, str(error)))
-                return
-            inner[1].write(written_request(request, address_of(writer)))
-            try:
-                head = await inner[0].readuntil(b"\r\n\r\n")
-            except (asyncio.IncompleteReadError, asyncio.LimitOverrunError):
-                writer.write(refusal(503, f"{island} ended before it answered: try again"))
-                inner[1].close()
-                return
-            writer.write(written_answer(head, island))
-            await spliced((reader, writer), inner)
-
-    @contextlib.asynccontextmanager
-    async def _kept(self, writer: asyncio.StreamWriter):
-        """Counts a connection, and closes it. One that breaks, or is too slow, is left."""
-        self._count += 1
         try:
-            if self._count <= MOST:
-                yield
-            else:
+            async with asyncio.timeout(COMING):
+                request = await read_request(reader)
+            island = self.of_request(request)
+            inner = await self.reach(island, HTTP)
+        except BadRequest as error:
+            writer.write(refusal(error.status, str(error)))
+            return
+        except Away as error:
+            writer.write(refusal(503, str(error)))
+            return
+        inner[1].write(written_request(request, address_of(writer)))
+        try:
+            head = await inner[0].readuntil(b"\r\n\r\n")
+        except (asyncio.IncompleteReadError, asyncio.LimitOverrunError):
+            writer.write(refusal(503, f"{island} ended before it answered: try again"))
+            inner[1].close()
+            return
+        writer.write(written_answer(head, island))
+        await spliced((reader, writer), inner)
+
+    def kept(self, serve: Serve) -> Serve:
+        """A way in whose connections are counted and closed; one that breaks, or is too slow, is left."""
+        async def guarded(reader: asyncio.StreamReader, writer: asyncio.StreamWriter) -> None:
+            self._count += 1
+            try:
+                if self._count > MOST:
+                    raise ConnectionAbortedError
+                watched(writer)
+                await serve(reader, writer)
+                await writer.drain()
+            except BROKEN:
                 writer.transport.abort()
-        except (ConnectionError, TimeoutError, ValueError, KeyError, TypeError, ssl.SSLError, asyncio.IncompleteReadError, asyncio.LimitOverrunError):
-            writer.transport.abort()
-        finally:
-            self._count -= 1
-            with contextlib.suppress(ConnectionError, ssl.SSLError):
-                if not writer.transport.is_closing():
-                    await writer.drain()
-            writer.close()
+            finally:
+                self._count -= 1
+                writer.close()
+        return guarded
+
+
+def watched(writer: asyncio.StreamWriter) -> None:
+    """Has a peer noticed that is gone without a word."""
+    for level, option, value in OPTIONS:
+        writer.get_extra_info("socket").setsockopt(level, option, value)
 
 
 async def spliced(outer: Streams, inner: Streams) -> None:

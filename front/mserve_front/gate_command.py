@@ -55,7 +55,8 @@ def words() -> argparse.ArgumentParser:
         one.set_defaults(act=act)
         return one
     add("list", listed, "list machines and islands", "Of each island: its machine, its state, its accounts.")
-    one = add("place", place, "put a new island on a machine", "Its settings are a server's; no grant goes out of it, and no other island has one of its accounts.")
+    one = add("place", place, "put a new island on a machine", "Its settings are a server's; no grant goes out of it, and no other island has one of its "
+              "accounts.")
     one.add_argument("island", metavar="ISLAND")
     one.add_argument("settings", type=Path, metavar="SETTINGS")
     one.add_argument("machine", metavar="MACHINE")
@@ -132,9 +133,9 @@ async def _serve(home: Home, doorway: Doorway) -> None:
     await islands.begin()
     keeping, servers = asyncio.create_task(islands.run()), []
     try:
-        for serves, port, context in ((gate.serve_http, doorway.port, users), (gate.serve_lines, doorway.lines_port, users),
-                                      (gate.serve_peer, home.machine.port, inward)):
-            servers.append(await asyncio.start_server(serves, doorway.host, port, ssl=context, limit=HEAD, ssl_handshake_timeout=HANDSHAKE))
+        for serve, port, context in ((gate.serve_http, doorway.port, users), (gate.serve_lines, doorway.lines_port, users),
+                                     (gate.serve_peer, home.machine.port, inward)):
+            servers.append(await asyncio.start_server(gate.kept(serve), doorway.host, port, ssl=context, limit=HEAD, ssl_handshake_timeout=HANDSHAKE))
         tell(f"{home.machine.name}: serving at https://{doorway.host}:{doorway.port}/, lines at port {doorway.lines_port}")
         await stopping.wait()
     finally:

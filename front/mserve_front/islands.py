@@ -15,14 +15,15 @@ from pathlib import Path
 
 from .control import Refused, asked
 from .folders import write_whole
-from .journal import LogFault
 from .placement import HERE, LEFT, MOVING, READY, TAKING, Island, Machine, Placement
 from .server import free_port, tell, tied
 from .standing import place_of
-from .users import BadUsers, Users, load, save
+from .users import Users, load, save
 
 # Seconds between two looks at the placement, and before a front that ended is started again.
 LOOK, PAUSE = 0.3, 1.0
+# The longest pause, of a front that ends again and again.
+LONGEST = 30.0
 # Seconds for an answer of a front, and for its end.
 ANSWER, ENDING = 5.0, 20.0
 COMMAND = Path(__file__).resolve().parent.parent / "mfront"
@@ -47,6 +48,7 @@ class House:
     island: str
     ports: dict[str, int]
     follows: bool
+    pause: float = PAUSE
     process: asyncio.subprocess.Process | None = None
     began: float = field(default_factory=time.monotonic)
 
@@ -96,7 +98,8 @@ class Islands:
                 if self._fault:
                     tell("the placement can be read again")
                 self._fault = ""
-            except (LogFault, BadUsers, OSError) as error:
+            except Exception as error:
+                # Whatever it was: the islands that run go on, and it is tried again.
                 if not self._fault:
                     tell(f"the islands stay as they are: {error}")
                 self._fault = str(error)
@@ -140,9 +143,10 @@ class Islands:
             if house.follows == follows:
                 return
             await self._ended(island.name)
-        elif house is not None and time.monotonic() - house.began < PAUSE:
+        elif house is not None and time.monotonic() - house.began < house.pause:
             return
-        house = House(island.name, {"http": free_port(), "lines": free_port()}, follows)
+        pause = PAUSE if house is None or time.monotonic() - house.began > 2 * LONGEST else min(2 * house.pause, LONGEST)
+        house = House(island.name, {"http": free_port(), "lines": free_port()}, follows, pause)
         self._houses[island.name] = house
         if follows:
             put_aside(self._folder(island.name) / "store")

@@ -266,7 +266,8 @@ class Journal:
         """The time, which never steps back: a record's time is not before that of the record before it."""
         now = time.time_ns() // 1000
         if now < self._time - STEP and not self._stepped:
-            self._tell(f"the clock stepped back by {(self._time - now) / 1e6:.0f} s: the journal keeps the time of its last record until the clock is there again")
+            self._tell(f"the clock stepped back by {(self._time - now) / 1e6:.0f} s: the journal keeps the time of its last record until the clock is there "
+                       "again")
         self._stepped = now < self._time - STEP
         self._time = max(self._time, now)
         return self._time

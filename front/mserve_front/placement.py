@@ -6,6 +6,7 @@ stands by and catches up; `ready`, it has; `left`, the machine before has ended;
 from __future__ import annotations
 
 import re
+import threading
 import tomllib
 from dataclasses import dataclass
 
@@ -53,6 +54,7 @@ class Placement:
     def __init__(self, place: str) -> None:
         self._place = place
         self._base: psycopg.Connection | None = None
+        self._turn = threading.Lock()
 
     def make(self) -> None:
         """Makes the tables, if they are not there."""
@@ -115,15 +117,16 @@ class Placement:
             raise BadPlacement(f"{machine}: there is no such machine: start its mgate first")
 
     def _ask(self, statement: str, *given: object) -> list[tuple[object, ...]]:
-        if self._base is None or self._base.closed:
-            self._base = connected(self._place)
-        try:
-            with faults():
-                found = self._base.execute(statement, given)
-                return found.fetchall() if found.description else []
-        except LogFault:
-            self.close()
-            raise
+        with self._turn:
+            if self._base is None or self._base.closed:
+                self._base = connected(self._place)
+            try:
+                with faults():
+                    found = self._base.execute(statement, given)
+                    return found.fetchall() if found.description else []
+            except LogFault:
+                self.close()
+                raise
 
 
 def accounts_of(name: str, settings: str) -> tuple[str, ...]:

@@ -110,7 +110,8 @@ class Flush:
 
 
 def read_flush(data: bytes, at: int, records: bool = True) -> tuple[Flush, int]:
-    """The flush at a place, without its records if these are not wanted, and the place after it. Raises `Torn` if its end is missing, and `BadJournal` if it is damaged."""
+    """The flush at a place, without its records if these are not wanted, and the place after it. Raises `Torn` if its end is missing, and `BadJournal`
+    if it is damaged."""
     head, begin = data[at:at + _HEAD.size], at + HEAD_SIZE
     if len(data) < begin:
         raise Torn

@@ -253,8 +253,8 @@ def _networks(table: Table) -> tuple[ipaddress.IPv4Network | ipaddress.IPv6Netwo
 
 def journal_settings(table: Table, folder: Path) -> JournalSettings:
     """Where the journal is; the socket is in a folder unless it is named."""
-    found = JournalSettings(table.file("folder"), table.text("database"), table.text("name", "main"), table.whole("roll", 4096, 1 << 40, JournalSettings().roll),
-                            table.file("control", folder / "mfront.control"))
+    roll = table.whole("roll", 4096, 1 << 40, JournalSettings().roll)
+    found = JournalSettings(table.file("folder"), table.text("database"), table.text("name", "main"), roll, table.file("control", folder / "mfront.control"))
     if found.folder is not None and found.database is not None:
         raise table.fault("database", "is not for a journal that is in a folder: give one of the two")
     return found

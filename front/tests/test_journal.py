@@ -15,7 +15,7 @@ import pytest
 from front import COMMAND, Front, in_loop, missed, mjournal
 from mserve_front import journal as journal_module
 from mserve_front.faults import HeldBack, NoJournal
-from mserve_front.history import Answered, Began, History
+from mserve_front.history import Began, History
 from mserve_front.journal import Journal, LogFault, LogTaken, Tail
 from mserve_front.journal_file import MARK, FileLog, FileReader, files_of, tail_of
 from mserve_front.lines import Line

@@ -162,7 +162,8 @@ def line(number: int, text: bytes, terminal: int = 1) -> LineRecord:
 
 def test_lines_that_were_cut_short_or_have_no_reply(tmp_path: Path) -> None:
     """They are told, and what comes after them is compared."""
-    folder = made(tmp_path / "journal", (begin(), line(1, b"S ^X=1,^Y=1,A=1"), reply(1, 1, b"whatever", "ZSTORE")), (line(2, b"W $D(A)"), reply(2, 1, b"1-0\n1.\n")),
+    folder = made(tmp_path / "journal", (begin(), line(1, b"S ^X=1,^Y=1,A=1"), reply(1, 1, b"whatever", "ZSTORE")),
+                  (line(2, b"W $D(A)"), reply(2, 1, b"1-0\n1.\n")),
                   (line(3, b"W 3"), line(4, b"W 4")), (begin(5, 3, fresh=False), line(5, b"W 5"), reply(5, 1, b"1-5\n1.\n")), (line(6, b"W 6"),))
     status, output, told = mjournal(folder)("replay", "--program", PROGRAM, "--store", tmp_path / "new")
     assert status == 1 and "lines 1 to 5 run" in output

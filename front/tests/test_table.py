@@ -73,10 +73,11 @@ def test_flushes_are_kept_in_order_and_one_writes(journal: JournalSettings) -> N
     log.close()
 
 
-@pytest.mark.parametrize("statement", ["DELETE FROM mfront_journal WHERE sequence = 3", "UPDATE mfront_journal SET flush = set_byte(flush, 60, 255 - get_byte(flush, 60))",
-                                       "UPDATE mfront_journal SET flush = substr(flush, 1, 50) WHERE sequence = 3",
-                                       "UPDATE mfront_journal SET flush = (SELECT flush FROM mfront_journal AS o WHERE o.name = mfront_journal.name AND sequence = 2) "
-                                       "WHERE sequence = 3"])
+@pytest.mark.parametrize("statement", [
+    "DELETE FROM mfront_journal WHERE sequence = 3", "UPDATE mfront_journal SET flush = set_byte(flush, 60, 255 - get_byte(flush, 60))",
+    "UPDATE mfront_journal SET flush = substr(flush, 1, 50) WHERE sequence = 3",
+    "UPDATE mfront_journal SET flush = (SELECT flush FROM mfront_journal AS o WHERE o.name = mfront_journal.name AND sequence = 2) WHERE sequence = 3",
+], ids=["missing", "turned", "cut", "another"])
 def test_rows_that_are_damaged_or_missing(cluster: Cluster, journal: JournalSettings, statement: str) -> None:
     log = writer_of(journal)
     log.take()

@@ -34,15 +34,17 @@ def certificates(folder: Path) -> None:
 class Gate:
     """A machine's gate that runs."""
 
-    def __init__(self, folder: Path, name: str, database: str, ports: dict[str, int], users: Path, **more: dict[str, object]) -> None:
+    def __init__(self, folder: Path, name: str, database: str, ports: dict[str, int], certificates: Path, **more: dict[str, object]) -> None:
         self.folder, self.name, self.host, self.ports = folder / name, name, HOSTS[name], ports
         self.folder.mkdir(exist_ok=True)
-        self.authority = folder / "authority.pem"
+        self.authority = certificates / "authority.pem"
         tables: dict[str, dict[str, object]] = {
-            "machine": {"name": name, "database": database, "folder": "islands", "users": str(users), "program": PROGRAM},
-            "listen": {"host": self.host, "port": ports["http"], "lines_port": ports["lines"], "certificate": "../users.pem", "key": "../users.key",
+            "machine": {"name": name, "database": database, "folder": "islands", "users": "../islands/users.json", "program": PROGRAM},
+            "listen": {"host": self.host, "port": ports["http"], "lines_port": ports["lines"], "certificate": str(certificates / "users.pem"),
+                       "key": str(certificates / "users.key"),
                        "origins": [f"https://{host}:{ports['http']}" for host in HOSTS.values()]},
-            "peers": {"port": ports["peers"], "certificate": f"../{name}.pem", "key": f"../{name}.key", "authority": "../authority.pem"}}
+            "peers": {"port": ports["peers"], "certificate": str(certificates / f"{name}.pem"), "key": str(certificates / f"{name}.key"),
+                      "authority": str(self.authority)}}
         for table, keys in more.items():
             tables[table] = {key: value for key, value in (tables[table] | keys).items() if value is not None}
         self.tables, self.config = tables, self.folder / "machine.toml"

@@ -21,8 +21,8 @@ from mserve_front.gate_command import settings_of
 from mserve_front.placement import BadPlacement, Placement
 from mserve_front.settings import BadSettings
 
-# Islands, unless more are asked for (--count).
-ISLANDS = 4
+# Islands, unless more are asked for (--count), and accounts of each.
+ISLANDS, ACCOUNTS = 3, 3
 
 
 @pytest.fixture(scope="module")
@@ -34,16 +34,23 @@ def cluster() -> Iterator[Cluster]:
     made.remove()
 
 
+@pytest.fixture(scope="module")
+def authority(tmp_path_factory: pytest.TempPathFactory) -> Path:
+    """The certificates of all machines."""
+    folder = tmp_path_factory.mktemp("authority")
+    certificates(folder)
+    return folder
+
+
 @pytest.fixture
-def host(cluster: Cluster, tmp_path: Path) -> Iterator[Callable[..., Gate]]:
+def host(cluster: Cluster, authority: Path, tmp_path: Path) -> Iterator[Callable[..., Gate]]:
     """Starts gates, which share ports and users, and ends them after the test."""
-    certificates(tmp_path)
     for table in ("mfront_island", "mfront_machine", "mfront_journal"):
         cluster.does(f"DROP TABLE IF EXISTS {table}")
     shared, gates = ports(), []
 
     def started(name: str, **more: dict[str, object]) -> Gate:
-        gates.append(Gate(tmp_path, name, cluster.place, shared, tmp_path / "islands" / "users.json", **more))
+        gates.append(Gate(tmp_path, name, cluster.place, shared, authority, **more))
         return gates[-1]
     yield started
     for gate in gates:
@@ -59,11 +66,11 @@ async def settled(cluster: Cluster, island: str, machine: str) -> None:
 @in_loop(600)
 async def test_islands_on_three_machines(host: Callable[..., Gate], cluster: Cluster, tmp_path: Path, count: int) -> None:
     """Users of all accounts work at once, each by a gate that is not theirs; an island moves meanwhile, and no line is lost or runs twice."""
-    made, _ = islands(tmp_path / "islands", ISLANDS * count)
-    gates = [host(name) for name in HOSTS]
+    made, _ = islands(tmp_path / "islands", ISLANDS * count, ACCOUNTS)
+    gates, placement = [host(name) for name in HOSTS], Placement(cluster.place)
     for number, (name, settings) in enumerate(made.items()):
-        status, _, told = gates[0].does("place", name, settings, list(HOSTS)[number % 3])
-        assert status == 0, told
+        placement.put(name, settings.read_text(), list(HOSTS)[number % 3])
+    placement.close()
     answered: dict[str, int] = {}
     stop = asyncio.Event()
 
@@ -82,9 +89,9 @@ async def test_islands_on_three_machines(host: Callable[..., Gate], cluster: Clu
                     answered[user] = int(record["rest"])
             except ConnectionError:
                 await program.signed_on()
-            await asyncio.sleep(0.01)
+            await asyncio.sleep(0.02)
         program.close()
-    work = [asyncio.create_task(works(number, place)) for number in range(len(made)) for place in range(3)]
+    work = [asyncio.create_task(works(number, place)) for number in range(len(made)) for place in range(ACCOUNTS)]
     while len(answered) < len(work) or min(answered.values()) < 3:
         await asyncio.sleep(0.05)
         if failed := [task for task in work if task.done()]:

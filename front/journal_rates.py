@@ -62,6 +62,12 @@ async def rate(front: Front, names: list[str], seconds: float) -> tuple[list[flo
     return waits, spent, await figures(front)
 
 
+def memory(pid: int) -> float:
+    """Millions of bytes that a process has in memory."""
+    found = next(line for line in Path(f"/proc/{pid}/status").read_text().splitlines() if line.startswith("VmRSS:"))
+    return int(found.split()[1]) * 1024 / 1e6
+
+
 def measured(folder: Path, kind: str, store: str, options: argparse.Namespace) -> None:
     """Measures one kind of journal over one kind of store, and prints what was found."""
     from database import Cluster, required
@@ -81,6 +87,7 @@ def measured(folder: Path, kind: str, store: str, options: argparse.Namespace) -
         print(f"{kind} journal, store in {store}: {count / options.seconds:.0f} lines in a second, {options.users} users; reply: median "
               f"{statistics.median(waits) * 1000:.1f} ms, 99th percentile {sorted(waits)[int(count * 0.99)] * 1000:.1f} ms; processor time of a line: "
               + ", ".join(f"{name} {one / count * 1e6:.0f} us" for name, one in zip(PARTS, spent, strict=True)), flush=True)
+        print(f"    memory: front {memory(front.process.pid):.0f} MB, server {memory(front.child):.0f} MB", flush=True)
         if kind != "none":
             flushes = found["mfront_journal_flushes_total"]
             print(f"    {flushes / count:.2f} flushes for a line, {found['mfront_journal_records_total'] / flushes:.1f} records in one, "

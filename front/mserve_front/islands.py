@@ -51,6 +51,7 @@ class House:
     pause: float = PAUSE
     process: asyncio.subprocess.Process | None = None
     began: float = field(default_factory=time.monotonic)
+    told: str = ""
 
 
 class Islands:
@@ -184,7 +185,10 @@ class Islands:
                 await asyncio.to_thread(asked, self._folder(island.name) / "mfront.control", {"ask": "promote"}, None)
                 house.follows = False
         except Refused as error:
-            tell(f"island {island.name}: {error}")
+            # It is asked again and again: what it says is told once.
+            if house.told != str(error):
+                house.told = str(error)
+                tell(f"island {island.name}: {error}")
             return
         await asyncio.to_thread(self._placement.arrived, island.name, self._home.machine.name)
         tell(f"island {island.name} is here")

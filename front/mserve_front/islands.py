@@ -17,7 +17,7 @@ from .control import Refused, asked
 from .folders import write_whole
 from .placement import HERE, LEFT, MOVING, READY, TAKING, Island, Machine, Placement
 from .server import free_port, tell, tied
-from .standing import place_of
+from .standing import place_of, read_standing
 from .users import Users, load, save
 
 # Seconds between two looks at the placement, and before a front that ended is started again.
@@ -228,7 +228,8 @@ class Islands:
 
 def put_aside(store: Path) -> None:
     """Renames a store of which nobody knows which line it stands at: what stands by begins with the journal. It is served elsewhere, or was."""
-    if store.exists() and not place_of(store).exists():
-        for path in (store, store.with_name(store.name + "-wal")):
+    standing = read_standing(store)
+    if store.exists() and (standing is None or standing.number is None):
+        for path in (store, store.with_name(store.name + "-wal"), place_of(store)):
             if path.exists():
                 path.rename(path.with_name(f"{path.name}.old"))

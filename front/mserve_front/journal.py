@@ -8,6 +8,7 @@ from __future__ import annotations
 
 import asyncio
 import contextlib
+import secrets
 import time
 from collections.abc import Callable
 from concurrent.futures import ThreadPoolExecutor
@@ -37,7 +38,8 @@ class LogTaken(Exception):
 
 @dataclass(frozen=True, slots=True)
 class Tail:
-    """Where a journal ends: its number, its last flush, the next line, the last line with a reply, the last time; and what the operator is told."""
+    """Where a journal ends: its number, its last flush, the next line, the last line with a reply, the last time, who wrote it; and what the operator
+    is told."""
 
     journal: int
     sequence: int
@@ -45,6 +47,7 @@ class Tail:
     answered: int
     time: int
     told: str = ""
+    writer: int = 0
 
 
 class Log(Protocol):
@@ -129,6 +132,9 @@ class Journal:
         self._stepped = False
         self.number = 0
         self.sequence = 0
+        # Who writes from now on, and who wrote last.
+        self.writer = secrets.randbits(63) | 1
+        self.before = 0
         # The next line's number, the last line's that was sent, and the last one's that has a reply; and the terminals whose sessions are not new.
         self.next = 1
         self.sent = 0
@@ -141,7 +147,7 @@ class Journal:
         """Takes the journal where it ends. Raises `LogTaken`, `LogFault` or `BadJournal`."""
         tail = await self._in_thread(self._log.take)
         self.number, self.sequence, self.next, self.answered, self._time = tail.journal, tail.sequence, tail.next, tail.answered, tail.time
-        self.sent = self.next - 1
+        self.sent, self.before = self.next - 1, tail.writer
         if tail.told:
             self._tell(tail.told)
 
@@ -260,7 +266,7 @@ class Journal:
             else:
                 entry.number, self.answered = self.next, self.next - 1
                 records.append(StartRecord(self.next, now, self.sent, entry.base, entry.fresh, entry.settings))
-        return Flush(self.number, self.sequence + 1, self.next, self.answered, now, records)
+        return Flush(self.number, self.sequence + 1, self.next, self.answered, now, records, self.writer)
 
     def _now(self) -> int:
         """The time, which never steps back: a record's time is not before that of the record before it."""

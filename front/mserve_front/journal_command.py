@@ -262,7 +262,7 @@ async def _replayed(options: argparse.Namespace) -> int:
     finally:
         await stage.end()
     if store is not None and part.exists():
-        name_store(part, store, Standing(replay.journal, stage.at, terminals))
+        name_store(part, store, Standing(replay.journal, stage.at, terminals, restored=True))
     count = stage.at - first + 1
     print(f"lines {first} to {stage.at} run in {taken:.1f} s, {count / taken:.0f} in a second: each was answered as it was" if count else "no line to run")
     return FOUND if stage.reported else 0

@@ -156,7 +156,7 @@ def tail_of(folder: Path) -> Tail:
         if begins is not None:
             if begins.sequence != first:
                 raise BadJournal(f"{path}: it begins with flush {begins.sequence}")
-            return Tail(last.journal, last.sequence, last.next, last.answered, last.time, told)
+            return Tail(last.journal, last.sequence, last.next, last.answered, last.time, told, last.writer)
     return Tail(secrets.randbits(63) | 1, 0, 1, 0, 0, told)
 
 

@@ -57,7 +57,7 @@ def tail_of(base: psycopg.Connection, name: str) -> Tail:
     if row is None:
         return Tail(secrets.randbits(63) | 1, 0, 1, 0, 0)
     last = flush_of(name, *row)
-    return Tail(last.journal, last.sequence, last.next, last.answered, last.time)
+    return Tail(last.journal, last.sequence, last.next, last.answered, last.time, writer=last.writer)
 
 
 def flush_of(name: str, sequence: int, data: bytes) -> Flush:

@@ -19,8 +19,12 @@ from .records import BadJournal
 from .server import Child, NoStart, Server, tell
 from .settings import Settings
 from .snapshots import SETTINGS, STORE, Manifest, copied
-from .standing import Standing, forget_standing, place_of, read_standing, write_standing
+from .standing import Standing, place_of, read_standing, write_standing
 from .turns import Lost, Unsent
+
+
+# What to do with a store that is not the journal's last.
+BACK = "put back a snapshot (mbackup restore, mjournal replay), or stand by (mfront --follow)"
 
 
 @dataclass(frozen=True, slots=True)
@@ -49,22 +53,25 @@ class Keeper:
     async def begin(self, server: Server) -> Child | None:
         """Takes the journal, and notes where the store stands. Gives the server that runs already, if one does. Raises `NoStart`."""
         self._server = server
+        server.serves(self._serving)
         if self._promoted is not None:
             self._stands_at(self._promoted.line)
             return self._promoted.child
         try:
             await self.journal.take()
-            standing = None if self._store is None else read_standing(self._store)
+            if self._store is not None:
+                self._hold(self._store, read_standing(self._store))
         except (LogTaken, LogFault, BadJournal) as error:
             raise NoStart(f"the journal cannot be used: {error}") from error
-        if standing is not None:
-            self._stands(standing)
         return None
 
-    async def began(self) -> None:
-        """The server is up: what was noted of the store does not hold any more."""
+    def _serving(self) -> None:
+        """Notes that this front serves with the store, before the journal has anything of it."""
         if self._store is not None:
-            forget_standing(self._store)
+            write_standing(self._store, Standing(self.journal.number, None, writers=(self.journal.writer, self.journal.before)))
+
+    async def began(self) -> None:
+        """The server is up."""
         if self._promoted is not None:
             self._note("promoted", line=self._promoted.line)
         await self._control.listen()
@@ -85,18 +92,28 @@ class Keeper:
         if whole and self._store is not None and self._store.exists():
             write_standing(self._store, Standing(self.journal.number, self.journal.next - 1))
 
-    def _stands(self, standing: Standing) -> None:
-        """Holds what is known of the store against the journal."""
-        last, place = self.journal.next - 1, place_of(Path(str(self._store)))
-        if not Path(str(self._store)).exists():
+    def _hold(self, store: Path, standing: Standing | None) -> None:
+        """Holds what is known of the store against the journal. Raises `NoStart` if the store is not the one that has run it."""
+        journal, last, place = self.journal, self.journal.next - 1, place_of(store)
+        if standing is None:
+            if journal.sequence:
+                raise NoStart(f"{store}: nobody knows whether it has run this journal, since there is no {place.name} beside it: {BACK}")
+            return
+        if not store.exists():
             raise NoStart(f"{place}: it says where a store stands that is not there: put the store back, or remove {place}")
-        if standing.journal != self.journal.number:
+        if standing.journal != journal.number:
             raise NoStart(f"{place}: the store has run another journal than this one. If a new journal is meant, remove {place}, and make a snapshot")
+        if standing.number is None:
+            if journal.before not in standing.writers:
+                raise NoStart(f"{store}: another front has served since this store was in use: {BACK}")
+            return
         if standing.number > last:
             raise NoStart(f"{place}: the store has run the journal up to line {standing.number}, and the journal ends with line {last}: it has lost what comes "
                           f"between. The store has all of it: move the journal away, remove {place}, and make a snapshot of what is there")
-        if standing.number < self.journal.answered:
-            tell(f"the store was put back to where it stood after line {standing.number}: lines up to {self.journal.answered} are undone")
+        if standing.number < journal.answered and not standing.restored:
+            raise NoStart(f"{store}: it stands after line {standing.number}, and another front has served since, up to line {last}: {BACK}")
+        if standing.number < journal.answered:
+            tell(f"the store was put back to where it stood after line {standing.number}: lines up to {journal.answered} are undone")
         self._stands_at(standing.number)
 
     def _stands_at(self, line: int) -> None:

@@ -13,8 +13,9 @@ from dataclasses import dataclass
 
 import crc32c
 
-# The length of the body, the journal, the flush's number; after it the next line's number, the last answered line's and the time; the body's sum.
-_HEAD = struct.Struct(">IQQQQQI")
+# The length of the body, the journal, the flush's number; after it the next line's number, the last answered line's and the time; who wrote it, and
+# the body's sum.
+_HEAD = struct.Struct(">IQQQQQQI")
 _SUM = struct.Struct(">I")
 _LENGTH = struct.Struct(">I")
 HEAD_SIZE = _HEAD.size + _SUM.size
@@ -87,7 +88,8 @@ Record = LineRecord | ReplyRecord | StartRecord
 
 @dataclass(frozen=True, slots=True)
 class Flush:
-    """Records that became durable at once. After them the next line has the number `next`, and the last line with a reply is `answered`."""
+    """Records that became durable at once. After them the next line has the number `next`, and the last line with a reply is `answered`. `writer` is the
+    number that a front draws each time that it takes the journal."""
 
     journal: int
     sequence: int
@@ -95,6 +97,7 @@ class Flush:
     answered: int
     time: int
     records: Sequence[Record]
+    writer: int = 0
 
     @property
     def first(self) -> int:
@@ -105,7 +108,7 @@ class Flush:
         """Its bytes."""
         parts = [record.packed() for record in self.records]
         body = b"".join(_LENGTH.pack(len(part)) + part for part in parts) + _END
-        head = _HEAD.pack(len(body), self.journal, self.sequence, self.next, self.answered, self.time, crc32c.crc32c(body))
+        head = _HEAD.pack(len(body), self.journal, self.sequence, self.next, self.answered, self.time, self.writer, crc32c.crc32c(body))
         return head + _SUM.pack(crc32c.crc32c(head)) + body
 
 
@@ -117,13 +120,13 @@ def read_flush(data: bytes, at: int, records: bool = True) -> tuple[Flush, int]:
         raise Torn
     if _SUM.pack(crc32c.crc32c(head)) != data[at + _HEAD.size:begin]:
         raise Torn if _is_empty(data, begin) else BadJournal("the head of a flush is damaged")
-    length, journal, sequence, following, answered, time, told = _HEAD.unpack(head)
+    length, journal, sequence, following, answered, time, writer, told = _HEAD.unpack(head)
     end = begin + length
     if len(data) < end:
         raise Torn
     if crc32c.crc32c(data[begin:end]) != told:
         raise Torn if _is_empty(data, end - 1) else BadJournal("the records of a flush are damaged")
-    return Flush(journal, sequence, following, answered, time, tuple(_records(data[begin:end - 1])) if records else ()), end
+    return Flush(journal, sequence, following, answered, time, tuple(_records(data[begin:end - 1])) if records else (), writer), end
 
 
 def _is_empty(data: bytes, at: int) -> bool:

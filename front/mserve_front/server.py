@@ -60,6 +60,7 @@ class Server:
         self._restarted = restarted
         self._journal = journal
         self._base: int | None = None
+        self._serving: Callable[[], None] = lambda: None
         self._one = asyncio.Lock()
         self._fresh = False
         self._text = b""
@@ -125,6 +126,10 @@ class Server:
         """Takes back the lines of a terminal that are not sent."""
         if self._turns is not None:
             self._turns.forget(terminal)
+
+    def serves(self, serving: Callable[[], None]) -> None:
+        """Has a call made each time before a start is noted in the journal, once the store is there."""
+        self._serving = serving
 
     def stands_at(self, line: int) -> None:
         """Notes up to which line of the journal the store has run all."""
@@ -206,6 +211,7 @@ class Server:
     async def _noted(self, turns: Turns) -> None:
         """Notes in the journal, if there is one, that all sessions begin anew; from now on the connection's lines are in it. Raises `NoJournal`."""
         if self._journal is not None:
+            self._serving()
             await self._journal.begin(self._base, self._fresh, self._text)
             turns.keep(self._journal)
 

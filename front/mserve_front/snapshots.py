@@ -60,7 +60,7 @@ class Manifest:
     @property
     def standing(self) -> Standing:
         """Where its store stands."""
-        return Standing(self.journal, self.number, tuple(self.open))
+        return Standing(self.journal, self.number, tuple(self.open), restored=True)
 
 
 Quiet = Callable[[], AbstractAsyncContextManager[None]]

@@ -77,8 +77,10 @@ class Standby:
         if self._settings.join is not None:
             raise NoStart("a standby has a server of its own: server.store in place of server.join")
         standing = None if self._store is None else read_standing(self._store)
+        if standing is not None and standing.number is None:
+            standing = None
         if standing is None and self._store is not None and self._store.exists():
-            raise NoStart(f"{self._store}: nobody knows up to which line it has run the journal, since there is no {place_of(self._store).name} beside it: "
+            raise NoStart(f"{self._store}: nobody knows up to which line it has run the journal, by {place_of(self._store).name} beside it: "
                           "put back a snapshot (mbackup restore)")
         if standing is not None:
             self._hold_against(standing)

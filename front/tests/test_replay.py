@@ -6,6 +6,7 @@ import asyncio
 import json
 import os
 import random
+import re
 import shutil
 import signal
 import sqlite3
@@ -200,10 +201,14 @@ async def test_a_server_that_is_killed_and_a_front_that_is(start, tmp_path: Path
     async with front.person("ada") as ada, front.person("ben") as ben:
         await ada.line("S ^N=0")
         for _ in range(20):
-            await ada.send("S ^N=^N+1 F I=1:1:20000 S A=I")
+            await ada.send("S ^N=^N+1 F I=1:1:300000 S A=I")
+            await ben.send("F I=1:1:300000 S A=I")
+        # While a reply of the one is noted, a line of the other is run: so one is on its way.
         assert (await ada.next())["code"] is None
         front.kill_child()
         records = [await ada.next() for _ in range(19)]
+        for _ in range(20):
+            await ben.next()
         answered = 1 + sum("output" in record for record in records)
         while not ben.events:
             await ben.event()
@@ -215,7 +220,7 @@ async def test_a_server_that_is_killed_and_a_front_that_is(start, tmp_path: Path
     async with front.person("ada") as ada:
         assert await ada.told("W ^M") == "1"
     front.stop()
-    assert " 3 starts, 1 without a reply" in mjournal(front.folder / "journal")("verify")[1].replace("3 starts, 2 without", "3 starts, 1 without")
+    assert re.search(" 3 starts, [1-9] without a reply", mjournal(front.folder / "journal")("verify")[1])
     status, _, told = replay(front, tmp_path / "new")
     assert status == 1 and "had no reply when the leader's server ended" in told
 
@@ -327,6 +332,32 @@ async def test_a_journal_that_has_lost_lines_is_refused(start) -> None:
     with pytest.raises(RuntimeError, match="another journal"):
         front.again()
     path.write_bytes(data)
+    front.again()
+    async with front.person("ada") as ada:
+        assert await ada.told("W ^X") == "2"
+
+
+@in_loop(60)
+async def test_a_store_that_is_not_the_journals_last_is_refused(start, tmp_path: Path) -> None:
+    """A leader that was killed is not started again once another one has served; and one without a note is not either."""
+    front = start(store="store.db", journal={"folder": str(tmp_path / "journal")})
+    async with front.person("ada") as ada:
+        await ada.line("S ^X=1")
+    front.process.kill()
+    front.process.wait()
+    shutil.copytree(front.folder, tmp_path / "copy", ignore=shutil.ignore_patterns("*.control"))
+    front.again()
+    async with front.person("ada") as ada:
+        assert await ada.told("S ^X=2 W ^X") == "2"
+    front.process.kill()
+    front.process.wait()
+    front.folder, folder = tmp_path / "copy", front.folder
+    with pytest.raises(RuntimeError, match="another front has served since this store was in use"):
+        front.again()
+    (front.folder / "store.db.at").unlink()
+    with pytest.raises(RuntimeError, match="nobody knows whether it has run this journal"):
+        front.again()
+    front.folder = folder
     front.again()
     async with front.person("ada") as ada:
         assert await ada.told("W ^X") == "2"

@@ -85,6 +85,12 @@ async def test_a_standby_follows_and_is_promoted(start, tmp_path: Path) -> None:
         assert [record["line"] for record in second.audit() if record["event"] == "promoted"] == [last]
     second.stop()
     assert stored == held(second.folder / "store.db")
+    # Nor is it taken later: its store has not run what came since. The other one goes on.
+    with pytest.raises(RuntimeError, match="stands after line .*, and another front has served since"):
+        leader.again()
+    second.words([])
+    second.again()
+    second.stop()
     assert mjournal(tmp_path / "journal")("replay", "--program", PROGRAM, "--store", "memory")[::2] == (0, "")
 
 

@@ -6,7 +6,6 @@ import argparse
 import asyncio
 import json
 import re
-import signal
 import ssl
 from collections.abc import Callable, Iterator
 from pathlib import Path
@@ -119,42 +118,6 @@ async def test_islands_on_three_machines(host: Callable[..., Gate], cluster: Clu
 
 
 @in_loop(200)
-async def test_a_machine_that_is_gone_and_comes_back(host: Callable[..., Gate], cluster: Cluster, tmp_path: Path) -> None:
-    """Its island is taken by another one, which has all that was answered; what comes back does not serve it."""
-    made, _ = islands(tmp_path / "islands", 2)
-    first, second = host("one"), host("two")
-    assert first.does("place", "island0", made["island0"], "one")[0] == first.does("place", "island1", made["island1"], "two")[0] == 0
-    user, other = Program(second, "user0.0"), Program(first, "user1.0")
-    await user.signed_on()
-    await other.signed_on()
-    assert await user.told("S ^X=1 W ^X") == "1" and await other.told("S ^X=2 W ^X") == "2"
-    # The gate and all that it has started end with it.
-    first.process.send_signal(signal.SIGKILL)
-    first.process.wait()
-    with pytest.raises(ConnectionError):
-        await user.line("W ^X")
-    assert "cannot be reached now: try again" in (await Program(second, "user0.0").sign_on())["error"]
-    elsewhere = Program(second, "user1.0")
-    await elsewhere.signed_on()
-    assert await elsewhere.told("W ^X") == "2"
-    assert second.does("move", "island0", "two", "--gone")[0] == 0
-    await settled(cluster, "island0", "two")
-    await user.signed_on()
-    assert await user.told("W ^X") == "1" and await user.told("S ^X=3") == ""
-    first.again()
-    again = Program(first, "user0.0")
-    await again.signed_on()
-    assert await again.told("W ^X") == "3"
-    # And back: its store has no note where it stands, so that is put aside, and the journal is run from its beginning.
-    assert second.does("move", "island0", "one")[0] == 0
-    await settled(cluster, "island0", "one")
-    await again.signed_on()
-    assert await again.told("W ^X") == "3" and (first.folder / "islands" / "island0" / "store.old").exists()
-    for program in (user, elsewhere, again):
-        program.close()
-
-
-@in_loop(200)
 async def test_what_a_gate_carries(host: Callable[..., Gate], tmp_path: Path) -> None:
     """The page's own protocol by a gate that is not the island's, wrong passwords, and peers without a certificate."""
     made, _ = islands(tmp_path / "islands", 1)
@@ -221,27 +184,44 @@ def token_config(folder: Path) -> Path:
 
 @in_loop(200)
 async def test_commands_of_the_page(host: Callable[..., Gate], cluster: Cluster, tmp_path: Path) -> None:
-    """Those of docs/OPERATING.md that move a customer, and that take one whose machine is gone."""
+    """Those of docs/OPERATING.md that move a customer, and that take one whose machine is gone; and that machine comes back."""
     islands(tmp_path / "islands", 1)
     first, second = host("one"), host("two")
-    text = (FRONT.parent / "docs" / "OPERATING.md").read_text(encoding="utf-8")
-    text = re.search(r"^### Many machines.*?(?=^## )", text, re.MULTILINE | re.DOTALL)[0]
-    text = re.sub(r"^```toml\n.*?^```$", "", text, flags=re.MULTILINE | re.DOTALL)
-    commands = [line for block in re.findall(r"^```\n(.*?)^```$", text, re.MULTILINE | re.DOTALL) for line in block.splitlines()]
+    commands, user = commands_of("Many machines"), Program(first, "user0.0")
     assert 4 <= len(commands) <= 10
-    user = Program(first, "user0.0")
     for command in commands:
         if "--gone" in command:
-            second.process.send_signal(signal.SIGKILL)
+            # The gate and all that it has started end with it.
+            second.process.kill()
             second.process.wait()
+            with pytest.raises(ConnectionError):
+                await user.line("W ^N")
+            assert "cannot be reached now: try again" in (await user.sign_on())["error"]
         name, *words = command.replace("/etc/mserve", str(tmp_path / "islands")).replace("ISLAND", "island0").split()
         assert name == "mgate" and (await asyncio.to_thread(first.does, *words))[0] == 0
         if words[0] != "list":
             await settled(cluster, "island0", "two" if words[:3] == ["move", "island0", "two"] else "one")
             await user.signed_on()
             assert await user.told("S ^N=$G(^N)+1 W ^N") in ("1", "2", "3")
-    assert await user.told("W ^N") == "3"
+    second.again()
+    again = Program(second, "user0.0")
+    await again.signed_on()
+    assert await again.told("W ^N") == "3"
+    # And there again: the store of before has no note of a line, so that is put aside, and the journal is run from its beginning.
+    assert (await asyncio.to_thread(second.does, "move", "island0", "two"))[0] == 0
+    await settled(cluster, "island0", "two")
+    await again.signed_on()
+    assert await again.told("W ^N") == "3" and (second.folder / "islands" / "island0" / "store.old").exists()
     user.close()
+    again.close()
+
+
+def commands_of(heading: str) -> list[str]:
+    """The commands below a heading of docs/OPERATING.md."""
+    text = (FRONT.parent / "docs" / "OPERATING.md").read_text(encoding="utf-8")
+    text = re.search(rf"^### {heading}.*?(?=^## )", text, re.MULTILINE | re.DOTALL)[0]
+    text = re.sub(r"^```toml\n.*?^```$", "", text, flags=re.MULTILINE | re.DOTALL)
+    return [line for block in re.findall(r"^```\n(.*?)^```$", text, re.MULTILINE | re.DOTALL) for line in block.splitlines()]
 
 
 def test_words_of_mgate(host: Callable[..., Gate], cluster: Cluster, tmp_path: Path) -> None:

@@ -101,6 +101,9 @@ class Keeper:
             return
         if not store.exists():
             raise NoStart(f"{place}: it says where a store stands that is not there: put the store back, or remove {place}")
+        if not journal.sequence and standing.writers[1:] == (0,):
+            # The first start of this journal ended before it had anything.
+            return
         if standing.journal != journal.number:
             raise NoStart(f"{place}: the store has run another journal than this one. If a new journal is meant, remove {place}, and make a snapshot")
         if standing.number is None:

@@ -364,6 +364,23 @@ async def test_a_store_that_is_not_the_journals_last_is_refused(start, tmp_path:
 
 
 @in_loop(60)
+async def test_a_journal_whose_first_start_failed(start) -> None:
+    """The store's note names a journal that never had anything: the next start begins one."""
+    front = start(store="store.db", journal={"folder": "journal"})
+    front.process.kill()
+    front.process.wait()
+    note = json.loads((front.folder / "store.db.at").read_text())
+    assert note["number"] is None and note["writers"][1] == 0
+    for _, path in files_of(front.folder / "journal"):
+        path.unlink()
+    front.again()
+    async with front.person("ada") as ada:
+        assert await ada.told("S ^X=1 W ^X") == "1"
+    front.stop()
+    assert replay(front, "memory")[0] == 1
+
+
+@in_loop(60)
 async def test_a_second_front_is_refused(start, tmp_path: Path) -> None:
     front = start(store="store.db", journal={"folder": "journal"})
     with pytest.raises(RuntimeError, match="another front writes this journal"):

@@ -425,7 +425,7 @@ def test_words_of_mjournal(told_of: Front, tmp_path: Path) -> None:
     assert status == 2 and "keeps no journal" in told
 
 
-@in_loop(90)
+@in_loop(200)
 async def test_a_disk_that_is_full(certificate: tuple[Path, Path], tmp_path: Path) -> None:
     """No line goes on, users and the operator are told, and once there is room all goes on. What was answered is in the journal."""
     if subprocess.run(["unshare", "--mount", "--map-root-user", "true"], capture_output=True).returncode:

@@ -73,7 +73,7 @@ class Operator:
         return made
 
 
-@in_loop(120)
+@in_loop(200)
 async def test_commands_of_the_page(start) -> None:
     front = start(store="store", journal={"folder": "journal"})
     operator = Operator(front)

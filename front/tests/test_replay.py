@@ -52,7 +52,7 @@ def backup(front: Front, *words: object) -> Path:
     return Path(output.strip())
 
 
-@in_loop(120)
+@in_loop(200)
 async def test_stores_of_drawn_lines_are_made_anew(start, tmp_path: Path) -> None:
     """Snapshots are taken while users work; a replay to the number of each holds what it does, and so does one from each that is exact."""
     front = start(store="store.db", journal={"folder": "journal", "roll": 10_000})
@@ -77,7 +77,7 @@ async def test_stores_of_drawn_lines_are_made_anew(start, tmp_path: Path) -> Non
     assert (status, told) == (0, "") and held(tmp_path / "from") == held(tmp_path / "all")
 
 
-@in_loop(60)
+@in_loop(200)
 async def test_replay_to_a_moment(start, tmp_path: Path) -> None:
     front = start(store="store.db", journal={"folder": "journal"})
     async with front.person("ada") as ada:
@@ -111,7 +111,7 @@ async def test_replay_to_a_moment(start, tmp_path: Path) -> None:
     assert status == 3 and "comes before" in told
 
 
-@in_loop(60)
+@in_loop(200)
 async def test_a_reply_that_differs_stops_a_replay(start, tmp_path: Path) -> None:
     front = start(store="store.db", journal={"folder": "journal"})
     async with front.person("ada") as ada:
@@ -194,7 +194,7 @@ def test_settings_that_change(tmp_path: Path) -> None:
     assert mjournal(folder)("replay", "--program", PROGRAM, "--store", tmp_path / "new")[::2] == (0, "")
 
 
-@in_loop(60)
+@in_loop(200)
 async def test_a_server_that_is_killed_and_a_front_that_is(start, tmp_path: Path) -> None:
     """Both go on with the journal; the line that the server was at is told by a replay, and what was answered is there."""
     front = start(store="store.db", journal={"folder": "journal"})
@@ -225,7 +225,7 @@ async def test_a_server_that_is_killed_and_a_front_that_is(start, tmp_path: Path
     assert status == 1 and "had no reply when the leader's server ended" in told
 
 
-@in_loop(60)
+@in_loop(200)
 async def test_a_store_in_memory_begins_anew(start) -> None:
     front = start(journal={"folder": "journal"})
     async with front.person("ada") as ada:
@@ -240,7 +240,7 @@ async def test_a_store_in_memory_begins_anew(start) -> None:
     assert replay(front, "memory")[0] == 0
 
 
-@in_loop(60)
+@in_loop(200)
 async def test_a_snapshot_is_put_back_and_the_journal_expires(start, tmp_path: Path) -> None:
     front = start(store="store.db", journal={"folder": "journal", "roll": 4096})
     async with front.person("ada") as ada:
@@ -302,7 +302,7 @@ def test_snapshots_that_are_damaged(sound: Path, tmp_path: Path, harm: str) -> N
     assert status == 1 and str(snapshot) in told and len(told.splitlines()) == 1
 
 
-@in_loop(60)
+@in_loop(200)
 async def test_snapshots_that_cannot_be_taken(start, tmp_path: Path) -> None:
     front = start(store="store.db", journal={"folder": "journal"})
     words = ("take", "--config", front.folder / "front.toml")
@@ -312,7 +312,7 @@ async def test_snapshots_that_cannot_be_taken(start, tmp_path: Path) -> None:
     assert not [path for path in front.folder.iterdir() if path.name.startswith(".part")]
 
 
-@in_loop(60)
+@in_loop(200)
 async def test_a_journal_that_has_lost_lines_is_refused(start) -> None:
     """The store says where it stands: a journal that ends before it, or another one, is not gone on with."""
     front = start(store="store.db", journal={"folder": "journal"})
@@ -337,7 +337,7 @@ async def test_a_journal_that_has_lost_lines_is_refused(start) -> None:
         assert await ada.told("W ^X") == "2"
 
 
-@in_loop(60)
+@in_loop(200)
 async def test_a_store_that_is_not_the_journals_last_is_refused(start, tmp_path: Path) -> None:
     """A leader that was killed is not started again once another one has served; and one without a note is not either."""
     front = start(store="store.db", journal={"folder": str(tmp_path / "journal")})
@@ -363,7 +363,7 @@ async def test_a_store_that_is_not_the_journals_last_is_refused(start, tmp_path:
         assert await ada.told("W ^X") == "2"
 
 
-@in_loop(60)
+@in_loop(200)
 async def test_a_journal_whose_first_start_failed(start) -> None:
     """The store's note names a journal that never had anything: the next start begins one."""
     front = start(store="store.db", journal={"folder": "journal"})
@@ -380,7 +380,7 @@ async def test_a_journal_whose_first_start_failed(start) -> None:
     assert replay(front, "memory")[0] == 1
 
 
-@in_loop(60)
+@in_loop(200)
 async def test_a_second_front_is_refused(start, tmp_path: Path) -> None:
     front = start(store="store.db", journal={"folder": "journal"})
     with pytest.raises(RuntimeError, match="another front writes this journal"):

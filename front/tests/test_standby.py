@@ -55,7 +55,7 @@ async def caught_up(front: Front, journal: Path) -> int:
     return last
 
 
-@in_loop(90)
+@in_loop(200)
 async def test_a_standby_follows_and_is_promoted(start, tmp_path: Path) -> None:
     leader = start(store="store.db", journal={"folder": str(tmp_path / "journal")})
     second = standby(start, tmp_path / "journal")
@@ -94,7 +94,7 @@ async def test_a_standby_follows_and_is_promoted(start, tmp_path: Path) -> None:
     assert mjournal(tmp_path / "journal")("replay", "--program", PROGRAM, "--store", "memory")[::2] == (0, "")
 
 
-@in_loop(90)
+@in_loop(200)
 async def test_a_node_that_is_changed_on_a_standby_stops_it(start, tmp_path: Path) -> None:
     """The next line that reads it does, and its number is told; the store is not taken again."""
     leader = start(store="store.db", journal={"folder": str(tmp_path / "journal")})
@@ -118,7 +118,7 @@ async def test_a_node_that_is_changed_on_a_standby_stops_it(start, tmp_path: Pat
         assert await ada.told("W ^X(4)") == "1"
 
 
-@in_loop(90)
+@in_loop(200)
 async def test_a_standby_that_is_killed_begins_with_a_snapshot(start, tmp_path: Path) -> None:
     leader = start(store="store.db", journal={"folder": str(tmp_path / "journal")})
     async with leader.person("ada") as ada:
@@ -145,7 +145,7 @@ async def test_a_standby_that_is_killed_begins_with_a_snapshot(start, tmp_path: 
         assert await ada.told("W ^X") == "2"
 
 
-@in_loop(60)
+@in_loop(200)
 async def test_a_standby_that_cannot_go_on(start, tmp_path: Path) -> None:
     """Other settings, or a journal that begins later than its store, are told."""
     leader = start(store="store.db", journal={"folder": str(tmp_path / "journal")})

@@ -124,7 +124,7 @@ def log_key(journal: JournalSettings) -> int:
     return key_of(journal.name) % (1 << 32)
 
 
-@in_loop(90)
+@in_loop(200)
 async def test_a_database_that_is_away(start, tmp_path: Path) -> None:
     """Lines are refused meanwhile and users told; then all goes on, and what was answered is in the journal."""
     database.required()
@@ -166,7 +166,7 @@ async def test_a_database_that_is_away(start, tmp_path: Path) -> None:
         cluster.remove()
 
 
-@in_loop(120)
+@in_loop(200)
 async def test_leaders_that_are_killed(start, journal: JournalSettings, tmp_path: Path) -> None:
     """The lock goes with the leader's connection; what was answered is there, and nothing runs twice."""
     rng, load = random.Random(5), Load()
@@ -186,7 +186,7 @@ async def test_leaders_that_are_killed(start, journal: JournalSettings, tmp_path
     assert held(tmp_path / "all") == held(leader.folder / "store.db")
 
 
-@in_loop(120)
+@in_loop(200)
 async def test_synchronous_replication(start, tmp_path: Path) -> None:
     """The primary ends at once, its replica takes over, and the front goes on there with all that was answered."""
     database.required()

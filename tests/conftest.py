@@ -106,3 +106,9 @@ def io_library(tmp_path_factory: pytest.TempPathFactory) -> str:
 def memory_library(tmp_path_factory: pytest.TempPathFactory) -> str:
     """The library that refuses requests for memory: tests/refuse_memory.c."""
     return compiled("refuse_memory.c", tmp_path_factory.mktemp("memory"))
+
+
+@pytest.fixture(scope="session")
+def power_library(tmp_path_factory: pytest.TempPathFactory) -> str:
+    """The library in front of which the power goes: tests/lose_power.c."""
+    return compiled("lose_power.c", tmp_path_factory.mktemp("power"))

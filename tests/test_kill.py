@@ -12,19 +12,12 @@ from collections.abc import Callable
 from typing import IO
 
 import pytest
-from running import run, run_words
+from counted_sets import SETTINGS, held, set_line
+from running import run_words
 
 # Each of so many stores is used for so many kills: a log that was left is read again by the next run.
 STORES, KILLS = 8, 5
 SETS = 400
-SETTINGS = '[[account]]\nname = "ALICE"\nterminals = [1]\nsteps = 1000000\n'
-# Counts the nodes, and those that have not their own text.
-COUNT = b'1 S N=0,B=0,X="" F  S X=$O(^K(X)) Q:X=""  S N=N+1 S:^K(X)\'=(X_":"_$J(X,200)) B=B+1\n1 W N,",",B,",",$O(^K(""),-1)\n'
-
-
-def set_line(number: int) -> bytes:
-    """The SET of a number, whose value is made of it."""
-    return b'1 S ^K(%d)="%d:"_$J(%d,200)\n' % (number, number, number)
 
 
 def feed(pipe: IO[bytes], first: int) -> None:
@@ -49,15 +42,6 @@ def answered_before_kill(settings: str, store: str, first: int, replies: int, wa
     lines = got.split(b"\n")[:-1]
     assert set(lines) <= {b"1."}
     return len(lines)
-
-
-def held(settings: str, store: str) -> int:
-    """How many SETs a store holds: those from 1 on, without a gap, each with its own text."""
-    status, output, told = run(COUNT, settings, store)
-    assert (status, told) == (0, b"") and output.startswith(b"1.\n1-")
-    nodes, wrong, last = output.split(b"\n")[1][2:].split(b",")
-    assert (wrong, int(last or b"0")) == (b"0", int(nodes))
-    return int(nodes)
 
 
 def kill_often(settings: str, store: str, chance: random.Random) -> None:

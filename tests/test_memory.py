@@ -37,7 +37,7 @@ STARTS = [(b"mserve: Memory\n", 2), (b"mserve: settings: Memory\n", 3), (b"mserv
 OF_REPLY = (b"mserve: wire: Memory\n", 5)
 BLOCKS = [block for block in blocks() if block.kind in (*SERVED, "only")]
 # Of the requests of a block of several accounts so many are refused, and of another block all.
-MOST = 1000
+MOST = 5000
 # Those of several accounts, and one of them in which BOB locks.
 SEVERAL = [block for block in BLOCKS if block.kind in ("terminals", "accounts")]
 LOCKS = "locks between terminals"

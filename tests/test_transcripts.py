@@ -1,7 +1,8 @@
 # SPDX-License-Identifier: Apache-2.0
 """The blocks of transcripts/ that are lines of the wire, on the built program, and those that count steps.
 
-The lines of a block are one stream: over a store in memory, read whole and in pieces of 1, 2 and 7 bytes, and over a store in a file.
+The lines of a block are one stream: over a store in memory, read whole and in pieces of 1, 2 and 7 bytes, and over a store in a file; that of
+lines of each fate ("wire stream") is cut after each of its bytes too.
 Of a block of the kind `only` one account is shown its replies, and of those of several accounts each account in turn. Each line of a block of
 the kind `reopened` is a run of its own over the same file."""
 from __future__ import annotations
@@ -22,9 +23,9 @@ NOTHING = (0, b"", b"")
 ONE_SHOWN = [(block, name) for block in PLAYED if block.kind in ("terminals", "accounts") for name in accounts_of(SERVED[block.kind])]
 
 
-def each_block(*kinds: str) -> pytest.MarkDecorator:
-    """A case for each block of these kinds."""
-    found = [block for block in PLAYED if block.kind in kinds]
+def each_block(*kinds: str, where: str = "") -> pytest.MarkDecorator:
+    """A case for each block of these kinds, and of these words in its name, if there are any."""
+    found = [block for block in PLAYED if block.kind in kinds and where in block.name]
     return pytest.mark.parametrize("block", found, ids=[f"{block.file.removesuffix('.txt')}: {block.name}" for block in found])
 
 
@@ -57,6 +58,19 @@ def test_over_a_file(block: Block, store: str) -> None:
 @each_block(*SERVED, "only")
 def test_in_pieces(block: Block, size: int) -> None:
     assert run_in_pieces(block.stream(), size, *by(block)) == (0, block.replies(), b"")
+
+
+@each_block(*SERVED, where="wire stream")
+def test_cut_after_each_byte(block: Block) -> None:
+    """What is written is the replies of the whole lines, and of what came of the next: those that it has if its end comes too."""
+    settings, _ = by(block)
+    stream = block.stream()
+    for end in range(len(stream) + 1):
+        part = stream[:end]
+        whole = b"".join(given_bytes(given) for _, given in block.cases[:part.count(b"\n")])
+        status, output, told = run(part, settings)
+        assert (part, status, told) == (part, 0, b"") and output.startswith(whole)
+        assert (part, output) == (part, run(part + b"\r\n", settings)[1])
 
 
 @pytest.mark.parametrize(("block", "name"), ONE_SHOWN, ids=[f"{block.name}: {name}" for block, name in ONE_SHOWN])

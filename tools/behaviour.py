@@ -1,7 +1,7 @@
 #!/usr/bin/env python3
 # SPDX-License-Identifier: Apache-2.0
 """Runs the tests of behaviour, those of tests/, clients/, front/ and packaging/, over the built program: several pytest processes side by side,
-one that waits more than it computes, one each for the clients, the front and the package, and one for each processor. Tests that measure a
+one that waits more than it computes, one each for the clients, the package, the front and its journal, and one for each processor. Tests that measure a
 time run before them.
 
     tools/behaviour.py [--count N] [WORD ..]    draws N times as many cases; hands words on to pytest, as `-k isolation`
@@ -35,6 +35,8 @@ SLOWEST = 10
 OTHERS = ("clients", "front", "packaging")
 # Those of them that draw their cases.
 COUNTED = ("front",)
+# Tests of the front on its journal and what stands on that: a process of their own, since they wait for disks and databases.
+JOURNAL = [f"front/tests/test_{name}.py" for name in ("journal", "machines", "operating", "replay", "standby", "table")]
 # pytest ends with this status if no case is left by its words.
 NO_CASE = 5
 
@@ -86,8 +88,11 @@ def parts(folder: str, times: int) -> list[Part]:
     drawn = ["tests", f"--count={times}"]
     rest = "not waits and not alone"
     computing = [Part(f"part {number}", folder, [*drawn, "-m", rest, f"--part={number}/{count}"]) for number in range(1, count + 1)]
-    others = [Part(name, folder, [f"{name}/tests", *([f"--count={times}"] if name in COUNTED else [])], f"{name}/pytest.ini") for name in OTHERS]
-    return [Part("waiting", folder, [*drawn, "-m", "waits"]), *others, *computing]
+    given = {name: [f"--count={times}"] if name in COUNTED else [] for name in OTHERS}
+    given["front"] += [f"--ignore={file}" for file in JOURNAL]
+    others = [Part(name, folder, [f"{name}/tests", *given[name]], f"{name}/pytest.ini") for name in OTHERS]
+    journal = Part("front journal", folder, [*JOURNAL, f"--count={times}"], "front/pytest.ini")
+    return [Part("waiting", folder, [*drawn, "-m", "waits"]), *others, journal, *computing]
 
 
 def conclude(part: Part, totals: Totals) -> None:

@@ -63,7 +63,8 @@ async def test_stores_of_drawn_lines_are_made_anew(start, tmp_path: Path) -> Non
             await asyncio.sleep(0.05)
             snapshots.append(await asyncio.to_thread(backup, front, *["--end-sessions"] * (number == 1)))
         await work
-        assert [event["event"] for event in ada.events] == ["restarted"] and await ada.told("W 5") == "5"
+        # Events are read with the reply that comes after them.
+        assert await ada.told("W 5") == "5" and [event["event"] for event in ada.events] == ["restarted"]
     assert front.stop() == 0
     status, output, told = replay(front, tmp_path / "all")
     assert (status, told) == (0, ""), told

@@ -109,6 +109,12 @@ def memory_library(tmp_path_factory: pytest.TempPathFactory) -> str:
 
 
 @pytest.fixture(scope="session")
+def disk_library(tmp_path_factory: pytest.TempPathFactory) -> str:
+    """The library that ends the program at a call that changes a file: tests/stop_disk.c."""
+    return compiled("stop_disk.c", tmp_path_factory.mktemp("disk"))
+
+
+@pytest.fixture(scope="session")
 def power_library(tmp_path_factory: pytest.TempPathFactory) -> str:
     """The library in front of which the power goes: tests/lose_power.c."""
     return compiled("lose_power.c", tmp_path_factory.mktemp("power"))

@@ -5,12 +5,14 @@ from __future__ import annotations
 import contextlib
 import functools
 import os
+import resource
 import shutil
+import signal
 import socket
 import subprocess
 import threading
 import tomllib
-from collections.abc import Iterator, Sequence
+from collections.abc import Callable, Iterator, Sequence
 from dataclasses import dataclass
 
 from running import ONE_ACCOUNT, PROGRAM, connected, free_port, run_words, serve_words
@@ -20,6 +22,8 @@ REPLY = b"1-9\n1.\n"
 Ended = tuple[int, bytes, bytes]
 # A grant: from, to, global, mode.
 Grant = tuple[str, str, str, str]
+# Settings of an account with one terminal.
+ACCOUNT = '[[account]]\nname = "A{0}"\nterminals = [{0}]\nsteps = {1}\n'
 # Lines of which each leaves its number, in a local variable and in a global.
 COUNTED = [(b"1 S A=%d,^A=A W A\n" % number, b"1-%d\n1.\n" % number) for number in (1, 2, 3)]
 # A folder of files in memory, if the system has one: what a disk takes is not looked for.
@@ -57,10 +61,35 @@ def grants_of(settings: str) -> list[Grant]:
     return [(grant["from"], grant["to"], grant["global"], grant["mode"]) for grant in found]
 
 
+def shown_to(output: bytes, terminals: Sequence[int]) -> bytes:
+    """The lines of replies at these terminals."""
+    marks = tuple(b"%d%c" % (terminal, mark) for terminal in terminals for mark in b":-.!")
+    return b"".join(line for line in output.splitlines(True) if marks and line.startswith(marks))
+
+
+def steps_played(texts: Sequence[tuple[bytes, int]]) -> tuple[str, bytes]:
+    """Settings, and lines: each text twice, at terminals of two accounts. Those of 1, 3, .. may use as many steps as it needs, and those of 2, 4, ..
+    one fewer, but one step at least."""
+    accounts, stream = "", b""
+    for place, (text, steps) in enumerate(texts):
+        for terminal, most in ((2 * place + 1, steps), (2 * place + 2, steps - 1)):
+            accounts += ACCOUNT.format(terminal, max(most, 1))
+            stream += b"%d %s\n" % (terminal, text)
+    return accounts, stream
+
+
 def content(path: str) -> bytes:
     """The bytes of a file."""
     with open(path, "rb") as file:
         return file.read()
+
+
+def full_after(size: int) -> Callable[[], None]:
+    """Lets no file of a process grow past a size, as a disk that is full."""
+    def limit() -> None:
+        signal.signal(signal.SIGXFSZ, signal.SIG_IGN)
+        resource.setrlimit(resource.RLIMIT_FSIZE, (size, size))
+    return limit
 
 
 def run_as_nobody(folder: str, settings: str, store: str) -> Ended:

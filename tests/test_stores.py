@@ -4,17 +4,14 @@ process has, one that may not be written, and a disk that gets full."""
 from __future__ import annotations
 
 import os
-import resource
-import signal
 import sqlite3
 import subprocess
-from collections.abc import Callable
 from pathlib import Path
 
 import pytest
 from blocks import SERVED
 from running import ONE_ACCOUNT, run, run_words
-from support import LINE, REPLY, content, refused, run_as_nobody
+from support import LINE, REPLY, content, full_after, refused, run_as_nobody
 
 NODE = "CREATE TABLE node (k BLOB PRIMARY KEY NOT NULL, v BLOB NOT NULL)"
 META = "CREATE TABLE meta (name TEXT PRIMARY KEY, n INTEGER)"
@@ -119,14 +116,6 @@ def test_read_only(there: bool, open_folder: str) -> None:
     assert run_as_nobody(open_folder, settings, store) == refused(4, "store", "Store")
     os.chmod(folder, 0o755)
     assert os.path.exists(store) == there and (not there or content(store) == before)
-
-
-def full_after(size: int) -> Callable[[], None]:
-    """Lets no file of a process grow past a size, as a disk that is full."""
-    def limit() -> None:
-        signal.signal(signal.SIGXFSZ, signal.SIG_IGN)
-        resource.setrlimit(resource.RLIMIT_FSIZE, (size, size))
-    return limit
 
 
 def test_a_disk_without_room(store: str) -> None:

@@ -33,12 +33,11 @@ use Rattle.sqlite_catalog.specs.Listing.{IsSound}
 use Rattle.sqlite_catalog.proofs.LayoutLemmas.{laid_out, objects_rise}
 use Rattle.sqlite_typed.proofs.TestLemmas.{at_ints, at_blobs, last_term, bytes_eq_refl}
 use Rattle.sqlite.specs.Effect.{Database, IsDatabase}
-use Rattle.mstore.specs.declared.open_fault.OpenFault.{OpenFault}
 use Rattle.sqlite.specs.Held.{Held, state}
 use Rattle.mstore.specs.Layout.{node, schema}
 use Rattle.mstore.specs.Database.{IsMemory, IsCalm, IsStore, Stays, ShowsAll, ShowsNodes}
-use Rattle.mstore.specs.Rows.{AreNodes, IsNode, IsInForm, ShowsNode, HasOther, key_of, value_of}
-use Rattle.std.proofs.Common.{IsTrue, OnOk, Result}
+use Rattle.mstore.specs.Rows.{AreNodes, AreRows, IsNode, ShowsNodeBy, HasOtherBy, key_of, value_of}
+use Rattle.std.proofs.Common.{IsTrue}
 use Rattle.sqlite.specs.declared.types.Value.TheVariants.{Null}
 use Rattle.sqlite.specs.Term.{col}
 use Rattle.sqlite.specs.State.{State, Shown, IsLive}
@@ -74,17 +73,17 @@ module _ {S : Type 0} (g : Ghosts S) (h : Held S) (quiet : IsMemory g) (db : IsD
       let laid = laid_out (quiet.listed h.store) (objects_rise v (quiet.listed h.store) (quiet.ordered h.store)) sound.lists.listed in
       subst (λ s. IsShaped s rows) laid.tables.0 (quiet.ordered h.store 0)
 
-  module _ (blobs : (r : Row) → Has rows r → (k : List ℕ) × (v : List ℕ) × (column r 1 ≡ Blob k) × (column r 2 ≡ Blob v) × IsInForm k v) where
+  module _ {F : List ℕ → List ℕ → Type 0} (blobs : (r : Row) → Has rows r → (k : List ℕ) × (v : List ℕ) × (column r 1 ≡ Blob k) × (column r 2 ≡ Blob v) × F k v) where
     node_each : (r : Row) → Has rows r → IsNode r
     node_each r here =
         let it = blobs r here in
         let typed = keeps_at Datatype schema (g.view h.store).trees node r (sound.obeys.rules Datatype) (inl refl) here in
         node_shape r it.0 it.1 (all_has _ rows r shaped.1 here) (and_parts _ _ typed).0 it.2 it.3
 
-    node_in_form : (r : Row) → Has rows r → IsInForm (key_of r) (value_of r)
+    node_in_form : (r : Row) → Has rows r → F (key_of r) (value_of r)
     node_in_form r here =
         let it = blobs r here in
-        subst (λ a. IsInForm (bytes a) (value_of r)) (sym it.2) (subst (λ b. IsInForm it.0 (bytes b)) (sym it.3) it.4)
+        subst (λ a. F (bytes a) (value_of r)) (sym it.2) (subst (λ b. F it.0 (bytes b)) (sym it.3) it.4)
 
     node_ids : (r s : Row) → Has rows r → Has rows s → rowid r ≡ rowid s → r ≡ s
     node_ids r s a b same = tied_same rows r s shaped.0 a b (subst (λ x. value_cmp (rowid r) x ≡ Rattle.std.proofs.Common.Equal) same (tied_itself value_cmp_total (rowid r)))
@@ -105,7 +104,7 @@ module _ {S : Type 0} (g : Ghosts S) (h : Held S) (quiet : IsMemory g) (db : IsD
         let one = int_same (id_in (rowid s)) (id_in (rowid r)) (sym (ap₂ (λ x y. is_true (binary (Compare Ne Binary) x y)) (number s b) (number r a) ∙ at_ints false Ne (id_in (rowid s)) (id_in (rowid r))) ∙ ids) in
         node_ids r s a b (number r a ∙ ap Int (sym one) ∙ sym (number s b))
 
-    pub nodes_from : AreNodes rows
+    pub nodes_from : AreRows F rows
     nodes_from = record { each = node_each; in_form = node_in_form; ids = node_ids; keys = node_keys }
 
 pub all_shown : (old new : State) (shown : List Row) → old.now.schema ≡ schema → Shown all_text [] old new shown → ShowsAll old shown
@@ -128,16 +127,15 @@ taken g h quiet live calm nodes = record {
       (it.0, it.1, ap (λ (x : Row). column x 0) it.2, ap (λ (x : Row). column x 1) it.2, it.3));
 }
 
-pub store_after : {S : Type 0} (g : Ghosts S) (old new : Held S) (r : Result Unit OpenFault) → IsMemory g → IsLive (state g old) → IsCalm (state g old) → Stays (state g old) (state g new)
-    → OnOk r (ShowsNodes (state g old).now) → OnOk r (IsStore (state g new))
-store_after g old new (Ok _) quiet live calm stays nodes = record {
+-- a store of this version whose rows were read
+pub store_after : {S : Type 0} (g : Ghosts S) (old new : Held S) → IsMemory g → IsLive (state g old) → IsCalm (state g old) → Stays (state g old) (state g new) → ShowsNodes (state g old).now → IsStore (state g new)
+store_after g old new quiet live calm stays nodes = record {
   calm = stays_calm (state g old) (state g new) calm stays;
   nodes = subst (λ (d : Database). AreNodes (d.trees 0)) (sym stays.same) (taken g old quiet live calm nodes).nodes;
 }
-store_after g old new (Err e) quiet live calm stays nodes = nodes
 
 -- a row that is shown and is no node is in the table
-pub other_row : (s : State) (shown : List Row) → ShowsAll s shown → ((row : Row) × Has shown row × (ShowsNode row → ⊥)) → HasOther (s.now.trees 0)
-other_row s shown all found =
+pub other_row : (kept : ℕ) (s : State) (shown : List Row) → ShowsAll s shown → ((row : Row) × Has shown row × (ShowsNodeBy kept row → ⊥)) → HasOtherBy kept (s.now.trees 0)
+other_row kept s shown all found =
     let it = all.only found.0 found.1 in
-    (it.0, it.1, λ node. found.2 (subst ShowsNode (sym it.2) node))
+    (it.0, it.1, λ node. found.2 (subst (ShowsNodeBy kept) (sym it.2) node))

@@ -12,7 +12,7 @@ use Rattle.sqlite_trees.specs.Tree.{rowid, has_rowid, without_rowid}
 use Rattle.sqlite_rules.specs.Lists.{Has}
 use Rattle.sqlite_rules.specs.Edit.{id_in, without_all, is_taken}
 use Rattle.sqlite_rules.proofs.ListLemmas.{has_filtered, has_kept, some_from}
-use Rattle.mstore.specs.Rows.{IsNode, AreNodes, lookup, key_of, value_of}
+use Rattle.mstore.specs.Rows.{IsNode, AreRows, lookup, key_of, value_of}
 use Rattle.mstore.proofs.Maps.{lookup_some, lookup_has, lookup_none}
 
 -- the rows that are left are those that do not pass
@@ -20,7 +20,7 @@ pub record IsLeft (rows next : List Row) (gone : Row → Bool) : Type 0 where
   pub was : (r : Row) → Has next r → Has rows r × (gone r ≡ false)
   pub stays : (r : Row) → Has rows r → gone r ≡ false → Has next r
 
-pub left_nodes : (rows next : List Row) (gone : Row → Bool) → AreNodes rows → IsLeft rows next gone → AreNodes next
+pub left_nodes : {F : List ℕ → List ℕ → Type 0} (rows next : List Row) (gone : Row → Bool) → AreRows F rows → IsLeft rows next gone → AreRows F next
 left_nodes rows next gone nodes left = record {
   each = λ r h. nodes.each r (left.was r h).0;
   in_form = λ r h. nodes.in_form r (left.was r h).0;
@@ -60,7 +60,7 @@ same_id r id node h =
     own ∙ ap Int same
 
 -- the rows are taken out by the rowids of those that pass a test
-module _ (rows : List Row) (nodes : AreNodes rows) (ids : List ℤ) (gone : Row → Bool) (from : (id : ℤ) → Has ids id → (s : Row) × Has rows s × (gone s ≡ true) × (id ≡ id_in (rowid s)))
+module _ {F : List ℕ → List ℕ → Type 0} (rows : List Row) (nodes : AreRows F rows) (ids : List ℤ) (gone : Row → Bool) (from : (id : ℤ) → Has ids id → (s : Row) × Has rows s × (gone s ≡ true) × (id ≡ id_in (rowid s)))
     (to : (r : Row) → Has rows r → gone r ≡ true → Has ids (id_in (rowid r))) where
   pub left_is : IsLeft rows (without_all rows ids) gone
   left_is = record {
@@ -75,7 +75,7 @@ module _ (rows : List Row) (nodes : AreNodes rows) (ids : List ℤ) (gone : Row 
   }
 
 -- two lists with the same rows at a key agree there
-pub lookup_same : (rows next : List Row) (q : List ℕ) → AreNodes rows → AreNodes next → ((r : Row) → key_of r ≡ q → Has rows r → Has next r) → ((r : Row) → key_of r ≡ q → Has next r → Has rows r)
+pub lookup_same : {F G : List ℕ → List ℕ → Type 0} (rows next : List Row) (q : List ℕ) → AreRows F rows → AreRows G next → ((r : Row) → key_of r ≡ q → Has rows r → Has next r) → ((r : Row) → key_of r ≡ q → Has next r → Has rows r)
     → lookup next q ≡ lookup rows q
 lookup_same rows next q was now there back = go (lookup rows q) refl
   where

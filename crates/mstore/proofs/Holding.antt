@@ -48,7 +48,7 @@ of_none : (es : List (Node × Text)) → length es ≡ 0 → All IsHeld es
 of_none [] e = All-nil IsHeld
 of_none (x ∷ es) e = absurd (omega arith)
 
-rows_held : (rows : List Row) → ((r : Row) → Has rows r → IsInForm (key_of r) (value_of r)) → AreHeld (globals_by key_of value_of rows)
+pub rows_held : (rows : List Row) → ((r : Row) → Has rows r → IsInForm (key_of r) (value_of r)) → AreHeld (globals_by key_of value_of rows)
 rows_held [] in_form = of_none (entries empty) (sym (len-entries empty) ∙ len-empty (node_cmp significant_digits) Text)
 rows_held (r ∷ rows) in_form =
     let form = in_form r (inl refl) in

@@ -22,21 +22,22 @@ use Rattle.sqlite.specs.State.{Executes}
 use Rattle.mstore.specs.Layout.{node, schema}
 use Rattle.mstore.specs.Database.{IsIdle}
 use Rattle.mstore.specs.Map.{in_bounds, RemovesWithin}
-use Rattle.mstore.specs.Rows.{AreNodes, lookup}
+use Rattle.mstore.specs.Rows.{AreRows, lookup}
 use Rattle.mstore.proofs.Texts.{kill_is, kill_command, kill_query, program, in_range}
 use Rattle.mstore.specs.Statements.{kill_text}
 use Rattle.mstore.proofs.Answer.{rows_from, rows_to, has_mapped, mapped_has}
 use Rattle.mstore.proofs.RowTests.{in_range_is, is_within}
 use Rattle.mstore.proofs.Edits.{IsLeft, left_is, left_nodes, lookup_same}
 use Rattle.mstore.proofs.Maps.{lookup_none}
+use Rattle.mstore.proofs.Puts.{meta_apart}
 use Rattle.mstore.proofs.Writes.{went, same_value, deleted, idle_after}
 
-module _ (old : State) (has : old.now.schema ≡ schema) (nodes : AreNodes (old.now.trees 0)) (low high : List ℕ) where
+module _ {F : List ℕ → List ℕ → Type 0} (old : State) (has : old.now.schema ≡ schema) (nodes : AreRows F (old.now.trees 0)) (low high : List ℕ) where
   abbrev params : Row
   params = Blob low ∷ Blob high ∷ []
 
   pub kills : (new : State) (count : ℕ) → Executes kill_text params old new (Ok count)
-      → (new.now.schema ≡ schema) × (IsIdle old → IsIdle new) × IsLeft (old.now.trees 0) (new.now.trees 0) (is_within low high)
+      → (new.now.schema ≡ schema) × (IsIdle old → IsIdle new) × IsLeft (old.now.trees 0) (new.now.trees 0) (is_within low high) × (new.now.trees 2 ≡ old.now.trees 2)
   kills new count h =
       let rows = old.now.trees 0 in
       let w = runs_as kill_text params old new schema has kill_command kill_is.0 kill_is.1 count h in
@@ -48,11 +49,13 @@ module _ (old : State) (has : old.now.schema ≡ schema) (nodes : AreNodes (old.
       let step = one_step schema Enforced old.now.trees edited.0 edit refl edited.1 in
       let is : made.0.trees 0 ≡ without_all rows (ids_of asked.0) = ap (λ (t : Trees). t 0) trees ∙ step.rows in
       let now : new.now.trees 0 ≡ made.0.trees 0 = ap (λ (d : Database). d.trees 0) made.2 in
+      let version : new.now.trees 2 ≡ old.now.trees 2 = ap (λ (d : Database). d.trees 2) made.2 ∙ ap (λ (t : Trees). t 2) trees ∙ step.tables.1.0 meta_apart in
       let a = asked.1.answer Null in
       let left = left_is rows nodes (ids_of asked.0) (is_within low high) (from asked.0 a) (to asked.0 a) in (
         ap (λ (d : Database). d.schema) made.2,
         idle_after old new kill_command _ params count w,
         subst (λ l. IsLeft rows l (is_within low high)) (sym (now ∙ is)) left,
+        version,
       )
     where
       from : (asked : List Row) → IsAnswer kill_query (overlay old.now.trees []) params asked → (id : ℤ) → Has (ids_of asked) id
@@ -66,7 +69,7 @@ module _ (old : State) (has : old.now.schema ≡ schema) (nodes : AreNodes (old.
       to asked a r h within =
           mapped_has (λ r. id_in (rowid r)) asked (rowid r ∷ []) (rows_to in_range params (col 1 0 ∷ []) [] old.now.trees 0 refl asked a r h (in_range_is low high r (nodes.each r h) ∙ within))
 
-pub kill_map : (rows next : List Row) (low high : List ℕ) → AreNodes rows → IsLeft rows next (is_within low high) → RemovesWithin (lookup rows) (lookup next) low high
+pub kill_map : {F : List ℕ → List ℕ → Type 0} (rows next : List Row) (low high : List ℕ) → AreRows F rows → IsLeft rows next (is_within low high) → RemovesWithin (lookup rows) (lookup next) low high
 kill_map rows next low high nodes left = record {
   gone = λ q within. lookup_none next q (λ r h same. true≢false (sym within ∙ ap (in_bounds low high) (sym same) ∙ (left.was r h).1));
   others = λ q outside. lookup_same rows next q nodes (left_nodes rows next (is_within low high) nodes left) (λ r same h. left.stays r h (ap (in_bounds low high) same ∙ outside)) (λ r same h. (left.was r h).0);

@@ -82,13 +82,13 @@ makes_meta old new count has none h =
     let now : new.now ≡ first.0 = ap (λ (p : Tally × Database). p.1) (same_value all.2) ∙ same_value (rw plain at first.2) in
     record { schema_is = ap (λ (d : Database). d.schema) now ∙ made_is; empty = ap (λ (d : Database). d.trees 0) now ∙ made.others.0 ∙ none }
 
-apart : ◌≡◌ {A = ℕ} 0 2 → ⊥
+pub apart : ◌≡◌ {A = ℕ} 0 2 → ⊥
 apart e = absurd (omega (arith, e))
 
 abbrev version_row : List Row → Row
 version_row rows = Int (next_rowid rows) ∷ version_name ∷ this_version ∷ []
 
-abbrev meta_table : Table
+abbrev pub meta_table : Table
 meta_table = record meta { tree = 2 }
 
 news_is : (db : Trees) (given : List Row) → given ≡ (Null ∷ version_name ∷ this_version ∷ []) ∷ [] → (edit_of db meta_table [] Chosen 0 given).news ≡ version_row (db 2) ∷ []

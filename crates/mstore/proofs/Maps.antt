@@ -6,7 +6,7 @@ use Rattle.sqlite.specs.Order.{Row}
 use Rattle.sqlite_rules.specs.Lists.{Has}
 use Rattle.sqlite_rules.proofs.ListLemmas.{has_found}
 use Rattle.sqlite_typed.proofs.TestLemmas.{same_bytes, bytes_eq_refl}
-use Rattle.mstore.specs.Rows.{AreNodes, lookup, is_at, key_of, value_of}
+use Rattle.mstore.specs.Rows.{AreRows, lookup, is_at, key_of, value_of}
 
 pub at_itself : (r : Row) (k : List ℕ) → key_of r ≡ k → is_at k r ≡ true
 at_itself r k same = subst (λ q. is_at q r ≡ true) same (bytes_eq_refl (key_of r))
@@ -19,7 +19,7 @@ lookup_some rows k v h = go (find (is_at k) rows) refl h
     go None e h = absurd cc
     go (Some r) e h = let it = has_found (is_at k) rows r e in let same : value_of r ≡ v = cc in (r, it.0, same_bytes (key_of r) k it.1, same)
 
-pub lookup_has : (rows : List Row) (r : Row) → AreNodes rows → Has rows r → lookup rows (key_of r) ≡ Some (value_of r)
+pub lookup_has : {F : List ℕ → List ℕ → Type 0} (rows : List Row) (r : Row) → AreRows F rows → Has rows r → lookup rows (key_of r) ≡ Some (value_of r)
 lookup_has rows r nodes h = go (find (is_at (key_of r)) rows) refl
   where
     none : (rows : List Row) → Has rows r → find (is_at (key_of r)) rows ≢ None

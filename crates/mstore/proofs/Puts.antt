@@ -37,7 +37,7 @@ use Rattle.sqlite.proofs.Callers.{runs_as, one_step}
 use Rattle.mstore.specs.Layout.{node, schema}
 use Rattle.mstore.specs.Database.{IsIdle}
 use Rattle.mstore.specs.Map.{PutsAt}
-use Rattle.mstore.specs.Rows.{AreNodes, IsNode, IsInForm, key_of, value_of, lookup, is_at}
+use Rattle.mstore.specs.Rows.{AreRows, IsNode, key_of, value_of, lookup, is_at}
 use Rattle.mstore.proofs.Texts.{put_is, put_command, put_query, put_clauses, put_source, program, at_rowid}
 use Rattle.mstore.specs.Statements.{put_text}
 use Rattle.mstore.proofs.Casts.{cast_null, cast_int}
@@ -58,10 +58,10 @@ pub record IsPut (rows next : List Row) (k v : List ℕ) : Type 0 where
   pub stays : (r : Row) → Has rows r → key_of r ≢ k → Has next r
   pub free : (r : Row) → Has rows r → key_of r ≢ k → rowid r ≢ Int id
 
-pub put_nodes : (rows next : List Row) (k v : List ℕ) → IsInForm k v → AreNodes rows → IsPut rows next k v → AreNodes next
-put_nodes rows next k v right nodes put = record {
+pub put_nodes : {F : List ℕ → List ℕ → Type 0} (rows next : List Row) (k v : List ℕ) → F k v → AreRows F rows → IsPut rows next k v → AreRows F next
+put_nodes {F} rows next k v right nodes put = record {
   each = λ r h. elim (put.from r h) [ inl same ↦ subst IsNode (sym same) refl | inr was ↦ nodes.each r was.0 ];
-  in_form = λ r h. elim (put.from r h) [ inl same ↦ subst (λ s. IsInForm (key_of s) (value_of s)) (sym same) right | inr was ↦ nodes.in_form r was.0 ];
+  in_form = λ r h. elim (put.from r h) [ inl same ↦ subst (λ s. F (key_of s) (value_of s)) (sym same) right | inr was ↦ nodes.in_form r was.0 ];
   ids = λ r s h j same. elim (put.from r h) [
     | inl a ↦ elim (put.from s j) [ inl b ↦ a ∙ sym b | inr b ↦ absurd (put.free s b.0 b.1 (sym same ∙ ap rowid a)) ]
     | inr a ↦ elim (put.from s j) [ inl b ↦ absurd (put.free r a.0 a.1 (same ∙ ap rowid b)) | inr b ↦ nodes.ids r s a.0 b.0 same ]
@@ -72,7 +72,7 @@ put_nodes rows next k v right nodes put = record {
   ];
 }
 
-pub put_map : (rows next : List Row) (k v : List ℕ) → IsInForm k v → AreNodes rows → IsPut rows next k v → PutsAt (lookup rows) (lookup next) k v
+pub put_map : {F : List ℕ → List ℕ → Type 0} (rows next : List Row) (k v : List ℕ) → F k v → AreRows F rows → IsPut rows next k v → PutsAt (lookup rows) (lookup next) k v
 put_map rows next k v right nodes put = record {
   at = lookup_has next (row_of put.id k v) (put_nodes rows next k v right nodes put) put.added;
   others = λ q other. lookup_same rows next q nodes (put_nodes rows next k v right nodes put)
@@ -112,12 +112,20 @@ int_same m n h = grind (arith, ints)
 int_itself : (m : ℤ) → int_eq m m ≡ true
 int_itself m = grind (arith, ints)
 
-module _ (old : State) (has_schema : old.now.schema ≡ schema) (nodes : AreNodes (old.now.trees 0)) (k v : List ℕ) where
+-- the table of the version is another one
+pub meta_apart : ◌≡◌ {A = ℕ} 2 0 → ⊥
+meta_apart e = absurd (omega (arith, e))
+
+module _ {F : List ℕ → List ℕ → Type 0} (old : State) (has_schema : old.now.schema ≡ schema) (nodes : AreRows F (old.now.trees 0)) (k v : List ℕ) where
   abbrev params : Row
   params = Blob k ∷ Blob v ∷ []
 
   abbrev rows : List Row
   rows = old.now.trees 0
+
+  -- the row is put, and the version's table is as it was
+  abbrev IsMade : Trees → Type 0
+  IsMade next = IsPut rows (next 0) k v × (next 2 ≡ old.now.trees 2)
 
   abbrev fresh : Row
   fresh = row_of (next_rowid rows) k v
@@ -130,7 +138,7 @@ module _ (old : State) (has_schema : old.now.schema ≡ schema) (nodes : AreNode
   none_at are r h same = are.complete r h (conflict_is r (nodes.each r h) ∙ at_itself r k same)
 
   -- a key that is not there
-  puts_new : (one : Written) → ((r : Row) → Has rows r → key_of r ≢ k) → Puts (task old params) fresh old.now.trees (Ok one) → IsPut rows (one.trees 0) k v
+  puts_new : (one : Written) → ((r : Row) → Has rows r → key_of r ≢ k) → Puts (task old params) fresh old.now.trees (Ok one) → IsMade one.trees
   puts_new one none h =
       let made = went h in
       let edit = edit_of old.now.trees node [] Given 0 (fresh ∷ []) in
@@ -138,8 +146,11 @@ module _ (old : State) (has_schema : old.now.schema ≡ schema) (nodes : AreNode
       let news : edit.news ≡ fresh ∷ [] = ap (λ i. (i ∷ Blob k ∷ Blob v ∷ []) ∷ []) (cast_int (next_rowid rows)) in
       let trees : one.trees 0 ≡ made.0 0 = ap (λ (it : Written). it.trees 0) (same_value made.2) in
       let kept : IsLeft rows rows (is_at k) = record { was = λ r here. (here, not_at k r (none r here)); stays = λ r here _. here } in
-      put_is_made rows rows (fresh ∷ []) (one.trees 0) k v (next_rowid rows) kept (trees ∙ step.rows ∙ ap (put_all rows) news) (subst (λ l. are_fresh rows l ≡ true) news step.fresh)
-      (λ x here. elim here [ inl same ↦ same | inr never ↦ absurd never ]) (inl refl)
+      let version : one.trees 2 ≡ old.now.trees 2 = ap (λ (it : Written). it.trees 2) (same_value made.2) ∙ step.tables.1.0 meta_apart in (
+        put_is_made rows rows (fresh ∷ []) (one.trees 0) k v (next_rowid rows) kept (trees ∙ step.rows ∙ ap (put_all rows) news) (subst (λ l. are_fresh rows l ≡ true) news step.fresh)
+            (λ x here. elim here [ inl same ↦ same | inr never ↦ absurd never ]) (inl refl),
+        version,
+      )
 
   -- a key that is there
   module _ (r : Row) (has : Has rows r) (same : key_of r ≡ k) (id : Value) where
@@ -173,7 +184,7 @@ module _ (old : State) (has_schema : old.now.schema ≡ schema) (nodes : AreNode
     cast_full : cast_of full ≡ row_of number k v
     cast_full = ap₂ (λ a b. a ∷ b ∷ Blob v ∷ []) (ap (cast Integer) (own r has) ∙ cast_int number) (key_column r (nodes.each r has) ∙ ap Blob same)
 
-    puts_over : (one : Written) → Updates (task old params) (program put_query) given_params old.now.trees (Ok one) → IsPut rows (one.trees 0) k v
+    puts_over : (one : Written) → Updates (task old params) (program put_query) given_params old.now.trees (Ok one) → IsMade one.trees
     puts_over one did =
         let asked = went did in
         let made = went asked.2 in
@@ -189,17 +200,20 @@ module _ (old : State) (has_schema : old.now.schema ≡ schema) (nodes : AreNode
         (λ s here at.
         let one = nodes.keys s r here has (same_bytes (key_of s) k at ∙ sym same) in
         subst (λ t. Has ids (id_in (rowid t))) (sym one) (mapped_has (λ s. id_in (rowid s)) asked.0 full (asked_to asked.0 a))) in
-        put_is_made rows left (map cast_of asked.0) (one.trees 0) k v number kept (trees ∙ step.rows ∙ ap (put_all left) news) (subst (λ l. are_fresh left l ≡ true) news step.fresh)
-        (λ x here. let s = has_mapped cast_of asked.0 x here in s.2 ∙ ap cast_of (asked_from asked.0 a s.0 s.1) ∙ cast_full)
-        (subst (Has (map cast_of asked.0)) cast_full (mapped_has cast_of asked.0 full (asked_to asked.0 a)))
+        let version : one.trees 2 ≡ old.now.trees 2 = ap (λ (it : Written). it.trees 2) (same_value made.2) ∙ step.tables.1.0 meta_apart in (
+          put_is_made rows left (map cast_of asked.0) (one.trees 0) k v number kept (trees ∙ step.rows ∙ ap (put_all left) news) (subst (λ l. are_fresh left l ≡ true) news step.fresh)
+              (λ x here. let s = has_mapped cast_of asked.0 x here in s.2 ∙ ap cast_of (asked_from asked.0 a s.0 s.1) ∙ cast_full)
+              (subst (Has (map cast_of asked.0)) cast_full (mapped_has cast_of asked.0 full (asked_to asked.0 a))),
+          version,
+        )
 
-  clears : (one : Written) (found : List Row) → ((r : Row) → Has rows r → key_of r ≢ k) → Clears (task old params) Abort fresh old.now.trees found (Ok one) → IsPut rows (one.trees 0) k v
+  clears : (one : Written) (found : List Row) → ((r : Row) → Has rows r → key_of r ≢ k) → Clears (task old params) Abort fresh old.now.trees found (Ok one) → IsMade one.trees
   clears one [] none h = puts_new one none h
   clears one (x ∷ more) none h = puts_new one none h
 
   meets : (one : Written) (found : List Row) → AreConflicts (Some (1 ∷ [])) schema.indexes node rows fresh found
       → Meets (task old params) (Upserts (task old params) Abort fresh old.now.trees []) fresh old.now.trees (record { target = Some (1 ∷ []); update = Some (program put_query) }) found (Ok one)
-      → IsPut rows (one.trees 0) k v
+      → IsMade one.trees
   meets one [] are h = clears one h.0 (none_at are) h.2
   meets one (there ∷ more) are h =
       let it = are.sound there (inl refl) in
@@ -207,15 +221,15 @@ module _ (old : State) (has_schema : old.now.schema ≡ schema) (nodes : AreNode
       puts_over it.0 it.1 same (Int (next_rowid rows)) one
       (subst (λ (x : Row). Updates (task old params) (program put_query) (Blob k ∷ Blob v ∷ rowid x ∷ Int (next_rowid rows) ∷ Blob k ∷ Blob v ∷ []) old.now.trees (Ok one)) it.3 h)
 
-  judged : (one : Written) (verdict : Option Refusal) → Judged (task old params) Abort put_clauses fresh old.now.trees verdict (Ok one) → IsPut rows (one.trees 0) k v
+  judged : (one : Written) (verdict : Option Refusal) → Judged (task old params) Abort put_clauses fresh old.now.trees verdict (Ok one) → IsMade one.trees
   judged one None h = meets one h.0 h.1 h.2
   judged one (Some why) h = absurd cc
 
-  tries : (one : Written) → Tries (task old params) Abort put_clauses fresh old.now.trees (Ok one) → IsPut rows (one.trees 0) k v
+  tries : (one : Written) → Tries (task old params) Abort put_clauses fresh old.now.trees (Ok one) → IsMade one.trees
   tries one (inl h) = let e = h.1 in absurd cc
   tries one (inr h) = judged one h.0 h.2
 
-  pub puts : (new : State) (count : ℕ) → Executes put_text params old new (Ok count) → (new.now.schema ≡ schema) × (IsIdle old → IsIdle new) × IsPut rows (new.now.trees 0) k v
+  pub puts : (new : State) (count : ℕ) → Executes put_text params old new (Ok count) → (new.now.schema ≡ schema) × (IsIdle old → IsIdle new) × IsPut rows (new.now.trees 0) k v × (new.now.trees 2 ≡ old.now.trees 2)
   puts new count h =
       let w = runs_as put_text params old new schema has_schema put_command put_is.0 put_is.1 count h in
       let made = inserted old new has_schema params _ count put_source put_clauses w in
@@ -226,9 +240,10 @@ module _ (old : State) (has_schema : old.now.schema ≡ schema) (nodes : AreNode
       let tried = went (subst (λ l. TriesEach (task old params) Abort put_clauses l (count_of counter.0) (nothing old.now.trees) (Ok each.0)) given.1.1 each.1) in
       let put = tries tried.0 (subst (λ i. Tries (task old params) Abort put_clauses (with_rowid Chosen rows (i ∷ Blob k ∷ Blob v ∷ [])) old.now.trees (Ok tried.0)) cast_null tried.1) in
       let first : each.0.0.trees ≡ tried.0.trees = ap (λ (p : Written × ℤ). p.0.trees) (same_value tried.2) in
-      let trees : made.0.trees 0 ≡ tried.0.trees 0 = ap (λ (it : Written). it.trees 0) (same_value counts.2) ∙ ap (λ (t : Trees). t 0) (same_value counts.1) ∙ ap (λ (t : Trees). t 0) first in
-      let now : new.now.trees 0 ≡ made.0.trees 0 = ap (λ (d : Database). d.trees 0) made.2 in (
+      let trees : made.0.trees ≡ tried.0.trees = ap (λ (it : Written). it.trees) (same_value counts.2) ∙ same_value counts.1 ∙ first in
+      let now : new.now.trees ≡ tried.0.trees = ap (λ (d : Database). d.trees) made.2 ∙ trees in (
         ap (λ (d : Database). d.schema) made.2,
         idle_after old new put_command _ params count w,
-        subst (λ l. IsPut rows l k v) (sym (now ∙ trees)) put,
+        subst (λ (t : Trees). IsPut rows (t 0) k v) (sym now) put.0,
+        ap (λ (t : Trees). t 2) now ∙ put.1,
       )

@@ -32,7 +32,7 @@ equal_text (Real x) t h = absurd cc
 equal_text (Text s) t h = ap Text (same_bytes s t (sym (at_texts false Eq s t) ∙ h))
 equal_text (Blob b) t h = absurd cc
 
-text_equal : (v : Value) (t : List ℕ) → v ≡ Text t → is_true (binary (Compare Eq Binary) v (Text t)) ≡ true
+pub text_equal : (v : Value) (t : List ℕ) → v ≡ Text t → is_true (binary (Compare Eq Binary) v (Text t)) ≡ true
 text_equal v t same = subst (λ u. is_true (binary (Compare Eq Binary) u (Text t)) ≡ true) (sym same) (at_texts false Eq t t ∙ bytes_eq_refl t)
 
 which_plain : (s : State) → s.now.schema ≡ schema → IsPlain (understood s.now.schema which_text)

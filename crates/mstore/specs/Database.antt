@@ -18,7 +18,9 @@ use Rattle.mspec.specs.Globals.{Globals}
 use Rattle.mstore.specs.Layout.{schema, no_schema}
 use Rattle.mstore.specs.Keyed.{globals_by}
 use Rattle.mstore.specs.Map.{Content}
-use Rattle.mstore.specs.Rows.{AreNodes, ShowsNode, key_of, value_of, lookup, shown_of}
+use Rattle.mstore.specs.Rows.{AreNodes, ShowsNode, ShowsNodeBy, HasOther, HasOtherBy, key_of, value_of, lookup, shown_of}
+use Rattle.mstore.specs.Versions.{HoldBy}
+use Rattle.mkey.specs.Key.{old_digits}
 use Rattle.mstore.specs.Statements.{RefusesOne}
 
 -- the store beneath is memory: it never loses what it holds, and is in order at each moment
@@ -88,6 +90,9 @@ pub record ShowsAll (s : State) (shown : List Row) : Type 0 where
 abbrev pub ShowsNodes : Database → Type 0
 ShowsNodes db = (r : Row) → Has (db.trees 0) r → ShowsNode (shown_of r)
 
+abbrev pub ShowsNodesBy : ℕ → Database → Type 0
+ShowsNodesBy kept db = (r : Row) → Has (db.trees 0) r → ShowsNodeBy kept (shown_of r)
+
 -- ---- the version
 
 abbrev pub version_name : Value
@@ -96,6 +101,10 @@ version_name = Text (codes "version")
 -- the version of the tables that are made here
 abbrev pub this_version : Value
 this_version = Int (pos 2)
+
+-- the version whose numbers kept fifteen digits
+abbrev pub old_version : Value
+old_version = Int (pos 1)
 
 -- a row gives the version
 abbrev pub HasVersion : Database → Value → Type 0
@@ -124,10 +133,25 @@ has_table schema name = list_any (λ t. same_name t.name name) schema.tables
 abbrev pub RefusesColumns : Schema → Type 0
 RefusesColumns schema = IsTrue (has_table schema (codes "node") || has_table schema (codes "meta")) × RefusesOne schema
 
--- why a database is not one of this version: its columns, or it gives no version or another
+-- why a database is of no version that is opened: its columns, or it gives no version or another
 abbrev pub IsOtherVersion : Database → Type 0
-IsOtherVersion db = RefusesColumns db.schema ⊎ ((db.schema ≡ schema) × (HasNoVersion db ⊎ ((v : Value) × HasVersion db v × (v ≢ this_version))))
+IsOtherVersion db = RefusesColumns db.schema ⊎ ((db.schema ≡ schema) × (HasNoVersion db ⊎ ((v : Value) × HasVersion db v × (v ≢ this_version) × (v ≢ old_version))))
 
--- a database with no table has got both, and one that was a table of this version is as it was
+-- a row is not a node's, by the digits of the version
+abbrev pub IsBadlyKeyed : Database → Type 0
+IsBadlyKeyed db = (HasVersion db this_version × HasOther (db.trees 0)) ⊎ (HasVersion db old_version × HasOtherBy old_digits (db.trees 0))
+
+-- the globals that the rows are
+abbrev pub globals_in : State → Globals
+globals_in s = globals_by key_of value_of (s.now.trees 0)
+
+-- a database of version 1 has got this version, and holds the globals that its rows held by the keys of version 1
+pub record IsMigrated (old new : State) : Type 0 where
+  pub schema_is : old.now.schema ≡ schema
+  pub was : HasVersion old.now old_version
+  pub is : HasVersion new.now this_version
+  pub same : HoldBy old_digits (old.now.trees 0) (globals_in new)
+
+-- a database with no table has got both, one that was a table of this version is as it was, and one of version 1 is migrated
 abbrev pub IsOpenedFrom : State → State → Type 0
-IsOpenedFrom old new = (IsBlank old × IsBare new.now) ⊎ ((new.now ≡ old.now) × (old.now.schema ≡ schema) × HasVersion old.now this_version)
+IsOpenedFrom old new = (IsBlank old × IsBare new.now) ⊎ (((new.now ≡ old.now) × (old.now.schema ≡ schema) × HasVersion old.now this_version) ⊎ IsMigrated old new)

@@ -7,4 +7,6 @@ pub mod Layout
 pub mod Map
 pub mod Rows
 pub mod Statements
+pub mod Versions
+pub mod Moving
 pub mod Held

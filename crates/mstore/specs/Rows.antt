@@ -8,7 +8,8 @@ use Rattle.sqlite_value.specs.Order.{Row, column, bytes}
 use Rattle.sqlite_trees.specs.Tree.{rowid}
 use Rattle.sqlite_rules.specs.Lists.{Has}
 use Rattle.sqlite_rules.specs.Edit.{id_in}
-use Rattle.mkey.specs.Key.{IsKey}
+use Rattle.mkey.specs.Key.{IsKey, IsKeyBy}
+use Rattle.mspec.specs.Node.{Node}
 use Rattle.mspec.specs.KeyBytes.{IsAscii}
 use Rattle.mspec.specs.TextFunctions.{longest_text}
 use Rattle.mstore.specs.Map.{Content, IsNearest, HasNone}
@@ -38,12 +39,20 @@ IsValue v = (length v ≤ longest_text) × IsAscii v
 abbrev pub IsInForm : List ℕ → List ℕ → Type 0
 IsInForm k v = IsKey k × IsValue v
 
--- no two rows have one rowid or one key, and each is in form
-pub record AreNodes (rows : List Row) : Type 0 where
+-- the same where the numbers of keys keep so many digits
+abbrev pub IsInFormBy : ℕ → List ℕ → List ℕ → Type 0
+IsInFormBy kept k v = ((n : Node) × IsKeyBy kept n k) × IsValue v
+
+-- no two rows have one rowid or one key, and each has such a key and value
+pub record AreRows (F : List ℕ → List ℕ → Type 0) (rows : List Row) : Type 0 where
   pub each : (r : Row) → Has rows r → IsNode r
-  pub in_form : (r : Row) → Has rows r → IsInForm (key_of r) (value_of r)
+  pub in_form : (r : Row) → Has rows r → F (key_of r) (value_of r)
   pub ids : (r s : Row) → Has rows r → Has rows s → rowid r ≡ rowid s → r ≡ s
   pub keys : (r s : Row) → Has rows r → Has rows s → key_of r ≡ key_of s → r ≡ s
+
+-- and each is in form
+abbrev pub AreNodes : List Row → Type 0
+AreNodes = AreRows IsInForm
 
 -- ---- what an answer shows of them
 
@@ -61,6 +70,9 @@ ShowsKey down m low high (Some row) = (k : List ℕ) × (row ≡ Blob k ∷ []) 
 abbrev pub ShowsNode : Row → Type 0
 ShowsNode row = (k : List ℕ) × (v : List ℕ) × (row ≡ Blob k ∷ Blob v ∷ []) × IsInForm k v
 
+abbrev pub ShowsNodeBy : ℕ → Row → Type 0
+ShowsNodeBy kept row = (k : List ℕ) × (v : List ℕ) × (row ≡ Blob k ∷ Blob v ∷ []) × IsInFormBy kept k v
+
 -- what is shown of a row
 abbrev pub shown_of : Row → Row
 shown_of r = column r 1 ∷ column r 2 ∷ []
@@ -68,3 +80,6 @@ shown_of r = column r 1 ∷ column r 2 ∷ []
 -- a row that is no node in form
 abbrev pub HasOther : List Row → Type 0
 HasOther rows = (r : Row) × Has rows r × (ShowsNode (shown_of r) → ⊥)
+
+abbrev pub HasOtherBy : ℕ → List Row → Type 0
+HasOtherBy kept rows = (r : Row) × Has rows r × (ShowsNodeBy kept (shown_of r) → ⊥)

@@ -41,6 +41,10 @@ which_text = codes "SELECT n FROM meta WHERE name = 'version'"
 abbrev pub all_text : List ℕ
 all_text = codes "SELECT k, v FROM node"
 
+-- for a store of version 1: the version that it gets
+abbrev pub set_text : List ℕ
+set_text = codes "UPDATE meta SET n = 2 WHERE name = 'version'"
+
 -- those that a database has to take
 abbrev pub statements : List (List ℕ)
 statements = get_text ∷ put_text ∷ kill_text ∷ next_text ∷ prev_text ∷ which_text ∷ all_text ∷ []

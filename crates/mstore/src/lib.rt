@@ -7,12 +7,14 @@
 mod create;
 pub mod failing;
 mod layout;
+mod migrating;
 mod open_fault;
 mod opening;
 pub mod plain;
 mod statements;
 pub mod store;
 pub mod table;
+mod version;
 
 pub use failing::{Failing, StoreCall};
 pub use open_fault::OpenFault;

@@ -7,17 +7,24 @@ ghost use Rattle.sqlite.specs.Listing.{understood};
 ghost use Rattle.sqlite_resolve.specs.declared.error.CompileError.{CompileError};
 ghost use Rattle.sqlite.specs.declared.types.Value.{Value};
 ghost use Rattle.sqlite_rules.specs.Lists.{Has};
-ghost use Rattle.mstore.specs.Database.{IsMemory, IsIdle, IsCalm, IsStore, IsUntouched, IsOpenedFrom, Stays, ShowsAll, ShowsNodes, ShowsVersion, HasVersion, this_version, has_table, RefusesColumns, IsOtherVersion};
+ghost use Rattle.sqlite.specs.State.{IsLive};
+ghost use Rattle.mspec.specs.Node.{Node};
+ghost use Rattle.mkey.specs.Key.{IsKeyBy, old_digits};
+ghost use Rattle.mstore.specs.Database.{IsMemory, IsIdle, IsCalm, IsStore, IsUntouched, IsOpenedFrom, IsMigrated, IsBadlyKeyed, Stays, ShowsAll, ShowsNodesBy, ShowsVersion, HasVersion, has_table, RefusesColumns, IsOtherVersion};
+ghost use Rattle.mstore.specs.Versions.{digits_of, number_of};
+ghost use Rattle.mstore.specs.Moving.{IsOldCalm};
 ghost use Rattle.mstore.specs.Layout.{schema as schema_of};
 ghost use Rattle.mstore.specs.Statements.{statements, RefusesOne};
-ghost use Rattle.mstore.specs.Rows.{IsValue, IsInForm, ShowsNode, HasOther};
+ghost use Rattle.mstore.specs.Rows.{IsValue, IsInFormBy, ShowsNodeBy, HasOtherBy};
 
 use crate::create::make_tables;
 use crate::layout::{is_blank, is_store};
+use crate::migrating::migrate;
 use crate::open_fault::OpenFault;
 use crate::statements::{GET, KILL, NEXT, PREV, PUT, fault_of};
 use crate::store::StoreFault;
-use mkey::read;
+use crate::version::Version;
+use mkey::{NodeKey, read};
 use mnum::LONGEST_TEXT;
 use sqlite::{Alter, Connection, Error, Row};
 use sqlite_schema::names::same_name;
@@ -37,39 +44,54 @@ fn is_value(bytes: &[u8]) -> bool
     bytes.len() <= LONGEST_TEXT && bytes.iter().all(|byte| *byte < 128)
 }
 
-// Whether this is the key of a node of a store, with a text.
-fn is_in_form(alloc: Global, key: &[u8], value: &[u8]) -> Result<bool, AllocError>
-    ensures { IfOk result (λ right. IsTrue right ↔ IsInForm key.now value.now) }
+// Whether this is the key of a node of a store of the version.
+fn is_key(alloc: Global, key: &[u8], version: Version) -> Result<bool, AllocError>
+    ensures { IfOk result (λ right. IsTrue right ↔ ((n : Node) × IsKeyBy (digits_of version) n key.now)) }
+{
+    match version {
+        Version::First => match NodeKey::read_v1(alloc, key)? {
+            Some(_) => Ok(true),
+            None => Ok(false),
+        },
+        Version::Second => match read(alloc, key)? {
+            Some(_) => Ok(true),
+            None => Ok(false),
+        },
+    }
+}
+
+// Whether this is the key of a node of a store of the version, with a text.
+fn is_in_form(alloc: Global, key: &[u8], value: &[u8], version: Version) -> Result<bool, AllocError>
+    ensures { IfOk result (λ right. IsTrue right ↔ IsInFormBy (digits_of version) key.now value.now) }
 {
     if !is_value(value) {
         return Ok(false);
     }
-    match read(alloc, key)? {
-        Some(_) => Ok(true),
-        None => Ok(false),
-    }
+    is_key(alloc, key, version)
 }
 
 // Whether a row shows a key and a value, in form.
-fn is_node(alloc: Global, row: &Row) -> Result<bool, AllocError>
-    ensures { IfOk result (λ right. IsTrue right ↔ ShowsNode row.now) }
+fn is_node(alloc: Global, row: &Row, version: Version) -> Result<bool, AllocError>
+    ensures { IfOk result (λ right. IsTrue right ↔ ShowsNodeBy (digits_of version) row.now) }
 {
     if row.column_count() != 2 {
         return Ok(false);
     }
     match (row.get_ref(0), row.get_ref(1)) {
-        (Ok(ValueRef::Blob(key)), Ok(ValueRef::Blob(value))) => is_in_form(alloc, key, value),
+        (Ok(ValueRef::Blob(key)), Ok(ValueRef::Blob(value))) => {
+            is_in_form(alloc, key, value, version)
+        }
         _ => Ok(false),
     }
 }
 
 // Whether each row shows a key and a value, in form.
-fn are_nodes(alloc: Global, rows: &[Row]) -> Result<bool, AllocError>
-    ensures all { IfOk result (λ right. IsTrue right → AllByRecursion ShowsNode rows.now) }
-    ensures other { IfOk result (λ right. right ≡ false → (row : List Value) × Has rows.now row × (ShowsNode row → ⊥)) }
+fn are_nodes(alloc: Global, rows: &[Row], version: Version) -> Result<bool, AllocError>
+    ensures all { IfOk result (λ right. IsTrue right → AllByRecursion (ShowsNodeBy (digits_of version)) rows.now) }
+    ensures other { IfOk result (λ right. right ≡ false → (row : List Value) × Has rows.now row × (ShowsNodeBy (digits_of version) row → ⊥)) }
 {
     for row in rows {
-        if !is_node(alloc, row)? {
+        if !is_node(alloc, row, version)? {
             return Ok(false);
         }
     }
@@ -78,6 +100,7 @@ fn are_nodes(alloc: Global, rows: &[Row]) -> Result<bool, AllocError>
 
 // All keys with their values.
 fn read_all<S: Alter>(conn: &mut Connection<S>) -> Result<Vec<Row>, StoreFault>
+    ensures mode { conn.old.in_transaction ≡ false → conn.new.in_transaction ≡ false }
     ensures stays { IsMemory S.Store → IsCalm (state S.Store conn.old) → Stays (state S.Store conn.old) (state S.Store conn.new) }
     ensures all { IsMemory S.Store → IsCalm (state S.Store conn.old) → IfOk result (λ rows. ShowsAll (state S.Store conn.old) rows.items) }
 {
@@ -89,6 +112,7 @@ fn read_all<S: Alter>(conn: &mut Connection<S>) -> Result<Vec<Row>, StoreFault>
 
 // The row that gives the version, where there is one.
 fn find_version<S: Alter>(conn: &mut Connection<S>) -> Result<Option<Row>, StoreFault>
+    ensures mode { conn.old.in_transaction ≡ false → conn.new.in_transaction ≡ false }
     ensures stays { IsMemory S.Store → IsCalm (state S.Store conn.old) → Stays (state S.Store conn.old) (state S.Store conn.new) }
     ensures found { IsMemory S.Store → IsCalm (state S.Store conn.old) → IfOk result (ShowsVersion (state S.Store conn.old).now) }
 {
@@ -167,10 +191,11 @@ fn refusal<S: Alter>(conn: &mut Connection<S>) -> OpenFault
     }
 }
 
-// Tests the version.
-fn test_version<S: Alter>(conn: &mut Connection<S>) -> Result<(), OpenFault>
+// The version of the tables that are there.
+fn read_version<S: Alter>(conn: &mut Connection<S>) -> Result<Version, OpenFault>
+    ensures mode { conn.old.in_transaction ≡ false → conn.new.in_transaction ≡ false }
     ensures stays { IsMemory S.Store → IsCalm (state S.Store conn.old) → Stays (state S.Store conn.old) (state S.Store conn.new) }
-    ensures this { IsMemory S.Store → IsCalm (state S.Store conn.old) → OnOk result (HasVersion (state S.Store conn.old).now this_version) }
+    ensures found { IsMemory S.Store → IsCalm (state S.Store conn.old) → IfOk result (λ version. HasVersion (state S.Store conn.old).now (number_of version)) }
     ensures version { IsMemory S.Store → IsCalm (state S.Store conn.old) → result ≡ Err OpenFault.BadVersion → IsOtherVersion (state S.Store conn.old).now }
     ensures key { result ≢ Err OpenFault.BadKey }
 {
@@ -178,36 +203,75 @@ fn test_version<S: Alter>(conn: &mut Connection<S>) -> Result<(), OpenFault>
         return Err(OpenFault::BadVersion);
     };
     match row.get_ref(0) {
-        Ok(ValueRef::Int(2)) => Ok(()),
+        Ok(ValueRef::Int(2)) => Ok(Version::Second),
+        Ok(ValueRef::Int(1)) => Ok(Version::First),
         _ => Err(OpenFault::BadVersion),
     }
 }
 
-// Tests each row.
-fn test_rows<S: Alter>(alloc: Global, conn: &mut Connection<S>) -> Result<(), OpenFault>
+// All rows, if each is a node's by the digits of the version.
+fn read_nodes<S: Alter>(
+    alloc: Global,
+    conn: &mut Connection<S>,
+    version: Version,
+) -> Result<Vec<Row>, OpenFault>
+    ensures mode { conn.old.in_transaction ≡ false → conn.new.in_transaction ≡ false }
     ensures stays { IsMemory S.Store → IsCalm (state S.Store conn.old) → Stays (state S.Store conn.old) (state S.Store conn.new) }
-    ensures nodes { IsMemory S.Store → IsCalm (state S.Store conn.old) → OnOk result (ShowsNodes (state S.Store conn.old).now) }
-    ensures key { IsMemory S.Store → IsCalm (state S.Store conn.old) → result ≡ Err OpenFault.BadKey → HasOther ((state S.Store conn.old).now.trees 0) }
+    ensures all { IsMemory S.Store → IsCalm (state S.Store conn.old) → IfOk result (λ rows. ShowsAll (state S.Store conn.old) rows.items) }
+    ensures nodes { IsMemory S.Store → IsCalm (state S.Store conn.old) → OnOk result (ShowsNodesBy (digits_of version) (state S.Store conn.old).now) }
+    ensures key { IsMemory S.Store → IsCalm (state S.Store conn.old) → result ≡ Err OpenFault.BadKey → HasOtherBy (digits_of version) ((state S.Store conn.old).now.trees 0) }
     ensures version { result ≢ Err OpenFault.BadVersion }
 {
     let rows = read_all(conn)?;
-    match are_nodes(alloc, rows.as_slice()) {
-        Ok(true) => Ok(()),
+    match are_nodes(alloc, rows.as_slice(), version) {
+        Ok(true) => Ok(rows),
         Ok(false) => Err(OpenFault::BadKey),
         Err(_) => Err(OpenFault::Memory),
     }
 }
 
-// Tests the tables that are there.
-fn test_tables<S: Alter>(alloc: Global, conn: &mut Connection<S>) -> Result<(), OpenFault>
+// Tests each row of a store of this version.
+fn test_nodes<S: Alter>(alloc: Global, conn: &mut Connection<S>) -> Result<(), OpenFault>
     ensures stays { IsMemory S.Store → IsCalm (state S.Store conn.old) → Stays (state S.Store conn.old) (state S.Store conn.new) }
-    ensures this { IsMemory S.Store → IsCalm (state S.Store conn.old) → OnOk result (HasVersion (state S.Store conn.old).now this_version) }
-    ensures nodes { IsMemory S.Store → IsCalm (state S.Store conn.old) → OnOk result (ShowsNodes (state S.Store conn.old).now) }
-    ensures version { IsMemory S.Store → IsCalm (state S.Store conn.old) → result ≡ Err OpenFault.BadVersion → IsOtherVersion (state S.Store conn.old).now }
-    ensures key { IsMemory S.Store → IsCalm (state S.Store conn.old) → result ≡ Err OpenFault.BadKey → HasVersion (state S.Store conn.old).now this_version × HasOther ((state S.Store conn.old).now.trees 0) }
+    ensures nodes { IsMemory S.Store → IsCalm (state S.Store conn.old) → OnOk result (ShowsNodesBy (digits_of Version.Second) (state S.Store conn.old).now) }
+    ensures key { IsMemory S.Store → IsCalm (state S.Store conn.old) → result ≡ Err OpenFault.BadKey → HasOtherBy (digits_of Version.Second) ((state S.Store conn.old).now.trees 0) }
+    ensures version { result ≢ Err OpenFault.BadVersion }
 {
-    test_version(conn)?;
-    test_rows(alloc, conn)
+    match read_nodes(alloc, conn, Version::Second) {
+        Ok(_) => Ok(()),
+        Err(fault) => Err(fault),
+    }
+}
+
+// Brings a store of version 1 to this version.
+fn migrate_tables<S: Alter>(alloc: Global, conn: &mut Connection<S>) -> Result<(), OpenFault>
+    requires { conn.old.in_transaction ≡ false }
+    ensures store { IsMemory S.Store → IsOldCalm (state S.Store conn.old) → OnOk result (IsStore (state S.Store conn.new)) }
+    ensures migrated { IsMemory S.Store → IsOldCalm (state S.Store conn.old) → OnOk result (IsMigrated (state S.Store conn.old) (state S.Store conn.new)) }
+    ensures untouched { IsMemory S.Store → IsOldCalm (state S.Store conn.old) → OnErr result (IsUntouched (state S.Store conn.old) (state S.Store conn.new)) }
+    ensures key { IsMemory S.Store → IsOldCalm (state S.Store conn.old) → result ≡ Err OpenFault.BadKey → HasOtherBy old_digits ((state S.Store conn.old).now.trees 0) }
+    ensures version { result ≢ Err OpenFault.BadVersion }
+{
+    let rows = read_nodes(alloc, conn, Version::First)?;
+    match migrate(alloc, conn, rows.as_slice()) {
+        Ok(()) => Ok(()),
+        Err(fault) => Err(OpenFault::from(fault)),
+    }
+}
+
+// Tests the tables that are there, and brings them to this version.
+fn settle_tables<S: Alter>(alloc: Global, conn: &mut Connection<S>) -> Result<(), OpenFault>
+    requires { conn.old.in_transaction ≡ false }
+    ensures store { IsMemory S.Store → IsLive (state S.Store conn.old) → IsCalm (state S.Store conn.old) → OnOk result (IsStore (state S.Store conn.new)) }
+    ensures opened { IsMemory S.Store → IsLive (state S.Store conn.old) → IsCalm (state S.Store conn.old) → OnOk result (IsOpenedFrom (state S.Store conn.old) (state S.Store conn.new)) }
+    ensures untouched { IsMemory S.Store → IsLive (state S.Store conn.old) → IsCalm (state S.Store conn.old) → OnErr result (IsUntouched (state S.Store conn.old) (state S.Store conn.new)) }
+    ensures version { IsMemory S.Store → IsLive (state S.Store conn.old) → IsCalm (state S.Store conn.old) → result ≡ Err OpenFault.BadVersion → IsOtherVersion (state S.Store conn.old).now }
+    ensures key { IsMemory S.Store → IsLive (state S.Store conn.old) → IsCalm (state S.Store conn.old) → result ≡ Err OpenFault.BadKey → IsBadlyKeyed (state S.Store conn.old).now }
+{
+    match read_version(conn)? {
+        Version::First => migrate_tables(alloc, conn),
+        Version::Second => test_nodes(alloc, conn),
+    }
 }
 
 // Makes the tables in a database without any, and tests those that are there.
@@ -216,7 +280,7 @@ pub fn open_tables<S: Alter>(alloc: Global, conn: &mut Connection<S>) -> Result<
     ensures opened { IsMemory S.Store → OnOk result (IsOpenedFrom (state S.Store conn.old) (state S.Store conn.new)) }
     ensures untouched { IsMemory S.Store → OnErr result (IsUntouched (state S.Store conn.old) (state S.Store conn.new)) }
     ensures version { IsMemory S.Store → result ≡ Err OpenFault.BadVersion → IsOtherVersion (state S.Store conn.old).now }
-    ensures key { IsMemory S.Store → result ≡ Err OpenFault.BadKey → ((state S.Store conn.old).now.schema ≡ schema_of) × HasVersion (state S.Store conn.old).now this_version × HasOther ((state S.Store conn.old).now.trees 0) }
+    ensures key { IsMemory S.Store → result ≡ Err OpenFault.BadKey → ((state S.Store conn.old).now.schema ≡ schema_of) × IsBadlyKeyed (state S.Store conn.old).now }
 {
     if !conn.is_autocommit() {
         return Err(OpenFault::Store);
@@ -226,7 +290,7 @@ pub fn open_tables<S: Alter>(alloc: Global, conn: &mut Connection<S>) -> Result<
         return make_tables(conn);
     }
     if is_store(schema) {
-        return test_tables(alloc, conn);
+        return settle_tables(alloc, conn);
     }
     Err(refusal(conn))
 }

@@ -20,6 +20,9 @@ pub const NEXT: &str = "SELECT k FROM node WHERE k >= ?1 AND k < ?2 ORDER BY k";
 
 pub const PREV: &str = "SELECT k FROM node WHERE k >= ?1 AND k < ?2 ORDER BY k DESC";
 
+// For a store of version 1, whose rows are moved by the two that put and take away.
+pub const SET: &str = "UPDATE meta SET n = 2 WHERE name = 'version'";
+
 // What went wrong, of which nothing but want of memory is told apart.
 pub fn fault_of(error: &Error) -> StoreFault
     ensures { (result ≡ StoreFault.Memory) ↔ (error.now ≡ Error.SqliteFailure ErrorCode.OutOfMemory) }

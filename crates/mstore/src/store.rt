@@ -34,8 +34,8 @@ impl From<AllocError> for StoreFault {
 /// A finite map from nodes to texts of at most 4,095 characters.
 ///
 /// Beside what it holds a store has two facts of its type, seen by contracts alone: what is said of the content holds where the
-/// type is `sound`, and where it is `steady` no call answers `Store`. A steady type is sound. The reads tell too that the keys of what a
-/// sound store holds are those of nodes, and its texts short enough.
+/// type is `sound`, and where it is `steady` no call answers `Store`. A steady type is sound. The reads, and a `put` that was taken, tell too that
+/// the keys of what a sound store holds are those of nodes, and its texts short enough.
 ///
 /// # Errors
 ///
@@ -59,6 +59,7 @@ pub trait NodeStore {
     fn put(&mut self, key: &NodeKey, text: &Bytes7) -> Result<(), StoreFault>
         requires { length text.now ≤ longest_text }
         ensures put { sound → OnOk result (content self.new ≡ insert (content self.old) key.now text.now) }
+        ensures held { sound → OnOk result (AreHeld (content self.old)) }
         ensures fault { sound → OnErr result (content self.new ≡ content self.old) }
         ensures store { steady → result ≢ Err StoreFault.Store };
 

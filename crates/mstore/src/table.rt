@@ -91,17 +91,18 @@ impl Table<FileStore<File>> {
 
 impl<S: Alter> Table<S> {
     ghost use Rattle.sqlite.specs.Held.{state};
-    ghost use Rattle.mstore.specs.Database.{IsMemory, IsStore, IsOpenedFrom, IsOtherVersion, IsUntouched, HasVersion, this_version};
-    ghost use Rattle.mstore.specs.Rows.{HasOther};
+    ghost use Rattle.mstore.specs.Database.{IsMemory, IsStore, IsOpenedFrom, IsOtherVersion, IsUntouched, IsBadlyKeyed};
 
-    /// Takes a connection whose database is a table of this version, with exactly its rows, or has no table and gets it.
+    /// Takes a connection whose database is a table of this version, with exactly its rows, or has no table and gets it. A table of
+    /// version 1, whose numbers kept fifteen digits, becomes one of this version in one transaction, with the same text at each
+    /// node: a node whose key is another now goes there.
     ///
     /// # Errors
     ///
-    /// With the connection, and its database unchanged: `BadVersion` where one of `node` and `meta` is missing, where their
-    /// columns do not take a statement of this crate, where there is no row `version` or one of another version; and else `BadKey`
-    /// where a row is not a node's; `Memory`; and `Store` where the database refuses, where a transaction is open, and where
-    /// there is more than the two tables or they are otherwise made.
+    /// With the connection, and its database unchanged, the version too: `BadVersion` where one of `node` and `meta` is missing,
+    /// where their columns do not take a statement of this crate, where there is no row `version` or one of another version than
+    /// these two; and else `BadKey` where a row is not a node's by the digits of the version; `Memory`; and `Store` where the
+    /// database refuses, where a transaction is open, and where there is more than the two tables or they are otherwise made.
     pub fn adopt(
         alloc: Global,
         mut conn: Connection<S>,
@@ -110,7 +111,7 @@ impl<S: Alter> Table<S> {
         ensures opened { IfOk result (λ t. IsMemory S.Store → IsOpenedFrom (state S.Store conn) (state S.Store t)) }
         ensures back { IfErr result (λ e. IsMemory S.Store → IsUntouched (state S.Store conn) (state S.Store e.1)) }
         ensures version { IfErr result (λ e. IsMemory S.Store → e.0 ≡ OpenFault.BadVersion → IsOtherVersion (state S.Store conn).now) }
-        ensures key { IfErr result (λ e. IsMemory S.Store → e.0 ≡ OpenFault.BadKey → ((state S.Store conn).now.schema ≡ schema) × HasVersion (state S.Store conn).now this_version × HasOther ((state S.Store conn).now.trees 0)) }
+        ensures key { IfErr result (λ e. IsMemory S.Store → e.0 ≡ OpenFault.BadKey → ((state S.Store conn).now.schema ≡ schema) × IsBadlyKeyed (state S.Store conn).now) }
     {
         match open_tables(alloc, &mut conn) {
             Ok(()) => Ok(Table { conn, alloc }),

@@ -4,6 +4,8 @@ use Rattle.std.specs.FinMap as finite
 use Rattle.mspec.specs.TextFunctions.{longest_text}
 use Rattle.mstore.specs.Entries.{AreEntries, IsAt, IsGapFor, held}
 use Rattle.mstore.proofs.EntryPlaces.{had_room, are_set, are_inserted, held_set, held_inserted}
+use Rattle.mstore.specs.Held.{AreHeld}
+use Rattle.mstore.proofs.Holding.{entries_held}
 use Rattle.mstore.proofs.plain.PlainNodeStore.put.Goals as goal
 
 -- the entry is there, and has another text now
@@ -47,3 +49,9 @@ returns-in_ok-map_err-in-Err-clause-put c u =
     ap held new
     ∙ held_inserted items c.self.invariant node c.args.text.now place _ c.in_ok-key-in-Err.ensures.key c.in_ok-text.ensures le gap
     ∙ ap (λ g. finite.insert g node c.args.text.now) c.self.view_is
+
+pub returns-in-Ok-clause-held : goal.returns-in-Ok-clause-held
+returns-in-Ok-clause-held c u = subst AreHeld c.self.view_is (entries_held c.self.inside.entries.items c.self.invariant)
+
+pub returns-in_ok-map_err-in-Err-clause-held : goal.returns-in_ok-map_err-in-Err-clause-held
+returns-in_ok-map_err-in-Err-clause-held c u = subst AreHeld c.self.view_is (entries_held c.self.inside.entries.items c.self.invariant)

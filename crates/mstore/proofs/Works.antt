@@ -1,0 +1,131 @@
+-- SPDX-License-Identifier: Apache-2.0
+-- What the statements do inside the transaction of a migration.
+use Rattle.std.proofs.Common.{◌≡◌, ℕ, pos, true, List, [], ◌∷◌, codes, drop, map, None, Ok, refl, sym, ap, subst, ◌∙◌}
+use Rattle.sqlite.specs.declared.types.Value.{Value}
+use Rattle.sqlite.specs.declared.types.Value.TheVariants.{Null, Blob}
+use Rattle.sqlite.specs.Order.{Row, column}
+use Rattle.sqlite.specs.Term.{col, lit}
+use Rattle.sqlite.specs.Query.{Query, IsAnswer}
+use Rattle.sqlite.specs.Command.{Command}
+use Rattle.sqlite.specs.Command.TheVariants.{Update}
+use Rattle.sqlite.specs.Program.{overlay}
+use Rattle.sqlite.specs.Cast.{cast, cast_row}
+use Rattle.sqlite.specs.Kind.TheVariants.{Text as KindText}
+use Rattle.sqlite.specs.Rows.{Written, Task, Updates}
+use Rattle.sqlite.specs.Tree.{Trees}
+use Rattle.sqlite.specs.Does.{Tally, Does}
+use Rattle.sqlite.specs.Effect.{Database}
+use Rattle.sqlite.specs.Listing.{understood}
+use Rattle.sqlite.specs.State.{State, mode_of, ExecutesInside}
+use Rattle.sqlite.proofs.Callers.{IsPlain, command_of, runs_as, one_step, statement_of}
+use Rattle.sqlite_schema.specs.declared.schema.Keys.TheVariants.{Enforced}
+use Rattle.sqlite_rules.specs.declared.error.Rowids.TheVariants.{Given}
+use Rattle.sqlite_rules.specs.Lists.{Has}
+use Rattle.sqlite_rules.specs.Edit.{edit_of, without_all, put_all, are_fresh}
+use Rattle.sqlite_rules.specs.Calls.{ids_of}
+use Rattle.sqlite_rules.proofs.TableLemmas.{put_all_adds}
+use Rattle.sqlite_rules.proofs.PlaceLemmas.{given}
+use Rattle.sqlite_tied.specs.Compute.{everything}
+use Rattle.sqlite_trees.specs.Tree.{rowid}
+use Rattle.mstore.specs.Layout.{schema}
+use Rattle.mstore.specs.Map.{PutsAt, RemovesWithin}
+use Rattle.mstore.specs.Statements.{kill_text, put_text, set_text}
+use Rattle.mstore.specs.Database.{content, this_version, HasVersion}
+use Rattle.mstore.specs.Rows.{AreRows}
+use Rattle.mstore.specs.Moving.{IsAny, IsWorking}
+use Rattle.mstore.proofs.Answer.{rows_to, mapped_has}
+use Rattle.mstore.proofs.Edits.{left_nodes}
+use Rattle.mstore.proofs.Kills.{kills, kill_map}
+use Rattle.mstore.proofs.Makes.{apart, meta_table}
+use Rattle.mstore.proofs.Puts.{puts, put_nodes, put_map}
+use Rattle.mstore.proofs.Casts.{cast_int}
+use Rattle.mstore.proofs.Texts.{table_query, program, at_name}
+use Rattle.mstore.proofs.Versions.{text_equal}
+use Rattle.mstore.proofs.Writes.{went, same_value}
+use Rattle.sqlite_typed.proofs.TestLemmas.{last_term}
+
+module _ (old new : State) (was : IsWorking old) (count : ℕ) where
+  -- the rows are still a map, and the version's table is as it was
+  abbrev pub Works : Type 0
+  Works = IsWorking new × (new.now.trees 2 ≡ old.now.trees 2)
+
+  pub kills_inside : (low high : List ℕ) → ExecutesInside 0 kill_text (Blob low ∷ Blob high ∷ []) old new (Ok count) → Works × RemovesWithin (content old) (content new) low high
+  kills_inside low high h =
+      let it = kills old was.schema_is was.rows low high new count h.0 in (
+        (record { inside = h.1.mode; schema_is = it.0; rows = left_nodes _ _ _ was.rows it.2 }, it.3),
+        kill_map _ _ low high was.rows it.2,
+      )
+
+  pub puts_inside : (k v : List ℕ) → ExecutesInside 0 put_text (Blob k ∷ Blob v ∷ []) old new (Ok count) → Works × PutsAt (content old) (content new) k v
+  puts_inside k v h =
+      let it = puts old was.schema_is was.rows k v new count h.0 in (
+        (record { inside = h.1.mode; schema_is = it.0; rows = put_nodes {F = IsAny} _ _ k v tt was.rows it.2 }, it.3),
+        put_map {F = IsAny} _ _ k v tt was.rows it.2,
+      )
+
+-- ---- the version
+
+abbrev set_query : Query
+set_query = table_query 2 at_name (col 1 0 ∷ col 1 0 ∷ col 1 1 ∷ lit this_version ∷ []) []
+
+abbrev set_command : Command
+set_command = Update 1 (program set_query)
+
+pub set_is : (command_of (understood schema set_text) ≡ set_command) × IsPlain (understood schema set_text)
+unfolding understood everything
+set_is = (refl, (refl, refl))
+
+abbrev meta_task : State → Task
+meta_task s = record { limit = s.step_limit; keys = Enforced; schema = schema; table = meta_table; params = [] }
+
+module _ (old new : State) (was : IsWorking old) (count : ℕ) (h : ExecutesInside 0 set_text [] old new (Ok count)) where
+  abbrev rows : List Row
+  rows = old.now.trees 2
+
+  updated : (one : Written) × Updates (meta_task old) (program set_query) [] old.now.trees (Ok one) × (new.now ≡ record { schema = schema; trees = one.trees })
+  updated =
+      let w = runs_as set_text [] old new schema was.schema_is set_command set_is.0 set_is.1 count h.0 in
+      let text = statement_of set_text (understood schema set_text) in
+      let done = went (subst (λ s. Does old.step_limit (mode_of old) [] (record old.now { schema = s }) text None set_command (Ok (w.tally, new.now))) was.schema_is w.changed) in
+      (done.0, done.1, ap (λ (p : Tally × Database). p.1) (same_value (went (went done.2).2).2))
+
+  abbrev cast_of : Row → Row
+  cast_of s = cast_row meta_table (drop 1 s)
+
+  -- the rows that are shown are put in the place of those that have their rowids
+  asked : (asked : List Row) × IsAnswer set_query (overlay old.now.trees []) [] asked × (new.now.trees 0 ≡ old.now.trees 0)
+      × ((x : Row) → Has (map cast_of asked) x → Has (new.now.trees 2) x)
+  asked =
+      let done = updated in
+      let shown = went done.1 in
+      let made = went shown.2 in
+      let ids = ids_of shown.0 in
+      let edit = edit_of old.now.trees meta_table ids Given 1 shown.0 in
+      let step = one_step schema Enforced old.now.trees made.0 edit refl made.1 in
+      let left = without_all rows ids in
+      let news : edit.news ≡ map cast_of shown.0 = given left (map cast_of shown.0) in
+      let trees : done.0.trees ≡ made.0 = ap (λ (it : Written). it.trees) (same_value made.2) in
+      let now : new.now.trees ≡ made.0 = ap (λ (d : Database). d.trees) done.2 ∙ trees in
+      let is : new.now.trees 2 ≡ put_all left (map cast_of shown.0) = ap (λ (t : Trees). t 2) now ∙ step.rows ∙ ap (put_all left) news in (
+        shown.0,
+        shown.1.answer Null,
+        ap (λ (t : Trees). t 0) now ∙ step.tables.0 apart,
+        λ x here. subst (λ l. Has l x) (sym is) (put_all_adds (map cast_of shown.0) left x (subst (λ l. are_fresh left l ≡ true) news step.fresh) here),
+      )
+
+  pub sets_inside : IsWorking new × (new.now.trees 0 ≡ old.now.trees 0)
+  sets_inside =
+      let same = asked.2 in
+      let is : new.now.schema ≡ schema = ap (λ (d : Database). d.schema) updated.2 in
+      (record { inside = h.1.mode; schema_is = is; rows = subst (AreRows IsAny) (sym same) was.rows }, same)
+
+  abbrev full : Row → Row
+  full r = rowid r ∷ rowid r ∷ column r 1 ∷ this_version ∷ []
+
+  pub version_set : (v : Value) → HasVersion old.now v → HasVersion new.now this_version
+  version_set v has =
+      let r = has.0 in
+      let shown : Has asked.0 (full r) =
+      rows_to at_name [] (col 1 0 ∷ col 1 0 ∷ col 1 1 ∷ lit this_version ∷ []) [] old.now.trees 2 refl asked.0 asked.1 r has.1 (last_term (text_equal (column r 1) (codes "version") has.2)) in
+      let put : Has (new.now.trees 2) (cast_of (full r)) = asked.3 (cast_of (full r)) (mapped_has cast_of asked.0 (full r) shown) in
+      (cast_of (full r), put, ap (cast KindText) has.2, cast_int (pos 2))

@@ -1,0 +1,173 @@
+// SPDX-License-Identifier: Apache-2.0
+// How a store of version 1 gets this version: each row goes to the key that its node has now, in one transaction.
+ghost use Rattle.std.specs.Prelude.{◌≡◌, [], ◌∷◌, ◌++◌, false, IfOk, OnOk, OnErr};
+ghost use Rattle.mspec.specs.KeyBytes.{key_bytes};
+ghost use Rattle.mspec.specs.Node.{Node};
+ghost use Rattle.mspec.specs.Number.{significant_digits};
+ghost use Rattle.mkey.specs.Key.{IsKeyBy, old_digits};
+ghost use Rattle.sqlite.specs.Held.{state};
+ghost use Rattle.mstore.specs.Database.{IsMemory, IsStore, IsUntouched, IsMigrated, HasVersion, ShowsAll, content, old_version, this_version};
+ghost use Rattle.mstore.specs.Map.{PutsAt, RemovesWithin};
+ghost use Rattle.mstore.specs.Moving.{IsWorking, MovesKey, MovesRow, ShowContent, IsMoving, IsOldStore};
+
+use crate::statements::{KILL, PUT, SET, fault_of};
+use crate::store::StoreFault;
+use mkey::NodeKey;
+use sqlite::{Alter, Connection, Row, Transaction, params};
+use sqlite_value::value::ValueRef;
+use std::alloc::{AllocError, Global};
+
+// The bytes with a 0 behind them, which come next after them.
+fn next_after(alloc: Global, key: &[u8]) -> Result<Vec<u8>, AllocError>
+    ensures { IfOk result (λ next. next.items ≡ key.now ++ 0 ∷ []) }
+{
+    let mut next = Vec::with_capacity(alloc, key.len() + 1)?;
+    next.extend_from_slice(key)?;
+    next.push(0)?;
+    Ok(next)
+}
+
+// The key that a node has now, of its key by fifteen digits.
+fn new_key(alloc: Global, old: &[u8]) -> Result<NodeKey, StoreFault>
+    ensures { IfOk result (λ key. IsKeyBy old_digits key old.now) }
+{
+    let Some((account, name, subs)) = NodeKey::read_v1(alloc, old)? else {
+        return Err(StoreFault::Store);
+    };
+    match NodeKey::build(alloc, &account, &name, subs.as_slice()) {
+        Ok(key) => Ok(key),
+        Err(_) => Err(StoreFault::Memory),
+    }
+}
+
+// Takes the rows of a range of keys away.
+fn remove_inside<S: Alter>(
+    tx: &mut Transaction<'_, S>,
+    low: &[u8],
+    high: &[u8],
+) -> Result<(), StoreFault>
+    ensures same_reference { tx.new.conn.ghost_name ≡ tx.old.conn.ghost_name }
+    ensures committed { IsMemory S.Store → IsWorking (state S.Store tx.old.conn.now) → (state S.Store tx.new.conn.now).committed ≡ (state S.Store tx.old.conn.now).committed }
+    ensures working { IsMemory S.Store → IsWorking (state S.Store tx.old.conn.now) → OnOk result (IsWorking (state S.Store tx.new.conn.now)) }
+    ensures removed { IsMemory S.Store → IsWorking (state S.Store tx.old.conn.now) → OnOk result (RemovesWithin (content (state S.Store tx.old.conn.now)) (content (state S.Store tx.new.conn.now)) low.now high.now) }
+    ensures version { IsMemory S.Store → IsWorking (state S.Store tx.old.conn.now) → OnOk result ((state S.Store tx.new.conn.now).now.trees 2 ≡ (state S.Store tx.old.conn.now).now.trees 2) }
+{
+    match tx.execute(KILL, params![low, high]) {
+        Ok(_) => Ok(()),
+        Err(error) => Err(fault_of(&error)),
+    }
+}
+
+// Puts a value at a key.
+fn put_inside<S: Alter>(
+    tx: &mut Transaction<'_, S>,
+    key: &[u8],
+    value: &[u8],
+) -> Result<(), StoreFault>
+    ensures same_reference { tx.new.conn.ghost_name ≡ tx.old.conn.ghost_name }
+    ensures committed { IsMemory S.Store → IsWorking (state S.Store tx.old.conn.now) → (state S.Store tx.new.conn.now).committed ≡ (state S.Store tx.old.conn.now).committed }
+    ensures working { IsMemory S.Store → IsWorking (state S.Store tx.old.conn.now) → OnOk result (IsWorking (state S.Store tx.new.conn.now)) }
+    ensures put { IsMemory S.Store → IsWorking (state S.Store tx.old.conn.now) → OnOk result (PutsAt (content (state S.Store tx.old.conn.now)) (content (state S.Store tx.new.conn.now)) key.now value.now) }
+    ensures version { IsMemory S.Store → IsWorking (state S.Store tx.old.conn.now) → OnOk result ((state S.Store tx.new.conn.now).now.trees 2 ≡ (state S.Store tx.old.conn.now).now.trees 2) }
+{
+    match tx.execute(PUT, params![key, value]) {
+        Ok(_) => Ok(()),
+        Err(error) => Err(fault_of(&error)),
+    }
+}
+
+// Gives the database this version.
+fn set_version<S: Alter>(tx: &mut Transaction<'_, S>) -> Result<(), StoreFault>
+    ensures same_reference { tx.new.conn.ghost_name ≡ tx.old.conn.ghost_name }
+    ensures committed { IsMemory S.Store → IsWorking (state S.Store tx.old.conn.now) → (state S.Store tx.new.conn.now).committed ≡ (state S.Store tx.old.conn.now).committed }
+    ensures working { IsMemory S.Store → IsWorking (state S.Store tx.old.conn.now) → OnOk result (IsWorking (state S.Store tx.new.conn.now)) }
+    ensures rows { IsMemory S.Store → IsWorking (state S.Store tx.old.conn.now) → OnOk result ((state S.Store tx.new.conn.now).now.trees 0 ≡ (state S.Store tx.old.conn.now).now.trees 0) }
+    ensures version { IsMemory S.Store → IsWorking (state S.Store tx.old.conn.now) → HasVersion (state S.Store tx.old.conn.now).now old_version → OnOk result (HasVersion (state S.Store tx.new.conn.now).now this_version) }
+{
+    match tx.execute(SET, &[]) {
+        Ok(_) => Ok(()),
+        Err(error) => Err(fault_of(&error)),
+    }
+}
+
+// Moves a value from a node's key by fifteen digits to the key that the node has now.
+fn move_key<S: Alter>(
+    alloc: Global,
+    tx: &mut Transaction<'_, S>,
+    key: &[u8],
+    value: &[u8],
+) -> Result<(), StoreFault>
+    ensures same_reference { tx.new.conn.ghost_name ≡ tx.old.conn.ghost_name }
+    ensures committed { IsMemory S.Store → IsWorking (state S.Store tx.old.conn.now) → (state S.Store tx.new.conn.now).committed ≡ (state S.Store tx.old.conn.now).committed }
+    ensures working { IsMemory S.Store → IsWorking (state S.Store tx.old.conn.now) → OnOk result (IsWorking (state S.Store tx.new.conn.now)) }
+    ensures moved { IsMemory S.Store → IsWorking (state S.Store tx.old.conn.now) → OnOk result ((n : Node) × IsKeyBy old_digits n key.now × MovesKey (content (state S.Store tx.old.conn.now)) (content (state S.Store tx.new.conn.now)) key.now (key_bytes significant_digits n) value.now) }
+    ensures version { IsMemory S.Store → IsWorking (state S.Store tx.old.conn.now) → OnOk result ((state S.Store tx.new.conn.now).now.trees 2 ≡ (state S.Store tx.old.conn.now).now.trees 2) }
+{
+    let node = new_key(alloc, key)?;
+    let place = node.as_bytes();
+    if place == key {
+        return Ok(());
+    }
+    let next = next_after(alloc, key)?;
+    remove_inside(tx, key, next.as_slice())?;
+    put_inside(tx, place, value)
+}
+
+// Moves what a row shows to the key that its node has now.
+fn move_row<S: Alter>(
+    alloc: Global,
+    tx: &mut Transaction<'_, S>,
+    row: &Row,
+) -> Result<(), StoreFault>
+    ensures same_reference { tx.new.conn.ghost_name ≡ tx.old.conn.ghost_name }
+    ensures committed { IsMemory S.Store → IsWorking (state S.Store tx.old.conn.now) → (state S.Store tx.new.conn.now).committed ≡ (state S.Store tx.old.conn.now).committed }
+    ensures working { IsMemory S.Store → IsWorking (state S.Store tx.old.conn.now) → OnOk result (IsWorking (state S.Store tx.new.conn.now)) }
+    ensures moved { IsMemory S.Store → IsWorking (state S.Store tx.old.conn.now) → OnOk result (MovesRow row.now (state S.Store tx.old.conn.now) (state S.Store tx.new.conn.now)) }
+{
+    if row.column_count() != 2 {
+        return Err(StoreFault::Store);
+    }
+    match (row.get_ref(0), row.get_ref(1)) {
+        (Ok(ValueRef::Blob(key)), Ok(ValueRef::Blob(value))) => move_key(alloc, tx, key, value),
+        _ => Err(StoreFault::Store),
+    }
+}
+
+// Moves what each of the rows shows.
+fn move_rows<S: Alter>(
+    alloc: Global,
+    tx: &mut Transaction<'_, S>,
+    rows: &[Row],
+) -> Result<(), StoreFault>
+    ensures same_reference { tx.new.conn.ghost_name ≡ tx.old.conn.ghost_name }
+    ensures committed { IsMemory S.Store → IsWorking (state S.Store tx.old.conn.now) → (state S.Store tx.new.conn.now).committed ≡ (state S.Store tx.old.conn.now).committed }
+    ensures working { IsMemory S.Store → IsWorking (state S.Store tx.old.conn.now) → OnOk result (IsWorking (state S.Store tx.new.conn.now)) }
+    ensures moved { IsMemory S.Store → IsWorking (state S.Store tx.old.conn.now) → ShowContent (content (state S.Store tx.old.conn.now)) rows.now → OnOk result (IsMoving (content (state S.Store tx.old.conn.now)) (content (state S.Store tx.new.conn.now)) []) }
+    ensures version { IsMemory S.Store → IsWorking (state S.Store tx.old.conn.now) → OnOk result ((state S.Store tx.new.conn.now).now.trees 2 ≡ (state S.Store tx.old.conn.now).now.trees 2) }
+{
+    for row in rows {
+        move_row(alloc, tx, row)?;
+    }
+    Ok(())
+}
+
+/// Moves what each of the rows shows, which are all that a store of version 1 has, and gives the store this version; or leaves
+/// it as it is.
+pub fn migrate<S: Alter>(
+    alloc: Global,
+    conn: &mut Connection<S>,
+    rows: &[Row],
+) -> Result<(), StoreFault>
+    requires { conn.old.in_transaction ≡ false }
+    ensures store { IsMemory S.Store → IsOldStore (state S.Store conn.old) → ShowsAll (state S.Store conn.old) rows.now → OnOk result (IsStore (state S.Store conn.new)) }
+    ensures migrated { IsMemory S.Store → IsOldStore (state S.Store conn.old) → ShowsAll (state S.Store conn.old) rows.now → OnOk result (IsMigrated (state S.Store conn.old) (state S.Store conn.new)) }
+    ensures untouched { IsMemory S.Store → IsOldStore (state S.Store conn.old) → OnErr result (IsUntouched (state S.Store conn.old) (state S.Store conn.new)) }
+{
+    let mut tx = conn.transaction();
+    move_rows(alloc, &mut tx, rows)?;
+    set_version(&mut tx)?;
+    match tx.commit() {
+        Ok(()) => Ok(()),
+        Err(error) => Err(fault_of(&error)),
+    }
+}

@@ -44,8 +44,8 @@ pub record IsOf (g : Globals) (e : Entry) : Type 0 where
   pub key : key_bytes significant_digits node ≡ e.0.items
   pub text : get g node ≡ Some e.1
 
--- each entry is of the store; there are none before a read of the store was answered, and from then on it is known what the store may hold
-pub record AreOf (g : Globals) (read : Bool) (es : List Entry) : Type 0 where
+-- each entry is of the store; there are none before the store was read or set, and from then on it is known what the store may hold
+pub record AreOf (g : Globals) (told : Bool) (es : List Entry) : Type 0 where
   pub each : (e : Entry) → Contains es e → IsOf g e
-  pub after : (e : Entry) → Contains es e → read ≡ true
-  pub held : read ≡ true → AreHeld g
+  pub after : (e : Entry) → Contains es e → told ≡ true
+  pub held : told ≡ true → AreHeld g

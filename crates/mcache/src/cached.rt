@@ -15,15 +15,13 @@ use std::rc::Rc;
 
 /// A store with the texts of so many nodes, so that a node that was read or set lately is read without the store beneath. What is
 /// not there is not kept. It has what the store beneath has, and is as sound and as steady.
-///
-/// Texts are kept from the first read of the store on.
 #[derive(Drop)]
 pub struct Cached<S: NodeStore> {
     store: S,
     entries: Entries,
-    // Whether a read of the store was made: it tells that what the store holds are nodes and texts that a store may hold, which a
+    // Whether the store was read or set: that tells that what the store holds are nodes and texts that a store may hold, which a
     // read that is answered without the store has to tell too.
-    read: bool,
+    told: bool,
     alloc: Global,
 }
 
@@ -37,7 +35,7 @@ impl<S: NodeStore> Model for Cached<S> {
 
     ghost view = { λ cached. cached_store cached.store cached.entries.cap };
 
-    ghost invariant = { λ cached. S.sound → AreOf (S.content cached.store) cached.read cached.entries.entries };
+    ghost invariant = { λ cached. S.sound → AreOf (S.content cached.store) cached.told cached.entries.entries };
 }
 
 impl<S: NodeStore> Cached<S> {
@@ -59,7 +57,7 @@ impl<S: NodeStore> Cached<S> {
             Ok(entries) => Ok(Cached {
                 store,
                 entries,
-                read: false,
+                told: false,
                 alloc,
             }),
         }
@@ -78,6 +76,14 @@ impl<S: NodeStore> Cached<S> {
     {
         &self.store
     }
+
+    /// The store, without the texts.
+    pub fn into_store(self) -> S
+        ensures { result ≡ self.store }
+    {
+        let Cached { store, .. } = self;
+        store
+    }
 }
 
 impl<S: NodeStore> NodeStore for Cached<S> {
@@ -92,7 +98,7 @@ impl<S: NodeStore> NodeStore for Cached<S> {
             return Ok(Some(text));
         }
         let answer = self.store.get(key);
-        self.read = true;
+        self.told = true;
         let found = answer?;
         if let Some(text) = &found {
             keep(self.alloc, &mut self.entries, key.as_bytes(), text);
@@ -102,10 +108,9 @@ impl<S: NodeStore> NodeStore for Cached<S> {
 
     fn put(&mut self, key: &NodeKey, text: &Bytes7) -> Result<(), StoreFault> {
         self.store.put(key, text)?;
+        self.told = true;
         forget(&mut self.entries, key.as_bytes());
-        if self.read {
-            keep(self.alloc, &mut self.entries, key.as_bytes(), text);
-        }
+        keep(self.alloc, &mut self.entries, key.as_bytes(), text);
         Ok(())
     }
 
@@ -117,13 +122,13 @@ impl<S: NodeStore> NodeStore for Cached<S> {
 
     fn next(&mut self, low: &[u8], high: &[u8]) -> Result<Option<Vec<u8>>, StoreFault> {
         let answer = self.store.next(low, high);
-        self.read = true;
+        self.told = true;
         answer
     }
 
     fn prev(&mut self, low: &[u8], high: &[u8]) -> Result<Option<Vec<u8>>, StoreFault> {
         let answer = self.store.prev(low, high);
-        self.read = true;
+        self.told = true;
         answer
     }
 

@@ -3,5 +3,6 @@ pub mod Between
 pub mod Sides
 pub mod Orders
 pub mod LineWalks
+pub mod PlacesLeft
 pub mod LinesKept
 pub mod CopyLaws

@@ -33,7 +33,7 @@ C = text_cmp significant_digits
 abbrev order : Node → Node → Ordering
 order = node_cmp significant_digits
 
-less : (o : Ordering) → is_lt o ≡ true → o ≡ Less
+pub less : (o : Ordering) → is_lt o ≡ true → o ≡ Less
 less Less e = refl
 less Equal e = absurd (cc)
 less Greater e = absurd (cc)
@@ -332,6 +332,9 @@ module _ (account name : Text) where
 
     pub no_more : (x : Text) → None ≡ order_at g Forward (at x) → lines_behind g account name x ≡ []
     no_more x e = none_left x (entries g) (sym (asked x) ∙ sym e)
+
+    pub next_behind : (x c : Text) → Some c ≡ order_at g Forward (at x) → is_before x c ≡ true
+    next_behind x c e = onward x (entries g) c (sym (asked x) ∙ sym e)
 
     pub next_line : (x c : Text) → Some c ≡ order_at g Forward (at x) → lines_behind g account name x ≡ line_in g account name c ++ lines_behind g account name c
     next_line x c e =

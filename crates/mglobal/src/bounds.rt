@@ -7,7 +7,7 @@ ghost use Rattle.mspec.specs.KeyBytes.{IsAccountName, AreSubscripts};
 ghost use Rattle.mspec.specs.Names.{IsName};
 ghost use Rattle.mspec.specs.Trees.{front, last, AreOrderSubscripts};
 
-use mkey::{Direction, NodeKey, last};
+use mkey::{Direction, KeyFault, NodeKey, last};
 use mnum::Bytes7;
 use mstore::StoreFault;
 use std::alloc::Global;
@@ -27,7 +27,8 @@ pub fn key_of(
 {
     match NodeKey::build(alloc, account, name, subs) {
         Ok(key) => Ok(key),
-        Err(_) => Err(StoreFault::Memory),
+        Err(KeyFault::Memory) => Err(StoreFault::Memory),
+        Err(KeyFault::Sub) => unreachable!(),
     }
 }
 

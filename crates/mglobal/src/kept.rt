@@ -43,6 +43,13 @@ impl<S: NodeStore> Kept<S> {
         }
     }
 
+    /// The store beneath. Takes no memory.
+    pub fn store(&self) -> &S
+        ensures { result.now ≡ self.now }
+    {
+        &self.store
+    }
+
     /// The store, without the copies.
     pub fn into_store(self) -> S
         ensures { result ≡ self }

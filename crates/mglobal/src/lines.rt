@@ -1,18 +1,18 @@
 // SPDX-License-Identifier: Apache-2.0
 //! The lines of a routine.
-ghost use Rattle.std.specs.Prelude.{◌≡◌, ◌≢◌, ◌≤◌, length, IfOk, IfSome, OnOk, Err, [], ◌∷◌, ◌++◌, codes};
+ghost use Rattle.std.specs.Prelude.{◌≡◌, ◌≢◌, ◌≤◌, length, true, IfOk, IfSome, OnOk, Err, [], ◌∷◌, ◌++◌, codes};
 ghost use Rattle.std.specs.Option.{option_to_list};
 ghost use Rattle.mglobal.specs.Lines.{line_at, line_in};
 ghost use Rattle.mkey.specs.Front.{IsSub};
 ghost use Rattle.mspec.specs.Globals.{lines_of, order_at};
 ghost use Rattle.mspec.specs.KeyBytes.{IsAccountName, IsSubscript};
 ghost use Rattle.mspec.specs.Names.{IsName};
-ghost use Rattle.mspec.specs.Trees.{Forward};
+ghost use Rattle.mspec.specs.Trees.{Forward, is_before};
 ghost use Rattle.mstore.specs.Held.{AreHeld};
 
 use crate::ask::neighbour;
 use crate::bounds::key_of;
-use mkey::{Direction, is_numeric};
+use mkey::{Direction, collate, is_numeric};
 use mnum::Bytes7;
 use mstore::{NodeStore, StoreFault};
 use std::alloc::{AllocError, Global};
@@ -28,7 +28,7 @@ fn subs_of(alloc: Global, name: &Bytes7, place: &Bytes7) -> Result<Vec<Bytes7>, 
     Ok(subs)
 }
 
-// The subscript behind a place of a routine.
+// The subscript behind a place of a routine. A store that is sound names none that is not behind it.
 fn next_place<S: NodeStore>(
     store: &mut S,
     alloc: Global,
@@ -44,11 +44,21 @@ fn next_place<S: NodeStore>(
     ensures next { S.sound → IfOk result (λ next. next ≡ order_at (S.content store.old) Forward (line_at account.now name.now place.now)) }
     ensures held { S.sound → OnOk result (AreHeld (S.content store.old)) }
     ensures sub { IfOk result (λ next. IfSome next IsSub) }
+    ensures behind { IfOk result (λ next. IfSome next (λ there. is_before place.now there ≡ true)) }
     ensures same { S.sound → S.content store.new ≡ S.content store.old }
     ensures store { S.steady → result ≢ Err StoreFault.Store }
 {
     let subs = subs_of(alloc, name, place)?;
-    neighbour(store, alloc, account, global, &subs, Direction::Forward)
+    match neighbour(store, alloc, account, global, &subs, Direction::Forward)? {
+        None => Ok(None),
+        Some(next) => {
+            if collate(place, &next).is_lt() {
+                Ok(Some(next))
+            } else {
+                Err(StoreFault::Store)
+            }
+        }
+    }
 }
 
 // The text of the line at a place, where the place is a number and the line has a text.
@@ -91,8 +101,8 @@ fn add(lines: &mut Vec<Bytes7>, text: Option<Bytes7>) -> Result<(), AllocError>
 ///
 /// # Errors
 ///
-/// Those of the store: `Memory` for want of memory, also where a store that is not sound names places without end, and `Store`, which a
-/// steady one never answers.
+/// Those of the store: `Memory` for want of memory, and `Store`, which a steady one never answers; also where the place that was found is
+/// not behind the one before it.
 pub fn routine<S: NodeStore>(
     store: &mut S,
     alloc: Global,
@@ -108,15 +118,12 @@ pub fn routine<S: NodeStore>(
     let global = Bytes7::from_slice(alloc, b"ROUTINE")?;
     let mut lines = Vec::new(alloc);
     let mut place = Bytes7::empty(alloc);
-    for _ in 0..u64::MAX {
-        let Some(next) = next_place(store, alloc, account, &global, name, &place)? else {
-            return Ok(lines);
-        };
+    while let Some(next) = next_place(store, alloc, account, &global, name, &place)? {
         let text = line_text(store, alloc, account, &global, name, &next)?;
         add(&mut lines, text)?;
         place = next;
     }
-    Err(StoreFault::Memory)
+    Ok(lines)
 }
 
 /// The lines of an account's routine, as `routine` reads them, or as the store has kept them since they were read. A store that keeps

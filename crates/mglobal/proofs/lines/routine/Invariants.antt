@@ -1,14 +1,21 @@
 -- SPDX-License-Identifier: Apache-2.0
 use Rattle.std.proofs.Common.{◌≡◌, ◌≤◌, ◌++◌, length}
 use Rattle.mspec.specs.Globals.{lines_of}
+use Rattle.mspec.specs.KeyBytes.{IsAscii}
 use Rattle.mstore.specs.Held.{AreHeld}
 use Rattle.mglobal.specs.Lines.{lines_behind}
+use Rattle.mglobal.proofs.PlacesLeft.{places_left}
 use Rattle.mglobal.proofs.lines.routine.Given as goal
 
 -- the lines so far, and those behind the place, are all
-abbrev pub invariant-loop : goal.invariant-loop
-invariant-loop g l = record {
+abbrev pub invariant-loop-place : goal.invariant-loop-place
+invariant-loop-place g l = record {
   place : length l.place ≤ 255;
+  ascii : IsAscii l.place;
   same : g.S.NodeStore.sound → g.S.NodeStore.content l.store ≡ g.S.NodeStore.content l.initial.store;
   lines : g.S.NodeStore.sound → AreHeld (g.S.NodeStore.content l.initial.store) → l.lines.items ++ lines_behind (g.S.NodeStore.content l.initial.store) l.account l.name l.place ≡ lines_of (g.S.NodeStore.content l.initial.store) l.account l.name;
 }
+
+-- each place is behind the one before
+abbrev pub decreases-loop-place : goal.decreases-loop-place
+decreases-loop-place g l = places_left l.place

@@ -1,0 +1,19 @@
+-- SPDX-License-Identifier: Apache-2.0
+use Rattle.std.proofs.Common.{◌≡◌, true, false, Some, sym, ap, ◌∙◌}
+use Rattle.std.specs.Ordering.{is_lt}
+use Rattle.mspec.specs.Globals.{order_at}
+use Rattle.mspec.specs.Trees.{Forward}
+use Rattle.mglobal.specs.Lines.{line_at}
+use Rattle.mglobal.proofs.LineWalks.{next_behind}
+use Rattle.mglobal.proofs.lines.next_place.Goals as goal
+
+-- a sound store named no such place
+pub returns-clause-store : goal.returns-clause-store
+returns-clause-store g c steady same =
+    let sound = g.met.S.NodeStore.steady_is_sound steady in
+    let globals = g.S.NodeStore.content c.args.store.now in
+    let asked = rw (c.deref.ensures.value, c.in_ok-subs.ensures, c.requires.global) at c.in_ok-neighbour.ensures.next sound in
+    let there : Some c.in-Some.next ≡ order_at globals Forward (line_at c.args.account.now c.args.name.now c.args.place.now) = sym c.in-Some.is ∙ asked in
+    let before = next_behind c.args.account.now c.args.name.now globals c.args.place.now c.in-Some.next there in
+    let clash : true ≡ false = sym before ∙ ap is_lt (sym c.collate.ensures) ∙ sym c.is_lt.ensures ∙ c.if-is_lt.false in
+    absurd (cc)

@@ -1,77 +1,33 @@
 -- SPDX-License-Identifier: Apache-2.0
 -- Whether a name conflicts with those that are held, by the holdings.
-use Rattle.std.proofs.Common.{◌≡◌, Bool, true, false, cond, not, nat_eq, ◌&&◌, ◌||◌, List, [], ◌∷◌, map, All, ℕ, Option, Some, None, ◌++◌, inl, inr, append-nil, refl, sym, ap, ◌∙◌, subst}
-use Rattle.std.specs.Prelude.{T, is_some}
-use Rattle.std.specs.BTreeMap.{BTreeMap, IsOrdered}
-use Rattle.std.specs.FinMap.{IsAntisymmetric, nat_cmp-IsAntisymmetric, slice_cmp-IsAntisymmetric, get, entries, keys, contains_key-keys, from_sorted, same_map, get-from_entries, get-from_sorted, entries-from_sorted}
-use Rattle.std.specs.FinMap.Entries.{is_sorted, below_all}
-use Rattle.std.specs.List.{list_any, find}
-use Rattle.std.specs.BTreeMap.Range.{entries_between}
-use Rattle.std.specs.declared.ops.Bound.TheVariants.{Included, Unbounded}
-use Rattle.std.specs.Cmp.{IsTotalOrder, bool_cmp_total}
-use Rattle.std.specs.Cmp.Lexicographic.{slice_cmp, nat_list_cmp_total}
-use Rattle.std.specs.declared.cmp.Ordering.{Ordering}
-use Rattle.std.specs.List.Sorted.{IsStrictlySortedBy}
-use Rattle.std.specs.Map.{keys_of}
-use Rattle.std.specs.Ordering.{eq_by_cmp, is_lt, is_le, nat_cmp, bool_cmp, ordering_then, ordering_reverse}
-use Rattle.std.specs.declared.cmp.Ordering.TheVariants.{Less, Equal, Greater}
-use Rattle.std.proofs.lemmas.Cmp.{tied_itself as order_itself}
-use Rattle.std.proofs.lemmas.Map.Keys.{sorted_tail}
-use Rattle.std.proofs.lemmas.Map.Views.{All-after_first}
+use Rattle.std.proofs.Common.{◌≡◌, ◌<◌, ℕ, zero, suc, Bool, true, false, not, nat_eq, ◌&&◌, ◌||◌, List, [], ◌∷◌, map, length, All, Option, Some, None, ◌⊎◌, inl, inr, refl, sym, ap, ◌∙◌, subst}
+use Rattle.std.specs.Prelude.{is_some, slice_get, unwrap_or}
+use Rattle.std.specs.FinMap.{get, keys, contains_key-keys, get-from_entries}
+use Rattle.std.specs.FinMap.Entries.{is_some-find}
+use Rattle.std.specs.List.{list_any}
+use Rattle.std.specs.Ordering.{eq_by_cmp}
+use Rattle.std.specs.Cmp.{eq_by_cmp_equiv}
 use Rattle.std.proofs.lemmas.List.Elements.{All-head, All-tail}
-use Rattle.mspec.specs.LockConflict.{LockName, Held, held, lock_name_cmp, held_cmp, is_within, is_conflict, has_conflict, Locks}
+use Rattle.std.proofs.lemmas.Map.Entries.{place_from_lookup, lookup_from_place}
+use Rattle.indexmap.specs.IndexMap as index
+use Rattle.indexmap.specs.IndexMap.{IndexMap, IsUnique}
 use mathlib.Core.Bool.{beq}
 use Rattle.mspec.specs.Globals.{is_node_within}
-use Rattle.mspec.specs.KeyLaws.{IsWithin}
-use Rattle.mspec.specs.Node.{Text, Node}
-use Rattle.mspec.specs.NodeOrder.{node_cmp, subscripts_cmp}
-use Rattle.mspec.specs.Number.{significant_digits}
-use Rattle.mspec.proofs.KeyRanges.{within}
-use Rattle.mspec.proofs.NodeOrders.{text_cmp_total, text_cmp_exact}
-use Rattle.mspec.proofs.LockOrders.{held_cmp_total, held_cmp_exact, bool_cmp_exact}
-use Rattle.mlock.specs.Above.{is_end, is_below}
+use Rattle.mspec.specs.LockConflict.{LockName, Held, held, held_cmp, is_within, is_conflict, has_conflict, Locks}
+use Rattle.mspec.proofs.LockOrders.{held_cmp_total, lock_name_cmp_total}
+use Rattle.mlock.specs.Above.{name_above, is_other}
 use Rattle.mlock.specs.declared.locks.Holding.{Holding}
 use Rattle.mlock.specs.Holdings.{lock_of, locks_of, IsFree}
-use Rattle.mlock.proofs.Names.{of_within, within_of, both_true}
-use Rattle.mlock.proofs.Steps.{same_lock}
+use Rattle.mlock.specs.Tallies.{name_eq, is_under}
+use Rattle.mlock.proofs.Above.{above_within, above_or_same}
+use Rattle.mlock.proofs.Names.{of_within, both_true, same_truth, both}
+use Rattle.mlock.proofs.Steps.{same_lock, tied_itself}
+use Rattle.mlock.proofs.Sums.{under_other}
+use Rattle.mlock.proofs.Under.{both_within, is_same}
 use Rattle.mlock.proofs.Views.{no}
 
-abbrev pub Entry : Type 0
+abbrev Entry : Type 0
 Entry = LockName × Holding
-
--- ---- the locks in their order
-
-both_hold : (a b : Bool) → T a → T b → T (a && b)
-both_hold true b s t = t
-both_hold false b s t = absurd s
-
-below_every : (e : Entry) (es : List Entry) → All (λ k. lock_name_cmp e.0 k ≡ Less) (keys_of es) → T (below_all held_cmp (lock_of e).0 (map lock_of es))
-below_every e [] all = tt
-below_every e (d ∷ es) all =
-    let first : lock_name_cmp e.0 d.0 ≡ Less = All-head (λ k. lock_name_cmp e.0 k ≡ Less) d.0 (keys_of es) all in
-    subst T (sym (ap (λ o. is_lt (ordering_then o (nat_cmp e.1.terminal d.1.terminal)) && below_all held_cmp (lock_of e).0 (map lock_of es)) first))
-    (below_every e es (All-tail (λ k. lock_name_cmp e.0 k ≡ Less) d.0 (keys_of es) all))
-
-sorted_locks : (es : List Entry) → IsStrictlySortedBy lock_name_cmp (keys_of es) → T (is_sorted held_cmp (map lock_of es))
-sorted_locks [] h = tt
-sorted_locks (e ∷ es) h =
-    both_hold (below_all held_cmp (lock_of e).0 (map lock_of es)) (is_sorted held_cmp (map lock_of es))
-    (below_every e es (All-after_first lock_name_cmp e.0 (keys_of es) h)) (sorted_locks es (sorted_tail lock_name_cmp e.0 (keys_of es) h))
-
-pub entries_are : (m : BTreeMap LockName Holding) → IsOrdered lock_name_cmp m → entries (locks_of m) ≡ map lock_of m.entries
-entries_are m h =
-    let sorted = sorted_locks m.entries h in
-    ap entries (same_map held_cmp_total held_cmp_exact (locks_of m) (from_sorted (map lock_of m.entries))
-    (λ q. get-from_entries held_cmp_total (map lock_of m.entries) q ∙ sym (get-from_sorted held_cmp (map lock_of m.entries) q sorted)))
-    ∙ entries-from_sorted held_cmp (map lock_of m.entries) sorted
-
-pub any_lock : (p : Held → Bool) (es : List Entry) → list_any p (map (λ l. l.0) (map lock_of es)) ≡ list_any (λ e. p (held e.1.terminal e.0)) es
-any_lock p [] = refl
-any_lock p (e ∷ es) = ap (λ b. p (held e.1.terminal e.0) || b) (any_lock p es)
-
--- a conflict with what is held is one with a holding
-pub conflict_is : (m : BTreeMap LockName Holding) (h : Held) → IsOrdered lock_name_cmp m → has_conflict (locks_of m) h ≡ list_any (λ e. is_conflict h (held e.1.terminal e.0)) m.entries
-conflict_is m h ordered = ap (λ es. list_any (is_conflict h) (map (λ l. l.0) es)) (entries_are m ordered) ∙ any_lock (is_conflict h) m.entries
 
 -- ---- names that conflict with none
 
@@ -111,144 +67,152 @@ free_of l t n none u other =
     ∙ fewer (is_conflict (held t n)) (eq_by_cmp held_cmp (held u n)) (keys l)
     (λ k e. ap (is_conflict (held t n)) (sym (same_lock (held u n) k e)) ∙ itself_conflicts t u n other) none)
 
--- ---- what lies between two that begin alike
+-- ---- what is held, by the holdings
 
-module _ {A : Type 0} {R : A → A → Ordering} (total : IsTotalOrder R) (exact : IsAntisymmetric R) where
-  -- what is neither before a value nor behind it is that value
-  pub squeeze : (x y : A) (p q : Ordering) → is_le (ordering_then (R x y) p) ≡ true → is_le (ordering_then (R y x) q) ≡ true → (x ≡ y) × (is_le p ≡ true) × (is_le q ≡ true)
-  squeeze x y p q from to = by_order (R x y) refl
+found_any : (p : Held → Bool) (ks : List Held) → list_any p ks ≡ true → (q : Held) × (p q ≡ true) × (list_any (eq_by_cmp held_cmp q) ks ≡ true)
+found_any p [] e = absurd (cc)
+found_any p (k ∷ ks) e = by_test (p k) refl e (found_any p ks)
+  where
+    or_true : (b : Bool) → (b || true) ≡ true
+    or_true true = refl
+    or_true false = refl
+
+    by_test : (b : Bool) → p k ≡ b → (b || list_any p ks) ≡ true → (list_any p ks ≡ true → (q : Held) × (p q ≡ true) × (list_any (eq_by_cmp held_cmp q) ks ≡ true))
+        → (q : Held) × (p q ≡ true) × (list_any (eq_by_cmp held_cmp q) (k ∷ ks) ≡ true)
+    by_test true is e rest = (k, is, ap (λ b. b || list_any (eq_by_cmp held_cmp k) ks) (tied_itself k))
+    by_test false is e rest = let r = rest e in (r.0, r.1, ap (λ b. eq_by_cmp held_cmp r.0 k || b) r.2 ∙ or_true (eq_by_cmp held_cmp r.0 k))
+
+any_found : (p : Held → Bool) (q : Held) (ks : List Held) → p q ≡ true → list_any (eq_by_cmp held_cmp q) ks ≡ true → list_any p ks ≡ true
+any_found p q [] is e = e
+any_found p q (k ∷ ks) is e = by_test (eq_by_cmp held_cmp q k) (λ t. ap p (sym (same_lock q k t)) ∙ is) e (any_found p q ks is)
+  where
+    or_true : (b : Bool) → (b || true) ≡ true
+    or_true true = refl
+    or_true false = refl
+
+    by_test : (b : Bool) → (b ≡ true → p k ≡ true) → (b || list_any (eq_by_cmp held_cmp q) ks) ≡ true → (list_any (eq_by_cmp held_cmp q) ks ≡ true → list_any p ks ≡ true) → (p k || list_any p ks) ≡ true
+    by_test true f e rest = ap (λ b. b || list_any p ks) (f refl)
+    by_test false f e rest = ap (λ b. p k || b) (rest e) ∙ or_true (p k)
+
+pub any_lock : (p : Held → Bool) (es : List Entry) → list_any p (map (λ l. l.0) (map lock_of es)) ≡ list_any (λ e. p (held e.1.terminal e.0)) es
+any_lock p [] = refl
+any_lock p (e ∷ es) = ap (λ b. p (held e.1.terminal e.0) || b) (any_lock p es)
+
+-- a conflict with what is held is one with a holding
+pub conflict_is : {S : Type 0} (m : IndexMap LockName Holding S) (h : Held) → has_conflict (locks_of m) h ≡ list_any (λ e. is_conflict h (held e.1.terminal e.0)) m.entries
+conflict_is m h =
+    same_truth (list_any (is_conflict h) (keys (locks_of m))) (list_any (is_conflict h) names)
+    (λ e. let f = found_any (is_conflict h) (keys (locks_of m)) e in any_found (is_conflict h) f.0 names f.1 (sym (alike f.0) ∙ f.2))
+    (λ e. let f = found_any (is_conflict h) names e in any_found (is_conflict h) f.0 (keys (locks_of m)) f.1 (alike f.0 ∙ f.2))
+    ∙ any_lock (is_conflict h) m.entries
+  where
+    names : List Held
+    names = map (λ l. l.0) (map lock_of m.entries)
+
+    alike : (q : Held) → list_any (eq_by_cmp held_cmp q) (keys (locks_of m)) ≡ list_any (eq_by_cmp held_cmp q) names
+    alike q =
+        sym (contains_key-keys (locks_of m) q) ∙ ap is_some (get-from_entries held_cmp_total (map lock_of m.entries) q)
+        ∙ is_some-find held_cmp q (map lock_of m.entries)
+
+any_at : {X : Type 0} (p : X → Bool) (xs : List X) (i : ℕ) (x : X) → slice_get xs i ≡ Some x → p x ≡ true → list_any p xs ≡ true
+any_at p [] i x at is = let none : ◌≡◌ None (Some x) = at in absurd (cc)
+any_at p (y ∷ xs) zero x at is = ap (λ z. p z || list_any p xs) (ap (λ o. unwrap_or o x) at) ∙ ap (λ b. b || list_any p xs) is
+any_at p (y ∷ xs) (suc i) x at is = ap (λ b. p y || b) (any_at p xs i x at is) ∙ or_true (p y)
+  where
+    or_true : (b : Bool) → (b || true) ≡ true
+    or_true true = refl
+    or_true false = refl
+
+at_any : {X : Type 0} (p : X → Bool) (xs : List X) → list_any p xs ≡ true → (i : ℕ) × (x : X) × (slice_get xs i ≡ Some x) × (p x ≡ true)
+at_any p [] e = absurd (cc)
+at_any {X} p (y ∷ xs) e = by_test (p y) refl e (at_any p xs)
+  where
+    by_test : (b : Bool) → p y ≡ b → (b || list_any p xs) ≡ true → (list_any p xs ≡ true → (i : ℕ) × (x : X) × (slice_get xs i ≡ Some x) × (p x ≡ true))
+        → (i : ℕ) × (x : X) × (slice_get (y ∷ xs) i ≡ Some x) × (p x ≡ true)
+    by_test true is e rest = (0, y, refl, is)
+    by_test false is e rest = let r = rest e in (suc r.0, r.1, r.2, r.3)
+
+or_left : (a b : Bool) → a ≡ true → (a || b) ≡ true
+or_left true b e = refl
+or_left false b e = absurd (cc)
+
+or_right : (a b : Bool) → b ≡ true → (a || b) ≡ true
+or_right true b e = refl
+or_right false b e = e
+
+either : (a b : Bool) → (a || b) ≡ true → (a ≡ true) ⊎ (b ≡ true)
+either true b e = inl refl
+either false b e = inr e
+
+false_from : (b : Bool) → (b ≡ true → ⊥) → b ≡ false
+false_from true f = absurd (f refl)
+false_from false f = refl
+
+unlike : (b : Bool) → b ≡ true → b ≡ false → ⊥
+unlike b t f = let no : true ≡ false = sym t ∙ f in absurd (cc)
+
+module _ {S : Type 0} (m : IndexMap LockName Holding S) (n : LockName) (t : ℕ) where
+  abbrev conflicts_with : Entry → Bool
+  conflicts_with e = is_conflict (held t n) (held e.1.terminal e.0)
+
+  -- one that is below the name conflicts
+  pub by_below : list_any (under_other n t) m.entries ≡ true → has_conflict (locks_of m) (held t n) ≡ true
+  by_below e =
+      let f = at_any (under_other n t) m.entries e in
+      let is = both_true (is_under n f.1.0) (not (nat_eq t f.1.1.terminal)) f.3 in
+      let inside = both_true (is_within n f.1.0) (not (is_within f.1.0 n)) is.0 in
+      conflict_is m (held t n)
+      ∙ any_at conflicts_with m.entries f.0 f.1 f.2
+      (both (not (nat_eq t f.1.1.terminal)) (is_within n f.1.0 || is_within f.1.0 n) is.1 (or_left (is_within n f.1.0) (is_within f.1.0 n) inside.0))
+
+  -- and so does the name itself, or one above it
+  pub by_name : (a : LockName) → is_within a n ≡ true → is_other t (index.get name_eq m a) ≡ true → has_conflict (locks_of m) (held t n) ≡ true
+  by_name a above e = by_holding (index.get name_eq m a) refl e
     where
-      back : (o : Ordering) → R x y ≡ o → R y x ≡ ordering_reverse o
-      back o is = total.antisymm y x ∙ ap ordering_reverse is
+      by_holding : (o : Option Holding) → index.get name_eq m a ≡ o → is_other t o ≡ true → has_conflict (locks_of m) (held t n) ≡ true
+      by_holding None is e = absurd (cc)
+      by_holding (Some h) is e =
+          let place = place_from_lookup (name_eq a) m.entries h is in
+          let same : a ≡ place.1 = is_same a place.1 place.3 in
+          conflict_is m (held t n)
+          ∙ any_at conflicts_with m.entries place.0 (place.1, h) place.2
+          (both (not (nat_eq t h.terminal)) (is_within n place.1 || is_within place.1 n) e
+          (or_right (is_within n place.1) (is_within place.1 n) (subst (λ k. is_within k n ≡ true) same above)))
 
-      by_order : (o : Ordering) → R x y ≡ o → (x ≡ y) × (is_le p ≡ true) × (is_le q ≡ true)
-      by_order Less is = let no : false ≡ true = sym (ap (λ o. is_le (ordering_then o q)) (back Less is)) ∙ to in absurd (cc)
-      by_order Equal is = (
-        exact x y is,
-        sym (ap (λ o. is_le (ordering_then o p)) is) ∙ from,
-        sym (ap (λ o. is_le (ordering_then o q)) (back Equal is)) ∙ to,
-      )
-      by_order Greater is = let no : false ≡ true = sym (ap (λ o. is_le (ordering_then o p)) is) ∙ from in absurd (cc)
+  pub by_above : (i : ℕ) → is_other t (index.get name_eq m (name_above i n)) ≡ true → has_conflict (locks_of m) (held t n) ≡ true
+  by_above i = by_name (name_above i n) (above_within i n)
 
-  -- a list between another and one that begins with it begins with it too
-  pub begins : (xs ys more : List A) → is_le (slice_cmp R xs ys) ≡ true → is_le (slice_cmp R ys (xs ++ more)) ≡ true → (rest : List A) × (ys ≡ xs ++ rest)
-  begins [] ys more from to = (ys, refl)
-  begins (x ∷ xs) [] more from to = let no : false ≡ true = from in absurd (cc)
-  begins (x ∷ xs) (y ∷ ys) more from to =
-      let first = squeeze x y (slice_cmp R xs ys) (slice_cmp R ys (xs ++ more)) from to in
-      let rest = begins xs ys more first.1 first.2 in
-      (rest.0, λ i. sym first.0 i ∷ rest.1 i)
+  pub by_itself : is_other t (index.get name_eq m n) ≡ true → has_conflict (locks_of m) (held t n) ≡ true
+  by_itself = by_name n (within_itself n)
 
-  -- a list stands before those that begin with it
-  pub begin_before : (xs more : List A) → is_le (slice_cmp R xs (xs ++ more)) ≡ true
-  begin_before [] [] = refl
-  begin_before [] (y ∷ more) = refl
-  begin_before (x ∷ xs) more = ap (λ o. is_le (ordering_then o (slice_cmp R xs (xs ++ more)))) (order_itself total x) ∙ begin_before xs more
-
-texts_exact : IsAntisymmetric (slice_cmp nat_cmp)
-texts_exact = slice_cmp-IsAntisymmetric nat_cmp-IsAntisymmetric
-
-abbrev R : List Text → List Text → Ordering
-R = subscripts_cmp significant_digits
-
--- the parts of a node within another
-pub record Parts (n m : Node) : Type 0 where
-  pub account : n.account ≡ m.account
-  pub name : n.name ≡ m.name
-  pub more : List Text
-  pub subscripts : m.subscripts ≡ n.subscripts ++ more
-
-pub parts : (n m : Node) → IsWithin n m → Parts n m
-parts n m (inl same) = record { account = ap (λ k. k.account) same; name = ap (λ k. k.name) same; more = []; subscripts = ap (λ k. k.subscripts) (sym same) ∙ sym (append-nil n.subscripts) }
-parts n m (inr above) = record { account = above.account; name = above.name; more = above.longer.0 ∷ above.longer.1; subscripts = above.longer.2 }
-
-node_between : (n e k : Node) → IsWithin n k → is_le (node_cmp significant_digits n e) ≡ true → is_le (node_cmp significant_digits e k) ≡ true → IsWithin n e
-node_between n e k is from to =
-    let p = parts n k is in
-    let behind : is_le (ordering_then (slice_cmp nat_cmp e.account n.account) (ordering_then (slice_cmp nat_cmp e.name n.name) (R e.subscripts (n.subscripts ++ p.more)))) ≡ true
-    = (λ i. is_le (ordering_then (slice_cmp nat_cmp e.account (p.account i)) (ordering_then (slice_cmp nat_cmp e.name (p.name i)) (R e.subscripts (sym p.subscripts i))))) ∙ to in
-    let first = squeeze nat_list_cmp_total texts_exact n.account e.account (ordering_then (slice_cmp nat_cmp n.name e.name) (R n.subscripts e.subscripts)) (ordering_then (slice_cmp nat_cmp e.name n.name) (R e.subscripts (n.subscripts ++ p.more))) from behind in
-    let second = squeeze nat_list_cmp_total texts_exact n.name e.name (R n.subscripts e.subscripts) (R e.subscripts (n.subscripts ++ p.more)) first.1 first.2 in
-    let rest = begins (text_cmp_total significant_digits) (text_cmp_exact significant_digits) n.subscripts e.subscripts p.more second.1 second.2 in
-    within n e rest.0 first.0 second.0 rest.1
-
-pub beq_same : (a b : Bool) → beq a b ≡ true → a ≡ b
-beq_same true true e = refl
-beq_same true false e = absurd (cc)
-beq_same false true e = absurd (cc)
-beq_same false false e = refl
-
-pub same_beq : (a b : Bool) → a ≡ b → beq a b ≡ true
-same_beq true b e = sym (ap (λ c. beq true c) e) ∙ refl
-same_beq false b e = sym (ap (λ c. beq false c) e) ∙ refl
-
-pub both : (a b : Bool) → a ≡ true → b ≡ true → (a && b) ≡ true
-both true b e f = f
-both false b e f = e
-
--- a name between another and one within it is within it too
-pub name_between : (n e k : LockName) → is_within n k ≡ true → is_le (lock_name_cmp n e) ≡ true → is_le (lock_name_cmp e k) ≡ true → is_within n e ≡ true
-name_between n e k is from to =
-    let inside = both_true (beq n.global k.global) (is_node_within n.node k.node) is in
-    let kind : n.global ≡ k.global = beq_same n.global k.global inside.0 in
-    let behind : is_le (ordering_then (bool_cmp e.global n.global) (node_cmp significant_digits e.node k.node)) ≡ true
-    = (λ i. is_le (ordering_then (bool_cmp e.global (kind i)) (node_cmp significant_digits e.node k.node))) ∙ to in
-    let first = squeeze bool_cmp_total bool_cmp_exact n.global e.global (node_cmp significant_digits n.node e.node) (node_cmp significant_digits e.node k.node) from behind in
-    both (beq n.global e.global) (is_node_within n.node e.node) (same_beq n.global e.global first.0)
-    (of_within n.node e.node (node_between n.node e.node k.node (within_of n.node k.node inside.1) first.1 first.2))
-
--- a name stands before those within it
-pub name_before : (n k : LockName) → is_within n k ≡ true → is_le (lock_name_cmp n k) ≡ true
-name_before n k is =
-    let inside = both_true (beq n.global k.global) (is_node_within n.node k.node) is in
-    let kind : n.global ≡ k.global = beq_same n.global k.global inside.0 in
-    let p = parts n.node k.node (within_of n.node k.node inside.1) in
-    (λ i. is_le (ordering_then (bool_cmp n.global (sym kind i)) (ordering_then (slice_cmp nat_cmp n.node.account (sym p.account i)) (ordering_then (slice_cmp nat_cmp n.node.name (sym p.name i)) (R n.node.subscripts (p.subscripts i))))))
-    ∙ ap (λ o. is_le (ordering_then o (ordering_then (slice_cmp nat_cmp n.node.account n.node.account) (ordering_then (slice_cmp nat_cmp n.node.name n.node.name) (R n.node.subscripts (n.node.subscripts ++ p.more)))))) (order_itself bool_cmp_total n.global)
-    ∙ ap (λ o. is_le (ordering_then o (ordering_then (slice_cmp nat_cmp n.node.name n.node.name) (R n.node.subscripts (n.node.subscripts ++ p.more))))) (order_itself nat_list_cmp_total n.node.account)
-    ∙ ap (λ o. is_le (ordering_then o (R n.node.subscripts (n.node.subscripts ++ p.more)))) (order_itself nat_list_cmp_total n.node.name)
-    ∙ begin_before (text_cmp_total significant_digits) (text_cmp_exact significant_digits) n.node.subscripts p.more
-
--- ---- below a name
-
-module _ (n : LockName) (t : ℕ) where
-  abbrev pub below_other : Entry → Bool
-  below_other e = not (nat_eq t e.1.terminal) && is_within n e.0
-
-  none_behind : (e : Entry) (es : List Entry) → is_le (lock_name_cmp n e.0) ≡ true → is_within n e.0 ≡ false → All (λ k. lock_name_cmp e.0 k ≡ Less) (keys_of es) → list_any below_other es ≡ false
-  none_behind e [] from out all = refl
-  none_behind e (d ∷ es) from out all =
-      let less : lock_name_cmp e.0 d.0 ≡ Less = All-head (λ k. lock_name_cmp e.0 k ≡ Less) d.0 (keys_of es) all in
-      ap (λ b. b || list_any below_other es) (by_test (nat_eq t d.1.terminal) (is_within n d.0) refl (ap is_le less))
-      ∙ none_behind e es from out (All-tail (λ k. lock_name_cmp e.0 k ≡ Less) d.0 (keys_of es) all)
+  -- where none of these is another's, none conflicts
+  pub by_none : IsUnique name_eq m → list_any (under_other n t) m.entries ≡ false → is_other t (index.get name_eq m n) ≡ false
+      → ((i : ℕ) → i < length n.node.subscripts → is_other t (index.get name_eq m (name_above i n)) ≡ false) → has_conflict (locks_of m) (held t n) ≡ false
+  by_none unique below itself above = conflict_is m (held t n) ∙ false_from (list_any conflicts_with m.entries) refuted
     where
-      by_test : (a b : Bool) → is_within n d.0 ≡ b → is_le (lock_name_cmp e.0 d.0) ≡ true → (not a && b) ≡ false
-      by_test true b is to = refl
-      by_test false false is to = refl
-      by_test false true is to = let no : false ≡ true = sym out ∙ name_between n e.0 d.0 is from to in absurd (cc)
+      held_there : (i : ℕ) (e : Entry) → slice_get m.entries i ≡ Some e → not (nat_eq t e.1.terminal) ≡ true → is_other t (index.get name_eq m e.0) ≡ true
+      held_there i e at other = ap (is_other t) (lookup_from_place (eq_by_cmp_equiv lock_name_cmp_total) m.entries i e.0 e.1 unique at) ∙ other
 
-  -- the first that ends the own ones below a name tells whether another is there
-  pub below_is : (es : List Entry) → IsStrictlySortedBy lock_name_cmp (keys_of es) → is_below n (find (is_end t n) (entries_between lock_name_cmp (Included n) Unbounded es)) ≡ list_any below_other es
-  below_is [] sorted = refl
-  below_is (e ∷ es) sorted = by_start (is_le (lock_name_cmp n e.0)) refl (below_is es (sorted_tail lock_name_cmp e.0 (keys_of es) sorted))
-    where
-      in_range : (a w : Bool) → is_within n e.0 ≡ w → is_le (lock_name_cmp n e.0) ≡ true
-          → is_below n (find (is_end t n) (entries_between lock_name_cmp (Included n) Unbounded es)) ≡ list_any below_other es
-          → is_below n (cond (not a || not w) (Some e) (find (is_end t n) (entries_between lock_name_cmp (Included n) Unbounded es))) ≡ ((not a && w) || list_any below_other es)
-      in_range true true is from rest = rest
-      in_range true false is from rest = is ∙ sym (none_behind e es from is (All-after_first lock_name_cmp e.0 (keys_of es) sorted))
-      in_range false true is from rest = is
-      in_range false false is from rest = is ∙ sym (none_behind e es from is (All-after_first lock_name_cmp e.0 (keys_of es) sorted))
+      refuted_above : (i : ℕ) (e : Entry) → slice_get m.entries i ≡ Some e → not (nat_eq t e.1.terminal) ≡ true → is_within e.0 n ≡ true → ⊥
+      refuted_above i e at other is = by_side (above_or_same e.0 n is)
+        where
+          by_side : (is_within n e.0 ≡ true) ⊎ ((j : ℕ) × (j < length n.node.subscripts) × (name_above j n ≡ e.0)) → ⊥
+          by_side (inl back) = unlike (is_other t (index.get name_eq m n)) (ap (λ k. is_other t (index.get name_eq m k)) (both_within n e.0 back is) ∙ held_there i e at other) itself
+          by_side (inr found) =
+              unlike (is_other t (index.get name_eq m (name_above found.0 n))) (ap (λ k. is_other t (index.get name_eq m k)) found.2 ∙ held_there i e at other) (above found.0 found.1)
 
-      before : (a w : Bool) → is_within n e.0 ≡ w → is_le (lock_name_cmp n e.0) ≡ false
-          → is_below n (find (is_end t n) (entries_between lock_name_cmp (Included n) Unbounded es)) ≡ list_any below_other es
-          → is_below n (find (is_end t n) (entries_between lock_name_cmp (Included n) Unbounded es)) ≡ ((not a && w) || list_any below_other es)
-      before true w is out rest = rest
-      before false false is out rest = rest
-      before false true is out rest = let no : false ≡ true = sym out ∙ name_before n e.0 is in absurd (cc)
+      by_within : (i : ℕ) (e : Entry) → slice_get m.entries i ≡ Some e → not (nat_eq t e.1.terminal) ≡ true → (b : Bool) → is_within e.0 n ≡ b → is_within n e.0 ≡ true → ⊥
+      by_within i e at other true back is = refuted_above i e at other back
+      by_within i e at other false back is =
+          unlike (list_any (under_other n t) m.entries)
+          (any_at (under_other n t) m.entries i e at (both (is_under n e.0) (not (nat_eq t e.1.terminal)) (both (is_within n e.0) (not (is_within e.0 n)) is (ap not back)) other)) below
 
-      by_start : (g : Bool) → is_le (lock_name_cmp n e.0) ≡ g
-          → is_below n (find (is_end t n) (entries_between lock_name_cmp (Included n) Unbounded es)) ≡ list_any below_other es
-          → is_below n (find (is_end t n) (cond (g && true) (e ∷ entries_between lock_name_cmp (Included n) Unbounded es) (entries_between lock_name_cmp (Included n) Unbounded es))) ≡ list_any below_other (e ∷ es)
-      by_start true from rest = in_range (nat_eq t e.1.terminal) (is_within n e.0) refl from rest
-      by_start false out rest = before (nat_eq t e.1.terminal) (is_within n e.0) refl out rest
+      refuted : list_any conflicts_with m.entries ≡ true → ⊥
+      refuted e =
+          let f = at_any conflicts_with m.entries e in
+          let is = both_true (not (nat_eq t f.1.1.terminal)) (is_within n f.1.0 || is_within f.1.0 n) f.3 in
+          by_side f.0 f.1 f.2 is.0 (either (is_within n f.1.0) (is_within f.1.0 n) is.1)
+        where
+          by_side : (i : ℕ) (d : Entry) → slice_get m.entries i ≡ Some d → not (nat_eq t d.1.terminal) ≡ true → (is_within n d.0 ≡ true) ⊎ (is_within d.0 n ≡ true) → ⊥
+          by_side i d at other (inl is) = by_within i d at other (is_within d.0 n) refl is
+          by_side i d at other (inr is) = refuted_above i d at other is

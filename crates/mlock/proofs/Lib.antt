@@ -1,6 +1,10 @@
 -- SPDX-License-Identifier: Apache-2.0
 pub mod Names
+pub mod Under
+pub mod Above
+pub mod Sums
+pub mod Levels
 pub mod Views
 pub mod Steps
 pub mod Conflicts
-pub mod Above
+pub mod Moves

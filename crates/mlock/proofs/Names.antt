@@ -1,21 +1,14 @@
 -- SPDX-License-Identifier: Apache-2.0
--- Names within other names, by the bytes of their keys.
-use Rattle.std.proofs.Common.{◌≡◌, ℕ, Bool, true, false, ◌&&◌, nat_eq, List, [], ◌∷◌, length, drop, inl, inr, refl, sym, subst, append-nil}
+-- Names within other names.
+use Rattle.std.proofs.Common.{◌≡◌, Bool, true, false, ◌&&◌, List, [], ◌∷◌, ◌++◌, length, drop, inl, inr, refl, sym, ap, ◌∙◌, subst, append-nil}
 use Rattle.std.specs.Cmp.Lexicographic.{bytes_decides}
-use Rattle.std.specs.List.{starts_with}
-use Rattle.std.proofs.lemmas.Bool.Decides.{Decides-eqb}
 use Rattle.std.proofs.lemmas.Slice.Eq.{starts_is}
+use mathlib.Core.Bool.{beq}
 use Rattle.mspec.specs.Globals.{is_node_within}
-use Rattle.mspec.specs.KeyBytes.{key_bytes, IsStored}
 use Rattle.mspec.specs.KeyLaws.{IsWithin}
-use Rattle.mspec.specs.Node.{Node}
-use Rattle.mspec.specs.Number.{significant_digits}
+use Rattle.mspec.specs.Node.{Text, Node}
 use Rattle.mspec.specs.Trees.{text_eq, is_within}
-use Rattle.mspec.proofs.KeyRanges.{keys_of_subtrees_begin_alike, within}
-use Rattle.mkey.specs.Key.{none_empty}
-
-abbrev key : Node → List ℕ
-key = key_bytes significant_digits
+use Rattle.mspec.proofs.KeyRanges.{within}
 
 pub both_true : (a b : Bool) → (a && b) ≡ true → (a ≡ true) × (b ≡ true)
 both_true true true e = (refl, refl)
@@ -50,11 +43,27 @@ of_within n m (inr above) =
     all_true (text_eq n.account m.account) (text_eq n.name m.name) (is_within n.subscripts m.subscripts) ((bytes_decides n.account m.account).1 above.account) ((bytes_decides n.name m.name).1 above.name)
     ((starts_is bytes_decides m.subscripts n.subscripts (is_within n.subscripts m.subscripts) refl).1 (above.longer.0 ∷ above.longer.1) above.longer.2)
 
--- a key begins with another exactly where its node is within the other
-pub within_bytes : (n m : Node) → IsStored n → IsStored m → (r : Bool) → r ≡ starts_with nat_eq (key m) (key n) → r ≡ is_node_within n m
-within_bytes n m stored_n stored_m r e =
-    let of_bytes = starts_is Decides-eqb (key m) (key n) r e in
-    let alike = keys_of_subtrees_begin_alike significant_digits n m (none_empty n stored_n) (none_empty m stored_m) in
-    same_truth r (is_node_within n m)
-    (λ t. of_within n m (alike.0 (drop (length (key n)) (key m), of_bytes.0 t)))
-    (λ t. let begins = alike.1 (within_of n m t) in of_bytes.1 begins.0 begins.1)
+-- the parts of a node within another
+pub record Parts (n m : Node) : Type 0 where
+  pub account : n.account ≡ m.account
+  pub name : n.name ≡ m.name
+  pub more : List Text
+  pub subscripts : m.subscripts ≡ n.subscripts ++ more
+
+pub parts : (n m : Node) → IsWithin n m → Parts n m
+parts n m (inl same) = record { account = ap (λ k. k.account) same; name = ap (λ k. k.name) same; more = []; subscripts = ap (λ k. k.subscripts) (sym same) ∙ sym (append-nil n.subscripts) }
+parts n m (inr above) = record { account = above.account; name = above.name; more = above.longer.0 ∷ above.longer.1; subscripts = above.longer.2 }
+
+pub beq_same : (a b : Bool) → beq a b ≡ true → a ≡ b
+beq_same true true e = refl
+beq_same true false e = absurd (cc)
+beq_same false true e = absurd (cc)
+beq_same false false e = refl
+
+pub same_beq : (a b : Bool) → a ≡ b → beq a b ≡ true
+same_beq true b e = sym (ap (λ c. beq true c) e) ∙ refl
+same_beq false b e = sym (ap (λ c. beq false c) e) ∙ refl
+
+pub both : (a b : Bool) → a ≡ true → b ≡ true → (a && b) ≡ true
+both true b e f = f
+both false b e f = e

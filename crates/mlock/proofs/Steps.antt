@@ -1,22 +1,21 @@
 -- SPDX-License-Identifier: Apache-2.0
 -- What each way through a call does to the locks.
 use Rattle.std.proofs.Common.{◌≡◌, ◌+◌, ◌-◌, ◌<◌, ◌≤◌, ℕ, zero, suc, Bool, true, false, cond, List, ◌∷◌, Option, Some, None, All, ◌⊎◌, inl, inr, refl, sym, ap, ◌∙◌, subst, arith}
-use Rattle.std.specs.Prelude.{slice_index_or, unwrap_or, nat_lt, IsSome}
-use Rattle.std.specs.BTreeMap as tree
-use Rattle.std.specs.BTreeMap.{BTreeMap, IsOrdered, WritesThrough}
+use Rattle.std.specs.Prelude.{slice_index_or, unwrap_or, nat_lt}
 use Rattle.std.specs.FinMap.{get, insert, remove, get-insert, get-remove, same_map}
-use Rattle.std.specs.Map.{set_value}
-use Rattle.std.specs.Ordering.{is_eq, eq_by_cmp}
+use Rattle.std.specs.Ordering.{eq_by_cmp}
 use Rattle.std.specs.Cmp.{Equal-is, eq_by_cmp_equiv}
 use Rattle.std.proofs.lemmas.Bool.{cases_eq}
 use Rattle.std.proofs.lemmas.Bool.Decides.{nat_tests}
 use Rattle.std.proofs.lemmas.List.Elements.{All-head, All-tail}
-use Rattle.std.proofs.lemmas.Map.Steps.{set_value_same}
-use Rattle.mspec.specs.LockConflict.{LockName, Held, held, Locks, lock_name_cmp, held_cmp, count, most_counts, one_more, given_back}
+use Rattle.indexmap.specs.IndexMap as index
+use Rattle.indexmap.specs.IndexMap.{IndexMap, IsUnique}
+use Rattle.mspec.specs.LockConflict.{LockName, Held, held, Locks, held_cmp, count, most_counts, one_more, given_back}
 use Rattle.mspec.proofs.LockOrders.{held_cmp_total, held_cmp_exact}
 use Rattle.mlock.specs.declared.locks.Holding.{Holding}
-use Rattle.mlock.specs.Holdings.{locks_in, locks_of, own_count, IsFree, AreCounts}
-use Rattle.mlock.proofs.Views.{got, IsOwn, own_is, other_is, inserted, removed, counts_insert, counts_remove, count_few}
+use Rattle.mlock.specs.Holdings.{locks_of, own_count, IsFree, AreCounts}
+use Rattle.mlock.specs.Tallies.{name_eq}
+use Rattle.mlock.proofs.Views.{got, own_is, other_is, counts_insert, counts_remove, count_few}
 
 -- ---- of the locks alone
 
@@ -119,85 +118,39 @@ free_first l t n names rest e all = All-head (IsFree l t) n rest (subst (All (Is
 
 -- ---- by the holdings
 
-module _ (m : BTreeMap LockName Holding) (ordered : IsOrdered lock_name_cmp m) (name : LockName) (t : ℕ) where
-  pub get_own : (h : Holding) → Some h ≡ tree.get lock_name_cmp m name → h.terminal ≡ t → get (locks_of m) (held t name) ≡ Some h.count
-  get_own h e is = got m ordered (held t name) ∙ ap (own_count t) (sym e) ∙ own_is h t is
+module _ {S : Type 0} (m : IndexMap LockName Holding S) (unique : IsUnique name_eq m) (name : LockName) (t : ℕ) where
+  pub get_own : (h : Holding) → Some h ≡ index.get name_eq m name → h.terminal ≡ t → get (locks_of m) (held t name) ≡ Some h.count
+  get_own h e is = got m unique (held t name) ∙ ap (own_count t) (sym e) ∙ own_is h t is
 
-  pub get_other : (h : Holding) → Some h ≡ tree.get lock_name_cmp m name → (h.terminal ≡ t → ⊥) → get (locks_of m) (held t name) ≡ None
-  get_other h e is = got m ordered (held t name) ∙ ap (own_count t) (sym e) ∙ other_is h t is
+  pub get_other : (h : Holding) → Some h ≡ index.get name_eq m name → (h.terminal ≡ t → ⊥) → get (locks_of m) (held t name) ≡ None
+  get_other h e is = got m unique (held t name) ∙ ap (own_count t) (sym e) ∙ other_is h t is
 
-  pub get_none : None ≡ tree.get lock_name_cmp m name → get (locks_of m) (held t name) ≡ None
-  get_none e = got m ordered (held t name) ∙ ap (own_count t) (sym e)
-
-  own_there : (h : Holding) → Some h ≡ tree.get lock_name_cmp m name → h.terminal ≡ t → IsOwn t (tree.get lock_name_cmp m name)
-  own_there h e is = subst (IsOwn t) e is
-
-  pub kept : (n : BTreeMap LockName Holding) (h : Holding) → n.entries ≡ set_value (λ k. is_eq (lock_name_cmp name k)) m.entries h → Some h ≡ tree.get lock_name_cmp m name → locks_of n ≡ locks_of m
-  kept n h e found = ap locks_in (e ∙ set_value_same (λ k. is_eq (lock_name_cmp name k)) m.entries h (sym found))
-
-  pub give_more : (n : BTreeMap LockName Holding) (h w : Holding) → Some h ≡ tree.get lock_name_cmp m name → h.terminal ≡ t → w.terminal ≡ t → w.count ≡ h.count - 1 → 1 < h.count
-      → IsOrdered lock_name_cmp n → tree.Updates lock_name_cmp m n name (Some w) → locks_of n ≡ given_back (locks_of m) t name
-  give_more n h w e is own one more ordered' u =
-      inserted m n name t (Some w) ordered ordered' (own_there h e is) own u w refl
-      ∙ ap (insert (locks_of m) (held t name)) one
-      ∙ sym (given_by (locks_of m) t name (Some h.count) (get_own h e is)
-      ∙ ap (λ b. cond b (insert (locks_of m) (held t name) (h.count - 1)) (remove (locks_of m) (held t name))) (more_than_one h.count more))
-
-  pub give_last : (n : BTreeMap LockName Holding) (h : Holding) → Some h ≡ tree.get lock_name_cmp m name → h.terminal ≡ t → h.count ≤ 1
-      → IsOrdered lock_name_cmp n → tree.Updates lock_name_cmp m n name None → locks_of n ≡ given_back (locks_of m) t name
-  give_last n h e is last ordered' u =
-      removed m n name t None ordered ordered' (own_there h e is) tt u refl
-      ∙ sym (given_by (locks_of m) t name (Some h.count) (get_own h e is)
-      ∙ ap (λ b. cond b (insert (locks_of m) (held t name) (h.count - 1)) (remove (locks_of m) (held t name))) (at_most_one h.count last))
+  pub get_none : None ≡ index.get name_eq m name → get (locks_of m) (held t name) ≡ None
+  get_none e = got m unique (held t name) ∙ ap (own_count t) (sym e)
 
   -- a name that no other terminal holds is this terminal's
-  pub own_of_free : IsFree (locks_of m) t name → (h : Holding) → Some h ≡ tree.get lock_name_cmp m name → h.terminal ≡ t
+  pub own_of_free : IsFree (locks_of m) t name → (h : Holding) → Some h ≡ index.get name_eq m name → h.terminal ≡ t
   own_of_free free h e = by_test (cases_eq h.terminal t)
     where
       by_test : (h.terminal ≡ t) ⊎ (h.terminal ≡ t → ⊥) → h.terminal ≡ t
       by_test (inl same) = same
       by_test (inr other) =
-          let there : get (locks_of m) (held h.terminal name) ≡ Some h.count = got m ordered (held h.terminal name) ∙ ap (own_count h.terminal) (sym e) ∙ own_is h h.terminal refl in
+          let there : get (locks_of m) (held h.terminal name) ≡ Some h.count = got m unique (held h.terminal name) ∙ ap (own_count h.terminal) (sym e) ∙ own_is h h.terminal refl in
           let none : None ≡ Some h.count = sym (free h.terminal other) ∙ there in
           absurd (cc)
 
-  pub count_own : (h : Holding) → Some h ≡ tree.get lock_name_cmp m name → h.terminal ≡ t → count (locks_of m) (held t name) ≡ h.count
+  pub count_own : (h : Holding) → Some h ≡ index.get name_eq m name → h.terminal ≡ t → count (locks_of m) (held t name) ≡ h.count
   count_own h e is = ap (λ o. unwrap_or o 0) (get_own h e is)
 
-  pub count_none : None ≡ tree.get lock_name_cmp m name → count (locks_of m) (held t name) ≡ 0
+  pub count_none : None ≡ index.get name_eq m name → count (locks_of m) (held t name) ≡ 0
   count_none e = ap (λ o. unwrap_or o 0) (get_none e)
 
-  pub more_own : (n : BTreeMap LockName Holding) (h w : Holding) → Some h ≡ tree.get lock_name_cmp m name → h.terminal ≡ t → w.terminal ≡ t → w.count ≡ h.count + 1
-      → IsOrdered lock_name_cmp n → tree.Updates lock_name_cmp m n name (Some w) → locks_of n ≡ one_more (locks_of m) (held t name)
-  more_own n h w e is own one ordered' u =
-      inserted m n name t (Some w) ordered ordered' (own_there h e is) own u w refl
-      ∙ ap (insert (locks_of m) (held t name)) (one ∙ ap (λ c. c + 1) (sym (count_own h e is)))
+  pub less_own : (h : Holding) → Some h ≡ index.get name_eq m name → h.terminal ≡ t → 1 < h.count → insert (locks_of m) (held t name) (h.count - 1) ≡ given_back (locks_of m) t name
+  less_own h e is more =
+      sym (given_by (locks_of m) t name (Some h.count) (get_own h e is)
+      ∙ ap (λ b. cond b (insert (locks_of m) (held t name) (h.count - 1)) (remove (locks_of m) (held t name))) (more_than_one h.count more))
 
-  pub more_new : (n : BTreeMap LockName Holding) (w : Holding) → None ≡ tree.get lock_name_cmp m name → w.terminal ≡ t → w.count ≡ 1
-      → IsOrdered lock_name_cmp n → tree.Updates lock_name_cmp m n name (Some w) → locks_of n ≡ one_more (locks_of m) (held t name)
-  more_new n w e own one ordered' u =
-      inserted m n name t (Some w) ordered ordered' (subst (IsOwn t) e tt) own u w refl
-      ∙ ap (insert (locks_of m) (held t name)) (one ∙ ap (λ o. unwrap_or o 0 + 1) (sym (get_none e)))
-
--- ---- through what `get_mut` lends
-
-module _ (m : BTreeMap LockName Holding) (ordered : IsOrdered lock_name_cmp m) (name : LockName) (t : ℕ) (h : Holding) (found : Some h ≡ tree.get lock_name_cmp m name)
-    (lender : Holding → BTreeMap LockName Holding) (holds : (w : Holding) → WritesThrough lock_name_cmp (lock_name_cmp name) m w (lender w)) where
-  updates : (w : Holding) → tree.Updates lock_name_cmp m (lender w) name (Some w)
-  updates w = (holds w).3 (subst IsSome found refl)
-
-  pub left : locks_of (lender h) ≡ locks_of m
-  left = kept m ordered name t (lender h) h (holds h).0 found
-
-  pub lessened : h.terminal ≡ t → 1 < h.count → locks_of (lender (record { terminal = h.terminal; count = h.count - 1 })) ≡ given_back (locks_of m) t name
-  lessened is more =
-      let w : Holding = record { terminal = h.terminal; count = h.count - 1 } in
-      give_more m ordered name t (lender w) h w found is is refl more (holds w).4 (updates w)
-
-  pub gone : (n : BTreeMap LockName Holding) → h.terminal ≡ t → h.count ≤ 1 → IsOrdered lock_name_cmp n → tree.Updates lock_name_cmp (lender h) n name None → locks_of n ≡ given_back (locks_of m) t name
-  gone n is last ordered' u = give_last (lender h) (holds h).4 name t n h (sym (updates h).1) is last ordered' u ∙ ap (λ l. given_back l t name) left
-
-  pub raised : h.terminal ≡ t → locks_of (lender (record { terminal = h.terminal; count = h.count + 1 })) ≡ one_more (locks_of m) (held t name)
-  raised is =
-      let w : Holding = record { terminal = h.terminal; count = h.count + 1 } in
-      more_own m ordered name t (lender w) h w found is is refl (holds w).4 (updates w)
+  pub last_own : (h : Holding) → Some h ≡ index.get name_eq m name → h.terminal ≡ t → h.count ≤ 1 → remove (locks_of m) (held t name) ≡ given_back (locks_of m) t name
+  last_own h e is last =
+      sym (given_by (locks_of m) t name (Some h.count) (get_own h e is)
+      ∙ ap (λ b. cond b (insert (locks_of m) (held t name) (h.count - 1)) (remove (locks_of m) (held t name))) (at_most_one h.count last))

@@ -1,7 +1,7 @@
 -- SPDX-License-Identifier: Apache-2.0
--- The names above a name and below it, and who holds them.
-use Rattle.std.specs.Prelude.{◌≡◌, ℕ, Bool, false, not, ◌||◌, nat_eq, take, Option, Some, None}
-use Rattle.mspec.specs.LockConflict.{LockName, is_within}
+-- The names above a name, and who holds them.
+use Rattle.std.specs.Prelude.{◌≡◌, ℕ, Bool, false, not, nat_eq, take, Option, Some, None}
+use Rattle.mspec.specs.LockConflict.{LockName}
 use Rattle.mkey.specs.Parent.{IsParent}
 use Rattle.mlock.specs.declared.locks.Holding.{Holding}
 
@@ -18,12 +18,3 @@ pub record IsAbove (above below : LockName) : Type 0 where
 abbrev pub is_other : ℕ → Option Holding → Bool
 is_other t None = false
 is_other t (Some h) = not (nat_eq t h.terminal)
-
--- another terminal holds it, or it is not below the name
-abbrev pub is_end : ℕ → LockName → LockName × Holding → Bool
-is_end t n e = not (nat_eq t e.1.terminal) || not (is_within n e.0)
-
--- there is one, and it is below the name
-abbrev pub is_below : LockName → Option (LockName × Holding) → Bool
-is_below n None = false
-is_below n (Some e) = is_within n e.0

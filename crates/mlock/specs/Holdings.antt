@@ -1,8 +1,8 @@
 -- SPDX-License-Identifier: Apache-2.0
 -- The locks that a map by names holds: each name has one holder.
 use Rattle.std.specs.Prelude.{◌≡◌, ◌<◌, ◌≤◌, ℕ, List, map, Option, Some, None, nat_eq, if◌then◌else◌}
-use Rattle.std.specs.BTreeMap.{BTreeMap}
 use Rattle.std.specs.FinMap.{from_entries, get}
+use Rattle.indexmap.specs.IndexMap.{IndexMap}
 use base.Stored.{Coded, coded_ℕ, coded_bool, coded_list, coded×, coded_via}
 use Rattle.mspec.specs.LockConflict.{LockName, Held, held, Locks, most_counts}
 use Rattle.mlock.specs.declared.locks.Holding.{Holding}
@@ -20,7 +20,7 @@ lock_of e = (held e.1.terminal e.0, e.1.count)
 abbrev pub locks_in : List (LockName × Holding) → Locks
 locks_in es = from_entries (map lock_of es)
 
-abbrev pub locks_of : BTreeMap LockName Holding → Locks
+abbrev pub locks_of : {S : Type 0} → IndexMap LockName Holding S → Locks
 locks_of m = locks_in m.entries
 
 -- what a terminal has of a name, by its holder

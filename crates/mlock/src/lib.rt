@@ -4,9 +4,12 @@
 //! What taking and giving back does is `LockConflict` of `mspec`; contracts see `Locks` as its locks.
 #![tactic(auto)]
 
+mod below;
 mod conflict;
+mod holdings;
 mod locks;
 mod name;
+mod tally;
 
 pub use locks::Locks;
 pub use name::LockName;

@@ -6,16 +6,18 @@ ghost use Rattle.mlock.specs.Holdings.{AreCounts, IsFree};
 ghost use Rattle.mspec.specs.LockConflict.{held as lock, count, most_counts, one_more, has_conflict, taken, counted, given_back, released};
 
 use crate::conflict::conflicts;
+use crate::holdings::{find, hold, let_go, release, set_count};
 use crate::name::LockName;
+use crate::tally::Tally;
+use indexmap::IndexMap;
 use std::alloc::{AllocError, Global};
-use std::collections::BTreeMap;
 use std::marker::Model;
 
 // The most counts of a name.
 const MOST_COUNTS: u32 = 1_000_000;
 
 // Who holds a name, and how often.
-#[derive(Drop)]
+#[derive(Clone, Copy)]
 pub(crate) struct Holding {
     pub terminal: u32,
     pub count: u32,
@@ -25,15 +27,17 @@ pub(crate) struct Holding {
 #[derive(Drop)]
 pub struct Locks {
     // a name has one holder, since it conflicts with itself
-    holdings: BTreeMap<LockName, Holding>,
+    holdings: IndexMap<LockName, Holding>,
+    // each name above one that is held, with what is held below it
+    below: IndexMap<LockName, Tally>,
 }
 
 impl Model for Locks {
     ghost use Rattle.std.specs.Coded.{coded_ℕ};
     ghost use Rattle.std.specs.FinMap.{code};
-    ghost use Rattle.std.specs.BTreeMap.{IsOrdered};
-    ghost use Rattle.mspec.specs.LockConflict.{Locks as HeldLocks, lock_name_cmp};
+    ghost use Rattle.mspec.specs.LockConflict.{Locks as HeldLocks};
     ghost use Rattle.mlock.specs.Holdings.{locks_of, coded_held, AreCounts};
+    ghost use Rattle.mlock.specs.Tallies.{Kept};
 
     ghost Value = { HeldLocks };
 
@@ -41,7 +45,7 @@ impl Model for Locks {
 
     ghost view = { λ locks. locks_of locks.holdings };
 
-    ghost invariant = { λ locks. IsOrdered lock_name_cmp locks.holdings × AreCounts (locks_of locks.holdings) };
+    ghost invariant = { λ locks. Kept locks.holdings locks.below × AreCounts (locks_of locks.holdings) };
 }
 
 impl Locks {
@@ -50,7 +54,8 @@ impl Locks {
         ensures { result ≡ empty }
     {
         Locks {
-            holdings: BTreeMap::new(alloc),
+            holdings: IndexMap::new(alloc),
+            below: IndexMap::new(alloc),
         }
     }
 
@@ -94,7 +99,7 @@ impl Locks {
     fn has_conflict(&self, terminal: u32, name: &LockName) -> Result<bool, AllocError>
         ensures { IfOk result (λ conflict. conflict ≡ has_conflict self.now (lock terminal name.now)) }
     {
-        conflicts(&self.holdings, terminal, name)
+        conflicts(&self.holdings, &self.below, terminal, name)
     }
 
     // One count more of each name, of which no other terminal holds one; false where a count would pass the most.
@@ -131,18 +136,15 @@ impl Locks {
         ensures err { OnErr result (self.new ≡ self.old) }
         ensures counts { AreCounts self.old }
     {
-        match self.holdings.get_mut(name) {
-            Some(holding) => {
-                if holding.count >= MOST_COUNTS {
-                    return Ok(false);
-                }
-                holding.count += 1;
-            }
-            None => {
-                let name = name.copy()?;
-                self.holdings.insert(name, Holding { terminal, count: 1 })?;
-            }
+        let Some((index, holding)) = find(&self.holdings, name) else {
+            hold(&mut self.holdings, &mut self.below, terminal, name)?;
+            return Ok(true);
+        };
+        if holding.count >= MOST_COUNTS {
+            return Ok(false);
         }
+        let count = holding.count + 1;
+        set_count(&mut self.holdings, index, Holding { terminal, count });
         Ok(true)
     }
 
@@ -150,16 +152,17 @@ impl Locks {
     pub fn give_back(&mut self, terminal: u32, name: &LockName)
         ensures { self.new ≡ given_back self.old terminal name.now }
     {
-        let Some(holding) = self.holdings.get_mut(name) else {
+        let Some((index, holding)) = find(&self.holdings, name) else {
             return;
         };
         if holding.terminal != terminal {
             return;
         }
         if holding.count > 1 {
-            holding.count -= 1;
+            let count = holding.count - 1;
+            set_count(&mut self.holdings, index, Holding { terminal, count });
         } else {
-            let _ = self.holdings.remove(name);
+            let_go(&mut self.holdings, &mut self.below, index);
         }
     }
 
@@ -167,10 +170,6 @@ impl Locks {
     pub fn release_all(&mut self, terminal: u32)
         ensures { self.new ≡ released self.old terminal }
     {
-        self.holdings.retain(
-            |_name: &LockName, holding: &mut Holding| -> bool
-                ensures { (result ≡ not (nat_eq holding.old.terminal terminal)) × (holding.new ≡ holding.old) }
-            { holding.terminal != terminal },
-        );
+        release(&mut self.holdings, &mut self.below, terminal);
     }
 }

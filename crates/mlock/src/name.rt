@@ -1,16 +1,20 @@
 // SPDX-License-Identifier: Apache-2.0
 // Names of locks.
-ghost use Rattle.std.specs.Prelude.{◌≡◌, [], IfOk, Some, MatchOption, refl};
+ghost use Rattle.std.specs.Prelude.{◌≡◌, [], ◌∷◌, IfOk, Some, MatchOption, refl};
+ghost use Rattle.std.specs.Hash as fed;
 ghost use Rattle.std.specs.Cmp.{partial_equiv_from_equiv, partial_order_from_total, eq_by_cmp_equiv};
 ghost use Rattle.std.specs.Ordering.{eq_by_cmp};
 ghost use Rattle.mlock.specs.Above.{IsAbove};
-ghost use Rattle.mspec.specs.KeyBytes.{IsStored};
-ghost use Rattle.mspec.specs.LockConflict.{lock_name_cmp, is_within};
+ghost use Rattle.mspec.specs.KeyBytes.{key_bytes, IsStored};
+ghost use Rattle.mspec.specs.LockConflict.{lock_name_cmp};
+ghost use Rattle.mspec.specs.Number.{significant_digits};
 ghost use Rattle.mspec.proofs.LockOrders.{lock_name_cmp_total};
+ghost use Rattle.mlock.specs.Hashes.{alike};
 
 use mkey::NodeKey;
 use std::alloc::AllocError;
 use std::cmp::Ordering;
+use std::hash::{Hash, Hasher};
 use std::marker::Model;
 
 /// The name of a lock: a node's account, name and subscripts, with or without `^`. Contracts see it as the name of the
@@ -54,13 +58,6 @@ impl LockName {
             global: self.global,
         })
     }
-
-    // Whether it is another name, or stands below it.
-    pub(crate) fn is_within(&self, above: &LockName) -> bool
-        ensures { result ≡ is_within above.now self.now }
-    {
-        above.global == self.global && self.key.as_bytes().starts_with(above.key.as_bytes())
-    }
 }
 
 // Names stand without `^` before those with it, and then in the order of their nodes.
@@ -102,5 +99,17 @@ impl Ord for LockName {
         self.global
             .cmp(&other.global)
             .then(self.key.cmp(&other.key))
+    }
+}
+
+// A name is hashed by the bytes of its key.
+impl Hash for LockName {
+    ghost hash_input = { λ name. key_bytes significant_digits name.node ∷ fed.bool name.global };
+
+    ghost respects_eq = { alike };
+
+    fn hash<H: Hasher>(&self, state: &mut H) {
+        state.write(self.key.as_bytes());
+        self.global.hash(state);
     }
 }

@@ -1,8 +1,8 @@
 -- SPDX-License-Identifier: Apache-2.0
 use Rattle.std.proofs.Common.{◌≡◌, ◌+◌, ◌<◌, ◌≤◌, ◌⊎◌, inl, inr, ℕ, false, length, ap, sym, ◌∙◌, subst, arith}
-use Rattle.std.specs.BTreeMap.{get}
+use Rattle.indexmap.specs.IndexMap.{get}
 use Rattle.std.proofs.lemmas.Bool.{cases_eq}
-use Rattle.mspec.specs.LockConflict.{lock_name_cmp}
+use Rattle.mlock.specs.Tallies.{name_eq}
 use Rattle.mlock.specs.Above.{name_above, is_other}
 use Rattle.mlock.proofs.Above.{above_next}
 use Rattle.mlock.proofs.conflict.is_held_above.Goals as goal
@@ -18,14 +18,14 @@ next P low high end one all here i from below = by_test (cases_eq low i)
 pub returns-then-is_others-clause-yes : goal.returns-then-is_others-clause-yes
 returns-then-is_others-clause-yes c told =
     let above = above_next c.args.name.now c.loop-above.below c.in-Some.above c.loop-above.invariant.begins c.in-Some.ensures in
-    (length c.in-Some.above.node.subscripts, ap (λ k. is_other c.args.terminal (get lock_name_cmp c.args.holdings.now k)) (sym above.0) ∙ sym c.is_others.ensures ∙ c.if-is_others.true)
+    (length c.in-Some.above.node.subscripts, ap (λ k. is_other c.args.terminal (get name_eq c.args.holdings.now k)) (sym above.0) ∙ sym c.is_others.ensures ∙ c.if-is_others.true)
 
 pub loop-above-preserved : goal.loop-above-preserved
 loop-above-preserved c =
     let above = above_next c.args.name.now c.loop-above.below c.in-Some.above c.loop-above.invariant.begins c.in-Some.ensures in
     record {
       begins = above.0;
-      free = next (λ i. is_other c.args.terminal (get lock_name_cmp c.args.holdings.now (name_above i c.args.name.now)) ≡ false)
+      free = next (λ i. is_other c.args.terminal (get name_eq c.args.holdings.now (name_above i c.args.name.now)) ≡ false)
           (length c.in-Some.above.node.subscripts) (length c.loop-above.below.node.subscripts) (length c.args.name.now.node.subscripts) above.1 c.loop-above.invariant.free
-          (ap (λ k. is_other c.args.terminal (get lock_name_cmp c.args.holdings.now k)) (sym above.0) ∙ sym c.is_others.ensures ∙ c.if-is_others.false);
+          (ap (λ k. is_other c.args.terminal (get name_eq c.args.holdings.now k)) (sym above.0) ∙ sym c.is_others.ensures ∙ c.if-is_others.false);
     }

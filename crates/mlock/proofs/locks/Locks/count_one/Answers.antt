@@ -1,15 +1,18 @@
 -- SPDX-License-Identifier: Apache-2.0
-use Rattle.std.proofs.Common.{◌≡◌, ◌+◌, ◌<◌, ◌≤◌, ℕ, true, false, Some, ap, sym, ◌∙◌, subst, refl, arith}
-use Rattle.std.specs.Prelude.{nat_lt}
-use Rattle.std.specs.BTreeMap.{BTreeMap, IsOrdered, Updates, get}
-use Rattle.std.specs.Option.{option_copied_mut}
+use Rattle.std.proofs.Common.{◌≡◌, ◌+◌, ◌<◌, ◌≤◌, ℕ, true, false, Some, None, ap, sym, ◌∙◌, subst, arith}
+use Rattle.std.specs.Prelude.{IfSome, nat_lt, slice_get}
+use Rattle.std.specs.FinMap.{insert}
 use Rattle.std.proofs.lemmas.Bool.Decides.{nat_tests}
-use Rattle.mspec.specs.LockConflict.{LockName, Locks, lock_name_cmp, held, count, one_more, most_counts}
+use Rattle.std.proofs.lemmas.Option.{slice_get_within}
+use Rattle.indexmap.specs.IndexMap as index
+use Rattle.indexmap.specs.IndexMap.{IndexMap, IsUnique}
+use Rattle.mspec.specs.LockConflict.{LockName, Locks, held, count, one_more, most_counts}
 use Rattle.mlock.specs.declared.locks.Holding.{Holding}
 use Rattle.mlock.specs.Holdings.{locks_of, AreCounts, IsFree}
-use Rattle.mlock.proofs.Steps.{left, raised, own_of_free, count_own, count_none, more_new, counts_one_more}
+use Rattle.mlock.specs.Tallies.{name_eq}
+use Rattle.mlock.proofs.Moves.{there, kept_recounted}
+use Rattle.mlock.proofs.Steps.{own_of_free, count_own, count_none, counts_one_more}
 use Rattle.mlock.proofs.locks.Locks.count_one.Goals as goal
-use Rattle.mlock.proofs.locks.Locks.count_one.Goals.{In_ok-insert-in-None}
 
 full : (n c : ℕ) → n ≡ c → most_counts ≤ c → false ≡ nat_lt n most_counts
 full n c e h = grind (arith, nat_tests)
@@ -17,87 +20,76 @@ full n c e h = grind (arith, nat_tests)
 room : (n c : ℕ) → n ≡ c → c < most_counts → true ≡ nat_lt n most_counts
 room n c e h = grind (arith, nat_tests)
 
-module _ (m : BTreeMap LockName Holding) (l : Locks) (is : locks_of m ≡ l) (ordered : IsOrdered lock_name_cmp m) (name : LockName) (t : ℕ) (free : IsFree l t name) (h : Holding) (found : Some h ≡ get lock_name_cmp m name) where
+module _ {S : Type 0} (m : IndexMap LockName Holding S) (l : Locks) (is : locks_of m ≡ l) (unique : IsUnique name_eq m) (name : LockName) (t : ℕ) (i : ℕ) (h : Holding) (at : slice_get m.entries i ≡ Some (name, h)) (free : IsFree l t name) where
   -- the holding that is there is the terminal's
   own : h.terminal ≡ t
-  own = own_of_free m ordered name t (subst (λ k. IsFree k t name) (sym is) free) h found
+  own = own_of_free m unique name t (subst (λ k. IsFree k t name) (sym is) free) h (sym (there m i name h unique at))
 
   counts_are : count l (held t name) ≡ h.count
-  counts_are = ap (λ k. count k (held t name)) (sym is) ∙ count_own m ordered name t h found own
+  counts_are = ap (λ k. count k (held t name)) (sym is) ∙ count_own m unique name t h (sym (there m i name h unique at)) own
 
-pub invariant_of-self : goal.invariant_of-self
-invariant_of-self c =
-    let h = c.in-Some.holding.now in
-    let same = left c.self.inside.holdings c.self.invariant.0 c.args.name.now c.args.terminal h c.in-Some.ensures.value c.get_mut.follows.lender c.get_mut.follows.holds in
-    ((c.get_mut.follows.holds h).4, subst AreCounts (sym same) c.self.invariant.1)
+  more_is : insert (locks_of m) (held t name) (h.count + 1) ≡ one_more (locks_of m) (held t name)
+  more_is = ap (λ c. insert (locks_of m) (held t name) (c + 1)) (sym (count_own m unique name t h (sym (there m i name h unique at)) own))
+
+  more_counts : AreCounts (locks_of m) → h.count < most_counts → AreCounts (one_more (locks_of m) (held t name))
+  more_counts counts less = counts_one_more (locks_of m) (held t name) counts (let same = count_own m unique name t h (sym (there m i name h unique at)) own in omega (arith, same, less))
+
+module _ {S : Type 0} (m : IndexMap LockName Holding S) (l : Locks) (is : locks_of m ≡ l) (unique : IsUnique name_eq m) (name : LockName) (t : ℕ) (none : index.get name_eq m name ≡ None) where
+  no_count : count l (held t name) ≡ 0
+  no_count = ap (λ k. count k (held t name)) (sym is) ∙ count_none m unique name t (sym none)
+
+pub invariant_of-self-in_default : goal.invariant_of-self-in_default
+invariant_of-self-in_default c =
+    let m = c.self.inside.holdings in
+    let q = held c.args.terminal c.args.name.now in
+    let none = count_none m c.self.invariant.0.unique c.args.name.now c.args.terminal (sym c.in_default.ensures) in
+    (c.in_ok-hold.ensures.kept, subst AreCounts (sym c.in_ok-hold.ensures.held) (counts_one_more (locks_of m) q c.self.invariant.1 (omega (arith, none))))
+
+pub returns-in_default-clause-room : goal.returns-in_default-clause-room
+returns-in_default-clause-room c =
+    room (count c.args.self.now (held c.args.terminal c.args.name.now)) 0
+    (no_count c.self.inside.holdings c.args.self.now c.self.view_is c.self.invariant.0.unique c.args.name.now c.args.terminal c.in_default.ensures) (omega arith)
 
 pub returns-then-holding-ge-MOST_COUNTS-clause-room :
     goal.returns-then-holding-ge-MOST_COUNTS-clause-room
 returns-then-holding-ge-MOST_COUNTS-clause-room c =
-    full (count c.args.self.now (held c.args.terminal c.args.name.now)) c.in-Some.holding.now.count
-    (counts_are c.self.inside.holdings c.args.self.now c.self.view_is c.self.invariant.0 c.args.name.now c.args.terminal c.requires c.in-Some.holding.now c.in-Some.ensures.value)
+    full (count c.args.self.now (held c.args.terminal c.args.name.now)) c.in-Some.holding.count
+    (counts_are c.self.inside.holdings c.args.self.now c.self.view_is c.self.invariant.0.unique c.args.name.now c.args.terminal c.in-Some.index c.in-Some.holding c.in-Some.ensures c.requires)
     c.if-holding-ge-MOST_COUNTS.true
 
-pub returns-then-holding-ge-MOST_COUNTS-clause-counted :
-    goal.returns-then-holding-ge-MOST_COUNTS-clause-counted
-returns-then-holding-ge-MOST_COUNTS-clause-counted c =
-    left c.self.inside.holdings c.self.invariant.0 c.args.name.now c.args.terminal c.in-Some.holding.now c.in-Some.ensures.value c.get_mut.follows.lender c.get_mut.follows.holds
-    ∙ c.self.view_is
+pub set_count-requires-clause-within : goal.set_count-requires-clause-within
+set_count-requires-clause-within c = slice_get_within c.self.inside.holdings.entries c.in-Some.index (c.args.name.now, c.in-Some.holding) c.in-Some.ensures
 
-pub invariant_of-self-in-Some : goal.invariant_of-self-in-Some
-invariant_of-self-in-Some c =
+pub set_count-requires-clause-own : goal.set_count-requires-clause-own
+set_count-requires-clause-own c =
+    subst (λ o. IfSome o (λ e. e.1.terminal ≡ c.args.terminal)) (sym c.in-Some.ensures)
+    (own c.self.inside.holdings c.args.self.now c.self.view_is c.self.invariant.0.unique c.args.name.now c.args.terminal c.in-Some.index c.in-Some.holding c.in-Some.ensures c.requires)
+
+pub invariant_of-self-2 : goal.invariant_of-self-2
+invariant_of-self-2 c =
     let m = c.self.inside.holdings in
-    let h = c.in-Some.holding.now in
-    let is = own m c.args.self.now c.self.view_is c.self.invariant.0 c.args.name.now c.args.terminal c.requires h c.in-Some.ensures.value in
-    let counted = counts_are m c.args.self.now c.self.view_is c.self.invariant.0 c.args.name.now c.args.terminal c.requires h c.in-Some.ensures.value in
-    let room : count (locks_of m) (held c.args.terminal c.args.name.now) < most_counts =
-    subst (λ k. count k (held c.args.terminal c.args.name.now) < most_counts) (sym c.self.view_is) (omega (arith, counted, c.if-holding-ge-MOST_COUNTS.false)) in
-    let more = raised m c.self.invariant.0 c.args.name.now c.args.terminal h c.in-Some.ensures.value c.get_mut.follows.lender c.get_mut.follows.holds is in (
-      (c.get_mut.follows.holds (record { terminal = h.terminal; count = h.count + 1 })).4,
-      subst AreCounts (sym more) (counts_one_more (locks_of m) (held c.args.terminal c.args.name.now) c.self.invariant.1 room),
+    let unique = c.self.invariant.0.unique in
+    let name = c.args.name.now in
+    let t = c.args.terminal in (
+      kept_recounted m c.set_count.new.holdings c.self.inside.below c.self.invariant.0 (c.set_count.ensures.kept unique),
+      subst AreCounts
+          (sym (c.set_count.ensures.locks name c.in-Some.holding c.in-Some.ensures unique
+          ∙ more_is m c.args.self.now c.self.view_is unique name t c.in-Some.index c.in-Some.holding c.in-Some.ensures c.requires))
+          (more_counts m c.args.self.now c.self.view_is unique name t c.in-Some.index c.in-Some.holding c.in-Some.ensures c.requires c.self.invariant.1 c.if-holding-ge-MOST_COUNTS.false),
     )
 
-pub returns-else-holding-ge-MOST_COUNTS-clause-room :
-    goal.returns-else-holding-ge-MOST_COUNTS-clause-room
-returns-else-holding-ge-MOST_COUNTS-clause-room c =
-    room (count c.args.self.now (held c.args.terminal c.args.name.now)) c.in-Some.holding.now.count
-    (counts_are c.self.inside.holdings c.args.self.now c.self.view_is c.self.invariant.0 c.args.name.now c.args.terminal c.requires c.in-Some.holding.now c.in-Some.ensures.value)
+pub returns-clause-room : goal.returns-clause-room
+returns-clause-room c =
+    room (count c.args.self.now (held c.args.terminal c.args.name.now)) c.in-Some.holding.count
+    (counts_are c.self.inside.holdings c.args.self.now c.self.view_is c.self.invariant.0.unique c.args.name.now c.args.terminal c.in-Some.index c.in-Some.holding c.in-Some.ensures c.requires)
     c.if-holding-ge-MOST_COUNTS.false
 
-pub returns-else-holding-ge-MOST_COUNTS-clause-counted :
-    goal.returns-else-holding-ge-MOST_COUNTS-clause-counted
-returns-else-holding-ge-MOST_COUNTS-clause-counted c =
+pub returns-clause-counted : goal.returns-clause-counted
+returns-clause-counted c =
     let m = c.self.inside.holdings in
-    let h = c.in-Some.holding.now in
-    let is = own m c.args.self.now c.self.view_is c.self.invariant.0 c.args.name.now c.args.terminal c.requires h c.in-Some.ensures.value in
-    raised m c.self.invariant.0 c.args.name.now c.args.terminal h c.in-Some.ensures.value c.get_mut.follows.lender c.get_mut.follows.holds is
-    ∙ ap (λ l. one_more l (held c.args.terminal c.args.name.now)) c.self.view_is
-
--- a first count is put
-new_is : (c : In_ok-insert-in-None) → locks_of c.insert.new.self ≡ one_more (locks_of c.self.inside.holdings) (held c.args.terminal c.args.name.now)
-new_is c =
-    let m = c.self.inside.holdings in
-    let n = c.insert.new.self in
-    let k = c.in_ok-name-in-None.name in
-    let same = c.in_ok-name-in-None.ensures.name in
-    let w : Holding = record { terminal = c.args.terminal; count = 1 } in
-    let Put : BTreeMap LockName Holding → Type 0 = λ x. Updates lock_name_cmp x n k (Some w) in
-    let none = ap option_copied_mut (sym c.in-None.is) ∙ c.get_mut.ensures.value in
-    more_new m c.self.invariant.0 k c.args.terminal n w (none ∙ ap (get lock_name_cmp m) (sym same)) refl refl c.insert.ensures.ordered
-    (subst Put c.get_mut.follows.holds-at-none c.in_ok-insert-in-None.ensures.updates)
-    ∙ ap (λ k. one_more (locks_of m) (held c.args.terminal k)) same
-
-pub invariant_of-self-in_ok-insert-in-None : goal.invariant_of-self-in_ok-insert-in-None
-invariant_of-self-in_ok-insert-in-None c =
-    let none : count (locks_of c.self.inside.holdings) (held c.args.terminal c.args.name.now) ≡ 0 =
-    count_none c.self.inside.holdings c.self.invariant.0 c.args.name.now c.args.terminal (ap option_copied_mut (sym c.in-None.is) ∙ c.get_mut.ensures.value) in
-    (c.insert.ensures.ordered, subst AreCounts (sym (new_is c)) (counts_one_more (locks_of c.self.inside.holdings) (held c.args.terminal c.args.name.now) c.self.invariant.1 (omega (arith, none))))
-
-pub returns-in_ok-insert-in-None-clause-counted : goal.returns-in_ok-insert-in-None-clause-counted
-returns-in_ok-insert-in-None-clause-counted c = new_is c ∙ ap (λ l. one_more l (held c.args.terminal c.args.name.now)) c.self.view_is
-
-pub returns-in_ok-insert-in-None-clause-room : goal.returns-in_ok-insert-in-None-clause-room
-returns-in_ok-insert-in-None-clause-room c =
-    room (count c.args.self.now (held c.args.terminal c.args.name.now)) 0
-    (ap (λ l. count l (held c.args.terminal c.args.name.now)) (sym c.self.view_is)
-    ∙ count_none c.self.inside.holdings c.self.invariant.0 c.args.name.now c.args.terminal (ap option_copied_mut (sym c.in-None.is) ∙ c.get_mut.ensures.value)) (omega arith)
+    let unique = c.self.invariant.0.unique in
+    let name = c.args.name.now in
+    let t = c.args.terminal in
+    c.set_count.ensures.locks name c.in-Some.holding c.in-Some.ensures unique
+    ∙ more_is m c.args.self.now c.self.view_is unique name t c.in-Some.index c.in-Some.holding c.in-Some.ensures c.requires
+    ∙ ap (λ l. one_more l (held t name)) c.self.view_is

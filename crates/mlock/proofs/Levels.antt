@@ -1,0 +1,158 @@
+-- SPDX-License-Identifier: Apache-2.0
+-- Tallies of one name, and of all the names above one.
+use Rattle.std.proofs.Common.{◌≡◌, ◌+◌, ◌*◌, ℕ, Bool, true, false, cond, ◌&&◌, nat_eq, Option, Some, None, refl, sym, ap, ◌∙◌, subst, arith}
+use Rattle.std.specs.Prelude.{unwrap_or, is_some, IsSome}
+use Rattle.std.proofs.lemmas.Bool.Decides.{nat_tests}
+use Rattle.indexmap.specs.IndexMap.{IndexMap, get, Updates}
+use Rattle.mspec.specs.LockConflict.{LockName}
+use Rattle.mlock.specs.Above.{IsAbove}
+use Rattle.mlock.specs.declared.tally.Tally.{Tally}
+use Rattle.mlock.specs.Tallies.{name_eq, is_under, no_names, with_one, is_none, tally_at, HasEntry}
+use Rattle.mlock.proofs.Names.{both_true}
+use Rattle.mlock.proofs.Under.{is_same, same_is, above_is, not_itself, others_above, from_above}
+
+unlike : {A : Type 0} (b : Bool) → b ≡ true → b ≡ false → A
+unlike b t f = let no : true ≡ false = sym t ∙ f in absurd (cc)
+
+-- ---- the entry of one name
+
+pub absent_from : {A : Type 0} (o : Option A) → is_some o ≡ false → o ≡ None
+absent_from None e = refl
+absent_from (Some x) e = absurd (cc)
+
+module _ {S : Type 0} (m n : IndexMap LockName Tally S) (k : LockName) where
+  or_none : (b : Bool) (w o : Option Tally) → unwrap_or (cond b w o) no_names ≡ cond b (unwrap_or w no_names) (unwrap_or o no_names)
+  or_none true w o = refl
+  or_none false w o = refl
+
+  -- the tallies after an entry is written or taken away
+  pub written : (w : Option Tally) → Updates name_eq m n k w → (q : LockName) → tally_at n q ≡ cond (name_eq k q) (unwrap_or w no_names) (tally_at m q)
+  written w u q = ap (λ o. unwrap_or o no_names) (u.0 q) ∙ or_none (name_eq k q) w (get name_eq m q)
+
+  pub keeps : (w : Tally) → Updates name_eq m n k (Some w) → (q : LockName) → HasEntry m q → HasEntry n q
+  keeps w u q some = subst IsSome (sym (u.0 q)) (by_test (name_eq k q))
+    where
+      by_test : (b : Bool) → IsSome (cond b (Some w) (get name_eq m q))
+      by_test true = refl
+      by_test false = some
+
+  -- an entry of no name changes no tally
+  pub made_same : Updates name_eq m n k (Some no_names) → get name_eq m k ≡ None → (q : LockName) → tally_at n q ≡ tally_at m q
+  made_same u none q = written (Some no_names) u q ∙ by_test (name_eq k q) (is_same k q)
+    where
+      by_test : (b : Bool) → (b ≡ true → k ≡ q) → cond b no_names (tally_at m q) ≡ tally_at m q
+      by_test true same = sym (ap (λ o. unwrap_or o no_names) (ap (get name_eq m) (sym (same refl)) ∙ none))
+      by_test false same = refl
+
+  pub has_made : Updates name_eq m n k (Some no_names) → HasEntry n k
+  has_made u = subst IsSome (sym (u.0 k ∙ ap (λ b. cond b (Some no_names) (get name_eq m k)) (same_is k k refl))) refl
+
+  module _ (t : ℕ) where
+    -- one name more at this one
+    pub counted : ((q : LockName) → tally_at n q ≡ cond (name_eq k q) (with_one t (tally_at m k)) (tally_at m q))
+        → (q : LockName) → tally_at n q ≡ cond (name_eq k q) (with_one t (tally_at m q)) (tally_at m q)
+    counted is q = is q ∙ by_test (name_eq k q) (is_same k q)
+      where
+        by_test : (b : Bool) → (b ≡ true → k ≡ q) → cond b (with_one t (tally_at m k)) (tally_at m q) ≡ cond b (with_one t (tally_at m q)) (tally_at m q)
+        by_test true same = ap (λ p. with_one t (tally_at m p)) (same refl)
+        by_test false same = refl
+
+    -- one name less at this one
+    pub taken_off : (rest : Tally) → with_one t rest ≡ tally_at m k → ((q : LockName) → tally_at n q ≡ cond (name_eq k q) rest (tally_at m q))
+        → (q : LockName) → tally_at m q ≡ cond (name_eq k q) (with_one t (tally_at n q)) (tally_at n q)
+    taken_off rest one is q = by_test (name_eq k q) (is_same k q) (is q)
+      where
+        by_test : (b : Bool) → (b ≡ true → k ≡ q) → tally_at n q ≡ cond b rest (tally_at m q) → tally_at m q ≡ cond b (with_one t (tally_at n q)) (tally_at n q)
+        by_test true same is = ap (tally_at m) (sym (same refl)) ∙ sym one ∙ ap (with_one t) (sym is)
+        by_test false same is = sym is
+
+-- an entry that is left as it was, and then taken away
+pub twice_written : {S : Type 0} (m l n : IndexMap LockName Tally S) (k : LockName) (v w : Tally) → ((q : LockName) → tally_at l q ≡ cond (name_eq k q) v (tally_at m q))
+    → ((q : LockName) → tally_at n q ≡ cond (name_eq k q) w (tally_at l q)) → (q : LockName) → tally_at n q ≡ cond (name_eq k q) w (tally_at m q)
+twice_written m l n k v w first second q = second q ∙ ap (cond (name_eq k q) w) (first q) ∙ by_test (name_eq k q)
+  where
+    by_test : (b : Bool) → cond b w (cond b v (tally_at m q)) ≡ cond b w (tally_at m q)
+    by_test true = refl
+    by_test false = refl
+
+pub none_is : (a : Tally) → is_none a ≡ true → a ≡ no_names
+none_is a e =
+    let names = both_true (nat_eq a.names 0) (nat_eq a.terminals 0 && nat_eq a.squares 0) e in
+    let sums = both_true (nat_eq a.terminals 0) (nat_eq a.squares 0) names.1 in
+    let x : a.names ≡ 0 = zero_from a.names names.0 in
+    let y : a.terminals ≡ 0 = zero_from a.terminals sums.0 in
+    let z : a.squares ≡ 0 = zero_from a.squares sums.1 in
+    λ i. record { names = x i; terminals = y i; squares = z i }
+  where
+    zero_from : (v : ℕ) → nat_eq v 0 ≡ true → v ≡ 0
+    zero_from v e = grind (arith, nat_tests, e)
+
+-- a tally of no name has none to take off
+pub some_names : (t : ℕ) (rest a : Tally) → with_one t rest ≡ a → a ≡ no_names → {A : Type 0} → A
+some_names t rest a one none = let e : rest.names + 1 ≡ 0 = ap (λ x. x.names) (one ∙ none) in absurd (omega (arith, e))
+
+pub same_rest : (t : ℕ) (x y : Tally) → with_one t x ≡ with_one t y → x ≡ y
+same_rest t x y e =
+    let a : x.names + 1 ≡ y.names + 1 = ap (λ v. v.names) e in
+    let b : x.terminals + t ≡ y.terminals + t = ap (λ v. v.terminals) e in
+    let c : x.squares + t * t ≡ y.squares + t * t = ap (λ v. v.squares) e in
+    let p : x.names ≡ y.names = omega (arith, a) in
+    let q : x.terminals ≡ y.terminals = omega (arith, b) in
+    let r : x.squares ≡ y.squares = omega (arith, c) in
+    λ i. record { names = p i; terminals = q i; squares = r i }
+
+-- the same, where both or neither have it
+pub rest_is : (b : Bool) (t : ℕ) (x y : Tally) → cond b (with_one t x) x ≡ cond b (with_one t y) y → x ≡ y
+rest_is true t x y e = same_rest t x y e
+rest_is false t x y e = e
+
+-- ---- the names above one
+
+module _ (above below : LockName) (next : IsAbove above below) where
+  pub next_is : (n : LockName) → name_eq above n ≡ true → (is_under n above ≡ false) × (is_under n below ≡ true)
+  next_is n e = let same = is_same above n e in (subst (λ k. is_under k above ≡ false) same (not_itself above), subst (λ k. is_under k below ≡ true) same (above_is above below next))
+
+  -- a name above the next one is another
+  pub not_next : (n : LockName) → is_under n above ≡ true → name_eq above n ≡ false
+  not_next n is = by_test (name_eq above n) refl
+    where
+      by_test : (b : Bool) → name_eq above n ≡ b → name_eq above n ≡ false
+      by_test true e = unlike (is_under n above) is (next_is n e).0
+      by_test false e = e
+
+  module _ (f : Tally → Tally) (old mid new : LockName → Tally) where
+    pub all_counted : ((n : LockName) → mid n ≡ cond (name_eq above n) (f (old n)) (old n)) → ((n : LockName) → new n ≡ cond (is_under n above) (f (mid n)) (mid n))
+        → (n : LockName) → new n ≡ cond (is_under n below) (f (old n)) (old n)
+    all_counted first rest n = by_test (name_eq above n) refl
+      where
+        by_test : (b : Bool) → name_eq above n ≡ b → new n ≡ cond (is_under n below) (f (old n)) (old n)
+        by_test true e =
+            let is = next_is n e in
+            rest n ∙ ap (λ b. cond b (f (mid n)) (mid n)) is.0 ∙ first n ∙ ap (λ b. cond b (f (old n)) (old n)) e ∙ sym (ap (λ b. cond b (f (old n)) (old n)) is.1)
+        by_test false e =
+            let same : mid n ≡ old n = first n ∙ ap (λ b. cond b (f (old n)) (old n)) e in
+            rest n ∙ ap (λ x. cond (is_under n above) (f x) x) same ∙ ap (λ b. cond b (f (old n)) (old n)) (sym (others_above above below next n e))
+
+    pub all_taken_off : ((n : LockName) → old n ≡ cond (name_eq above n) (f (mid n)) (mid n)) → ((n : LockName) → mid n ≡ cond (is_under n above) (f (new n)) (new n))
+        → (n : LockName) → old n ≡ cond (is_under n below) (f (new n)) (new n)
+    all_taken_off first rest n = by_test (name_eq above n) refl
+      where
+        by_test : (b : Bool) → name_eq above n ≡ b → old n ≡ cond (is_under n below) (f (new n)) (new n)
+        by_test true e =
+            let is = next_is n e in
+            let same : mid n ≡ new n = rest n ∙ ap (λ b. cond b (f (new n)) (new n)) is.0 in
+            first n ∙ ap (λ b. cond b (f (mid n)) (mid n)) e ∙ ap f same ∙ sym (ap (λ b. cond b (f (new n)) (new n)) is.1)
+        by_test false e =
+            first n ∙ ap (λ b. cond b (f (mid n)) (mid n)) e ∙ rest n ∙ ap (λ b. cond b (f (new n)) (new n)) (sym (others_above above below next n e))
+
+  -- what holds of the names above the name holds of those above the next one, which the first step left alone
+  pub levels_left : (P : LockName → Type 0) → ((n : LockName) → is_under n below ≡ true → P n) → (n : LockName) → is_under n above ≡ true → P n
+  levels_left P all n is = all n (from_above above below next n is)
+
+  -- what holds of the next name and of those above it holds of all above the name
+  pub level_has : (P : LockName → Type 0) → P above → ((n : LockName) → is_under n above ≡ true → P n) → (n : LockName) → is_under n below ≡ true → P n
+  level_has P here all n is = by_test (name_eq above n) refl
+    where
+      by_test : (b : Bool) → name_eq above n ≡ b → P n
+      by_test true e = subst P (is_same above n e) here
+      by_test false e = all n (sym (others_above above below next n e) ∙ is)

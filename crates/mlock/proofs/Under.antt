@@ -1,0 +1,147 @@
+-- SPDX-License-Identifier: Apache-2.0
+-- Names below other names, and the name next above one.
+use Rattle.std.proofs.Common.{◌≡◌, ◌<◌, ◌≤◌, ◌+◌, ◌-◌, ℕ, Bool, true, false, not, List, [], ◌∷◌, ◌++◌, length, take, ◌⊎◌, inl, inr, refl, sym, ap, ◌∙◌, subst, arith, append-nil, append_assoc, length-append}
+use Rattle.std.specs.Cmp.{Equal-is, eq_by_cmp_equiv}
+use Rattle.std.proofs.Math.Seq.{take-append_seam, take-append-add}
+use Rattle.std.proofs.lemmas.Bool.{cases_eq}
+use mathlib.Core.Bool.{beq}
+use Rattle.mspec.specs.Globals.{is_node_within}
+use Rattle.mspec.specs.LockConflict.{LockName, lock_name_cmp, is_within}
+use Rattle.mspec.specs.Node.{Text}
+use Rattle.mspec.proofs.KeyRanges.{within}
+use Rattle.mspec.proofs.LockOrders.{lock_name_cmp_total, lock_name_cmp_exact}
+use Rattle.mlock.specs.Above.{IsAbove}
+use Rattle.mlock.specs.Tallies.{name_eq, is_under}
+use Rattle.mlock.proofs.Names.{of_within, within_of, both_true, same_truth, parts, beq_same, same_beq, both}
+
+-- the second name is the first with more subscripts
+pub record Inside (a b : LockName) : Type 0 where
+  pub kind : a.global ≡ b.global
+  pub account : a.node.account ≡ b.node.account
+  pub name : a.node.name ≡ b.node.name
+  pub more : List Text
+  pub subscripts : b.node.subscripts ≡ a.node.subscripts ++ more
+
+pub inside : (a b : LockName) → is_within a b ≡ true → Inside a b
+inside a b e =
+    let is = both_true (beq a.global b.global) (is_node_within a.node b.node) e in
+    let p = parts a.node b.node (within_of a.node b.node is.1) in
+    record { kind = beq_same a.global b.global is.0; account = p.account; name = p.name; more = p.more; subscripts = p.subscripts }
+
+pub of_inside : (a b : LockName) → Inside a b → is_within a b ≡ true
+of_inside a b i =
+    both (beq a.global b.global) (is_node_within a.node b.node) (same_beq a.global b.global i.kind)
+    (of_within a.node b.node (within a.node b.node i.more i.account i.name i.subscripts))
+
+longer : (a b : LockName) → Inside a b → length a.node.subscripts ≤ length b.node.subscripts
+longer a b i = let long : length b.node.subscripts ≡ length a.node.subscripts + length i.more = ap length i.subscripts ∙ length-append a.node.subscripts i.more in omega (arith, long)
+
+pub same_name : (a b : LockName) → a.global ≡ b.global → a.node.account ≡ b.node.account → a.node.name ≡ b.node.name → a.node.subscripts ≡ b.node.subscripts → a ≡ b
+same_name a b kind account name subs = λ i. record { global = kind i; node = record { account = account i; name = name i; subscripts = subs i } }
+
+pub is_same : (a b : LockName) → name_eq a b ≡ true → a ≡ b
+is_same a b e = lock_name_cmp_exact a b ((Equal-is (lock_name_cmp a b)).0 e)
+
+pub same_is : (a b : LockName) → a ≡ b → name_eq a b ≡ true
+same_is a b e = subst (λ n. name_eq a n ≡ true) e ((eq_by_cmp_equiv lock_name_cmp_total).refl a)
+
+-- as many subscripts, and no more: the same name
+whole : (a b : LockName) → (i : Inside a b) → length b.node.subscripts ≤ length a.node.subscripts → a ≡ b
+whole a b i short = by_more i.more i.subscripts
+  where
+    by_more : (more : List Text) → b.node.subscripts ≡ a.node.subscripts ++ more → a ≡ b
+    by_more [] subs = same_name a b i.kind i.account i.name (sym (subs ∙ append-nil a.node.subscripts))
+    by_more (s ∷ more) subs = let long : length b.node.subscripts ≡ length a.node.subscripts + length (s ∷ more) = ap length subs ∙ length-append a.node.subscripts (s ∷ more) in absurd (omega (arith, long, short))
+
+-- two names within each other are one
+pub both_within : (a b : LockName) → is_within a b ≡ true → is_within b a ≡ true → a ≡ b
+both_within a b e f = whole a b (inside a b e) (longer b a (inside b a f))
+
+true_false : {A : Type 0} (b : Bool) → b ≡ true → b ≡ false → A
+true_false b t f = let no : true ≡ false = sym t ∙ f in absurd (cc)
+
+is_not : (b : Bool) → (b ≡ true → ⊥) → not b ≡ true
+is_not true f = absurd (f refl)
+is_not false f = refl
+
+not_is : (b : Bool) → not b ≡ true → b ≡ true → ⊥
+not_is true e f = true_false (not true) e refl
+not_is false e f = true_false false f refl
+
+pub under : (a b : LockName) → is_under a b ≡ true → Inside a b × (length a.node.subscripts < length b.node.subscripts)
+under a b e = by_length (cases_eq (length a.node.subscripts) (length b.node.subscripts))
+  where
+    is : (is_within a b ≡ true) × (not (is_within b a) ≡ true)
+    is = both_true (is_within a b) (not (is_within b a)) e
+
+    i : Inside a b
+    i = inside a b is.0
+
+    more : length a.node.subscripts ≤ length b.node.subscripts
+    more = longer a b i
+
+    by_length : (length a.node.subscripts ≡ length b.node.subscripts) ⊎ (length a.node.subscripts ≡ length b.node.subscripts → ⊥) → Inside a b × (length a.node.subscripts < length b.node.subscripts)
+    by_length (inl same) =
+        let equal : a ≡ b = whole a b i (omega (arith, same)) in
+        absurd (not_is (is_within b a) is.1 (subst (λ n. is_within b n ≡ true) (sym equal) (subst (λ n. is_within n b ≡ true) equal is.0)))
+    by_length (inr other) = (i, grind (arith, more, other))
+
+pub of_under : (a b : LockName) → Inside a b → length a.node.subscripts < length b.node.subscripts → is_under a b ≡ true
+of_under a b i less =
+    both (is_within a b) (not (is_within b a)) (of_inside a b i)
+    (is_not (is_within b a) (λ back. let short : length b.node.subscripts ≤ length a.node.subscripts = longer b a (inside b a back) in absurd (omega (arith, short, less))))
+
+false_from : (b : Bool) → (b ≡ true → ⊥) → b ≡ false
+false_from true f = absurd (f refl)
+false_from false f = refl
+
+-- nothing stands above a name without subscripts
+pub none_above : (n b : LockName) → b.node.subscripts ≡ [] → is_under n b ≡ false
+none_above n b none = false_from (is_under n b) (λ e. let less = (under n b e).1 in let short : length b.node.subscripts ≡ 0 = ap length none in absurd (omega (arith, less, short)))
+
+-- no name stands below itself
+pub not_itself : (n : LockName) → is_under n n ≡ false
+not_itself n = false_from (is_under n n) (λ e. let less = (under n n e).1 in absurd (omega (arith, less)))
+
+module _ (above below : LockName) (next : IsAbove above below) where
+  pub one_more : length below.node.subscripts ≡ length above.node.subscripts + 1
+  one_more = ap length next.node.longer.1 ∙ length-append above.node.subscripts (next.node.longer.0 ∷ [])
+
+  pub above_is : is_under above below ≡ true
+  above_is =
+      of_under above below (record { kind = next.kind; account = next.node.account; name = next.node.name; more = next.node.longer.0 ∷ []; subscripts = next.node.longer.1 })
+      (omega (arith, one_more))
+
+  to_above : (n : LockName) → name_eq above n ≡ false → is_under n below ≡ true → is_under n above ≡ true
+  to_above n other e =
+      let u = under n below e in
+      let long : length n.node.subscripts ≤ length above.node.subscripts = omega (arith, u.1, one_more) in
+      let k : ℕ = length above.node.subscripts - length n.node.subscripts in
+      let sum : length above.node.subscripts ≡ length n.node.subscripts + k = omega (arith, long) in
+      let subs : above.node.subscripts ≡ n.node.subscripts ++ take k u.0.more =
+      sym (take-append_seam above.node.subscripts (next.node.longer.0 ∷ []))
+      ∙ ap (take (length above.node.subscripts)) (sym next.node.longer.1 ∙ u.0.subscripts)
+      ∙ ap (λ l. take l (n.node.subscripts ++ u.0.more)) sum
+      ∙ take-append-add n.node.subscripts u.0.more k in
+      let i : Inside n above = record { kind = u.0.kind ∙ sym next.kind; account = u.0.account ∙ sym next.node.account; name = u.0.name ∙ sym next.node.name; more = take k u.0.more; subscripts = subs } in
+      by_length i long (cases_eq (length n.node.subscripts) (length above.node.subscripts))
+    where
+      by_length : Inside n above → length n.node.subscripts ≤ length above.node.subscripts
+          → (length n.node.subscripts ≡ length above.node.subscripts) ⊎ (length n.node.subscripts ≡ length above.node.subscripts → ⊥) → is_under n above ≡ true
+      by_length i long (inl same) =
+          let equal : n ≡ above = whole n above i (omega (arith, same)) in
+          true_false (name_eq above n) (same_is above n (sym equal)) other
+      by_length i long (inr apart) = of_under n above i (grind (arith, long, apart))
+
+  pub from_above : (n : LockName) → is_under n above ≡ true → is_under n below ≡ true
+  from_above n e =
+      let u = under n above e in
+      let subs : below.node.subscripts ≡ n.node.subscripts ++ (u.0.more ++ next.node.longer.0 ∷ []) =
+      next.node.longer.1 ∙ ap (λ s. s ++ next.node.longer.0 ∷ []) u.0.subscripts ∙ append_assoc n.node.subscripts u.0.more (next.node.longer.0 ∷ []) in
+      of_under n below
+      (record { kind = u.0.kind ∙ next.kind; account = u.0.account ∙ next.node.account; name = u.0.name ∙ next.node.name; more = u.0.more ++ next.node.longer.0 ∷ []; subscripts = subs })
+      (omega (arith, u.1, one_more))
+
+  -- the names above a name are the next one and those above that
+  pub others_above : (n : LockName) → name_eq above n ≡ false → is_under n below ≡ is_under n above
+  others_above n other = same_truth (is_under n below) (is_under n above) (to_above n other) (from_above n)

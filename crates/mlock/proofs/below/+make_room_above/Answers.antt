@@ -1,0 +1,16 @@
+-- SPDX-License-Identifier: Apache-2.0
+use Rattle.std.proofs.Common.{Result, Ok, Err}
+use Rattle.std.specs.Prelude.{OnOk}
+use Rattle.mlock.specs.Tallies.{HasEntry}
+use Rattle.mlock.proofs.Levels.{level_has}
+use Rattle.mlock.proofs.below.+make_room_above.Goals as goal
+
+on_ok : {T E P Q : Type 0} (r : Result T E) → (P → Q) → OnOk r P → OnOk r Q
+on_ok (Ok x) f h = f h
+on_ok (Err e) f h = h
+
+pub returns-clause-made : goal.returns-clause-made
+returns-clause-made t c =
+    on_ok c.make_room_above.result
+    (level_has c.in-Some.above c.args.name c.in-Some.ensures (HasEntry c.make_room_above.new.below) (c.make_room_above.ensures.keeps c.in-Some.above c.in_ok-make_room.ensures.made))
+    c.make_room_above.ensures.made

@@ -1,0 +1,37 @@
+-- SPDX-License-Identifier: Apache-2.0
+use Rattle.std.proofs.Common.{◌<◌, ◌^◌, cond, ap, sym, subst, refl, ◌∙◌, arith}
+use Rattle.indexmap.specs.IndexMap.{get}
+use Rattle.indexmap.proofs.CallerLemmas.{insert_entry-new}
+use Rattle.mspec.specs.LockConflict.{held, one_more}
+use Rattle.mlock.specs.declared.locks.Holding.{Holding}
+use Rattle.mlock.specs.Holdings.{locks_of}
+use Rattle.mlock.specs.Tallies.{name_eq, is_under, with_one, tally_at}
+use Rattle.mlock.proofs.Moves.{room_of, kept_held, held_locks}
+use Rattle.mlock.proofs.holdings.hold.Goals as goal
+
+pub add_above-requires-clause-room : goal.add_above-requires-clause-room
+add_above-requires-clause-room c n is =
+    room_of c.args.holdings.now c.args.below.now c.make_room_above.new.below c.requires.kept
+    (subst (λ x. x < 2 ^ 63) c.len-len.ensures.len c.len-len.ensures.small) c.make_room_above.ensures.same n
+
+pub returns-clause-kept : goal.returns-clause-kept
+returns-clause-kept c =
+    let h = c.args.holdings.now in
+    let k = c.in_ok-key.key in
+    let t = c.args.terminal in
+    let w : Holding = record { terminal = t; count = 1 } in
+    let b = c.make_room_above.new.below in
+    let walk = c.in_ok-walk.ensures.name ∙ sym c.in_ok-key.ensures.name in
+    kept_held h c.insert.new.self c.args.below.now b c.add_above.new.below k w c.requires.kept (omega (arith, c.ranges.terminal.fits))
+    (c.in_ok-insert.ensures.entries ∙ insert_entry-new name_eq h k w (ap (get name_eq h) c.in_ok-key.ensures.name ∙ c.requires.free))
+    c.in_ok-insert.ensures.unique c.make_room_above.ensures.same
+    (λ n. c.add_above.ensures n ∙ ap (λ m. cond (is_under n m) (with_one t (tally_at b n)) (tally_at b n)) walk)
+
+pub returns-clause-held : goal.returns-clause-held
+returns-clause-held c =
+    let h = c.args.holdings.now in
+    let k = c.in_ok-key.key in
+    let t = c.args.terminal in
+    held_locks h c.insert.new.self k (record { terminal = t; count = 1 }) c.requires.kept.unique c.in_ok-insert.ensures.unique
+    (ap (get name_eq h) c.in_ok-key.ensures.name ∙ c.requires.free) refl c.in_ok-insert.ensures.updates
+    ∙ ap (λ n. one_more (locks_of h) (held t n)) c.in_ok-key.ensures.name

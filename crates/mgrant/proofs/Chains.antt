@@ -21,7 +21,7 @@ use Rattle.mgrant.proofs.Seen.{me_test, place_is, name_good}
 
 module _ (names : List Text) (good : are_names names ≡ true) where
   -- a grant carries by names as it does by places
-  flows_seen : (x y : ℕ) (gs : List Placed) → All (IsAmong (length names)) gs → list_any (carries (text_in names x) (text_in names y)) (map (named names) gs) ≡ list_any (carries_at x y) gs
+  pub flows_seen : (x y : ℕ) (gs : List Placed) → All (IsAmong (length names)) gs → list_any (carries (text_in names x) (text_in names y)) (map (named names) gs) ≡ list_any (carries_at x y) gs
   flows_seen x y [] among = refl
   flows_seen x y (g ∷ gs) among =
       let here : IsAmong (length names) g = All-head (IsAmong (length names)) g gs among in
@@ -44,7 +44,7 @@ module _ (names : List Text) (good : are_names names ≡ true) where
       ]
 
   -- what a grant carries to has a place
-  carried_to : (s t : Text) (gs : List Placed) → All (IsAmong (length names)) gs → list_any (carries s t) (map (named names) gs) ≡ true → (i : ℕ) × (i < length names) × (t ≡ text_in names i)
+  pub carried_to : (s t : Text) (gs : List Placed) → All (IsAmong (length names)) gs → list_any (carries s t) (map (named names) gs) ≡ true → (i : ℕ) × (i < length names) × (t ≡ text_in names i)
   carried_to s t [] among e = absurd (false≢true e)
   carried_to s t (g ∷ gs) among e =
       let here : IsAmong (length names) g = All-head (IsAmong (length names)) g gs among in
@@ -60,7 +60,7 @@ module _ (names : List Text) (good : are_names names ≡ true) where
       ]
 
   -- what a grant carries from has a place too
-  carried_from : (s t : Text) (gs : List Placed) → All (IsAmong (length names)) gs → list_any (carries s t) (map (named names) gs) ≡ true → (i : ℕ) × (i < length names) × (s ≡ text_in names i)
+  pub carried_from : (s t : Text) (gs : List Placed) → All (IsAmong (length names)) gs → list_any (carries s t) (map (named names) gs) ≡ true → (i : ℕ) × (i < length names) × (s ≡ text_in names i)
   carried_from s t [] among e = absurd (false≢true e)
   carried_from s t (g ∷ gs) among e =
       let here : IsAmong (length names) g = All-head (IsAmong (length names)) g gs among in

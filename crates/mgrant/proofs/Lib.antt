@@ -9,4 +9,5 @@ mod Keys
 mod Marks
 mod Seen
 mod Chains
+mod IslandsFound
 mod Assembled

@@ -5,3 +5,4 @@ pub mod Placed
 pub mod Edges
 pub mod View
 pub mod Reading
+pub mod Islands

@@ -53,6 +53,10 @@ pub record IsAllowance (gs : List Given) (allowed : Allowed) : Type 0 where
 abbrev pub carries_at : (x y : ℕ) → Placed → Bool
 carries_at x y g = (x == g.from && y == g.to) || ((x == g.to && y == g.from) && access.allows g.mode access.Write)
 
+-- the grant ties x and y: one flows to the other
+abbrev pub ties_at : (x y : ℕ) → Placed → Bool
+ties_at x y g = (x == g.from && y == g.to) || (x == g.to && y == g.from)
+
 -- the globals' names have places, and the map allows what the grants allow
 pub record AreKept (globals : List Text) (gs : List Given) (allowed : Allowed) : Type 0 where
   pub in_range : All (λ g. g.permit.global < length globals) gs

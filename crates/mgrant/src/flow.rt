@@ -14,6 +14,18 @@ pub(crate) struct Edge {
     pub target: usize,
 }
 
+impl Edge {
+    // The step the other way.
+    pub(crate) fn turned(self) -> Edge
+        ensures { result ≡ record { source = self.target; target = self.source } }
+    {
+        Edge {
+            source: self.target,
+            target: self.source,
+        }
+    }
+}
+
 // Marks a place, and lists it where it was not marked before.
 fn mark(marks: &mut Vec<bool>, order: &mut Vec<usize>, place: usize) -> Result<(), AllocError>
     requires { place < vec_len marks.old }
@@ -82,6 +94,31 @@ fn spread(edges: &[Edge], marks: &mut Vec<bool>, order: &mut Vec<usize>) -> Resu
     Ok(())
 }
 
+// Which of so many places chains of steps lead to from one of them.
+pub(crate) fn reached(
+    alloc: Global,
+    edges: Vec<Edge>,
+    count: usize,
+    from: usize,
+) -> Result<Vec<bool>, AllocError>
+    requires in_range { All (λ e. e.target < count) edges.items }
+    requires from { from < count }
+    ensures reached { IfOk result (λ marks. (y : ℕ) → (slice_index_or marks.items y false ≡ true) ↔ Leads edges.items from y) }
+    ensures len { IfOk result (λ marks. vec_len marks ≡ count) }
+{
+    let mut edges = edges;
+    edges.sort_unstable_by_key(
+        |edge: &Edge| -> usize
+            ensures { result ≡ edge.now.source }
+        { edge.source },
+    );
+    let mut marks = vec![in alloc; false; count]?;
+    let mut order = Vec::new(alloc);
+    mark(&mut marks, &mut order, from)?;
+    spread(&edges, &mut marks, &mut order)?;
+    Ok(marks)
+}
+
 // Whether a chain of steps between so many places leads from one place to another.
 pub(crate) fn leads(
     alloc: Global,
@@ -95,15 +132,6 @@ pub(crate) fn leads(
     requires to { to < count }
     ensures { IfOk result (λ b. IsTrue b ↔ Leads edges.items from to) }
 {
-    let mut edges = edges;
-    edges.sort_unstable_by_key(
-        |edge: &Edge| -> usize
-            ensures { result ≡ edge.now.source }
-        { edge.source },
-    );
-    let mut marks = vec![in alloc; false; count]?;
-    let mut order = Vec::new(alloc);
-    mark(&mut marks, &mut order, from)?;
-    spread(&edges, &mut marks, &mut order)?;
+    let marks = reached(alloc, edges, count, from)?;
     Ok(marks[to])
 }

@@ -4,7 +4,7 @@ ghost use Rattle.std.specs.Prelude.{◌≡◌, ◌∷◌, [], ◌++◌, ◌||◌
 ghost use Rattle.mspec.specs.Node.{Text};
 ghost use Rattle.std.specs.List.{list_any};
 ghost use Rattle.mspec.specs.Access as access;
-ghost use Rattle.mgrant.specs.Placed.{mode_of, placed, allows_so, lets_at, carries_at, IsInterned};
+ghost use Rattle.mgrant.specs.Placed.{mode_of, placed, allows_so, lets_at, carries_at, ties_at, IsInterned};
 ghost use Rattle.mgrant.specs.Edges.{leads};
 
 use crate::flow::Edge;
@@ -103,6 +103,24 @@ fn edges_of(alloc: Global, list: &[Given]) -> Result<Vec<Edge>, AllocError>
     Ok(edges)
 }
 
+// The steps between the two accounts of each grant, in both directions.
+fn ties_of(alloc: Global, list: &[Given]) -> Result<Vec<Edge>, AllocError>
+    ensures { IfOk result (λ edges. (globals : List Text) (x y : ℕ) → list_any (leads x y) edges.items ≡ list_any (ties_at x y) (map (placed globals) list.now)) }
+{
+    let mut edges = Vec::new(alloc);
+    for given in list {
+        let Permit { from, to, .. } = given.permit;
+        let there = Edge {
+            source: from,
+            target: to,
+        };
+        let back = there.turned();
+        edges.push(there)?;
+        edges.push(back)?;
+    }
+    Ok(edges)
+}
+
 impl Grants {
     // No grants. Takes no memory.
     pub fn new(alloc: Global) -> Grants
@@ -160,5 +178,11 @@ impl Grants {
         ensures { IfOk result (λ edges. (x y : ℕ) → list_any (leads x y) edges.items ≡ list_any (carries_at x y) self.now) }
     {
         edges_of(alloc, &self.list)
+    }
+    // The steps between the two accounts of each grant, in both directions.
+    pub fn ties(&self, alloc: Global) -> Result<Vec<Edge>, AllocError>
+        ensures { IfOk result (λ edges. (x y : ℕ) → list_any (leads x y) edges.items ≡ list_any (ties_at x y) self.now) }
+    {
+        ties_of(alloc, &self.list)
     }
 }

@@ -2,7 +2,8 @@
 //! Settings: accounts, their terminals and steps, and what they grant one another, read from a TOML document.
 //!
 //! The definitions that the contracts cite stand in `mspec`: `Access` (settings, and who may do what) and `Flow` (whose doings
-//! can show at whom). What a document says and what is wrong with it stands in `specs/Document.antt`.
+//! can show at whom). What a document says and what is wrong with it stands in `specs/Document.antt`, and what an island is in
+//! `specs/Islands.antt`.
 #![tactic(auto)]
 
 mod account_id;

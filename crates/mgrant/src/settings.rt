@@ -1,11 +1,13 @@
 // SPDX-License-Identifier: Apache-2.0
 // Settings: who has which terminals, and who may do what.
-ghost use Rattle.std.specs.Prelude.{◌≡◌, ◌<◌, ◌↔◌, ◌⊎◌, Some, None, IfOk, IfErr, IfSome, IsTrue, All, length, slice_get, slice_index_or, unwrap_or, option_and_then};
+ghost use Rattle.std.specs.Prelude.{◌≡◌, ◌<◌, ◌↔◌, ◌⊎◌, Some, None, IfOk, IfErr, IfSome, IsTrue, All, false, length, slice_get, slice_index_or, unwrap_or, option_and_then};
+ghost use Rattle.std.specs.List.{filter, range_with_len};
 ghost use Rattle.toml.specs.View.{table_view};
 ghost use Rattle.mspec.specs.KeyBytes.{IsAccountName};
 ghost use Rattle.mspec.specs.Access as access;
 ghost use Rattle.mspec.specs.Flow.{Reaches};
 ghost use Rattle.mgrant.specs.Document.{Reads, fault_of, settings_of};
+ghost use Rattle.mgrant.specs.Islands.{IsIslandAt};
 ghost use Rattle.mgrant.specs.Placed.{mode_of};
 ghost use Rattle.mgrant.specs.Reading.{entries_view, IsRead, IsRefused};
 ghost use Rattle.mgrant.specs.declared.fault.SettingsFault.TheVariants.{Memory};
@@ -14,7 +16,7 @@ use crate::account_id::AccountId;
 use crate::checks::{grants_of, names_of, steps_of, terminals_of};
 use crate::document::{Entries, read_entries};
 use crate::fault::SettingsFault;
-use crate::flow::leads;
+use crate::flow::{leads, reached};
 use crate::grants::Grants;
 use crate::mode::Mode;
 use crate::words::Words;
@@ -99,6 +101,19 @@ fn terminal_at(terminals: &[Option<usize>], terminal: usize) -> Option<usize>
         Some(place) => *place,
         None => None,
     }
+}
+
+// The accounts at the marked places, in their order.
+fn marked(alloc: Global, marks: &[bool]) -> Result<Vec<AccountId>, AllocError>
+    ensures { IfOk result (λ ids. ids.items ≡ filter (λ p. slice_index_or marks.now p false) (range_with_len 0 (length marks.now))) }
+{
+    let mut ids = Vec::new(alloc);
+    for place in 0..marks.len() {
+        if marks[place] {
+            ids.push(AccountId::new(place))?;
+        }
+    }
+    Ok(ids)
 }
 
 impl Settings {
@@ -190,5 +205,20 @@ impl Settings {
         }
         let edges = self.grants.edges(alloc)?;
         Ok(leads(alloc, edges, count, start, end)?)
+    }
+    /// The island of an account, in the order of the settings: the least set of accounts that has it and that no grant ties to
+    /// others, so that they may be kept on a machine of their own. None for an id that names none here. Fails by want of memory
+    /// alone.
+    pub fn island_of(&self, alloc: Global, account: AccountId) -> Result<Vec<AccountId>, AllocError>
+        ensures { IfOk result (λ ids. IsIslandAt self.now (access.name_at self.now account) ids.items) }
+    {
+        let start = account.place();
+        let count = self.names.len();
+        if start >= count {
+            return Ok(Vec::new(alloc));
+        }
+        let ties = self.grants.ties(alloc)?;
+        let marks = reached(alloc, ties, count, start)?;
+        Ok(marked(alloc, &marks)?)
     }
 }

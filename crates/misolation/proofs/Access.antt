@@ -15,12 +15,12 @@ use Rattle.misolation.specs.Reach.{Accounts, IsClosed}
 use Rattle.misolation.specs.Cut.{is_between, cut_settings}
 use Rattle.misolation.proofs.CutMaps.{by_test}
 
-any_more : {X : Type 0} (p q : X → Bool) → ((x : X) → p x ≡ true → q x ≡ true) → (xs : List X) → list_any p xs ≡ true → list_any q xs ≡ true
+pub any_more : {X : Type 0} (p q : X → Bool) → ((x : X) → p x ≡ true → q x ≡ true) → (xs : List X) → list_any p xs ≡ true → list_any q xs ≡ true
 any_more p q h [] e = e
 any_more p q h (x ∷ xs) e = ⊎_elim (λ a. or_left _ _ (h x a)) (λ a. or_right (q x) _ (any_more p q h xs a)) (or_cases (p x) _ e)
 
 -- who is let use what, and by whom
-let_by : (me owner name : Text) (mode : Mode) (g : Grant) → lets me owner name mode g ≡ true → (owner ≡ g.from) × (me ≡ g.to) × (allows g.mode mode ≡ true)
+pub let_by : (me owner name : Text) (mode : Mode) (g : Grant) → lets me owner name mode g ≡ true → (owner ≡ g.from) × (me ≡ g.to) × (allows g.mode mode ≡ true)
 let_by me owner name mode g e =
     let parts = and_parts (text_eq owner g.from && text_eq me g.to) _ e in
     let ends = and_parts (text_eq owner g.from) (text_eq me g.to) parts.0 in

@@ -2,11 +2,11 @@
 -- The laws on a host of three customers, as proved equations: they are not empty, and they claim no more than is so.
 --
 -- The laboratory lets the clinic read its results. The bank has no tie to either, or else the clinic lets it write its bills.
-use Rattle.std.proofs.Common.{◌≡◌, ℕ, true, false, List, [], ◌∷◌, Some, None, refl, sym, ap, ◌∙◌, subst, subst₂}
+use Rattle.std.proofs.Common.{◌≡◌, ℕ, Bool, true, false, cond, List, [], ◌∷◌, Option, Some, None, refl, sym, ap, ◌∙◌, subst, subst₂}
 use Rattle.std.specs.Prelude.{codes}
-use Rattle.std.specs.FinMap.{FinMap, get, insert, remove, retain_keys, empty, entries, from_sorted, same_map, get-empty, get-from_sorted, entries-from_sorted, entries-insert, gets, nat_cmp-IsAntisymmetric}
+use Rattle.std.specs.FinMap.{FinMap, get, insert, remove, retain_keys, empty, entries, from_sorted, same_map, get-empty, get-insert, get-from_sorted, entries-from_sorted, entries-insert, gets, nat_cmp-IsAntisymmetric}
 use Rattle.std.specs.FinMap.Entries.{put}
-use Rattle.std.specs.Ordering.{nat_cmp}
+use Rattle.std.specs.Ordering.{nat_cmp, eq_by_cmp}
 use Rattle.std.proofs.lemmas.Cmp.{nat_cmp_total}
 use Rattle.mspec.specs.Code.{Lost, Memory, Store}
 use Rattle.mspec.specs.Node.{Text, Node}
@@ -18,7 +18,7 @@ use Rattle.mspec.proofs.LockOrders.{held_cmp_total, held_cmp_exact}
 use Rattle.mspec.proofs.NodeOrders.{node_cmp_total, node_cmp_exact}
 use Rattle.mspec.specs.Plan.{Put, Take, Value}
 use Rattle.mmeaning.specs.World.{World, act}
-use Rattle.mmeaning.specs.Step.{new_session, Server, Event, Reply, Faulted, is_too_long, is_ascii, normal, FailedStep, lost, StepBy, Step}
+use Rattle.mmeaning.specs.Step.{Session, new_session, session_or_new, Server, Event, Reply, Faulted, is_too_long, is_ascii, normal, FailedStep, lost, StepBy, Step}
 use Rattle.mmeaning.specs.History.{History, NoneFailed}
 use Rattle.mmeaning.proofs.Histories.{normal_never_fails}
 use Rattle.misolation.specs.Reach.{Accounts, IsClosed, reach}
@@ -26,43 +26,46 @@ use Rattle.misolation.specs.ReachLaws.{IsLeastClosed}
 use Rattle.misolation.specs.PlanLaws.{Actor, ops_of, cut_ops, InsideOperation}
 use Rattle.misolation.specs.Cut.{is_member, is_inside, cut_settings, cut_world, cut_server, cut_events, part, holds_by, IsFit}
 use Rattle.misolation.specs.Alone.{only}
+use Rattle.misolation.specs.Alike.{AlikeServers, SameEntries}
 use Rattle.misolation.specs.Agreement.{Run, Agree}
 use Rattle.misolation.specs.HistoryLaws.{Answered, SameReplies}
 use Rattle.misolation.proofs.CutMaps.{get_kept}
 use Rattle.misolation.proofs.FittingLocks.{fit_insert}
 use Rattle.misolation.proofs.Operations.{inside_operations}
 use Rattle.misolation.proofs.Reaching.{reach_is_least_closed}
+use Rattle.misolation.proofs.StepsAlike.{alike_servers}
+use Rattle.misolation.proofs.EntriesAlike.{same_entries_agree}
 use Rattle.misolation.proofs.PartsAlone.{part_is_history, opening_is_fit, agreeing_replies}
 
-abbrev account : Text → Account
+abbrev pub account : Text → Account
 account name = record { name = name; steps = 2000 }
 
-abbrev clinic : Text
+abbrev pub clinic : Text
 clinic = codes "CLINIC"
 
-abbrev laboratory : Text
+abbrev pub laboratory : Text
 laboratory = codes "LABORATORY"
 
-abbrev bank : Text
+abbrev pub bank : Text
 bank = codes "BANK"
 
-abbrev terminals : FinMap nat_cmp Account
+abbrev pub terminals : FinMap nat_cmp Account
 terminals = insert (insert (insert empty 1 (account clinic)) 2 (account laboratory)) 3 (account bank)
 
-abbrev host : List Grant → Settings
+abbrev pub host : List Grant → Settings
 host grants = record { accounts = account clinic ∷ account laboratory ∷ account bank ∷ []; terminals = terminals; grants = grants }
 
-abbrev results_read : Grant
+abbrev pub results_read : Grant
 results_read = record { from = laboratory; to = clinic; global = codes "RESULTS"; mode = Read }
 
-abbrev bills_written : Grant
+abbrev pub bills_written : Grant
 bills_written = record { from = clinic; to = bank; global = codes "BILLS"; mode = Write }
 
 -- the bank apart, and the bank let in
-abbrev apart : Settings
+abbrev pub apart : Settings
 apart = host (results_read ∷ [])
 
-abbrev let_in : Settings
+abbrev pub let_in : Settings
 let_in = host (results_read ∷ bills_written ∷ [])
 
 -- ---- who reaches whom
@@ -215,7 +218,12 @@ module _ (text : Text) where
   lonely_runs = ((normal apart (line 1 text) quiet).1, clinic_runs quiet (line 1 text), refl)
 
   agreed : Agree clinic with_bank without_bank
-  agreed = record { reaching = λ x. refl; settings = refl; server = same_cut; events = simp (clinic_inside, bank_outside) refl }
+  agreed = record {
+    reaching = λ x. refl;
+    settings = record { terminals = λ t. refl; allowed = λ me owner name mode. refl };
+    server = alike_servers (cut_server tied apart busy) (cut_server tied apart quiet) same_cut;
+    events = simp (clinic_inside, bank_outside) refl;
+  }
 
   tied_part : part tied apart crowded ≡ (line 1 text, (normal apart (line 1 text) (failed busy)).0) ∷ []
   tied_part = simp (clinic_inside, bank_outside) refl
@@ -287,6 +295,41 @@ module _ (text : Text) where
       let after = (normal apart (line 1 text) (laboratory_failed busy)).1 in
       subst₂ (λ server es. History (cut_settings tied apart) server es (cut_server tied apart after)) same_cut whole_part
       (part_is_history tied apart busy after short_of_memory least.closed busy_fits laboratory_fails)
+
+-- ---- how settings are listed, and whether a session is new or none, counts for nothing
+
+abbrev bills_read : Grant
+bills_read = record bills_written { mode = Read }
+
+-- the bank let in: the accounts in another order, a grant twice, and one to read beside one to write
+abbrev relisted : Settings
+relisted = record {
+  accounts = account bank ∷ account clinic ∷ account laboratory ∷ [];
+  terminals = terminals;
+  grants = bills_read ∷ bills_written ∷ results_read ∷ results_read ∷ [];
+}
+
+same_entries : SameEntries let_in relisted
+same_entries = record { terminals = λ t. refl; there = refl; back = refl }
+
+-- the clinic has a new session
+abbrev opened : Server
+opened = record quiet { sessions = insert quiet.sessions 1 new_session }
+
+quiet_opened : AlikeServers quiet opened
+quiet_opened = record { world = refl; sessions = λ t. by_terminal (eq_by_cmp nat_cmp t 1) (get quiet.sessions t) (get-empty nat_cmp t) ∙ sym (ap session_or_new (get-insert nat_cmp_total quiet.sessions 1 new_session t)) }
+  where
+    by_terminal : (b : Bool) (o : Option Session) → o ≡ None → session_or_new o ≡ session_or_new (cond b (Some new_session) o)
+    by_terminal true o e = ap session_or_new e
+    by_terminal false o e = refl
+
+relisted_agree : (a : Text) (events : List Event)
+    → Agree a (record { settings = let_in; server = quiet; events = events }) (record { settings = relisted; server = opened; events = events })
+relisted_agree a events = same_entries_agree a let_in relisted quiet opened events same_entries quiet_opened
+
+-- but a grant to write for one to read is another entry
+not_same_entries : SameEntries apart (host (record results_read { mode = Write } ∷ [])) → ⊥
+not_same_entries same = let no : false ≡ true = same.back in absurd (cc)
 
 -- ---- what is left to the clinic
 

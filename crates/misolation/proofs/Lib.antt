@@ -8,9 +8,14 @@ pub mod GlobalCuts
 pub mod Operations
 pub mod PlansInside
 pub mod Endings
+pub mod StepsWrite
 pub mod Steps
+pub mod StepsAlike
 pub mod PartsOfParts
 pub mod PartsAlone
 pub mod ReachKept
+pub mod EntriesAlike
 pub mod RunsTold
+pub mod IslandsTogether
 pub mod IsolationExamples
+pub mod IslandExamples

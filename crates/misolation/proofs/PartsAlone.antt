@@ -1,15 +1,13 @@
 -- SPDX-License-Identifier: Apache-2.0
 -- The two laws for histories of different length, and the isolation theorem.
-use Rattle.std.proofs.Common.{◌≡◌, ℕ, Bool, true, false, cond, List, [], ◌∷◌, Option, Some, None, map, refl, sym, ap, ◌∙◌, subst, subst₂}
+use Rattle.std.proofs.Common.{◌≡◌, Bool, true, false, cond, List, [], ◌∷◌, Option, Some, None, map, refl, sym, ap, ◌∙◌, subst, subst₂}
 use Rattle.std.proofs.lemmas.Cmp.{nat_cmp_total}
 use Rattle.std.proofs.lemmas.List.Elements.{filter_agree}
-use Rattle.std.proofs.lemmas.Bool.{false_from_ne_true}
-use Rattle.std.specs.Cmp.Lexicographic.{bytes_decides}
 use Rattle.std.specs.Cmp.{IsTotalOrder}
 use Rattle.std.specs.declared.cmp.Ordering.{Ordering}
-use Rattle.std.specs.FinMap.{get, empty, retain_keys, get-empty, same_map, IsAntisymmetric, nat_cmp-IsAntisymmetric}
+use Rattle.std.specs.FinMap.{empty, retain_keys, get-empty, same_map, IsAntisymmetric, nat_cmp-IsAntisymmetric}
 use Rattle.mspec.specs.Node.{Text}
-use Rattle.mspec.specs.Access.{Account, Settings}
+use Rattle.mspec.specs.Access.{Settings}
 use Rattle.mspec.specs.LockConflict.{held_cmp}
 use Rattle.mspec.proofs.LockOrders.{held_cmp_total, held_cmp_exact}
 use Rattle.mspec.proofs.MapCuts.{get_cut}
@@ -20,14 +18,16 @@ use Rattle.misolation.specs.Reach.{Accounts, reach}
 use Rattle.misolation.specs.Cut.{is_member, is_inside, cut_settings, cut_server, cut_events, part, IsFit}
 use Rattle.misolation.specs.Alone.{alone, only}
 use Rattle.misolation.specs.Trace.{Moment, Trace, lines_of, left_by, cut_trace}
+use Rattle.misolation.specs.Alike.{AlikeServers}
 use Rattle.misolation.specs.Agreement.{Run, Agree}
 use Rattle.misolation.specs.ReachLaws.{IsLeastClosed}
 use Rattle.misolation.specs.StepLaws.{InsideStep, OutsideStep}
-use Rattle.misolation.specs.HistoryLaws.{events_of, PartIsHistory, HistoryHasTrace, PartOfTrace, PartIsTrace, OpeningIsFit, HistoriesKeepFit, IsAlone, PartIsAlone, InterpreterIsolates, Isolation, OpeningIsCut, Answered, AgreeingReplies}
-use Rattle.misolation.proofs.CutMaps.{by_test, filter_absorbed, map_filter}
+use Rattle.misolation.specs.HistoryLaws.{events_of, PartIsHistory, HistoryHasTrace, PartOfTrace, PartIsTrace, OpeningIsFit, HistoriesKeepFit, IsAlone, PartIsAlone, InterpreterIsolates, Isolation, OpeningIsCut, Answered, SameReplies, AgreeingReplies, sent_to, PromiseIsKept}
+use Rattle.misolation.proofs.CutMaps.{by_test, map_filter}
 use Rattle.misolation.proofs.Reaching.{reach_is_least_closed}
 use Rattle.misolation.proofs.PartsOfParts.{part_of_part, part_kept, only_among}
 use Rattle.misolation.proofs.Steps.{inside_steps, outside_steps, steps_keep_fit}
+use Rattle.misolation.proofs.StepsAlike.{answered_alike, left_alike, left_equal}
 
 -- ---- the part is a history
 
@@ -203,10 +203,27 @@ module _ (a : Text) where
       sym (part_kept (only a) (tied r) r.settings (only_among (tied r) a least.has) es)
 
   same_lines : (one two : Run) → Agree a one two → lines_alone one ≡ lines_alone two
-  same_lines one two agree = λ i. answered (agree.settings i) (agree.server i) (agree.events i)
+  same_lines one two agree =
+      answered_alike (cut_settings (tied one) one.settings) (cut_settings (tied two) two.settings) agree.settings (cut_events (tied one) one.settings one.events)
+      (cut_server (tied one) one.settings one.server) (cut_server (tied two) two.settings two.server) agree.server
+      ∙ ap (answered (cut_settings (tied two) two.settings) (cut_server (tied two) two.settings two.server)) agree.events
 
-  same_left : (one two : Run) → Agree a one two → left_alone one ≡ left_alone two
-  same_left one two agree = λ i. server_after (agree.settings i) (agree.server i) (agree.events i)
+  same_left : (one two : Run) → Agree a one two → AlikeServers (left_alone one) (left_alone two)
+  same_left one two agree =
+      subst (λ (events : List Event). AlikeServers (left_alone one) (server_after (cut_settings (tied two) two.settings) (cut_server (tied two) two.settings two.server) events)) agree.events
+      (left_alike (cut_settings (tied one) one.settings) (cut_settings (tied two) two.settings) agree.settings (cut_events (tied one) one.settings one.events)
+      (cut_server (tied one) one.settings one.server) (cut_server (tied two) two.settings two.server) agree.server)
+
+  equal_left : (one two : Run) → Agree a one two → cut_server (tied one) one.settings one.server ≡ cut_server (tied two) two.settings two.server → left_alone one ≡ left_alone two
+  equal_left one two agree e =
+      left_equal (cut_settings (tied one) one.settings) (cut_settings (tied two) two.settings) agree.settings (cut_events (tied one) one.settings one.events) (cut_server (tied one) one.settings one.server)
+      ∙ (λ i. server_after (cut_settings (tied two) two.settings) (e i) (agree.events i))
+
+  -- an account's own terminals are the same in both
+  own_same : (one two : Run) → Agree a one two → (es : List (Event × Reply)) → part (only a) (cut_settings (tied one) one.settings) es ≡ part (only a) (cut_settings (tied two) two.settings) es
+  own_same one two agree es =
+      filter_agree (λ e. is_inside (only a) (cut_settings (tied one) one.settings) e.0.terminal) (λ e. is_inside (only a) (cut_settings (tied two) two.settings) e.0.terminal)
+      (λ e. ap (is_member (only a)) (agree.settings.terminals e.0.terminal)) es
 
 pub agreeing_replies : AgreeingReplies
 agreeing_replies a one two agree fit fit' es fs first second h k =
@@ -215,6 +232,21 @@ agreeing_replies a one two agree fit fit' es fs first second h k =
     let same = low.0 ∙ same_lines a one two agree ∙ sym high.0 in
     record {
       reaching = same;
-      own = own_of_part a one es ∙ (λ i. part (only a) (agree.settings i) (same i)) ∙ sym (own_of_part a two fs);
-      left = low.1 ∙ same_left a one two agree ∙ sym high.1;
+      own =
+          own_of_part a one es ∙ ap (part (only a) (cut_settings (reach one.settings a) one.settings)) same
+          ∙ own_same a one two agree (part (reach two.settings a) two.settings fs) ∙ sym (own_of_part a two fs);
+      left = subst₂ AlikeServers (sym low.1) (sym high.1) (same_left a one two agree);
+      equal = λ e. low.1 ∙ equal_left a one two agree e ∙ sym high.1;
     }
+
+-- ---- the promise
+
+pub promise_is_kept : PromiseIsKept
+promise_is_kept settings a globals es after h none = record {
+  alone = isolation settings a globals es after h none;
+  elsewhere = λ settings' globals' es' after' agree h' none'.
+      let same : SameReplies a (sent_to settings globals es) (sent_to settings' globals' es') es es' after after' =
+      agreeing_replies a (sent_to settings globals es) (sent_to settings' globals' es') agree (opening_is_fit settings globals) (opening_is_fit settings' globals') es es' after after'
+      (record { events = refl; history = h; none_failed = none }) (record { events = refl; history = h'; none_failed = none' }) in
+      same.own;
+}

@@ -11,8 +11,8 @@ use Rattle.misolation.specs.Reach.{reach}
 use Rattle.misolation.specs.Cut.{is_inside, cut_settings, cut_events, part}
 use Rattle.misolation.specs.Alone.{alone, only}
 use Rattle.misolation.specs.ReachLaws.{IsLeastClosed}
-use Rattle.misolation.specs.HistoryLaws.{events_of, IsAlone, SameReplies}
-use Rattle.misolation.specs.Telling.{told_by, told_to, Tells}
+use Rattle.misolation.specs.HistoryLaws.{IsAlone, SameReplies}
+use Rattle.misolation.specs.Telling.{told_by, told_to}
 use Rattle.misolation.specs.RunLaws.{NothingIsTold, TellsOn, ToldApart, EquallyTold, ToldTheSame}
 use Rattle.misolation.proofs.PartsOfParts.{part_of_part, part_kept, only_among, same_part}
 use Rattle.misolation.proofs.Reaching.{reach_is_least_closed}
@@ -61,11 +61,14 @@ tells_on a settings server between after events told whole h e reply step more i
 
 pub told_apart : ToldApart
 told_apart s a settings server after events told whole closed m fit h = record {
-  lines = part s settings h.lines;
-  sent = events_of_part s settings h.lines ∙ ap (cut_events s settings) h.sent;
-  history = part_is_history s settings server after h.lines closed fit h.history;
-  replies = ap (map told_by) (part_kept (only a) s settings (only_among s a m) h.lines) ∙ h.replies;
-  failures = subst (λ es. IsTrue whole ↔ NoneFailed es) (sym reaching) h.failures;
+  tells = record {
+    lines = part s settings h.lines;
+    sent = events_of_part s settings h.lines ∙ ap (cut_events s settings) h.sent;
+    history = part_is_history s settings server after h.lines closed fit h.history;
+    replies = ap (map told_by) (part_kept (only a) s settings (only_among s a m) h.lines) ∙ h.replies;
+    failures = subst (λ es. IsTrue whole ↔ NoneFailed es) (sym reaching) h.failures;
+  };
+  part_of = refl;
 }
   where
     least : IsLeastClosed settings a (reach settings a)

@@ -1,21 +1,26 @@
 -- SPDX-License-Identifier: Apache-2.0
 -- The two laws for steps.
 use Rattle.std.proofs.Common.{◌≡◌, ℕ, Bool, true, false, Option, Some, None, refl, sym, ap, ◌∙◌, subst}
-use Rattle.std.specs.Prelude.{not, ◌||◌, [], if◌then◌else◌}
+use Rattle.std.specs.Prelude.{not, ◌||◌, List, [], ◌∷◌, if◌then◌else◌}
+use Rattle.std.specs.List.{flat_map}
 use Rattle.std.specs.FinMap.{FinMap, get, retain_keys, nat_cmp-IsAntisymmetric}
 use Rattle.std.specs.Ordering.{nat_cmp}
 use Rattle.std.proofs.lemmas.Cmp.{nat_cmp_total}
-use Rattle.mspec.specs.Access.{Account, Settings}
+use Rattle.mspec.specs.Node.{Text}
+use Rattle.mspec.specs.Access.{Account, Settings, Write}
 use Rattle.mspec.specs.Act.{Outcome}
-use Rattle.mspec.specs.Plan.{Plan, perform, cut_short}
+use Rattle.mspec.specs.Plan.{Op, May, Value, Status, Neighbour, Routine, Put, Kill, Take, Give_back, Release, Plan, perform, cut_short}
 use Rattle.mgrammar.specs.Reading.{line_at}
 use Rattle.mmeaning.specs.LineMeaning.{Signal}
 use Rattle.mmeaning.specs.World.{act}
 use Rattle.mmeaning.specs.Step.{Session, session_or_new, Server, Event, Reply, plan_of, ended, is_too_long, is_ascii, at_tree, checked, at_account, normal, FailedStep, is_failure, StepBy}
 use Rattle.misolation.specs.Reach.{Accounts, IsClosed}
 use Rattle.misolation.specs.Cut.{is_member, is_inside, cut_settings, cut_locks, cut_world, cut_server, AreFit, IsFit}
-use Rattle.misolation.specs.PlanLaws.{exchanges, Actor, ops_of, cut_ops, InsidePlan, OutsidePlan}
-use Rattle.misolation.specs.StepLaws.{exchanges_by, line_exchanges, InsideStep, InsideSteps, OutsideStep, OutsideSteps, StepsKeepFit, StepsAreIsolated}
+use Rattle.misolation.specs.PlanLaws.{Exchange, exchanges, Actor, ops_of, cut_ops, InsidePlan, OutsidePlan}
+use Rattle.misolation.specs.Writes.{GlobalWrite, Puts, Kills, write_of, writes}
+use Rattle.misolation.specs.StepLaws.{exchanges_by, line_exchanges, writes_by, line_writes, InsideStep, InsideSteps, OutsideStep, OutsideSteps, StepsKeepFit, StepsAreIsolated}
+use Rattle.misolation.proofs.Access.{may_cut}
+use Rattle.misolation.proofs.StepsWrite.{steps_write}
 use Rattle.misolation.proofs.CutMaps.{get_kept}
 use Rattle.misolation.proofs.FittingLocks.{released_fits}
 use Rattle.misolation.proofs.LockCuts.{released_cut, released_outside}
@@ -86,6 +91,33 @@ module _ (s : Accounts) (settings : Settings) (e : Event) (server : Server) wher
       ap (exchanges_by (cut_settings s settings) e (cut_server s settings server)) (nat_kept settings.terminals (is_inside s settings) e.terminal here)
       ∙ asked_inside (get settings.terminals e.terminal) refl closed fit here
 
+  -- and so are the writes among them, since what a member may write is the same
+  writes_among : (me : Text) → IsClosed settings s → s me ≡ true → (op : Op) → write_of (cut_settings s settings) me op ≡ write_of settings me op
+  writes_among me closed m (May owner name mode) = refl
+  writes_among me closed m (Value n) = refl
+  writes_among me closed m (Status n) = refl
+  writes_among me closed m (Neighbour direction n) = refl
+  writes_among me closed m (Routine name) = refl
+  writes_among me closed m (Put n t) = ap (λ b. if b then Puts n t ∷ [] else []) (may_cut s settings closed me n.account n.name Write m)
+  writes_among me closed m (Kill n) = ap (λ b. if b then Kills n ∷ [] else []) (may_cut s settings closed me n.account n.name Write m)
+  writes_among me closed m (Take names) = refl
+  writes_among me closed m (Give_back n) = refl
+  writes_among me closed m Release = refl
+
+  written_inside : (o : Option Account) → get settings.terminals e.terminal ≡ o → IsClosed settings s → IsFit settings server.world → is_inside s settings e.terminal ≡ true
+      → writes_by (cut_settings s settings) e (cut_server s settings server) o ≡ writes_by settings e server o
+  written_inside None known closed fit here = refl
+  written_inside (Some account) known closed fit here =
+      ap (λ (f : Op → List GlobalWrite). flat_map (λ (x : Exchange). f x.op) (exchanges_by (cut_settings s settings) e (cut_server s settings server) (Some account)))
+      (λ i op. writes_among account.name closed (sym (ap (is_member s) known) ∙ here) op i)
+      ∙ ap (writes settings account.name) (asked_inside (Some account) known closed fit here)
+
+  pub writes_inside : IsClosed settings s → IsFit settings server.world → is_inside s settings e.terminal ≡ true
+      → line_writes (cut_settings s settings) e (cut_server s settings server) ≡ line_writes settings e server
+  writes_inside closed fit here =
+      ap (writes_by (cut_settings s settings) e (cut_server s settings server)) (nat_kept settings.terminals (is_inside s settings) e.terminal here)
+      ∙ written_inside (get settings.terminals e.terminal) refl closed fit here
+
   pub failed_inside : IsClosed settings s → IsFit settings server.world → is_inside s settings e.terminal ≡ true → (after : Server) → FailedStep settings e server after
       → FailedStep (cut_settings s settings) e (cut_server s settings server) (cut_server s settings after)
   failed_inside closed fit here after f =
@@ -149,6 +181,7 @@ pub inside_steps : InsideSteps
 inside_steps s settings e server closed fit here = record {
   normal = normal_inside s settings e server closed fit here;
   exchanges = exchanges_inside s settings e server closed fit here;
+  writes = writes_inside s settings e server closed fit here;
   failed = failed_inside s settings e server closed fit here;
   step = λ reply after h. by_kind (is_failure reply.ending) reply after h;
 }
@@ -194,8 +227,11 @@ pub steps_keep_fit : StepsKeepFit
 steps_keep_fit settings e reply server after h fit = kind_fits settings e server fit (is_failure reply.ending) reply after h
 
 pub steps_are_isolated : StepsAreIsolated
-steps_are_isolated settings e reply server after h fit s closed = record {
-  inside = λ here. let law : InsideStep s settings e server = inside_steps s settings e server closed fit here in law.step reply after h;
+steps_are_isolated settings e reply server after h s closed = record {
+  inside = λ fit here.
+      let law : InsideStep s settings e server = inside_steps s settings e server closed fit here in
+      record { step = law.step reply after h; writes = law.writes };
   outside = λ away. let law : OutsideStep s settings e server = outside_steps s settings e server closed away in law.step reply after h;
-  fit = steps_keep_fit settings e reply server after h fit;
+  writes = steps_write settings e reply server after h;
+  fit = steps_keep_fit settings e reply server after h;
 }

@@ -6,6 +6,7 @@ use Rattle.mspec.specs.Access.{Settings}
 use Rattle.mmeaning.specs.Step.{Server, Event}
 use Rattle.misolation.specs.Reach.{reach}
 use Rattle.misolation.specs.Cut.{cut_settings, cut_server, cut_events}
+use Rattle.misolation.specs.Alike.{AlikeSettings, AlikeServers}
 
 -- where lines are run, and which
 pub record Run : Type 0 where
@@ -13,10 +14,10 @@ pub record Run : Type 0 where
   pub server : Server
   pub events : List Event
 
--- The same accounts reach `a`, and of these both have the same settings and grants, globals, sessions, locks and lines. All else
--- may differ.
+-- The same accounts reach `a`. Of these both have the same terminals and steps, and allow the same between them; the same globals and
+-- locks; the same sessions, where one as new counts as none; and the same lines. All else may differ.
 pub record Agree (a : Text) (one two : Run) : Type 0 where
   pub reaching : (x : Text) → reach one.settings a x ≡ reach two.settings a x
-  pub settings : cut_settings (reach one.settings a) one.settings ≡ cut_settings (reach two.settings a) two.settings
-  pub server : cut_server (reach one.settings a) one.settings one.server ≡ cut_server (reach two.settings a) two.settings two.server
+  pub settings : AlikeSettings (cut_settings (reach one.settings a) one.settings) (cut_settings (reach two.settings a) two.settings)
+  pub server : AlikeServers (cut_server (reach one.settings a) one.settings one.server) (cut_server (reach two.settings a) two.settings two.server)
   pub events : cut_events (reach one.settings a) one.settings one.events ≡ cut_events (reach two.settings a) two.settings two.events

@@ -11,6 +11,7 @@ use Rattle.misolation.specs.Reach.{Accounts, IsClosed, reach}
 use Rattle.misolation.specs.Cut.{cut_settings, cut_server, cut_events, part, IsFit}
 use Rattle.misolation.specs.Alone.{alone, only}
 use Rattle.misolation.specs.Trace.{Moment, Trace, lines_of, left_by, cut_trace}
+use Rattle.misolation.specs.Alike.{AlikeServers}
 use Rattle.misolation.specs.Agreement.{Run, Agree}
 
 abbrev pub events_of : List (Event × Reply) → List Event
@@ -87,11 +88,15 @@ pub record Answered (a : Text) (run : Run) (es : List (Event × Reply)) (after :
   pub history : History run.settings run.server es after
   pub none_failed : NoneFailed (part (reach run.settings a) run.settings es)
 
--- the same lines with the same replies, at the terminals of the accounts that reach `a` and at its own, and the same is left to these
+-- the same lines with the same replies, at the terminals of the accounts that reach `a` and at its own; and what is left to these is
+-- alike, and equal if it was so before
 pub record SameReplies (a : Text) (one two : Run) (es fs : List (Event × Reply)) (first second : Server) : Type 0 where
   pub reaching : part (reach one.settings a) one.settings es ≡ part (reach two.settings a) two.settings fs
   pub own : part (only a) one.settings es ≡ part (only a) two.settings fs
-  pub left : cut_server (reach one.settings a) one.settings first ≡ cut_server (reach two.settings a) two.settings second
+  pub left : AlikeServers (cut_server (reach one.settings a) one.settings first) (cut_server (reach two.settings a) two.settings second)
+  pub equal :
+      cut_server (reach one.settings a) one.settings one.server ≡ cut_server (reach two.settings a) two.settings two.server →
+      cut_server (reach one.settings a) one.settings first ≡ cut_server (reach two.settings a) two.settings second
 
 -- two runs that agree for an account give it the same replies, however long each is and whatever else is in it
 abbrev pub AgreeingReplies : Type 0
@@ -99,3 +104,26 @@ AgreeingReplies =
     (a : Text) (one two : Run) → Agree a one two → IsFit one.settings one.server.world → IsFit two.settings two.server.world →
     (es fs : List (Event × Reply)) (first second : Server) → Answered a one es first → Answered a two fs second →
     SameReplies a one two es fs first second
+
+-- ---- what an account may be promised
+
+-- lines that are sent to a server which has globals alone
+abbrev pub sent_to : Settings → Globals → List (Event × Reply) → Run
+sent_to settings globals es = record { settings = settings; server = opening globals; events = events_of es }
+
+-- The replies at the account's terminals are those of the definitional interpreter, run on the lines of the accounts that reach it, over
+-- their globals and the grants between them alone. And any other server of which that is said, and that agrees with this one on these,
+-- gives it the same replies, whatever other accounts store, lock, run or exhaust in either.
+pub record Promise (a : Text) (settings : Settings) (globals : Globals) (es : List (Event × Reply)) : Type 0 where
+  pub alone : part (only a) settings es ≡ part (only a) settings (alone (reach settings a) settings (opening globals) (events_of es))
+  pub elsewhere :
+      (settings' : Settings) (globals' : Globals) (es' : List (Event × Reply)) (after' : Server) → Agree a (sent_to settings globals es) (sent_to settings' globals' es') →
+      History settings' (opening globals') es' after' → NoneFailed (part (reach settings' a) settings' es') →
+      part (only a) settings es ≡ part (only a) settings' es'
+
+-- The promise is kept: for all settings, all globals and all lines of all terminals in any order, if no line of an account that reaches
+-- this one failed.
+abbrev pub PromiseIsKept : Type 0
+PromiseIsKept =
+    (settings : Settings) (a : Text) (globals : Globals) (es : List (Event × Reply)) (after : Server) → History settings (opening globals) es after →
+    NoneFailed (part (reach settings a) settings es) → Promise a settings globals es

@@ -3,10 +3,15 @@ pub mod Reach
 pub mod Cut
 pub mod Alone
 pub mod Trace
+pub mod Alike
 pub mod Agreement
+pub mod AlikeLaws
 pub mod ReachLaws
 pub mod PlanLaws
+pub mod Writes
 pub mod StepLaws
 pub mod HistoryLaws
 pub mod Telling
 pub mod RunLaws
+pub mod Islands
+pub mod IslandLaws

@@ -6,10 +6,10 @@ use Rattle.mspec.specs.Access.{Settings}
 use Rattle.mmeaning.specs.Step.{Server, Event, Reply, Step}
 use Rattle.mmeaning.specs.History.{NoneFailed}
 use Rattle.misolation.specs.Reach.{Accounts, IsClosed, reach}
-use Rattle.misolation.specs.Cut.{cut_settings, cut_server, cut_events, part, IsFit}
+use Rattle.misolation.specs.Cut.{part, IsFit}
 use Rattle.misolation.specs.Alone.{alone}
 use Rattle.misolation.specs.Agreement.{Run, Agree}
-use Rattle.misolation.specs.Telling.{Told, told_to, Tells}
+use Rattle.misolation.specs.Telling.{Told, told_to, Tells, TellsPart}
 
 -- ---- how a run is made
 
@@ -28,13 +28,13 @@ TellsOn =
 
 -- ---- what it tells
 
--- Told apart: whatever a run tells an account, and whether it is whole, the run of the members' lines alone tells it, over the cuts
--- to any closed set that has the account, whichever of their steps failed.
+-- Told apart: whatever a run tells an account, and whether it is whole, the members' part of its history tells it, over the cuts to any
+-- closed set that has the account, whichever of their steps failed.
 abbrev pub ToldApart : Type 0
 ToldApart =
     (s : Accounts) (a : Text) (settings : Settings) (server after : Server) (events : List Event) (told : List Told) (whole : Bool) →
-    IsClosed settings s → IsTrue (s a) → IsFit settings server.world → Tells a settings server events told whole after →
-    Tells a (cut_settings s settings) (cut_server s settings server) (cut_events s settings events) told whole (cut_server s settings after)
+    IsClosed settings s → IsTrue (s a) → IsFit settings server.world → (run : Tells a settings server events told whole after) →
+    TellsPart s a settings server events told whole after run.lines
 
 -- Equally told: a whole run tells the account what the definitional interpreter answers to the lines of the accounts that reach it,
 -- over their globals, their sessions and locks, and the grants between them alone.

@@ -1,14 +1,15 @@
 -- SPDX-License-Identifier: Apache-2.0
 -- The laws of steps, as statements. The functions of src/ named after them carry them.
-use Rattle.std.specs.Prelude.{◌≡◌, false, not, ◌||◌, IsTrue, List, [], Option, Some, None, if◌then◌else◌}
+use Rattle.std.specs.Prelude.{◌≡◌, false, not, ◌||◌, IsTrue, List, [], ◌++◌, Option, Some, None, if◌then◌else◌}
 use Rattle.std.specs.FinMap.{get}
 use Rattle.mspec.specs.Access.{Account, Settings}
 use Rattle.mgrammar.specs.Reading.{line_at}
 use Rattle.mmeaning.specs.World.{act}
-use Rattle.mmeaning.specs.Step.{Server, Event, Reply, session_or_new, plan_of, is_too_long, is_ascii, normal, FailedStep, Step}
+use Rattle.mmeaning.specs.Step.{Server, Event, Reply, session_or_new, plan_of, is_too_long, is_ascii, normal, FailedStep, is_failure, Step}
 use Rattle.misolation.specs.Reach.{Accounts, IsClosed}
 use Rattle.misolation.specs.Cut.{is_inside, cut_settings, cut_server, IsFit}
 use Rattle.misolation.specs.PlanLaws.{Exchange, exchanges}
+use Rattle.misolation.specs.Writes.{GlobalWrite, written, writes}
 
 -- the operations that a line comes to, with their answers; none where it is refused before it is run
 abbrev pub exchanges_by : Settings → Event → Server → Option Account → List Exchange
@@ -20,13 +21,35 @@ exchanges_by settings e server (Some account) =
 abbrev pub line_exchanges : Settings → Event → Server → List Exchange
 line_exchanges settings e server = exchanges_by settings e server (get settings.terminals e.terminal)
 
+-- the writes of globals among them
+abbrev pub writes_by : Settings → Event → Server → Option Account → List GlobalWrite
+writes_by settings e server None = []
+writes_by settings e server (Some account) = writes settings account.name (exchanges_by settings e server (Some account))
+
+abbrev pub line_writes : Settings → Event → Server → List GlobalWrite
+line_writes settings e server = writes_by settings e server (get settings.terminals e.terminal)
+
+-- The globals that a step leaves are the old ones after some first of the line's writes: after all, if it did not fail.
+pub record StepWrites (settings : Settings) (e : Event) (reply : Reply) (server after : Server) : Type 0 where
+  pub done : List GlobalWrite
+  pub undone : List GlobalWrite
+  pub all : line_writes settings e server ≡ done ++ undone
+  pub globals : after.world.globals ≡ written done server.world.globals
+  pub whole : is_failure reply.ending ≡ false → undone ≡ []
+
+abbrev pub StepsWrite : Type 0
+StepsWrite =
+    (settings : Settings) (e : Event) (reply : Reply) (server after : Server) → Step settings e reply server after →
+    StepWrites settings e reply server after
+
 -- A step at a member's terminal is that step over the cuts, with the same reply. A normal one gives what it gives there, by the same
--- operations with the same answers, its writes among them; a failed one is a failed one there.
+-- operations with the same answers, and by the same writes; a failed one is a failed one there.
 pub record InsideStep (s : Accounts) (settings : Settings) (e : Event) (server : Server) : Type 0 where
   pub normal :
       normal (cut_settings s settings) e (cut_server s settings server) ≡
       ((normal settings e server).0, cut_server s settings (normal settings e server).1)
   pub exchanges : line_exchanges (cut_settings s settings) e (cut_server s settings server) ≡ line_exchanges settings e server
+  pub writes : line_writes (cut_settings s settings) e (cut_server s settings server) ≡ line_writes settings e server
   pub failed :
       (after : Server) → FailedStep settings e server after →
       FailedStep (cut_settings s settings) e (cut_server s settings server) (cut_server s settings after)
@@ -55,13 +78,19 @@ StepsKeepFit =
     (settings : Settings) (e : Event) (reply : Reply) (server after : Server) → Step settings e reply server after →
     IsFit settings server.world → IsFit settings after.world
 
--- both laws of one step, in one, as a call that makes steps may say it of each
+-- A step at a member's terminal is that step over the cuts, with the same reply and the same writes.
+pub record StepWithin (s : Accounts) (settings : Settings) (e : Event) (reply : Reply) (server after : Server) : Type 0 where
+  pub step : Step (cut_settings s settings) e reply (cut_server s settings server) (cut_server s settings after)
+  pub writes : line_writes (cut_settings s settings) e (cut_server s settings server) ≡ line_writes settings e server
+
+-- Both laws of one step, in one, as a call that makes steps may say it of each. Only the inside law asks something of the locks.
 pub record IsolatedStep (s : Accounts) (settings : Settings) (e : Event) (reply : Reply) (server after : Server) : Type 0 where
-  pub inside : IsTrue (is_inside s settings e.terminal) → Step (cut_settings s settings) e reply (cut_server s settings server) (cut_server s settings after)
+  pub inside : IsFit settings server.world → IsTrue (is_inside s settings e.terminal) → StepWithin s settings e reply server after
   pub outside : is_inside s settings e.terminal ≡ false → cut_server s settings after ≡ cut_server s settings server
-  pub fit : IsFit settings after.world
+  pub writes : StepWrites settings e reply server after
+  pub fit : IsFit settings server.world → IsFit settings after.world
 
 abbrev pub StepsAreIsolated : Type 0
 StepsAreIsolated =
-    (settings : Settings) (e : Event) (reply : Reply) (server after : Server) → Step settings e reply server after → IsFit settings server.world →
+    (settings : Settings) (e : Event) (reply : Reply) (server after : Server) → Step settings e reply server after →
     (s : Accounts) → IsClosed settings s → IsolatedStep s settings e reply server after

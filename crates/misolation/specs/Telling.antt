@@ -5,8 +5,8 @@ use Rattle.mspec.specs.Node.{Text}
 use Rattle.mspec.specs.Access.{Settings}
 use Rattle.mmeaning.specs.Step.{Server, Event, Reply}
 use Rattle.mmeaning.specs.History.{History, NoneFailed}
-use Rattle.misolation.specs.Reach.{reach}
-use Rattle.misolation.specs.Cut.{part}
+use Rattle.misolation.specs.Reach.{Accounts, reach}
+use Rattle.misolation.specs.Cut.{cut_settings, cut_server, cut_events, part}
 use Rattle.misolation.specs.Alone.{only}
 use Rattle.misolation.specs.HistoryLaws.{events_of}
 
@@ -30,3 +30,8 @@ pub record Tells (a : Text) (settings : Settings) (server : Server) (events : Li
   pub history : History settings server lines after
   pub replies : told_to a settings lines ≡ told
   pub failures : IsTrue whole ↔ NoneFailed (part (reach settings a) settings lines)
+
+-- the members' lines of a run, alone, tell the account this: over the cuts, and by the part of the run's own history that is theirs
+pub record TellsPart (s : Accounts) (a : Text) (settings : Settings) (server : Server) (events : List Event) (told : List Told) (whole : Bool) (after : Server) (lines : List (Event × Reply)) : Type 0 where
+  pub tells : Tells a (cut_settings s settings) (cut_server s settings server) (cut_events s settings events) told whole (cut_server s settings after)
+  pub part_of : tells.lines ≡ part s settings lines

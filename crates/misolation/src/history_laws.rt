@@ -1,6 +1,6 @@
 // SPDX-License-Identifier: Apache-2.0
 // The laws of histories. Each function's contract is the law, and its body is empty: the code never calls them.
-ghost use Rattle.misolation.specs.HistoryLaws.{PartIsHistory, HistoryHasTrace, PartIsTrace, PartIsAlone, InterpreterIsolates, OpeningIsFit, HistoriesKeepFit, Isolation, OpeningIsCut, AgreeingReplies};
+ghost use Rattle.misolation.specs.HistoryLaws.{PartIsHistory, HistoryHasTrace, PartIsTrace, PartIsAlone, InterpreterIsolates, OpeningIsFit, HistoriesKeepFit, Isolation, OpeningIsCut, AgreeingReplies, PromiseIsKept};
 
 /// The part of every history at the terminals of a closed set, its worlds cut to the set, is a history over the cuts, whichever of
 /// its steps failed.
@@ -54,4 +54,11 @@ pub fn opening_is_cut()
 /// it, if no line of these accounts failed in either; and what they leave agrees as well.
 pub fn agreeing_replies()
     ensures { AgreeingReplies }
+{}
+
+/// What a host may promise each account: if no line of an account that reaches it failed, its replies are those of the definitional
+/// interpreter run on the reaching accounts' lines, globals and grants alone; and two servers that agree on these give it the same
+/// replies, whatever other accounts store, lock, run or exhaust.
+pub fn promise_is_kept()
+    ensures { PromiseIsKept }
 {}

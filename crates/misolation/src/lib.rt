@@ -43,9 +43,11 @@
 //! | a plan, which is whatever a line may do, whole or cut short | `inside_plans` | `outside_plans` |
 //! | a step: a line that is run, or one that failed | `inside_steps` | `outside_steps` |
 //!
-//! `steps_are_isolated` says both of a step in one, for calls that make steps. What is asked of the locks is so before the first
-//! line, when none is held (`opening_is_fit`), and everything keeps it so (`plans_keep_fit`, `steps_keep_fit`,
-//! `histories_keep_fit`, `cut_is_fit`).
+//! The outside law asks nothing of the locks. What the inside law asks of them is so before the first line, when none is held
+//! (`opening_is_fit`), and everything keeps it so (`plans_keep_fit`, `steps_keep_fit`, `histories_keep_fit`, `cut_is_fit`).
+//!
+//! A step changes globals by its writes alone, a failed one by some first of them (`steps_write`); inside, they are the same over
+//! the cut. `steps_are_isolated` says all of this of a step in one, for calls that make steps.
 //!
 //! From the two laws, for histories of any length:
 //!
@@ -58,14 +60,31 @@
 //!   alone with the accounts that reach it, if no line of these failed (`isolation`, with `opening_is_cut`).
 //! - Two servers that agree on all that reaches an account give it the same replies, however they differ in all else, and agree
 //!   still when their lines are run (`agreeing_replies`).
+//! - **The promise above, in one law**: both of these, of servers that begin with globals alone (`promise_is_kept`).
+//!
+//! To *agree* it is enough that the same accounts have the same terminals and steps, that the same is allowed between them, and
+//! that globals, locks and lines are the same, and sessions too, where a new one counts as none. For a normal step depends on
+//! settings by their terminals and by what is allowed alone (`steps_by_allowed`), and on a session as if a terminal without one had
+//! a new one (`steps_by_sessions`). So how settings are listed counts for nothing (`same_entries_agree`).
+//!
+//! An *island* is a set of accounts that is closed in both directions: no grant ties it to others. Accounts may be kept on several
+//! machines if each machine's are an island (`machines_are_islands`), since then:
+//!
+//! - The replies at an island's terminals are those of a run of its own lines over its own settings and globals, and its globals at
+//!   the end are what that run leaves, if none of its lines failed (`island_runs_alone`).
+//! - A history of the whole is one of each machine (`whole_comes_apart`). And lines in any order, of which each machine's are a
+//!   history of that machine, are a history of the whole, which leaves what the machines are left, laid together
+//!   (`machines_run_together`). Both whichever steps failed.
+//! - An island that goes on at another machine with its globals is answered there as on a machine of its own
+//!   (`moved_island_goes_on`).
 //!
 //! A call that runs lines for an account and hands it its replies says what it did by one word, `Tells`: some history of all these
 //! lines leads from the server that it began at to the one that it left, the replies are those at the account's terminals, and it is
 //! *whole* exactly where no step failed at a terminal of an account that reaches it. A run is made step by step (`nothing_is_told`,
 //! `tells_on`), and of what it tells:
 //!
-//! - Whichever steps failed, the members' lines alone tell the account the same, over the cuts to any closed set that has it
-//!   (`told_apart`); the same accounts reach it there (`reach_is_kept`).
+//! - Whichever steps failed, the members' part of that history alone tells the account the same, over the cuts to any closed set
+//!   that has it (`told_apart`); the same accounts reach it there (`reach_is_kept`).
 //! - A whole run tells the account what it is told alone with the accounts that reach it (`equally_told`).
 //! - Two whole runs that agree for the account tell it the same (`told_the_same`).
 //!
@@ -86,7 +105,9 @@
 //! Each law is the contract of a function with an empty body, which no code calls.
 #![tactic(auto)]
 
+pub mod alike_laws;
 pub mod history_laws;
+pub mod island_laws;
 pub mod plan_laws;
 pub mod reach_laws;
 pub mod run_laws;

@@ -13,14 +13,14 @@ pub fn tells_on()
     ensures { TellsOn }
 {}
 
-/// Told apart: whatever a run tells an account, the run of the members' lines alone tells it, over the cuts to any closed set that has
-/// the account, whichever of their steps failed.
+/// Told apart: whatever a run tells an account, the members' part of its history tells it alone, over the cuts to any closed set that
+/// has the account, whichever of their steps failed.
 pub fn told_apart()
     ensures { ToldApart }
 {}
 
 /// Equally told: a whole run tells the account what the definitional interpreter answers to the lines of the accounts that reach it,
-/// over their globals and grants alone.
+/// over their globals, their sessions and locks, and the grants between them alone.
 pub fn equally_told()
     ensures { EquallyTold }
 {}

@@ -1,9 +1,9 @@
 // SPDX-License-Identifier: Apache-2.0
 // The laws of steps. Each function's contract is the law, and its body is empty: the code never calls them.
-ghost use Rattle.misolation.specs.StepLaws.{InsideSteps, OutsideSteps, StepsKeepFit, StepsAreIsolated};
+ghost use Rattle.misolation.specs.StepLaws.{InsideSteps, OutsideSteps, StepsKeepFit, StepsWrite, StepsAreIsolated};
 
 /// The inside law: a step at a member's terminal is that step over the cuts to a closed set, with the same reply. A normal step
-/// gives what it gives there, and a failed one is a failed one there.
+/// gives what it gives there, by the same operations and the same writes, and a failed one is a failed one there.
 pub fn inside_steps()
     ensures { InsideSteps }
 {}
@@ -18,7 +18,13 @@ pub fn steps_keep_fit()
     ensures { StepsKeepFit }
 {}
 
-/// Both laws in one, of a step of which all else is known: for every closed set it is a step over the cuts, or leaves them.
+/// Each step leaves the old globals after some first of its line's writes: after all of them, if it did not fail.
+pub fn steps_write()
+    ensures { StepsWrite }
+{}
+
+/// Both laws in one, of a step of which all else is known: for every closed set it is a step over the cuts, with the same writes, or
+/// leaves them.
 pub fn steps_are_isolated()
     ensures { StepsAreIsolated }
 {}

@@ -1,40 +1,16 @@
 -- SPDX-License-Identifier: Apache-2.0
-use Rattle.std.proofs.Common.{◌≡◌, ◌<◌, ◌++◌, [], ◌∷◌, true, false, cond, All, length, get_or, set, sym, ap, subst, ◌∙◌, arith, rules, vec_len}
-use Rattle.std.specs.Prelude.{replicate}
-use Rattle.std.specs.List.Sorted.{IsNonDecreasingBy}
-use Rattle.std.proofs.lemmas.List.Sorted.{IsNonDecreasingBy-from_sort_by_key, IsPermutation-sym, All-permutation}
-use Rattle.mgrant.specs.Edges.{Leads, IsStage}
-use Rattle.mgrant.specs.declared.flow.Edge.{Edge}
-use Rattle.mgrant.proofs.Marks.{stage_begun, leads_among, get_or-default}
+use Rattle.std.proofs.Common.{◌≡◌, ◌<◌, false, length, get_or, sym, ◌∙◌, arith}
+use Rattle.mgrant.proofs.Marks.{get_or-default}
 use Rattle.mgrant.proofs.flow.leads.Goals as goal
-
-pub spread-requires-clause-sorted : goal.spread-requires-clause-sorted
-spread-requires-clause-sorted c =
-    subst (IsNonDecreasingBy (λ (e : Edge). e.source)) (sym c.deref.ensures.value)
-    (IsNonDecreasingBy-from_sort_by_key (λ (e : Edge). e.source) c.sort_unstable_by_key.new.self.items c.sort_unstable_by_key.ensures.sorted (λ a r f called. search rules))
-
-pub spread-requires-clause-in_range : goal.spread-requires-clause-in_range
-spread-requires-clause-in_range c =
-    let size : vec_len c.mark.new.marks ≡ c.args.count = search rules in
-    let P : Edge → Type 0 = λ e. e.target < vec_len c.mark.new.marks in
-    let all : All P c.args.edges.items = λ k d within. let low : (get_or c.args.edges.items k d).target < c.args.count = c.requires.in_range k d within in omega arith in
-    subst (All P) (sym c.deref.ensures.value) (All-permutation P c.args.edges.items c.sort_unstable_by_key.new.self.items c.sort_unstable_by_key.ensures.permutation all)
 
 pub returns : goal.returns
 returns c =
-    let sorted = c.sort_unstable_by_key.new.self.items in
-    let clear : c.in_ok-marks.marks.items ≡ replicate c.args.count false = c.in_ok-marks.ensures.items_if_clones_equal (λ y h. h) in
-    let empty : c.new-order.result.items ≡ [] = c.new-order.ensures.items in
-    let marks : c.mark.new.marks.items ≡ set (replicate c.args.count false) c.args.from true = c.in_ok-mark.ensures.marked ∙ ap (λ ms. set ms c.args.from true) clear in
-    let order : c.mark.new.order.items ≡ cond (get_or (replicate c.args.count false) c.args.from false) [] ([] ++ c.args.from ∷ []) =
-    c.in_ok-mark.ensures.listed ∙ (λ i. cond (get_or (clear i) c.args.from false) (empty i) (empty i ++ c.args.from ∷ [])) in
-    let begun = subst (λ ms. IsStage sorted c.args.from ms c.mark.new.order.items) (sym marks)
-    (subst (λ os. IsStage sorted c.args.from (set (replicate c.args.count false) c.args.from true) os) (sym order) (stage_begun sorted c.args.count c.args.from c.requires.from)) in
-    let told = c.in_ok-spread.ensures.reached c.args.from (subst (λ es. IsStage es c.args.from c.mark.new.marks.items c.mark.new.order.items) (sym c.deref.ensures.value) begun) c.args.to in
-    let size : vec_len c.spread.new.marks ≡ c.args.count = search rules in
+    let marks = c.in_ok-marks.marks.items in
+    let told = c.in_ok-marks.ensures.reached c.args.to in
+    let len = c.in_ok-marks.ensures.len in
     let low = c.requires.to in
-    let inside : c.args.to < length c.spread.new.marks.items = omega arith in
-    let is : c.index.result.now ≡ get_or c.spread.new.marks.items c.args.to false = c.index.ensures ∙ get_or-default c.spread.new.marks.items c.args.to c.index.result.now false inside in (
-      λ e. leads_among sorted c.args.edges.items (IsPermutation-sym c.args.edges.items sorted c.sort_unstable_by_key.ensures.permutation) (subst (λ es. Leads es c.args.from c.args.to) c.deref.ensures.value (told.0 (sym is ∙ e))),
-      λ led. is ∙ told.1 (subst (λ es. Leads es c.args.from c.args.to) (sym c.deref.ensures.value) (leads_among c.args.edges.items sorted c.sort_unstable_by_key.ensures.permutation led)),
+    let inside : c.args.to < length marks = omega arith in
+    let is : c.index.result.now ≡ get_or marks c.args.to false = c.index.ensures ∙ get_or-default marks c.args.to c.index.result.now false inside in (
+      λ e. told.0 (sym is ∙ e),
+      λ led. is ∙ told.1 led,
     )

@@ -1,0 +1,262 @@
+-- SPDX-License-Identifier: Apache-2.0
+-- The island of an account: the names at the places that chains of ties lead to.
+use Rattle.std.proofs.Common.{◌≡◌, ◌↔◌, ◌⊎◌, inl, inr, ℕ, zero, suc, ◌+◌, ◌==◌, ◌<◌, ◌≤◌, Bool, true, false, List, [], ◌∷◌, ◌++◌, length, map, get_or, Option, Some, All, refl, sym, ap, subst, subst₂, ◌∙◌, arith}
+use Rattle.std.specs.Prelude.{◌&&◌, ◌||◌, unwrap_or}
+use Rattle.std.specs.List.{list_any, filter, range_with_len}
+use Rattle.std.specs.Cmp.Lexicographic.{bytes_decides}
+use Rattle.std.proofs.lemmas.Bool.{cases_Bool, cases_lt, and_parts, and_from, or_cases, or_left, or_right, eq-eqb, eqb-true, false≢true}
+use Rattle.std.proofs.lemmas.List.{get_or_past, append-nil}
+use Rattle.std.proofs.lemmas.List.Elements.{filter_agree, filter-append, All-head, All-tail}
+use Rattle.std.proofs.lemmas.List.Folds.{list_any_at}
+use Rattle.std.proofs.lemmas.Option.{slice_get_past}
+use Rattle.mspec.specs.Node.{Text}
+use Rattle.mspec.specs.Trees.{text_eq}
+use Rattle.mspec.specs.Access as access
+use Rattle.mspec.specs.Flow.{carries, flows}
+use Rattle.mgrant.specs.Document.{are_names}
+use Rattle.mgrant.specs.Edges.{leads, Leads, stays}
+use Rattle.mgrant.specs.Islands.{IsIslandOf, IsIslandAt}
+use Rattle.mgrant.specs.Placed.{Placed, carries_at, ties_at}
+use Rattle.mgrant.specs.View.{settings_view, named, IsAmong, AreSettings}
+use Rattle.mgrant.specs.Words.{text_in}
+use Rattle.mgrant.specs.declared.flow.Edge.{Edge}
+use Rattle.mgrant.proofs.Chains.{flows_seen, carried_from, carried_to, none_empty}
+use Rattle.mgrant.proofs.Marks.{leads_on, closed_under}
+use Rattle.mgrant.proofs.Seen.{place_is, name_seen, length_seen}
+
+-- tests that pass together are the same
+same_test : (a b : Bool) → (a ≡ true → b ≡ true) → (b ≡ true → a ≡ true) → a ≡ b
+same_test true b f g = sym (f refl)
+same_test false true f g = absurd (false≢true (g refl))
+same_test false false f g = refl
+
+-- ---- flows and ties, by places
+
+tie_on : (a b c d w : Bool) → ((a && b) || ((c && d) && w)) ≡ true → ((a && b) || (c && d)) ≡ true
+tie_on a b c d w e =
+    elim (or_cases (a && b) ((c && d) && w) e) [
+      | inl on ↦ or_left (a && b) _ on
+      | inr back ↦ or_right (a && b) _ (and_parts (c && d) w back).0
+    ]
+
+tie_back : (a b c d w : Bool) → ((a && b) || ((c && d) && w)) ≡ true → ((d && c) || (b && a)) ≡ true
+tie_back a b c d w e =
+    elim (or_cases (a && b) ((c && d) && w) e) [
+      | inl on ↦ let (first, second) = and_parts a b on in or_right (d && c) _ (and_from b a second first)
+      | inr back ↦ let (first, second) = and_parts c d (and_parts (c && d) w back).0 in or_left (d && c) _ (and_from d c second first)
+    ]
+
+tie_carries : (a b c d w : Bool) → ((a && b) || (c && d)) ≡ true → (((a && b) || ((c && d) && w)) ≡ true) ⊎ (((d && c) || ((b && a) && w)) ≡ true)
+tie_carries a b c d w e =
+    elim (or_cases (a && b) (c && d) e) [
+      | inl on ↦ inl (or_left (a && b) _ on)
+      | inr back ↦ let (first, second) = and_parts c d back in inr (or_left (d && c) _ (and_from d c second first))
+    ]
+
+-- what flows is tied, in both directions
+tied_on : (x y : ℕ) (gs : List Placed) → list_any (carries_at x y) gs ≡ true → list_any (ties_at x y) gs ≡ true
+tied_on x y [] e = absurd (false≢true e)
+tied_on x y (g ∷ gs) e =
+    elim (or_cases (carries_at x y g) (list_any (carries_at x y) gs) e) [
+      | inl first ↦ or_left (ties_at x y g) _ (tie_on (x == g.from) (y == g.to) (x == g.to) (y == g.from) (access.allows g.mode access.Write) first)
+      | inr later ↦ or_right (ties_at x y g) _ (tied_on x y gs later)
+    ]
+
+tied_back : (x y : ℕ) (gs : List Placed) → list_any (carries_at x y) gs ≡ true → list_any (ties_at y x) gs ≡ true
+tied_back x y [] e = absurd (false≢true e)
+tied_back x y (g ∷ gs) e =
+    elim (or_cases (carries_at x y g) (list_any (carries_at x y) gs) e) [
+      | inl first ↦ or_left (ties_at y x g) _ (tie_back (x == g.from) (y == g.to) (x == g.to) (y == g.from) (access.allows g.mode access.Write) first)
+      | inr later ↦ or_right (ties_at y x g) _ (tied_back x y gs later)
+    ]
+
+-- and what is tied flows in one of them
+tied_flows : (x y : ℕ) (gs : List Placed) → list_any (ties_at x y) gs ≡ true → (list_any (carries_at x y) gs ≡ true) ⊎ (list_any (carries_at y x) gs ≡ true)
+tied_flows x y [] e = absurd (false≢true e)
+tied_flows x y (g ∷ gs) e =
+    elim (or_cases (ties_at x y g) (list_any (ties_at x y) gs) e) [
+      | inl first ↦
+          elim (tie_carries (x == g.from) (y == g.to) (x == g.to) (y == g.from) (access.allows g.mode access.Write) first) [
+            | inl on ↦ inl (or_left (carries_at x y g) _ on)
+            | inr back ↦ inr (or_left (carries_at y x g) _ back)
+          ]
+      | inr later ↦
+          elim (tied_flows x y gs later) [
+            | inl on ↦ inl (or_right (carries_at x y g) _ on)
+            | inr back ↦ inr (or_right (carries_at y x g) _ back)
+          ]
+    ]
+
+tied_within : (names : List Text) (x y : ℕ) (gs : List Placed) → All (IsAmong (length names)) gs → list_any (ties_at x y) gs ≡ true → y < length names
+tied_within names x y [] among e = absurd (false≢true e)
+tied_within names x y (g ∷ gs) among e =
+    let here : IsAmong (length names) g = All-head (IsAmong (length names)) g gs among in
+    let within : (i : ℕ) → (y == i) ≡ true → i < length names → y < length names = λ i same inside. subst (λ k. k < length names) (sym (eqb-true y i same)) inside in
+    elim (or_cases (ties_at x y g) (list_any (ties_at x y) gs) e) [
+      | inl first ↦
+          elim (or_cases (x == g.from && y == g.to) (x == g.to && y == g.from) first) [
+            | inl on ↦ within g.to (and_parts (x == g.from) (y == g.to) on).1 here.to
+            | inr back ↦ within g.from (and_parts (x == g.to) (y == g.from) back).1 here.from
+          ]
+      | inr later ↦ tied_within names x y gs (All-tail (IsAmong (length names)) g gs among) later
+    ]
+
+pub ties_within : (names : List Text) (gs : List Placed) → All (IsAmong (length names)) gs → (edges : List Edge) → ((x y : ℕ) → list_any (leads x y) edges ≡ list_any (ties_at x y) gs) → All (λ e. e.target < length names) edges
+ties_within names gs among edges is k d within =
+    let e = get_or edges k d in
+    let led : list_any (leads e.source e.target) edges ≡ true = list_any_at (leads e.source e.target) edges k d within (and_from _ _ (eq-eqb e.source e.source refl) (eq-eqb e.target e.target refl)) in
+    tied_within names e.source e.target gs among (sym (is e.source e.target) ∙ led)
+
+-- ---- names at marked places
+
+abbrev pub marked_name : List Text → List Bool → Text → Bool
+marked_name [] ms x = false
+marked_name (n ∷ ns) [] x = false
+marked_name (n ∷ ns) (m ∷ ms) x = (m && text_eq x n) || marked_name ns ms x
+
+place_of_marked : (names : List Text) (marks : List Bool) (x : Text) → marked_name names marks x ≡ true → (p : ℕ) × (p < length names) × (x ≡ text_in names p) × (get_or marks p false ≡ true)
+place_of_marked [] ms x e = absurd (false≢true e)
+place_of_marked (n ∷ ns) [] x e = absurd (false≢true e)
+place_of_marked (n ∷ ns) (m ∷ ms) x e =
+    elim (or_cases (m && text_eq x n) (marked_name ns ms x) e) [
+      | inl here ↦ let (on, same) = and_parts m (text_eq x n) here in (0, omega arith, (bytes_decides x n).0 same, on)
+      | inr later ↦ let (p, within, at, on) = place_of_marked ns ms x later in (suc p, omega arith, at, on)
+    ]
+
+name_marked : (names : List Text) (marks : List Bool) (p : ℕ) → p < length names → get_or marks p false ≡ true → marked_name names marks (text_in names p) ≡ true
+name_marked [] ms p within e = absurd (omega arith)
+name_marked (n ∷ ns) [] p within e = absurd (false≢true e)
+name_marked (n ∷ ns) (m ∷ ms) zero within e = or_left _ _ (and_from m _ e ((bytes_decides n n).1 refl))
+name_marked (n ∷ ns) (m ∷ ms) (suc p) within e = or_right (m && text_eq (text_in ns p) n) _ (name_marked ns ms p (omega arith) e)
+
+no_name : (names : List Text) (p : ℕ) → length names ≤ p → text_in names p ≡ []
+no_name names p past = ap (λ o. unwrap_or o []) (slice_get_past names p past)
+
+module _ (names : List Text) (good : are_names names ≡ true) where
+  -- a name is a member exactly if its place is marked
+  mark_of : (marks : List Bool) (p : ℕ) → p < length names → marked_name names marks (text_in names p) ≡ true → get_or marks p false ≡ true
+  mark_of marks p within e =
+      let (q, inside, at, on) = place_of_marked names marks (text_in names p) e in
+      let same : p ≡ q = (place_is names good q inside).alone p ((place_is names good p within).here ∙ ap Some at) in
+      subst (λ k. get_or marks k false ≡ true) (sym same) on
+
+  mark_is : (marks : List Bool) → length marks ≡ length names → (p : ℕ) → get_or marks p false ≡ marked_name names marks (text_in names p)
+  mark_is marks size p =
+      elim (cases_lt p (length names)) [
+        | inl within ↦ same_test (get_or marks p false) (marked_name names marks (text_in names p)) (name_marked names marks p within) (mark_of marks p within)
+        | inr past ↦
+            same_test (get_or marks p false) (marked_name names marks (text_in names p))
+            (λ on. absurd (false≢true (sym (get_or_past marks p false (omega arith)) ∙ on)))
+            (λ e.
+            let (q, inside, at, on) = place_of_marked names marks (text_in names p) e in
+            absurd (none_empty names good q inside (sym (no_name names p past) ∙ at)))
+      ]
+
+  -- no account has an empty name
+  empty_apart : (x : Text) (i : ℕ) → i < length names → x ≡ text_in names i → text_eq [] x ≡ false
+  empty_apart x i within at =
+      elim (cases_Bool (text_eq [] x)) [
+        | inl same ↦ absurd (none_empty names good i within ((bytes_decides [] x).0 same ∙ at))
+        | inr other ↦ other
+      ]
+
+  module _ (gs : List Placed) (among : All (IsAmong (length names)) gs) (settings : access.Settings) (has : settings.grants ≡ map (named names) gs) where
+    -- what flows by names flows by places
+    flow_at : (x y : Text) → flows settings x y ≡ true → (i : ℕ) × (j : ℕ) × (i < length names) × (j < length names) × (x ≡ text_in names i) × (y ≡ text_in names j) × (list_any (carries_at i j) gs ≡ true)
+    flow_at x y flow =
+        let carried : list_any (carries x y) (map (named names) gs) ≡ true = ap (list_any (carries x y)) (sym has) ∙ flow in
+        let (i, low, from) = carried_from names good x y gs among carried in
+        let (j, high, to) = carried_to names good x y gs among carried in
+        (i, j, low, high, from, to, sym (flows_seen names good i j gs among) ∙ subst₂ (λ v w. list_any (carries v w) (map (named names) gs) ≡ true) from to carried)
+
+    flow_of : (i j : ℕ) → list_any (carries_at i j) gs ≡ true → flows settings (text_in names i) (text_in names j) ≡ true
+    flow_of i j e = ap (list_any (carries (text_in names i) (text_in names j))) has ∙ flows_seen names good i j gs among ∙ e
+
+    module _ (edges : List Edge) (is : (x y : ℕ) → list_any (leads x y) edges ≡ list_any (ties_at x y) gs) (marks : List Bool) (start : ℕ) (low : start < length names) (told : (y : ℕ) → (get_or marks y false ≡ true) ↔ Leads edges start y) where
+      -- what is tied to a member is one
+      joins : (i j : ℕ) → i < length names → j < length names → list_any (ties_at i j) gs ≡ true → marked_name names marks (text_in names i) ≡ true → marked_name names marks (text_in names j) ≡ true
+      joins i j within within' tie e =
+          let led : Leads edges start i = (told i).0 (mark_of marks i within e) in
+          name_marked names marks j within' ((told j).1 (leads_on edges led (is i j ∙ tie)))
+
+      pub island_found : IsIslandOf settings (text_in names start) (marked_name names marks)
+      island_found = record {
+        has = name_marked names marks start low ((told start).1 (stays start));
+        island = λ x y flow.
+            let (i, j, within, within', from, to, carried) = flow_at x y flow in
+            subst₂ (λ v w. marked_name names marks v ≡ marked_name names marks w) (sym from) (sym to)
+            (same_test _ _ (joins i j within within' (tied_on i j gs carried)) (joins j i within' within (tied_back i j gs carried)));
+        least = λ other island own x e.
+            let (p, within, at, on) = place_of_marked names marks x e in
+            subst (λ t. other t ≡ true) (sym at)
+            (closed_under edges (λ q. other (text_in names q) ≡ true) (λ q r here step.
+            elim (tied_flows q r gs (sym (is q r) ∙ step)) [
+              | inl f ↦ sym (island (text_in names q) (text_in names r) (flow_of q r f)) ∙ here
+              | inr f ↦ island (text_in names r) (text_in names q) (flow_of r q f) ∙ here
+            ]) ((told p).0 on) own);
+      }
+
+    -- ---- no account's place
+
+    pub island_of_none : IsIslandOf settings [] (text_eq [])
+    island_of_none = record {
+      has = (bytes_decides [] []).1 refl;
+      island = λ x y flow.
+          let (i, j, within, within', from, to, carried) = flow_at x y flow in
+          empty_apart x i within from ∙ sym (empty_apart y j within' to);
+      least = λ other island own x e. subst (λ t. other t ≡ true) ((bytes_decides [] x).0 e) own;
+    }
+
+-- ---- in the settings
+
+range_more : (a n j : ℕ) → a + n ≡ j → range_with_len a (suc n) ≡ range_with_len a n ++ j ∷ []
+range_more a zero j e = ap (λ k. k ∷ []) (omega (arith, e))
+range_more a (suc n) j e = ap (λ ks. a ∷ ks) (range_more (a + 1) n j (omega (arith, e)))
+
+kept_more : (marks : List Bool) (k : ℕ) → filter (λ p. get_or marks p false) (range_with_len 0 (k + 1)) ≡ filter (λ p. get_or marks p false) (range_with_len 0 k) ++ filter (λ p. get_or marks p false) (k ∷ [])
+kept_more marks k =
+    let on : k + 1 ≡ suc k = omega arith in
+    ap (λ n. filter (λ p. get_or marks p false) (range_with_len 0 n)) on
+    ∙ ap (filter (λ p. get_or marks p false)) (range_more 0 k k (omega arith))
+    ∙ filter-append (λ p. get_or marks p false) (range_with_len 0 k) (k ∷ [])
+
+-- one more place, which is marked or not
+pub marked_more : (marks : List Bool) (k : ℕ) → get_or marks k false ≡ true → filter (λ p. get_or marks p false) (range_with_len 0 (k + 1)) ≡ filter (λ p. get_or marks p false) (range_with_len 0 k) ++ k ∷ []
+marked_more marks k on = kept_more marks k ∙ ap (λ xs. filter (λ p. get_or marks p false) (range_with_len 0 k) ++ xs) (simp on refl)
+
+pub unmarked_more : (marks : List Bool) (k : ℕ) → get_or marks k false ≡ false → filter (λ p. get_or marks p false) (range_with_len 0 (k + 1)) ≡ filter (λ p. get_or marks p false) (range_with_len 0 k)
+unmarked_more marks k off = kept_more marks k ∙ ap (λ xs. filter (λ p. get_or marks p false) (range_with_len 0 k) ++ xs) (simp off refl) ∙ append-nil (filter (λ p. get_or marks p false) (range_with_len 0 k))
+
+none_kept : (p : ℕ → Bool) (a n : ℕ) → ((k : ℕ) → k < a + n → p k ≡ false) → filter p (range_with_len a n) ≡ []
+none_kept p a zero none = refl
+none_kept p a (suc n) none = rw (none a (omega arith)) (none_kept p (a + 1) n (λ k within. none k (omega arith)))
+
+module _ (names : List Text) (steps : List ℕ) (terminals : List (Option ℕ)) (gs : List Placed) (inside : AreSettings names steps terminals gs) where
+  abbrev seen : access.Settings
+  seen = settings_view names steps terminals gs
+
+  -- the places of a set's accounts are those whose names it has
+  places_seen : (s : Text → Bool) → filter (λ p. s (text_in names p)) (range_with_len 0 (length names)) ≡ filter (λ p. s (access.name_at seen p)) (range_with_len 0 (length seen.accounts))
+  places_seen s =
+      filter_agree (λ p. s (text_in names p)) (λ p. s (access.name_at seen p)) (λ p. ap s (name_seen names steps p inside.stepped)) (range_with_len 0 (length names))
+      ∙ ap (λ n. filter (λ p. s (access.name_at seen p)) (range_with_len 0 n)) (sym (length_seen names steps inside.stepped))
+
+  island_at : (s : Text → Bool) (start : ℕ) (places : List ℕ) → IsIslandOf seen (text_in names start) s → places ≡ filter (λ p. s (text_in names p)) (range_with_len 0 (length names)) → IsIslandAt seen (access.name_at seen start) places
+  island_at s start places is listed = record {
+    members = s;
+    least = subst (λ a. IsIslandOf seen a s) (name_seen names steps start inside.stepped) is;
+    listed = listed ∙ places_seen s;
+  }
+
+  pub found_at : (edges : List Edge) → ((x y : ℕ) → list_any (leads x y) edges ≡ list_any (ties_at x y) gs) → (marks : List Bool) (start : ℕ) → start < length names
+      → ((y : ℕ) → (get_or marks y false ≡ true) ↔ Leads edges start y) → length marks ≡ length names → (places : List ℕ) → places ≡ filter (λ p. get_or marks p false) (range_with_len 0 (length marks))
+      → IsIslandAt seen (access.name_at seen start) places
+  found_at edges is marks start low told size places listed =
+      island_at (marked_name names marks) start places (island_found names inside.named gs inside.granted seen refl edges is marks start low told)
+      (listed ∙ filter_agree (λ p. get_or marks p false) (λ p. marked_name names marks (text_in names p)) (mark_is names inside.named marks size) (range_with_len 0 (length marks))
+      ∙ ap (λ n. filter (λ p. marked_name names marks (text_in names p)) (range_with_len 0 n)) size)
+
+  pub none_at : (start : ℕ) → length names ≤ start → IsIslandAt seen (access.name_at seen start) []
+  none_at start past =
+      island_at (text_eq []) start [] (subst (λ a. IsIslandOf seen a (text_eq [])) (sym (no_name names start past)) (island_of_none names inside.named gs inside.granted seen refl))
+      (sym (none_kept (λ p. text_eq [] (text_in names p)) 0 (length names) (λ k within. empty_apart names inside.named (text_in names k) k (omega arith) refl)))

@@ -1,0 +1,142 @@
+-- SPDX-License-Identifier: Apache-2.0
+-- What a normal step cannot tell apart.
+use Rattle.std.proofs.Common.{◌≡◌, ℕ, Bool, true, false, cond, List, [], ◌∷◌, Option, Some, None, refl, sym, ap, ◌∙◌, subst}
+use Rattle.std.specs.FinMap.{get, insert, remove, get-insert, get-remove}
+use Rattle.std.specs.Ordering.{nat_cmp, eq_by_cmp}
+use Rattle.std.specs.List.{list_all}
+use Rattle.std.proofs.lemmas.Cmp.{nat_cmp_total}
+use Rattle.mspec.specs.Node.{Text}
+use Rattle.mspec.specs.Trees.{text_eq}
+use Rattle.mspec.specs.Access.{Account, Settings, Read, Write}
+use Rattle.mspec.specs.Globals.{status, order_at, without_subtree}
+use Rattle.mspec.specs.LockConflict.{LockName, taken}
+use Rattle.mspec.specs.Plan.{Op, May, Value, Status, Neighbour, Routine, Put, Kill, Take, Give_back, Release, Ops, perform}
+use Rattle.mspec.specs.Act.{State, Outcome}
+use Rattle.mgrammar.specs.Reading.{line_at}
+use Rattle.mmeaning.specs.LineMeaning.{Signal}
+use Rattle.mmeaning.specs.World.{World, act, guarded, may_lock, took}
+use Rattle.mmeaning.specs.Step.{Session, session_or_new, Server, Event, Reply, Ending, Finished, Halted, Faulted, kept, plan_of, reply_of, state_of, settled, ended, is_too_long, is_ascii, at_tree, checked, at_account, normal}
+use Rattle.mmeaning.specs.History.{answered, server_after}
+use Rattle.misolation.specs.Alike.{AlikeSettings, AlikeServers, AlikeSteps}
+use Rattle.misolation.specs.AlikeLaws.{StepsByAllowed, StepsBySessions}
+
+-- ---- settings that allow the same
+
+module _ (one two : Settings) (alike : AlikeSettings one two) where
+  same_lock : (me : Text) (n : LockName) → may_lock one me n ≡ may_lock two me n
+  same_lock me n = ap (λ b. cond n.global b (text_eq n.node.account me)) (alike.allowed me n.node.account n.node.name Write)
+
+  same_operation : (terminal : ℕ) (me : Text) (op : Op) (w : World) → act one terminal me op w ≡ act two terminal me op w
+  same_operation terminal me (May owner name mode) w = ap (λ b. (b, w)) (alike.allowed me owner name mode)
+  same_operation terminal me (Value n) w = ap (λ b. guarded b None w (get w.globals n, w)) (alike.allowed me n.account n.name Read)
+  same_operation terminal me (Status n) w = ap (λ b. guarded b (false, false) w (status w.globals n, w)) (alike.allowed me n.account n.name Read)
+  same_operation terminal me (Neighbour direction n) w = ap (λ b. guarded b None w (order_at w.globals direction n, w)) (alike.allowed me n.account n.name Read)
+  same_operation terminal me (Routine name) w = refl
+  same_operation terminal me (Put n t) w = ap (λ b. guarded b tt w (tt, record w { globals = insert w.globals n t })) (alike.allowed me n.account n.name Write)
+  same_operation terminal me (Kill n) w = ap (λ b. guarded b tt w (tt, record w { globals = without_subtree w.globals n })) (alike.allowed me n.account n.name Write)
+  same_operation terminal me (Take names) w = ap (λ (p : LockName → Bool). guarded (list_all p names) false w (took w (taken w.locks terminal names))) (λ i n. same_lock me n i)
+  same_operation terminal me (Give_back n) w = refl
+  same_operation terminal me Release w = refl
+
+  same_operations : (terminal : ℕ) (me : Text) → act one terminal me ≡ act two terminal me
+  same_operations terminal me = λ i op w. same_operation terminal me op w i
+
+  same_tree : (e : Event) (server : Server) (account : Account) → at_tree one e server account ≡ at_tree two e server account
+  same_tree e server account =
+      ap (λ (ops : Ops World). ended e.terminal server (perform ops (plan_of account (session_or_new (get server.sessions e.terminal)) (line_at e.text)) server.world))
+      (same_operations e.terminal account.name)
+
+  same_checked : (long ascii : Bool) (e : Event) (server : Server) (account : Account) → checked long ascii one e server account ≡ checked long ascii two e server account
+  same_checked true ascii e server account = refl
+  same_checked false false e server account = refl
+  same_checked false true e server account = same_tree e server account
+
+  same_account : (e : Event) (server : Server) (o : Option Account) → at_account one e server o ≡ at_account two e server o
+  same_account e server None = refl
+  same_account e server (Some account) = same_checked (is_too_long e.text) (is_ascii e.text) e server account
+
+pub steps_by_allowed : StepsByAllowed
+steps_by_allowed one two e server alike = ap (at_account one e server) (alike.terminals e.terminal) ∙ same_account one two alike e server (get two.terminals e.terminal)
+
+-- ---- servers alike
+
+pub alike_servers : (one two : Server) → one ≡ two → AlikeServers one two
+alike_servers one two e = record { world = ap (λ (v : Server). v.world) e; sessions = λ t. ap (λ (v : Server). session_or_new (get v.sessions t)) e }
+
+-- what a line leaves of its session it leaves alike, and where it halts none
+put_alike : (b : Bool) (x : Session) (o p : Option Session) → session_or_new o ≡ session_or_new p → session_or_new (cond b (Some x) o) ≡ session_or_new (cond b (Some x) p)
+put_alike true x o p e = refl
+put_alike false x o p e = e
+
+gone_alike : (b : Bool) (o p : Option Session) → session_or_new o ≡ session_or_new p → session_or_new (cond b None o) ≡ session_or_new (cond b None p)
+gone_alike true o p e = refl
+gone_alike false o p e = e
+
+module _ (one two : Server) (alike : AlikeServers one two) where
+  kept_alike : (t : ℕ) (x : Session) (q : ℕ) → session_or_new (get (insert one.sessions t x) q) ≡ session_or_new (get (insert two.sessions t x) q)
+  kept_alike t x q =
+      ap session_or_new (get-insert nat_cmp_total one.sessions t x q)
+      ∙ put_alike (eq_by_cmp nat_cmp q t) x (get one.sessions q) (get two.sessions q) (alike.sessions q)
+      ∙ sym (ap session_or_new (get-insert nat_cmp_total two.sessions t x q))
+
+  halted_alike : (t q : ℕ) → session_or_new (get (remove one.sessions t) q) ≡ session_or_new (get (remove two.sessions t) q)
+  halted_alike t q =
+      ap session_or_new (get-remove nat_cmp_total one.sessions t q)
+      ∙ gone_alike (eq_by_cmp nat_cmp q t) (get one.sessions q) (get two.sessions q) (alike.sessions q)
+      ∙ sym (ap session_or_new (get-remove nat_cmp_total two.sessions t q))
+
+  settled_alike : (t : ℕ) (ending : Ending) (state : State) (w : World) → AlikeServers (settled t one ending state w) (settled t two ending state w)
+  settled_alike t Finished state w = record { world = refl; sessions = kept_alike t (kept state) }
+  settled_alike t (Faulted fault) state w = record { world = refl; sessions = kept_alike t (kept state) }
+  settled_alike t Halted state w = record { world = refl; sessions = halted_alike t }
+
+  ended_alike : (t : ℕ) (r : Outcome Signal × World) → AlikeSteps (ended t one r) (ended t two r)
+  ended_alike t r = record { reply = refl; server = settled_alike t (reply_of r.0).ending (state_of r.0) r.1 }
+
+  module _ (settings : Settings) (e : Event) where
+    abbrev run_of : Account → Session → World → Outcome Signal × World
+    run_of account session w = perform (act settings e.terminal account.name) (plan_of account session (line_at e.text)) w
+
+    tree_alike : (account : Account) → AlikeSteps (at_tree settings e one account) (at_tree settings e two account)
+    tree_alike account =
+        subst (λ (r : Outcome Signal × World). AlikeSteps (at_tree settings e one account) (ended e.terminal two r))
+        (λ i. run_of account (alike.sessions e.terminal i) (alike.world i))
+        (ended_alike e.terminal (run_of account (session_or_new (get one.sessions e.terminal)) one.world))
+
+    checked_alike : (long ascii : Bool) (account : Account) → AlikeSteps (checked long ascii settings e one account) (checked long ascii settings e two account)
+    checked_alike true ascii account = record { reply = refl; server = alike }
+    checked_alike false false account = record { reply = refl; server = alike }
+    checked_alike false true account = tree_alike account
+
+    account_alike : (o : Option Account) → AlikeSteps (at_account settings e one o) (at_account settings e two o)
+    account_alike None = record { reply = refl; server = alike }
+    account_alike (Some account) = checked_alike (is_too_long e.text) (is_ascii e.text) account
+
+pub steps_by_sessions : StepsBySessions
+steps_by_sessions settings e one two alike = account_alike one two alike settings e (get settings.terminals e.terminal)
+
+-- ---- normal steps, one after another
+
+module _ (one two : Settings) (alike : AlikeSettings one two) where
+  both_alike : (e : Event) (first second : Server) → AlikeServers first second → AlikeSteps (normal one e first) (normal two e second)
+  both_alike e first second h =
+      subst (λ (r : Reply × Server). AlikeSteps (normal one e first) r) (steps_by_allowed one two e second alike) (steps_by_sessions one e first second h)
+
+  pub answered_alike : (events : List Event) (first second : Server) → AlikeServers first second → answered one first events ≡ answered two second events
+  answered_alike [] first second h = refl
+  answered_alike (e ∷ events) first second h =
+      let step : AlikeSteps (normal one e first) (normal two e second) = both_alike e first second h in
+      let rest = answered_alike events (normal one e first).1 (normal two e second).1 step.server in
+      λ i. (e, step.reply i) ∷ rest i
+
+  pub left_alike : (events : List Event) (first second : Server) → AlikeServers first second → AlikeServers (server_after one first events) (server_after two second events)
+  left_alike [] first second h = h
+  left_alike (e ∷ events) first second h =
+      let step : AlikeSteps (normal one e first) (normal two e second) = both_alike e first second h in
+      left_alike events (normal one e first).1 (normal two e second).1 step.server
+
+  pub left_equal : (events : List Event) (server : Server) → server_after one server events ≡ server_after two server events
+  left_equal [] server = refl
+  left_equal (e ∷ events) server =
+      left_equal events (normal one e server).1
+      ∙ ap (λ (r : Reply × Server). server_after two r.1 events) (steps_by_allowed one two e server alike)

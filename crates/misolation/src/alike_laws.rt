@@ -1,0 +1,18 @@
+// SPDX-License-Identifier: Apache-2.0
+// The laws of likeness. Each function's contract is the law, and its body is empty: the code never calls them.
+ghost use Rattle.misolation.specs.AlikeLaws.{StepsByAllowed, StepsBySessions, SameEntriesAgree};
+
+/// A normal step depends on the settings by their terminals and by what is allowed alone.
+pub fn steps_by_allowed()
+    ensures { StepsByAllowed }
+{}
+
+/// It depends on sessions as if each terminal without one had a new one.
+pub fn steps_by_sessions()
+    ensures { StepsBySessions }
+{}
+
+/// Runs agree for every account that have the same lines, servers alike, and settings of the same entries, however these are listed.
+pub fn same_entries_agree()
+    ensures { SameEntriesAgree }
+{}

@@ -6,6 +6,7 @@ ghost use Rattle.mgrammar.specs.Reading.{condition_at, settled_with, parameter_a
 ghost use Rattle.mtree.specs.Tree.{expr_tree, parameter_tree, keyword_tree, arg_tree, condition_tree};
 ghost use Rattle.mscan.specs.Gives.{Gives};
 
+use crate::along::beside;
 use crate::arity::takes_condition;
 use crate::expr::{MAX_DEPTH, expr};
 use crate::list::{Items, list};
@@ -34,11 +35,14 @@ fn parameter(alloc: Global, bytes: &[u8]) -> Result<(Parameter, &[u8]), ParseFau
     let Some(behind) = past(b':', rest) else {
         return Ok((Parameter::Once(start), rest));
     };
-    let (increment, rest) = expr(alloc, behind, MAX_DEPTH)?;
+    let (start, (increment, rest)) = beside(start, expr(alloc, behind, MAX_DEPTH))?;
     let Some(behind) = past(b':', rest) else {
         return Ok((Parameter::Onward(start, increment), rest));
     };
-    let (limit, rest) = expr(alloc, behind, MAX_DEPTH)?;
+    let ((start, increment), (limit, rest)) = beside(
+        (start, increment),
+        expr(alloc, behind, MAX_DEPTH),
+    )?;
     Ok((Parameter::Until(start, increment, limit), rest))
 }
 

@@ -3,6 +3,7 @@
 //! grammar has one.
 #![tactic(auto)]
 
+mod along;
 mod arity;
 mod command;
 mod control;

@@ -7,6 +7,7 @@ ghost use Rattle.mgrammar.specs.WellFormed.{max_depth};
 ghost use Rattle.mtree.specs.Tree.{expr_tree, target_tree, destination_tree, arg_tree};
 ghost use Rattle.mscan.specs.Gives.{Gives};
 
+use crate::along::{beside, followed};
 use crate::expr::{MAX_DEPTH, expr, inner, reference, within};
 use crate::list::{Items, list};
 use crate::operand::destination_operand;
@@ -40,16 +41,19 @@ fn piece(
     ensures { Gives (λ x. (target_tree x.0, x.1.now)) result (piece_with (readers_at depth) word bytes.now) }
 {
     let (reference, rest) = within(alloc, bytes, depth)?;
-    let rest = expect(b',', rest)?;
-    let (delimiter, rest) = inner(alloc, rest, depth)?;
-    let (place, rest) = place(alloc, rest, depth)?;
-    let rest = expect(b')', rest)?;
+    let (reference, rest) = followed(reference, b',', rest)?;
+    let (reference, (delimiter, rest)) = beside(reference, inner(alloc, rest, depth))?;
+    let ((reference, delimiter), (place, rest)) = beside(
+        (reference, delimiter),
+        place(alloc, rest, depth),
+    )?;
     let piece = PieceTarget {
         word: FunctionWord::new(word),
         reference,
         delimiter,
         place,
     };
+    let (piece, rest) = followed(piece, b')', rest)?;
     Ok((Target::Piece(Box::new(alloc, piece)?), rest))
 }
 

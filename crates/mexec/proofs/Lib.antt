@@ -2,6 +2,7 @@
 pub mod Calls
 pub mod Lines
 pub mod Loops
+pub mod Indexes
 pub mod LevelRuns
 pub mod ArgumentRuns
 pub mod Effects

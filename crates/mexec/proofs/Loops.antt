@@ -27,7 +27,7 @@ use Rattle.mexec.specs.declared.signal.Signal.{Signal}
 use Rattle.mexec.specs.declared.signal.Signal.TheVariants as signal
 use Rattle.mexec.specs.declared.frames.Turns.{Turns}
 use Rattle.mexec.specs.Frames.{Runs, commands_from, loop_before, turning, signal_of, spot_of}
-use Rattle.mexec.proofs.Calls.{runs_then, runs_stopped, runs_as, runs_spent, runs_frame, runs_rest}
+use Rattle.mexec.proofs.Calls.{runs_then, runs_stopped, runs_as, runs_spent, runs_frame, runs_rest, runs_signal}
 
 -- ---- acts
 
@@ -152,6 +152,11 @@ pub further_runs : {S : Type 0} {g : Ghosts S} {fs fs' : List View} {old new : P
     → Runs g (λ a n. next_parameter (context a n (spot_of t.body.spot.value)) index (commands_from t.body.line.value t.body.at) (map parameter_tree (drop t.parameter parameters))) fs old r fs' new
     → Runs g (λ a n. next_parameter (context a n (spot_of t.body.spot.value)) (turning t).index (turning t).body (turning t).parameters) fs old r fs' new
 further_runs t index parameters e k = runs_as (λ a n. ap (λ u. next_parameter (context a n (spot_of t.body.spot.value)) u.index u.body u.parameters) (turning_of t index parameters e)) k
+
+-- and none of a FOR without an index
+pub no_parameters_run : {S : Type 0} {g : Ghosts S} {fs : List View} {old : Parts S} (t : Turns) → loop_before t.body.line.value t.body.at ≡ ([], [])
+    → Runs g (λ a n. next_parameter (context a n (spot_of t.body.spot.value)) (turning t).index (turning t).body (turning t).parameters) fs old (Ok signal.Skips) fs old
+no_parameters_run t e = runs_as (λ a n. ap (λ u. next_parameter (context a n (spot_of t.body.spot.value)) u.index u.body u.parameters) (turning_of_none t e)) (runs_signal signal.Skips)
 
 module _ {S : Type 0} {g : Ghosts S} (t : Turns) {fs fs' : List View} where
   pub one_more : {old mid new : Parts S} {r : Result Signal Code} → DoesAt g (λ a n. advanced (turning t).index (course_view t.course)) (λ (b : Bool). b) old (Ok true) mid → mid.eval.steps ≤ old.eval.steps

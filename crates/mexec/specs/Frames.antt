@@ -1,6 +1,6 @@
 -- SPDX-License-Identifier: Apache-2.0
 -- Frames of the program as those of the definitions, and what calls say of them.
-use Rattle.std.specs.Prelude.{◌≡◌, ℕ, ◌-◌, ◌≤◌, List, [], ◌∷◌, Option, Some, None, slice_get, Result, Ok, Err, map, drop}
+use Rattle.std.specs.Prelude.{◌≡◌, ℕ, ◌≤◌, List, [], ◌∷◌, Result, Ok, Err, map, drop}
 use Rattle.mspec.specs.Act.{Text, Act}
 use Rattle.mgrammar.specs.Grammar.{CommandTree}
 use Rattle.mmeaning.specs.LineMeaning as meaning
@@ -9,10 +9,7 @@ use Rattle.mmeaning.specs.Calls.{Follows}
 use Rattle.mmeaning.specs.Levels as levels
 use Rattle.mmeaning.specs.Frames.{View, Rests, Lists, Turns, Levels, left, Enough, MovedOn}
 use Rattle.mtree.specs.Tree.{spaced_tree, parameter_tree, arg_tree}
-use Rattle.mtree.specs.declared.tree.Parameter.{Parameter}
 use Rattle.mtree.specs.declared.tree.Arg.{Arg}
-use Rattle.mtree.specs.declared.tree.Arg.TheVariants as arg
-use Rattle.mtree.specs.declared.tree.Spaced.{Spaced}
 use Rattle.mtree.specs.declared.tree.Line.{Line}
 use Rattle.mstore.specs.declared.store.NodeStore.{Ghosts}
 use Rattle.moperator.specs.Codes.{fault_of}
@@ -22,6 +19,7 @@ use Rattle.mcommand.specs.declared.parts.Parts.{Parts}
 use Rattle.mcommand.specs.Does.{here_of}
 use Rattle.mcommand.specs.Targets.{target_view}
 use Rattle.mcommand.specs.Turns.{course_view}
+pub use Rattle.mexec.specs.Loops.{loop_in, args_of, args_before, loop_before}
 use Rattle.mexec.specs.declared.frames.Level as level
 use Rattle.mexec.specs.declared.frames.Spot as spot
 use Rattle.mexec.specs.declared.frames.Closing.{Closing}
@@ -64,23 +62,6 @@ commands_from l at = map (λ c. c.0) (map spaced_tree (drop at l.commands.items)
 
 abbrev pub rest_tree : Rest → List CommandTree
 rest_tree r = commands_from r.line.value r.at
-
--- the index and the parameters of a FOR; none of another command, and of a FOR without arguments
-abbrev pub loop_in : List Arg → Text × List Parameter
-loop_in (arg.Loop index parameters ∷ more) = (index, parameters.items)
-loop_in others = ([], [])
-
-abbrev pub args_of : Option Spaced → List Arg
-args_of None = []
-args_of (Some s) = s.command.args.items
-
--- the arguments of the command before a place
-abbrev pub args_before : Line → ℕ → List Arg
-args_before l at = args_of (slice_get l.commands.items (at - 1))
-
--- its index and its parameters
-abbrev pub loop_before : Line → ℕ → Text × List Parameter
-loop_before l at = loop_in (args_before l at)
 
 abbrev pub turning : turns.Turns → Turning
 turning t =

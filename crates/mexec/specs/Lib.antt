@@ -1,4 +1,5 @@
 -- SPDX-License-Identifier: Apache-2.0
+pub mod Loops
 pub mod Frames
 pub mod Entering
 pub mod Arguments

@@ -77,16 +77,12 @@ pub(crate) fn doing_block<S: NodeStore>(
 {
     let depth = one_deeper(parts, spot.depth)?;
     let test = parts.eval.test();
-    // each dot is a level, and there are 256 at most
-    let Some(dots) = spot.level.dots.checked_add(1) else {
-        return Err(Code::Zmem);
-    };
     let copy = spot.level.copy.clone()?;
     parts.eval.open_level()?;
     let level = Level {
         copy,
         next: spot.level.next,
-        dots,
+        dots: spot.level.dots + 1,
     };
     let inner = Spot { depth, level };
     lines_next(alloc, parts, &inner, Closing::Restores(test), machine)

@@ -1,6 +1,7 @@
 // SPDX-License-Identifier: Apache-2.0
 // What is still to be done of a line: frames, the innermost on top.
-ghost use Rattle.std.specs.Prelude.{◌≡◌, IfOk};
+ghost use Rattle.std.specs.Prelude.{◌≡◌, ◌≤◌, true, IfOk};
+ghost use Rattle.mexec.specs.Loops.{has_course};
 
 use mcommand::Course;
 use meval::Depth;
@@ -17,11 +18,12 @@ pub(crate) struct Level {
     pub(crate) dots: usize,
 }
 
-// Where a line stands: how deep, and in which level. Frames share it.
+// Where a line stands: how deep, and in which level. Frames share it. Each dot is a level that is open.
 #[derive(Drop)]
 pub(crate) struct Spot {
     pub(crate) depth: Depth,
     pub(crate) level: Level,
+    ghost opened: { level.dots ≤ depth.levels },
 }
 
 // How a level closes: not at all, as the outermost one does; its scope goes; and $TEST is besides what it was.
@@ -70,12 +72,13 @@ pub(crate) struct Given {
 }
 
 // A FOR of which a turn is under way: its body, which stands behind it, its next parameter, and how it goes on. Its index and its
-// parameters are read from the line.
+// parameters are read from the line: unless it goes on without an end, it has an index there.
 #[derive(Drop)]
 pub(crate) struct Turns {
     pub(crate) body: Rest,
     pub(crate) parameter: usize,
     pub(crate) course: Course,
+    ghost indexed: { has_course body.line.value body.at course ≡ true },
 }
 
 // Something that is still to be done.

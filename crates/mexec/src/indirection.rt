@@ -48,6 +48,7 @@ fn leave_given(
     args: Vec<Arg>,
     machine: &mut Machine,
 ) -> Result<(), AllocError>
+    requires { spot.now.level.dots ≤ depth.levels }
     ensures frames { OnOk result (stack machine.new.frames.items ≡ Lists (so_deep (depth_of depth) (spot_of spot.now)) (map arg_tree args.items) ∷ stack machine.old.frames.items) }
     ensures most { OnOk result (length machine.new.frames.items ≤ length machine.old.frames.items + 1) }
 {

@@ -20,7 +20,7 @@ pub(crate) enum Source<'t> {
 }
 
 // The arguments of the command before a place of a line.
-fn args_before(line: &Line, at: usize) -> &[Arg]
+pub(crate) fn args_before(line: &Line, at: usize) -> &[Arg]
     ensures { result.now ≡ the_args_before line.now at }
 {
     match line.commands.get(at.saturating_sub(1)) {

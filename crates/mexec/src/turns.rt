@@ -1,6 +1,6 @@
 // SPDX-License-Identifier: Apache-2.0
 // The turns of a FOR, frame by frame: a frame of turns means that the body of one is under way.
-ghost use Rattle.std.specs.Prelude.{◌≡◌, ◌≤◌, ◌+◌, ◌*◌, length, drop, map, option_map, true, IfOk, IfSome};
+ghost use Rattle.std.specs.Prelude.{◌≡◌, ◌≤◌, ◌+◌, ◌*◌, length, drop, is_some, map, option_map, true, IfOk, IfSome};
 ghost use Rattle.mmeaning.specs.LineMeaning as meaning;
 ghost use Rattle.mmeaning.specs.LineMeaning.{context};
 ghost use Rattle.mmeaning.specs.Expression.{inside};
@@ -11,13 +11,15 @@ ghost use Rattle.mcommand.specs.Turns.{course_view, started, advanced};
 ghost use Rattle.mmeaning.specs.Frames.{Rests};
 ghost use Rattle.mexec.specs.declared.frames.Frame.TheVariants as frame;
 ghost use Rattle.mexec.specs.Direct as direct;
-ghost use Rattle.mexec.specs.Frames.{Runs, commands_from, loop_before as the_loop_before, turning, stack, view, signal_of, spot_of};
+ghost use Rattle.mexec.specs.Frames.{Runs, commands_from, turning, stack, view, signal_of, spot_of};
+ghost use Rattle.mexec.specs.Loops.{has_index, loop_before as the_loop_before};
 
 use crate::commands::charge;
 use crate::direct::{direct_commands, is_direct_from};
 use crate::frames::{Frame, Rest, Turns};
 use crate::machine::Machine;
 use crate::signal::Signal;
+use crate::source::args_before;
 use mcommand::{Course, Parts};
 use meval::Depth;
 use mnum::Name;
@@ -28,15 +30,15 @@ use std::alloc::{AllocError, Global};
 
 // The index and the parameters of the FOR before a place of a line, where it has an index.
 fn loop_before(line: &Line, at: usize) -> Option<(&Name, &[Parameter])>
-    ensures { IfSome result (λ found. the_loop_before line.now at ≡ (found.0.now, found.1.now)) }
+    ensures found { IfSome result (λ found. the_loop_before line.now at ≡ (found.0.now, found.1.now)) }
+    ensures indexed { is_some result ≡ has_index line.now at }
 {
-    let place = at.saturating_sub(1);
-    if place >= line.commands.len() {
-        return None;
-    }
-    match line.commands[place].command.args.first() {
-        Some(Arg::Loop(index, parameters)) => Some((index, parameters.as_slice())),
-        _ => None,
+    match args_before(line, at).first() {
+        None => None,
+        Some(first) => match first {
+            Arg::Loop(index, parameters) => Some((index, parameters.as_slice())),
+            _ => None,
+        },
     }
 }
 
@@ -98,7 +100,8 @@ pub(crate) fn next_parameter<S: NodeStore>(
     turns: Turns,
     machine: &mut Machine,
 ) -> Result<Signal, Code>
-    requires { the_loop_before turns.body.line.value turns.body.at ≡ (index.now, parameters.now) }
+    requires found { the_loop_before turns.body.line.value turns.body.at ≡ (index.now, parameters.now) }
+    requires indexed { has_index turns.body.line.value turns.body.at ≡ true }
     ensures loans { KeepsLoans parts.old parts.new }
     ensures falls { IfOk result (λ _. 6 * parts.new.eval.steps + length machine.new.frames.items ≤ 6 * parts.old.eval.steps + length machine.old.frames.items) }
     ensures does { Runs S.NodeStore (λ a n. meaning.next_parameter (context a n (spot_of turns.body.spot.value)) index.now (commands_from turns.body.line.value turns.body.at) (map parameter_tree (drop turns.parameter parameters.now))) (stack machine.old.frames.items) parts.old result (stack machine.new.frames.items) parts.new }
@@ -115,9 +118,9 @@ pub(crate) fn next_parameter<S: NodeStore>(
             None => next += 1,
             Some(course) => {
                 let turns = Turns {
+                    body: turns.body,
                     parameter: next + 1,
                     course,
-                    ..turns
                 };
                 let turns = Box::new(alloc, turns)?;
                 return begin_turn(parts, turns, machine);
@@ -127,7 +130,7 @@ pub(crate) fn next_parameter<S: NodeStore>(
     Ok(Signal::Skips)
 }
 
-// The turns of the parameters that are left.
+// The turns of the parameters that are left. Without an index there are none.
 fn further<S: NodeStore>(
     alloc: Global,
     parts: &mut Parts<S>,
@@ -140,7 +143,7 @@ fn further<S: NodeStore>(
 {
     let line = turns.body.line.clone()?;
     match loop_before(&line, turns.body.at) {
-        None => Err(Code::Zmem),
+        None => Ok(Signal::Skips),
         Some((index, parameters)) => next_parameter(
             alloc, parts, index, parameters, turns, machine,
         ),
@@ -157,8 +160,7 @@ fn goes_on<S: NodeStore>(parts: &mut Parts<S>, turns: &Turns) -> Result<bool, Co
         return Ok(true);
     }
     match loop_before(&turns.body.line, turns.body.at) {
-        // a FOR with another course has an index
-        None => Err(Code::Zmem),
+        None => unreachable!(),
         Some((index, _)) => advance(parts, index, turns.course),
     }
 }

@@ -20,9 +20,6 @@ there x b = in_level x (block x.spot) (restores b) lines_next
 pub returns-in_err-depth-clause-does : goal.returns-in_err-depth-clause-does
 returns-in_err-depth-clause-does g c = runs_stopped (λ a n _. test_is >>= there (context a n (spot_of c.args.spot.now))) c.in_err-depth.ensures.does c.in_err-depth.ensures.fewer c.from_residual.ensures
 
-pub returns-in_default-clause-does : goal.returns-in_default-clause-does
-returns-in_default-clause-does g c = runs_then (λ a n _. test_is >>= there (context a n (spot_of c.args.spot.now))) c.in_ok-depth.ensures.does c.in_ok-depth.ensures.fewer (runs_lost _)
-
 pub returns-in_err-copy-clause-does : goal.returns-in_err-copy-clause-does
 returns-in_err-copy-clause-does g c = runs_then (λ a n _. test_is >>= there (context a n (spot_of c.args.spot.now))) c.in_ok-depth.ensures.does c.in_ok-depth.ensures.fewer (runs_wanting _ _ c.from_residual-in_err-copy.ensures)
 
@@ -38,8 +35,8 @@ pub returns-clause-does : goal.returns-clause-does
 returns-clause-does g c =
     let p = spot_of c.args.spot.now in
     let test = c.test-test.result in
-    let level : Level = record { copy = c.in_ok-copy.copy.value.items; next = p.level.next; dots = c.in-Some.dots } in
-    let same : level ≡ block p = λ i. record { copy = (c.in_ok-copy.ensures.cases i).items; next = p.level.next; dots = c.in-Some.ensures.1 i } in
+    let level : Level = record { copy = c.in_ok-copy.copy.value.items; next = p.level.next; dots = p.level.dots + 1 } in
+    let same : level ≡ block p = λ i. record { copy = (c.in_ok-copy.ensures.cases i).items; next = p.level.next; dots = p.level.dots + 1 } in
     runs_then (λ a n _. test_is >>= there (context a n p)) c.in_ok-depth.ensures.does c.in_ok-depth.ensures.fewer
     (runs_then (λ a n. there (context a n p)) (at_plain c.test-test.ensures) (omega arith)
     (runs_then (λ a n _. lines_next (context a n (deeper p (block p))) >>= closed (restores test)) (at_plain c.in_ok-open_level.ensures.does) c.in_ok-open_level.ensures.fewer

@@ -30,8 +30,8 @@ returns-in_ok-copy-in-Loop-clause-does g c =
     let does = rw (c.deref-in-Loop.ensures.value, c.in_ok-copy-in-Loop.ensures.spot, c.in_ok-copy-in-Loop.ensures.line, c.in_ok-copy-in-Loop.ensures.at) at c.next_parameter.ensures.does in
     rw some.1 does
 
-pub next_parameter-requires : goal.next_parameter-requires
-next_parameter-requires g c =
+pub next_parameter-requires-clause-found : goal.next_parameter-requires-clause-found
+next_parameter-requires-clause-found g c =
     let first = rw (c.in-Some.is, c.deref.ensures.value) at c.first.ensures.value in
     let some = first_some c.args.command.now.args.items (arg.Loop c.in-Loop.index c.in-Loop.parameters) (sym first ∙ ap Some c.in-Loop.is) in
     rw (c.in_ok-copy-in-Loop.ensures.line, c.in_ok-copy-in-Loop.ensures.at, c.deref-in-Loop.ensures.value) (ap loop_in (c.requires ∙ some.1))

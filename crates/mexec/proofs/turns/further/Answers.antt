@@ -1,15 +1,20 @@
 -- SPDX-License-Identifier: Apache-2.0
-use Rattle.mexec.proofs.Calls.{runs_wanting, runs_lost}
-use Rattle.mexec.proofs.Loops.{further_runs}
+use Rattle.mexec.specs.Loops.{args_before}
+use Rattle.mexec.proofs.Calls.{runs_wanting}
+use Rattle.mexec.proofs.Indexes.{no_parameters, not_found}
+use Rattle.mexec.proofs.Loops.{further_runs, no_parameters_run}
 use Rattle.mexec.proofs.turns.further.Goals as goal
 
 pub returns-in_err-line-clause-does : goal.returns-in_err-line-clause-does
 returns-in_err-line-clause-does g c = runs_wanting _ _ c.from_residual.ensures
 
 pub returns-in-None-clause-does : goal.returns-in-None-clause-does
-returns-in-None-clause-does g c = runs_lost _
+returns-in-None-clause-does g c =
+    let t = c.args.turns in
+    let indexed = rw (c.deref.ensures, c.in_ok-line.ensures.cases) at c.loop_before.ensures.indexed in
+    no_parameters_run t (no_parameters (args_before t.body.line.value t.body.at) (not_found c.loop_before.result _ c.in-None.is indexed))
 
 pub returns-in-Some-clause-does : goal.returns-in-Some-clause-does
 returns-in-Some-clause-does g c =
-    let found = rw (c.deref.ensures, c.in_ok-line.ensures.cases) at c.in-Some.ensures in
+    let found = rw (c.deref.ensures, c.in_ok-line.ensures.cases) at c.in-Some.ensures.found in
     further_runs c.args.turns c.in-Some.index.now c.in-Some.parameters.now found c.next_parameter.ensures.does

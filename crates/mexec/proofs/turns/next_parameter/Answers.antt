@@ -6,6 +6,7 @@ use Rattle.mexec.specs.declared.signal.Signal.TheVariants as signal
 use Rattle.mexec.specs.declared.frames.Turns.{Turns}
 use Rattle.mexec.specs.Frames.{commands_from, spot_of}
 use Rattle.mexec.proofs.Calls.{runs_signal, runs_wanting}
+use Rattle.mexec.proofs.Indexes.{any_course}
 use Rattle.mexec.proofs.Loops.{parameter_runs, parameter_stopped, begun_runs}
 use Rattle.mexec.proofs.turns.next_parameter.Goals as goal
 
@@ -56,12 +57,12 @@ returns-in_err-turns-in-Some-clause-does g c =
 pub returns-in-Some-clause-does : goal.returns-in-Some-clause-does
 returns-in-Some-clause-does g c =
     let t = c.args.turns in
-    let turn : Turns = record { body = t.body; parameter = c.loop-next.next + 1; course = c.in-Some.course } in
+    let turn : Turns = record { body = t.body; parameter = c.loop-next.next + 1; course = c.in-Some.course; indexed = any_course t.body.line.value t.body.at c.in-Some.course c.requires.indexed } in
     let here = rw (c.in-Some.is, c.deref.ensures) at c.in_ok-start.ensures.does in
     let begun = rw (c.in_ok-turns-in-Some.ensures.ok, c.loop-next.invariant.machine) at c.begin_turn.ensures.does in
     c.loop-next.invariant.leads _ _ _
     (parameter_runs (spot_of t.body.spot.value) c.args.index.now (commands_from t.body.line.value t.body.at) c.args.parameters.now c.loop-next.next c.index-parameters-next.result c.loop-next-test.true c.index-parameters-next.is here c.in_ok-start.ensures.fewer
-    (begun_runs turn c.args.index.now c.args.parameters.now c.requires begun))
+    (begun_runs turn c.args.index.now c.args.parameters.now c.requires.found begun))
 
 pub returns-clause-loans : goal.returns-clause-loans
 returns-clause-loans g c = c.loop-next.invariant.loans

@@ -16,6 +16,9 @@ use Rattle.mmeaning.specs.Step.{Account, World, Event, Server, Step, FailedStep,
 use Rattle.mmeaning.specs.Calls.{Standing, Here, IsCut, FailedBy, ops_of, point}
 use Rattle.mspec.proofs.Plans.{cut_whole}
 use Rattle.mmeaning.specs.StepLaws.{OthersKeepLocks}
+use Rattle.misolation.specs.Cut.{AreFit}
+use Rattle.misolation.specs.PlanLaws.{Actor, KeepsFit}
+use Rattle.misolation.proofs.PlansInside.{plans_keep_fit}
 use Rattle.mmeaning.proofs.Calls.{cut_all}
 use Rattle.mmeaning.proofs.OtherLocks.{others_kept}
 use Rattle.mstore.specs.declared.store.NodeStore.{Ghosts}
@@ -133,6 +136,21 @@ module _ {S : Type 0} (g : Ghosts S) (settings : Settings) (e : Event) (place : 
         locks = ap (λ (s : Server). s.world.locks) gone ∙ sym (ap (λ (w : World). released w.locks e.terminal) cut.1) ∙ others.short cut.0;
         sessions = ap (λ (s : Server). s.sessions) gone;
       }
+
+-- whatever a text did, what is held is held as it may be
+pub ran_fits : {S : Type 0} (g : Ghosts S) (settings : Settings) (e : Event) (place : ℕ) (old new : Session) (store store' : S) (locks locks' : Locks) (reply : Reply) (passes : Passes settings e place)
+    → Ran g settings e.terminal place e.text old store locks reply new store' locks' → g.sound → AreFit settings locks → AreFit settings locks'
+ran_fits g settings e place old new store store' locks locks' reply passes ran sound fit =
+    let b : Standing = record { settings = settings; terminal = e.terminal; account = name_at settings place } in
+    let here : Here = point (level_begun old.locals) old.naked old.test [] (steps_at settings place) (shared g store locks) in
+    let there : Here = point new.locals new.naked new.test reply.out.items ran.left (shared g store' locks') in
+    let p : Act Signal = text_run (name_at settings place) (line_at e.text) in
+    let cut : IsCut b p here there = is_cut b g.steady p here reply.ending there (ran.at sound) in
+    let sender : Actor = record { settings = settings; terminal = e.terminal; account = passes.account; known = passes.known } in
+    let kept : KeepsFit sender (p here.0) here.1 = plans_keep_fit sender (p here.0) here.1 fit in
+    subst (λ (w : World). AreFit settings w.locks)
+    ((λ i. cut_short (act settings e.terminal (passes.name i)) cut.0 (p here.0) here.1) ∙ cut.1)
+    (kept.short cut.0)
 
 -- a line that was not run for a loss
 pub unrun_step : {S : Type 0} (g : Ghosts S) (settings : Settings) (e : Event) (place : ℕ) (sessions : FinMap nat_cmp step.Session) (store : S) (locks : Locks) (passes : Passes settings e place) (after : Server) (answer : step.Reply) (loss : spec.Loss)

@@ -18,11 +18,6 @@ use Rattle.misolation.specs.Alone.{only}
 use Rattle.misolation.specs.Telling.{Told, told_by, told_to, Tells}
 use Rattle.misolation.proofs.Reaching.{reach_is_chains}
 use Rattle.misolation.proofs.RunsTold.{tells_on, history_on}
-use Rattle.misolation.specs.Cut.{IsFit}
-use Rattle.misolation.proofs.PartsAlone.{histories_keep_fit}
-use Rattle.mstore.specs.declared.store.NodeStore.{Ghosts}
-use Rattle.mworld.specs.declared.world.World.{World}
-use Rattle.mworld.specs.View.{settings_of, server_of, HasFittingLocks}
 use Rattle.mworld.specs.Isolated.{IsToldEach, IsUnseen, RanFirst}
 use Rattle.mworld.proofs.Checks.{found}
 
@@ -141,10 +136,3 @@ module _ {X : Type 0} (f : X → Event) (xs : List X) (i : ℕ) (x : X) (a : Tex
 pub whichever : {X E P : Type 0} (r : Result X E) → P → IfErr r (λ _. P)
 whichever (Ok x) p = tt
 whichever (Err e) p = p
-
--- a history leaves the locks fitting
-pub still_fit : {S : Type 0} (g : Ghosts S) (old new : World S) → settings_of new ≡ settings_of old
-    → (lines : List (Event × Reply)) → History (settings_of old) (server_of g old) lines (server_of g new) → HasFittingLocks g old → HasFittingLocks g new
-still_fit g old new same lines history fit =
-    subst (λ settings. IsFit settings (server_of g new).world) (sym same)
-    (histories_keep_fit (settings_of old) (server_of g old) (server_of g new) lines history fit)

@@ -8,11 +8,10 @@ use Rattle.mmeaning.specs.Step as step
 use Rattle.mmeaning.specs.Step.{Server}
 use Rattle.mmeaning.specs.History.{History}
 use Rattle.misolation.specs.Reach.{Accounts, IsClosed, reach}
-use Rattle.misolation.specs.Cut.{cut_settings, cut_server, cut_events}
 use Rattle.misolation.specs.Alone.{alone}
 use Rattle.misolation.specs.HistoryLaws.{events_of}
 use Rattle.misolation.specs.Telling as telling
-use Rattle.misolation.specs.Telling.{Tells, told_to}
+use Rattle.misolation.specs.Telling.{Tells, TellsPart, told_to}
 use Rattle.mstore.specs.declared.store.NodeStore.{Ghosts}
 use Rattle.mworld.specs.declared.isolated.Told.{Told}
 use Rattle.mworld.specs.declared.isolated.Isolated.{Isolated}
@@ -27,22 +26,18 @@ abbrev pub replies_of : Isolated → List telling.Told
 replies_of i = map told_of i.replies.items
 
 -- These are the replies at the account's terminals of a history of all the events, from the old world to the new; and it is whole
--- exactly where no step failed in it at a terminal of an account that reaches this one.
-abbrev pub IsTold : {S : Type 0} → Ghosts S → World S → ℕ → List step.Event → List telling.Told → Bool → World S → Type 0
-IsTold g old account events told whole new =
-    Tells (name_at (settings_of old) account) (settings_of old) (server_of g old) events told whole (server_of g new)
-
--- For every closed set that has the account they are those of a history of the members' events alone, from the one cut to the other:
--- over the members' globals, sessions and locks, and the grants between them.
-abbrev pub IsToldApart : {S : Type 0} → Ghosts S → World S → ℕ → List step.Event → List telling.Told → Bool → World S → Type 0
-IsToldApart g old account events told whole new =
-    (s : Accounts) → IsClosed (settings_of old) s → IsTrue (s (name_at (settings_of old) account)) →
-    Tells (name_at (settings_of old) account) (cut_settings s (settings_of old)) (cut_server s (settings_of old) (server_of g old))
-    (cut_events s (settings_of old) events) told whole (cut_server s (settings_of old) (server_of g new))
+-- exactly where no step failed in it at a terminal of an account that reaches this one. For every closed set that has the account they
+-- are those of the members' part of this history alone, from the one cut to the other: over the members' globals, sessions and locks,
+-- and the grants between them.
+pub record IsTold {S : Type 0} (g : Ghosts S) (old : World S g) (account : ℕ) (events : List step.Event) (told : List telling.Told) (whole : Bool) (new : World S g) : Type 0 where
+  pub run : Tells (name_at (settings_of old) account) (settings_of old) (server_of g old) events told whole (server_of g new)
+  pub apart :
+      (s : Accounts) → IsClosed (settings_of old) s → IsTrue (s (name_at (settings_of old) account)) →
+      TellsPart s (name_at (settings_of old) account) (settings_of old) (server_of g old) events told whole (server_of g new) run.lines
 
 -- Where it is whole, they are those of the definitional interpreter, run on the lines of the accounts that reach this one, over their
--- globals and the grants between them alone.
-abbrev pub IsEquallyTold : {S : Type 0} → Ghosts S → World S → ℕ → List step.Event → List telling.Told → Bool → Type 0
+-- globals, their sessions and locks, and the grants between them alone.
+abbrev pub IsEquallyTold : {S : Type 0} (g : Ghosts S) → World S g → ℕ → List step.Event → List telling.Told → Bool → Type 0
 IsEquallyTold g old account events told whole =
     IsTrue whole →
     told ≡

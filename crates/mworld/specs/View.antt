@@ -9,7 +9,6 @@ use Rattle.mspec.specs.Access.{Settings}
 use Rattle.mspec.specs.LockConflict.{Locks}
 use Rattle.mmeaning.specs.Step as step
 use Rattle.mmeaning.specs.Step.{Server}
-use Rattle.misolation.specs.Cut.{IsFit}
 use Rattle.mstore.specs.declared.store.NodeStore.{Ghosts}
 use Rattle.meval.specs.declared.session.Session.{Session}
 use Rattle.meval.specs.Sessions.{session_of}
@@ -18,7 +17,7 @@ use Rattle.mworld.specs.declared.reply.Event.{Event}
 use Rattle.mworld.specs.declared.reply.Reply.{Reply}
 use Rattle.mworld.specs.declared.world.World.{World}
 
-abbrev pub settings_of : {S : Type 0} → World S → Settings
+abbrev pub settings_of : {S : Type 0} {g : Ghosts S} → World S g → Settings
 settings_of w = w.settings
 
 -- what all terminals share
@@ -28,7 +27,7 @@ shared g store locks = record { globals = g.content store; locks = locks }
 abbrev pub sessions_of : {H : Type 0} → HashMap ℕ Session H → FinMap nat_cmp step.Session
 sessions_of m = hash_map_of {R = nat_cmp} session_of m
 
-abbrev pub server_of : {S : Type 0} → Ghosts S → World S → Server
+abbrev pub server_of : {S : Type 0} (g : Ghosts S) → World S g → Server
 server_of g w = record { world = shared g w.store w.locks; sessions = sessions_of w.sessions }
 
 abbrev pub reply_of : Reply → step.Reply
@@ -36,7 +35,3 @@ reply_of r = record { out = r.out.items; ending = ending_of r.ending }
 
 abbrev pub event_of : Event → step.Event
 event_of e = record { terminal = e.terminal; text = e.text.items }
-
--- Each lock that is held is on a name that its terminal's account may hold: one without `^` of its own, or a global that it may write.
-abbrev pub HasFittingLocks : {S : Type 0} → Ghosts S → World S → Type 0
-HasFittingLocks g w = IsFit (settings_of w) (server_of g w).world

@@ -6,8 +6,8 @@ ghost use Rattle.mspec.specs.Trees.{text_eq};
 ghost use Rattle.mmeaning.specs.Step as step;
 ghost use Rattle.mmeaning.specs.Step.{Server, Step};
 ghost use Rattle.misolation.specs.Telling.{Tells};
-ghost use Rattle.mworld.specs.View.{settings_of, server_of, reply_of, event_of, HasFittingLocks};
-ghost use Rattle.mworld.specs.Isolated.{replies_of, IsTold, IsToldApart, IsEquallyTold, IsToldEach, IsUnseen, RanFirst};
+ghost use Rattle.mworld.specs.View.{settings_of, server_of, reply_of, event_of};
+ghost use Rattle.mworld.specs.Isolated.{replies_of, IsTold, IsEquallyTold, IsToldEach, IsUnseen, RanFirst};
 
 use crate::reply::{Event, Reply};
 use crate::world::World;
@@ -37,8 +37,8 @@ pub struct Isolated {
 /// grant to write leading both ways. Over a sound store, where no line of an account that reaches this one was answered `Zmem` or
 /// `Zstore`, which `whole` says, the replies are those of the definitional interpreter run on the reaching accounts' lines, globals,
 /// sessions and locks, and the grants between them, alone: whatever other accounts store, lock, run or exhaust. Past such a line they
-/// are still those of a history of these lines alone, in which that line failed. Over any store they are replies to the account's events,
-/// one each and in their order.
+/// are still those of these lines alone, with the replies that they got here, in which that line failed. So it is from any world. Over any
+/// store they are replies to the account's events, one each and in their order.
 ///
 /// An id that names no account of the world's settings is told nothing.
 ///
@@ -52,13 +52,9 @@ pub fn isolated_replies<S: NodeStore>(
     account: AccountId,
 ) -> Result<Isolated, AllocError>
     ensures told { S.sound → IfOk result (λ isolated. IsTold S.NodeStore world.old account (map event_of events.now) (replies_of isolated) isolated.whole world.new) }
-    ensures apart { S.sound → HasFittingLocks S.NodeStore world.old →
-        IfOk result (λ isolated. IsToldApart S.NodeStore world.old account (map event_of events.now) (replies_of isolated) isolated.whole world.new) }
-    ensures alone { S.sound → HasFittingLocks S.NodeStore world.old →
-        IfOk result (λ isolated. IsEquallyTold S.NodeStore world.old account (map event_of events.now) (replies_of isolated) isolated.whole) }
+    ensures alone { S.sound → IfOk result (λ isolated. IsEquallyTold S.NodeStore world.old account (map event_of events.now) (replies_of isolated) isolated.whole) }
     ensures each { IfOk result (λ isolated. IsToldEach (name_at (settings_of world.old) account) (settings_of world.old) (map event_of events.now) (replies_of isolated)) }
     ensures first { S.sound → IfErr result (λ _. RanFirst (settings_of world.old) (server_of S.NodeStore world.old) (map event_of events.now) (server_of S.NodeStore world.new)) }
-    ensures fit { S.sound → HasFittingLocks S.NodeStore world.old → HasFittingLocks S.NodeStore world.new }
     ensures settings { settings_of world.new ≡ settings_of world.old }
 {
     let mut isolated = Isolated {

@@ -1,14 +1,9 @@
 // SPDX-License-Identifier: Apache-2.0
 // The world: one session for each terminal, and the locks of all, over a store.
-ghost use Rattle.std.specs.Prelude.{◌≡◌, ◌≢◌, ◌≤◌, IfOk, IfErr};
-ghost use Rattle.mmeaning.specs.Step.{Step, is_lost};
-ghost use Rattle.mmeaning.specs.History.{opening};
+ghost use Rattle.std.specs.Prelude.{◌≡◌};
+ghost use Rattle.mmeaning.specs.Step.{is_lost};
 ghost use Rattle.moperator.specs.Codes.{fault_of};
-ghost use Rattle.moperator.specs.declared.code.Code.TheVariants.{Zstore};
-ghost use Rattle.misolation.specs.Reach.{Accounts, IsClosed};
-ghost use Rattle.misolation.specs.StepLaws.{IsolatedStep};
-ghost use Rattle.mworld.specs.View.{settings_of, server_of, reply_of, HasFittingLocks};
-ghost use Rattle.mworld.specs.Admits.{Passes};
+ghost use Rattle.misolation.specs.Cut.{AreFit};
 
 use crate::admission::admitted;
 use crate::reply::Reply;
@@ -28,8 +23,11 @@ const KEPT_TREES: usize = 256;
 
 /// The sessions and the locks of all terminals over a store, with the settings that say whose the terminals are. Contracts see it by
 /// `server_of`, as the server of the definitions, and by `settings_of`.
+///
+/// Of every world over a sound store it is known that each lock is on a name that its terminal's account may hold: one without `^` of its
+/// own, or a global that it may write.
 #[derive(Drop)]
-pub struct World<S> {
+pub struct World<S: NodeStore> {
     settings: Settings,
     sessions: HashMap<u32, Session>,
     locks: Locks,
@@ -39,9 +37,20 @@ pub struct World<S> {
     // room for the output of a line
     room: Vec<u8>,
     alloc: Global,
+    pub ghost fit: { S.sound → AreFit settings locks },
 }
 
 impl<S: NodeStore> World<S> {
+    ghost use Rattle.std.specs.Prelude.{◌≡◌, ◌≢◌, ◌≤◌, false, IsTrue, IfOk, IfErr};
+    ghost use Rattle.mmeaning.specs.Step.{Step};
+    ghost use Rattle.mmeaning.specs.History.{opening};
+    ghost use Rattle.moperator.specs.declared.code.Code.TheVariants.{Zstore};
+    ghost use Rattle.misolation.specs.Reach.{Accounts, IsClosed};
+    ghost use Rattle.misolation.specs.Cut.{is_inside, cut_server};
+    ghost use Rattle.misolation.specs.StepLaws.{StepWrites, StepWithin};
+    ghost use Rattle.mworld.specs.View.{settings_of, server_of, reply_of};
+    ghost use Rattle.mworld.specs.Admits.{Passes};
+
     /// A world without a session and without a lock, over a store. It keeps the trees of texts that were run, of all accounts, of 256 texts at
     /// most; which they are shows in no reply.
     ///
@@ -51,7 +60,6 @@ impl<S: NodeStore> World<S> {
     pub fn new(alloc: Global, settings: Settings, store: S) -> Result<World<S>, (Settings, S)>
         ensures server { IfOk result (λ world. server_of S.NodeStore world ≡ opening (S.content store)) }
         ensures settings { IfOk result (λ world. settings_of world ≡ settings) }
-        ensures fit { IfOk result (λ world. HasFittingLocks S.NodeStore world) }
         ensures back { IfErr result (λ back. back ≡ (settings, store)) }
     {
         World::with_entries(alloc, settings, store, KEPT_TREES)
@@ -71,7 +79,6 @@ impl<S: NodeStore> World<S> {
         requires { 1 ≤ entries }
         ensures server { IfOk result (λ world. server_of S.NodeStore world ≡ opening (S.content store)) }
         ensures settings { IfOk result (λ world. settings_of world ≡ settings) }
-        ensures fit { IfOk result (λ world. HasFittingLocks S.NodeStore world) }
         ensures back { IfErr result (λ back. back ≡ (settings, store)) }
     {
         let Ok(machine) = Machine::new(alloc, entries) else {
@@ -88,6 +95,13 @@ impl<S: NodeStore> World<S> {
         })
     }
 
+    /// The store as the lines left it, lent. Takes no memory.
+    pub fn store(&self) -> &S
+        ensures { S.content result.now ≡ (server_of S.NodeStore self.now).world.globals }
+    {
+        &self.store
+    }
+
     /// The store as the lines left it. Takes no memory.
     pub fn into_store(self) -> S
         ensures { S.content result ≡ (server_of S.NodeStore self).world.globals }
@@ -101,14 +115,16 @@ impl<S: NodeStore> World<S> {
     /// so they are after `Zmem` and `Zstore`, when there is no output; these can come anywhere after the check for `Zchar`, and `Zstore` never
     /// over a steady store.
     ///
-    /// **It keeps every closed set of accounts apart from the others**, where the locks held are on names that their terminals' accounts may
-    /// hold: so they are in a new world, and so each call leaves them. At a member's terminal it is that step over what is left where there
-    /// is nothing but the set, with the same reply; at any other terminal it leaves that as it was.
+    /// **It keeps every closed set of accounts apart from the others.** At a member's terminal it is that step over what is left where there
+    /// is nothing but the set, with the same reply and the same writes; at any other terminal it leaves that as it was. The globals that
+    /// it leaves are the old ones after some first of the line's writes: after all, where it did not fail.
     pub fn line(&mut self, terminal: u32, text: &[u8]) -> Reply
         ensures step { S.sound → Step (settings_of self.old) (record { terminal = terminal; text = text.now }) (reply_of result) (server_of S.NodeStore self.old) (server_of S.NodeStore self.new) }
-        ensures isolated { S.sound → HasFittingLocks S.NodeStore self.old → (s : Accounts) → IsClosed (settings_of self.old) s →
-            IsolatedStep s (settings_of self.old) (record { terminal = terminal; text = text.now }) (reply_of result) (server_of S.NodeStore self.old) (server_of S.NodeStore self.new) }
-        ensures fit { S.sound → HasFittingLocks S.NodeStore self.old → HasFittingLocks S.NodeStore self.new }
+        ensures writes { S.sound → StepWrites (settings_of self.old) (record { terminal = terminal; text = text.now }) (reply_of result) (server_of S.NodeStore self.old) (server_of S.NodeStore self.new) }
+        ensures inside { S.sound → (s : Accounts) → IsClosed (settings_of self.old) s → IsTrue (is_inside s (settings_of self.old) terminal) →
+            StepWithin s (settings_of self.old) (record { terminal = terminal; text = text.now }) (reply_of result) (server_of S.NodeStore self.old) (server_of S.NodeStore self.new) }
+        ensures outside { S.sound → (s : Accounts) → IsClosed (settings_of self.old) s → is_inside s (settings_of self.old) terminal ≡ false →
+            cut_server s (settings_of self.old) (server_of S.NodeStore self.new) ≡ cut_server s (settings_of self.old) (server_of S.NodeStore self.old) }
         ensures settings { settings_of self.new ≡ settings_of self.old }
         ensures steady { S.steady → result.ending ≢ Ended.Fault Zstore }
     {

@@ -4,7 +4,7 @@ use Rattle.std.proofs.lemmas.List.{take_all}
 use Rattle.mspec.specs.Access.{name_at}
 use Rattle.misolation.proofs.RunsTold.{told_apart, equally_told}
 use Rattle.mworld.specs.View.{settings_of, server_of, event_of}
-use Rattle.mworld.proofs.Tellings.{take_on, ran_first, whichever, still_fit}
+use Rattle.mworld.proofs.Tellings.{take_on, ran_first, whichever}
 use Rattle.mworld.proofs.isolated.isolated_replies.Goals as goal
 
 pub returns-in_err-tell-clause-first : goal.returns-in_err-tell-clause-first
@@ -30,24 +30,12 @@ loop-event-preserved g c =
 pub returns-clause-each : goal.returns-clause-each
 returns-clause-each g c = rw (take_all c.loop-event.event-index c.args.events.now c.loop-event-test.false) at c.loop-event.invariant.each
 
-pub returns-clause-apart : goal.returns-clause-apart
-returns-clause-apart g c = λ sound fit s closed member.
+pub returns-clause-told : goal.returns-clause-told
+returns-clause-told g c = λ sound.
     let told = rw (take_all c.loop-event.event-index c.args.events.now c.loop-event-test.false) at c.loop-event.invariant.told in
-    told_apart s _ _ _ _ _ _ _ closed member fit (told sound)
+    record { run = told sound; apart = λ s closed member. told_apart s _ _ _ _ _ _ _ closed member (c.args.world.now.fit sound) (told sound) }
 
 pub returns-clause-alone : goal.returns-clause-alone
-returns-clause-alone g c = λ sound fit whole.
+returns-clause-alone g c = λ sound whole.
     let told = rw (take_all c.loop-event.event-index c.args.events.now c.loop-event-test.false, whole) at c.loop-event.invariant.told in
-    equally_told _ _ _ _ _ _ fit (told sound)
-
-pub returns-in_err-tell-clause-fit : goal.returns-in_err-tell-clause-fit
-returns-in_err-tell-clause-fit g c = λ sound.
-    let step = rw c.loop-event.invariant.settings at c.in_err-tell.ensures.step in
-    let first =
-    ran_first event_of c.args.events.now c.loop-event.event-index c.event-item.result _ _ _ _ _ _ _ c.loop-event-test.true c.event-item.is (c.loop-event.invariant.told sound) (step sound) in
-    still_fit g.S.NodeStore c.args.world.now c.tell.new.world (c.tell.ensures.settings ∙ c.loop-event.invariant.settings) first.lines first.history
-
-pub returns-clause-fit : goal.returns-clause-fit
-returns-clause-fit g c = λ sound.
-    let told = c.loop-event.invariant.told sound in
-    still_fit g.S.NodeStore c.args.world.now c.loop-event.world c.loop-event.invariant.settings told.lines told.history
+    equally_told _ _ _ _ _ _ (c.args.world.now.fit sound) (told sound)

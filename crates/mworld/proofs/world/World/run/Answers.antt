@@ -8,7 +8,9 @@ use Rattle.mmeaning.specs.Step.{Faulted, lost, is_failure, session_or_new}
 use Rattle.moperator.specs.Codes.{fault_of}
 use Rattle.mexec.specs.Runs.{ending_of}
 use Rattle.mworld.specs.View.{server_of, sessions_of, shared}
-use Rattle.mworld.proofs.Runs.{ran_step, lost_step, unrun_step, is_loss, not_lost, settles, halts}
+use Rattle.misolation.specs.Cut.{AreFit}
+use Rattle.misolation.proofs.FittingLocks.{released_fits}
+use Rattle.mworld.proofs.Runs.{ran_step, lost_step, unrun_step, ran_fits, is_loss, not_lost, settles, halts}
 use Rattle.mworld.proofs.Sessions.{is_there, is_lent, left, gone}
 use Rattle.mworld.proofs.world.World.run.Goals as goal
 use Rattle.mworld.proofs.world.World.run.Goals.{in-Fault+else-loses_session, in_default-ending}
@@ -71,3 +73,35 @@ pub unreachable-requires : goal.unreachable-requires
 unreachable-requires g c =
     is_there c.args.terminal c.begin_session.new.sessions (session_or_new (get (sessions_of c.args.self.now.sessions) c.args.terminal)) c.in-Ok.ensures.session
     (ap option_copied_mut (sym c.in_default-get_mut.is) ∙ c.get_mut.ensures.value)
+
+-- ---- what is held is held as it may be
+
+pub invariant_of-self : goal.invariant_of-self
+invariant_of-self g c = record {
+  fit = λ sound. subst (AreFit c.args.self.now.settings) (sym c.release_all.ensures) (released_fits c.args.self.now.settings c.args.self.now.locks c.args.terminal (c.args.self.now.fit sound));
+}
+
+pub invariant_of-self-then-loses_session : goal.invariant_of-self-then-loses_session
+invariant_of-self-then-loses_session g c = record {
+  fit = λ sound.
+      subst (AreFit c.args.self.now.settings) (sym c.end_session.ensures.locks)
+      (released_fits c.args.self.now.settings c.run_over-reply.new.locks c.args.terminal
+      (ran_fits g.S.NodeStore c.args.self.now.settings (record { terminal = c.args.terminal; text = c.args.text.now }) c.args.account c.in-Some.session.now c.run_over-reply.new.session
+      c.args.self.now.store c.run_over-reply.new.store c.args.self.now.locks c.run_over-reply.new.locks c.run_over-reply.result c.requires c.run_over-reply.ensures.ran sound (c.args.self.now.fit sound)));
+}
+
+pub invariant_of-self-in-Halt : goal.invariant_of-self-in-Halt
+invariant_of-self-in-Halt g c = record {
+  fit = λ sound.
+      subst (AreFit c.args.self.now.settings) (sym c.end_session-in-Halt.ensures.locks)
+      (released_fits c.args.self.now.settings c.run_over-reply.new.locks c.args.terminal
+      (ran_fits g.S.NodeStore c.args.self.now.settings (record { terminal = c.args.terminal; text = c.args.text.now }) c.args.account c.in-Some.session.now c.run_over-reply.new.session
+      c.args.self.now.store c.run_over-reply.new.store c.args.self.now.locks c.run_over-reply.new.locks c.run_over-reply.result c.requires c.run_over-reply.ensures.ran sound (c.args.self.now.fit sound)));
+}
+
+pub invariant_of-self-2 : goal.invariant_of-self-2
+invariant_of-self-2 g c = record {
+  fit = λ sound.
+      ran_fits g.S.NodeStore c.args.self.now.settings (record { terminal = c.args.terminal; text = c.args.text.now }) c.args.account c.in-Some.session.now c.run_over-reply.new.session
+      c.args.self.now.store c.run_over-reply.new.store c.args.self.now.locks c.run_over-reply.new.locks c.run_over-reply.result c.requires c.run_over-reply.ensures.ran sound (c.args.self.now.fit sound);
+}

@@ -14,3 +14,4 @@ pub mod ServedLines
 pub mod StoreFaults
 pub mod Sends
 pub mod RepliesSent
+pub mod Visits

@@ -14,8 +14,8 @@ use Rattle.mmeaning.specs.Step.{Event}
 use Rattle.misolation.specs.Telling.{Told}
 use Rattle.mstore.specs.declared.store.NodeStore.{Ghosts}
 use Rattle.mworld.specs.declared.world.World.{World}
-use Rattle.mworld.specs.View.{settings_of, server_of, HasFittingLocks}
-use Rattle.mworld.specs.Isolated.{IsTold, IsToldApart, IsEquallyTold, IsToldEach, RanFirst}
+use Rattle.mworld.specs.View.{settings_of, server_of}
+use Rattle.mworld.specs.Isolated.{IsTold, IsEquallyTold, IsToldEach, RanFirst}
 use Rattle.mworld.proofs.Tellings.{take_on}
 use Rattle.mwire.specs.Wire.{events_of, reply_text}
 use Rattle.mwire.specs.Only.{told_text, RanOnly, CutOff, OnlyBroke, ServesOnly}
@@ -67,7 +67,7 @@ sent_all bytes before after whole a = record { part = bytes; unsent = []; of_byt
 
 -- ---- how a stream ends
 
-module _ {S : Type 0} (g : Ghosts S) (old new : World S) (account : ℕ) (left left' held held' : Option Text) (read : Text) (consumed : Consumes left left' read) where
+module _ {S : Type 0} (g : Ghosts S) (old new : World S g) (account : ℕ) (left left' held held' : Option Text) (read : Text) (consumed : Consumes left left' read) where
   -- a fault of the reading
   pub unread : (fault : WireFault) → fault ≢ Write → new ≡ old → held' ≡ held → ServesOnly g old account left left' held held' (Err fault) new
   unread fault other same kept = record {
@@ -112,11 +112,10 @@ module _ {S : Type 0} (g : Ghosts S) (old new : World S) (account : ℕ) (left l
         record { read = read; consumed = consumed; sent = bytes; appended = subst (Appends held held') all s.appended; outcome = (at_end, ran) }
 
 -- what was told of a slice's events, of a stream's
-pub ran_only : {S : Type 0} (g : Ghosts S) (old new : World S) (account : ℕ) (es es' : List Event) → es ≡ es' → (replies : List Told) (bytes : Text) (whole : Bool) → bytes ≡ told_text replies
+pub ran_only : {S : Type 0} (g : Ghosts S) (old new : World S g) (account : ℕ) (es es' : List Event) → es ≡ es' → (replies : List Told) (bytes : Text) (whole : Bool) → bytes ≡ told_text replies
     → IsToldEach (name_at (settings_of old) account) (settings_of old) es replies
     → (g.sound → IsTold g old account es replies whole new)
-    → (g.sound → HasFittingLocks g old → IsToldApart g old account es replies whole new)
-    → (g.sound → HasFittingLocks g old → IsEquallyTold g old account es replies whole)
+    → (g.sound → IsEquallyTold g old account es replies whole)
     → RanOnly g old account es' bytes whole new
-ran_only g old new account es es' same replies bytes whole text each told apart alone =
-    subst (λ events. RanOnly g old account events bytes whole new) same (record { replies = replies; text = text; each = each; told = told; apart = apart; alone = alone })
+ran_only g old new account es es' same replies bytes whole text each told alone =
+    subst (λ events. RanOnly g old account events bytes whole new) same (record { replies = replies; text = text; each = each; told = told; alone = alone })

@@ -7,3 +7,4 @@ pub mod Watched
 pub mod Serves
 pub mod Progress
 pub mod Only
+pub mod Connections

@@ -10,8 +10,8 @@ use Rattle.mmeaning.specs.Step.{Event}
 use Rattle.misolation.specs.Telling.{Told}
 use Rattle.mstore.specs.declared.store.NodeStore.{Ghosts}
 use Rattle.mworld.specs.declared.world.World.{World}
-use Rattle.mworld.specs.View.{settings_of, server_of, HasFittingLocks}
-use Rattle.mworld.specs.Isolated.{IsTold, IsToldApart, IsEquallyTold, IsToldEach, RanFirst}
+use Rattle.mworld.specs.View.{settings_of, server_of}
+use Rattle.mworld.specs.Isolated.{IsTold, IsEquallyTold, IsToldEach, RanFirst}
 use Rattle.mwire.specs.Wire.{events_of, reply_text}
 use Rattle.mwire.specs.declared.fault.WireFault.{WireFault}
 use Rattle.mwire.specs.declared.fault.WireFault.TheVariants.{Read, Write, Memory}
@@ -23,16 +23,15 @@ told_text ts = flat_map (λ t. reply_text t.terminal t.reply) ts
 -- The events were run, and the account was told these bytes, or a front of them: those of replies to its events, one each. Over a sound
 -- store they are as they are for every closed set that has it, and, where they are whole, as the definitional interpreter gives them to
 -- the reaching accounts alone.
-pub record RanOnly {S : Type 0} (g : Ghosts S) (old : World S) (account : ℕ) (events : List Event) (bytes : Text) (whole : Bool) (new : World S) : Type 0 where
+pub record RanOnly {S : Type 0} (g : Ghosts S) (old : World S g) (account : ℕ) (events : List Event) (bytes : Text) (whole : Bool) (new : World S g) : Type 0 where
   pub replies : List Told
   pub text : bytes ≡ told_text replies
   pub each : IsToldEach (name_at (settings_of old) account) (settings_of old) events replies
   pub told : g.sound → IsTold g old account events replies whole new
-  pub apart : g.sound → HasFittingLocks g old → IsToldApart g old account events replies whole new
-  pub alone : g.sound → HasFittingLocks g old → IsEquallyTold g old account events replies whole
+  pub alone : g.sound → IsEquallyTold g old account events replies whole
 
 -- all events were run, and of the bytes a front was sent
-pub record CutOff {S : Type 0} (g : Ghosts S) (old : World S) (account : ℕ) (events : List Event) (sent : Text) (new : World S) : Type 0 where
+pub record CutOff {S : Type 0} (g : Ghosts S) (old : World S g) (account : ℕ) (events : List Event) (sent : Text) (new : World S g) : Type 0 where
   pub bytes : Text
   pub whole : Bool
   pub ran : RanOnly g old account events bytes whole new
@@ -40,17 +39,17 @@ pub record CutOff {S : Type 0} (g : Ghosts S) (old : World S) (account : ℕ) (e
   pub of_bytes : bytes ≡ sent ++ unsent
 
 -- nothing was sent, and some first events were run, one step each
-abbrev pub Unsent : {S : Type 0} → Ghosts S → World S → List Event → Text → World S → Type 0
+abbrev pub Unsent : {S : Type 0} (g : Ghosts S) → World S g → List Event → Text → World S g → Type 0
 Unsent g old events sent new = (sent ≡ []) × (g.sound → RanFirst (settings_of old) (server_of g old) events (server_of g new))
 
 -- how far it came where there was a fault
-abbrev pub OnlyBroke : {S : Type 0} → Ghosts S → World S → ℕ → Option Text → List Event → Text → World S → WireFault → Type 0
+abbrev pub OnlyBroke : {S : Type 0} (g : Ghosts S) → World S g → ℕ → Option Text → List Event → Text → World S g → WireFault → Type 0
 OnlyBroke g old account left events sent new Read = (sent ≡ []) × (new ≡ old)
 OnlyBroke g old account left events sent new Write = IsAtEnd left × CutOff g old account events sent new
 OnlyBroke g old account left events sent new Memory = Unsent g old events sent new ⊎ (IsAtEnd left × CutOff g old account events sent new)
 
 -- so many bytes were read, and so many sent; at the stream's end those of the replies
-pub record ServesOnly {S : Type 0} (g : Ghosts S) (old : World S) (account : ℕ) (left left' held held' : Option Text) (result : Result Bool WireFault) (new : World S) : Type 0 where
+pub record ServesOnly {S : Type 0} (g : Ghosts S) (old : World S g) (account : ℕ) (left left' held held' : Option Text) (result : Result Bool WireFault) (new : World S g) : Type 0 where
   pub read : Text
   pub consumed : Consumes left left' read
   pub sent : Text

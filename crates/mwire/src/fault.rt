@@ -1,5 +1,5 @@
 // SPDX-License-Identifier: Apache-2.0
-// What ends the reading of a stream early.
+// What ends the reading of a stream early, and what ends the serving of connections.
 use thiserror::Error;
 
 /// Why a stream was not served, or not read, to its end.
@@ -15,3 +15,8 @@ pub enum WireFault {
     #[error("Memory")]
     Memory,
 }
+
+/// No further connection could be accepted.
+#[derive(Clone, Copy, Debug, PartialEq, Eq, Error)]
+#[error("Accept")]
+pub struct AcceptFault;

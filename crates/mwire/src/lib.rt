@@ -2,23 +2,30 @@
 //! The wire: a stream of bytes in, the replies out.
 //!
 //! A line feed ends a line, and takes a carriage return just before it with it; an unfinished last line counts. A line is a
-//! terminal, 1 to 9999, a space and a text, which is run and answered before the next line is.
+//! terminal, 1 to 9999, a space and a text, which is run and answered before the next line is. Connections are served one after
+//! another, of any listener that hands out their readers and writers.
 #![tactic(auto)]
 
+mod connections;
 mod ending;
 mod events;
 mod fate;
 mod fault;
 mod line_buffer;
+mod listener;
 mod only;
+mod peers;
 mod reply;
 mod serving;
 mod watched;
 pub mod wire_laws;
 
+pub use connections::serve_each;
 pub use events::read_events;
-pub use fault::WireFault;
+pub use fault::{AcceptFault, WireFault};
+pub use listener::Listener;
 pub use only::serve_only;
+pub use peers::Peers;
 pub use reply::push_reply;
 pub use serving::serve;
 pub use watched::Watched;

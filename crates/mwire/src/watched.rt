@@ -34,6 +34,13 @@ impl<T> Watched<T> {
         }
     }
 
+    /// The reader or the writer inside.
+    pub fn into_inner(self) -> T
+        ensures { result ≡ inner_of self }
+    {
+        self.inner
+    }
+
     /// Whether a call of the inner one has answered an error.
     pub fn failed(&self) -> bool
         ensures { result ≡ failed_of self.now }

@@ -1,0 +1,91 @@
+-- SPDX-License-Identifier: Apache-2.0
+-- Connections after connections.
+use Rattle.std.proofs.Common.{◌≡◌, ◌++◌, ◌+◌, ℕ, List, [], ◌∷◌, length, refl, sym, ap, subst, ◌∙◌, Option, Some, Result, Err, arith}
+use Rattle.std.specs.Prelude.{map}
+use Rattle.std.specs.List.{All}
+use Rattle.std.proofs.lemmas.List.{append_assoc, append-nil, length-append, map-append}
+use Rattle.std.proofs.lemmas.List.Elements.{All-append, All-cons, All-nil}
+use Rattle.mspec.specs.Act.{Text}
+use Rattle.mmeaning.specs.Step.{Settings, Server}
+use Rattle.mstore.specs.declared.store.NodeStore.{Ghosts}
+use Rattle.mwire.specs.Serves.{Serves}
+use Rattle.mwire.specs.Connections.{Visit, AreServed, AreOfPeers, HasServedEach, ServesEach}
+use Rattle.mwire.specs.declared.fault.WireFault.{WireFault}
+use Rattle.mwire.specs.declared.fault.AcceptFault.{AcceptFault}
+
+-- one batch after another
+of_peers_on : (vs ws : List Visit) (waiting waiting' waiting'' answered answered' answered'' : List Text)
+    → AreOfPeers vs waiting waiting' answered answered' → AreOfPeers ws waiting' waiting'' answered' answered'' → AreOfPeers (vs ++ ws) waiting waiting'' answered answered''
+of_peers_on vs ws waiting waiting' waiting'' answered answered' answered'' p q = record {
+  came = p.came ∙ ap (λ (rest : List (Option Text)). map (λ (v : Visit). v.left) vs ++ rest) q.came
+      ∙ sym (append_assoc (map (λ (v : Visit). v.left) vs) (map (λ (v : Visit). v.left) ws) (map Some waiting''))
+      ∙ ap (λ (all : List (Option Text)). all ++ map Some waiting'') (sym (map-append (λ (v : Visit). v.left) vs ws));
+  fresh = All-append (λ (v : Visit). v.held ≡ Some []) vs ws p.fresh q.fresh;
+  went = q.went ∙ ap (λ (front : List (Option Text)). front ++ map (λ (v : Visit). v.held') ws) p.went
+      ∙ append_assoc (map Some answered) (map (λ (v : Visit). v.held') vs) (map (λ (v : Visit). v.held') ws)
+      ∙ ap (λ (all : List (Option Text)). map Some answered ++ all) (sym (map-append (λ (v : Visit). v.held') vs ws));
+}
+
+module _ {S : Type 0} (g : Ghosts S) (settings : Settings) where
+  served_on : (vs ws : List Visit) (server between after : Server) → AreServed g settings vs server between → AreServed g settings ws between after → AreServed g settings (vs ++ ws) server after
+  served_on [] ws server between after s t = subst (λ (from : Server). AreServed g settings ws from after) s t
+  served_on (v ∷ vs) ws server between after s t = (s.0, s.1, served_on vs ws s.0 between after s.2 t)
+
+  module _ (tells : Type 0) where
+    -- no connection yet
+    pub each_start : (server : Server) (waiting answered : List Text) → HasServedEach g settings 0 server server tells waiting waiting answered answered
+    each_start server waiting answered = record {
+      visits = [];
+      many = refl;
+      served = refl;
+      of_peers = λ t. record { came = refl; fresh = All-nil (λ (v : Visit). v.held ≡ Some []); went = sym (append-nil (map Some answered)) };
+    }
+
+    pub each_on : (n m : ℕ) (server between after : Server) (waiting waiting' waiting'' answered answered' answered'' : List Text)
+        → HasServedEach g settings n server between tells waiting waiting' answered answered' → HasServedEach g settings m between after tells waiting' waiting'' answered' answered''
+        → HasServedEach g settings (n + m) server after tells waiting waiting'' answered answered''
+    each_on n m server between after waiting waiting' waiting'' answered answered' answered'' h k = record {
+      visits = h.visits ++ k.visits;
+      many = length-append h.visits k.visits ∙ ap (λ (i : ℕ). i + length k.visits) h.many ∙ ap (λ (i : ℕ). n + i) k.many;
+      served = served_on h.visits k.visits server between after h.served k.served;
+      of_peers = λ t. of_peers_on h.visits k.visits waiting waiting' waiting'' answered answered' answered'' (h.of_peers t) (k.of_peers t);
+    }
+
+    -- a connection that was accepted, served and closed
+    pub one_served : (server after : Server) (left left' held held' : Option Text) (result : Result (Unit {0}) WireFault) (waiting waiting' waiting'' answered answered' answered'' : List Text)
+        → Serves g settings server after left left' held held' result
+        → (tells → map Some waiting ≡ left ∷ map Some waiting') → (tells → waiting'' ≡ waiting') → (tells → held ≡ Some [])
+        → (tells → answered' ≡ answered) → (tells → map Some answered'' ≡ map Some answered' ++ held' ∷ [])
+        → HasServedEach g settings 1 server after tells waiting waiting'' answered answered''
+    one_served server after left left' held held' result waiting waiting' waiting'' answered answered' answered'' s came stays fresh kept went =
+        let visit : Visit = record { left = left; left' = left'; held = held; held' = held'; result = result } in
+        record {
+          visits = visit ∷ [];
+          many = refl;
+          served = (after, s, refl);
+          of_peers = λ t. record {
+            came = came t ∙ ap (λ (rest : List Text). left ∷ map Some rest) (sym (stays t));
+            fresh = All-cons (λ (v : Visit). v.held ≡ Some []) visit [] (fresh t) (All-nil (λ (v : Visit). v.held ≡ Some []));
+            went = went t ∙ ap (λ (front : List Text). map Some front ++ held' ∷ []) (kept t);
+          };
+        }
+
+    -- none that could be accepted
+    pub none_served : (server : Server) (fault : AcceptFault) (waiting waiting' answered answered' : List Text)
+        → (tells → (waiting ≡ []) × (waiting' ≡ [])) → (tells → answered' ≡ answered)
+        → ServesEach g settings 1 server server tells waiting waiting' answered answered' (Err fault)
+    none_served server fault waiting waiting' answered answered' nobody kept = (
+      0,
+      omega arith,
+      λ t. (nobody t).1,
+      record {
+        visits = [];
+        many = refl;
+        served = refl;
+        of_peers = λ t. record {
+          came = ap (λ (all : List Text). map Some all) ((nobody t).0 ∙ sym (nobody t).1);
+          fresh = All-nil (λ (v : Visit). v.held ≡ Some []);
+          went = ap (λ (all : List Text). map Some all) (kept t) ∙ sym (append-nil (map Some answered));
+        };
+      },
+    )

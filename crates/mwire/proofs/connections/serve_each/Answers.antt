@@ -1,0 +1,21 @@
+-- SPDX-License-Identifier: Apache-2.0
+use Rattle.std.proofs.Common.{refl, ◌∙◌, arith}
+use Rattle.mwire.proofs.Visits.{each_start, each_on}
+use Rattle.mwire.proofs.connections.serve_each.Goals as goal
+
+pub loop-number-init : goal.loop-number-init
+loop-number-init g c = record { settings = refl; served = each_start _ _ _ _ _ _ }
+
+pub returns-in-Err-clause-served : goal.returns-in-Err-clause-served
+returns-in-Err-clause-served g c =
+    let next = c.in-Err.ensures.served in
+    let here = rw c.loop-number.invariant.settings at next in
+    (_, omega (arith, here.1), here.2, each_on _ _ _ _ _ _ _ _ _ _ _ _ _ _ c.loop-number.invariant.served here.3)
+
+pub loop-number-preserved : goal.loop-number-preserved
+loop-number-preserved g c =
+    let next = c.in_default.ensures.served in
+    record {
+      settings = c.in_default.ensures.settings ∙ c.loop-number.invariant.settings;
+      served = each_on _ _ _ _ _ _ _ _ _ _ _ _ _ _ c.loop-number.invariant.served (rw c.loop-number.invariant.settings at next);
+    }

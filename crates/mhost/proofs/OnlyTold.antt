@@ -15,10 +15,8 @@ use Rattle.mmeaning.specs.Step.{Server}
 use Rattle.mmeaning.specs.History.{opening}
 use Rattle.misolation.specs.Reach.{reach}
 use Rattle.misolation.specs.Alone.{alone}
-use Rattle.misolation.specs.Cut.{IsFit}
 use Rattle.misolation.specs.Telling.{Tells, told_to}
 use Rattle.misolation.proofs.CutMaps.{by_test}
-use Rattle.misolation.proofs.PartsAlone.{opening_is_fit}
 use Rattle.mstore.specs.declared.store.NodeStore.{Ghosts}
 use Rattle.mjob.specs.declared.jobs.Store.{Store}
 use Rattle.mjob.specs.declared.jobs.Store.TheVariants as store
@@ -33,7 +31,7 @@ use Rattle.mwire.specs.declared.fault.WireFault.{WireFault}
 use Rattle.mwire.specs.declared.fault.WireFault.TheVariants.{Read, Write, Memory}
 use Rattle.mgrant.specs.Reading.{IsRead}
 use Rattle.mhost.specs.Runs.{AreUntouched, DeviceBroke, IsMemoryFault, IsStoreFault, NoSettings}
-use Rattle.mhost.specs.Only.{HasAccount, ToldAlone, ToldInForm, OnlyEndsEarly, FitsMemory, ServesAs, OnlyOver}
+use Rattle.mhost.specs.Only.{HasAccount, ToldAlone, ToldInForm, BeginsEmpty, BeginsSomehow, OnlyEndsEarly, FitsMemory, ServesAs, OnlyOver}
 use Rattle.mhost.specs.declared.fault.RunFault.{RunFault}
 use Rattle.mhost.specs.declared.fault.RunFault.TheVariants as early
 
@@ -73,8 +71,8 @@ device_broke input input' output output' Memory r w = tt
 pub ends_early : {M F I O : Type 0} (memory : Ghosts M) (file : Ghosts F) (left : I → Option Text) (held : O → Option Text) (store : Store) (name document : Text)
     (input input' : Watched I) (output output' : Watched O) (fault : RunFault)
     → FitsMemory fault
-    → OnlyEndsEarly memory left held document name input input' output output' fault
-    → OnlyEndsEarly file left held document name input input' output output' fault
+    → OnlyEndsEarly memory (BeginsEmpty memory) left held document name input input' output output' fault
+    → OnlyEndsEarly file BeginsSomehow left held document name input input' output output' fault
     → OnlyOver memory file left held store name document input input' output output' (Err fault)
 ends_early memory file left held store.Memory name document input input' output output' fault fits m f = (m, fits)
 ends_early memory file left held (store.File path) name document input input' output output' fault fits m f = f
@@ -97,8 +95,8 @@ store_fits early.Listen never = tt
 store_fits early.Accept never = tt
 store_fits (early.Wire fault) never = tt
 
-served_fits : {S I O : Type 0} (g : Ghosts S) (left : I → Option Text) (held : O → Option Text) (old : World S) (place : ℕ)
-    (input input' : Watched I) (output output' : Watched O) (fault : RunFault) (new : World S) → ServesAs g left held old place input input' output output' (Err fault) new → FitsMemory fault
+served_fits : {S I O : Type 0} (g : Ghosts S) (left : I → Option Text) (held : O → Option Text) (old : World S g) (place : ℕ)
+    (input input' : Watched I) (output output' : Watched O) (fault : RunFault) (new : World S g) → ServesAs g left held old place input input' output output' (Err fault) new → FitsMemory fault
 served_fits g left held old place input input' output output' early.Unread new never = tt
 served_fits g left held old place input input' output output' (early.Settings fault) new never = tt
 served_fits g left held old place input input' output output' early.NoAccount new never = tt
@@ -109,8 +107,8 @@ served_fits g left held old place input input' output output' (early.Wire fault)
 
 module _ {S I O : Type 0} (g : Ghosts S) (left : I → Option Text) (held : O → Option Text) (document name : Text) (input input' : Watched I) (output output' : Watched O) where
   -- nothing was asked of the devices yet
-  module _ (same : AreUntouched input input' output output') where
-    pub only_no_settings : (fault : RunFault) → NoSettings document fault → OnlyEndsEarly g left held document name input input' output output' fault
+  module _ (begins : Globals → Type 0) (same : AreUntouched input input' output output') where
+    pub only_no_settings : (fault : RunFault) → NoSettings document fault → OnlyEndsEarly g begins left held document name input input' output output' fault
     only_no_settings early.Unread never = absurd never
     only_no_settings (early.Settings fault) why = (same, why)
     only_no_settings early.NoAccount never = absurd never
@@ -119,7 +117,7 @@ module _ {S I O : Type 0} (g : Ghosts S) (left : I → Option Text) (held : O �
     only_no_settings early.Accept never = absurd never
     only_no_settings (early.Wire fault) never = absurd never
 
-    pub only_no_store : HasAccount document name → (fault : RunFault) → IsMemoryFault fault → OnlyEndsEarly g left held document name input input' output output' fault
+    pub only_no_store : HasAccount document name → (fault : RunFault) → IsMemoryFault fault → OnlyEndsEarly g begins left held document name input input' output output' fault
     only_no_store has early.Unread never = absurd never
     only_no_store has (early.Settings fault) never = absurd never
     only_no_store has early.NoAccount never = absurd never
@@ -128,7 +126,7 @@ module _ {S I O : Type 0} (g : Ghosts S) (left : I → Option Text) (held : O �
     only_no_store has early.Accept never = absurd never
     only_no_store has (early.Wire fault) never = absurd never
 
-    pub only_no_file : HasAccount document name → (fault : RunFault) → IsStoreFault fault → OnlyEndsEarly g left held document name input input' output output' fault
+    pub only_no_file : HasAccount document name → (fault : RunFault) → IsStoreFault fault → OnlyEndsEarly g begins left held document name input input' output output' fault
     only_no_file has early.Unread never = absurd never
     only_no_file has (early.Settings fault) never = absurd never
     only_no_file has early.NoAccount never = absurd never
@@ -137,14 +135,21 @@ module _ {S I O : Type 0} (g : Ghosts S) (left : I → Option Text) (held : O �
     only_no_file has early.Accept never = absurd never
     only_no_file has (early.Wire fault) never = absurd never
 
-  module _ (known : HasAccount document name) (old new : World S) (by : settings_of old ≡ known.settings) (globals : Globals) (opens : server_of g old ≡ opening globals) (place : ℕ) where
+  -- the same of a run that begins with no globals
+  module _ (same : AreUntouched input input' output output') where
+    pub empty_no_settings : (fault : RunFault) → NoSettings document fault → OnlyEndsEarly g (BeginsEmpty g) left held document name input input' output output' fault
+    empty_no_settings = only_no_settings (BeginsEmpty g) same
+
+    pub empty_no_store : HasAccount document name → (fault : RunFault) → IsMemoryFault fault → OnlyEndsEarly g (BeginsEmpty g) left held document name input input' output output' fault
+    empty_no_store = only_no_store (BeginsEmpty g) same
+
+  module _ (known : HasAccount document name) (old new : World S g) (by : settings_of old ≡ known.settings) (globals : Globals) (opens : server_of g old ≡ opening globals) (place : ℕ) where
     -- a stream that was answered to its end, over a store that tells its content
     told_alone : g.sound → globals ≡ empty → name_at known.settings place ≡ name → (whole : Bool)
         → ServesOnly g old place (left (inner_of input)) (left (inner_of input')) (held (inner_of output)) (held (inner_of output')) (Ok whole) new
         → ToldAlone document name (left (inner_of input)) (left (inner_of input')) (held (inner_of output)) (held (inner_of output'))
     told_alone sound none is whole s =
         let ran : RanOnly g old place (events_of (lines s.read)) s.sent whole new = s.outcome.1 in
-        let fit : IsFit (settings_of old) (server_of g old).world = subst (λ (v : Server). IsFit (settings_of old) v.world) (sym opens) (opening_is_fit (settings_of old) globals) in
         let at : ◌≡◌ {A = Text × (Settings × Server)} (name_at (settings_of old) place, (settings_of old, server_of g old)) (name, (known.settings, opening empty)) =
         λ i. ((ap (λ (t : Settings). name_at t place) by ∙ is) i, (by i, (opens ∙ ap opening none) i)) in
         record {
@@ -156,8 +161,8 @@ module _ {S I O : Type 0} (g : Ghosts S) (left : I → Option Text) (held : O �
           appended = subst (Appends (held (inner_of output)) (held (inner_of output'))) ran.text s.appended;
           whole = whole;
           after = server_of g new;
-          tells = subst (λ (q : Text × (Settings × Server)). Tells q.0 q.1.0 q.1.1 (events_of (lines s.read)) ran.replies whole (server_of g new)) at (ran.told sound);
-          alone = λ w. subst (λ (q : Text × (Settings × Server)). ran.replies ≡ told_to q.0 q.1.0 (alone (reach q.1.0 q.0) q.1.0 q.1.1 (events_of (lines s.read)))) at (ran.alone sound fit w);
+          tells = subst (λ (q : Text × (Settings × Server)). Tells q.0 q.1.0 q.1.1 (events_of (lines s.read)) ran.replies whole (server_of g new)) at (ran.told sound).run;
+          alone = λ w. subst (λ (q : Text × (Settings × Server)). ran.replies ≡ told_to q.0 q.1.0 (alone (reach q.1.0 q.0) q.1.0 q.1.1 (events_of (lines s.read)))) at (ran.alone sound w);
         }
 
     -- or over any store
@@ -178,24 +183,26 @@ module _ {S I O : Type 0} (g : Ghosts S) (left : I → Option Text) (held : O �
         }
 
     -- one that a fault broke off
-    broke_off : (fault : RunFault) → ServesAs g left held old place input input' output output' (Err fault) new → OnlyEndsEarly g left held document name input input' output output' fault
-    broke_off early.Unread never = absurd never
-    broke_off (early.Settings fault) never = absurd never
-    broke_off early.NoAccount never = absurd never
-    broke_off (early.Store fault) never = absurd never
-    broke_off early.Listen never = absurd never
-    broke_off early.Accept never = absurd never
-    broke_off (early.Wire fault) s = (record { known = known; old = old; new = new; by = by; globals = globals; opens = opens; place = place; serves = s.0 }, s.1)
+    broke_off : (begins : Globals → Type 0) → begins globals → name_at known.settings place ≡ name → (fault : RunFault)
+        → ServesAs g left held old place input input' output output' (Err fault) new → OnlyEndsEarly g begins left held document name input input' output output' fault
+    broke_off begins of_kind is early.Unread never = absurd never
+    broke_off begins of_kind is (early.Settings fault) never = absurd never
+    broke_off begins of_kind is early.NoAccount never = absurd never
+    broke_off begins of_kind is (early.Store fault) never = absurd never
+    broke_off begins of_kind is early.Listen never = absurd never
+    broke_off begins of_kind is early.Accept never = absurd never
+    broke_off begins of_kind is (early.Wire fault) s =
+        ((globals, of_kind, record { known = known; old = old; new = new; by = by; opens = opens; place = place; its_name = is; serves = s.0 }), s.1)
 
     pub over_memory : g.sound → globals ≡ empty → name_at known.settings place ≡ name → (result : Result (Unit {0}) RunFault)
         → ServesAs g left held old place input input' output output' result new → OnlyOver g g left held store.Memory name document input input' output output' result
     over_memory sound none is (Ok done) s = told_alone sound none is s.0 s.1
-    over_memory sound none is (Err fault) s = (broke_off fault s, served_fits g left held old place input input' output output' fault new s)
+    over_memory sound none is (Err fault) s = (broke_off (BeginsEmpty g) (sound, none) is fault s, served_fits g left held old place input input' output output' fault new s)
 
     pub over_file : name_at known.settings place ≡ name → (path : _) → (result : Result (Unit {0}) RunFault)
         → ServesAs g left held old place input input' output output' result new → OnlyOver g g left held (store.File path) name document input input' output output' result
     over_file is path (Ok done) s = told_in_form is s.0 s.1
-    over_file is path (Err fault) s = broke_off fault s
+    over_file is path (Err fault) s = broke_off BeginsSomehow tt is fault s
 
 -- the account that was found is the document's of this name
 abbrev pub has_account : (document name : Text) (settings : Settings) (place : ℕ) → IsRead document settings → account_at settings place ≡ account_named settings name → place < length settings.accounts → HasAccount document name

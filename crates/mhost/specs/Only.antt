@@ -1,12 +1,12 @@
 -- SPDX-License-Identifier: Apache-2.0
--- What a run does of which one account is told.
+-- What a run does that answers one account alone.
 use Rattle.std.specs.Prelude.{◌≡◌, ◌⊎◌, ℕ, Bool, IsTrue, List, Option, Some, None, Result, Ok, Err}
 use Rattle.std.specs.FinMap.{empty}
 use Rattle.std.specs.Io.KnownBytes.{Appends, Consumes, IsAtEnd}
 use Rattle.std.specs.Str.Lines.{lines}
 use Rattle.mspec.specs.Act.{Text}
 use Rattle.mspec.specs.Globals.{Globals}
-use Rattle.mspec.specs.Access.{Account, Settings, account_named}
+use Rattle.mspec.specs.Access.{Account, Settings, account_named, name_at}
 use Rattle.mmeaning.specs.Step.{Server}
 use Rattle.mmeaning.specs.History.{opening}
 use Rattle.misolation.specs.Reach.{reach}
@@ -68,30 +68,41 @@ pub record ToldInForm (document name : Text) (left left' held held' : Option Tex
 
 -- ---- and one that ended early
 
--- a stream of which the account at a place was told, in a world without a session
-pub record BrokeOff {S : Type 0} (g : Ghosts S) (document name : Text) (left left' held held' : Option Text) (fault : WireFault) : Type 0 where
+-- A stream was served to the account of this name alone, by the document's settings and from these globals, up to a fault.
+pub record BrokeOff {S : Type 0} (g : Ghosts S) (document name : Text) (globals : Globals) (left left' held held' : Option Text) (fault : WireFault) : Type 0 where
   pub known : HasAccount document name
-  pub old : World S
-  pub new : World S
+  pub old : World S g
+  pub new : World S g
   pub by : settings_of old ≡ known.settings
-  pub globals : Globals
   pub opens : server_of g old ≡ opening globals
   pub place : ℕ
+  pub its_name : name_at known.settings place ≡ name
   pub serves : ServesOnly g old place left left' held held' (Err fault) new
 
--- a fault of the settings, the want of the account, and a fault of the store come in this order, and before the devices are asked for anything
-abbrev pub OnlyEndsEarly : {S I O : Type 0} → Ghosts S → (I → Option Text) → (O → Option Text) → Text → Text → Watched I → Watched I → Watched O → Watched O → RunFault → Type 0
-OnlyEndsEarly g left held document name input input' output output' early.Unread = ⊥
-OnlyEndsEarly g left held document name input input' output output' (early.Settings fault) =
+-- what is known of a store in memory, and of the globals that it begins with: its type is sound, and there are none
+abbrev pub BeginsEmpty : {S : Type 0} → Ghosts S → Globals → Type 0
+BeginsEmpty g globals = g.sound × (globals ≡ empty)
+
+-- nothing is known of a store in a file
+abbrev pub BeginsSomehow : Globals → Type 0
+BeginsSomehow globals = Unit {0}
+
+-- A fault of the settings, the want of the account, and a fault of the store come in this order, and before the devices are asked for anything.
+-- After one of the wire the run began with globals of this kind.
+abbrev pub OnlyEndsEarly : {S I O : Type 0} → Ghosts S → (Globals → Type 0) → (I → Option Text) → (O → Option Text) → Text → Text
+    → Watched I → Watched I → Watched O → Watched O → RunFault → Type 0
+OnlyEndsEarly g begins left held document name input input' output output' early.Unread = ⊥
+OnlyEndsEarly g begins left held document name input input' output output' (early.Settings fault) =
     AreUntouched input input' output output' × ((fault ≡ settings_fault.Memory) ⊎ IsRefused document fault)
-OnlyEndsEarly g left held document name input input' output output' early.NoAccount =
+OnlyEndsEarly g begins left held document name input input' output output' early.NoAccount =
     AreUntouched input input' output output' × ((settings : Settings) × IsRead document settings × (account_named settings name ≡ None))
-OnlyEndsEarly g left held document name input input' output output' (early.Store fault) =
+OnlyEndsEarly g begins left held document name input input' output output' (early.Store fault) =
     AreUntouched input input' output output' × HasAccount document name
-OnlyEndsEarly g left held document name input input' output output' early.Listen = ⊥
-OnlyEndsEarly g left held document name input input' output output' early.Accept = ⊥
-OnlyEndsEarly g left held document name input input' output output' (early.Wire fault) =
-    BrokeOff g document name (left (inner_of input)) (left (inner_of input')) (held (inner_of output)) (held (inner_of output')) fault
+OnlyEndsEarly g begins left held document name input input' output output' early.Listen = ⊥
+OnlyEndsEarly g begins left held document name input input' output output' early.Accept = ⊥
+OnlyEndsEarly g begins left held document name input input' output output' (early.Wire fault) =
+    ((globals : Globals) × begins globals
+    × BrokeOff g document name globals (left (inner_of input)) (left (inner_of input')) (held (inner_of output)) (held (inner_of output')) fault)
     × DeviceBroke input input' output output' fault
 
 -- a fault of a store in memory is none of rows that another program wrote
@@ -106,7 +117,7 @@ FitsMemory (early.Wire fault) = Unit {0}
 
 -- ---- in a world, by a document, by a file
 
-abbrev pub ServesAs : {S I O : Type 0} → Ghosts S → (I → Option Text) → (O → Option Text) → World S → ℕ → Watched I → Watched I → Watched O → Watched O → Result (Unit {0}) RunFault → World S → Type 0
+abbrev pub ServesAs : {S I O : Type 0} (g : Ghosts S) → (I → Option Text) → (O → Option Text) → World S g → ℕ → Watched I → Watched I → Watched O → Watched O → Result (Unit {0}) RunFault → World S g → Type 0
 ServesAs g left held old place input input' output output' (Ok done) new =
     (whole : Bool) × ServesOnly g old place (left (inner_of input)) (left (inner_of input')) (held (inner_of output)) (held (inner_of output')) (Ok whole) new
 ServesAs g left held old place input input' output output' (Err early.Unread) new = ⊥
@@ -124,11 +135,11 @@ abbrev pub OnlyOver : {M F I O : Type 0} → Ghosts M → Ghosts F → (I → Op
 OnlyOver memory file left held store.Memory name document input input' output output' (Ok done) =
     ToldAlone document name (left (inner_of input)) (left (inner_of input')) (held (inner_of output)) (held (inner_of output'))
 OnlyOver memory file left held store.Memory name document input input' output output' (Err fault) =
-    OnlyEndsEarly memory left held document name input input' output output' fault × FitsMemory fault
+    OnlyEndsEarly memory (BeginsEmpty memory) left held document name input input' output output' fault × FitsMemory fault
 OnlyOver memory file left held (store.File path) name document input input' output output' (Ok done) =
     ToldInForm document name (left (inner_of input)) (left (inner_of input')) (held (inner_of output)) (held (inner_of output'))
 OnlyOver memory file left held (store.File path) name document input input' output output' (Err fault) =
-    OnlyEndsEarly file left held document name input input' output output' fault
+    OnlyEndsEarly file BeginsSomehow left held document name input input' output output' fault
 
 abbrev pub LacksDocument : Result (Unit {0}) RunFault → Type 0
 LacksDocument (Ok done) = ⊥

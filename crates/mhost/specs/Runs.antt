@@ -107,7 +107,8 @@ IsMemoryFault early.Accept = ⊥
 IsMemoryFault (early.Wire fault) = ⊥
 
 -- Why a run over a store in memory ended early, and what it had done. A fault of the settings comes first, one of the store next, both
--- before the devices are asked for anything.
+-- before the devices are asked for anything. After one of the wire the lines that were run are steps, from no globals at all: the store's
+-- type is sound.
 abbrev pub EndsEarly : {S I O : Type 0} → Ghosts S → (I → Option Text) → (O → Option Text) → Text → Watched I → Watched I → Watched O → Watched O → RunFault → Type 0
 EndsEarly g left held document input input' output output' early.Unread = ⊥
 EndsEarly g left held document input input' output output' (early.Settings fault) =
@@ -118,7 +119,8 @@ EndsEarly g left held document input input' output output' (early.Store fault) =
 EndsEarly g left held document input input' output output' early.Listen = ⊥
 EndsEarly g left held document input input' output output' early.Accept = ⊥
 EndsEarly g left held document input input' output output' (early.Wire fault) =
-    Broken g document empty (left (inner_of input)) (left (inner_of input')) (held (inner_of output)) (held (inner_of output')) fault
+    g.sound
+    × Broken g document empty (left (inner_of input)) (left (inner_of input')) (held (inner_of output)) (held (inner_of output')) fault
     × DeviceBroke input input' output output' fault
 
 -- the same over a store in a file, which begins with some globals

@@ -9,6 +9,7 @@ use crate::fault::RunFault;
 use crate::run::{run, run_file};
 use crate::serving::serve_connections;
 use crate::worlds::{close_file, file_world, memory_world};
+use mcache::Cached;
 use mglobal::Kept;
 use mjob::jobs::Store;
 use mstore::{NodeStore, Table};
@@ -36,7 +37,7 @@ pub fn run_job<I: Read, O: Write>(
 ) -> Result<(), RunFault>
     requires input_works { failed_of input.old ≡ false }
     requires output_works { failed_of output.old ≡ false }
-    ensures { RunsBy ⟦<Kept<Table<MemStore>> as NodeStore>⟧ ⟦<Kept<Table<FileStore<File>>> as NodeStore>⟧ I.remaining O.contents
+    ensures { RunsBy ⟦<Kept<Cached<Table<MemStore>>> as NodeStore>⟧ ⟦<Kept<Cached<Table<FileStore<File>>>> as NodeStore>⟧ I.remaining O.contents
         store.now input.old input.new output.old output.new result }
 {
     match read_document(rt, settings) {
@@ -55,7 +56,7 @@ fn run_by<I: Read, O: Write>(
 ) -> Result<(), RunFault>
     requires input_works { failed_of input.old ≡ false }
     requires output_works { failed_of output.old ≡ false }
-    ensures { RunsOver ⟦<Kept<Table<MemStore>> as NodeStore>⟧ ⟦<Kept<Table<FileStore<File>>> as NodeStore>⟧ I.remaining O.contents
+    ensures { RunsOver ⟦<Kept<Cached<Table<MemStore>>> as NodeStore>⟧ ⟦<Kept<Cached<Table<FileStore<File>>>> as NodeStore>⟧ I.remaining O.contents
         store.now document.now input.old input.new output.old output.new result }
 {
     match store {
@@ -67,8 +68,8 @@ fn run_by<I: Read, O: Write>(
     }
 }
 
-/// Answers the lines of so many connections at a port of 127.0.0.1, by the settings in a file and over a store. `errors` is told of
-/// connections that broke.
+/// Answers the lines of so many connections at a port of 127.0.0.1, by the settings in a file and over a store. `errors` gets a
+/// line for each connection that broke.
 ///
 /// # Errors
 ///

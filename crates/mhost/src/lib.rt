@@ -16,5 +16,6 @@ mod serving;
 mod worlds;
 
 pub use fault::RunFault;
+pub use mwire::AcceptFault;
 pub use only::run_only_job;
-pub use serving::{AcceptFault, serve_connections};
+pub use serving::serve_connections;

@@ -1,5 +1,5 @@
 // SPDX-License-Identifier: Apache-2.0
-// A run of which one account is told.
+// A run that answers one account alone.
 ghost use Rattle.std.specs.Prelude.{◌≡◌, false};
 ghost use Rattle.mwire.specs.Watched.{inner_of, failed_of};
 ghost use Rattle.mhost.specs.Only.{OnlyBy, OnlyOver, ServesAs};
@@ -7,6 +7,7 @@ ghost use Rattle.mhost.specs.Only.{OnlyBy, OnlyOver, ServesAs};
 use crate::document::{read_document, read_settings};
 use crate::fault::RunFault;
 use crate::worlds::{close_file, file_world, memory_world};
+use mcache::Cached;
 use mglobal::Kept;
 use mgrant::AccountId;
 use mjob::jobs::Store;
@@ -38,7 +39,7 @@ pub fn run_only_job<I: Read, O: Write>(
 ) -> Result<(), RunFault>
     requires input_works { failed_of input.old ≡ false }
     requires output_works { failed_of output.old ≡ false }
-    ensures { OnlyBy ⟦<Kept<Table<MemStore>> as NodeStore>⟧ ⟦<Kept<Table<FileStore<File>>> as NodeStore>⟧ I.remaining O.contents
+    ensures { OnlyBy ⟦<Kept<Cached<Table<MemStore>>> as NodeStore>⟧ ⟦<Kept<Cached<Table<FileStore<File>>>> as NodeStore>⟧ I.remaining O.contents
         store.now name.now input.old input.new output.old output.new result }
 {
     match read_document(rt, settings) {
@@ -65,7 +66,7 @@ fn run_only<I: Read, O: Write>(
 ) -> Result<(), RunFault>
     requires input_works { failed_of input.old ≡ false }
     requires output_works { failed_of output.old ≡ false }
-    ensures { OnlyOver ⟦<Kept<Table<MemStore>> as NodeStore>⟧ ⟦<Kept<Table<FileStore<File>>> as NodeStore>⟧ I.remaining O.contents
+    ensures { OnlyOver ⟦<Kept<Cached<Table<MemStore>>> as NodeStore>⟧ ⟦<Kept<Cached<Table<FileStore<File>>>> as NodeStore>⟧ I.remaining O.contents
         store.now name.now document.now input.old input.new output.old output.new result }
 {
     let settings = match read_settings(rt.alloc(), document) {

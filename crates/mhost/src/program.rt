@@ -9,6 +9,7 @@ ghost use Rattle.mhost.specs.Programs.{Ends};
 use crate::fault::RunFault;
 use crate::jobs::{run_job, serve_job};
 use crate::only::run_only_job;
+use mcache::Cached;
 use mglobal::Kept;
 use mjob::command_line::job;
 use mjob::jobs::{Job, JobFault};
@@ -39,7 +40,7 @@ pub fn program<I: Read, O: Write, E: Write>(
 ) -> u8
     requires input_works { failed_of input.old ≡ false }
     requires output_works { failed_of output.old ≡ false }
-    ensures { Ends ⟦<Kept<Table<MemStore>> as NodeStore>⟧ ⟦<Kept<Table<FileStore<File>>> as NodeStore>⟧ I.remaining O.contents
+    ensures { Ends ⟦<Kept<Cached<Table<MemStore>>> as NodeStore>⟧ ⟦<Kept<Cached<Table<FileStore<File>>>> as NodeStore>⟧ I.remaining O.contents
         (map string_bytes words.now) input.old input.new output.old output.new result }
 {
     let job = match job(rt.alloc(), words) {
@@ -63,7 +64,7 @@ fn carry_out<I: Read, O: Write, E: Write>(
 ) -> Result<(), RunFault>
     requires input_works { failed_of input.old ≡ false }
     requires output_works { failed_of output.old ≡ false }
-    ensures { CarriesOut ⟦<Kept<Table<MemStore>> as NodeStore>⟧ ⟦<Kept<Table<FileStore<File>>> as NodeStore>⟧ I.remaining O.contents
+    ensures { CarriesOut ⟦<Kept<Cached<Table<MemStore>>> as NodeStore>⟧ ⟦<Kept<Cached<Table<FileStore<File>>>> as NodeStore>⟧ I.remaining O.contents
         job.now input.old input.new output.old output.new result }
 {
     match job {
@@ -111,8 +112,8 @@ fn refused<E: Write>(fault: &JobFault, errors: &mut E) -> u8
     }
 }
 
-/// The exit status where the words of the command line cannot be had: 2. `errors` is told where that is for want of memory, and
-/// nothing is told of words that are not UTF-8.
+/// The exit status where the words of the command line cannot be had: 2. `errors` gets a line where that is for want of memory, and
+/// none where words are not UTF-8.
 pub fn no_words<E: Write>(error: &io::Error, errors: &mut E) -> u8
     ensures status { result ≡ 2 }
     ensures untold { error_kind error.now ≢ ErrorKind.OutOfMemory → errors.new ≡ errors.old }

@@ -9,7 +9,8 @@ ghost use Rattle.mhost.specs.Runs.{Answered, EndsEarly, EndsEarlyOverFile, Follo
 
 use crate::document::read_settings;
 use crate::fault::RunFault;
-use crate::worlds::{close_file, file_world, memory_world};
+use crate::worlds::{close_file, file_world, memory_world, table_of};
+use mcache::Cached;
 use mglobal::Kept;
 use mstore::{NodeStore, Table};
 use mwire::{Watched, WireFault, serve};
@@ -37,7 +38,7 @@ pub fn run<I: Read, O: Write>(
     requires output_works { failed_of output.old ≡ false }
     ensures answered { IfOk result (λ table. Answered document.now (I.remaining (inner_of input.old)) (I.remaining (inner_of input.new))
         (O.contents (inner_of output.old)) (O.contents (inner_of output.new)) (stored over_memory table)) }
-    ensures early { IfErr result (EndsEarly ⟦<Kept<Table<MemStore>> as NodeStore>⟧ I.remaining O.contents document.now input.old input.new output.old output.new) }
+    ensures early { IfErr result (EndsEarly ⟦<Kept<Cached<Table<MemStore>>> as NodeStore>⟧ I.remaining O.contents document.now input.old input.new output.old output.new) }
 {
     let settings = match read_settings(alloc, document) {
         Ok(settings) => settings,
@@ -48,7 +49,7 @@ pub fn run<I: Read, O: Write>(
         Err(fault) => return Err(fault),
     };
     match serve_over(alloc, world, input, output) {
-        Ok(kept) => Ok(kept.into_store()),
+        Ok(kept) => Ok(table_of(kept)),
         Err(fault) => Err(RunFault::Wire(fault)),
     }
 }
@@ -70,7 +71,7 @@ pub fn run_file<I: Read, O: Write>(
     requires output_works { failed_of output.old ≡ false }
     ensures answered { OnOk result (Followed document.now (I.remaining (inner_of input.old)) (I.remaining (inner_of input.new))
         (O.contents (inner_of output.old)) (O.contents (inner_of output.new))) }
-    ensures early { IfErr result (EndsEarlyOverFile ⟦<Kept<Table<FileStore<File>>> as NodeStore>⟧ I.remaining O.contents document.now input.old input.new output.old output.new) }
+    ensures early { IfErr result (EndsEarlyOverFile ⟦<Kept<Cached<Table<FileStore<File>>>> as NodeStore>⟧ I.remaining O.contents document.now input.old input.new output.old output.new) }
 {
     let settings = match read_settings(rt.alloc(), document) {
         Ok(settings) => settings,

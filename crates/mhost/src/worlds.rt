@@ -1,44 +1,67 @@
 // SPDX-License-Identifier: Apache-2.0
 // Worlds over the stores that a command line can name.
-ghost use Rattle.std.specs.Prelude.{◌≡◌, IfOk, IfErr};
+ghost use Rattle.std.specs.Prelude.{◌≡◌, ◌<◌, IfOk, IfErr, IfSome};
 ghost use Rattle.std.specs.FinMap.{empty};
 ghost use Rattle.mspec.specs.Globals.{Globals};
 ghost use Rattle.mmeaning.specs.History.{opening};
 ghost use Rattle.mworld.specs.View.{settings_of, server_of};
+ghost use Rattle.mcache.specs.CachedStore.{cached_store};
 ghost use Rattle.mhost.specs.Runs.{IsMemoryFault, IsStoreFault};
 
 use crate::fault::RunFault;
+use mcache::Cached;
 use mglobal::Kept;
 use mgrant::Settings;
 use mstore::{NodeStore, OpenFault, Table};
 use mworld::World;
-use sqlite::MemStore;
+use sqlite::{Alter, MemStore};
 use sqlite_std_file::File;
 use sqlite_store::FileStore;
 use std::alloc::Global;
 
+// How many texts of nodes are kept in front of a table.
+const ENTRIES: usize = 1024;
+
 /// A world over a table in memory.
-pub type MemoryWorld = World<Kept<Table<MemStore>>>;
+pub type MemoryWorld = World<Kept<Cached<Table<MemStore>>>>;
 
 /// A world over a table in a file.
-pub type FileWorld = World<Kept<Table<FileStore<File>>>>;
+pub type FileWorld = World<Kept<Cached<Table<FileStore<File>>>>>;
+
+// A store with texts of so many nodes and copies of routines in front of it, if there is memory for them.
+fn kept_over<S: NodeStore + Drop>(
+    alloc: Global,
+    store: S,
+    entries: usize,
+) -> Option<Kept<Cached<S>>>
+    requires { 0 < entries }
+    ensures { IfSome result (λ kept. kept ≡ cached_store store entries) }
+{
+    match Cached::new(alloc, store, entries) {
+        Ok(cached) => Some(Kept::new(alloc, cached)),
+        Err(_) => None,
+    }
+}
 
 /// A world without a session, over a new table in memory.
 ///
 /// # Errors
 ///
-/// `Store`, which is `Memory`, of the world too, or `Store`.
+/// `Store`, which is `Memory`, of the world and of what is kept in front of the table too, or `Store`.
 pub fn memory_world(alloc: Global, settings: Settings) -> Result<MemoryWorld, RunFault>
     ensures settings { IfOk result (λ world. settings_of world ≡ settings) }
-    ensures server { IfOk result (λ world. server_of ⟦<Kept<Table<MemStore>> as NodeStore>⟧ world ≡ opening empty) }
-    ensures sound { IfOk result (λ _. ⟦<Kept<Table<MemStore>> as NodeStore>⟧.sound) }
+    ensures server { IfOk result (λ world. server_of ⟦<Kept<Cached<Table<MemStore>>> as NodeStore>⟧ world ≡ opening empty) }
+    ensures sound { IfOk result (λ _. ⟦<Kept<Cached<Table<MemStore>>> as NodeStore>⟧.sound) }
     ensures early { IfErr result IsMemoryFault }
 {
     let table = match Table::open_memory(alloc) {
         Ok(table) => table,
         Err(fault) => return Err(RunFault::Store(fault)),
     };
-    match World::new(alloc, settings, Kept::new(alloc, table)) {
+    let Some(kept) = kept_over(alloc, table, ENTRIES) else {
+        return Err(RunFault::Store(OpenFault::Memory));
+    };
+    match World::new(alloc, settings, kept) {
         Ok(world) => Ok(world),
         Err(_) => Err(RunFault::Store(OpenFault::Memory)),
     }
@@ -48,24 +71,34 @@ pub fn memory_world(alloc: Global, settings: Settings) -> Result<MemoryWorld, Ru
 ///
 /// # Errors
 ///
-/// `Store`, with the faults of `Table::open_file`; `Memory` of the world too.
+/// `Store`, with the faults of `Table::open_file`; `Memory` of the world and of what is kept in front of the table too.
 pub fn file_world(rt: &HostRuntime, path: &str, settings: Settings) -> Result<FileWorld, RunFault>
     ensures settings { IfOk result (λ world. settings_of world ≡ settings) }
-    ensures server { IfOk result (λ world. (globals : Globals) × (server_of ⟦<Kept<Table<FileStore<File>>> as NodeStore>⟧ world ≡ opening globals)) }
+    ensures server { IfOk result (λ world. (globals : Globals) × (server_of ⟦<Kept<Cached<Table<FileStore<File>>>> as NodeStore>⟧ world ≡ opening globals)) }
     ensures early { IfErr result IsStoreFault }
 {
     let table = match Table::open_file(rt, path) {
         Ok(table) => table,
         Err(fault) => return Err(RunFault::Store(fault)),
     };
-    match World::new(rt.alloc(), settings, Kept::new(rt.alloc(), table)) {
+    let Some(kept) = kept_over(rt.alloc(), table, ENTRIES) else {
+        return Err(RunFault::Store(OpenFault::Memory));
+    };
+    match World::new(rt.alloc(), settings, kept) {
         Ok(world) => Ok(world),
         Err(_) => Err(RunFault::Store(OpenFault::Memory)),
     }
 }
 
+/// The table, without the texts and the copies of routines in front of it. Takes no memory.
+pub fn table_of<S: Alter>(kept: Kept<Cached<Table<S>>>) -> Table<S>
+    ensures { result ≡ kept.store }
+{
+    kept.into_store().into_store()
+}
+
 /// Ends a table over a file: the log of its database is copied into the file. Where that fails, the log beside the file has what the
 /// file lacks, and the next opening finds it.
-pub fn close_file(kept: Kept<Table<FileStore<File>>>) {
-    let _ = kept.into_store().into_connection().close();
+pub fn close_file(kept: Kept<Cached<Table<FileStore<File>>>>) {
+    let _ = table_of(kept).into_connection().close();
 }

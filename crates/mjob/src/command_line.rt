@@ -16,7 +16,8 @@ use std::str::FromStr;
 ///
 /// `Ok` comes only for words in which `clap`'s definition of the command finds no fault, and then with what it finds in them.
 /// `Line` comes for all others, and for words that ask for help: its kind is one that the definition gives for the words. `Memory`
-/// may come at any words.
+/// may come at any words: there was none, or `clap` took them and its matches lack what the command must have, to which no words
+/// are known to lead.
 pub fn job(alloc: Global, words: &[String]) -> Result<Job, JobFault>
     ensures taken { IfOk result (λ _. fault_of mserve_app (map string_bytes words.now) ≡ []) }
     ensures ok { IfOk result (IsJob (map string_bytes words.now)) }
@@ -45,7 +46,7 @@ fn fault_of_error(error: clap::Error) -> JobFault
     }
 }
 
-// What the matches of a line that was taken ask for. Such a line has one of the two subcommands, so the last arm is never met.
+// What the matches of a line that was taken ask for. No line is known that is taken and has neither of the two subcommands.
 fn job_of(alloc: Global, matches: &ArgMatches<'_>) -> Result<Job, JobFault>
     ensures ok { IfOk result (IsJobAt (subcommand_rows_of matches.now)) }
     ensures err { IfErr result (λ e. e ≡ JobFault.Memory) }

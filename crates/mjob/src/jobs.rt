@@ -40,6 +40,7 @@ pub enum Job {
 pub enum JobFault {
     /// It is refused, or asks for help: the error has `clap`'s text.
     Line(clap::Error),
-    /// There was no memory for it.
+    /// There was no memory for it. Also what is left where `clap` took the words and found less than the command must have, to which no
+    /// words are known to lead.
     Memory,
 }

@@ -6,7 +6,7 @@ use Rattle.mstore.specs.Database.{stored}
 use Rattle.mhost.proofs.worlds.memory_world.Goals as goal
 
 pub returns-in-Ok-new-clause-server : goal.returns-in-Ok-new-clause-server
-returns-in-Ok-new-clause-server c = c.in-Ok-new.ensures.server ∙ ap opening (ap (stored over_memory) c.new.ensures ∙ c.in-Ok.ensures.empty)
+returns-in-Ok-new-clause-server c = c.in-Ok-new.ensures.server ∙ ap opening (ap (λ kept. stored over_memory kept.store) c.in-Some.ensures ∙ c.in-Ok.ensures.empty)
 
 pub returns-in-Ok-new-clause-sound : goal.returns-in-Ok-new-clause-sound
 returns-in-Ok-new-clause-sound c = c.in-Ok.ensures.sound

@@ -121,6 +121,14 @@ def stores():
         print(f"  {'put and kill':<12} {PASSES * 100}")
 
 
+def cached():
+    for count, kind in itertools.product((100, 1100), ("plain store", "table")):
+        print(f"{kind}, {count} nodes in turn")
+        for front in ("", "cached "):
+            print(f"  {front + 'get':<12} {summed(lambda i: len('hello world'))}")
+            print(f"  {front + 'kill':<12} {PASSES * 100}")
+
+
 def grants():
     accounts, terminals, globals_, apart, stride = 1000, 9999, 10, 7, 7_919
     document = ""
@@ -158,7 +166,7 @@ def locks():
 
 PAGES = {
     "numbers": numbers, "texts": texts, "keys": keys, "locals": local_variables,
-    "stores": stores, "grants": grants, "locks": locks,
+    "stores": stores, "cached": cached, "grants": grants, "locks": locks,
 }
 
 

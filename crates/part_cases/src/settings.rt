@@ -112,6 +112,7 @@ fn asked(alloc: Global, settings: &Settings, words: &[&str]) -> anyhow::Result<V
             settings,
             settings.account_named(word.as_bytes()),
         ),
+        ["island_of", account] => return island(alloc, settings, id(settings, account)?),
         ["steps_of", account] => {
             let steps = settings.steps_of(id(settings, account)?);
             return Ok(steps.to_string(alloc)?.into_bytes());
@@ -144,6 +145,18 @@ fn name(alloc: Global, settings: &Settings, id: Option<AccountId>) -> anyhow::Re
         None => Ok(b"none".to_vec(alloc)?),
         Some(id) => Ok(settings.name_of(id).to_vec(alloc)?),
     }
+}
+
+// The names of the accounts of an island, in their order.
+fn island(alloc: Global, settings: &Settings, id: AccountId) -> anyhow::Result<Vec<u8>> {
+    let mut text = Vec::new(alloc);
+    for member in settings.island_of(alloc, id)? {
+        if !text.is_empty() {
+            text.push(b' ')?;
+        }
+        text.extend_from_slice(settings.name_of(member))?;
+    }
+    Ok(text)
 }
 
 const ACCOUNT: &[u8] = b"[[account]]\nname = \"A#\"\nterminals = []\nsteps = 1\n";

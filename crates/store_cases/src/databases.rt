@@ -7,7 +7,7 @@ use sqlite::{Connection, MemStore};
 use std::alloc::Global;
 
 /// Makes a database in memory by the statements of the cases, and says whether it is taken, or by which fault it is refused;
-/// and how many rows of nodes the connection that comes back has.
+/// and how many rows of nodes the connection that comes back has, and which version.
 ///
 /// # Errors
 ///
@@ -25,7 +25,8 @@ pub fn play_database(alloc: Global, cases: &[&str], out: &mut Vec<u8>) -> anyhow
         Err((fault, conn)) => (fault.to_string(alloc)?, conn),
     };
     print_result(out, told.as_bytes())?;
-    print_rows(alloc, &mut conn, out)
+    print_rows(alloc, &mut conn, out)?;
+    print_version(alloc, &mut conn, out)
 }
 
 // Tells how many nodes there are, and nothing where there is no table of them.
@@ -37,6 +38,20 @@ fn print_rows(
     if let Ok(row) = conn.query_row("SELECT count(*) FROM node", &[]) {
         let count = row.get::<i64>(0)?;
         let told = format!(in alloc; "{count} nodes")?;
+        print_result(out, told.as_bytes())?;
+    }
+    Ok(())
+}
+
+// Tells the version, and nothing where there is no row of it.
+fn print_version(
+    alloc: Global,
+    conn: &mut Connection<MemStore>,
+    out: &mut Vec<u8>,
+) -> anyhow::Result<()> {
+    if let Ok(row) = conn.query_row("SELECT n FROM meta WHERE name = 'version'", &[]) {
+        let version = row.get::<i64>(0)?;
+        let told = format!(in alloc; "version {version}")?;
         print_result(out, told.as_bytes())?;
     }
     Ok(())

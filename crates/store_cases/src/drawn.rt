@@ -53,7 +53,7 @@ fn compare(rt: &HostRuntime, seed: u64, count: usize, out: &mut Vec<u8>) -> anyh
 }
 
 // The next of the drawn numbers.
-fn draw(state: &mut u64) -> u64 {
+pub(crate) fn draw(state: &mut u64) -> u64 {
     *state = state
         .wrapping_mul(6364136223846793005)
         .wrapping_add(1442695040888963407);

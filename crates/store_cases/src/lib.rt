@@ -1,19 +1,25 @@
 // SPDX-License-Identifier: Apache-2.0
 //! Plays the cases of transcripts that call stores: the plain store, the table in memory and in a file,
-//! the copies of routines, and databases that are there already. `mtranscript` says what a case looks like.
+//! texts of nodes and copies of routines in front of a store, databases that are there already, and files that stop while they are opened.
+//! `mtranscript` says what a case looks like.
 //!
 //! No call has a contract: a program's output is the test of it.
 #![tactic(auto)]
 
+mod cached;
 mod copies;
+mod counting;
 mod databases;
 mod drawn;
 mod files;
 mod globals;
+mod migration_stops;
 mod stores;
 
+pub use cached::play_cached;
 pub use copies::play_copies;
 pub use databases::play_database;
 pub use drawn::play_drawn;
 pub use files::play_files;
+pub use migration_stops::play_migration_stops;
 pub use stores::play_stores;

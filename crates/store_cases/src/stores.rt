@@ -38,7 +38,8 @@ pub fn play_stores(rt: &HostRuntime, cases: &[&str], out: &mut Vec<u8>) -> anyho
     print_others(alloc, "in a file:", &in_a_file?, &given, out)
 }
 
-fn print_answer(out: &mut Vec<u8>, answer: &[u8]) -> anyhow::Result<()> {
+// Adds what a call answers, if that is something.
+pub(crate) fn print_answer(out: &mut Vec<u8>, answer: &[u8]) -> anyhow::Result<()> {
     if answer.is_empty() {
         return Ok(());
     }

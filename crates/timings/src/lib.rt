@@ -6,6 +6,7 @@
 //! No call has a contract: a program's output is the test of it.
 #![tactic(auto)]
 
+mod cached;
 mod grants;
 mod keys;
 mod locals;
@@ -19,8 +20,8 @@ use crate::measuring::Plan;
 use mtranscript::play;
 
 /// The names of the pages, in their order.
-pub const PAGES: [&str; 7] = [
-    "numbers", "texts", "keys", "locals", "stores", "grants", "locks",
+pub const PAGES: [&str; 8] = [
+    "numbers", "texts", "keys", "locals", "stores", "cached", "grants", "locks",
 ];
 
 /// Of each page, the checksum of each call that it makes: the sum of what a thousand rounds give, in five passes.
@@ -58,6 +59,7 @@ fn calls(rt: &HostRuntime, plan: Plan, page: &str, out: &mut Vec<u8>) -> anyhow:
         "keys" => keys::keys_and_orders(rt, plan, out),
         "locals" => locals::locals(rt, plan, out),
         "stores" => stores::stores(rt, plan, out),
+        "cached" => cached::cached(rt, plan, out),
         "grants" => grants::grants(rt, plan, out),
         "locks" => locks::locks(rt, plan, out),
         _ => anyhow::bail!("no such page"),

@@ -23,11 +23,11 @@ const PAGE_BYTES: u64 = 4096;
 
 // The nodes ^DATA(0), ^DATA(1) and so on of a store, and bounds of them all.
 #[derive(Drop)]
-struct Nodes {
-    keys: Vec<NodeKey>,
+pub(crate) struct Nodes {
+    pub keys: Vec<NodeKey>,
     low: Vec<u8>,
     high: Vec<u8>,
-    text: Bytes7,
+    pub text: Bytes7,
 }
 
 // A place below the count, by the number of the round.
@@ -36,12 +36,14 @@ fn drawn(round: usize, count: usize) -> usize {
     (mixed % count.max(1) as u64) as usize
 }
 
-fn key(alloc: Global, subs: &[Bytes7]) -> anyhow::Result<NodeKey> {
+// The key of a node ^DATA of ALICE.
+pub(crate) fn key(alloc: Global, subs: &[Bytes7]) -> anyhow::Result<NodeKey> {
     let (account, name) = (text_of(alloc, "ALICE")?, text_of(alloc, "DATA")?);
     key_of(alloc, &account, &name, subs)
 }
 
-fn make_nodes(alloc: Global, count: usize) -> anyhow::Result<Nodes> {
+// So many of them.
+pub(crate) fn make_nodes(alloc: Global, count: usize) -> anyhow::Result<Nodes> {
     let mut keys = Vec::new(alloc);
     for number in 0..count {
         keys.push(key(alloc, &[numbered(alloc, b"#", &[number])?])?)?;
@@ -68,7 +70,12 @@ fn new_nodes(alloc: Global, count: usize, rounds: usize) -> anyhow::Result<Vec<N
 
 // What each call at a place answers, for the checksum: 1 for what was done, a length for what was found, and -1 for a fault.
 
-fn put<S: NodeStore>(store: &mut S, keys: &[NodeKey], text: &Bytes7, place: usize) -> i128 {
+pub(crate) fn put<S: NodeStore>(
+    store: &mut S,
+    keys: &[NodeKey],
+    text: &Bytes7,
+    place: usize,
+) -> i128 {
     if place >= keys.len() || text.as_bytes().len() > LONGEST_TEXT {
         return -1;
     }
@@ -78,7 +85,7 @@ fn put<S: NodeStore>(store: &mut S, keys: &[NodeKey], text: &Bytes7, place: usiz
     }
 }
 
-fn get<S: NodeStore>(store: &mut S, nodes: &Nodes, place: usize) -> i128 {
+pub(crate) fn get<S: NodeStore>(store: &mut S, nodes: &Nodes, place: usize) -> i128 {
     if place >= nodes.keys.len() {
         return -1;
     }

@@ -53,10 +53,12 @@ fn play(rt: &HostRuntime, block: &Block, out: &mut Vec<u8>) -> anyhow::Result<()
         "routine_lines" => text_cases::play_routine_lines(alloc, cases, out),
         "trees" => text_cases::play_trees(alloc, cases, out),
         "stores" => store_cases::play_stores(rt, cases, out),
+        "cached" => store_cases::play_cached(alloc, cases, out),
         "copies" => store_cases::play_copies(alloc, cases, out),
         "drawn" => store_cases::play_drawn(rt, cases, out),
         "database" => store_cases::play_database(alloc, cases, out),
         "files" => store_cases::play_files(rt, cases, out),
+        "migration_stops" => store_cases::play_migration_stops(alloc, cases, out),
         "checksums" => timings::checksums(rt, cases, out),
         kind => play_lines(rt, kind, cases, out),
     }
@@ -71,13 +73,14 @@ fn play_lines(
 ) -> anyhow::Result<()> {
     let settings = match kind {
         "lines" | "replies" | "references" => "one_account.toml",
-        "terminals" | "told" => "three_terminals.toml",
+        "terminals" | "told" | "connections" => "three_terminals.toml",
         "accounts" => "four_accounts.toml",
         _ => anyhow::bail!("no such kind of block"),
     };
     let document = fs::read(rt, settings)?;
     match kind {
         "told" => line_cases::play_told(rt.alloc(), &document, b"BOB", cases, out),
+        "connections" => line_cases::play_connections(rt.alloc(), &document, cases, out),
         "replies" => line_cases::play_replies(rt.alloc(), &document, cases, out),
         "references" => line_cases::play_references(rt.alloc(), &document, b"ALICE", cases, out),
         _ => line_cases::play_lines(rt.alloc(), &document, cases, out),

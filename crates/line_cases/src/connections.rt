@@ -1,0 +1,40 @@
+// SPDX-License-Identifier: Apache-2.0
+// Peers, who connect one after another, and what each is answered.
+use crate::lines::plain_world;
+use mgrant::Settings;
+use mtranscript::{bytes_of, print_case, print_result, print_results};
+use mwire::{Peers, serve_each};
+use std::alloc::Global;
+use std::collections::VecDeque;
+
+/// Serves peers who send these bytes, each case a peer, in one world by the settings of a document, and prints below each what it was
+/// answered; then what was told of faults of connections, and what comes where one more connection is asked for.
+///
+/// # Errors
+///
+/// If the document gives no settings, if not all peers are served, and out of memory.
+pub fn play_connections(
+    alloc: Global,
+    document: &[u8],
+    cases: &[&str],
+    out: &mut Vec<u8>,
+) -> anyhow::Result<()> {
+    let mut world = plain_world(alloc, Settings::read(alloc, document)?)?;
+    let mut sent = VecDeque::new(alloc);
+    for case in cases {
+        sent.push_back(bytes_of(alloc, case)?)?;
+    }
+    let count = u32::try_from(sent.len())?;
+    let mut peers = Peers::new(alloc, sent)?;
+    let mut errors = Vec::new(alloc);
+    serve_each(alloc, &mut world, &mut peers, count, &mut errors)?;
+    for (case, answer) in cases.iter().zip(peers.answers()) {
+        print_case(out, case)?;
+        print_results(alloc, out, answer)?;
+    }
+    print_results(alloc, out, &errors)?;
+    match serve_each(alloc, &mut world, &mut peers, 1, &mut errors) {
+        Ok(()) => print_result(out, b"one more"),
+        Err(fault) => print_result(out, format!(in alloc; "then {fault}")?.as_bytes()),
+    }
+}

@@ -28,7 +28,8 @@ MAINTAINER = "Relumavosh maintainers <maintainers@users.noreply.relumavosh.examp
 SHARE = "usr/share/mserve"
 DOC = "usr/share/doc/mserve"
 # The commands that are scripts, and the folder of each.
-COMMANDS = {"mshell": "clients", "mroutine": "clients", "mglobal": "clients", "mfront": "front", "mjournal": "front", "mbackup": "front", "mgate": "front"}
+COMMANDS = {"mshell": "clients", "mroutine": "clients", "mglobal": "clients", "misland": "clients", "mfront": "front", "mjournal": "front",
+            "mbackup": "front", "mgate": "front"}
 # Documents for whoever uses and runs it; the others are for those who change it.
 DOCUMENTS = ("FORMATS", "GLOSSARY", "GUIDE", "ISOLATION", "LANGUAGE", "OPERATING", "PERFORMANCE")
 CONTROL = """Package: mserve
@@ -43,7 +44,8 @@ Section: database
 Priority: optional
 Description: shared M (MUMPS) server with isolated accounts
  One server for the M routines and globals of several customers. That no account
- learns anything of another one is proved, for every interleaving of lines.
+ learns from its replies what one without a tie to it does is proved over a store
+ in memory, for every interleaving of lines; over a file tests show it.
  .
  With it come a front that signs users on and has a page for browsers, a shell,
  and commands for routines as files, for globals in and out, for the front's

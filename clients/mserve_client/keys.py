@@ -96,6 +96,11 @@ def end_of_subtree(first: bytes) -> bytes:
     return first + b"\3"
 
 
+def bounds(account: str) -> tuple[bytes, bytes]:
+    """From where on the keys of all nodes of an account stand, and before where."""
+    return ended(account), ended(account)[:-1] + b"\1"
+
+
 def node(data: bytes) -> tuple[str, str, Subscripts]:
     """The account, the name and the subscripts of a key. ValueError if the bytes are no key of a node."""
     account, name, _ = data.split(b"\0", 2)

@@ -4,10 +4,13 @@
 A change is one transaction, and the file is left as the program leaves it: two tables, version 2, and no log beside it."""
 from __future__ import annotations
 
+import hashlib
 import os
 import sqlite3
 from collections.abc import Iterable, Iterator
 from contextlib import contextmanager, suppress
+from dataclasses import dataclass
+from typing import Self
 
 from . import keys
 from .wire import ClientError
@@ -19,20 +22,36 @@ PUT = "INSERT INTO node (k, v) VALUES (?, ?) ON CONFLICT (k) DO UPDATE SET v = e
 CACHE_KB = 16_384
 # Bytes of a log's head, of the head of a page in it, and of the smallest page.
 LOG_HEAD, PAGE_HEAD, LEAST_PAGE = 32, 24, 512
+# Rows that are read at once.
+BATCH = 2000
+# The key of the row that comes so many after the first of a range; and how many rows a range has, with their bytes put together in the order
+# of the index. A key ends where no subscript begins, and a text has no byte over 127, so FF ends both. SQLite puts them together, since to
+# hand Python a row costs several times as much as to find it.
+FURTHER = "SELECT k FROM node WHERE k >= ? AND k < ? ORDER BY k LIMIT 1 OFFSET ?"
+RANGE = """SELECT count(*), CAST(group_concat(k || X'FF' || v, X'FF') AS BLOB)
+    FROM node INDEXED BY sqlite_autoindex_node_1 WHERE k >= ? AND k < ?"""
+ENDED = b"\xff"
 
 
 class BadStore(ClientError):
     """A file that cannot be used as a store now; the text says why and what to do."""
 
 
-class StoreFile:
-    """A store in a file, of which one account is looked at."""
+@dataclass(frozen=True, slots=True)
+class Digest:
+    """What tells an account's nodes: how many, the bytes of their keys and texts, and the SHA-256 of all of them in their order."""
 
-    def __init__(self, path: str, account: str, make: bool = False) -> None:
+    nodes: int
+    size: int
+    sha256: str
+
+
+class Store:
+    """A store in a file, with the globals of all accounts."""
+
+    def __init__(self, path: str, make: bool = False) -> None:
         """Opens the file, which is made if it is not there and `make` is given."""
-        if not keys.is_account(account):
-            raise BadStore(f"{account!r} is no account: a name has 1 to 16 letters or digits")
-        self.path, self.account = path, account
+        self.path = path
         refuse_log(path)
         if not os.path.exists(path) and not make:
             raise BadStore(f"{path}: there is no such file")
@@ -49,7 +68,7 @@ class StoreFile:
             self._base.close()
             raise
 
-    def __enter__(self) -> StoreFile:
+    def __enter__(self) -> Self:
         return self
 
     def __exit__(self, *_: object) -> None:
@@ -67,9 +86,7 @@ class StoreFile:
         self._base.execute("BEGIN IMMEDIATE")
         found = tuple(row[0] for row in self._base.execute("SELECT sql FROM sqlite_master WHERE sql IS NOT NULL ORDER BY rowid"))
         if not found:
-            for table in TABLES:
-                self._base.execute(table)
-            self._base.execute("INSERT INTO meta (name, n) VALUES ('version', ?)", (VERSION,))
+            self._make_tables("main")
         elif found != TABLES:
             raise BadStore(f"{self.path}: this is no store of mserve: it has other tables")
         version = self._base.execute("SELECT n FROM meta WHERE name = 'version'").fetchone()
@@ -78,6 +95,12 @@ class StoreFile:
         self._base.execute("COMMIT")
         self._base.execute("PRAGMA journal_mode = WAL")
         self._base.execute(f"PRAGMA cache_size = -{CACHE_KB}")
+
+    def _make_tables(self, base: str) -> None:
+        """Makes the tables of an empty database that this connection has by a name."""
+        for table in TABLES:
+            self._base.execute(table.replace("CREATE TABLE ", f"CREATE TABLE {base}."))
+        self._base.execute(f"INSERT INTO {base}.meta (name, n) VALUES ('version', ?)", (VERSION,))
 
     @contextmanager
     def change(self) -> Iterator[None]:
@@ -98,6 +121,70 @@ class StoreFile:
         """Gives nodes, by their keys, their texts."""
         self._base.executemany(PUT, nodes)
 
+    def accounts(self) -> list[str]:
+        """The accounts that have nodes, in their order."""
+        found: list[str] = []
+        after = b""
+        while row := self._base.execute("SELECT k FROM node WHERE k >= ? ORDER BY k LIMIT 1", (after,)).fetchone():
+            try:
+                found.append(keys.node(row[0])[0])
+            except ValueError as error:
+                raise BadStore(f"{self.path}: this store has a row that mserve did not write: {error}") from error
+            after = keys.bounds(found[-1])[1]
+        return found
+
+    def digest(self, account: str) -> Digest:
+        """What tells an account's nodes. It is the same in every store that has these nodes."""
+        told, nodes, size = hashlib.sha256(), 0, 0
+        first, end = keys.bounds(account)
+        while first != end:
+            further = self._base.execute(FURTHER, (first, end, BATCH)).fetchone()
+            last = further[0] if further else end
+            count, data = self._base.execute(RANGE, (first, last)).fetchone()
+            if count:
+                told.update(data + ENDED)
+                nodes += count
+                size += len(data + ENDED) - 2 * count
+            first = last
+        return Digest(nodes, size, told.hexdigest())
+
+    def give(self, accounts: Iterable[str], path: str) -> None:
+        """Puts the nodes of some accounts into another store as well, which is being made, and has none of these accounts. It is on the disk
+        then. If it fails, the other file is no store."""
+        is_new = not os.path.exists(path)
+        try:
+            self._base.execute("ATTACH ? AS part", (path,))
+            try:
+                # A file that is made whole or not at all needs no log, which would have each page written twice.
+                self._base.execute("PRAGMA part.journal_mode = OFF")
+                self._base.execute("PRAGMA part.synchronous = OFF")
+                self._base.execute("BEGIN IMMEDIATE")
+                if is_new:
+                    self._make_tables("part")
+                for account in accounts:
+                    self._base.execute("INSERT INTO part.node (k, v) SELECT k, v FROM main.node WHERE k >= ? AND k < ? ORDER BY k", keys.bounds(account))
+                self._base.execute("COMMIT")
+                self._base.execute("PRAGMA part.journal_mode = WAL")
+            finally:
+                if self._base.in_transaction:
+                    self._base.rollback()
+                self._base.execute("DETACH part")
+            with open(path, "rb+") as file:
+                os.fsync(file.fileno())
+        except sqlite3.Error as error:
+            raise refusal(path, error) from error
+
+
+class StoreFile(Store):
+    """A store in a file, of which one account is looked at."""
+
+    def __init__(self, path: str, account: str, make: bool = False) -> None:
+        """Opens the file, which is made if it is not there and `make` is given."""
+        if not keys.is_account(account):
+            raise BadStore(f"{account!r} is no account: a name has 1 to 16 letters or digits")
+        self.account = account
+        super().__init__(path, make)
+
     def rows(self, name: str, subscripts: keys.Subscripts = ()) -> Iterator[tuple[bytes, bytes]]:
         """The keys and texts of a node and of those below it, in their order."""
         first = keys.key(self.account, name, subscripts)
@@ -115,7 +202,7 @@ class StoreFile:
     def names(self) -> list[str]:
         """The names of the account's globals."""
         found: list[str] = []
-        after, end = keys.ended(self.account), keys.end_of_subtree(keys.ended(self.account)[:-1])
+        after, end = keys.bounds(self.account)
         while row := self._base.execute("SELECT k FROM node WHERE k >= ? AND k < ? ORDER BY k LIMIT 1", (after, end)).fetchone():
             name = keys.node(row[0])[1]
             found.append(name)
@@ -143,7 +230,7 @@ def refusal(path: str, error: sqlite3.Error) -> BadStore:
     """What an error of the file means to its user."""
     name = getattr(error, "sqlite_errorname", "")
     if name.startswith(("SQLITE_BUSY", "SQLITE_LOCKED")):
-        return BadStore(f"{path}: the file is in use ({name}): a server has it, or another mglobal. Go through a terminal, or stop the server")
+        return BadStore(f"{path}: the file is in use ({name}): a server has it, or another command of the clients. Go through a terminal, or stop the server")
     if name == "SQLITE_NOTADB":
         return BadStore(f"{path}: this is no store of mserve: it is no database ({name})")
     return BadStore(f"{path}: {error} ({name or 'no more is known'}); the file is as it was before this command")

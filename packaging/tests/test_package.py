@@ -153,7 +153,7 @@ def test_lintian_finds_no_error(package: Path) -> None:
 
 def test_package_has_each_command_its_page_and_the_units(package: Path) -> None:
     listed = subprocess.run(["dpkg-deb", "--contents", package], capture_output=True, text=True, check=True).stdout
-    for name in ("mserve", "mfront", "mjournal", "mbackup", "mgate", "mshell", "mroutine", "mglobal"):
+    for name in ("mserve", "mfront", "mjournal", "mbackup", "mgate", "mshell", "mroutine", "mglobal", "misland"):
         assert f" ./usr/bin/{name}" in listed
     pages = [page for folder in ("docs", "clients/man", "front/man") for page in (TOP / folder).glob("*.1")]
     assert len(pages) >= 7 and all(f" ./usr/share/man/man1/{page.name}.gz\n" in listed for page in pages)
@@ -242,7 +242,7 @@ def used(root: Root) -> None:
     assert (record["user"], record["account"], record["volatile"]) == ("ada", "OFFICE", False)
     assert root.run(f"{curl} https://localhost:8443/page/main.js") == (TOP / "front" / "page" / "main.js").read_text(encoding="utf-8")
     assert root.run("mserve run --settings /etc/mserve/settings.toml --store memory", "1 WRITE 1+2*3\n") == "1-9\n1.\n"
-    for name in ("mshell", "mroutine", "mglobal", "mfront", "mjournal", "mbackup", "mgate"):
+    for name in ("mshell", "mroutine", "mglobal", "misland", "mfront", "mjournal", "mbackup", "mgate"):
         assert f"usage: {name}" in root.run(f"{name} --help")
     assert "OFFICE" in root.run("mfront user list")
     modes = root.run("stat -c '%U %a' /var/lib/mserve /var/log/mserve /var/lib/mserve/users.json /var/log/mserve/audit.log").splitlines()
@@ -275,6 +275,7 @@ def removed(root: Root, before: set[str]) -> None:
     """Removes the package, and looks for what it left."""
     root.run("apt-get purge -y mserve")
     assert "mserve" not in root.run("dpkg-query -W -f '${Package}\\n'").split()
-    ours = {path for path in root.changed() - before if re.search(r"mserve|mfront|mjournal|mbackup|mgate|mshell|mroutine|mglobal", path) and not path.startswith(str(TOP))}
+    ours = {path for path in root.changed() - before if re.search(r"mserve|mfront|mjournal|mbackup|mgate|mshell|mroutine|mglobal|misland", path)
+            and not path.startswith(str(TOP))}
     assert {path for path in ours if not DATA.match(path)} == set()
     assert {"/var/lib/mserve/store", "/var/lib/mserve/users.json", "/var/log/mserve/audit.log", "/etc/mserve/key.pem"} <= ours

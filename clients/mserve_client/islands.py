@@ -1,0 +1,140 @@
+# SPDX-License-Identifier: Apache-2.0
+"""Settings and store files split by island, and joined again. The files that are split or joined stay as they are.
+
+A part is a folder with `settings.toml` and `store.db`. A folder of parts has one for each island, named after its first account, and
+`strangers.db` if the store has globals of accounts that the settings do not name."""
+from __future__ import annotations
+
+import os
+import shutil
+import tempfile
+from collections.abc import Iterable, Iterator
+from concurrent.futures import ThreadPoolExecutor
+from contextlib import contextmanager
+from dataclasses import dataclass
+from pathlib import Path
+
+from . import settings_file
+from .settings_file import Settings
+from .store_file import BadStore, Digest, Store
+from .wire import ClientError
+
+SETTINGS, STORE, STRANGERS = "settings.toml", "store.db", "strangers.db"
+# No account has such a name.
+REST = "the-rest"
+
+
+class NotSplit(ClientError):
+    """What was asked for cannot be done; nothing was."""
+
+
+@dataclass(frozen=True, slots=True)
+class Part:
+    """A part of the settings with its name; its accounts' nodes, by the account, as far as these were looked at."""
+
+    name: str
+    settings: Settings
+    digests: dict[str, Digest]
+
+
+@dataclass(frozen=True, slots=True)
+class Pair:
+    """A settings file and a store file that go together."""
+
+    settings: Path
+    store: Path
+
+
+def parts_of(settings: Settings, apart: Iterable[str] = ()) -> list[Part]:
+    """Each island; or the islands of the accounts that are named, and the rest of the accounts."""
+    islands = settings.islands()
+    wanted = set(apart)
+    if unknown := wanted - set(settings.names):
+        raise NotSplit(f"no account of the settings has the name {sorted(unknown)[0]}")
+    chosen = {island[0]: island for island in islands if not wanted or wanted & set(island)}
+    if rest := [name for island in islands if island[0] not in chosen for name in island]:
+        chosen[REST] = rest
+    return [Part(name, part, {}) for name, part in zip(chosen, settings.parts(chosen.values()))]
+
+
+def looked_at(settings: Settings, parts: list[Part], store: Store) -> dict[str, Digest]:
+    """Tells the parts what tells their accounts' nodes; gives what tells the strangers' nodes."""
+    digests = {name: store.digest(name) for name in store.accounts()}
+    for part in parts:
+        part.digests.update({name: digests[name] for name in part.settings.names if name in digests})
+    known = set(settings.names)
+    return {name: digest for name, digest in digests.items() if name not in known}
+
+
+def split(source: Pair, folder: Path, apart: Iterable[str] = ()) -> tuple[list[Part], dict[str, Digest]]:
+    """Makes a folder of parts; gives the parts and what tells the strangers' nodes. The folder is there whole or not at all."""
+    settings = settings_file.read(source.settings)
+    parts = parts_of(settings, apart)
+    # A part is compared while the next one is written.
+    with Store(str(source.store)) as store, made(folder) as place, ThreadPoolExecutor(os.cpu_count()) as beside:
+        strangers = looked_at(settings, parts, store)
+        compared = []
+        for part in parts:
+            (place / part.name).mkdir()
+            settings_file.write(place / part.name / SETTINGS, part.settings)
+            store.give(part.digests, str(place / part.name / STORE))
+            compared.append(beside.submit(compare, place / part.name / STORE, part.digests))
+        if strangers:
+            store.give(strangers, str(place / STRANGERS))
+            compared.append(beside.submit(compare, place / STRANGERS, strangers))
+        for done in compared:
+            done.result()
+    return parts, strangers
+
+
+def compare(path: Path, wanted: dict[str, Digest]) -> None:
+    """BadStore if the store has not exactly these accounts' nodes."""
+    with Store(str(path)) as store:
+        found = {name: store.digest(name) for name in store.accounts()}
+    if found != wanted:
+        raise BadStore(f"{path}: what was written is not what was read; is the disk good?")
+
+
+def pairs_of(folder: Path) -> tuple[list[Pair], list[Path]]:
+    """The parts in a folder, or the folder itself as one; and the stores of strangers."""
+    strangers = [folder / STRANGERS] if (folder / STRANGERS).exists() else []
+    if (folder / SETTINGS).exists():
+        return [Pair(folder / SETTINGS, folder / STORE)], strangers
+    found = [Pair(place / SETTINGS, place / STORE) for place in sorted(folder.iterdir()) if (place / SETTINGS).exists()]
+    if not found:
+        raise NotSplit(f"{folder}: this is no part: it has no {SETTINGS}, nor has a folder in it")
+    return found, strangers
+
+
+def join(pairs: list[Pair], strangers: list[Path], folder: Path) -> Part:
+    """Makes a part of several, the strangers' globals with it; gives it. The folder is there whole or not at all."""
+    settings = [settings_file.read(pair.settings) for pair in pairs]
+    whole = Settings(tuple(account for each in settings for account in each.accounts), tuple(grant for each in settings for grant in each.grants))
+    settings_file.check("the parts together", whole)
+    part = Part(folder.name, whole, {})
+    with made(folder) as place:
+        settings_file.write(place / SETTINGS, whole)
+        Store(str(place / STORE), make=True).close()
+        for path in [*(pair.store for pair in pairs), *strangers]:
+            with Store(str(path)) as store:
+                names = store.accounts()
+                if twice := sorted(part.digests.keys() & set(names)):
+                    raise NotSplit(f"{path}: {twice[0]} has globals in another part too")
+                part.digests.update({name: store.digest(name) for name in names})
+                store.give(names, str(place / STORE))
+        compare(place / STORE, part.digests)
+    return part
+
+
+@contextmanager
+def made(folder: Path) -> Iterator[Path]:
+    """A folder that is made beside its place, and is there once the block has ended."""
+    if folder.exists():
+        raise NotSplit(f"{folder}: it is there already: name a folder that is not")
+    place = Path(tempfile.mkdtemp(prefix=folder.name + ".", suffix=".part", dir=folder.absolute().parent))
+    try:
+        yield place
+        os.rename(place, folder)
+    except BaseException:
+        shutil.rmtree(place, ignore_errors=True)
+        raise

@@ -1,7 +1,7 @@
 #!/usr/bin/python3
 # SPDX-License-Identifier: Apache-2.0
-"""What a journal costs: lines in a second without one, with one in files and with one in PostgreSQL, what each line takes, how fast a replay is, and
-how long nobody is served when a leader is killed.
+"""What a journal costs: lines in a second without one, with one in files, with one in PostgreSQL, and with one whose database has a standby that has
+each row before it is acknowledged; what each line takes, how fast a replay is, and how long nobody is served when a leader is killed.
 
 Each user has a connection of the line port, without TLS, and sends a line as soon as the reply of the one before has come. Only figures of a quiet
 machine are worth keeping. Status 1 if a reply was wrong."""
@@ -9,6 +9,7 @@ from __future__ import annotations
 
 import argparse
 import asyncio
+import contextlib
 import json
 import os
 import signal
@@ -21,11 +22,15 @@ from pathlib import Path
 
 sys.path.insert(0, str(Path(__file__).resolve().parent / "tests"))
 
+from database import Cluster, required  # noqa: E402
 from front import PASSWORD, Front, tool  # noqa: E402
-from load import PARTS, processor_time, settings  # noqa: E402
+from load import PARTS, settings  # noqa: E402
+from processes import memory, processor_time, started_by  # noqa: E402
 from running import PROGRAM, require_program  # noqa: E402
 
-KINDS = ("none", "file", "database")
+KINDS = ("none", "file", "database", "replicated")
+# Lines that are replayed over a store in a file, where each waits for the disk.
+OVER_FILE = 1000
 
 
 async def user(front: Front, name: str, until: float, waits: list[float]) -> None:
@@ -55,56 +60,81 @@ async def figures(front: Front) -> dict[str, float]:
 async def rate(front: Front, names: list[str], seconds: float) -> tuple[list[float], list[float], dict[str, float]]:
     """Has all users send for so long: how long each reply took, the processor time of the front, the server and the users, and the front's figures."""
     waits: list[float] = []
-    pids = (front.process.pid, front.child, os.getpid())
-    before = [processor_time(pid) for pid in pids]
+    pids = [[front.process.pid], [front.child], [os.getpid()]]
+    before = [processor_time(own) for own in pids]
     await asyncio.gather(*(user(front, name, time.monotonic() + seconds, waits) for name in names))
-    spent = [processor_time(pid) - start for pid, start in zip(pids, before, strict=True)]
+    spent = [processor_time(own) - start for own, start in zip(pids, before, strict=True)]
     return waits, spent, await figures(front)
 
 
-def memory(pid: int) -> float:
-    """Millions of bytes that a process has in memory."""
-    found = next(line for line in Path(f"/proc/{pid}/status").read_text().splitlines() if line.startswith("VmRSS:"))
-    return int(found.split()[1]) * 1024 / 1e6
+def databases_of(kind: str, folder: Path, ends: contextlib.ExitStack) -> tuple[list[Cluster], dict[str, dict[str, object]]]:
+    """The databases of a kind of journal, which are removed at the end, and its settings."""
+    if kind in ("none", "file"):
+        return [], {} if kind == "none" else {"journal": {"folder": "journal"}}
+    required()
+    os.chmod(folder, 0o755)
+    first = Cluster(folder=str(folder), more="-c fsync=on")
+    ends.callback(first.remove)
+    if kind == "database":
+        return [first], {"journal": {"database": first.place}}
+    second = Cluster(first, folder=str(folder), more="-c fsync=on")
+    ends.callback(second.remove)
+    return [first, second], {"journal": {"database": first.waits_for(second)}}
 
 
 def measured(folder: Path, kind: str, store: str, options: argparse.Namespace) -> None:
     """Measures one kind of journal over one kind of store, and prints what was found."""
-    from database import Cluster, required
     place = folder / f"{kind}-{store}"
     place.mkdir()
     path, names = settings(place, options.users)
-    cluster, journal = None, {} if kind == "none" else {"journal": {"folder": "journal"}}
-    if kind == "database":
-        required()
-        os.chmod(folder, 0o755)
-        cluster = Cluster(folder=str(folder), more="-c fsync=on")
-        journal = {"journal": {"database": cluster.place}}
-    front = Front(place, None, users=names, settings=path, store="memory" if store == "memory" else "store.db", **journal)
-    try:
+    with contextlib.ExitStack() as ends:
+        databases, journal = databases_of(kind, folder, ends)
+        front = Front(place, None, users=names, settings=path, store="memory" if store == "memory" else "store.db", **journal)
+        ends.callback(front.stop)
+        before, start = processor_time(heads(databases)), written(databases)
         waits, spent, found = asyncio.run(rate(front, list(names), options.seconds))
         count = len(waits)
+        shown = list(zip(PARTS, spent, strict=True))
+        if databases:
+            shown.append(("database", processor_time(heads(databases)) - before))
         print(f"{kind} journal, store in {store}: {count / options.seconds:.0f} lines in a second, {options.users} users; reply: median "
               f"{statistics.median(waits) * 1000:.1f} ms, 99th percentile {sorted(waits)[int(count * 0.99)] * 1000:.1f} ms; processor time of a line: "
-              + ", ".join(f"{name} {one / count * 1e6:.0f} us" for name, one in zip(PARTS, spent, strict=True)), flush=True)
-        print(f"    memory: front {memory(front.process.pid):.0f} MB, server {memory(front.child):.0f} MB", flush=True)
+              + ", ".join(f"{name} {one / count * 1e6:.0f} us" for name, one in shown), flush=True)
+        print(f"    memory: front {memory([front.process.pid]):.0f} MB, server {memory([front.child]):.0f} MB", flush=True)
         if kind != "none":
-            flushes = found["mfront_journal_flushes_total"]
-            print(f"    {flushes / count:.2f} flushes for a line, {found['mfront_journal_records_total'] / flushes:.1f} records in one, "
-                  f"{found['mfront_journal_flush_seconds_total'] / flushes * 1000:.2f} ms each", flush=True)
+            kept(front, databases, found, count, start)
         front.stop()
-        if kind != "none":
-            replayed(front)
-    finally:
-        front.stop()
-        if cluster is not None:
-            cluster.remove()
+        if kind != "none" and options.replayed:
+            replayed(front, min(options.replayed, int(found["mfront_journal_line"])))
 
 
-def replayed(front: Front) -> None:
-    """Replays the front's journal over both kinds of store, and prints how fast that is."""
-    for store in ("memory", str(front.folder / "replayed")):
-        words = ["--config", front.folder / "front.toml", "replay", "--program", PROGRAM, "--store", store]
+def heads(databases: list[Cluster]) -> list[int]:
+    """The processes of databases that there are now."""
+    first = [one.head for one in databases]
+    return first + started_by(first)
+
+
+def written(databases: list[Cluster]) -> float:
+    """The bytes that are written to a database's log by now."""
+    return float(databases[0].does("SELECT pg_current_wal_lsn() - '0/0'")[0][0]) if databases else 0.0
+
+
+def kept(front: Front, databases: list[Cluster], found: dict[str, float], count: int, start: float) -> None:
+    """Prints what the journal cost: flushes, how long each took, and bytes; `start` is what was in the database's log before."""
+    flushes = found["mfront_journal_flushes_total"]
+    if databases:
+        table = databases[0].does("SELECT pg_total_relation_size('mfront_journal')")[0][0]
+        sizes = f"{table / count:.0f} bytes of a line in the table, and {(written(databases) - start) / count:.0f} in the database's log"
+    else:
+        sizes = f"{sum(path.stat().st_size for path in (front.folder / 'journal').iterdir()) / count:.0f} bytes of a line"
+    print(f"    {flushes / count:.2f} flushes for a line, {found['mfront_journal_records_total'] / flushes:.1f} records in one, "
+          f"{found['mfront_journal_flush_seconds_total'] / flushes * 1000:.2f} ms each; {sizes}", flush=True)
+
+
+def replayed(front: Front, last: int) -> None:
+    """Replays the front's journal over both kinds of store, up to a line, and prints how fast that is."""
+    for store, most in (("memory", last), (str(front.folder / "replayed"), min(last, OVER_FILE))):
+        words = ["--config", front.folder / "front.toml", "replay", "--program", PROGRAM, "--store", store, "--to", most]
         done = subprocess.run([sys.executable, Path(__file__).parent / "mjournal", *map(str, words)], capture_output=True, text=True)
         if done.returncode:
             sys.exit(f"journal_rates: {done.stderr}")
@@ -119,12 +149,16 @@ def without_service(folder: Path, number: int) -> float:
         part.mkdir(parents=True)
     journal = {"folder": str(place / "journal")}
     leader = Front(parts[0], None, store="store.db", journal=journal)
-    standby = Front(parts[1], None, store="store.db", journal=journal, words=["--follow"], awaited="standing by")
+    try:
+        standby = Front(parts[1], None, store="store.db", journal=journal, words=["--follow"], awaited="standing by")
+    except BaseException:
+        leader.stop()
+        raise
     waits: list[float] = []
 
     async def until_answered() -> float:
         work = asyncio.gather(*(user(leader, name, time.monotonic() + 60, waits) for name in ("ada", "ben", "cleo")), return_exceptions=True)
-        await asyncio.sleep(1 + number / 7)
+        await asyncio.sleep(0.5 + number / 19)
         began = time.monotonic()
         os.kill(leader.process.pid, signal.SIGKILL)
         status, _, told = await asyncio.to_thread(tool("mfront"), "promote", "--config", standby.folder / "front.toml")
@@ -141,6 +175,7 @@ def without_service(folder: Path, number: int) -> float:
     try:
         return asyncio.run(until_answered())
     finally:
+        leader.stop()
         standby.stop()
 
 
@@ -149,12 +184,15 @@ def main() -> int:
     words = argparse.ArgumentParser(description="Measures what a journal costs: lines in a second, time of a line, replay, and fail-over.")
     words.add_argument("--users", type=int, default=64, help="how many users (default 64)")
     words.add_argument("--seconds", type=float, default=20, help="for how long each (default 20)")
-    words.add_argument("--kinds", nargs="+", choices=KINDS, default=list(KINDS), help="the kinds of journal (default all)")
+    words.add_argument("--kinds", nargs="*", choices=KINDS, default=list(KINDS), help="the kinds of journal (default all; none are named: only leaders are killed)")
     words.add_argument("--stores", nargs="+", choices=("memory", "file"), default=["memory", "file"], help="the kinds of store (default both)")
+    words.add_argument("--replayed", type=int, default=20_000, help="how many lines of each journal are replayed at most (default 20000; 0 for none)")
     words.add_argument("--killed", type=int, default=10, help="how many leaders are killed (default 10)")
     words.add_argument("--folder", type=Path, help="where journals and stores are, on the disk that is measured (default: a temporary one)")
     options = words.parse_args()
     require_program()
+    # Whoever ends it has its processes ended too.
+    signal.signal(signal.SIGTERM, signal.default_int_handler)
     with tempfile.TemporaryDirectory(prefix="mfront-journal", dir=options.folder) as name:
         for store in options.stores:
             for kind in options.kinds:

@@ -5,11 +5,14 @@ The program is the one that the variable MSERVE names; else crates/mserve/out/ms
 released one that `./mserve` unpacked.
 Where a script says no more, a run is over a new store in memory, by
 settings in which terminal 1 is of ALICE and a line may use 2,000 steps."""
+import contextlib
 import os
+import secrets
 import socket
 import subprocess
 import sys
 import time
+from collections import deque
 
 TOP = os.path.realpath(os.path.join(os.path.dirname(os.path.abspath(__file__)), ".."))
 BUILT = os.path.join(TOP, "crates", "mserve", "out", "mserve")
@@ -40,10 +43,23 @@ def serve_words(port, connections, store="memory", settings=ONE_ACCOUNT):
 def free_port():
     """A port that nobody listens at. The socket that finds it never listens: a process that another thread starts just then has it open too, until
     it runs its program, and a server could not take the port meanwhile, nor would a client be refused there."""
-    with socket.socket() as place:
-        place.setsockopt(socket.SOL_SOCKET, socket.SO_REUSEADDR, 1)
-        place.bind(("127.0.0.1", 0))
-        return place.getsockname()[1]
+    for _ in range(len(PORTS)):
+        PORTS.rotate(-1)
+        with socket.socket() as place, contextlib.suppress(OSError):
+            place.setsockopt(socket.SOL_SOCKET, socket.SO_REUSEADDR, 1)
+            place.bind(("127.0.0.1", PORTS[0]))
+            return PORTS[0]
+    sys.exit("running: there is no free port")
+
+
+def ports_apart():
+    """Ports that the system gives to nobody by itself, as it does to connections and to whom any port will do: they may take one that was found free
+    before the server that it was found for has it. Each process begins at another one."""
+    with open("/proc/sys/net/ipv4/ip_local_port_range", encoding="ascii") as file:
+        least, most = map(int, file.read().split())
+    found = deque(port for port in range(10_000, 65_536) if not least <= port <= most) or deque(range(least, most + 1))
+    found.rotate(secrets.randbelow(len(found)))
+    return found
 
 
 def connected(port):
@@ -65,3 +81,6 @@ def run(stream, settings=ONE_ACCOUNT, store="memory", only=None, **more):
     """The status, the output and what was told of faults, of a run over a stream."""
     ran = subprocess.run(run_words(settings, store, only), input=stream, capture_output=True, timeout=60, **more)
     return ran.returncode, ran.stdout, ran.stderr
+
+
+PORTS = ports_apart()

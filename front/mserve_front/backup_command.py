@@ -4,24 +4,24 @@ from __future__ import annotations
 
 import argparse
 import shutil
-import sys
 from collections.abc import Callable
 from pathlib import Path
 
+from . import ending
 from .control import Refused, asked
+from .ending import DEFAULT, FAILED, FOUND, USAGE
 from .folders import sync_folder
 from .settings import BadSettings, Table, journal_settings, read_toml
 from .snapshots import BadSnapshot, Manifest, accounts_of, check, differ, finish, put_back, read_manifest
 
-DEFAULT = "/etc/mserve/front.toml"
-FOUND, USAGE, FAILED, INTERRUPTED = 1, 2, 3, 130
+NAME = "mbackup"
 STATUSES = "Status: 0 all went well; 1 a snapshot or a store is not what it is to be; 2 the words or the settings are wrong; 3 it cannot be done; " \
            "130 an interrupt."
 
 
 def words() -> argparse.ArgumentParser:
     """The reader of the command's words."""
-    parser = argparse.ArgumentParser(prog="mbackup", epilog=STATUSES, description="Makes snapshots of the store of a front that keeps a journal, while users "
+    parser = argparse.ArgumentParser(prog=NAME, epilog=STATUSES, description="Makes snapshots of the store of a front that keeps a journal, while users "
                                      "work. A snapshot is a folder, named by the number of the last line that it has.")
     commands = parser.add_subparsers(title="commands", metavar="COMMAND", required=True)
 
@@ -118,26 +118,9 @@ def listed(options: argparse.Namespace) -> int:
 
 def say(text: str) -> None:
     """Writes a line to the standard error."""
-    print(f"mbackup: {text}", file=sys.stderr, flush=True)
+    ending.say(NAME, text)
 
 
 def main() -> int:
     """The status of the command."""
-    options = words().parse_args()
-    try:
-        return options.act(options)
-    except BadSettings as error:
-        say(str(error))
-        return USAGE
-    except BadSnapshot as error:
-        say(str(error))
-        return FOUND
-    except Refused as error:
-        say(str(error))
-        return FAILED
-    except OSError as error:
-        say(f"{error.filename}: {error.strerror}" if error.filename else str(error))
-        return FAILED
-    except KeyboardInterrupt:
-        say("interrupted")
-        return INTERRUPTED
+    return ending.ended(NAME, words().parse_args(), {BadSettings: USAGE, BadSnapshot: FOUND, Refused: FAILED})

@@ -6,6 +6,7 @@ front of its protocol."""
 from __future__ import annotations
 
 import asyncio
+import asyncio.sslproto
 import socket
 import ssl
 import time
@@ -21,10 +22,33 @@ HANDSHAKE = 10.0
 # The most bytes that one connection of HTTP may send, so that requests that are sent ahead take bounded memory.
 MOST_BYTES = 1 << 22
 BACKLOG = 512
+TLS_BUFFER = 1 << 16
 # No delay for small frames; a peer that is gone without a word is noticed within three minutes.
 OPTIONS = ((socket.IPPROTO_TCP, socket.TCP_NODELAY, 1), (socket.SOL_SOCKET, socket.SO_KEEPALIVE, 1), (socket.IPPROTO_TCP, socket.TCP_KEEPIDLE, 60),
            (socket.IPPROTO_TCP, socket.TCP_KEEPINTVL, 15), (socket.IPPROTO_TCP, socket.TCP_KEEPCNT, 4),
            (socket.IPPROTO_TCP, socket.TCP_USER_TIMEOUT, 120_000))
+
+
+def spare_memory() -> None:
+    """Has connections over TLS that are made from now on read into a buffer of 64 KB each. asyncio gives each one of 256 KB, for as long as it lasts, and
+    users' lines are short: for thousands of users that was most of the memory."""
+    if hasattr(asyncio.sslproto.SSLProtocol, "max_size"):
+        asyncio.sslproto.SSLProtocol.max_size = TLS_BUFFER
+
+
+def held(host: str, port: int) -> socket.socket:
+    """A socket that has a port, and does not listen yet: nobody else can take the port, and who connects is refused. Raises OSError if it is taken."""
+    family = socket.AF_INET6 if ":" in host else socket.AF_INET
+    place = socket.socket(family)
+    try:
+        place.setsockopt(socket.SOL_SOCKET, socket.SO_REUSEADDR, 1)
+        if family == socket.AF_INET6:
+            place.setsockopt(socket.IPPROTO_IPV6, socket.IPV6_V6ONLY, 1)
+        place.bind((host, port))
+    except OSError as error:
+        place.close()
+        raise OSError(error.errno, f"{host}, port {port}: {error.strerror}") from error
+    return place
 
 
 class Door(asyncio.Protocol):
@@ -77,8 +101,10 @@ class Door(asyncio.Protocol):
 class Doors:
     """All connections, and how many each address has."""
 
-    def __init__(self, limits: Limits, context: ssl.SSLContext | None) -> None:
+    def __init__(self, limits: Limits, context: ssl.SSLContext | None, places: dict[int, socket.socket]) -> None:
+        """`places` are ports that are held already."""
         self._limits = limits
+        self._places = places
         self._context = context
         self._of_address: Counter[str] = Counter()
         self._doors: dict[asyncio.Protocol, Door] = {}
@@ -87,7 +113,8 @@ class Doors:
 
     def listen(self, host: str, port: int, made: Callable[[], asyncio.Protocol], room: int | None) -> None:
         """Accepts connections, each with a protocol of its own. Raises OSError if the port is taken."""
-        listener = socket.create_server((host, port), family=socket.AF_INET6 if ":" in host else socket.AF_INET, backlog=BACKLOG)
+        listener = self._places.pop(port, None) or held(host, port)
+        listener.listen(BACKLOG)
         listener.setblocking(False)
         self._listeners.append(listener)
         self._spawn(self._accept(listener, made, room))

@@ -8,11 +8,13 @@ import contextlib
 import resource
 import signal
 import ssl
-import sys
 from collections.abc import Callable
 from dataclasses import dataclass
 from pathlib import Path
 
+from . import ending
+from .doors import spare_memory
+from .ending import FAILED, USAGE
 from .gate import HANDSHAKE, HEAD, Gate
 from .islands import Home, Islands
 from .journal import LogFault
@@ -22,7 +24,6 @@ from .settings import BadSettings, Table, read_toml
 from .users import BadUsers
 
 DEFAULT = "/etc/mserve/machine.toml"
-USAGE, FAILED, INTERRUPTED = 2, 3, 130
 STATUSES = "Status: 0 all went well; 2 the words or the settings are wrong, or the placement refuses it; 3 a port is taken, or the database is away; " \
            "130 an interrupt."
 TABLES = ("machine", "listen", "peers")
@@ -98,6 +99,7 @@ def _port(table: Table, key: str) -> int:
 
 def contexts(doorway: Doorway) -> tuple[ssl.SSLContext, ssl.SSLContext, ssl.SSLContext]:
     """What users see, what other machines see, and what this one shows them: each of the two has to have a certificate of the authority."""
+    spare_memory()
     made = []
     for purpose, certificate, key in ((ssl.PROTOCOL_TLS_SERVER, doorway.certificate, doorway.key),
                                       (ssl.PROTOCOL_TLS_SERVER, doorway.peers_certificate, doorway.peers_key),
@@ -180,18 +182,4 @@ def move(options: argparse.Namespace) -> None:
 def main() -> int:
     """The status of the command."""
     options = words().parse_args(namespace=argparse.Namespace(config=Path(DEFAULT), act=serve))
-    try:
-        options.act(options)
-        return 0
-    except (BadSettings, BadUsers, BadPlacement) as error:
-        print(f"mgate: {error}", file=sys.stderr)
-        return USAGE
-    except LogFault as error:
-        print(f"mgate: {error}", file=sys.stderr)
-        return FAILED
-    except OSError as error:
-        print(f"mgate: {f'{error.filename}: ' if error.filename else ''}{error.strerror or error}", file=sys.stderr)
-        return FAILED
-    except KeyboardInterrupt:
-        print("mgate: interrupted", file=sys.stderr)
-        return INTERRUPTED
+    return ending.ended("mgate", options, {BadSettings: USAGE, BadUsers: USAGE, BadPlacement: USAGE, LogFault: FAILED})

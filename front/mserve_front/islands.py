@@ -8,6 +8,7 @@ import asyncio
 import contextlib
 import json
 import shutil
+import signal
 import sys
 import time
 from dataclasses import dataclass, field
@@ -26,6 +27,8 @@ LOOK, PAUSE = 0.3, 1.0
 LONGEST = 30.0
 # Seconds for an answer of a front, and for its end.
 ANSWER, ENDING = 5.0, 20.0
+# Lines that a standby is behind at most when the front of the machine before is ended.
+NEAR = 200
 COMMAND = Path(__file__).resolve().parent.parent / "mfront"
 
 
@@ -92,7 +95,7 @@ class Islands:
         while True:
             try:
                 await self._look()
-                ends = await asyncio.gather(*(self._turn(island) for island in self.placed.values()), return_exceptions=True)
+                ends = await asyncio.gather(*(self._turn(island) for island in self._concerned()), return_exceptions=True)
                 for error in ends:
                     if isinstance(error, BaseException):
                         raise error
@@ -111,10 +114,17 @@ class Islands:
         await asyncio.gather(*(self._ended(name) for name in list(self._houses)))
         self._placement.close()
 
+    def _concerned(self) -> list[Island]:
+        """The islands that are here, were here, or are to come."""
+        me = self._home.machine.name
+        return [island for island in self.placed.values() if me in (island.machine, island.target) or island.name in self._houses]
+
     async def _look(self) -> None:
-        self.placed = await asyncio.to_thread(self._placement.islands)
+        placed = await asyncio.to_thread(self._placement.islands)
         self.machines = await asyncio.to_thread(self._placement.machines)
-        self.of_account = {account: island.name for island in self.placed.values() for account in island.accounts}
+        if placed is not self.placed:
+            self.placed = placed
+            self.of_account = {account: island.name for island in placed.values() for account in island.accounts}
         self._read_users()
         for name in [name for name in self._houses if name not in self.placed]:
             await self._ended(name)
@@ -132,7 +142,7 @@ class Islands:
             await self._served(island, follows=False)
         elif island.machine == me and island.state == READY:
             tell(f"island {island.name} goes to {island.target}")
-            await self._ended(island.name)
+            await self._ended(island.name, signal.SIGUSR1)
             await asyncio.to_thread(self._placement.turn, island.name, READY, LEFT)
         elif island.target != me:
             await self._ended(island.name)
@@ -155,12 +165,12 @@ class Islands:
         words = [*tied(shutil.which("setpriv")), sys.executable, str(COMMAND), "--config", str(path), *(["--follow"] if follows else [])]
         house.process = await asyncio.create_subprocess_exec(*words, stdin=asyncio.subprocess.DEVNULL, start_new_session=True)
 
-    async def _ended(self, name: str) -> None:
-        """Ends the front of an island in order, if it runs here."""
+    async def _ended(self, name: str, how: signal.Signals = signal.SIGTERM) -> None:
+        """Ends the front of an island in order, if it runs here; by SIGUSR1 its users are told that they have moved."""
         house = self._houses.pop(name, None)
         if house is None or house.process is None or house.process.returncode is not None:
             return
-        house.process.terminate()
+        house.process.send_signal(how)
         try:
             await asyncio.wait_for(house.process.wait(), ENDING)
         except TimeoutError:
@@ -172,7 +182,8 @@ class Islands:
             found = await asyncio.to_thread(asked, self._folder(name) / "mfront.control", {"ask": "status"}, ANSWER)
         except Refused:
             return False
-        return found["state"] == "standby" and found["behind"] == 0 and found["caught up"] is True
+        # Where users never rest there is always a line to come: the few that are left are run at the promotion.
+        return found["state"] == "standby" and found["fault"] == "" and int(str(found["behind"])) <= NEAR
 
     async def _promoted(self, island: Island) -> None:
         """Promotes the front that stands by, and notes that the island is here."""

@@ -5,7 +5,6 @@ from __future__ import annotations
 import argparse
 import asyncio
 import re
-import sys
 import time
 from collections import Counter, deque
 from collections.abc import Iterator
@@ -13,18 +12,19 @@ from dataclasses import dataclass, replace
 from datetime import UTC, datetime
 from pathlib import Path
 
+from . import ending
+from .connection import NoStart
+from .ending import DEFAULT, FAILED, FOUND, USAGE
 from .history import CUT_SHORT, Answered, Began, Event, History
 from .journal import LogFault
-from .places import expire, last_line, reader_of
+from .places import end_of, expire, last_line, reader_of
 from .player import Stage, Stopped
 from .records import BadJournal, LineRecord
-from .server import NoStart
 from .settings import BadSettings, JournalSettings, Table, journal_settings, read_toml
 from .snapshots import SETTINGS, BadSnapshot, check, name_store, put_back
 from .standing import Standing, forget_standing
 
-DEFAULT = "/etc/mserve/front.toml"
-FOUND, USAGE, FAILED, INTERRUPTED = 1, 2, 3, 130
+NAME = "mjournal"
 STATUSES = "Status: 0 all went well; 1 something was found: damage, a reply that differs, a line whose effect is not known, or no line that was looked for; " \
            "2 the words or the settings are wrong; 3 it cannot be done; 130 an interrupt."
 TIME = "a time as 2026-11-26T10:15 or 2026-11-26T10:15:30.5+01:00; without an offset it is this machine's"
@@ -34,7 +34,7 @@ POLL = 0.2
 
 def words() -> argparse.ArgumentParser:
     """The reader of the command's words."""
-    parser = argparse.ArgumentParser(prog="mjournal", epilog=STATUSES, description="Looks into the journal of a front, and runs it anew. The front may be "
+    parser = argparse.ArgumentParser(prog=NAME, epilog=STATUSES, description="Looks into the journal of a front, and runs it anew. The front may be "
                                      "writing it meanwhile. The journal has users' lines, and so their data.")
     place = parser.add_mutually_exclusive_group()
     place.add_argument("--config", type=Path, default=Path(DEFAULT), metavar="FILE", help=f"the settings of the front (default {DEFAULT})")
@@ -175,13 +175,16 @@ def act_verify(options: argparse.Namespace) -> int:
     """Reads all, and counts."""
     counts: Counter[str] = Counter()
     first = last = None
-    for event in events_of(journal_of(options)):
+    journal = journal_of(options)
+    for event in events_of(journal):
         for one in lines_in(event):
             line = one.line if isinstance(one, Answered) else one
             first, last = first or line.number, line.number
             code = one.reply.code if isinstance(one, Answered) else None
             counts["without a reply" if code is None else f"answered {code}" if code in CUT_SHORT else "answered"] += 1
         counts["starts"] += isinstance(event, Began)
+    if end := end_of(journal).told:
+        say(end)
     print(f"lines {first} to {last}: " + ", ".join(f"{count} {name}" for name, count in sorted(counts.items())) if last else "no lines")
     return 0
 
@@ -297,29 +300,9 @@ def _program(options: argparse.Namespace) -> Path:
 
 def say(text: str) -> None:
     """Writes a line to the standard error."""
-    print(f"mjournal: {text}", file=sys.stderr, flush=True)
+    ending.say(NAME, text)
 
 
 def main() -> int:
     """The status of the command."""
-    options = words().parse_args()
-    try:
-        return options.act(options)
-    except BadSettings as error:
-        say(str(error))
-        return USAGE
-    except BadJournal as error:
-        say(str(error))
-        return FOUND
-    except (BadSnapshot, LogFault, NoStart) as error:
-        say(str(error))
-        return FAILED
-    except BrokenPipeError:
-        sys.stderr.close()
-        return FOUND
-    except OSError as error:
-        say(f"{error.filename}: {error.strerror}" if error.filename else str(error))
-        return FAILED
-    except KeyboardInterrupt:
-        say("interrupted")
-        return INTERRUPTED
+    return ending.ended(NAME, words().parse_args(), {BadSettings: USAGE, BadJournal: FOUND, BadSnapshot: FAILED, LogFault: FAILED, NoStart: FAILED})

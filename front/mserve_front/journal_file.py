@@ -152,7 +152,7 @@ def tail_of(folder: Path) -> Tail:
     for first, path in reversed(files_of(folder)):
         begins, last, rest = ends_of(path)
         if rest:
-            told = f"{path}: a torn flush of {rest} bytes at its end counts for nothing: it never became durable"
+            told = f"{path}: a torn flush of {rest} bytes at its end counts for nothing: it is not durable"
         if begins is not None:
             if begins.sequence != first:
                 raise BadJournal(f"{path}: it begins with flush {begins.sequence}")

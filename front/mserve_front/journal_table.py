@@ -65,7 +65,7 @@ def flush_of(name: str, sequence: int, data: bytes) -> Flush:
     try:
         flush, end = read_flush(data, 0)
     except (Torn, BadJournal) as error:
-        raise BadJournal(f"table mfront_journal: {name}, {sequence}: {error or 'the end of the flush is missing'}") from error
+        raise BadJournal(f"table mfront_journal: {name}, {sequence}: {str(error) or 'the end of the flush is missing'}") from error
     if flush.sequence != sequence or end != len(data):
         raise BadJournal(f"table mfront_journal: {name}, {sequence}: this row has another flush")
     return flush
@@ -187,10 +187,11 @@ class TableReader:
         return found
 
 
-def last_line(place: str, name: str) -> int:
-    """The number of the last line of a journal; 0 if it has none."""
+def end_of(place: str, name: str) -> Tail:
+    """Where a journal ends; one that nobody has begun, as an empty one. Raises `BadJournal` or `LogFault`."""
     with connected(place) as base, faults():
-        return tail_of(base, name).next - 1
+        begun = base.execute("SELECT to_regclass('mfront_journal')").fetchone() != (None,)
+        return tail_of(base, name) if begun else Tail(0, 0, 1, 0, 0)
 
 
 def expire_rows(place: str, name: str, journal: int, line: int) -> int:

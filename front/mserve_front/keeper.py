@@ -4,6 +4,7 @@ from __future__ import annotations
 
 import contextlib
 import shutil
+import socket
 import tempfile
 from dataclasses import dataclass
 from datetime import UTC, datetime
@@ -29,11 +30,13 @@ BACK = "put back a snapshot (mbackup restore, mjournal replay), or stand by (mfr
 
 @dataclass(frozen=True, slots=True)
 class Promoted:
-    """What a promoted standby serves with: its server, the journal that it has taken, and the line up to which its store has run all."""
+    """What a promoted standby serves with: its server, the journal that it has taken, the line up to which its store has run all, and the ports that
+    it holds."""
 
     child: Child
     journal: Journal
     line: int
+    places: dict[int, socket.socket]
 
 
 class Keeper:

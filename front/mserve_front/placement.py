@@ -7,10 +7,10 @@ from __future__ import annotations
 
 import re
 import threading
-import tomllib
 from dataclasses import dataclass
 
 import psycopg
+from mserve_client import settings_file
 
 from .journal import LogFault
 from .journal_table import connected, faults
@@ -19,6 +19,8 @@ TABLES = ("""CREATE TABLE IF NOT EXISTS mfront_machine (name text PRIMARY KEY, h
           """CREATE TABLE IF NOT EXISTS mfront_island (
     name text PRIMARY KEY, machine text NOT NULL REFERENCES mfront_machine, target text REFERENCES mfront_machine, state text NOT NULL,
     accounts text[] NOT NULL, settings text NOT NULL)""")
+# What differs once a row has come, gone or changed: each has the number of the transaction that wrote it. To read all rows takes far longer.
+CHANGES = "SELECT count(*), md5(string_agg(name || ' ' || xmin::text, ',' ORDER BY name)) FROM mfront_island"
 NAME = re.compile(r"[A-Za-z0-9][A-Za-z0-9_-]{0,31}", re.ASCII)
 HERE, MOVING, READY, LEFT, TAKING = "here", "moving", "ready", "left", "taking"
 
@@ -55,6 +57,8 @@ class Placement:
         self._place = place
         self._base: psycopg.Connection | None = None
         self._turn = threading.Lock()
+        self._seen: list[tuple[object, ...]] = []
+        self._islands: dict[str, Island] = {}
 
     def make(self) -> None:
         """Makes the tables, if they are not there."""
@@ -66,9 +70,13 @@ class Placement:
         return {row[0]: Machine(*row) for row in self._ask("SELECT name, host, port FROM mfront_machine")}
 
     def islands(self) -> dict[str, Island]:
-        """All islands."""
-        rows = self._ask("SELECT name, machine, target, state, accounts, settings FROM mfront_island ORDER BY name")
-        return {row[0]: Island(row[0], row[1], row[2], row[3], tuple(row[4]), row[5]) for row in rows}
+        """All islands. They are read again if one has changed since the last time; if none has, it is the same dictionary."""
+        seen = self._ask(CHANGES)
+        if seen != self._seen:
+            rows = self._ask("SELECT name, machine, target, state, accounts, settings FROM mfront_island ORDER BY name")
+            self._islands = {row[0]: Island(row[0], row[1], row[2], row[3], tuple(row[4]), row[5]) for row in rows}
+            self._seen = seen
+        return self._islands
 
     def enter(self, machine: Machine) -> None:
         """Notes where a machine is reached."""
@@ -134,9 +142,9 @@ def accounts_of(name: str, settings: str) -> tuple[str, ...]:
     if not NAME.fullmatch(name):
         raise BadPlacement(f"{name!r} is no name of an island: 1 to 32 letters, digits, _ and -, the first a letter or a digit")
     try:
-        accounts = tuple(str(one["name"]) for one in tomllib.loads(settings).get("account", []))
-    except (tomllib.TOMLDecodeError, KeyError, TypeError, AttributeError) as error:
-        raise BadPlacement(f"{name}: these are no settings of a server: {error}") from error
+        accounts = tuple(settings_file.parsed(f"{name}: these are no settings of a server", settings.encode()).names)
+    except settings_file.BadSettings as error:
+        raise BadPlacement(str(error)) from error
     if not accounts:
         raise BadPlacement(f"{name}: these settings have no account")
     return accounts

@@ -5,7 +5,7 @@ from __future__ import annotations
 from typing import Protocol
 
 from . import journal_file
-from .journal import Log
+from .journal import Log, Tail
 from .records import Flush
 from .settings import JournalSettings
 
@@ -37,12 +37,17 @@ def reader_of(settings: JournalSettings, line: int) -> Reader:
     return TableReader(str(settings.database), settings.name, line)
 
 
-def last_line(settings: JournalSettings) -> int:
-    """The number of the last line of a journal; 0 if it has none. Raises `BadJournal`, or `LogFault` if it cannot be had now."""
+def end_of(settings: JournalSettings) -> Tail:
+    """Where a journal ends. Raises `BadJournal`, or `LogFault` if it cannot be had now."""
     if settings.folder is not None:
-        return journal_file.tail_of(settings.folder).next - 1
+        return journal_file.tail_of(settings.folder)
     from . import journal_table
-    return journal_table.last_line(str(settings.database), settings.name)
+    return journal_table.end_of(str(settings.database), settings.name)
+
+
+def last_line(settings: JournalSettings) -> int:
+    """The number of the last line of a journal; 0 if it has none. Raises as `end_of` does."""
+    return end_of(settings).next - 1
 
 
 def expire(settings: JournalSettings, journal: int, line: int) -> str:

@@ -3,20 +3,17 @@
 from __future__ import annotations
 
 import asyncio
-import contextlib
-import socket
 import tempfile
 import time
 from collections import deque
 from collections.abc import Callable
 from pathlib import Path
 
-from mserve_client import BadReply
-
+from .connection import Connection, NoStart, joined
 from .history import CUT_SHORT, Answered, Began, Event
 from .lines import HALT, Line
-from .replies import Answer, ReplyReader
-from .server import CONNECTIONS, HOST, PATIENCE, Child, NoStart, launched
+from .replies import Answer
+from .server import CONNECTIONS, PATIENCE, Child, launched
 from .turns import WINDOW, Lost
 
 # Bytes of a reply that are kept: its code is wanted, and its digest is of all of them.
@@ -37,22 +34,19 @@ class Differs(Stopped):
         self.number = line.number
 
 
-class Player(asyncio.Protocol):
+class Player(Connection):
     """A connection over which lines are run in the order in which they come."""
 
     def __init__(self) -> None:
-        self._reader = ReplyReader(self._turn, ROOM)
+        super().__init__(ROOM)
         self._reader.keep_digests()
         self._flying: deque[tuple[int, asyncio.Future[Answer]]] = deque()
-        self._transport: asyncio.Transport | None = None
-        self._socket: socket.socket | None = None
-        self._fault = "the server ended"
 
     def play(self, terminal: int, text: bytes) -> asyncio.Future[Answer]:
         """The answer of a line, once it comes. It ends by `Lost` if the server does."""
         reply = asyncio.get_running_loop().create_future()
         if self._transport is None or self._transport.is_closing():
-            reply.set_exception(Lost(self._fault))
+            reply.set_exception(self._lost())
             return reply
         self._flying.append((terminal, reply))
         self._transport.write(Line(text).sent_by(terminal))
@@ -63,27 +57,15 @@ class Player(asyncio.Protocol):
         if self._transport is not None:
             self._transport.close()
 
-    def connection_made(self, transport: asyncio.BaseTransport) -> None:
-        assert isinstance(transport, asyncio.Transport)
-        self._transport = transport
-        self._socket = transport.get_extra_info("socket")
-
-    def data_received(self, data: bytes) -> None:
-        try:
-            self._reader.feed(data, self._answered)
-        except BadReply as error:
-            self._fault = str(error)
-            self._transport.abort()
-            return
-        if self._socket is not None:
-            self._socket.setsockopt(socket.IPPROTO_TCP, socket.TCP_QUICKACK, 1)
-
     def connection_lost(self, error: Exception | None) -> None:
         self._transport = None
         for _, reply in self._flying:
             if not reply.done():
-                reply.set_exception(Lost(self._fault))
+                reply.set_exception(self._lost())
         self._flying.clear()
+
+    def _lost(self) -> Lost:
+        return Lost(self.fault or "the server ended")
 
     def _turn(self) -> int | None:
         return self._flying[0][0] if self._flying else None
@@ -120,7 +102,7 @@ class Stage:
             made.write(text)
             made.flush()
             self.child = await launched(self._program, self._settings or Path(made.name), self._store, self._connections)
-            self._player = await joined(self.child)
+            self._player = await joined(self.child.port, Player, self.child.process)
         self.open.clear()
 
     async def take(self, event: Event) -> None:
@@ -226,16 +208,3 @@ class Stage:
     def _report(self, text: str) -> None:
         self.reported += 1
         self._tell(text)
-
-
-async def joined(child: Child) -> Player:
-    """A connection to a child, which may be starting: the opening of a store takes time. Raises `NoStart`."""
-    loop, pause = asyncio.get_running_loop(), 0.005
-    while True:
-        if child.process.returncode is not None:
-            raise NoStart(f"it ended with status {child.process.returncode} before it served")
-        with contextlib.suppress(ConnectionRefusedError):
-            _, player = await loop.create_connection(Player, HOST, child.port)
-            return player
-        await asyncio.sleep(pause)
-        pause = min(2 * pause, 0.1)

@@ -13,6 +13,7 @@ from dataclasses import dataclass
 from pathlib import Path
 from typing import TYPE_CHECKING
 
+from .connection import HOST, NoStart, joined
 from .faults import NoJournal
 from .lines import HALT, Line
 from .metrics import Metrics
@@ -23,16 +24,11 @@ from .turns import Lost, Turns, Unsent
 if TYPE_CHECKING:
     from .journal import Journal
 
-HOST = "127.0.0.1"
 CONNECTIONS = 1_000_000
 # Seconds between two attempts to start the server: the first and the longest.
 FIRST_PAUSE, LONGEST_PAUSE = 0.1, 5.0
 # Seconds after which a child that answers no line is ended: another process has got its connection.
 PATIENCE = 60.0
-
-
-class NoStart(Exception):
-    """The server ended before it served."""
 
 
 def tell(text: str) -> None:
@@ -163,7 +159,7 @@ class Server:
     async def end(self) -> None:
         """Ends the connection, and the child with it. What was answered is in the store."""
         if self._turns is not None:
-            self._turns.close()
+            self._turns.abort()
         if self._process is not None and self._process.returncode is None:
             self._process.terminate()
             await self._process.wait()
@@ -200,7 +196,7 @@ class Server:
                 await asyncio.gather(*(turns.ask(terminal, HALT) for terminal in self._terminals))
             await self._noted(turns)
         except (TimeoutError, Lost, Unsent, NoJournal) as error:
-            turns.close()
+            turns.abort()
             if not isinstance(error, NoJournal):
                 await self._give_up()
             raise NoStart(self._why(turns, error)) from error
@@ -235,19 +231,9 @@ class Server:
             await self._process.wait()
 
     async def _connected(self) -> Turns:
-        """A connection to the server, which may be starting: the opening of a store takes time."""
-        loop = asyncio.get_running_loop()
-        pause = 0.005
-        while True:
-            if self._process is not None and self._process.returncode is not None:
-                raise NoStart(f"it ended with status {self._process.returncode} before it served")
-            with contextlib.suppress(ConnectionRefusedError):
-                _, turns = await loop.create_connection(lambda: Turns(self._settings.limits.reply, self._metrics.timed), HOST, self._port)
-                return turns
-            if self._process is None and self.state == "starting":
-                raise NoStart(f"nobody listens at port {self._port} of {HOST} (server.join)")
-            await asyncio.sleep(pause)
-            pause = min(2 * pause, 0.1)
+        """A connection to the server. One that was there before this process began has to be listening."""
+        patient = self._process is not None or self.state != "starting"
+        return await joined(self._port, lambda: Turns(self._settings.limits.reply, self._metrics.timed), self._process, patient)
 
 
 async def launched(program: Path, settings: Path, store: str, connections: int = CONNECTIONS) -> Child:

@@ -13,7 +13,7 @@ from typing import TYPE_CHECKING
 from aiohttp import web
 
 from .audit import Audit
-from .doors import MOST_BYTES, Doors
+from .doors import MOST_BYTES, Doors, spare_memory
 from .line_port import LinePort
 from .metrics import Metrics
 from .server import NoStart, tell
@@ -30,6 +30,8 @@ if TYPE_CHECKING:
 KEPT = 30.0
 # Seconds that requests have to end at the stop.
 CLOSING = 1.0
+# What ends the service, and what users are told of it.
+ENDS = {signal.SIGTERM: "stopping", signal.SIGINT: "stopping", signal.SIGUSR1: "moved"}
 
 
 class Service:
@@ -46,20 +48,21 @@ class Service:
         for user in self._register.users.values():
             if not settings.terminals.get(user.account):
                 raise BadUsers(f"{settings.users}: user {user.name}: {user.account} is no account with terminals in {settings.server_settings}")
-        self._doors = Doors(settings.limits, self._context)
+        self._doors = Doors(settings.limits, self._context, promoted.places if promoted else {})
         self._signing = Signing(self._register, self._audit, self.metrics)
         self._sessions = Sessions(settings, self.metrics, self._audit, self._keeper.journal if self._keeper else None)
         self._stopping = asyncio.Event()
+        self._why = "stopping"
 
     async def run(self) -> None:
-        """Serves until SIGTERM or SIGINT. Raises `NoStart` if the server does not start, and OSError if a port is taken."""
+        """Serves until SIGTERM, SIGINT or SIGUSR1. Raises `NoStart` if the server does not start, and OSError if a port is taken."""
         _, most = resource.getrlimit(resource.RLIMIT_NOFILE)
         with contextlib.suppress(OSError, ValueError):
             # A sandbox may forbid it; then the limit stays, and connections are refused at it.
             resource.setrlimit(resource.RLIMIT_NOFILE, (most, most))
         loop = asyncio.get_running_loop()
-        for number in (signal.SIGTERM, signal.SIGINT):
-            loop.add_signal_handler(number, self._stopping.set)
+        for number, why in ENDS.items():
+            loop.add_signal_handler(number, self._stop, why)
         loop.add_signal_handler(signal.SIGHUP, self._reload)
         runner = web.AppRunner(Web(self.settings, self._sessions, self._signing, self.metrics, self._doors).application(),
                                handle_signals=False, access_log=None, keepalive_timeout=KEPT, auto_decompress=False)
@@ -71,7 +74,7 @@ class Service:
                 await self._serve()
         finally:
             self._doors.close()
-            await self._sessions.stop()
+            await self._sessions.stop(self._why)
             whole = self._sessions.server.state == "up"
             await self._sessions.server.end()
             if self._keeper is not None:
@@ -81,6 +84,10 @@ class Service:
             await runner.cleanup()
             self._signing.close()
             self._audit.close()
+
+    def _stop(self, why: str) -> None:
+        self._why = why
+        self._stopping.set()
 
     async def _begin(self) -> None:
         """Starts the server, and the journal before it."""
@@ -164,6 +171,7 @@ def tls_context(settings: Settings) -> ssl.SSLContext | None:
     """The context of TLS 1.2 and later, or None without a certificate."""
     if not settings.tls:
         return None
+    spare_memory()
     context = ssl.SSLContext(ssl.PROTOCOL_TLS_SERVER)
     context.minimum_version = ssl.TLSVersion.TLSv1_2
     context.options |= ssl.OP_NO_RENEGOTIATION | ssl.OP_NO_COMPRESSION

@@ -260,10 +260,10 @@ class Sessions:
             if session.proof not in proofs:
                 self._spawn(self.sign_off(session, "removed"))
 
-    async def stop(self) -> None:
-        """Signs all off, and waits until they have heard of it."""
+    async def stop(self, why: str) -> None:
+        """Signs all off, and waits until they have heard of it, and why."""
         for session in self:
-            self._spawn(self.sign_off(session, "stopping"))
+            self._spawn(self.sign_off(session, why))
         if self._tasks:
             await asyncio.wait(self._tasks, timeout=STOPPING)
 

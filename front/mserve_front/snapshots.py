@@ -188,8 +188,8 @@ def put_back(folder: Path, store: Path) -> Manifest:
     for path in (store, store.with_name(store.name + "-wal")):
         if path.exists():
             raise BadSnapshot(f"{path}: is there already: move it away first")
+    made = store.with_name(store.name + ".new")
     try:
-        made = store.with_name(store.name + ".new")
         shutil.copyfile(folder / STORE, made)
         with made.open("rb") as file:
             os.fsync(file.fileno())
@@ -198,5 +198,6 @@ def put_back(folder: Path, store: Path) -> Manifest:
         made.replace(store)
         sync_folder(store.parent)
     except OSError as error:
+        made.unlink(missing_ok=True)
         raise BadSnapshot(f"{store}: {error.strerror}") from error
     return manifest

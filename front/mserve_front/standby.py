@@ -6,15 +6,17 @@ from __future__ import annotations
 import asyncio
 import contextlib
 import signal
+import socket
 import time
 from pathlib import Path
 
 from .control import Answered, Control, Refused
+from .doors import held
 from .history import History
 from .journal import Journal, LogFault, LogTaken
 from .keeper import Promoted
 from .metrics import Metrics
-from .places import last_line, reader_of, writer_of
+from .places import end_of, last_line, reader_of, writer_of
 from .player import Stage, Stopped
 from .records import BadJournal, Flush
 from .server import NoStart, tell
@@ -41,6 +43,7 @@ class Standby:
         self._control = Control(settings.journal.control, {"status": self._status, "promote": self._promote})
         self._fault = ""
         self._idle = False
+        self._places: dict[int, socket.socket] = {}
 
     async def run(self) -> Promoted | None:
         """Follows until it is promoted, or stopped: then it is None. Raises `NoStart` if it cannot go on; the store is not to be used then, unless it
@@ -50,6 +53,7 @@ class Standby:
             loop.add_signal_handler(number, self._stop)
         promoted = None
         try:
+            self._hold_ports()
             await self._begin()
             await self._control.listen()
             tell(f"standing by, after line {self._stage.at} of the journal")
@@ -67,6 +71,18 @@ class Standby:
             await asyncio.to_thread(self._reader.close)
             if promoted is None:
                 await self._stage.end()
+                for place in self._places.values():
+                    place.close()
+
+    def _hold_ports(self) -> None:
+        """Holds the ports that it is to serve at, where nobody has them: at a promotion it is late to hear that one is taken."""
+        settings = self._settings
+        for port in (settings.port, settings.lines_port):
+            try:
+                if port is not None:
+                    self._places[port] = held(settings.host, port)
+            except OSError as error:
+                tell(f"{error.strerror}: it cannot serve as long as that is so")
 
     def _stop(self) -> None:
         self._stopping.set()
@@ -152,7 +168,11 @@ class Standby:
             write_standing(self._store, Standing(self._journal_number, at, terminals))
 
     async def _status(self, _: dict[str, object]) -> Answered:
-        behind = self._history.at - self._stage.at
+        try:
+            answered = (await asyncio.to_thread(end_of, self._settings.journal)).answered
+        except (BadJournal, LogFault):
+            answered = self._history.at
+        behind = max(0, answered - self._stage.at)
         return {"state": "standby", "line": self._stage.at, "behind": behind, "seconds": round(self._stage.behind(), 3), "reported": self._stage.reported,
                 "caught up": self._idle and not self._fault, "fault": self._fault}
 
@@ -191,4 +211,4 @@ class Standby:
         tell(f"promoted after line {self._history.at}" + (f": lines {unsent[0]} to {unsent[-1]} had no reply, and were not run" if unsent else ""))
         wanted.set_result({"line": self._history.at, "not run": unsent, "seconds": round(time.monotonic() - began, 3)})
         await asyncio.sleep(0)
-        return Promoted(self._stage.child, journal, self._history.at)
+        return Promoted(self._stage.child, journal, self._history.at, self._places)

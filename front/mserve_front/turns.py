@@ -6,7 +6,6 @@ at most. Many terminals have a line on its way at once."""
 from __future__ import annotations
 
 import asyncio
-import socket
 import time
 from collections import deque
 from collections.abc import Callable, Iterable
@@ -14,11 +13,10 @@ from dataclasses import dataclass, field
 from functools import partial
 from typing import TYPE_CHECKING
 
-from mserve_client import BadReply
-
+from .connection import Connection
 from .faults import NoJournal
 from .lines import HALT, Line
-from .replies import Answer, ReplyReader
+from .replies import Answer
 
 if TYPE_CHECKING:
     from .journal import Journal
@@ -53,16 +51,14 @@ class Ask:
 Timed = Callable[[float, float], None]
 
 
-class Turns(asyncio.Protocol):
+class Turns(Connection):
     """A connection. `timed` is told of each reply how long it was waited for, and how long the server took; `ended` that the connection is over."""
 
     def __init__(self, room: int, timed: Timed) -> None:
         """`room` is the most bytes of a reply that are kept."""
+        super().__init__(room)
         self._timed = timed
         self._journal: Journal | None = None
-        self._reader = ReplyReader(self._turn, room)
-        self._transport: asyncio.Transport | None = None
-        self._socket: socket.socket | None = None
         # what each terminal has to say, the terminals whose turn comes, and the lines that are on their way
         self._queues: dict[int, deque[Ask]] = {}
         self._ready: deque[int] = deque()
@@ -70,7 +66,6 @@ class Turns(asyncio.Protocol):
         self._replied = 0.0
         # While somebody wants it, no line is sent; it is done once none is on its way.
         self._quiet: asyncio.Future[None] | None = None
-        self.fault: str | None = None
         self.ended: asyncio.Future[None] = asyncio.get_running_loop().create_future()
 
     @property
@@ -139,27 +134,8 @@ class Turns(asyncio.Protocol):
         self._quiet = None
         self._send()
 
-    def close(self) -> None:
-        """Ends the connection at once."""
-        if self._transport is not None:
-            self._transport.abort()
-
-    def connection_made(self, transport: asyncio.BaseTransport) -> None:
-        assert isinstance(transport, asyncio.Transport)
-        self._transport = transport
-        self._socket = transport.get_extra_info("socket")
-
-    def data_received(self, data: bytes) -> None:
-        try:
-            self._reader.feed(data, self._answered)
-        except BadReply as error:
-            self.fault = str(error)
-            self.close()
-            return
+    def _fed(self) -> None:
         self._send()
-        if self._socket is not None:
-            # The server sends a small reply only once the one before it is acknowledged, which the system would put off for 40 milliseconds.
-            self._socket.setsockopt(socket.IPPROTO_TCP, socket.TCP_QUICKACK, 1)
 
     def connection_lost(self, error: Exception | None) -> None:
         self.fault = self.fault or (str(error) if error else None)

@@ -18,6 +18,7 @@ let unsaved = null;
 const WHYS = {
   idle: "You were signed off: nothing was done for a while.", replaced: "You were signed off here: the page was opened in another place.",
   removed: "You were signed off: your user or password was changed.", stopping: "You were signed off: the service was stopped.",
+  moved: "You were signed off: your account has moved to another machine. Sign on again.",
 };
 
 const tabs = new Tabs();

@@ -7,6 +7,7 @@ import pwd
 import shutil
 import subprocess
 import tempfile
+import time
 from pathlib import Path
 
 from front import missed
@@ -16,7 +17,7 @@ PROGRAMS = sorted(Path("/usr/lib/postgresql").glob("*/bin"), key=lambda path: in
 USER = "postgres"
 # Less memory and fewer processes than a service has. Its processes are killed here, and the machine is not: so nothing waits for the disk.
 IN_MEMORY = "/dev/shm" if os.access("/dev/shm", os.W_OK) else "/tmp"
-OPTIONS = "-c listen_addresses= -c fsync=off -c shared_buffers=8MB -c max_wal_senders=4 -c autovacuum=off -c wal_keep_size=64MB -c jit=off"
+OPTIONS = "-c listen_addresses= -c fsync=off -c shared_buffers=8MB -c max_wal_senders=4 -c autovacuum=off -c wal_keep_size=64MB -c jit=off -c wal_retrieve_retry_interval=200"
 
 
 def _owner() -> list[str]:
@@ -63,6 +64,11 @@ class Cluster:
                               stdin=subprocess.DEVNULL)
         assert done.returncode == 0, f"{name}: {done.stdout}{done.stderr}"
 
+    @property
+    def head(self) -> int:
+        """The process that has started its others."""
+        return int((self.data / "postmaster.pid").read_text().splitlines()[0])
+
     def start(self) -> None:
         """Starts it."""
         self._run("pg_ctl", "start", "-w", "-D", self.data, "-l", self.folder / "log", "-o", self.options)
@@ -81,6 +87,14 @@ class Cluster:
         with psycopg.connect(self.place, autocommit=True) as base:
             found = base.execute(statement)
             return found.fetchall() if found.description else []
+
+    def waits_for(self, replica: Cluster) -> str:
+        """Has each row acknowledged only once a replica has it too, and gives how the pair is connected to."""
+        self.does("ALTER SYSTEM SET synchronous_standby_names = 'replica'")
+        self.does("SELECT pg_reload_conf()")
+        while self.does("SELECT sync_state FROM pg_stat_replication") != [("sync",)]:
+            time.sleep(0.05)
+        return f"host={self.folder},{replica.folder} user={USER} dbname=postgres target_session_attrs=read-write"
 
     def remove(self) -> None:
         """Ends it, and removes its folder."""

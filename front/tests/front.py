@@ -83,6 +83,13 @@ def missed(what: str) -> None:
     pytest.skip(what)
 
 
+def small_disk(folder: Path, size: str) -> list[str]:
+    """Words before a command: it sees a disk of its own at a folder, of a size."""
+    if subprocess.run(["unshare", "--mount", "--map-root-user", "true"], capture_output=True).returncode:
+        missed("a disk of its own cannot be made here: unshare --mount is refused")
+    return ["unshare", "--mount", "--map-root-user", "bash", "-c", f'mount -t tmpfs -o size={size} tmpfs {folder} && exec "$@"', "-"]
+
+
 class Front:
     """A front that runs, in a folder of its own."""
 
@@ -111,7 +118,11 @@ class Front:
         with (self.folder / self._told).open("w") as told:
             process = subprocess.Popen(words, stdin=subprocess.DEVNULL, stderr=told, text=True, start_new_session=True)
         self.process = process
-        self.hears(self._awaited)
+        try:
+            self.hears(self._awaited)
+        except BaseException:
+            process.kill()
+            raise
         return process
 
     def hears(self, text: str) -> None:

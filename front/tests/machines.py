@@ -9,6 +9,8 @@ import ssl
 import subprocess
 import sys
 import time
+from collections import deque
+from collections.abc import Sequence
 from pathlib import Path
 
 from front import FRONT, PASSWORD, Ran, Record, toml, tool, write_users
@@ -77,6 +79,11 @@ class Gate:
             self.process.terminate()
         return self.process.wait(60)
 
+    def kill(self) -> None:
+        """Ends it at once, and all that it has started with it."""
+        self.process.kill()
+        self.process.wait()
+
     def does(self, *words: object) -> Ran:
         """Runs mgate by its settings."""
         return tool("mgate")(*words, "--config", self.config)
@@ -88,31 +95,45 @@ class Gate:
 
 
 class Program:
-    """A program of a user at the line port of a gate. It connects anew where it has to."""
+    """A program of a user at the line port of a gate, or of others if that one is not there. It connects anew where it has to."""
 
-    def __init__(self, gate: Gate, name: str) -> None:
+    def __init__(self, gate: Gate, name: str, others: Sequence[Gate] = ()) -> None:
         self.gate, self.name = gate, name
         self.record: Record = {}
+        self._others = deque(others)
         self._reader: asyncio.StreamReader | None = None
         self._writer: asyncio.StreamWriter | None = None
 
     async def sign_on(self) -> Record:
-        """The answer of the first line."""
+        """The answer of the first line. Raises OSError if the gate is not there."""
         self._reader, self._writer = await asyncio.open_connection(self.gate.host, self.gate.ports["lines"], ssl=self.gate.context)
         self._writer.write(f"{self.name} {PASSWORD}\n".encode())
-        self.record = json.loads(await self._reader.readline() or b'{"error": "the connection ended"}')
+        self.record = json.loads(await self._whole_line() or b'{"error": "the connection ended"}')
         return self.record
 
     async def signed_on(self) -> None:
-        """Signs on as soon as that can be."""
-        while "error" in await self.sign_on():
+        """Signs on as soon as that can be, by the next gate if one is not there."""
+        while True:
+            try:
+                if "error" not in await self.sign_on():
+                    return
+            except OSError:
+                if not self._others:
+                    raise
+                self._others.append(self.gate)
+                self.gate = self._others.popleft()
             self.close()
             await asyncio.sleep(0.1)
 
+    async def _whole_line(self) -> bytes:
+        """The next line; nothing if the connection ends before it has."""
+        data = await self._reader.readline()
+        return data if data.endswith(b"\n") else b""
+
     async def line(self, line: str) -> Record:
-        """The record of a line. Raises ConnectionError if the session ends before."""
+        """The record of a line. Raises OSError if the session ends before, with the reason if one is told."""
         self._writer.write(line.encode() + b"\n")
-        while data := await self._reader.readline():
+        while data := await self._whole_line():
             record = json.loads(data)
             if "event" not in record:
                 return record

@@ -6,13 +6,14 @@ import asyncio
 import os
 import random
 import re
+import shutil
 import subprocess
 import time
-from collections.abc import Iterator
+from collections.abc import Callable, Iterator
 from pathlib import Path
 
 import pytest
-from front import COMMAND, Front, in_loop, missed, mjournal
+from front import COMMAND, Front, in_loop, mjournal, small_disk
 from mserve_front import journal as journal_module
 from mserve_front.faults import HeldBack, NoJournal
 from mserve_front.history import Began, History
@@ -348,7 +349,7 @@ async def test_lines_whose_connection_ends_while_they_wait_for_the_disk_are_not_
     kept.log.waits = 0.05
     second = kept.turns.ask(2, Line(b"W 2"))
     await asyncio.sleep(0.02)
-    kept.turns.close()
+    kept.turns.abort()
     with pytest.raises(Unsent):
         await second
     await kept.journal.begin(None, False, b"")
@@ -416,6 +417,22 @@ def test_tail_grep_and_verify(told_of: Front) -> None:
     assert run("grep", "RESULT.7")[0] == 1
 
 
+@pytest.mark.parametrize(("harm", "status", "wanted"), [
+    (lambda data: data[:-7], 0, r"a torn flush of \d+ bytes at its end counts for nothing"),
+    (lambda data: data[:-7] + bytes([data[-7] ^ 4]) + data[-6:], 1, r"journal: at byte \d+: the records of a flush are damaged"),
+    (lambda data: data[:100] + bytes([data[100] ^ 32]) + data[101:], 1, r"journal: at byte \d+: the (head|records) of a flush (is|are) damaged"),
+    (lambda data: data[:9] + bytes([data[9] ^ 1]) + data[10:], 1, r"journal: at byte 8: the head of a flush is damaged"),
+], ids=["cut", "turned at the end", "turned at the beginning", "turned in a head"])
+def test_what_verify_tells_of_harm(told_of: Front, tmp_path: Path, harm: Callable[[bytes], bytes], status: int, wanted: str) -> None:
+    """Its place is told; a part of a flush at the end is no harm, and is told too."""
+    shutil.copytree(told_of.folder / "journal", tmp_path / "journal")
+    _, path = files_of(tmp_path / "journal")[-1]
+    path.write_bytes(harm(path.read_bytes()))
+    found, output, told = mjournal(tmp_path / "journal")("verify")
+    assert found == status and re.search(wanted, told) and str(path) in told and len(told.splitlines()) == 1
+    assert status or re.match(r"lines 1 to 8\d: 8\d answered", output)
+
+
 def test_words_of_mjournal(told_of: Front, tmp_path: Path) -> None:
     run = mjournal(told_of.folder / "journal")
     assert run("grep", "(")[0] == run("grep", "--since", "soon")[0] == run()[0] == 2
@@ -428,13 +445,10 @@ def test_words_of_mjournal(told_of: Front, tmp_path: Path) -> None:
 @in_loop(200)
 async def test_a_disk_that_is_full(certificate: tuple[Path, Path], tmp_path: Path) -> None:
     """No line goes on, users and the operator are told, and once there is room all goes on. What was answered is in the journal."""
-    if subprocess.run(["unshare", "--mount", "--map-root-user", "true"], capture_output=True).returncode:
-        missed("a disk of its own cannot be made here: unshare --mount is refused")
     folder = tmp_path / "front"
     disk = folder / "disk"
     disk.mkdir(parents=True)
-    inside = ["unshare", "--mount", "--map-root-user", "bash", "-c", f'mount -t tmpfs -o size=512k,nr_inodes=100 tmpfs {disk} && exec "$@"', "-"]
-    front = Front(folder, None, store="store.db", before=inside, journal={"folder": "disk/journal"})
+    front = Front(folder, None, store="store.db", before=small_disk(disk, "512k,nr_inodes=100"), journal={"folder": "disk/journal"})
     seen = Path(f"/proc/{front.process.pid}/root{disk}")
     try:
         async with front.person("ada") as ada, front.person("cleo") as cleo:

@@ -7,28 +7,43 @@ import asyncio
 import json
 import re
 import ssl
-from collections.abc import Callable, Iterator
+from collections.abc import Callable, Iterable, Iterator
 from pathlib import Path
 
 import aiohttp
 import database
 import pytest
 from database import Cluster
-from front import FRONT, PASSWORD, in_loop, toml, tool
+from front import FRONT, PASSWORD, Record, in_loop, toml, tool
 from machines import HOSTS, Gate, Program, certificates, islands, ports
 from mserve_front.gate_command import settings_of
 from mserve_front.placement import BadPlacement, Placement
 from mserve_front.settings import BadSettings
+from running import PROGRAM
 
-# Islands, unless more are asked for (--count), and accounts of each.
-ISLANDS, ACCOUNTS = 3, 3
+# Islands, unless more are asked for (--count), and accounts of each: `--count 25` makes 300 accounts in 100 islands.
+ISLANDS, ACCOUNTS = 4, 3
+
+
+class Pair(Cluster):
+    """A database for the machines, with a standby that has each row before it is acknowledged. `place` names both."""
+
+    def __init__(self) -> None:
+        more = "-c max_connections=400"
+        super().__init__(more=more)
+        self.replica = Cluster(self, more=more)
+        self.both = self.waits_for(self.replica)
+
+    def remove(self) -> None:
+        self.replica.remove()
+        super().remove()
 
 
 @pytest.fixture(scope="module")
-def cluster() -> Iterator[Cluster]:
-    """A database for the machines."""
+def cluster() -> Iterator[Pair]:
+    """The database of this file's tests."""
     database.required()
-    made = Cluster(more="-c max_connections=400")
+    made = Pair()
     yield made
     made.remove()
 
@@ -42,69 +57,103 @@ def authority(tmp_path_factory: pytest.TempPathFactory) -> Path:
 
 
 @pytest.fixture
-def host(cluster: Cluster, authority: Path, tmp_path: Path) -> Iterator[Callable[..., Gate]]:
+def host(cluster: Pair, authority: Path, tmp_path: Path) -> Iterator[Callable[..., Gate]]:
     """Starts gates, which share ports and users, and ends them after the test."""
     for table in ("mfront_island", "mfront_machine", "mfront_journal"):
         cluster.does(f"DROP TABLE IF EXISTS {table}")
     shared, gates = ports(), []
 
     def started(name: str, **more: dict[str, object]) -> Gate:
-        gates.append(Gate(tmp_path, name, cluster.place, shared, authority, **more))
+        gates.append(Gate(tmp_path, name, cluster.both, shared, authority, **more))
         return gates[-1]
     yield started
     for gate in gates:
         gate.stop()
 
 
-async def settled(cluster: Cluster, island: str, machine: str) -> None:
+async def settled(cluster: Pair, island: str, machine: str) -> None:
     """Waits until an island is at a machine."""
     while cluster.does(f"SELECT machine, state FROM mfront_island WHERE name = '{island}'") != [(machine, "here")]:
         await asyncio.sleep(0.1)
 
 
-@in_loop(600)
-async def test_islands_on_three_machines(host: Callable[..., Gate], cluster: Cluster, tmp_path: Path, count: int) -> None:
-    """Users of all accounts work at once, each by a gate that is not theirs; an island moves meanwhile, and no line is lost or runs twice."""
-    made, _ = islands(tmp_path / "islands", ISLANDS * count, ACCOUNTS)
-    gates, placement = [host(name) for name in HOSTS], Placement(cluster.place)
-    for number, (name, settings) in enumerate(made.items()):
-        placement.put(name, settings.read_text(), list(HOSTS)[number % 3])
-    placement.close()
-    answered: dict[str, int] = {}
-    stop = asyncio.Event()
+class Workers:
+    """Users of all accounts, each by a gate that is not theirs as long as it is there. `answered` has what each counted up to, and `ended` why sessions
+    ended."""
 
-    async def works(number: int, place: int) -> None:
-        user = f"user{number}.{place}"
-        program = Program(gates[(number + 1 + place) % 3], user)
+    def __init__(self, gates: list[Gate], count: int) -> None:
+        self.answered: dict[str, int] = {}
+        self.ended: dict[str, list[str]] = {}
+        self._gates = gates
+        self._stop = asyncio.Event()
+        self._tasks = [asyncio.create_task(self._works(number, place)) for number in range(count) for place in range(ACCOUNTS)]
+
+    async def _works(self, number: int, place: int) -> None:
+        user, first = f"user{number}.{place}", (number + 1 + place) % 3
+        program = Program(self._gates[first], user, self._gates[first + 1:] + self._gates[:first])
         await program.signed_on()
         assert program.record["account"] == f"C{number}A{place}"
-        answered[user] = 0
-        while not stop.is_set():
+        self.answered[user], self.ended[user] = 0, []
+        while not self._stop.is_set():
             try:
-                record = await program.line('S ^N=$G(^N)+1 W ^N')
-                if "rest" in record:
-                    # What is answered counts on from the last answer, or from one more line, whose answer was lost on the way.
-                    assert int(record["rest"]) in (answered[user] + 1, answered[user] + 2), (user, record, answered[user])
-                    answered[user] = int(record["rest"])
-            except ConnectionError:
+                self._counts(user, await program.line("S ^N=$G(^N)+1 W ^N"))
+            except OSError as error:
+                self.ended[user].append(str(error))
+                program.close()
                 await program.signed_on()
             await asyncio.sleep(0.02)
         program.close()
-    work = [asyncio.create_task(works(number, place)) for number in range(len(made)) for place in range(ACCOUNTS)]
-    while len(answered) < len(work) or min(answered.values()) < 3:
+
+    def _counts(self, user: str, record: Record) -> None:
+        """What is answered counts on from the last answer, or from one more line, whose answer was lost on the way."""
+        if "rest" in record:
+            assert int(record["rest"]) in (self.answered[user] + 1, self.answered[user] + 2), (user, record, self.answered[user])
+            self.answered[user] = int(record["rest"])
+
+    async def worked(self, users: Iterable[str] = ()) -> None:
+        """Waits until these users, or all, have three more answers."""
+        while len(self.answered) < len(self._tasks):
+            await self._goes_on()
+        before = {user: self.answered[user] for user in users or self.answered}
+        while any(self.answered[user] < count + 3 for user, count in before.items()):
+            await self._goes_on()
+
+    async def _goes_on(self) -> None:
         await asyncio.sleep(0.05)
-        if failed := [task for task in work if task.done()]:
-            failed[0].result()
+        for task in self._tasks:
+            if task.done():
+                task.result()
+
+    async def end(self) -> None:
+        """Has all of them end."""
+        self._stop.set()
+        await asyncio.gather(*self._tasks)
+
+
+@in_loop(900)
+async def test_islands_on_three_machines(host: Callable[..., Gate], cluster: Pair, tmp_path: Path, count: int) -> None:
+    """Users of all accounts work at once. An island moves meanwhile, and one machine's processes are killed and started again, then stopped in order and
+    started again: no line is lost or runs twice, users of the other machines work on, and the database's standby has all."""
+    made, _ = islands(tmp_path / "islands", ISLANDS * count, ACCOUNTS)
+    gates, placement = [host(name) for name in HOSTS], Placement(cluster.both)
+    for number, (name, settings) in enumerate(made.items()):
+        placement.put(name, settings.read_text(), list(HOSTS)[number % 3])
+    placement.close()
+    workers = Workers(gates, len(made))
+    await workers.worked()
     assert (await asyncio.to_thread(gates[2].does, "move", "island0", "three"))[0] == 0
     await settled(cluster, "island0", "three")
-    before = dict(answered)
-    while any(answered[user] < before[user] + 3 for user in before):
-        await asyncio.sleep(0.05)
-        if failed := [task for task in work if task.done()]:
-            failed[0].result()
-    stop.set()
-    await asyncio.gather(*work)
-    for user, wanted in answered.items():
+    await workers.worked()
+    moved = [f"user0.{place}" for place in range(ACCOUNTS)]
+    assert [workers.ended[user] for user in moved] == [["moved"]] * ACCOUNTS
+    elsewhere = [user for user in workers.answered if int(user[4:].partition(".")[0]) % 3 != 1]
+    for ending in (gates[1].kill, gates[1].stop):
+        await asyncio.to_thread(ending)
+        await workers.worked(elsewhere)
+        await asyncio.to_thread(gates[1].again)
+        await workers.worked()
+    await workers.end()
+    for user, wanted in workers.answered.items():
         program = Program(gates[0], user)
         await program.signed_on()
         assert await program.told("W ^N") in (str(wanted), str(wanted + 1)), user
@@ -112,9 +161,44 @@ async def test_islands_on_three_machines(host: Callable[..., Gate], cluster: Clu
     shown = gates[1].does("list")[1].splitlines()
     assert "machine one 127.0.0.2:" in shown[0] and "island island0 three here C0A0 C0A1 C0A2" in shown
     assert "island island0 goes to three" in gates[0].told() and "island island0 is here" in gates[2].told()
-    config = gates[2].folder / "islands" / "island0" / "front.toml"
-    status, _, told = await asyncio.to_thread(tool("mjournal", "--config", str(config)), "replay", "--store", "memory")
-    assert (status, told) == (0, "")
+    while cluster.does(ENDS) != cluster.replica.does(ENDS):
+        await asyncio.sleep(0.05)
+    for name in ("island0", "island2"):
+        run = tool("mjournal", "--database", cluster.replica.place, "--name", name)
+        status, _, told = await asyncio.to_thread(run, "replay", "--program", PROGRAM, "--store", "memory")
+        assert (status, told) == (0, "")
+
+
+# Where each journal ends.
+ENDS = "SELECT name, max(sequence) FROM mfront_journal GROUP BY name ORDER BY name"
+
+
+@in_loop(200)
+async def test_a_database_that_is_away(host: Callable[..., Gate], cluster: Pair, tmp_path: Path) -> None:
+    """The gate and the fronts stay, lines are refused, and a machine that is started meanwhile says so; once it is there all goes on."""
+    islands(tmp_path / "islands", 1)
+    gate = host("one")
+    assert gate.does("place", "island0", tmp_path / "islands" / "island0.toml", "one")[0] == 0
+    user = Program(gate, "user0.0")
+    await user.signed_on()
+    assert await user.told("S ^N=1 W ^N") == "1"
+    await asyncio.to_thread(cluster.stop)
+    try:
+        assert (await user.line("S ^N=2"))["refused"] == "journal"
+        while "the islands stay as they are: database: " not in gate.told():
+            await asyncio.sleep(0.1)
+        status, _, told = await asyncio.to_thread(gate.does, "list")
+        assert status == 3 and told.startswith("mgate: database: ") and len(told.splitlines()) == 1
+        with pytest.raises(RuntimeError, match="mgate: database: "):
+            host("two")
+    finally:
+        await asyncio.to_thread(cluster.start)
+    while "refused" in (record := await user.line("S ^N=$G(^N)+1 W ^N")):
+        await asyncio.sleep(0.1)
+    assert record["rest"] == "2"
+    while "the placement can be read again" not in gate.told():
+        await asyncio.sleep(0.1)
+    user.close()
 
 
 @in_loop(200)
@@ -183,7 +267,7 @@ def token_config(folder: Path) -> Path:
 
 
 @in_loop(200)
-async def test_commands_of_the_page(host: Callable[..., Gate], cluster: Cluster, tmp_path: Path) -> None:
+async def test_commands_of_the_page(host: Callable[..., Gate], cluster: Pair, tmp_path: Path) -> None:
     """Those of docs/OPERATING.md that move a customer, and that take one whose machine is gone; and that machine comes back."""
     islands(tmp_path / "islands", 1)
     first, second = host("one"), host("two")
@@ -192,8 +276,7 @@ async def test_commands_of_the_page(host: Callable[..., Gate], cluster: Cluster,
     for command in commands:
         if "--gone" in command:
             # The gate and all that it has started end with it.
-            second.process.kill()
-            second.process.wait()
+            second.kill()
             with pytest.raises(ConnectionError):
                 await user.line("W ^N")
             assert "cannot be reached now: try again" in (await user.sign_on())["error"]
@@ -224,16 +307,29 @@ def commands_of(heading: str) -> list[str]:
     return [line for block in re.findall(r"^```\n(.*?)^```$", text, re.MULTILINE | re.DOTALL) for line in block.splitlines()]
 
 
-def test_words_of_mgate(host: Callable[..., Gate], cluster: Cluster, tmp_path: Path) -> None:
+# A grant out of the island.
+GRANT = '[[grant]]\nfrom = "C1A0"\nto = "NOBODY"\nglobal = "X"\nmode = "read"\n'
+
+
+def test_words_of_mgate(host: Callable[..., Gate], cluster: Pair, tmp_path: Path) -> None:
     made, _ = islands(tmp_path / "islands", 2)
-    gate, placement = host("one"), Placement(cluster.place)
+    gate, placement = host("one"), Placement(cluster.both)
+    assert placement.islands() == {}
     assert gate.does("place", "island0", made["island0"], "one")[0] == 0
+    # What is read once is kept until another changes it.
+    before = placement.islands()
+    assert before["island0"].state == "here" and placement.islands() is before
+    cluster.does("UPDATE mfront_island SET state = 'moving', target = 'one'")
+    assert placement.islands()["island0"].state == "moving"
+    cluster.does("UPDATE mfront_island SET state = 'here', target = NULL")
     status, _, found = gate.does("place", "island0", made["island1"], "one")
     assert (status, found) == (2, "mgate: island0: there is such an island already\n")
     other = made["island1"].read_text()
     for act, told in ((lambda: placement.put("other", made["island0"].read_text(), "one"), "the island island0 has it already"),
                       (lambda: placement.put("a b", other, "one"), "is no name of an island"), (lambda: placement.put("x", other, "two"), "no such machine"),
-                      (lambda: placement.put("x", "account = 1", "one"), "no settings of a server"), (lambda: placement.put("x", "", "one"), "have no account"),
+                      (lambda: placement.put("x", "account = 1", "one"), "no settings of a server: Shape"),
+                      (lambda: placement.put("x", other + GRANT, "one"), "x: these are no settings of a server: Grant: .*NOBODY"),
+                      (lambda: placement.put("x", "", "one"), "have no account"),
                       (lambda: placement.move("island0", "one", False), "it is at one"), (lambda: placement.move("island9", "one", False), "no such island")):
         with pytest.raises(BadPlacement, match=told):
             act()

@@ -18,10 +18,13 @@ MOST = 10
 
 
 class Operator:
-    """Runs the page's commands for a front, in its folder in place of the system's."""
+    """Runs the page's commands for a front, in a folder in place of the system's: its own, or that of another machine."""
 
-    def __init__(self, front: Front) -> None:
+    def __init__(self, front: Front, folder: Path | None = None, second: str = "standby.toml") -> None:
+        """`second` is the standby's settings."""
         self.front = front
+        self.folder = folder or front.folder
+        self.second = second
         self.line = ""
         self.moment = ""
         self.standby: Front | None = None
@@ -37,14 +40,19 @@ class Operator:
         return count
 
     def _run(self, command: str) -> None:
-        for name, value in (("/var/lib/mserve", str(self.front.folder)), ("/etc/mserve", str(self.front.folder)), ("LINE", self.line), ("MOMENT", self.moment)):
-            command = command.replace(name, value)
+        for name, value in (("/var/lib/mserve", self.folder), ("/etc/mserve/standby.toml", self.front.folder / self.second),
+                            ("/etc/mserve", self.front.folder), ("LINE", self.line), ("MOMENT", self.moment)):
+            command = command.replace(name, str(value))
         name, *words = shlex.split(command)
         if name == "systemctl":
             self.front.stop() if words[0] == "stop" else self.front.again()
         elif name == "mfront" and words[0] == "--follow":
             self.standby = self._follows()
         elif name in ("mfront", "mjournal", "mbackup"):
+            if words[0] == "promote":
+                # That is done once the leader is gone.
+                self.front.process.send_signal(signal.SIGKILL)
+                self.front.process.wait()
             self._tool(name, words)
         else:
             assert name in ("mkdir", "mv"), command
@@ -52,7 +60,7 @@ class Operator:
             assert done.returncode == 0, done.stderr
 
     def _tool(self, name: str, words: list[str]) -> None:
-        config = ["--config", str(self.front.folder / "front.toml")]
+        config = ["--config", str(self.front.folder / self.front._config)]
         before, after = (config, []) if name == "mjournal" else ([], config if words[0] == "take" else [])
         status, output, told = tool(name)(*before, *words, *after)
         assert status == 0, told
@@ -64,11 +72,11 @@ class Operator:
         made = Front.__new__(Front)
         made.__dict__ |= self.front.__dict__
         made.port, made.lines_port = free_port(), free_port()
-        made.__dict__ |= {"_words": ["--follow"], "_awaited": "standing by", "_config": "standby.toml", "_told": "standby-told"}
-        tables = self.front.tables | {"journal": self.front.tables["journal"] | {"control": "standby.control"}}
+        made.__dict__ |= {"_words": ["--follow"], "_awaited": "standing by", "_config": self.second, "_told": f"{self.second}.told"}
+        tables = self.front.tables | {"journal": self.front.tables["journal"] | {"control": f"{self.second}.control"}}
         tables["listen"] = tables["listen"] | {"port": made.port, "lines_port": made.lines_port}
-        tables["server"] = tables["server"] | {"store": "standby/store"}
-        (made.folder / "standby.toml").write_text(toml(tables))
+        tables["server"] = tables["server"] | {"store": str(self.folder / "standby" / "store")}
+        (made.folder / self.second).write_text(toml(tables))
         made.process = made._started()
         return made
 
@@ -88,18 +96,21 @@ async def test_commands_of_the_page(start) -> None:
     async with front.person("ada") as ada:
         assert await ada.told("W ^X") == "2"
     (front.folder / "standby").mkdir()
-    original = operator._run
-
-    def run(command: str) -> None:
-        if command.startswith("mfront promote"):
-            front.process.send_signal(signal.SIGKILL)
-            front.process.wait()
-        original(command)
-    operator._run = run
     assert await asyncio.to_thread(operator.does, "A standby, and fail-over") <= MOST
+    # The machine that failed stands by by the same commands, and takes over in its turn.
+    other = front.folder / "other"
+    for name in ("backup", "standby"):
+        (other / name).mkdir(parents=True)
+    back = Operator(operator.standby, other, "again.toml")
     try:
         operator.standby.hears("serving at")
         async with operator.standby.person("ada") as ada:
-            assert await ada.told("W ^X") == "2"
+            assert await ada.told("W ^X S ^X=3") == "2"
+        assert await asyncio.to_thread(back.does, "A standby, and fail-over") <= MOST
+        back.standby.hears("serving at")
+        async with back.standby.person("ada") as ada:
+            assert await ada.told("W ^X") == "3"
     finally:
-        operator.standby.stop()
+        for one in (operator.standby, back.standby):
+            if one is not None:
+                one.stop()

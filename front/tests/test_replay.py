@@ -10,11 +10,13 @@ import re
 import shutil
 import signal
 import sqlite3
+import subprocess
+import sys
 from datetime import UTC, datetime
 from pathlib import Path
 
 import pytest
-from front import SETTINGS, Front, Person, Ran, in_loop, mjournal, tool
+from front import FRONT, SETTINGS, Front, Person, Ran, in_loop, mjournal, small_disk, tool
 from mserve_front.journal_file import FileLog, files_of
 from mserve_front.records import Flush, LineRecord, ReplyRecord, StartRecord
 from mserve_front.replies import new_digest
@@ -379,6 +381,73 @@ async def test_a_journal_whose_first_start_failed(start) -> None:
         assert await ada.told("S ^X=1 W ^X") == "1"
     front.stop()
     assert replay(front, "memory")[0] == 1
+
+
+# In front of the front's modules: its clock, as many seconds from the machine's as a file says.
+CLOCK = """import pathlib, time
+own, place = time.time_ns, pathlib.Path(__file__).with_name("seconds")
+time.time_ns = lambda: own() + int(place.read_text()) * 10**9
+"""
+
+
+@in_loop(200)
+async def test_clocks_that_step_back(start, tmp_path: Path) -> None:
+    """While a front runs, at its restart, and on the machine that takes over: no time in the journal is before another, it is told, and nothing is lost."""
+    (tmp_path / "sitecustomize.py").write_text(CLOCK)
+    (tmp_path / "seconds").write_text("0")
+    journal, turned = {"folder": str(tmp_path / "journal")}, ["env", f"PYTHONPATH={tmp_path}"]
+    front = start(store="store.db", journal=journal, before=turned)
+    second = start(store="store.db", words=["--follow"], awaited="standing by", journal=journal, before=turned)
+    async with front.person("ada") as ada:
+        await ada.line("S ^X=1")
+        (tmp_path / "seconds").write_text("-3600")
+        assert await ada.told("S ^X=2 W ^X") == "2"
+        assert "the clock stepped back by 3600 s: the journal keeps the time of its last record" in front.told()
+        assert tool("mbackup")("check", await asyncio.to_thread(backup, front))[0] == 0
+    front.stop()
+    front.again()
+    async with front.person("ada") as ada:
+        assert await ada.told("S ^X=^X+1 W ^X") == "3"
+    assert re.search("the clock stepped back by 35\\d\\d s", front.told())
+    front.stop()
+    assert tool("mfront")("promote", "--config", second.folder / "front.toml")[0] == 0
+    second.hears("serving at")
+    async with second.person("ada") as ada:
+        assert await ada.told("S ^X=^X+1 W ^X") == "4"
+        (tmp_path / "seconds").write_text("1")
+        assert await ada.told("S ^X=^X+1 W ^X") == "5"
+    assert re.search("the clock stepped back by 35\\d\\d s", second.told())
+    second.stop()
+    run = mjournal(tmp_path / "journal")
+    times = [line.split()[1] for line in run("grep", "--user", "ada")[1].splitlines()]
+    assert len(times) == 5 and times == sorted(times) and len(set(times)) == 3
+    assert run("replay", "--program", PROGRAM, "--store", tmp_path / "new")[::2] == (0, "") and held(tmp_path / "new") == held(second.folder / "store.db")
+
+
+@in_loop(200)
+async def test_snapshots_and_stores_on_a_disk_that_is_full(tmp_path: Path) -> None:
+    """They are refused, nothing of them is left, and users work on."""
+    folder = tmp_path / "front"
+    (folder / "disk").mkdir(parents=True)
+    front = Front(folder, None, store="store.db", before=small_disk(folder / "disk", "128k"), journal={"folder": "journal"})
+    seen = Path(f"/proc/{front.process.pid}/root{folder / 'disk'}")
+    try:
+        async with front.person("ada") as ada:
+            for number in range(60):
+                await ada.line(f"S ^X({number})=$J(1,3000)")
+            status, _, told = await asyncio.to_thread(tool("mbackup"), "take", folder / "disk", "--config", folder / "front.toml")
+            assert status == 3 and "No space left on device" in told and len(told.splitlines()) == 1 and list(seen.iterdir()) == []
+            snapshot = await asyncio.to_thread(backup, front)
+            assert await ada.told("S ^Y=1 W $D(^X(59))") == "1"
+        status, _, told = tool("mbackup")("restore", snapshot, seen / "store")
+        assert status == 1 and "No space left on device" in told and list(seen.iterdir()) == []
+        # A disk of its own for a process of its own: SQLite wants a path that leads there from the root.
+        words = [sys.executable, FRONT / "mjournal", "--config", folder / "front.toml", "replay", "--store", folder / "disk" / "store"]
+        done = subprocess.run([*map(str, [*small_disk(folder / "disk", "300k"), *words])], capture_output=True, text=True, timeout=60)
+        assert done.returncode == 1 and "with ZSTORE here, and with no code there" in done.stderr
+    finally:
+        front.stop()
+    assert replay(front, "memory")[0] == 0
 
 
 @in_loop(200)

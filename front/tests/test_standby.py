@@ -9,6 +9,8 @@ import re
 import signal
 import socket
 import sqlite3
+import statistics
+import time
 from pathlib import Path
 
 import aiohttp
@@ -92,6 +94,25 @@ async def test_a_standby_follows_and_is_promoted(start, tmp_path: Path) -> None:
     second.again()
     second.stop()
     assert mjournal(tmp_path / "journal")("replay", "--program", PROGRAM, "--store", "memory")[::2] == (0, "")
+
+
+@in_loop(200)
+async def test_a_standby_has_its_ports(start, tmp_path: Path) -> None:
+    """Nobody can take them meanwhile. One that is taken when it starts is told, and taken at the promotion if that can be."""
+    leader = start(store="store.db", journal={"folder": str(tmp_path / "journal")})
+    second = standby(start, tmp_path / "journal")
+    for port in (second.port, second.lines_port):
+        with socket.socket() as other, pytest.raises(OSError, match="in use"):
+            other.bind(("127.0.0.1", port))
+    third = standby(start, tmp_path / "journal", listen={"port": leader.port})
+    third.port = leader.port
+    assert f"127.0.0.1, port {leader.port}: Address already in use: it cannot serve as long as that is so" in third.told()
+    async with leader.person("ada") as ada:
+        assert await ada.told("S ^X=1 W ^X") == "1"
+    leader.stop()
+    assert takes_over(third) == ""
+    async with third.person("ada") as ada:
+        assert await ada.told("W ^X") == "1"
 
 
 @in_loop(200)
@@ -185,17 +206,19 @@ class Load:
         except (ConnectionError, aiohttp.ClientError):
             pass
 
-    async def until_killed(self, front: Front, seconds: float) -> None:
-        """Has three users work until the front is killed."""
+    async def until_killed(self, front: Front, seconds: float) -> float:
+        """Has three users work until the front is killed, and gives when that was."""
         people = [front.person(name) for name in ("ada", "ben", "ada")]
         for person in people:
             await person.__aenter__()
         work = asyncio.gather(*map(self.user, people))
         await asyncio.sleep(seconds)
         os.kill(front.process.pid, signal.SIGKILL)
+        killed = time.monotonic()
         await work
         for person in people:
             await person.http.close()
+        return killed
 
     async def counted(self, front: Front) -> dict[int, str]:
         """What stands at the nodes."""
@@ -207,16 +230,21 @@ class Load:
 @in_loop(3000)
 async def test_leaders_that_are_killed(start, tmp_path: Path, count: int) -> None:
     """Each time the standby is promoted: what was answered is there, nothing runs twice, and the next standby runs the journal from its beginning."""
-    rng, load, journal = random.Random(11), Load(), tmp_path / "journal"
+    rng, load, journal, without = random.Random(11), Load(), tmp_path / "journal", []
     leader = start(store="store.db", journal={"folder": str(journal)})
     for number in range(KILLED * count):
         second = standby(start, journal)
-        await load.until_killed(leader, rng.uniform(0.02, 0.3))
+        killed = await load.until_killed(leader, rng.uniform(0.02, 0.3))
         assert takes_over(second) == ""
+        async with second.person("ben") as ben:
+            assert await ben.told("W 1") == "1"
+        without.append(time.monotonic() - killed)
         found = await load.counted(second)
         assert load.answered <= found.keys() <= load.sent and set(found.values()) == {"1"}, number
         leader = second
-    assert len(load.answered) > 10 * KILLED * count
+    assert len(load.answered) > 3 * KILLED * count
+    print(f"{len(without)} leaders killed, {len(load.answered)} nodes answered, each there and set once; from a kill to the first answer of the standby, which "
+          f"is promoted at once: median {statistics.median(without) * 1000:.0f} ms, longest {max(without) * 1000:.0f} ms")
     leader.stop()
     status, output, told = mjournal(journal)("replay", "--program", PROGRAM, "--store", tmp_path / "all")
     assert (status, told) == (0, "") and held(tmp_path / "all") == held(leader.folder / "store.db")

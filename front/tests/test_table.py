@@ -4,7 +4,10 @@ from __future__ import annotations
 
 import asyncio
 import json
+import os
 import random
+import signal
+import time
 from collections.abc import Callable, Iterator
 from pathlib import Path
 
@@ -14,6 +17,7 @@ from database import Cluster
 from front import Ran, in_loop, tool
 from mserve_front.history import History
 from mserve_front.journal import LogFault, LogTaken
+from mserve_front.journal_table import flush_of
 from mserve_front.places import reader_of, writer_of
 from mserve_front.records import BadJournal, Flush, LineRecord
 from mserve_front.settings import JournalSettings
@@ -21,6 +25,10 @@ from running import PROGRAM
 from test_journal import flushes
 from test_replay import backup, held, works
 from test_standby import Load, takes_over
+
+
+# Seconds for which a database is away: longer than a reply is kept for it.
+AWAY = 60.0
 
 
 @pytest.fixture(scope="module")
@@ -90,6 +98,16 @@ def test_rows_that_are_damaged_or_missing(cluster: Cluster, journal: JournalSett
     with pytest.raises(BadJournal, match="missing|damaged|another flush"):
         reader_of(journal, 1).more()
     assert mjournal(journal)("verify")[0] == 1
+
+
+def test_a_row_that_is_cut_at_each_byte_or_has_a_bit_turned() -> None:
+    flush = flushes(4)[3]
+    data = flush.packed()
+    assert flush_of("main", 4, data) == flush
+    turned = (data[:place] + bytes([data[place] ^ 1 << bit]) + data[place + 1:] for place in range(len(data)) for bit in range(8))
+    for harmed in [*(data[:cut] for cut in range(len(data))), *turned, data + b"\0"]:
+        with pytest.raises(BadJournal, match="^table mfront_journal: main, 4: .*(damaged|missing|another)"):
+            flush_of("main", 4, harmed)
 
 
 def test_a_row_whose_acknowledgment_was_lost(cluster: Cluster, journal: JournalSettings) -> None:
@@ -166,12 +184,81 @@ async def test_a_database_that_is_away(start, tmp_path: Path) -> None:
         cluster.remove()
 
 
+@in_loop(300)
+async def test_a_database_that_is_away_for_a_minute(start, tmp_path: Path) -> None:
+    """A reply that cannot be noted is held back after half a minute, and noted once the database is there; nothing that was answered is lost."""
+    database.required()
+    cluster = await asyncio.to_thread(Cluster)
+    try:
+        front = start(store="store.db", journal={"database": cluster.place})
+        second = start(store="store.db", words=["--follow"], awaited="standing by", journal={"database": cluster.place})
+        async with front.person("ada") as ada, front.person("ben") as ben:
+            assert await ada.told("S ^X=1 W ^X") == "1"
+            # The server takes the line, and its reply comes when the database is away.
+            os.kill(front.child, signal.SIGSTOP)
+            await ben.send("S ^Y=$G(^Y)+1 W 7")
+            while cluster.does("SELECT max(next - answered) FROM mfront_journal WHERE sequence = (SELECT max(sequence) FROM mfront_journal)") != [(2,)]:
+                await asyncio.sleep(0.05)
+            await asyncio.to_thread(cluster.stop)
+            began = time.monotonic()
+            os.kill(front.child, signal.SIGCONT)
+            held_back = asyncio.create_task(ben.next())
+            while time.monotonic() - began < AWAY:
+                assert (await ada.line("S ^X=2"))["refused"] == "journal"
+                await asyncio.sleep(2)
+            record = await held_back
+            assert record["unknown"] and "its reply is held back: the journal cannot be written" in record["why"]
+            await asyncio.to_thread(cluster.start)
+            while "refused" in await ada.line("S ^Z=1"):
+                await asyncio.sleep(0.1)
+            assert await ada.told("W ^X,^Y,^Z") == "111"
+        for told in ("no line goes on until it can", "the journal is written again"):
+            assert front.told().count(told) == 1
+        second.hears("the journal can be read again")
+        front.stop()
+        assert second.stop() == 0
+        run = tool("mjournal", "--config", str(front.folder / "front.toml"))
+        assert run("verify")[2] == "" and "without a reply" not in run("verify")[1]
+        assert run("replay", "--store", tmp_path / "new")[::2] == (0, "")
+        assert held(tmp_path / "new") == held(front.folder / "store.db") == held(second.folder / "store.db")
+    finally:
+        cluster.remove()
+
+
+FULL = """CREATE FUNCTION full_disk() RETURNS trigger LANGUAGE plpgsql AS $$ BEGIN
+    RAISE EXCEPTION 'could not extend file "base/5/16384": No space left on device' USING ERRCODE = 'disk_full'; END $$;
+    CREATE TRIGGER full_disk BEFORE INSERT ON mfront_journal FOR EACH ROW EXECUTE FUNCTION full_disk()"""
+
+
 @in_loop(200)
-async def test_leaders_that_are_killed(start, journal: JournalSettings, tmp_path: Path) -> None:
+async def test_a_database_whose_disk_is_full(start, tmp_path: Path) -> None:
+    """It refuses rows, as PostgreSQL does then: no line goes on, users and the operator are told, and once there is room all goes on."""
+    database.required()
+    cluster = await asyncio.to_thread(Cluster)
+    try:
+        front = start(store="store.db", journal={"database": cluster.place})
+        async with front.person("ada") as ada:
+            assert await ada.told("S ^X=1 W ^X") == "1"
+            cluster.does(FULL)
+            assert (await ada.line("S ^X=2"))["refused"] == "journal"
+            assert 'could not extend file "base/5/16384": No space left on device' in front.told() and "no line goes on until it can" in front.told()
+            cluster.does("DROP FUNCTION full_disk CASCADE")
+            while "refused" in await ada.line("S ^Y=1"):
+                await asyncio.sleep(0.1)
+            assert await ada.told("W ^X,^Y") == "11"
+        front.stop()
+        run = tool("mjournal", "--config", str(front.folder / "front.toml"))
+        assert run("replay", "--store", tmp_path / "new")[::2] == (0, "") and held(tmp_path / "new") == held(front.folder / "store.db")
+    finally:
+        cluster.remove()
+
+
+@in_loop(1500)
+async def test_leaders_that_are_killed(start, journal: JournalSettings, tmp_path: Path, count: int) -> None:
     """The lock goes with the leader's connection; what was answered is there, and nothing runs twice."""
     rng, load = random.Random(5), Load()
     leader = start(store="store.db", journal=table(journal))
-    for _ in range(2):
+    for _ in range(2 * count):
         second = start(store="store.db", words=["--follow"], awaited="standing by", journal=table(journal))
         assert "another front writes this journal" in await asyncio.to_thread(takes_over, second)
         await load.until_killed(leader, rng.uniform(0.05, 0.3))
@@ -194,12 +281,7 @@ async def test_synchronous_replication(start, tmp_path: Path) -> None:
     second = None
     try:
         second = await asyncio.to_thread(Cluster, first)
-        first.does("ALTER SYSTEM SET synchronous_standby_names = 'replica'")
-        first.does("SELECT pg_reload_conf()")
-        while first.does("SELECT sync_state FROM pg_stat_replication") != [("sync",)]:
-            await asyncio.sleep(0.05)
-        place = f"host={first.folder},{second.folder} user=postgres dbname=postgres target_session_attrs=read-write"
-        front = start(store="store.db", journal={"database": place})
+        front = start(store="store.db", journal={"database": await asyncio.to_thread(first.waits_for, second)})
         async with front.person("ada") as ada:
             for number in range(20):
                 assert await ada.told(f"S ^X({number})=1 W 1") == "1"

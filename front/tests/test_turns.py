@@ -93,7 +93,7 @@ async def test_lines_on_their_way_are_lost_and_others_unsent() -> None:
     lines = [made.ask(terminal, Line(b"x")) for terminal in range(1, WINDOW + 11)] + [made.ask(1, Line(b"y"))]
     assert len(peer.lines) == WINDOW
     peer.reply()
-    made.close()
+    made.abort()
     ends = [await ended(line) for line in lines]
     assert ends == [Answer] + [Lost] * WINDOW + [Unsent] * 10
     assert (await ended(made.ask(5, Line(b"z")))) is Unsent

@@ -1,0 +1,119 @@
+#!/usr/bin/python3
+# SPDX-License-Identifier: Apache-2.0
+"""All figures of the journal and of many machines, one measurement after another, unattended and within twelve minutes. Each has a limit of its own;
+what it printed up to there is kept. On a quiet machine these are the figures of docs/PERFORMANCE.md.
+
+Status 1 if a measurement failed or was cut off; the last line says how many did."""
+from __future__ import annotations
+
+import argparse
+import os
+import platform
+import shutil
+import signal
+import subprocess
+import sys
+import time
+from dataclasses import dataclass
+from datetime import UTC, datetime
+from pathlib import Path
+
+HERE = Path(__file__).resolve().parent
+sys.path.insert(0, str(HERE.parent / "tools"))
+
+from running import PROGRAM, require_program  # noqa: E402
+
+PYTHON = "/usr/bin/python3"
+APART = Path(f"/dev/shm/mfront-figures-{os.getpid()}")
+TEST = [PYTHON, "-m", "pytest", "-q", "-s", "-c", str(HERE / "pytest.ini"), "--rootdir", str(HERE.parent), "-p", "no:cacheprovider"]
+# Seconds for all.
+ALL = 720
+
+
+@dataclass(frozen=True, slots=True)
+class Measurement:
+    """A measurement: its name, its words, and the seconds that it may take."""
+
+    name: str
+    words: tuple[str, ...]
+    limit: int
+
+
+def measurements(short: bool) -> list[Measurement]:
+    """All of them; short ones try that each works."""
+    rates, machines = str(HERE / "journal_rates.py"), str(HERE / "machine_rates.py")
+    many, one, count, killed = ("2", "1", "1", "2") if short else ("8", "4", "10", "20")
+    islands, seconds, moved, trial = ("6", "3", "1", "1") if short else ("100", "20", "5", "25")
+    replayed, grouped = ("500", "5") if short else ("10000", "100")
+    # Tests that kill processes, and no machine: their files need no disk.
+    apart = ("--basetemp", str(APART))
+    return [
+        Measurement("journals, 64 users",
+                    (PYTHON, rates, "--users", "64", "--seconds", many, "--replayed", replayed, "--killed", "0", "--stores", "memory"), 130),
+        Measurement("many machines", (PYTHON, machines, "--islands", islands, "--seconds", seconds, "--moved", moved), 240),
+        Measurement("few machines with many users",
+                    (PYTHON, machines, "--islands", "3", "--accounts", grouped, "--seconds", seconds, "--moved", "1"), 120),
+        Measurement("time without service", (PYTHON, rates, "--kinds", "--killed", killed), 120),
+        Measurement("leaders killed", (*TEST, *apart, str(HERE / "tests" / "test_standby.py"), "-k", "leaders_that_are_killed", "--count", count), 300),
+        Measurement("journals, one user", (PYTHON, rates, "--users", "1", "--seconds", one, "--replayed", "0", "--killed", "0", "--stores", "memory"), 60),
+        Measurement("journals over a store in a file, 64 users",
+                    (PYTHON, rates, "--users", "64", "--seconds", many, "--replayed", "1000", "--killed", "0", "--stores", "file"), 100),
+        Measurement("machines stopped under load",
+                    (*TEST, *apart, str(HERE / "tests" / "test_machines.py"), "-k", "three_machines", "--count", trial), 240),
+    ]
+
+
+def run(one: Measurement, left: float) -> bool:
+    """Makes a measurement within its limit and what is left of all, and says whether it came to its end."""
+    limit = min(one.limit, left)
+    print(f"==== {one.name}\n{' '.join(one.words)}", flush=True)
+    began = time.monotonic()
+    process = subprocess.Popen(one.words, stdin=subprocess.DEVNULL, stderr=subprocess.STDOUT, start_new_session=True)
+    try:
+        status: int | None = process.wait(limit)
+    except subprocess.TimeoutExpired:
+        status = None
+        # It ends what it has started; what it does not is killed.
+        os.killpg(process.pid, signal.SIGINT)
+        try:
+            process.wait(20)
+        except subprocess.TimeoutExpired:
+            os.killpg(process.pid, signal.SIGKILL)
+            process.wait()
+    how = "done" if status == 0 else f"cut off after {limit:.0f} s" if status is None else f"FAILED with status {status}"
+    print(f"---- {one.name}: {how}, {time.monotonic() - began:.0f} s, load {os.getloadavg()[0]:.1f}", flush=True)
+    return status == 0
+
+
+def machine() -> str:
+    """What the figures are of."""
+    model = next((line.partition(":")[2].strip() for line in Path("/proc/cpuinfo").read_text().splitlines() if line.startswith("model name")), "unknown")
+    head = subprocess.run(["git", "-C", str(HERE.parent), "rev-parse", "--short", "HEAD"], capture_output=True, text=True).stdout.strip()
+    return (f"{datetime.now(UTC):%Y-%m-%d %H:%M} UTC, revision {head}, {PROGRAM}; {model}, {os.cpu_count()} processors, Linux {platform.release()}, "
+            f"Python {platform.python_version()}, load {os.getloadavg()[0]:.1f}")
+
+
+def main() -> int:
+    """The status of the command."""
+    words = argparse.ArgumentParser(description="Makes all measurements of the journal and of many machines, within twelve minutes.")
+    words.add_argument("--short", action="store_true", help="small ones, which try that each works: no figures")
+    words.add_argument("--only", metavar="WORD", help="only those whose name has this word")
+    options = words.parse_args()
+    require_program()
+    print(machine(), flush=True)
+    end, failed = time.monotonic() + ALL, 0
+    chosen = [one for one in measurements(options.short) if options.only is None or options.only in one.name]
+    for one in chosen:
+        left = end - time.monotonic()
+        if left < 20:
+            print(f"==== {one.name}: left out: no time is left", flush=True)
+            failed += 1
+            continue
+        failed += not run(one, left)
+        shutil.rmtree(APART, ignore_errors=True)
+    print(f"{len(chosen) - failed} of {len(chosen)} measurements came to their end")
+    return 1 if failed else 0
+
+
+if __name__ == "__main__":
+    sys.exit(main())

@@ -12,10 +12,9 @@ from collections.abc import Callable
 import pytest
 from blocks import ONLY, SERVED, Block, blocks, given_bytes, line_bytes, text_bytes
 from running import ONE_ACCOUNT, run
-from support import accounts_of, run_in_pieces
+from support import accounts_of, run_in_pieces, shown_to, steps_played
 
 PIECES = (1, 2, 7)
-ACCOUNT = '[[account]]\nname = "A{0}"\nterminals = [{0}]\nsteps = {1}\n'
 KINDS = (*SERVED, "only", "reopened", "steps")
 PLAYED = [block for block in blocks() if block.kind in KINDS]
 NOTHING = (0, b"", b"")
@@ -77,8 +76,7 @@ def test_cut_after_each_byte(block: Block) -> None:
 def test_only(block: Block, name: str) -> None:
     """Each account in turn is shown its replies alone: the transcript's at its terminals."""
     settings = SERVED[block.kind]
-    marks = tuple(b"%d%c" % (terminal, mark) for terminal in accounts_of(settings)[name] for mark in b":-.!")
-    own = b"".join(line for line in block.replies().splitlines(True) if marks and line.startswith(marks))
+    own = shown_to(block.replies(), accounts_of(settings)[name])
     assert run(block.stream(), settings, only=name) == (0, own, b"")
 
 
@@ -102,14 +100,9 @@ def test_reopened(block: Block, store: str) -> None:
 def test_steps(block: Block, written: Callable[[str], str]) -> None:
     """By settings that allow as many steps as a text needs it does not end by ZSTEPS, and with one fewer it does.
 
-    Terminals 1, 3, .. have as many as a text needs, and 2, 4, .. one fewer. Settings allow one step at least, so of a text that needs none
-    or one only the first is seen."""
-    accounts, stream = "", b""
+    Settings allow one step at least, so of a text that needs none or one only the first is seen."""
     needed = [int(steps) for _, (steps,) in block.cases]
-    for i, (case, _) in enumerate(block.cases):
-        for terminal, steps in ((2 * i + 1, needed[i]), (2 * i + 2, needed[i] - 1)):
-            accounts += ACCOUNT.format(terminal, max(steps, 1))
-            stream += b"%d %s\n" % (terminal, text_bytes(case))
+    accounts, stream = steps_played([(text_bytes(case), steps) for (case, _), steps in zip(block.cases, needed)])
     status, output, told = run(stream, written(accounts))
     assert (status, told) == (0, b"")
     exhausted = {int(line.split(b"!")[0]) for line in output.splitlines() if line.endswith(b"!ZSTEPS")}

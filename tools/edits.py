@@ -23,6 +23,7 @@ EXCEPTIONS = {
     "mwire::lines_have_answers": "the same",
     "mwire::normal_answers_are_served": "the same",
     "mwire::normal_streams_are_served": "the same",
+    "mhost::serve_connections": "hands on to mwire's serve_each, over a port of which no contract tells who comes",
     "mglobal::Kept::get": "hands on to the store, with the store's contract",
     "mglobal::Kept::next": "the same",
     "mglobal::Kept::prev": "the same",

@@ -7,11 +7,13 @@
 #![tactic(auto)]
 
 mod connections;
+mod devices;
 mod lines;
 mod references;
 mod replies;
 
 pub use connections::play_connections;
+pub use devices::play_devices;
 pub use lines::{play_lines, play_told};
 pub use references::play_references;
 pub use replies::play_replies;

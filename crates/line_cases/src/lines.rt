@@ -9,7 +9,7 @@ use mworld::World;
 use std::alloc::Global;
 
 // The bytes of a line: a line feed ends it, but where `{end}` stands at its end.
-fn line_bytes(alloc: Global, case: &str) -> anyhow::Result<Vec<u8>> {
+pub(crate) fn line_bytes(alloc: Global, case: &str) -> anyhow::Result<Vec<u8>> {
     match case.strip_suffix("{end}") {
         Some(unfinished) => bytes_of(alloc, unfinished),
         None => {

@@ -7,7 +7,7 @@ use Rattle.std.proofs.lemmas.Bool.Decides.{nat_tests}
 use Rattle.std.proofs.lemmas.List.Elements.{All-from_recursion, All-head, All-tail}
 use Rattle.mspec.specs.Literal.{is_digit, ExponentSign, Unsigned, Plus, Minus, Exponent, Literal, spell_sign, spell_fraction, spell_exponent, spell_literal, IsDigits, IsFraction, IsExponent, IsMantissa, IsLiteral}
 use Rattle.mspec.specs.Names.{AllAre}
-use Rattle.mgrammar.specs.WellFormed.{IsNumber}
+use Rattle.mgrammar.specs.WellFormed.{SpellsNumber}
 use Rattle.mgrammar.specs.Reading.{run_of, after_run, is_plus_or_minus, one_sign, after_sign, point_by, point_at, exponent_by, exponent_at, number_by, number_at, is_digit_or_point}
 use Rattle.mgrammar.proofs.ReadingBasics.{Takes, Again, Stops, Stops-weaker, Begins, some_is, run_parts, run_again}
 
@@ -101,7 +101,7 @@ number_takes_by : (m cs : List ℕ) (x : List ℕ × List ℕ) → number_by m c
 number_takes_by [] cs x e = absurd cc
 number_takes_by (d ∷ ds) cs x e = (λ z. cc, some_is _ x e)
 
-pub number_takes : Takes (λ ds. ds) IsNumber number_at
+pub number_takes : Takes (λ ds. ds) SpellsNumber number_at
 unfolding number_at
 number_takes cs x e =
     let ds = run_of is_digit cs in
@@ -116,7 +116,7 @@ number_takes cs x e =
     let is : IsLiteral l = record { mantissa = is_mantissa ds point.0 r.1 point.2 some; exponent = exponent.2 } in
     let same : spell_literal l ≡ (ds ++ f.0) ++ t.0 = rw (point.1, exponent.1, append_assoc) refl in
     let parts : cs ≡ ((ds ++ f.0) ++ t.0) ++ t.1 = three_parts cs ds (after_run is_digit cs) f.0 f.1 t.0 t.1 r.0 point.3 exponent.3 in
-    subst (λ (y : List ℕ × List ℕ). (cs ≡ y.0 ++ y.1) × IsNumber y.0) b.1 (parts, (l, is, same))
+    subst (λ (y : List ℕ × List ℕ). (cs ≡ y.0 ++ y.1) × SpellsNumber y.0) b.1 (parts, (l, is, same))
 
 -- ---- what is spelled so is read
 
@@ -205,7 +205,7 @@ literal_again l rest is s =
     let some = number_some (l.whole ++ spell_fraction l.fraction) (spell_exponent l.exponent ++ rest) m.2 in
     ap number_at parts ∙ rw (r.0, r.1, f, some, e) (ap (λ (y : List ℕ). Some (y, rest)) (append_assoc l.whole (spell_fraction l.fraction) (spell_exponent l.exponent)))
 
-pub number_again : Again (λ ds. ds) IsNumber (Stops goes_on_number) number_at
+pub number_again : Again (λ ds. ds) SpellsNumber (Stops goes_on_number) number_at
 number_again t rest is s = subst (λ (y : List ℕ). number_at (y ++ rest) ≡ Some (y, rest)) is.2 (literal_again is.0 rest is.1 s)
 
 digit_first : (c : ℕ) → is_digit c ≡ true → is_digit_or_point c ≡ true
@@ -217,5 +217,5 @@ literal_begins (d ∷ ds) None rest m = digit_first d (digits_are (d ∷ ds) m.e
 literal_begins [] (Some digits) rest m = refl
 literal_begins (d ∷ ds) (Some digits) rest m = digit_first d (digits_are (d ∷ ds) m.0).0
 
-pub number_begins : (t : List ℕ) → IsNumber t → Begins is_digit_or_point t
+pub number_begins : (t : List ℕ) → SpellsNumber t → Begins is_digit_or_point t
 number_begins t is = subst (Begins is_digit_or_point) is.2 (literal_begins is.0.whole is.0.fraction (spell_exponent is.0.exponent) is.1.mantissa)

@@ -7,8 +7,8 @@ use Rattle.mspec.specs.Names.{is_letter, is_character, AllAre, IsName}
 use Rattle.mgrammar.specs.Grammar.{RepeatedTree, classes, copies, AtomTree, ExprTree, expr, StepsTree, no_steps, step, StepTree, apply, matches, matches_not, OperandTree, operand, PrimaryTree, number, text, special, reference, bracket, call, select, refer, ReferenceTree, local, global, naked, indirect, extended, ExprsTree, no_exprs, exprs, ChoicesTree, no_choices, choice, TargetTree, variable, piece, DestinationTree, one, several, ParameterTree, once, onward, until, EntryTree, at_label, at_label_in, at_routine, ArgTree, assign, breaks, shown, kill_one, kill_others, new_one, new_others, tested, loop, do_one, go_to, executed, locked, indirect_args, LockedTree, lock_one, lock_several, anew, adding, giving_back, KeywordTree, CommandTree, SpacedTree, LineTree, keyword_of, FormTree, assignment, removal, hiding, condition, repetition, output, entrance, leap, execution, locking, may_be_indirect, form_of, takes_args, takes_condition, SpecialTree, special_of, FunctionTree, select_function, piece_function, function_of, takes, refers, is_pattern_letter}
 
 -- `numlit`
-abbrev pub IsNumber : List ℕ → Type 0
-IsNumber t = (l : Literal) × IsLiteral l × (spell_literal l ≡ t)
+abbrev pub SpellsNumber : List ℕ → Type 0
+SpellsNumber t = (l : Literal) × IsLiteral l × (spell_literal l ≡ t)
 
 -- one to four digits
 abbrev pub IsBound : List ℕ → Type 0
@@ -118,7 +118,7 @@ abbrev mutual
   WellOperand d (operand signs p) = WellPrimary d p
 
   pub WellPrimary : ℕ → PrimaryTree → Type 0
-  WellPrimary d (number literal) = IsNumber literal
+  WellPrimary d (number literal) = SpellsNumber literal
   WellPrimary d (text t) = AllAre is_character t
   WellPrimary d (special word) = AllAre is_letter word × IsSpecial word
   WellPrimary d (reference r) = WellReference d r

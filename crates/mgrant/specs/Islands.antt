@@ -4,13 +4,9 @@ use Rattle.std.specs.Prelude.{◌≡◌, ℕ, Bool, IsTrue, List, length}
 use Rattle.std.specs.List.{filter, range_with_len}
 use Rattle.mspec.specs.Node.{Text}
 use Rattle.mspec.specs.Access.{Settings, name_at}
-use Rattle.mspec.specs.Flow.{Flows}
+use Rattle.mspec.specs.Flow.{IsIsland}
 
--- a set of accounts that is closed in both directions: of two accounts of which one flows to the other, both are members or neither is
-abbrev pub IsIsland : Settings → (Text → Bool) → Type 0
-IsIsland settings s = (x y : Text) → Flows settings x y → s x ≡ s y
-
--- the least such set that has an account
+-- the least set closed in both directions that has an account
 pub record IsIslandOf (settings : Settings) (a : Text) (s : Text → Bool) : Type 0 where
   pub has : IsTrue (s a)
   pub island : IsIsland settings s

@@ -179,6 +179,7 @@ impl Grants {
     {
         edges_of(alloc, &self.list)
     }
+
     // The steps between the two accounts of each grant, in both directions.
     pub fn ties(&self, alloc: Global) -> Result<Vec<Edge>, AllocError>
         ensures { IfOk result (λ edges. (x y : ℕ) → list_any (leads x y) edges.items ≡ list_any (ties_at x y) self.now) }

@@ -206,6 +206,7 @@ impl Settings {
         let edges = self.grants.edges(alloc)?;
         Ok(leads(alloc, edges, count, start, end)?)
     }
+
     /// The island of an account, in the order of the settings: the least set of accounts that has it and that no grant ties to
     /// others, so that they may be kept on a machine of their own. None for an id that names none here. Fails by want of memory
     /// alone.

@@ -10,12 +10,12 @@ use Rattle.mgrant.specs.Reading.{IsRead}
 use Rattle.mstore.specs.declared.store.NodeStore.{Ghosts}
 use Rattle.mwire.specs.Serves.{Serves}
 use Rattle.mwire.specs.declared.fault.WireFault.{WireFault}
-use Rattle.mhost.specs.Runs.{Answered, Broken, Followed, ServedOver}
+use Rattle.mhost.specs.Runs.{StreamAnswered, Broken, Followed, ServedOver}
 
 module _ {S V : Type 0} (g : Ghosts S) {settings settings' : Settings} {server : Server} {globals : Globals} {content : V → Globals} {document : Text} {left left' held held' : Option Text}
     (reads : IsRead document settings) (same : settings' ≡ settings) (begins : server ≡ opening globals) where
   -- a stream that was answered to its end, over a store that tells its content
-  pub answered : {v : V} → globals ≡ empty → g.sound → ServedOver g settings' server content left left' held held' (Ok v) → Answered document left left' held held' (content v)
+  pub answered : {v : V} → globals ≡ empty → g.sound → ServedOver g settings' server content left left' held held' (Ok v) → StreamAnswered document left left' held held' (content v)
   answered none sound s = record {
     settings = settings;
     of_document = reads;

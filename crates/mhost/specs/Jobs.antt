@@ -14,7 +14,7 @@ use Rattle.mstore.specs.declared.store.NodeStore.{Ghosts}
 use Rattle.mwire.specs.Watched.{inner_of}
 use Rattle.mwire.specs.declared.watched.Watched.{Watched}
 use Rattle.mhost.specs.Only.{OnlyBy}
-use Rattle.mhost.specs.Runs.{Answered, AreUntouched, EndsEarly, EndsEarlyOverFile, Followed, IsStoreFault, NoDocument}
+use Rattle.mhost.specs.Runs.{StreamAnswered, AreUntouched, EndsEarly, EndsEarlyOverFile, Followed, IsStoreFault, NoDocument}
 use Rattle.mhost.specs.declared.fault.RunFault.{RunFault}
 use Rattle.mhost.specs.declared.fault.RunFault.TheVariants as early
 
@@ -46,7 +46,7 @@ IsServeFault (early.Wire fault) = ⊥
 abbrev pub RunsOver : {M F I O : Type 0} → Ghosts M → Ghosts F → (I → Option Text) → (O → Option Text)
     → Store → Text → Watched I → Watched I → Watched O → Watched O → Result (Unit {0}) RunFault → Type 0
 RunsOver memory file left held store.Memory document input input' output output' (Ok done) =
-    (globals : Globals) × Answered document (left (inner_of input)) (left (inner_of input')) (held (inner_of output)) (held (inner_of output')) globals
+    (globals : Globals) × StreamAnswered document (left (inner_of input)) (left (inner_of input')) (held (inner_of output)) (held (inner_of output')) globals
 RunsOver memory file left held store.Memory document input input' output output' (Err fault) =
     EndsEarly memory left held document input input' output output' fault
 RunsOver memory file left held (store.File path) document input input' output output' (Ok done) =

@@ -24,7 +24,7 @@ use Rattle.mhost.specs.declared.fault.RunFault.TheVariants as early
 
 -- A stream was read to its end, and the bytes written are the replies of a history of its lines' events, by the document's settings
 -- and from no globals at all. Behind the last line there are these globals.
-pub record Answered (document : Text) (left left' held held' : Option Text) (globals : Globals) : Type 0 where
+pub record StreamAnswered (document : Text) (left left' held held' : Option Text) (globals : Globals) : Type 0 where
   pub settings : Settings
   pub of_document : IsRead document settings
   pub read : Text

@@ -5,7 +5,7 @@ ghost use Rattle.sqlite.specs.Steps.{over_memory};
 ghost use Rattle.mstore.specs.Database.{stored};
 ghost use Rattle.mworld.specs.View.{settings_of, server_of};
 ghost use Rattle.mwire.specs.Watched.{inner_of, failed_of};
-ghost use Rattle.mhost.specs.Runs.{Answered, EndsEarly, EndsEarlyOverFile, Followed, ServedOver, DeviceBroke};
+ghost use Rattle.mhost.specs.Runs.{StreamAnswered, EndsEarly, EndsEarlyOverFile, Followed, ServedOver, DeviceBroke};
 
 use crate::document::read_settings;
 use crate::fault::RunFault;
@@ -36,7 +36,7 @@ pub fn run<I: Read, O: Write>(
 ) -> Result<Table<MemStore>, RunFault>
     requires input_works { failed_of input.old ≡ false }
     requires output_works { failed_of output.old ≡ false }
-    ensures answered { IfOk result (λ table. Answered document.now (I.remaining (inner_of input.old)) (I.remaining (inner_of input.new))
+    ensures answered { IfOk result (λ table. StreamAnswered document.now (I.remaining (inner_of input.old)) (I.remaining (inner_of input.new))
         (O.contents (inner_of output.old)) (O.contents (inner_of output.new)) (stored over_memory table)) }
     ensures early { IfErr result (EndsEarly ⟦<Kept<Cached<Table<MemStore>>> as NodeStore>⟧ I.remaining O.contents document.now input.old input.new output.old output.new) }
 {

@@ -8,6 +8,7 @@ use Rattle.std.specs.FinMap.{get, remove, nat_cmp-IsAntisymmetric}
 use Rattle.mspec.specs.Number.{significant_digits}
 use Rattle.mspec.specs.LockConflict.{held, released}
 use Rattle.mspec.specs.Access.{Account, Settings}
+use Rattle.mspec.specs.Flow.{IsIsland}
 use Rattle.mspec.specs.Act.{Outcome}
 use Rattle.mspec.specs.Plan.{Plan, cut_short}
 use Rattle.mspec.proofs.LockOrders.{held_cmp_total, held_cmp_exact}
@@ -21,7 +22,7 @@ use Rattle.misolation.specs.Cut.{is_member, is_inside, cut_settings, cut_world, 
 use Rattle.misolation.specs.PlanLaws.{Actor, ops_of, cut_ops, InsidePlan}
 use Rattle.misolation.specs.StepLaws.{OutsideStep}
 use Rattle.misolation.specs.HistoryLaws.{events_of, IsAlone}
-use Rattle.misolation.specs.Islands.{IsIsland, Placement, on, KeepsTies, refusal, StrangersRefused, LaidTogether}
+use Rattle.misolation.specs.Islands.{Placement, on, KeepsTies, refusal, StrangersRefused, LaidTogether}
 use Rattle.misolation.specs.IslandLaws.{IslandRunsAlone, MachinesAreIslands, WholeComesApart, MachinesRunTogether, MovedIslandGoesOn}
 use Rattle.misolation.proofs.CutMaps.{by_test, get_kept}
 use Rattle.misolation.proofs.LockCuts.{released_cut}

@@ -3,12 +3,13 @@
 use Rattle.std.specs.Prelude.{◌≡◌, ℕ, ◌↔◌, List}
 use Rattle.mspec.specs.Globals.{Globals}
 use Rattle.mspec.specs.Access.{Settings}
+use Rattle.mspec.specs.Flow.{IsIsland}
 use Rattle.mmeaning.specs.Step.{Server, Event, Reply}
 use Rattle.mmeaning.specs.History.{History, opening, server_after, answered, NoneFailed}
 use Rattle.misolation.specs.Reach.{Accounts}
 use Rattle.misolation.specs.Cut.{cut_settings, cut_server, cut_events, part, IsFit}
 use Rattle.misolation.specs.HistoryLaws.{events_of}
-use Rattle.misolation.specs.Islands.{IsIsland, globals_of, Placement, on, KeepsTies, RunsApart, LaidTogether}
+use Rattle.misolation.specs.Islands.{globals_of, Placement, on, KeepsTies, RunsApart, LaidTogether}
 
 -- The law of islands, for one: the replies at its terminals are those of a run of its own lines over its own settings and globals, and its
 -- part of the globals at the end is what that run leaves.

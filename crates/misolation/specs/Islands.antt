@@ -1,5 +1,5 @@
 -- SPDX-License-Identifier: Apache-2.0
--- Islands: accounts that no grant ties to others. Each may be kept on a machine of its own.
+-- Islands (`IsIsland` of mspec): accounts that no grant ties to others. Each may be kept on a machine of its own.
 use Rattle.std.specs.Prelude.{◌≡◌, ℕ, nat_eq, [], List, ◌∷◌, Some, None}
 use Rattle.std.specs.FinMap.{get, retain_keys}
 use Rattle.mspec.specs.Code.{Zterm, Own}
@@ -12,10 +12,6 @@ use Rattle.mmeaning.specs.Step.{Server, Event, Reply, Faulted}
 use Rattle.mmeaning.specs.History.{History}
 use Rattle.misolation.specs.Reach.{Accounts}
 use Rattle.misolation.specs.Cut.{cut_settings, cut_server, part}
-
--- A set of accounts that is closed in both directions: of two accounts of which one flows to the other, both are members or neither is.
-abbrev pub IsIsland : Settings → Accounts → Type 0
-IsIsland settings s = (x y : Text) → Flows settings x y → s x ≡ s y
 
 -- the members' globals
 abbrev pub globals_of : Accounts → Globals → Globals

@@ -98,8 +98,8 @@
 //!
 //! The laws speak of plans of operations and never of commands, so they hold whatever the language has: a new command changes
 //! nothing here, and a new operation is one more case of either law. The definitions that they speak of stand in `mspec` (settings,
-//! `Flow`, locks, plans) and in `mmeaning` (`World`, `Step`, `History`). That the program's steps are those of the definitions is said
-//! by the contracts of the program. `proofs/IsolationExamples.antt` has the clinic, the laboratory and the bank as proved equations:
+//! `Flow`, locks, plans) and in `mmeaning` (`World`, `Step`, `History`). That the program's steps are those of the definitions is said,
+//! over a store in memory, by the contracts of the program. `proofs/IsolationExamples.antt` has the clinic, the laboratory and the bank as proved equations:
 //! apart from them the bank is not seen, even while its lines fail; and with leave to write bills it is no outsider any more.
 //!
 //! Each law is the contract of a function with an empty body, which no code calls.

@@ -16,8 +16,8 @@ abbrev pub HasText : List ℕ → List Row → Text → Type 0
 HasText name rows text = first_of name rows ≡ Some text
 
 -- the number that the option's text is
-abbrev pub IsNumber : List ℕ → List Row → ℕ → Type 0
-IsNumber name rows n = (text : Text) × (one_of name rows ≡ Some text) × (digits_value 10 (without_leading_plus text) ≡ n)
+abbrev pub GivesNumber : List ℕ → List Row → ℕ → Type 0
+GivesNumber name rows n = (text : Text) × (one_of name rows ≡ Some text) × (digits_value 10 (without_leading_plus text) ≡ n)
 
 -- the text `memory` is the store in memory, and every other one a path
 abbrev pub IsStore : List Row → Store → Type 0
@@ -32,7 +32,7 @@ HasRun rows (Serve settings store port connections) = ⊥
 abbrev pub HasServe : List Row → Job → Type 0
 HasServe rows (Run settings store only) = ⊥
 HasServe rows (Serve settings store port connections) = HasText (codes "settings") rows (string_bytes settings)
-    × IsStore rows store × IsNumber (codes "port") rows port × IsNumber (codes "connections") rows connections
+    × IsStore rows store × GivesNumber (codes "port") rows port × GivesNumber (codes "connections") rows connections
 
 -- the job is what the subcommand with these options asks for
 abbrev pub IsJobAt : Option (Text × List Row) → Job → Type 0

@@ -3,7 +3,7 @@
 ghost use Rattle.std.specs.Prelude.{◌≡◌, ◌≢◌, ◌⊎◌, IfOk, IfErr, Some, [], map, string_bytes, option_map};
 ghost use Rattle.clap.specs.Words.{fault_of, first_value, found_of, kind_of, one_text, rows_of, subcommand_rows_of};
 ghost use Rattle.mjob.specs.CommandLine.{mserve_app};
-ghost use Rattle.mjob.specs.Asked.{HasRun, HasServe, IsJob, IsJobAt, IsNumber, IsRefusal, IsStore};
+ghost use Rattle.mjob.specs.Asked.{GivesNumber, HasRun, HasServe, IsJob, IsJobAt, IsRefusal, IsStore};
 
 use crate::jobs::{Job, JobFault, Store};
 use crate::options::mserve_command;

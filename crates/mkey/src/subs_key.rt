@@ -85,13 +85,6 @@ impl SubsKey {
         Ok(SubsKey::of_bytes(bound))
     }
 
-    /// The key of no subscripts, which takes no memory.
-    pub fn empty(alloc: Global) -> SubsKey
-        ensures { result ≡ [] }
-    {
-        SubsKey::of_bytes(Vec::new(alloc))
-    }
-
     /// Whether it is the key of no subscripts. Takes no memory.
     pub fn is_empty(&self) -> bool
         ensures { result ≡ (length self.now == 0) }

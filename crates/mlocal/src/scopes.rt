@@ -53,13 +53,6 @@ impl Locals {
         }
     }
 
-    /// How many levels are open. Takes no memory.
-    pub fn depth(&self) -> usize
-        ensures { length self.now ≡ result + 1 }
-    {
-        self.levels.len()
-    }
-
     /// Opens a level: a scope on top that has no name.
     ///
     /// # Errors

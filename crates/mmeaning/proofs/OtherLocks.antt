@@ -11,7 +11,7 @@ use Rattle.mspec.proofs.Plans.{keeps, keeps_short}
 use Rattle.mmeaning.specs.LineMeaning.{Signal}
 use Rattle.mmeaning.specs.Step.{Settings}
 use Rattle.mmeaning.specs.World.{World, act, guarded, may_read, may_write, may_lock, took}
-use Rattle.mmeaning.specs.StepLaws.{OthersKeepLocks}
+use Rattle.mmeaning.specs.StepLaws.{PlanKeepsOthersLocks}
 
 module _ (settings : Settings) (terminal : ℕ) (me : Text) where
   abbrev IsKept : World → World → Type 0
@@ -37,7 +37,7 @@ module _ (settings : Settings) (terminal : ℕ) (me : Text) where
   by_operation (Give_back n) w = let law : laws.OthersKeepLocks w.locks terminal = others_keep_locks w.locks terminal in law.given_back n
   by_operation Release w = let law : laws.OthersKeepLocks w.locks terminal = others_keep_locks w.locks terminal in law.released
 
-  pub others_kept : (p : Plan (Outcome Signal)) (w : World) → OthersKeepLocks settings terminal me p w
+  pub others_kept : (p : Plan (Outcome Signal)) (w : World) → PlanKeepsOthersLocks settings terminal me p w
   others_kept p w = record {
     whole = keeps (IsKept w) (act settings terminal me) (λ op v h. by_operation op v ∙ h) p w refl;
     short = λ n. keeps_short (IsKept w) (act settings terminal me) (λ op v h. by_operation op v ∙ h) n p w refl;

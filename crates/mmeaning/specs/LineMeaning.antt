@@ -306,7 +306,7 @@ where_holds x c p = do
   b ← holds (inside_of x) c
   cond b p (give Go_on)
 
--- arguments that this text gives
+-- arguments that this text gives. The indirection stays open until the last of them is done, a DO or an XECUTE among them too.
 abbrev pub given_by : Context → FormTree → Text → Act Signal
 given_by x f text = do
   an_indirection_free x.spot.depth

@@ -14,7 +14,7 @@ abbrev pub NormalNeverFails : Type 0
 NormalNeverFails = (settings : Settings) (e : Event) (server : Server) → is_failure (normal settings e server).0.ending ≡ false
 
 -- what a line does changes no lock of another terminal, whole or cut short
-pub record OthersKeepLocks (settings : Settings) (terminal : ℕ) (me : Text) (p : Plan (Outcome Signal)) (w : World) : Type 0 where
+pub record PlanKeepsOthersLocks (settings : Settings) (terminal : ℕ) (me : Text) (p : Plan (Outcome Signal)) (w : World) : Type 0 where
   pub whole : released (perform (act settings terminal me) p w).1.locks terminal ≡ released w.locks terminal
   pub short : (n : ℕ) → released (cut_short (act settings terminal me) n p w).locks terminal ≡ released w.locks terminal
 

@@ -81,7 +81,8 @@ beside xs = do
   last ← naked_is
   replaced xs last
 
--- whether the line's account may use a global so; what is no account's name is refused as an account that grants nothing
+-- whether the line's account may use a global so; what is no account's name is refused as an account that grants nothing, its own
+-- too, which no account has by a document of settings
 abbrev pub allowed : Mode → Node → Act (Unit {0})
 allowed mode n = do
   is_let ← ask (May n.account n.name mode)
@@ -129,7 +130,7 @@ read_or other p = do
   found ← found_at p
   give (unwrap_or found other)
 
--- a global keeps no text that is too long; none that a line makes is
+-- a global keeps no text that is too long; none that a line makes is, and none that a store holds, so that no line meets this case
 abbrev pub put_at : Place → Text → Act (Unit {0})
 put_at (at_local name xs) x = set_local name xs x
 put_at (at_node n) x = unless Zlong (nat_le (length x) longest_text) >> ask (Put n x)

@@ -37,7 +37,8 @@ took w None = (false, w)
 took w (Some locks) = (true, record w { locks = locks })
 
 -- What is done for a terminal of the account `me`. One that the account may not do does nothing, so that no plan tells or
--- changes more than the settings allow.
+-- changes more than the settings allow. Those without a guard touch only what is the terminal's or its account's own: a routine
+-- of the account, counts of the terminal.
 abbrev pub act : Settings → ℕ → Text → Ops World
 act settings terminal me (May owner name mode) w = (may settings me owner name mode, w)
 act settings terminal me (Value n) w = guarded (may_read settings me n) None w (get w.globals n, w)

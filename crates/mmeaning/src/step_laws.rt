@@ -6,7 +6,7 @@ ghost use Rattle.mspec.specs.Act.{Text, Outcome};
 ghost use Rattle.mmeaning.specs.LineMeaning.{Signal};
 ghost use Rattle.mmeaning.specs.World.{World};
 ghost use Rattle.mmeaning.specs.Step.{Settings};
-ghost use Rattle.mmeaning.specs.StepLaws.{NormalNeverFails, OthersKeepLocks, NormalStepsAreHistory, HistoryIsNormal};
+ghost use Rattle.mmeaning.specs.StepLaws.{NormalNeverFails, PlanKeepsOthersLocks, NormalStepsAreHistory, HistoryIsNormal};
 
 /// A normal step is never answered ZMEM or ZSTORE.
 pub fn normal_never_fails()
@@ -15,7 +15,7 @@ pub fn normal_never_fails()
 
 /// What a line does changes no lock of another terminal.
 pub fn others_kept()
-    ensures { (settings : Settings) (terminal : ℕ) (me : Text) (p : Plan (Outcome Signal)) (w : World) → OthersKeepLocks settings terminal me p w }
+    ensures { (settings : Settings) (terminal : ℕ) (me : Text) (p : Plan (Outcome Signal)) (w : World) → PlanKeepsOthersLocks settings terminal me p w }
 {}
 
 /// Normal steps are a history of any events, so there is one.

@@ -3,7 +3,7 @@
 use Rattle.std.proofs.Common.{ℕ, zero, suc, ◌≡◌, Bool, true, false, not, cond, ◌&&◌, ◌||◌, List, [], ◌∷◌, Option, Some, None, refl, sym, ap, ◌∙◌}
 use Rattle.std.specs.Prelude.{unwrap_or}
 use Rattle.std.specs.Cmp.Lexicographic.{slice_cmp, bytes_decides, nat_list_cmp_total}
-use Rattle.std.specs.FinMap.{IsAntisymmetric, get, insert, empty, retain_keys, get-insert, get-retain_keys, nat_cmp-IsAntisymmetric, slice_cmp-IsAntisymmetric}
+use Rattle.std.specs.FinMap.{IsAntisymmetric, get, insert, remove, empty, retain_keys, get-insert, get-remove, get-retain_keys, nat_cmp-IsAntisymmetric, slice_cmp-IsAntisymmetric}
 use Rattle.std.specs.List.{filter}
 use Rattle.std.specs.Ordering.{nat_cmp, is_eq}
 use Rattle.std.specs.declared.cmp.Ordering.{Ordering}
@@ -11,7 +11,7 @@ use Rattle.std.specs.declared.cmp.Ordering.TheVariants.{Less, Equal, Greater}
 use Rattle.std.proofs.lemmas.List.Folds.{list_any-append}
 use Rattle.mspec.specs.Node.{Text}
 use Rattle.mspec.specs.Trees.{Tree, text_eq, without}
-use Rattle.mspec.specs.Scopes.{Scope, Scopes, has, is_among, is_other, tree_in, tree_of, with_tree, at_home, kill_in, killed_but, on_top, hide, hide_others, common, without_level}
+use Rattle.mspec.specs.Scopes.{Scope, Scopes, has, is_among, is_other, tree_in, tree_of, with_tree, at_home, is_bare, kill_in, killed_but, on_top, hide, hide_others, common, without_level}
 use Rattle.mspec.specs.ScopeLaws.{LeavingRestores, TopVariablesStandAlone, NewKeepsBelow, NewHides, NewExceptHides, HiddenVariablesComeBack, Call, Assign, Kill, KillExcept, New, NewExcept, Enter, Leave, after_all, is_nested}
 
 -- ---- one call
@@ -96,6 +96,20 @@ other-tree m n t s other =
     here true e = absurd (other (sym (names_exact n m (is_tied _ e))))
     here false e = refl
 
+-- a name that is let go of where its tree is bare
+bare-names : (m : Text) (s : Scope) (n : Text) (b : Bool) → has (cond b (record s { trees = remove s.trees m }) s) n ≡ has s n
+bare-names m s n true = refl
+bare-names m s n false = refl
+
+bare-other : (m n : Text) (s : Scope) → (m ≡ n → ⊥) → (b : Bool) → tree_in (cond b (record s { trees = remove s.trees m }) s) n ≡ tree_in s n
+bare-other m n s other true =
+    ap (λ o. unwrap_or o empty) (get-remove nat_list_cmp_total s.trees m n ∙ here (is_eq (slice_cmp nat_cmp n m)) refl)
+  where
+    here : (b : Bool) → is_eq (slice_cmp nat_cmp n m) ≡ b → cond b None (get s.trees n) ≡ get s.trees n
+    here true e = absurd (other (sym (names_exact n m (is_tied _ e))))
+    here false e = refl
+bare-other m n s other false = refl
+
 -- ---- NEW
 
 by_both : (a b : Bool) (x y z w : Tree) → a ≡ b → (b ≡ true → x ≡ z) → (b ≡ false → y ≡ w) → cond a x y ≡ cond b z w
@@ -166,11 +180,13 @@ killed_of m xs = record { names = λ s n. same_names s n (get s.trees m); trees 
   where
     same_names : (s : Scope) (n : Text) (o : Option Tree) → has (kill_in m xs o s) n ≡ has s n
     same_names s n None = refl
-    same_names s n (Some t) = refl
+    same_names s n (Some t) = let killed = with_tree m (without t xs) s in bare-names m killed n (is_bare (tree_in killed m))
 
     same_trees : (s : Scope) (n : Text) (o : Option Tree) → (m ≡ n → ⊥) → tree_in (kill_in m xs o s) n ≡ tree_in s n
     same_trees s n None other = refl
-    same_trees s n (Some t) other = other-tree m n (without t xs) s other
+    same_trees s n (Some t) other =
+        let killed = with_tree m (without t xs) s in
+        bare-other m n killed other (is_bare (tree_in killed m)) ∙ other-tree m n (without t xs) s other
 
 -- the variable of another name is as it was
 other-home : (m n : Text) (f : Scope → Scope) → IsOf m f → (m ≡ n → ⊥) → (scopes : Scopes) → tree_of (at_home f m scopes) n ≡ tree_of scopes n

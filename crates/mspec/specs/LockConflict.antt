@@ -31,7 +31,7 @@ lock_name_cmp = then_cmp (on (λ n. n.global) bool_cmp) (on (λ n. n.node) (node
 abbrev pub held_cmp : Held → Held → Ordering
 held_cmp = then_cmp (on (λ h. h.name) lock_name_cmp) (on (λ h. h.terminal) nat_cmp)
 
--- how often each is held: a count from 1 to 1,000,000
+-- how often each is held. Of the program's locks each count is from 1 to 1,000,000, which its type says and this one does not.
 abbrev pub Locks : Type 0
 Locks = FinMap held_cmp ℕ
 

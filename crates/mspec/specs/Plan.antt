@@ -3,7 +3,7 @@
 -- its answer.
 --
 -- A plan says what is done without saying where: carried out over a world it gives an answer and the world that it leaves.
--- What is proved of all plans, as isolation will be, needs one case for each operation and none for the language.
+-- What is proved of all plans, as isolation is, needs one case for each operation and none for the language.
 use Rattle.std.specs.Prelude.{ℕ, zero, suc, Bool, List, Option}
 use Rattle.mspec.specs.Node.{Text, Node}
 use Rattle.mspec.specs.Trees.{Direction}

@@ -9,13 +9,13 @@ use Rattle.mspec.specs.Act.{Text}
 use Rattle.mmeaning.specs.Step.{Settings, Server}
 use Rattle.mstore.specs.declared.store.NodeStore.{Ghosts}
 use Rattle.mwire.specs.Wire.{fate_of}
-use Rattle.mwire.specs.Answers.{Answers, LineAnswered, Breaks}
-use Rattle.mwire.specs.Progress.{EachAnswered, Passes, LineSent, HasServed}
+use Rattle.mwire.specs.Answers.{LinesAnswered, LineAnswered, Breaks}
+use Rattle.mwire.specs.Progress.{EachAnswered, TakesOn, LineSent, HasServed}
 use Rattle.mwire.specs.Serves.{BreaksOff, EndsBy, Serves}
 use Rattle.mwire.specs.declared.fault.WireFault.{WireFault}
 use Rattle.mwire.specs.declared.fault.WireFault.TheVariants.{Read, Write, Memory}
 use Rattle.mwire.proofs.Cuts.{fate_of-kept_end, lines-cut, finished_lines-cut, last_part}
-use Rattle.mwire.proofs.LineAnswers.{LineAnswered-same, EachAnswered-more, Answers-each}
+use Rattle.mwire.proofs.LineAnswers.{LineAnswered-same, EachAnswered-more, LinesAnswered-each}
 use Rattle.mwire.proofs.Progresses.{Stands-start}
 
 LineAnswered-kept_end : {S : Type 0} (g : Ghosts S) (settings : Settings) (old : Server) (kept rest answer : Text) (new : Server)
@@ -41,7 +41,7 @@ HasServed-kept g settings first now left left' left'' held held' kept h k = reco
 
 -- a piece that was taken whole
 pub HasServed-more : {S E : Type 0} (g : Ghosts S) (settings : Settings) (first now new : Server) (left left' left'' held held' held'' : Option Text) (kept kept' piece : Text) (u : Unit {0})
-    → HasServed g settings first now left left' held held' kept → Consumes left' left'' piece → Passes {E = E} g settings now kept piece new kept' held' held'' (Ok u)
+    → HasServed g settings first now left left' held held' kept → Consumes left' left'' piece → TakesOn {E = E} g settings now kept piece new kept' held' held'' (Ok u)
     → HasServed g settings first new left left'' held held'' kept'
 HasServed-more g settings first now new left left' left'' held held' held'' kept kept' piece u h c p = record {
   read = h.read ++ piece;
@@ -63,8 +63,8 @@ Serves-read g settings first now left left' held held' kept h = record {
   appended = h.appended;
   outcome =
       let s = h.stands in
-      let P : List Text → Type 0 = λ ls. Answers g settings first ls h.sent now in
-      subst P (sym (finished_lines-cut h.read s.finished kept s.cut)) (Answers-each g settings first (map strip_carriage_return s.finished) h.sent now s.answered);
+      let P : List Text → Type 0 = λ ls. LinesAnswered g settings first ls h.sent now in
+      subst P (sym (finished_lines-cut h.read s.finished kept s.cut)) (LinesAnswered-each g settings first (map strip_carriage_return s.finished) h.sent now s.answered);
 }
 
 EachAnswered-end : {S : Type 0} (g : Ghosts S) (settings : Settings) (first : Server) (done : List Text) (rest : Text) (now : Server) (text : Text) (new : Server) (answer : Text)
@@ -85,7 +85,7 @@ Breaks-end g settings first done (x ∷ xs) now text new answer part unsent ne h
   of_all = ap (λ ls. done ++ ls) (last_part x xs);
   whole = text;
   between = now;
-  answered = Answers-each g settings first done text now h;
+  answered = LinesAnswered-each g settings first done text now h;
   answer = answer;
   last_answered = t;
   part = part;
@@ -122,7 +122,7 @@ serves_end X g settings first now new left left' held held' held'' kept (Ok u) h
       let whole : p.answer ≡ p.sent.part = p.sent.of_bytes ∙ (ap (λ x. p.sent.part ++ x) (p.sent.all_sent refl) ∙ append-nil p.sent.part) in
       let taken = LineAnswered-kept_end g settings now kept s.cut.rest p.answer new s.cut.kept_is p.answered in
       let each = EachAnswered-end g settings first (map strip_carriage_return s.finished) s.cut.rest now h.sent new p.answer s.answered taken in
-      (z, rw (lines-cut h.read s.finished kept s.cut, ← whole) (Answers-each g settings first _ _ new each));
+      (z, rw (lines-cut h.read s.finished kept s.cut, ← whole) (LinesAnswered-each g settings first _ _ new each));
 }
 serves_end X g settings first now new left left' held held' held'' kept (Err e) h z p idle f = record {
   read = h.read;
@@ -148,7 +148,7 @@ Serves-end X g settings first now new left left' left'' held held' held'' kept l
 
 -- a line of a piece broke
 pub Serves-piece : {S : Type 0} (g : Ghosts S) (settings : Settings) (first now new : Server) (left left' left'' held held' held'' : Option Text) (kept kept' piece : Text) (e : WireFault)
-    → HasServed g settings first now left left' held held' kept → Consumes left' left'' piece → Passes g settings now kept piece new kept' held' held'' (Err e) → e ≢ Read
+    → HasServed g settings first now left left' held held' kept → Consumes left' left'' piece → TakesOn g settings now kept piece new kept' held' held'' (Err e) → e ≢ Read
     → Serves g settings first new left left'' held held'' (Err e)
 Serves-piece g settings first now new left left' left'' held held' held'' kept kept' piece e h c p f = record {
   read = h.read ++ piece;

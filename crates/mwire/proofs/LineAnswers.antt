@@ -12,7 +12,7 @@ use Rattle.mexec.specs.declared.run.Ended.TheVariants.{Fault}
 use Rattle.mworld.specs.declared.reply.Reply.{Reply as CodeReply}
 use Rattle.mworld.specs.View.{reply_of}
 use Rattle.mwire.specs.Wire.{Fate, Ignored, TooLong, Unreadable, Runs, fate_of, before_events, events_of, too_long_text, unreadable_text, reply_text}
-use Rattle.mwire.specs.Answers.{line_text, replies_behind, answer_text, Answers, RunAnswered, FateAnswered, LineAnswered}
+use Rattle.mwire.specs.Answers.{line_text, replies_behind, answer_text, LinesAnswered, RunAnswered, FateAnswered, LineAnswered}
 use Rattle.mwire.specs.Progress.{EachAnswered}
 use Rattle.mwire.proofs.StoreFaults.{store_sufficed}
 
@@ -46,9 +46,9 @@ EachAnswered-more g settings old (l ∷ ls) text mid line answer new h t =
 abbrev both_texts : List Text → Fate → List Reply → Text
 both_texts more fate replies = line_text fate replies ++ answer_text more (replies_behind fate replies)
 
-Answers-line : {S : Type 0} (g : Ghosts S) (settings : Settings) (old : Server) (line : Text) (more : List Text) (fate : Fate) (answer : Text) (mid : Server) (rest : Text) (new : Server)
-    → fate_of line ≡ fate → FateAnswered g settings old fate answer mid → Answers g settings mid more rest new → Answers g settings old (line ∷ more) (answer ++ rest) new
-Answers-line g settings old line more Ignored answer mid rest new e h a =
+LinesAnswered-line : {S : Type 0} (g : Ghosts S) (settings : Settings) (old : Server) (line : Text) (more : List Text) (fate : Fate) (answer : Text) (mid : Server) (rest : Text) (new : Server)
+    → fate_of line ≡ fate → FateAnswered g settings old fate answer mid → LinesAnswered g settings mid more rest new → LinesAnswered g settings old (line ∷ more) (answer ++ rest) new
+LinesAnswered-line g settings old line more Ignored answer mid rest new e h a =
     let P : Server → Type 0 = λ s. History settings s a.trace new in
     record {
       trace = a.trace;
@@ -57,7 +57,7 @@ Answers-line g settings old line more Ignored answer mid rest new e h a =
       history = λ sound. subst P h.1 (a.history sound);
       steady = a.steady;
     }
-Answers-line g settings old line more TooLong answer mid rest new e h a =
+LinesAnswered-line g settings old line more TooLong answer mid rest new e h a =
     let P : Server → Type 0 = λ s. History settings s a.trace new in
     record {
       trace = a.trace;
@@ -66,7 +66,7 @@ Answers-line g settings old line more TooLong answer mid rest new e h a =
       history = λ sound. subst P h.1 (a.history sound);
       steady = a.steady;
     }
-Answers-line g settings old line more Unreadable answer mid rest new e h a =
+LinesAnswered-line g settings old line more Unreadable answer mid rest new e h a =
     let P : Server → Type 0 = λ s. History settings s a.trace new in
     record {
       trace = a.trace;
@@ -75,7 +75,7 @@ Answers-line g settings old line more Unreadable answer mid rest new e h a =
       history = λ sound. subst P h.1 (a.history sound);
       steady = a.steady;
     }
-Answers-line g settings old line more (Runs event) answer mid rest new e h a = record {
+LinesAnswered-line g settings old line more (Runs event) answer mid rest new e h a = record {
   trace = (event, h.reply) ∷ a.trace;
   events = ap (λ es. event ∷ es) a.events ∙ ap (λ f. before_events f (events_of more)) (sym e);
   text =
@@ -85,8 +85,8 @@ Answers-line g settings old line more (Runs event) answer mid rest new e h a = r
   steady = λ steady. (h.steady steady, a.steady steady);
 }
 
-pub Answers-each : {S : Type 0} (g : Ghosts S) (settings : Settings) (old : Server) (lines : List Text) (text : Text) (new : Server) → EachAnswered g settings old lines text new → Answers g settings old lines text new
-Answers-each g settings old [] text new h = record { trace = []; events = refl; text = h.0; history = λ sound. h.1; steady = λ steady. tt }
-Answers-each g settings old (line ∷ more) text new h =
-    let P : Text → Type 0 = λ t. Answers g settings old (line ∷ more) t new in
-    subst P (sym h.5) (Answers-line g settings old line more (fate_of line) h.0 h.1 h.2 new refl h.3.by_fate (Answers-each g settings h.1 more h.2 new h.4))
+pub LinesAnswered-each : {S : Type 0} (g : Ghosts S) (settings : Settings) (old : Server) (lines : List Text) (text : Text) (new : Server) → EachAnswered g settings old lines text new → LinesAnswered g settings old lines text new
+LinesAnswered-each g settings old [] text new h = record { trace = []; events = refl; text = h.0; history = λ sound. h.1; steady = λ steady. tt }
+LinesAnswered-each g settings old (line ∷ more) text new h =
+    let P : Text → Type 0 = λ t. LinesAnswered g settings old (line ∷ more) t new in
+    subst P (sym h.5) (LinesAnswered-line g settings old line more (fate_of line) h.0 h.1 h.2 new refl h.3.by_fate (LinesAnswered-each g settings h.1 more h.2 new h.4))

@@ -10,9 +10,9 @@ use Rattle.mmeaning.specs.Step.{Settings, Server}
 use Rattle.mstore.specs.declared.store.NodeStore.{Ghosts}
 use Rattle.mwire.specs.Wire.{fate_of, finished_lines}
 use Rattle.mwire.specs.Answers.{LineAnswered, Breaks}
-use Rattle.mwire.specs.Progress.{EachAnswered, Stands, Passes, LineSent}
+use Rattle.mwire.specs.Progress.{EachAnswered, Stands, TakesOn, LineSent}
 use Rattle.mwire.proofs.Cuts.{fate_of-kept, IsCut-nil, IsCut-byte, IsCut-line, finished_lines-cut_more}
-use Rattle.mwire.proofs.LineAnswers.{LineAnswered-same, EachAnswered-more, Answers-each}
+use Rattle.mwire.proofs.LineAnswers.{LineAnswered-same, EachAnswered-more, LinesAnswered-each}
 
 -- where the stream begins
 pub Stands-start : {S : Type 0} (g : Ghosts S) (settings : Settings) (first : Server) → Stands g settings first [] first [] []
@@ -48,7 +48,7 @@ Breaks-line g settings first past old kept text new answer part unsent s t e mor
   of_all = finished_lines-cut_more past s.finished kept more s.cut;
   whole = text;
   between = old;
-  answered = Answers-each g settings first (map strip_carriage_return s.finished) text old s.answered;
+  answered = LinesAnswered-each g settings first (map strip_carriage_return s.finished) text old s.answered;
   answer = answer;
   last_answered = LineAnswered-kept g settings old kept s.cut.rest answer new s.cut.kept_is t;
   part = part;
@@ -58,10 +58,10 @@ Breaks-line g settings first past old kept text new answer part unsent s t e mor
 }
 
 -- a line feed
-pub Passes-line : {S E : Type 0} (g : Ghosts S) (settings : Settings) (old : Server) (kept line : Text) (byte : ℕ) (new : Server) (kept' : Text) (before after : Option Text) (result : Result (Unit {0}) E)
+pub TakesOn-line : {S E : Type 0} (g : Ghosts S) (settings : Settings) (old : Server) (kept line : Text) (byte : ℕ) (new : Server) (kept' : Text) (before after : Option Text) (result : Result (Unit {0}) E)
     → byte ≡ 10 → kept' ≡ [] → line ≡ strip_carriage_return kept → LineSent g settings old line new before after (is_ok result)
-    → Passes g settings old kept (byte ∷ []) new kept' before after result
-Passes-line g settings old kept line byte new kept' before after (Ok u) eb ek el p = record {
+    → TakesOn g settings old kept (byte ∷ []) new kept' before after result
+TakesOn-line g settings old kept line byte new kept' before after (Ok u) eb ek el p = record {
   sent = p.sent.part;
   appended = p.sent.appended;
   outcome = λ first past text s.
@@ -70,7 +70,7 @@ Passes-line g settings old kept line byte new kept' before after (Ok u) eb ek el
       let stands = Stands-line g settings first past old kept text new p.answer s (subst P el p.answered) in
       rw (eb, ek, ← whole) stands;
 }
-Passes-line g settings old kept line byte new kept' before after (Err e) eb ek el p = record {
+TakesOn-line g settings old kept line byte new kept' before after (Err e) eb ek el p = record {
   sent = p.sent.part;
   appended = p.sent.appended;
   outcome = λ first past text s more.
@@ -79,10 +79,10 @@ Passes-line g settings old kept line byte new kept' before after (Err e) eb ek e
 }
 
 -- another byte
-pub Passes-byte : {S E : Type 0} (g : Ghosts S) (settings : Settings) (old : Server) (kept : Text) (byte : ℕ) (kept' : Text) (before : Option Text) (u : Unit {0})
+pub TakesOn-byte : {S E : Type 0} (g : Ghosts S) (settings : Settings) (old : Server) (kept : Text) (byte : ℕ) (kept' : Text) (before : Option Text) (u : Unit {0})
     → (byte == 10) ≡ false → kept' ≡ take 262 (kept ++ byte ∷ [])
-    → Passes {E = E} g settings old kept (byte ∷ []) old kept' before before (Ok u)
-Passes-byte g settings old kept byte kept' before u e k = record {
+    → TakesOn {E = E} g settings old kept (byte ∷ []) old kept' before before (Ok u)
+TakesOn-byte g settings old kept byte kept' before u e k = record {
   sent = [];
   appended = Appends-nil before;
   outcome = λ first past text s.
@@ -91,23 +91,23 @@ Passes-byte g settings old kept byte kept' before u e k = record {
       rw append-nil stands;
 }
 
-pub Passes-nil : {S E : Type 0} (g : Ghosts S) (settings : Settings) (old : Server) (kept : Text) (before : Option Text) (u : Unit {0})
-    → Passes {E = E} g settings old kept [] old kept before before (Ok u)
-Passes-nil g settings old kept before u = record {
+pub TakesOn-nil : {S E : Type 0} (g : Ghosts S) (settings : Settings) (old : Server) (kept : Text) (before : Option Text) (u : Unit {0})
+    → TakesOn {E = E} g settings old kept [] old kept before before (Ok u)
+TakesOn-nil g settings old kept before u = record {
   sent = [];
   appended = Appends-nil before;
   outcome = λ first past text s. simp append-nil s;
 }
 
-Passes-then : {S E : Type 0} (g : Ghosts S) (settings : Settings) (a : Server) (ka xs : Text) (b : Server) (kb : Text) (wa wb : Option Text) (u : Unit {0}) (ys : Text) (c : Server) (kc : Text) (wc : Option Text) (result : Result (Unit {0}) E)
-    → Passes {E = E} g settings a ka xs b kb wa wb (Ok u) → Passes g settings b kb ys c kc wb wc result → Passes g settings a ka (xs ++ ys) c kc wa wc result
-Passes-then g settings a ka xs b kb wa wb u ys c kc wc (Ok v) p q = record {
+TakesOn-then : {S E : Type 0} (g : Ghosts S) (settings : Settings) (a : Server) (ka xs : Text) (b : Server) (kb : Text) (wa wb : Option Text) (u : Unit {0}) (ys : Text) (c : Server) (kc : Text) (wc : Option Text) (result : Result (Unit {0}) E)
+    → TakesOn {E = E} g settings a ka xs b kb wa wb (Ok u) → TakesOn g settings b kb ys c kc wb wc result → TakesOn g settings a ka (xs ++ ys) c kc wa wc result
+TakesOn-then g settings a ka xs b kb wa wb u ys c kc wc (Ok v) p q = record {
   sent = p.sent ++ q.sent;
   appended = Appends-trans wa wb wc p.sent q.sent p.appended q.appended;
   outcome = λ first past text s.
       rw (← append_assoc past xs ys, ← append_assoc text p.sent q.sent) (q.outcome first (past ++ xs) (text ++ p.sent) (p.outcome first past text s));
 }
-Passes-then g settings a ka xs b kb wa wb u ys c kc wc (Err e) p q = record {
+TakesOn-then g settings a ka xs b kb wa wb u ys c kc wc (Err e) p q = record {
   sent = p.sent ++ q.sent;
   appended = Appends-trans wa wb wc p.sent q.sent p.appended q.appended;
   outcome = λ first past text s more.
@@ -115,9 +115,9 @@ Passes-then g settings a ka xs b kb wa wb u ys c kc wc (Err e) p q = record {
 }
 
 -- a break stands, whatever is left unread
-Passes-cut : {S E : Type 0} (g : Ghosts S) (settings : Settings) (a : Server) (ka xs : Text) (b : Server) (kb : Text) (wa wb : Option Text) (e e' : E) (ys : Text)
-    → Passes g settings a ka xs b kb wa wb (Err e) → Passes g settings a ka (xs ++ ys) b kb wa wb (Err e')
-Passes-cut g settings a ka xs b kb wa wb e e' ys p = record {
+TakesOn-cut : {S E : Type 0} (g : Ghosts S) (settings : Settings) (a : Server) (ka xs : Text) (b : Server) (kb : Text) (wa wb : Option Text) (e e' : E) (ys : Text)
+    → TakesOn g settings a ka xs b kb wa wb (Err e) → TakesOn g settings a ka (xs ++ ys) b kb wa wb (Err e')
+TakesOn-cut g settings a ka xs b kb wa wb e e' ys p = record {
   sent = p.sent;
   appended = p.appended;
   outcome = λ first past text s more.
@@ -126,10 +126,10 @@ Passes-cut g settings a ka xs b kb wa wb e e' ys p = record {
 }
 
 -- by settings that stayed the same
-pub Passes-under : {S E : Type 0} {g : Ghosts S} {settings settings' : Settings} {old new : Server} {kept bytes kept' : Text} {before after : Option Text} {result : Result (Unit {0}) E}
-    → settings' ≡ settings → Passes g settings' old kept bytes new kept' before after result → Passes g settings old kept bytes new kept' before after result
-Passes-under {g = g} {old = old} {new = new} {kept = kept} {bytes = bytes} {kept' = kept'} {before = before} {after = after} {result = result} same p =
-    subst (λ (s : Settings). Passes g s old kept bytes new kept' before after result) same p
+pub TakesOn-under : {S E : Type 0} {g : Ghosts S} {settings settings' : Settings} {old new : Server} {kept bytes kept' : Text} {before after : Option Text} {result : Result (Unit {0}) E}
+    → settings' ≡ settings → TakesOn g settings' old kept bytes new kept' before after result → TakesOn g settings old kept bytes new kept' before after result
+TakesOn-under {g = g} {old = old} {new = new} {kept = kept} {bytes = bytes} {kept' = kept'} {before = before} {after = after} {result = result} same p =
+    subst (λ (s : Settings). TakesOn g s old kept bytes new kept' before after result) same p
 
 pub LineSent-under : {S : Type 0} {g : Ghosts S} {settings settings' : Settings} {old new : Server} {line : Text} {before after : Option Text} {whole : Bool}
     → settings' ≡ settings → LineSent g settings' old line new before after whole → LineSent g settings old line new before after whole
@@ -137,17 +137,17 @@ LineSent-under {g = g} {old = old} {new = new} {line = line} {before = before} {
     subst (λ (s : Settings). LineSent g s old line new before after whole) same p
 
 -- one more byte of a piece
-pub Passes-more : {S E : Type 0} (g : Ghosts S) (settings : Settings) (a : Server) (ka piece : Text) (i : ℕ) (b : Server) (kb : Text) (wa wb : Option Text) (u : Unit {0}) (c : Server) (kc : Text) (wc : Option Text) (v : Unit {0})
-    → i < length piece → Passes {E = E} g settings a ka (take i piece) b kb wa wb (Ok u) → Passes {E = E} g settings b kb (get_or piece i 0 ∷ []) c kc wb wc (Ok v) → Passes {E = E} g settings a ka (take (i + 1) piece) c kc wa wc (Ok v)
-Passes-more g settings a ka piece i b kb wa wb u c kc wc v lt p q =
-    rw (take_more piece i 0 lt) (Passes-then g settings a ka (take i piece) b kb wa wb u (get_or piece i 0 ∷ []) c kc wc (Ok v) p q)
+pub TakesOn-more : {S E : Type 0} (g : Ghosts S) (settings : Settings) (a : Server) (ka piece : Text) (i : ℕ) (b : Server) (kb : Text) (wa wb : Option Text) (u : Unit {0}) (c : Server) (kc : Text) (wc : Option Text) (v : Unit {0})
+    → i < length piece → TakesOn {E = E} g settings a ka (take i piece) b kb wa wb (Ok u) → TakesOn {E = E} g settings b kb (get_or piece i 0 ∷ []) c kc wb wc (Ok v) → TakesOn {E = E} g settings a ka (take (i + 1) piece) c kc wa wc (Ok v)
+TakesOn-more g settings a ka piece i b kb wa wb u c kc wc v lt p q =
+    rw (take_more piece i 0 lt) (TakesOn-then g settings a ka (take i piece) b kb wa wb u (get_or piece i 0 ∷ []) c kc wc (Ok v) p q)
 
 -- a byte of a piece at which it breaks
-pub Passes-stop : {S E : Type 0} (g : Ghosts S) (settings : Settings) (a : Server) (ka piece : Text) (i : ℕ) (b : Server) (kb : Text) (wa wb : Option Text) (u : Unit {0}) (c : Server) (kc : Text) (wc : Option Text) (e e' : E)
-    → i < length piece → Passes {E = E} g settings a ka (take i piece) b kb wa wb (Ok u) → Passes {E = E} g settings b kb (get_or piece i 0 ∷ []) c kc wb wc (Err e) → Passes {E = E} g settings a ka piece c kc wa wc (Err e')
-Passes-stop {E = E} g settings a ka piece i b kb wa wb u c kc wc e e' lt p q =
-    let r = Passes-then g settings a ka (take i piece) b kb wa wb u (get_or piece i 0 ∷ []) c kc wc (Err e) p q in
+pub TakesOn-stop : {S E : Type 0} (g : Ghosts S) (settings : Settings) (a : Server) (ka piece : Text) (i : ℕ) (b : Server) (kb : Text) (wa wb : Option Text) (u : Unit {0}) (c : Server) (kc : Text) (wc : Option Text) (e e' : E)
+    → i < length piece → TakesOn {E = E} g settings a ka (take i piece) b kb wa wb (Ok u) → TakesOn {E = E} g settings b kb (get_or piece i 0 ∷ []) c kc wb wc (Err e) → TakesOn {E = E} g settings a ka piece c kc wa wc (Err e')
+TakesOn-stop {E = E} g settings a ka piece i b kb wa wb u c kc wc e e' lt p q =
+    let r = TakesOn-then g settings a ka (take i piece) b kb wa wb u (get_or piece i 0 ∷ []) c kc wc (Err e) p q in
     let joined : (take i piece ++ get_or piece i 0 ∷ []) ++ drop (i + 1) piece ≡ piece =
     ap (λ l. l ++ drop (i + 1) piece) (sym (take_more piece i 0 lt)) ∙ take-append-drop (i + 1) piece in
-    let P : Text → Type 0 = λ l. Passes {E = E} g settings a ka l c kc wa wc (Err e') in
-    subst P joined (Passes-cut g settings a ka (take i piece ++ get_or piece i 0 ∷ []) c kc wa wc e e' (drop (i + 1) piece) r)
+    let P : Text → Type 0 = λ l. TakesOn {E = E} g settings a ka l c kc wa wc (Err e') in
+    subst P joined (TakesOn-cut g settings a ka (take i piece ++ get_or piece i 0 ∷ []) c kc wa wc e e' (drop (i + 1) piece) r)

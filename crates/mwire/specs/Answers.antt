@@ -39,7 +39,7 @@ StoreSufficedForEach [] = Unit {0}
 StoreSufficedForEach (e ∷ es) = StoreSufficed e.1 × StoreSufficedForEach es
 
 -- the lines are answered by these bytes, which a history of their events gives
-pub record Answers {S : Type 0} (g : Ghosts S) (settings : Settings) (server : Server) (all : List Text) (bytes : Text) (after : Server) : Type 0 where
+pub record LinesAnswered {S : Type 0} (g : Ghosts S) (settings : Settings) (server : Server) (all : List Text) (bytes : Text) (after : Server) : Type 0 where
   pub trace : List (Event × Reply)
   pub events : map (λ e. e.0) trace ≡ events_of all
   pub text : bytes ≡ answer_text all (map (λ e. e.1) trace)
@@ -72,7 +72,7 @@ pub record Breaks {S : Type 0} (g : Ghosts S) (settings : Settings) (server : Se
   pub of_all : all ≡ done ++ last ∷ others
   pub whole : Text
   pub between : Server
-  pub answered : Answers g settings server done whole between
+  pub answered : LinesAnswered g settings server done whole between
   pub answer : Text
   pub last_answered : LineAnswered g settings between last answer after
   pub part : Text

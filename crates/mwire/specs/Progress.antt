@@ -40,7 +40,7 @@ pub record Stands {S : Type 0} (g : Ghosts S) (settings : Settings) (first : Ser
   pub answered : EachAnswered g settings first (map strip_carriage_return finished) sent now
 
 -- what taking more bytes does, wherever the stream stands
-pub record Passes {S E : Type 0} (g : Ghosts S) (settings : Settings) (old : Server) (kept bytes : Text) (new : Server) (kept' : Text) (before after : Option Text) (result : Result (Unit {0}) E) : Type 0 where
+pub record TakesOn {S E : Type 0} (g : Ghosts S) (settings : Settings) (old : Server) (kept bytes : Text) (new : Server) (kept' : Text) (before after : Option Text) (result : Result (Unit {0}) E) : Type 0 where
   pub sent : Text
   pub appended : Appends before after sent
   pub outcome : (first : Server) (past text : Text) → Stands g settings first past old kept text

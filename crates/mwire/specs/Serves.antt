@@ -7,7 +7,7 @@ use Rattle.mspec.specs.Act.{Text}
 use Rattle.mmeaning.specs.Step.{Settings, Server, Event}
 use Rattle.mstore.specs.declared.store.NodeStore.{Ghosts}
 use Rattle.mwire.specs.Wire.{finished_lines, events_of}
-use Rattle.mwire.specs.Answers.{Answers, Breaks}
+use Rattle.mwire.specs.Answers.{LinesAnswered, Breaks}
 use Rattle.mwire.specs.declared.fault.WireFault.{WireFault}
 use Rattle.mwire.specs.declared.fault.WireFault.TheVariants.{Read, Write, Memory}
 
@@ -19,7 +19,7 @@ BreaksOff g settings server left read sent after =
 -- how far the bytes read are answered after a fault: after one of a read exactly the finished lines are, and after another
 -- one the answer of one line is cut off
 abbrev pub EndsBy : {S : Type 0} → Ghosts S → Settings → Server → Option Text → Text → Text → Server → WireFault → Type 0
-EndsBy g settings server left read sent after Read = Answers g settings server (finished_lines read) sent after
+EndsBy g settings server left read sent after Read = LinesAnswered g settings server (finished_lines read) sent after
 EndsBy g settings server left read sent after Write = BreaksOff g settings server left read sent after
 EndsBy g settings server left read sent after Memory = BreaksOff g settings server left read sent after
 
@@ -30,7 +30,7 @@ pub record Serves {S : Type 0} (g : Ghosts S) (settings : Settings) (server afte
   pub consumed : Consumes left left' read
   pub sent : Text
   pub appended : Appends held held' sent
-  pub outcome : MatchResult result (λ _. IsAtEnd left' × Answers g settings server (lines read) sent after) (EndsBy g settings server left' read sent after)
+  pub outcome : MatchResult result (λ _. IsAtEnd left' × LinesAnswered g settings server (lines read) sent after) (EndsBy g settings server left' read sent after)
 
 -- so many bytes were read, and at the stream's end the events are those of its lines
 pub record ReadsEvents {V : Type 0} (events : V → List Event) (left left' : Option Text) (result : Result V WireFault) : Type 0 where

@@ -10,7 +10,7 @@ use Rattle.mmeaning.specs.Step.{Settings, Server, Event, line_limit}
 use Rattle.mmeaning.specs.History.{opening, server_after, NoneFailed}
 use Rattle.mstore.specs.declared.store.NodeStore.{Ghosts}
 use Rattle.mwire.specs.Wire.{lines_served, stream_served, events_of}
-use Rattle.mwire.specs.Answers.{Answers}
+use Rattle.mwire.specs.Answers.{LinesAnswered}
 use Rattle.mwire.specs.Progress.{IsOpen}
 
 -- the line of an event: its terminal in digits, a space and its text
@@ -33,15 +33,15 @@ EventsHaveStream = (events : List Event) → All HasLine events → events_of (l
 -- Where memory and the store sufficed for each line, the bytes that answer lines are those of the definitional interpreter,
 -- and it leaves the same server
 abbrev pub NormalAnswersAreServed : {S : Type 0} → Ghosts S → Type 0
-NormalAnswersAreServed g = (settings : Settings) (server after : Server) (all : List Text) (bytes : Text) (answers : Answers g settings server all bytes after)
+NormalAnswersAreServed g = (settings : Settings) (server after : Server) (all : List Text) (bytes : Text) (answers : LinesAnswered g settings server all bytes after)
     → NoneFailed answers.trace → (bytes ≡ lines_served settings server all) × (after ≡ server_after settings server (events_of all))
 
 -- so what answers a whole stream, from an opening world, is told by the settings, the globals and the stream alone
 abbrev pub NormalStreamsAreServed : {S : Type 0} → Ghosts S → Type 0
-NormalStreamsAreServed g = (settings : Settings) (globals : Globals) (after : Server) (stream bytes : Text) (answers : Answers g settings (opening globals) (lines stream) bytes after)
+NormalStreamsAreServed g = (settings : Settings) (globals : Globals) (after : Server) (stream bytes : Text) (answers : LinesAnswered g settings (opening globals) (lines stream) bytes after)
     → NoneFailed answers.trace → bytes ≡ stream_served settings globals stream
 
 -- and any lines have an answer, by normal steps, over a store of any type
 abbrev pub LinesHaveAnswers : {S : Type 0} → Ghosts S → Type 0
 LinesHaveAnswers g = (settings : Settings) (server : Server) (all : List Text)
-    → Answers g settings server all (lines_served settings server all) (server_after settings server (events_of all))
+    → LinesAnswered g settings server all (lines_served settings server all) (server_after settings server (events_of all))

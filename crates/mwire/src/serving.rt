@@ -5,7 +5,7 @@ ghost use Rattle.mworld.specs.View.{settings_of, server_of, reply_of};
 ghost use Rattle.mwire.specs.Wire.{reply_text};
 ghost use Rattle.mwire.specs.Watched.{inner_of, failed_of, calls_of, stalls_of, ReadBroke, WriteBroke};
 ghost use Rattle.mwire.specs.Serves.{Serves};
-ghost use Rattle.mwire.specs.Progress.{Passes, LineSent, FrontSent};
+ghost use Rattle.mwire.specs.Progress.{TakesOn, LineSent, FrontSent};
 
 use crate::fate::{Fate, fate_of};
 use crate::fault::WireFault;
@@ -76,7 +76,7 @@ fn take_piece<S: NodeStore, W: Write>(
     piece: &[u8],
     writer: &mut Watched<W>,
 ) -> Result<(), WireFault>
-    ensures passes { Passes S.NodeStore (settings_of world.old) (server_of S.NodeStore world.old) line.old piece.now (server_of S.NodeStore world.new) line.new
+    ensures passes { TakesOn S.NodeStore (settings_of world.old) (server_of S.NodeStore world.old) line.old piece.now (server_of S.NodeStore world.new) line.new
         (W.contents (inner_of writer.old)) (W.contents (inner_of writer.new)) result }
     ensures settings { settings_of world.new ≡ settings_of world.old }
     ensures fault { IfErr result (λ e. (e ≢ WireFault.Read) × (e ≡ WireFault.Write → WriteBroke writer.old writer.new)) }
@@ -97,7 +97,7 @@ fn take_byte<S: NodeStore, W: Write>(
     byte: u8,
     writer: &mut Watched<W>,
 ) -> Result<(), WireFault>
-    ensures passes { Passes S.NodeStore (settings_of world.old) (server_of S.NodeStore world.old) line.old (byte ∷ []) (server_of S.NodeStore world.new) line.new
+    ensures passes { TakesOn S.NodeStore (settings_of world.old) (server_of S.NodeStore world.old) line.old (byte ∷ []) (server_of S.NodeStore world.new) line.new
         (W.contents (inner_of writer.old)) (W.contents (inner_of writer.new)) result }
     ensures settings { settings_of world.new ≡ settings_of world.old }
     ensures fault { IfErr result (λ e. (e ≢ WireFault.Read) × (e ≡ WireFault.Write → WriteBroke writer.old writer.new)) }

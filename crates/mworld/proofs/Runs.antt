@@ -15,7 +15,7 @@ use Rattle.mmeaning.specs.Step as step
 use Rattle.mmeaning.specs.Step.{Account, World, Event, Server, Step, FailedStep, lost, StepBy, normal, begun, kept, ended, settled, session_or_new, text_run, is_failure, is_lost, Ending, Finished, Halted, Faulted, act}
 use Rattle.mmeaning.specs.Calls.{Standing, Here, IsCut, FailedBy, ops_of, point}
 use Rattle.mspec.proofs.Plans.{cut_whole}
-use Rattle.mmeaning.specs.StepLaws.{OthersKeepLocks}
+use Rattle.mmeaning.specs.StepLaws.{PlanKeepsOthersLocks}
 use Rattle.misolation.specs.Cut.{AreFit}
 use Rattle.misolation.specs.PlanLaws.{Actor, KeepsFit}
 use Rattle.misolation.proofs.PlansInside.{plans_keep_fit}
@@ -120,7 +120,7 @@ module _ {S : Type 0} (g : Ghosts S) (settings : Settings) (e : Event) (place : 
       cut = is_cut b g.steady (text_run (name_at settings place) (line_at e.text)) here reply.ending there ends
 
       -- whatever was done for the terminal, others hold what they held
-      others : OthersKeepLocks settings e.terminal (name_at settings place) (text_run (name_at settings place) (line_at e.text) here.0) here.1
+      others : PlanKeepsOthersLocks settings e.terminal (name_at settings place) (text_run (name_at settings place) (line_at e.text) here.0) here.1
       others = others_kept settings e.terminal (name_at settings place) (text_run (name_at settings place) (line_at e.text) here.0) here.1
 
       failed : FailedStep settings e server after

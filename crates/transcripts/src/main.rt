@@ -72,7 +72,7 @@ fn play_lines(
     out: &mut Vec<u8>,
 ) -> anyhow::Result<()> {
     let settings = match kind {
-        "lines" | "replies" | "references" => "one_account.toml",
+        "lines" | "replies" | "references" | "devices" => "one_account.toml",
         "terminals" | "told" | "connections" => "three_terminals.toml",
         "accounts" => "four_accounts.toml",
         _ => anyhow::bail!("no such kind of block"),
@@ -81,6 +81,7 @@ fn play_lines(
     match kind {
         "told" => line_cases::play_told(rt.alloc(), &document, b"BOB", cases, out),
         "connections" => line_cases::play_connections(rt.alloc(), &document, cases, out),
+        "devices" => line_cases::play_devices(rt.alloc(), &document, cases, out),
         "replies" => line_cases::play_replies(rt.alloc(), &document, cases, out),
         "references" => line_cases::play_references(rt.alloc(), &document, b"ALICE", cases, out),
         _ => line_cases::play_lines(rt.alloc(), &document, cases, out),

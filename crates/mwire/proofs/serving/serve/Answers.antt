@@ -2,7 +2,7 @@
 use Rattle.std.proofs.Common.{false, ap, ◌∙◌, take, rules, arith}
 use Rattle.std.specs.Prelude.{◌||◌}
 use Rattle.mwire.proofs.Ends.{HasServed-start, HasServed-kept, HasServed-more, Serves-read, Serves-end, Serves-piece}
-use Rattle.mwire.proofs.Progresses.{Passes-under, LineSent-under}
+use Rattle.mwire.proofs.Progresses.{TakesOn-under, LineSent-under}
 use Rattle.mwire.proofs.serving.serve.Goals as goal
 
 pub loop-turn-init : goal.loop-turn-init
@@ -21,13 +21,13 @@ returns-clause-serves g c = Serves-read _ _ _ _ _ _ _ _ _ c.loop-turn.invariant.
 
 pub returns-in-Err-take_piece-clause-serves : goal.returns-in-Err-take_piece-clause-serves
 returns-in-Err-take_piece-clause-serves g c =
-    Serves-piece _ _ _ _ _ _ _ _ _ _ _ _ _ (take c.in-Ok.n c.read.new.buf) _ c.loop-turn.invariant.served c.in-Ok.ensures.bytes.0 (Passes-under c.loop-turn.invariant.settings c.in-Err-take_piece.ensures.passes) c.in-Err-take_piece.ensures.fault.0
+    Serves-piece _ _ _ _ _ _ _ _ _ _ _ _ _ (take c.in-Ok.n c.read.new.buf) _ c.loop-turn.invariant.served c.in-Ok.ensures.bytes.0 (TakesOn-under c.loop-turn.invariant.settings c.in-Err-take_piece.ensures.passes) c.in-Err-take_piece.ensures.fault.0
 
 pub loop-turn-preserved : goal.loop-turn-preserved
 loop-turn-preserved g c =
     let i = c.loop-turn.invariant in
     record {
-      served = HasServed-more _ _ _ _ _ _ _ _ _ _ _ _ _ (take c.in-Ok.n c.read.new.buf) _ i.served c.in-Ok.ensures.bytes.0 (Passes-under i.settings c.in_default.ensures.passes);
+      served = HasServed-more _ _ _ _ _ _ _ _ _ _ _ _ _ (take c.in-Ok.n c.read.new.buf) _ i.served c.in-Ok.ensures.bytes.0 (TakesOn-under i.settings c.in_default.ensures.passes);
       settings = c.in_default.ensures.settings ∙ i.settings;
       calls = omega (arith, c.in-Ok.ensures.calls, i.calls);
       reader_works = c.in-Ok.ensures.failed ∙ ap (λ b. b || false) i.reader_works;

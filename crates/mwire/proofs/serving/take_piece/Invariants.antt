@@ -2,13 +2,13 @@
 use Rattle.std.proofs.Common.{◌≡◌, take, Ok}
 use Rattle.mworld.specs.View.{settings_of, server_of}
 use Rattle.mwire.specs.Watched.{inner_of, failed_of, stalls_of}
-use Rattle.mwire.specs.Progress.{Passes}
+use Rattle.mwire.specs.Progress.{TakesOn}
 use Rattle.mwire.specs.declared.fault.WireFault.{WireFault}
 use Rattle.mwire.proofs.serving.take_piece.Given as goal
 
 abbrev pub invariant-loop-byte : goal.invariant-loop-byte
 invariant-loop-byte g l = record {
-  passes : Passes {E = WireFault} g.S.NodeStore (settings_of l.initial.world) (server_of g.S.NodeStore l.initial.world) l.initial.line (take l.byte-index l.piece) (server_of g.S.NodeStore l.world) l.line
+  passes : TakesOn {E = WireFault} g.S.NodeStore (settings_of l.initial.world) (server_of g.S.NodeStore l.initial.world) l.initial.line (take l.byte-index l.piece) (server_of g.S.NodeStore l.world) l.line
       (g.W.Write.contents (inner_of l.initial.writer)) (g.W.Write.contents (inner_of l.writer)) (Ok tt);
   settings : settings_of l.world ≡ settings_of l.initial.world;
   works : failed_of l.writer ≡ failed_of l.initial.writer;

@@ -3,7 +3,7 @@
 use Rattle.std.proofs.Common.{ℕ, zero, suc, ◌≡◌, Bool, true, false, not, cond, ◌&&◌, ◌||◌, List, [], ◌∷◌, Option, Some, None, refl, sym, ap, ◌∙◌}
 use Rattle.std.specs.Prelude.{unwrap_or}
 use Rattle.std.specs.Cmp.Lexicographic.{slice_cmp, bytes_decides, nat_list_cmp_total}
-use Rattle.std.specs.FinMap.{IsAntisymmetric, get, insert, remove, empty, retain_keys, get-insert, get-remove, get-retain_keys, nat_cmp-IsAntisymmetric, slice_cmp-IsAntisymmetric}
+use Rattle.std.specs.FinMap.{IsAntisymmetric, get, insert, empty, retain_keys, get-insert, get-retain_keys, nat_cmp-IsAntisymmetric, slice_cmp-IsAntisymmetric}
 use Rattle.std.specs.List.{filter}
 use Rattle.std.specs.Ordering.{nat_cmp, is_eq}
 use Rattle.std.specs.declared.cmp.Ordering.{Ordering}
@@ -97,16 +97,15 @@ other-tree m n t s other =
     here false e = refl
 
 -- a name that is let go of where its tree is bare
-bare-names : (m : Text) (s : Scope) (n : Text) (b : Bool) → has (cond b (record s { trees = remove s.trees m }) s) n ≡ has s n
+bare-names : (m : Text) (s : Scope) (n : Text) (b : Bool) → has (cond b (record s { trees = retain_keys s.trees (λ q. not (text_eq m q)) }) s) n ≡ has s n
 bare-names m s n true = refl
 bare-names m s n false = refl
 
-bare-other : (m n : Text) (s : Scope) → (m ≡ n → ⊥) → (b : Bool) → tree_in (cond b (record s { trees = remove s.trees m }) s) n ≡ tree_in s n
-bare-other m n s other true =
-    ap (λ o. unwrap_or o empty) (get-remove nat_list_cmp_total s.trees m n ∙ here (is_eq (slice_cmp nat_cmp n m)) refl)
+bare-other : (m n : Text) (s : Scope) → (m ≡ n → ⊥) → (b : Bool) → tree_in (cond b (record s { trees = retain_keys s.trees (λ q. not (text_eq m q)) }) s) n ≡ tree_in s n
+bare-other m n s other true = tree-retain s (λ q. not (text_eq m q)) n ∙ here (text_eq m n) refl
   where
-    here : (b : Bool) → is_eq (slice_cmp nat_cmp n m) ≡ b → cond b None (get s.trees n) ≡ get s.trees n
-    here true e = absurd (other (sym (names_exact n m (is_tied _ e))))
+    here : (b : Bool) → text_eq m n ≡ b → cond (not b) (tree_in s n) empty ≡ tree_in s n
+    here true e = absurd (other ((bytes_decides m n).0 e))
     here false e = refl
 bare-other m n s other false = refl
 

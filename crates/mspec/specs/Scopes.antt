@@ -4,11 +4,11 @@
 -- Restates "Local variable handling", "NEW" and "KILL" of ISO/IEC 11756:1999. A scope has some names by itself: those that
 -- NEW gave it, and all but some where NEW gave those in brackets; the scope at the bottom has every name. A variable is that
 -- of the topmost scope that has its name.
-use Rattle.std.specs.Prelude.{Bool, false, not, cond, ◌||◌, nat_eq, List, [], ◌∷◌, ◌++◌, Option, Some, None, unwrap_or}
+use Rattle.std.specs.Prelude.{Bool, false, not, cond, ◌||◌, nat_eq, length, List, [], ◌∷◌, ◌++◌, Option, Some, None, unwrap_or}
 use Rattle.std.specs.List.{list_any, filter}
 use Rattle.std.specs.Ordering.{nat_cmp}
 use Rattle.std.specs.Cmp.Lexicographic.{slice_cmp}
-use Rattle.std.specs.FinMap.{FinMap, get, insert, remove, retain_keys, empty, len}
+use Rattle.std.specs.FinMap.{FinMap, get, insert, retain_keys, empty, keys}
 use Rattle.mspec.specs.Node.{Text}
 use Rattle.mspec.specs.Trees.{Tree, text_eq, without, has_value, has_descendants, Direction, order_of, front, last}
 
@@ -77,10 +77,10 @@ assigned scopes n xs x = at_home (λ s. with_tree n (insert (tree_in s n) xs x) 
 
 -- a name whose tree has no text left is let go of with its tree
 abbrev pub is_bare : Tree → Bool
-is_bare t = nat_eq (len t) 0
+is_bare t = nat_eq (length (keys t)) 0
 
 abbrev pub tidied : Text → Scope → Scope
-tidied n s = cond (is_bare (tree_in s n)) (record s { trees = remove s.trees n }) s
+tidied n s = cond (is_bare (tree_in s n)) (record s { trees = retain_keys s.trees (λ m. not (text_eq n m)) }) s
 
 -- a name that has no tree yet stays without
 abbrev pub kill_in : Text → List Text → Option Tree → Scope → Scope

@@ -1,6 +1,6 @@
 // SPDX-License-Identifier: Apache-2.0
 // The evaluation of expressions.
-ghost use Rattle.std.specs.Prelude.{◌≡◌, ◌≢◌, ◌≤◌, ◌<◌, [], map, Some, Err, IfOk, IfErr, IsErr};
+ghost use Rattle.std.specs.Prelude.{◌≡◌, ◌≢◌, ◌≤◌, ◌<◌, [], length, map, Some, Err, IfOk, IfErr, IsErr};
 ghost use Rattle.mgrammar.specs.Grammar.{local, no_exprs, exprs, indirect, extended, steps_of, exprs_of, choices_of};
 ghost use Rattle.mmeaning.specs.Expression as meaning;
 ghost use Rattle.mmeaning.specs.LineMeaning as line;
@@ -39,11 +39,12 @@ pub struct Eval<'a, S> {
     pub store: &'a mut S,
     pub settings: &'a Settings,
     pub terminal: u32,
-    /// The account of the terminal, in these settings.
+    /// The account of the terminal, one of these settings'.
     pub account: AccountId,
     /// How many steps are left. Each primary costs one, before it is evaluated.
     pub steps: u32,
     pub depth: Depth,
+    ghost known: { account < length settings.now.accounts },
 }
 
 impl<'a, S: NodeStore> Eval<'a, S> {

@@ -2,8 +2,10 @@
 // Peers, who connect one after another, and what each is answered.
 use crate::lines::plain_world;
 use mgrant::Settings;
+use mstore::Plain;
 use mtranscript::{bytes_of, print_case, print_result, print_results};
 use mwire::{Peers, serve_each};
+use mworld::World;
 use std::alloc::Global;
 use std::collections::VecDeque;
 
@@ -19,21 +21,37 @@ pub fn play_connections(
     cases: &[&str],
     out: &mut Vec<u8>,
 ) -> anyhow::Result<()> {
+    let mut peers = peers_of(alloc, cases)?;
     let mut world = plain_world(alloc, Settings::read(alloc, document)?)?;
+    connected(alloc, &mut world, &mut peers, cases, out)
+}
+
+// Peers who send these bytes.
+fn peers_of(alloc: Global, cases: &[&str]) -> anyhow::Result<Peers> {
     let mut sent = VecDeque::new(alloc);
     for case in cases {
         sent.push_back(bytes_of(alloc, case)?)?;
     }
-    let count = u32::try_from(sent.len())?;
-    let mut peers = Peers::new(alloc, sent)?;
+    Ok(Peers::new(alloc, sent)?)
+}
+
+// Serves peers in a world. Both are lent, so that they are let go of in one place.
+fn connected(
+    alloc: Global,
+    world: &mut World<Plain>,
+    peers: &mut Peers,
+    cases: &[&str],
+    out: &mut Vec<u8>,
+) -> anyhow::Result<()> {
+    let count = u32::try_from(cases.len())?;
     let mut errors = Vec::new(alloc);
-    serve_each(alloc, &mut world, &mut peers, count, &mut errors)?;
+    serve_each(alloc, world, peers, count, &mut errors)?;
     for (case, answer) in cases.iter().zip(peers.answers()) {
         print_case(out, case)?;
         print_results(alloc, out, answer)?;
     }
     print_results(alloc, out, &errors)?;
-    match serve_each(alloc, &mut world, &mut peers, 1, &mut errors) {
+    match serve_each(alloc, world, peers, 1, &mut errors) {
         Ok(()) => print_result(out, b"one more"),
         Err(fault) => print_result(out, format!(in alloc; "then {fault}")?.as_bytes()),
     }

@@ -1,8 +1,9 @@
 // SPDX-License-Identifier: Apache-2.0
 // Lines of the wire, with their replies.
+use crate::failing::{FailingWorld, ample_world, world_of};
 use anyhow::Context;
-use mgrant::Settings;
-use mstore::Plain;
+use mgrant::{AccountId, Settings};
+use mstore::{NodeStore, Plain};
 use mtranscript::{bytes_of, play, print_result, print_results};
 use mwire::{Watched, serve, serve_only};
 use mworld::World;
@@ -28,6 +29,18 @@ pub(crate) fn plain_world(alloc: Global, settings: Settings) -> anyhow::Result<W
     }
 }
 
+// What a world answers to bytes.
+pub(crate) fn answer_of<S: NodeStore>(
+    alloc: Global,
+    world: &mut World<S>,
+    bytes: &[u8],
+) -> anyhow::Result<Vec<u8>> {
+    let mut answer = Vec::new(alloc);
+    let mut writer = Watched::new(&mut answer);
+    serve(alloc, world, &mut Watched::new(bytes), &mut writer)?;
+    Ok(answer)
+}
+
 /// Serves each line in the world that the lines before it left, by the settings of a document, and prints the replies below it.
 ///
 /// # Errors
@@ -42,16 +55,12 @@ pub fn play_lines(
     let mut world = plain_world(alloc, Settings::read(alloc, document)?)?;
     play(cases, out, |case, out| {
         let line = line_bytes(alloc, case)?;
-        let stream: &[u8] = &line;
-        let mut answer = Vec::new(alloc);
-        let mut writer = Watched::new(&mut answer);
-        serve(alloc, &mut world, &mut Watched::new(stream), &mut writer)?;
-        print_results(alloc, out, &answer)
+        print_results(alloc, out, &answer_of(alloc, &mut world, &line)?)
     })
 }
 
 /// Serves all lines as one stream, by the settings of a document, and prints them, then what the account of this name is told, and whether
-/// no line of an account that reaches it was lost.
+/// no line of an account that reaches it was lost. A case `cache ..` says over which store, as of `play_cached_lines`.
 ///
 /// # Errors
 ///
@@ -63,12 +72,32 @@ pub fn play_told(
     cases: &[&str],
     out: &mut Vec<u8>,
 ) -> anyhow::Result<()> {
+    let account = account_of(alloc, document, name)?;
+    let mut world = ample_world(alloc, document)?;
+    told(alloc, document, &mut world, account, cases, out)
+}
+
+// The account of this name.
+fn account_of(alloc: Global, document: &[u8], name: &[u8]) -> anyhow::Result<AccountId> {
     let settings = Settings::read(alloc, document)?;
-    let account = settings.account_named(name).context("no such account")?;
-    let mut world = plain_world(alloc, settings)?;
+    settings.account_named(name).context("no such account")
+}
+
+// Plays the cases over a world that is lent, so that it is let go of in one place.
+fn told(
+    alloc: Global,
+    document: &[u8],
+    world: &mut FailingWorld,
+    account: AccountId,
+    cases: &[&str],
+    out: &mut Vec<u8>,
+) -> anyhow::Result<()> {
     let mut lines = Vec::new(alloc);
     play(cases, out, |case, _| {
-        lines.extend_from_slice(&line_bytes(alloc, case)?)?;
+        match case.strip_prefix("cache ") {
+            Some(words) => *world = world_of(alloc, document, words)?,
+            None => lines.extend_from_slice(&line_bytes(alloc, case)?)?,
+        }
         Ok(())
     })?;
     let stream: &[u8] = &lines;
@@ -76,7 +105,7 @@ pub fn play_told(
     let mut writer = Watched::new(&mut answer);
     let whole = serve_only(
         alloc,
-        &mut world,
+        world,
         account,
         &mut Watched::new(stream),
         &mut writer,

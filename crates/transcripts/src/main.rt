@@ -73,13 +73,24 @@ fn play_lines(
 ) -> anyhow::Result<()> {
     let settings = match kind {
         "lines" | "replies" | "references" | "devices" => "one_account.toml",
-        "terminals" | "told" | "connections" => "three_terminals.toml",
+        "terminals"
+        | "told"
+        | "connections"
+        | "told_failing"
+        | "cached_lines"
+        | "outsiders"
+        | "stops" => { "three_terminals.toml" }
         "accounts" => "four_accounts.toml",
         _ => anyhow::bail!("no such kind of block"),
     };
     let document = fs::read(rt, settings)?;
     match kind {
-        "told" => line_cases::play_told(rt.alloc(), &document, b"BOB", cases, out),
+        "told" | "told_failing" => {
+            line_cases::play_told(rt.alloc(), &document, b"BOB", cases, out)
+        }
+        "cached_lines" => line_cases::play_cached_lines(rt.alloc(), &document, cases, out),
+        "outsiders" => line_cases::play_outsiders(rt.alloc(), &document, cases, out),
+        "stops" => line_cases::play_stops(rt.alloc(), &document, cases, out),
         "connections" => line_cases::play_connections(rt.alloc(), &document, cases, out),
         "devices" => line_cases::play_devices(rt.alloc(), &document, cases, out),
         "replies" => line_cases::play_replies(rt.alloc(), &document, cases, out),

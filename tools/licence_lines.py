@@ -14,9 +14,6 @@ ENDINGS = (".rt", ".antt", ".py", ".c", ".js", ".css")
 # What is made, or is no source of ours: what was built and tested, the examples' data, patches.
 PASSED_OVER = {".git", "out", "__pycache__", ".hypothesis", ".pytest_cache", "unpacked", "wip", "examples", "pictures"}
 
-# Proofs that get theirs with the next change of their crate, since a line more has all crates above proved again.
-LATER = {f"crates/misolation/proofs/{name}/Answers.antt" for name in ("plan_laws/outside_operations", "plan_laws/outside_plans", "step_laws/outside_steps")}
-
 
 def is_source(path: str, first: str) -> bool:
     return path.endswith(ENDINGS) or first.startswith("#!")
@@ -33,7 +30,7 @@ def without_line() -> list[str]:
                 head = [file.readline(400) for _ in range(3)]
             if is_source(path, head[0]) and LINE not in "".join(head):
                 found.append(os.path.relpath(path, TOP))
-    return [path for path in found if path not in LATER]
+    return found
 
 
 def main() -> int:

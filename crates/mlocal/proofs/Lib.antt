@@ -8,3 +8,4 @@ pub mod Walks
 pub mod Own
 pub mod Steps
 pub mod Removals
+pub mod Bare

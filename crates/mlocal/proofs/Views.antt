@@ -36,6 +36,10 @@ pub OnErr-map : {T E : Type 0} {P Q : Type 0} (r : Result T E) → (P → Q) →
 OnErr-map (Ok x) f h = h
 OnErr-map (Err e) f h = f h
 
+pub OnErr-always : {T E : Type 0} {P : Type 0} (r : Result T E) → P → OnErr r P
+OnErr-always (Ok x) h = tt
+OnErr-always (Err e) h = h
+
 pub IfOk-map : {T E : Type 0} {P Q : T → Type 0} (r : Result T E) → ((x : T) → P x → Q x) → IfOk r P → IfOk r Q
 IfOk-map (Ok x) f h = f x h
 IfOk-map (Err e) f h = h

@@ -8,7 +8,7 @@ ghost use Rattle.std.specs.Ordering.{nat_cmp};
 ghost use Rattle.mkey.specs.Front.{AreSubs};
 ghost use Rattle.mkey.specs.SubsKey.{behind_below};
 ghost use Rattle.mspec.specs.Maps.{hash_map_of};
-ghost use Rattle.mspec.specs.Scopes.{entered, bottom, has, tree_in, with_tree, is_among, hide, hide_others, kill_in, emptied};
+ghost use Rattle.mspec.specs.Scopes.{entered, bottom, has, tree_in, with_tree, is_among, hide, hide_others, is_bare, kill_in, tidied, emptied};
 ghost use Rattle.mspec.specs.KeyBytes.{AreSubscripts};
 ghost use Rattle.mspec.specs.Trees.{has_value, has_descendants, order_of, front, last, AreOrderSubscripts};
 ghost use Rattle.mlocal.specs.Home.{has_name};
@@ -185,8 +185,8 @@ impl Scope {
         }
     }
 
-    // Takes the texts of a node and of the nodes below it away, where `end` is the bound behind them. For want of memory the scope
-    // is as it was.
+    // Takes the texts of a node and of the nodes below it away, where `end` is the bound behind them, and lets go of the name if no
+    // text is left. For want of memory the scope is as it was.
     pub fn kill(
         &mut self,
         alloc: Global,
@@ -200,7 +200,28 @@ impl Scope {
     {
         match self.trees.get_mut(name) {
             None => return Ok(()),
-            Some(variable) => variable.kill(alloc, key, end),
+            Some(variable) => variable.kill(alloc, key, end)?,
+        }
+        self.tidy(name);
+        Ok(())
+    }
+
+    // Whether the variable of a name has no text.
+    fn is_bare(&self, name: &Name) -> bool
+        ensures { result ≡ is_bare (tree_in self.now name.now) }
+    {
+        match self.trees.get(name) {
+            None => true,
+            Some(variable) => variable.is_bare(),
+        }
+    }
+
+    // Lets go of a name whose variable has no text. Looks at no other name.
+    fn tidy(&mut self, name: &Name)
+        ensures { self.new ≡ tidied name.now self.old }
+    {
+        if self.is_bare(name) {
+            drop(self.trees.remove(name));
         }
     }
 

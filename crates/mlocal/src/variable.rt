@@ -13,6 +13,7 @@ ghost use Rattle.mlocal.specs.Way.{is_behind, is_between, has_child};
 ghost use Rattle.mspec.specs.KeyBytes.{AreSubscripts};
 ghost use Rattle.mspec.specs.NodeOrder.{subscripts_cmp};
 ghost use Rattle.mspec.specs.Number.{significant_digits};
+ghost use Rattle.mspec.specs.Scopes.{is_bare};
 ghost use Rattle.mspec.specs.Trees.{without, is_within, child_of, has_value, has_descendants, Forward, order_of, is_before, is_empty, front, last, AreOrderSubscripts};
 
 use crate::subs::{front, last};
@@ -77,6 +78,13 @@ impl Variable {
             return self.own();
         }
         self.values.get(key)
+    }
+
+    // Whether it has no text.
+    pub fn is_bare(&self) -> bool
+        ensures { result ≡ is_bare self.now }
+    {
+        self.own.is_none() && self.values.is_empty()
     }
 
     // Gives it a value of its own.

@@ -1,3 +1,4 @@
+-- SPDX-License-Identifier: Apache-2.0
 use Rattle.misolation.proofs.PlansInside.{outside_plans}
 use Rattle.misolation.proofs.plan_laws.outside_plans.Goals as goal
 

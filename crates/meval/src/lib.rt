@@ -4,6 +4,7 @@
 
 mod depth;
 mod eval;
+mod expression;
 mod global_node;
 mod globals;
 mod levels;

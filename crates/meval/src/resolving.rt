@@ -31,7 +31,7 @@ impl<'a, S: NodeStore> Eval<'a, S> {
         name: &Name,
         values: Values,
     ) -> Result<GlobalNode, AllocError>
-        ensures { IfOk result (λ node. node ≡ record { account = (standing_of self.now).account; name = name.now; subscripts = values }) }
+        ensures node { IfOk result (λ node. node ≡ record { account = (standing_of self.now).account; name = name.now; subscripts = values }) }
         ensures good { IfOk result (λ node. IsAccountName node.account) }
     {
         let account = Bytes7::from_slice(alloc, self.settings.name_of(self.account))?;

@@ -2,7 +2,7 @@
 // References, and the places that they name.
 use anyhow::Context;
 use meval::{Depth, Eval, Place, Session};
-use mgrant::Settings;
+use mgrant::{AccountId, Settings};
 use mkey::read;
 use mnum::Bytes7;
 use mparse::parse_ref;
@@ -13,11 +13,11 @@ use std::alloc::Global;
 // How many steps a reference has.
 const STEPS: u32 = 1000;
 
-// What references are resolved over: a session of terminal 1 of an account, by its name, and a store.
+// What references are resolved over: a session of terminal 1, and a store.
 #[derive(Drop)]
 struct Resolving<'a> {
     settings: &'a Settings,
-    name: &'a [u8],
+    account: AccountId,
     session: Session,
     store: Plain,
 }
@@ -38,7 +38,7 @@ pub fn play_references(
     let settings = Settings::read(alloc, document)?;
     let mut there = Resolving {
         settings: &settings,
-        name,
+        account: settings.account_named(name).context("no such account")?,
         session: Session::new(alloc),
         store: Plain::new(alloc),
     };
@@ -53,15 +53,12 @@ fn resolved(alloc: Global, there: &mut Resolving<'_>, case: &str) -> anyhow::Res
     let reference = parse_ref(alloc, &bytes_of(alloc, case)?)
         .ok()
         .context("a case that is no reference")?;
-    let Some(account) = there.settings.account_named(there.name) else {
-        anyhow::bail!("no such account");
-    };
     let mut eval = Eval {
         session: &mut there.session,
         store: &mut there.store,
         settings: there.settings,
         terminal: 1,
-        account,
+        account: there.account,
         steps: STEPS,
         depth: Depth {
             levels: 1,

@@ -12,6 +12,7 @@ use crate::depth::MOST_LEVELS;
 use crate::eval::Eval;
 use crate::globals::code_of;
 use mglobal::shared_routine;
+use mkey::is_account_name;
 use mnum::{Bytes7, Name};
 use moperator::Code;
 use mstore::NodeStore;
@@ -64,13 +65,17 @@ impl<'a, S: NodeStore> Eval<'a, S> {
     ///
     /// # Errors
     ///
-    /// `Zmem` for want of memory, and `Zstore` where the store refuses.
+    /// `Zmem` if memory is refused, and if the account is none of the settings', which no world hands in; `Zstore` if the store refuses.
     pub fn routine(&mut self, alloc: Global, name: &Name) -> Result<Rc<Vec<Bytes7>>, Code>
         ensures loans { KeepsEval self.old self.new }
         ensures fewer { self.new.steps ≤ self.old.steps }
         ensures does { Evaluates S.NodeStore (λ i. ask (Routine name.now)) (λ lines. lines.value.items) self.old result self.new }
     {
         let account = Bytes7::from_slice(alloc, self.settings.name_of(self.account))?;
+        if !is_account_name(&account) {
+            // the id is of other settings, which a world never hands in
+            return Err(Code::Zmem);
+        }
         match shared_routine(self.store, alloc, &account, name.as_bytes7()) {
             Ok(lines) => Ok(lines),
             Err(fault) => Err(code_of(fault)),

@@ -4,7 +4,6 @@
 
 mod depth;
 mod eval;
-mod expression;
 mod global_node;
 mod globals;
 mod levels;

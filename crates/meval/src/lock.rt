@@ -13,6 +13,7 @@ use crate::global_node::GlobalNode;
 use crate::place::Pending;
 use crate::values::Values;
 use mgrant::Mode;
+use mkey::is_account_name;
 use mlock::LockName;
 use mnum::Name;
 use moperator::Code;
@@ -27,7 +28,7 @@ impl<'a, S: NodeStore> Eval<'a, S> {
     ///
     /// Those of the values that the reference has to evaluate, and then `Zgrant` for a global that the account may not write, `Zsub` where
     /// there are more than 15 subscripts, or one is empty or has more than 255 characters, and `Zsyntax` for a naked reference, which a
-    /// text may give; `Zmem` for want of memory.
+    /// text may give; `Zmem` if memory is refused, and if the account is none of the settings', which no world hands in.
     pub fn lock_name(&mut self, alloc: Global, reference: &Reference) -> Result<LockName, Code>
         ensures loans { KeepsEval self.old self.new }
         ensures fewer { self.new.steps ≤ self.old.steps }
@@ -56,6 +57,10 @@ impl<'a, S: NodeStore> Eval<'a, S> {
         ensures does { Evaluates S.NodeStore (λ i. variables.named_lock i.account (variables.of_local name.now values)) (λ name. name) self.now result self.now }
     {
         let node = self.own_node(alloc, name, values)?;
+        if !is_account_name(node.account()) {
+            // the id is of other settings, which a world never hands in
+            return Err(Code::Zmem);
+        }
         let key = node.key(alloc)?;
         Ok(LockName { key, global: false })
     }

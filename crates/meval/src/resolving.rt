@@ -31,8 +31,7 @@ impl<'a, S: NodeStore> Eval<'a, S> {
         name: &Name,
         values: Values,
     ) -> Result<GlobalNode, AllocError>
-        ensures node { IfOk result (λ node. node ≡ record { account = (standing_of self.now).account; name = name.now; subscripts = values }) }
-        ensures good { IfOk result (λ node. IsAccountName node.account) }
+        ensures { IfOk result (λ node. node ≡ record { account = (standing_of self.now).account; name = name.now; subscripts = values }) }
     {
         let account = Bytes7::from_slice(alloc, self.settings.name_of(self.account))?;
         let texts = texts(alloc, values)?;

@@ -26,7 +26,6 @@ pub known : (settings : Settings) (terminal place : ℕ) (text : List ℕ) → a
 known settings terminal place text same within short ascii =
     let there = at_place settings.accounts place within in
     record {
-      within = within;
       account = there.0;
       known = sym same ∙ there.1;
       name = sym (ap (λ o. unwrap_or (option_map (λ (a : Account). a.name) o) []) there.1);

@@ -1,6 +1,6 @@
 -- SPDX-License-Identifier: Apache-2.0
 -- The checks that come before a line's text is parsed.
-use Rattle.std.specs.Prelude.{◌≡◌, ◌<◌, length, true, false, Some, ℕ, Result, Ok, Err}
+use Rattle.std.specs.Prelude.{◌≡◌, true, false, Some, ℕ, Result, Ok, Err}
 use Rattle.std.specs.FinMap.{get}
 use Rattle.mspec.specs.Code as spec
 use Rattle.mspec.specs.Access.{Account, Settings, name_at, steps_at}
@@ -10,7 +10,6 @@ use Rattle.moperator.specs.declared.code.Code.{Code}
 
 -- the event passes them, and this is the place of its terminal's account
 pub record Passes (settings : Settings) (e : Event) (place : ℕ) : Type 0 where
-  pub within : place < length settings.accounts
   pub account : Account
   pub known : get settings.terminals e.terminal ≡ Some account
   pub name : account.name ≡ name_at settings place

@@ -1,6 +1,6 @@
 // SPDX-License-Identifier: Apache-2.0
 // A text, run over a session.
-ghost use Rattle.std.specs.Prelude.{◌≡◌, ◌≢◌, ◌<◌, [], length};
+ghost use Rattle.std.specs.Prelude.{◌≡◌, ◌≢◌, []};
 ghost use Rattle.moperator.specs.declared.code.Code.TheVariants.{Zstore};
 ghost use Rattle.mworld.specs.Ran.{Ran};
 
@@ -36,7 +36,6 @@ pub(crate) fn run_over<S: NodeStore>(
     machine: &mut Machine,
     room: &mut Vec<u8>,
 ) -> Reply
-    requires known { account < length settings.now.accounts }
     ensures ran { Ran S.NodeStore settings.now terminal account text.now session.old store.old locks.old result session.new store.new locks.new }
     ensures steady { S.steady → result.ending ≢ Ended.Fault Zstore }
 {

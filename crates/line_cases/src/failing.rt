@@ -16,7 +16,7 @@ pub(crate) const ENTRIES: usize = 1024;
 pub(crate) type FailingWorld = World<Kept<Cached<Failing<Plain>>>>;
 
 // A new one of any store, with so many texts in front of it.
-pub(crate) fn world_over<S: NodeStore>(
+pub(crate) fn world_over<S: NodeStore + Drop>(
     alloc: Global,
     document: &[u8],
     entries: usize,

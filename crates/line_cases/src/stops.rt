@@ -103,7 +103,7 @@ fn plain_left(
 }
 
 // Serves the lines over a store, up to the first that ends by ZSTORE: how many come before it, and the store.
-fn served_over<S: NodeStore>(
+fn served_over<S: NodeStore + Drop>(
     alloc: Global,
     document: &[u8],
     lines: &[Vec<u8>],

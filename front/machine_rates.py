@@ -1,7 +1,7 @@
 #!/usr/bin/python3
 # SPDX-License-Identifier: Apache-2.0
 """What many machines take: three gates at 127.0.0.2 to 127.0.0.4, PostgreSQL with a standby that has each row before it is acknowledged, and islands
-whose users work at once, each by a gate that is not theirs. And what that comes to for a host of many clinics, by these figures.
+whose users work at once, two thirds of them by a gate that is not theirs. And what that comes to for a host of many clinics, by these figures.
 
 All is on one machine, which does the work of three and of two databases. Only figures of a quiet one are worth keeping. Status 1 if a reply was
 wrong."""

@@ -258,15 +258,14 @@ async def test_leaders_that_are_killed(start, journal: JournalSettings, tmp_path
     """The lock goes with the leader's connection; what was answered is there, and nothing runs twice."""
     rng, load = random.Random(5), Load()
     leader = start(store="store.db", journal=table(journal))
-    for _ in range(2 * count):
+    for number in range(2 * count):
         second = start(store="store.db", words=["--follow"], awaited="standing by", journal=table(journal))
         assert "another front writes this journal" in await asyncio.to_thread(takes_over, second)
         await load.until_killed(leader, rng.uniform(0.05, 0.3))
         while why := await asyncio.to_thread(takes_over, second):
             # The database gives the lock back once it has seen the end of the connection.
             assert "another front" in why
-        found = await load.counted(second)
-        assert load.answered <= found.keys() <= load.sent and set(found.values()) == {"1"}
+        await load.holds(second, number)
         leader = second
     leader.stop()
     assert mjournal(journal)("replay", "--program", PROGRAM, "--store", tmp_path / "all")[::2] == (0, "")

@@ -96,6 +96,9 @@ fn plain_left(
     call: StoreCall,
     n: u32,
 ) -> anyhow::Result<Left> {
+    if n == 0 {
+        anyhow::bail!("calls are counted from 1");
+    }
     let store = Failing::new(Plain::new(alloc), call, n);
     let (answered, mut store) = served_over(alloc, document, lines, store)?;
     let holds = held(alloc, &mut store)?;

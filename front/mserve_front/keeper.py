@@ -2,6 +2,7 @@
 """The journal's part of the service: it is taken before the server starts, it answers operators, and at the end it is noted where the store stands."""
 from __future__ import annotations
 
+import asyncio
 import contextlib
 import shutil
 import socket
@@ -30,13 +31,14 @@ BACK = "put back a snapshot (mbackup restore, mjournal replay), or stand by (mfr
 
 @dataclass(frozen=True, slots=True)
 class Promoted:
-    """What a promoted standby serves with: its server, the journal that it has taken, the line up to which its store has run all, and the ports that
-    it holds."""
+    """What a promoted standby serves with: its server, the journal that it has taken, the line up to which its store has run all, the ports that it
+    holds, and what is set by a stop, which may come before the service hears of stops itself."""
 
     child: Child
     journal: Journal
     line: int
     places: dict[int, socket.socket]
+    stopping: asyncio.Event
 
 
 class Keeper:
@@ -48,6 +50,8 @@ class Keeper:
         self._promoted = promoted
         self._store = None if settings.volatile or settings.store is None else Path(settings.store)
         self._server: Server | None = None
+        # The line at which the store of a promoted standby stands, until this front may serve.
+        self._untouched = None if promoted is None else promoted.line
         self._control = Control(settings.journal.control, {"status": self._status, "snapshot": self._snapshot})
         self.journal = Journal(writer_of(settings.journal), metrics, tell) if promoted is None else promoted.journal
         if promoted is not None:
@@ -70,6 +74,7 @@ class Keeper:
 
     def _serving(self) -> None:
         """Notes that this front serves with the store, before the journal has anything of it."""
+        self._untouched = None
         if self._store is not None:
             write_standing(self._store, Standing(self.journal.number, None, writers=(self.journal.writer, self.journal.before)))
 
@@ -89,11 +94,13 @@ class Keeper:
         raise NoStart(f"it does not go on: {await self.journal.taken}")
 
     async def end(self, whole: bool) -> None:
-        """Leaves the journal. If the server ended in order (`whole`), and all that was sent was answered, it is known where the store stands."""
+        """Leaves the journal. If the server ended in order (`whole`), and all that was sent was answered, it is known where the store stands. So it is
+        if a standby was promoted, and a stop came before it served."""
         self._control.close()
         whole = await self.journal.close() and whole
-        if whole and self._store is not None and self._store.exists():
-            write_standing(self._store, Standing(self.journal.number, self.journal.next - 1))
+        line = self.journal.next - 1 if whole else self._untouched
+        if line is not None and self._store is not None and self._store.exists():
+            write_standing(self._store, Standing(self.journal.number, line))
 
     def _hold(self, store: Path, standing: Standing | None) -> None:
         """Holds what is known of the store against the journal. Raises `NoStart` if the store is not the one that has run it."""

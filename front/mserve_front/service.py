@@ -51,7 +51,7 @@ class Service:
         self._doors = Doors(settings.limits, self._context, promoted.places if promoted else {})
         self._signing = Signing(self._register, self._audit, self.metrics)
         self._sessions = Sessions(settings, self.metrics, self._audit, self._keeper.journal if self._keeper else None)
-        self._stopping = asyncio.Event()
+        self._stopping = promoted.stopping if promoted else asyncio.Event()
         self._why = "stopping"
 
     async def run(self) -> None:

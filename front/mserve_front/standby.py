@@ -122,13 +122,14 @@ class Standby:
         """Runs what comes, until it is promoted or stopped."""
         while True:
             came = await self._step()
-            if self._stopping.is_set():
-                await self._left()
-                return None
             if self._wanted is not None:
                 promoted = await self._taken()
                 if promoted is not None:
                     return promoted
+            # This comes last: a stop may have come while it was to be promoted, and then that was given up.
+            if self._stopping.is_set():
+                await self._left()
+                return None
             if not came:
                 with contextlib.suppress(TimeoutError):
                     await asyncio.wait_for(self._wake.wait(), RETRY if self._fault else POLL)
@@ -153,6 +154,9 @@ class Standby:
             if flush.journal != self._journal_number:
                 raise BadJournal("the store has run lines of another journal than this one: put back a snapshot")
         for event in self._history.take(flushes):
+            if self._stopping.is_set():
+                # A stop waits for the lines that are on their way, and for no others: the store is known to stand before them.
+                break
             await self._stage.take(event)
         if not flushes:
             await self._stage.drained()
@@ -184,19 +188,11 @@ class Standby:
         return await asyncio.shield(self._wanted)
 
     async def _taken(self) -> Promoted | None:
-        """Takes the journal, and runs what was answered. None if another front has it."""
+        """Takes the journal, and runs what was answered. None if another front has it, or a stop has come."""
         wanted, began = self._wanted, time.monotonic()
         journal = Journal(writer_of(self._settings.journal), Metrics(), tell)
         try:
-            await journal.take()
-            while await self._step():
-                pass
-            if self._fault:
-                raise Refused(self._fault)
-            if self._stage.child is None:
-                raise Refused("the journal has no start: there is nothing to promote")
-            if self._history.last != journal.next - 1:
-                raise BadJournal(f"the journal was read up to line {self._history.last}, and ends with line {journal.next - 1}")
+            await self._ready(journal)
         except (Stopped, BadJournal, Refused, LogTaken, LogFault) as error:
             await journal.close()
             self._wanted = None
@@ -211,4 +207,24 @@ class Standby:
         tell(f"promoted after line {self._history.at}" + (f": lines {unsent[0]} to {unsent[-1]} had no reply, and were not run" if unsent else ""))
         wanted.set_result({"line": self._history.at, "not run": unsent, "seconds": round(time.monotonic() - began, 3)})
         await asyncio.sleep(0)
-        return Promoted(self._stage.child, journal, self._history.at, self._places)
+        return Promoted(self._stage.child, journal, self._history.at, self._places, self._stopping)
+
+    async def _ready(self, journal: Journal) -> None:
+        """Takes the journal, and runs what was answered. Raises `Refused` if it cannot be promoted, or a stop has come."""
+        self._go_on()
+        await journal.take()
+        while await self._step():
+            self._go_on()
+        # From here to the promotion nothing is waited for: a stop that comes later is for the service.
+        self._go_on()
+        if self._fault:
+            raise Refused(self._fault)
+        if self._stage.child is None:
+            raise Refused("the journal has no start: there is nothing to promote")
+        if self._history.last != journal.next - 1:
+            raise BadJournal(f"the journal was read up to line {self._history.last}, and ends with line {journal.next - 1}")
+
+    def _go_on(self) -> None:
+        """Raises `Refused` if a stop has come."""
+        if self._stopping.is_set():
+            raise Refused("it is being stopped")

@@ -18,7 +18,10 @@ import pytest
 from front import Front, Person, Ran, in_loop, mjournal, tool
 from mserve_front.control import Refused, asked
 from mserve_front.places import last_line
-from mserve_front.settings import JournalSettings
+from mserve_front.service import Service
+from mserve_front.settings import JournalSettings, read_settings
+from mserve_front.standby import Standby
+from mserve_front.standing import read_standing
 from running import PROGRAM
 from test_replay import backup, held, works
 
@@ -26,6 +29,8 @@ from test_replay import backup, held, works
 KILLED = 10
 # Nodes that are asked for at once: the front cuts a reply of some 13,000 of them (limits.reply).
 AT_ONCE = 5000
+# What behind a line makes it take some milliseconds.
+SLOW = " F I=1:1:20000 S K=I"
 
 
 def standby(start, journal: Path, **more: object) -> Front:
@@ -188,7 +193,9 @@ async def test_a_standby_that_cannot_go_on(start, tmp_path: Path) -> None:
 class Load:
     """Users who each count at nodes of their own until the leader is gone: which nodes they sent, and which were answered."""
 
-    def __init__(self) -> None:
+    def __init__(self, more: str = "") -> None:
+        """`more` stands behind each line."""
+        self.more = more
         self.sent: set[int] = set()
         self.answered: set[int] = set()
 
@@ -200,7 +207,7 @@ class Load:
                 while len(places) < 5:
                     node = len(self.sent)
                     self.sent.add(node)
-                    places[await person.send(f"S ^N({node})=$G(^N({node}))+1")] = node
+                    places[await person.send(f"S ^N({node})=$G(^N({node}))+1{self.more}")] = node
                 record = await person.next()
                 node = places.pop(record["id"])
                 if "output" in record:
@@ -265,3 +272,66 @@ async def test_leaders_that_are_killed(start, tmp_path: Path, count: int) -> Non
     leader.stop()
     status, output, told = mjournal(journal)("replay", "--program", PROGRAM, "--store", tmp_path / "all")
     assert (status, told) == (0, "") and held(tmp_path / "all") == held(leader.folder / "store.db")
+
+
+def has_taken(front: Front, journal: Path) -> bool:
+    """Whether a front has the journal's lock. To try the lock could keep the front from it."""
+    return any(os.readlink(place) == str(journal / "lock") for place in Path(f"/proc/{front.process.pid}/fd").iterdir())
+
+
+@in_loop(200)
+async def test_a_stop_during_a_promotion(start, tmp_path: Path) -> None:
+    """The promotion is given up, and the standby ends as at any stop: another one takes over, and then this one in its turn."""
+    load, journal = Load(SLOW), tmp_path / "journal"
+    # A standby looks for a stop and a promotion between two files: there are many small ones.
+    leader = start(store="store.db", journal={"folder": str(journal), "roll": 4096})
+    second = standby(start, journal)
+    # It is held up while users work, so that there is much to run at its promotion.
+    second.process.send_signal(signal.SIGSTOP)
+    try:
+        await load.until_killed(leader, 4)
+    finally:
+        second.process.send_signal(signal.SIGCONT)
+    promotion = asyncio.create_task(asyncio.to_thread(takes_over, second))
+    while not has_taken(second, journal):
+        await asyncio.sleep(0.005)
+    began = time.monotonic()
+    assert await asyncio.to_thread(second.stop) == 0
+    took = time.monotonic() - began
+    assert await promotion == "not promoted: it is being stopped"
+    assert "promoted after" not in second.told() and "serving at" not in second.told()
+    stands = read_standing(second.folder / "store.db").number
+    assert stands < last_line(JournalSettings(journal))
+    print(f"stopped {took:.1f} s after it had taken the journal, at line {stands} of {last_line(JournalSettings(journal))}")
+    third = standby(start, journal)
+    assert takes_over(third) == ""
+    await load.holds(third, 1)
+    third.stop()
+    second.again()
+    assert takes_over(second) == ""
+    await load.holds(second, 2)
+
+
+@in_loop(200)
+async def test_a_stop_between_a_promotion_and_the_service(start, tmp_path: Path) -> None:
+    """One that the standby hears of when it is promoted already ends the service before it serves."""
+    load, journal = Load(), tmp_path / "journal"
+    leader = start(store="store.db", journal={"folder": str(journal)})
+    second = standby(start, journal)
+    second.stop()
+    await load.until_killed(leader, 0.2)
+    settings = read_settings(second.folder / "front.toml", False)
+    task = asyncio.create_task(Standby(settings).run())
+    while not settings.journal.control.exists():
+        await asyncio.sleep(0.02)
+    line = (await asyncio.to_thread(asked, settings.journal.control, {"ask": "promote"}, 30))["line"]
+    os.kill(os.getpid(), signal.SIGTERM)
+    promoted = await task
+    while not promoted.stopping.is_set():
+        await asyncio.sleep(0)
+    await Service(settings, promoted).run()
+    assert read_standing(second.folder / "store.db").number == line
+    assert not [record for record in second.audit() if record["event"] == "promoted"]
+    second.again()
+    assert takes_over(second) == ""
+    await load.holds(second, 1)

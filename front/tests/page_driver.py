@@ -50,6 +50,16 @@ def awaited(found: Callable[[], Any], what: str) -> Any:
         time.sleep(0.05)
 
 
+def is_shown(element: Any) -> bool:
+    """Whether an element is shown. One that the page took away since it was found is not."""
+    from selenium.common.exceptions import StaleElementReferenceException
+
+    try:
+        return element.is_displayed()
+    except StaleElementReferenceException:
+        return False
+
+
 @pytest.fixture(scope="module")
 def page_front(certificate: tuple[Path, Path], tmp_path_factory: pytest.TempPathFactory) -> Iterator[Front]:
     """A front for all tests of a module. Its accounts have what the tests before have left."""
@@ -82,7 +92,7 @@ class Browser:
 
     def all(self, selector: str) -> list[Any]:
         """The elements that are shown."""
-        return [found for found in self.driver.find_elements("css selector", selector) if found.is_displayed()]
+        return [found for found in self.driver.find_elements("css selector", selector) if is_shown(found)]
 
     def one(self, selector: str) -> Any:
         """The first element, once it is shown."""

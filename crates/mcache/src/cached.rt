@@ -3,7 +3,7 @@
 ghost use Rattle.std.specs.Prelude.{◌≡◌, ◌<◌, ◌≤◌, IfOk, IfErr};
 ghost use Rattle.mcache.specs.CachedStore.{cached_store};
 
-use crate::entries::{Entries, find, forget, forget_below, keep};
+use crate::entries::{Entries, find, forget, forget_below, keep, keep_if};
 use lru::LruCache;
 use mkey::NodeKey;
 use mnum::Bytes7;
@@ -22,6 +22,8 @@ pub struct Cached<S: NodeStore> {
     // Whether the store was read or set: that tells that what the store holds are nodes and texts that a store may hold, which a
     // read that is answered without the store has to tell too.
     told: bool,
+    // How many texts the store was asked for since one that is kept was read.
+    missed: usize,
     alloc: Global,
 }
 
@@ -36,6 +38,15 @@ impl<S: NodeStore> Model for Cached<S> {
     ghost view = { λ cached. cached_store cached.store cached.entries.cap };
 
     ghost invariant = { λ cached. S.sound → AreOf (S.content cached.store) cached.told cached.entries.entries };
+}
+
+// Of how many texts one is kept if none of those that are kept is read again.
+const ONE_IN: usize = 16;
+
+// Whether a text that the store was asked for is kept, after so many in a row. A walk through more nodes than there are entries reads none
+// again before its text is gone, so it does not pay for them all; the first read that finds a text has the next ones kept again.
+fn is_wanted(missed: usize, entries: usize) -> bool {
+    missed < entries || missed.is_multiple_of(ONE_IN)
 }
 
 impl<S: NodeStore> Cached<S> {
@@ -58,6 +69,7 @@ impl<S: NodeStore> Cached<S> {
                 store,
                 entries,
                 told: false,
+                missed: 0,
                 alloc,
             }),
         }
@@ -95,13 +107,16 @@ impl<S: NodeStore> NodeStore for Cached<S> {
 
     fn get(&mut self, key: &NodeKey) -> Result<Option<Bytes7>, StoreFault> {
         if let Some(text) = find(&mut self.entries, key.as_bytes()) {
+            self.missed = 0;
             return Ok(Some(text));
         }
         let answer = self.store.get(key);
         self.told = true;
         let found = answer?;
         if let Some(text) = &found {
-            keep(self.alloc, &mut self.entries, key.as_bytes(), text);
+            let wanted = is_wanted(self.missed, self.entries.cap().get());
+            self.missed = self.missed.wrapping_add(1);
+            keep_if(wanted, self.alloc, &mut self.entries, key.as_bytes(), text);
         }
         Ok(found)
     }

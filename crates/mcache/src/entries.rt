@@ -36,6 +36,16 @@ pub(crate) fn keep(alloc: Global, entries: &mut Entries, key: &[u8], text: &Byte
     drop(entries.put(key, text));
 }
 
+// The same, if the text is wanted.
+pub(crate) fn keep_if(wanted: bool, alloc: Global, entries: &mut Entries, key: &[u8], text: &Bytes7)
+    ensures kept { IsInOr entries.new.entries entries.old.entries key.now text.now }
+    ensures cap { entries.new.cap ≡ entries.old.cap }
+{
+    if wanted {
+        keep(alloc, entries, key, text);
+    }
+}
+
 // Lets go of what is kept at a key.
 pub(crate) fn forget(entries: &mut Entries, key: &[u8])
     ensures kept { IsIn entries.new.entries entries.old.entries }

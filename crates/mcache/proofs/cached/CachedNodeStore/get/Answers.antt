@@ -26,4 +26,4 @@ invariant_of-self-in-Some-found g c sound =
     let text = c.in-Some-found.text in
     let has : get now key ≡ Some text = ap (λ x. get x key) same ∙ sym (c.in_ok-found.ensures.found sound) ∙ c.in-Some-found.is in
     let again = c.as_bytes-in-Some-found.ensures in
-    with_one were key c.as_bytes-in-Some-found.result.now text c.keep.new.entries.entries refl again.stored again.bytes has c.keep.ensures.kept
+    with_one were key c.as_bytes-in-Some-found.result.now text c.keep_if.new.entries.entries refl again.stored again.bytes has c.keep_if.ensures.kept

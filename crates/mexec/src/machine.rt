@@ -1,6 +1,6 @@
 // SPDX-License-Identifier: Apache-2.0
 // What lines are run with.
-ghost use Rattle.std.specs.Prelude.{◌<◌};
+ghost use Rattle.std.specs.Prelude.{◌≡◌, ◌<◌, [], IfOk};
 
 use crate::frames::Frame;
 use crate::outset::Outset;
@@ -24,6 +24,8 @@ impl Machine {
     /// `AllocError` for want of memory.
     pub fn new(alloc: Global, entries: usize) -> Result<Machine, AllocError>
         requires { 0 < entries }
+        ensures frames { IfOk result (λ machine. machine.frames.items ≡ []) }
+        ensures trees { IfOk result (λ machine. machine.trees ≡ entries) }
     {
         Ok(Machine {
             frames: Vec::with_capacity(alloc, 16)?,

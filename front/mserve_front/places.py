@@ -50,6 +50,21 @@ def last_line(settings: JournalSettings) -> int:
     return end_of(settings).next - 1
 
 
+def last_of(settings: JournalSettings, writer: int) -> Flush | None:
+    """The last flush of a writer, or None if the journal has none of it. All that the journal keeps is read, unless that writer was the last one. Raises
+    `BadJournal`, or `LogFault` if it cannot be had now."""
+    tail = end_of(settings)
+    if tail.writer == writer:
+        return Flush(tail.journal, tail.sequence, tail.next, tail.answered, tail.time, (), writer)
+    reader, last = reader_of(settings, 1), None
+    try:
+        while flushes := reader.more():
+            last = next((flush for flush in reversed(flushes) if flush.writer == writer), last)
+    finally:
+        reader.close()
+    return last
+
+
 def expire(settings: JournalSettings, journal: int, line: int) -> str:
     """Removes what has no line after this one, and says how much that was. Raises `BadJournal` if it is another journal."""
     if settings.folder is not None:

@@ -8,6 +8,7 @@ import contextlib
 import signal
 import socket
 import time
+from dataclasses import replace
 from pathlib import Path
 
 from .control import Answered, Control, Refused
@@ -16,13 +17,15 @@ from .history import History
 from .journal import Journal, LogFault, LogTaken
 from .keeper import Promoted
 from .metrics import Metrics
-from .places import end_of, last_line, reader_of, writer_of
+from .places import end_of, last_line, last_of, reader_of, writer_of
 from .player import Stage, Stopped
 from .records import BadJournal, Flush
 from .server import NoStart, tell
 from .settings import Settings
 from .standing import Standing, forget_standing, place_of, read_standing, write_standing
 
+# What to do with a store of which nobody knows up to which line it has run the journal.
+SNAPSHOT = "put back a snapshot (mbackup restore)"
 # Seconds between two looks at the journal, and between two after one that failed.
 POLL, RETRY = 0.02, 1.0
 
@@ -54,7 +57,11 @@ class Standby:
         promoted = None
         try:
             self._hold_ports()
-            await self._begin()
+            try:
+                await self._begin()
+            except BadJournal as error:
+                # What is noted beside the store stays: nothing was run.
+                raise NoStart(f"it cannot stand by: {error}") from error
             await self._control.listen()
             tell(f"standing by, after line {self._stage.at} of the journal")
             promoted = await self._follow()
@@ -93,11 +100,11 @@ class Standby:
         if self._settings.join is not None:
             raise NoStart("a standby has a server of its own: server.store in place of server.join")
         standing = None if self._store is None else read_standing(self._store)
-        if standing is not None and standing.number is None:
-            standing = None
         if standing is None and self._store is not None and self._store.exists():
-            raise NoStart(f"{self._store}: nobody knows up to which line it has run the journal, by {place_of(self._store).name} beside it: "
-                          "put back a snapshot (mbackup restore)")
+            raise NoStart(f"{self._store}: nobody knows up to which line it has run the journal, since there is no {place_of(self._store).name} beside it: "
+                          f"{SNAPSHOT}")
+        if standing is not None and standing.number is None:
+            standing = replace(standing, number=self._left_at(standing))
         if standing is not None:
             self._hold_against(standing)
             self._journal_number, self._stage.at = standing.journal, standing.number
@@ -108,6 +115,22 @@ class Standby:
             forget_standing(self._store)
         self._history = History(self._stage.at)
         self._reader = reader_of(self._settings.journal, self._stage.at + 1)
+
+    def _left_at(self, standing: Standing) -> int:
+        """The line at which the front that served with the store left it, where that did not end in order. A reply is durable in the store before it is in
+        the journal: if all lines that this front had in the journal have one, the store has run these, and no others."""
+        begun = f"{self._store}: the front that served with it did not end in order"
+        try:
+            flush = last_of(self._settings.journal, standing.writers[0])
+        except LogFault as error:
+            raise NoStart(f"the journal cannot be read: {error}") from error
+        if flush is None or flush.journal != standing.journal:
+            raise NoStart(f"{begun}, and the journal has nothing of that front: {SNAPSHOT}")
+        if flush.answered != flush.next - 1:
+            lines = f"line {flush.next - 1}" if flush.answered == flush.next - 2 else f"lines {flush.answered + 1} to {flush.next - 1}"
+            raise NoStart(f"{begun}, and {lines} had no reply then, and may have been run: {SNAPSHOT}. If no other front has served since, it can serve "
+                          "again: start it without --follow")
+        return flush.answered
 
     def _hold_against(self, standing: Standing) -> None:
         """Holds where the store stands against the journal's end."""

@@ -133,9 +133,9 @@ class Front:
                 raise RuntimeError(f"the front does not tell {text!r}: {self.told()}")
             time.sleep(0.02)
 
-    def words(self, words: Sequence[str]) -> None:
-        """Gives it other words behind the command, for its next start."""
-        self._words, self._awaited = list(words), "serving at"
+    def words(self, words: Sequence[str], awaited: str = "serving at") -> None:
+        """Gives it other words behind the command, for its next start, and what it tells then."""
+        self._words, self._awaited = list(words), awaited
 
     def again(self) -> None:
         """Starts it once more, after it has ended."""

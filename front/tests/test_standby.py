@@ -6,6 +6,7 @@ import asyncio
 import os
 import random
 import re
+import shutil
 import signal
 import socket
 import sqlite3
@@ -17,7 +18,7 @@ import aiohttp
 import pytest
 from front import Front, Person, Ran, in_loop, mjournal, tool
 from mserve_front.control import Refused, asked
-from mserve_front.places import last_line
+from mserve_front.places import end_of, last_line
 from mserve_front.service import Service
 from mserve_front.settings import JournalSettings, read_settings
 from mserve_front.standby import Standby
@@ -188,6 +189,108 @@ async def test_a_standby_that_cannot_go_on(start, tmp_path: Path) -> None:
     for word in ("status", "promote"):
         status, _, told = tool("mfront")(word, "--config", second.folder / "front.toml")
         assert status == 3 and "no front that keeps a journal is there" in told and len(told.splitlines()) == 1
+
+
+@in_loop(200)
+async def test_a_journal_that_has_lost_its_end_is_refused(start, tmp_path: Path) -> None:
+    """What is noted beside the store stays as it was, so that it is refused the next time too."""
+    leader = start(store="store.db", journal={"folder": str(tmp_path / "journal")})
+    second = standby(start, tmp_path / "journal")
+    async with leader.person("ada") as ada:
+        await ada.line("S ^X=1")
+        shutil.copytree(tmp_path / "journal", tmp_path / "shorter")
+        await ada.line("S ^X=^X+1")
+    line = await caught_up(second, tmp_path / "journal")
+    second.stop()
+    leader.stop()
+    shutil.rmtree(tmp_path / "journal")
+    shutil.move(tmp_path / "shorter", tmp_path / "journal")
+    stored, note = held(second.folder / "store.db"), (second.folder / "store.db.at").read_bytes()
+    for _ in range(2):
+        with pytest.raises(RuntimeError, match=f"it cannot stand by: the store has run it up to line {line}, and it ends with line "):
+            second.again()
+        assert (second.folder / "store.db.at").read_bytes() == note
+    assert held(second.folder / "store.db") == stored
+    (second.folder / "store.db.at").write_text("{}")
+    with pytest.raises(RuntimeError, match="store.db.at: does not say where the store stands"):
+        second.again()
+    assert (second.folder / "store.db.at").read_text() == "{}"
+
+
+def stands_by(front: Front) -> int:
+    """Starts a front that has ended as a standby, over the store that it has, and gives the line after which that stands."""
+    front.words(["--follow"], "standing by")
+    front.again()
+    return int(re.search(r"standing by, after line (\d+) of the journal", front.told())[1])
+
+
+@in_loop(200)
+async def test_a_leader_that_was_stopped_stands_by(start, tmp_path: Path) -> None:
+    """Without a snapshot: its store stands where the journal was then. It runs what the other one serves meanwhile and later, and takes over again."""
+    leader = start(store="store.db", journal={"folder": str(tmp_path / "journal")})
+    second = standby(start, tmp_path / "journal")
+    async with leader.person("ada") as ada, leader.person("ben") as ben:
+        await asyncio.gather(works(ada, 3, 40), works(ben, 4, 40))
+        await ada.line("K ^X S ^X=1,A=5")
+    leader.stop()
+    left = last_line(JournalSettings(tmp_path / "journal"))
+    assert takes_over(second) == ""
+    await goes_on(leader, second, left, tmp_path / "journal")
+
+
+async def goes_on(leader: Front, second: Front, left: int, journal: Path) -> None:
+    """The one that led, and ended, stands by from where its store was left, while the other one serves; then it takes over."""
+    async with second.person("ada") as ada:
+        assert await ada.told("S ^X=^X+1 W ^X,$D(A)") == "20"
+        assert stands_by(leader) == left
+        assert await ada.told("S ^X=^X+1 W ^X") == "3"
+    await caught_up(leader, journal)
+    second.stop()
+    assert held(leader.folder / "store.db") == held(second.folder / "store.db")
+    assert takes_over(leader) == ""
+    async with leader.person("ada") as ada:
+        assert await ada.told("W ^X") == "3"
+
+
+@pytest.mark.parametrize("alone", [True, False])
+@in_loop(200)
+async def test_a_leader_that_was_killed_stands_by(start, tmp_path: Path, alone: bool) -> None:
+    """If all its lines were answered, its store stands after the last of them: whether nobody has served since (`alone`) or another one has."""
+    leader = start(store="store.db", journal={"folder": str(tmp_path / "journal"), "roll": 4096})
+    second = standby(start, tmp_path / "journal")
+    async with leader.person("ada") as ada:
+        await works(ada, 5, 60)
+        await ada.line("K ^X S ^X=1,A=5")
+        left = await caught_up(second, tmp_path / "journal")
+        os.kill(leader.process.pid, signal.SIGKILL)
+        leader.process.wait()
+    assert read_standing(leader.folder / "store.db").number is None
+    if alone:
+        assert stands_by(leader) == left
+        leader.stop()
+        assert read_standing(leader.folder / "store.db").number == left
+    assert takes_over(second) == ""
+    await goes_on(leader, second, left, tmp_path / "journal")
+
+
+@in_loop(200)
+async def test_a_leader_that_was_killed_at_work_does_not_stand_by(start, tmp_path: Path) -> None:
+    """Lines were on their way, and may have been run: it is told which, and what can be done. The note beside the store stays."""
+    load, journal = Load(SLOW), tmp_path / "journal"
+    leader = start(store="store.db", journal={"folder": str(journal)})
+    second = standby(start, journal)
+    await load.until_killed(leader, 1)
+    end = end_of(JournalSettings(journal))
+    note = (leader.folder / "store.db.at").read_bytes()
+    wanted = rf"did not end in order, and lines? ({end.answered + 1} to )?{end.next - 1} had no reply then, and may have been run: put back a snapshot"
+    leader.words(["--follow"], "standing by")
+    with pytest.raises(RuntimeError, match=wanted):
+        leader.again()
+    assert takes_over(second) == ""
+    with pytest.raises(RuntimeError, match=wanted):
+        leader.again()
+    assert (leader.folder / "store.db.at").read_bytes() == note
+    await load.holds(second, 1)
 
 
 class Load:

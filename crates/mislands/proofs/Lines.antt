@@ -1,0 +1,72 @@
+-- SPDX-License-Identifier: Apache-2.0
+-- The lines of islands, and an account by its name.
+use Rattle.std.proofs.Common.{◌≡◌, inl, inr, ℕ, ◌+◌, ◌-◌, ◌<◌, Bool, true, false, List, [], ◌∷◌, ◌++◌, length, map, get_or, take, drop, Option, Some, None, refl, sym, ap, ◌∙◌, append_assoc, arith}
+use Rattle.std.specs.Prelude.{slice_get, option_map, unwrap_or}
+use Rattle.std.specs.List.{flat_map, list_any, find}
+use Rattle.std.specs.Cmp.Lexicographic.{bytes_decides}
+use Rattle.std.proofs.lemmas.Bool.{cases_Bool, false≢true}
+use Rattle.std.proofs.lemmas.List.{flat_map_more, map_more, take_rest, length-map, get_or-map}
+use Rattle.std.proofs.lemmas.List.Folds.{list_any_at, list_any-append}
+use Rattle.std.proofs.lemmas.Option.{none-some, same_Some}
+use Rattle.mspec.specs.Node.{Text}
+use Rattle.mspec.specs.Trees.{text_eq}
+use Rattle.mspec.specs.Access.{Settings, Account, account_at, account_named, name_at}
+use Rattle.mislands.specs.Listing.{names_of, names_at, line_of}
+
+abbrev pub behind_spaces : List Text → Text
+behind_spaces names = flat_map (λ b. 32 ∷ b) names
+
+-- one name more behind a space
+pub name_more : (settings : Settings) (places : List ℕ) (i d : ℕ) (old text : Text) → i < length places → text ≡ old ++ behind_spaces (names_at settings (take i places))
+    → (text ++ 32 ∷ []) ++ name_at settings (get_or places i d) ≡ old ++ behind_spaces (names_at settings (take (i + 1) places))
+name_more settings places i d old text within is =
+    append_assoc text (32 ∷ []) (name_at settings (get_or places i d))
+    ∙ ap (λ t. t ++ 32 ∷ name_at settings (get_or places i d)) is
+    ∙ flat_map_more (λ b. 32 ∷ b) old (names_at settings (take i places)) (name_at settings (get_or places i d))
+    ∙ ap (λ names. old ++ behind_spaces names) (sym (map_more (name_at settings) places i d within))
+
+-- the line of an island is that of its first account and the others
+pub line_split : (settings : Settings) (places : List ℕ) (p : ℕ) → slice_get places 0 ≡ Some p
+    → line_of (names_at settings places) ≡ name_at settings p ++ (behind_spaces (names_at settings (take (length places - 1) (drop 1 places))) ++ 10 ∷ [])
+line_split settings [] p here = absurd (none-some p here)
+line_split settings (q ∷ rest) p here =
+    ap (λ k. name_at settings k ++ (behind_spaces (names_at settings rest) ++ 10 ∷ [])) (same_Some q p here)
+    ∙ ap (λ ps. name_at settings p ++ (behind_spaces (names_at settings ps) ++ 10 ∷ [])) (sym (take_rest (q ∷ rest) 1))
+
+-- ---- an account by its name
+
+passes : (name : Text) (accounts : List Account) (a : Account) → find (λ b. text_eq name b.name) accounts ≡ Some a → a.name ≡ name
+passes name [] a e = absurd (none-some a e)
+passes name (b ∷ rest) a e =
+    elim (cases_Bool (text_eq name b.name)) [
+      | inl same ↦ ap (λ x. x.name) (sym (same_Some b a (rw same at e))) ∙ sym ((bytes_decides name b.name).0 same)
+      | inr other ↦ passes name rest a (rw other at e)
+    ]
+
+is_found : (name : Text) (accounts : List Account) → list_any (text_eq name) (map (λ a. a.name) accounts) ≡ true → find (λ b. text_eq name b.name) accounts ≡ None → ⊥
+is_found name [] any e = false≢true any
+is_found name (b ∷ rest) any e =
+    elim (cases_Bool (text_eq name b.name)) [
+      | inl same ↦ none-some b (sym (rw same at e))
+      | inr other ↦ is_found name rest (rw other at any) (rw other at e)
+    ]
+
+pub known_name : (settings : Settings) (name : Text) → list_any (text_eq name) (names_of settings) ≡ true → None ≡ account_named settings name → ⊥
+known_name settings name any e = is_found name settings.accounts any (sym e)
+
+name_of_found : (settings : Settings) (name : Text) (o : Option Account) → list_any (text_eq name) (names_of settings) ≡ true → o ≡ account_named settings name → unwrap_or (option_map (λ a. a.name) o) [] ≡ name
+name_of_found settings name None any e = absurd (known_name settings name any e)
+name_of_found settings name (Some a) any e = passes name settings.accounts a (sym e)
+
+pub name_is : (settings : Settings) (name : Text) (id : ℕ) → list_any (text_eq name) (names_of settings) ≡ true → account_at settings id ≡ account_named settings name → name_at settings id ≡ name
+name_is settings name id any e = name_of_found settings name (account_at settings id) any e
+
+-- ---- a test of what a list is mapped to
+
+pub any_here : {X Y : Type 0} (p : Y → Bool) (f : X → Y) (xs : List X) (i : ℕ) (d : X) → i < length xs → p (f (get_or xs i d)) ≡ true → list_any p (map f xs) ≡ true
+any_here p f xs i d within e = list_any_at p (map f xs) i (f d) (omega (arith, length-map xs f)) (ap p (get_or-map f xs i d (f d) within) ∙ e)
+
+pub none_more : {X Y : Type 0} (p : Y → Bool) (f : X → Y) (xs : List X) (i : ℕ) (d : X) → i < length xs → list_any p (map f (take i xs)) ≡ false → p (f (get_or xs i d)) ≡ false
+    → list_any p (map f (take (i + 1) xs)) ≡ false
+none_more p f xs i d within before e =
+    ap (list_any p) (map_more f xs i d within) ∙ list_any-append p (map f (take i xs)) (f (get_or xs i d) ∷ []) ∙ (rw (before, e) refl)

@@ -15,6 +15,7 @@ import database
 import pytest
 from database import Cluster
 from front import Ran, in_loop, tool
+from mserve_front.control import asked
 from mserve_front.history import History
 from mserve_front.journal import LogFault, LogTaken
 from mserve_front.journal_table import flush_of
@@ -24,7 +25,7 @@ from mserve_front.settings import JournalSettings
 from running import PROGRAM
 from test_journal import flushes
 from test_replay import backup, held, works
-from test_standby import Load, takes_over
+from test_standby import Load, stands_by, takes_over
 
 
 # Seconds for which a database is away: longer than a reply is kept for it.
@@ -270,6 +271,29 @@ async def test_leaders_that_are_killed(start, journal: JournalSettings, tmp_path
     leader.stop()
     assert mjournal(journal)("replay", "--program", PROGRAM, "--store", tmp_path / "all")[::2] == (0, "")
     assert held(tmp_path / "all") == held(leader.folder / "store.db")
+
+
+@in_loop(200)
+async def test_a_leader_that_was_killed_stands_by(start, journal: JournalSettings) -> None:
+    """Its store stands after its last line, by the table, in which another one has written since."""
+    leader = start(store="store.db", journal=table(journal))
+    second = start(store="store.db", words=["--follow"], awaited="standing by", journal=table(journal))
+    async with leader.person("ada") as ada:
+        await works(ada, 5, 30)
+        await ada.line("K ^X S ^X=1")
+        left = asked(leader.folder / "mfront.control", {"ask": "status"}, 5)["line"]
+        leader.process.kill()
+        leader.process.wait()
+    while why := await asyncio.to_thread(takes_over, second):
+        assert "another front" in why
+    async with second.person("ada") as ada:
+        assert await ada.told("S ^X=^X+1 W ^X") == "2"
+        assert stands_by(leader) == left
+    second.stop()
+    while why := await asyncio.to_thread(takes_over, leader):
+        assert "another front" in why
+    async with leader.person("ada") as ada:
+        assert await ada.told("W ^X") == "2"
 
 
 @in_loop(200)

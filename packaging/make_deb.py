@@ -1,6 +1,6 @@
 #!/usr/bin/env python3
 # SPDX-License-Identifier: Apache-2.0
-"""Makes the Debian package: the released program, the clients, the front, man pages, completion, units and documents.
+"""Makes the Debian package: the released programs, the clients, the front, man pages, completion, units and documents.
 
     python3 packaging/make_deb.py [--to FOLDER]
 
@@ -27,6 +27,7 @@ PARTS = TOP / "packaging" / "deb"
 MAINTAINER = "Relumavosh maintainers <maintainers@users.noreply.relumavosh.example>"
 SHARE = "usr/share/mserve"
 DOC = "usr/share/doc/mserve"
+PROGRAMS = ("mserve", "mislands")
 # The commands that are scripts, and the folder of each.
 COMMANDS = {"mshell": "clients", "mroutine": "clients", "mglobal": "clients", "misland": "clients", "mfront": "front", "mjournal": "front",
             "mbackup": "front", "mgate": "front"}
@@ -70,15 +71,17 @@ def made_at() -> int:
     return int(datetime.fromisoformat(found[1]).replace(tzinfo=UTC).timestamp())
 
 
-def program() -> bytes:
-    """The released program, which is the one that release/record names."""
-    data = lzma.decompress((TOP / "release" / "mserve.xz").read_bytes())
+def programs() -> dict[str, bytes]:
+    """The released programs, which are those that release/record names."""
     record = dict(line.split(" ", 1) for line in (TOP / "release" / "record").read_text(encoding="utf-8").splitlines())
-    if hashlib.sha256(data).hexdigest() != record["program"]:
-        raise Refused("release/mserve.xz is not the program that release/record names: tools/release.py make")
     if record["version"] != version():
         raise Refused(f"the release is of version {record['version']}, and VERSION says {version()}: tools/release.py make")
-    return data
+    found = {}
+    for name in PROGRAMS:
+        found[name] = lzma.decompress((TOP / "release" / f"{name}.xz").read_bytes())
+        if hashlib.sha256(found[name]).hexdigest() != record.get(name):
+            raise Refused(f"release/{name}.xz is not the program that release/record names: tools/release.py make")
+    return found
 
 
 def put(root: Path, place: str, data: bytes, mode: int = 0o644) -> None:
@@ -102,8 +105,9 @@ def copied(root: Path, source: Path, place: str) -> None:
 
 
 def put_commands(root: Path) -> None:
-    """The program, and the scripts with their modules: each is a link to where its modules are."""
-    put(root, "usr/bin/mserve", program(), 0o755)
+    """The programs, and the scripts with their modules: each is a link to where its modules are."""
+    for name, data in programs().items():
+        put(root, f"usr/bin/{name}", data, 0o755)
     copied(root, TOP / "clients" / "mserve_client", f"{SHARE}/clients/mserve_client")
     copied(root, TOP / "front" / "mserve_front", f"{SHARE}/front/mserve_front")
     copied(root, TOP / "front" / "page", f"{SHARE}/front/page")
@@ -116,7 +120,7 @@ def put_commands(root: Path) -> None:
 
 def put_documents(root: Path) -> None:
     """Man pages, completion, documents and examples."""
-    pages = [TOP / "docs" / "mserve.1", *sorted((TOP / "clients" / "man").glob("*.1")), *sorted((TOP / "front" / "man").glob("*.1"))]
+    pages = [*sorted((TOP / "docs").glob("*.1")), *sorted((TOP / "clients" / "man").glob("*.1")), *sorted((TOP / "front" / "man").glob("*.1"))]
     for page in pages:
         put_zipped(root, f"usr/share/man/man1/{page.name}", page.read_bytes())
     put(root, "usr/share/bash-completion/completions/mserve", (TOP / "packaging" / "mserve.bash").read_bytes())

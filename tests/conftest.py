@@ -1,7 +1,7 @@
 # SPDX-License-Identifier: Apache-2.0
 """What the tests stand on: the built program, its settings and stores, and libraries that refuse its calls.
 
-The program is the one that tools/running.py names. Helpers that are no fixtures are in tests/support.py."""
+The programs are those that tools/running.py names. Helpers that are no fixtures are in tests/support.py."""
 from __future__ import annotations
 
 import os
@@ -47,9 +47,10 @@ def pytest_collection_modifyitems(config: pytest.Config, items: list[pytest.Item
 
 
 def pytest_configure() -> None:
-    """Ends the run if there is no program to test."""
-    if not os.path.exists(running.PROGRAM):
-        pytest.exit("tests: there is no program: run ./mserve --help, or name one by the variable MSERVE", returncode=3)
+    """Ends the run if there is no program to test, and has the clients take the one for islands from where it is."""
+    if not os.path.exists(running.PROGRAM) or not os.path.exists(running.ISLANDS):
+        pytest.exit("tests: a program is missing: run ./mserve --help, or name the programs by the variables MSERVE and MISLANDS", returncode=3)
+    os.environ["MISLANDS"] = running.ISLANDS
 
 
 @pytest.fixture(scope="session")

@@ -1,12 +1,12 @@
 #!/usr/bin/env python3
 # SPDX-License-Identifier: Apache-2.0
-"""The released program, under release/: `mserve.xz`, and `record`, which says what it is and what it was built from.
+"""The released programs, under release/: `mserve.xz` and `mislands.xz`, and `record`, which says what they are and what they were built from.
 
     tools/release.py check    whether the release is of this version and of these sources, and whole; less than a second
-    tools/release.py make     makes the release from the program that was built of these sources (tools/build.py builds it if need be)
-    tools/release.py compare  whether the program that was built of these sources is the released one, byte for byte
+    tools/release.py make     makes the release from the programs that were built of these sources (tools/build.py builds them if need be)
+    tools/release.py compare  whether the programs that were built of these sources are the released ones, byte for byte
 
-The program is stripped (`strip` of binutils). If it was built by another kit than the release, its bytes may be others, and `compare`
+The programs are stripped (`strip` of binutils). If they were built by another kit than the release, their bytes may be others, and `compare`
 says so and compares nothing."""
 import lzma
 import os
@@ -16,9 +16,8 @@ import tempfile
 from dataclasses import astuple, dataclass, fields
 
 import build
-from sources import TOP, content, sources_digest, sum_of
+from sources import PROGRAMS, TOP, content, sources_digest, sum_of
 
-PROGRAM = os.path.join("release", "mserve.xz")
 RECORD = os.path.join("release", "record")
 UNPACKED = os.path.join("release", "unpacked")
 
@@ -33,9 +32,15 @@ class Record:
 
     version: str
     system: str
-    program: str  # the SHA-256 of the program, unpacked
+    mserve: str  # the SHA-256 of each program, unpacked
+    mislands: str
     sources: str  # the digest of the sources (tools/sources.py)
     kit: str  # what `rt version` printed
+
+
+def packed(program: str) -> str:
+    """The file of a released program, relative to the top."""
+    return os.path.join("release", f"{program}.xz")
 
 
 def read_record() -> Record | None:
@@ -57,35 +62,40 @@ def write_record(record: Record) -> None:
         file.writelines(lines)
 
 
-def released_bytes(record: Record) -> bytes:
-    """The released program, if it is the one that the record names."""
+def released_bytes(record: Record, program: str) -> bytes:
+    """A released program, if it is the one that the record names."""
     try:
-        program = lzma.decompress(content(PROGRAM))
+        data = lzma.decompress(content(packed(program)))
     except (OSError, lzma.LZMAError) as error:
-        raise Damaged(f"{PROGRAM} cannot be unpacked: {error}") from None
-    if sum_of(program) != record.program:
-        raise Damaged(f"{PROGRAM} is not the program that {RECORD} names")
-    return program
+        raise Damaged(f"{packed(program)} cannot be unpacked: {error}") from None
+    if sum_of(data) != getattr(record, program):
+        raise Damaged(f"{packed(program)} is not the program that {RECORD} names")
+    return data
 
 
 def unpack_folder() -> str:
-    """Where the program is unpacked: beside the release, or in the user's cache if the tree is read-only."""
+    """Where the programs are unpacked: beside the release, or in the user's cache if the tree is read-only."""
     if os.access(os.path.join(TOP, "release"), os.W_OK):
         return os.path.join(TOP, UNPACKED)
     cache = os.environ.get("XDG_CACHE_HOME") or os.path.expanduser("~/.cache")
     return os.path.join(cache, "mserve")
 
 
-def unpack(record: Record) -> str:
-    """The path of the released program, which is unpacked if it is not there yet, or is another."""
+def unpack(record: Record) -> dict[str, str]:
+    """The path of each released program. One that is not there yet, or is another, is unpacked."""
+    return {program: unpacked(record, program) for program in PROGRAMS}
+
+
+def unpacked(record: Record, program: str) -> str:
+    """The path of a released program, which is unpacked if need be."""
     folder = unpack_folder()
-    path = os.path.join(folder, "mserve")
-    if os.access(path, os.X_OK) and sum_of(content(path)) == record.program:
+    path = os.path.join(folder, program)
+    if os.access(path, os.X_OK) and sum_of(content(path)) == getattr(record, program):
         return path
     os.makedirs(folder, mode=0o700, exist_ok=True)
     new = f"{path}.{os.getpid()}"
     with open(new, "wb") as file:
-        file.write(released_bytes(record))
+        file.write(released_bytes(record, program))
     os.chmod(new, 0o755)
     os.replace(new, path)
     return path
@@ -103,7 +113,7 @@ def kit() -> str:
 def stripped(path: str) -> bytes:
     """The bytes of a program without its symbols."""
     with tempfile.TemporaryDirectory() as folder:
-        copy = os.path.join(folder, "mserve")
+        copy = os.path.join(folder, "stripped")
         subprocess.run(["strip", "--strip-all", "-o", copy, path], check=True)
         with open(copy, "rb") as file:
             return file.read()
@@ -118,7 +128,8 @@ def check() -> str | None:
         return f"the release is of version {record.version}, and VERSION says {version()}: run tools/release.py make"
     if record.sources != sources_digest():
         return "the release was built from other sources than these: run tools/release.py make"
-    released_bytes(record)
+    for program in PROGRAMS:
+        released_bytes(record, program)
     return None
 
 
@@ -126,27 +137,30 @@ def make() -> str | None:
     digest = sources_digest()
     if not build.is_built(digest):
         build.build(digest)
-    program = stripped(build.PROGRAM)
+    programs = {program: stripped(build.path_of(program)) for program in PROGRAMS}
     os.makedirs(os.path.join(TOP, "release"), exist_ok=True)
-    with open(os.path.join(TOP, PROGRAM), "wb") as file:
-        file.write(lzma.compress(program, preset=9 | lzma.PRESET_EXTREME))
-    write_record(Record(version(), "x86_64 Linux", sum_of(program), digest, kit()))
+    for program, data in programs.items():
+        with open(os.path.join(TOP, packed(program)), "wb") as file:
+            file.write(lzma.compress(data, preset=9 | lzma.PRESET_EXTREME))
+    sums = {program: sum_of(data) for program, data in programs.items()}
+    write_record(Record(version=version(), system="x86_64 Linux", sources=digest, kit=kit(), **sums))
     return None
 
 
 def compare() -> str | None:
-    """What differs between the program that was built and the released one."""
+    """What differs between the programs that were built and the released ones."""
     record = read_record()
     if record is None:
         return "there is no release"
     if record.kit != kit():
         print(f"release: not compared: the release was built by {record.kit}, and this kit is {kit()}")
         return None
-    if not os.path.exists(build.PROGRAM):
-        return f"{build.PROGRAM} was not built"
-    if stripped(build.PROGRAM) != released_bytes(record):
-        return "the program built from these sources is not the released one"
-    print("release: the program built from these sources is the released one, byte for byte")
+    for program in PROGRAMS:
+        if not os.path.exists(build.path_of(program)):
+            return f"{build.path_of(program)} was not built"
+        if stripped(build.path_of(program)) != released_bytes(record, program):
+            return f"{program}, built from these sources, is not the released one"
+    print(f"release: {' and '.join(PROGRAMS)}, built from these sources, are the released ones, byte for byte")
     return None
 
 

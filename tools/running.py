@@ -2,7 +2,7 @@
 """How the scripts of this folder run the built program.
 
 The program is the one that the variable MSERVE names; else crates/mserve/out/mserve, as the gate or a build by `./mserve` leaves it; else the
-released one that `./mserve` unpacked.
+released one that `./mserve` unpacked. So is the one that prints islands, with the variable MISLANDS and the name mislands.
 Where a script says no more, a run is over a new store in memory, by
 settings in which terminal 1 is of ALICE and a line may use 2,000 steps."""
 import contextlib
@@ -15,9 +15,15 @@ import time
 from collections import deque
 
 TOP = os.path.realpath(os.path.join(os.path.dirname(os.path.abspath(__file__)), ".."))
-BUILT = os.path.join(TOP, "crates", "mserve", "out", "mserve")
-RELEASED = os.path.join(TOP, "release", "unpacked", "mserve")
-PROGRAM = os.environ.get("MSERVE") or (BUILT if os.path.exists(BUILT) else RELEASED)
+
+
+def program_of(name, variable):
+    """The path of a program."""
+    built = os.path.join(TOP, "crates", name, "out", name)
+    return os.environ.get(variable) or (built if os.path.exists(built) else os.path.join(TOP, "release", "unpacked", name))
+
+
+PROGRAM, ISLANDS = program_of("mserve", "MSERVE"), program_of("mislands", "MISLANDS")
 ONE_ACCOUNT = os.path.join(TOP, "tests", "settings", "one_account.toml")
 STEPS = 2000
 

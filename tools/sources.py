@@ -1,7 +1,7 @@
 # SPDX-License-Identifier: Apache-2.0
-"""What the program is built from: its crates, their files, and one digest of them all.
+"""What the programs are built from: their crates, the files of these, and one digest of them all.
 
-The digest covers crates.txt and, of each crate that the program stands on, the folders src/, specs/ and proofs/. A change to a document,
+The digest covers crates.txt and, of each crate that a program stands on, the folders src/, specs/ and proofs/. A change to a document,
 a tool, a test or another crate's files leaves it as it is."""
 import hashlib
 import os
@@ -9,16 +9,17 @@ from collections.abc import Iterator
 
 TOP = os.path.realpath(os.path.join(os.path.dirname(os.path.abspath(__file__)), ".."))
 CRATES = "crates.txt"
-PROGRAM_CRATE = "mserve"
+# The programs, each of the crate of its name.
+PROGRAMS = ("mserve", "mislands")
 PARTS = ("src", "specs", "proofs")
 
 
 def program_crates() -> dict[str, str]:
-    """The crates that the program stands on, itself among them, each with its line of crates.txt, in the order of that file."""
+    """The crates that the programs stand on, themselves among them, each with its line of crates.txt, in the order of that file."""
     with open(os.path.join(TOP, CRATES), encoding="utf-8") as file:
         lines = [line.strip() for line in file if line.strip() and not line.startswith("#")]
     lines_by_crate = {line.partition(":")[0]: line for line in lines}
-    wanted, left = set(), [PROGRAM_CRATE]
+    wanted, left = set(), list(PROGRAMS)
     while left:
         crate = left.pop()
         if crate in lines_by_crate and crate not in wanted:

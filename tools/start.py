@@ -1,9 +1,11 @@
 #!/usr/bin/env python3
 # SPDX-License-Identifier: Apache-2.0
-"""What `./mserve` starts if it can't take its quick way: finds the program, or has it built, and runs it with the words given.
+"""What `./mserve` and `./mislands` start if they can't take their quick way: finds the program, or has it built, and runs it with the words given.
+
+    tools/start.py PROGRAM [WORD ..]
 
 The released program (release/) is taken if it was built from these sources. It is unpacked once; `release/unpacked/paths` then lists what was
-compared, so that `./mserve` sees by the times of these files alone whether it still is. Otherwise the program is built from the sources by the
+compared, so that the scripts see by the times of these files alone whether it still is. Otherwise the programs are built from the sources by the
 Rattle kit (tools/build.py). `./mserve --version` prints the version, the digest of the sources and which of the two it runs."""
 import os
 import platform
@@ -13,7 +15,7 @@ import time
 
 import build
 import release
-from sources import CRATES, TOP, folders_of, program_crates, sources_digest
+from sources import CRATES, PROGRAMS, TOP, folders_of, program_crates, sources_digest
 
 STATUS = 1
 
@@ -34,7 +36,7 @@ def note_compared(start: int) -> None:
     """Lists, for the quick way of `./mserve`, what the release was compared with at the time `start`, in nanoseconds. A read-only tree has no such way."""
     if release.unpack_folder() != os.path.join(TOP, release.UNPACKED):
         return
-    watched = [CRATES, release.PROGRAM, release.RECORD, *(folder for crate in program_crates() for folder in folders_of(crate))]
+    watched = [CRATES, *map(release.packed, PROGRAMS), release.RECORD, *(folder for crate in program_crates() for folder in folders_of(crate))]
     new = os.path.join(TOP, release.UNPACKED, f"paths.{os.getpid()}")
     with open(new, "w", encoding="utf-8") as file:
         file.write("".join(f"{path}\n" for path in watched))
@@ -42,25 +44,25 @@ def note_compared(start: int) -> None:
     os.replace(new, os.path.join(TOP, release.UNPACKED, "paths"))
 
 
-def released_program(digest: str, start: int) -> str | None:
-    """The path of the released program, unpacked; None if there is no release of these sources."""
+def released_program(program: str, digest: str, start: int) -> str | None:
+    """The path of a released program, unpacked; None if there is no release of these sources."""
     record = release.read_record()
     if record is None or record.sources != digest:
         return None
-    path = release.unpack(record)
+    paths = release.unpack(record)
     note_compared(start)
-    return path
+    return paths[program]
 
 
-def built_program(digest: str) -> str:
+def built_program(program: str, digest: str) -> str:
     """The path of a program that is built from these sources, now if it must be."""
     if not build.is_built(digest):
         reason = "there is no release" if release.read_record() is None else "the sources are not those of the release"
         if shutil.which("rt") is None:
-            fail(f"{reason}, and the Rattle kit (`rt`) that builds the program is not on the path: see docs/INSTALL.md")
-        print(f"mserve: {reason}, so the program is proved and built from them: an hour or more the first time", file=sys.stderr, flush=True)
+            fail(f"{reason}, and the Rattle kit (`rt`) that builds {program} is not on the path: see docs/INSTALL.md")
+        print(f"mserve: {reason}, so the programs are proved and built from them: an hour or more the first time", file=sys.stderr, flush=True)
         build.build(digest)
-    return build.PROGRAM
+    return build.path_of(program)
 
 
 def print_version(digest: str) -> None:
@@ -77,14 +79,16 @@ def print_version(digest: str) -> None:
 
 
 def main() -> None:
-    words = sys.argv[1:]
+    if sys.argv[1:2] not in [[name] for name in PROGRAMS]:
+        sys.exit(__doc__)
+    name, *words = sys.argv[1:]
     start = time.time_ns()
     require_system()
     digest = sources_digest()
     if words == ["--version"]:
         print_version(digest)
         return
-    program = released_program(digest, start) or built_program(digest)
+    program = released_program(name, digest, start) or built_program(name, digest)
     os.execv(program, [program, *words])
 
 

@@ -5,8 +5,8 @@ from __future__ import annotations
 import argparse
 from pathlib import Path
 
-from . import islands, options, settings_file
-from .islands import NotSplit, Pair, Part
+from . import islands, options
+from .islands import NoIslands, NotSplit, Pair, Part
 from .options import FOUND
 from .routine_command import counted
 from .settings_file import BadSettings
@@ -23,6 +23,7 @@ Accounts of one island are answered the same if they are kept on a machine of th
   misland join parts/CLINIC --with settings.toml store.db --to whole
 
 A part is a folder with settings.toml and store.db. Globals of accounts that the settings do not name go to strangers.db.
+The proved program mislands says which islands there are; the variable MISLANDS names another copy of it.
 No server may have the files, and they stay as they are. What is written is compared with what was read, account by account."""
 STATUSES = "Status: 0 all went well; 1 something was refused, and nothing was written; 2 the words are wrong; 130 an interrupt."
 
@@ -56,15 +57,15 @@ def run(chosen: argparse.Namespace) -> int:
     """Does what the words ask for."""
     try:
         return ACTS[chosen.act](chosen)
-    except (BadSettings, BadStore, NotSplit) as error:
+    except (BadSettings, BadStore, NoIslands, NotSplit) as error:
         options.tell(NAME, str(error))
         return FOUND
 
 
 def shown(chosen: argparse.Namespace) -> int:
     """Names the islands."""
-    settings = settings_file.read(chosen.settings)
-    parts, strangers = islands.parts_of(settings), {}
+    settings, found = islands.read(chosen.settings)
+    parts, strangers = islands.parts_of(settings, found), {}
     if chosen.store is not None:
         with Store(str(chosen.store)) as store:
             strangers = islands.looked_at(settings, parts, store)

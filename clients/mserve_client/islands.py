@@ -1,5 +1,9 @@
 # SPDX-License-Identifier: Apache-2.0
-"""Settings and store files split by island, and joined again. The files that are split or joined stay as they are.
+"""The islands of settings; settings and store files split by island, and joined again. The files that are split or joined stay as they are.
+
+An island is a set of accounts that no grant ties to others: the least one that has an account. Its accounts are answered the same if
+they are kept on a machine of their own (docs/ISOLATION.md). Which islands there are is for the proved program mislands to say: the one that the
+variable MISLANDS names, else that of this clone, else the installed one.
 
 A part is a folder with `settings.toml` and `store.db`. A folder of parts has one for each island, named after its first account, and
 `strangers.db` if the store has globals of accounts that the settings do not name."""
@@ -7,6 +11,7 @@ from __future__ import annotations
 
 import os
 import shutil
+import subprocess
 import tempfile
 from collections.abc import Iterable, Iterator
 from concurrent.futures import ThreadPoolExecutor
@@ -20,8 +25,14 @@ from .store_file import BadStore, Digest, Store
 from .wire import ClientError
 
 SETTINGS, STORE, STRANGERS = "settings.toml", "store.db", "strangers.db"
+# The program that prints islands, and the variable that names another one.
+PROGRAM, VARIABLE = "mislands", "MISLANDS"
 # No account has such a name.
 REST = "the-rest"
+
+
+class NoIslands(ClientError):
+    """The islands cannot be had; the text says why."""
 
 
 class NotSplit(ClientError):
@@ -45,9 +56,37 @@ class Pair:
     store: Path
 
 
-def parts_of(settings: Settings, apart: Iterable[str] = ()) -> list[Part]:
+def program() -> str:
+    """The program that prints islands."""
+    here = Path(__file__).resolve().parents[2] / PROGRAM
+    return os.environ.get(VARIABLE) or (str(here) if here.is_file() else PROGRAM)
+
+
+def islands_of(document: bytes) -> list[list[str]]:
+    """The islands of a document of settings, in the order of their first accounts, and the accounts of each in their order, by the proved program.
+    NoIslands if that cannot be had; what it tells then goes to the standard error."""
+    path = program()
+    try:
+        done = subprocess.run([path], input=document, stdout=subprocess.PIPE)
+    except OSError as error:
+        raise NoIslands(f"{path}, which computes the islands, cannot be run: {error.strerror}. The variable {VARIABLE} names another one") from error
+    if done.returncode:
+        raise NoIslands(f"{path}, which computes the islands, ended with status {done.returncode}")
+    return [line.split() for line in done.stdout.decode("ascii", "replace").splitlines()]
+
+
+def read(path: Path) -> tuple[Settings, list[list[str]]]:
+    """The settings of a file, and their islands. BadSettings if mserve refuses them, NoIslands if the islands cannot be had."""
+    document = path.read_bytes()
+    settings = settings_file.parsed(str(path), document)
+    found = islands_of(document)
+    if sorted(name for island in found for name in island) != sorted(settings.names):
+        raise NoIslands(f"{program()}, which computes the islands, printed other accounts than those of {path}")
+    return settings, found
+
+
+def parts_of(settings: Settings, islands: list[list[str]], apart: Iterable[str] = ()) -> list[Part]:
     """Each island; or the islands of the accounts that are named, and the rest of the accounts."""
-    islands = settings.islands()
     wanted = set(apart)
     if unknown := wanted - set(settings.names):
         raise NotSplit(f"no account of the settings has the name {sorted(unknown)[0]}")
@@ -68,8 +107,8 @@ def looked_at(settings: Settings, parts: list[Part], store: Store) -> dict[str, 
 
 def split(source: Pair, folder: Path, apart: Iterable[str] = ()) -> tuple[list[Part], dict[str, Digest]]:
     """Makes a folder of parts; gives the parts and what tells the strangers' nodes. The folder is there whole or not at all."""
-    settings = settings_file.read(source.settings)
-    parts = parts_of(settings, apart)
+    settings, found = read(source.settings)
+    parts = parts_of(settings, found, apart)
     # A part is compared while the next one is written.
     with Store(str(source.store)) as store, made(folder) as place, ThreadPoolExecutor(os.cpu_count()) as beside:
         strangers = looked_at(settings, parts, store)

@@ -1,8 +1,5 @@
 # SPDX-License-Identifier: Apache-2.0
-"""A settings file of the server: its accounts and grants, the islands that these make, and parts of it. docs/FORMATS.md has the form.
-
-An island is a set of accounts that no grant ties to others: the least one that has an account. Its accounts are answered the same if
-they are kept on a machine of their own (docs/ISOLATION.md)."""
+"""A settings file of the server: its accounts and grants, and parts of it. docs/FORMATS.md has the form."""
 from __future__ import annotations
 
 import tomllib
@@ -76,25 +73,6 @@ class Settings:
             if grant.giver in place and place[grant.giver] == place.get(grant.taker):
                 grants[place[grant.giver]].append(grant)
         return [Settings(tuple(one), tuple(two)) for one, two in zip(accounts, grants)]
-
-    def islands(self) -> list[list[str]]:
-        """The islands, in the order of their first accounts, and the accounts of each in their order."""
-        roots = {name: name for name in self.names}
-        for grant in self.grants:
-            one, two = _root(roots, grant.giver), _root(roots, grant.taker)
-            roots[one] = two
-        found: dict[str, list[str]] = {}
-        for name in self.names:
-            found.setdefault(_root(roots, name), []).append(name)
-        return list(found.values())
-
-
-def _root(roots: dict[str, str], name: str) -> str:
-    """The account that stands for all that are known to be tied to an account; what leads there is made shorter."""
-    while roots[name] != name:
-        roots[name] = roots[roots[name]]
-        name = roots[name]
-    return name
 
 
 def read(path: str | Path) -> Settings:

@@ -1,7 +1,7 @@
 # SPDX-License-Identifier: Apache-2.0
 """How these tests run: each against the built program, over a store in memory and over one in a file.
 
-The program is the one that tools/running.py names."""
+The programs are those that tools/running.py names."""
 from __future__ import annotations
 
 import contextlib
@@ -35,9 +35,10 @@ NAMES = ("ROUTINE", "X", "Y", "Z", "DATA", "INR", "HERE", "%P", "UNSEEN", "PATIE
 
 
 def pytest_configure() -> None:
-    """Ends the run if there is no program to test."""
-    if not os.path.exists(running.PROGRAM):
-        pytest.exit("clients/tests: there is no program: run ./mserve --help, or name one by the variable MSERVE", returncode=3)
+    """Ends the run if there is no program to test, and has the clients take the one for islands from where it is."""
+    if not os.path.exists(running.PROGRAM) or not os.path.exists(running.ISLANDS):
+        pytest.exit("clients/tests: a program is missing: run ./mserve --help, or name the programs by the variables MSERVE and MISLANDS", returncode=3)
+    os.environ["MISLANDS"] = running.ISLANDS
 
 
 @dataclass

@@ -1,8 +1,8 @@
 # SPDX-License-Identifier: Apache-2.0
 """Islands of settings, and files split by island and joined again.
 
-The islands are compared with a second computation, which tries all sets of accounts, and with what the proved call answers in
-transcripts/settings.txt."""
+The islands are those that the program mislands prints. They are compared with a second computation, which tries all sets of accounts, and with
+what the proved call answers in transcripts/settings.txt."""
 from __future__ import annotations
 
 import os
@@ -45,7 +45,7 @@ def island_by_definition(settings: Settings, account: str) -> set[str]:
 @given(st.lists(st.tuples(st.sampled_from(NAMES), st.sampled_from(NAMES)).filter(lambda pair: pair[0] != pair[1]), max_size=5))
 def test_islands_are_those_of_the_definition(grants: list[tuple[str, str]]) -> None:
     settings = settings_of(grants)
-    found = settings.islands()
+    found = islands.islands_of(str(settings).encode())
     assert sorted(name for island in found for name in island) == sorted(NAMES)
     for island in found:
         assert all(set(island) == island_by_definition(settings, name) for name in island)
@@ -53,17 +53,63 @@ def test_islands_are_those_of_the_definition(grants: list[tuple[str, str]]) -> N
     assert [island[0] for island in found] == [name for name in NAMES if name in {island[0] for island in found}]
 
 
-def test_islands_are_those_that_the_proved_call_answers(tmp_path: Path) -> None:
+def test_islands_are_those_that_the_proved_call_answers() -> None:
     asked = 0
     for block in blocks.blocks():
         document = b"".join(blocks.line_bytes(case).removeprefix(b"line ") for case, _ in block.cases if case.startswith("line "))
         for case, given_lines in block.cases:
             if block.kind == "settings" and case.startswith("island_of "):
-                (tmp_path / "settings.toml").write_bytes(document)
                 account = case.removeprefix("island_of ")
-                assert [island for island in settings_file.read(tmp_path / "settings.toml").islands() if account in island] == [given_lines[0].split()]
+                assert [island for island in islands.islands_of(document) if account in island] == [given_lines[0].split()]
                 asked += 1
     assert asked >= 8
+
+
+def mislands(document: bytes, *words: str | bytes) -> tuple[int, bytes, bytes]:
+    """The status of the program over a document, what it prints and what it tells."""
+    done = subprocess.run([running.ISLANDS, *words], input=document, capture_output=True, timeout=60)
+    return done.returncode, done.stdout, done.stderr
+
+
+def test_program_that_prints_islands() -> None:
+    assert mislands(b"") == (0, b"", b"")
+    assert mislands(GOOD.encode()) == (0, b"A B\n", b"")
+    assert mislands(GOOD.encode() + b"#" * (1_000_000 - len(GOOD))) == (0, b"A B\n", b"")
+    for word in ("--help", "settings.toml", b"\xff"):
+        assert mislands(GOOD.encode(), word) == (2, b"", b"mislands: usage: mislands <SETTINGS\n")
+    with open("/dev/full", "wb") as full:
+        done = subprocess.run([running.ISLANDS], input=GOOD.encode(), stdout=full, stderr=subprocess.PIPE, timeout=60)
+    assert (done.returncode, done.stderr) == (5, b"mislands: output: Write\n")
+    folder = os.open("/", os.O_RDONLY)
+    try:
+        done = subprocess.run([running.ISLANDS], stdin=folder, capture_output=True, timeout=60)
+    finally:
+        os.close(folder)
+    assert (done.returncode, done.stdout, done.stderr) == (3, b"", b"mislands: settings: Read\n")
+
+
+@pytest.mark.parametrize(("count", "tied"), [(9_999, False), (9_200, True)])
+def test_islands_of_the_most_accounts(count: int, tied: bool) -> None:
+    """Each alone, or all in a chain: within seconds."""
+    names = tuple(f"A{number}" for number in range(count))
+    settings = Settings(tuple(Account(name, (), 1) for name in names), tuple(Grant(one, two, "X", "read") for one, two in zip(names, names[1:])) if tied else ())
+    document = str(settings).replace(" ", "").encode()
+    assert len(document) <= 1_000_000
+    assert islands.islands_of(document) == ([list(names)] if tied else [[name] for name in names])
+
+
+def test_program_that_cannot_be_had(source: islands.Pair, command: Command, tmp_path: Path) -> None:
+    """It is told which one was wanted, and nothing is made."""
+    for name, text, told in (("absent", None, "cannot be run: No such file or directory. The variable MISLANDS names another one"),
+                             ("fails", "#!/bin/sh\nexit 3\n", "ended with status 3"), ("others", "#!/bin/sh\necho A B C\n", "printed other accounts than those of")):
+        path = tmp_path / name
+        if text is not None:
+            path.write_text(text)
+            path.chmod(0o755)
+        for words in (["list", source.settings], ["split", source.settings, source.store, "--to", "parts"]):
+            ran = command("misland", *words, MISLANDS=str(path))
+            assert (ran.status, ran.output) == (1, "") and ran.told.startswith(f"misland: {path}, which computes the islands, {told}"), ran
+    assert not (tmp_path / "parts").exists()
 
 
 def test_settings_there_and_back(tmp_path: Path) -> None:
@@ -83,10 +129,11 @@ GOOD = '[[account]]\nname = "A"\nterminals = [1]\nsteps = 1\n\n[[account]]\nname
     ('to = "B"', 'to = "A"', "Grant"),
 ])
 def test_settings_that_the_program_refuses(tmp_path: Path, old: str, new: str, fault: str) -> None:
-    """They are refused here too, by the name of the same fault."""
+    """They are refused here too, and by mislands, by the name of the same fault."""
     path = tmp_path / "settings.toml"
     path.write_text(GOOD.replace(old, new, 1))
     assert running.run(b"", str(path)) == (3, b"", f"mserve: settings: {fault}\n".encode())
+    assert mislands(path.read_bytes()) == (3, b"", f"mislands: settings: {fault}\n".encode())
     with pytest.raises(BadSettings, match=f": {fault}: "):
         settings_file.read(path)
 
@@ -95,6 +142,7 @@ def test_settings_that_are_too_long(tmp_path: Path) -> None:
     path = tmp_path / "settings.toml"
     path.write_text(GOOD + "#" * 1_000_000)
     assert running.run(b"", str(path)) == (3, b"", b"mserve: settings: Read\n")
+    assert mislands(path.read_bytes()) == (3, b"", b"mislands: settings: Read\n")
     with pytest.raises(BadSettings, match=": Read: it has more than 1,000,000 bytes"):
         settings_file.read(path)
 

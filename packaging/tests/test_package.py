@@ -153,10 +153,10 @@ def test_lintian_finds_no_error(package: Path) -> None:
 
 def test_package_has_each_command_its_page_and_the_units(package: Path) -> None:
     listed = subprocess.run(["dpkg-deb", "--contents", package], capture_output=True, text=True, check=True).stdout
-    for name in ("mserve", "mfront", "mjournal", "mbackup", "mgate", "mshell", "mroutine", "mglobal", "misland"):
+    for name in ("mserve", "mislands", "mfront", "mjournal", "mbackup", "mgate", "mshell", "mroutine", "mglobal", "misland"):
         assert f" ./usr/bin/{name}" in listed
     pages = [page for folder in ("docs", "clients/man", "front/man") for page in (TOP / folder).glob("*.1")]
-    assert len(pages) >= 7 and all(f" ./usr/share/man/man1/{page.name}.gz\n" in listed for page in pages)
+    assert len(pages) >= 8 and all(f" ./usr/share/man/man1/{page.name}.gz\n" in listed for page in pages)
     for path in (*(f"lib/systemd/system/{unit}" for unit in UNITS), "usr/share/bash-completion/completions/mserve", "etc/mserve/front.toml",
                  "usr/share/mserve/front/page/index.html", "usr/share/doc/mserve/docs/LANGUAGE.md"):
         assert f" ./{path}\n" in listed
@@ -244,6 +244,8 @@ def used(root: Root) -> None:
     assert root.run("mserve run --settings /etc/mserve/settings.toml --store memory", "1 WRITE 1+2*3\n") == "1-9\n1.\n"
     for name in ("mshell", "mroutine", "mglobal", "misland", "mfront", "mjournal", "mbackup", "mgate"):
         assert f"usage: {name}" in root.run(f"{name} --help")
+    assert root.run("mislands </etc/mserve/settings.toml") == "OFFICE\n"
+    assert root.run("misland list /etc/mserve/settings.toml").startswith("OFFICE: 1 account, ")
     assert "OFFICE" in root.run("mfront user list")
     modes = root.run("stat -c '%U %a' /var/lib/mserve /var/log/mserve /var/lib/mserve/users.json /var/log/mserve/audit.log").splitlines()
     assert modes == ["mserve 700", "mserve 700", "mserve 600", "mserve 600"]

@@ -1,5 +1,5 @@
 # SPDX-License-Identifier: Apache-2.0
-"""`./mserve` as a newcomer runs it: in a copy of what git tracks, with bash and python3 and without the kit.
+"""`./mserve` and `./mislands` as a newcomer runs them: in a copy of what git tracks, with bash and python3 and without the kit.
 
 The first line is answered within five seconds; a later start takes at most 50 ms longer than the program alone, of the processor, since the
 machine may be busy; a changed document leaves the release valid; a changed source is met by one line that says what is missing. `-s` prints
@@ -41,6 +41,19 @@ def start(top: Path, words: tuple[str, ...] = WORDS) -> tuple[int, bytes, bytes]
     """The status, the output and the errors of a start without the kit."""
     ran = subprocess.run(["./mserve", *words], cwd=top, env={"PATH": PATH, "HOME": str(top)}, input=LINE, capture_output=True, timeout=60)
     return ran.returncode, ran.stdout, ran.stderr
+
+
+def test_islands(top: Path) -> None:
+    """The program is the released one, whether it is run by itself or by a client."""
+    words, settings = {"cwd": top, "env": {"PATH": PATH, "HOME": str(top)}, "capture_output": True, "timeout": 60}, "examples/laboratory/settings.toml"
+    for _ in range(2):
+        ran = subprocess.run(["./mislands"], input=(top / settings).read_bytes(), **words)
+        assert (ran.returncode, ran.stdout, ran.stderr) == (0, b"LAB CLINIC\n", b"")
+    ran = subprocess.run(["clients/misland", "list", settings], **words)
+    assert (ran.returncode, ran.stderr) == (0, b"") and ran.stdout.startswith(b"LAB: 2 accounts, ")
+    append(top / "crates" / "mislands" / "src" / "main.rt", "\n")
+    ran = subprocess.run(["clients/misland", "list", settings], **words)
+    assert (ran.returncode, ran.stdout) == (1, b"") and b"docs/INSTALL.md" in ran.stderr and ran.stderr.endswith(b"ended with status 1\n"), ran
 
 
 def used() -> float:

@@ -38,7 +38,7 @@ status_of (Err fault.Unread) = 3
 status_of (Err (fault.Settings other)) = 3
 status_of (Err fault.Write) = 5
 
--- there are words, and nothing is read or written; or there is none, and the status is that of what it came to
+-- there are words, and nothing is written; or there is none, and the status is that of what it came to
 abbrev pub Ends : {O : Type 0} → List (String Global) → (left held held' : Option Text) → (output output' : O) → ℕ → Type 0
 Ends words left held held' output output' status =
     ((words ≢ []) × (status ≡ 2) × (output' ≡ output)) ⊎ ((words ≡ []) × (outcome : Result (Unit {0}) ListFault) × Lists left held held' output output' outcome × (status ≡ status_of outcome))

@@ -58,8 +58,11 @@ def last_of(settings: JournalSettings, writer: int) -> Flush | None:
         return Flush(tail.journal, tail.sequence, tail.next, tail.answered, tail.time, (), writer)
     reader, last = reader_of(settings, 1), None
     try:
+        # Another front may be writing meanwhile: what comes after the end that was found is its own.
         while flushes := reader.more():
             last = next((flush for flush in reversed(flushes) if flush.writer == writer), last)
+            if flushes[-1].sequence >= tail.sequence:
+                break
     finally:
         reader.close()
     return last

@@ -103,6 +103,8 @@ class Standby:
         if standing is None and self._store is not None and self._store.exists():
             raise NoStart(f"{self._store}: nobody knows up to which line it has run the journal, since there is no {place_of(self._store).name} beside it: "
                           f"{SNAPSHOT}")
+        if standing is not None and not self._store.exists():
+            raise NoStart(f"{place_of(self._store)}: it says where a store stands that is not there: put the store back, or remove it")
         if standing is not None and standing.number is None:
             standing = replace(standing, number=self._left_at(standing))
         if standing is not None:
@@ -121,7 +123,7 @@ class Standby:
         the journal: if all lines that this front had in the journal have one, the store has run these, and no others."""
         begun = f"{self._store}: the front that served with it did not end in order"
         try:
-            flush = last_of(self._settings.journal, standing.writers[0])
+            flush = last_of(self._settings.journal, standing.writers[0]) if standing.writers else None
         except LogFault as error:
             raise NoStart(f"the journal cannot be read: {error}") from error
         if flush is None or flush.journal != standing.journal:

@@ -211,6 +211,11 @@ async def test_a_journal_that_has_lost_its_end_is_refused(start, tmp_path: Path)
             second.again()
         assert (second.folder / "store.db.at").read_bytes() == note
     assert held(second.folder / "store.db") == stored
+    for end in ("", "-wal"):
+        (second.folder / f"store.db{end}").unlink(missing_ok=True)
+    with pytest.raises(RuntimeError, match="store.db.at: it says where a store stands that is not there"):
+        second.again()
+    assert not (second.folder / "store.db").exists()
     (second.folder / "store.db.at").write_text("{}")
     with pytest.raises(RuntimeError, match="store.db.at: does not say where the store stands"):
         second.again()

@@ -14,7 +14,7 @@ from pathlib import Path
 
 TOP = Path(__file__).resolve().parent.parent
 PAGE = "docs/TESTING.md"
-MOST_EDITS = 141
+MOST_EDITS = 140
 
 # Exported functions without a row, each with the reason.
 EXCEPTIONS = {

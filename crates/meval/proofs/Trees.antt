@@ -7,7 +7,8 @@ use Rattle.mspec.specs.Number.{significant_digits}
 use Rattle.mspec.specs.NumberText.{numeric_value}
 use Rattle.mspec.specs.Act.{Text, Act, ◌>>=◌, charge, give}
 use Rattle.mspec.proofs.ListPlaces.{next_item}
-use Rattle.mgrammar.specs.Grammar.{PrimaryTree, ExprTree, step, steps_of, exprs_of, choices_of, number, text, special, reference, bracket, call, select, refer, special_of, function_of}
+use Rattle.mgrammar.specs.Grammar.{PrimaryTree, ExprTree, step, steps_of, exprs_of, choices_of, number, text, special, reference, bracket, call, select, refer, special_of}
+use Rattle.mgrammar.specs.Functions.{function_of}
 use Rattle.mmeaning.specs.Operators.{as_text, as_truth}
 use Rattle.mmeaning.specs.Functions.{call_value}
 use Rattle.mmeaning.specs.Expression.{Inside, value, steps_value, primary_value, evaluated, values, chosen}

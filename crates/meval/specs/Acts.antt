@@ -3,11 +3,12 @@
 use Rattle.std.specs.Prelude.{pos, Bool, [], Some, slice_get}
 use Rattle.mspec.specs.Trees.{Direction}
 use Rattle.mspec.specs.Act.{Text, Act, ◌>>=◌, give}
-use Rattle.mgrammar.specs.Grammar.{ExprTree, ExprsTree, ReferenceTree, get_function, order_function}
+use Rattle.mgrammar.specs.Grammar.{ExprTree, ExprsTree, ReferenceTree}
+use Rattle.mgrammar.specs.Functions.{get_function, order_function}
 use Rattle.mmeaning.specs.Operators.{as_truth}
 use Rattle.mmeaning.specs.Functions.{whole_text, call_value}
 use Rattle.mspec.specs.LockConflict.{LockName}
-use Rattle.mmeaning.specs.Variables.{Evaluated, Place, reading, writing, ordering, resolve, named_lock, read_at, put_at, status_at, next_at, data_number, direction_of, referring}
+use Rattle.mmeaning.specs.Variables.{Evaluated, Place, reading, writing, ordering, resolve, named_lock, read_at, put_at, status_at, next_at, data_number, direction_of, variable_function_value}
 use Rattle.mmeaning.specs.Expression.{Inside, value, values, evaluated}
 
 -- whether an expression is true
@@ -70,10 +71,10 @@ data_of i r = do
   data_act v
 
 abbrev pub get_of : Inside → ReferenceTree → ExprsTree → Act Text
-get_of i r more = referring (Some get_function) (evaluated i r) (values i [] more)
+get_of i r more = variable_function_value get_function (evaluated i r) (values i [] more)
 
 abbrev pub order_of : Inside → ReferenceTree → ExprsTree → Act Text
-order_of i r more = referring (Some order_function) (evaluated i r) (values i [] more)
+order_of i r more = variable_function_value order_function (evaluated i r) (values i [] more)
 
 -- the value of a variable
 abbrev pub variable_value : Inside → ReferenceTree → Act Text

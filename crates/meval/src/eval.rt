@@ -28,7 +28,7 @@ use mgrant::{AccountId, Mode, Settings};
 use mnum::{Name, Num};
 use moperator::{Code, binary, call, computed, matching, number_of, truth_of, unaries};
 use mstore::NodeStore;
-use mtree::{Choice, Expr, FunctionWord, Operand, Primary, Reference, Step};
+use mtree::{Choice, Expr, Operand, Primary, Reference, Step, ValueWord};
 use mvalue::Value;
 use std::alloc::Global;
 
@@ -142,7 +142,7 @@ impl<'a, S: NodeStore> Eval<'a, S> {
     fn called(
         &mut self,
         alloc: Global,
-        word: &FunctionWord,
+        word: &ValueWord,
         arguments: &[Expr],
     ) -> Result<Value, Code>
         ensures loans { KeepsEval self.old self.new }

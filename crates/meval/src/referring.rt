@@ -2,7 +2,8 @@
 // $DATA, $GET and $ORDER of a variable. Each of them stands apart from the others, and a local variable by one subscript from all other
 // references: a function clears the room of all its cases at each call.
 ghost use Rattle.std.specs.Prelude.{◌≤◌, [], ◌∷◌, map};
-ghost use Rattle.mgrammar.specs.Grammar.{local, no_exprs, exprs, exprs_of, function_of};
+ghost use Rattle.mgrammar.specs.Grammar.{local, no_exprs, exprs, exprs_of};
+ghost use Rattle.mgrammar.specs.Functions.{function_of};
 ghost use Rattle.mkey.specs.Way.{way};
 ghost use Rattle.mmeaning.specs.Expression as meaning;
 ghost use Rattle.mmeaning.specs.Variables as variables;
@@ -19,7 +20,7 @@ use mkey::Direction;
 use mnum::Name;
 use moperator::Code;
 use mstore::NodeStore;
-use mtree::{Expr, Function, Reference, Referring};
+use mtree::{Expr, Reference, Referring, VariableFunction};
 use mvalue::Value;
 use std::alloc::Global;
 use std::slice::from_ref;
@@ -32,14 +33,10 @@ impl<'a, S: NodeStore> Eval<'a, S> {
         ensures fewer { self.new.steps ≤ self.old.steps }
         ensures does { Evaluates S.NodeStore (λ i. variables.referring (function_of (out-Referring referring.now).word) (meaning.evaluated i (reference_tree (out-Referring referring.now).reference)) (meaning.values i [] (exprs_of (map expr_tree (out-Referring referring.now).more.items)))) (λ v. v) self.old result self.new }
     {
-        let Some(function) = referring.word.function() else {
-            return Err(Code::Zsyntax);
-        };
-        match function {
-            Function::Data => self.data_of(alloc, &referring.reference),
-            Function::Get => self.get_of(alloc, &referring.reference, &referring.more),
-            Function::Order => self.order_of(alloc, &referring.reference, &referring.more),
-            _ => Err(Code::Zsyntax),
+        match referring.word.function() {
+            VariableFunction::Data => self.data_of(alloc, &referring.reference),
+            VariableFunction::Get => self.get_of(alloc, &referring.reference, &referring.more),
+            VariableFunction::Order => self.order_of(alloc, &referring.reference, &referring.more),
         }
     }
 

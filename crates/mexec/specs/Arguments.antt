@@ -2,7 +2,8 @@
 -- An argument of a command, as the code does it: up to where it enters lines or a text, or a text gives arguments, and then that.
 use Rattle.std.specs.Prelude.{cond, List, [], ◌∷◌, Result, Ok, Err, Bool, true, false}
 use Rattle.mspec.specs.Act.{Act, ◌>>=◌, give}
-use Rattle.mgrammar.specs.Grammar.{ExprTree, EntryTree, PrimaryTree, FormTree, form_of, ArgTree, do_one, executed, indirect_args}
+use Rattle.mgrammar.specs.Grammar.{ExprTree, EntryTree, PrimaryTree, FormTree, ArgTree, do_one, executed, indirect_args}
+use Rattle.mgrammar.specs.Commands.{form_of}
 use Rattle.mmeaning.specs.LineMeaning as meaning
 use Rattle.mmeaning.specs.LineMeaning.{Spot, Go_on, Context, inside_of, holds, after, argument, arguments, doing, executing}
 use Rattle.mmeaning.specs.Frames.{View, Lists}

@@ -1,7 +1,7 @@
 // SPDX-License-Identifier: Apache-2.0
 // The arguments of a command, one after another.
 ghost use Rattle.std.specs.Prelude.{◌≡◌, ◌≤◌, ◌+◌, ◌*◌, map, drop, length, IfOk};
-ghost use Rattle.mgrammar.specs.Grammar.{form_of};
+ghost use Rattle.mgrammar.specs.Commands.{form_of};
 ghost use Rattle.mmeaning.specs.LineMeaning as meaning;
 ghost use Rattle.mmeaning.specs.LineMeaning.{context};
 ghost use Rattle.mtree.specs.Tree.{arg_tree, entry_tree, expr_tree, keyword_tree, primary_tree};

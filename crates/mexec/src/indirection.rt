@@ -3,7 +3,7 @@
 ghost use Rattle.std.specs.Prelude.{◌≡◌, ◌≤◌, ◌+◌, ◌*◌, ◌∷◌, map, length, IfOk, OnOk};
 ghost use Rattle.mspec.specs.Act.{give_some};
 ghost use Rattle.mspec.specs.Code.{Zsyntax};
-ghost use Rattle.mgrammar.specs.Grammar.{form_of};
+ghost use Rattle.mgrammar.specs.Commands.{form_of};
 ghost use Rattle.mgrammar.specs.IndirectTexts.{args_of};
 ghost use Rattle.mmeaning.specs.Expression.{an_indirection_free, indirected};
 ghost use Rattle.mmeaning.specs.LineMeaning as meaning;

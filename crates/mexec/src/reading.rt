@@ -3,7 +3,7 @@
 ghost use Rattle.std.specs.Prelude.{map};
 ghost use Rattle.mspec.specs.Code.{Zsyntax};
 ghost use Rattle.mspec.specs.Act.{give_some};
-ghost use Rattle.mgrammar.specs.Grammar.{form_of};
+ghost use Rattle.mgrammar.specs.Commands.{form_of};
 ghost use Rattle.mgrammar.specs.IndirectTexts.{args_of};
 ghost use Rattle.mgrammar.specs.Reading.{line_at};
 ghost use Rattle.mgrammar.specs.RoutineLine.{routine_line_at};

@@ -2,8 +2,9 @@
 -- The grammar on examples, as proved equations: texts with their trees, and how deep brackets may lie.
 use Rattle.std.proofs.Common.{◌≡◌, ℕ, zero, suc, List, [], ◌∷◌, ◌++◌, Option, Some, None, refl}
 use Rattle.std.specs.Prelude.{codes, replicate}
-use Rattle.mgrammar.specs.Grammar.{plus, minus, negate, equals, less, greater, contains, follows, sorts_after, both, either, add, subtract, multiply, divide, divide_whole, remainder, join, is, is_not, CountTree, RepeatedTree, classes, copies, AtomTree, OperandTree, PrimaryTree, ExprTree, expr, StepTree, steps_of, apply, matches, matches_not, operand, number, text, special, reference, bracket, call, select, refer, ReferenceTree, local, global, naked, no_exprs, exprs_of, choices_of, variable, piece, DestinationTree, one, several, once, onward, until, ArgTree, assign, breaks, shown, kill_one, kill_others, new_one, new_others, tested, loop, KeywordTree, set_word, kill_word, new_word, if_word, else_word, for_word, quit_word, write_word, CommandTree, SpacedTree, LineTree, spell, keyword_of, special_of, function_of}
-use Rattle.mgrammar.specs.Reading.{many, list_at, point_at, exponent_at, number_at, name_at, count_at, repeated_at, atom_at, pattern_at, truth_at, operator_at, subscripts_with, reference_with, bracket_with, choice_with, select_with, call_with, refer_with, dollar_with, primary_with, operand_with, step_by, step_with, expr_with, readers_at, place_with, piece_with, target_with, destination_at, assignment_at, output_at, names_at, removal_at, hiding_at, condition_at, parameter_at, repetition_at, args_at, postcondition_at, command_at, spaced_at, comment_at, line_at}
+use Rattle.mgrammar.specs.Grammar.{plus, minus, negate, equals, less, greater, contains, follows, sorts_after, both, either, add, subtract, multiply, divide, divide_whole, remainder, join, is, is_not, CountTree, RepeatedTree, classes, copies, AtomTree, OperandTree, PrimaryTree, ExprTree, expr, StepTree, steps_of, apply, matches, matches_not, operand, number, text, special, reference, bracket, call, select, refer, ReferenceTree, local, global, naked, no_exprs, exprs_of, choices_of, variable, piece, DestinationTree, one, several, once, onward, until, ArgTree, assign, breaks, shown, kill_one, kill_others, new_one, new_others, tested, loop, KeywordTree, set_word, kill_word, new_word, if_word, else_word, for_word, quit_word, write_word, CommandTree, SpacedTree, LineTree, spell}
+use Rattle.mgrammar.specs.Reading.{line_at}
+use Rattle.mgrammar.proofs.Computing.{reads}
 
 -- ---- short forms
 
@@ -288,11 +289,7 @@ each_read :
     × IsRead (codes "W $S(A:1,1:2)") choices
     × IsRead (codes "S $P(A,1,2)=3") piece_set
     × IsRead (codes "S (A,$PIECE(B,1))=3") several_set
-unfolding keyword_of special_of function_of many list_at point_at exponent_at number_at name_at count_at repeated_at atom_at
-    pattern_at truth_at operator_at subscripts_with reference_with bracket_with choice_with select_with call_with refer_with
-    dollar_with primary_with operand_with step_by step_with expr_with readers_at place_with piece_with target_with
-    destination_at assignment_at output_at names_at removal_at hiding_at condition_at parameter_at repetition_at args_at
-    postcondition_at command_at spaced_at comment_at line_at
+unfolding reads
 each_read = (
   (refl, refl),
   (refl, refl),
@@ -325,11 +322,7 @@ each_more_read :
     × IsRead (codes "K L(9),(A,B) kill  N:A L,(A) new") removals
     × IsRead (codes "I A,1 IF  E  else ") conditions
     × IsRead (codes "F I=1,2:3,4:5:6 for  Q") repetitions
-unfolding keyword_of special_of function_of many list_at point_at exponent_at number_at name_at count_at repeated_at atom_at
-    pattern_at truth_at operator_at subscripts_with reference_with bracket_with choice_with select_with call_with refer_with
-    dollar_with primary_with operand_with step_by step_with expr_with readers_at place_with piece_with target_with
-    destination_at assignment_at output_at names_at removal_at hiding_at condition_at parameter_at repetition_at args_at
-    postcondition_at command_at spaced_at comment_at line_at
+unfolding reads
 each_more_read = (
   (refl, refl),
   (refl, refl),
@@ -349,11 +342,7 @@ each_global_read :
     × IsRead (codes "K ^X(1),^(2)") global_removals
     × IsRead (codes "W $D(^X)_$G(^(1),2)_$O(^X(1))") of_globals
     × IsRead (codes "W ^(^(^%))") globals_within
-unfolding keyword_of special_of function_of many list_at point_at exponent_at number_at name_at count_at repeated_at atom_at
-    pattern_at truth_at operator_at subscripts_with reference_with bracket_with choice_with select_with call_with refer_with
-    dollar_with primary_with operand_with step_by step_with expr_with readers_at place_with piece_with target_with
-    destination_at assignment_at output_at names_at removal_at hiding_at condition_at parameter_at repetition_at args_at
-    postcondition_at command_at spaced_at comment_at line_at
+unfolding reads
 each_global_read = ((refl, refl), (refl, refl), (refl, refl), (refl, refl), (refl, refl), (refl, refl))
 
 -- ---- how deep brackets may lie
@@ -367,19 +356,11 @@ IsSome None = ⊥
 IsSome (Some a) = Unit {0}
 
 forty_open : IsSome (line_at (codes "W " ++ in_brackets 40))
-unfolding keyword_of special_of function_of many list_at point_at exponent_at number_at name_at count_at repeated_at atom_at
-    pattern_at truth_at operator_at subscripts_with reference_with bracket_with choice_with select_with call_with refer_with
-    dollar_with primary_with operand_with step_by step_with expr_with readers_at place_with piece_with target_with
-    destination_at assignment_at output_at names_at removal_at hiding_at condition_at parameter_at repetition_at args_at
-    postcondition_at command_at spaced_at comment_at line_at
+unfolding reads
 forty_open = tt
 
 forty_one_open : HasNone (codes "W " ++ in_brackets 41)
-unfolding keyword_of special_of function_of many list_at point_at exponent_at number_at name_at count_at repeated_at atom_at
-    pattern_at truth_at operator_at subscripts_with reference_with bracket_with choice_with select_with call_with refer_with
-    dollar_with primary_with operand_with step_by step_with expr_with readers_at place_with piece_with target_with
-    destination_at assignment_at output_at names_at removal_at hiding_at condition_at parameter_at repetition_at args_at
-    postcondition_at command_at spaced_at comment_at line_at
+unfolding reads
 forty_one_open = refl
 
 -- a number in the subscripts of so many variables, one within another
@@ -391,17 +372,9 @@ abbrev in_subscripts : ℕ → List ℕ
 in_subscripts n = subscripts_opened n ++ (49 ∷ replicate n 41)
 
 forty_subscripts : IsSome (line_at (codes "K " ++ in_subscripts 40))
-unfolding keyword_of special_of function_of many list_at point_at exponent_at number_at name_at count_at repeated_at atom_at
-    pattern_at truth_at operator_at subscripts_with reference_with bracket_with choice_with select_with call_with refer_with
-    dollar_with primary_with operand_with step_by step_with expr_with readers_at place_with piece_with target_with
-    destination_at assignment_at output_at names_at removal_at hiding_at condition_at parameter_at repetition_at args_at
-    postcondition_at command_at spaced_at comment_at line_at
+unfolding reads
 forty_subscripts = tt
 
 forty_one_subscripts : HasNone (codes "K " ++ in_subscripts 41)
-unfolding keyword_of special_of function_of many list_at point_at exponent_at number_at name_at count_at repeated_at atom_at
-    pattern_at truth_at operator_at subscripts_with reference_with bracket_with choice_with select_with call_with refer_with
-    dollar_with primary_with operand_with step_by step_with expr_with readers_at place_with piece_with target_with
-    destination_at assignment_at output_at names_at removal_at hiding_at condition_at parameter_at repetition_at args_at
-    postcondition_at command_at spaced_at comment_at line_at
+unfolding reads
 forty_one_subscripts = refl

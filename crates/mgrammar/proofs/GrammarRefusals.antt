@@ -2,8 +2,8 @@
 -- The grammar on examples, as proved equations: texts that have no tree.
 use Rattle.std.proofs.Common.{◌≡◌, ℕ, List, None, refl}
 use Rattle.std.specs.Prelude.{codes}
-use Rattle.mgrammar.specs.Grammar.{keyword_of, special_of, function_of}
-use Rattle.mgrammar.specs.Reading.{many, list_at, point_at, exponent_at, number_at, name_at, count_at, repeated_at, atom_at, pattern_at, truth_at, operator_at, subscripts_with, reference_with, bracket_with, choice_with, select_with, call_with, refer_with, dollar_with, primary_with, operand_with, step_by, step_with, expr_with, readers_at, place_with, piece_with, target_with, destination_at, assignment_at, output_at, names_at, removal_at, hiding_at, condition_at, parameter_at, repetition_at, args_at, postcondition_at, command_at, spaced_at, comment_at, line_at}
+use Rattle.mgrammar.specs.Reading.{line_at}
+use Rattle.mgrammar.proofs.Computing.{reads}
 
 -- nothing is read of the text: it has no tree (`no_tree` of ReadingLines)
 abbrev HasNone : List ℕ → Type 0
@@ -18,22 +18,14 @@ no_commands :
     × HasNone (codes "W  1")
     × HasNone (codes "W \"a\"W 1")
     × HasNone (codes "W ,1")
-unfolding keyword_of special_of function_of many list_at point_at exponent_at number_at name_at count_at repeated_at atom_at
-    pattern_at truth_at operator_at subscripts_with reference_with bracket_with choice_with select_with call_with refer_with
-    dollar_with primary_with operand_with step_by step_with expr_with readers_at place_with piece_with target_with
-    destination_at assignment_at output_at names_at removal_at hiding_at condition_at parameter_at repetition_at args_at
-    postcondition_at command_at spaced_at comment_at line_at
+unfolding reads
 no_commands = (refl, refl, refl, refl, refl, refl, refl)
 
 -- strings and names
 no_names :
     HasNone (codes "W \"a")
     × HasNone (codes "W A234567890123456789012345678901X")
-unfolding keyword_of special_of function_of many list_at point_at exponent_at number_at name_at count_at repeated_at atom_at
-    pattern_at truth_at operator_at subscripts_with reference_with bracket_with choice_with select_with call_with refer_with
-    dollar_with primary_with operand_with step_by step_with expr_with readers_at place_with piece_with target_with
-    destination_at assignment_at output_at names_at removal_at hiding_at condition_at parameter_at repetition_at args_at
-    postcondition_at command_at spaced_at comment_at line_at
+unfolding reads
 no_names = (refl, refl)
 
 -- numbers: `E` belongs to one only where a digit, or a sign and a digit, follows
@@ -45,11 +37,7 @@ no_numbers :
     × HasNone (codes "W 1E+")
     × HasNone (codes "W 1E5E5")
     × HasNone (codes "W 1A")
-unfolding keyword_of special_of function_of many list_at point_at exponent_at number_at name_at count_at repeated_at atom_at
-    pattern_at truth_at operator_at subscripts_with reference_with bracket_with choice_with select_with call_with refer_with
-    dollar_with primary_with operand_with step_by step_with expr_with readers_at place_with piece_with target_with
-    destination_at assignment_at output_at names_at removal_at hiding_at condition_at parameter_at repetition_at args_at
-    postcondition_at command_at spaced_at comment_at line_at
+unfolding reads
 no_numbers = (refl, refl, refl, refl, refl, refl, refl)
 
 -- operators
@@ -60,11 +48,7 @@ no_operators :
     × HasNone (codes "W 1'+2")
     × HasNone (codes "W 1]]]2")
     × HasNone (codes "W 1@2")
-unfolding keyword_of special_of function_of many list_at point_at exponent_at number_at name_at count_at repeated_at atom_at
-    pattern_at truth_at operator_at subscripts_with reference_with bracket_with choice_with select_with call_with refer_with
-    dollar_with primary_with operand_with step_by step_with expr_with readers_at place_with piece_with target_with
-    destination_at assignment_at output_at names_at removal_at hiding_at condition_at parameter_at repetition_at args_at
-    postcondition_at command_at spaced_at comment_at line_at
+unfolding reads
 no_operators = (refl, refl, refl, refl, refl, refl)
 
 -- patterns: a count has at most four digits, and something that it counts
@@ -78,11 +62,7 @@ no_patterns :
     × HasNone (codes "W 1?\"a\"")
     × HasNone (codes "W 1'?")
     × HasNone (codes "W 1?1N \"a\"")
-unfolding keyword_of special_of function_of many list_at point_at exponent_at number_at name_at count_at repeated_at atom_at
-    pattern_at truth_at operator_at subscripts_with reference_with bracket_with choice_with select_with call_with refer_with
-    dollar_with primary_with operand_with step_by step_with expr_with readers_at place_with piece_with target_with
-    destination_at assignment_at output_at names_at removal_at hiding_at condition_at parameter_at repetition_at args_at
-    postcondition_at command_at spaced_at comment_at line_at
+unfolding reads
 no_patterns = (refl, refl, refl, refl, refl, refl, refl, refl, refl)
 
 -- brackets
@@ -91,11 +71,7 @@ no_brackets :
     × HasNone (codes "W (1")
     × HasNone (codes "W 1)")
     × HasNone (codes "W (1,2)")
-unfolding keyword_of special_of function_of many list_at point_at exponent_at number_at name_at count_at repeated_at atom_at
-    pattern_at truth_at operator_at subscripts_with reference_with bracket_with choice_with select_with call_with refer_with
-    dollar_with primary_with operand_with step_by step_with expr_with readers_at place_with piece_with target_with
-    destination_at assignment_at output_at names_at removal_at hiding_at condition_at parameter_at repetition_at args_at
-    postcondition_at command_at spaced_at comment_at line_at
+unfolding reads
 no_brackets = (refl, refl, refl, refl)
 
 -- functions: the number of arguments, and the form of $SELECT
@@ -110,11 +86,7 @@ no_functions :
     × HasNone (codes "W $L")
     × HasNone (codes "W $ST(1)")
     × HasNone (codes "W $L(1")
-unfolding keyword_of special_of function_of many list_at point_at exponent_at number_at name_at count_at repeated_at atom_at
-    pattern_at truth_at operator_at subscripts_with reference_with bracket_with choice_with select_with call_with refer_with
-    dollar_with primary_with operand_with step_by step_with expr_with readers_at place_with piece_with target_with
-    destination_at assignment_at output_at names_at removal_at hiding_at condition_at parameter_at repetition_at args_at
-    postcondition_at command_at spaced_at comment_at line_at
+unfolding reads
 no_functions = (refl, refl, refl, refl, refl, refl, refl, refl, refl, refl)
 
 -- left sides of a SET
@@ -130,11 +102,7 @@ no_targets :
     × HasNone (codes "S (A,1)=1")
     × HasNone (codes "S ((A))=1")
     × HasNone (codes "S (A)")
-unfolding keyword_of special_of function_of many list_at point_at exponent_at number_at name_at count_at repeated_at atom_at
-    pattern_at truth_at operator_at subscripts_with reference_with bracket_with choice_with select_with call_with refer_with
-    dollar_with primary_with operand_with step_by step_with expr_with readers_at place_with piece_with target_with
-    destination_at assignment_at output_at names_at removal_at hiding_at condition_at parameter_at repetition_at args_at
-    postcondition_at command_at spaced_at comment_at line_at
+unfolding reads
 no_targets = (refl, refl, refl, refl, refl, refl, refl, refl, refl, refl, refl)
 
 -- subscripts, functions of a variable and special variables
@@ -150,11 +118,7 @@ no_variables :
     × HasNone (codes "W $TE")
     × HasNone (codes "W $D")
     × HasNone (codes "W $Q")
-unfolding keyword_of special_of function_of many list_at point_at exponent_at number_at name_at count_at repeated_at atom_at
-    pattern_at truth_at operator_at subscripts_with reference_with bracket_with choice_with select_with call_with refer_with
-    dollar_with primary_with operand_with step_by step_with expr_with readers_at place_with piece_with target_with
-    destination_at assignment_at output_at names_at removal_at hiding_at condition_at parameter_at repetition_at args_at
-    postcondition_at command_at spaced_at comment_at line_at
+unfolding reads
 no_variables = (refl, refl, refl, refl, refl, refl, refl, refl, refl, refl, refl)
 
 -- a `^` stands before a name, or before a bracket with some subscript; FOR, NEW and the brackets of KILL have plain names
@@ -173,11 +137,7 @@ no_globals :
     × HasNone (codes "N ^X")
     × HasNone (codes "F ^X=1")
     × HasNone (codes "W $D(^)")
-unfolding keyword_of special_of function_of many list_at point_at exponent_at number_at name_at count_at repeated_at atom_at
-    pattern_at truth_at operator_at subscripts_with reference_with bracket_with choice_with select_with call_with refer_with
-    dollar_with primary_with operand_with step_by step_with expr_with readers_at place_with piece_with target_with
-    destination_at assignment_at output_at names_at removal_at hiding_at condition_at parameter_at repetition_at args_at
-    postcondition_at command_at spaced_at comment_at line_at
+unfolding reads
 no_globals = (refl, refl, refl, refl, refl, refl, refl, refl, refl, refl, refl, refl, refl, refl)
 
 -- one space behind a command without arguments, and a postconditional where none may stand
@@ -191,11 +151,7 @@ no_flow :
     × HasNone (codes "S: A=1")
     × HasNone (codes "Q 1")
     × HasNone (codes "E 1")
-unfolding keyword_of special_of function_of many list_at point_at exponent_at number_at name_at count_at repeated_at atom_at
-    pattern_at truth_at operator_at subscripts_with reference_with bracket_with choice_with select_with call_with refer_with
-    dollar_with primary_with operand_with step_by step_with expr_with readers_at place_with piece_with target_with
-    destination_at assignment_at output_at names_at removal_at hiding_at condition_at parameter_at repetition_at args_at
-    postcondition_at command_at spaced_at comment_at line_at
+unfolding reads
 no_flow = (refl, refl, refl, refl, refl, refl, refl, refl, refl)
 
 -- arguments of KILL, NEW, IF and FOR
@@ -210,9 +166,5 @@ no_arguments :
     × HasNone (codes "F I")
     × HasNone (codes "F I(1)=1")
     × HasNone (codes "F I=1:2:3:4")
-unfolding keyword_of special_of function_of many list_at point_at exponent_at number_at name_at count_at repeated_at atom_at
-    pattern_at truth_at operator_at subscripts_with reference_with bracket_with choice_with select_with call_with refer_with
-    dollar_with primary_with operand_with step_by step_with expr_with readers_at place_with piece_with target_with
-    destination_at assignment_at output_at names_at removal_at hiding_at condition_at parameter_at repetition_at args_at
-    postcondition_at command_at spaced_at comment_at line_at
+unfolding reads
 no_arguments = (refl, refl, refl, refl, refl, refl, refl, refl, refl, refl)

@@ -2,9 +2,10 @@
 -- Indirection on examples, as proved equations: texts with their trees, and texts that have none.
 use Rattle.std.proofs.Common.{◌≡◌, ℕ, zero, suc, ◌≢◌, List, [], ◌∷◌, ◌++◌, Some, None, refl}
 use Rattle.std.specs.Prelude.{codes, replicate}
-use Rattle.mgrammar.specs.Grammar.{plus, add, apply, ExprTree, expr, no_steps, step, operand, PrimaryTree, number, text, reference, bracket, ReferenceTree, local, naked, indirect, no_exprs, exprs, variable, one, several, at_label_in, assignment, removal, hiding, condition, output, entrance, leap, execution, ArgTree, assign, breaks, shown, kill_one, do_one, executed, indirect_args, KeywordTree, set_word, kill_word, new_word, if_word, write_word, do_word, goto_word, execute_word, LineTree, spell, keyword_of, special_of, function_of}
-use Rattle.mgrammar.specs.Reading.{many, list_at, point_at, exponent_at, number_at, name_at, truth_at, operator_at, subscripts_with, attached_with, indirect_with, reference_with, bracket_with, refer_with, dollar_with, primary_with, operand_with, step_by, step_with, expr_with, readers_at, target_with, destination_at, assignment_at, output_at, names_at, removal_at, hiding_at, condition_at, parameter_at, repetition_at, entry_at, entrance_at, leap_at, execution_at, args_at, postcondition_at, command_at, spaced_at, comment_at, line_at}
+use Rattle.mgrammar.specs.Grammar.{plus, add, apply, ExprTree, expr, no_steps, step, operand, PrimaryTree, number, text, reference, bracket, ReferenceTree, local, naked, indirect, no_exprs, exprs, variable, one, several, at_label_in, assignment, removal, hiding, condition, output, entrance, leap, execution, ArgTree, assign, breaks, shown, kill_one, do_one, executed, indirect_args, KeywordTree, set_word, kill_word, new_word, if_word, write_word, do_word, goto_word, execute_word, LineTree, spell}
+use Rattle.mgrammar.specs.Reading.{line_at}
 use Rattle.mgrammar.specs.IndirectTexts.{ref_at, args_of}
+use Rattle.mgrammar.proofs.Computing.{reads}
 
 -- ---- short forms
 
@@ -45,132 +46,76 @@ of_one k word args = record {
 
 -- in the place of a variable; with subscripts behind a further `@`; and those belong to the innermost `@` that has none yet
 operand_and_subscripts : IsRead (codes "W @A+1,@A@(1),@@A@(1)@(2),+@@A@(1)") (of_one write_word (codes "W") (shown (expr (operand [] (reference (at a))) (step (apply add (operand [] (number (codes "1")))) no_steps)) ∷ shown (only (reference (at_digit a (codes "1")))) ∷ shown (only (reference (at_digit (reference (at_digit a (codes "1"))) (codes "2")))) ∷ shown (expr (operand (plus ∷ []) (reference (at (reference (at_digit a (codes "1")))))) no_steps) ∷ []))
-unfolding keyword_of special_of function_of many list_at point_at exponent_at number_at name_at truth_at operator_at subscripts_with
-    attached_with indirect_with reference_with bracket_with refer_with dollar_with primary_with operand_with step_by step_with
-    expr_with readers_at target_with destination_at assignment_at output_at names_at removal_at hiding_at condition_at
-    parameter_at repetition_at entry_at entrance_at leap_at execution_at args_at postcondition_at command_at spaced_at comment_at
-    line_at ref_at args_of
+unfolding reads
 operand_and_subscripts = (refl, refl)
 
 -- a target of SET, and what KILL takes away
 targets : IsRead (codes "S @A=1,(@A,B)=@A") (of_one set_word (codes "S") (assign (one (variable (at a))) (only (number (codes "1"))) ∷ assign (several (variable (at a) ∷ variable (named (codes "B")) ∷ [])) (only (reference (at a))) ∷ []))
-unfolding keyword_of special_of function_of many list_at point_at exponent_at number_at name_at truth_at operator_at subscripts_with
-    attached_with indirect_with reference_with bracket_with refer_with dollar_with primary_with operand_with step_by step_with
-    expr_with readers_at target_with destination_at assignment_at output_at names_at removal_at hiding_at condition_at
-    parameter_at repetition_at entry_at entrance_at leap_at execution_at args_at postcondition_at command_at spaced_at comment_at
-    line_at ref_at args_of
+unfolding reads
 targets = (refl, refl)
 
 -- a postconditional makes it an expression
 conditioned_text : IsRead (codes "X @A:1") (of_one execute_word (codes "X") (executed (only (reference (at a))) (Some (only (number (codes "1")))) ∷ []))
-unfolding keyword_of special_of function_of many list_at point_at exponent_at number_at name_at truth_at operator_at subscripts_with
-    attached_with indirect_with reference_with bracket_with refer_with dollar_with primary_with operand_with step_by step_with
-    expr_with readers_at target_with destination_at assignment_at output_at names_at removal_at hiding_at condition_at
-    parameter_at repetition_at entry_at entrance_at leap_at execution_at args_at postcondition_at command_at spaced_at comment_at
-    line_at ref_at args_of
+unfolding reads
 conditioned_text = (refl, refl)
 
 -- ---- argument indirection
 
 -- WRITE: beside other arguments
 output_given : IsRead (codes "W @A,1,@@A,@\"A\"") (of_one write_word (codes "W") (indirect_args output a ∷ shown (only (number (codes "1"))) ∷ indirect_args output (reference (at a)) ∷ indirect_args output (text (codes "A")) ∷ []))
-unfolding keyword_of special_of function_of many list_at point_at exponent_at number_at name_at truth_at operator_at subscripts_with
-    attached_with indirect_with reference_with bracket_with refer_with dollar_with primary_with operand_with step_by step_with
-    expr_with readers_at target_with destination_at assignment_at output_at names_at removal_at hiding_at condition_at
-    parameter_at repetition_at entry_at entrance_at leap_at execution_at args_at postcondition_at command_at spaced_at comment_at
-    line_at ref_at args_of
+unfolding reads
 output_given = (refl, refl)
 
 -- SET
 assignment_given : IsRead (codes "S @A,@@A") (of_one set_word (codes "S") (indirect_args assignment a ∷ indirect_args assignment (reference (at a)) ∷ []))
-unfolding keyword_of special_of function_of many list_at point_at exponent_at number_at name_at truth_at operator_at subscripts_with
-    attached_with indirect_with reference_with bracket_with refer_with dollar_with primary_with operand_with step_by step_with
-    expr_with readers_at target_with destination_at assignment_at output_at names_at removal_at hiding_at condition_at
-    parameter_at repetition_at entry_at entrance_at leap_at execution_at args_at postcondition_at command_at spaced_at comment_at
-    line_at ref_at args_of
+unfolding reads
 assignment_given = (refl, refl)
 
 -- KILL
 removal_given : IsRead (codes "K @A,@@A") (of_one kill_word (codes "K") (indirect_args removal a ∷ indirect_args removal (reference (at a)) ∷ []))
-unfolding keyword_of special_of function_of many list_at point_at exponent_at number_at name_at truth_at operator_at subscripts_with
-    attached_with indirect_with reference_with bracket_with refer_with dollar_with primary_with operand_with step_by step_with
-    expr_with readers_at target_with destination_at assignment_at output_at names_at removal_at hiding_at condition_at
-    parameter_at repetition_at entry_at entrance_at leap_at execution_at args_at postcondition_at command_at spaced_at comment_at
-    line_at ref_at args_of
+unfolding reads
 removal_given = (refl, refl)
 
 -- NEW
 hiding_given : IsRead (codes "N @A,@@A") (of_one new_word (codes "N") (indirect_args hiding a ∷ indirect_args hiding (reference (at a)) ∷ []))
-unfolding keyword_of special_of function_of many list_at point_at exponent_at number_at name_at truth_at operator_at subscripts_with
-    attached_with indirect_with reference_with bracket_with refer_with dollar_with primary_with operand_with step_by step_with
-    expr_with readers_at target_with destination_at assignment_at output_at names_at removal_at hiding_at condition_at
-    parameter_at repetition_at entry_at entrance_at leap_at execution_at args_at postcondition_at command_at spaced_at comment_at
-    line_at ref_at args_of
+unfolding reads
 hiding_given = (refl, refl)
 
 -- IF
 condition_given : IsRead (codes "I @A,@@A") (of_one if_word (codes "I") (indirect_args condition a ∷ indirect_args condition (reference (at a)) ∷ []))
-unfolding keyword_of special_of function_of many list_at point_at exponent_at number_at name_at truth_at operator_at subscripts_with
-    attached_with indirect_with reference_with bracket_with refer_with dollar_with primary_with operand_with step_by step_with
-    expr_with readers_at target_with destination_at assignment_at output_at names_at removal_at hiding_at condition_at
-    parameter_at repetition_at entry_at entrance_at leap_at execution_at args_at postcondition_at command_at spaced_at comment_at
-    line_at ref_at args_of
+unfolding reads
 condition_given = (refl, refl)
 
 -- DO
 entrance_given : IsRead (codes "D @A,@@A") (of_one do_word (codes "D") (indirect_args entrance a ∷ indirect_args entrance (reference (at a)) ∷ []))
-unfolding keyword_of special_of function_of many list_at point_at exponent_at number_at name_at truth_at operator_at subscripts_with
-    attached_with indirect_with reference_with bracket_with refer_with dollar_with primary_with operand_with step_by step_with
-    expr_with readers_at target_with destination_at assignment_at output_at names_at removal_at hiding_at condition_at
-    parameter_at repetition_at entry_at entrance_at leap_at execution_at args_at postcondition_at command_at spaced_at comment_at
-    line_at ref_at args_of
+unfolding reads
 entrance_given = (refl, refl)
 
 -- GOTO
 leap_given : IsRead (codes "G @A,@@A") (of_one goto_word (codes "G") (indirect_args leap a ∷ indirect_args leap (reference (at a)) ∷ []))
-unfolding keyword_of special_of function_of many list_at point_at exponent_at number_at name_at truth_at operator_at subscripts_with
-    attached_with indirect_with reference_with bracket_with refer_with dollar_with primary_with operand_with step_by step_with
-    expr_with readers_at target_with destination_at assignment_at output_at names_at removal_at hiding_at condition_at
-    parameter_at repetition_at entry_at entrance_at leap_at execution_at args_at postcondition_at command_at spaced_at comment_at
-    line_at ref_at args_of
+unfolding reads
 leap_given = (refl, refl)
 
 -- XECUTE
 execution_given : IsRead (codes "X @A,@@A") (of_one execute_word (codes "X") (indirect_args execution a ∷ indirect_args execution (reference (at a)) ∷ []))
-unfolding keyword_of special_of function_of many list_at point_at exponent_at number_at name_at truth_at operator_at subscripts_with
-    attached_with indirect_with reference_with bracket_with refer_with dollar_with primary_with operand_with step_by step_with
-    expr_with readers_at target_with destination_at assignment_at output_at names_at removal_at hiding_at condition_at
-    parameter_at repetition_at entry_at entrance_at leap_at execution_at args_at postcondition_at command_at spaced_at comment_at
-    line_at ref_at args_of
+unfolding reads
 execution_given = (refl, refl)
 
 -- subscripts behind a further `@` make it a variable
 removal_named : IsRead (codes "K @A@(1),@(A)") (of_one kill_word (codes "K") (kill_one (at_digit a (codes "1")) ∷ indirect_args removal (bracket (only a)) ∷ []))
-unfolding keyword_of special_of function_of many list_at point_at exponent_at number_at name_at truth_at operator_at subscripts_with
-    attached_with indirect_with reference_with bracket_with refer_with dollar_with primary_with operand_with step_by step_with
-    expr_with readers_at target_with destination_at assignment_at output_at names_at removal_at hiding_at condition_at
-    parameter_at repetition_at entry_at entrance_at leap_at execution_at args_at postcondition_at command_at spaced_at comment_at
-    line_at ref_at args_of
+unfolding reads
 removal_named = (refl, refl)
 
 -- ---- texts without a tree
 
 -- FOR and QUIT take none; and no name, label or routine alone is given so
 none_of_commands : HasNone (codes "F @A") × HasNone (codes "Q @A") × HasNone (codes "N @A@(1)") × HasNone (codes "N (@A)") × HasNone (codes "D @A@(1)") × HasNone (codes "D @A^R") × HasNone (codes "D A^@R") × HasNone (codes "G @A:1") × HasNone (codes "D @A:1") × HasNone (codes "S @A:1")
-unfolding keyword_of special_of function_of many list_at point_at exponent_at number_at name_at truth_at operator_at subscripts_with
-    attached_with indirect_with reference_with bracket_with refer_with dollar_with primary_with operand_with step_by step_with
-    expr_with readers_at target_with destination_at assignment_at output_at names_at removal_at hiding_at condition_at
-    parameter_at repetition_at entry_at entrance_at leap_at execution_at args_at postcondition_at command_at spaced_at comment_at
-    line_at ref_at args_of
+unfolding reads
 none_of_commands = (refl, refl, refl, refl, refl, refl, refl, refl, refl, refl)
 
 -- an operand is a primary, and has subscripts once
 none_of_operands : HasNone (codes "W @") × HasNone (codes "W @-A") × HasNone (codes "W @A@(1)@(2)") × HasNone (codes "W @@A@") × HasNone (codes "W A@(1)") × HasNone (codes "W @A(") × HasNone (codes "W @A@()") × HasNone (codes "W @A 1")
-unfolding keyword_of special_of function_of many list_at point_at exponent_at number_at name_at truth_at operator_at subscripts_with
-    attached_with indirect_with reference_with bracket_with refer_with dollar_with primary_with operand_with step_by step_with
-    expr_with readers_at target_with destination_at assignment_at output_at names_at removal_at hiding_at condition_at
-    parameter_at repetition_at entry_at entrance_at leap_at execution_at args_at postcondition_at command_at spaced_at comment_at
-    line_at ref_at args_of
+unfolding reads
 none_of_operands = (refl, refl, refl, refl, refl, refl, refl, refl)
 
 -- ---- depth: an operand is one place deeper
@@ -183,19 +128,11 @@ deep zero p = p
 deep (suc n) p = reference (at (deep n p))
 
 forty_deep : IsRead (signs 40) (of_one write_word (codes "W") (indirect_args output (deep 39 a) ∷ []))
-unfolding keyword_of special_of function_of many list_at point_at exponent_at number_at name_at truth_at operator_at subscripts_with
-    attached_with indirect_with reference_with bracket_with refer_with dollar_with primary_with operand_with step_by step_with
-    expr_with readers_at target_with destination_at assignment_at output_at names_at removal_at hiding_at condition_at
-    parameter_at repetition_at entry_at entrance_at leap_at execution_at args_at postcondition_at command_at spaced_at comment_at
-    line_at ref_at args_of
+unfolding reads
 forty_deep = (refl, refl)
 
 one_deeper : HasNone (signs 41)
-unfolding keyword_of special_of function_of many list_at point_at exponent_at number_at name_at truth_at operator_at subscripts_with
-    attached_with indirect_with reference_with bracket_with refer_with dollar_with primary_with operand_with step_by step_with
-    expr_with readers_at target_with destination_at assignment_at output_at names_at removal_at hiding_at condition_at
-    parameter_at repetition_at entry_at entrance_at leap_at execution_at args_at postcondition_at command_at spaced_at comment_at
-    line_at ref_at args_of
+unfolding reads
 one_deeper = refl
 
 -- beside brackets
@@ -203,45 +140,25 @@ abbrev brackets : ℕ → List ℕ → List ℕ
 brackets n t = codes "W " ++ (replicate n 40 ++ (t ++ replicate n 41))
 
 bracket_and_operand : (line_at (brackets 40 (codes "@A")) ≡ None) × (line_at (brackets 40 (codes "A")) ≢ None) × (line_at (brackets 39 (codes "@A@(1)")) ≢ None)
-unfolding keyword_of special_of function_of many list_at point_at exponent_at number_at name_at truth_at operator_at subscripts_with
-    attached_with indirect_with reference_with bracket_with refer_with dollar_with primary_with operand_with step_by step_with
-    expr_with readers_at target_with destination_at assignment_at output_at names_at removal_at hiding_at condition_at
-    parameter_at repetition_at entry_at entrance_at leap_at execution_at args_at postcondition_at command_at spaced_at comment_at
-    line_at ref_at args_of
+unfolding reads
 bracket_and_operand = (refl, λ e. cc, λ e. cc)
 
 -- ---- texts that stand for an `@`
 
 references : (ref_at (codes "B(1)") ≡ Some (local (codes "B") (exprs (only (number (codes "1"))) no_exprs))) × (ref_at (codes "@A") ≡ Some (at a)) × (ref_at (codes "^(1)") ≡ Some (naked (exprs (only (number (codes "1"))) no_exprs)))
-unfolding keyword_of special_of function_of many list_at point_at exponent_at number_at name_at truth_at operator_at subscripts_with
-    attached_with indirect_with reference_with bracket_with refer_with dollar_with primary_with operand_with step_by step_with
-    expr_with readers_at target_with destination_at assignment_at output_at names_at removal_at hiding_at condition_at
-    parameter_at repetition_at entry_at entrance_at leap_at execution_at args_at postcondition_at command_at spaced_at comment_at
-    line_at ref_at args_of
+unfolding reads
 references = (refl, refl, refl)
 
 no_references : (ref_at [] ≡ None) × (ref_at (codes "B C") ≡ None) × (ref_at (codes " B") ≡ None) × (ref_at (codes "B,C") ≡ None) × (ref_at (codes "1") ≡ None) × (ref_at (codes "B ") ≡ None)
-unfolding keyword_of special_of function_of many list_at point_at exponent_at number_at name_at truth_at operator_at subscripts_with
-    attached_with indirect_with reference_with bracket_with refer_with dollar_with primary_with operand_with step_by step_with
-    expr_with readers_at target_with destination_at assignment_at output_at names_at removal_at hiding_at condition_at
-    parameter_at repetition_at entry_at entrance_at leap_at execution_at args_at postcondition_at command_at spaced_at comment_at
-    line_at ref_at args_of
+unfolding reads
 no_references = (refl, refl, refl, refl, refl, refl)
 
 argument_lists : (args_of output (codes "1,!!,@A") ≡ Some (shown (only (number (codes "1"))) ∷ breaks 2 ∷ indirect_args output a ∷ []))
     × (args_of assignment (codes "B=4,@A") ≡ Some (assign (one (variable (named (codes "B")))) (only (number (codes "4"))) ∷ indirect_args assignment a ∷ []))
     × (args_of entrance (codes "U^T:1") ≡ Some (do_one (at_label_in (codes "U") (codes "T")) (Some (only (number (codes "1")))) ∷ []))
-unfolding keyword_of special_of function_of many list_at point_at exponent_at number_at name_at truth_at operator_at subscripts_with
-    attached_with indirect_with reference_with bracket_with refer_with dollar_with primary_with operand_with step_by step_with
-    expr_with readers_at target_with destination_at assignment_at output_at names_at removal_at hiding_at condition_at
-    parameter_at repetition_at entry_at entrance_at leap_at execution_at args_at postcondition_at command_at spaced_at comment_at
-    line_at ref_at args_of
+unfolding reads
 argument_lists = (refl, refl, refl)
 
 no_argument_lists : (args_of output [] ≡ None) × (args_of output (codes "1 1") ≡ None) × (args_of output (codes "1,") ≡ None) × (args_of removal (codes "1") ≡ None) × (args_of assignment (codes "B") ≡ None) × (args_of entrance (codes " A") ≡ None)
-unfolding keyword_of special_of function_of many list_at point_at exponent_at number_at name_at truth_at operator_at subscripts_with
-    attached_with indirect_with reference_with bracket_with refer_with dollar_with primary_with operand_with step_by step_with
-    expr_with readers_at target_with destination_at assignment_at output_at names_at removal_at hiding_at condition_at
-    parameter_at repetition_at entry_at entrance_at leap_at execution_at args_at postcondition_at command_at spaced_at comment_at
-    line_at ref_at args_of
+unfolding reads
 no_argument_lists = (refl, refl, refl, refl, refl, refl)

@@ -18,6 +18,7 @@ pub mod ReadingIndirectTexts
 pub mod ReadingLines
 pub mod ReadingRoutines
 pub mod ReadingLoops
+pub mod Computing
 pub mod GrammarExamples
 pub mod GrammarRefusals
 pub mod Matchings

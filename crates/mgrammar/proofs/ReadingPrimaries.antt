@@ -1,12 +1,12 @@
 -- SPDX-License-Identifier: Apache-2.0
 -- What is read of a primary is spelled so, and what is spelled so is read.
-use Rattle.std.proofs.Common.{◌≡◌, ℕ, ◌<◌, Bool, true, false, cond, eqb, List, [], ◌∷◌, ◌++◌, length, Option, Some, None, inl, inr, refl, sym, ap, subst, ◌∙◌, append_assoc, arith}
+use Rattle.std.proofs.Common.{◌≡◌, ℕ, ◌<◌, Bool, true, false, cond, eqb, nat_le, List, [], ◌∷◌, ◌++◌, length, Option, Some, None, inl, inr, refl, sym, ap, subst, ◌∙◌, append_assoc, arith}
 use Rattle.std.specs.Prelude.{◌||◌}
 use Rattle.std.proofs.lemmas.Bool.{eqb-true}
 use Rattle.std.proofs.lemmas.Bool.Decides.{nat_tests}
 use Rattle.mspec.specs.Names.{is_letter, is_character, AllAre}
-use Rattle.mgrammar.specs.Grammar.{ExprTree, PrimaryTree, number, text, special, reference, bracket, call, select, refer, ReferenceTree, ExprsTree, exprs_of, ChoicesTree, choices_of, quoted, spell_expr, spell_primary, spell_reference, spell_exprs, spell_more_exprs, spell_more, spell_choices, spell_list, SpecialTree, special_of, refers, FunctionTree, ascii_function, char_function, data_function, extract_function, find_function, get_function, justify_function, length_function, order_function, piece_function, select_function, translate_function, function_of, takes}
-use Rattle.mgrammar.specs.FunctionForms.{is_select, is_referring}
+use Rattle.mgrammar.specs.Grammar.{ExprTree, PrimaryTree, number, text, special, reference, bracket, call, select, refer, ReferenceTree, ExprsTree, exprs_of, ChoicesTree, choices_of, quoted, spell_expr, spell_primary, spell_reference, spell_exprs, spell_more_exprs, spell_more, spell_choices, spell_list, SpecialTree, special_of}
+use Rattle.mgrammar.specs.Functions.{ValueFunctionTree, VariableFunctionTree, FunctionTree, of_values, of_variable, of_choices, function_of, takes}
 use Rattle.mgrammar.specs.WellFormed.{IsReferring, exprs_count, IsCall, bare_primary, WellPrimary, WellBelow, WellAll, WellList}
 use Rattle.mgrammar.specs.Reading.{◌>>=◌, run_of, after_run, number_at, is_digit_or_point, text_from, past, many, after_comma, list_at, Readers, reference_with, bracket_with, choice_with, select_with, call_with, refer_with, function_by, special_by, dollar_by, dollar_with, primary_with}
 use Rattle.mgrammar.proofs.ReadingBasics.{Takes, Again, Stops, Stops-weaker, Begins, Begins-weaker, Begins-append, goes_on, bind_some, chosen, some_is, run_parts, run_again, past_takes, text_takes, text_again}
@@ -35,50 +35,6 @@ call_cells cs w after inside t t' last rest p q s u e =
     let whole : 36 ∷ cs ≡ 36 ∷ (w ++ 40 ∷ (t ++ 41 ∷ rest)) = rw (p, q, s, u) refl in
     whole ∙ sym (in_brackets w t rest) ∙ ap (λ (y : List ℕ). (36 ∷ (w ++ 40 ∷ (y ++ 41 ∷ []))) ++ rest) (sym e)
 
--- which function takes other arguments than those of $SELECT
-select_is : (f : FunctionTree) → is_select f ≡ true → f ≡ select_function
-select_is ascii_function h = absurd cc
-select_is char_function h = absurd cc
-select_is data_function h = absurd cc
-select_is extract_function h = absurd cc
-select_is find_function h = absurd cc
-select_is get_function h = absurd cc
-select_is justify_function h = absurd cc
-select_is length_function h = absurd cc
-select_is order_function h = absurd cc
-select_is piece_function h = absurd cc
-select_is select_function h = refl
-select_is translate_function h = absurd cc
-
-no_select : (f : FunctionTree) (n : ℕ) → takes f n ≡ true → is_select f ≡ false
-no_select ascii_function n h = refl
-no_select char_function n h = refl
-no_select data_function n h = absurd cc
-no_select extract_function n h = refl
-no_select find_function n h = refl
-no_select get_function n h = absurd cc
-no_select justify_function n h = refl
-no_select length_function n h = refl
-no_select order_function n h = absurd cc
-no_select piece_function n h = refl
-no_select select_function n h = absurd cc
-no_select translate_function n h = refl
-
--- each function takes some argument
-takes_some : (f : FunctionTree) → takes f 0 ≡ true → ⊥
-takes_some ascii_function h = cc
-takes_some char_function h = cc
-takes_some data_function h = cc
-takes_some extract_function h = cc
-takes_some find_function h = cc
-takes_some get_function h = cc
-takes_some justify_function h = cc
-takes_some length_function h = cc
-takes_some order_function h = cc
-takes_some piece_function h = cc
-takes_some select_function h = cc
-takes_some translate_function h = cc
-
 -- what is read behind a character is a primary
 abbrev PrimaryIs : ℕ → List ℕ → PrimaryTree × List ℕ → Type 0
 PrimaryIs d cs y = (cs ≡ spell_primary y.0 ++ y.1) × WellPrimary d y.0 × Greedy (bare_primary y.0) y.1
@@ -94,35 +50,6 @@ text_primary d c cs x at e =
     let b = bind_some (text_from false cs) (λ y. Some (text y.0, y.1)) x e in
     let t = text_takes false cs b.0 b.1 in
     subst (PrimaryIs d (c ∷ cs)) (some_is (text b.0.0, b.0.1) x b.2) (cells c cs 34 (quoted b.0.0) 34 b.0.1 at t.0, t.1, tt)
-
--- a function of a variable takes no other arguments
-no_call : (f : FunctionTree) (n : ℕ) → takes f n ≡ true → is_referring f ≡ false
-no_call ascii_function n h = refl
-no_call char_function n h = refl
-no_call data_function n h = absurd cc
-no_call extract_function n h = refl
-no_call find_function n h = refl
-no_call get_function n h = absurd cc
-no_call justify_function n h = refl
-no_call length_function n h = refl
-no_call order_function n h = absurd cc
-no_call piece_function n h = refl
-no_call select_function n h = absurd cc
-no_call translate_function n h = refl
-
-is_reference : (f : FunctionTree) (n : ℕ) → refers f n ≡ true → (is_select f ≡ false) × (is_referring f ≡ true)
-is_reference ascii_function n h = absurd cc
-is_reference char_function n h = absurd cc
-is_reference data_function n h = (refl, refl)
-is_reference extract_function n h = absurd cc
-is_reference find_function n h = absurd cc
-is_reference get_function n h = (refl, refl)
-is_reference justify_function n h = absurd cc
-is_reference length_function n h = absurd cc
-is_reference order_function n h = (refl, refl)
-is_reference piece_function n h = absurd cc
-is_reference select_function n h = absurd cc
-is_reference translate_function n h = absurd cc
 
 -- arguments that were read are one or more
 first_well : (d : ℕ) (es : List ExprTree) → WellList (WellInner d) es → (0 < d) × WellAll (WellInner d) es
@@ -153,7 +80,7 @@ module _ (d : ℕ) (r : Readers) (inner_takes : Takes spell_expr (WellInner d) (
       (joined_by 58 cs (spell_expr c.0.0) c.0.1 k.0 (spell_expr v.0.0) v.0.1 condition.0 colon value.0, (condition.1, value.1))
 
   -- behind a word and its bracket
-  select_takes : (w cs ds after : List ℕ) (x : PrimaryTree × List ℕ) → ds ≡ w ++ after → after ≡ 40 ∷ cs → AllAre is_letter w → function_of w ≡ Some select_function → select_with r w cs ≡ Some x
+  select_takes : (w cs ds after : List ℕ) (x : PrimaryTree × List ℕ) → ds ≡ w ++ after → after ≡ 40 ∷ cs → AllAre is_letter w → function_of w ≡ Some of_choices → select_with r w cs ≡ Some x
       → PrimaryIs d (36 ∷ ds) x
   unfolding select_with
   select_takes w cs ds after x p q l f e =
@@ -165,18 +92,18 @@ module _ (d : ℕ) (r : Readers) (inner_takes : Takes spell_expr (WellInner d) (
       subst (PrimaryIs d (36 ∷ ds)) (some_is (select w (choices_of b.0.0), k.0) x k.2)
       (call_cells ds w after cs (spell_list spell_choice b.0.0) (spell_choices (choices_of b.0.0)) b.0.1 k.0 p q t.0 z (spell_choices-list b.0.0), (well.0, (f, l), well.1, well.2), tt)
 
-  call_takes : (g : FunctionTree) (w cs ds after : List ℕ) (x : PrimaryTree × List ℕ) → ds ≡ w ++ after → after ≡ 40 ∷ cs → AllAre is_letter w → function_of w ≡ Some g → call_with r g w cs ≡ Some x
+  call_takes : (g : ValueFunctionTree) (least : ℕ) (most : Option ℕ) (w cs ds after : List ℕ) (x : PrimaryTree × List ℕ) → ds ≡ w ++ after → after ≡ 40 ∷ cs → AllAre is_letter w → function_of w ≡ Some (of_values g least most) → call_with r least most w cs ≡ Some x
       → PrimaryIs d (36 ∷ ds) x
   unfolding call_with
-  call_takes g w cs ds after x p q l f e =
-      let b = bind_some (list_at (r.inner) cs) (λ y. past 41 y.1 >>= λ rest. cond (takes g (length y.0)) (Some (call w (exprs_of y.0), rest)) None) x e in
-      let k = bind_some (past 41 b.0.1) (λ rest. cond (takes g (length b.0.0)) (Some (call w (exprs_of b.0.0), rest)) None) x b.2 in
+  call_takes g least most w cs ds after x p q l f e =
+      let b = bind_some (list_at (r.inner) cs) (λ y. past 41 y.1 >>= λ rest. cond (takes least most (length y.0)) (Some (call w (exprs_of y.0), rest)) None) x e in
+      let k = bind_some (past 41 b.0.1) (λ rest. cond (takes least most (length b.0.0)) (Some (call w (exprs_of b.0.0), rest)) None) x b.2 in
       let t = list_takes spell_expr (WellInner d) (r.inner) inner_takes cs b.0 b.1 in
       let z = past_takes 41 b.0.1 k.0 k.1 in
       let first = first_well d b.0.0 t.1 in
-      elim (chosen (takes g (length b.0.0)) (Some (call w (exprs_of b.0.0), k.0)) None (Some x) k.2) [
+      elim (chosen (takes least most (length b.0.0)) (Some (call w (exprs_of b.0.0), k.0)) None (Some x) k.2) [
         | inl u ↦
-            let is : IsCall w (exprs_count (exprs_of b.0.0)) = (g, f, ap (takes g) (count-length b.0.0) ∙ u.0) in
+            let is : IsCall w (exprs_count (exprs_of b.0.0)) = (g, least, most, f, ap (takes least most) (count-length b.0.0) ∙ u.0) in
             subst (PrimaryIs d (36 ∷ ds)) (some_is (call w (exprs_of b.0.0), k.0) x u.1)
             (call_cells ds w after cs (spell_list spell_expr b.0.0) (spell_exprs (exprs_of b.0.0)) b.0.1 k.0 p q t.0 z (spell_exprs-list b.0.0), (first.0, l, is, exprs_well d b.0.0 first.1), tt)
         | inr u ↦ absurd cc
@@ -190,19 +117,19 @@ module _ (d : ℕ) (r : Readers) (inner_takes : Takes spell_expr (WellInner d) (
       let same : (36 ∷ (w ++ 40 ∷ (v ++ (more ++ 41 ∷ [])))) ++ rest ≡ 36 ∷ (w ++ 40 ∷ (v ++ (more ++ 41 ∷ rest))) = simp append_assoc in
       whole ∙ sym same ∙ ap (λ (y : List ℕ). (36 ∷ (w ++ 40 ∷ (v ++ (y ++ 41 ∷ [])))) ++ rest) (sym e)
 
-  refer_takes : (g : FunctionTree) (w cs ds after : List ℕ) (x : PrimaryTree × List ℕ) → ds ≡ w ++ after → after ≡ 40 ∷ cs → AllAre is_letter w → function_of w ≡ Some g → refer_with r g w cs ≡ Some x
+  refer_takes : (g : VariableFunctionTree) (most : ℕ) (w cs ds after : List ℕ) (x : PrimaryTree × List ℕ) → ds ≡ w ++ after → after ≡ 40 ∷ cs → AllAre is_letter w → function_of w ≡ Some (of_variable g most) → refer_with r most w cs ≡ Some x
       → PrimaryIs d (36 ∷ ds) x
   unfolding refer_with
-  refer_takes g w cs ds after x p q l f e =
-      let v = bind_some (r.within cs) (λ v. many (after_comma (r.inner)) (length v.1) v.1 >>= λ y. past 41 y.1 >>= λ rest. cond (refers g (length y.0)) (Some (refer w v.0 (exprs_of y.0), rest)) None) x e in
-      let b = bind_some (many (after_comma (r.inner)) (length v.0.1) v.0.1) (λ y. past 41 y.1 >>= λ rest. cond (refers g (length y.0)) (Some (refer w v.0.0 (exprs_of y.0), rest)) None) x v.2 in
-      let k = bind_some (past 41 b.0.1) (λ rest. cond (refers g (length b.0.0)) (Some (refer w v.0.0 (exprs_of b.0.0), rest)) None) x b.2 in
+  refer_takes g most w cs ds after x p q l f e =
+      let v = bind_some (r.within cs) (λ v. many (after_comma (r.inner)) (length v.1) v.1 >>= λ y. past 41 y.1 >>= λ rest. cond (nat_le (length y.0) most) (Some (refer w v.0 (exprs_of y.0), rest)) None) x e in
+      let b = bind_some (many (after_comma (r.inner)) (length v.0.1) v.0.1) (λ y. past 41 y.1 >>= λ rest. cond (nat_le (length y.0) most) (Some (refer w v.0.0 (exprs_of y.0), rest)) None) x v.2 in
+      let k = bind_some (past 41 b.0.1) (λ rest. cond (nat_le (length b.0.0) most) (Some (refer w v.0.0 (exprs_of b.0.0), rest)) None) x b.2 in
       let variable = within_takes cs v.0 v.1 in
       let more = many_takes (λ a. 44 ∷ spell_expr a) (WellInner d) (after_comma (r.inner)) (comma_takes spell_expr (WellInner d) (r.inner) inner_takes) (length v.0.1) v.0.1 b.0 b.1 in
       let z = past_takes 41 b.0.1 k.0 k.1 in
-      elim (chosen (refers g (length b.0.0)) (Some (refer w v.0.0 (exprs_of b.0.0), k.0)) None (Some x) k.2) [
+      elim (chosen (nat_le (length b.0.0) most) (Some (refer w v.0.0 (exprs_of b.0.0), k.0)) None (Some x) k.2) [
         | inl u ↦
-            let is : IsReferring w (exprs_count (exprs_of b.0.0)) = (g, f, ap (refers g) (count-length b.0.0) ∙ u.0) in
+            let is : IsReferring w (exprs_count (exprs_of b.0.0)) = (g, most, f, ap (λ (n : ℕ). nat_le n most) (count-length b.0.0) ∙ u.0) in
             subst (PrimaryIs d (36 ∷ ds)) {x = (refer w v.0.0 (exprs_of b.0.0), k.0)} (some_is (refer w v.0.0 (exprs_of b.0.0), k.0) x u.1) (
               refer_cells ds w after cs (spell_reference v.0.0) v.0.1 (each (λ a. 44 ∷ spell_expr a) b.0.0) (spell_more_exprs (exprs_of b.0.0)) b.0.1 k.0 p q variable.0 more.0 z (more_exprs-list b.0.0 ∙ spell_more-each spell_expr b.0.0),
               (variable.1.0, l, is, variable.1.1, exprs_well d b.0.0 more.1),
@@ -214,14 +141,9 @@ module _ (d : ℕ) (r : Readers) (inner_takes : Takes spell_expr (WellInner d) (
   function_takes : (w cs ds after : List ℕ) (o : Option FunctionTree) (x : PrimaryTree × List ℕ) → ds ≡ w ++ after → after ≡ 40 ∷ cs → AllAre is_letter w → function_of w ≡ o → function_by r w o cs ≡ Some x
       → PrimaryIs d (36 ∷ ds) x
   function_takes w cs ds after None x p q l f e = absurd cc
-  function_takes w cs ds after (Some g) x p q l f e =
-      elim (chosen (is_select g) (select_with r w cs) (cond (is_referring g) (refer_with r g w cs) (call_with r g w cs)) (Some x) e) [
-        | inl s ↦ select_takes w cs ds after x p q l (f ∙ ap (λ (y : FunctionTree). Some y) (select_is g s.0)) s.1
-        | inr s ↦ elim (chosen (is_referring g) (refer_with r g w cs) (call_with r g w cs) (Some x) s.1) [
-          | inl t ↦ refer_takes g w cs ds after x p q l f t.1
-          | inr t ↦ call_takes g w cs ds after x p q l f t.1
-        ]
-      ]
+  function_takes w cs ds after (Some (of_values g least most)) x p q l f e = call_takes g least most w cs ds after x p q l f e
+  function_takes w cs ds after (Some (of_variable g most)) x p q l f e = refer_takes g most w cs ds after x p q l f e
+  function_takes w cs ds after (Some of_choices) x p q l f e = select_takes w cs ds after x p q l f e
 
   special_takes : (w cs ds : List ℕ) (o : Option SpecialTree) (x : PrimaryTree × List ℕ) → ds ≡ w ++ cs → AllAre is_letter w → special_of w ≡ o → special_by r w o cs ≡ Some x → PrimaryIs d (36 ∷ ds) x
   special_takes w cs ds None x p l f e = absurd cc
@@ -318,20 +240,20 @@ unfolding choice_with
 choice_step r cs ds c v rest h k = rw (h, k) refl
 
 -- behind a word and its bracket
-select_step : (r : Readers) (w cs : List ℕ) (all : List (ExprTree × ExprTree)) (rest : List ℕ) → function_of w ≡ Some select_function → list_at (choice_with r) cs ≡ Some (all, 41 ∷ rest)
+select_step : (r : Readers) (w cs : List ℕ) (all : List (ExprTree × ExprTree)) (rest : List ℕ) → function_of w ≡ Some of_choices → list_at (choice_with r) cs ≡ Some (all, 41 ∷ rest)
     → function_by r w (function_of w) cs ≡ Some (select w (choices_of all), rest)
 unfolding select_with
 select_step r w cs all rest f h = rw (f, h) refl
 
-call_step : (r : Readers) (g : FunctionTree) (w cs : List ℕ) (args : List ExprTree) (rest : List ℕ) → function_of w ≡ Some g → takes g (length args) ≡ true → list_at (r.inner) cs ≡ Some (args, 41 ∷ rest)
-    → function_by r w (function_of w) cs ≡ Some (call w (exprs_of args), rest)
+call_step : (r : Readers) (g : ValueFunctionTree) (least : ℕ) (most : Option ℕ) (w cs : List ℕ) (args : List ExprTree) (rest : List ℕ) → function_of w ≡ Some (of_values g least most) → takes least most (length args) ≡ true
+    → list_at (r.inner) cs ≡ Some (args, 41 ∷ rest) → function_by r w (function_of w) cs ≡ Some (call w (exprs_of args), rest)
 unfolding call_with
-call_step r g w cs args rest f t h = rw (f, no_select g (length args) t, no_call g (length args) t, h, t) refl
+call_step r g least most w cs args rest f t h = rw (f, h, t) refl
 
-refer_step : (r : Readers) (g : FunctionTree) (w cs t : List ℕ) (v : ReferenceTree) (more : List ExprTree) (rest : List ℕ) → function_of w ≡ Some g → refers g (length more) ≡ true → r.within cs ≡ Some (v, t)
-    → many (after_comma (r.inner)) (length t) t ≡ Some (more, 41 ∷ rest) → function_by r w (function_of w) cs ≡ Some (refer w v (exprs_of more), rest)
+refer_step : (r : Readers) (g : VariableFunctionTree) (most : ℕ) (w cs t : List ℕ) (v : ReferenceTree) (more : List ExprTree) (rest : List ℕ) → function_of w ≡ Some (of_variable g most) → nat_le (length more) most ≡ true
+    → r.within cs ≡ Some (v, t) → many (after_comma (r.inner)) (length t) t ≡ Some (more, 41 ∷ rest) → function_by r w (function_of w) cs ≡ Some (refer w v (exprs_of more), rest)
 unfolding refer_with
-refer_step r g w cs t v more rest f u h k = let is = is_reference g (length more) u in rw (f, is.0, is.1, h, k, u) refl
+refer_step r g most w cs t v more rest f u h k = rw (f, h, k, u) refl
 
 function_step : (r : Readers) (w cs : List ℕ) (p : PrimaryTree) (rest : List ℕ) → AllAre is_letter w → function_by r w (function_of w) cs ≡ Some (p, rest) → primary_with r (36 ∷ (w ++ 40 ∷ cs)) ≡ Some (p, rest)
 unfolding primary_with dollar_with
@@ -366,18 +288,19 @@ module _ (d : ℕ) (r : Readers) (inner_again : Again spell_expr (WellInner d) E
       ap (primary_with r) (in_brackets w (spell_choices all) rest ∙ ap (λ (y : List ℕ). 36 ∷ (w ++ 40 ∷ (y ++ 41 ∷ rest))) same)
       ∙ step ∙ ap (λ (y : ChoicesTree). Some (select w y, rest)) (choices_back all)
 
-  exprs_some : (f : FunctionTree) (es : List ExprTree) → takes f (length es) ≡ true → WellAll (WellInner d) es → WellList (WellInner d) es
-  exprs_some f [] t w = absurd (takes_some f t)
-  exprs_some f (e ∷ es) t w = w
+  exprs_some : (least : ℕ) (most : Option ℕ) (es : List ExprTree) → takes least most (length es) ≡ true → WellAll (WellInner d) es → WellList (WellInner d) es
+  exprs_some least most [] t w = absurd cc
+  exprs_some least most (e ∷ es) t w = w
 
   call_again : (w : List ℕ) (args : ExprsTree) (rest : List ℕ) → WellPrimary d (call w args) → primary_with r (spell_primary (call w args) ++ rest) ≡ Some (call w args, rest)
   call_again w args rest h =
       let es = exprs_list args in
-      let f : FunctionTree = h.2.0 in
+      let least = h.2.1 in
+      let most = h.2.2 in
       let same : spell_exprs args ≡ spell_list spell_expr es = ap spell_exprs (sym (exprs_back args)) ∙ spell_exprs-list es in
-      let count : takes f (length es) ≡ true = ap (takes f) (sym (count-length es) ∙ ap exprs_count (exprs_back args)) ∙ h.2.2 in
-      let l = list_again spell_expr (WellInner d) (r.inner) Ends (λ more. (refl, refl)) inner_again es (41 ∷ rest) (exprs_some f es count (exprs_inner d args h.0 h.3)) ((refl, refl), refl) in
-      let step = function_step r w (spell_list spell_expr es ++ 41 ∷ rest) (call w (exprs_of es)) rest h.1 (call_step r f w (spell_list spell_expr es ++ 41 ∷ rest) es rest h.2.1 count l) in
+      let count : takes least most (length es) ≡ true = ap (takes least most) (sym (count-length es) ∙ ap exprs_count (exprs_back args)) ∙ h.2.4 in
+      let l = list_again spell_expr (WellInner d) (r.inner) Ends (λ more. (refl, refl)) inner_again es (41 ∷ rest) (exprs_some least most es count (exprs_inner d args h.0 h.3)) ((refl, refl), refl) in
+      let step = function_step r w (spell_list spell_expr es ++ 41 ∷ rest) (call w (exprs_of es)) rest h.1 (call_step r h.2.0 least most w (spell_list spell_expr es ++ 41 ∷ rest) es rest h.2.3 count l) in
       ap (primary_with r) (in_brackets w (spell_exprs args) rest ∙ ap (λ (y : List ℕ). 36 ∷ (w ++ 40 ∷ (y ++ 41 ∷ rest))) same)
       ∙ step ∙ ap (λ (y : ExprsTree). Some (call w y, rest)) (exprs_back args)
 
@@ -393,13 +316,13 @@ module _ (d : ℕ) (r : Readers) (inner_again : Again spell_expr (WellInner d) E
   refer_again : (w : List ℕ) (v : ReferenceTree) (more : ExprsTree) (rest : List ℕ) → WellPrimary d (refer w v more) → primary_with r (spell_primary (refer w v more) ++ rest) ≡ Some (refer w v more, rest)
   refer_again w v more rest h =
       let es = exprs_list more in
-      let f : FunctionTree = h.2.0 in
+      let most = h.2.1 in
       let same : spell_more_exprs more ≡ spell_more spell_expr es = ap spell_more_exprs (sym (exprs_back more)) ∙ more_exprs-list es in
-      let count : refers f (length es) ≡ true = ap (refers f) (sym (count-length es) ∙ ap exprs_count (exprs_back more)) ∙ h.2.2 in
+      let count : nat_le (length es) most ≡ true = ap (λ (n : ℕ). nat_le n most) (sym (count-length es) ∙ ap exprs_count (exprs_back more)) ∙ h.2.3 in
       let t : List ℕ = spell_more spell_expr es ++ 41 ∷ rest in
       let variable = within_again v t (h.0, h.3) (more_ends es rest) in
       let others = more_again spell_expr (WellInner d) (r.inner) Ends (λ more. (refl, refl)) inner_again es (41 ∷ rest) (exprs_inner d more h.0 h.4) (refl, refl) refl in
-      let step = function_step r w (spell_reference v ++ t) (refer w v (exprs_of es)) rest h.1 (refer_step r f w (spell_reference v ++ t) t v es rest h.2.1 count variable others) in
+      let step = function_step r w (spell_reference v ++ t) (refer w v (exprs_of es)) rest h.1 (refer_step r h.2.0 most w (spell_reference v ++ t) t v es rest h.2.2 count variable others) in
       ap (primary_with r) (refer_spread w (spell_reference v) (spell_more_exprs more) rest ∙ ap (λ (y : List ℕ). 36 ∷ (w ++ 40 ∷ (spell_reference v ++ (y ++ 41 ∷ rest)))) same)
       ∙ step ∙ ap (λ (y : ExprsTree). Some (refer w v y, rest)) (exprs_back more)
 

@@ -4,8 +4,8 @@ use Rattle.std.proofs.Common.{◌≡◌, ℕ, ◌<◌, ◌-◌, Bool, true, eqb,
 use Rattle.std.proofs.lemmas.Bool.{eqb-true}
 use Rattle.std.proofs.lemmas.Bool.Decides.{nat_tests}
 use Rattle.mspec.specs.Names.{is_letter, AllAre}
-use Rattle.mgrammar.specs.Grammar.{ExprTree, PrimaryTree, no_exprs, ReferenceTree, indirect, TargetTree, variable, piece, DestinationTree, one, several, ArgTree, assign, indirect_args, FormTree, spell_expr, spell_primary, spell_reference, spell_list, spell_place, spell_target, spell_destination, spell_arg, assignment, FunctionTree, ascii_function, char_function, data_function, extract_function, find_function, get_function, justify_function, length_function, order_function, piece_function, select_function, translate_function, function_of}
-use Rattle.mgrammar.specs.FunctionForms.{is_piece}
+use Rattle.mgrammar.specs.Grammar.{ExprTree, PrimaryTree, no_exprs, ReferenceTree, indirect, TargetTree, variable, piece, DestinationTree, one, several, ArgTree, assign, indirect_args, FormTree, spell_expr, spell_primary, spell_reference, spell_list, spell_place, spell_target, spell_destination, spell_arg, assignment}
+use Rattle.mgrammar.specs.Functions.{is_piece}
 use Rattle.mgrammar.specs.WellFormed.{max_depth, bare_primary, bare_destination, WellBelow, WellReference, WellOptional, WellTarget, WellDestination, WellArg}
 use Rattle.mgrammar.specs.Reading.{Read, ◌>>=◌, run_of, after_run, past, list_at, Readers, reference_with, expr_at, readers_at, place_with, piece_with, piece_by, target_with, destination_at, given_by, assignment_by, assignment_at}
 use Rattle.mgrammar.proofs.ReadingBasics.{Takes, Again, Stops, Begins, Begins-append, Begins-stops, Begins-weaker, bind_some, chosen, some_is, both_are, run_parts, run_again, past_takes, not_past}
@@ -28,20 +28,6 @@ piece_cells ds w after cs n t a e u p last rest f g h k l m z =
     let whole : 36 ∷ ds ≡ 36 ∷ (w ++ 40 ∷ (n ++ 44 ∷ (e ++ (p ++ 41 ∷ rest)))) = rw (f, g, h, k, l, m, z) refl in
     whole ∙ sym (spread w n e p rest)
 
-piece_is : (f : FunctionTree) → is_piece f ≡ true → f ≡ piece_function
-piece_is ascii_function h = absurd cc
-piece_is char_function h = absurd cc
-piece_is data_function h = absurd cc
-piece_is extract_function h = absurd cc
-piece_is find_function h = absurd cc
-piece_is get_function h = absurd cc
-piece_is justify_function h = absurd cc
-piece_is length_function h = absurd cc
-piece_is order_function h = absurd cc
-piece_is piece_function h = refl
-piece_is select_function h = absurd cc
-piece_is translate_function h = absurd cc
-
 -- a target that is read with so many brackets to open
 abbrev TargetIs : ℕ → List ℕ → TargetTree × List ℕ → Type 0
 TargetIs d cs x = (cs ≡ spell_target x.0 ++ x.1) × WellTarget d x.0
@@ -61,7 +47,7 @@ module _ (d : ℕ) (r : Readers) (takes : Takes spell_expr (WellInner d) (r.inne
       ]
 
   -- behind a word and its bracket
-  piece_takes : (w cs ds after : List ℕ) (x : TargetTree × List ℕ) → ds ≡ w ++ after → after ≡ 40 ∷ cs → AllAre is_letter w → function_of w ≡ Some piece_function → piece_with r w cs ≡ Some x
+  piece_takes : (w cs ds after : List ℕ) (x : TargetTree × List ℕ) → ds ≡ w ++ after → after ≡ 40 ∷ cs → AllAre is_letter w → is_piece w ≡ true → piece_with r w cs ≡ Some x
       → TargetIs d (36 ∷ ds) x
   unfolding piece_with
   piece_takes w cs ds after x p q l f e =
@@ -80,12 +66,10 @@ module _ (d : ℕ) (r : Readers) (takes : Takes spell_expr (WellInner d) (r.inne
       piece_cells ds w after cs (spell_reference n.0.0) n.0.1 k.0 (spell_expr v.0.0) v.0.1 (spell_place u.0.0) u.0.1 z.0 p q variable.0 comma delimiter.0 place.0 close in
       subst (TargetIs d (36 ∷ ds)) {x = made} (some_is made x z.2) (whole, ((f, l), variable.1.1, delimiter.1.1, place.1))
 
-  piece_takes_by : (w cs ds after : List ℕ) (o : Option FunctionTree) (x : TargetTree × List ℕ) → ds ≡ w ++ after → after ≡ 40 ∷ cs → AllAre is_letter w → function_of w ≡ o → piece_by r w o cs ≡ Some x
-      → TargetIs d (36 ∷ ds) x
-  piece_takes_by w cs ds after None x p q l f e = absurd cc
-  piece_takes_by w cs ds after (Some g) x p q l f e =
-      elim (chosen (is_piece g) (piece_with r w cs) None (Some x) e) [
-        | inl s ↦ piece_takes w cs ds after x p q l (f ∙ ap (λ (y : FunctionTree). Some y) (piece_is g s.0)) s.1
+  piece_takes_by : (w cs ds after : List ℕ) (x : TargetTree × List ℕ) → ds ≡ w ++ after → after ≡ 40 ∷ cs → AllAre is_letter w → piece_by r w cs ≡ Some x → TargetIs d (36 ∷ ds) x
+  piece_takes_by w cs ds after x p q l e =
+      elim (chosen (is_piece w) (piece_with r w cs) None (Some x) e) [
+        | inl s ↦ piece_takes w cs ds after x p q l s.0 s.1
         | inr s ↦ absurd cc
       ]
 
@@ -95,12 +79,12 @@ module _ (d : ℕ) (r : Readers) (takes : Takes spell_expr (WellInner d) (r.inne
   target_takes (c ∷ cs) x e =
       let w = run_of is_letter cs in
       let after = after_run is_letter cs in
-      elim (chosen (eqb c 36) (past 40 after >>= piece_by r w (function_of w)) (reference_with r (c ∷ cs) >>= λ n. Some (variable n.0, n.1)) (Some x) e) [
+      elim (chosen (eqb c 36) (past 40 after >>= piece_by r w) (reference_with r (c ∷ cs) >>= λ n. Some (variable n.0, n.1)) (Some x) e) [
         | inl p ↦
-            let k = bind_some (past 40 after) (piece_by r w (function_of w)) x p.1 in
+            let k = bind_some (past 40 after) (piece_by r w) x p.1 in
             let parts = run_parts is_letter cs in
             let at : c ≡ 36 = eqb-true _ _ p.0 in
-            let is = piece_takes_by w k.0 cs after (function_of w) x parts.0 (past_takes 40 after k.0 k.1) parts.1 refl k.2 in
+            let is = piece_takes_by w k.0 cs after x parts.0 (past_takes 40 after k.0 k.1) parts.1 k.2 in
             (ap (λ (y : ℕ). y ∷ cs) at ∙ is.0, is.1)
         | inr p ↦
             let b = bind_some (reference_with r (c ∷ cs)) (λ n. Some (variable n.0, n.1)) x p.1 in
@@ -185,7 +169,7 @@ inside_step : (r : Readers) (w cs t u v : List ℕ) (aim : ReferenceTree) (delim
 unfolding piece_with
 inside_step r w cs t u v aim delimiter place rest h k l m = rw (h, k, l, m) refl
 
-piece_step : (r : Readers) (w cs : List ℕ) (x : TargetTree × List ℕ) → AllAre is_letter w → function_of w ≡ Some piece_function → piece_with r w cs ≡ Some x → target_with r (36 ∷ (w ++ 40 ∷ cs)) ≡ Some x
+piece_step : (r : Readers) (w cs : List ℕ) (x : TargetTree × List ℕ) → AllAre is_letter w → is_piece w ≡ true → piece_with r w cs ≡ Some x → target_with r (36 ∷ (w ++ 40 ∷ cs)) ≡ Some x
 unfolding target_with
 piece_step r w cs x l f h =
     let i = run_again is_letter w (40 ∷ cs) l refl in

@@ -2,9 +2,10 @@
 -- DO, GOTO, XECUTE and the lines of routines on examples, as proved equations: texts with their trees, and texts that have none.
 use Rattle.std.proofs.Common.{◌≡◌, ℕ, List, [], ◌∷◌, Some, None, refl, replicate}
 use Rattle.std.specs.Prelude.{codes}
-use Rattle.mgrammar.specs.Grammar.{ExprTree, expr, no_steps, operand, PrimaryTree, number, text, reference, local, no_exprs, at_label, at_label_in, at_routine, ArgTree, shown, do_one, go_to, executed, KeywordTree, do_word, goto_word, execute_word, write_word, SpacedTree, LineTree, spell, keyword_of, special_of, function_of}
-use Rattle.mgrammar.specs.Reading.{many, list_at, point_at, exponent_at, number_at, name_at, truth_at, operator_at, subscripts_with, reference_with, bracket_with, refer_with, dollar_with, primary_with, operand_with, step_by, step_with, expr_with, readers_at, output_at, entry_at, entrance_at, leap_at, execution_at, args_at, postcondition_at, command_at, spaced_at, comment_at, line_at}
-use Rattle.mgrammar.specs.RoutineLine.{RoutineLineTree, short, spaced_out, spell_routine_line, label_at, label_of, dots_of, dot_at, dots_at, body_at, routine_line_at}
+use Rattle.mgrammar.specs.Grammar.{ExprTree, expr, no_steps, operand, PrimaryTree, number, text, reference, local, no_exprs, at_label, at_label_in, at_routine, ArgTree, shown, do_one, go_to, executed, KeywordTree, do_word, goto_word, execute_word, write_word, SpacedTree, LineTree, spell}
+use Rattle.mgrammar.specs.Reading.{name_at, line_at}
+use Rattle.mgrammar.specs.RoutineLine.{RoutineLineTree, short, spaced_out, spell_routine_line, label_at, label_of, dots_of, routine_line_at}
+use Rattle.mgrammar.proofs.Computing.{reads}
 
 -- ---- short forms
 
@@ -42,25 +43,19 @@ write_one = of_commands (command write_word (codes "W") (shown one ∷ []) 0 ∷
 
 -- each form of an entry, with a postconditional of its own or none
 entries : IsRead (codes "D A,%1^R:1,^R") (of_commands (command do_word (codes "D") (do_one (at_label (codes "A")) None ∷ do_one (at_label_in (codes "%1") (codes "R")) (Some one) ∷ do_one (at_routine (codes "R")) None ∷ []) 0 ∷ []))
-unfolding keyword_of special_of function_of many list_at point_at exponent_at number_at name_at truth_at operator_at subscripts_with
-    reference_with bracket_with refer_with dollar_with primary_with operand_with step_by step_with expr_with readers_at
-    output_at entry_at entrance_at leap_at execution_at args_at postcondition_at command_at spaced_at comment_at line_at
+unfolding reads
 entries = (refl, refl)
 
 -- beside one of the command
 conditions : IsRead (codes "goto:1 A:A,B") (of_commands (conditional goto_word (codes "goto") one (go_to (at_label (codes "A")) (Some (variable (codes "A"))) ∷ go_to (at_label (codes "B")) None ∷ []) 0 ∷ []))
-unfolding keyword_of special_of function_of many list_at point_at exponent_at number_at name_at truth_at operator_at subscripts_with
-    reference_with bracket_with refer_with dollar_with primary_with operand_with step_by step_with expr_with readers_at
-    output_at entry_at entrance_at leap_at execution_at args_at postcondition_at command_at spaced_at comment_at line_at
+unfolding reads
 conditions = (refl, refl)
 
 -- texts, and an argumentless DO, behind which two spaces stand
 texts : IsRead (codes "X \"W 1\":A,A D  W 1") (of_commands (
     command execute_word (codes "X") (executed (only (text (codes "W 1"))) (Some (variable (codes "A"))) ∷ executed (variable (codes "A")) None ∷ []) 1 ∷
     command do_word (codes "D") [] 2 ∷ command write_word (codes "W") (shown one ∷ []) 0 ∷ []))
-unfolding keyword_of special_of function_of many list_at point_at exponent_at number_at name_at truth_at operator_at subscripts_with
-    reference_with bracket_with refer_with dollar_with primary_with operand_with step_by step_with expr_with readers_at
-    output_at entry_at entrance_at leap_at execution_at args_at postcondition_at command_at spaced_at comment_at line_at
+unfolding reads
 texts = (refl, refl)
 
 -- an entry is names alone; GOTO and XECUTE have some argument
@@ -85,9 +80,7 @@ none_of_commands :
     × HasNone (codes "XE 1")
     × HasNone (codes "D W 1")
     × HasNone (codes ". W 1")
-unfolding keyword_of special_of function_of many list_at point_at exponent_at number_at name_at truth_at operator_at subscripts_with
-    reference_with bracket_with refer_with dollar_with primary_with operand_with step_by step_with expr_with readers_at
-    output_at entry_at entrance_at leap_at execution_at args_at postcondition_at command_at spaced_at comment_at line_at
+unfolding reads
 none_of_commands = (refl, refl, refl, refl, refl, refl, refl, refl, refl, refl, refl, refl, refl, refl, refl, refl, refl, refl, refl, refl)
 
 -- ---- lines of routines
@@ -105,10 +98,7 @@ short_lines :
     × IsRoutineLine (codes "L") (record { label = Some (codes "L"); body = short None })
     × IsRoutineLine (codes "L;c") (record { label = Some (codes "L"); body = short (Some (codes "c")) })
     × IsRoutineLine (codes " ") (record { label = None; body = spaced_out [] (of_commands []) })
-unfolding keyword_of special_of function_of many list_at point_at exponent_at number_at name_at truth_at operator_at subscripts_with
-    reference_with bracket_with refer_with dollar_with primary_with operand_with step_by step_with expr_with readers_at
-    output_at entry_at entrance_at leap_at execution_at args_at postcondition_at command_at spaced_at comment_at line_at
-    label_at dot_at dots_at body_at routine_line_at
+unfolding reads
 short_lines = ((refl, refl), (refl, refl), (refl, refl), (refl, refl), (refl, refl))
 
 -- with commands, behind dots or none: each dot with the spaces in front of it, the first space of all apart
@@ -118,10 +108,7 @@ dotted_lines :
     × IsRoutineLine (codes " .W 1") (record { label = None; body = spaced_out (0 ∷ []) write_one })
     × IsRoutineLine (codes "L  . . W 1") (record { label = Some (codes "L"); body = spaced_out (1 ∷ 1 ∷ []) (record write_one { lead = 1 }) })
     × IsRoutineLine (codes " ..;c") (record { label = None; body = spaced_out (0 ∷ 0 ∷ []) (record { lead = 0; commands = []; comment = Some (codes "c") }) })
-unfolding keyword_of special_of function_of many list_at point_at exponent_at number_at name_at truth_at operator_at subscripts_with
-    reference_with bracket_with refer_with dollar_with primary_with operand_with step_by step_with expr_with readers_at
-    output_at entry_at entrance_at leap_at execution_at args_at postcondition_at command_at spaced_at comment_at line_at
-    label_at dot_at dots_at body_at routine_line_at
+unfolding reads
 dotted_lines = ((refl, refl), (refl, refl), (refl, refl), (refl, refl), (refl, refl))
 
 -- behind a label the end, a space or a comment comes, and a command stands behind a space
@@ -134,10 +121,7 @@ none_of_lines :
     × HasNoLine (codes " .5")
     × HasNoLine (codes " W 1 . W 1")
     × HasNoLine (codes "L )")
-unfolding keyword_of special_of function_of many list_at point_at exponent_at number_at name_at truth_at operator_at subscripts_with
-    reference_with bracket_with refer_with dollar_with primary_with operand_with step_by step_with expr_with readers_at
-    output_at entry_at entrance_at leap_at execution_at args_at postcondition_at command_at spaced_at comment_at line_at
-    label_at dot_at dots_at body_at routine_line_at
+unfolding reads
 none_of_lines = (refl, refl, refl, refl, refl, refl, refl, refl)
 
 -- ---- labels and dots of texts that have a tree or none

@@ -4,7 +4,7 @@
 -- Restates productions of ISO/IEC 11756:1999, each named at its rule by its name in the standard's metalanguage. Nothing
 -- reads here: a text has a tree where a tree that is `well` (WellFormed) spells it. A tree keeps what the text says beside the meaning:
 -- words as they are written, digits, spaces.
-use Rattle.std.specs.Prelude.{ℕ, Bool, true, false, ◌&&◌, ◌||◌, ◌==◌, nat_le, if◌then◌else◌, List, [], ◌∷◌, ◌++◌, replicate, codes, Option, Some, None}
+use Rattle.std.specs.Prelude.{ℕ, Bool, true, false, ◌||◌, ◌==◌, nat_le, if◌then◌else◌, List, [], ◌∷◌, ◌++◌, replicate, codes, Option, Some, None}
 use Rattle.std.specs.List.{list_any}
 use Rattle.std.specs.Str.{str_eq_ignore_ascii_case}
 use Rattle.mspec.specs.Names.{upper_case}
@@ -422,41 +422,14 @@ spell l = replicate l.lead 32 ++ (spell_commands l.commands ++ spell_comment l.c
 
 -- ---- words, and the letters of patterns
 
+-- no more than the bound, if there is one
+abbrev pub is_at_most : Option ℕ → ℕ → Bool
+is_at_most None n = true
+is_at_most (Some most) n = nat_le n most
+
 -- the word is this one or that one, in either case of letters
 abbrev pub is_either : List ℕ → List ℕ → List ℕ → Bool
 is_either short long w = str_eq_ignore_ascii_case w short || str_eq_ignore_ascii_case w long
-
--- `commandword`: the whole word or its first letter
-unfoldable pub keyword_of : List ℕ → Option KeywordTree
-keyword_of w =
-    if is_either (codes "s") (codes "set") w then Some set_word
-    else (if is_either (codes "k") (codes "kill") w then Some kill_word
-    else (if is_either (codes "n") (codes "new") w then Some new_word
-    else (if is_either (codes "i") (codes "if") w then Some if_word
-    else (if is_either (codes "e") (codes "else") w then Some else_word
-    else (if is_either (codes "f") (codes "for") w then Some for_word
-    else (if is_either (codes "q") (codes "quit") w then Some quit_word
-    else (if is_either (codes "w") (codes "write") w then Some write_word
-    else (if is_either (codes "d") (codes "do") w then Some do_word
-    else (if is_either (codes "g") (codes "goto") w then Some goto_word
-    else (if is_either (codes "x") (codes "xecute") w then Some execute_word
-    else (if is_either (codes "l") (codes "lock") w then Some lock_word
-    else (if is_either (codes "h") (codes "halt") w then Some halt_word else None))))))))))))
-
-abbrev pub form_of : KeywordTree → FormTree
-form_of set_word = assignment
-form_of kill_word = removal
-form_of new_word = hiding
-form_of if_word = condition
-form_of else_word = nothing
-form_of for_word = repetition
-form_of quit_word = nothing
-form_of write_word = output
-form_of do_word = entrance
-form_of goto_word = leap
-form_of execute_word = execution
-form_of lock_word = locking
-form_of halt_word = nothing
 
 -- whether arguments of a form may be given by a text
 abbrev pub may_be_indirect : FormTree → Bool
@@ -472,107 +445,12 @@ may_be_indirect execution = true
 may_be_indirect locking = true
 may_be_indirect nothing = false
 
--- whether a command takes so many arguments
-abbrev pub takes_args : KeywordTree → ℕ → Bool
-takes_args set_word n = nat_le 1 n
-takes_args kill_word n = true
-takes_args new_word n = true
-takes_args if_word n = true
-takes_args else_word n = n == 0
-takes_args for_word n = nat_le n 1
-takes_args quit_word n = n == 0
-takes_args write_word n = nat_le 1 n
-takes_args do_word n = true
-takes_args goto_word n = nat_le 1 n
-takes_args execute_word n = nat_le 1 n
-takes_args lock_word n = true
-takes_args halt_word n = n == 0
-
--- whether a `postcond` may stand behind its word
-abbrev pub takes_condition : KeywordTree → Bool
-takes_condition set_word = true
-takes_condition kill_word = true
-takes_condition new_word = true
-takes_condition if_word = false
-takes_condition else_word = false
-takes_condition for_word = false
-takes_condition quit_word = true
-takes_condition write_word = true
-takes_condition do_word = true
-takes_condition goto_word = true
-takes_condition execute_word = true
-takes_condition lock_word = true
-takes_condition halt_word = true
-
 pub data SpecialTree : Type 0 where
   test_special : SpecialTree
 
 -- the name of an `svn`: the whole word or its abbreviation
 unfoldable pub special_of : List ℕ → Option SpecialTree
 special_of w = if is_either (codes "t") (codes "test") w then Some test_special else None
-
-pub data FunctionTree : Type 0 where
-  ascii_function : FunctionTree
-  char_function : FunctionTree
-  data_function : FunctionTree
-  extract_function : FunctionTree
-  find_function : FunctionTree
-  get_function : FunctionTree
-  justify_function : FunctionTree
-  length_function : FunctionTree
-  order_function : FunctionTree
-  piece_function : FunctionTree
-  select_function : FunctionTree
-  translate_function : FunctionTree
-
--- the name of a `function`: the whole word or its abbreviation
-unfoldable pub function_of : List ℕ → Option FunctionTree
-function_of w =
-    if is_either (codes "a") (codes "ascii") w then Some ascii_function
-    else (if is_either (codes "c") (codes "char") w then Some char_function
-    else (if is_either (codes "d") (codes "data") w then Some data_function
-    else (if is_either (codes "e") (codes "extract") w then Some extract_function
-    else (if is_either (codes "f") (codes "find") w then Some find_function
-    else (if is_either (codes "g") (codes "get") w then Some get_function
-    else (if is_either (codes "j") (codes "justify") w then Some justify_function
-    else (if is_either (codes "l") (codes "length") w then Some length_function
-    else (if is_either (codes "o") (codes "order") w then Some order_function
-    else (if is_either (codes "p") (codes "piece") w then Some piece_function
-    else (if is_either (codes "s") (codes "select") w then Some select_function
-    else (if is_either (codes "tr") (codes "translate") w then Some translate_function else None)))))))))))
-
-abbrev pub is_between : ℕ → ℕ → ℕ → Bool
-is_between least most n = nat_le least n && nat_le n most
-
--- whether a function takes so many arguments; those of $SELECT and of functions of a variable are of another form
-abbrev pub takes : FunctionTree → ℕ → Bool
-takes ascii_function n = is_between 1 2 n
-takes char_function n = nat_le 1 n
-takes data_function n = false
-takes extract_function n = is_between 1 3 n
-takes find_function n = is_between 2 3 n
-takes get_function n = false
-takes justify_function n = n == 2
-takes length_function n = is_between 1 2 n
-takes order_function n = false
-takes piece_function n = is_between 2 4 n
-takes select_function n = false
-takes translate_function n = is_between 2 3 n
-
--- whether a function takes a variable, and so many arguments behind it
-abbrev pub refers : FunctionTree → ℕ → Bool
-refers ascii_function n = false
-refers char_function n = false
-refers data_function n = n == 0
-refers extract_function n = false
-refers find_function n = false
-refers get_function n = nat_le n 1
-refers justify_function n = false
-refers length_function n = false
-refers order_function n = nat_le n 1
-refers piece_function n = false
-refers select_function n = false
-refers translate_function n = false
 
 -- `patcode`, in either case of letters
 abbrev pub is_pattern_letter : ℕ → Bool

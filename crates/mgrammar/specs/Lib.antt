@@ -1,6 +1,7 @@
 -- SPDX-License-Identifier: Apache-2.0
 pub mod Grammar
-pub mod FunctionForms
+pub mod Functions
+pub mod Commands
 pub mod WellFormed
 pub mod Reading
 pub mod IndirectTexts

@@ -4,8 +4,9 @@
 use Rattle.std.specs.Prelude.{ℕ, zero, suc, ◌-◌, Bool, true, false, not, ◌&&◌, ◌||◌, ◌==◌, nat_le, nat_lt, if◌then◌else◌, List, [], ◌∷◌, ◌++◌, length, drop, Option, Some, None}
 use Rattle.mspec.specs.Literal.{is_digit}
 use Rattle.mspec.specs.Names.{is_letter, is_name_start, is_name_rest, is_character}
-use Rattle.mgrammar.specs.Grammar.{SignTree, plus, minus, negate, TruthTree, equals, less, greater, contains, follows, sorts_after, both, either, BinaryTree, add, subtract, multiply, divide, divide_whole, remainder, join, is, is_not, CountTree, RepeatedTree, classes, copies, AtomTree, ExprTree, expr, StepTree, apply, matches, matches_not, steps_of, OperandTree, operand, PrimaryTree, number, text, special, reference, bracket, call, select, refer, ReferenceTree, local, global, naked, indirect, extended, ExprsTree, no_exprs, exprs_of, choices_of, TargetTree, variable, piece, DestinationTree, one, several, ParameterTree, once, onward, until, EntryTree, at_label, at_label_in, at_routine, ArgTree, assign, breaks, shown, kill_one, kill_others, new_one, new_others, tested, loop, do_one, go_to, executed, locked, indirect_args, LockKindTree, anew, adding, giving_back, LockedTree, lock_one, lock_several, CommandTree, SpacedTree, LineTree, KeywordTree, keyword_of, FormTree, assignment, removal, hiding, condition, repetition, output, entrance, leap, execution, locking, nothing, form_of, takes_args, takes_condition, SpecialTree, special_of, FunctionTree, function_of, takes, refers, is_pattern_letter}
-use Rattle.mgrammar.specs.FunctionForms.{is_select, is_piece, is_referring}
+use Rattle.mgrammar.specs.Grammar.{SignTree, plus, minus, negate, TruthTree, equals, less, greater, contains, follows, sorts_after, both, either, BinaryTree, add, subtract, multiply, divide, divide_whole, remainder, join, is, is_not, CountTree, RepeatedTree, classes, copies, AtomTree, ExprTree, expr, StepTree, apply, matches, matches_not, steps_of, OperandTree, operand, PrimaryTree, number, text, special, reference, bracket, call, select, refer, ReferenceTree, local, global, naked, indirect, extended, ExprsTree, no_exprs, exprs_of, choices_of, TargetTree, variable, piece, DestinationTree, one, several, ParameterTree, once, onward, until, EntryTree, at_label, at_label_in, at_routine, ArgTree, assign, breaks, shown, kill_one, kill_others, new_one, new_others, tested, loop, do_one, go_to, executed, locked, indirect_args, LockKindTree, anew, adding, giving_back, LockedTree, lock_one, lock_several, CommandTree, SpacedTree, LineTree, KeywordTree, FormTree, assignment, removal, hiding, condition, repetition, output, entrance, leap, execution, locking, nothing, SpecialTree, special_of, is_pattern_letter}
+use Rattle.mgrammar.specs.Commands.{keyword_of, form_of, takes_args, takes_condition}
+use Rattle.mgrammar.specs.Functions.{FunctionTree, of_values, of_variable, of_choices, function_of, takes, is_piece}
 use Rattle.mgrammar.specs.WellFormed.{bare_destination, is_named, bare_arg, settled, least_gap, max_depth}
 
 -- what was read, and the text after it
@@ -310,20 +311,23 @@ module _ (r : Readers) where
   unfoldable pub select_with : List ℕ → List ℕ → Read PrimaryTree
   select_with w cs = list_at choice_with cs >>= λ x. past 41 x.1 >>= λ rest. Some (select w (choices_of x.0), rest)
 
-  unfoldable pub call_with : FunctionTree → List ℕ → List ℕ → Read PrimaryTree
-  call_with f w cs =
+  -- so many values at least, and at most
+  unfoldable pub call_with : ℕ → Option ℕ → List ℕ → List ℕ → Read PrimaryTree
+  call_with least most w cs =
       list_at (r.inner) cs >>= λ x. past 41 x.1 >>= λ rest.
-      if takes f (length x.0) then Some (call w (exprs_of x.0), rest) else None
+      if takes least most (length x.0) then Some (call w (exprs_of x.0), rest) else None
 
-  unfoldable pub refer_with : FunctionTree → List ℕ → List ℕ → Read PrimaryTree
-  refer_with f w cs =
+  -- a variable, and so many values behind it at most
+  unfoldable pub refer_with : ℕ → List ℕ → List ℕ → Read PrimaryTree
+  refer_with most w cs =
       r.within cs >>= λ v. many (after_comma (r.inner)) (length v.1) v.1 >>= λ x. past 41 x.1 >>= λ rest.
-      if refers f (length x.0) then Some (refer w v.0 (exprs_of x.0), rest) else None
+      if nat_le (length x.0) most then Some (refer w v.0 (exprs_of x.0), rest) else None
 
   abbrev pub function_by : List ℕ → Option FunctionTree → List ℕ → Read PrimaryTree
   function_by w None cs = None
-  function_by w (Some f) cs =
-      if is_select f then select_with w cs else (if is_referring f then refer_with f w cs else call_with f w cs)
+  function_by w (Some (of_values f least most)) cs = call_with least most w cs
+  function_by w (Some (of_variable f most)) cs = refer_with most w cs
+  function_by w (Some of_choices) cs = select_with w cs
 
   abbrev pub special_by : List ℕ → Option SpecialTree → List ℕ → Read PrimaryTree
   special_by w None cs = None
@@ -392,15 +396,14 @@ module _ (r : Readers) where
       past 41 p.1 >>= λ end.
       Some (piece w v.0 e.0 p.0, end)
 
-  abbrev pub piece_by : List ℕ → Option FunctionTree → List ℕ → Read TargetTree
-  piece_by w None cs = None
-  piece_by w (Some f) cs = if is_piece f then piece_with w cs else None
+  abbrev pub piece_by : List ℕ → List ℕ → Read TargetTree
+  piece_by w cs = if is_piece w then piece_with w cs else None
 
   unfoldable pub target_with : List ℕ → Read TargetTree
   target_with [] = None
   target_with (c ∷ cs) =
       if c == 36
-      then (past 40 (after_run is_letter cs) >>= piece_by (run_of is_letter cs) (function_of (run_of is_letter cs)))
+      then (past 40 (after_run is_letter cs) >>= piece_by (run_of is_letter cs))
       else (reference_with r (c ∷ cs) >>= λ v. Some (variable v.0, v.1))
 
 unfoldable pub destination_at : List ℕ → Read DestinationTree

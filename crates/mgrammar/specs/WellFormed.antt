@@ -1,10 +1,12 @@
 -- SPDX-License-Identifier: Apache-2.0
 -- What makes a tree the tree of a text: the names, numbers and words that it may have, how many arguments, how deep brackets lie, and
 -- how many spaces stand between commands.
-use Rattle.std.specs.Prelude.{◌≡◌, ℕ, suc, ◌-◌, ◌<◌, ◌≤◌, Bool, true, false, List, [], ◌∷◌, length, Option, Some, None}
+use Rattle.std.specs.Prelude.{◌≡◌, ℕ, suc, ◌-◌, ◌<◌, ◌≤◌, Bool, true, false, nat_le, List, [], ◌∷◌, length, Option, Some, None}
 use Rattle.mspec.specs.Literal.{is_digit, Literal, IsLiteral, spell_literal}
 use Rattle.mspec.specs.Names.{is_letter, is_character, AllAre, IsName}
-use Rattle.mgrammar.specs.Grammar.{RepeatedTree, classes, copies, AtomTree, ExprTree, expr, StepsTree, no_steps, step, StepTree, apply, matches, matches_not, OperandTree, operand, PrimaryTree, number, text, special, reference, bracket, call, select, refer, ReferenceTree, local, global, naked, indirect, extended, ExprsTree, no_exprs, exprs, ChoicesTree, no_choices, choice, TargetTree, variable, piece, DestinationTree, one, several, ParameterTree, once, onward, until, EntryTree, at_label, at_label_in, at_routine, ArgTree, assign, breaks, shown, kill_one, kill_others, new_one, new_others, tested, loop, do_one, go_to, executed, locked, indirect_args, LockedTree, lock_one, lock_several, anew, adding, giving_back, KeywordTree, CommandTree, SpacedTree, LineTree, keyword_of, FormTree, assignment, removal, hiding, condition, repetition, output, entrance, leap, execution, locking, may_be_indirect, form_of, takes_args, takes_condition, SpecialTree, special_of, FunctionTree, select_function, piece_function, function_of, takes, refers, is_pattern_letter}
+use Rattle.mgrammar.specs.Grammar.{RepeatedTree, classes, copies, AtomTree, ExprTree, expr, StepsTree, no_steps, step, StepTree, apply, matches, matches_not, OperandTree, operand, PrimaryTree, number, text, special, reference, bracket, call, select, refer, ReferenceTree, local, global, naked, indirect, extended, ExprsTree, no_exprs, exprs, ChoicesTree, no_choices, choice, TargetTree, variable, piece, DestinationTree, one, several, ParameterTree, once, onward, until, EntryTree, at_label, at_label_in, at_routine, ArgTree, assign, breaks, shown, kill_one, kill_others, new_one, new_others, tested, loop, do_one, go_to, executed, locked, indirect_args, LockedTree, lock_one, lock_several, anew, adding, giving_back, KeywordTree, CommandTree, SpacedTree, LineTree, FormTree, assignment, removal, hiding, condition, repetition, output, entrance, leap, execution, locking, may_be_indirect, SpecialTree, special_of, is_pattern_letter}
+use Rattle.mgrammar.specs.Commands.{keyword_of, form_of, takes_args, takes_condition}
+use Rattle.mgrammar.specs.Functions.{ValueFunctionTree, VariableFunctionTree, of_values, of_variable, of_choices, function_of, takes, is_piece}
 
 -- `numlit`
 abbrev pub SpellsNumber : List ℕ → Type 0
@@ -38,13 +40,13 @@ abbrev pub exprs_count : ExprsTree → ℕ
 exprs_count no_exprs = 0
 exprs_count (exprs e rest) = suc (exprs_count rest)
 
--- a function that takes so many arguments
+-- a function that takes so many values
 abbrev pub IsCall : List ℕ → ℕ → Type 0
-IsCall word n = (f : FunctionTree) × (function_of word ≡ Some f) × (takes f n ≡ true)
+IsCall word n = (f : ValueFunctionTree) × (least : ℕ) × (most : Option ℕ) × (function_of word ≡ Some (of_values f least most)) × (takes least most n ≡ true)
 
--- a function of a variable that takes so many arguments behind it
+-- a function of a variable that takes so many values behind it
 abbrev pub IsReferring : List ℕ → ℕ → Type 0
-IsReferring word n = (f : FunctionTree) × (function_of word ≡ Some f) × (refers f n ≡ true)
+IsReferring word n = (f : VariableFunctionTree) × (most : ℕ) × (function_of word ≡ Some (of_variable f most)) × (nat_le n most ≡ true)
 
 abbrev pub IsSpecial : List ℕ → Type 0
 IsSpecial word = (v : SpecialTree) × (special_of word ≡ Some v)
@@ -57,8 +59,13 @@ abbrev pub HasExpr : ExprsTree → Type 0
 HasExpr no_exprs = ⊥
 HasExpr (exprs e rest) = Unit {0}
 
-abbrev pub IsFunction : FunctionTree → List ℕ → Type 0
-IsFunction f word = (function_of word ≡ Some f) × AllAre is_letter word
+-- the word of $SELECT
+abbrev pub IsSelect : List ℕ → Type 0
+IsSelect word = (function_of word ≡ Some of_choices) × AllAre is_letter word
+
+-- the word of $PIECE, as a target of SET
+abbrev pub IsPiece : List ℕ → Type 0
+IsPiece word = (is_piece word ≡ true) × AllAre is_letter word
 
 -- ---- `@` and its operand with nothing more
 
@@ -124,7 +131,7 @@ abbrev mutual
   WellPrimary d (reference r) = WellReference d r
   WellPrimary d (bracket e) = (0 < d) × WellExpr (d - 1) e
   WellPrimary d (call word args) = (0 < d) × AllAre is_letter word × IsCall word (exprs_count args) × WellExprs (d - 1) args
-  WellPrimary d (select word choices) = (0 < d) × IsFunction select_function word × HasChoice choices × WellChoices (d - 1) choices
+  WellPrimary d (select word choices) = (0 < d) × IsSelect word × HasChoice choices × WellChoices (d - 1) choices
   WellPrimary d (refer word r more) = (0 < d) × AllAre is_letter word × IsReferring word (exprs_count more) × WellReference (d - 1) r × WellExprs (d - 1) more
 
   pub WellReference : ℕ → ReferenceTree → Type 0
@@ -158,7 +165,7 @@ WellOptional d (Some e) = WellExpr d e
 abbrev pub WellTarget : ℕ → TargetTree → Type 0
 WellTarget d (variable r) = WellReference d r
 WellTarget d (piece word r delimiter place) =
-    IsFunction piece_function word × WellReference (d - 1) r × WellExpr (d - 1) delimiter × WellOptional (d - 1) place
+    IsPiece word × WellReference (d - 1) r × WellExpr (d - 1) delimiter × WellOptional (d - 1) place
 
 abbrev pub WellDestination : DestinationTree → Type 0
 WellDestination (one t) = WellTarget max_depth t

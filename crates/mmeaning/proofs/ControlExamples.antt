@@ -11,8 +11,11 @@ use Rattle.mspec.specs.Number.{round, round_size, nearest, rounding_unit, digits
 use Rattle.mspec.specs.NumberText.{numeric_value, literal_size, size_text}
 use Rattle.mspec.specs.Code.{M9, M15, Zover, Zsteps}
 use Rattle.mspec.specs.Act.{no_locals, level_begun, value_of, assigned_to}
-use Rattle.mgrammar.specs.Grammar.{add, divide, is, equals, number, text, special, reference, shown, tested, kill_one, new_one, until, once, onward, loop, set_word, kill_word, new_word, if_word, else_word, for_word, quit_word, write_word, keyword_of, special_of, function_of, LineTree}
+use Rattle.mgrammar.specs.Grammar.{add, divide, is, equals, number, text, special, reference, shown, tested, kill_one, new_one, until, once, onward, loop, set_word, kill_word, new_word, if_word, else_word, for_word, quit_word, write_word, special_of, LineTree}
+use Rattle.mgrammar.specs.Commands.{keyword_of}
+use Rattle.mgrammar.specs.Functions.{function_of}
 use Rattle.mgrammar.specs.Reading.{many, list_at, point_at, exponent_at, number_at, name_at, truth_at, operator_at, bracket_with, refer_with, dollar_with, subscripts_with, reference_with, primary_with, operand_with, step_by, step_with, expr_with, readers_at, target_with, destination_at, assignment_at, names_at, removal_at, hiding_at, condition_at, parameter_at, repetition_at, output_at, args_at, postcondition_at, command_at, spaced_at, comment_at, line_at}
+use Rattle.mgrammar.proofs.Computing.{reads}
 use Rattle.mmeaning.specs.Step.{Server, new_session}
 use Rattle.mmeaning.specs.History.{opening}
 use Rattle.mmeaning.proofs.ExampleAccount.{with_steps, done, failed}
@@ -25,7 +28,7 @@ each_turn_1_line =
     line ((command for_word 70 (loop (codes "I") (until (only (number (codes "1"))) (only (number (codes "1"))) (only (number (codes "3"))) ∷ []) ∷ []), 1) ∷ (command write_word 87 (shown (only (reference (named (codes "I")))) ∷ []), 0) ∷ [])
 
 each_turn_1_read : line_at (codes "F I=1:1:3 W I") ≡ Some each_turn_1_line
-unfolding keyword_of function_of many list_at point_at exponent_at number_at name_at operator_at truth_at bracket_with refer_with dollar_with special_of subscripts_with reference_with primary_with operand_with step_by step_with expr_with readers_at target_with destination_at assignment_at names_at removal_at hiding_at condition_at parameter_at repetition_at output_at args_at postcondition_at command_at spaced_at comment_at line_at
+unfolding reads
 each_turn_1_read = refl
 
 -- W I
@@ -34,7 +37,7 @@ index_shown_line =
     line ((command write_word 87 (shown (only (reference (named (codes "I")))) ∷ []), 0) ∷ [])
 
 index_shown_read : line_at (codes "W I") ≡ Some index_shown_line
-unfolding keyword_of function_of many list_at point_at exponent_at number_at name_at operator_at truth_at bracket_with refer_with dollar_with special_of subscripts_with reference_with primary_with operand_with step_by step_with expr_with readers_at target_with destination_at assignment_at names_at removal_at hiding_at condition_at parameter_at repetition_at output_at args_at postcondition_at command_at spaced_at comment_at line_at
+unfolding reads
 index_shown_read = refl
 
 -- a FOR sets its index at each turn, up to its limit, and leaves it
@@ -50,7 +53,7 @@ downwards_line =
     line ((command for_word 70 (loop (codes "I") (until (only (number (codes "3"))) (negative (number (codes "1"))) (only (number (codes "1"))) ∷ []) ∷ []), 1) ∷ (command write_word 87 (shown (only (reference (named (codes "I")))) ∷ []), 0) ∷ [])
 
 downwards_read : line_at (codes "F I=3:-1:1 W I") ≡ Some downwards_line
-unfolding keyword_of function_of many list_at point_at exponent_at number_at name_at operator_at truth_at bracket_with refer_with dollar_with special_of subscripts_with reference_with primary_with operand_with step_by step_with expr_with readers_at target_with destination_at assignment_at names_at removal_at hiding_at condition_at parameter_at repetition_at output_at args_at postcondition_at command_at spaced_at comment_at line_at
+unfolding reads
 downwards_read = refl
 
 -- down to its limit where the increment is below zero
@@ -64,7 +67,7 @@ limit_passed_1_line =
     line ((command for_word 70 (loop (codes "I") (until (only (number (codes "5"))) (only (number (codes "1"))) (only (number (codes "3"))) ∷ []) ∷ []), 1) ∷ (command write_word 87 (shown (only (text (codes "x"))) ∷ []), 0) ∷ [])
 
 limit_passed_1_read : line_at (codes "F I=5:1:3 W \"x\"") ≡ Some limit_passed_1_line
-unfolding keyword_of function_of many list_at point_at exponent_at number_at name_at operator_at truth_at bracket_with refer_with dollar_with special_of subscripts_with reference_with primary_with operand_with step_by step_with expr_with readers_at target_with destination_at assignment_at names_at removal_at hiding_at condition_at parameter_at repetition_at output_at args_at postcondition_at command_at spaced_at comment_at line_at
+unfolding reads
 limit_passed_1_read = refl
 
 -- without a turn, where its start is past the limit
@@ -80,7 +83,7 @@ parameters_line =
     line ((command for_word 70 (loop (codes "I") (once (only (text (codes "a"))) ∷ until (only (number (codes "3"))) (only (number (codes "2"))) (only (number (codes "8"))) ∷ once (only (number (codes "9"))) ∷ []) ∷ []), 1) ∷ (command write_word 87 (shown (only (reference (named (codes "I")))) ∷ []), 0) ∷ [])
 
 parameters_read : line_at (codes "F I=\"a\",3:2:8,9 W I") ≡ Some parameters_line
-unfolding keyword_of function_of many list_at point_at exponent_at number_at name_at operator_at truth_at bracket_with refer_with dollar_with special_of subscripts_with reference_with primary_with operand_with step_by step_with expr_with readers_at target_with destination_at assignment_at names_at removal_at hiding_at condition_at parameter_at repetition_at output_at args_at postcondition_at command_at spaced_at comment_at line_at
+unfolding reads
 parameters_read = refl
 
 -- parameters one after another, texts among them
@@ -94,7 +97,7 @@ parameter_reached_line =
     line ((command for_word 70 (loop (codes "I") (until (only (number (codes "1"))) (only (number (codes "1"))) (only (number (codes "2"))) ∷ once (with_operator (reference (named (codes "I"))) add (number (codes "5"))) ∷ []) ∷ []), 1) ∷ (command write_word 87 (shown (only (reference (named (codes "I")))) ∷ []), 0) ∷ [])
 
 parameter_reached_read : line_at (codes "F I=1:1:2,I+5 W I") ≡ Some parameter_reached_line
-unfolding keyword_of function_of many list_at point_at exponent_at number_at name_at operator_at truth_at bracket_with refer_with dollar_with special_of subscripts_with reference_with primary_with operand_with step_by step_with expr_with readers_at target_with destination_at assignment_at names_at removal_at hiding_at condition_at parameter_at repetition_at output_at args_at postcondition_at command_at spaced_at comment_at line_at
+unfolding reads
 parameter_reached_read = refl
 
 -- each parameter is evaluated where it is reached
@@ -108,7 +111,7 @@ parameter_fails_line =
     line ((command for_word 70 (loop (codes "I") (once (only (number (codes "1"))) ∷ once (with_operator (number (codes "1")) divide (number (codes "0"))) ∷ []) ∷ []), 1) ∷ (command write_word 87 (shown (only (reference (named (codes "I")))) ∷ []), 0) ∷ [])
 
 parameter_fails_read : line_at (codes "F I=1,1/0 W I") ≡ Some parameter_fails_line
-unfolding keyword_of function_of many list_at point_at exponent_at number_at name_at operator_at truth_at bracket_with refer_with dollar_with special_of subscripts_with reference_with primary_with operand_with step_by step_with expr_with readers_at target_with destination_at assignment_at names_at removal_at hiding_at condition_at parameter_at repetition_at output_at args_at postcondition_at command_at spaced_at comment_at line_at
+unfolding reads
 parameter_fails_read = refl
 
 -- so an error in one comes behind the turns of those before it
@@ -122,7 +125,7 @@ start_is_number_1_line =
     line ((command for_word 70 (loop (codes "I") (until (only (text (codes "3X"))) (only (number (codes "1"))) (only (number (codes "1"))) ∷ []) ∷ []), 1) ∷ (command write_word 87 (shown (only (number (codes "1"))) ∷ []), 0) ∷ [])
 
 start_is_number_1_read : line_at (codes "F I=\"3X\":1:1 W 1") ≡ Some start_is_number_1_line
-unfolding keyword_of function_of many list_at point_at exponent_at number_at name_at operator_at truth_at bracket_with refer_with dollar_with special_of subscripts_with reference_with primary_with operand_with step_by step_with expr_with readers_at target_with destination_at assignment_at names_at removal_at hiding_at condition_at parameter_at repetition_at output_at args_at postcondition_at command_at spaced_at comment_at line_at
+unfolding reads
 start_is_number_1_read = refl
 
 -- a start before an increment becomes a number
@@ -138,7 +141,7 @@ start_is_text_line =
     line ((command for_word 70 (loop (codes "I") (once (only (text (codes "3X"))) ∷ []) ∷ []), 1) ∷ (command write_word 87 (shown (only (reference (named (codes "I")))) ∷ []), 0) ∷ [])
 
 start_is_text_read : line_at (codes "F I=\"3X\" W I") ≡ Some start_is_text_line
-unfolding keyword_of function_of many list_at point_at exponent_at number_at name_at operator_at truth_at bracket_with refer_with dollar_with special_of subscripts_with reference_with primary_with operand_with step_by step_with expr_with readers_at target_with destination_at assignment_at names_at removal_at hiding_at condition_at parameter_at repetition_at output_at args_at postcondition_at command_at spaced_at comment_at line_at
+unfolding reads
 start_is_text_read = refl
 
 -- and one alone stays a text
@@ -152,7 +155,7 @@ start_before_increment_line =
     line ((command for_word 70 (loop (codes "I") (until (only (text (codes "1E30"))) (with_operator (number (codes "1")) divide (number (codes "0"))) (only (number (codes "1"))) ∷ []) ∷ []), 0) ∷ [])
 
 start_before_increment_read : line_at (codes "F I=\"1E30\":1/0:1") ≡ Some start_before_increment_line
-unfolding keyword_of function_of many list_at point_at exponent_at number_at name_at operator_at truth_at bracket_with refer_with dollar_with special_of subscripts_with reference_with primary_with operand_with step_by step_with expr_with readers_at target_with destination_at assignment_at names_at removal_at hiding_at condition_at parameter_at repetition_at output_at args_at postcondition_at command_at spaced_at comment_at line_at
+unfolding reads
 start_before_increment_read = refl
 
 -- the start is a number before the increment is evaluated
@@ -166,7 +169,7 @@ index_as_it_stands_line =
     line ((command for_word 70 (loop (codes "I") (until (only (number (codes "1"))) (only (number (codes "1"))) (only (number (codes "5"))) ∷ []) ∷ []), 1) ∷ (command write_word 87 (shown (only (reference (named (codes "I")))) ∷ []), 1) ∷ (command set_word 83 (set_to (named (codes "I")) (with_operator (reference (named (codes "I"))) add (number (codes "1"))) ∷ []), 0) ∷ [])
 
 index_as_it_stands_read : line_at (codes "F I=1:1:5 W I S I=I+1") ≡ Some index_as_it_stands_line
-unfolding keyword_of function_of many list_at point_at exponent_at number_at name_at operator_at truth_at bracket_with refer_with dollar_with special_of subscripts_with reference_with primary_with operand_with step_by step_with expr_with readers_at target_with destination_at assignment_at names_at removal_at hiding_at condition_at parameter_at repetition_at output_at args_at postcondition_at command_at spaced_at comment_at line_at
+unfolding reads
 index_as_it_stands_read = refl
 
 -- the index grows from what it is behind the turn
@@ -188,7 +191,7 @@ exact_limit_line =
     line ((command for_word 70 (loop (codes "I") (until (only (number (codes "999999999999999999"))) (only (number (codes ".1"))) (only (number (codes "999999999999999999"))) ∷ []) ∷ []), 1) ∷ (command write_word 87 (shown (only (number (codes "1"))) ∷ []), 0) ∷ [])
 
 exact_limit_read : line_at (codes "F I=999999999999999999:.1:999999999999999999 W 1") ≡ Some exact_limit_line
-unfolding keyword_of function_of many list_at point_at exponent_at number_at name_at operator_at truth_at bracket_with refer_with dollar_with special_of subscripts_with reference_with primary_with operand_with step_by step_with expr_with readers_at target_with destination_at assignment_at names_at removal_at hiding_at condition_at parameter_at repetition_at output_at args_at postcondition_at command_at spaced_at comment_at line_at
+unfolding reads
 exact_limit_read = refl
 
 -- the limit is compared with the exact sum, not with the rounded one
@@ -206,7 +209,7 @@ sum_too_large_line =
     line ((command for_word 70 (loop (codes "I") (onward (only (number (codes "9E17"))) (only (number (codes "9E17"))) ∷ []) ∷ []), 1) ∷ (command write_word 87 (shown (only (number (codes "1"))) ∷ []), 0) ∷ [])
 
 sum_too_large_read : line_at (codes "F I=9E17:9E17 W 1") ≡ Some sum_too_large_line
-unfolding keyword_of function_of many list_at point_at exponent_at number_at name_at operator_at truth_at bracket_with refer_with dollar_with special_of subscripts_with reference_with primary_with operand_with step_by step_with expr_with readers_at target_with destination_at assignment_at names_at removal_at hiding_at condition_at parameter_at repetition_at output_at args_at postcondition_at command_at spaced_at comment_at line_at
+unfolding reads
 sum_too_large_read = refl
 
 -- a sum that is too large is an error where no limit ends the FOR before
@@ -224,7 +227,7 @@ sum_past_limit_line =
     line ((command for_word 70 (loop (codes "I") (until (only (number (codes "9E17"))) (only (number (codes "9E17"))) (only (number (codes "9E17"))) ∷ []) ∷ []), 1) ∷ (command write_word 87 (shown (only (number (codes "1"))) ∷ []), 0) ∷ [])
 
 sum_past_limit_read : line_at (codes "F I=9E17:9E17:9E17 W 1") ≡ Some sum_past_limit_line
-unfolding keyword_of function_of many list_at point_at exponent_at number_at name_at operator_at truth_at bracket_with refer_with dollar_with special_of subscripts_with reference_with primary_with operand_with step_by step_with expr_with readers_at target_with destination_at assignment_at names_at removal_at hiding_at condition_at parameter_at repetition_at output_at args_at postcondition_at command_at spaced_at comment_at line_at
+unfolding reads
 sum_past_limit_read = refl
 
 -- and none where one does
@@ -238,7 +241,7 @@ nested_line =
     line ((command for_word 70 (loop (codes "I") (until (only (number (codes "1"))) (only (number (codes "1"))) (only (number (codes "2"))) ∷ []) ∷ []), 1) ∷ (command for_word 70 (loop (codes "J") (onward (only (number (codes "1"))) (only (number (codes "1"))) ∷ []) ∷ []), 1) ∷ (command_if quit_word 81 (with_operator (reference (named (codes "J"))) (is equals) (number (codes "3"))) [], 2) ∷ (command write_word 87 (shown (only (reference (named (codes "J")))) ∷ []), 0) ∷ [])
 
 nested_read : line_at (codes "F I=1:1:2 F J=1:1 Q:J=3  W J") ≡ Some nested_line
-unfolding keyword_of function_of many list_at point_at exponent_at number_at name_at operator_at truth_at bracket_with refer_with dollar_with special_of subscripts_with reference_with primary_with operand_with step_by step_with expr_with readers_at target_with destination_at assignment_at names_at removal_at hiding_at condition_at parameter_at repetition_at output_at args_at postcondition_at command_at spaced_at comment_at line_at
+unfolding reads
 nested_read = refl
 
 -- a FOR in a FOR: QUIT ends the inner one
@@ -252,7 +255,7 @@ quit_ends_for_line =
     line ((command for_word 70 (loop (codes "I") (once (only (number (codes "1"))) ∷ once (only (number (codes "2"))) ∷ once (only (number (codes "3"))) ∷ []) ∷ []), 1) ∷ (command_if quit_word 81 (with_operator (reference (named (codes "I"))) (is equals) (number (codes "2"))) [], 2) ∷ (command write_word 87 (shown (only (reference (named (codes "I")))) ∷ []), 0) ∷ [])
 
 quit_ends_for_read : line_at (codes "F I=1,2,3 Q:I=2  W I") ≡ Some quit_ends_for_line
-unfolding keyword_of function_of many list_at point_at exponent_at number_at name_at operator_at truth_at bracket_with refer_with dollar_with special_of subscripts_with reference_with primary_with operand_with step_by step_with expr_with readers_at target_with destination_at assignment_at names_at removal_at hiding_at condition_at parameter_at repetition_at output_at args_at postcondition_at command_at spaced_at comment_at line_at
+unfolding reads
 quit_ends_for_read = refl
 
 -- QUIT ends the FOR with all its parameters
@@ -266,7 +269,7 @@ if_ends_turn_line =
     line ((command for_word 70 (loop (codes "I") (until (only (number (codes "1"))) (only (number (codes "1"))) (only (number (codes "3"))) ∷ []) ∷ []), 1) ∷ (command write_word 87 (shown (only (reference (named (codes "I")))) ∷ []), 1) ∷ (command if_word 73 (tested (with_operator (reference (named (codes "I"))) (is equals) (number (codes "2"))) ∷ []), 1) ∷ (command write_word 87 (shown (only (text (codes "x"))) ∷ []), 0) ∷ [])
 
 if_ends_turn_read : line_at (codes "F I=1:1:3 W I I I=2 W \"x\"") ≡ Some if_ends_turn_line
-unfolding keyword_of function_of many list_at point_at exponent_at number_at name_at operator_at truth_at bracket_with refer_with dollar_with special_of subscripts_with reference_with primary_with operand_with step_by step_with expr_with readers_at target_with destination_at assignment_at names_at removal_at hiding_at condition_at parameter_at repetition_at output_at args_at postcondition_at command_at spaced_at comment_at line_at
+unfolding reads
 if_ends_turn_read = refl
 
 -- an IF that is false ends the turn, and not the FOR
@@ -280,7 +283,7 @@ without_index_1_line =
     line ((command set_word 83 (set_to (named (codes "A")) (only (number (codes "1"))) ∷ []), 1) ∷ (command for_word 70 [], 2) ∷ (command set_word 83 (set_to (named (codes "A")) (with_operator (reference (named (codes "A"))) add (number (codes "1"))) ∷ []), 1) ∷ (command_if quit_word 81 (with_operator (reference (named (codes "A"))) (is equals) (number (codes "3"))) [], 0) ∷ [])
 
 without_index_1_read : line_at (codes "S A=1 F  S A=A+1 Q:A=3") ≡ Some without_index_1_line
-unfolding keyword_of function_of many list_at point_at exponent_at number_at name_at operator_at truth_at bracket_with refer_with dollar_with special_of subscripts_with reference_with primary_with operand_with step_by step_with expr_with readers_at target_with destination_at assignment_at names_at removal_at hiding_at condition_at parameter_at repetition_at output_at args_at postcondition_at command_at spaced_at comment_at line_at
+unfolding reads
 without_index_1_read = refl
 
 -- W A
@@ -289,7 +292,7 @@ a_shown_line =
     line ((command write_word 87 (shown (only (reference (named (codes "A")))) ∷ []), 0) ∷ [])
 
 a_shown_read : line_at (codes "W A") ≡ Some a_shown_line
-unfolding keyword_of function_of many list_at point_at exponent_at number_at name_at operator_at truth_at bracket_with refer_with dollar_with special_of subscripts_with reference_with primary_with operand_with step_by step_with expr_with readers_at target_with destination_at assignment_at names_at removal_at hiding_at condition_at parameter_at repetition_at output_at args_at postcondition_at command_at spaced_at comment_at line_at
+unfolding reads
 a_shown_read = refl
 
 -- a FOR without an index turns until QUIT
@@ -305,7 +308,7 @@ index_killed_line =
     line ((command for_word 70 (loop (codes "I") (until (only (number (codes "1"))) (only (number (codes "1"))) (only (number (codes "1"))) ∷ []) ∷ []), 1) ∷ (command kill_word 75 (kill_one (named (codes "I")) ∷ []), 0) ∷ [])
 
 index_killed_read : line_at (codes "F I=1:1:1 K I") ≡ Some index_killed_line
-unfolding keyword_of function_of many list_at point_at exponent_at number_at name_at operator_at truth_at bracket_with refer_with dollar_with special_of subscripts_with reference_with primary_with operand_with step_by step_with expr_with readers_at target_with destination_at assignment_at names_at removal_at hiding_at condition_at parameter_at repetition_at output_at args_at postcondition_at command_at spaced_at comment_at line_at
+unfolding reads
 index_killed_read = refl
 
 -- an index that is undefined where it is to grow is an error, also where no turn could come
@@ -319,7 +322,7 @@ index_not_read_line =
     line ((command for_word 70 (loop (codes "I") (once (only (number (codes "1"))) ∷ once (only (number (codes "2"))) ∷ []) ∷ []), 1) ∷ (command kill_word 75 (kill_one (named (codes "I")) ∷ []), 0) ∷ [])
 
 index_not_read_read : line_at (codes "F I=1,2 K I") ≡ Some index_not_read_line
-unfolding keyword_of function_of many list_at point_at exponent_at number_at name_at operator_at truth_at bracket_with refer_with dollar_with special_of subscripts_with reference_with primary_with operand_with step_by step_with expr_with readers_at target_with destination_at assignment_at names_at removal_at hiding_at condition_at parameter_at repetition_at output_at args_at postcondition_at command_at spaced_at comment_at line_at
+unfolding reads
 index_not_read_read = refl
 
 -- a text as parameter reads no index
@@ -333,7 +336,7 @@ index_hidden_line =
     line ((command for_word 70 (loop (codes "I") (until (only (number (codes "1"))) (only (number (codes "1"))) (only (number (codes "3"))) ∷ []) ∷ []), 1) ∷ (command new_word 78 (new_one (codes "I") ∷ []), 0) ∷ [])
 
 index_hidden_read : line_at (codes "F I=1:1:3 N I") ≡ Some index_hidden_line
-unfolding keyword_of function_of many list_at point_at exponent_at number_at name_at operator_at truth_at bracket_with refer_with dollar_with special_of subscripts_with reference_with primary_with operand_with step_by step_with expr_with readers_at target_with destination_at assignment_at names_at removal_at hiding_at condition_at parameter_at repetition_at output_at args_at postcondition_at command_at spaced_at comment_at line_at
+unfolding reads
 index_hidden_read = refl
 
 -- an index that NEW hid is undefined
@@ -351,7 +354,7 @@ steps_used_up_1_line =
     line ((command for_word 70 (loop (codes "I") (onward (only (number (codes "1"))) (only (number (codes "1"))) ∷ []) ∷ []), 1) ∷ (command set_word 83 (set_to (named (codes "N")) (only (reference (named (codes "I")))) ∷ []), 0) ∷ [])
 
 steps_used_up_1_read : line_at (codes "F I=1:1 S N=I") ≡ Some steps_used_up_1_line
-unfolding keyword_of function_of many list_at point_at exponent_at number_at name_at operator_at truth_at bracket_with refer_with dollar_with special_of subscripts_with reference_with primary_with operand_with step_by step_with expr_with readers_at target_with destination_at assignment_at names_at removal_at hiding_at condition_at parameter_at repetition_at output_at args_at postcondition_at command_at spaced_at comment_at line_at
+unfolding reads
 steps_used_up_1_read = refl
 
 -- W I,N
@@ -360,7 +363,7 @@ steps_used_up_2_line =
     line ((command write_word 87 (shown (only (reference (named (codes "I")))) ∷ shown (only (reference (named (codes "N")))) ∷ []), 0) ∷ [])
 
 steps_used_up_2_read : line_at (codes "W I,N") ≡ Some steps_used_up_2_line
-unfolding keyword_of function_of many list_at point_at exponent_at number_at name_at operator_at truth_at bracket_with refer_with dollar_with special_of subscripts_with reference_with primary_with operand_with step_by step_with expr_with readers_at target_with destination_at assignment_at names_at removal_at hiding_at condition_at parameter_at repetition_at output_at args_at postcondition_at command_at spaced_at comment_at line_at
+unfolding reads
 steps_used_up_2_read = refl
 
 -- Three steps for the FOR and its numbers, and three for each turn: the fourth turn has its index, and no step.
@@ -376,7 +379,7 @@ else_after_if_1_line =
     line ((command if_word 73 (tested (only (number (codes "0"))) ∷ []), 1) ∷ (command write_word 87 (shown (only (text (codes "a"))) ∷ []), 0) ∷ [])
 
 else_after_if_1_read : line_at (codes "I 0 W \"a\"") ≡ Some else_after_if_1_line
-unfolding keyword_of function_of many list_at point_at exponent_at number_at name_at operator_at truth_at bracket_with refer_with dollar_with special_of subscripts_with reference_with primary_with operand_with step_by step_with expr_with readers_at target_with destination_at assignment_at names_at removal_at hiding_at condition_at parameter_at repetition_at output_at args_at postcondition_at command_at spaced_at comment_at line_at
+unfolding reads
 else_after_if_1_read = refl
 
 -- E  W "b",$T
@@ -385,7 +388,7 @@ else_after_if_2_line =
     line ((command else_word 69 [], 2) ∷ (command write_word 87 (shown (only (text (codes "b"))) ∷ shown (only (special (codes "T"))) ∷ []), 0) ∷ [])
 
 else_after_if_2_read : line_at (codes "E  W \"b\",$T") ≡ Some else_after_if_2_line
-unfolding keyword_of function_of many list_at point_at exponent_at number_at name_at operator_at truth_at bracket_with refer_with dollar_with special_of subscripts_with reference_with primary_with operand_with step_by step_with expr_with readers_at target_with destination_at assignment_at names_at removal_at hiding_at condition_at parameter_at repetition_at output_at args_at postcondition_at command_at spaced_at comment_at line_at
+unfolding reads
 else_after_if_2_read = refl
 
 -- $TEST lasts from line to line
@@ -401,7 +404,7 @@ else_passed_over_1_line =
     line ((command if_word 73 (tested (only (number (codes "1"))) ∷ []), 1) ∷ (command write_word 87 (shown (only (text (codes "a"))) ∷ []), 0) ∷ [])
 
 else_passed_over_1_read : line_at (codes "I 1 W \"a\"") ≡ Some else_passed_over_1_line
-unfolding keyword_of function_of many list_at point_at exponent_at number_at name_at operator_at truth_at bracket_with refer_with dollar_with special_of subscripts_with reference_with primary_with operand_with step_by step_with expr_with readers_at target_with destination_at assignment_at names_at removal_at hiding_at condition_at parameter_at repetition_at output_at args_at postcondition_at command_at spaced_at comment_at line_at
+unfolding reads
 else_passed_over_1_read = refl
 
 -- E  W "b"
@@ -410,7 +413,7 @@ else_passed_over_2_line =
     line ((command else_word 69 [], 2) ∷ (command write_word 87 (shown (only (text (codes "b"))) ∷ []), 0) ∷ [])
 
 else_passed_over_2_read : line_at (codes "E  W \"b\"") ≡ Some else_passed_over_2_line
-unfolding keyword_of function_of many list_at point_at exponent_at number_at name_at operator_at truth_at bracket_with refer_with dollar_with special_of subscripts_with reference_with primary_with operand_with step_by step_with expr_with readers_at target_with destination_at assignment_at names_at removal_at hiding_at condition_at parameter_at repetition_at output_at args_at postcondition_at command_at spaced_at comment_at line_at
+unfolding reads
 else_passed_over_2_read = refl
 
 -- ELSE passes the rest of the line over where $TEST is 1
@@ -426,7 +429,7 @@ each_sets_test_1_line =
     line ((command if_word 73 (tested (only (number (codes "1"))) ∷ tested (only (number (codes "0"))) ∷ []), 1) ∷ (command write_word 87 (shown (only (number (codes "5"))) ∷ []), 0) ∷ [])
 
 each_sets_test_1_read : line_at (codes "I 1,0 W 5") ≡ Some each_sets_test_1_line
-unfolding keyword_of function_of many list_at point_at exponent_at number_at name_at operator_at truth_at bracket_with refer_with dollar_with special_of subscripts_with reference_with primary_with operand_with step_by step_with expr_with readers_at target_with destination_at assignment_at names_at removal_at hiding_at condition_at parameter_at repetition_at output_at args_at postcondition_at command_at spaced_at comment_at line_at
+unfolding reads
 each_sets_test_1_read = refl
 
 -- W $T
@@ -435,7 +438,7 @@ each_sets_test_2_line =
     line ((command write_word 87 (shown (only (special (codes "T"))) ∷ []), 0) ∷ [])
 
 each_sets_test_2_read : line_at (codes "W $T") ≡ Some each_sets_test_2_line
-unfolding keyword_of function_of many list_at point_at exponent_at number_at name_at operator_at truth_at bracket_with refer_with dollar_with special_of subscripts_with reference_with primary_with operand_with step_by step_with expr_with readers_at target_with destination_at assignment_at names_at removal_at hiding_at condition_at parameter_at repetition_at output_at args_at postcondition_at command_at spaced_at comment_at line_at
+unfolding reads
 each_sets_test_2_read = refl
 
 -- IF goes on while its arguments are true, and each sets $TEST
@@ -451,7 +454,7 @@ condition_false_line =
     line ((command_if set_word 83 (only (number (codes "0"))) (set_to (named (codes "A")) (with_operator (number (codes "1")) divide (number (codes "0"))) ∷ []), 1) ∷ (command write_word 87 (shown (only (number (codes "1"))) ∷ []), 0) ∷ [])
 
 condition_false_read : line_at (codes "S:0 A=1/0 W 1") ≡ Some condition_false_line
-unfolding keyword_of function_of many list_at point_at exponent_at number_at name_at operator_at truth_at bracket_with refer_with dollar_with special_of subscripts_with reference_with primary_with operand_with step_by step_with expr_with readers_at target_with destination_at assignment_at names_at removal_at hiding_at condition_at parameter_at repetition_at output_at args_at postcondition_at command_at spaced_at comment_at line_at
+unfolding reads
 condition_false_read = refl
 
 -- of a command whose condition is false nothing is evaluated
@@ -465,7 +468,7 @@ quit_ends_line_line =
     line ((command write_word 87 (shown (only (number (codes "1"))) ∷ []), 1) ∷ (command quit_word 81 [], 2) ∷ (command write_word 87 (shown (only (number (codes "2"))) ∷ []), 0) ∷ [])
 
 quit_ends_line_read : line_at (codes "W 1 Q  W 2") ≡ Some quit_ends_line_line
-unfolding keyword_of function_of many list_at point_at exponent_at number_at name_at operator_at truth_at bracket_with refer_with dollar_with special_of subscripts_with reference_with primary_with operand_with step_by step_with expr_with readers_at target_with destination_at assignment_at names_at removal_at hiding_at condition_at parameter_at repetition_at output_at args_at postcondition_at command_at spaced_at comment_at line_at
+unfolding reads
 quit_ends_line_read = refl
 
 -- QUIT ends the line where there is no FOR

@@ -9,7 +9,8 @@ use Rattle.mspec.specs.NumberText.{numeric_value, literal_size, size_text}
 use Rattle.mspec.specs.Code.{M9, Zarg, Zgrant, Zsub}
 use Rattle.mspec.specs.Plan.{Ops, perform}
 use Rattle.mspec.specs.Act.{Text, Node, Locals, State, Gives, Fails}
-use Rattle.mgrammar.specs.Grammar.{ExprTree, divide, number, text, reference, refer, ReferenceTree, naked, extended, ExprsTree, exprs, no_exprs, variable, one, function_of}
+use Rattle.mgrammar.specs.Grammar.{ExprTree, divide, number, text, reference, refer, ReferenceTree, naked, extended, ExprsTree, exprs, no_exprs, variable, one}
+use Rattle.mgrammar.specs.Functions.{function_of}
 use Rattle.mmeaning.specs.Expression.{Inside, inside, value}
 use Rattle.mmeaning.specs.LineMeaning.{setting}
 use Rattle.mmeaning.specs.World.{World, act}

@@ -15,8 +15,11 @@ use Rattle.std.specs.Fmt.{digits}
 use Rattle.mspec.specs.Globals.{Globals, is_node_within, status}
 use Rattle.mspec.specs.Plan.{Op, Answer, Plan, Done, Ask, Ops, perform}
 use Rattle.mspec.specs.Act.{Outcome, Fails, State, no_locals, level_begun, value_of, assigned_to}
-use Rattle.mgrammar.specs.Grammar.{LineTree, keyword_of, special_of, function_of}
+use Rattle.mgrammar.specs.Grammar.{LineTree, special_of}
+use Rattle.mgrammar.specs.Commands.{keyword_of}
+use Rattle.mgrammar.specs.Functions.{function_of}
 use Rattle.mgrammar.specs.Reading.{many, list_at, point_at, exponent_at, number_at, name_at, truth_at, operator_at, bracket_with, refer_with, dollar_with, subscripts_with, reference_with, primary_with, operand_with, step_by, step_with, expr_with, readers_at, target_with, destination_at, assignment_at, names_at, removal_at, hiding_at, condition_at, parameter_at, repetition_at, output_at, args_at, postcondition_at, command_at, spaced_at, comment_at, line_at}
+use Rattle.mgrammar.proofs.Computing.{reads}
 use Rattle.mmeaning.specs.LineMeaning.{Signal}
 use Rattle.mmeaning.specs.World.{World, act}
 use Rattle.mmeaning.specs.Step.{Reply, Server, Session, normal, kept, ended, new_session, begun, is_too_long, is_ascii}
@@ -83,20 +86,23 @@ at name xs = record { account = codes "ALICE"; name = name; subscripts = xs }
 
 -- what is read is what was set
 read_back : (g : Globals) → AreAnswered account (opening g) (codes "S ^A(\"x\")=\"y\" W ^A(\"x\")" ∷ []) (done (codes "y") ∷ [])
-unfolding shut keyword_of function_of many list_at point_at exponent_at number_at name_at operator_at truth_at bracket_with refer_with dollar_with special_of subscripts_with reference_with primary_with operand_with step_by step_with expr_with readers_at target_with destination_at assignment_at names_at removal_at hiding_at condition_at parameter_at repetition_at output_at args_at postcondition_at command_at spaced_at comment_at line_at canonical_value no_locals level_begun value_of assigned_to numeric_value literal_size round round_size nearest rounding_unit digits_before size_text digits
+unfolding reads shut canonical_value no_locals level_begun value_of assigned_to numeric_value literal_size round round_size nearest
+    rounding_unit digits_before size_text digits
 read_back g =
     answers _ refl refl refl
     (asked true refl (asked tt refl (asked true refl (asked (Some (codes "y")) (same (node_put g (at (codes "A") (codes "x" ∷ [])) (codes "y") (at (codes "A") (codes "x" ∷ [])))) finished))))
 
 -- a global that has no text
 undefined_global : AreAnswered account (opening empty) (codes "W ^A" ∷ []) (failed [] M7 ∷ [])
-unfolding shut keyword_of function_of many list_at point_at exponent_at number_at name_at operator_at truth_at bracket_with refer_with dollar_with special_of subscripts_with reference_with primary_with operand_with step_by step_with expr_with readers_at target_with destination_at assignment_at names_at removal_at hiding_at condition_at parameter_at repetition_at output_at args_at postcondition_at command_at spaced_at comment_at line_at canonical_value no_locals level_begun value_of assigned_to numeric_value literal_size round round_size nearest rounding_unit digits_before size_text digits
+unfolding reads shut canonical_value no_locals level_begun value_of assigned_to numeric_value literal_size round round_size nearest
+    rounding_unit digits_before size_text digits
 undefined_global = answers _ refl refl refl (asked true refl (asked None (same (node_none (at (codes "A") []))) finished))
 
 -- a naked reference stands beside the node that was referred to last, whose last subscript it replaces
 beside_the_last : (g : Globals)
     → AreAnswered account (opening g) (codes "S ^A(\"x\",\"y\")=\"1\",^(\"z\",\"u\")=\"2\" W ^A(\"x\",\"z\",\"u\")" ∷ []) (done (codes "2") ∷ [])
-unfolding shut keyword_of function_of many list_at point_at exponent_at number_at name_at operator_at truth_at bracket_with refer_with dollar_with special_of subscripts_with reference_with primary_with operand_with step_by step_with expr_with readers_at target_with destination_at assignment_at names_at removal_at hiding_at condition_at parameter_at repetition_at output_at args_at postcondition_at command_at spaced_at comment_at line_at canonical_value no_locals level_begun value_of assigned_to numeric_value literal_size round round_size nearest rounding_unit digits_before size_text digits
+unfolding reads shut canonical_value no_locals level_begun value_of assigned_to numeric_value literal_size round round_size nearest
+    rounding_unit digits_before size_text digits
 beside_the_last g =
     answers _ refl refl refl
     (asked true refl (asked tt refl (asked true refl (asked tt refl (asked true refl
@@ -104,21 +110,25 @@ beside_the_last g =
 
 -- and needs one with a subscript
 no_last_reference : (g : Globals) → AreAnswered account (opening g) (codes "W ^(\"x\")" ∷ []) (failed [] M1 ∷ [])
-unfolding shut keyword_of function_of many list_at point_at exponent_at number_at name_at operator_at truth_at bracket_with refer_with dollar_with special_of subscripts_with reference_with primary_with operand_with step_by step_with expr_with readers_at target_with destination_at assignment_at names_at removal_at hiding_at condition_at parameter_at repetition_at output_at args_at postcondition_at command_at spaced_at comment_at line_at canonical_value no_locals level_begun value_of assigned_to numeric_value literal_size round round_size nearest rounding_unit digits_before size_text digits
+unfolding reads shut canonical_value no_locals level_begun value_of assigned_to numeric_value literal_size round round_size nearest
+    rounding_unit digits_before size_text digits
 no_last_reference g = answers _ refl refl refl finished
 
 no_last_subscript : (g : Globals) → AreAnswered account (opening g) (codes "S ^A=\"1\",^(\"x\")=\"2\"" ∷ []) (failed [] M1 ∷ [])
-unfolding shut keyword_of function_of many list_at point_at exponent_at number_at name_at operator_at truth_at bracket_with refer_with dollar_with special_of subscripts_with reference_with primary_with operand_with step_by step_with expr_with readers_at target_with destination_at assignment_at names_at removal_at hiding_at condition_at parameter_at repetition_at output_at args_at postcondition_at command_at spaced_at comment_at line_at canonical_value no_locals level_begun value_of assigned_to numeric_value literal_size round round_size nearest rounding_unit digits_before size_text digits
+unfolding reads shut canonical_value no_locals level_begun value_of assigned_to numeric_value literal_size round round_size nearest
+    rounding_unit digits_before size_text digits
 no_last_subscript g = answers _ refl refl refl (asked true refl (asked tt refl finished))
 
 -- a refused subscript: the account was asked for first
 refused_subscript : (g : Globals) → AreAnswered account (opening g) (codes "S ^A(\"\")=\"1\"" ∷ []) (failed [] Zsub ∷ [])
-unfolding shut keyword_of function_of many list_at point_at exponent_at number_at name_at operator_at truth_at bracket_with refer_with dollar_with special_of subscripts_with reference_with primary_with operand_with step_by step_with expr_with readers_at target_with destination_at assignment_at names_at removal_at hiding_at condition_at parameter_at repetition_at output_at args_at postcondition_at command_at spaced_at comment_at line_at canonical_value no_locals level_begun value_of assigned_to numeric_value literal_size round round_size nearest rounding_unit digits_before size_text digits
+unfolding reads shut canonical_value no_locals level_begun value_of assigned_to numeric_value literal_size round round_size nearest
+    rounding_unit digits_before size_text digits
 refused_subscript g = answers _ refl refl refl (asked true refl finished)
 
 -- KILL takes a node with what stands below it
 kill_takes_descendants : (g : Globals) → AreAnswered account (opening g) (codes "K ^A(\"x\") W ^A(\"x\",\"y\")" ∷ []) (failed [] M7 ∷ [])
-unfolding shut keyword_of function_of many list_at point_at exponent_at number_at name_at operator_at truth_at bracket_with refer_with dollar_with special_of subscripts_with reference_with primary_with operand_with step_by step_with expr_with readers_at target_with destination_at assignment_at names_at removal_at hiding_at condition_at parameter_at repetition_at output_at args_at postcondition_at command_at spaced_at comment_at line_at canonical_value no_locals level_begun value_of assigned_to numeric_value literal_size round round_size nearest rounding_unit digits_before size_text digits
+unfolding reads shut canonical_value no_locals level_begun value_of assigned_to numeric_value literal_size round round_size nearest
+    rounding_unit digits_before size_text digits
 kill_takes_descendants g =
     answers _ refl refl refl
     (asked true refl (asked tt refl (asked true refl
@@ -126,15 +136,18 @@ kill_takes_descendants g =
 
 -- $DATA of a node that has texts below it alone
 data_of_descendants : (g : Globals) → status g (at (codes "A") (codes "x" ∷ [])) ≡ (false, true) → AreAnswered account (opening g) (codes "W $D(^A(\"x\"))" ∷ []) (done (codes "10") ∷ [])
-unfolding shut keyword_of function_of many list_at point_at exponent_at number_at name_at operator_at truth_at bracket_with refer_with dollar_with special_of subscripts_with reference_with primary_with operand_with step_by step_with expr_with readers_at target_with destination_at assignment_at names_at removal_at hiding_at condition_at parameter_at repetition_at output_at args_at postcondition_at command_at spaced_at comment_at line_at canonical_value no_locals level_begun value_of assigned_to numeric_value literal_size round round_size nearest rounding_unit digits_before size_text digits
+unfolding reads shut canonical_value no_locals level_begun value_of assigned_to numeric_value literal_size round round_size nearest
+    rounding_unit digits_before size_text digits
 data_of_descendants g is = answers _ refl refl refl (asked true refl (asked (false, true) (same is) finished))
 
 -- a node without a text is referred to all the same
 undefined_is_referred_to : Refers empty (codes "W ^A(\"x\")") (Some (at (codes "A") (codes "x" ∷ [])))
-unfolding shut keyword_of function_of many list_at point_at exponent_at number_at name_at operator_at truth_at bracket_with refer_with dollar_with special_of subscripts_with reference_with primary_with operand_with step_by step_with expr_with readers_at target_with destination_at assignment_at names_at removal_at hiding_at condition_at parameter_at repetition_at output_at args_at postcondition_at command_at spaced_at comment_at line_at canonical_value no_locals level_begun value_of assigned_to numeric_value literal_size round round_size nearest rounding_unit digits_before size_text digits
+unfolding reads shut canonical_value no_locals level_begun value_of assigned_to numeric_value literal_size round round_size nearest
+    rounding_unit digits_before size_text digits
 undefined_is_referred_to = refers _ refl refl refl (asked true refl (asked None (same (node_none (at (codes "A") (codes "x" ∷ [])))) finished))
 
 -- but none whose subscript is refused
 refused_is_not : (g : Globals) → Refers g (codes "S ^A(\"x\")=\"1\",^(\"\")=\"2\"") (Some (at (codes "A") (codes "x" ∷ [])))
-unfolding shut keyword_of function_of many list_at point_at exponent_at number_at name_at operator_at truth_at bracket_with refer_with dollar_with special_of subscripts_with reference_with primary_with operand_with step_by step_with expr_with readers_at target_with destination_at assignment_at names_at removal_at hiding_at condition_at parameter_at repetition_at output_at args_at postcondition_at command_at spaced_at comment_at line_at canonical_value no_locals level_begun value_of assigned_to numeric_value literal_size round round_size nearest rounding_unit digits_before size_text digits
+unfolding reads shut canonical_value no_locals level_begun value_of assigned_to numeric_value literal_size round round_size nearest
+    rounding_unit digits_before size_text digits
 refused_is_not g = refers _ refl refl refl (asked true refl (asked tt refl (asked true refl finished)))

@@ -8,7 +8,9 @@ use Rattle.mspec.specs.NodeOrder.{canonical_value}
 use Rattle.mspec.specs.NumberText.{size_text}
 use Rattle.mspec.specs.Globals.{Globals}
 use Rattle.mspec.specs.Act.{Text, no_locals, level_begun, value_of, assigned_to}
-use Rattle.mgrammar.specs.Grammar.{keyword_of, special_of, function_of}
+use Rattle.mgrammar.specs.Grammar.{special_of}
+use Rattle.mgrammar.specs.Commands.{keyword_of}
+use Rattle.mgrammar.specs.Functions.{function_of}
 use Rattle.mgrammar.specs.Reading.{many, list_at, point_at, exponent_at, number_at, name_at, truth_at, operator_at, subscripts_with, reference_with, bracket_with, refer_with, dollar_with, primary_with, operand_with, step_by, step_with, expr_with, readers_at, target_with, destination_at, assignment_at, output_at, names_at, removal_at, hiding_at, condition_at, parameter_at, repetition_at, entry_at, entrance_at, leap_at, execution_at, args_at, postcondition_at, command_at, spaced_at, comment_at, line_at}
 use Rattle.mgrammar.specs.RoutineLine.{label_at, dot_at, dots_at, body_at, routine_line_at}
 use Rattle.mmeaning.specs.History.{opening}
@@ -24,6 +26,7 @@ use Rattle.mspec.specs.Plan.{Plan, then_plan, perform}
 use Rattle.mspec.specs.Act.{Gives, give, Locals, State, Outcome, Act, on_gives}
 use Rattle.mgrammar.specs.Grammar.{multiply, loop, until, for_word, is, less, number, text, reference, at_label, at_label_in, shown, do_one, go_to, set_word, quit_word, write_word, do_word, goto_word, CommandTree, LineTree, SpacedTree}
 use Rattle.mgrammar.specs.RoutineLine.{RoutineLineTree, spaced_out}
+use Rattle.mgrammar.proofs.Computing.{reads}
 use Rattle.mmeaning.specs.World.{World, act}
 use Rattle.mmeaning.specs.LineMeaning.{Signal, Go_on, Spot}
 use Rattle.mmeaning.specs.Levels.{commands_in}
@@ -72,27 +75,15 @@ doubling_3 = record {
 }
 
 doubling_1_read : routine_line_at (codes "A S N=1") ≡ Some doubling_1
-unfolding keyword_of special_of function_of many list_at point_at exponent_at number_at name_at truth_at operator_at subscripts_with
-    reference_with bracket_with refer_with dollar_with primary_with operand_with step_by step_with expr_with readers_at target_with
-    destination_at assignment_at output_at names_at removal_at hiding_at condition_at parameter_at repetition_at entry_at
-    entrance_at leap_at execution_at args_at postcondition_at command_at spaced_at comment_at line_at label_at dot_at dots_at
-    body_at routine_line_at
+unfolding reads
 doubling_1_read = refl
 
 doubling_2_read : routine_line_at (codes "B S N=N*2 G:N<50 B") ≡ Some doubling_2
-unfolding keyword_of special_of function_of many list_at point_at exponent_at number_at name_at truth_at operator_at subscripts_with
-    reference_with bracket_with refer_with dollar_with primary_with operand_with step_by step_with expr_with readers_at target_with
-    destination_at assignment_at output_at names_at removal_at hiding_at condition_at parameter_at repetition_at entry_at
-    entrance_at leap_at execution_at args_at postcondition_at command_at spaced_at comment_at line_at label_at dot_at dots_at
-    body_at routine_line_at
+unfolding reads
 doubling_2_read = refl
 
 doubling_3_read : routine_line_at (codes " W N Q") ≡ Some doubling_3
-unfolding keyword_of special_of function_of many list_at point_at exponent_at number_at name_at truth_at operator_at subscripts_with
-    reference_with bracket_with refer_with dollar_with primary_with operand_with step_by step_with expr_with readers_at target_with
-    destination_at assignment_at output_at names_at removal_at hiding_at condition_at parameter_at repetition_at entry_at
-    entrance_at leap_at execution_at args_at postcondition_at command_at spaced_at comment_at line_at label_at dot_at dots_at
-    body_at routine_line_at
+unfolding reads
 doubling_3_read = refl
 
 -- D A^G W "."
@@ -101,10 +92,7 @@ goto_line =
     line ((command do_word 68 (do_one (at_label_in (codes "A") (codes "G")) None ∷ []), 1) ∷ (command write_word 87 (shown (only (text (codes "."))) ∷ []), 0) ∷ [])
 
 goto_read : line_at (codes "D A^G W \".\"") ≡ Some goto_line
-unfolding keyword_of special_of function_of many list_at point_at exponent_at number_at name_at truth_at operator_at subscripts_with
-    reference_with bracket_with refer_with dollar_with primary_with operand_with step_by step_with expr_with readers_at target_with
-    destination_at assignment_at output_at names_at removal_at hiding_at condition_at parameter_at repetition_at entry_at
-    entrance_at leap_at execution_at args_at postcondition_at command_at spaced_at comment_at line_at
+unfolding reads
 goto_read = refl
 
 ruleset variables = (tree_none, tree_put, tree_again, text_none, text_put, text_again)
@@ -213,10 +201,7 @@ for_line =
     (command goto_word 71 (go_to (at_label_in (codes "A") (codes "G")) None ∷ []), 0) ∷ [])
 
 for_read : line_at (codes "F I=1:1:3 G A^G") ≡ Some for_line
-unfolding keyword_of special_of function_of many list_at point_at exponent_at number_at name_at truth_at operator_at subscripts_with
-    reference_with bracket_with refer_with dollar_with primary_with operand_with step_by step_with expr_with readers_at target_with
-    destination_at assignment_at output_at names_at removal_at hiding_at condition_at parameter_at repetition_at entry_at
-    entrance_at leap_at execution_at args_at postcondition_at command_at spaced_at comment_at line_at
+unfolding reads
 for_read = refl
 
 -- W I
@@ -224,10 +209,7 @@ abbrev index_line : LineTree
 index_line = line ((command write_word 87 (shown (only (reference (named (codes "I")))) ∷ []), 0) ∷ [])
 
 index_read : line_at (codes "W I") ≡ Some index_line
-unfolding keyword_of special_of function_of many list_at point_at exponent_at number_at name_at truth_at operator_at subscripts_with
-    reference_with bracket_with refer_with dollar_with primary_with operand_with step_by step_with expr_with readers_at target_with
-    destination_at assignment_at output_at names_at removal_at hiding_at condition_at parameter_at repetition_at entry_at
-    entrance_at leap_at execution_at args_at postcondition_at command_at spaced_at comment_at line_at
+unfolding reads
 index_read = refl
 
 -- the variables that stay, and in the level of the line

@@ -9,10 +9,12 @@ use Rattle.mspec.specs.NumberText.{numeric_value, literal_size, size_text}
 use Rattle.mspec.specs.Code.{M9, Zdepth, Zsyntax}
 use Rattle.mspec.specs.Plan.{Done}
 use Rattle.mspec.specs.Act.{Text, Node, Locals, level_begun, State, Gives, Fails, value_of, assigned_to}
-use Rattle.mgrammar.specs.Grammar.{divide, number, PrimaryTree, text, bracket, reference, ReferenceTree, indirect, exprs, no_exprs, variable, one, output, at_label, entrance, do_one, indirect_args, do_word, CommandTree, keyword_of}
+use Rattle.mgrammar.specs.Grammar.{divide, number, PrimaryTree, text, bracket, reference, ReferenceTree, indirect, exprs, no_exprs, variable, one, output, at_label, entrance, do_one, indirect_args, do_word, CommandTree}
+use Rattle.mgrammar.specs.Commands.{keyword_of}
 use Rattle.mgrammar.specs.Reading.{many, list_at, point_at, exponent_at, number_at, name_at, truth_at, operator_at, subscripts_with, attached_with, indirect_with, reference_with, primary_with, operand_with, step_with, expr_with, readers_at, output_at, entry_at, entrance_at, args_at, postcondition_at, command_at, spaced_at, comment_at, line_at}
 use Rattle.mgrammar.specs.IndirectTexts.{ref_at, args_of}
 use Rattle.mgrammar.specs.RoutineLine.{RoutineLineTree, spaced_out, dots_of, label_at, dot_at, dots_at, body_at, routine_line_at}
+use Rattle.mgrammar.proofs.Computing.{reads}
 use Rattle.mmeaning.specs.Variables.{of_global, of_naked, of_local}
 use Rattle.mmeaning.specs.Expression.{Inside, inside, evaluated, finds, is_indirection_free}
 use Rattle.mmeaning.specs.LineMeaning.{Context, context, given, setting, Spot, commands}
@@ -58,19 +60,19 @@ module _ (naked : Option Node) (test : Bool) (out : Text) where
   argument_level_before_text locals steps = refl
 
   argument_text_read : (locals : Locals) (steps : ℕ) → given (at 255 0) output (text (codes "1 1")) (state locals (suc steps)) ≡ Done (Fails Zsyntax (state locals steps))
-  unfolding args_of many list_at point_at exponent_at number_at operator_at truth_at primary_with operand_with step_with expr_with readers_at output_at
+  unfolding reads
   argument_text_read locals steps = refl
 
   -- ---- subscripts of a text, and those behind it
 
   global_named : (locals : Locals) (steps : ℕ) → evaluated (within 0 0) (indirect (text (codes "^A(\"x\")")) (exprs (only (text (codes "y"))) no_exprs)) (state locals (suc (suc (suc steps))))
       ≡ Done (Gives (of_global (record { account = codes "ALICE"; name = codes "A"; subscripts = codes "x" ∷ codes "y" ∷ [] })) (state locals steps))
-  unfolding finds ref_at many list_at truth_at operator_at name_at subscripts_with attached_with indirect_with primary_with operand_with step_with expr_with reference_with readers_at
+  unfolding reads finds
   global_named locals steps = refl
 
   naked_named : (locals : Locals) (steps : ℕ) → evaluated (within 0 0) (indirect (text (codes "^(\"x\")")) (exprs (only (text (codes "y"))) no_exprs)) (state locals (suc (suc (suc steps))))
       ≡ Done (Gives (of_naked (codes "x" ∷ codes "y" ∷ [])) (state locals steps))
-  unfolding finds ref_at many list_at truth_at operator_at name_at subscripts_with attached_with indirect_with primary_with operand_with step_with expr_with reference_with readers_at
+  unfolding reads finds
   naked_named locals steps = refl
 
   -- ---- 256 levels, of which 32 are indirections
@@ -123,8 +125,7 @@ abbrev itself : RoutineLineTree
 itself = record { label = Some (codes "T"); body = spaced_out [] (line ((command do_word 68 (indirect_args entrance (text (codes "T")) ∷ []), 0) ∷ [])) }
 
 itself_read : routine_line_at itself_line ≡ Some itself
-unfolding keyword_of many list_at name_at entry_at entrance_at primary_with readers_at args_at postcondition_at command_at spaced_at
-    comment_at line_at label_at dot_at dots_at body_at routine_line_at
+unfolding reads
 itself_read = refl
 
 entry_read : args_of entrance (codes "T") ≡ Some (do_one (at_label (codes "T")) None ∷ [])

@@ -10,9 +10,11 @@ use Rattle.mspec.specs.Scopes.{Scope}
 use Rattle.mspec.specs.Code.{M9, M13, Zdepth, Zlevel, Zsyntax}
 use Rattle.mspec.specs.Plan.{Plan, Done, then_plan}
 use Rattle.mspec.specs.Act.{Text, Node, Locals, State, Outcome, Gives, Fails, on_gives, level_begun, value_of}
-use Rattle.mgrammar.specs.Grammar.{divide, number, text, reference, at_label, executed, execute_word, LineTree, keyword_of}
+use Rattle.mgrammar.specs.Grammar.{divide, number, text, reference, at_label, executed, execute_word, LineTree}
+use Rattle.mgrammar.specs.Commands.{keyword_of}
 use Rattle.mgrammar.specs.Reading.{many, list_at, point_at, exponent_at, number_at, name_at, truth_at, operator_at, subscripts_with, reference_with, primary_with, operand_with, step_by, step_with, expr_with, readers_at, execution_at, args_at, postcondition_at, command_at, spaced_at, comment_at, line_at}
 use Rattle.mgrammar.specs.RoutineLine.{label_at}
+use Rattle.mgrammar.proofs.Computing.{reads}
 use Rattle.mmeaning.specs.LineMeaning.{Signal, Spot, outset, after_level, run_within, Context, Go_on, Goes, context, commands, doing, doing_block, executing, going}
 use Rattle.mmeaning.specs.Levels.{commands_of}
 use Rattle.mmeaning.specs.Step.{text_run}
@@ -86,9 +88,7 @@ abbrev itself : LineTree
 itself = line ((command execute_word 88 (executed (only (reference (named (codes "A")))) None ∷ []), 0) ∷ [])
 
 itself_read : line_at (codes "X A") ≡ Some itself
-unfolding keyword_of many list_at point_at exponent_at number_at name_at truth_at operator_at subscripts_with reference_with
-    primary_with operand_with step_by step_with expr_with readers_at execution_at args_at postcondition_at command_at spaced_at
-    comment_at line_at
+unfolding reads
 itself_read = refl
 
 abbrev open_levels : ℕ → Spot

@@ -14,6 +14,7 @@ use Rattle.mspec.specs.Act.{Text, Node, Locals, State, Gives, Fails}
 use Rattle.mgrammar.specs.Grammar.{ExprTree, divide, number, text, ReferenceTree, local, global, indirect, extended, exprs, no_exprs, anew, adding, giving_back, lock_one, lock_several, reference}
 use Rattle.mgrammar.specs.Reading.{many, list_at, name_at, truth_at, operator_at, subscripts_with, attached_with, indirect_with, reference_with, primary_with, operand_with, step_with, expr_with, readers_at}
 use Rattle.mgrammar.specs.IndirectTexts.{ref_at}
+use Rattle.mgrammar.proofs.Computing.{reads}
 use Rattle.mmeaning.specs.Expression.{Inside, inside, finds}
 use Rattle.mmeaning.specs.Locking.{locking}
 use Rattle.mmeaning.specs.World.{World, act}
@@ -129,10 +130,9 @@ module _ (w : World) (naked : Option Node) (test : Bool) (out : Text) (locals : 
 
   -- one that a text names is refused behind its subscripts, and before the next name
   naked_named : perform hers (locking her_line adding (lock_several (indirect (text (codes "^(\"x\")")) no_exprs ∷ global (codes "X") (exprs error no_exprs) ∷ [])) None (state test (suc (suc steps)))) w ≡ (Fails Zsyntax (state test steps), w)
-  unfolding finds ref_at many list_at truth_at operator_at name_at subscripts_with attached_with indirect_with primary_with operand_with step_with expr_with reference_with readers_at
+  unfolding reads finds
   naked_named = refl
 
   subscripts_before : perform hers (locking her_line adding (lock_one (indirect (text (codes "^(\"x\")")) (exprs error no_exprs))) None (state test (suc (suc (suc (suc steps)))))) w ≡ (Fails M9 (state test steps), w)
-  unfolding finds ref_at many list_at truth_at operator_at name_at subscripts_with attached_with indirect_with primary_with operand_with step_with expr_with reference_with readers_at
-      numeric_value literal_size round round_size nearest rounding_unit digits_before size_text digits
+  unfolding reads finds numeric_value literal_size round round_size nearest rounding_unit digits_before size_text digits
   subscripts_before = refl

@@ -11,8 +11,11 @@ use Rattle.mspec.specs.NumberText.{numeric_value, literal_size, size_text}
 use Rattle.mspec.specs.NodeOrder.{canonical_value}
 use Rattle.mspec.specs.Pieces.{pieces_of}
 use Rattle.mspec.specs.TextFunctions.{first_place, with_piece}
-use Rattle.mgrammar.specs.Grammar.{join, keyword_of, special_of, function_of}
+use Rattle.mgrammar.specs.Grammar.{join, special_of}
+use Rattle.mgrammar.specs.Commands.{keyword_of}
+use Rattle.mgrammar.specs.Functions.{function_of}
 use Rattle.mgrammar.specs.Reading.{many, list_at, point_at, exponent_at, number_at, name_at, count_at, repeated_at, atom_at, pattern_at, truth_at, operator_at, bracket_with, choice_with, select_with, call_with, refer_with, dollar_with, subscripts_with, reference_with, primary_with, operand_with, step_by, step_with, expr_with, readers_at, place_with, piece_with, target_with, destination_at, assignment_at, names_at, removal_at, hiding_at, condition_at, parameter_at, repetition_at, output_at, args_at, postcondition_at, command_at, spaced_at, comment_at, line_at}
+use Rattle.mgrammar.proofs.Computing.{reads}
 use Rattle.mspec.specs.Code.{Code, M4, M6, M9, M10, Zlong, Zsyntax, Zover, Zarg, Zchar, Zline, Zterm, Zsteps}
 use Rattle.mspec.specs.Plan.{Done, perform}
 use Rattle.mspec.specs.Act.{Text, State, Outcome, Gives, Fails, no_locals, level_begun, value_of, assigned_to}
@@ -62,7 +65,8 @@ arithmetic_rows =
     (codes "W .5+.25,-.5", (codes ".75-.5", None)) ∷ []
 
 arithmetic : AreShown arithmetic_rows
-unfolding keyword_of function_of many list_at point_at exponent_at number_at name_at count_at repeated_at atom_at pattern_at truth_at operator_at bracket_with choice_with select_with call_with refer_with dollar_with special_of subscripts_with reference_with primary_with operand_with step_by step_with expr_with readers_at place_with piece_with target_with destination_at assignment_at names_at removal_at hiding_at condition_at parameter_at repetition_at output_at args_at postcondition_at command_at spaced_at comment_at line_at numeric_value literal_size round round_size nearest rounding_unit digits_before size_text digits pieces_of first_place with_piece canonical_value
+unfolding reads numeric_value literal_size round round_size nearest rounding_unit digits_before size_text digits pieces_of first_place
+    with_piece canonical_value
 arithmetic = refl
 
 -- comparisons, logic and the order of subscripts
@@ -74,7 +78,8 @@ truths_rows =
     (codes "W 1&2,0!0,1'&0,0'!0,''5", (codes "10111", None)) ∷ []
 
 truths : AreShown truths_rows
-unfolding keyword_of function_of many list_at point_at exponent_at number_at name_at count_at repeated_at atom_at pattern_at truth_at operator_at bracket_with choice_with select_with call_with refer_with dollar_with special_of subscripts_with reference_with primary_with operand_with step_by step_with expr_with readers_at place_with piece_with target_with destination_at assignment_at names_at removal_at hiding_at condition_at parameter_at repetition_at output_at args_at postcondition_at command_at spaced_at comment_at line_at numeric_value literal_size round round_size nearest rounding_unit digits_before size_text digits pieces_of first_place with_piece canonical_value
+unfolding reads numeric_value literal_size round round_size nearest rounding_unit digits_before size_text digits pieces_of first_place
+    with_piece canonical_value
 truths = refl
 
 -- patterns, and counts that no text can have
@@ -89,7 +94,8 @@ patterns_rows =
     (codes "W 12'?2n,12'?1NA", (codes "01", None)) ∷ []
 
 patterns : AreShown patterns_rows
-unfolding keyword_of function_of many list_at point_at exponent_at number_at name_at count_at repeated_at atom_at pattern_at truth_at operator_at bracket_with choice_with select_with call_with refer_with dollar_with special_of subscripts_with reference_with primary_with operand_with step_by step_with expr_with readers_at place_with piece_with target_with destination_at assignment_at names_at removal_at hiding_at condition_at parameter_at repetition_at output_at args_at postcondition_at command_at spaced_at comment_at line_at numeric_value literal_size round round_size nearest rounding_unit digits_before size_text digits pieces_of first_place with_piece canonical_value
+unfolding reads numeric_value literal_size round round_size nearest rounding_unit digits_before size_text digits pieces_of first_place
+    with_piece canonical_value
 patterns = refl
 
 -- functions and their bounds
@@ -108,7 +114,8 @@ functions_rows =
     (codes "W $SELECT(1:1/0)", ([], Some M9)) ∷ []
 
 functions : AreShown functions_rows
-unfolding keyword_of function_of many list_at point_at exponent_at number_at name_at count_at repeated_at atom_at pattern_at truth_at operator_at bracket_with choice_with select_with call_with refer_with dollar_with special_of subscripts_with reference_with primary_with operand_with step_by step_with expr_with readers_at place_with piece_with target_with destination_at assignment_at names_at removal_at hiding_at condition_at parameter_at repetition_at output_at args_at postcondition_at command_at spaced_at comment_at line_at numeric_value literal_size round round_size nearest rounding_unit digits_before size_text digits pieces_of first_place with_piece canonical_value
+unfolding reads numeric_value literal_size round round_size nearest rounding_unit digits_before size_text digits pieces_of first_place
+    with_piece canonical_value
 functions = refl
 
 -- what is evaluated before an error, and what is no syntax
@@ -122,20 +129,21 @@ refusals_rows =
     (codes "W $X(1)", ([], Some Zsyntax)) ∷ []
 
 refusals : AreShown refusals_rows
-unfolding keyword_of function_of many list_at point_at exponent_at number_at name_at count_at repeated_at atom_at pattern_at truth_at operator_at bracket_with choice_with select_with call_with refer_with dollar_with special_of subscripts_with reference_with primary_with operand_with step_by step_with expr_with readers_at place_with piece_with target_with destination_at assignment_at names_at removal_at hiding_at condition_at parameter_at repetition_at output_at args_at postcondition_at command_at spaced_at comment_at line_at numeric_value literal_size round round_size nearest rounding_unit digits_before size_text digits pieces_of first_place with_piece canonical_value
+unfolding reads numeric_value literal_size round round_size nearest rounding_unit digits_before size_text digits pieces_of first_place
+    with_piece canonical_value
 refusals = refl
 
 -- targets of SET, from left to right
 list_of_targets : Answered (codes "S (A,B)=3 W A+B" ∷ []) (done (codes "6") ∷ [])
-unfolding keyword_of function_of many list_at point_at exponent_at number_at name_at count_at repeated_at atom_at pattern_at truth_at operator_at bracket_with choice_with select_with call_with refer_with dollar_with special_of subscripts_with reference_with primary_with operand_with step_by step_with expr_with readers_at place_with piece_with target_with destination_at assignment_at names_at removal_at hiding_at condition_at parameter_at repetition_at output_at args_at postcondition_at command_at spaced_at comment_at line_at canonical_value no_locals level_begun value_of assigned_to
+unfolding reads canonical_value no_locals level_begun value_of assigned_to
 list_of_targets = at_last _ refl (simp (gets, computed_maps, computed_numbers))
 
 piece_padded : Answered (codes "S P=\"a\" S $P(P,\"-\",3)=\"z\" W P" ∷ []) (done (codes "a--z") ∷ [])
-unfolding keyword_of function_of many list_at point_at exponent_at number_at name_at count_at repeated_at atom_at pattern_at truth_at operator_at bracket_with choice_with select_with call_with refer_with dollar_with special_of subscripts_with reference_with primary_with operand_with step_by step_with expr_with readers_at place_with piece_with target_with destination_at assignment_at names_at removal_at hiding_at condition_at parameter_at repetition_at output_at args_at postcondition_at command_at spaced_at comment_at line_at pieces_of first_place with_piece canonical_value no_locals level_begun value_of assigned_to
+unfolding reads pieces_of first_place with_piece canonical_value no_locals level_begun value_of assigned_to
 piece_padded = at_last _ refl (simp (gets, computed_maps, computed_numbers))
 
 targets_one_by_one : Answered (codes "S (B,$P(B,\",\",2))=\"x\" W B" ∷ []) (done (codes "x,x") ∷ [])
-unfolding keyword_of function_of many list_at point_at exponent_at number_at name_at count_at repeated_at atom_at pattern_at truth_at operator_at bracket_with choice_with select_with call_with refer_with dollar_with special_of subscripts_with reference_with primary_with operand_with step_by step_with expr_with readers_at place_with piece_with target_with destination_at assignment_at names_at removal_at hiding_at condition_at parameter_at repetition_at output_at args_at postcondition_at command_at spaced_at comment_at line_at pieces_of first_place with_piece canonical_value no_locals level_begun value_of assigned_to
+unfolding reads pieces_of first_place with_piece canonical_value no_locals level_begun value_of assigned_to
 targets_one_by_one = at_last _ refl (simp (gets, computed_maps, computed_numbers))
 
 place_too_far_number : size_text (501 * 10 ^ 18) ≡ codes "501"
@@ -143,17 +151,17 @@ unfolding size_text digits
 place_too_far_number = refl
 
 place_too_far : Answered (codes "S B=1,$P(B,\",\",501)=2" ∷ codes "W B" ∷ []) (failed [] Zarg ∷ done (codes "1") ∷ [])
-unfolding keyword_of function_of many list_at point_at exponent_at number_at name_at count_at repeated_at atom_at pattern_at truth_at operator_at bracket_with choice_with select_with call_with refer_with dollar_with special_of subscripts_with reference_with primary_with operand_with step_by step_with expr_with readers_at place_with piece_with target_with destination_at assignment_at names_at removal_at hiding_at condition_at parameter_at repetition_at output_at args_at postcondition_at command_at spaced_at comment_at line_at pieces_of first_place with_piece canonical_value no_locals level_begun value_of assigned_to
+unfolding reads pieces_of first_place with_piece canonical_value no_locals level_begun value_of assigned_to
 place_too_far =
     at_first (holding (codes "B") (codes "1")) _ refl (simp (gets, computed_maps, computed_numbers, place_too_far_number))
     (at_last _ refl (simp (gets, computed_maps, computed_numbers, place_too_far_number)))
 
 place_before_delimiter : Answered (codes "S $P(A,\"\",\"1E30\")=1" ∷ []) (failed [] Zover ∷ [])
-unfolding keyword_of function_of many list_at point_at exponent_at number_at name_at count_at repeated_at atom_at pattern_at truth_at operator_at bracket_with choice_with select_with call_with refer_with dollar_with special_of subscripts_with reference_with primary_with operand_with step_by step_with expr_with readers_at place_with piece_with target_with destination_at assignment_at names_at removal_at hiding_at condition_at parameter_at repetition_at output_at args_at postcondition_at command_at spaced_at comment_at line_at pieces_of first_place with_piece canonical_value no_locals level_begun value_of assigned_to
+unfolding reads pieces_of first_place with_piece canonical_value no_locals level_begun value_of assigned_to
 place_before_delimiter = at_last _ refl (simp (gets, computed_maps, computed_numbers))
 
 delimiter_empty : Answered (codes "S $P(A,\"\",1)=1" ∷ []) (failed [] Zarg ∷ [])
-unfolding keyword_of function_of many list_at point_at exponent_at number_at name_at count_at repeated_at atom_at pattern_at truth_at operator_at bracket_with choice_with select_with call_with refer_with dollar_with special_of subscripts_with reference_with primary_with operand_with step_by step_with expr_with readers_at place_with piece_with target_with destination_at assignment_at names_at removal_at hiding_at condition_at parameter_at repetition_at output_at args_at postcondition_at command_at spaced_at comment_at line_at pieces_of first_place with_piece canonical_value no_locals level_begun value_of assigned_to
+unfolding reads pieces_of first_place with_piece canonical_value no_locals level_begun value_of assigned_to
 delimiter_empty = at_last _ refl (simp (gets, computed_maps, computed_numbers))
 
 place_without_fraction_number : size_text (29 * 10 ^ 17) ≡ codes "2.9"
@@ -161,58 +169,61 @@ unfolding size_text digits
 place_without_fraction_number = refl
 
 place_without_fraction : Answered (codes "S $P(A,\",\",2.9)=1 W A" ∷ []) (done (codes ",1") ∷ [])
-unfolding keyword_of function_of many list_at point_at exponent_at number_at name_at count_at repeated_at atom_at pattern_at truth_at operator_at bracket_with choice_with select_with call_with refer_with dollar_with special_of subscripts_with reference_with primary_with operand_with step_by step_with expr_with readers_at place_with piece_with target_with destination_at assignment_at names_at removal_at hiding_at condition_at parameter_at repetition_at output_at args_at postcondition_at command_at spaced_at comment_at line_at pieces_of first_place with_piece canonical_value no_locals level_begun value_of assigned_to
+unfolding reads pieces_of first_place with_piece canonical_value no_locals level_begun value_of assigned_to
 place_without_fraction = at_last _ refl (simp (gets, computed_maps, computed_numbers, place_without_fraction_number))
 
 parts_before_value : Answered (codes "S $P(A,1/0)=B" ∷ []) (failed [] M9 ∷ [])
-unfolding keyword_of function_of many list_at point_at exponent_at number_at name_at count_at repeated_at atom_at pattern_at truth_at operator_at bracket_with choice_with select_with call_with refer_with dollar_with special_of subscripts_with reference_with primary_with operand_with step_by step_with expr_with readers_at place_with piece_with target_with destination_at assignment_at names_at removal_at hiding_at condition_at parameter_at repetition_at output_at args_at postcondition_at command_at spaced_at comment_at line_at numeric_value literal_size round round_size nearest rounding_unit digits_before size_text digits pieces_of first_place with_piece canonical_value
+unfolding reads numeric_value literal_size round round_size nearest rounding_unit digits_before size_text digits pieces_of first_place
+    with_piece canonical_value
 parts_before_value = at_last _ refl (simp gets)
 
 -- a line end is the byte 255
 set_and_write : Answered (codes "SET A=\"x\" W A_1,!,A-1*2" ∷ []) (done (codes "x1" ++ (255 ∷ codes "-2")) ∷ [])
-unfolding keyword_of function_of many list_at point_at exponent_at number_at name_at count_at repeated_at atom_at pattern_at truth_at operator_at bracket_with choice_with select_with call_with refer_with dollar_with special_of subscripts_with reference_with primary_with operand_with step_by step_with expr_with readers_at place_with piece_with target_with destination_at assignment_at names_at removal_at hiding_at condition_at parameter_at repetition_at output_at args_at postcondition_at command_at spaced_at comment_at line_at canonical_value no_locals level_begun value_of assigned_to
+unfolding reads canonical_value no_locals level_begun value_of assigned_to
 set_and_write = at_last _ refl (simp (gets, computed_maps, computed_numbers))
 
 -- locals last from line to line
 locals_last : Answered (codes "S A=5" ∷ codes "W A,A+1" ∷ []) (done [] ∷ done (codes "56") ∷ [])
-unfolding keyword_of function_of many list_at point_at exponent_at number_at name_at count_at repeated_at atom_at pattern_at truth_at operator_at bracket_with choice_with select_with call_with refer_with dollar_with special_of subscripts_with reference_with primary_with operand_with step_by step_with expr_with readers_at place_with piece_with target_with destination_at assignment_at names_at removal_at hiding_at condition_at parameter_at repetition_at output_at args_at postcondition_at command_at spaced_at comment_at line_at canonical_value no_locals level_begun value_of assigned_to
+unfolding reads canonical_value no_locals level_begun value_of assigned_to
 locals_last =
     at_first (holding (codes "A") (codes "5")) _ refl (simp (gets, computed_maps, computed_numbers))
     (at_last _ refl (simp (gets, computed_maps, computed_numbers)))
 
 undefined_local : Answered (codes "W 1,\"a\"_B" ∷ []) (failed (codes "1") M6 ∷ [])
-unfolding keyword_of function_of many list_at point_at exponent_at number_at name_at count_at repeated_at atom_at pattern_at truth_at operator_at bracket_with choice_with select_with call_with refer_with dollar_with special_of subscripts_with reference_with primary_with operand_with step_by step_with expr_with readers_at place_with piece_with target_with destination_at assignment_at names_at removal_at hiding_at condition_at parameter_at repetition_at output_at args_at postcondition_at command_at spaced_at comment_at line_at canonical_value no_locals level_begun value_of assigned_to
+unfolding reads canonical_value no_locals level_begun value_of assigned_to
 undefined_local = at_last _ refl (simp (gets, computed_maps, computed_numbers))
 
 -- both operands are evaluated before they become numbers
 operands_before_numbers : Answered (codes "W \"1E30\"+B" ∷ []) (failed [] M6 ∷ [])
-unfolding keyword_of function_of many list_at point_at exponent_at number_at name_at count_at repeated_at atom_at pattern_at truth_at operator_at bracket_with choice_with select_with call_with refer_with dollar_with special_of subscripts_with reference_with primary_with operand_with step_by step_with expr_with readers_at place_with piece_with target_with destination_at assignment_at names_at removal_at hiding_at condition_at parameter_at repetition_at output_at args_at postcondition_at command_at spaced_at comment_at line_at canonical_value no_locals level_begun value_of assigned_to
+unfolding reads canonical_value no_locals level_begun value_of assigned_to
 operands_before_numbers = at_last _ refl (simp (gets, computed_maps, computed_numbers))
 
 -- what stands before an error stands, and what stands behind it is not done
 set_stops_at_fault : Answered (codes "S A=1,B=1/0,C=3" ∷ codes "W A,$D(B),$D(C)" ∷ []) (failed [] M9 ∷ done (codes "100") ∷ [])
-unfolding keyword_of function_of many list_at point_at exponent_at number_at name_at count_at repeated_at atom_at pattern_at truth_at operator_at bracket_with choice_with select_with call_with refer_with dollar_with special_of subscripts_with reference_with primary_with operand_with step_by step_with expr_with readers_at place_with piece_with target_with destination_at assignment_at names_at removal_at hiding_at condition_at parameter_at repetition_at output_at args_at postcondition_at command_at spaced_at comment_at line_at canonical_value no_locals level_begun value_of assigned_to
+unfolding reads canonical_value no_locals level_begun value_of assigned_to
 set_stops_at_fault =
     at_first (holding (codes "A") (codes "1")) _ refl (simp (gets, computed_maps, computed_numbers))
     (at_last _ refl (simp (gets, computed_maps, computed_numbers)))
 
 -- a step for each command and each primary, and none for the targets of SET and what is in their brackets
 steps_of_line : AreAnswered (with_steps 13) (opening empty) (codes "S (A,B)=1 S $P(A,\",\",2)=(1) K A(1) I $D(A(1))+1" ∷ []) (done [] ∷ [])
-unfolding keyword_of function_of many list_at point_at exponent_at number_at name_at count_at repeated_at atom_at pattern_at truth_at operator_at bracket_with choice_with select_with call_with refer_with dollar_with special_of subscripts_with reference_with primary_with operand_with step_by step_with expr_with readers_at place_with piece_with target_with destination_at assignment_at names_at removal_at hiding_at condition_at parameter_at repetition_at output_at args_at postcondition_at command_at spaced_at comment_at line_at pieces_of first_place with_piece canonical_value no_locals level_begun value_of assigned_to
+unfolding reads pieces_of first_place with_piece canonical_value no_locals level_begun value_of assigned_to
 steps_of_line = at_last _ refl (simp (gets, computed_maps, computed_numbers))
 
 step_too_few : AreAnswered (with_steps 12) (opening empty) (codes "S (A,B)=1 S $P(A,\",\",2)=(1) K A(1) I $D(A(1))+1" ∷ []) (failed [] Zsteps ∷ [])
-unfolding keyword_of function_of many list_at point_at exponent_at number_at name_at count_at repeated_at atom_at pattern_at truth_at operator_at bracket_with choice_with select_with call_with refer_with dollar_with special_of subscripts_with reference_with primary_with operand_with step_by step_with expr_with readers_at place_with piece_with target_with destination_at assignment_at names_at removal_at hiding_at condition_at parameter_at repetition_at output_at args_at postcondition_at command_at spaced_at comment_at line_at pieces_of first_place with_piece canonical_value no_locals level_begun value_of assigned_to
+unfolding reads pieces_of first_place with_piece canonical_value no_locals level_begun value_of assigned_to
 step_too_few = at_last _ refl (simp (gets, computed_maps, computed_numbers))
 
 -- the checks in their order
 unknown_terminal : answers ((2, codes "W 1") ∷ (1, codes "W 1 2") ∷ (1, codes "") ∷ []) ≡ (failed [] Zterm ∷ failed [] Zsyntax ∷ done [] ∷ [])
-unfolding keyword_of function_of many list_at point_at exponent_at number_at name_at count_at repeated_at atom_at pattern_at truth_at operator_at bracket_with choice_with select_with call_with refer_with dollar_with special_of subscripts_with reference_with primary_with operand_with step_by step_with expr_with readers_at place_with piece_with target_with destination_at assignment_at names_at removal_at hiding_at condition_at parameter_at repetition_at output_at args_at postcondition_at command_at spaced_at comment_at line_at numeric_value literal_size round round_size nearest rounding_unit digits_before size_text digits pieces_of first_place with_piece canonical_value
+unfolding reads numeric_value literal_size round round_size nearest rounding_unit digits_before size_text digits pieces_of first_place
+    with_piece canonical_value
 unknown_terminal = simp gets
 
 -- a comment of 254 letters is the longest line, a longer one is refused, and so is a character that is not ASCII
 line_lengths : answers ((1, 59 ∷ replicate 254 65) ∷ (1, 59 ∷ replicate 255 65) ∷ (1, codes "W " ++ (34 ∷ 195 ∷ 169 ∷ 34 ∷ [])) ∷ []) ≡ (done [] ∷ failed [] Zline ∷ failed [] Zchar ∷ [])
-unfolding keyword_of function_of many list_at point_at exponent_at number_at name_at count_at repeated_at atom_at pattern_at truth_at operator_at bracket_with choice_with select_with call_with refer_with dollar_with special_of subscripts_with reference_with primary_with operand_with step_by step_with expr_with readers_at place_with piece_with target_with destination_at assignment_at names_at removal_at hiding_at condition_at parameter_at repetition_at output_at args_at postcondition_at command_at spaced_at comment_at line_at numeric_value literal_size round round_size nearest rounding_unit digits_before size_text digits pieces_of first_place with_piece canonical_value
+unfolding reads numeric_value literal_size round round_size nearest rounding_unit digits_before size_text digits pieces_of first_place
+    with_piece canonical_value
 line_lengths = simp gets
 
 -- a text of 4,095 characters is the longest

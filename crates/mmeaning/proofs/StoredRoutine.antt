@@ -11,9 +11,12 @@ use Rattle.mspec.specs.Number.{round, round_size, nearest, rounding_unit, digits
 use Rattle.mspec.specs.NumberText.{numeric_value, literal_size, size_text}
 use Rattle.mspec.specs.Globals.{Globals}
 use Rattle.mspec.specs.Act.{Text, no_locals, level_begun, value_of, assigned_to}
-use Rattle.mgrammar.specs.Grammar.{keyword_of, special_of, function_of}
+use Rattle.mgrammar.specs.Grammar.{special_of}
+use Rattle.mgrammar.specs.Commands.{keyword_of}
+use Rattle.mgrammar.specs.Functions.{function_of}
 use Rattle.mgrammar.specs.Reading.{many, list_at, point_at, exponent_at, number_at, name_at, truth_at, operator_at, subscripts_with, reference_with, bracket_with, refer_with, dollar_with, primary_with, operand_with, step_by, step_with, expr_with, readers_at, target_with, destination_at, assignment_at, output_at, names_at, removal_at, hiding_at, condition_at, parameter_at, repetition_at, entry_at, entrance_at, leap_at, execution_at, args_at, postcondition_at, command_at, spaced_at, comment_at, line_at}
 use Rattle.mgrammar.specs.RoutineLine.{label_at, dot_at, dots_at, body_at, routine_line_at}
+use Rattle.mgrammar.proofs.Computing.{reads}
 use Rattle.mmeaning.specs.Step.{Session}
 use Rattle.mmeaning.proofs.ExampleAccount.{done}
 use Rattle.mmeaning.proofs.LineRuns.{at_first, at_last}
@@ -58,11 +61,7 @@ abbrev referred : Node → Session
 referred n = record { locals = no_locals; naked = Some n; test = false }
 
 stored_and_run : Answered (codes "S ^ROUTINE(\"R\",1)=\"T N V S V=2 D U W V Q\"" ∷ codes "S ^ROUTINE(\"R\",2)=\"U S V=V+1 Q\"" ∷ codes "S V=9 D T^R W V" ∷ []) (done [] ∷ done [] ∷ done (codes "39") ∷ [])
-unfolding keyword_of special_of function_of many list_at point_at exponent_at number_at name_at truth_at operator_at subscripts_with
-    reference_with bracket_with refer_with dollar_with primary_with operand_with step_by step_with expr_with readers_at target_with
-    destination_at assignment_at output_at names_at removal_at hiding_at condition_at parameter_at repetition_at entry_at
-    entrance_at leap_at execution_at args_at postcondition_at command_at spaced_at comment_at line_at label_at dot_at dots_at
-    body_at routine_line_at no_locals level_begun value_of assigned_to canonical_value
+unfolding reads no_locals level_begun value_of assigned_to canonical_value
 stored_and_run =
     at_first (serving_in one_stored (referred (line_node (codes "1")))) _ refl (simp (computed_operations, gets, computed_maps, computed_numbers))
     (at_first (serving_in both_stored (referred (line_node (codes "2")))) _ refl (simp (computed_operations, gets, computed_maps, computed_numbers))

@@ -8,7 +8,7 @@ use Rattle.mspec.specs.NumberText.{number_text}
 use Rattle.mspec.specs.Interpretations.{whole_part}
 use Rattle.mspec.specs.TextFunctions.{piece_of, extract_of, find_of, piece_count, translate_of, justify_of}
 use Rattle.mspec.specs.CharacterFunctions.{ascii_of, char_of}
-use Rattle.mgrammar.specs.Grammar.{FunctionTree, ascii_function, char_function, data_function, extract_function, find_function, get_function, justify_function, length_function, order_function, piece_function, select_function, translate_function, function_of}
+use Rattle.mgrammar.specs.Functions.{ValueFunctionTree, ascii_function, char_function, extract_function, find_function, justify_function, length_function, piece_function, translate_function, FunctionTree, of_values, of_variable, of_choices, function_of}
 use Rattle.mspec.specs.Code.{Zsyntax}
 use Rattle.mspec.specs.Act.{Text, Act, ◌>>=◌, give, fail}
 use Rattle.mmeaning.specs.Operators.{as_number, outcome}
@@ -53,14 +53,13 @@ abbrev pub length_of : Text → Option Text → ℕ
 length_of s None = length s
 length_of s (Some d) = piece_count s d
 
-abbrev pub function_value : FunctionTree → List Text → Act Text
+abbrev pub function_value : ValueFunctionTree → List Text → Act Text
 function_value ascii_function args = do
   place ← whole_at 1 args
   give (whole_text (ascii_of (text_at 0 args) place))
 function_value char_function args = do
   ns ← wholes [] args
   outcome (char_of ns)
-function_value data_function args = fail Zsyntax
 function_value extract_function args = do
   from ← whole_at 1 args
   to ← whole_at 2 args
@@ -68,23 +67,22 @@ function_value extract_function args = do
 function_value find_function args = do
   from ← whole_at 2 args
   give (whole_text (pos (find_of (text_at 0 args) (text_at 1 args) from)))
-function_value get_function args = fail Zsyntax
 function_value justify_function args = do
   width ← whole_at 1 args
   outcome (justify_of (text_at 0 args) (unwrap_or width (pos 0)))
 function_value length_function args = give (whole_text (pos (length_of (text_at 0 args) (slice_get args 1))))
-function_value order_function args = fail Zsyntax
 function_value piece_function args = do
   from ← whole_at 2 args
   to ← whole_at 3 args
   give (piece_of (text_at 0 args) (text_at 1 args) from to)
-function_value select_function args = fail Zsyntax
 function_value translate_function args = outcome (translate_of (text_at 0 args) (text_at 1 args) (text_at 2 args))
 
--- a word that names no function is in no tree of the grammar
+-- a word that names no function of values is in no tree of the grammar with values alone
 abbrev pub named_value : Option FunctionTree → List Text → Act Text
 named_value None args = fail Zsyntax
-named_value (Some f) args = function_value f args
+named_value (Some (of_values f least most)) args = function_value f args
+named_value (Some (of_variable f most)) args = fail Zsyntax
+named_value (Some of_choices) args = fail Zsyntax
 
 abbrev pub call_value : Text → List Text → Act Text
 call_value word args = named_value (function_of word) args

@@ -15,7 +15,8 @@ use Rattle.mspec.specs.Interpretations.{truth_text}
 use Rattle.mspec.specs.Code.{M1, M7, Zarg, Zgrant, Zlong, Zsub, Zsyntax}
 use Rattle.mspec.specs.Plan.{May, Value, Status, Neighbour, Put, Kill}
 use Rattle.mspec.specs.Act.{Text, Node, Act, ◌>>=◌, ◌>>◌, give, give_some, fail, unless, ask, get_local, set_local, with_locals, of_locals, value_of, test_is, naked_is, set_naked}
-use Rattle.mgrammar.specs.Grammar.{SpecialTree, test_special, FunctionTree, data_function, get_function, order_function}
+use Rattle.mgrammar.specs.Grammar.{SpecialTree, test_special}
+use Rattle.mgrammar.specs.Functions.{VariableFunctionTree, data_function, get_function, order_function, FunctionTree, of_values, of_variable, of_choices}
 use Rattle.mmeaning.specs.Functions.{whole_text, as_whole}
 
 -- ---- references
@@ -166,25 +167,30 @@ direction_of (Some x) = do
   cond (int_eq n (pos 1)) (give Forward) (cond (int_eq n (negsuc 0)) (give Backward) (fail Zarg))
 
 -- A function of the variable that one act gives, and of what another gives: the checks of the variable come between.
-abbrev pub referring : Option FunctionTree → Act Evaluated → Act (List Text) → Act Text
-referring (Some data_function) reference more = do
+abbrev pub variable_function_value : VariableFunctionTree → Act Evaluated → Act (List Text) → Act Text
+variable_function_value data_function reference more = do
   v ← reference
   p ← resolve reading v
   status ← status_at p
   give (whole_text (pos (data_number status)))
-referring (Some get_function) reference more = do
+variable_function_value get_function reference more = do
   v ← reference
   p ← resolve reading v
   xs ← more
   read_or (unwrap_or (slice_get xs 0) []) p
-referring (Some order_function) reference more = do
+variable_function_value order_function reference more = do
   v ← reference
   p ← resolve ordering v
   xs ← more
   d ← direction_of (slice_get xs 0)
   next_at d p
--- any other is in no tree of the grammar with a variable
-referring f reference more = fail Zsyntax
+
+-- a word that names no function of a variable is in no tree of the grammar with a variable
+abbrev pub referring : Option FunctionTree → Act Evaluated → Act (List Text) → Act Text
+referring None reference more = fail Zsyntax
+referring (Some (of_values f least most)) reference more = fail Zsyntax
+referring (Some (of_variable f most)) reference more = variable_function_value f reference more
+referring (Some of_choices) reference more = fail Zsyntax
 
 -- ---- special variables
 

@@ -10,7 +10,7 @@ use Rattle.mspec.specs.Code as spec
 use Rattle.mspec.specs.Act.{Text}
 use Rattle.mspec.specs.CharacterFunctions.{char_of, character_of, is_over_ascii}
 use Rattle.mspec.specs.TextFunctions.{longest_text}
-use Rattle.mgrammar.specs.Grammar.{char_function}
+use Rattle.mgrammar.specs.Functions.{char_function}
 use Rattle.mmeaning.specs.Functions.{wholes, function_value}
 use Rattle.mmeaning.specs.Operators.{outcome}
 use Rattle.mmeaning.specs.Yields.{Yields, YieldsFault}

@@ -6,3 +6,4 @@ pub mod GivenArguments
 pub mod PatternMatches
 pub mod Signs
 pub mod CharacterRefusals
+pub mod CalledWords

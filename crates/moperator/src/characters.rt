@@ -2,7 +2,7 @@
 // Characters and their codes.
 ghost use Rattle.std.specs.Prelude.{◌≡◌, ◌^◌, ◌<◌, unsigned_abs, length, IfErr, OnOk};
 ghost use Rattle.mspec.specs.CharacterFunctions.{ascii_of, char_of, character_of, is_over_ascii};
-ghost use Rattle.mgrammar.specs.Grammar.{char_function};
+ghost use Rattle.mgrammar.specs.Functions.{char_function};
 ghost use Rattle.mmeaning.specs.Functions.{function_value};
 ghost use Rattle.mmeaning.specs.Operators.{outcome};
 ghost use Rattle.mmeaning.specs.Yields.{Yields, YieldsFault};

@@ -1,11 +1,11 @@
 // SPDX-License-Identifier: Apache-2.0
 // The functions, of arguments that are values already.
-ghost use Rattle.std.specs.Prelude.{◌≡◌, map, Some, IsErrAnd};
-ghost use Rattle.mgrammar.specs.Grammar as grammar;
+ghost use Rattle.std.specs.Prelude.{◌≡◌, map, IsErrAnd};
+ghost use Rattle.mgrammar.specs.Functions as grammar;
 ghost use Rattle.mspec.specs.Act.{State};
 ghost use Rattle.mspec.specs.Code as spec;
 ghost use Rattle.mmeaning.specs.Functions as meaning;
-ghost use Rattle.mtree.specs.Tree.{function_tree};
+ghost use Rattle.mtree.specs.Functions.{IsValueWord, value_function_tree};
 ghost use Rattle.mmeaning.specs.Yields.{Yields};
 ghost use Rattle.moperator.specs.Codes.{fault_of};
 ghost use Rattle.moperator.specs.Outcomes.{FailsBy};
@@ -15,7 +15,7 @@ use crate::characters::{characters, code_at, refuse_characters};
 use crate::code::Code;
 use crate::values::answered;
 use mtext::{extract, find, justify, piece, pieces, translate};
-use mtree::{Function, FunctionWord};
+use mtree::{ValueFunction, ValueWord};
 use mvalue::Value;
 use std::alloc::Global;
 
@@ -108,24 +108,20 @@ fn translated(alloc: Global, arguments: &[Value]) -> Result<Value, Code>
 }
 
 // What a function gives of its arguments.
-fn function(alloc: Global, function: Function, arguments: &[Value]) -> Result<Value, Code>
-    ensures value { Yields fault_of (meaning.function_value (function_tree function) arguments.now) (λ value. value) result }
-    ensures characters { function_tree function ≡ grammar.char_function
+fn function(alloc: Global, function: ValueFunction, arguments: &[Value]) -> Result<Value, Code>
+    ensures value { Yields fault_of (meaning.function_value (value_function_tree function) arguments.now) (λ value. value) result }
+    ensures characters { value_function_tree function ≡ grammar.char_function
         → (code : spec.Code) → (s : State) → FailsBy (meaning.function_value grammar.char_function arguments.now) code s → IsErrAnd result (λ given. fault_of given ≡ spec.Own code) }
 {
     match function {
-        Function::Ascii => ascii(alloc, arguments),
-        Function::Char => char(alloc, arguments),
-        Function::Data => Err(Code::Zsyntax),
-        Function::Extract => extracted(alloc, arguments),
-        Function::Find => found(alloc, arguments),
-        Function::Get => Err(Code::Zsyntax),
-        Function::Justify => justified(alloc, arguments),
-        Function::Length => length(alloc, arguments),
-        Function::Order => Err(Code::Zsyntax),
-        Function::Piece => pieces_from_to(alloc, arguments),
-        Function::Select => Err(Code::Zsyntax),
-        Function::Translate => translated(alloc, arguments),
+        ValueFunction::Ascii => ascii(alloc, arguments),
+        ValueFunction::Char => char(alloc, arguments),
+        ValueFunction::Extract => extracted(alloc, arguments),
+        ValueFunction::Find => found(alloc, arguments),
+        ValueFunction::Justify => justified(alloc, arguments),
+        ValueFunction::Length => length(alloc, arguments),
+        ValueFunction::Piece => pieces_from_to(alloc, arguments),
+        ValueFunction::Translate => translated(alloc, arguments),
     }
 }
 
@@ -133,15 +129,11 @@ fn function(alloc: Global, function: Function, arguments: &[Value]) -> Result<Va
 ///
 /// # Errors
 ///
-/// The function's code in place of its value, by which $CHAR is refused before memory is asked for; `Zsyntax` if no function of values has
-/// the word, which is in no line's tree; `Zmem` if out of memory.
-pub fn call(alloc: Global, word: &FunctionWord, arguments: &[Value]) -> Result<Value, Code>
+/// The function's code in place of its value, by which $CHAR is refused before memory is asked for; `Zmem` if out of memory.
+pub fn call(alloc: Global, word: &ValueWord, arguments: &[Value]) -> Result<Value, Code>
     ensures value { Yields fault_of (meaning.call_value word.now arguments.now) (λ value. value) result }
-    ensures characters { grammar.function_of word.now ≡ Some grammar.char_function
+    ensures characters { IsValueWord word.now grammar.char_function
         → (code : spec.Code) → (s : State) → FailsBy (meaning.function_value grammar.char_function arguments.now) code s → IsErrAnd result (λ given. fault_of given ≡ spec.Own code) }
 {
-    match word.function() {
-        None => Err(Code::Zsyntax),
-        Some(named) => function(alloc, named, arguments),
-    }
+    function(alloc, word.function(), arguments)
 }

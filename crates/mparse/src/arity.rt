@@ -1,34 +1,38 @@
 // SPDX-License-Identifier: Apache-2.0
 // How many arguments a function or a command takes, and which commands take a postconditional.
 ghost use Rattle.std.specs.Prelude.{◌≡◌};
-ghost use Rattle.mgrammar.specs.Grammar.{takes, refers, takes_args, takes_condition};
-ghost use Rattle.mtree.specs.Tree.{function_tree, keyword_tree};
+ghost use Rattle.mgrammar.specs.Grammar.{is_at_most};
+ghost use Rattle.mgrammar.specs.Commands.{command_row, takes_args, takes_condition};
+ghost use Rattle.mgrammar.specs.Functions.{takes};
+ghost use Rattle.mtree.specs.Tree.{keyword_tree};
 
-use mtree::{Function, Keyword};
+use mtree::Keyword;
 
-// Whether the function takes so many arguments; those of $SELECT and of functions of a variable are of another form.
-pub fn takes(function: Function, count: usize) -> bool
-    ensures { result ≡ takes (function_tree function) count }
+// Whether so many values may stand in brackets that take from so many to so many, or without a bound: one at least.
+pub fn takes(least: usize, most: Option<usize>, count: usize) -> bool
+    ensures { result ≡ takes least most count }
 {
-    match function {
-        Function::Ascii | Function::Length => 1 <= count && count <= 2,
-        Function::Char => 1 <= count,
-        Function::Extract => 1 <= count && count <= 3,
-        Function::Find | Function::Translate => 2 <= count && count <= 3,
-        Function::Justify => count == 2,
-        Function::Piece => 2 <= count && count <= 4,
-        Function::Data | Function::Get | Function::Order | Function::Select => false,
+    1 <= count && (least <= count && is_at_most(most, count))
+}
+
+fn is_at_most(most: Option<usize>, count: usize) -> bool
+    ensures { result ≡ is_at_most most count }
+{
+    match most {
+        None => true,
+        Some(most) => count <= most,
     }
 }
 
-// Whether the function takes a variable, and so many arguments behind it.
-pub fn refers(function: Function, count: usize) -> bool
-    ensures { result ≡ refers (function_tree function) count }
+// How many arguments the command takes at least, and at most, if there is a bound.
+fn bounds(keyword: Keyword) -> (usize, Option<usize>)
+    ensures { result ≡ ((command_row (keyword_tree keyword)).least, (command_row (keyword_tree keyword)).most) }
 {
-    match function {
-        Function::Data => count == 0,
-        Function::Get | Function::Order => count <= 1,
-        _ => false,
+    match keyword {
+        Keyword::Set | Keyword::Write | Keyword::Goto | Keyword::Execute => (1, None),
+        Keyword::Kill | Keyword::New | Keyword::If | Keyword::Do | Keyword::Lock => (0, None),
+        Keyword::Else | Keyword::Quit | Keyword::Halt => (0, Some(0)),
+        Keyword::For => (0, Some(1)),
     }
 }
 
@@ -36,12 +40,8 @@ pub fn refers(function: Function, count: usize) -> bool
 pub fn takes_args(keyword: Keyword, count: usize) -> bool
     ensures { result ≡ takes_args (keyword_tree keyword) count }
 {
-    match keyword {
-        Keyword::Set | Keyword::Write | Keyword::Goto | Keyword::Execute => 1 <= count,
-        Keyword::Kill | Keyword::New | Keyword::If | Keyword::Do | Keyword::Lock => true,
-        Keyword::Else | Keyword::Quit | Keyword::Halt => count == 0,
-        Keyword::For => count <= 1,
-    }
+    let (least, most) = bounds(keyword);
+    least <= count && is_at_most(most, count)
 }
 
 // Whether a postconditional may stand behind the command's word.

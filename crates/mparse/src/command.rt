@@ -1,7 +1,8 @@
 // SPDX-License-Identifier: Apache-2.0
 // Commands and their arguments.
 ghost use Rattle.std.specs.Prelude.{◌≡◌, map};
-ghost use Rattle.mgrammar.specs.Grammar.{ArgTree, form_of, output};
+ghost use Rattle.mgrammar.specs.Grammar.{ArgTree, output};
+ghost use Rattle.mgrammar.specs.Commands.{form_of};
 ghost use Rattle.mgrammar.specs.Reading.{output_at, settled_with, arg_at, has_args, args_at, command_at};
 ghost use Rattle.mtree.specs.Tree.{arg_tree, keyword_tree, command_tree};
 ghost use Rattle.mscan.specs.Gives.{Gives};

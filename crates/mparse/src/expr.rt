@@ -3,19 +3,19 @@
 ghost use Rattle.std.specs.Prelude.{◌≡◌, ◌<◌, length, map, option_map};
 ghost use Rattle.mgrammar.specs.Grammar.{exprs_of, choices_of};
 ghost use Rattle.mgrammar.specs.Reading.{past, with_front, many, after_comma, list_at, subscripts_with, attached_at, attached_with, indirect_with, local_by, extended_with, owned_by, reference_with, bracket_with, choice_with, select_with, call_with, refer_with, dollar_with, primary_with, operand_with, step_by, step_with, expr_with, readers_at, inner_at};
-ghost use Rattle.mtree.specs.Tree.{function_tree, expr_tree, operand_tree, primary_tree, reference_tree, step_tree, choice_tree};
+ghost use Rattle.mtree.specs.Tree.{expr_tree, operand_tree, primary_tree, reference_tree, step_tree, choice_tree};
 ghost use Rattle.mscan.specs.Gives.{Gives};
 ghost use Rattle.mscan.specs.Operators.{operator_tree};
 
-use crate::arity::{refers, takes};
+use crate::arity::takes;
 use mnum::Bytes7;
 use mscan::{
     Class, Operator, ParseFault, expect, name, next_operator, number, past, pattern, run, signs,
     text_after,
 };
 use mtree::{
-    Choice, Expr, Function, FunctionWord, Literal, Operand, Primary, Reference, Referring, Step,
-    special_of,
+    Choice, Expr, FunctionWord, Literal, Operand, Primary, Reference, Referring, Step, ValueWord,
+    VariableWord, special_of,
 };
 use std::alloc::Global;
 
@@ -289,35 +289,32 @@ fn dollar(alloc: Global, bytes: &[u8], depth: u32) -> Result<(Primary, &[u8]), P
         };
         return Ok((Primary::Special(word), rest));
     };
-    let word = FunctionWord::new(word);
-    let Some(function) = word.function() else {
+    let Some(word) = FunctionWord::new(word) else {
         return Err(ParseFault::Syntax);
     };
-    match function {
-        Function::Select => select(alloc, word, rest, depth),
-        Function::Data | Function::Get | Function::Order => {
-            refer(alloc, function, word, rest, depth)
-        }
-        _ => call(alloc, function, word, rest, depth),
+    match word {
+        FunctionWord::OfValues { word, least, most } => call(alloc, word, least, most, rest, depth),
+        FunctionWord::OfVariable { word, most } => refer(alloc, word, most, rest, depth),
+        FunctionWord::OfChoices(word) => select(alloc, word, rest, depth),
     }
 }
 
-// The rest of this function of a variable, behind its bracket.
+// The rest of a function of a variable and at most so many values, behind its bracket.
 #[cycle(expr)]
 #[tactic(auto, unfolding(mgrammar::specs::Reading::refer_with))]
 fn refer(
     alloc: Global,
-    function: Function,
-    word: FunctionWord,
+    word: VariableWord,
+    most: usize,
     bytes: &[u8],
     depth: u32,
 ) -> Result<(Primary, &[u8]), ParseFault>
-    ensures { Gives (λ x. (primary_tree x.0, x.1.now)) result (refer_with (readers_at depth) (function_tree function) word bytes.now) }
+    ensures { Gives (λ x. (primary_tree x.0, x.1.now)) result (refer_with (readers_at depth) most word bytes.now) }
 {
     let (reference, rest) = within(alloc, bytes, depth)?;
     let (more, rest) = more_exprs(alloc, Vec::new(alloc), rest, depth)?;
     let rest = expect(b')', rest)?;
-    if !refers(function, more.len()) {
+    if more.len() > most {
         return Err(ParseFault::Syntax);
     }
     let referring = Referring {
@@ -328,21 +325,22 @@ fn refer(
     Ok((Primary::Refer(Box::new(alloc, referring)?), rest))
 }
 
-// The rest of a call of this function, behind its bracket.
+// The rest of a call of a function of at least and at most so many values, behind its bracket.
 #[cycle(expr)]
 #[tactic(auto, unfolding(mgrammar::specs::Reading::call_with))]
 fn call(
     alloc: Global,
-    function: Function,
-    word: FunctionWord,
+    word: ValueWord,
+    least: usize,
+    most: Option<usize>,
     bytes: &[u8],
     depth: u32,
 ) -> Result<(Primary, &[u8]), ParseFault>
-    ensures { Gives (λ x. (primary_tree x.0, x.1.now)) result (call_with (readers_at depth) (function_tree function) word bytes.now) }
+    ensures { Gives (λ x. (primary_tree x.0, x.1.now)) result (call_with (readers_at depth) least most word bytes.now) }
 {
     let (arguments, rest) = exprs(alloc, bytes, depth)?;
     let rest = expect(b')', rest)?;
-    if !takes(function, arguments.len()) {
+    if !takes(least, most, arguments.len()) {
         return Err(ParseFault::Syntax);
     }
     Ok((Primary::Call(word, arguments), rest))
@@ -353,7 +351,7 @@ fn call(
 #[tactic(auto, unfolding(mgrammar::specs::Reading::select_with))]
 fn select(
     alloc: Global,
-    word: FunctionWord,
+    word: Bytes7,
     bytes: &[u8],
     depth: u32,
 ) -> Result<(Primary, &[u8]), ParseFault>

@@ -1,7 +1,8 @@
 // SPDX-License-Identifier: Apache-2.0
 // The texts of indirection, read whole: a variable, or arguments of a command.
 ghost use Rattle.std.specs.Prelude.{◌≡◌, true, List, map, IfOk, Err};
-ghost use Rattle.mgrammar.specs.Grammar.{ReferenceTree, ArgTree, form_of, may_be_indirect, spell_reference, spell_list, spell_arg};
+ghost use Rattle.mgrammar.specs.Grammar.{ReferenceTree, ArgTree, may_be_indirect, spell_reference, spell_list, spell_arg};
+ghost use Rattle.mgrammar.specs.Commands.{form_of};
 ghost use Rattle.mgrammar.specs.WellFormed.{max_depth, WellReference, WellList, WellArg};
 ghost use Rattle.mgrammar.specs.IndirectTexts.{ref_at, args_of};
 ghost use Rattle.mtree.specs.Tree.{reference_tree, arg_tree, keyword_tree};

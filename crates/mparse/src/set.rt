@@ -13,9 +13,7 @@ use crate::list::{Items, list};
 use crate::operand::destination_operand;
 use mnum::Bytes7;
 use mscan::{Class, ParseFault, expect, past, run};
-use mtree::{
-    Arg, Destination, Expr, Function, FunctionWord, Keyword, PieceTarget, Target, function_of,
-};
+use mtree::{Arg, Destination, Expr, Keyword, PieceTarget, Target, is_piece};
 use std::alloc::Global;
 
 // The place behind the delimiter of a `$PIECE`, where one stands.
@@ -48,7 +46,7 @@ fn piece(
         place(alloc, rest, depth),
     )?;
     let piece = PieceTarget {
-        word: FunctionWord::new(word),
+        word,
         reference,
         delimiter,
         place,
@@ -70,7 +68,7 @@ fn target(alloc: Global, bytes: &[u8], depth: u32) -> Result<(Target, &[u8]), Pa
     }
     let (letters, rest) = run(Class::Letter, rest);
     let rest = expect(b'(', rest)?;
-    if function_of(letters) != Some(Function::Piece) {
+    if !is_piece(letters) {
         return Err(ParseFault::Syntax);
     }
     piece(alloc, Bytes7::from_slice(alloc, letters)?, rest, depth)

@@ -1,20 +1,39 @@
 -- SPDX-License-Identifier: Apache-2.0
 -- What a function's word says, as the grammar has it.
-use Rattle.mgrammar.specs.Grammar as grammar
-use Rattle.mgrammar.specs.Grammar.{FunctionTree}
+use Rattle.std.specs.Prelude.{◌≡◌, ℕ, Option, Some, List}
+use Rattle.mgrammar.specs.Functions.{ValueFunctionTree, ascii_function, char_function, extract_function, find_function, justify_function, length_function, piece_function, translate_function}
+use Rattle.mgrammar.specs.Functions.{VariableFunctionTree, data_function, get_function, order_function, FunctionTree, of_values, of_variable, of_choices, function_of}
+use Rattle.mtree.specs.declared.tree.ValueFunction.{ValueFunction}
+use Rattle.mtree.specs.declared.tree.ValueFunction.TheVariants as values
+use Rattle.mtree.specs.declared.tree.VariableFunction.{VariableFunction}
+use Rattle.mtree.specs.declared.tree.VariableFunction.TheVariants as variable
 use Rattle.mtree.specs.declared.tree.Function.{Function}
 use Rattle.mtree.specs.declared.tree.Function.TheVariants as function
 
+abbrev pub value_function_tree : ValueFunction → ValueFunctionTree
+value_function_tree values.Ascii = ascii_function
+value_function_tree values.Char = char_function
+value_function_tree values.Extract = extract_function
+value_function_tree values.Find = find_function
+value_function_tree values.Justify = justify_function
+value_function_tree values.Length = length_function
+value_function_tree values.Piece = piece_function
+value_function_tree values.Translate = translate_function
+
+abbrev pub variable_function_tree : VariableFunction → VariableFunctionTree
+variable_function_tree variable.Data = data_function
+variable_function_tree variable.Get = get_function
+variable_function_tree variable.Order = order_function
+
 abbrev pub function_tree : Function → FunctionTree
-function_tree function.Ascii = grammar.ascii_function
-function_tree function.Char = grammar.char_function
-function_tree function.Data = grammar.data_function
-function_tree function.Extract = grammar.extract_function
-function_tree function.Find = grammar.find_function
-function_tree function.Get = grammar.get_function
-function_tree function.Justify = grammar.justify_function
-function_tree function.Length = grammar.length_function
-function_tree function.Order = grammar.order_function
-function_tree function.Piece = grammar.piece_function
-function_tree function.Select = grammar.select_function
-function_tree function.Translate = grammar.translate_function
+function_tree (function.OfValues f least most) = of_values (value_function_tree f) least most
+function_tree (function.OfVariable f most) = of_variable (variable_function_tree f) most
+function_tree function.OfChoices = of_choices
+
+-- the word of a function of values
+abbrev pub IsValueWord : List ℕ → ValueFunctionTree → Type 0
+IsValueWord text f = (least : ℕ) × (most : Option ℕ) × (function_of text ≡ Some (of_values f least most))
+
+-- the word of a function of a variable
+abbrev pub IsVariableWord : List ℕ → VariableFunctionTree → Type 0
+IsVariableWord text f = (most : ℕ) × (function_of text ≡ Some (of_variable f most))

@@ -1,3 +1,4 @@
 -- SPDX-License-Identifier: Apache-2.0
 pub mod Functions
+pub mod Brackets
 pub mod Tree

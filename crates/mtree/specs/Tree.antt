@@ -1,9 +1,10 @@
 -- SPDX-License-Identifier: Apache-2.0
 -- A line of the program as a plain tree of the grammar.
-pub use Rattle.mtree.specs.Functions.{function_tree}
+pub use Rattle.mtree.specs.Functions.{value_function_tree, variable_function_tree, function_tree}
 use Rattle.std.specs.Prelude.{Option, Box, map, option_map}
 use Rattle.mgrammar.specs.Grammar as grammar
 use Rattle.mgrammar.specs.Grammar.{SignTree, TruthTree, BinaryTree, KeywordTree, SpecialTree, CountTree, RepeatedTree, AtomTree, ExprTree, StepTree, steps_of, exprs_of, choices_of, OperandTree, PrimaryTree, ReferenceTree, TargetTree, DestinationTree, ParameterTree, EntryTree, LockKindTree, LockedTree, ArgTree, CommandTree, SpacedTree, LineTree}
+use Rattle.mgrammar.specs.Commands.{form_of}
 use Rattle.mgrammar.specs.RoutineLine as routine
 use Rattle.mgrammar.specs.RoutineLine.{BodyTree, RoutineLineTree}
 use Rattle.mtree.specs.declared.tree.Sign.{Sign}
@@ -211,7 +212,7 @@ arg_tree (arg.DoOne e c) = grammar.do_one (entry_tree e) (condition_tree c)
 arg_tree (arg.GoTo e c) = grammar.go_to (entry_tree e) (condition_tree c)
 arg_tree (arg.Executed e c) = grammar.executed (expr_tree e) (condition_tree c)
 arg_tree (arg.Lock k names t) = grammar.locked (kind_tree k) (locked_tree names) (condition_tree t)
-arg_tree (arg.Indirect k p) = grammar.indirect_args (grammar.form_of (keyword_tree k)) (primary_tree p)
+arg_tree (arg.Indirect k p) = grammar.indirect_args (form_of (keyword_tree k)) (primary_tree p)
 
 abbrev pub command_tree : Command → CommandTree
 command_tree c = record { keyword = keyword_tree c.keyword; word = c.word; condition = condition_tree c.condition; args = map arg_tree c.args.items }

@@ -4,7 +4,7 @@ ghost use Rattle.std.specs.Prelude.{◌≡◌, ◌++◌, ◌<◌, ◌∷◌, [],
 ghost use Rattle.mgrammar.specs.Grammar.{sign_char, spell_truth, spell_binary, spell_signs, spell_behind, spell_repeated, spell_atom, spell_atoms, spell_expr, steps_of, exprs_of, choices_of, spell_steps, spell_step, spell_operand, spell_primary, spell_reference, spell_subscripts, spell_attached, spell_exprs, spell_more_exprs, spell_choices};
 ghost use Rattle.mtree.specs.Tree.{sign_tree, truth_tree, binary_tree, repeated_tree, atom_tree, expr_tree, step_tree, operand_tree, primary_tree, reference_tree, referring_tree, choice_tree};
 
-use crate::function_word::FunctionWord;
+use crate::function_word::ValueWord;
 use crate::list::{Listed, put_list};
 use crate::pieces::{put_string, put_text};
 use crate::tree::{
@@ -252,29 +252,25 @@ fn put_special(out: &mut Bytes7, word: &Bytes7) -> Result<(), AllocError>
 }
 
 // A function's word, and the bracket behind it.
-pub fn put_word(out: &mut Bytes7, word: &FunctionWord) -> Result<(), AllocError>
+pub fn put_word(out: &mut Bytes7, word: &Bytes7) -> Result<(), AllocError>
     ensures { OnOk result (out.new ≡ out.old ++ 36 ∷ (word.now ++ 40 ∷ [])) }
 {
     out.push(b'$')?;
-    put_text(out, word.as_text())?;
+    put_text(out, word)?;
     out.push(b'(')
 }
 
 #[cycle(expr)]
-fn put_call(out: &mut Bytes7, word: &FunctionWord, arguments: &Vec<Expr>) -> Result<(), AllocError>
+fn put_call(out: &mut Bytes7, word: &ValueWord, arguments: &Vec<Expr>) -> Result<(), AllocError>
     ensures { OnOk result (out.new ≡ out.old ++ 36 ∷ (word.now ++ 40 ∷ (spell_exprs (exprs_of (map expr_tree arguments.now.items)) ++ 41 ∷ []))) }
 {
-    put_word(out, word)?;
+    put_word(out, word.as_text())?;
     put_list(out, arguments)?;
     out.push(b')')
 }
 
 #[cycle(expr)]
-fn put_select(
-    out: &mut Bytes7,
-    word: &FunctionWord,
-    choices: &Vec<Choice>,
-) -> Result<(), AllocError>
+fn put_select(out: &mut Bytes7, word: &Bytes7, choices: &Vec<Choice>) -> Result<(), AllocError>
     ensures { OnOk result (out.new ≡ out.old ++ 36 ∷ (word.now ++ 40 ∷ (spell_choices (choices_of (map choice_tree choices.now.items)) ++ 41 ∷ []))) }
 {
     put_word(out, word)?;
@@ -286,7 +282,7 @@ fn put_select(
 fn put_referring(out: &mut Bytes7, referring: &Referring) -> Result<(), AllocError>
     ensures { OnOk result (out.new ≡ out.old ++ spell_primary (referring_tree referring.now)) }
 {
-    put_word(out, &referring.word)?;
+    put_word(out, referring.word.as_text())?;
     put_reference(out, &referring.reference)?;
     put_more(out, &referring.more)?;
     out.push(b')')

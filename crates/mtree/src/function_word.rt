@@ -1,43 +1,32 @@
 // SPDX-License-Identifier: Apache-2.0
-// The words of functions as they are written.
-ghost use Rattle.std.specs.Prelude.{◌≡◌, option_map};
-ghost use Rattle.mgrammar.specs.Grammar.{function_of};
-ghost use Rattle.mtree.specs.Functions.{function_tree};
+// The words of functions of values and of functions of a variable, as they are written.
+ghost use Rattle.std.specs.Prelude.{◌≡◌};
+ghost use Rattle.mtree.specs.Functions.{IsValueWord, IsVariableWord, value_function_tree, variable_function_tree};
 
-use crate::tree::Function;
-use crate::words::function_of;
+use crate::tree::{ValueFunction, VariableFunction};
 use mnum::Bytes7;
 use std::marker::Model;
 
-/// A function's word as it is written, without its `$`. What it says is looked for once, however often it is called. Contracts see
-/// it as its text.
+/// The word of a function of values as it is written, without its `$`. What it says is looked for once, however often the function is
+/// called. Contracts see it as its text.
 #[derive(Drop)]
-pub struct FunctionWord {
-    text: Bytes7,
-    function: Option<Function>,
+pub struct ValueWord {
+    pub(crate) text: Bytes7,
+    pub(crate) function: ValueFunction,
 }
 
-impl Model for FunctionWord {
-    ghost use Rattle.std.specs.Prelude.{List, ℕ, ◌≡◌, option_map};
-    ghost use Rattle.mgrammar.specs.Grammar.{function_of};
-    ghost use Rattle.mtree.specs.Functions.{function_tree};
+impl Model for ValueWord {
+    ghost use Rattle.std.specs.Prelude.{List, ℕ};
+    ghost use Rattle.mtree.specs.Functions.{IsValueWord, value_function_tree};
 
     ghost Value = { List ℕ };
 
     ghost view = { λ word. word.text };
 
-    ghost invariant = { λ word. option_map function_tree word.function ≡ function_of word.text };
+    ghost invariant = { λ word. IsValueWord word.text (value_function_tree word.function) };
 }
 
-impl FunctionWord {
-    /// The word that is this text. Takes no memory.
-    pub fn new(text: Bytes7) -> FunctionWord
-        ensures { result ≡ text }
-    {
-        let function = function_of(text.as_bytes());
-        FunctionWord { text, function }
-    }
-
+impl ValueWord {
     /// The text. Takes no memory.
     pub fn as_text(&self) -> &Bytes7
         ensures { result.now ≡ self.now }
@@ -45,10 +34,46 @@ impl FunctionWord {
         &self.text
     }
 
-    /// The function that has the word, where one has it. Takes no memory.
+    /// The function that has the word. Takes no memory.
     #[inline]
-    pub fn function(&self) -> Option<Function>
-        ensures { option_map function_tree result ≡ function_of self.now }
+    pub fn function(&self) -> ValueFunction
+        ensures { IsValueWord self.now (value_function_tree result) }
+    {
+        self.function
+    }
+}
+
+/// The word of a function of a variable as it is written, without its `$`. What it says is looked for once, however often the function is
+/// called. Contracts see it as its text.
+#[derive(Drop)]
+pub struct VariableWord {
+    pub(crate) text: Bytes7,
+    pub(crate) function: VariableFunction,
+}
+
+impl Model for VariableWord {
+    ghost use Rattle.std.specs.Prelude.{List, ℕ};
+    ghost use Rattle.mtree.specs.Functions.{IsVariableWord, variable_function_tree};
+
+    ghost Value = { List ℕ };
+
+    ghost view = { λ word. word.text };
+
+    ghost invariant = { λ word. IsVariableWord word.text (variable_function_tree word.function) };
+}
+
+impl VariableWord {
+    /// The text. Takes no memory.
+    pub fn as_text(&self) -> &Bytes7
+        ensures { result.now ≡ self.now }
+    {
+        &self.text
+    }
+
+    /// The function that has the word. Takes no memory.
+    #[inline]
+    pub fn function(&self) -> VariableFunction
+        ensures { IsVariableWord self.now (variable_function_tree result) }
     {
         self.function
     }

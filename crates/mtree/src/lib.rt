@@ -4,6 +4,7 @@
 //! What a tree means as plain data, and which text it has, are definitions of `mgrammar`: `Grammar`.
 #![tactic(auto)]
 
+mod brackets;
 mod expression;
 mod function_word;
 mod list;
@@ -13,12 +14,14 @@ pub mod tree;
 pub mod words;
 pub mod write;
 
-pub use function_word::FunctionWord;
+pub use brackets::FunctionWord;
+pub use function_word::{ValueWord, VariableWord};
 pub use literal::Literal;
 pub use tree::{
     Arg, Atom, Binary, Body, Choice, Command, Count, Destination, Entry, Expr, Function, Keyword,
     Line, LockKind, Locked, Operand, Parameter, PieceTarget, Primary, Reference, Referring,
-    Repeated, RoutineLine, Sign, Spaced, SpecialVariable, Step, Target, Truth,
+    Repeated, RoutineLine, Sign, Spaced, SpecialVariable, Step, Target, Truth, ValueFunction,
+    VariableFunction,
 };
-pub use words::{function_of, keyword_of, special_of};
+pub use words::{function_of, is_piece, keyword_of, special_of};
 pub use write::{write_line, write_routine_line};

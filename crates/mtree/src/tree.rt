@@ -1,6 +1,6 @@
 // SPDX-License-Identifier: Apache-2.0
 // The tree of a line.
-use crate::function_word::FunctionWord;
+use crate::function_word::{ValueWord, VariableWord};
 use crate::literal::Literal;
 use mnum::{Bytes7, Name};
 use std::rc::Rc;
@@ -120,9 +120,9 @@ pub enum Primary {
     /// An expression in brackets.
     Bracket(Box<Expr>),
     /// A function of values: its word behind the `$`, and its arguments.
-    Call(FunctionWord, Vec<Expr>),
+    Call(ValueWord, Vec<Expr>),
     /// `$SELECT`, with its word behind the `$`.
-    Select(FunctionWord, Vec<Choice>),
+    Select(Bytes7, Vec<Choice>),
     /// A function of a variable.
     Refer(Box<Referring>),
 }
@@ -150,7 +150,7 @@ pub enum Reference {
 #[derive(Drop)]
 #[cycle(tree)]
 pub struct Referring {
-    pub word: FunctionWord,
+    pub word: VariableWord,
     pub reference: Reference,
     pub more: Vec<Expr>,
 }
@@ -163,21 +163,43 @@ pub struct Choice {
     pub value: Expr,
 }
 
-/// What a function's word says.
+/// A function of values.
 #[derive(Clone, Copy, Debug, PartialEq, Eq)]
-pub enum Function {
+pub enum ValueFunction {
     Ascii,
     Char,
-    Data,
     Extract,
     Find,
-    Get,
     Justify,
     Length,
-    Order,
     Piece,
-    Select,
     Translate,
+}
+
+/// A function of a variable.
+#[derive(Clone, Copy, Debug, PartialEq, Eq)]
+pub enum VariableFunction {
+    Data,
+    Get,
+    Order,
+}
+
+/// What a function's word says: the function, and what stands in its brackets.
+#[derive(Clone, Copy, Debug, PartialEq, Eq)]
+pub enum Function {
+    /// At least so many values, and at most, if there is a bound.
+    OfValues {
+        function: ValueFunction,
+        least: usize,
+        most: Option<usize>,
+    },
+    /// A variable, and after it at most so many values.
+    OfVariable {
+        function: VariableFunction,
+        most: usize,
+    },
+    /// Choices: `$SELECT`.
+    OfChoices,
 }
 
 /// What a special variable's word says.
@@ -190,7 +212,7 @@ pub enum SpecialVariable {
 /// A piece of a variable, to which SET assigns: `$PIECE`, with its word behind the `$`.
 #[derive(Drop)]
 pub struct PieceTarget {
-    pub word: FunctionWord,
+    pub word: Bytes7,
     pub reference: Reference,
     pub delimiter: Expr,
     pub place: Option<Expr>,

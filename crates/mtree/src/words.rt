@@ -1,10 +1,12 @@
 // SPDX-License-Identifier: Apache-2.0
 // Words of commands, of functions and of special variables.
 ghost use Rattle.std.specs.Prelude.{◌≡◌, option_map};
-ghost use Rattle.mgrammar.specs.Grammar.{is_either, keyword_of, function_of, special_of};
-ghost use Rattle.mtree.specs.Tree.{keyword_tree, function_tree, special_tree};
+ghost use Rattle.mgrammar.specs.Grammar.{is_either, special_of};
+ghost use Rattle.mgrammar.specs.Commands.{keyword_of};
+ghost use Rattle.mgrammar.specs.Functions.{of_values, of_variable, function_of, is_piece};
+ghost use Rattle.mtree.specs.Tree.{keyword_tree, value_function_tree, variable_function_tree, function_tree, special_tree};
 
-use crate::tree::{Function, Keyword, SpecialVariable};
+use crate::tree::{Function, Keyword, SpecialVariable, ValueFunction, VariableFunction};
 
 // Whether the word is this one or that one, in either case of letters.
 fn is_either(word: &[u8], short: &[u8], long: &[u8]) -> bool
@@ -14,7 +16,7 @@ fn is_either(word: &[u8], short: &[u8], long: &[u8]) -> bool
 }
 
 /// What a command's word says: the whole word or its first letter, in either case of letters. Takes no memory.
-#[tactic(auto, unfolding(mgrammar::specs::Grammar::keyword_of))]
+#[tactic(auto, unfolding(mgrammar::specs::Commands::keyword_of))]
 pub fn keyword_of(word: &[u8]) -> Option<Keyword>
     ensures { option_map keyword_tree result ≡ keyword_of word.now }
 {
@@ -49,39 +51,64 @@ pub fn keyword_of(word: &[u8]) -> Option<Keyword>
     }
 }
 
+// A function of values.
+fn values(function: ValueFunction, least: usize, most: Option<usize>) -> Function
+    ensures { function_tree result ≡ of_values (value_function_tree function) least most }
+{
+    Function::OfValues {
+        function,
+        least,
+        most,
+    }
+}
+
+// A function of a variable.
+fn variable(function: VariableFunction, most: usize) -> Function
+    ensures { function_tree result ≡ of_variable (variable_function_tree function) most }
+{
+    Function::OfVariable { function, most }
+}
+
 /// What a function's word says, without its `$`: the whole word or its abbreviation, in either case of letters. Takes no
 /// memory.
-#[tactic(auto, unfolding(mgrammar::specs::Grammar::function_of))]
+#[tactic(auto, unfolding(mgrammar::specs::Functions::function_of))]
 pub fn function_of(word: &[u8]) -> Option<Function>
     ensures { option_map function_tree result ≡ function_of word.now }
 {
     if is_either(word, b"a", b"ascii") {
-        Some(Function::Ascii)
+        Some(values(ValueFunction::Ascii, 1, Some(2)))
     } else if is_either(word, b"c", b"char") {
-        Some(Function::Char)
+        Some(values(ValueFunction::Char, 1, None))
     } else if is_either(word, b"d", b"data") {
-        Some(Function::Data)
+        Some(variable(VariableFunction::Data, 0))
     } else if is_either(word, b"e", b"extract") {
-        Some(Function::Extract)
+        Some(values(ValueFunction::Extract, 1, Some(3)))
     } else if is_either(word, b"f", b"find") {
-        Some(Function::Find)
+        Some(values(ValueFunction::Find, 2, Some(3)))
     } else if is_either(word, b"g", b"get") {
-        Some(Function::Get)
+        Some(variable(VariableFunction::Get, 1))
     } else if is_either(word, b"j", b"justify") {
-        Some(Function::Justify)
+        Some(values(ValueFunction::Justify, 2, Some(2)))
     } else if is_either(word, b"l", b"length") {
-        Some(Function::Length)
+        Some(values(ValueFunction::Length, 1, Some(2)))
     } else if is_either(word, b"o", b"order") {
-        Some(Function::Order)
+        Some(variable(VariableFunction::Order, 1))
     } else if is_either(word, b"p", b"piece") {
-        Some(Function::Piece)
+        Some(values(ValueFunction::Piece, 2, Some(4)))
     } else if is_either(word, b"s", b"select") {
-        Some(Function::Select)
+        Some(Function::OfChoices)
     } else if is_either(word, b"tr", b"translate") {
-        Some(Function::Translate)
+        Some(values(ValueFunction::Translate, 2, Some(3)))
     } else {
         None
     }
+}
+
+/// Whether the word is that of the function whose call may be a target of SET, `$PIECE`, without its `$`. Takes no memory.
+pub fn is_piece(word: &[u8]) -> bool
+    ensures { result ≡ is_piece word.now }
+{
+    is_either(word, b"p", b"piece")
 }
 
 /// What a special variable's word says, without its `$`: the whole word or its abbreviation, in either case of letters. Takes no

@@ -10,8 +10,11 @@ use Rattle.mspec.specs.Code.{Zlong, Own}
 use Rattle.mspec.specs.NodeOrder.{canonical_value}
 use Rattle.mspec.proofs.ComputedMaps.{computed_maps}
 use Rattle.mspec.proofs.ComputedNumbers.{computed_numbers}
-use Rattle.mgrammar.specs.Grammar.{keyword_of, special_of, function_of}
+use Rattle.mgrammar.specs.Grammar.{special_of}
+use Rattle.mgrammar.specs.Commands.{keyword_of}
+use Rattle.mgrammar.specs.Functions.{function_of}
 use Rattle.mgrammar.specs.Reading.{many, list_at, point_at, exponent_at, number_at, name_at, operator_at, truth_at, bracket_with, refer_with, dollar_with, subscripts_with, reference_with, primary_with, operand_with, step_by, step_with, expr_with, readers_at, target_with, destination_at, assignment_at, names_at, removal_at, hiding_at, condition_at, parameter_at, repetition_at, output_at, args_at, postcondition_at, command_at, spaced_at, comment_at, line_at}
+use Rattle.mgrammar.proofs.Computing.{reads}
 use Rattle.mmeaning.specs.Step.{Settings, Server, Reply, Finished, Halted, Faulted}
 use Rattle.mmeaning.specs.History.{opening}
 use Rattle.mmeaning.proofs.ExampleAccount.{alice}
@@ -93,20 +96,20 @@ served : (bytes : Text) {answer : Text} → lines_by_shut alice (opening empty) 
 served bytes is = lines_are_shut alice (opening empty) (lines bytes) ∙ is
 
 left_to_right : stream_served alice empty (fed (codes "1 WRITE 1+2*3" ∷ [])) ≡ fed (codes "1-9" ∷ codes "1." ∷ [])
-unfolding keyword_of function_of many list_at point_at exponent_at number_at name_at operator_at truth_at bracket_with refer_with dollar_with special_of subscripts_with reference_with primary_with operand_with step_by step_with expr_with readers_at target_with destination_at assignment_at names_at removal_at hiding_at condition_at parameter_at repetition_at output_at args_at postcondition_at command_at spaced_at comment_at line_at digits canonical_value no_locals level_begun value_of assigned_to
+unfolding reads digits canonical_value no_locals level_begun value_of assigned_to
 left_to_right = served (fed (codes "1 WRITE 1+2*3" ∷ [])) (simp (gets, computed_maps, computed_numbers))
 
 -- what a line assigned stands for the next, and an unfinished last line is run
 sessions : stream_served alice empty (fed (codes "1 S A=\"x\"" ∷ []) ++ codes "1 W A") ≡ fed (codes "1." ∷ codes "1-x" ∷ codes "1." ∷ [])
-unfolding keyword_of function_of many list_at point_at exponent_at number_at name_at operator_at truth_at bracket_with refer_with dollar_with special_of subscripts_with reference_with primary_with operand_with step_by step_with expr_with readers_at target_with destination_at assignment_at names_at removal_at hiding_at condition_at parameter_at repetition_at output_at args_at postcondition_at command_at spaced_at comment_at line_at digits canonical_value no_locals level_begun value_of assigned_to
+unfolding reads digits canonical_value no_locals level_begun value_of assigned_to
 sessions = served (fed (codes "1 S A=\"x\"" ∷ []) ++ codes "1 W A") (simp (gets, computed_maps, computed_numbers))
 
 -- a fault, and output with a line end
 faults : stream_served alice empty (fed (codes "1 W \"x\",!,B" ∷ [])) ≡ fed (codes "1:x" ∷ codes "1!M6" ∷ [])
-unfolding keyword_of function_of many list_at point_at exponent_at number_at name_at operator_at truth_at bracket_with refer_with dollar_with special_of subscripts_with reference_with primary_with operand_with step_by step_with expr_with readers_at target_with destination_at assignment_at names_at removal_at hiding_at condition_at parameter_at repetition_at output_at args_at postcondition_at command_at spaced_at comment_at line_at digits canonical_value no_locals level_begun value_of assigned_to
+unfolding reads digits canonical_value no_locals level_begun value_of assigned_to
 faults = served (fed (codes "1 W \"x\",!,B" ∷ [])) (simp (gets, computed_maps, computed_numbers))
 
 -- lines of each fate, and an account without the terminal
 stream : stream_served alice empty (fed ([] ∷ codes "1 W 1+" ∷ codes "hello" ∷ (codes "1 ;" ++ replicate 258 65) ∷ (codes "2 W 1" ++ 13 ∷ []) ∷ codes "1 W 2" ∷ [])) ≡ fed (codes "1!ZSYNTAX" ∷ codes "?!ZWIRE" ∷ codes "?!ZLINE" ∷ codes "2!ZTERM" ∷ codes "1-2" ∷ codes "1." ∷ [])
-unfolding keyword_of function_of many list_at point_at exponent_at number_at name_at operator_at truth_at bracket_with refer_with dollar_with special_of subscripts_with reference_with primary_with operand_with step_by step_with expr_with readers_at target_with destination_at assignment_at names_at removal_at hiding_at condition_at parameter_at repetition_at output_at args_at postcondition_at command_at spaced_at comment_at line_at digits canonical_value no_locals level_begun value_of assigned_to
+unfolding reads digits canonical_value no_locals level_begun value_of assigned_to
 stream = served (fed ([] ∷ codes "1 W 1+" ∷ codes "hello" ∷ (codes "1 ;" ++ replicate 258 65) ∷ (codes "2 W 1" ++ 13 ∷ []) ∷ codes "1 W 2" ∷ [])) (simp (gets, computed_maps, computed_numbers))

@@ -1,6 +1,6 @@
 -- SPDX-License-Identifier: Apache-2.0
 use Rattle.std.proofs.Common.{Ok, refl}
-use Rattle.mgrammar.specs.Grammar.{form_of}
+use Rattle.mgrammar.specs.Commands.{form_of}
 use Rattle.mmeaning.specs.LineMeaning as meaning
 use Rattle.mmeaning.specs.LineMeaning.{context}
 use Rattle.mtree.specs.Tree.{condition_tree, keyword_tree, primary_tree}

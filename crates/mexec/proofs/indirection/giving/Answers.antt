@@ -2,7 +2,8 @@
 use Rattle.std.proofs.Common.{suc, List, arith}
 use Rattle.mspec.specs.Code.{Zsyntax}
 use Rattle.mspec.specs.Act.{Text, Act, ◌>>=◌, give_some}
-use Rattle.mgrammar.specs.Grammar.{ArgTree, FormTree, form_of}
+use Rattle.mgrammar.specs.Grammar.{ArgTree, FormTree}
+use Rattle.mgrammar.specs.Commands.{form_of}
 use Rattle.mgrammar.specs.IndirectTexts.{args_of}
 use Rattle.mtree.specs.Tree.{keyword_tree}
 use Rattle.mmeaning.specs.Levels.{within_indirection}

@@ -1,11 +1,15 @@
 -- SPDX-License-Identifier: Apache-2.0
-use Rattle.std.proofs.Common.{Option, subst}
-use Rattle.mspec.specs.Act.{Text}
-use Rattle.mgrammar.specs.Grammar.{FunctionTree}
-use Rattle.mmeaning.specs.Functions.{named_value}
+use Rattle.std.proofs.Common.{sym, subst}
+use Rattle.mspec.specs.Act.{Act, Text}
 use Rattle.mmeaning.specs.Yields.{Yields}
 use Rattle.moperator.specs.Codes.{fault_of}
+use Rattle.moperator.proofs.CalledWords.{called, one_function}
 use Rattle.moperator.proofs.functions.call.Goals as goal
 
-pub returns-in-Some-clause-value : goal.returns-in-Some-clause-value
-returns-in-Some-clause-value c = subst (λ (f : Option FunctionTree). Yields fault_of (named_value f c.args.arguments.now) (λ (v : Text). v) c.function-in-Some.result) c.in-Some.ensures c.function-in-Some.ensures.value
+pub returns-clause-value : goal.returns-clause-value
+returns-clause-value c =
+    let is = c.function.ensures in
+    subst (λ (act : Act Text). Yields fault_of act (λ (v : Text). v) c.function-2.result) (sym (called c.args.word.now _ c.args.arguments.now is)) c.function-2.ensures.value
+
+pub returns-clause-characters : goal.returns-clause-characters
+returns-clause-characters c is = c.function-2.ensures.characters (one_function c.args.word.now _ _ c.function.ensures is)

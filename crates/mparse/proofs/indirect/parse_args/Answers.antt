@@ -2,7 +2,8 @@
 use Rattle.std.proofs.Common.{map, Vec, Global}
 use Rattle.mtree.specs.declared.tree.Arg.{Arg}
 use Rattle.mtree.specs.Tree.{arg_tree, keyword_tree}
-use Rattle.mgrammar.specs.Grammar.{form_of, spell_list, spell_arg}
+use Rattle.mgrammar.specs.Grammar.{spell_list, spell_arg}
+use Rattle.mgrammar.specs.Commands.{form_of}
 use Rattle.mgrammar.specs.WellFormed.{WellList, WellArg}
 use Rattle.mgrammar.specs.IndirectTexts.{args_of}
 use Rattle.mgrammar.proofs.ReadingIndirectTexts.{reads_its_arguments}

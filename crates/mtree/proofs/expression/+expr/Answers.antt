@@ -8,7 +8,8 @@ use Rattle.mtree.proofs.expression.+expr.Goals.{put_attached-then-not-is_empty+i
 pub put_call-returns : goal.put_call-returns
 put_call-returns t c =
     let spelled = rw (arguments c.args.arguments.now.items) at c.in_ok-put_list.ensures in
-    in_bracket c.push.result c.args.out.now c.args.word.now c.put_word.new.out c.put_list.new.out c.push.new.self _ c.in_ok-put_word.ensures spelled c.push.ensures.ok
+    let word = rw c.as_text.ensures at c.in_ok-put_word.ensures in
+    in_bracket c.push.result c.args.out.now c.args.word.now c.put_word.new.out c.put_list.new.out c.push.new.self _ word spelled c.push.ensures.ok
 
 pub put_select-returns : goal.put_select-returns
 put_select-returns t c =

@@ -246,20 +246,20 @@ through-returns-clause-does g t c =
 
 pub referring-returns-in-Data-clause-does : goal.referring-returns-in-Data-clause-does
 referring-returns-in-Data-clause-does g t c =
-    let is = rw c.in-Data.is at c.in-Some.ensures in
-    rw (sym is) c.data_of.ensures.does
+    let is = rw c.in-Data.is at c.function.ensures in
+    rw is.1 c.data_of.ensures.does
 
 pub referring-returns-in-Get-clause-does : goal.referring-returns-in-Get-clause-does
 referring-returns-in-Get-clause-does g t c =
-    let is = rw c.in-Get.is at c.in-Some.ensures in
+    let is = rw c.in-Get.is at c.function.ensures in
     let k = rw c.deref.ensures.value at c.get_of.ensures.does in
-    rw (sym is) k
+    rw is.1 k
 
 pub referring-returns-in-Order-clause-does : goal.referring-returns-in-Order-clause-does
 referring-returns-in-Order-clause-does g t c =
-    let is = rw c.in-Order.is at c.in-Some.ensures in
+    let is = rw c.in-Order.is at c.function.ensures in
     let k = rw c.deref-in-Order.ensures.value at c.order_of.ensures.does in
-    rw (sym is) k
+    rw is.1 k
 
 pub data_of-returns-in_err-pending-clause-does : goal.data_of-returns-in_err-pending-clause-does
 data_of-returns-in_err-pending-clause-does g t c = evaluates_stopped _ c.in_err-pending.ensures.does c.from_residual.ensures

@@ -1,0 +1,58 @@
+-- SPDX-License-Identifier: Apache-2.0
+-- The commands, a row each: its word, its first letter, the form of its arguments, from how many to how many there may be, and whether a
+-- `postcond` may stand behind the word.
+--
+-- Restates "Command definitions" of ISO/IEC 11756:1999, of those that the language has.
+use Rattle.std.specs.Prelude.{ℕ, Bool, true, false, ◌&&◌, nat_le, if◌then◌else◌, Option, Some, None, List, [], ◌∷◌, codes}
+use Rattle.mgrammar.specs.Grammar.{is_at_most, is_either, KeywordTree, set_word, kill_word, new_word, if_word, else_word, for_word, quit_word, write_word, do_word, goto_word, execute_word, lock_word, halt_word}
+use Rattle.mgrammar.specs.Grammar.{FormTree, assignment, removal, hiding, condition, repetition, output, entrance, leap, execution, locking, nothing}
+
+pub record CommandRow : Type 0 where
+  pub short : List ℕ
+  pub whole : List ℕ
+  pub form : FormTree
+  pub least : ℕ
+  pub most : Option ℕ
+  pub is_conditioned : Bool
+
+abbrev row : List ℕ → List ℕ → FormTree → ℕ → Option ℕ → Bool → CommandRow
+row short whole form least most is_conditioned = record { short = short; whole = whole; form = form; least = least; most = most; is_conditioned = is_conditioned }
+
+abbrev pub command_row : KeywordTree → CommandRow
+command_row set_word = row (codes "s") (codes "set") assignment 1 None true
+command_row kill_word = row (codes "k") (codes "kill") removal 0 None true
+command_row new_word = row (codes "n") (codes "new") hiding 0 None true
+command_row if_word = row (codes "i") (codes "if") condition 0 None false
+command_row else_word = row (codes "e") (codes "else") nothing 0 (Some 0) false
+command_row for_word = row (codes "f") (codes "for") repetition 0 (Some 1) false
+command_row quit_word = row (codes "q") (codes "quit") nothing 0 (Some 0) true
+command_row write_word = row (codes "w") (codes "write") output 1 None true
+command_row do_word = row (codes "d") (codes "do") entrance 0 None true
+command_row goto_word = row (codes "g") (codes "goto") leap 1 None true
+command_row execute_word = row (codes "x") (codes "xecute") execution 1 None true
+command_row lock_word = row (codes "l") (codes "lock") locking 0 None true
+command_row halt_word = row (codes "h") (codes "halt") nothing 0 (Some 0) true
+
+-- those that there are
+abbrev pub keywords : List KeywordTree
+keywords =
+    set_word ∷ kill_word ∷ new_word ∷ if_word ∷ else_word ∷ for_word ∷ quit_word ∷ write_word ∷ do_word ∷ goto_word ∷ execute_word ∷ lock_word ∷ halt_word ∷ []
+
+abbrev pub keyword_named : List ℕ → List KeywordTree → Option KeywordTree
+keyword_named w [] = None
+keyword_named w (k ∷ ks) = if is_either (command_row k).short (command_row k).whole w then Some k else keyword_named w ks
+
+-- `commandword`: the whole word or its first letter
+unfoldable pub keyword_of : List ℕ → Option KeywordTree
+keyword_of w = keyword_named w keywords
+
+abbrev pub form_of : KeywordTree → FormTree
+form_of k = (command_row k).form
+
+-- whether a command takes so many arguments
+abbrev pub takes_args : KeywordTree → ℕ → Bool
+takes_args k n = nat_le (command_row k).least n && is_at_most (command_row k).most n
+
+-- whether a `postcond` may stand behind its word
+abbrev pub takes_condition : KeywordTree → Bool
+takes_condition k = (command_row k).is_conditioned

@@ -1,0 +1,69 @@
+-- SPDX-License-Identifier: Apache-2.0
+-- The functions, a row each: its word, its abbreviation, and what stands in its brackets.
+--
+-- Restates "Intrinsic functions" of ISO/IEC 11756:1999, of those that the language has.
+use Rattle.std.specs.Prelude.{ℕ, Bool, ◌&&◌, nat_le, if◌then◌else◌, Option, Some, None, List, [], ◌∷◌, codes}
+use Rattle.mgrammar.specs.Grammar.{is_at_most, is_either}
+
+-- those of values
+pub data ValueFunctionTree : Type 0 where
+  ascii_function : ValueFunctionTree
+  char_function : ValueFunctionTree
+  extract_function : ValueFunctionTree
+  find_function : ValueFunctionTree
+  justify_function : ValueFunctionTree
+  length_function : ValueFunctionTree
+  piece_function : ValueFunctionTree
+  translate_function : ValueFunctionTree
+
+-- those of a variable
+pub data VariableFunctionTree : Type 0 where
+  data_function : VariableFunctionTree
+  get_function : VariableFunctionTree
+  order_function : VariableFunctionTree
+
+-- what stands in the brackets: from so many values to so many, or without a bound; a variable, and up to so many values behind it; or choices
+pub data FunctionTree : Type 0 where
+  of_values : ValueFunctionTree → ℕ → Option ℕ → FunctionTree
+  of_variable : VariableFunctionTree → ℕ → FunctionTree
+  of_choices : FunctionTree
+
+pub record FunctionRow : Type 0 where
+  pub short : List ℕ
+  pub whole : List ℕ
+  pub function : FunctionTree
+
+abbrev pub row : List ℕ → List ℕ → FunctionTree → FunctionRow
+row short whole function = record { short = short; whole = whole; function = function }
+
+abbrev pub function_rows : List FunctionRow
+function_rows =
+    row (codes "a") (codes "ascii") (of_values ascii_function 1 (Some 2))
+    ∷ row (codes "c") (codes "char") (of_values char_function 1 None)
+    ∷ row (codes "d") (codes "data") (of_variable data_function 0)
+    ∷ row (codes "e") (codes "extract") (of_values extract_function 1 (Some 3))
+    ∷ row (codes "f") (codes "find") (of_values find_function 2 (Some 3))
+    ∷ row (codes "g") (codes "get") (of_variable get_function 1)
+    ∷ row (codes "j") (codes "justify") (of_values justify_function 2 (Some 2))
+    ∷ row (codes "l") (codes "length") (of_values length_function 1 (Some 2))
+    ∷ row (codes "o") (codes "order") (of_variable order_function 1)
+    ∷ row (codes "p") (codes "piece") (of_values piece_function 2 (Some 4))
+    ∷ row (codes "s") (codes "select") of_choices
+    ∷ row (codes "tr") (codes "translate") (of_values translate_function 2 (Some 3))
+    ∷ []
+
+abbrev pub row_named : List ℕ → List FunctionRow → Option FunctionTree
+row_named w [] = None
+row_named w (r ∷ rs) = if is_either r.short r.whole w then Some r.function else row_named w rs
+
+-- the name of a `function`: the whole word or its abbreviation
+unfoldable pub function_of : List ℕ → Option FunctionTree
+function_of w = row_named w function_rows
+
+-- whether so many values may stand in brackets that take from so many to so many: one at least
+abbrev pub takes : ℕ → Option ℕ → ℕ → Bool
+takes least most n = nat_le 1 n && (nat_le least n && is_at_most most n)
+
+-- the word of the function whose call may be a target of SET
+abbrev pub is_piece : List ℕ → Bool
+is_piece w = is_either (codes "p") (codes "piece") w

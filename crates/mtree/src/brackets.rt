@@ -1,0 +1,50 @@
+// SPDX-License-Identifier: Apache-2.0
+// What a function's word says of its brackets.
+ghost use Rattle.mtree.specs.Brackets.{IsSaid};
+
+use crate::function_word::{ValueWord, VariableWord};
+use crate::tree::Function;
+use crate::words::function_of;
+use mnum::Bytes7;
+
+/// The word of a function, with what stands in its brackets.
+#[derive(Drop)]
+pub enum FunctionWord {
+    /// At least so many values, and at most, if there is a bound.
+    OfValues {
+        word: ValueWord,
+        least: usize,
+        most: Option<usize>,
+    },
+    /// A variable, and after it at most so many values.
+    OfVariable {
+        word: VariableWord,
+        most: usize,
+    },
+    /// Choices: `$SELECT`, as it is written, without its `$`.
+    OfChoices(Bytes7),
+}
+
+impl FunctionWord {
+    /// The word that is this text, if a function has it. Takes no memory.
+    pub fn new(text: Bytes7) -> Option<FunctionWord>
+        ensures { IsSaid text result }
+    {
+        match function_of(text.as_bytes())? {
+            Function::OfValues {
+                function,
+                least,
+                most,
+            } => Some(FunctionWord::OfValues {
+                word: ValueWord { text, function },
+                least,
+                most,
+            }),
+            Function::OfVariable { function, most } => Some(FunctionWord::OfVariable {
+                word: VariableWord { text, function },
+                most,
+            }),
+            Function::OfChoices => Some(FunctionWord::OfChoices(text)),
+        }
+    }
+}

@@ -2,6 +2,9 @@
 //! Lines of M as syntax trees that keep their spelling: the case of letters, abbreviations, spaces and digits as written.
 //!
 //! What a tree means as plain data, and which text it has, are definitions of `mgrammar`: `Grammar`.
+//!
+//! The writer (`write`) serves whoever shows a tree, as the transcripts do, which read each form of the grammar and write it back. The
+//! program never writes a tree. For the writer alone a tree keeps its words, its spaces and its comment as they were written.
 #![tactic(auto)]
 
 mod brackets;

@@ -1,4 +1,6 @@
 -- SPDX-License-Identifier: Apache-2.0
+pub mod Basics
+pub mod NodesWithin
 pub mod Powers
 pub mod Rounding
 pub mod NearestLaws

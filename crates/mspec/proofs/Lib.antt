@@ -9,7 +9,6 @@ pub mod TextLaws
 pub mod CanonicalForm
 pub mod WholeTexts
 pub mod LongestLiteral
-pub mod NumberExamples
 pub mod Plans
 pub mod Maps
 pub mod HashMaps
@@ -28,6 +27,7 @@ pub mod ScopeFacts
 pub mod MapCuts
 pub mod ComputedMaps
 pub mod ComputedNumbers
+pub mod NumberExamples
 pub mod LockFacts
 pub mod GlobalExamples
 pub mod ListPlaces

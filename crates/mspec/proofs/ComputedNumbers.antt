@@ -104,4 +104,12 @@ pub text_11 : size_text (11 * 10 ^ 18) ≡ codes "11"
 unfolding size_text digits
 text_11 = refl
 
-pub ruleset computed_numbers = (value_none, value_some, round_pos, round_neg, text_0, text_1, text_2, text_3, text_4, text_5, text_6, text_7, text_8, text_9, text_10, text_11)
+pub text_16 : size_text (16 * 10 ^ 18) ≡ codes "16"
+unfolding size_text digits
+text_16 = refl
+
+pub text_9E17 : size_text (9 * 10 ^ 35) ≡ codes "900000000000000000"
+unfolding size_text digits
+text_9E17 = refl
+
+pub ruleset computed_numbers = (value_none, value_some, round_pos, round_neg, text_0, text_1, text_2, text_3, text_4, text_5, text_6, text_7, text_8, text_9, text_10, text_11, text_16, text_9E17)

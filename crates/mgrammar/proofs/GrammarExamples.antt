@@ -1,51 +1,25 @@
 -- SPDX-License-Identifier: Apache-2.0
 -- The grammar on examples, as proved equations: texts with their trees, and how deep brackets may lie.
-use Rattle.std.proofs.Common.{◌≡◌, ℕ, zero, suc, List, [], ◌∷◌, ◌++◌, Option, Some, None, refl}
+use Rattle.std.proofs.Common.{ℕ, zero, suc, List, [], ◌∷◌, ◌++◌, Option, Some, None, refl, rules}
 use Rattle.std.specs.Prelude.{codes, replicate}
-use Rattle.mgrammar.specs.Grammar.{plus, minus, negate, equals, less, greater, contains, follows, sorts_after, both, either, add, subtract, multiply, divide, divide_whole, remainder, join, is, is_not, CountTree, RepeatedTree, classes, copies, AtomTree, OperandTree, PrimaryTree, ExprTree, expr, StepTree, steps_of, apply, matches, matches_not, operand, number, text, special, reference, bracket, call, select, refer, ReferenceTree, local, global, naked, no_exprs, exprs_of, choices_of, variable, piece, DestinationTree, one, several, once, onward, until, ArgTree, assign, breaks, shown, kill_one, kill_others, new_one, new_others, tested, loop, KeywordTree, set_word, kill_word, new_word, if_word, else_word, for_word, quit_word, write_word, CommandTree, SpacedTree, LineTree, spell}
+use Rattle.mgrammar.specs.Grammar.{plus, minus, negate, equals, less, greater, contains, follows, sorts_after, both, either, add, subtract, multiply, divide, divide_whole, remainder, join, is, is_not, CountTree, RepeatedTree, classes, copies, AtomTree, OperandTree, ExprTree, expr, StepTree, steps_of, apply, matches, matches_not, operand, number, text, special, reference, bracket, call, select, refer, ReferenceTree, local, global, naked, no_exprs, exprs_of, choices_of, variable, piece, DestinationTree, one, several, once, onward, until, assign, breaks, shown, kill_one, kill_others, new_one, new_others, tested, loop, set_word, kill_word, new_word, if_word, else_word, for_word, quit_word, write_word, LineTree}
 use Rattle.mgrammar.specs.Reading.{line_at}
 use Rattle.mgrammar.proofs.Computing.{reads}
+use Rattle.mgrammar.proofs.ShortTrees.{IsRead, HaveNone, plain, named, command, conditional, of_commands}
 
 -- ---- short forms
-
--- the text has this tree
-abbrev IsRead : List ℕ → LineTree → Type 0
-IsRead t l = (spell l ≡ t) × (line_at t ≡ Some l)
-
--- nothing is read of the text: it has no tree (`no_tree` of ReadingLines)
-abbrev HasNone : List ℕ → Type 0
-HasNone t = line_at t ≡ None
-
--- with no signs in front
-abbrev plain : PrimaryTree → OperandTree
-plain p = operand [] p
 
 abbrev digits : List ℕ → OperandTree
 digits t = plain (number t)
 
--- a variable without subscripts
-abbrev unindexed : List ℕ → ReferenceTree
-unindexed t = local t no_exprs
-
 abbrev name : List ℕ → OperandTree
-name t = plain (reference (unindexed t))
+name t = plain (reference (named t))
 
 abbrev taken : OperandTree → List StepTree → ExprTree
 taken o steps = expr o (steps_of steps)
 
 abbrev alone : OperandTree → ExprTree
 alone o = taken o []
-
-abbrev command : KeywordTree → List ℕ → List ArgTree → CommandTree
-command k word args = record { keyword = k; word = word; condition = None; args = args }
-
--- with a postconditional
-abbrev conditional : KeywordTree → List ℕ → ExprTree → List ArgTree → CommandTree
-conditional k word e args = record { keyword = k; word = word; condition = Some e; args = args }
-
--- a line of these commands, with the spaces behind each
-abbrev of_commands : List SpacedTree → LineTree
-of_commands cs = record { lead = 0; commands = cs; comment = None }
 
 -- a line of one WRITE, by the letter W
 abbrev written : ExprTree → LineTree
@@ -66,7 +40,7 @@ sum_and_product =
 abbrev two_commands : LineTree
 two_commands = record {
   lead = 1;
-  commands = (command set_word (codes "s") (assign (one (variable (unindexed (codes "A")))) (alone (plain (text (codes "x\"y")))) ∷ []), 2)
+  commands = (command set_word (codes "s") (assign (one (variable (named (codes "A")))) (alone (plain (text (codes "x\"y")))) ∷ []), 2)
       ∷ (command write_word (codes "w") (shown (alone (name (codes "A"))) ∷ breaks 2 ∷ []), 0) ∷ [];
   comment = Some (codes "c");
 }
@@ -76,7 +50,7 @@ abbrev signs_in_front : LineTree
 signs_in_front = record {
   lead = 0;
   commands = (
-    command write_word (codes "WrItE") (shown (taken (operand (minus ∷ negate ∷ plus ∷ []) (reference (unindexed (codes "%a1"))))
+    command write_word (codes "WrItE") (shown (taken (operand (minus ∷ negate ∷ plus ∷ []) (reference (named (codes "%a1"))))
         (apply join (operand (minus ∷ []) (text [])) ∷ [])) ∷ []),
     1,
   ) ∷ [];
@@ -154,12 +128,12 @@ choices =
 
 abbrev piece_set : LineTree
 piece_set =
-    assigned (one (piece (codes "P") (unindexed (codes "A")) (alone (digits (codes "1"))) (Some (alone (digits (codes "2"))))))
+    assigned (one (piece (codes "P") (named (codes "A")) (alone (digits (codes "1"))) (Some (alone (digits (codes "2"))))))
     (alone (digits (codes "3")))
 
 abbrev several_set : LineTree
 several_set =
-    assigned (several (variable (unindexed (codes "A")) ∷ piece (codes "PIECE") (unindexed (codes "B")) (alone (digits (codes "1"))) None ∷ []))
+    assigned (several (variable (named (codes "A")) ∷ piece (codes "PIECE") (named (codes "B")) (alone (digits (codes "1"))) None ∷ []))
     (alone (digits (codes "3")))
 
 abbrev one_digit : List ℕ → ExprTree
@@ -183,8 +157,8 @@ specials = written (taken (plain (special (codes "T"))) (apply join (operand (ne
 -- functions of a variable, with arguments behind it or not
 abbrev of_variables : LineTree
 of_variables =
-    written (taken (plain (refer (codes "D") (unindexed (codes "L")) no_exprs))
-    (apply join (plain (refer (codes "GET") (unindexed (codes "A")) (exprs_of (one_digit (codes "1") ∷ []))))
+    written (taken (plain (refer (codes "D") (named (codes "L")) no_exprs))
+    (apply join (plain (refer (codes "GET") (named (codes "A")) (exprs_of (one_digit (codes "1") ∷ []))))
     ∷ apply join (plain (refer (codes "o") (local (codes "L") (exprs_of (alone (plain (text [])) ∷ [])))
     (exprs_of (alone (operand (minus ∷ []) (number (codes "1"))) ∷ [])))) ∷ []))
 
@@ -193,7 +167,7 @@ abbrev postconditionals : LineTree
 postconditionals =
     of_commands ((
       conditional set_word (codes "S") (alone (plain (special (codes "T"))))
-          (assign (one (variable (unindexed (codes "A")))) (one_digit (codes "1")) ∷ []),
+          (assign (one (variable (named (codes "A")))) (one_digit (codes "1")) ∷ []),
       1,
     )
     ∷ (conditional write_word (codes "W") (taken (name (codes "A")) (apply (is equals) (digits (codes "1")) ∷ [])) (breaks 1 ∷ []), 1)
@@ -290,27 +264,7 @@ each_read :
     × IsRead (codes "S $P(A,1,2)=3") piece_set
     × IsRead (codes "S (A,$PIECE(B,1))=3") several_set
 unfolding reads
-each_read = (
-  (refl, refl),
-  (refl, refl),
-  (refl, refl),
-  (refl, refl),
-  (refl, refl),
-  (refl, refl),
-  (refl, refl),
-  (
-    refl,
-    refl,
-  ),
-  (refl, refl),
-  (refl, refl),
-  (refl, refl),
-  (refl, refl),
-  (refl, refl),
-  (refl, refl),
-  (refl, refl),
-  (refl, refl),
-)
+each_read = search rules
 
 -- variables with subscripts, functions of them, and control of flow
 each_more_read :
@@ -323,16 +277,7 @@ each_more_read :
     × IsRead (codes "I A,1 IF  E  else ") conditions
     × IsRead (codes "F I=1,2:3,4:5:6 for  Q") repetitions
 unfolding reads
-each_more_read = (
-  (refl, refl),
-  (refl, refl),
-  (refl, refl),
-  (refl, refl),
-  (refl, refl),
-  (refl, refl),
-  (refl, refl),
-  (refl, refl),
-)
+each_more_read = search rules
 
 -- globals and naked references
 each_global_read :
@@ -343,7 +288,7 @@ each_global_read :
     × IsRead (codes "W $D(^X)_$G(^(1),2)_$O(^X(1))") of_globals
     × IsRead (codes "W ^(^(^%))") globals_within
 unfolding reads
-each_global_read = ((refl, refl), (refl, refl), (refl, refl), (refl, refl), (refl, refl), (refl, refl))
+each_global_read = search rules
 
 -- ---- how deep brackets may lie
 
@@ -359,7 +304,7 @@ forty_open : IsSome (line_at (codes "W " ++ in_brackets 40))
 unfolding reads
 forty_open = tt
 
-forty_one_open : HasNone (codes "W " ++ in_brackets 41)
+forty_one_open : HaveNone ((codes "W " ++ in_brackets 41) ∷ [])
 unfolding reads
 forty_one_open = refl
 
@@ -375,6 +320,6 @@ forty_subscripts : IsSome (line_at (codes "K " ++ in_subscripts 40))
 unfolding reads
 forty_subscripts = tt
 
-forty_one_subscripts : HasNone (codes "K " ++ in_subscripts 41)
+forty_one_subscripts : HaveNone ((codes "K " ++ in_subscripts 41) ∷ [])
 unfolding reads
 forty_one_subscripts = refl

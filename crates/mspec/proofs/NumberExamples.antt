@@ -20,8 +20,6 @@ computed f a b =
     option_and_then (λ x. option_and_then (λ y. option_map number_text (f x y)) (numeric_value significant_digits b)) (numeric_value significant_digits a)
 
 -- division and remainder
-
--- division and remainder
 record Division : Type 0 where
   two_thirds : computed quotient_of (codes "2") (codes "3") ≡ Some (codes ".666666666666666667")
   minus_seven_by_two : computed whole_quotient_of (codes "-7") (codes "2") ≡ Some (codes "-3")
@@ -35,8 +33,6 @@ record Division : Type 0 where
 division : Division
 unfolding computes
 division = search rules
-
--- numeric values
 
 -- numeric values
 record Values : Type 0 where
@@ -64,8 +60,6 @@ unfolding computes
 values = search rules
 
 -- rounding and overflow
-
--- rounding and overflow
 record Rounding : Type 0 where
   sixteen_digits : computed sum_of (codes "999999999999999") (codes "1") ≡ Some (codes "1000000000000000")
   sixteen_digits_read : value (codes "1234567890123456") ≡ Some (codes "1234567890123456")
@@ -81,8 +75,6 @@ unfolding computes
 rounding = search rules
 
 -- ties at the last place go away from zero, at both signs
-
--- ties at the last place go away from zero, at both signs
 record Ties : Type 0 where
   tie_up : value (codes "123456789012345678.5") ≡ Some (codes "123456789012345679")
   tie_down : value (codes "-123456789012345678.5") ≡ Some (codes "-123456789012345679")
@@ -95,8 +87,6 @@ unfolding computes
 ties = search rules
 
 -- at 10 ^ 18
-
--- at 10 ^ 18
 record Largest : Type 0 where
   tie_at_the_end : value (codes "999999999999999999.5") ≡ None
   tie_at_the_other_end : value (codes "-999999999999999999.5") ≡ None
@@ -105,8 +95,6 @@ record Largest : Type 0 where
 largest : Largest
 unfolding computes
 largest = search rules
-
--- at 10 ^ -18
 
 -- at 10 ^ -18
 record Smallest : Type 0 where
@@ -119,8 +107,6 @@ record Smallest : Type 0 where
 smallest : Smallest
 unfolding computes
 smallest = search rules
-
--- by fifteen digits
 
 -- by fifteen digits
 record ByFifteen : Type 0 where

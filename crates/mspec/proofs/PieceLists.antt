@@ -73,12 +73,6 @@ same_pieces d (p ∷ p' ∷ ps) (q ∷ q' ∷ qs) at_p at_q same =
 
 -- ---- the cut gives them
 
--- one character more before the first piece
-join-onto_first : (d : List ℕ) (x : ℕ) (ps : List (List ℕ)) → ps ≢ [] → join d (onto_first x ps) ≡ x ∷ join d ps
-join-onto_first d x [] some = absurd (some refl)
-join-onto_first d x (p ∷ []) some = refl
-join-onto_first d x (p ∷ q ∷ ps) some = refl
-
 -- a text that doesn't begin with d is not d with something after it
 pub not_begun : (d s after : List ℕ) → begins_with d s ≡ false → s ≢ d ++ after
 not_begun d s after no' e = let begun : begins_with d s ≡ true = ap (begins_with d) e ∙ begins_append d after in absurd cc

@@ -7,43 +7,42 @@ use Rattle.mspec.specs.NumberText.{size_text}
 use Rattle.mspec.specs.Code.{M9, M15, Zover, Zsteps}
 use Rattle.mspec.specs.Act.{no_locals, assigned_to}
 use Rattle.mmeaning.specs.Step.{Server}
-use Rattle.mmeaning.proofs.Running.{◌≡◌, [], ◌∷◌, None, true, false, refl, codes, empty, new_session, opening, with_steps, done, failed, AreAnswered, Answered, serving, holding, at_first, at_last, runs, running}
+use Rattle.mmeaning.proofs.Running.{◌≡◌, [], ◌∷◌, None, true, false, refl, codes, empty, new_session, opening, with_steps, done, failed, AreAnswered, Answered, serving, holding, at_first, at_last, Each, at_case, no_more, runs, running}
+
+loops : Each (
+    -- down to its limit where the increment is below zero
+    (codes "F I=3:-1:1 W I", done (codes "321")) ∷
+    -- parameters one after another, texts among them
+    (codes "F I=\"a\",3:2:8,9 W I", done (codes "a3579")) ∷
+    -- each parameter is evaluated where it is reached
+    (codes "F I=1:1:2,I+5 W I", done (codes "127")) ∷
+    -- so an error in one comes behind the turns of those before it
+    (codes "F I=1,1/0 W I", failed (codes "1") M9) ∷
+    -- and one alone stays a text
+    (codes "F I=\"3X\" W I", done (codes "3X")) ∷
+    -- the start is a number before the increment is evaluated
+    (codes "F I=\"1E30\":1/0:1", failed [] Zover) ∷
+    -- the index grows from what it is behind the turn
+    (codes "F I=1:1:5 W I S I=I+1", done (codes "135")) ∷ [])
+unfolding runs
+loops =
+    at_case _ refl (simp running) (at_case _ refl (simp running) (at_case _ refl (simp running) (at_case _ refl (simp running)
+    (at_case _ refl (simp running) (at_case _ refl (simp running) (at_case _ refl (simp running) no_more))))))
 
 record Loops : Type 0 where
   -- a FOR sets its index at each turn, up to its limit, and leaves it
   each_turn : Answered (codes "F I=1:1:3 W I" ∷ codes "W I" ∷ []) (done (codes "123") ∷ done (codes "3") ∷ [])
-  -- down to its limit where the increment is below zero
-  downwards : Answered (codes "F I=3:-1:1 W I" ∷ []) (done (codes "321") ∷ [])
   -- without a turn, where its start is past the limit
   limit_passed : Answered (codes "F I=5:1:3 W \"x\"" ∷ codes "W I" ∷ []) (done [] ∷ done (codes "5") ∷ [])
-  -- parameters one after another, texts among them
-  parameters : Answered (codes "F I=\"a\",3:2:8,9 W I" ∷ []) (done (codes "a3579") ∷ [])
-  -- each parameter is evaluated where it is reached
-  parameter_reached : Answered (codes "F I=1:1:2,I+5 W I" ∷ []) (done (codes "127") ∷ [])
-  -- so an error in one comes behind the turns of those before it
-  parameter_fails : Answered (codes "F I=1,1/0 W I" ∷ []) (failed (codes "1") M9 ∷ [])
   -- a start before an increment becomes a number
   start_is_number : Answered (codes "F I=\"3X\":1:1 W 1" ∷ codes "W I" ∷ []) (done [] ∷ done (codes "3") ∷ [])
-  -- and one alone stays a text
-  start_is_text : Answered (codes "F I=\"3X\" W I" ∷ []) (done (codes "3X") ∷ [])
-  -- the start is a number before the increment is evaluated
-  start_before_increment : Answered (codes "F I=\"1E30\":1/0:1" ∷ []) (failed [] Zover ∷ [])
-  -- the index grows from what it is behind the turn
-  index_as_it_stands : Answered (codes "F I=1:1:5 W I S I=I+1" ∷ []) (done (codes "135") ∷ [])
 
-loops : Loops
+loops_after : Loops
 unfolding runs
-loops = record {
+loops_after = record {
   each_turn = at_first (holding (codes "I") (codes "3")) _ refl (simp running) (at_last _ refl (simp running));
-  downwards = at_last _ refl (simp running);
   limit_passed = at_first (holding (codes "I") (codes "5")) _ refl (simp running) (at_last _ refl (simp running));
-  parameters = at_last _ refl (simp running);
-  parameter_reached = at_last _ refl (simp running);
-  parameter_fails = at_last _ refl (simp running);
   start_is_number = at_first (holding (codes "I") (codes "3")) _ refl (simp running) (at_last _ refl (simp running));
-  start_is_text = at_last _ refl (simp running);
-  start_before_increment = at_last _ refl (simp running);
-  index_as_it_stands = at_last _ refl (simp running);
 }
 
 record Numbers : Type 0 where
@@ -54,53 +53,55 @@ numbers : Numbers
 unfolding computes
 numbers = search rules
 
-record Sums : Type 0 where
-  -- the limit is compared with the exact sum, not with the rounded one
-  exact_limit : Answered (codes "F I=999999999999999999:.1:999999999999999999 W 1" ∷ []) (done (codes "1") ∷ [])
-  -- a sum that is too large is an error where no limit ends the FOR before
-  sum_too_large : Answered (codes "F I=9E17:9E17 W 1" ∷ []) (failed (codes "1") Zover ∷ [])
-  -- and none where one does
-  sum_past_limit : Answered (codes "F I=9E17:9E17:9E17 W 1" ∷ []) (done (codes "1") ∷ [])
-
-sums : Sums
+sums : Each (
+    -- the limit is compared with the exact sum, not with the rounded one
+    (codes "F I=999999999999999999:.1:999999999999999999 W 1", done (codes "1")) ∷
+    -- a sum that is too large is an error where no limit ends the FOR before
+    (codes "F I=9E17:9E17 W 1", failed (codes "1") Zover) ∷
+    -- and none where one does
+    (codes "F I=9E17:9E17:9E17 W 1", done (codes "1")) ∷ [])
 unfolding runs
-sums = record {
-  exact_limit = at_last _ refl (simp (running, numbers.tenth, numbers.largest));
-  sum_too_large = at_last _ refl (simp running);
-  sum_past_limit = at_last _ refl (simp running);
-}
+sums = at_case _ refl (simp (running, numbers.tenth, numbers.largest)) (at_case _ refl (simp running) (at_case _ refl (simp running) no_more))
+
+turns_ended : Each (
+    -- a FOR in a FOR: QUIT ends the inner one
+    (codes "F I=1:1:2 F J=1:1 Q:J=3  W J", done (codes "1212")) ∷
+    -- QUIT ends the FOR with all its parameters
+    (codes "F I=1,2,3 Q:I=2  W I", done (codes "1")) ∷
+    -- an IF that is false ends the turn, and not the FOR
+    (codes "F I=1:1:3 W I I I=2 W \"x\"", done (codes "12x3")) ∷
+    -- an index that is undefined where it is to grow is an error, also where no turn could come
+    (codes "F I=1:1:1 K I", failed [] M15) ∷
+    -- a text as parameter reads no index
+    (codes "F I=1,2 K I", done []) ∷
+    -- an index that NEW hid is undefined
+    (codes "F I=1:1:3 N I", failed [] M15) ∷ [])
+unfolding runs
+turns_ended =
+    at_case _ refl (simp running) (at_case _ refl (simp running) (at_case _ refl (simp running) (at_case _ refl (simp running)
+    (at_case _ refl (simp running) (at_case _ refl (simp running) no_more)))))
 
 record TurnsEnded : Type 0 where
-  -- a FOR in a FOR: QUIT ends the inner one
-  nested : Answered (codes "F I=1:1:2 F J=1:1 Q:J=3  W J" ∷ []) (done (codes "1212") ∷ [])
-  -- QUIT ends the FOR with all its parameters
-  quit_ends_for : Answered (codes "F I=1,2,3 Q:I=2  W I" ∷ []) (done (codes "1") ∷ [])
-  -- an IF that is false ends the turn, and not the FOR
-  if_ends_turn : Answered (codes "F I=1:1:3 W I I I=2 W \"x\"" ∷ []) (done (codes "12x3") ∷ [])
   -- a FOR without an index turns until QUIT
   without_index : Answered (codes "S A=1 F  S A=A+1 Q:A=3" ∷ codes "W A" ∷ []) (done [] ∷ done (codes "3") ∷ [])
-  -- an index that is undefined where it is to grow is an error, also where no turn could come
-  index_killed : Answered (codes "F I=1:1:1 K I" ∷ []) (failed [] M15 ∷ [])
-  -- a text as parameter reads no index
-  index_not_read : Answered (codes "F I=1,2 K I" ∷ []) (done [] ∷ [])
-  -- an index that NEW hid is undefined
-  index_hidden : Answered (codes "F I=1:1:3 N I" ∷ []) (failed [] M15 ∷ [])
 
-turns_ended : TurnsEnded
+turns_ended_after : TurnsEnded
 unfolding runs
-turns_ended = record {
-  nested = at_last _ refl (simp running);
-  quit_ends_for = at_last _ refl (simp running);
-  if_ends_turn = at_last _ refl (simp running);
+turns_ended_after = record {
   without_index = at_first (holding (codes "A") (codes "3")) _ refl (simp running) (at_last _ refl (simp running));
-  index_killed = at_last _ refl (simp running);
-  index_not_read = at_last _ refl (simp running);
-  index_hidden = at_last _ refl (simp running);
 }
 
 -- what a line with so many steps leaves
 abbrev turned_out : Server
 turned_out = serving (record { locals = assigned_to (assigned_to no_locals (codes "N") [] (codes "3")) (codes "I") [] (codes "4"); naked = None; test = false })
+
+tests : Each (
+    -- of a command whose condition is false nothing is evaluated
+    (codes "S:0 A=1/0 W 1", done (codes "1")) ∷
+    -- QUIT ends the line where there is no FOR
+    (codes "W 1 Q  W 2", done (codes "1")) ∷ [])
+unfolding runs
+tests = at_case _ refl (simp running) (at_case _ refl (simp running) no_more)
 
 record Tests : Type 0 where
   -- Three steps for the FOR and its numbers, and three for each turn: the fourth turn has its index, and no step.
@@ -111,18 +112,12 @@ record Tests : Type 0 where
   else_passed_over : Answered (codes "I 1 W \"a\"" ∷ codes "E  W \"b\"" ∷ []) (done (codes "a") ∷ done [] ∷ [])
   -- IF goes on while its arguments are true, and each sets $TEST
   each_sets_test : Answered (codes "I 1,0 W 5" ∷ codes "W $T" ∷ []) (done [] ∷ done (codes "0") ∷ [])
-  -- of a command whose condition is false nothing is evaluated
-  condition_false : Answered (codes "S:0 A=1/0 W 1" ∷ []) (done (codes "1") ∷ [])
-  -- QUIT ends the line where there is no FOR
-  quit_ends_line : Answered (codes "W 1 Q  W 2" ∷ []) (done (codes "1") ∷ [])
 
-tests : Tests
+tests_after : Tests
 unfolding runs
-tests = record {
+tests_after = record {
   steps_used_up = at_first turned_out _ refl (simp running) (at_last _ refl (simp running));
   else_after_if = at_first (serving new_session) _ refl (simp running) (at_last _ refl (simp running));
   else_passed_over = at_first (serving (record { locals = no_locals; naked = None; test = true })) _ refl (simp running) (at_last _ refl (simp running));
   each_sets_test = at_first (serving new_session) _ refl (simp running) (at_last _ refl (simp running));
-  condition_false = at_last _ refl (simp running);
-  quit_ends_line = at_last _ refl (simp running);
 }

@@ -9,7 +9,7 @@ use Rattle.mgrammar.specs.IndirectTexts.{ref_at, args_of}
 use Rattle.mgrammar.proofs.Computing.{reads}
 use Rattle.mmeaning.specs.LineMeaning.{line_end}
 use Rattle.mmeaning.proofs.LineTrees.{only, with_operator, named, set_to}
-use Rattle.mmeaning.proofs.Running.{◌≡◌, List, [], ◌∷◌, Some, None, true, false, refl, codes, empty, Text, opening, with_steps, done, failed, AreAnswered, Answered, serving, holding, at_first, at_last, runs, running}
+use Rattle.mmeaning.proofs.Running.{◌≡◌, List, [], ◌∷◌, Some, None, true, false, refl, codes, empty, Text, opening, with_steps, done, failed, AreAnswered, Answered, serving, holding, at_first, at_last, Each, at_case, no_more, runs, running}
 
 -- ---- what is read of the texts
 
@@ -46,77 +46,73 @@ texts_read = search rules
 
 -- ---- name indirection
 
+names : Each (
+    -- arguments that a text gives, and a variable that it names with subscripts behind it
+    (codes "S A=\"B\",B=7 W @A,@\"A\"@(1)", failed (codes "7") M6) ∷
+    -- what a text names is set, with or without subscripts behind it
+    (codes "S A=\"B\",@A=1,@A@(2)=3 W B,B(2)", done (codes "13")) ∷
+    -- a text's own parts are evaluated before the subscripts behind it
+    (codes "W @\"B(C)\"@(1/0)", failed [] M6) ∷
+    -- and the text is read before that
+    (codes "W @\"B C\"@(1/0)", failed [] Zsyntax) ∷
+    -- then the subscripts are evaluated
+    (codes "W @\"B\"@(1/0)", failed [] M9) ∷
+    -- subscripts belong to the innermost indirection, whose value is a text again
+    (codes "S C(1)=\"B\",B=5 W @@\"C\"@(1)", done (codes "5")) ∷
+    -- and so do others to the one around it
+    (codes "S C(1)=\"B\",B(2)=6 W @@\"C\"@(1)@(2)", done (codes "6")) ∷ [])
+unfolding runs
+names =
+    at_case _ refl (simp running) (at_case _ refl (simp running) (at_case _ refl (simp running) (at_case _ refl (simp running)
+    (at_case _ refl (simp running) (at_case _ refl (simp running) (at_case _ refl (simp running) no_more))))))
+
 record Names : Type 0 where
-  -- arguments that a text gives, and a variable that it names with subscripts behind it
-  name_indirection : Answered (codes "S A=\"B\",B=7 W @A,@\"A\"@(1)" ∷ []) (failed (codes "7") M6 ∷ [])
-  -- what a text names is set, with or without subscripts behind it
-  names_set : Answered (codes "S A=\"B\",@A=1,@A@(2)=3 W B,B(2)" ∷ []) (done (codes "13") ∷ [])
-  -- a text's own parts are evaluated before the subscripts behind it
-  parts_in_order : Answered (codes "W @\"B(C)\"@(1/0)" ∷ []) (failed [] M6 ∷ [])
-  -- and the text is read before that
-  text_before_subscripts : Answered (codes "W @\"B C\"@(1/0)" ∷ []) (failed [] Zsyntax ∷ [])
-  -- then the subscripts are evaluated
-  subscripts_evaluated : Answered (codes "W @\"B\"@(1/0)" ∷ []) (failed [] M9 ∷ [])
-  -- subscripts belong to the innermost indirection, whose value is a text again
-  innermost_attached : Answered (codes "S C(1)=\"B\",B=5 W @@\"C\"@(1)" ∷ []) (done (codes "5") ∷ [])
-  -- and so do others to the one around it
-  both_attached : Answered (codes "S C(1)=\"B\",B(2)=6 W @@\"C\"@(1)@(2)" ∷ []) (done (codes "6") ∷ [])
   -- the variable that a text names costs no step of its own: of ten steps eight are used before the turns
   name_costs_nothing : AreAnswered (with_steps 10) (opening empty) (codes "S A=1 I +@\"A\"  F %N=1:1" ∷ codes "W %N" ∷ []) (failed [] Zsteps ∷ done (codes "3") ∷ [])
 
-names : Names
+names_after : Names
 unfolding runs
-names = record {
-  name_indirection = at_last _ refl (simp running);
-  names_set = at_last _ refl (simp running);
-  parts_in_order = at_last _ refl (simp running);
-  text_before_subscripts = at_last _ refl (simp running);
-  subscripts_evaluated = at_last _ refl (simp running);
-  innermost_attached = at_last _ refl (simp running);
-  both_attached = at_last _ refl (simp running);
+names_after = record {
   name_costs_nothing = at_first (serving (record { locals = assigned_to (assigned_to no_locals (codes "A") [] (codes "1")) (codes "%N") [] (codes "3"); naked = None; test = true })) _ refl (simp running) (at_last _ refl (simp running));
 }
 
 -- ---- argument indirection
 
+arguments_given : Each (
+    -- SET
+    (codes "S A=\"B=4,C=5\" S @A W B+C", done (codes "9")) ∷
+    -- XECUTE
+    (codes "S A=\"\"\"W 5\"\",\"\"W 6\"\"\" X @A", done (codes "56")) ∷
+    -- with a postconditional it is a name that the text has to give
+    (codes "S A=\"\"\"W 5\"\",\"\"W 6\"\"\" X @A:1", failed [] Zsyntax) ∷
+    (codes "S A=\"B\",B=\"W 5\" X @A:1", done (codes "5")) ∷
+    -- and DO takes none
+    (codes "W 1 D @\"U^T\":1", failed [] Zsyntax) ∷
+    -- KILL and NEW
+    (codes "S A=1,B=2 K @\"A,B\" W $D(A),$D(B)", done (codes "00")) ∷
+    (codes "S A=1 N @\"A\" W $D(A)", done (codes "0")) ∷
+    -- WRITE, at each turn of a FOR anew
+    (codes "F I=1:1:2 W @\"I\"", done (codes "12")) ∷
+    -- what stands before an error in the text is written
+    (codes "W @\"1,!,2,1/0\"", failed (codes "1" ++ line_end ∷ codes "2") M9) ∷
+    -- a text gives one argument at least
+    (codes "W @\"\"", failed [] Zsyntax) ∷ [])
+unfolding runs
+arguments_given =
+    at_case _ refl (simp running) (at_case _ refl (simp running) (at_case _ refl (simp running) (at_case _ refl (simp running)
+    (at_case _ refl (simp running) (at_case _ refl (simp running) (at_case _ refl (simp running) (at_case _ refl (simp running)
+    (at_case _ refl (simp running) (at_case _ refl (simp running) no_more)))))))))
+
 record ArgumentsGiven : Type 0 where
-  -- SET
-  given_assignments : Answered (codes "S A=\"B=4,C=5\" S @A W B+C" ∷ []) (done (codes "9") ∷ [])
-  -- XECUTE
-  given_texts : Answered (codes "S A=\"\"\"W 5\"\",\"\"W 6\"\"\" X @A" ∷ []) (done (codes "56") ∷ [])
-  -- with a postconditional it is a name that the text has to give
-  conditioned_text : Answered (codes "S A=\"\"\"W 5\"\",\"\"W 6\"\"\" X @A:1" ∷ []) (failed [] Zsyntax ∷ [])
-  conditioned_name : Answered (codes "S A=\"B\",B=\"W 5\" X @A:1" ∷ []) (done (codes "5") ∷ [])
-  -- and DO takes none
-  conditioned_entry : Answered (codes "W 1 D @\"U^T\":1" ∷ []) (failed [] Zsyntax ∷ [])
-  -- KILL and NEW
-  given_removals : Answered (codes "S A=1,B=2 K @\"A,B\" W $D(A),$D(B)" ∷ []) (done (codes "00") ∷ [])
-  given_names : Answered (codes "S A=1 N @\"A\" W $D(A)" ∷ []) (done (codes "0") ∷ [])
   -- IF: a false condition of the text skips the rest of the line
   given_conditions : Answered (codes "I @\"1,0\" W 1" ∷ codes "W $T" ∷ []) (done [] ∷ done (codes "0") ∷ [])
-  -- WRITE, at each turn of a FOR anew
-  shown_in_turns : Answered (codes "F I=1:1:2 W @\"I\"" ∷ []) (done (codes "12") ∷ [])
-  -- what stands before an error in the text is written
-  shown_before_error : Answered (codes "W @\"1,!,2,1/0\"" ∷ []) (failed (codes "1" ++ line_end ∷ codes "2") M9 ∷ [])
-  -- a text gives one argument at least
-  no_argument : Answered (codes "W @\"\"" ∷ []) (failed [] Zsyntax ∷ [])
   -- the argument itself costs no step: of ten six are used before the turns
   argument_costs_operand : AreAnswered (with_steps 10) (opening empty) (codes "W @\"1\"  F %N=1:1" ∷ codes "W %N" ∷ []) (failed (codes "1") Zsteps ∷ done (codes "5") ∷ [])
 
-arguments_given : ArgumentsGiven
+arguments_given_after : ArgumentsGiven
 unfolding runs
-arguments_given = record {
-  given_assignments = at_last _ refl (simp running);
-  given_texts = at_last _ refl (simp running);
-  conditioned_text = at_last _ refl (simp running);
-  conditioned_name = at_last _ refl (simp running);
-  conditioned_entry = at_last _ refl (simp running);
-  given_removals = at_last _ refl (simp running);
-  given_names = at_last _ refl (simp running);
+arguments_given_after = record {
   given_conditions = at_first (serving (record { locals = no_locals; naked = None; test = false })) _ refl (simp running) (at_last _ refl (simp running));
-  shown_in_turns = at_last _ refl (simp running);
-  shown_before_error = at_last _ refl (simp running);
-  no_argument = at_last _ refl (simp running);
   argument_costs_operand = at_first (holding (codes "%N") (codes "5")) _ refl (simp running) (at_last _ refl (simp running));
 }
 
@@ -129,22 +125,15 @@ operands n = codes "W " ++ (replicate n 64 ++ codes "A")
 abbrev in_brackets : ℕ → Text → Text
 in_brackets n t = replicate n 40 ++ (t ++ replicate n 41)
 
-record Depths : Type 0 where
-  forty_operands : Answered (operands 40 ∷ []) (failed [] M6 ∷ [])
-  one_operand_more : Answered (operands 41 ∷ []) (failed [] Zsyntax ∷ [])
-  operand_in_brackets : Answered ((codes "S A=1 W " ++ in_brackets 39 (codes "@\"A\"")) ∷ []) (done (codes "1") ∷ [])
-  subscripts_in_brackets : Answered ((codes "S A(1)=1 W " ++ in_brackets 39 (codes "@\"A(1)\"@(2)")) ∷ []) (failed [] M6 ∷ [])
-  one_bracket_more : Answered ((codes "W " ++ in_brackets 40 (codes "@\"A\"")) ∷ []) (failed [] Zsyntax ∷ [])
-  -- a text that stands for itself: 32 indirections are under evaluation where it is refused
-  text_of_itself : Answered (codes "S A=\"@A\" W @A" ∷ []) (failed [] Zdepth ∷ [])
-
-depths : Depths
+depths : Each (
+    (operands 40, failed [] M6) ∷
+    (operands 41, failed [] Zsyntax) ∷
+    ((codes "S A=1 W " ++ in_brackets 39 (codes "@\"A\"")), done (codes "1")) ∷
+    ((codes "S A(1)=1 W " ++ in_brackets 39 (codes "@\"A(1)\"@(2)")), failed [] M6) ∷
+    ((codes "W " ++ in_brackets 40 (codes "@\"A\"")), failed [] Zsyntax) ∷
+    -- a text that stands for itself: 32 indirections are under evaluation where it is refused
+    (codes "S A=\"@A\" W @A", failed [] Zdepth) ∷ [])
 unfolding runs
-depths = record {
-  forty_operands = at_last _ refl (simp (running, running));
-  one_operand_more = at_last _ refl (simp (running, running));
-  operand_in_brackets = at_last _ refl (simp (running, running));
-  subscripts_in_brackets = at_last _ refl (simp (running, running));
-  one_bracket_more = at_last _ refl (simp (running, running));
-  text_of_itself = at_last _ refl (simp (running, running));
-}
+depths =
+    at_case _ refl (simp (running, running)) (at_case _ refl (simp (running, running)) (at_case _ refl (simp (running, running))
+    (at_case _ refl (simp (running, running)) (at_case _ refl (simp (running, running)) (at_case _ refl (simp (running, running)) no_more)))))

@@ -14,7 +14,7 @@ use Rattle.mmeaning.specs.LineMeaning.{Signal}
 use Rattle.mmeaning.specs.Step.{Event, Reply, act, begun, text_run}
 use Rattle.mmeaning.specs.History.{replies}
 use Rattle.mmeaning.proofs.ExampleAccount.{alice}
-use Rattle.mmeaning.proofs.Running.{◌≡◌, List, [], ◌∷◌, Some, None, refl, codes, empty, gets, Text, new_session, opening, account, with_steps, done, failed, AreAnswered, Answered, holding, at_first, at_last, runs, running}
+use Rattle.mmeaning.proofs.Running.{◌≡◌, List, [], ◌∷◌, Some, None, refl, codes, empty, gets, Text, new_session, opening, account, with_steps, done, failed, AreAnswered, Answered, holding, at_first, at_last, Each, at_case, no_more, runs, running}
 
 abbrev event : ℕ × Text → Event
 event e = record { terminal = e.0; text = e.1 }
@@ -111,51 +111,51 @@ numbers : Numbers
 unfolding computes
 numbers = search rules
 
-record Targets : Type 0 where
-  -- targets of SET, from left to right
-  list_of_targets : Answered (codes "S (A,B)=3 W A+B" ∷ []) (done (codes "6") ∷ [])
-  piece_padded : Answered (codes "S P=\"a\" S $P(P,\"-\",3)=\"z\" W P" ∷ []) (done (codes "a--z") ∷ [])
-  targets_one_by_one : Answered (codes "S (B,$P(B,\",\",2))=\"x\" W B" ∷ []) (done (codes "x,x") ∷ [])
-  place_too_far : Answered (codes "S B=1,$P(B,\",\",501)=2" ∷ codes "W B" ∷ []) (failed [] Zarg ∷ done (codes "1") ∷ [])
-  place_before_delimiter : Answered (codes "S $P(A,\"\",\"1E30\")=1" ∷ []) (failed [] Zover ∷ [])
-  delimiter_empty : Answered (codes "S $P(A,\"\",1)=1" ∷ []) (failed [] Zarg ∷ [])
-  place_without_fraction : Answered (codes "S $P(A,\",\",2.9)=1 W A" ∷ []) (done (codes ",1") ∷ [])
-  parts_before_value : Answered (codes "S $P(A,1/0)=B" ∷ []) (failed [] M9 ∷ [])
-
-targets : Targets
+targets : Each (
+    -- targets of SET, from left to right
+    (codes "S (A,B)=3 W A+B", done (codes "6")) ∷
+    (codes "S P=\"a\" S $P(P,\"-\",3)=\"z\" W P", done (codes "a--z")) ∷
+    (codes "S (B,$P(B,\",\",2))=\"x\" W B", done (codes "x,x")) ∷
+    (codes "S $P(A,\"\",\"1E30\")=1", failed [] Zover) ∷
+    (codes "S $P(A,\"\",1)=1", failed [] Zarg) ∷
+    (codes "S $P(A,\",\",2.9)=1 W A", done (codes ",1")) ∷
+    (codes "S $P(A,1/0)=B", failed [] M9) ∷ [])
 unfolding runs
-targets = record {
-  list_of_targets = at_last _ refl (simp running);
-  piece_padded = at_last _ refl (simp running);
-  targets_one_by_one = at_last _ refl (simp running);
+targets =
+    at_case _ refl (simp running) (at_case _ refl (simp running) (at_case _ refl (simp running) (at_case _ refl (simp running)
+    (at_case _ refl (simp running) (at_case _ refl (simp (running, numbers.place_without_fraction)) (at_case _ refl (simp running) no_more))))))
+
+record Targets : Type 0 where
+  place_too_far : Answered (codes "S B=1,$P(B,\",\",501)=2" ∷ codes "W B" ∷ []) (failed [] Zarg ∷ done (codes "1") ∷ [])
+
+targets_after : Targets
+unfolding runs
+targets_after = record {
   place_too_far = at_first (holding (codes "B") (codes "1")) _ refl (simp (running, numbers.place_too_far)) (at_last _ refl (simp running));
-  place_before_delimiter = at_last _ refl (simp running);
-  delimiter_empty = at_last _ refl (simp running);
-  place_without_fraction = at_last _ refl (simp (running, numbers.place_without_fraction));
-  parts_before_value = at_last _ refl (simp running);
 }
 
+lines_run : Each (
+    -- a line end is the byte 255
+    (codes "SET A=\"x\" W A_1,!,A-1*2", done (codes "x1" ++ (255 ∷ codes "-2"))) ∷
+    (codes "W 1,\"a\"_B", failed (codes "1") M6) ∷
+    -- both operands are evaluated before they become numbers
+    (codes "W \"1E30\"+B", failed [] M6) ∷ [])
+unfolding runs
+lines_run = at_case _ refl (simp running) (at_case _ refl (simp running) (at_case _ refl (simp running) no_more))
+
 record LinesRun : Type 0 where
-  -- a line end is the byte 255
-  set_and_write : Answered (codes "SET A=\"x\" W A_1,!,A-1*2" ∷ []) (done (codes "x1" ++ (255 ∷ codes "-2")) ∷ [])
   -- locals last from line to line
   locals_last : Answered (codes "S A=5" ∷ codes "W A,A+1" ∷ []) (done [] ∷ done (codes "56") ∷ [])
-  undefined_local : Answered (codes "W 1,\"a\"_B" ∷ []) (failed (codes "1") M6 ∷ [])
-  -- both operands are evaluated before they become numbers
-  operands_before_numbers : Answered (codes "W \"1E30\"+B" ∷ []) (failed [] M6 ∷ [])
   -- what stands before an error stands, and what stands behind it is not done
   set_stops_at_fault : Answered (codes "S A=1,B=1/0,C=3" ∷ codes "W A,$D(B),$D(C)" ∷ []) (failed [] M9 ∷ done (codes "100") ∷ [])
   -- a step for each command and each primary, and none for the targets of SET and what is in their brackets
   steps_of_line : AreAnswered (with_steps 13) (opening empty) (codes "S (A,B)=1 S $P(A,\",\",2)=(1) K A(1) I $D(A(1))+1" ∷ []) (done [] ∷ [])
   step_too_few : AreAnswered (with_steps 12) (opening empty) (codes "S (A,B)=1 S $P(A,\",\",2)=(1) K A(1) I $D(A(1))+1" ∷ []) (failed [] Zsteps ∷ [])
 
-lines_run : LinesRun
+lines_run_after : LinesRun
 unfolding runs
-lines_run = record {
-  set_and_write = at_last _ refl (simp running);
+lines_run_after = record {
   locals_last = at_first (holding (codes "A") (codes "5")) _ refl (simp running) (at_last _ refl (simp running));
-  undefined_local = at_last _ refl (simp running);
-  operands_before_numbers = at_last _ refl (simp running);
   set_stops_at_fault = at_first (holding (codes "A") (codes "1")) _ refl (simp running) (at_last _ refl (simp running));
   steps_of_line = at_last _ refl (simp running);
   step_too_few = at_last _ refl (simp running);

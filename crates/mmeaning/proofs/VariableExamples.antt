@@ -7,71 +7,51 @@ use Rattle.mspec.proofs.ComputedNumbers.{computes}
 use Rattle.mspec.specs.NumberText.{size_text}
 use Rattle.mspec.specs.Code.{M9, Zsub, Zarg}
 use Rattle.mgrammar.proofs.Computing.{reads}
-use Rattle.mmeaning.proofs.Running.{◌≡◌, [], ◌∷◌, refl, codes, gets, done, failed, Answered, holding, at_first, at_last, runs, running}
+use Rattle.mmeaning.proofs.Running.{◌≡◌, [], ◌∷◌, refl, codes, gets, done, failed, Answered, holding, at_first, at_last, Each, at_case, no_more, runs, running}
 
 whole_direction_number : size_text (19 * 10 ^ 17) ≡ codes "1.9"
 unfolding size_text digits
 whole_direction_number = refl
 
-record Values : Type 0 where
-  -- a variable has its own text and texts at subscripts
-  subscripts : Answered (codes "S A=1,A(1)=2,A(1,\"x\")=3 W A,A(1),A(1,\"x\")" ∷ []) (done (codes "123") ∷ [])
-  -- a number and its canonical text are one subscript, and other texts are others
-  canonical : Answered (codes "S A(1)=5 W A(\"1\"),$D(A(\"01\"))" ∷ []) (done (codes "50") ∷ [])
-  -- $DATA tells a text from texts below
-  data_status : Answered (codes "S A(1,1)=5 W $D(A),$D(A(1)),$D(A(1,1)),$D(A(2)) S A(1)=6 W $D(A(1)),A(1,1)" ∷ []) (done (codes "101010115") ∷ [])
-  -- a default where there is no text
-  get_default : Answered (codes "W $G(A(1),\"d\") S A(1)=5 W $G(A(1),\"d\"),$G(B)" ∷ []) (done (codes "d5") ∷ [])
-  -- $ORDER goes through numbers and then other texts, forward and backward
-  order : Answered (codes "S L(2)=1,L(\"x\")=1,L(10)=1 W $O(L(\"\")),$O(L(2)),$O(L(\"x\"),-1)" ∷ []) (done (codes "21010") ∷ [])
-  -- among the subscripts that stand below the same ones, each once
-  order_below : Answered (codes "S L(1,5)=1,L(1,7,2)=1,L(1,7,3)=1,L(2)=1 W $O(L(1,5)),$O(L(\"\")),$O(L(1,7,\"\"),-1),$O(L(2))" ∷ []) (done (codes "713") ∷ [])
-  -- a direction is a number without its fraction
-  whole_direction : Answered (codes "S A(1)=1,A(2)=2 W $O(A(1),1.9),$O(A(2),-1.9)" ∷ []) (done (codes "21") ∷ [])
-
-values : Values
+values : Each (
+    -- a variable has its own text and texts at subscripts
+    (codes "S A=1,A(1)=2,A(1,\"x\")=3 W A,A(1),A(1,\"x\")", done (codes "123")) ∷
+    -- a number and its canonical text are one subscript, and other texts are others
+    (codes "S A(1)=5 W A(\"1\"),$D(A(\"01\"))", done (codes "50")) ∷
+    -- $DATA tells a text from texts below
+    (codes "S A(1,1)=5 W $D(A),$D(A(1)),$D(A(1,1)),$D(A(2)) S A(1)=6 W $D(A(1)),A(1,1)", done (codes "101010115")) ∷
+    -- a default where there is no text
+    (codes "W $G(A(1),\"d\") S A(1)=5 W $G(A(1),\"d\"),$G(B)", done (codes "d5")) ∷
+    -- $ORDER goes through numbers and then other texts, forward and backward
+    (codes "S L(2)=1,L(\"x\")=1,L(10)=1 W $O(L(\"\")),$O(L(2)),$O(L(\"x\"),-1)", done (codes "21010")) ∷
+    -- among the subscripts that stand below the same ones, each once
+    (codes "S L(1,5)=1,L(1,7,2)=1,L(1,7,3)=1,L(2)=1 W $O(L(1,5)),$O(L(\"\")),$O(L(1,7,\"\"),-1),$O(L(2))", done (codes "713")) ∷
+    -- a direction is a number without its fraction
+    (codes "S A(1)=1,A(2)=2 W $O(A(1),1.9),$O(A(2),-1.9)", done (codes "21")) ∷ [])
 unfolding runs
-values = record {
-  subscripts = at_last _ refl (simp running);
-  canonical = at_last _ refl (simp running);
-  data_status = at_last _ refl (simp running);
-  get_default = at_last _ refl (simp running);
-  order = at_last _ refl (simp running);
-  order_below = at_last _ refl (simp running);
-  whole_direction = at_last _ refl (simp (running, whole_direction_number));
-}
+values =
+    at_case _ refl (simp running) (at_case _ refl (simp running) (at_case _ refl (simp running) (at_case _ refl (simp running)
+    (at_case _ refl (simp running) (at_case _ refl (simp running) (at_case _ refl (simp (running, whole_direction_number)) no_more))))))
 
-record Refusals : Type 0 where
-  -- and none but 1 and -1
-  no_direction : Answered (codes "W $O(A(1),.9)" ∷ []) (failed [] Zarg ∷ [])
-  -- a subscript that is empty
-  subscript_refused : Answered (codes "S L(\"\")=1" ∷ []) (failed [] Zsub ∷ [])
-  -- $ORDER without a subscript
-  order_needs_subscript : Answered (codes "W $O(L)" ∷ []) (failed [] Zarg ∷ [])
-
-refusals : Refusals
+refusals : Each (
+    -- and none but 1 and -1
+    (codes "W $O(A(1),.9)", failed [] Zarg) ∷
+    -- a subscript that is empty
+    (codes "S L(\"\")=1", failed [] Zsub) ∷
+    -- $ORDER without a subscript
+    (codes "W $O(L)", failed [] Zarg) ∷ [])
 unfolding reads computes
-refusals = record {
-  no_direction = at_last _ refl (simp gets);
-  subscript_refused = at_last _ refl (simp gets);
-  order_needs_subscript = at_last _ refl (simp gets);
-}
+refusals = at_case _ refl (simp gets) (at_case _ refl (simp gets) (at_case _ refl (simp gets) no_more))
 
-record Killed : Type 0 where
-  -- KILL takes a node with what stands below it, and nothing beside it
-  kill_takes_nodes : Answered (codes "S A=1,A(1)=2,A(1,1)=3,A(2)=4 K A(1) W $D(A),A,A(2),$D(A(1)) K A W $D(A)" ∷ []) (done (codes "111400") ∷ [])
-  -- of all variables those named in brackets are spared
-  kill_spares : Answered (codes "S A=1,B=2,C=3 K (A,B) W $D(A),$D(B),$D(C)" ∷ []) (done (codes "110") ∷ [])
-  -- and none where no name is given
-  kill_all : Answered (codes "S A=1,B(1)=2 K  W $D(A),$D(B)" ∷ []) (done (codes "00") ∷ [])
-
-killed : Killed
+killed : Each (
+    -- KILL takes a node with what stands below it, and nothing beside it
+    (codes "S A=1,A(1)=2,A(1,1)=3,A(2)=4 K A(1) W $D(A),A,A(2),$D(A(1)) K A W $D(A)", done (codes "111400")) ∷
+    -- of all variables those named in brackets are spared
+    (codes "S A=1,B=2,C=3 K (A,B) W $D(A),$D(B),$D(C)", done (codes "110")) ∷
+    -- and none where no name is given
+    (codes "S A=1,B(1)=2 K  W $D(A),$D(B)", done (codes "00")) ∷ [])
 unfolding runs
-killed = record {
-  kill_takes_nodes = at_last _ refl (simp running);
-  kill_spares = at_last _ refl (simp running);
-  kill_all = at_last _ refl (simp running);
-}
+killed = at_case _ refl (simp running) (at_case _ refl (simp running) (at_case _ refl (simp running) no_more))
 
 record Hidden : Type 0 where
   -- what NEW hides comes back behind the line

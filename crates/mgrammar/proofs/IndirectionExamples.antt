@@ -1,26 +1,14 @@
 -- SPDX-License-Identifier: Apache-2.0
 -- Indirection on examples, as proved equations: texts with their trees, and texts that have none.
-use Rattle.std.proofs.Common.{◌≡◌, ℕ, zero, suc, ◌≢◌, List, [], ◌∷◌, ◌++◌, Some, None, refl}
+use Rattle.std.proofs.Common.{◌≡◌, ℕ, zero, suc, ◌≢◌, List, [], ◌∷◌, ◌++◌, Some, None, refl, rules}
 use Rattle.std.specs.Prelude.{codes, replicate}
-use Rattle.mgrammar.specs.Grammar.{plus, add, apply, ExprTree, expr, no_steps, step, operand, PrimaryTree, number, text, reference, bracket, ReferenceTree, local, naked, indirect, no_exprs, exprs, variable, one, several, at_label_in, assignment, removal, hiding, condition, output, entrance, leap, execution, ArgTree, assign, breaks, shown, kill_one, do_one, executed, indirect_args, KeywordTree, set_word, kill_word, new_word, if_word, write_word, do_word, goto_word, execute_word, LineTree, spell}
+use Rattle.mgrammar.specs.Grammar.{plus, add, apply, expr, no_steps, step, operand, PrimaryTree, number, text, reference, bracket, ReferenceTree, local, naked, indirect, no_exprs, exprs, variable, one, several, at_label_in, assignment, removal, hiding, condition, output, entrance, leap, execution, assign, breaks, shown, kill_one, do_one, executed, indirect_args, set_word, kill_word, new_word, if_word, write_word, do_word, goto_word, execute_word}
 use Rattle.mgrammar.specs.Reading.{line_at}
 use Rattle.mgrammar.specs.IndirectTexts.{ref_at, args_of}
 use Rattle.mgrammar.proofs.Computing.{reads}
+use Rattle.mgrammar.proofs.ShortTrees.{IsRead, HaveNone, only, named, of_one}
 
 -- ---- short forms
-
-abbrev IsRead : List ℕ → LineTree → Type 0
-IsRead t l = (spell l ≡ t) × (line_at t ≡ Some l)
-
--- nothing is read of the text: it has no tree (`no_tree` of ReadingLines)
-abbrev HasNone : List ℕ → Type 0
-HasNone t = line_at t ≡ None
-
-abbrev only : PrimaryTree → ExprTree
-only p = expr (operand [] p) no_steps
-
-abbrev named : List ℕ → ReferenceTree
-named name = local name no_exprs
 
 -- a variable without subscripts, A
 abbrev a : PrimaryTree
@@ -34,89 +22,60 @@ at p = indirect p no_exprs
 abbrev at_digit : PrimaryTree → List ℕ → ReferenceTree
 at_digit p t = indirect p (exprs (only (number t)) no_exprs)
 
--- a line of one command by its letter
-abbrev of_one : KeywordTree → List ℕ → List ArgTree → LineTree
-of_one k word args = record {
-  lead = 0;
-  commands = (record { keyword = k; word = word; condition = None; args = args }, 0) ∷ [];
-  comment = None;
-}
-
 -- ---- name indirection
 
--- in the place of a variable; with subscripts behind a further `@`; and those belong to the innermost `@` that has none yet
-operand_and_subscripts : IsRead (codes "W @A+1,@A@(1),@@A@(1)@(2),+@@A@(1)") (of_one write_word (codes "W") (shown (expr (operand [] (reference (at a))) (step (apply add (operand [] (number (codes "1")))) no_steps)) ∷ shown (only (reference (at_digit a (codes "1")))) ∷ shown (only (reference (at_digit (reference (at_digit a (codes "1"))) (codes "2")))) ∷ shown (expr (operand (plus ∷ []) (reference (at (reference (at_digit a (codes "1")))))) no_steps) ∷ []))
-unfolding reads
-operand_and_subscripts = (refl, refl)
+record Names : Type 0 where
+  -- in the place of a variable; with subscripts behind a further `@`; and those belong to the innermost `@` that has none yet
+  operand_and_subscripts : IsRead (codes "W @A+1,@A@(1),@@A@(1)@(2),+@@A@(1)") (of_one write_word (codes "W") (shown (expr (operand [] (reference (at a))) (step (apply add (operand [] (number (codes "1")))) no_steps)) ∷ shown (only (reference (at_digit a (codes "1")))) ∷ shown (only (reference (at_digit (reference (at_digit a (codes "1"))) (codes "2")))) ∷ shown (expr (operand (plus ∷ []) (reference (at (reference (at_digit a (codes "1")))))) no_steps) ∷ []))
+  -- a target of SET, and what KILL takes away
+  targets : IsRead (codes "S @A=1,(@A,B)=@A") (of_one set_word (codes "S") (assign (one (variable (at a))) (only (number (codes "1"))) ∷ assign (several (variable (at a) ∷ variable (named (codes "B")) ∷ [])) (only (reference (at a))) ∷ []))
+  -- a postconditional makes it an expression
+  conditioned_text : IsRead (codes "X @A:1") (of_one execute_word (codes "X") (executed (only (reference (at a))) (Some (only (number (codes "1")))) ∷ []))
 
--- a target of SET, and what KILL takes away
-targets : IsRead (codes "S @A=1,(@A,B)=@A") (of_one set_word (codes "S") (assign (one (variable (at a))) (only (number (codes "1"))) ∷ assign (several (variable (at a) ∷ variable (named (codes "B")) ∷ [])) (only (reference (at a))) ∷ []))
+names : Names
 unfolding reads
-targets = (refl, refl)
-
--- a postconditional makes it an expression
-conditioned_text : IsRead (codes "X @A:1") (of_one execute_word (codes "X") (executed (only (reference (at a))) (Some (only (number (codes "1")))) ∷ []))
-unfolding reads
-conditioned_text = (refl, refl)
+names = search rules
 
 -- ---- argument indirection
 
--- WRITE: beside other arguments
-output_given : IsRead (codes "W @A,1,@@A,@\"A\"") (of_one write_word (codes "W") (indirect_args output a ∷ shown (only (number (codes "1"))) ∷ indirect_args output (reference (at a)) ∷ indirect_args output (text (codes "A")) ∷ []))
-unfolding reads
-output_given = (refl, refl)
+record Arguments : Type 0 where
+  -- WRITE: beside other arguments
+  output_given : IsRead (codes "W @A,1,@@A,@\"A\"") (of_one write_word (codes "W") (indirect_args output a ∷ shown (only (number (codes "1"))) ∷ indirect_args output (reference (at a)) ∷ indirect_args output (text (codes "A")) ∷ []))
+  -- SET
+  assignment_given : IsRead (codes "S @A,@@A") (of_one set_word (codes "S") (indirect_args assignment a ∷ indirect_args assignment (reference (at a)) ∷ []))
+  -- KILL
+  removal_given : IsRead (codes "K @A,@@A") (of_one kill_word (codes "K") (indirect_args removal a ∷ indirect_args removal (reference (at a)) ∷ []))
+  -- NEW
+  hiding_given : IsRead (codes "N @A,@@A") (of_one new_word (codes "N") (indirect_args hiding a ∷ indirect_args hiding (reference (at a)) ∷ []))
+  -- IF
+  condition_given : IsRead (codes "I @A,@@A") (of_one if_word (codes "I") (indirect_args condition a ∷ indirect_args condition (reference (at a)) ∷ []))
+  -- DO
+  entrance_given : IsRead (codes "D @A,@@A") (of_one do_word (codes "D") (indirect_args entrance a ∷ indirect_args entrance (reference (at a)) ∷ []))
+  -- GOTO
+  leap_given : IsRead (codes "G @A,@@A") (of_one goto_word (codes "G") (indirect_args leap a ∷ indirect_args leap (reference (at a)) ∷ []))
+  -- XECUTE
+  execution_given : IsRead (codes "X @A,@@A") (of_one execute_word (codes "X") (indirect_args execution a ∷ indirect_args execution (reference (at a)) ∷ []))
+  -- subscripts behind a further `@` make it a variable
+  removal_named : IsRead (codes "K @A@(1),@(A)") (of_one kill_word (codes "K") (kill_one (at_digit a (codes "1")) ∷ indirect_args removal (bracket (only a)) ∷ []))
 
--- SET
-assignment_given : IsRead (codes "S @A,@@A") (of_one set_word (codes "S") (indirect_args assignment a ∷ indirect_args assignment (reference (at a)) ∷ []))
+arguments : Arguments
 unfolding reads
-assignment_given = (refl, refl)
-
--- KILL
-removal_given : IsRead (codes "K @A,@@A") (of_one kill_word (codes "K") (indirect_args removal a ∷ indirect_args removal (reference (at a)) ∷ []))
-unfolding reads
-removal_given = (refl, refl)
-
--- NEW
-hiding_given : IsRead (codes "N @A,@@A") (of_one new_word (codes "N") (indirect_args hiding a ∷ indirect_args hiding (reference (at a)) ∷ []))
-unfolding reads
-hiding_given = (refl, refl)
-
--- IF
-condition_given : IsRead (codes "I @A,@@A") (of_one if_word (codes "I") (indirect_args condition a ∷ indirect_args condition (reference (at a)) ∷ []))
-unfolding reads
-condition_given = (refl, refl)
-
--- DO
-entrance_given : IsRead (codes "D @A,@@A") (of_one do_word (codes "D") (indirect_args entrance a ∷ indirect_args entrance (reference (at a)) ∷ []))
-unfolding reads
-entrance_given = (refl, refl)
-
--- GOTO
-leap_given : IsRead (codes "G @A,@@A") (of_one goto_word (codes "G") (indirect_args leap a ∷ indirect_args leap (reference (at a)) ∷ []))
-unfolding reads
-leap_given = (refl, refl)
-
--- XECUTE
-execution_given : IsRead (codes "X @A,@@A") (of_one execute_word (codes "X") (indirect_args execution a ∷ indirect_args execution (reference (at a)) ∷ []))
-unfolding reads
-execution_given = (refl, refl)
-
--- subscripts behind a further `@` make it a variable
-removal_named : IsRead (codes "K @A@(1),@(A)") (of_one kill_word (codes "K") (kill_one (at_digit a (codes "1")) ∷ indirect_args removal (bracket (only a)) ∷ []))
-unfolding reads
-removal_named = (refl, refl)
+arguments = search rules
 
 -- ---- texts without a tree
 
 -- FOR and QUIT take none; and no name, label or routine alone is given so
-none_of_commands : HasNone (codes "F @A") × HasNone (codes "Q @A") × HasNone (codes "N @A@(1)") × HasNone (codes "N (@A)") × HasNone (codes "D @A@(1)") × HasNone (codes "D @A^R") × HasNone (codes "D A^@R") × HasNone (codes "G @A:1") × HasNone (codes "D @A:1") × HasNone (codes "S @A:1")
+none_of_commands : HaveNone (
+    codes "F @A" ∷ codes "Q @A" ∷ codes "N @A@(1)" ∷ codes "N (@A)" ∷ codes "D @A@(1)" ∷ codes "D @A^R" ∷ codes "D A^@R" ∷ codes "G @A:1" ∷
+    codes "D @A:1" ∷ codes "S @A:1" ∷ [])
 unfolding reads
-none_of_commands = (refl, refl, refl, refl, refl, refl, refl, refl, refl, refl)
+none_of_commands = refl
 
 -- an operand is a primary, and has subscripts once
-none_of_operands : HasNone (codes "W @") × HasNone (codes "W @-A") × HasNone (codes "W @A@(1)@(2)") × HasNone (codes "W @@A@") × HasNone (codes "W A@(1)") × HasNone (codes "W @A(") × HasNone (codes "W @A@()") × HasNone (codes "W @A 1")
+none_of_operands : HaveNone (
+    codes "W @" ∷ codes "W @-A" ∷ codes "W @A@(1)@(2)" ∷ codes "W @@A@" ∷ codes "W A@(1)" ∷ codes "W @A(" ∷ codes "W @A@()" ∷ codes "W @A 1" ∷ [])
 unfolding reads
-none_of_operands = (refl, refl, refl, refl, refl, refl, refl, refl)
+none_of_operands = refl
 
 -- ---- depth: an operand is one place deeper
 
@@ -131,7 +90,7 @@ forty_deep : IsRead (signs 40) (of_one write_word (codes "W") (indirect_args out
 unfolding reads
 forty_deep = (refl, refl)
 
-one_deeper : HasNone (signs 41)
+one_deeper : HaveNone ((signs 41) ∷ [])
 unfolding reads
 one_deeper = refl
 

@@ -19,6 +19,7 @@ pub mod ReadingLines
 pub mod ReadingRoutines
 pub mod ReadingLoops
 pub mod Computing
+pub mod ShortTrees
 pub mod GrammarExamples
 pub mod GrammarRefusals
 pub mod Matchings

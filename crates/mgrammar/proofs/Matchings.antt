@@ -5,7 +5,7 @@ use Rattle.std.specs.Prelude.{◌&&◌, ◌||◌, nat_le, nat_eq, Decides}
 use Rattle.std.specs.List.{list_all}
 use Rattle.std.specs.Cmp.Lexicographic.{pointwise}
 use Rattle.std.specs.Cmp.Derive.{both_true}
-use Rattle.std.proofs.lemmas.Bool.{eqb-true, leb-true, leb-false, le-leb}
+use Rattle.std.proofs.lemmas.Bool.{and_parts, eqb-true, leb-true, leb-false, le-leb}
 use Rattle.std.proofs.lemmas.Bool.Decides.{Decides-eqb}
 use Rattle.std.proofs.lemmas.List.{take-append-drop, length-append}
 use Rattle.std.proofs.lemmas.Slice.Eq.{slice_eq-Decides}
@@ -13,12 +13,9 @@ use Rattle.std.proofs.Math.Bool.{or-true}
 use Rattle.std.proofs.Math.Seq.{take-append_seam, drop-append_seam}
 use Rattle.mspec.specs.Names.{AllAre}
 use Rattle.mspec.specs.Pattern.{is_in_any, IsAtMost, Count, IsPermitted, Repeated, members, copies, copied, IsRepetition}
+use Rattle.mspec.proofs.Basics.{copies_fit, nothing_copied}
 use Rattle.mgrammar.specs.Matching.{is_at_most, is_permitted, any_up_to, is_repetition, is_match}
 use Rattle.mgrammar.specs.PatternLaws.{DecidesMatch}
-
-both_are : (a b : Bool) → (a && b) ≡ true → (a ≡ true) × (b ≡ true)
-both_are true b e = (refl, e)
-both_are false b e = absurd cc
 
 one_is : (a b : Bool) (P : Type 0) → (a || b) ≡ true → (a ≡ true → P) → (b ≡ true → P) → P
 one_is true b P e f g = f refl
@@ -49,14 +46,14 @@ at_most_is (Some most) n = (leb-true n most, le-leb n most)
 
 permitted_is : (count : Count) (n : ℕ) → Decides (is_permitted count n) (IsPermitted count n)
 permitted_is count n = (
-  λ e. let both = both_are (nat_le count.least n) (is_at_most count.most n) e in (leb-true count.least n both.0, (at_most_is count.most n).0 both.1),
+  λ e. let both = and_parts (nat_le count.least n) (is_at_most count.most n) e in (leb-true count.least n both.0, (at_most_is count.most n).0 both.1),
   λ h. both_true (le-leb count.least n h.0) ((at_most_is count.most n).1 h.1),
 )
 
 all_are : (p : ℕ → Bool) (text : List ℕ) → Decides (list_all p text) (AllAre p text)
 all_are p [] = (λ e. tt, λ h. refl)
 all_are p (c ∷ cs) = (
-  λ e. let both = both_are (p c) (list_all p cs) e in (both.0, (all_are p cs).0 both.1),
+  λ e. let both = and_parts (p c) (list_all p cs) e in (both.0, (all_are p cs).0 both.1),
   λ h. both_true h.0 ((all_are p cs).1 h.1),
 )
 
@@ -64,15 +61,6 @@ same_is : (s t : List ℕ) → Decides (pointwise nat_eq s t) (s ≡ t)
 same_is s t = slice_eq-Decides Decides-eqb s t (pointwise nat_eq s t) refl
 
 -- ---- repetitions
-
--- a string that is not empty has no more copies than they have characters
-copies_fit : (n c : ℕ) (string : List ℕ) → n ≤ length (copied n (c ∷ string))
-copies_fit zero c string = omega arith
-copies_fit (suc n) c string = rw length-append (omega (arith, copies_fit n c string))
-
-nothing_copied : (n : ℕ) → copied n [] ≡ []
-nothing_copied zero = refl
-nothing_copied (suc n) = nothing_copied n
 
 -- fewer are no more than the most
 still_at_most : (most : Option ℕ) (m n : ℕ) → m ≤ n → IsAtMost most n → IsAtMost most m
@@ -91,7 +79,7 @@ few_copies count (c ∷ string) text (n, permitted, is) =
 repetition_is : (count : Count) (what : Repeated) (text : List ℕ) → Decides (is_repetition count what text) (IsRepetition count what text)
 repetition_is count (members codes) text = (
   λ e.
-      let both = both_are (list_all (is_in_any codes) text) (is_permitted count (length text)) e in
+      let both = and_parts (list_all (is_in_any codes) text) (is_permitted count (length text)) e in
       ((all_are (is_in_any codes) text).0 both.0, (permitted_is count (length text)).0 both.1),
   λ h. both_true ((all_are (is_in_any codes) text).1 h.0) ((permitted_is count (length text)).1 h.1),
 )
@@ -99,7 +87,7 @@ repetition_is count (copies string) text =
     let test : ℕ → Bool = λ n. is_permitted count n && pointwise nat_eq text (copied n string) in (
       λ e.
           let found = passes (count.least + length text) test e in
-          let both = both_are (is_permitted count found.0) (pointwise nat_eq text (copied found.0 string)) found.2 in
+          let both = and_parts (is_permitted count found.0) (pointwise nat_eq text (copied found.0 string)) found.2 in
           (found.0, (permitted_is count found.0).0 both.0, (same_is text (copied found.0 string)).0 both.1),
       λ h.
           let few = few_copies count string text h in
@@ -116,7 +104,7 @@ decides_match (atom ∷ atoms) text =
       λ e.
           let found = passes (length text) test e in
           let n = found.0 in
-          let both = both_are (is_repetition atom.count atom.repeated (take n text)) (is_match atoms (drop n text)) found.2 in
+          let both = and_parts (is_repetition atom.count atom.repeated (take n text)) (is_match atoms (drop n text)) found.2 in
           (take n text, drop n text, sym (take-append-drop n text), (repetition_is atom.count atom.repeated (take n text)).0 both.0, (decides_match atoms (drop n text)).0 both.1),
       λ h.
           let front = h.0 in

@@ -4,7 +4,7 @@ use Rattle.std.proofs.Common.{◌≡◌, ℕ, zero, suc, ◌<◌, ◌-◌, Bool,
 use Rattle.std.specs.Prelude.{◌||◌}
 use Rattle.std.proofs.lemmas.Bool.Decides.{nat_tests}
 use Rattle.std.proofs.lemmas.List.{append-nil}
-use Rattle.mgrammar.specs.Grammar.{plus, minus, negate, BinaryTree, AtomTree, ExprTree, expr, StepTree, apply, matches, matches_not, StepsTree, no_steps, step, steps_of, OperandTree, operand, PrimaryTree, spell_signs, spell_binary, spell_atoms, spell_expr, spell_steps, spell_step, spell_operand, spell_primary, ReferenceTree, spell_reference}
+use Rattle.mgrammar.specs.Grammar.{plus, minus, negate, BinaryTree, AtomTree, ExprTree, expr, StepTree, apply, matches, matches_not, StepsTree, no_steps, step, steps_of, OperandTree, operand, spell_signs, spell_binary, spell_atoms, spell_expr, spell_steps, spell_step, spell_operand, spell_primary, spell_reference}
 use Rattle.mgrammar.specs.WellFormed.{bare_primary, WellExpr, WellSteps, WellStep, WellOperand, WellPrimary, WellReference, WellBelow}
 use Rattle.mgrammar.specs.Reading.{◌>>=◌, many, pattern_at, signs_of, after_signs, OperatorTree, between, matching, matching_not, operator_at, Readers, primary_with, operand_with, step_by, step_behind, step_with, expr_with, readers_at, inner_at}
 use Rattle.mgrammar.proofs.ReadingBasics.{Takes, Again, Begins, Begins-stops, Begins-append, Begins-weaker, Begins-long, goes_further, bind_some, some_is}
@@ -73,33 +73,15 @@ module _ (d : ℕ) (r : Readers) (inner_takes : Takes spell_expr (WellInner d) (
       let parts : cs ≡ (spell_operand b.0.0 ++ spell_steps (steps_of k.0.0)) ++ k.0.1 = joined cs (spell_operand b.0.0) b.0.1 (each spell_step k.0.0) k.0.1 (spell_steps (steps_of k.0.0)) o.0 s.0 (spell_steps-each k.0.0) in
       subst (λ (y : ExprTree × List ℕ). (cs ≡ spell_expr y.0 ++ y.1) × WellExpr d y.0) (some_is (expr b.0.0 (steps_of k.0.0), k.0.1) x k.2) (parts, (o.1, steps_well d k.0.0 s.1))
 
--- an expression that was read within brackets
-inner_well : (d : ℕ) (e : ExprTree) → WellExpr d e → WellInner (suc d) e
-inner_well d e w =
+-- what was read within brackets stands one place deeper
+deeper : {A : Type 0} (P : ℕ → A → Type 0) (d : ℕ) (a : A) → P d a → (0 < suc d) × P (suc d - 1) a
+deeper P d a w =
     let lt : 0 < suc d = omega arith in
     let same : d ≡ suc d - 1 = omega arith in
-    (lt, subst (λ (n : ℕ). WellExpr n e) same w)
+    (lt, subst (λ (n : ℕ). P n a) same w)
 
-well_inner : (d : ℕ) (e : ExprTree) → WellInner (suc d) e → WellExpr d e
-well_inner d e w = let same : suc d - 1 ≡ d = omega arith in subst (λ (n : ℕ). WellExpr n e) same w.1
-
-within_well : (d : ℕ) (v : ReferenceTree) → WellReference d v → WellWithin (suc d) v
-within_well d v w =
-    let lt : 0 < suc d = omega arith in
-    let same : d ≡ suc d - 1 = omega arith in
-    (lt, subst (λ (n : ℕ). WellReference n v) same w)
-
-well_within : (d : ℕ) (v : ReferenceTree) → WellWithin (suc d) v → WellReference d v
-well_within d v w = let same : suc d - 1 ≡ d = omega arith in subst (λ (n : ℕ). WellReference n v) same w.1
-
-below_well : (d : ℕ) (p : PrimaryTree) → WellPrimary d p → WellBelow (suc d) p
-below_well d p w =
-    let lt : 0 < suc d = omega arith in
-    let same : d ≡ suc d - 1 = omega arith in
-    (lt, subst (λ (n : ℕ). WellPrimary n p) same w)
-
-well_below : (d : ℕ) (p : PrimaryTree) → WellBelow (suc d) p → WellPrimary d p
-well_below d p w = let same : suc d - 1 ≡ d = omega arith in subst (λ (n : ℕ). WellPrimary n p) same w.1
+inside : {A : Type 0} (P : ℕ → A → Type 0) (d : ℕ) (a : A) → (0 < suc d) × P (suc d - 1) a → P d a
+inside P d a w = let same : suc d - 1 ≡ d = omega arith in subst (λ (n : ℕ). P n a) same w.1
 
 -- what may stand in brackets, and behind an `@`, at some depth
 record Taken (d : ℕ) : Type 0 where
@@ -113,9 +95,9 @@ all_taken zero = record { inner = λ cs x e. absurd cc; within = λ cs x e. absu
 all_taken (suc d) =
     let below = all_taken d in
     record {
-      inner = λ cs x e. let t = expr_takes d (readers_at d) (below.inner) (below.within) (below.below) cs x e in (t.0, inner_well d x.0 t.1);
-      within = λ cs x e. let t = reference_takes d (readers_at d) (below.inner) (below.below) cs x e in (t.0, within_well d x.0 t.1);
-      below = λ cs x e. let t = primary_takes_free d (readers_at d) (below.inner) (below.within) (below.below) cs x e in (t.0, below_well d x.0 t.1, t.2);
+      inner = λ cs x e. let t = expr_takes d (readers_at d) (below.inner) (below.within) (below.below) cs x e in (t.0, deeper WellExpr d x.0 t.1);
+      within = λ cs x e. let t = reference_takes d (readers_at d) (below.inner) (below.below) cs x e in (t.0, deeper WellReference d x.0 t.1);
+      below = λ cs x e. let t = primary_takes_free d (readers_at d) (below.inner) (below.within) (below.below) cs x e in (t.0, deeper WellPrimary d x.0 t.1, t.2);
     }
 
 pub inner_takes : (d : ℕ) → Takes spell_expr (WellInner d) (inner_at d)
@@ -242,9 +224,9 @@ all_spelled zero = record {
 all_spelled (suc d) =
     let below = all_spelled d in
     record {
-      inner = λ e rest w f. expr_again d (readers_at d) (below.inner) (below.within) (below.below) e rest (well_inner d e w) f;
-      within = λ v rest w f. reference_again d (readers_at d) (below.inner) (below.below) v rest (well_within d v w) f;
-      below = λ p rest w f g. primary_again_free d (readers_at d) (below.inner) (below.within) (below.below) p rest (well_below d p w) f g;
+      inner = λ e rest w f. expr_again d (readers_at d) (below.inner) (below.within) (below.below) e rest (inside WellExpr d e w) f;
+      within = λ v rest w f. reference_again d (readers_at d) (below.inner) (below.below) v rest (inside WellReference d v w) f;
+      below = λ p rest w f g. primary_again_free d (readers_at d) (below.inner) (below.within) (below.below) p rest (inside WellPrimary d p w) f g;
     }
 
 pub inner_again : (d : ℕ) → Again spell_expr (WellInner d) Ends (inner_at d)

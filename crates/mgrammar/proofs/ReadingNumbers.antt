@@ -208,7 +208,7 @@ literal_again l rest is s =
 pub number_again : Again (λ ds. ds) SpellsNumber (Stops goes_on_number) number_at
 number_again t rest is s = subst (λ (y : List ℕ). number_at (y ++ rest) ≡ Some (y, rest)) is.2 (literal_again is.0 rest is.1 s)
 
-digit_first : (c : ℕ) → is_digit c ≡ true → is_digit_or_point c ≡ true
+pub digit_first : (c : ℕ) → is_digit c ≡ true → is_digit_or_point c ≡ true
 digit_first c h = grind (arith, nat_tests)
 
 literal_begins : (ds : List ℕ) (o : Option (List ℕ)) (rest : List ℕ) → IsMantissa ds o → Begins is_digit_or_point (ds ++ (spell_fraction o ++ rest))

@@ -12,6 +12,7 @@ use Rattle.mgrammar.specs.WellFormed.{IsCount, WellRepeated, WellAtom, WellAll, 
 use Rattle.mgrammar.specs.Reading.{◌>>=◌, run_of, after_run, text_from, many, behind_of, after_behind, is_count, count_at, classes_by, repeated_at, is_digit_or_point, atom_at, pattern_by, pattern_at}
 use Rattle.mgrammar.proofs.ReadingBasics.{Takes, Again, Stops, Stops-weaker, Begins, Begins-stops, Begins-long, goes_on, bind_some, chosen, some_is, run_parts, run_again, text_takes, text_again}
 use Rattle.mgrammar.proofs.ReadingLists.{each, ItemTakes, many_takes, many_again, count_le}
+use Rattle.mgrammar.proofs.ReadingNumbers.{digit_first}
 
 -- ---- counts
 
@@ -172,14 +173,11 @@ atom_takes (c ∷ cs) x e =
       | inr p ↦ absurd cc
     ]
 
-digit_begins : (c : ℕ) → is_digit c ≡ true → is_digit_or_point c ≡ true
-digit_begins c h = grind (arith, nat_tests)
-
 count_begins : (front : List ℕ) (o : Option (List ℕ)) (rest : List ℕ) → IsCount front o → Begins is_digit_or_point (front ++ (spell_behind o ++ rest))
 count_begins [] None rest w = absurd (omega (arith, w.1))
-count_begins (c ∷ cs) None rest w = digit_begins c w.0.0.0
+count_begins (c ∷ cs) None rest w = digit_first c w.0.0.0
 count_begins [] (Some ds) rest w = refl
-count_begins (c ∷ cs) (Some ds) rest w = digit_begins c w.0.0.0
+count_begins (c ∷ cs) (Some ds) rest w = digit_first c w.0.0.0
 
 atom_parts : (a : AtomTree) (rest : List ℕ) → spell_atom a ++ rest ≡ a.count.front ++ (spell_behind a.count.behind ++ (spell_repeated a.repeated ++ rest))
 atom_parts a rest = simp append_assoc

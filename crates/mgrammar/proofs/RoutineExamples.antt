@@ -1,87 +1,47 @@
 -- SPDX-License-Identifier: Apache-2.0
 -- DO, GOTO, XECUTE and the lines of routines on examples, as proved equations: texts with their trees, and texts that have none.
-use Rattle.std.proofs.Common.{◌≡◌, ℕ, List, [], ◌∷◌, Some, None, refl, replicate}
+use Rattle.std.proofs.Common.{◌≡◌, ℕ, List, [], ◌∷◌, Some, None, refl, replicate, rules}
 use Rattle.std.specs.Prelude.{codes}
-use Rattle.mgrammar.specs.Grammar.{ExprTree, expr, no_steps, operand, PrimaryTree, number, text, reference, local, no_exprs, at_label, at_label_in, at_routine, ArgTree, shown, do_one, go_to, executed, KeywordTree, do_word, goto_word, execute_word, write_word, SpacedTree, LineTree, spell}
-use Rattle.mgrammar.specs.Reading.{name_at, line_at}
+use Rattle.mgrammar.specs.Grammar.{ExprTree, text, reference, at_label, at_label_in, at_routine, ArgTree, shown, do_one, go_to, executed, KeywordTree, do_word, goto_word, execute_word, write_word, SpacedTree, LineTree}
+use Rattle.mgrammar.specs.Reading.{name_at}
 use Rattle.mgrammar.specs.RoutineLine.{RoutineLineTree, short, spaced_out, spell_routine_line, label_at, label_of, dots_of, routine_line_at}
 use Rattle.mgrammar.proofs.Computing.{reads}
+use Rattle.mgrammar.proofs.ShortTrees.{IsRead, HaveNone, only, the_one, named, command, conditional, of_commands, of_one}
 
 -- ---- short forms
 
-abbrev IsRead : List ℕ → LineTree → Type 0
-IsRead t l = (spell l ≡ t) × (line_at t ≡ Some l)
-
--- nothing is read of the text: it has no tree (`no_tree` of ReadingLines)
-abbrev HasNone : List ℕ → Type 0
-HasNone t = line_at t ≡ None
-
-abbrev only : PrimaryTree → ExprTree
-only p = expr (operand [] p) no_steps
-
-abbrev one : ExprTree
-one = only (number (codes "1"))
-
 abbrev variable : List ℕ → ExprTree
-variable name = only (reference (local name no_exprs))
-
-abbrev of_commands : List SpacedTree → LineTree
-of_commands cs = record { lead = 0; commands = cs; comment = None }
+variable name = only (reference (named name))
 
 -- a command, with the spaces behind it
-abbrev command : KeywordTree → List ℕ → List ArgTree → ℕ → SpacedTree
-command k word args spaces = (record { keyword = k; word = word; condition = None; args = args }, spaces)
-
-abbrev conditional : KeywordTree → List ℕ → ExprTree → List ArgTree → ℕ → SpacedTree
-conditional k word e args spaces = (record { keyword = k; word = word; condition = Some e; args = args }, spaces)
+abbrev spaced : KeywordTree → List ℕ → List ArgTree → ℕ → SpacedTree
+spaced k word args n = (command k word args, n)
 
 -- W 1
 abbrev write_one : LineTree
-write_one = of_commands (command write_word (codes "W") (shown one ∷ []) 0 ∷ [])
+write_one = of_one write_word (codes "W") (shown the_one ∷ [])
 
 -- ---- commands
 
--- each form of an entry, with a postconditional of its own or none
-entries : IsRead (codes "D A,%1^R:1,^R") (of_commands (command do_word (codes "D") (do_one (at_label (codes "A")) None ∷ do_one (at_label_in (codes "%1") (codes "R")) (Some one) ∷ do_one (at_routine (codes "R")) None ∷ []) 0 ∷ []))
-unfolding reads
-entries = (refl, refl)
+record Commands : Type 0 where
+  -- each form of an entry, with a postconditional of its own or none
+  entries : IsRead (codes "D A,%1^R:1,^R") (of_commands (spaced do_word (codes "D") (do_one (at_label (codes "A")) None ∷ do_one (at_label_in (codes "%1") (codes "R")) (Some the_one) ∷ do_one (at_routine (codes "R")) None ∷ []) 0 ∷ []))
+  -- beside one of the command
+  conditions : IsRead (codes "goto:1 A:A,B") (of_commands ((conditional goto_word (codes "goto") the_one (go_to (at_label (codes "A")) (Some (variable (codes "A"))) ∷ go_to (at_label (codes "B")) None ∷ []), 0) ∷ []))
+  -- texts, and an argumentless DO, behind which two spaces stand
+  texts : IsRead (codes "X \"W 1\":A,A D  W 1") (of_commands ( spaced execute_word (codes "X") (executed (only (text (codes "W 1"))) (Some (variable (codes "A"))) ∷ executed (variable (codes "A")) None ∷ []) 1 ∷ spaced do_word (codes "D") [] 2 ∷ spaced write_word (codes "W") (shown the_one ∷ []) 0 ∷ []))
 
--- beside one of the command
-conditions : IsRead (codes "goto:1 A:A,B") (of_commands (conditional goto_word (codes "goto") one (go_to (at_label (codes "A")) (Some (variable (codes "A"))) ∷ go_to (at_label (codes "B")) None ∷ []) 0 ∷ []))
+commands : Commands
 unfolding reads
-conditions = (refl, refl)
-
--- texts, and an argumentless DO, behind which two spaces stand
-texts : IsRead (codes "X \"W 1\":A,A D  W 1") (of_commands (
-    command execute_word (codes "X") (executed (only (text (codes "W 1"))) (Some (variable (codes "A"))) ∷ executed (variable (codes "A")) None ∷ []) 1 ∷
-    command do_word (codes "D") [] 2 ∷ command write_word (codes "W") (shown one ∷ []) 0 ∷ []))
-unfolding reads
-texts = (refl, refl)
+commands = search rules
 
 -- an entry is names alone; GOTO and XECUTE have some argument
-none_of_commands :
-    HasNone (codes "G")
-    × HasNone (codes "X")
-    × HasNone (codes "G:1")
-    × HasNone (codes "D  A")
-    × HasNone (codes "D A B")
-    × HasNone (codes "D A^")
-    × HasNone (codes "D ^")
-    × HasNone (codes "D ^1")
-    × HasNone (codes "D 1")
-    × HasNone (codes "D A(1)")
-    × HasNone (codes "D ^R(1)")
-    × HasNone (codes "D A^B^C")
-    × HasNone (codes "D \"A\"")
-    × HasNone (codes "D A:")
-    × HasNone (codes "D A,")
-    × HasNone (codes "G A+1")
-    × HasNone (codes "X 1:2:3")
-    × HasNone (codes "XE 1")
-    × HasNone (codes "D W 1")
-    × HasNone (codes ". W 1")
+none_of_commands : HaveNone (
+    codes "G" ∷ codes "X" ∷ codes "G:1" ∷ codes "D  A" ∷ codes "D A B" ∷ codes "D A^" ∷ codes "D ^" ∷ codes "D ^1" ∷ codes "D 1" ∷ codes "D A(1)" ∷
+    codes "D ^R(1)" ∷ codes "D A^B^C" ∷ codes "D \"A\"" ∷ codes "D A:" ∷ codes "D A," ∷ codes "G A+1" ∷ codes "X 1:2:3" ∷ codes "XE 1" ∷
+    codes "D W 1" ∷ codes ". W 1" ∷ [])
 unfolding reads
-none_of_commands = (refl, refl, refl, refl, refl, refl, refl, refl, refl, refl, refl, refl, refl, refl, refl, refl, refl, refl, refl, refl)
+none_of_commands = refl
 
 -- ---- lines of routines
 

@@ -3,6 +3,7 @@
 ghost use Rattle.mgrammar.specs.GrammarLaws.{OneTree, ReadsItsTree, OneRoutineTree, ReadsItsRoutineTree, ToldOfItsTree, OneReference, ReadsItsReference, OneArgumentList, ReadsItsArguments};
 
 /// No text has two trees.
+#[tactic(auto, using(crate::proofs::ReadingLines::one_tree))]
 pub fn one_tree()
     ensures { OneTree }
 {}
@@ -14,6 +15,7 @@ pub fn reads_its_tree()
 {}
 
 /// As a line of a routine, no text has two trees.
+#[tactic(auto, using(crate::proofs::ReadingRoutines::one_routine_tree))]
 pub fn one_routine_tree()
     ensures { OneRoutineTree }
 {}
@@ -30,6 +32,7 @@ pub fn told_of_its_tree()
 {}
 
 /// As the text of a name indirection, no text has two trees.
+#[tactic(auto, using(crate::proofs::ReadingIndirectTexts::one_reference))]
 pub fn one_reference()
     ensures { OneReference }
 {}
@@ -40,6 +43,7 @@ pub fn reads_its_reference()
 {}
 
 /// As the text of an argument indirection, for arguments of one form, no text has two lists of trees.
+#[tactic(auto, using(crate::proofs::ReadingIndirectTexts::one_argument_list))]
 pub fn one_argument_list()
     ensures { OneArgumentList }
 {}

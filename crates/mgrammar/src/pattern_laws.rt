@@ -3,6 +3,7 @@
 ghost use Rattle.mgrammar.specs.PatternLaws.{DecidesMatch};
 
 /// `is_match` is true exactly where a text matches a pattern.
+#[tactic(auto, using(crate::proofs::Matchings::decides_match))]
 pub fn decides_match()
     ensures { DecidesMatch }
 {}

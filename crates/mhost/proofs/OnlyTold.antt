@@ -16,7 +16,6 @@ use Rattle.mmeaning.specs.History.{opening}
 use Rattle.misolation.specs.Reach.{reach}
 use Rattle.misolation.specs.Alone.{alone}
 use Rattle.misolation.specs.Telling.{Tells, told_to}
-use Rattle.misolation.proofs.CutMaps.{by_test}
 use Rattle.mstore.specs.declared.store.NodeStore.{Ghosts}
 use Rattle.mjob.specs.declared.jobs.Store.{Store}
 use Rattle.mjob.specs.declared.jobs.Store.TheVariants as store
@@ -34,6 +33,7 @@ use Rattle.mhost.specs.Runs.{AreUntouched, DeviceBroke, IsMemoryFault, IsStoreFa
 use Rattle.mhost.specs.Only.{HasAccount, ToldAlone, ToldInForm, BeginsEmpty, BeginsSomehow, OnlyEndsEarly, FitsMemory, ServesAs, OnlyOver}
 use Rattle.mhost.specs.declared.fault.RunFault.{RunFault}
 use Rattle.mhost.specs.declared.fault.RunFault.TheVariants as early
+use Rattle.mspec.proofs.Basics.{by_test}
 
 -- ---- an account by its name
 

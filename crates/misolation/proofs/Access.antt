@@ -1,19 +1,7 @@
 -- SPDX-License-Identifier: Apache-2.0
 -- What may be done, among the members of a closed set and past them.
-use Rattle.std.proofs.Common.{◌≡◌, Bool, true, false, cond, ◌&&◌, ◌||◌, List, [], ◌∷◌, sym, ap, ◌∙◌, ⊎_elim}
-use Rattle.std.proofs.lemmas.Bool.{or_cases, and_parts, and_from, or_left, or_right, false_from_ne_true}
-use Rattle.std.proofs.lemmas.Map.Views.{any-filter_same}
-use Rattle.std.specs.Cmp.Lexicographic.{bytes_decides}
-use Rattle.std.specs.List.{list_any}
-use Rattle.mspec.specs.Node.{Text}
-use Rattle.mspec.specs.Trees.{text_eq}
+use Rattle.misolation.proofs.Words.{◌≡◌, Bool, true, false, cond, ◌&&◌, ◌||◌, List, [], ◌∷◌, sym, ap, ◌∙◌, ⊎_elim, or_cases, and_parts, and_from, or_left, or_right, false_from_ne_true, any-filter_same, bytes_decides, list_any, Text, text_eq, carries, LockName, may_write, may_lock, Accounts, IsClosed, is_between, cut_settings, by_test}
 use Rattle.mspec.specs.Access.{Mode, Write, Grant, Settings, allows, lets, may}
-use Rattle.mspec.specs.Flow.{carries}
-use Rattle.mspec.specs.LockConflict.{LockName}
-use Rattle.mmeaning.specs.World.{may_write, may_lock}
-use Rattle.misolation.specs.Reach.{Accounts, IsClosed}
-use Rattle.misolation.specs.Cut.{is_between, cut_settings}
-use Rattle.misolation.proofs.CutMaps.{by_test}
 
 pub any_more : {X : Type 0} (p q : X → Bool) → ((x : X) → p x ≡ true → q x ≡ true) → (xs : List X) → list_any p xs ≡ true → list_any q xs ≡ true
 any_more p q h [] e = e

@@ -1,17 +1,8 @@
 -- SPDX-License-Identifier: Apache-2.0
 -- How a line ends, over the cut: the only place that reads what becomes of a session.
-use Rattle.std.proofs.Common.{◌≡◌, ℕ, true, false, sym, ap, ◌∙◌}
-use Rattle.std.specs.FinMap.{FinMap, insert, remove, retain_keys, nat_cmp-IsAntisymmetric}
-use Rattle.std.specs.Ordering.{nat_cmp}
-use Rattle.std.proofs.lemmas.Cmp.{nat_cmp_total}
-use Rattle.mspec.specs.Access.{Settings}
-use Rattle.mspec.specs.Act.{State, Outcome}
+use Rattle.misolation.proofs.Words.{◌≡◌, ℕ, true, false, sym, ap, ◌∙◌, FinMap, insert, remove, retain_keys, nat_cmp-IsAntisymmetric, nat_cmp, nat_cmp_total, Settings, State, Outcome, Signal, World, Accounts, is_inside, cut_world, cut_server, IsFit}
 use Rattle.mspec.proofs.MapCuts.{cut_drops, cut_removed}
-use Rattle.mmeaning.specs.LineMeaning.{Signal}
-use Rattle.mmeaning.specs.World.{World}
 use Rattle.mmeaning.specs.Step.{Session, Server, Ending, Finished, Halted, Faulted, settled, ended, kept, state_of, reply_of}
-use Rattle.misolation.specs.Reach.{Accounts}
-use Rattle.misolation.specs.Cut.{is_inside, cut_world, cut_server, IsFit}
 use Rattle.misolation.proofs.CutMaps.{cut_insert, cut_remove}
 use Rattle.misolation.proofs.FittingLocks.{released_fits}
 use Rattle.misolation.proofs.LockCuts.{released_cut, released_outside}

@@ -1,24 +1,11 @@
 -- SPDX-License-Identifier: Apache-2.0
 -- Settings of the same entries allow the same, also between the members of a set, and the same accounts reach each.
-use Rattle.std.proofs.Common.{◌≡◌, ℕ, Bool, true, false, cond, ◌&&◌, ◌||◌, List, [], ◌∷◌, Option, None, refl, sym, ap, ◌∙◌, subst, ⊎_elim}
-use Rattle.std.proofs.lemmas.Bool.{or_cases, and_parts, and_from, or_left, or_right}
-use Rattle.std.proofs.lemmas.Cmp.{nat_cmp_total}
-use Rattle.std.proofs.lemmas.Map.Views.{any-filter_same}
-use Rattle.std.specs.Cmp.Lexicographic.{bytes_decides}
-use Rattle.std.specs.FinMap.{get, retain_keys, nat_cmp-IsAntisymmetric}
-use Rattle.std.specs.List.{filter, list_any}
-use Rattle.mspec.specs.Node.{Text}
-use Rattle.mspec.specs.Trees.{text_eq}
+use Rattle.misolation.proofs.Words.{◌≡◌, ℕ, Bool, true, false, cond, ◌&&◌, ◌||◌, List, [], ◌∷◌, Option, None, refl, sym, ap, ◌∙◌, subst, ⊎_elim, or_cases, and_parts, and_from, or_left, or_right, nat_cmp_total, any-filter_same, bytes_decides, get, retain_keys, nat_cmp-IsAntisymmetric, filter, list_any, Text, text_eq, carries, Reaches, itself, through, get_cut, Session, session_or_new, Server, Event, Accounts, reach, is_member, is_inside, is_between, cut_settings, cut_server, cut_events}
+use Rattle.std.specs.Cmp.Derive.{one_truth}
 use Rattle.mspec.specs.Access.{Mode, Read, Write, Account, Grant, Settings, allows, lets, may}
-use Rattle.mspec.specs.Flow.{carries, Reaches, itself, through}
-use Rattle.mspec.proofs.MapCuts.{get_cut}
-use Rattle.mmeaning.specs.Step.{Session, session_or_new, Server, Event}
-use Rattle.misolation.specs.Reach.{Accounts, reach}
-use Rattle.misolation.specs.Cut.{is_member, is_inside, is_between, cut_settings, cut_server, cut_events}
 use Rattle.misolation.specs.Alike.{AlikeSettings, AlikeServers, AllowsAll, SameEntries}
 use Rattle.misolation.specs.AlikeLaws.{SameEntriesAgree}
 use Rattle.misolation.proofs.Access.{any_more, let_by}
-use Rattle.misolation.proofs.ReachKept.{same_test}
 use Rattle.misolation.proofs.Reaching.{reach_is_chains}
 
 -- ---- one grant in the place of another
@@ -82,7 +69,7 @@ any_on p on (g ∷ gs) hs all e =
 
 module _ (one two : Settings) (same : SameEntries one two) where
   same_any : (p : Grant → Bool) → ((g h : Grant) → p g ≡ true → lets g.to g.from g.global g.mode h ≡ true → p h ≡ true) → list_any p one.grants ≡ list_any p two.grants
-  same_any p on = same_test _ _ (any_on p on one.grants two.grants same.there) (any_on p on two.grants one.grants same.back)
+  same_any p on = one_truth _ _ (any_on p on one.grants two.grants same.there) (any_on p on two.grants one.grants same.back)
 
   -- ---- who reaches whom
 
@@ -98,7 +85,7 @@ module _ (one two : Settings) (same : SameEntries one two) where
   chain_back x y (through {y = z} f rest) = through (flow_same x z ∙ f) (chain_back z y rest)
 
   reach_same : (a x : Text) → reach one a x ≡ reach two a x
-  reach_same a x = same_test (reach one a x) (reach two a x)
+  reach_same a x = one_truth (reach one a x) (reach two a x)
       (λ e. (reach_is_chains two a x).1 (chain_there x a ((reach_is_chains one a x).0 e)))
       (λ e. (reach_is_chains one a x).1 (chain_back x a ((reach_is_chains two a x).0 e)))
 

@@ -2,21 +2,11 @@
 -- Locks that fit stay so, whatever is done for a terminal of the settings.
 use Rattle.std.proofs.Common.{◌≡◌, ℕ, ◌+◌, ◌-◌, Bool, true, false, cond, List, [], ◌∷◌, Option, Some, None, refl, sym, ap, ◌∙◌, subst}
 use Rattle.std.specs.Prelude.{unwrap_or, nat_lt, nat_eq, not, if◌then◌else◌}
-use Rattle.std.proofs.lemmas.Bool.{and_parts}
-use Rattle.std.specs.FinMap.{get, insert, remove, retain_keys, get-insert, get-remove}
-use Rattle.std.specs.List.{list_all, list_any}
-use Rattle.std.specs.Ordering.{eq_by_cmp}
-use Rattle.mspec.specs.Access.{Account, Settings}
+use Rattle.misolation.proofs.Words.{and_parts, get, insert, remove, retain_keys, get-insert, get-remove, list_all, list_any, eq_by_cmp, Account, Settings, held_cmp_total, held_cmp_exact, may_lock}
 use Rattle.mspec.specs.LockConflict.{LockName, Held, held_cmp, Locks, held, count, most_counts, has_conflict, one_more, counted, taken, given_back, released}
-use Rattle.mspec.proofs.LockOrders.{held_cmp_total, held_cmp_exact}
-use Rattle.mmeaning.specs.World.{may_lock}
+use Rattle.mspec.proofs.Basics.{by_test, unopposed}
 use Rattle.misolation.specs.Cut.{holds_by, may_hold, AreFit}
-use Rattle.misolation.proofs.CutMaps.{by_test, tied_true, had}
-
--- a list is taken only where nothing stands against it
-pub unopposed : (b : Bool) (o : Option Locks) (after : Locks) → (if b then None else o) ≡ Some after → o ≡ Some after
-unopposed true o after e = absurd (cc)
-unopposed false o after e = e
+use Rattle.misolation.proofs.CutMaps.{tied_true, had}
 
 module _ (settings : Settings) where
   pub fit_insert : (locks : Locks) (h : Held) (k : ℕ) → may_hold settings h ≡ true → AreFit settings locks → AreFit settings (insert locks h k)

@@ -1,30 +1,14 @@
 -- SPDX-License-Identifier: Apache-2.0
 -- The laws of islands: the whole comes apart, and machines run together.
-use Rattle.std.proofs.Common.{◌≡◌, ℕ, Bool, true, false, List, [], ◌∷◌, Option, Some, None, refl, sym, ap, ◌∙◌, subst, subst₂}
+use Rattle.misolation.proofs.Words.{◌≡◌, ℕ, Bool, true, false, List, [], ◌∷◌, Option, Some, None, refl, sym, ap, ◌∙◌, subst, subst₂, nat_cmp_total, nat_eq, get, remove, nat_cmp-IsAntisymmetric, significant_digits, held, released, Account, Settings, Outcome, Plan, cut_short, held_cmp_total, held_cmp_exact, node_cmp_total, node_cmp_exact, by_test, line_at, Signal, Accounts, IsClosed, is_member, is_inside, cut_settings, cut_world, cut_server, cut_events, part, IsFit, Actor, ops_of, cut_ops, InsidePlan, OutsideStep}
 use Rattle.std.proofs.lemmas.Bool.{eqb-true, eq-eqb}
-use Rattle.std.proofs.lemmas.Cmp.{nat_cmp_total}
-use Rattle.std.specs.Prelude.{nat_eq}
-use Rattle.std.specs.FinMap.{get, remove, nat_cmp-IsAntisymmetric}
-use Rattle.mspec.specs.Number.{significant_digits}
-use Rattle.mspec.specs.LockConflict.{held, released}
-use Rattle.mspec.specs.Access.{Account, Settings}
 use Rattle.mspec.specs.Flow.{IsIsland}
-use Rattle.mspec.specs.Act.{Outcome}
-use Rattle.mspec.specs.Plan.{Plan, cut_short}
-use Rattle.mspec.proofs.LockOrders.{held_cmp_total, held_cmp_exact}
-use Rattle.mspec.proofs.NodeOrders.{node_cmp_total, node_cmp_exact}
-use Rattle.mgrammar.specs.Reading.{line_at}
-use Rattle.mmeaning.specs.LineMeaning.{Signal}
 use Rattle.mmeaning.specs.Step.{Session, session_or_new, Server, Event, Reply, plan_of, at_account, normal, FailedStep, is_failure, StepBy, Step}
 use Rattle.mmeaning.specs.History.{History, opening, server_after, answered}
-use Rattle.misolation.specs.Reach.{Accounts, IsClosed}
-use Rattle.misolation.specs.Cut.{is_member, is_inside, cut_settings, cut_world, cut_server, cut_events, part, IsFit}
-use Rattle.misolation.specs.PlanLaws.{Actor, ops_of, cut_ops, InsidePlan}
-use Rattle.misolation.specs.StepLaws.{OutsideStep}
 use Rattle.misolation.specs.HistoryLaws.{events_of, IsAlone}
 use Rattle.misolation.specs.Islands.{Placement, on, KeepsTies, refusal, StrangersRefused, LaidTogether}
 use Rattle.misolation.specs.IslandLaws.{IslandRunsAlone, MachinesAreIslands, WholeComesApart, MachinesRunTogether, MovedIslandGoesOn}
-use Rattle.misolation.proofs.CutMaps.{by_test, get_kept}
+use Rattle.misolation.proofs.CutMaps.{get_kept}
 use Rattle.misolation.proofs.LockCuts.{released_cut}
 use Rattle.misolation.proofs.Endings.{gone_inside}
 use Rattle.misolation.proofs.PlansInside.{inside_plans}

@@ -2,30 +2,14 @@
 -- The laws on a host of three customers, as proved equations: they are not empty, and they claim no more than is so.
 --
 -- The laboratory lets the clinic read its results. The bank has no tie to either, or else the clinic lets it write its bills.
-use Rattle.std.proofs.Common.{◌≡◌, ℕ, Bool, true, false, cond, List, [], ◌∷◌, Option, Some, None, refl, sym, ap, ◌∙◌, subst, subst₂}
+use Rattle.misolation.proofs.Words.{◌≡◌, ℕ, Bool, true, false, cond, List, [], ◌∷◌, Option, Some, None, refl, sym, ap, ◌∙◌, subst, subst₂, nat_cmp, eq_by_cmp, nat_cmp_total, Text, Node, significant_digits, LockName, held, held_cmp, released, Read, Write, Account, Grant, Settings, cut_drops, held_cmp_total, held_cmp_exact, node_cmp_total, node_cmp_exact, Put, Take, Value, World, act, History, NoneFailed, Accounts, IsClosed, reach, IsLeastClosed, is_member, is_inside, cut_settings, cut_world, cut_server, cut_events, part, holds_by, IsFit, only}
 use Rattle.std.specs.Prelude.{codes}
 use Rattle.std.specs.FinMap.{FinMap, get, insert, remove, retain_keys, empty, entries, from_sorted, same_map, get-empty, get-insert, get-from_sorted, entries-from_sorted, entries-insert, gets, nat_cmp-IsAntisymmetric}
 use Rattle.std.specs.FinMap.Entries.{put}
-use Rattle.std.specs.Ordering.{nat_cmp, eq_by_cmp}
-use Rattle.std.proofs.lemmas.Cmp.{nat_cmp_total}
 use Rattle.mspec.specs.Code.{Lost, Memory, Store}
-use Rattle.mspec.specs.Node.{Text, Node}
-use Rattle.mspec.specs.Number.{significant_digits}
-use Rattle.mspec.specs.LockConflict.{LockName, held, held_cmp, released}
-use Rattle.mspec.specs.Access.{Read, Write, Account, Grant, Settings}
-use Rattle.mspec.proofs.MapCuts.{cut_drops}
-use Rattle.mspec.proofs.LockOrders.{held_cmp_total, held_cmp_exact}
-use Rattle.mspec.proofs.NodeOrders.{node_cmp_total, node_cmp_exact}
-use Rattle.mspec.specs.Plan.{Put, Take, Value}
-use Rattle.mmeaning.specs.World.{World, act}
 use Rattle.mmeaning.specs.Step.{Session, new_session, session_or_new, Server, Event, Reply, Faulted, is_too_long, is_ascii, normal, FailedStep, lost, StepBy, Step}
-use Rattle.mmeaning.specs.History.{History, NoneFailed}
 use Rattle.mmeaning.proofs.Histories.{normal_never_fails}
-use Rattle.misolation.specs.Reach.{Accounts, IsClosed, reach}
-use Rattle.misolation.specs.ReachLaws.{IsLeastClosed}
 use Rattle.misolation.specs.PlanLaws.{Actor, ops_of, cut_ops, InsideOperation}
-use Rattle.misolation.specs.Cut.{is_member, is_inside, cut_settings, cut_world, cut_server, cut_events, part, holds_by, IsFit}
-use Rattle.misolation.specs.Alone.{only}
 use Rattle.misolation.specs.Alike.{AlikeServers, SameEntries}
 use Rattle.misolation.specs.Agreement.{Run, Agree}
 use Rattle.misolation.specs.HistoryLaws.{Answered, SameReplies}
@@ -36,6 +20,7 @@ use Rattle.misolation.proofs.Reaching.{reach_is_least_closed}
 use Rattle.misolation.proofs.StepsAlike.{alike_servers}
 use Rattle.misolation.proofs.EntriesAlike.{same_entries_agree}
 use Rattle.misolation.proofs.PartsAlone.{part_is_history, opening_is_fit, agreeing_replies}
+use Rattle.std.proofs.Common.{rules}
 
 abbrev pub account : Text → Account
 account name = record { name = name; steps = 2000 }
@@ -70,22 +55,17 @@ let_in = host (results_read ∷ bills_written ∷ [])
 
 -- ---- who reaches whom
 
-laboratory_reaches_clinic : reach apart clinic laboratory ≡ true
-laboratory_reaches_clinic = refl
+record WhoReaches : Type 0 where
+  laboratory_reaches_clinic : reach apart clinic laboratory ≡ true
+  clinic_reaches_not_laboratory : reach apart laboratory clinic ≡ false
+  bank_reaches_not_clinic : reach apart clinic bank ≡ false
+  -- what the bank writes at the clinic shows there, and what the clinic lets it use shows at the bank: a grant to write ties both ways
+  let_in_bank_reaches_clinic : reach let_in clinic bank ≡ true
+  -- so do the laboratory's results, by a chain of two
+  let_in_laboratory_reaches_bank : reach let_in bank laboratory ≡ true
 
-clinic_reaches_not_laboratory : reach apart laboratory clinic ≡ false
-clinic_reaches_not_laboratory = refl
-
-bank_reaches_not_clinic : reach apart clinic bank ≡ false
-bank_reaches_not_clinic = refl
-
--- what the bank writes at the clinic shows there, and what the clinic lets it use shows at the bank: a grant to write ties both ways
-let_in_bank_reaches_clinic : reach let_in clinic bank ≡ true
-let_in_bank_reaches_clinic = refl
-
--- so do the laboratory's results, by a chain of two
-let_in_laboratory_reaches_bank : reach let_in bank laboratory ≡ true
-let_in_laboratory_reaches_bank = refl
+reaching : WhoReaches
+reaching = search rules
 
 -- ---- two servers that differ in the bank's globals, locks and sessions alone
 

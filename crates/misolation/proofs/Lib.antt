@@ -1,4 +1,5 @@
 -- SPDX-License-Identifier: Apache-2.0
+pub mod Words
 pub mod Reaching
 pub mod CutMaps
 pub mod Access

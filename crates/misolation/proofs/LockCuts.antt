@@ -3,22 +3,14 @@
 use Rattle.std.proofs.Common.{◌≡◌, ℕ, ◌+◌, ◌-◌, ◌||◌, Bool, true, false, not, List, [], ◌∷◌, Option, Some, None, refl, sym, ap, ◌∙◌, ⊎_elim}
 use Rattle.std.specs.Prelude.{unwrap_or, option_map, nat_lt, nat_eq, if◌then◌else◌}
 use Rattle.std.proofs.lemmas.Bool.{or_cases, and_parts, eqb-true}
-use Rattle.std.specs.Cmp.Lexicographic.{bytes_decides}
-use Rattle.std.specs.FinMap.{get, insert, remove, keys}
-use Rattle.std.specs.List.{list_all, list_any, filter}
-use Rattle.mspec.specs.Node.{Text}
-use Rattle.mspec.specs.Trees.{text_eq}
+use Rattle.misolation.proofs.Words.{bytes_decides, get, insert, remove, keys, list_all, list_any, filter, Text, text_eq, Account, Settings, held_cmp_total, held_cmp_exact, may_lock, Accounts, IsClosed}
 use Rattle.mspec.specs.Globals.{is_node_within}
-use Rattle.mspec.specs.Access.{Account, Settings}
 use Rattle.mspec.specs.LockConflict.{LockName, Held, Locks, held, count, most_counts, is_within, is_conflict, has_conflict, one_more, counted, taken, given_back, released}
-use Rattle.mspec.proofs.LockOrders.{held_cmp_total, held_cmp_exact}
 use Rattle.mspec.proofs.MapCuts.{cut_drops, cut_removed}
-use Rattle.mmeaning.specs.World.{may_lock}
-use Rattle.misolation.specs.Reach.{Accounts, IsClosed}
+use Rattle.mspec.proofs.Basics.{by_test, unopposed}
 use Rattle.misolation.specs.Cut.{is_member, is_inside, cut_locks, holds_by, may_hold, AreFit}
-use Rattle.misolation.proofs.CutMaps.{by_test, any_absorbed, get_kept, cut_cut, cut_absorbs, cut_insert, cut_remove, keys_cut, own_cut}
+use Rattle.misolation.proofs.CutMaps.{any_absorbed, get_kept, cut_cut, cut_absorbs, cut_insert, cut_remove, keys_cut, own_cut}
 use Rattle.misolation.proofs.Access.{locked_inside, locker_inside}
-use Rattle.misolation.proofs.FittingLocks.{unopposed}
 
 -- a name below another is the same account's
 same_account : (a b : LockName) → is_within a b ≡ true → a.node.account ≡ b.node.account

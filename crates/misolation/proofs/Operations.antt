@@ -1,25 +1,11 @@
 -- SPDX-License-Identifier: Apache-2.0
 -- The two laws, operation by operation.
-use Rattle.std.proofs.Common.{◌≡◌, Bool, true, false, not, List, Option, Some, None, refl, sym, ap, ◌∙◌}
+use Rattle.misolation.proofs.Words.{◌≡◌, Bool, true, false, not, List, Option, Some, None, refl, sym, ap, ◌∙◌, bytes_decides, and_parts, retain_keys, list_all, Node, text_eq, significant_digits, Read, Write, Settings, LockName, Locks, taken, given_back, released, Op, May, Value, Status, Neighbour, Routine, Put, Kill, Take, Give_back, Release, cut_drops, node_cmp_total, node_cmp_exact, by_test, Accounts, IsClosed, is_member, is_inside, cut_settings, cut_locks, cut_world, IsFit, AreFit}
 use Rattle.std.specs.Prelude.{option_map}
-use Rattle.std.specs.Cmp.Lexicographic.{bytes_decides}
-use Rattle.std.proofs.lemmas.Bool.{and_parts}
-use Rattle.std.specs.FinMap.{retain_keys}
-use Rattle.std.specs.List.{list_all}
-use Rattle.mspec.specs.Node.{Node}
-use Rattle.mspec.specs.Trees.{text_eq}
-use Rattle.mspec.specs.Number.{significant_digits}
-use Rattle.mspec.specs.Access.{Read, Write, Settings}
 use Rattle.mspec.specs.Globals.{is_node_within}
-use Rattle.mspec.specs.LockConflict.{LockName, Locks, taken, given_back, released}
-use Rattle.mspec.specs.Plan.{Op, May, Value, Status, Neighbour, Routine, Put, Kill, Take, Give_back, Release}
-use Rattle.mspec.proofs.MapCuts.{cut_drops}
-use Rattle.mspec.proofs.NodeOrders.{node_cmp_total, node_cmp_exact}
 use Rattle.mmeaning.specs.World.{World, guarded, may_read, may_write, may_lock, took}
-use Rattle.misolation.specs.Reach.{Accounts, IsClosed}
-use Rattle.misolation.specs.Cut.{is_member, is_inside, cut_settings, cut_locks, cut_world, IsFit, AreFit}
 use Rattle.misolation.specs.PlanLaws.{Actor, ops_of, cut_ops, InsideOperations, OutsideOperations}
-use Rattle.misolation.proofs.CutMaps.{by_test, cut_cut, cut_absorbs, cut_insert}
+use Rattle.misolation.proofs.CutMaps.{cut_cut, cut_absorbs, cut_insert}
 use Rattle.misolation.proofs.Access.{giver_inside, written_outside, may_cut, lock_cut}
 use Rattle.misolation.proofs.FittingLocks.{taken_fits, given_back_fits, released_fits}
 use Rattle.misolation.proofs.LockCuts.{taken_cut, given_back_cut, released_cut, taken_outside, given_back_outside, released_outside}

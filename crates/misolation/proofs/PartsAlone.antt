@@ -1,29 +1,18 @@
 -- SPDX-License-Identifier: Apache-2.0
 -- The two laws for histories of different length, and the isolation theorem.
-use Rattle.std.proofs.Common.{◌≡◌, Bool, true, false, cond, List, [], ◌∷◌, Option, Some, None, map, refl, sym, ap, ◌∙◌, subst, subst₂}
-use Rattle.std.proofs.lemmas.Cmp.{nat_cmp_total}
+use Rattle.misolation.proofs.Words.{◌≡◌, Bool, true, false, cond, List, [], ◌∷◌, Option, Some, None, map, refl, sym, ap, ◌∙◌, subst, subst₂, nat_cmp_total, Text, Settings, held_cmp, held_cmp_total, held_cmp_exact, get_cut, by_test, Server, Event, Reply, normal, Accounts, reach, is_member, is_inside, cut_settings, cut_server, cut_events, part, IsFit, AlikeServers, IsLeastClosed}
 use Rattle.std.proofs.lemmas.List.Elements.{filter_agree}
 use Rattle.std.specs.Cmp.{IsTotalOrder}
 use Rattle.std.specs.declared.cmp.Ordering.{Ordering}
 use Rattle.std.specs.FinMap.{empty, retain_keys, get-empty, same_map, IsAntisymmetric, nat_cmp-IsAntisymmetric}
-use Rattle.mspec.specs.Node.{Text}
-use Rattle.mspec.specs.Access.{Settings}
-use Rattle.mspec.specs.LockConflict.{held_cmp}
-use Rattle.mspec.proofs.LockOrders.{held_cmp_total, held_cmp_exact}
-use Rattle.mspec.proofs.MapCuts.{get_cut}
-use Rattle.mmeaning.specs.Step.{Server, Event, Reply, normal}
 use Rattle.mmeaning.specs.History.{History, opening, replies, server_after, answered, NoneFailed}
 use Rattle.mmeaning.proofs.Histories.{normal_never_fails, normal_steps_are_history, history_is_normal}
-use Rattle.misolation.specs.Reach.{Accounts, reach}
-use Rattle.misolation.specs.Cut.{is_member, is_inside, cut_settings, cut_server, cut_events, part, IsFit}
 use Rattle.misolation.specs.Alone.{alone, only}
 use Rattle.misolation.specs.Trace.{Moment, Trace, lines_of, left_by, cut_trace}
-use Rattle.misolation.specs.Alike.{AlikeServers}
 use Rattle.misolation.specs.Agreement.{Run, Agree}
-use Rattle.misolation.specs.ReachLaws.{IsLeastClosed}
 use Rattle.misolation.specs.StepLaws.{InsideStep, OutsideStep}
 use Rattle.misolation.specs.HistoryLaws.{events_of, PartIsHistory, HistoryHasTrace, PartOfTrace, PartIsTrace, OpeningIsFit, HistoriesKeepFit, IsAlone, PartIsAlone, InterpreterIsolates, Isolation, OpeningIsCut, Answered, SameReplies, AgreeingReplies, sent_to, PromiseIsKept}
-use Rattle.misolation.proofs.CutMaps.{by_test, map_filter}
+use Rattle.misolation.proofs.CutMaps.{map_filter}
 use Rattle.misolation.proofs.Reaching.{reach_is_least_closed}
 use Rattle.misolation.proofs.PartsOfParts.{part_of_part, part_kept, only_among}
 use Rattle.misolation.proofs.Steps.{inside_steps, outside_steps, steps_keep_fit}

@@ -1,19 +1,8 @@
 -- SPDX-License-Identifier: Apache-2.0
 -- The part of a history at a smaller set of accounts, before and after the cut to a greater one.
-use Rattle.std.proofs.Common.{◌≡◌, ℕ, true, false, cond, List, Option, Some, None, refl, sym, ap, ◌∙◌}
-use Rattle.std.proofs.lemmas.Cmp.{nat_cmp_total}
+use Rattle.misolation.proofs.Words.{◌≡◌, ℕ, true, false, cond, List, Option, Some, None, refl, sym, ap, ◌∙◌, nat_cmp_total, false_from_ne_true, bytes_decides, get, nat_cmp-IsAntisymmetric, Text, Account, Settings, get_cut, by_test, Event, Reply, Accounts, is_member, is_inside, cut_settings, part, only}
 use Rattle.std.proofs.lemmas.List.Elements.{filter_agree}
-use Rattle.std.proofs.lemmas.Bool.{false_from_ne_true}
-use Rattle.std.specs.Cmp.Lexicographic.{bytes_decides}
-use Rattle.std.specs.FinMap.{get, nat_cmp-IsAntisymmetric}
-use Rattle.mspec.specs.Node.{Text}
-use Rattle.mspec.specs.Access.{Account, Settings}
-use Rattle.mspec.proofs.MapCuts.{get_cut}
-use Rattle.mmeaning.specs.Step.{Event, Reply}
-use Rattle.misolation.specs.Reach.{Accounts}
-use Rattle.misolation.specs.Cut.{is_member, is_inside, cut_settings, part}
-use Rattle.misolation.specs.Alone.{only}
-use Rattle.misolation.proofs.CutMaps.{by_test, filter_absorbed}
+use Rattle.misolation.proofs.CutMaps.{filter_absorbed}
 
 module _ (r s : Accounts) (settings : Settings) (among : (x : Text) → r x ≡ true → s x ≡ true) where
   member_among : (o : Option Account) → is_member r o ≡ true → is_member s o ≡ true

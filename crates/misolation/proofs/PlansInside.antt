@@ -1,16 +1,8 @@
 -- SPDX-License-Identifier: Apache-2.0
 -- The two laws for every plan, by one induction each over what its operations keep.
-use Rattle.std.proofs.Common.{◌≡◌, true, false, ◌∷◌, Option, Some, None, refl, ap, ◌∙◌, subst}
-use Rattle.mspec.specs.Access.{Account, Settings}
+use Rattle.misolation.proofs.Words.{◌≡◌, true, false, ◌∷◌, Option, Some, None, refl, ap, ◌∙◌, subst, Account, Settings, get, nat_cmp-IsAntisymmetric, nat_cmp_total, Held, held_cmp_total, held_cmp_exact, World, Accounts, IsClosed, is_member, is_inside, cut_settings, cut_world, holds_by, IsFit}
 use Rattle.mspec.specs.Plan.{Plan, Done, Ask, Ops}
 use Rattle.mspec.proofs.Plans.{Respects, respects, respects_short, keeps, keeps_short}
-use Rattle.std.specs.FinMap.{get, nat_cmp-IsAntisymmetric}
-use Rattle.std.proofs.lemmas.Cmp.{nat_cmp_total}
-use Rattle.mspec.specs.LockConflict.{Held}
-use Rattle.mspec.proofs.LockOrders.{held_cmp_total, held_cmp_exact}
-use Rattle.mmeaning.specs.World.{World}
-use Rattle.misolation.specs.Reach.{Accounts, IsClosed}
-use Rattle.misolation.specs.Cut.{is_member, is_inside, cut_settings, cut_world, holds_by, IsFit}
 use Rattle.misolation.specs.PlanLaws.{exchanges, Actor, ops_of, cut_ops, InsidePlan, InsidePlans, OutsidePlan, OutsidePlans, PlansKeepFit, CutIsFit}
 use Rattle.misolation.proofs.CutMaps.{had, get_kept}
 use Rattle.misolation.proofs.Access.{lock_cut}

@@ -1,23 +1,9 @@
 -- SPDX-License-Identifier: Apache-2.0
 -- Over the cut to a closed set, the same accounts reach its members.
-use Rattle.std.proofs.Common.{◌≡◌, Bool, true, ◌&&◌, List, [], ◌∷◌, sym, ap, ◌∙◌, ⊎_elim}
-use Rattle.std.proofs.lemmas.Bool.{or_cases, and_parts, and_from, or_left, or_right, false_from_ne_true}
-use Rattle.std.proofs.lemmas.Map.Views.{any-filter_same}
-use Rattle.std.specs.Cmp.Lexicographic.{bytes_decides}
-use Rattle.std.specs.List.{list_any, filter}
-use Rattle.mspec.specs.Node.{Text}
-use Rattle.mspec.specs.Trees.{text_eq}
-use Rattle.mspec.specs.Access.{Grant, Settings, Write, allows}
-use Rattle.mspec.specs.Flow.{carries, Reaches, itself, through}
-use Rattle.misolation.specs.Reach.{Accounts, IsClosed, reach}
-use Rattle.misolation.specs.Cut.{is_between, cut_settings}
+use Rattle.misolation.proofs.Words.{◌≡◌, Bool, true, ◌&&◌, List, [], ◌∷◌, sym, ap, ◌∙◌, ⊎_elim, or_cases, and_parts, and_from, or_left, or_right, any-filter_same, bytes_decides, list_any, filter, Text, text_eq, Grant, Settings, Write, allows, carries, Reaches, itself, through, Accounts, IsClosed, reach, is_between, cut_settings, by_test}
+use Rattle.std.specs.Cmp.Derive.{one_truth}
 use Rattle.misolation.specs.ReachLaws.{ReachIsKept}
-use Rattle.misolation.proofs.CutMaps.{by_test}
 use Rattle.misolation.proofs.Reaching.{reach_is_chains}
-
--- tests that pass together are the same
-pub same_test : (a b : Bool) → (a ≡ true → b ≡ true) → (b ≡ true → a ≡ true) → a ≡ b
-same_test a b f g = by_test a (λ e. e ∙ sym (f e)) (λ e. e ∙ sym (false_from_ne_true b (λ h. let is : a ≡ true = g h in absurd (cc))))
 
 any_of_filter : {X : Type 0} (p q : X → Bool) (xs : List X) → list_any p (filter q xs) ≡ true → list_any p xs ≡ true
 any_of_filter p q [] e = e
@@ -55,6 +41,6 @@ module _ (s : Accounts) (settings : Settings) where
       (through (flow_kept x z member further.1 ∙ f) further.0, member)
 
 pub reach_is_kept : ReachIsKept
-reach_is_kept s settings a closed m x = same_test (reach (cut_settings s settings) a x) (reach settings a x)
+reach_is_kept s settings a closed m x = one_truth (reach (cut_settings s settings) a x) (reach settings a x)
     (λ e. (reach_is_chains settings a x).1 (chain_of_cut s settings x a ((reach_is_chains (cut_settings s settings) a x).0 e)))
     (λ e. (reach_is_chains (cut_settings s settings) a x).1 (chain_kept s settings closed x a m ((reach_is_chains settings a x).0 e)).0)

@@ -1,17 +1,10 @@
 -- SPDX-License-Identifier: Apache-2.0
 -- What a run of lines tells an account, step by step, apart, and alone.
-use Rattle.std.proofs.Common.{◌≡◌, List, [], ◌∷◌, ◌++◌, map, refl, sym, ap, ◌∙◌, subst}
+use Rattle.misolation.proofs.Words.{◌≡◌, List, [], ◌∷◌, ◌++◌, map, refl, sym, ap, ◌∙◌, subst, Settings, Server, Event, Reply, History, NoneFailed, reach, is_inside, cut_settings, cut_events, part, IsLeastClosed, IsAlone, SameReplies}
 use Rattle.std.proofs.lemmas.List.{map-append}
 use Rattle.std.proofs.lemmas.List.Elements.{filter-append}
 use Rattle.std.specs.Prelude.{IsTrue, ◌↔◌}
-use Rattle.mspec.specs.Access.{Settings}
-use Rattle.mmeaning.specs.Step.{Server, Event, Reply}
-use Rattle.mmeaning.specs.History.{History, NoneFailed}
-use Rattle.misolation.specs.Reach.{reach}
-use Rattle.misolation.specs.Cut.{is_inside, cut_settings, cut_events, part}
 use Rattle.misolation.specs.Alone.{alone, only}
-use Rattle.misolation.specs.ReachLaws.{IsLeastClosed}
-use Rattle.misolation.specs.HistoryLaws.{IsAlone, SameReplies}
 use Rattle.misolation.specs.Telling.{told_by, told_to}
 use Rattle.misolation.specs.RunLaws.{NothingIsTold, TellsOn, ToldApart, EquallyTold, ToldTheSame}
 use Rattle.misolation.proofs.PartsOfParts.{part_of_part, part_kept, only_among, same_part}

@@ -1,21 +1,8 @@
 -- SPDX-License-Identifier: Apache-2.0
 -- The two laws for steps.
-use Rattle.std.proofs.Common.{◌≡◌, ℕ, Bool, true, false, Option, Some, None, refl, sym, ap, ◌∙◌, subst}
-use Rattle.std.specs.Prelude.{not, ◌||◌, List, [], ◌∷◌, if◌then◌else◌}
+use Rattle.misolation.proofs.Words.{◌≡◌, ℕ, Bool, true, false, Option, Some, None, refl, sym, ap, ◌∙◌, subst, not, ◌||◌, List, [], ◌∷◌, if◌then◌else◌, FinMap, get, retain_keys, nat_cmp-IsAntisymmetric, nat_cmp, nat_cmp_total, Text, Account, Settings, Write, Outcome, Op, May, Value, Status, Neighbour, Routine, Put, Kill, Take, Give_back, Release, Plan, perform, cut_short, line_at, Signal, act, Accounts, IsClosed, is_member, is_inside, cut_settings, cut_locks, cut_world, cut_server, AreFit, IsFit}
 use Rattle.std.specs.List.{flat_map}
-use Rattle.std.specs.FinMap.{FinMap, get, retain_keys, nat_cmp-IsAntisymmetric}
-use Rattle.std.specs.Ordering.{nat_cmp}
-use Rattle.std.proofs.lemmas.Cmp.{nat_cmp_total}
-use Rattle.mspec.specs.Node.{Text}
-use Rattle.mspec.specs.Access.{Account, Settings, Write}
-use Rattle.mspec.specs.Act.{Outcome}
-use Rattle.mspec.specs.Plan.{Op, May, Value, Status, Neighbour, Routine, Put, Kill, Take, Give_back, Release, Plan, perform, cut_short}
-use Rattle.mgrammar.specs.Reading.{line_at}
-use Rattle.mmeaning.specs.LineMeaning.{Signal}
-use Rattle.mmeaning.specs.World.{act}
 use Rattle.mmeaning.specs.Step.{Session, session_or_new, Server, Event, Reply, plan_of, ended, is_too_long, is_ascii, at_tree, checked, at_account, normal, FailedStep, is_failure, StepBy}
-use Rattle.misolation.specs.Reach.{Accounts, IsClosed}
-use Rattle.misolation.specs.Cut.{is_member, is_inside, cut_settings, cut_locks, cut_world, cut_server, AreFit, IsFit}
 use Rattle.misolation.specs.PlanLaws.{Exchange, exchanges, Actor, ops_of, cut_ops, InsidePlan, OutsidePlan}
 use Rattle.misolation.specs.Writes.{GlobalWrite, Puts, Kills, write_of, writes}
 use Rattle.misolation.specs.StepLaws.{exchanges_by, line_exchanges, writes_by, line_writes, InsideStep, InsideSteps, OutsideStep, OutsideSteps, StepsKeepFit, StepsAreIsolated}

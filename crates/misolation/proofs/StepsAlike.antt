@@ -1,22 +1,8 @@
 -- SPDX-License-Identifier: Apache-2.0
 -- What a normal step cannot tell apart.
-use Rattle.std.proofs.Common.{◌≡◌, ℕ, Bool, true, false, cond, List, [], ◌∷◌, Option, Some, None, refl, sym, ap, ◌∙◌, subst}
-use Rattle.std.specs.FinMap.{get, insert, remove, get-insert, get-remove}
-use Rattle.std.specs.Ordering.{nat_cmp, eq_by_cmp}
-use Rattle.std.specs.List.{list_all}
-use Rattle.std.proofs.lemmas.Cmp.{nat_cmp_total}
-use Rattle.mspec.specs.Node.{Text}
-use Rattle.mspec.specs.Trees.{text_eq}
-use Rattle.mspec.specs.Access.{Account, Settings, Read, Write}
+use Rattle.misolation.proofs.Words.{◌≡◌, ℕ, Bool, true, false, cond, List, [], ◌∷◌, Option, Some, None, refl, sym, ap, ◌∙◌, subst, get, insert, remove, get-insert, get-remove, nat_cmp, eq_by_cmp, list_all, nat_cmp_total, Text, text_eq, Account, Settings, Read, Write, LockName, taken, Op, May, Value, Status, Neighbour, Routine, Put, Kill, Take, Give_back, Release, Ops, perform, State, Outcome, line_at, Signal, World, act, guarded, may_lock, took, answered, server_after}
 use Rattle.mspec.specs.Globals.{status, order_at, without_subtree}
-use Rattle.mspec.specs.LockConflict.{LockName, taken}
-use Rattle.mspec.specs.Plan.{Op, May, Value, Status, Neighbour, Routine, Put, Kill, Take, Give_back, Release, Ops, perform}
-use Rattle.mspec.specs.Act.{State, Outcome}
-use Rattle.mgrammar.specs.Reading.{line_at}
-use Rattle.mmeaning.specs.LineMeaning.{Signal}
-use Rattle.mmeaning.specs.World.{World, act, guarded, may_lock, took}
 use Rattle.mmeaning.specs.Step.{Session, session_or_new, Server, Event, Reply, Ending, Finished, Halted, Faulted, kept, plan_of, reply_of, state_of, settled, ended, is_too_long, is_ascii, at_tree, checked, at_account, normal}
-use Rattle.mmeaning.specs.History.{answered, server_after}
 use Rattle.misolation.specs.Alike.{AlikeSettings, AlikeServers, AlikeSteps}
 use Rattle.misolation.specs.AlikeLaws.{StepsByAllowed, StepsBySessions}
 

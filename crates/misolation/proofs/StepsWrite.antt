@@ -1,20 +1,11 @@
 -- SPDX-License-Identifier: Apache-2.0
 -- What plans and steps leave of globals, by their writes.
 use Rattle.std.proofs.Common.{◌≡◌, ℕ, zero, suc, Bool, true, false, List, [], ◌∷◌, ◌++◌, Option, Some, None, refl, sym, ap, ◌∙◌, append_assoc}
-use Rattle.std.specs.Prelude.{not, ◌||◌, if◌then◌else◌}
+use Rattle.misolation.proofs.Words.{not, ◌||◌, if◌then◌else◌, get, insert, list_all, Text, Node, Account, Settings, State, Outcome, Locks, taken, line_at, Signal, session_or_new, Server, Event, Reply, Ending, Finished, Halted, Faulted, reply_of, state_of, settled, plan_of, is_too_long, is_ascii, checked, at_account, FailedStep, is_failure, StepBy}
 use Rattle.std.proofs.lemmas.List.{append-nil}
-use Rattle.std.specs.FinMap.{get, insert}
-use Rattle.std.specs.List.{list_all}
-use Rattle.mspec.specs.Node.{Text, Node}
 use Rattle.mspec.specs.Globals.{Globals, without_subtree}
-use Rattle.mspec.specs.Access.{Account, Settings}
-use Rattle.mspec.specs.Act.{State, Outcome}
-use Rattle.mspec.specs.LockConflict.{Locks, taken}
 use Rattle.mspec.specs.Plan.{Op, May, Value, Status, Neighbour, Routine, Put, Kill, Take, Give_back, Release, Plan, Done, Ask, Ops, perform, cut_short}
-use Rattle.mgrammar.specs.Reading.{line_at}
-use Rattle.mmeaning.specs.LineMeaning.{Signal}
 use Rattle.mmeaning.specs.World.{World, act, guarded, may_read, may_write, may_lock, took}
-use Rattle.mmeaning.specs.Step.{session_or_new, Server, Event, Reply, Ending, Finished, Halted, Faulted, reply_of, state_of, settled, plan_of, is_too_long, is_ascii, checked, at_account, FailedStep, is_failure, StepBy}
 use Rattle.misolation.specs.PlanLaws.{Exchange, exchanges}
 use Rattle.misolation.specs.Writes.{GlobalWrite, Puts, Kills, written_by, written, write_of, writes}
 use Rattle.misolation.specs.StepLaws.{line_writes, writes_by, StepWrites, StepsWrite}

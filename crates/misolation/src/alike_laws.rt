@@ -3,11 +3,13 @@
 ghost use Rattle.misolation.specs.AlikeLaws.{StepsByAllowed, StepsBySessions, SameEntriesAgree};
 
 /// A normal step depends on the settings by their terminals and by what is allowed alone.
+#[tactic(auto, using(crate::proofs::StepsAlike::steps_by_allowed))]
 pub fn steps_by_allowed()
     ensures { StepsByAllowed }
 {}
 
 /// It depends on sessions as if each terminal without one had a new one.
+#[tactic(auto, using(crate::proofs::StepsAlike::steps_by_sessions))]
 pub fn steps_by_sessions()
     ensures { StepsBySessions }
 {}

@@ -19,18 +19,21 @@ pub fn part_is_trace()
 {}
 
 /// Where none of the members' own steps failed, their lines have the replies that they have alone, and leave what they leave alone.
+#[tactic(auto, using(crate::proofs::PartsAlone::part_is_alone))]
 pub fn part_is_alone()
     ensures { PartIsAlone }
 {}
 
 /// The definitional interpreter, whose steps never fail, gives the members' lines among all others the replies that it gives them
 /// alone.
+#[tactic(auto, using(crate::proofs::PartsAlone::interpreter_isolates))]
 pub fn interpreter_isolates()
     ensures { InterpreterIsolates }
 {}
 
 /// The isolation theorem: for all settings, globals and lines, the replies at an account's terminals are those that it gets where
 /// there is nothing but the accounts that reach it, if no line of one of these failed.
+#[tactic(auto, using(crate::proofs::PartsAlone::isolation))]
 pub fn isolation()
     ensures { Isolation }
 {}
@@ -46,6 +49,7 @@ pub fn histories_keep_fit()
 {}
 
 /// What is left of an opening server is the opening server of the members' globals.
+#[tactic(auto, using(crate::proofs::PartsAlone::opening_is_cut))]
 pub fn opening_is_cut()
     ensures { OpeningIsCut }
 {}
@@ -59,6 +63,7 @@ pub fn agreeing_replies()
 /// What a host may promise each account: if no line of an account that reaches it failed, its replies are those of the definitional
 /// interpreter run on the reaching accounts' lines, globals and grants alone; and two servers that agree on these give it the same
 /// replies, whatever other accounts store, lock, run or exhaust.
+#[tactic(auto, using(crate::proofs::PartsAlone::promise_is_kept))]
 pub fn promise_is_kept()
     ensures { PromiseIsKept }
 {}

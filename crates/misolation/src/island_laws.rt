@@ -4,6 +4,7 @@ ghost use Rattle.misolation.specs.IslandLaws.{IslandRunsAlone, MachinesAreIsland
 
 /// The law of islands, for one: the replies at its terminals are those of a run of its own lines over its own settings and globals,
 /// and its part of the globals at the end is what that run leaves, if none of its lines failed.
+#[tactic(auto, using(crate::proofs::IslandsTogether::island_runs_alone))]
 pub fn island_runs_alone()
     ensures { IslandRunsAlone }
 {}

@@ -4,6 +4,7 @@ ghost use Rattle.misolation.specs.PlanLaws.{InsideOperations, InsidePlans, Outsi
 
 /// The inside law, operation by operation: for a member's terminal it answers, and leaves, over the cut to a closed set what it
 /// answers and leaves over the whole world.
+#[tactic(auto, using(crate::proofs::Operations::inside_operations))]
 pub fn inside_operations()
     ensures { InsideOperations }
 {}
@@ -15,6 +16,7 @@ pub fn inside_plans()
 {}
 
 /// The outside law, operation by operation: for any other terminal it leaves the cut as it was.
+#[tactic(auto, using(crate::proofs::Operations::outside_operations))]
 pub fn outside_operations()
     ensures { OutsideOperations }
 {}

@@ -13,6 +13,7 @@ pub fn reach_is_chains()
 {}
 
 /// Over the cut to a closed set that has the account, the same accounts reach it.
+#[tactic(auto, using(crate::proofs::ReachKept::reach_is_kept))]
 pub fn reach_is_kept()
     ensures { ReachIsKept }
 {}

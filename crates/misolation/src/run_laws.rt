@@ -3,18 +3,21 @@
 ghost use Rattle.misolation.specs.RunLaws.{NothingIsTold, TellsOn, ToldApart, EquallyTold, ToldTheSame};
 
 /// Where nothing was run, nothing is told, and it is whole.
+#[tactic(auto, using(crate::proofs::RunsTold::nothing_is_told))]
 pub fn nothing_is_told()
     ensures { NothingIsTold }
 {}
 
 /// A run goes on by one step: its reply is told where it is at a terminal of the account, and the run stays whole where the step did
 /// not fail at a terminal of an account that reaches it.
+#[tactic(auto, using(crate::proofs::RunsTold::tells_on))]
 pub fn tells_on()
     ensures { TellsOn }
 {}
 
 /// Told apart: whatever a run tells an account, the members' part of its history tells it alone, over the cuts to any closed set that
 /// has the account, whichever of their steps failed.
+#[tactic(auto, using(crate::proofs::RunsTold::told_apart))]
 pub fn told_apart()
     ensures { ToldApart }
 {}

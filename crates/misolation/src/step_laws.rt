@@ -19,6 +19,7 @@ pub fn steps_keep_fit()
 {}
 
 /// Each step leaves the old globals after some first of its line's writes: after all of them, if it did not fail.
+#[tactic(auto, using(crate::proofs::StepsWrite::steps_write))]
 pub fn steps_write()
     ensures { StepsWrite }
 {}

@@ -1,13 +1,13 @@
 -- SPDX-License-Identifier: Apache-2.0
 -- How calls are put together.
 use Rattle.std.proofs.Common.{◌≡◌, ℕ, zero, suc, ◌≤◌, ◌<◌, Result, Ok, Err, refl, sym, ap, ◌∙◌, arith}
-use Rattle.std.specs.Result.{IsErr, IsErrAnd}
 use Rattle.mspec.specs.Code.{Memory, Store, Fault, Own, Lost}
 use Rattle.mspec.specs.Plan.{Op, Answer, Plan, Done, Ask, then_plan, perform, cut_short}
 use Rattle.mspec.specs.Act.{Outcome, Gives, Fails, Act, on_gives, ◌>>=◌, give, ask}
 use Rattle.mspec.proofs.Plans.{perform-then, cut_first, cut_second, cut_whole}
 use Rattle.mmeaning.specs.Step.{World}
 use Rattle.mmeaning.specs.Calls.{Standing, Here, Gave, IsCut, FailedBy, Ends, Did, MayLose, Follows, ops_of}
+pub use Rattle.mspec.proofs.Basics.{residual_is}
 
 -- after what an act gives, the rest is left
 pub then_follows : {A B : Type 0} (b : Standing) (p : Act A) (f : A → Act B) (h : Here) (a : A) (h' : Here) → Gave b p h a h' → Follows b (p >>= f) h (f a) h'
@@ -123,30 +123,9 @@ asked {h = h} op f x w e = record {
   fewer = omega arith;
 }
 
--- and one that was not: nothing has changed, so the act is cut before it
-pub asked_nothing : {X E : Type 0} {b : Standing} {steady : Type 0} {fault_of : E → Fault} {h h1 : Here} (op : Op) (f : X → Answer op) (e : E) → MayLose steady (fault_of e) → h.1 ≡ h1.1 → h1.0.steps ≤ h.0.steps → Did b steady fault_of (λ n. ask op) f h (Err e) h1
-asked_nothing op f e m same few = did_lost (λ n. ask op) f e m same few
-
 -- a call that was done is also one that was cut at its end
 pub cut_all : {A : Type 0} (b : Standing) (p : Act A) (h : Here) (a : A) (h1 : Here) → Gave b p h a h1 → IsCut b p h h1
 cut_all b p h a h1 g =
     let all = cut_whole (ops_of b) (p h.0) h.1 in
     let here : perform (ops_of b) (p h.0) h.1 ≡ (Gives a h1.0, h1.1) = g in
     (all.0, all.1 ∙ ap (λ r. r.1) here)
-
--- so what is done may still be lost
-pub did_then_lost : {A X E : Type 0} {b : Standing} {steady : Type 0} {fault_of : E → Fault} {h h1 h2 : Here} {p : ℕ → Act A} {f : X → A} {x : X} (e : E) → MayLose steady (fault_of e) → h1.1 ≡ h2.1 → h2.0.steps ≤ h1.0.steps
-    → Did b steady fault_of p f h (Ok x) h1 → Did b steady fault_of p f h (Err e) h2
-did_then_lost {b = b} {steady = steady} {fault_of = fault_of} {h = h} {h1 = h1} {h2 = h2} {p = p} {f = f} {x = x} e m same few d =
-    let fewer = d.fewer in
-    record {
-      at = λ n le.
-          let all = cut_all b (p n) h (f x) h1 (d.at n le) in
-          lost_by b steady (p n) h (fault_of e) h2 m (all.0, all.1 ∙ same);
-      fewer = omega (arith, few, fewer);
-    }
-
--- the result of a `?` that returns
-pub residual_is : {X E : Type 0} (r : Result X E) (e : E) → IsErr r × IsErrAnd r (λ x. x ≡ e) → r ≡ Err e
-residual_is (Ok x) e h = let no = h.0 in cc
-residual_is (Err x) e h = ap Err h.1

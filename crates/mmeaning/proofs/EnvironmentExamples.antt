@@ -1,11 +1,8 @@
 -- SPDX-License-Identifier: Apache-2.0
 -- Globals of other accounts on examples, as proved equations over any world: what is asked in which order, and what is refused.
-use Rattle.std.proofs.Common.{◌≡◌, ℕ, suc, Bool, [], ◌∷◌, Option, Some, refl}
+use Rattle.std.proofs.Common.{◌≡◌, ℕ, suc, Bool, [], ◌∷◌, Option, Some, refl, rules}
 use Rattle.std.specs.Prelude.{codes}
 use Rattle.std.specs.FinMap.{get}
-use Rattle.std.specs.Fmt.{digits}
-use Rattle.mspec.specs.Number.{round, round_size, nearest, rounding_unit, digits_before}
-use Rattle.mspec.specs.NumberText.{numeric_value, literal_size, size_text}
 use Rattle.mspec.specs.Code.{M9, Zarg, Zgrant, Zsub}
 use Rattle.mspec.specs.Plan.{Ops, perform}
 use Rattle.mspec.specs.Act.{Text, Node, Locals, State, Gives, Fails}
@@ -16,6 +13,7 @@ use Rattle.mmeaning.specs.LineMeaning.{setting}
 use Rattle.mmeaning.specs.World.{World, act}
 use Rattle.mmeaning.proofs.LineTrees.{only, with_operator}
 use Rattle.mmeaning.proofs.LockRuns.{lending}
+use Rattle.mspec.proofs.ComputedNumbers.{computes}
 
 -- terminal 1 is ALICE's, who lets BOB at terminal 3 read her X
 abbrev hers : Ops World
@@ -69,39 +67,21 @@ module _ (w : World) (last : Option Node) (test : Bool) (out : Text) (locals : L
 
   -- ---- what is not: the node that was referred to last stays that
 
-  written_beside : perform his (setting his_line (one (variable (naked (subscript (codes "b"))))) (only (text (codes "1"))) (state (Some (node (codes "X") (codes "a"))) (suc (suc steps)))) w
-      ≡ (Fails Zgrant (state (Some (node (codes "X") (codes "a"))) steps), w)
-  written_beside = refl
+  record Refusals : Type 0 where
+    written_beside : perform his (setting his_line (one (variable (naked (subscript (codes "b"))))) (only (text (codes "1"))) (state (Some (node (codes "X") (codes "a"))) (suc (suc steps)))) w
+        ≡ (Fails Zgrant (state (Some (node (codes "X") (codes "a"))) steps), w)
+    written_there : perform his (setting his_line (one (variable (of_alice (codes "X") (subscript (codes "a"))))) (only (text (codes "1"))) (state last (suc (suc (suc steps))))) w ≡ (Fails Zgrant (state last steps), w)
+    not_granted : perform his (value his_line (only (reference (of_alice (codes "Y") no_exprs))) (state last (suc (suc steps)))) w ≡ (Fails Zgrant (state last steps), w)
+    no_account : perform his (value his_line (only (reference (of_nobody (codes "X") no_exprs))) (state last (suc (suc steps)))) w ≡ (Fails Zgrant (state last steps), w)
+    -- nor what is no account's name
+    no_account_name : perform his (value his_line (only (reference (extended (only (text (codes "A-B"))) (codes "X") no_exprs))) (state last (suc (suc steps)))) w ≡ (Fails Zgrant (state last steps), w)
+    -- in which order: all is evaluated, then the grant, then the subscripts, then whether there is one for $ORDER
+    error_before_grant : perform his (value his_line (only (reference (of_nobody (codes "Y") (exprs (with_operator (number (codes "1")) divide (number (codes "0"))) no_exprs)))) (state last (suc (suc (suc (suc steps)))))) w ≡ (Fails M9 (state last steps), w)
+    grant_before_subscripts : perform his (value his_line (only (reference (of_alice (codes "Y") (subscript [])))) (state last (suc (suc (suc steps))))) w ≡ (Fails Zgrant (state last steps), w)
+    subscripts_refused : perform his (value his_line (only (reference (of_alice (codes "X") (subscript [])))) (state last (suc (suc (suc steps))))) w ≡ (Fails Zsub (state last steps), w)
+    grant_before_order : perform his (value his_line (next_of (of_alice (codes "Y") no_exprs)) (state last (suc (suc steps)))) w ≡ (Fails Zgrant (state last steps), w)
+    order_refused : perform his (value his_line (next_of (of_alice (codes "X") no_exprs)) (state last (suc (suc steps)))) w ≡ (Fails Zarg (state last steps), w)
 
-  written_there : perform his (setting his_line (one (variable (of_alice (codes "X") (subscript (codes "a"))))) (only (text (codes "1"))) (state last (suc (suc (suc steps))))) w ≡ (Fails Zgrant (state last steps), w)
-  written_there = refl
-
-  not_granted : perform his (value his_line (only (reference (of_alice (codes "Y") no_exprs))) (state last (suc (suc steps)))) w ≡ (Fails Zgrant (state last steps), w)
-  not_granted = refl
-
-  no_account : perform his (value his_line (only (reference (of_nobody (codes "X") no_exprs))) (state last (suc (suc steps)))) w ≡ (Fails Zgrant (state last steps), w)
-  no_account = refl
-
-  -- nor what is no account's name
-  no_account_name : perform his (value his_line (only (reference (extended (only (text (codes "A-B"))) (codes "X") no_exprs))) (state last (suc (suc steps)))) w ≡ (Fails Zgrant (state last steps), w)
-  no_account_name = refl
-
-  -- ---- in which order: all is evaluated, then the grant, then the subscripts, then whether there is one for $ORDER
-
-  error_before_grant : perform his (value his_line (only (reference (of_nobody (codes "Y") (exprs (with_operator (number (codes "1")) divide (number (codes "0"))) no_exprs)))) (state last (suc (suc (suc (suc steps)))))) w ≡ (Fails M9 (state last steps), w)
-  unfolding numeric_value literal_size round round_size nearest rounding_unit digits_before size_text digits
-  error_before_grant = refl
-
-  grant_before_subscripts : perform his (value his_line (only (reference (of_alice (codes "Y") (subscript [])))) (state last (suc (suc (suc steps))))) w ≡ (Fails Zgrant (state last steps), w)
-  grant_before_subscripts = refl
-
-  subscripts_refused : perform his (value his_line (only (reference (of_alice (codes "X") (subscript [])))) (state last (suc (suc (suc steps))))) w ≡ (Fails Zsub (state last steps), w)
-  subscripts_refused = refl
-
-  grant_before_order : perform his (value his_line (next_of (of_alice (codes "Y") no_exprs)) (state last (suc (suc steps)))) w ≡ (Fails Zgrant (state last steps), w)
-  unfolding function_of
-  grant_before_order = refl
-
-  order_refused : perform his (value his_line (next_of (of_alice (codes "X") no_exprs)) (state last (suc (suc steps)))) w ≡ (Fails Zarg (state last steps), w)
-  unfolding function_of
-  order_refused = refl
+  refusals : Refusals
+  unfolding computes function_of
+  refusals = search rules

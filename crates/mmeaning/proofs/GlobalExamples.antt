@@ -1,31 +1,27 @@
 -- SPDX-License-Identifier: Apache-2.0
 -- Globals on examples, as proved equations. What a line asks of the world is followed one operation after another.
-use Rattle.std.proofs.Common.{◌≡◌, Bool, true, false, cond, List, [], ◌∷◌, Option, Some, None, refl, ap, ◌∙◌}
-use Rattle.std.specs.Prelude.{codes, not, option_map}
+use Rattle.std.proofs.Common.{Bool, cond, Option, ap, ◌∙◌}
+use Rattle.std.specs.Prelude.{not, option_map}
 use Rattle.std.specs.Ordering.{eq_by_cmp, nat_cmp}
-use Rattle.std.specs.FinMap.{gets, get, insert, empty, retain_keys, get-insert, get-empty}
+use Rattle.std.specs.FinMap.{get, insert, retain_keys, get-insert, get-empty}
 use Rattle.mspec.proofs.MapCuts.{get_cut}
 use Rattle.mspec.proofs.NodeOrders.{node_cmp_total, node_cmp_exact}
+use Rattle.mspec.proofs.ComputedNumbers.{computes}
 use Rattle.mspec.specs.Code.{Code, M1, M7, Zsub}
 use Rattle.mspec.specs.Node.{Text, Node}
-use Rattle.mspec.specs.NodeOrder.{canonical_value, node_cmp}
-use Rattle.mspec.specs.Number.{significant_digits, round, round_size, nearest, rounding_unit, digits_before}
-use Rattle.mspec.specs.NumberText.{numeric_value, literal_size, size_text}
-use Rattle.std.specs.Fmt.{digits}
-use Rattle.mspec.specs.Globals.{Globals, is_node_within, status}
+use Rattle.mspec.specs.NodeOrder.{node_cmp}
+use Rattle.mspec.specs.Number.{significant_digits}
+use Rattle.mspec.specs.Globals.{is_node_within, status}
 use Rattle.mspec.specs.Plan.{Op, Answer, Plan, Done, Ask, Ops, perform}
-use Rattle.mspec.specs.Act.{Outcome, Fails, State, no_locals, level_begun, value_of, assigned_to}
-use Rattle.mgrammar.specs.Grammar.{LineTree, special_of}
-use Rattle.mgrammar.specs.Commands.{keyword_of}
-use Rattle.mgrammar.specs.Functions.{function_of}
-use Rattle.mgrammar.specs.Reading.{many, list_at, point_at, exponent_at, number_at, name_at, truth_at, operator_at, bracket_with, refer_with, dollar_with, subscripts_with, reference_with, primary_with, operand_with, step_by, step_with, expr_with, readers_at, target_with, destination_at, assignment_at, names_at, removal_at, hiding_at, condition_at, parameter_at, repetition_at, output_at, args_at, postcondition_at, command_at, spaced_at, comment_at, line_at}
-use Rattle.mgrammar.proofs.Computing.{reads}
+use Rattle.mspec.specs.Act.{Outcome, Fails, State}
+use Rattle.mgrammar.specs.Grammar.{LineTree}
+use Rattle.mgrammar.specs.Reading.{line_at}
 use Rattle.mmeaning.specs.LineMeaning.{Signal}
 use Rattle.mmeaning.specs.World.{World, act}
-use Rattle.mmeaning.specs.Step.{Reply, Server, Session, normal, kept, ended, new_session, begun, is_too_long, is_ascii}
-use Rattle.mmeaning.specs.History.{opening}
-use Rattle.mmeaning.proofs.ExampleAccount.{done, failed, alice, account}
-use Rattle.mmeaning.proofs.LineRuns.{AreAnswered, event, shut, shut_run, shut_step, step_is_shut, at_last}
+use Rattle.mmeaning.specs.Step.{Reply, Server, Session, normal, kept, ended, begun, is_too_long, is_ascii}
+use Rattle.mmeaning.proofs.ExampleAccount.{alice}
+use Rattle.mmeaning.proofs.LineRuns.{event, shut, shut_run, shut_step, step_is_shut}
+use Rattle.mmeaning.proofs.Running.{◌≡◌, List, [], ◌∷◌, Some, None, true, false, refl, codes, empty, gets, Globals, new_session, opening, account, done, failed, AreAnswered, at_last, Anywhere, runs}
 
 -- ---- operations, one after another
 
@@ -84,70 +80,45 @@ node_kept g p n = get_cut (node_cmp_total significant_digits) (node_cmp_exact si
 abbrev at : Text → List Text → Node
 at name xs = record { account = codes "ALICE"; name = name; subscripts = xs }
 
--- what is read is what was set
-read_back : (g : Globals) → AreAnswered account (opening g) (codes "S ^A(\"x\")=\"y\" W ^A(\"x\")" ∷ []) (done (codes "y") ∷ [])
-unfolding reads shut canonical_value no_locals level_begun value_of assigned_to numeric_value literal_size round round_size nearest
-    rounding_unit digits_before size_text digits
-read_back g =
-    answers _ refl refl refl
-    (asked true refl (asked tt refl (asked true refl (asked (Some (codes "y")) (same (node_put g (at (codes "A") (codes "x" ∷ [])) (codes "y") (at (codes "A") (codes "x" ∷ [])))) finished))))
+record GlobalsAsked : Type 0 where
+  -- what is read is what was set
+  read_back : Anywhere (codes "S ^A(\"x\")=\"y\" W ^A(\"x\")" ∷ []) (done (codes "y") ∷ [])
+  -- a global that has no text
+  undefined_global : AreAnswered account (opening empty) (codes "W ^A" ∷ []) (failed [] M7 ∷ [])
+  -- a naked reference stands beside the node that was referred to last, whose last subscript it replaces
+  beside_the_last : Anywhere (codes "S ^A(\"x\",\"y\")=\"1\",^(\"z\",\"u\")=\"2\" W ^A(\"x\",\"z\",\"u\")" ∷ []) (done (codes "2") ∷ [])
+  -- and needs one with a subscript
+  no_last_reference : Anywhere (codes "W ^(\"x\")" ∷ []) (failed [] M1 ∷ [])
+  no_last_subscript : Anywhere (codes "S ^A=\"1\",^(\"x\")=\"2\"" ∷ []) (failed [] M1 ∷ [])
+  -- a refused subscript: the account was asked for first
+  refused_subscript : Anywhere (codes "S ^A(\"\")=\"1\"" ∷ []) (failed [] Zsub ∷ [])
+  -- KILL takes a node with what stands below it
+  kill_takes_descendants : Anywhere (codes "K ^A(\"x\") W ^A(\"x\",\"y\")" ∷ []) (failed [] M7 ∷ [])
+  -- $DATA of a node that has texts below it alone
+  data_of_descendants : (g : Globals) → status g (at (codes "A") (codes "x" ∷ [])) ≡ (false, true) → AreAnswered account (opening g) (codes "W $D(^A(\"x\"))" ∷ []) (done (codes "10") ∷ [])
 
--- a global that has no text
-undefined_global : AreAnswered account (opening empty) (codes "W ^A" ∷ []) (failed [] M7 ∷ [])
-unfolding reads shut canonical_value no_locals level_begun value_of assigned_to numeric_value literal_size round round_size nearest
-    rounding_unit digits_before size_text digits
-undefined_global = answers _ refl refl refl (asked true refl (asked None (same (node_none (at (codes "A") []))) finished))
+globals : GlobalsAsked
+unfolding runs shut computes
+globals = record {
+  read_back = λ g. answers _ refl refl refl (asked true refl (asked tt refl (asked true refl (asked (Some (codes "y")) (same (node_put g (at (codes "A") (codes "x" ∷ [])) (codes "y") (at (codes "A") (codes "x" ∷ [])))) finished))));
+  undefined_global = answers _ refl refl refl (asked true refl (asked None (same (node_none (at (codes "A") []))) finished));
+  beside_the_last = λ g. answers _ refl refl refl (asked true refl (asked tt refl (asked true refl (asked tt refl (asked true refl (asked (Some (codes "2")) (same (node_put (insert g (at (codes "A") (codes "x" ∷ codes "y" ∷ [])) (codes "1")) (at (codes "A") (codes "x" ∷ codes "z" ∷ codes "u" ∷ [])) (codes "2") (at (codes "A") (codes "x" ∷ codes "z" ∷ codes "u" ∷ [])))) finished))))));
+  no_last_reference = λ g. answers _ refl refl refl finished;
+  no_last_subscript = λ g. answers _ refl refl refl (asked true refl (asked tt refl finished));
+  refused_subscript = λ g. answers _ refl refl refl (asked true refl finished);
+  kill_takes_descendants = λ g. answers _ refl refl refl (asked true refl (asked tt refl (asked true refl (asked None (same (node_kept g (λ m. not (is_node_within (at (codes "A") (codes "x" ∷ [])) m)) (at (codes "A") (codes "x" ∷ codes "y" ∷ [])))) finished))));
+  data_of_descendants = λ g is. answers _ refl refl refl (asked true refl (asked (false, true) (same is) finished));
+}
 
--- a naked reference stands beside the node that was referred to last, whose last subscript it replaces
-beside_the_last : (g : Globals)
-    → AreAnswered account (opening g) (codes "S ^A(\"x\",\"y\")=\"1\",^(\"z\",\"u\")=\"2\" W ^A(\"x\",\"z\",\"u\")" ∷ []) (done (codes "2") ∷ [])
-unfolding reads shut canonical_value no_locals level_begun value_of assigned_to numeric_value literal_size round round_size nearest
-    rounding_unit digits_before size_text digits
-beside_the_last g =
-    answers _ refl refl refl
-    (asked true refl (asked tt refl (asked true refl (asked tt refl (asked true refl
-    (asked (Some (codes "2")) (same (node_put (insert g (at (codes "A") (codes "x" ∷ codes "y" ∷ [])) (codes "1")) (at (codes "A") (codes "x" ∷ codes "z" ∷ codes "u" ∷ [])) (codes "2") (at (codes "A") (codes "x" ∷ codes "z" ∷ codes "u" ∷ [])))) finished))))))
+record Referred : Type 0 where
+  -- a node without a text is referred to all the same
+  undefined_is_referred_to : Refers empty (codes "W ^A(\"x\")") (Some (at (codes "A") (codes "x" ∷ [])))
+  -- but none whose subscript is refused
+  refused_is_not : (g : Globals) → Refers g (codes "S ^A(\"x\")=\"1\",^(\"\")=\"2\"") (Some (at (codes "A") (codes "x" ∷ [])))
 
--- and needs one with a subscript
-no_last_reference : (g : Globals) → AreAnswered account (opening g) (codes "W ^(\"x\")" ∷ []) (failed [] M1 ∷ [])
-unfolding reads shut canonical_value no_locals level_begun value_of assigned_to numeric_value literal_size round round_size nearest
-    rounding_unit digits_before size_text digits
-no_last_reference g = answers _ refl refl refl finished
-
-no_last_subscript : (g : Globals) → AreAnswered account (opening g) (codes "S ^A=\"1\",^(\"x\")=\"2\"" ∷ []) (failed [] M1 ∷ [])
-unfolding reads shut canonical_value no_locals level_begun value_of assigned_to numeric_value literal_size round round_size nearest
-    rounding_unit digits_before size_text digits
-no_last_subscript g = answers _ refl refl refl (asked true refl (asked tt refl finished))
-
--- a refused subscript: the account was asked for first
-refused_subscript : (g : Globals) → AreAnswered account (opening g) (codes "S ^A(\"\")=\"1\"" ∷ []) (failed [] Zsub ∷ [])
-unfolding reads shut canonical_value no_locals level_begun value_of assigned_to numeric_value literal_size round round_size nearest
-    rounding_unit digits_before size_text digits
-refused_subscript g = answers _ refl refl refl (asked true refl finished)
-
--- KILL takes a node with what stands below it
-kill_takes_descendants : (g : Globals) → AreAnswered account (opening g) (codes "K ^A(\"x\") W ^A(\"x\",\"y\")" ∷ []) (failed [] M7 ∷ [])
-unfolding reads shut canonical_value no_locals level_begun value_of assigned_to numeric_value literal_size round round_size nearest
-    rounding_unit digits_before size_text digits
-kill_takes_descendants g =
-    answers _ refl refl refl
-    (asked true refl (asked tt refl (asked true refl
-    (asked None (same (node_kept g (λ m. not (is_node_within (at (codes "A") (codes "x" ∷ [])) m)) (at (codes "A") (codes "x" ∷ codes "y" ∷ [])))) finished))))
-
--- $DATA of a node that has texts below it alone
-data_of_descendants : (g : Globals) → status g (at (codes "A") (codes "x" ∷ [])) ≡ (false, true) → AreAnswered account (opening g) (codes "W $D(^A(\"x\"))" ∷ []) (done (codes "10") ∷ [])
-unfolding reads shut canonical_value no_locals level_begun value_of assigned_to numeric_value literal_size round round_size nearest
-    rounding_unit digits_before size_text digits
-data_of_descendants g is = answers _ refl refl refl (asked true refl (asked (false, true) (same is) finished))
-
--- a node without a text is referred to all the same
-undefined_is_referred_to : Refers empty (codes "W ^A(\"x\")") (Some (at (codes "A") (codes "x" ∷ [])))
-unfolding reads shut canonical_value no_locals level_begun value_of assigned_to numeric_value literal_size round round_size nearest
-    rounding_unit digits_before size_text digits
-undefined_is_referred_to = refers _ refl refl refl (asked true refl (asked None (same (node_none (at (codes "A") (codes "x" ∷ [])))) finished))
-
--- but none whose subscript is refused
-refused_is_not : (g : Globals) → Refers g (codes "S ^A(\"x\")=\"1\",^(\"\")=\"2\"") (Some (at (codes "A") (codes "x" ∷ [])))
-unfolding reads shut canonical_value no_locals level_begun value_of assigned_to numeric_value literal_size round round_size nearest
-    rounding_unit digits_before size_text digits
-refused_is_not g = refers _ refl refl refl (asked true refl (asked tt refl (asked true refl finished)))
+referred : Referred
+unfolding runs shut computes
+referred = record {
+  undefined_is_referred_to = refers _ refl refl refl (asked true refl (asked None (same (node_none (at (codes "A") (codes "x" ∷ [])))) finished));
+  refused_is_not = λ g. refers _ refl refl refl (asked true refl (asked tt refl (asked true refl finished)));
+}

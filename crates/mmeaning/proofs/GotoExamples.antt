@@ -1,27 +1,18 @@
 -- SPDX-License-Identifier: Apache-2.0
 -- GOTO on examples, as proved equations: a loop of six turns, each in an equation of its own.
-use Rattle.std.proofs.Common.{sym, zero, ◌≡◌, ◌*◌, ℕ, List, [], ◌∷◌, Some, None, false, refl}
-use Rattle.std.specs.Prelude.{◌^◌, codes}
-use Rattle.std.specs.FinMap.{gets}
+use Rattle.std.proofs.Common.{sym, zero, ◌*◌, ℕ}
+use Rattle.std.specs.Prelude.{◌^◌}
 use Rattle.std.specs.Fmt.{digits}
 use Rattle.mspec.specs.NodeOrder.{canonical_value}
 use Rattle.mspec.specs.NumberText.{size_text}
-use Rattle.mspec.specs.Globals.{Globals}
-use Rattle.mspec.specs.Act.{Text, no_locals, level_begun, value_of, assigned_to}
-use Rattle.mgrammar.specs.Grammar.{special_of}
-use Rattle.mgrammar.specs.Commands.{keyword_of}
-use Rattle.mgrammar.specs.Functions.{function_of}
-use Rattle.mgrammar.specs.Reading.{many, list_at, point_at, exponent_at, number_at, name_at, truth_at, operator_at, subscripts_with, reference_with, bracket_with, refer_with, dollar_with, primary_with, operand_with, step_by, step_with, expr_with, readers_at, target_with, destination_at, assignment_at, output_at, names_at, removal_at, hiding_at, condition_at, parameter_at, repetition_at, entry_at, entrance_at, leap_at, execution_at, args_at, postcondition_at, command_at, spaced_at, comment_at, line_at}
-use Rattle.mgrammar.specs.RoutineLine.{label_at, dot_at, dots_at, body_at, routine_line_at}
-use Rattle.mmeaning.specs.History.{opening}
-use Rattle.mmeaning.proofs.ExampleAccount.{account, done}
-use Rattle.mmeaning.proofs.LineRuns.{AreAnswered, at_last}
-use Rattle.mmeaning.proofs.RoutineRuns.{lines_in, asked, serving_in}
+use Rattle.mspec.specs.Act.{no_locals, level_begun, value_of, assigned_to}
+use Rattle.mgrammar.specs.Reading.{name_at, line_at}
+use Rattle.mgrammar.specs.RoutineLine.{label_at, routine_line_at}
 use Rattle.std.proofs.Common.{suc, ap, ◌∙◌}
 use Rattle.mspec.proofs.ComputedMaps.{tree_none, tree_put, tree_again, text_none, text_put, text_again}
-use Rattle.mspec.proofs.ComputedNumbers.{value_some, round_pos, text_1, text_2, text_3, text_4, text_8}
+use Rattle.mspec.proofs.ComputedNumbers.{value_some, round_pos, text_1, text_2, text_3, text_4, text_8, text_16}
 use Rattle.mspec.specs.Scopes.{bottom}
-use Rattle.std.specs.FinMap.{empty, insert}
+use Rattle.std.specs.FinMap.{insert}
 use Rattle.mspec.specs.Plan.{Plan, then_plan, perform}
 use Rattle.mspec.specs.Act.{Gives, give, Locals, State, Outcome, Act, on_gives}
 use Rattle.mgrammar.specs.Grammar.{multiply, loop, until, for_word, is, less, number, text, reference, at_label, at_label_in, shown, do_one, go_to, set_word, quit_word, write_word, do_word, goto_word, CommandTree, LineTree, SpacedTree}
@@ -32,12 +23,9 @@ use Rattle.mmeaning.specs.LineMeaning.{Signal, Go_on, Spot}
 use Rattle.mmeaning.specs.Levels.{commands_in}
 use Rattle.mmeaning.proofs.Calls.{assoc_plan, then_give}
 use Rattle.mmeaning.proofs.ExampleAccount.{alice}
-use Rattle.mmeaning.proofs.LineRuns.{shut, entered, opened, text_opened, at_first}
+use Rattle.mmeaning.proofs.LineRuns.{shut, entered, opened, text_opened}
 use Rattle.mmeaning.proofs.LineTrees.{only, with_operator, named, set_to, command, command_if, line}
-
-number_16 : size_text (16 * 10 ^ 18) ≡ codes "16"
-unfolding size_text digits
-number_16 = refl
+use Rattle.mmeaning.proofs.Running.{◌≡◌, List, [], ◌∷◌, Some, None, false, refl, codes, empty, gets, Globals, Text, opening, account, done, AreAnswered, at_first, at_last, lines_in, asked, serving_in}
 
 number_32 : size_text (32 * 10 ^ 18) ≡ codes "32"
 unfolding size_text digits
@@ -51,7 +39,7 @@ number_64 : size_text (64 * 10 ^ 18) ≡ codes "64"
 unfolding size_text digits
 number_64 = refl
 
-ruleset more_numbers = (number_16, number_32, number_50, number_64)
+ruleset more_numbers = (text_16, number_32, number_50, number_64)
 
 -- the routine of the example, and the trees of its lines
 abbrev doubling : List Text

@@ -1,26 +1,15 @@
 -- SPDX-License-Identifier: Apache-2.0
--- Indirection on examples, as proved equations. What is read of the texts that stand for an `@` is told beside the lines, since a text that
--- is not computed yet would be read by all readers at once.
-use Rattle.std.proofs.Common.{◌≡◌, ℕ, List, [], ◌∷◌, ◌++◌, Some, None, false, true, refl}
-use Rattle.std.specs.Prelude.{codes, replicate}
-use Rattle.std.specs.FinMap.{empty, gets}
-use Rattle.mspec.proofs.ComputedMaps.{computed_maps}
-use Rattle.mspec.proofs.ComputedNumbers.{computed_numbers}
-use Rattle.mspec.specs.NodeOrder.{canonical_value}
+-- Indirection on examples, as proved equations. What is read of the texts that stand for an `@` stands beside the lines.
+use Rattle.std.proofs.Common.{ℕ, ◌++◌, rules}
+use Rattle.std.specs.Prelude.{replicate}
 use Rattle.mspec.specs.Code.{M6, M9, Zsteps, Zsyntax, Zdepth}
-use Rattle.mspec.specs.Act.{Text, no_locals, level_begun, value_of, assigned_to}
-use Rattle.mgrammar.specs.Grammar.{divide, ExprTree, number, text, reference, local, exprs, no_exprs, assignment, removal, hiding, condition, output, execution, breaks, shown, kill_one, new_one, tested, executed, indirect_args, special_of}
-use Rattle.mgrammar.specs.Commands.{keyword_of}
-use Rattle.mgrammar.specs.Functions.{function_of}
-use Rattle.mgrammar.specs.Reading.{many, list_at, point_at, exponent_at, number_at, name_at, truth_at, operator_at, subscripts_with, attached_with, indirect_with, reference_with, bracket_with, refer_with, dollar_with, primary_with, operand_with, step_by, step_with, expr_with, readers_at, target_with, destination_at, assignment_at, output_at, names_at, removal_at, hiding_at, condition_at, parameter_at, repetition_at, entry_at, entrance_at, leap_at, execution_at, args_at, postcondition_at, command_at, spaced_at, comment_at, line_at}
+use Rattle.mspec.specs.Act.{no_locals, assigned_to}
+use Rattle.mgrammar.specs.Grammar.{divide, ExprTree, number, text, reference, local, exprs, no_exprs, assignment, removal, hiding, condition, output, execution, breaks, shown, kill_one, new_one, tested, executed, indirect_args}
 use Rattle.mgrammar.specs.IndirectTexts.{ref_at, args_of}
 use Rattle.mgrammar.proofs.Computing.{reads}
 use Rattle.mmeaning.specs.LineMeaning.{line_end}
-use Rattle.mmeaning.specs.History.{opening}
-use Rattle.mmeaning.proofs.ExampleAccount.{with_steps, done, failed}
 use Rattle.mmeaning.proofs.LineTrees.{only, with_operator, named, set_to}
-use Rattle.mmeaning.proofs.LineRuns.{turns, AreAnswered, Answered, serving, holding, at_first, at_last}
-use Rattle.mmeaning.proofs.RoutineRuns.{computed_levels}
+use Rattle.mmeaning.proofs.Running.{◌≡◌, List, [], ◌∷◌, Some, None, true, false, refl, codes, empty, Text, opening, with_steps, done, failed, AreAnswered, Answered, serving, holding, at_first, at_last, Each, at_case, no_more, runs, running}
 
 -- ---- what is read of the texts
 
@@ -30,189 +19,102 @@ digit t = only (number t)
 abbrev variable : List ℕ → ExprTree
 variable name = only (reference (named name))
 
-name_a : ref_at (codes "A") ≡ Some (named (codes "A"))
-unfolding reads
-name_a = refl
+record TextsRead : Type 0 where
+  name_a : ref_at (codes "A") ≡ Some (named (codes "A"))
+  name_b : ref_at (codes "B") ≡ Some (named (codes "B"))
+  name_c : ref_at (codes "C") ≡ Some (named (codes "C"))
+  indexed_b : ref_at (codes "B(C)") ≡ Some (local (codes "B") (exprs (variable (codes "C")) no_exprs))
+  indexed_a : ref_at (codes "A(1)") ≡ Some (local (codes "A") (exprs (digit (codes "1")) no_exprs))
+  two_names : ref_at (codes "B C") ≡ None
+  two_strings : ref_at (codes "\"W 5\",\"W 6\"") ≡ None
+  shown_b : args_of output (codes "B") ≡ Some (shown (variable (codes "B")) ∷ [])
+  shown_i : args_of output (codes "I") ≡ Some (shown (variable (codes "I")) ∷ [])
+  shown_1 : args_of output (codes "1") ≡ Some (shown (digit (codes "1")) ∷ [])
+  shown_a : args_of output (codes "A") ≡ Some (shown (variable (codes "A")) ∷ [])
+  nothing_shown : args_of output [] ≡ None
+  shown_until_error : args_of output (codes "1,!,2,1/0") ≡ Some (shown (digit (codes "1")) ∷ breaks 1 ∷ shown (digit (codes "2")) ∷ shown (with_operator (number (codes "1")) divide (number (codes "0"))) ∷ [])
+  two_assignments : args_of assignment (codes "B=4,C=5") ≡ Some (set_to (named (codes "B")) (digit (codes "4")) ∷ set_to (named (codes "C")) (digit (codes "5")) ∷ [])
+  two_texts : args_of execution (codes "\"W 5\",\"W 6\"") ≡ Some (executed (only (text (codes "W 5"))) None ∷ executed (only (text (codes "W 6"))) None ∷ [])
+  two_removals : args_of removal (codes "A,B") ≡ Some (kill_one (named (codes "A")) ∷ kill_one (named (codes "B")) ∷ [])
+  hidden_a : args_of hiding (codes "A") ≡ Some (new_one (codes "A") ∷ [])
+  two_conditions : args_of condition (codes "1,0") ≡ Some (tested (digit (codes "1")) ∷ tested (digit (codes "0")) ∷ [])
+  itself_shown : args_of output (codes "@A") ≡ Some (indirect_args output (reference (named (codes "A"))) ∷ [])
 
-name_b : ref_at (codes "B") ≡ Some (named (codes "B"))
+texts_read : TextsRead
 unfolding reads
-name_b = refl
-
-name_c : ref_at (codes "C") ≡ Some (named (codes "C"))
-unfolding reads
-name_c = refl
-
-indexed_b : ref_at (codes "B(C)") ≡ Some (local (codes "B") (exprs (variable (codes "C")) no_exprs))
-unfolding reads
-indexed_b = refl
-
-indexed_a : ref_at (codes "A(1)") ≡ Some (local (codes "A") (exprs (digit (codes "1")) no_exprs))
-unfolding reads
-indexed_a = refl
-
-two_names : ref_at (codes "B C") ≡ None
-unfolding reads
-two_names = refl
-
-two_strings : ref_at (codes "\"W 5\",\"W 6\"") ≡ None
-unfolding reads
-two_strings = refl
-
-shown_b : args_of output (codes "B") ≡ Some (shown (variable (codes "B")) ∷ [])
-unfolding reads
-shown_b = refl
-
-shown_i : args_of output (codes "I") ≡ Some (shown (variable (codes "I")) ∷ [])
-unfolding reads
-shown_i = refl
-
-shown_1 : args_of output (codes "1") ≡ Some (shown (digit (codes "1")) ∷ [])
-unfolding reads
-shown_1 = refl
-
-shown_a : args_of output (codes "A") ≡ Some (shown (variable (codes "A")) ∷ [])
-unfolding reads
-shown_a = refl
-
-nothing_shown : args_of output [] ≡ None
-unfolding reads
-nothing_shown = refl
-
-shown_until_error : args_of output (codes "1,!,2,1/0") ≡ Some (shown (digit (codes "1")) ∷ breaks 1 ∷ shown (digit (codes "2")) ∷ shown (with_operator (number (codes "1")) divide (number (codes "0"))) ∷ [])
-unfolding reads
-shown_until_error = refl
-
-two_assignments : args_of assignment (codes "B=4,C=5") ≡ Some (set_to (named (codes "B")) (digit (codes "4")) ∷ set_to (named (codes "C")) (digit (codes "5")) ∷ [])
-unfolding reads
-two_assignments = refl
-
-two_texts : args_of execution (codes "\"W 5\",\"W 6\"") ≡ Some (executed (only (text (codes "W 5"))) None ∷ executed (only (text (codes "W 6"))) None ∷ [])
-unfolding reads
-two_texts = refl
-
-two_removals : args_of removal (codes "A,B") ≡ Some (kill_one (named (codes "A")) ∷ kill_one (named (codes "B")) ∷ [])
-unfolding reads
-two_removals = refl
-
-hidden_a : args_of hiding (codes "A") ≡ Some (new_one (codes "A") ∷ [])
-unfolding reads
-hidden_a = refl
-
-two_conditions : args_of condition (codes "1,0") ≡ Some (tested (digit (codes "1")) ∷ tested (digit (codes "0")) ∷ [])
-unfolding reads
-two_conditions = refl
-
-itself_shown : args_of output (codes "@A") ≡ Some (indirect_args output (reference (named (codes "A"))) ∷ [])
-unfolding reads
-itself_shown = refl
+texts_read = search rules
 
 -- ---- name indirection
 
--- arguments that a text gives, and a variable that it names with subscripts behind it
-name_indirection : Answered (codes "S A=\"B\",B=7 W @A,@\"A\"@(1)" ∷ []) (failed (codes "7") M6 ∷ [])
-unfolding reads no_locals level_begun value_of assigned_to canonical_value
-name_indirection = at_last _ refl (simp (computed_levels, gets, computed_maps, computed_numbers, name_a, shown_b))
+names : Each (
+    -- arguments that a text gives, and a variable that it names with subscripts behind it
+    (codes "S A=\"B\",B=7 W @A,@\"A\"@(1)", failed (codes "7") M6) ∷
+    -- what a text names is set, with or without subscripts behind it
+    (codes "S A=\"B\",@A=1,@A@(2)=3 W B,B(2)", done (codes "13")) ∷
+    -- a text's own parts are evaluated before the subscripts behind it
+    (codes "W @\"B(C)\"@(1/0)", failed [] M6) ∷
+    -- and the text is read before that
+    (codes "W @\"B C\"@(1/0)", failed [] Zsyntax) ∷
+    -- then the subscripts are evaluated
+    (codes "W @\"B\"@(1/0)", failed [] M9) ∷
+    -- subscripts belong to the innermost indirection, whose value is a text again
+    (codes "S C(1)=\"B\",B=5 W @@\"C\"@(1)", done (codes "5")) ∷
+    -- and so do others to the one around it
+    (codes "S C(1)=\"B\",B(2)=6 W @@\"C\"@(1)@(2)", done (codes "6")) ∷ [])
+unfolding runs
+names =
+    at_case _ refl (simp running) (at_case _ refl (simp running) (at_case _ refl (simp running) (at_case _ refl (simp running)
+    (at_case _ refl (simp running) (at_case _ refl (simp running) (at_case _ refl (simp running) no_more))))))
 
--- what a text names is set, with or without subscripts behind it
-names_set : Answered (codes "S A=\"B\",@A=1,@A@(2)=3 W B,B(2)" ∷ []) (done (codes "13") ∷ [])
-unfolding reads no_locals level_begun value_of assigned_to canonical_value
-names_set = at_last _ refl (simp (computed_levels, gets, computed_maps, computed_numbers, name_b))
+record Names : Type 0 where
+  -- the variable that a text names costs no step of its own: of ten steps eight are used before the turns
+  name_costs_nothing : AreAnswered (with_steps 10) (opening empty) (codes "S A=1 I +@\"A\"  F %N=1:1" ∷ codes "W %N" ∷ []) (failed [] Zsteps ∷ done (codes "3") ∷ [])
 
--- a text's own parts are evaluated before the subscripts behind it
-parts_in_order : Answered (codes "W @\"B(C)\"@(1/0)" ∷ []) (failed [] M6 ∷ [])
-unfolding reads no_locals level_begun value_of assigned_to canonical_value
-parts_in_order = at_last _ refl (simp (computed_levels, gets, computed_maps, computed_numbers, indexed_b))
-
--- and the text is read before that
-text_before_subscripts : Answered (codes "W @\"B C\"@(1/0)" ∷ []) (failed [] Zsyntax ∷ [])
-unfolding reads no_locals level_begun value_of assigned_to canonical_value
-text_before_subscripts = at_last _ refl (simp (computed_levels, gets, computed_maps, computed_numbers, two_names))
-
--- then the subscripts are evaluated
-subscripts_evaluated : Answered (codes "W @\"B\"@(1/0)" ∷ []) (failed [] M9 ∷ [])
-unfolding reads no_locals level_begun value_of assigned_to canonical_value
-subscripts_evaluated = at_last _ refl (simp (computed_levels, gets, computed_maps, computed_numbers, name_b))
-
--- subscripts belong to the innermost indirection, whose value is a text again
-innermost_attached : Answered (codes "S C(1)=\"B\",B=5 W @@\"C\"@(1)" ∷ []) (done (codes "5") ∷ [])
-unfolding reads no_locals level_begun value_of assigned_to canonical_value
-innermost_attached = at_last _ refl (simp (computed_levels, gets, computed_maps, computed_numbers, name_c, shown_b))
-
--- and so do others to the one around it
-both_attached : Answered (codes "S C(1)=\"B\",B(2)=6 W @@\"C\"@(1)@(2)" ∷ []) (done (codes "6") ∷ [])
-unfolding reads no_locals level_begun value_of assigned_to canonical_value
-both_attached = at_last _ refl (simp (computed_levels, gets, computed_maps, computed_numbers, name_b, name_c))
-
--- the variable that a text names costs no step of its own: of ten steps eight are used before the turns
-name_costs_nothing : AreAnswered (with_steps 10) (opening empty) (codes "S A=1 I +@\"A\"  F %N=1:1" ∷ codes "W %N" ∷ []) (failed [] Zsteps ∷ done (codes "3") ∷ [])
-unfolding reads no_locals level_begun value_of assigned_to canonical_value
-name_costs_nothing =
-    at_first (serving (record { locals = assigned_to (assigned_to no_locals (codes "A") [] (codes "1")) (codes "%N") [] (codes "3"); naked = None; test = true })) _ refl (simp (computed_levels, gets, computed_maps, computed_numbers, name_a, turns))
-    (at_last _ refl (simp (computed_levels, gets, computed_maps, computed_numbers)))
+names_after : Names
+unfolding runs
+names_after = record {
+  name_costs_nothing = at_first (serving (record { locals = assigned_to (assigned_to no_locals (codes "A") [] (codes "1")) (codes "%N") [] (codes "3"); naked = None; test = true })) _ refl (simp running) (at_last _ refl (simp running));
+}
 
 -- ---- argument indirection
 
--- SET
-given_assignments : Answered (codes "S A=\"B=4,C=5\" S @A W B+C" ∷ []) (done (codes "9") ∷ [])
-unfolding reads no_locals level_begun value_of assigned_to canonical_value
-given_assignments = at_last _ refl (simp (computed_levels, gets, computed_maps, computed_numbers, two_assignments))
+arguments_given : Each (
+    -- SET
+    (codes "S A=\"B=4,C=5\" S @A W B+C", done (codes "9")) ∷
+    -- XECUTE
+    (codes "S A=\"\"\"W 5\"\",\"\"W 6\"\"\" X @A", done (codes "56")) ∷
+    -- with a postconditional it is a name that the text has to give
+    (codes "S A=\"\"\"W 5\"\",\"\"W 6\"\"\" X @A:1", failed [] Zsyntax) ∷
+    (codes "S A=\"B\",B=\"W 5\" X @A:1", done (codes "5")) ∷
+    -- and DO takes none
+    (codes "W 1 D @\"U^T\":1", failed [] Zsyntax) ∷
+    -- KILL and NEW
+    (codes "S A=1,B=2 K @\"A,B\" W $D(A),$D(B)", done (codes "00")) ∷
+    (codes "S A=1 N @\"A\" W $D(A)", done (codes "0")) ∷
+    -- WRITE, at each turn of a FOR anew
+    (codes "F I=1:1:2 W @\"I\"", done (codes "12")) ∷
+    -- what stands before an error in the text is written
+    (codes "W @\"1,!,2,1/0\"", failed (codes "1" ++ line_end ∷ codes "2") M9) ∷
+    -- a text gives one argument at least
+    (codes "W @\"\"", failed [] Zsyntax) ∷ [])
+unfolding runs
+arguments_given =
+    at_case _ refl (simp running) (at_case _ refl (simp running) (at_case _ refl (simp running) (at_case _ refl (simp running)
+    (at_case _ refl (simp running) (at_case _ refl (simp running) (at_case _ refl (simp running) (at_case _ refl (simp running)
+    (at_case _ refl (simp running) (at_case _ refl (simp running) no_more)))))))))
 
--- XECUTE
-given_texts : Answered (codes "S A=\"\"\"W 5\"\",\"\"W 6\"\"\" X @A" ∷ []) (done (codes "56") ∷ [])
-unfolding reads no_locals level_begun value_of assigned_to canonical_value
-given_texts = at_last _ refl (simp (computed_levels, gets, computed_maps, computed_numbers, two_texts))
+record ArgumentsGiven : Type 0 where
+  -- IF: a false condition of the text skips the rest of the line
+  given_conditions : Answered (codes "I @\"1,0\" W 1" ∷ codes "W $T" ∷ []) (done [] ∷ done (codes "0") ∷ [])
+  -- the argument itself costs no step: of ten six are used before the turns
+  argument_costs_operand : AreAnswered (with_steps 10) (opening empty) (codes "W @\"1\"  F %N=1:1" ∷ codes "W %N" ∷ []) (failed (codes "1") Zsteps ∷ done (codes "5") ∷ [])
 
--- with a postconditional it is a name that the text has to give
-conditioned_text : Answered (codes "S A=\"\"\"W 5\"\",\"\"W 6\"\"\" X @A:1" ∷ []) (failed [] Zsyntax ∷ [])
-unfolding reads no_locals level_begun value_of assigned_to canonical_value
-conditioned_text = at_last _ refl (simp (computed_levels, gets, computed_maps, computed_numbers, two_strings))
-
-conditioned_name : Answered (codes "S A=\"B\",B=\"W 5\" X @A:1" ∷ []) (done (codes "5") ∷ [])
-unfolding reads no_locals level_begun value_of assigned_to canonical_value
-conditioned_name = at_last _ refl (simp (computed_levels, gets, computed_maps, computed_numbers, name_b))
-
--- and DO takes none
-conditioned_entry : Answered (codes "W 1 D @\"U^T\":1" ∷ []) (failed [] Zsyntax ∷ [])
-unfolding reads no_locals level_begun value_of assigned_to canonical_value
-conditioned_entry = at_last _ refl (simp (computed_levels, gets, computed_maps, computed_numbers))
-
--- KILL and NEW
-given_removals : Answered (codes "S A=1,B=2 K @\"A,B\" W $D(A),$D(B)" ∷ []) (done (codes "00") ∷ [])
-unfolding reads no_locals level_begun value_of assigned_to canonical_value
-given_removals = at_last _ refl (simp (computed_levels, gets, computed_maps, computed_numbers, two_removals))
-
-given_names : Answered (codes "S A=1 N @\"A\" W $D(A)" ∷ []) (done (codes "0") ∷ [])
-unfolding reads no_locals level_begun value_of assigned_to canonical_value
-given_names = at_last _ refl (simp (computed_levels, gets, computed_maps, computed_numbers, hidden_a))
-
--- IF: a false condition of the text skips the rest of the line
-given_conditions : Answered (codes "I @\"1,0\" W 1" ∷ codes "W $T" ∷ []) (done [] ∷ done (codes "0") ∷ [])
-unfolding reads no_locals level_begun value_of assigned_to canonical_value
-given_conditions =
-    at_first (serving (record { locals = no_locals; naked = None; test = false })) _ refl (simp (computed_levels, gets, computed_maps, computed_numbers, two_conditions))
-    (at_last _ refl (simp (computed_levels, gets, computed_maps, computed_numbers)))
-
--- WRITE, at each turn of a FOR anew
-shown_in_turns : Answered (codes "F I=1:1:2 W @\"I\"" ∷ []) (done (codes "12") ∷ [])
-unfolding reads no_locals level_begun value_of assigned_to canonical_value
-shown_in_turns = at_last _ refl (simp (computed_levels, gets, computed_maps, computed_numbers, shown_i))
-
--- what stands before an error in the text is written
-shown_before_error : Answered (codes "W @\"1,!,2,1/0\"" ∷ []) (failed (codes "1" ++ line_end ∷ codes "2") M9 ∷ [])
-unfolding reads no_locals level_begun value_of assigned_to canonical_value
-shown_before_error = at_last _ refl (simp (computed_levels, gets, computed_maps, computed_numbers, shown_until_error))
-
--- a text gives one argument at least
-no_argument : Answered (codes "W @\"\"" ∷ []) (failed [] Zsyntax ∷ [])
-unfolding reads no_locals level_begun value_of assigned_to canonical_value
-no_argument = at_last _ refl (simp (computed_levels, gets, computed_maps, computed_numbers, nothing_shown))
-
--- the argument itself costs no step: of ten six are used before the turns
-argument_costs_operand : AreAnswered (with_steps 10) (opening empty) (codes "W @\"1\"  F %N=1:1" ∷ codes "W %N" ∷ []) (failed (codes "1") Zsteps ∷ done (codes "5") ∷ [])
-unfolding reads no_locals level_begun value_of assigned_to canonical_value
-argument_costs_operand =
-    at_first (holding (codes "%N") (codes "5")) _ refl (simp (computed_levels, gets, computed_maps, computed_numbers, shown_1, turns))
-    (at_last _ refl (simp (computed_levels, gets, computed_maps, computed_numbers)))
+arguments_given_after : ArgumentsGiven
+unfolding runs
+arguments_given_after = record {
+  given_conditions = at_first (serving (record { locals = no_locals; naked = None; test = false })) _ refl (simp running) (at_last _ refl (simp running));
+  argument_costs_operand = at_first (holding (codes "%N") (codes "5")) _ refl (simp running) (at_last _ refl (simp running));
+}
 
 -- ---- depth of texts and of indirections
 
@@ -223,27 +125,15 @@ operands n = codes "W " ++ (replicate n 64 ++ codes "A")
 abbrev in_brackets : ℕ → Text → Text
 in_brackets n t = replicate n 40 ++ (t ++ replicate n 41)
 
-forty_operands : Answered (operands 40 ∷ []) (failed [] M6 ∷ [])
-unfolding reads no_locals level_begun value_of assigned_to canonical_value
-forty_operands = at_last _ refl (simp (computed_levels, gets, computed_maps, computed_numbers))
-
-one_operand_more : Answered (operands 41 ∷ []) (failed [] Zsyntax ∷ [])
-unfolding reads no_locals level_begun value_of assigned_to canonical_value
-one_operand_more = at_last _ refl (simp (computed_levels, gets, computed_maps, computed_numbers))
-
-operand_in_brackets : Answered ((codes "S A=1 W " ++ in_brackets 39 (codes "@\"A\"")) ∷ []) (done (codes "1") ∷ [])
-unfolding reads no_locals level_begun value_of assigned_to canonical_value
-operand_in_brackets = at_last _ refl (simp (computed_levels, gets, computed_maps, computed_numbers, name_a))
-
-subscripts_in_brackets : Answered ((codes "S A(1)=1 W " ++ in_brackets 39 (codes "@\"A(1)\"@(2)")) ∷ []) (failed [] M6 ∷ [])
-unfolding reads no_locals level_begun value_of assigned_to canonical_value
-subscripts_in_brackets = at_last _ refl (simp (computed_levels, gets, computed_maps, computed_numbers, indexed_a))
-
-one_bracket_more : Answered ((codes "W " ++ in_brackets 40 (codes "@\"A\"")) ∷ []) (failed [] Zsyntax ∷ [])
-unfolding reads no_locals level_begun value_of assigned_to canonical_value
-one_bracket_more = at_last _ refl (simp (computed_levels, gets, computed_maps, computed_numbers))
-
--- a text that stands for itself: 32 indirections are under evaluation where it is refused
-text_of_itself : Answered (codes "S A=\"@A\" W @A" ∷ []) (failed [] Zdepth ∷ [])
-unfolding reads no_locals level_begun value_of assigned_to canonical_value
-text_of_itself = at_last _ refl (simp (computed_levels, gets, computed_maps, computed_numbers, itself_shown))
+depths : Each (
+    (operands 40, failed [] M6) ∷
+    (operands 41, failed [] Zsyntax) ∷
+    ((codes "S A=1 W " ++ in_brackets 39 (codes "@\"A\"")), done (codes "1")) ∷
+    ((codes "S A(1)=1 W " ++ in_brackets 39 (codes "@\"A(1)\"@(2)")), failed [] M6) ∷
+    ((codes "W " ++ in_brackets 40 (codes "@\"A\"")), failed [] Zsyntax) ∷
+    -- a text that stands for itself: 32 indirections are under evaluation where it is refused
+    (codes "S A=\"@A\" W @A", failed [] Zdepth) ∷ [])
+unfolding runs
+depths =
+    at_case _ refl (simp (running, running)) (at_case _ refl (simp (running, running)) (at_case _ refl (simp (running, running))
+    (at_case _ refl (simp (running, running)) (at_case _ refl (simp (running, running)) (at_case _ refl (simp (running, running)) no_more)))))

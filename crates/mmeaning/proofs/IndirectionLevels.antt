@@ -1,25 +1,22 @@
 -- SPDX-License-Identifier: Apache-2.0
 -- How deep indirections may stand, on examples, as proved equations: which are levels at once, and in which order they are refused.
-use Rattle.std.proofs.Common.{◌≡◌, ℕ, zero, suc, ◌+◌, ◌≤◌, Bool, true, false, List, [], ◌∷◌, Option, Some, None, refl, arith}
+use Rattle.std.proofs.Common.{◌≡◌, ℕ, zero, suc, ◌+◌, ◌≤◌, Bool, true, false, List, [], ◌∷◌, Option, Some, None, refl, arith, rules}
 use Rattle.std.specs.Prelude.{codes, nat_lt}
 use Rattle.std.proofs.lemmas.Bool.Decides.{nat_tests}
-use Rattle.std.specs.Fmt.{digits}
-use Rattle.mspec.specs.Number.{round, round_size, nearest, rounding_unit, digits_before}
-use Rattle.mspec.specs.NumberText.{numeric_value, literal_size, size_text}
 use Rattle.mspec.specs.Code.{M9, Zdepth, Zsyntax}
 use Rattle.mspec.specs.Plan.{Done}
 use Rattle.mspec.specs.Act.{Text, Node, Locals, level_begun, State, Gives, Fails, value_of, assigned_to}
 use Rattle.mgrammar.specs.Grammar.{divide, number, PrimaryTree, text, bracket, reference, ReferenceTree, indirect, exprs, no_exprs, variable, one, output, at_label, entrance, do_one, indirect_args, do_word, CommandTree}
-use Rattle.mgrammar.specs.Commands.{keyword_of}
-use Rattle.mgrammar.specs.Reading.{many, list_at, point_at, exponent_at, number_at, name_at, truth_at, operator_at, subscripts_with, attached_with, indirect_with, reference_with, primary_with, operand_with, step_with, expr_with, readers_at, output_at, entry_at, entrance_at, args_at, postcondition_at, command_at, spaced_at, comment_at, line_at}
+use Rattle.mgrammar.specs.Reading.{many, list_at, name_at, subscripts_with, attached_with, indirect_with, reference_with, primary_with, readers_at, entry_at, entrance_at}
 use Rattle.mgrammar.specs.IndirectTexts.{ref_at, args_of}
-use Rattle.mgrammar.specs.RoutineLine.{RoutineLineTree, spaced_out, dots_of, label_at, dot_at, dots_at, body_at, routine_line_at}
+use Rattle.mgrammar.specs.RoutineLine.{RoutineLineTree, spaced_out, dots_of, label_at, routine_line_at}
 use Rattle.mgrammar.proofs.Computing.{reads}
 use Rattle.mmeaning.specs.Variables.{of_global, of_naked, of_local}
 use Rattle.mmeaning.specs.Expression.{Inside, inside, evaluated, finds, is_indirection_free}
 use Rattle.mmeaning.specs.LineMeaning.{Context, context, given, setting, Spot, commands}
 use Rattle.mmeaning.specs.Levels.{target}
 use Rattle.mmeaning.proofs.LineTrees.{only, with_operator, command, line}
+use Rattle.mspec.proofs.ComputedNumbers.{computes}
 
 -- where so many levels are open, of which so many are indirections
 abbrev within : ℕ → ℕ → Inside
@@ -44,48 +41,33 @@ module _ (naked : Option Node) (test : Bool) (out : Text) where
 
   -- ---- the operand first, then the level, then the text
 
-  operand_before_level : (locals : Locals) (steps : ℕ) → evaluated (within 256 0) (indirect error no_exprs) (state locals (suc (suc (suc steps)))) ≡ Done (Fails M9 (state locals steps))
-  unfolding numeric_value literal_size round round_size nearest rounding_unit digits_before size_text digits
-  operand_before_level locals steps = refl
+  record InOrder : Type 0 where
+    operand_before_level : (locals : Locals) (steps : ℕ) → evaluated (within 256 0) (indirect error no_exprs) (state locals (suc (suc (suc steps)))) ≡ Done (Fails M9 (state locals steps))
+    level_before_text : (locals : Locals) (steps : ℕ) → evaluated (within 256 0) (at_text (codes "B C")) (state locals (suc steps)) ≡ Done (Fails Zdepth (state locals steps))
+    text_read : (locals : Locals) (steps : ℕ) → evaluated (within 255 0) (at_text (codes "B C")) (state locals (suc steps)) ≡ Done (Fails Zsyntax (state locals steps))
+    -- the same of arguments
+    argument_level_before_text : (locals : Locals) (steps : ℕ) → given (at 256 0) output (text (codes "1 1")) (state locals (suc steps)) ≡ Done (Fails Zdepth (state locals steps))
+    argument_text_read : (locals : Locals) (steps : ℕ) → given (at 255 0) output (text (codes "1 1")) (state locals (suc steps)) ≡ Done (Fails Zsyntax (state locals steps))
 
-  level_before_text : (locals : Locals) (steps : ℕ) → evaluated (within 256 0) (at_text (codes "B C")) (state locals (suc steps)) ≡ Done (Fails Zdepth (state locals steps))
-  level_before_text locals steps = refl
-
-  text_read : (locals : Locals) (steps : ℕ) → evaluated (within 255 0) (at_text (codes "B C")) (state locals (suc steps)) ≡ Done (Fails Zsyntax (state locals steps))
-  unfolding ref_at name_at subscripts_with attached_with indirect_with reference_with readers_at
-  text_read locals steps = refl
-
-  -- the same of arguments
-  argument_level_before_text : (locals : Locals) (steps : ℕ) → given (at 256 0) output (text (codes "1 1")) (state locals (suc steps)) ≡ Done (Fails Zdepth (state locals steps))
-  argument_level_before_text locals steps = refl
-
-  argument_text_read : (locals : Locals) (steps : ℕ) → given (at 255 0) output (text (codes "1 1")) (state locals (suc steps)) ≡ Done (Fails Zsyntax (state locals steps))
-  unfolding reads
-  argument_text_read locals steps = refl
+  in_order : InOrder
+  unfolding reads computes
+  in_order = search rules
 
   -- ---- subscripts of a text, and those behind it
 
-  global_named : (locals : Locals) (steps : ℕ) → evaluated (within 0 0) (indirect (text (codes "^A(\"x\")")) (exprs (only (text (codes "y"))) no_exprs)) (state locals (suc (suc (suc steps))))
-      ≡ Done (Gives (of_global (record { account = codes "ALICE"; name = codes "A"; subscripts = codes "x" ∷ codes "y" ∷ [] })) (state locals steps))
+  record Named : Type 0 where
+    global_named : (locals : Locals) (steps : ℕ) → evaluated (within 0 0) (indirect (text (codes "^A(\"x\")")) (exprs (only (text (codes "y"))) no_exprs)) (state locals (suc (suc (suc steps))))
+        ≡ Done (Gives (of_global (record { account = codes "ALICE"; name = codes "A"; subscripts = codes "x" ∷ codes "y" ∷ [] })) (state locals steps))
+    naked_named : (locals : Locals) (steps : ℕ) → evaluated (within 0 0) (indirect (text (codes "^(\"x\")")) (exprs (only (text (codes "y"))) no_exprs)) (state locals (suc (suc (suc steps))))
+        ≡ Done (Gives (of_naked (codes "x" ∷ codes "y" ∷ [])) (state locals steps))
+    -- 256 levels, of which 32 are indirections
+    last_level : (locals : Locals) (steps : ℕ) → evaluated (within 255 31) (at_text (codes "B")) (state locals (suc steps)) ≡ Done (Gives (of_local (codes "B") []) (state locals steps))
+    one_indirection_more : (locals : Locals) (steps : ℕ) → evaluated (within 32 32) (at_text (codes "B")) (state locals (suc steps)) ≡ Done (Fails Zdepth (state locals steps))
+    one_argument_more : (locals : Locals) (steps : ℕ) → given (at 32 32) output (text (codes "1")) (state locals (suc steps)) ≡ Done (Fails Zdepth (state locals steps))
+
+  named : Named
   unfolding reads finds
-  global_named locals steps = refl
-
-  naked_named : (locals : Locals) (steps : ℕ) → evaluated (within 0 0) (indirect (text (codes "^(\"x\")")) (exprs (only (text (codes "y"))) no_exprs)) (state locals (suc (suc (suc steps))))
-      ≡ Done (Gives (of_naked (codes "x" ∷ codes "y" ∷ [])) (state locals steps))
-  unfolding reads finds
-  naked_named locals steps = refl
-
-  -- ---- 256 levels, of which 32 are indirections
-
-  last_level : (locals : Locals) (steps : ℕ) → evaluated (within 255 31) (at_text (codes "B")) (state locals (suc steps)) ≡ Done (Gives (of_local (codes "B") []) (state locals steps))
-  unfolding finds ref_at name_at subscripts_with attached_with indirect_with reference_with readers_at
-  last_level locals steps = refl
-
-  one_indirection_more : (locals : Locals) (steps : ℕ) → evaluated (within 32 32) (at_text (codes "B")) (state locals (suc steps)) ≡ Done (Fails Zdepth (state locals steps))
-  one_indirection_more locals steps = refl
-
-  one_argument_more : (locals : Locals) (steps : ℕ) → given (at 32 32) output (text (codes "1")) (state locals (suc steps)) ≡ Done (Fails Zdepth (state locals steps))
-  one_argument_more locals steps = refl
+  named = search rules
 
   -- ---- which are levels at once, where one level is free
 

@@ -1,24 +1,20 @@
 -- SPDX-License-Identifier: Apache-2.0
 -- Levels on examples, as proved equations: how many may be open, and in which order DO, GOTO and XECUTE are refused.
-use Rattle.std.proofs.Common.{◌≡◌, ℕ, zero, suc, ◌+◌, ◌≤◌, Bool, true, false, List, [], ◌∷◌, Option, Some, None, refl, ap, subst, ◌∙◌, arith}
+use Rattle.std.proofs.Common.{◌≡◌, ℕ, zero, suc, ◌+◌, ◌≤◌, Bool, true, false, List, [], ◌∷◌, Option, Some, None, refl, ap, subst, ◌∙◌, arith, rules}
 use Rattle.std.specs.Prelude.{codes, nat_lt}
 use Rattle.std.proofs.lemmas.Bool.Decides.{nat_tests}
-use Rattle.mspec.specs.Number.{round, round_size, nearest, rounding_unit, digits_before}
-use Rattle.mspec.specs.NumberText.{numeric_value, literal_size, size_text}
-use Rattle.std.specs.Fmt.{digits}
 use Rattle.mspec.specs.Scopes.{Scope}
 use Rattle.mspec.specs.Code.{M9, M13, Zdepth, Zlevel, Zsyntax}
 use Rattle.mspec.specs.Plan.{Plan, Done, then_plan}
 use Rattle.mspec.specs.Act.{Text, Node, Locals, State, Outcome, Gives, Fails, on_gives, level_begun, value_of}
 use Rattle.mgrammar.specs.Grammar.{divide, number, text, reference, at_label, executed, execute_word, LineTree}
-use Rattle.mgrammar.specs.Commands.{keyword_of}
-use Rattle.mgrammar.specs.Reading.{many, list_at, point_at, exponent_at, number_at, name_at, truth_at, operator_at, subscripts_with, reference_with, primary_with, operand_with, step_by, step_with, expr_with, readers_at, execution_at, args_at, postcondition_at, command_at, spaced_at, comment_at, line_at}
-use Rattle.mgrammar.specs.RoutineLine.{label_at}
+use Rattle.mgrammar.specs.Reading.{line_at}
 use Rattle.mgrammar.proofs.Computing.{reads}
 use Rattle.mmeaning.specs.LineMeaning.{Signal, Spot, outset, after_level, run_within, Context, Go_on, Goes, context, commands, doing, doing_block, executing, going}
 use Rattle.mmeaning.specs.Levels.{commands_of}
 use Rattle.mmeaning.specs.Step.{text_run}
 use Rattle.mmeaning.proofs.LineTrees.{only, with_operator, named, command, line}
+use Rattle.mspec.proofs.ComputedNumbers.{computes}
 
 -- a level of this many dots, of a routine of three lines, where so many levels are open
 abbrev lines : List Text
@@ -29,57 +25,42 @@ within levels dots = context (codes "ALICE") 9 (record { depth = record { levels
 
 -- ---- the 257th level is refused
 
--- before the line of a DO is sought
-level_before_line : (s : State) → doing (within 256 0) (at_label (codes "NO")) s ≡ Done (Fails Zdepth s)
-level_before_line s = refl
+record LevelsRefused : Type 0 where
+  -- before the line of a DO is sought
+  level_before_line : (s : State) → doing (within 256 0) (at_label (codes "NO")) s ≡ Done (Fails Zdepth s)
+  line_sought : (s : State) → doing (within 255 0) (at_label (codes "NO")) s ≡ Done (Fails M13 s)
+  -- also for an argumentless DO that no line follows
+  level_of_block : (s : State) → doing_block (within 256 0) s ≡ Done (Fails Zdepth s)
+  block_ends : (naked : Option Node) (test : Bool) (out : Text) (steps : ℕ) (top : Scope) (below : Locals)
+      → doing_block (within 255 0) (record { locals = top ∷ below; naked = naked; test = test; out = out; steps = steps })
+      ≡ Done (Gives Go_on (record { locals = top ∷ below; naked = naked; test = test; out = out; steps = steps }))
+  -- behind the value of a text, and before that is read
+  level_before_text : (locals : Locals) (naked : Option Node) (test : Bool) (out : Text) (steps : ℕ)
+      → executing (within 256 0) (only (text (codes "1 1"))) (record { locals = locals; naked = naked; test = test; out = out; steps = suc steps })
+      ≡ Done (Fails Zdepth (record { locals = locals; naked = naked; test = test; out = out; steps = steps }))
+  text_read : (locals : Locals) (naked : Option Node) (test : Bool) (out : Text) (steps : ℕ)
+      → executing (within 255 0) (only (text (codes "1 1"))) (record { locals = locals; naked = naked; test = test; out = out; steps = suc steps })
+      ≡ Done (Fails Zsyntax (record { locals = locals; naked = naked; test = test; out = out; steps = steps }))
+  value_before_level : (locals : Locals) (naked : Option Node) (test : Bool) (out : Text) (steps : ℕ)
+      → executing (within 256 0) (with_operator (number (codes "1")) divide (number (codes "0"))) (record { locals = locals; naked = naked; test = test; out = out; steps = suc (suc steps) })
+      ≡ Done (Fails M9 (record { locals = locals; naked = naked; test = test; out = out; steps = steps }))
 
-line_sought : (s : State) → doing (within 255 0) (at_label (codes "NO")) s ≡ Done (Fails M13 s)
-unfolding name_at label_at
-line_sought s = refl
-
--- also for an argumentless DO that no line follows
-level_of_block : (s : State) → doing_block (within 256 0) s ≡ Done (Fails Zdepth s)
-level_of_block s = refl
-
-block_ends : (naked : Option Node) (test : Bool) (out : Text) (steps : ℕ) (top : Scope) (below : Locals)
-    → doing_block (within 255 0) (record { locals = top ∷ below; naked = naked; test = test; out = out; steps = steps })
-    ≡ Done (Gives Go_on (record { locals = top ∷ below; naked = naked; test = test; out = out; steps = steps }))
-unfolding level_begun
-block_ends naked test out steps top below = refl
-
--- behind the value of a text, and before that is read
-level_before_text : (locals : Locals) (naked : Option Node) (test : Bool) (out : Text) (steps : ℕ)
-    → executing (within 256 0) (only (text (codes "1 1"))) (record { locals = locals; naked = naked; test = test; out = out; steps = suc steps })
-    ≡ Done (Fails Zdepth (record { locals = locals; naked = naked; test = test; out = out; steps = steps }))
-level_before_text locals naked test out steps = refl
-
-text_read : (locals : Locals) (naked : Option Node) (test : Bool) (out : Text) (steps : ℕ)
-    → executing (within 255 0) (only (text (codes "1 1"))) (record { locals = locals; naked = naked; test = test; out = out; steps = suc steps })
-    ≡ Done (Fails Zsyntax (record { locals = locals; naked = naked; test = test; out = out; steps = steps }))
-unfolding many keyword_of command_at spaced_at comment_at line_at
-text_read locals naked test out steps = refl
-
-value_before_level : (locals : Locals) (naked : Option Node) (test : Bool) (out : Text) (steps : ℕ)
-    → executing (within 256 0) (with_operator (number (codes "1")) divide (number (codes "0"))) (record { locals = locals; naked = naked; test = test; out = out; steps = suc (suc steps) })
-    ≡ Done (Fails M9 (record { locals = locals; naked = naked; test = test; out = out; steps = steps }))
-unfolding numeric_value literal_size round round_size nearest rounding_unit digits_before size_text digits
-value_before_level locals naked test out steps = refl
+levels_refused : LevelsRefused
+unfolding reads level_begun computes
+levels_refused = search rules
 
 -- ---- lines with dots
 
--- GOTO keeps to the dots of its level, and opens none
-goto_dots : (s : State) → going (within 256 1) (at_label (codes "U")) s ≡ Done (Gives (Goes (record { copy = lines; line = 1 })) s)
-unfolding name_at label_at
-goto_dots s = refl
+record Dots : Type 0 where
+  -- GOTO keeps to the dots of its level, and opens none
+  goto_dots : (s : State) → going (within 256 1) (at_label (codes "U")) s ≡ Done (Gives (Goes (record { copy = lines; line = 1 })) s)
+  goto_other_dots : (s : State) → going (within 256 1) (at_label (codes "T")) s ≡ Done (Fails Zlevel s)
+  -- the level of a DO with an argument has none
+  do_dots : (s : State) → doing (within 0 1) (at_label (codes "U")) s ≡ Done (Fails Zlevel s)
 
-goto_other_dots : (s : State) → going (within 256 1) (at_label (codes "T")) s ≡ Done (Fails Zlevel s)
-unfolding name_at label_at
-goto_other_dots s = refl
-
--- the level of a DO with an argument has none
-do_dots : (s : State) → doing (within 0 1) (at_label (codes "U")) s ≡ Done (Fails Zlevel s)
-unfolding name_at label_at
-do_dots s = refl
+dots : Dots
+unfolding reads
+dots = search rules
 
 -- ---- a text that runs itself: 256 levels are open where it is refused
 

@@ -12,10 +12,11 @@ pub mod Yieldings
 pub mod WorldExamples
 pub mod LineTrees
 pub mod LineRuns
+pub mod RoutineRuns
+pub mod Running
 pub mod ControlExamples
 pub mod VariableExamples
 pub mod GlobalExamples
-pub mod RoutineRuns
 pub mod RoutineExamples
 pub mod BlockExamples
 pub mod GotoExamples

@@ -30,6 +30,16 @@ pub record AreAnswered (a : Account) (server : Server) (ts : List Text) (rs : Li
 abbrev pub Answered : List Text → List Reply → Type 0
 Answered ts rs = AreAnswered account (opening empty) ts rs
 
+-- each line by itself, in this server, with its reply
+abbrev pub Cases : Type 0
+Cases = List (Text × Reply)
+
+pub record AreAnsweredEach (a : Account) (server : Server) (cases : Cases) : Type 0 where
+  pub answers : map (λ c. (normal (settings_of a) (event c.0) server).0) cases ≡ map (λ c. c.1) cases
+
+abbrev pub Each : Cases → Type 0
+Each cases = AreAnsweredEach account (opening empty) cases
+
 -- a server in which terminal 1 has a session, and nothing is stored
 abbrev pub serving : Session → Server
 serving s = record { world = (opening empty).world; sessions = insert empty 1 s }
@@ -93,6 +103,16 @@ pub at_last : {a : Account} {server : Server} {t : Text} {r : Reply} (l : Option
 at_last {a = a} {server = server} {t = t} l e run = record {
   answers = ap (λ (x : Reply × Server). x.0 ∷ []) (line_is a server t l e) ∙ ap (λ (r : Reply). r ∷ []) run;
 }
+
+-- one more line by itself
+pub at_case : {a : Account} {server : Server} {t : Text} {r : Reply} {cases : Cases} (l : Option LineTree)
+    → line_at t ≡ l → (shut_step (settings_of a) (event t) l server).0 ≡ r → AreAnsweredEach a server cases → AreAnsweredEach a server ((t, r) ∷ cases)
+at_case {a = a} {server = server} {t = t} l e run rest = record {
+  answers = let first = ap (λ (x : Reply × Server). x.0) (line_is a server t l e) ∙ run in λ i. first i ∷ rest.answers i;
+}
+
+pub no_more : {a : Account} {server : Server} → AreAnsweredEach a server []
+no_more = record { answers = refl }
 
 -- a line, and then those behind it in the server that it leaves
 pub at_first : {a : Account} {server : Server} {t : Text} {r : Reply} {ts : List Text} {rs : List Reply} (after : Server) (l : Option LineTree)

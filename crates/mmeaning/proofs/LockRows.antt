@@ -1,28 +1,19 @@
 -- SPDX-License-Identifier: Apache-2.0
 -- LOCK and HALT of several terminals on examples, as proved equations.
-use Rattle.std.proofs.Common.{◌≡◌, true, false, List, [], ◌∷◌, Some, None, refl}
-use Rattle.std.specs.Prelude.{codes}
-use Rattle.std.specs.FinMap.{FinMap, empty, insert, remove, gets}
+use Rattle.std.proofs.Common.{rules}
+use Rattle.std.specs.FinMap.{FinMap, insert, remove}
 use Rattle.std.specs.Ordering.{nat_cmp}
-use Rattle.mspec.proofs.ComputedMaps.{computed_maps}
-use Rattle.mspec.proofs.ComputedNumbers.{computed_numbers}
-use Rattle.mspec.specs.NodeOrder.{canonical_value}
 use Rattle.mspec.specs.LockConflict.{LockName, Locks, held}
 use Rattle.mspec.specs.Code.{M6, M9, Zlocked, Zsyntax}
-use Rattle.mspec.specs.Act.{Text, no_locals, level_begun, value_of, assigned_to}
-use Rattle.mgrammar.specs.Grammar.{divide, number, global, naked, exprs, no_exprs, anew, adding, lock_one, locking, locked, special_of}
-use Rattle.mgrammar.specs.Commands.{keyword_of}
-use Rattle.mgrammar.specs.Functions.{function_of}
-use Rattle.mgrammar.specs.Reading.{many, list_at, point_at, exponent_at, number_at, name_at, truth_at, operator_at, subscripts_with, attached_with, indirect_with, extended_with, reference_with, bracket_with, refer_with, dollar_with, primary_with, operand_with, step_by, step_with, expr_with, readers_at, target_with, destination_at, assignment_at, output_at, parameter_at, repetition_at, lock_ref_with, locked_at, locking_at, args_at, postcondition_at, command_at, spaced_at, comment_at, line_at}
+use Rattle.mgrammar.specs.Grammar.{divide, number, global, naked, exprs, no_exprs, anew, adding, lock_one, locking, locked}
 use Rattle.mgrammar.specs.IndirectTexts.{ref_at, args_of}
 use Rattle.mgrammar.proofs.Computing.{reads}
 use Rattle.mmeaning.specs.Step.{Session, Server, Halted}
-use Rattle.mmeaning.specs.History.{opening}
-use Rattle.mmeaning.proofs.ExampleAccount.{done, failed}
 use Rattle.mmeaning.proofs.LineTrees.{only, with_operator}
-use Rattle.mmeaning.proofs.LineRuns.{turns}
-use Rattle.mmeaning.proofs.RoutineRuns.{computed_levels, computed_operations}
 use Rattle.mmeaning.proofs.LockRuns.{AreReplied, replied_first, replied_last, plain_session, halted, computed_locks}
+use Rattle.mmeaning.proofs.Running.{◌≡◌, List, [], ◌∷◌, Some, None, true, false, refl, codes, empty, Text, opening, done, failed, computed_operations, runs, running}
+
+ruleset lock_running = (computed_operations, computed_locks, running)
 
 -- a server of these locks, with these sessions
 abbrev server : Locks → FinMap nat_cmp Session → Server
@@ -51,93 +42,84 @@ one_session = insert empty 1 no_test
 
 -- a name, those above and those below exclude each other, in one account; where a line halts the locks of its session go with it
 locks_between_terminals : AreReplied (opening empty) ((1, codes "L +^J(1)") ∷ (2, codes "L +^J:0 W $T") ∷ (3, codes "L +^J(1):0 W $T") ∷ (2, codes "L ^J(1,5)") ∷ (1, codes "S V=1 H") ∷ (1, codes "W V") ∷ (2, codes "L +^J:0 W $T") ∷ []) (done [] ∷ done (codes "0") ∷ done (codes "1") ∷ failed [] Zlocked ∷ halted ∷ failed [] M6 ∷ done (codes "1") ∷ [])
-unfolding reads no_locals level_begun value_of assigned_to canonical_value
+unfolding runs
 locks_between_terminals =
-    replied_first (server (insert empty (held 1 (hers (codes "J") (codes "1" ∷ []))) 1) one_session) _ refl (simp (computed_levels, computed_operations, computed_locks, gets, computed_maps, computed_numbers))
-    (replied_first (server (insert empty (held 1 (hers (codes "J") (codes "1" ∷ []))) 1) (insert one_session 2 no_test)) _ refl (simp (computed_levels, computed_operations, computed_locks, gets, computed_maps, computed_numbers))
-    (replied_first (server (insert (insert empty (held 1 (hers (codes "J") (codes "1" ∷ []))) 1) (held 3 (his (codes "J") (codes "1" ∷ []))) 1) (insert (insert one_session 2 no_test) 3 true_test)) _ refl (simp (computed_levels, computed_operations, computed_locks, gets, computed_maps, computed_numbers))
-    (replied_first (server (insert (insert empty (held 1 (hers (codes "J") (codes "1" ∷ []))) 1) (held 3 (his (codes "J") (codes "1" ∷ []))) 1) (insert (insert (insert one_session 2 no_test) 3 true_test) 2 no_test)) _ refl (simp (computed_levels, computed_operations, computed_locks, gets, computed_maps, computed_numbers))
-    (replied_first (server (insert empty (held 3 (his (codes "J") (codes "1" ∷ []))) 1) (remove (insert (insert (insert one_session 2 no_test) 3 true_test) 2 no_test) 1)) _ refl (simp (computed_levels, computed_operations, computed_locks, gets, computed_maps, computed_numbers))
-    (replied_first (server (insert empty (held 3 (his (codes "J") (codes "1" ∷ []))) 1) (insert (remove (insert (insert (insert one_session 2 no_test) 3 true_test) 2 no_test) 1) 1 no_test)) _ refl (simp (computed_levels, computed_operations, computed_locks, gets, computed_maps, computed_numbers))
-    (replied_last _ refl (simp (computed_levels, computed_operations, computed_locks, gets, computed_maps, computed_numbers))))))))
+    replied_first (server (insert empty (held 1 (hers (codes "J") (codes "1" ∷ []))) 1) one_session) _ refl (simp lock_running)
+    (replied_first (server (insert empty (held 1 (hers (codes "J") (codes "1" ∷ []))) 1) (insert one_session 2 no_test)) _ refl (simp lock_running)
+    (replied_first (server (insert (insert empty (held 1 (hers (codes "J") (codes "1" ∷ []))) 1) (held 3 (his (codes "J") (codes "1" ∷ []))) 1) (insert (insert one_session 2 no_test) 3 true_test)) _ refl (simp lock_running)
+    (replied_first (server (insert (insert empty (held 1 (hers (codes "J") (codes "1" ∷ []))) 1) (held 3 (his (codes "J") (codes "1" ∷ []))) 1) (insert (insert (insert one_session 2 no_test) 3 true_test) 2 no_test)) _ refl (simp lock_running)
+    (replied_first (server (insert empty (held 3 (his (codes "J") (codes "1" ∷ []))) 1) (remove (insert (insert (insert one_session 2 no_test) 3 true_test) 2 no_test) 1)) _ refl (simp lock_running)
+    (replied_first (server (insert empty (held 3 (his (codes "J") (codes "1" ∷ []))) 1) (insert (remove (insert (insert (insert one_session 2 no_test) 3 true_test) 2 no_test) 1) 1 no_test)) _ refl (simp lock_running)
+    (replied_last _ refl (simp lock_running)))))))
 
 -- counts nest; a list is taken whole; a name without a `^` is another
 nested_locks : AreReplied (opening empty) ((1, codes "L +^J,+^J,-^J") ∷ (2, codes "L +^J:0 W $T") ∷ (1, codes "L -^J") ∷ (2, codes "L +(^J,M):0 W $T") ∷ (1, codes "L M") ∷ []) (done [] ∷ done (codes "0") ∷ done [] ∷ done (codes "1") ∷ failed [] Zlocked ∷ [])
-unfolding reads no_locals level_begun value_of assigned_to canonical_value
+unfolding runs
 nested_locks =
-    replied_first (server (insert empty (held 1 (hers (codes "J") [])) 1) one_session) _ refl (simp (computed_levels, computed_operations, computed_locks, gets, computed_maps, computed_numbers))
-    (replied_first (server (insert empty (held 1 (hers (codes "J") [])) 1) (insert one_session 2 no_test)) _ refl (simp (computed_levels, computed_operations, computed_locks, gets, computed_maps, computed_numbers))
-    (replied_first (server empty (insert (insert one_session 2 no_test) 1 no_test)) _ refl (simp (computed_levels, computed_operations, computed_locks, gets, computed_maps, computed_numbers))
-    (replied_first (server (insert (insert empty (held 2 (hers (codes "J") [])) 1) (held 2 (her_local (codes "M"))) 1) (insert (insert (insert one_session 2 no_test) 1 no_test) 2 true_test)) _ refl (simp (computed_levels, computed_operations, computed_locks, gets, computed_maps, computed_numbers))
-    (replied_last _ refl (simp (computed_levels, computed_operations, computed_locks, gets, computed_maps, computed_numbers))))))
+    replied_first (server (insert empty (held 1 (hers (codes "J") [])) 1) one_session) _ refl (simp lock_running)
+    (replied_first (server (insert empty (held 1 (hers (codes "J") [])) 1) (insert one_session 2 no_test)) _ refl (simp lock_running)
+    (replied_first (server empty (insert (insert one_session 2 no_test) 1 no_test)) _ refl (simp lock_running)
+    (replied_first (server (insert (insert empty (held 2 (hers (codes "J") [])) 1) (held 2 (her_local (codes "M"))) 1) (insert (insert (insert one_session 2 no_test) 1 no_test) 2 true_test)) _ refl (simp lock_running)
+    (replied_last _ refl (simp lock_running)))))
 
 -- nothing is released before all is evaluated, and a timeout is no number
 nothing_released_before : AreReplied (opening empty) ((1, codes "L ^X") ∷ (1, codes "L ^Y(1/0)") ∷ (1, codes "L ^Y:1/0") ∷ (2, codes "L +^X:0 W $T") ∷ (1, codes "L +^Y:\"1E30\" W $T") ∷ []) (done [] ∷ failed [] M9 ∷ failed [] M9 ∷ done (codes "0") ∷ done (codes "1") ∷ [])
-unfolding reads no_locals level_begun value_of assigned_to canonical_value
+unfolding runs
 nothing_released_before =
-    replied_first (server (insert empty (held 1 (hers (codes "X") [])) 1) one_session) _ refl (simp (computed_levels, computed_operations, computed_locks, gets, computed_maps, computed_numbers))
-    (replied_first (server (insert empty (held 1 (hers (codes "X") [])) 1) one_session) _ refl (simp (computed_levels, computed_operations, computed_locks, gets, computed_maps, computed_numbers))
-    (replied_first (server (insert empty (held 1 (hers (codes "X") [])) 1) one_session) _ refl (simp (computed_levels, computed_operations, computed_locks, gets, computed_maps, computed_numbers))
-    (replied_first (server (insert empty (held 1 (hers (codes "X") [])) 1) (insert one_session 2 no_test)) _ refl (simp (computed_levels, computed_operations, computed_locks, gets, computed_maps, computed_numbers))
-    (replied_last _ refl (simp (computed_levels, computed_operations, computed_locks, gets, computed_maps, computed_numbers))))))
+    replied_first (server (insert empty (held 1 (hers (codes "X") [])) 1) one_session) _ refl (simp lock_running)
+    (replied_first (server (insert empty (held 1 (hers (codes "X") [])) 1) one_session) _ refl (simp lock_running)
+    (replied_first (server (insert empty (held 1 (hers (codes "X") [])) 1) one_session) _ refl (simp lock_running)
+    (replied_first (server (insert empty (held 1 (hers (codes "X") [])) 1) (insert one_session 2 no_test)) _ refl (simp lock_running)
+    (replied_last _ refl (simp lock_running)))))
 
 -- a name that stands twice in a list counts twice, and each argument without a sign releases
 list_counts_twice : AreReplied (opening empty) ((1, codes "L +(^X,^X) L -^X") ∷ (2, codes "L +^X:0 W $T") ∷ (1, codes "L -(^X,^X):0 W $T") ∷ (2, codes "L +^X:0 W $T") ∷ (1, codes "L ^Y,^Z") ∷ (2, codes "L +^Y:0 W $T") ∷ []) (done [] ∷ done (codes "0") ∷ done (codes "1") ∷ done (codes "1") ∷ done [] ∷ done (codes "1") ∷ [])
-unfolding reads no_locals level_begun value_of assigned_to canonical_value
+unfolding runs
 list_counts_twice =
-    replied_first (server (insert empty (held 1 (hers (codes "X") [])) 1) one_session) _ refl (simp (computed_levels, computed_operations, computed_locks, gets, computed_maps, computed_numbers))
-    (replied_first (server (insert empty (held 1 (hers (codes "X") [])) 1) (insert one_session 2 no_test)) _ refl (simp (computed_levels, computed_operations, computed_locks, gets, computed_maps, computed_numbers))
-    (replied_first (server empty (insert (insert one_session 2 no_test) 1 true_test)) _ refl (simp (computed_levels, computed_operations, computed_locks, gets, computed_maps, computed_numbers))
-    (replied_first (server (insert empty (held 2 (hers (codes "X") [])) 1) (insert (insert (insert one_session 2 no_test) 1 true_test) 2 true_test)) _ refl (simp (computed_levels, computed_operations, computed_locks, gets, computed_maps, computed_numbers))
-    (replied_first (server (insert (insert empty (held 2 (hers (codes "X") [])) 1) (held 1 (hers (codes "Z") [])) 1) (insert (insert (insert (insert one_session 2 no_test) 1 true_test) 2 true_test) 1 true_test)) _ refl (simp (computed_levels, computed_operations, computed_locks, gets, computed_maps, computed_numbers))
-    (replied_last _ refl (simp (computed_levels, computed_operations, computed_locks, gets, computed_maps, computed_numbers)))))))
+    replied_first (server (insert empty (held 1 (hers (codes "X") [])) 1) one_session) _ refl (simp lock_running)
+    (replied_first (server (insert empty (held 1 (hers (codes "X") [])) 1) (insert one_session 2 no_test)) _ refl (simp lock_running)
+    (replied_first (server empty (insert (insert one_session 2 no_test) 1 true_test)) _ refl (simp lock_running)
+    (replied_first (server (insert empty (held 2 (hers (codes "X") [])) 1) (insert (insert (insert one_session 2 no_test) 1 true_test) 2 true_test)) _ refl (simp lock_running)
+    (replied_first (server (insert (insert empty (held 2 (hers (codes "X") [])) 1) (held 1 (hers (codes "Z") [])) 1) (insert (insert (insert (insert one_session 2 no_test) 1 true_test) 2 true_test) 1 true_test)) _ refl (simp lock_running)
+    (replied_last _ refl (simp lock_running))))))
 
 -- ---- names and arguments that a text gives
 
-naked_1 : ref_at (codes "^(1)") ≡ Some (naked (exprs (only (number (codes "1"))) no_exprs))
-unfolding reads
-naked_1 = refl
+record TextsRead : Type 0 where
+  naked_1 : ref_at (codes "^(1)") ≡ Some (naked (exprs (only (number (codes "1"))) no_exprs))
+  naked_error : ref_at (codes "^(1/0)") ≡ Some (naked (exprs (with_operator (number (codes "1")) divide (number (codes "0"))) no_exprs))
+  two_globals : ref_at (codes "^X,^Y") ≡ None
+  no_naked_lock : args_of locking (codes "^(1)") ≡ None
+  two_locks : args_of locking (codes "^X,+^Y:0") ≡ Some (locked anew (lock_one (global (codes "X") no_exprs)) None ∷ locked adding (lock_one (global (codes "Y") no_exprs)) (Some (only (number (codes "0")))) ∷ [])
 
-naked_error : ref_at (codes "^(1/0)") ≡ Some (naked (exprs (with_operator (number (codes "1")) divide (number (codes "0"))) no_exprs))
+texts_read : TextsRead
 unfolding reads
-naked_error = refl
-
-two_globals : ref_at (codes "^X,^Y") ≡ None
-unfolding reads
-two_globals = refl
-
-no_naked_lock : args_of locking (codes "^(1)") ≡ None
-unfolding reads
-no_naked_lock = refl
-
-two_locks : args_of locking (codes "^X,+^Y:0") ≡ Some (locked anew (lock_one (global (codes "X") no_exprs)) None ∷ locked adding (lock_one (global (codes "Y") no_exprs)) (Some (only (number (codes "0")))) ∷ [])
-unfolding reads
-two_locks = refl
+texts_read = search rules
 
 -- a naked reference is none: where it is written the line has no tree, nor has a text of arguments; of one that a text names the
 -- subscripts are evaluated first
 naked_locks : AreReplied (opening empty) ((1, codes "W 1 L +^(1)") ∷ (1, codes "W 1 L @\"^(1)\"") ∷ (1, codes "W 1 L +@\"^(1)\"") ∷ (1, codes "L +@\"^(1/0)\"") ∷ (1, codes "L +@\"^(1)\"@(1/0)") ∷ (1, codes "L +(@\"^(1)\",^X(1/0))") ∷ []) (failed [] Zsyntax ∷ failed (codes "1") Zsyntax ∷ failed (codes "1") Zsyntax ∷ failed [] M9 ∷ failed [] M9 ∷ failed [] Zsyntax ∷ [])
-unfolding reads no_locals level_begun value_of assigned_to canonical_value
+unfolding runs
 naked_locks =
-    replied_first (server empty one_session) _ refl (simp (computed_levels, computed_operations, computed_locks, gets, computed_maps, computed_numbers))
-    (replied_first (server empty one_session) _ refl (simp (computed_levels, computed_operations, computed_locks, gets, computed_maps, computed_numbers, no_naked_lock))
-    (replied_first (server empty one_session) _ refl (simp (computed_levels, computed_operations, computed_locks, gets, computed_maps, computed_numbers, naked_1))
-    (replied_first (server empty one_session) _ refl (simp (computed_levels, computed_operations, computed_locks, gets, computed_maps, computed_numbers, naked_error))
-    (replied_first (server empty one_session) _ refl (simp (computed_levels, computed_operations, computed_locks, gets, computed_maps, computed_numbers, naked_1))
-    (replied_last _ refl (simp (computed_levels, computed_operations, computed_locks, gets, computed_maps, computed_numbers, naked_1)))))))
+    replied_first (server empty one_session) _ refl (simp lock_running)
+    (replied_first (server empty one_session) _ refl (simp lock_running)
+    (replied_first (server empty one_session) _ refl (simp lock_running)
+    (replied_first (server empty one_session) _ refl (simp lock_running)
+    (replied_first (server empty one_session) _ refl (simp lock_running)
+    (replied_last _ refl (simp lock_running))))))
 
 -- a timeout behind it makes an operand a name
 locks_given : AreReplied (opening empty) ((1, codes "L @\"^X,^Y\":0") ∷ (1, codes "L @\"^X,+^Y:0\" W $T") ∷ []) (failed [] Zsyntax ∷ done (codes "1") ∷ [])
-unfolding reads no_locals level_begun value_of assigned_to canonical_value
+unfolding runs
 locks_given =
-    replied_first (server empty one_session) _ refl (simp (computed_levels, computed_operations, computed_locks, gets, computed_maps, computed_numbers, two_globals))
-    (replied_last _ refl (simp (computed_levels, computed_operations, computed_locks, gets, computed_maps, computed_numbers, two_locks)))
+    replied_first (server empty one_session) _ refl (simp lock_running)
+    (replied_last _ refl (simp lock_running))
 
 -- ---- HALT
 
 -- what was written is replied, from within turns of a FOR too
 output_before_halt : AreReplied (opening empty) ((1, codes "W 1 H  W 2") ∷ (1, codes "F I=1:1 W I H:I=2") ∷ []) (record { out = codes "1"; ending = Halted } ∷ record { out = codes "12"; ending = Halted } ∷ [])
-unfolding reads no_locals level_begun value_of assigned_to canonical_value
+unfolding runs
 output_before_halt =
-    replied_first (server empty (remove empty 1)) _ refl (simp (computed_levels, computed_operations, computed_locks, gets, computed_maps, computed_numbers))
-    (replied_last _ refl (simp (computed_levels, computed_operations, computed_locks, gets, computed_maps, computed_numbers, turns)))
+    replied_first (server empty (remove empty 1)) _ refl (simp lock_running)
+    (replied_last _ refl (simp lock_running))

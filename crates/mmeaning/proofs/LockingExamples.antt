@@ -1,24 +1,20 @@
 -- SPDX-License-Identifier: Apache-2.0
 -- LOCK on examples, as proved equations over any world: what is asked in which order, and what is refused.
-use Rattle.std.proofs.Common.{◌≡◌, ℕ, suc, Bool, true, false, [], ◌∷◌, Option, Some, None, refl}
+use Rattle.std.proofs.Common.{◌≡◌, ℕ, suc, Bool, true, false, [], ◌∷◌, Option, Some, None, refl, rules}
 use Rattle.std.specs.Prelude.{codes}
 use Rattle.std.specs.FinMap.{empty, get}
-use Rattle.std.specs.Fmt.{digits}
-use Rattle.mspec.specs.Number.{round, round_size, nearest, rounding_unit, digits_before}
-use Rattle.mspec.specs.NumberText.{numeric_value, literal_size, size_text}
 use Rattle.mspec.specs.LockConflict.{LockName, Locks, taken, given_back, released}
 use Rattle.mspec.specs.Access.{Settings, Read}
 use Rattle.mspec.specs.Code.{M9, Zgrant, Zlocked, Zsub, Zsyntax}
 use Rattle.mspec.specs.Plan.{Ops, perform}
 use Rattle.mspec.specs.Act.{Text, Node, Locals, State, Gives, Fails}
 use Rattle.mgrammar.specs.Grammar.{ExprTree, divide, number, text, ReferenceTree, local, global, indirect, extended, exprs, no_exprs, anew, adding, giving_back, lock_one, lock_several, reference}
-use Rattle.mgrammar.specs.Reading.{many, list_at, name_at, truth_at, operator_at, subscripts_with, attached_with, indirect_with, reference_with, primary_with, operand_with, step_with, expr_with, readers_at}
-use Rattle.mgrammar.specs.IndirectTexts.{ref_at}
 use Rattle.mgrammar.proofs.Computing.{reads}
 use Rattle.mmeaning.specs.Expression.{Inside, inside, finds}
 use Rattle.mmeaning.specs.Locking.{locking}
 use Rattle.mmeaning.specs.World.{World, act}
 use Rattle.mmeaning.proofs.LineTrees.{only, with_operator}
+use Rattle.mspec.proofs.ComputedNumbers.{computes}
 
 -- ALICE lets BOB read her global X
 abbrev lending : Settings
@@ -91,35 +87,23 @@ module _ (w : World) (naked : Option Node) (test : Bool) (out : Text) (locals : 
 
   -- ---- giving back
 
-  given_back_each : perform hers (locking her_line giving_back (lock_several (global_j ∷ local_m ∷ [])) None (state test steps)) w
-      ≡ (Gives tt (state test steps), record w { locks = given_back (given_back w.locks 1 lock_j) 1 lock_m })
-  given_back_each = refl
+  record Given : Type 0 where
+    given_back_each : perform hers (locking her_line giving_back (lock_several (global_j ∷ local_m ∷ [])) None (state test steps)) w
+        ≡ (Gives tt (state test steps), record w { locks = given_back (given_back w.locks 1 lock_j) 1 lock_m })
+    -- with a timeout $TEST is true, whatever was held
+    given_back_in_time : perform hers (locking her_line giving_back (lock_one global_j) (Some (only (text (codes "0")))) (state test (suc steps))) w ≡ (Gives tt (state true steps), record w { locks = given_back w.locks 1 lock_j })
+    -- nothing is given up before all is evaluated and checked
+    error_in_name : perform hers (locking her_line anew (lock_one (global (codes "Y") (exprs error no_exprs))) None (state test (suc (suc steps)))) w ≡ (Fails M9 (state test steps), w)
+    error_in_timeout : perform hers (locking her_line anew (lock_one (global (codes "Y") no_exprs)) (Some error) (state test (suc (suc steps)))) w ≡ (Fails M9 (state test steps), w)
+    empty_subscript : perform hers (locking her_line anew (lock_one (local (codes "M") (exprs (only (text [])) no_exprs))) None (state test (suc steps))) w ≡ (Fails Zsub (state test steps), w)
+    -- who may lock
+    -- to be let read is not enough, and to be let nothing is told as an account that there is not
+    granted_reading : perform his (locking his_line adding (lock_one (extended (only (text (codes "ALICE"))) (codes "X") no_exprs)) None (state test (suc steps))) w ≡ (Fails Zgrant (state test steps), w)
+    no_such_account : perform his (locking his_line adding (lock_one (extended (only (text (codes "NOBODY"))) (codes "X") no_exprs)) None (state test (suc steps))) w ≡ (Fails Zgrant (state test steps), w)
 
-  -- with a timeout $TEST is true, whatever was held
-  given_back_in_time : perform hers (locking her_line giving_back (lock_one global_j) (Some (only (text (codes "0")))) (state test (suc steps))) w ≡ (Gives tt (state true steps), record w { locks = given_back w.locks 1 lock_j })
-  given_back_in_time = refl
-
-  -- ---- nothing is given up before all is evaluated and checked
-
-  error_in_name : perform hers (locking her_line anew (lock_one (global (codes "Y") (exprs error no_exprs))) None (state test (suc (suc steps)))) w ≡ (Fails M9 (state test steps), w)
-  unfolding numeric_value literal_size round round_size nearest rounding_unit digits_before size_text digits
-  error_in_name = refl
-
-  error_in_timeout : perform hers (locking her_line anew (lock_one (global (codes "Y") no_exprs)) (Some error) (state test (suc (suc steps)))) w ≡ (Fails M9 (state test steps), w)
-  unfolding numeric_value literal_size round round_size nearest rounding_unit digits_before size_text digits
-  error_in_timeout = refl
-
-  empty_subscript : perform hers (locking her_line anew (lock_one (local (codes "M") (exprs (only (text [])) no_exprs))) None (state test (suc steps))) w ≡ (Fails Zsub (state test steps), w)
-  empty_subscript = refl
-
-  -- ---- who may lock
-
-  -- to be let read is not enough, and to be let nothing is told as an account that there is not
-  granted_reading : perform his (locking his_line adding (lock_one (extended (only (text (codes "ALICE"))) (codes "X") no_exprs)) None (state test (suc steps))) w ≡ (Fails Zgrant (state test steps), w)
-  granted_reading = refl
-
-  no_such_account : perform his (locking his_line adding (lock_one (extended (only (text (codes "NOBODY"))) (codes "X") no_exprs)) None (state test (suc steps))) w ≡ (Fails Zgrant (state test steps), w)
-  no_such_account = refl
+  given : Given
+  unfolding computes
+  given = search rules
 
   -- by an environment one may name one's own
   own_environment : (locks : Locks) → taken w.locks 1 (lock_j ∷ []) ≡ Some locks
@@ -128,11 +112,11 @@ module _ (w : World) (naked : Option Node) (test : Bool) (out : Text) (locals : 
 
   -- ---- naked references
 
-  -- one that a text names is refused behind its subscripts, and before the next name
-  naked_named : perform hers (locking her_line adding (lock_several (indirect (text (codes "^(\"x\")")) no_exprs ∷ global (codes "X") (exprs error no_exprs) ∷ [])) None (state test (suc (suc steps)))) w ≡ (Fails Zsyntax (state test steps), w)
-  unfolding reads finds
-  naked_named = refl
+  record NakedNamed : Type 0 where
+    -- one that a text names is refused behind its subscripts, and before the next name
+    naked_named : perform hers (locking her_line adding (lock_several (indirect (text (codes "^(\"x\")")) no_exprs ∷ global (codes "X") (exprs error no_exprs) ∷ [])) None (state test (suc (suc steps)))) w ≡ (Fails Zsyntax (state test steps), w)
+    subscripts_before : perform hers (locking her_line adding (lock_one (indirect (text (codes "^(\"x\")")) (exprs error no_exprs))) None (state test (suc (suc (suc (suc steps)))))) w ≡ (Fails M9 (state test steps), w)
 
-  subscripts_before : perform hers (locking her_line adding (lock_one (indirect (text (codes "^(\"x\")")) (exprs error no_exprs))) None (state test (suc (suc (suc (suc steps)))))) w ≡ (Fails M9 (state test steps), w)
-  unfolding reads finds numeric_value literal_size round round_size nearest rounding_unit digits_before size_text digits
-  subscripts_before = refl
+  naked_named : NakedNamed
+  unfolding reads finds computes
+  naked_named = search rules

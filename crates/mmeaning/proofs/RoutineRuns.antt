@@ -10,10 +10,11 @@ use Rattle.mspec.specs.Plan.{May, Put, Kill, Routine, Plan, Ask, perform}
 use Rattle.mspec.specs.Act.{Text, Node, Outcome, no_locals, assigned_to}
 use Rattle.mmeaning.specs.LineMeaning.{Signal}
 use Rattle.mmeaning.specs.World.{act}
-use Rattle.mmeaning.specs.Step.{Settings, World, Session, Server}
+use Rattle.mmeaning.specs.Step.{Settings, World, Session, Server, Reply}
 use Rattle.mmeaning.specs.History.{opening}
 use Rattle.mmeaning.proofs.Calls.{assoc_plan}
-use Rattle.mmeaning.proofs.LineRuns.{opened, text_opened, list_opened, name_found}
+use Rattle.mmeaning.proofs.LineRuns.{opened, text_opened, list_opened, name_found, AreAnswered}
+use Rattle.mmeaning.proofs.ExampleAccount.{with_steps, account}
 
 -- the lines of ALICE's routines
 unfoldable pub lines_in : Globals → Text → List Text
@@ -48,3 +49,13 @@ holding_in g name x = serving_in g (record { locals = assigned_to no_locals name
 
 -- A level stands deep within plans one behind another, where `simp` doesn't look: it brings what is done next to the front.
 pub ruleset computed_levels = (opened, text_opened, list_opened, name_found, assoc_plan)
+
+-- what lines of a terminal are answered in any store, and in one that has these lines of a routine
+abbrev pub Anywhere : List Text → List Reply → Type 0
+Anywhere ts rs = (g : Globals) → AreAnswered account (opening g) ts rs
+
+abbrev pub With : Text → List Text → List Text → List Reply → Type 0
+With name lines ts rs = (g : Globals) → lines_in g name ≡ lines → AreAnswered account (opening g) ts rs
+
+abbrev pub WithSteps : ℕ → Text → List Text → List Text → List Reply → Type 0
+WithSteps n name lines ts rs = (g : Globals) → lines_in g name ≡ lines → AreAnswered (with_steps n) (opening g) ts rs

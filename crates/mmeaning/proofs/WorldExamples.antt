@@ -1,6 +1,6 @@
 -- SPDX-License-Identifier: Apache-2.0
 -- What operations do on examples, as proved equations: an account does what its settings let it, and nothing else.
-use Rattle.std.proofs.Common.{◌≡◌, [], ◌∷◌, None, true, false, refl}
+use Rattle.std.proofs.Common.{◌≡◌, [], ◌∷◌, None, true, false, rules}
 use Rattle.std.specs.Prelude.{codes}
 use Rattle.std.specs.FinMap.{empty, get, insert, remove}
 use Rattle.mspec.specs.Node.{Text, Node}
@@ -24,47 +24,32 @@ lending = record {
 abbrev hers : Text → Node
 hers name = record { account = codes "ALICE"; name = name; subscripts = codes "1" ∷ [] }
 
--- her own global, by herself
-own_value : (w : World) → act lending 1 (codes "ALICE") (Value (hers (codes "X"))) w ≡ (get w.globals (hers (codes "X")), w)
-own_value w = refl
+record Operations : Type 0 where
+  -- her own global, by herself
+  own_value : (w : World) → act lending 1 (codes "ALICE") (Value (hers (codes "X"))) w ≡ (get w.globals (hers (codes "X")), w)
+  own_text : (w : World) → act lending 1 (codes "ALICE") (Put (hers (codes "Y")) (codes "a")) w ≡ (tt, record w { globals = insert w.globals (hers (codes "Y")) (codes "a") })
+  -- by another, what is granted
+  granted_status : (w : World) → act lending 2 (codes "BOB") (Status (hers (codes "X"))) w ≡ (status w.globals (hers (codes "X")), w)
+  may_read : (w : World) → act lending 2 (codes "BOB") (May (codes "ALICE") (codes "X") Read) w ≡ (true, w)
+  may_not_write : (w : World) → act lending 2 (codes "BOB") (May (codes "ALICE") (codes "X") Write) w ≡ (false, w)
+  -- and what is not: nothing is told, and nothing changes
+  other_value : (w : World) → act lending 2 (codes "BOB") (Value (hers (codes "Y"))) w ≡ (None, w)
+  other_text : (w : World) → act lending 2 (codes "BOB") (Put (hers (codes "X")) (codes "a")) w ≡ (tt, w)
+  other_subtree : (w : World) → act lending 2 (codes "BOB") (Kill (hers (codes "X"))) w ≡ (tt, w)
 
-own_text : (w : World) → act lending 1 (codes "ALICE") (Put (hers (codes "Y")) (codes "a")) w ≡ (tt, record w { globals = insert w.globals (hers (codes "Y")) (codes "a") })
-own_text w = refl
-
--- by another, what is granted
-granted_status : (w : World) → act lending 2 (codes "BOB") (Status (hers (codes "X"))) w ≡ (status w.globals (hers (codes "X")), w)
-granted_status w = refl
-
-may_read : (w : World) → act lending 2 (codes "BOB") (May (codes "ALICE") (codes "X") Read) w ≡ (true, w)
-may_read w = refl
-
-may_not_write : (w : World) → act lending 2 (codes "BOB") (May (codes "ALICE") (codes "X") Write) w ≡ (false, w)
-may_not_write w = refl
-
--- and what is not: nothing is told, and nothing changes
-other_value : (w : World) → act lending 2 (codes "BOB") (Value (hers (codes "Y"))) w ≡ (None, w)
-other_value w = refl
-
-other_text : (w : World) → act lending 2 (codes "BOB") (Put (hers (codes "X")) (codes "a")) w ≡ (tt, w)
-other_text w = refl
-
-other_subtree : (w : World) → act lending 2 (codes "BOB") (Kill (hers (codes "X"))) w ≡ (tt, w)
-other_subtree w = refl
+operations : Operations
+operations = search rules
 
 -- a lock on a global's name wants that it may be written, and one on another name that it is one's own
 abbrev lock : Node → LockName
 lock n = record { global = true; node = n }
 
-own_lock : (w : World) → act lending 1 (codes "ALICE") (Take (lock (hers (codes "X")) ∷ [])) w ≡ took w (taken w.locks 1 (lock (hers (codes "X")) ∷ []))
-own_lock w = refl
+record Ends : Type 0 where
+  own_lock : (w : World) → act lending 1 (codes "ALICE") (Take (lock (hers (codes "X")) ∷ [])) w ≡ took w (taken w.locks 1 (lock (hers (codes "X")) ∷ []))
+  other_lock : (w : World) → act lending 2 (codes "BOB") (Take (lock (hers (codes "X")) ∷ [])) w ≡ (false, w)
+  -- a line that halts closes its session and releases its locks; one that quits does neither
+  halted : (server : Server) (s : State) (w : World) → ended 1 server (Gives Halts s, w) ≡ (record { out = s.out; ending = Halted }, record { world = record w { locks = released w.locks 1 }; sessions = remove server.sessions 1 })
+  quitted : (server : Server) (s : State) (w : World) → ended 1 server (Gives Quits s, w) ≡ (record { out = s.out; ending = Finished }, record { world = w; sessions = insert server.sessions 1 (kept s) })
 
-other_lock : (w : World) → act lending 2 (codes "BOB") (Take (lock (hers (codes "X")) ∷ [])) w ≡ (false, w)
-other_lock w = refl
-
--- a line that halts closes its session and releases its locks; one that quits does neither
-halted : (server : Server) (s : State) (w : World)
-    → ended 1 server (Gives Halts s, w) ≡ (record { out = s.out; ending = Halted }, record { world = record w { locks = released w.locks 1 }; sessions = remove server.sessions 1 })
-halted server s w = refl
-
-quitted : (server : Server) (s : State) (w : World) → ended 1 server (Gives Quits s, w) ≡ (record { out = s.out; ending = Finished }, record { world = w; sessions = insert server.sessions 1 (kept s) })
-quitted server s w = refl
+ends : Ends
+ends = search rules

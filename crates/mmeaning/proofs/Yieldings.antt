@@ -46,10 +46,6 @@ yields_gives a f x e = record { ends = λ s. ap (λ a. Done (Gives a s)) (sym e)
 pub yields_wanting : {A X E : Type 0} {fault_of : E → Fault} (p : Act A) (f : X → A) (e : E) (r : Result X E) → fault_of e ≡ Lost Memory → IsErr r × IsErrAnd r (λ x. x ≡ e) → Yields fault_of p f r
 yields_wanting {fault_of = fault_of} p f e r memory h = subst (λ r. Yields fault_of p f r) (sym (residual_is r e h)) (record { ends = subst (YieldsFault p) (sym memory) tt })
 
--- another value that stands for the same
-pub yields_as : {A X Y E : Type 0} {fault_of : E → Fault} {p : Act A} {f : X → A} (g : Y → A) {x : X} {y : Y} → Yields {E = E} fault_of p f (Ok x) → g y ≡ f x → Yields {E = E} fault_of p g (Ok y)
-yields_as g d same = record { ends = λ s. d.ends s ∙ ap (λ a. Done (Gives a s)) (sym same) }
-
 -- ---- wherever such a call is made
 
 yields_lost : {A : Type 0} (b : Standing) (steady : Type 0) (p : Act A) (h : Here) (c : Fault) → YieldsFault p c → FailedBy b steady p h c h

@@ -9,6 +9,7 @@ ghost use Rattle.mmeaning.specs.Step.{Settings};
 ghost use Rattle.mmeaning.specs.StepLaws.{NormalNeverFails, PlanKeepsOthersLocks, NormalStepsAreHistory, HistoryIsNormal};
 
 /// A normal step is never answered ZMEM or ZSTORE.
+#[tactic(auto, using(crate::proofs::Histories::normal_never_fails))]
 pub fn normal_never_fails()
     ensures { NormalNeverFails }
 {}
@@ -19,6 +20,7 @@ pub fn others_kept()
 {}
 
 /// Normal steps are a history of any events, so there is one.
+#[tactic(auto, using(crate::proofs::Histories::normal_steps_are_history))]
 pub fn normal_steps_are_history()
     ensures { NormalStepsAreHistory }
 {}

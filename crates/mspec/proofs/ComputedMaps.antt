@@ -1,12 +1,13 @@
 -- SPDX-License-Identifier: Apache-2.0
 -- Maps of examples: what was put into an empty map, as rules by which `simp` computes what is asked of it.
-use Rattle.std.proofs.Common.{◌≡◌, ℕ, Bool, true, false, cond, List, [], ◌∷◌, length, Option, Some, None, refl, sym, ap, ◌∙◌, arith}
+use Rattle.std.proofs.Common.{◌≡◌, ℕ, Bool, true, false, cond, List, [], Option, Some, None, refl, sym, ap, ◌∙◌}
 use Rattle.std.specs.declared.cmp.Ordering.{Ordering}
 use Rattle.std.specs.Ordering.{nat_cmp, eq_by_cmp}
 use Rattle.std.specs.Cmp.{IsTotalOrder}
 use Rattle.std.proofs.lemmas.Cmp.{nat_cmp_total}
+use Rattle.std.proofs.lemmas.List.{nil_from_length}
 use Rattle.std.specs.Cmp.Lexicographic.{slice_cmp, nat_list_cmp_total}
-use Rattle.std.specs.FinMap.{FinMap, get, insert, empty, retain_keys, entries, get-insert, get-empty, entries-insert, len-empty, len-entries, same_map, IsAntisymmetric, nat_cmp-IsAntisymmetric, slice_cmp-IsAntisymmetric}
+use Rattle.std.specs.FinMap.{FinMap, get, insert, empty, retain_keys, entries, get-insert, get-empty, entries-insert, len-empty, len-entries, same_map, IsAntisymmetric, nat_cmp-IsAntisymmetric}
 use Rattle.std.specs.FinMap.Entries.{put}
 use Rattle.mspec.specs.Node.{Text}
 use Rattle.mspec.specs.Number.{significant_digits}
@@ -14,10 +15,7 @@ use Rattle.mspec.specs.NodeOrder.{subscripts_cmp}
 use Rattle.mspec.specs.Trees.{Tree}
 use Rattle.mspec.proofs.MapCuts.{equal_of, get_cut, cut_drops}
 use Rattle.mspec.proofs.NodeOrders.{subscripts_cmp_total, subscripts_cmp_exact}
-
-none_of : {A : Type 0} (es : List A) → length es ≡ 0 → es ≡ []
-none_of [] e = refl
-none_of (x ∷ es) e = absurd (omega arith)
+use Rattle.mspec.proofs.Basics.{texts_exact}
 
 module _ {K X : Type 0} {R : K → K → Ordering} (total : IsTotalOrder R) (exact : IsAntisymmetric R) where
   kept_there : (b t : Bool) (v g : Option X) → (t ≡ true → b ≡ true) → cond b (cond t v g) None ≡ cond t v (cond b g None)
@@ -67,15 +65,12 @@ module _ {K X : Type 0} {R : K → K → Ordering} (total : IsTotalOrder R) (exa
       ∙ ap (cond (eq_by_cmp R q k) (Some w)) (sym (get-insert total m j v q)) ∙ sym (get-insert total (insert m j v) k w q))
 
 pub entries_none : {K X : Type 0} (R : K → K → Ordering) → entries (empty {X = X} {R = R}) ≡ []
-entries_none {X = X} R = none_of _ (sym (len-entries (empty {X = X} {R = R})) ∙ len-empty R X)
+entries_none {X = X} R = nil_from_length _ (sym (len-entries (empty {X = X} {R = R})) ∙ len-empty R X)
 
 -- ---- the maps of variables by their names
 
 abbrev Named : Type 0
 Named = FinMap (slice_cmp nat_cmp) Tree
-
-names_exact : IsAntisymmetric (slice_cmp nat_cmp)
-names_exact = slice_cmp-IsAntisymmetric nat_cmp-IsAntisymmetric
 
 pub tree_none : (q : Text) → get (empty {X = Tree} {R = slice_cmp nat_cmp}) q ≡ None
 tree_none q = get-empty (slice_cmp nat_cmp) q
@@ -84,16 +79,16 @@ pub tree_put : (m : Named) (k : Text) (t : Tree) (q : Text) → get (insert m k 
 tree_put m k t q = get-insert nat_list_cmp_total m k t q
 
 pub tree_again : (m : Named) (k : Text) (t u : Tree) → insert (insert m k t) k u ≡ insert m k u
-tree_again m k t u = put_again nat_list_cmp_total names_exact m k t u
+tree_again m k t u = put_again nat_list_cmp_total texts_exact m k t u
 
 pub tree_behind : (m : Named) (k j : Text) (t u v : Tree) → insert (insert (insert m k t) j u) k v ≡ insert (insert m j u) k v
-tree_behind m k j t u v = put_behind nat_list_cmp_total names_exact m k j t u v
+tree_behind m k j t u v = put_behind nat_list_cmp_total texts_exact m k j t u v
 
 pub trees_cut : (m : Named) (p : Text → Bool) (k : Text) (t : Tree) → retain_keys (insert m k t) p ≡ cond (p k) (insert (retain_keys m p) k t) (retain_keys m p)
-trees_cut m p k t = cut_put nat_list_cmp_total names_exact m p k t
+trees_cut m p k t = cut_put nat_list_cmp_total texts_exact m p k t
 
 pub no_trees_cut : (p : Text → Bool) → retain_keys (empty {X = Tree} {R = slice_cmp nat_cmp}) p ≡ empty
-no_trees_cut p = cut_none nat_list_cmp_total names_exact p
+no_trees_cut p = cut_none nat_list_cmp_total texts_exact p
 
 -- ---- the maps of texts by their subscripts
 

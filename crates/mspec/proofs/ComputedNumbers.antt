@@ -1,12 +1,18 @@
 -- SPDX-License-Identifier: Apache-2.0
 -- Numbers of examples: values, sums and texts of numbers that are known, as rules by which `simp` computes them. To unfold the words
 -- themselves would open them too where a number is not known yet, which takes long.
-use Rattle.std.proofs.Common.{◌≡◌, ℕ, zero, suc, ◌+◌, ◌-◌, ◌*◌, cond, List, [], ◌∷◌, ◌++◌, length, Option, Some, None, refl}
+use Rattle.std.proofs.Common.{◌≡◌, ℕ, zero, suc, ◌+◌, ◌-◌, ◌*◌, cond, List, [], ◌∷◌, ◌++◌, length, Option, Some, None, refl, Bool, true}
 use Rattle.std.specs.Prelude.{◌^◌, ◌/◌, pos, negsuc, option_map, unsigned_abs, nat_le, codes}
 use Rattle.std.specs.Fmt.{digits}
 use Rattle.mspec.specs.Literal.{digits_after}
 use Rattle.mspec.specs.Number.{significant_digits, signed, is_below_zero, digits_before, rounding_unit, nearest, round_size, round}
 use Rattle.mspec.specs.NumberText.{front_digits, after_digits, fraction_digits, after_fraction, front_exponent, literal_size, is_negated, after_signs, numeric_value, size_text}
+use Rattle.mspec.specs.NodeOrder.{canonical_value}
+
+-- one name for all that numbers unfold: an example that is computed unfolds it
+unfoldable pub computes : Bool
+unfolding canonical_value digits digits_before literal_size nearest numeric_value round round_size rounding_unit size_text
+computes = true
 
 -- ---- the words once more, each open
 
@@ -98,4 +104,12 @@ pub text_11 : size_text (11 * 10 ^ 18) ≡ codes "11"
 unfolding size_text digits
 text_11 = refl
 
-pub ruleset computed_numbers = (value_none, value_some, round_pos, round_neg, text_0, text_1, text_2, text_3, text_4, text_5, text_6, text_7, text_8, text_9, text_10, text_11)
+pub text_16 : size_text (16 * 10 ^ 18) ≡ codes "16"
+unfolding size_text digits
+text_16 = refl
+
+pub text_9E17 : size_text (9 * 10 ^ 35) ≡ codes "900000000000000000"
+unfolding size_text digits
+text_9E17 = refl
+
+pub ruleset computed_numbers = (value_none, value_some, round_pos, round_neg, text_0, text_1, text_2, text_3, text_4, text_5, text_6, text_7, text_8, text_9, text_10, text_11, text_16, text_9E17)

@@ -5,12 +5,11 @@ use Rattle.std.specs.Prelude.{◌&&◌, codes}
 use Rattle.std.specs.List.{filter}
 use Rattle.std.specs.Prelude.{T}
 use Rattle.std.specs.FinMap.{from_sorted, is_sorted, entries-from_sorted}
-use Rattle.std.specs.Fmt.{digits}
 use Rattle.mspec.specs.Node.{Text, Node}
-use Rattle.mspec.specs.Number.{significant_digits, round, round_size, nearest, rounding_unit, digits_before}
-use Rattle.mspec.specs.NumberText.{numeric_value, literal_size, size_text}
-use Rattle.mspec.specs.NodeOrder.{node_cmp, canonical_value}
+use Rattle.mspec.specs.Number.{significant_digits}
+use Rattle.mspec.specs.NodeOrder.{node_cmp}
 use Rattle.mspec.specs.Globals.{is_beside, is_line_of, routines_of, lines_of}
+use Rattle.mspec.proofs.ComputedNumbers.{computes}
 
 abbrev Rows : Type 0
 Rows = List (Node × Text)
@@ -38,10 +37,10 @@ lines_by_rows rows sorted account name =
     ap (λ es. map (λ e. e.1) (filter (λ e. is_beside (routines_of account) e.0 && is_line_of name e.0.subscripts) es)) (entries-from_sorted (node_cmp significant_digits) rows sorted)
 
 lines_of_routine : lines_of (from_sorted routine_rows) (codes "A") (codes "T") ≡ codes " W 0" ∷ codes " W 1" ∷ codes " W 2" ∷ []
-unfolding canonical_value numeric_value literal_size round round_size nearest rounding_unit digits_before size_text digits
+unfolding computes
 lines_of_routine = lines_by_rows routine_rows tt (codes "A") (codes "T")
 
 -- another account's routine of that name is another
 of_another : lines_of (from_sorted routine_rows) (codes "B") (codes "T") ≡ []
-unfolding canonical_value numeric_value literal_size round round_size nearest rounding_unit digits_before size_text digits
+unfolding computes
 of_another = lines_by_rows routine_rows tt (codes "B") (codes "T")

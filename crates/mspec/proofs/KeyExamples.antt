@@ -1,38 +1,29 @@
 -- SPDX-License-Identifier: Apache-2.0
 -- The order of nodes and the bytes of keys on examples, as proved equations.
-use Rattle.std.proofs.Common.{◌≡◌, ℕ, List, [], ◌∷◌, refl, replicate}
+use Rattle.std.proofs.Common.{◌≡◌, ℕ, List, [], ◌∷◌, refl, replicate, rules}
 use Rattle.std.specs.Prelude.{codes}
 use Rattle.std.specs.declared.cmp.Ordering.{Ordering}
 use Rattle.std.specs.declared.cmp.Ordering.TheVariants.{Less, Greater}
-use Rattle.std.specs.Fmt.{digits}
-use Rattle.mspec.specs.Number.{round, round_size, nearest, rounding_unit, digits_before, significant_digits}
-use Rattle.mspec.specs.NumberText.{numeric_value, literal_size, size_text}
-use Rattle.mspec.specs.NodeOrder.{canonical_value, text_cmp, node_cmp}
+use Rattle.mspec.specs.Number.{significant_digits}
+use Rattle.mspec.specs.NodeOrder.{text_cmp, node_cmp}
 use Rattle.mspec.specs.KeyBytes.{key_bytes, number_bytes}
+use Rattle.mspec.proofs.ComputedNumbers.{computes}
 
 -- the key of account A, global B and one subscript, behind its two names
 abbrev key_of : List ℕ → List ℕ
 key_of s = key_bytes significant_digits (record { account = codes "A"; name = codes "B"; subscripts = s ∷ [] })
 
-key_of_1 : key_of (codes "1") ≡ 66 ∷ 0 ∷ 67 ∷ 0 ∷ 1 ∷ 128 ∷ 0 ∷ 0 ∷ 0 ∷ 0 ∷ 0 ∷ 0 ∷ 0 ∷ 13 ∷ 224 ∷ 182 ∷ 179 ∷ 167 ∷ 100 ∷ 0 ∷ 0 ∷ []
-unfolding canonical_value number_bytes numeric_value literal_size round round_size nearest rounding_unit digits_before size_text digits
-key_of_1 = refl
+-- the keys of texts
+record Keys : Type 0 where
+  key_of_1 : key_of (codes "1") ≡ 66 ∷ 0 ∷ 67 ∷ 0 ∷ 1 ∷ 128 ∷ 0 ∷ 0 ∷ 0 ∷ 0 ∷ 0 ∷ 0 ∷ 0 ∷ 13 ∷ 224 ∷ 182 ∷ 179 ∷ 167 ∷ 100 ∷ 0 ∷ 0 ∷ []
+  key_of_half : key_of (codes ".5") ≡ 66 ∷ 0 ∷ 67 ∷ 0 ∷ 1 ∷ 128 ∷ 0 ∷ 0 ∷ 0 ∷ 0 ∷ 0 ∷ 0 ∷ 0 ∷ 6 ∷ 240 ∷ 91 ∷ 89 ∷ 211 ∷ 178 ∷ 0 ∷ 0 ∷ []
+  key_of_minus_1 : key_of (codes "-1") ≡ 66 ∷ 0 ∷ 67 ∷ 0 ∷ 1 ∷ 127 ∷ 255 ∷ 255 ∷ 255 ∷ 255 ∷ 255 ∷ 255 ∷ 255 ∷ 242 ∷ 31 ∷ 73 ∷ 76 ∷ 88 ∷ 156 ∷ 0 ∷ 0 ∷ []
+  key_of_letter : key_of (codes "A") ≡ 66 ∷ 0 ∷ 67 ∷ 0 ∷ 2 ∷ 66 ∷ 0 ∷ []
+  key_of_leading_zero : key_of (codes "01") ≡ 66 ∷ 0 ∷ 67 ∷ 0 ∷ 2 ∷ 49 ∷ 50 ∷ 0 ∷ []
 
-key_of_half : key_of (codes ".5") ≡ 66 ∷ 0 ∷ 67 ∷ 0 ∷ 1 ∷ 128 ∷ 0 ∷ 0 ∷ 0 ∷ 0 ∷ 0 ∷ 0 ∷ 0 ∷ 6 ∷ 240 ∷ 91 ∷ 89 ∷ 211 ∷ 178 ∷ 0 ∷ 0 ∷ []
-unfolding canonical_value number_bytes numeric_value literal_size round round_size nearest rounding_unit digits_before size_text digits
-key_of_half = refl
-
-key_of_minus_1 : key_of (codes "-1") ≡ 66 ∷ 0 ∷ 67 ∷ 0 ∷ 1 ∷ 127 ∷ 255 ∷ 255 ∷ 255 ∷ 255 ∷ 255 ∷ 255 ∷ 255 ∷ 242 ∷ 31 ∷ 73 ∷ 76 ∷ 88 ∷ 156 ∷ 0 ∷ 0 ∷ []
-unfolding canonical_value number_bytes numeric_value literal_size round round_size nearest rounding_unit digits_before size_text digits
-key_of_minus_1 = refl
-
-key_of_letter : key_of (codes "A") ≡ 66 ∷ 0 ∷ 67 ∷ 0 ∷ 2 ∷ 66 ∷ 0 ∷ []
-unfolding canonical_value number_bytes numeric_value literal_size round round_size nearest rounding_unit digits_before size_text digits
-key_of_letter = refl
-
-key_of_leading_zero : key_of (codes "01") ≡ 66 ∷ 0 ∷ 67 ∷ 0 ∷ 2 ∷ 49 ∷ 50 ∷ 0 ∷ []
-unfolding canonical_value number_bytes numeric_value literal_size round round_size nearest rounding_unit digits_before size_text digits
-key_of_leading_zero = refl
+keys : Keys
+unfolding computes number_bytes
+keys = search rules
 
 -- the order of each text with the next
 abbrev steps : List (List ℕ) → List Ordering
@@ -41,15 +32,15 @@ steps (s ∷ []) = []
 steps (s ∷ t ∷ more) = text_cmp significant_digits s t ∷ steps (t ∷ more)
 
 texts_in_order : steps (codes "" ∷ codes "-1" ∷ codes ".5" ∷ codes "9" ∷ codes "10" ∷ codes "01" ∷ codes "1.0" ∷ codes "A" ∷ codes "a" ∷ []) ≡ replicate 8 Less
-unfolding canonical_value numeric_value literal_size round round_size nearest rounding_unit digits_before size_text digits
+unfolding computes
 texts_in_order = refl
 
 -- a name with two subscripts, and with the first alone
 longer_behind : node_cmp significant_digits (record { account = codes "A"; name = codes "B"; subscripts = codes "2" ∷ codes "x" ∷ [] }) (record { account = codes "A"; name = codes "B"; subscripts = codes "2" ∷ [] }) ≡ Greater
-unfolding canonical_value numeric_value literal_size round round_size nearest rounding_unit digits_before size_text digits
+unfolding computes
 longer_behind = refl
 
 -- by fifteen digits a text of sixteen is no number
 sixteen_digits : text_cmp 15 (codes "1234567890123456") (codes "0A") ≡ Greater
-unfolding canonical_value numeric_value literal_size round round_size nearest rounding_unit digits_before size_text digits
+unfolding computes
 sixteen_digits = refl

@@ -11,7 +11,7 @@ use Rattle.std.proofs.lemmas.Bool.{cases_order}
 use Rattle.std.proofs.lemmas.Bool.Decides.{nat_tests}
 use Rattle.std.proofs.lemmas.Nat.{mod_below}
 use Rattle.std.proofs.lemmas.List.Elements.{All-head, All-tail}
-use Rattle.std.proofs.Math.Nat.{div-add-mod', one-le-pow, mul-le-mul_right}
+use Rattle.std.proofs.Math.Nat.{div-add-mod', mul-le-mul_right}
 use Rattle.mspec.specs.Act.{Text}
 use Rattle.mspec.specs.Number.{round_size, nearest, rounding_unit, signed}
 use Rattle.mspec.specs.NumberText.{numeric_value, literal_size, is_negated}
@@ -19,6 +19,7 @@ use Rattle.mspec.specs.NodeOrder.{canonical_value, place_by, place_cmp, text_cmp
 use Rattle.mspec.specs.KeyBytes.{big_endian, text_bytes, raised, number_bytes, subscript_by, subscript_bytes, subscripts_bytes, local_bytes}
 use Rattle.mspec.specs.KeyLaws.{NoneEmpty, KeysKeepOrder, LocalsKeepOrder}
 use Rattle.mspec.proofs.NodeOrders.{canonical_of_value}
+use Rattle.mspec.proofs.Basics.{byte_pos}
 
 -- ---- orders one after another
 
@@ -71,9 +72,6 @@ place_order a b c d w below_b below_d = by_row (cases_order a c)
 -- n in k + 1 bytes is its first byte and the rest
 split_number : (k n : ℕ) → n / 256 ^ k * 256 ^ k + n % 256 ^ k ≡ n
 split_number k n = div-add-mod' n (256 ^ k)
-
-byte_pos : (k : ℕ) → 0 < 256 ^ k
-byte_pos k = one-le-pow k 256 (omega arith)
 
 pub bytes_order : (k n m : ℕ) (x y : List ℕ) → n < 256 ^ k → m < 256 ^ k → slice_cmp nat_cmp (big_endian k n ++ x) (big_endian k m ++ y) ≡ ordering_then (nat_cmp n m) (slice_cmp nat_cmp x y)
 bytes_order zero n m x y below_n below_m = ap (λ o. ordering_then o (slice_cmp nat_cmp x y)) (none n m below_n below_m)

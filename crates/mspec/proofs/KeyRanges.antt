@@ -4,7 +4,6 @@ use Rattle.std.proofs.Common.{ℕ, ◌≡◌, ◌⊎◌, inl, inr, ◌<◌, true
 use Rattle.std.specs.Cmp.Lexicographic.{slice_cmp, nat_list_cmp_total}
 use Rattle.std.specs.Cmp.{nat_cmp_is}
 use Rattle.std.specs.declared.cmp.Ordering.TheVariants.{Less, Equal, Greater}
-use Rattle.std.specs.FinMap.{IsAntisymmetric, nat_cmp-IsAntisymmetric, slice_cmp-IsAntisymmetric}
 use Rattle.std.specs.Ordering.{nat_cmp, ordering_then, is_le}
 use Rattle.std.proofs.lemmas.Bool.{cases_order}
 use Rattle.std.proofs.lemmas.Cmp.{tied_itself, nat_cmp_total}
@@ -16,6 +15,7 @@ use Rattle.mspec.specs.KeyBytes.{text_bytes, subscript_bytes, subscripts_bytes, 
 use Rattle.mspec.specs.KeyLaws.{NoneEmpty, BeginsWith, IsWithin, IsBetween, KeysAreInjective, KeysOfSubtreesBeginAlike, SubtreesAreRanges, DescendantsAreRanges, IsLocalWithin, LocalSubtreesAreRanges, LocalDescendantsAreRanges}
 use Rattle.mspec.proofs.NodeOrders.{text_cmp_exact, node_cmp_exact, both_Equal, same_node}
 use Rattle.mspec.proofs.KeyOrders.{text_order, subscript_order, HasTag, tag_of, key_order}
+use Rattle.mspec.proofs.Basics.{texts_exact}
 
 -- ---- what stands in front
 
@@ -23,19 +23,16 @@ use Rattle.mspec.proofs.KeyOrders.{text_order, subscript_order, HasTag, tag_of, 
 pub same_bytes : (x y : List ℕ) → x ≡ y → slice_cmp nat_cmp x y ≡ Equal
 same_bytes x y e = ap (slice_cmp nat_cmp x) (sym e) ∙ tied_itself nat_list_cmp_total x
 
-bytes_exact : IsAntisymmetric (slice_cmp nat_cmp)
-bytes_exact = slice_cmp-IsAntisymmetric nat_cmp-IsAntisymmetric
-
 -- a text's bytes end by themselves
 pub text_split : (s t x y : List ℕ) → text_bytes s ++ x ≡ text_bytes t ++ y → (s ≡ t) × (x ≡ y)
 text_split s t x y e =
     let both = both_Equal (slice_cmp nat_cmp s t) (slice_cmp nat_cmp x y) (sym (text_order s t x y) ∙ same_bytes _ _ e) in
-    (bytes_exact s t both.0, bytes_exact x y both.1)
+    (texts_exact s t both.0, texts_exact x y both.1)
 
 pub subscript_split : (kept : ℕ) (s t : Text) (x y : List ℕ) → 0 < length s → 0 < length t → subscript_bytes kept s ++ x ≡ subscript_bytes kept t ++ y → (s ≡ t) × (x ≡ y)
 subscript_split kept s t x y some_s some_t e =
     let both = both_Equal (text_cmp kept s t) (slice_cmp nat_cmp x y) (sym (subscript_order kept s t x y some_s some_t) ∙ same_bytes _ _ e) in
-    (text_cmp_exact kept s t both.0, bytes_exact x y both.1)
+    (text_cmp_exact kept s t both.0, texts_exact x y both.1)
 
 -- the subscripts behind others, of which the bytes are given
 pub record IsBehind (kept : ℕ) (front : List Text) (rest : List ℕ) (all : List Text) : Type 0 where

@@ -3,7 +3,7 @@
 use Rattle.std.proofs.Common.{ℕ, zero, suc, ◌≡◌, ◌+◌, ◌*◌, ◌/◌, ◌%◌, ◌^◌, ◌<◌, ◌≤◌, Option, Some, None, List, [], ◌∷◌, ◌++◌, length, take, drop, refl, sym, ◌∙◌, ap, ap₂, subst, arith, add-one}
 use Rattle.std.specs.Prelude.{ℤ, pos, negsuc, unsigned_abs}
 use Rattle.std.specs.Slice.Scan.{big_endian}
-use Rattle.std.proofs.Math.Nat.{div-add-mod', one-le-pow, pow-suc}
+use Rattle.std.proofs.Math.Nat.{div-add-mod', pow-suc}
 use Rattle.std.proofs.lemmas.Nat.{mod_below}
 use Rattle.std.proofs.lemmas.List.{length-append}
 use Rattle.mspec.specs.Node.{Text}
@@ -14,6 +14,7 @@ use Rattle.mspec.specs.KeyBytes as Bytes
 use Rattle.mspec.specs.KeyReading.{text_of, behind_text, lowered, text_of_number, subscripts_of, node_of, KeysAreRead}
 use Rattle.mspec.proofs.NodeOrders.{canonical_of_value}
 use Rattle.mspec.proofs.KeyOrders.{value_in_range, raised_below}
+use Rattle.mspec.proofs.Basics.{byte_pos}
 
 -- ---- texts
 
@@ -26,9 +27,6 @@ text_passed [] rest = refl
 text_passed (c ∷ s) rest = ap (λ b. behind_text (b ∷ (text_bytes s ++ rest))) (add-one c) ∙ text_passed s rest
 
 -- ---- numbers
-
-byte_pos : (k : ℕ) → 0 < 256 ^ k
-byte_pos k = one-le-pow k 256 (omega arith)
 
 taken : (k n : ℕ) (rest : List ℕ) → take k (Bytes.big_endian k n ++ rest) ≡ Bytes.big_endian k n
 taken zero n rest = refl

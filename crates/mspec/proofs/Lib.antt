@@ -1,4 +1,6 @@
 -- SPDX-License-Identifier: Apache-2.0
+pub mod Basics
+pub mod NodesWithin
 pub mod Powers
 pub mod Rounding
 pub mod NearestLaws
@@ -7,7 +9,6 @@ pub mod TextLaws
 pub mod CanonicalForm
 pub mod WholeTexts
 pub mod LongestLiteral
-pub mod NumberExamples
 pub mod Plans
 pub mod Maps
 pub mod HashMaps
@@ -26,6 +27,7 @@ pub mod ScopeFacts
 pub mod MapCuts
 pub mod ComputedMaps
 pub mod ComputedNumbers
+pub mod NumberExamples
 pub mod LockFacts
 pub mod GlobalExamples
 pub mod ListPlaces

@@ -1,6 +1,6 @@
 -- SPDX-License-Identifier: Apache-2.0
 -- Which names of locks exclude each other, on examples, as proved equations.
-use Rattle.std.proofs.Common.{◌≡◌, ℕ, Bool, true, false, List, [], ◌∷◌, not, ◌&&◌, ◌||◌, ap, refl}
+use Rattle.std.proofs.Common.{◌≡◌, ℕ, Bool, true, false, List, [], ◌∷◌, not, ◌&&◌, ◌||◌, ap, refl, rules}
 use Rattle.std.specs.Prelude.{codes, T}
 use Rattle.std.proofs.Math.Facts.{yes_eqb}
 use Rattle.mspec.specs.Node.{Text}
@@ -18,20 +18,15 @@ local subscripts = record { global = false; node = record { account = codes "ALI
 
 -- ---- locks between terminals
 
-ancestor_conflicts : is_conflict (held 2 (alice [])) (held 1 (alice (codes "1" ∷ []))) ≡ true
-ancestor_conflicts = refl
+record Conflicts : Type 0 where
+  ancestor_conflicts : is_conflict (held 2 (alice [])) (held 1 (alice (codes "1" ∷ []))) ≡ true
+  descendant_conflicts : is_conflict (held 2 (alice (codes "1" ∷ codes "5" ∷ []))) (held 1 (alice (codes "1" ∷ []))) ≡ true
+  same_name_conflicts : is_conflict (held 2 (alice (codes "1" ∷ []))) (held 1 (alice (codes "1" ∷ []))) ≡ true
+  siblings_do_not : is_conflict (held 2 (alice (codes "1" ∷ []))) (held 1 (alice (codes "2" ∷ []))) ≡ false
+  longer_text_does_not : is_conflict (held 2 (alice (codes "1" ∷ []))) (held 1 (alice (codes "15" ∷ []))) ≡ false
 
-descendant_conflicts : is_conflict (held 2 (alice (codes "1" ∷ codes "5" ∷ []))) (held 1 (alice (codes "1" ∷ []))) ≡ true
-descendant_conflicts = refl
-
-same_name_conflicts : is_conflict (held 2 (alice (codes "1" ∷ []))) (held 1 (alice (codes "1" ∷ []))) ≡ true
-same_name_conflicts = refl
-
-siblings_do_not : is_conflict (held 2 (alice (codes "1" ∷ []))) (held 1 (alice (codes "2" ∷ []))) ≡ false
-siblings_do_not = refl
-
-longer_text_does_not : is_conflict (held 2 (alice (codes "1" ∷ []))) (held 1 (alice (codes "15" ∷ []))) ≡ false
-longer_text_does_not = refl
+conflicts : Conflicts
+conflicts = search rules
 
 own_never : (t : ℕ) (a b : LockName) → is_conflict (held t a) (held t b) ≡ false
 own_never t a b = ap (λ same. not same && (is_within a b || is_within b a)) (T_true _ (yes_eqb {a = t} {b = t} refl))
@@ -40,8 +35,9 @@ own_never t a b = ap (λ same. not same && (is_within a b || is_within b a)) (T_
     T_true true h = refl
     T_true false h = absurd h
 
-accounts_never : is_conflict (held 2 (global (codes "BOB") [])) (held 1 (alice [])) ≡ false
-accounts_never = refl
+record NoneBetween : Type 0 where
+  accounts_never : is_conflict (held 2 (global (codes "BOB") [])) (held 1 (alice [])) ≡ false
+  kinds_never : is_conflict (held 2 (local [])) (held 1 (alice [])) ≡ false
 
-kinds_never : is_conflict (held 2 (local [])) (held 1 (alice [])) ≡ false
-kinds_never = refl
+none_between : NoneBetween
+none_between = search rules

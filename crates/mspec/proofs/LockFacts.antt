@@ -12,6 +12,7 @@ use Rattle.mspec.specs.LockConflict.{LockName, lock_name_cmp, Locks, held, count
 use Rattle.mspec.specs.LockLaws.{times, CountsGoUp, OthersKeepLocks}
 use Rattle.mspec.proofs.LockOrders.{lock_name_cmp_exact, held_cmp_total, held_cmp_exact}
 use Rattle.mspec.proofs.MapCuts.{equal_of, cut_drops, cut_removed, cut_twice}
+use Rattle.mspec.proofs.Basics.{unopposed}
 
 -- ---- counts
 
@@ -58,13 +59,8 @@ counted_up t [] locks after n e =
 counted_up t (m ∷ names) locks after n e =
     counted_one t m names locks after n (nat_lt (count locks (held t m)) most_counts) (counted_up t names (one_more locks (held t m)) after n) e
 
--- where a list was taken, it was counted
-counted_of : (b : Bool) (o : Option Locks) (after : Locks) → (if b then None else o) ≡ Some after → o ≡ Some after
-counted_of true o after e = absurd (cc)
-counted_of false o after e = e
-
 pub counts_go_up : CountsGoUp
-counts_go_up locks after t names n e = counted_up t names locks after n (counted_of (list_any (λ n. has_conflict locks (held t n)) names) (counted locks t names) after e)
+counts_go_up locks after t names n e = counted_up t names locks after n (unopposed (list_any (λ n. has_conflict locks (held t n)) names) (counted locks t names) after e)
 
 -- ---- other terminals
 
@@ -88,7 +84,7 @@ back_unseen locks t n k false = cut_removed held_cmp_total held_cmp_exact locks 
 
 pub others_keep_locks : (locks : Locks) (terminal : ℕ) → OthersKeepLocks locks terminal
 others_keep_locks locks t = record {
-  taken = λ names after e. counted_unseen t names locks after (counted_of (list_any (λ n. has_conflict locks (held t n)) names) (counted locks t names) after e);
+  taken = λ names after e. counted_unseen t names locks after (unopposed (list_any (λ n. has_conflict locks (held t n)) names) (counted locks t names) after e);
   given_back = λ n. back_unseen locks t n (count locks (held t n) - 1) (nat_lt 1 (count locks (held t n)));
   released = cut_twice held_cmp_total held_cmp_exact locks (λ h. not (nat_eq h.terminal t));
 }

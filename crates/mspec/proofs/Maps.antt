@@ -37,10 +37,6 @@ module _ {K X V : Type 0} {R : K → K → Ordering} (total : IsTotalOrder R) (v
   pub insert-map_of : IsAntisymmetric R → (m n : BTreeMap K X) (k : K) (x : X) → tree.Updates R m n k (Some x) → map_of {R = R} view n ≡ insert (map_of view m) k (view x)
   insert-map_of exact m n k x u = same_map total exact _ _ (λ q. updated m n k (Some x) u q ∙ ap (λ b. cond b (Some (view x)) (get (map_of {R = R} view m) q)) ((eq_by_cmp_equiv total).symm k q) ∙ sym (get-insert total (map_of view m) k (view x) q))
 
-  -- what is at a key is taken away
-  pub remove-map_of : IsAntisymmetric R → (m n : BTreeMap K X) (k : K) → tree.Updates R m n k None → map_of {R = R} view n ≡ remove (map_of view m) k
-  remove-map_of exact m n k u = same_map total exact _ _ (λ q. updated m n k None u q ∙ ap (λ b. cond b None (get (map_of {R = R} view m) q)) ((eq_by_cmp_equiv total).symm k q) ∙ sym (get-remove total (map_of view m) k q))
-
 -- what is found is what the map has, where values are read as they are
 pub found_is_had : {K X : Type 0} {R : K → K → Ordering} (total : IsTotalOrder R) (m : BTreeMap K X) (q : K) → tree.get R m q ≡ get (map_of {R = R} (λ x. x) m) q
 found_is_had {X = X} {R = R} total m q = sym (get-map_of total (λ x. x) m q ∙ same (tree.get R m q))

@@ -6,13 +6,14 @@ use Rattle.std.specs.Cmp.{IsTotalOrder}
 use Rattle.std.specs.Cmp.Lexicographic.{pointwise, slice_cmp, lists_total, nat_list_cmp_total, bytes_decides}
 use Rattle.std.specs.declared.cmp.Ordering.{Ordering}
 use Rattle.std.specs.declared.cmp.Ordering.TheVariants.{Less, Equal, Greater}
-use Rattle.std.specs.FinMap.{IsAntisymmetric, nat_cmp-IsAntisymmetric, int_cmp-IsAntisymmetric, slice_cmp-IsAntisymmetric}
+use Rattle.std.specs.FinMap.{IsAntisymmetric, int_cmp-IsAntisymmetric, slice_cmp-IsAntisymmetric}
 use Rattle.std.specs.Ordering.{nat_cmp, int_cmp, on, then_cmp, ordering_then}
 use Rattle.std.proofs.lemmas.Cmp.{nat_cmp_total, int_cmp_total, on_total, then_total}
 use Rattle.mspec.specs.Act.{Text, Node}
 use Rattle.mspec.specs.NumberText.{numeric_value, number_text, IsCanonical}
 use Rattle.mspec.specs.NodeOrder.{where_text, canonical_value, Place, Empty, Numeric, Other, place_by, place, place_cmp, text_cmp, subscripts_cmp, node_cmp}
 use Rattle.mspec.specs.KeyLaws.{CanonicalValueIsTold, NodesAreOrdered}
+use Rattle.mspec.proofs.Basics.{texts_exact}
 
 -- ---- the canonical value
 
@@ -90,9 +91,6 @@ place_cmp_total =
     subst IsTotalOrder (λ i p q. same_parts p q i)
     (then_total (on_total rank nat_cmp_total) (then_total (on_total value int_cmp_total) (on_total letters nat_list_cmp_total)))
 
-bytes_exact : IsAntisymmetric (slice_cmp nat_cmp)
-bytes_exact = slice_cmp-IsAntisymmetric nat_cmp-IsAntisymmetric
-
 place_cmp_exact : IsAntisymmetric place_cmp
 place_cmp_exact Empty Empty e = refl
 place_cmp_exact Empty (Numeric v) e = absurd (cc)
@@ -102,7 +100,7 @@ place_cmp_exact (Numeric u) (Numeric v) e = ap Numeric (int_cmp-IsAntisymmetric 
 place_cmp_exact (Numeric u) (Other t) e = absurd (cc)
 place_cmp_exact (Other s) Empty e = absurd (cc)
 place_cmp_exact (Other s) (Numeric v) e = absurd (cc)
-place_cmp_exact (Other s) (Other t) e = ap Other (bytes_exact s t e)
+place_cmp_exact (Other s) (Other t) e = ap Other (texts_exact s t e)
 
 -- the text at a place
 abbrev text_at : Place → Text
@@ -152,7 +150,7 @@ pub node_cmp_exact : (kept : ℕ) → IsAntisymmetric (node_cmp kept)
 node_cmp_exact kept a b e =
     let first = both_Equal (slice_cmp nat_cmp a.account b.account) _ e in
     let rest = both_Equal (slice_cmp nat_cmp a.name b.name) _ first.1 in
-    same_node a b (bytes_exact a.account b.account first.0) (bytes_exact a.name b.name rest.0) (subscripts_cmp_exact kept a.subscripts b.subscripts rest.1)
+    same_node a b (texts_exact a.account b.account first.0) (texts_exact a.name b.name rest.0) (subscripts_cmp_exact kept a.subscripts b.subscripts rest.1)
 
 pub nodes_are_ordered : NodesAreOrdered
 nodes_are_ordered kept = (

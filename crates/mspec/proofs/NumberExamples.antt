@@ -1,14 +1,14 @@
 -- SPDX-License-Identifier: Apache-2.0
 -- The definitions of numbers on examples, as proved equations.
-use Rattle.std.proofs.Common.{◌≡◌, ℕ, ◌+◌, ◌*◌, ◌^◌, ◌≤◌, List, ◌∷◌, refl, Some, None, ◌∙◌, ap, arith, lit≤}
+use Rattle.std.proofs.Common.{◌≡◌, ℕ, ◌+◌, ◌*◌, ◌^◌, ◌≤◌, List, ◌∷◌, Some, None, ◌∙◌, ap, arith, lit≤, rules}
 use Rattle.std.proofs.Math.Nat.{pow-le-pow_right, zero-mul}
 use Rattle.std.specs.Prelude.{ℤ, pos, false, codes, Option, option_map, option_and_then, cond}
-use Rattle.std.specs.Fmt.{digits}
-use Rattle.mspec.specs.Number.{round, round_size, nearest, rounding_unit, digits_before, significant_digits, signed, sum_of, product_of, quotient_of, whole_quotient_of, remainder_of}
+use Rattle.mspec.specs.Number.{round, round_size, significant_digits, signed, sum_of, product_of, quotient_of, whole_quotient_of, remainder_of}
 use Rattle.mspec.specs.Literal.{digits_after}
 use Rattle.mspec.specs.NumberText.{front_digits, signed_digits, numeric_value, literal_size, number_text, size_text}
 use Rattle.mspec.proofs.Powers.{ten_pos}
 use Rattle.mspec.proofs.Rounding.{round_zero, round_small}
+use Rattle.mspec.proofs.ComputedNumbers.{computes}
 
 -- a text's value, as its canonical text
 abbrev value : List ℕ → Option (List ℕ)
@@ -20,214 +20,102 @@ computed f a b =
     option_and_then (λ x. option_and_then (λ y. option_map number_text (f x y)) (numeric_value significant_digits b)) (numeric_value significant_digits a)
 
 -- division and remainder
+record Division : Type 0 where
+  two_thirds : computed quotient_of (codes "2") (codes "3") ≡ Some (codes ".666666666666666667")
+  minus_seven_by_two : computed whole_quotient_of (codes "-7") (codes "2") ≡ Some (codes "-3")
+  minus_seven_modulo_three : computed remainder_of (codes "-7") (codes "3") ≡ Some (codes "2")
+  seven_modulo_minus_three : computed remainder_of (codes "7") (codes "-3") ≡ Some (codes "-2")
+  remainder_of_fractions : computed remainder_of (codes "5.5") (codes "-2") ≡ Some (codes "-.5")
+  remainder_rounded_to_the_divisor_s_edge : computed remainder_of (codes "-1E-18") (codes "1") ≡ Some (codes ".999999999999999999")
+  whole_quotient_too_large : computed whole_quotient_of (codes "1E17") (codes ".1") ≡ None
+  quotient_of_halves : computed quotient_of (codes "-1") (codes "8") ≡ Some (codes "-.125")
 
-two_thirds : computed quotient_of (codes "2") (codes "3") ≡ Some (codes ".666666666666666667")
-unfolding numeric_value literal_size round round_size nearest rounding_unit digits_before size_text digits
-two_thirds = refl
-
-minus_seven_by_two : computed whole_quotient_of (codes "-7") (codes "2") ≡ Some (codes "-3")
-unfolding numeric_value literal_size round round_size nearest rounding_unit digits_before size_text digits
-minus_seven_by_two = refl
-
-minus_seven_modulo_three : computed remainder_of (codes "-7") (codes "3") ≡ Some (codes "2")
-unfolding numeric_value literal_size round round_size nearest rounding_unit digits_before size_text digits
-minus_seven_modulo_three = refl
-
-seven_modulo_minus_three : computed remainder_of (codes "7") (codes "-3") ≡ Some (codes "-2")
-unfolding numeric_value literal_size round round_size nearest rounding_unit digits_before size_text digits
-seven_modulo_minus_three = refl
-
-remainder_of_fractions : computed remainder_of (codes "5.5") (codes "-2") ≡ Some (codes "-.5")
-unfolding numeric_value literal_size round round_size nearest rounding_unit digits_before size_text digits
-remainder_of_fractions = refl
-
-remainder_rounded_to_the_divisor_s_edge : computed remainder_of (codes "-1E-18") (codes "1") ≡ Some (codes ".999999999999999999")
-unfolding numeric_value literal_size round round_size nearest rounding_unit digits_before size_text digits
-remainder_rounded_to_the_divisor_s_edge = refl
-
-whole_quotient_too_large : computed whole_quotient_of (codes "1E17") (codes ".1") ≡ None
-unfolding numeric_value literal_size round round_size nearest rounding_unit digits_before size_text digits
-whole_quotient_too_large = refl
-
-quotient_of_halves : computed quotient_of (codes "-1") (codes "8") ≡ Some (codes "-.125")
-unfolding numeric_value literal_size round round_size nearest rounding_unit digits_before size_text digits
-quotient_of_halves = refl
+division : Division
+unfolding computes
+division = search rules
 
 -- numeric values
+record Values : Type 0 where
+  signs_and_head : value (codes "--3X") ≡ Some (codes "3")
+  raised : value (codes "1E3") ≡ Some (codes "1000")
+  lowered : value (codes "25E-1") ≡ Some (codes "2.5")
+  point_without_a_digit : value (codes "1.E5") ≡ Some (codes "1")
+  mark_without_a_digit : value (codes "1E") ≡ Some (codes "1")
+  mark_and_sign_without_a_digit : value (codes "1E+") ≡ Some (codes "1")
+  no_digit_before_the_mark : value (codes ".E1") ≡ Some (codes "0")
+  signs_in_turn : value (codes "+-+3") ≡ Some (codes "-3")
+  small_mark : value (codes "1e3") ≡ Some (codes "1")
+  empty : value (codes "") ≡ Some (codes "0")
+  no_literal : value (codes "ABC") ≡ Some (codes "0")
+  sign_alone : value (codes "-") ≡ Some (codes "0")
+  zeros_on_both_sides : value (codes "-00012.3400") ≡ Some (codes "-12.34")
+  minus_zero : value (codes "-0") ≡ Some (codes "0")
+  half : value (codes "0.50") ≡ Some (codes ".5")
+  large_power : value (codes "1E17") ≡ Some (codes "100000000000000000")
+  too_large : value (codes "1E18") ≡ None
+  too_large_below_zero : value (codes "-1E30") ≡ None
 
-signs_and_head : value (codes "--3X") ≡ Some (codes "3")
-unfolding numeric_value literal_size round round_size nearest rounding_unit digits_before size_text digits
-signs_and_head = refl
-
-raised : value (codes "1E3") ≡ Some (codes "1000")
-unfolding numeric_value literal_size round round_size nearest rounding_unit digits_before size_text digits
-raised = refl
-
-lowered : value (codes "25E-1") ≡ Some (codes "2.5")
-unfolding numeric_value literal_size round round_size nearest rounding_unit digits_before size_text digits
-lowered = refl
-
-point_without_a_digit : value (codes "1.E5") ≡ Some (codes "1")
-unfolding numeric_value literal_size round round_size nearest rounding_unit digits_before size_text digits
-point_without_a_digit = refl
-
-mark_without_a_digit : value (codes "1E") ≡ Some (codes "1")
-unfolding numeric_value literal_size round round_size nearest rounding_unit digits_before size_text digits
-mark_without_a_digit = refl
-
-mark_and_sign_without_a_digit : value (codes "1E+") ≡ Some (codes "1")
-unfolding numeric_value literal_size round round_size nearest rounding_unit digits_before size_text digits
-mark_and_sign_without_a_digit = refl
-
-no_digit_before_the_mark : value (codes ".E1") ≡ Some (codes "0")
-unfolding numeric_value literal_size round round_size nearest rounding_unit digits_before size_text digits
-no_digit_before_the_mark = refl
-
-signs_in_turn : value (codes "+-+3") ≡ Some (codes "-3")
-unfolding numeric_value literal_size round round_size nearest rounding_unit digits_before size_text digits
-signs_in_turn = refl
-
-small_mark : value (codes "1e3") ≡ Some (codes "1")
-unfolding numeric_value literal_size round round_size nearest rounding_unit digits_before size_text digits
-small_mark = refl
-
-empty : value (codes "") ≡ Some (codes "0")
-unfolding numeric_value literal_size round round_size nearest rounding_unit digits_before size_text digits
-empty = refl
-
-no_literal : value (codes "ABC") ≡ Some (codes "0")
-unfolding numeric_value literal_size round round_size nearest rounding_unit digits_before size_text digits
-no_literal = refl
-
-sign_alone : value (codes "-") ≡ Some (codes "0")
-unfolding numeric_value literal_size round round_size nearest rounding_unit digits_before size_text digits
-sign_alone = refl
-
-zeros_on_both_sides : value (codes "-00012.3400") ≡ Some (codes "-12.34")
-unfolding numeric_value literal_size round round_size nearest rounding_unit digits_before size_text digits
-zeros_on_both_sides = refl
-
-minus_zero : value (codes "-0") ≡ Some (codes "0")
-unfolding numeric_value literal_size round round_size nearest rounding_unit digits_before size_text digits
-minus_zero = refl
-
-half : value (codes "0.50") ≡ Some (codes ".5")
-unfolding numeric_value literal_size round round_size nearest rounding_unit digits_before size_text digits
-half = refl
-
-large_power : value (codes "1E17") ≡ Some (codes "100000000000000000")
-unfolding numeric_value literal_size round round_size nearest rounding_unit digits_before size_text digits
-large_power = refl
-
-too_large : value (codes "1E18") ≡ None
-unfolding numeric_value literal_size round round_size nearest rounding_unit digits_before size_text digits
-too_large = refl
-
-too_large_below_zero : value (codes "-1E30") ≡ None
-unfolding numeric_value literal_size round round_size nearest rounding_unit digits_before size_text digits
-too_large_below_zero = refl
+values : Values
+unfolding computes
+values = search rules
 
 -- rounding and overflow
+record Rounding : Type 0 where
+  sixteen_digits : computed sum_of (codes "999999999999999") (codes "1") ≡ Some (codes "1000000000000000")
+  sixteen_digits_read : value (codes "1234567890123456") ≡ Some (codes "1234567890123456")
+  product_too_large : computed product_of (codes "999999999999999") (codes "10000") ≡ None
+  eighteen_digits_read : value (codes "12.34567890123456785") ≡ Some (codes "12.3456789012345679")
+  sum_too_large : computed sum_of (codes "999999999999999999") (codes "1") ≡ None
+  sum_below_zero_too_large : computed sum_of (codes "-999999999999999999") (codes "-1") ≡ None
+  sum_within : computed sum_of (codes "999999999999999999") (codes "-1") ≡ Some (codes "999999999999999998")
+  product_rounded : computed product_of (codes "1.00000000000000001") (codes "1.00000000000000001") ≡ Some (codes "1.00000000000000002")
 
-sixteen_digits : computed sum_of (codes "999999999999999") (codes "1") ≡ Some (codes "1000000000000000")
-unfolding numeric_value literal_size round round_size nearest rounding_unit digits_before size_text digits
-sixteen_digits = refl
-
-sixteen_digits_read : value (codes "1234567890123456") ≡ Some (codes "1234567890123456")
-unfolding numeric_value literal_size round round_size nearest rounding_unit digits_before size_text digits
-sixteen_digits_read = refl
-
-product_too_large : computed product_of (codes "999999999999999") (codes "10000") ≡ None
-unfolding numeric_value literal_size round round_size nearest rounding_unit digits_before size_text digits
-product_too_large = refl
-
-eighteen_digits_read : value (codes "12.34567890123456785") ≡ Some (codes "12.3456789012345679")
-unfolding numeric_value literal_size round round_size nearest rounding_unit digits_before size_text digits
-eighteen_digits_read = refl
-
-sum_too_large : computed sum_of (codes "999999999999999999") (codes "1") ≡ None
-unfolding numeric_value literal_size round round_size nearest rounding_unit digits_before size_text digits
-sum_too_large = refl
-
-sum_below_zero_too_large : computed sum_of (codes "-999999999999999999") (codes "-1") ≡ None
-unfolding numeric_value literal_size round round_size nearest rounding_unit digits_before size_text digits
-sum_below_zero_too_large = refl
-
-sum_within : computed sum_of (codes "999999999999999999") (codes "-1") ≡ Some (codes "999999999999999998")
-unfolding numeric_value literal_size round round_size nearest rounding_unit digits_before size_text digits
-sum_within = refl
-
-product_rounded : computed product_of (codes "1.00000000000000001") (codes "1.00000000000000001") ≡ Some (codes "1.00000000000000002")
-unfolding numeric_value literal_size round round_size nearest rounding_unit digits_before size_text digits
-product_rounded = refl
+rounding : Rounding
+unfolding computes
+rounding = search rules
 
 -- ties at the last place go away from zero, at both signs
+record Ties : Type 0 where
+  tie_up : value (codes "123456789012345678.5") ≡ Some (codes "123456789012345679")
+  tie_down : value (codes "-123456789012345678.5") ≡ Some (codes "-123456789012345679")
+  below_the_tie : value (codes "123456789012345678.49999") ≡ Some (codes "123456789012345678")
+  tie_behind_the_point : value (codes "1.234567890123456785") ≡ Some (codes "1.23456789012345679")
+  tie_behind_the_point_below_zero : value (codes "-1.234567890123456785") ≡ Some (codes "-1.23456789012345679")
 
-tie_up : value (codes "123456789012345678.5") ≡ Some (codes "123456789012345679")
-unfolding numeric_value literal_size round round_size nearest rounding_unit digits_before size_text digits
-tie_up = refl
-
-tie_down : value (codes "-123456789012345678.5") ≡ Some (codes "-123456789012345679")
-unfolding numeric_value literal_size round round_size nearest rounding_unit digits_before size_text digits
-tie_down = refl
-
-below_the_tie : value (codes "123456789012345678.49999") ≡ Some (codes "123456789012345678")
-unfolding numeric_value literal_size round round_size nearest rounding_unit digits_before size_text digits
-below_the_tie = refl
-
-tie_behind_the_point : value (codes "1.234567890123456785") ≡ Some (codes "1.23456789012345679")
-unfolding numeric_value literal_size round round_size nearest rounding_unit digits_before size_text digits
-tie_behind_the_point = refl
-
-tie_behind_the_point_below_zero : value (codes "-1.234567890123456785") ≡ Some (codes "-1.23456789012345679")
-unfolding numeric_value literal_size round round_size nearest rounding_unit digits_before size_text digits
-tie_behind_the_point_below_zero = refl
+ties : Ties
+unfolding computes
+ties = search rules
 
 -- at 10 ^ 18
+record Largest : Type 0 where
+  tie_at_the_end : value (codes "999999999999999999.5") ≡ None
+  tie_at_the_other_end : value (codes "-999999999999999999.5") ≡ None
+  below_the_end : value (codes "999999999999999999.4") ≡ Some (codes "999999999999999999")
 
-tie_at_the_end : value (codes "999999999999999999.5") ≡ None
-unfolding numeric_value literal_size round round_size nearest rounding_unit digits_before size_text digits
-tie_at_the_end = refl
-
-tie_at_the_other_end : value (codes "-999999999999999999.5") ≡ None
-unfolding numeric_value literal_size round round_size nearest rounding_unit digits_before size_text digits
-tie_at_the_other_end = refl
-
-below_the_end : value (codes "999999999999999999.4") ≡ Some (codes "999999999999999999")
-unfolding numeric_value literal_size round round_size nearest rounding_unit digits_before size_text digits
-below_the_end = refl
+largest : Largest
+unfolding computes
+largest = search rules
 
 -- at 10 ^ -18
+record Smallest : Type 0 where
+  tie_at_the_unit : value (codes "5E-19") ≡ Some (codes ".000000000000000001")
+  tie_at_the_unit_below_zero : value (codes "-5E-19") ≡ Some (codes "-.000000000000000001")
+  below_the_tie_at_the_unit : value (codes "4E-19") ≡ Some (codes "0")
+  unit_divided : computed quotient_of (codes ".000000000000000001") (codes "2") ≡ Some (codes ".000000000000000001")
+  unit_divided_further : computed quotient_of (codes ".000000000000000001") (codes "3") ≡ Some (codes "0")
 
-tie_at_the_unit : value (codes "5E-19") ≡ Some (codes ".000000000000000001")
-unfolding numeric_value literal_size round round_size nearest rounding_unit digits_before size_text digits
-tie_at_the_unit = refl
-
-tie_at_the_unit_below_zero : value (codes "-5E-19") ≡ Some (codes "-.000000000000000001")
-unfolding numeric_value literal_size round round_size nearest rounding_unit digits_before size_text digits
-tie_at_the_unit_below_zero = refl
-
-below_the_tie_at_the_unit : value (codes "4E-19") ≡ Some (codes "0")
-unfolding numeric_value literal_size round round_size nearest rounding_unit digits_before size_text digits
-below_the_tie_at_the_unit = refl
-
-unit_divided : computed quotient_of (codes ".000000000000000001") (codes "2") ≡ Some (codes ".000000000000000001")
-unfolding numeric_value literal_size round round_size nearest rounding_unit digits_before size_text digits
-unit_divided = refl
-
-unit_divided_further : computed quotient_of (codes ".000000000000000001") (codes "3") ≡ Some (codes "0")
-unfolding numeric_value literal_size round round_size nearest rounding_unit digits_before size_text digits
-unit_divided_further = refl
+smallest : Smallest
+unfolding computes
+smallest = search rules
 
 -- by fifteen digits
+record ByFifteen : Type 0 where
+  two_thirds_by_fifteen : option_map number_text (round 15 (pos 2) 3) ≡ Some (codes ".666666666666667")
+  sixteen_digits_by_fifteen : option_map number_text (numeric_value 15 (codes "1234567890123456")) ≡ Some (codes "1234567890123460")
 
-two_thirds_by_fifteen : option_map number_text (round 15 (pos 2) 3) ≡ Some (codes ".666666666666667")
-unfolding numeric_value literal_size round round_size nearest rounding_unit digits_before size_text digits
-two_thirds_by_fifteen = refl
-
-sixteen_digits_by_fifteen : option_map number_text (numeric_value 15 (codes "1234567890123456")) ≡ Some (codes "1234567890123460")
-unfolding numeric_value literal_size round round_size nearest rounding_unit digits_before size_text digits
-sixteen_digits_by_fifteen = refl
+by_fifteen : ByFifteen
+unfolding computes
+by_fifteen = search rules
 
 -- exponents that nothing computes: whatever digits follow, 0 stays 0
 zero_raised : (s : List ℕ) → literal_size significant_digits (48 ∷ 69 ∷ s) ≡ Some 0

@@ -1,6 +1,6 @@
 -- SPDX-License-Identifier: Apache-2.0
 -- The definition of pattern match on examples.
-use Rattle.std.proofs.Common.{◌≡◌, ◌+◌, ℕ, zero, suc, List, [], ◌∷◌, refl, ap, sym, subst, get_or, arith, true, if◌then◌else◌}
+use Rattle.std.proofs.Common.{◌≡◌, ◌+◌, ℕ, zero, suc, List, [], ◌∷◌, refl, ap, sym, subst, get_or, arith, true, if◌then◌else◌, rules}
 use Rattle.std.specs.Prelude.{codes, Some, None}
 use Rattle.mspec.specs.Pattern.{PatternCode, letter, control, upper, numeral, everything, lower, punctuation, Atom, members, copies, is_in, is_in_any, Matches}
 
@@ -77,23 +77,14 @@ abbrev members_below : PatternCode → ℕ → ℕ
 members_below code zero = 0
 members_below code (suc n) = members_below code n + (if is_in code n then 1 else 0)
 
-letters_are_52 : members_below letter 256 ≡ 52
-letters_are_52 = refl
+record MembersCounted : Type 0 where
+  letters_are_52 : members_below letter 256 ≡ 52
+  controls_are_33 : members_below control 256 ≡ 33
+  all_are_128 : members_below everything 256 ≡ 128
+  lower_letters_are_26 : members_below lower 256 ≡ 26
+  digits_are_10 : members_below numeral 256 ≡ 10
+  others_are_33 : members_below punctuation 256 ≡ 33
+  upper_letters_are_26 : members_below upper 256 ≡ 26
 
-controls_are_33 : members_below control 256 ≡ 33
-controls_are_33 = refl
-
-all_are_128 : members_below everything 256 ≡ 128
-all_are_128 = refl
-
-lower_letters_are_26 : members_below lower 256 ≡ 26
-lower_letters_are_26 = refl
-
-digits_are_10 : members_below numeral 256 ≡ 10
-digits_are_10 = refl
-
-others_are_33 : members_below punctuation 256 ≡ 33
-others_are_33 = refl
-
-upper_letters_are_26 : members_below upper 256 ≡ 26
-upper_letters_are_26 = refl
+members_counted : MembersCounted
+members_counted = search rules

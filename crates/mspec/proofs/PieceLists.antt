@@ -1,10 +1,10 @@
 -- SPDX-License-Identifier: Apache-2.0
 -- A text has one list of pieces, and the leftmost cut gives it.
 use Rattle.std.proofs.Common.{◌≡◌, ◌≢◌, ℕ, zero, suc, ◌-◌, ◌≤◌, ◌<◌, Bool, true, false, List, [], ◌∷◌, ◌++◌, length, drop, refl, sym, ap, subst, ◌∙◌, ◌⊎◌, inl, inr, arith}
-use Rattle.std.specs.Prelude.{cond, ◌&&◌}
+use Rattle.std.specs.Prelude.{cond}
 use Rattle.std.specs.List.{onto_first}
 use Rattle.std.proofs.Common.{eqb}
-use Rattle.std.proofs.lemmas.Bool.{eqb-true, eq-eqb, cases_lt}
+use Rattle.std.proofs.lemmas.Bool.{and_parts, eqb-true, eq-eqb, cases_lt}
 use Rattle.std.proofs.lemmas.List.{append_assoc, append_cancel_left, append_cancel_right, append-nil, length-append}
 use Rattle.std.proofs.Math.Seq.{drop-append_seam}
 use Rattle.mspec.specs.Pieces.{join, Lacks, OnlyAtEnd, AreCut, ArePieces, begins_with, cut_after, pieces_of}
@@ -27,15 +27,11 @@ pub nothing_added : (a m : List ℕ) → length (a ++ m) ≤ length a → m ≡ 
 nothing_added a [] le = refl
 nothing_added a (x ∷ m) le = absurd (omega (arith, length-append a (x ∷ m)))
 
-both_true : (a b : Bool) → (a && b) ≡ true → (a ≡ true) × (b ≡ true)
-both_true true b h = (refl, h)
-both_true false b h = absurd cc
-
 pub begins_split : (d s : List ℕ) → begins_with d s ≡ true → (rest : List ℕ) × (s ≡ d ++ rest)
 begins_split [] s yes' = (s, refl)
 begins_split (x ∷ d) [] yes' = absurd cc
 begins_split (x ∷ d) (y ∷ s) yes' =
-    let parts = both_true (eqb x y) (begins_with d s) yes' in
+    let parts = and_parts (eqb x y) (begins_with d s) yes' in
     let same : x ≡ y = eqb-true x y parts.0 in
     let rest = begins_split d s parts.1 in
     (rest.0, cc (rest.1, same))
@@ -76,12 +72,6 @@ same_pieces d (p ∷ p' ∷ ps) (q ∷ q' ∷ qs) at_p at_q same =
     cc
 
 -- ---- the cut gives them
-
--- one character more before the first piece
-join-onto_first : (d : List ℕ) (x : ℕ) (ps : List (List ℕ)) → ps ≢ [] → join d (onto_first x ps) ≡ x ∷ join d ps
-join-onto_first d x [] some = absurd (some refl)
-join-onto_first d x (p ∷ []) some = refl
-join-onto_first d x (p ∷ q ∷ ps) some = refl
 
 -- a text that doesn't begin with d is not d with something after it
 pub not_begun : (d s after : List ℕ) → begins_with d s ≡ false → s ≢ d ++ after

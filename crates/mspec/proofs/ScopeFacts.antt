@@ -3,16 +3,18 @@
 use Rattle.std.proofs.Common.{ℕ, zero, suc, ◌≡◌, Bool, true, false, not, cond, ◌&&◌, ◌||◌, List, [], ◌∷◌, Option, Some, None, refl, sym, ap, ◌∙◌}
 use Rattle.std.specs.Prelude.{unwrap_or}
 use Rattle.std.specs.Cmp.Lexicographic.{slice_cmp, bytes_decides, nat_list_cmp_total}
-use Rattle.std.specs.FinMap.{IsAntisymmetric, get, insert, empty, retain_keys, get-insert, get-retain_keys, nat_cmp-IsAntisymmetric, slice_cmp-IsAntisymmetric}
+use Rattle.std.specs.FinMap.{get, insert, empty, retain_keys, get-insert, get-retain_keys}
 use Rattle.std.specs.List.{filter}
 use Rattle.std.specs.Ordering.{nat_cmp, is_eq}
-use Rattle.std.specs.declared.cmp.Ordering.{Ordering}
-use Rattle.std.specs.declared.cmp.Ordering.TheVariants.{Less, Equal, Greater}
 use Rattle.std.proofs.lemmas.List.Folds.{list_any-append}
+use Rattle.std.proofs.lemmas.Bool.{or_right}
+use Rattle.std.proofs.Math.Bool.{and-true, or-true}
 use Rattle.mspec.specs.Node.{Text}
 use Rattle.mspec.specs.Trees.{Tree, text_eq, without}
 use Rattle.mspec.specs.Scopes.{Scope, Scopes, has, is_among, is_other, tree_in, tree_of, with_tree, at_home, is_bare, kill_in, killed_but, on_top, hide, hide_others, common, without_level}
 use Rattle.mspec.specs.ScopeLaws.{LeavingRestores, TopVariablesStandAlone, NewKeepsBelow, NewHides, NewExceptHides, HiddenVariablesComeBack, Call, Assign, Kill, KillExcept, New, NewExcept, Enter, Leave, after_all, is_nested}
+use Rattle.mspec.proofs.Basics.{texts_exact}
+use Rattle.mspec.proofs.MapCuts.{equal_of}
 
 -- ---- one call
 
@@ -71,9 +73,6 @@ has-hide names s n =
 
 -- ---- trees
 
-names_exact : IsAntisymmetric (slice_cmp nat_cmp)
-names_exact = slice_cmp-IsAntisymmetric nat_cmp-IsAntisymmetric
-
 or_empty : (b : Bool) (o : Option Tree) → unwrap_or (cond b o None) empty ≡ cond b (unwrap_or o empty) empty
 or_empty true o = refl
 or_empty false o = refl
@@ -81,19 +80,14 @@ or_empty false o = refl
 -- the tree of a name, where the trees of names that pass a test are kept
 tree-retain : (s : Scope) (p : Text → Bool) (n : Text) → unwrap_or (get (retain_keys s.trees p) n) empty ≡ cond (p n) (tree_in s n) empty
 tree-retain s p n =
-    ap (λ o. unwrap_or o empty) (get-retain_keys s.trees p n (λ x e. ap p (sym (names_exact n x e)))) ∙ or_empty (p n) (get s.trees n)
-
-is_tied : (o : Ordering) → is_eq o ≡ true → o ≡ Equal
-is_tied Less e = cc
-is_tied Equal e = refl
-is_tied Greater e = cc
+    ap (λ o. unwrap_or o empty) (get-retain_keys s.trees p n (λ x e. ap p (sym (texts_exact n x e)))) ∙ or_empty (p n) (get s.trees n)
 
 other-tree : (m n : Text) (t : Tree) (s : Scope) → (m ≡ n → ⊥) → tree_in (with_tree m t s) n ≡ tree_in s n
 other-tree m n t s other =
     ap (λ o. unwrap_or o empty) (get-insert nat_list_cmp_total s.trees m t n ∙ here (is_eq (slice_cmp nat_cmp n m)) refl)
   where
     here : (b : Bool) → is_eq (slice_cmp nat_cmp n m) ≡ b → cond b (Some t) (get s.trees n) ≡ get s.trees n
-    here true e = absurd (other (sym (names_exact n m (is_tied _ e))))
+    here true e = absurd (other (sym (texts_exact n m (equal_of _ e))))
     here false e = refl
 
 -- a name that is let go of where its tree is bare
@@ -115,10 +109,6 @@ by_both : (a b : Bool) (x y z w : Tree) → a ≡ b → (b ≡ true → x ≡ z)
 by_both a true x y z w e f g = ap (λ c. cond c x y) e ∙ f refl
 by_both a false x y z w e f g = ap (λ c. cond c x y) e ∙ g refl
 
-or_true : (a b : Bool) → b ≡ true → (a || b) ≡ true
-or_true true b e = refl
-or_true false b e = e
-
 or_false : (a b : Bool) → b ≡ false → (a || b) ≡ a
 or_false true b e = refl
 or_false false b e = e
@@ -126,7 +116,7 @@ or_false false b e = e
 pub new_hides : NewHides
 new_hides s below names n = (
   λ among.
-      let mine : has (hide names s) n ≡ true = has-hide names s n ∙ or_true (has s n) (is_among names n) among in
+      let mine : has (hide names s) n ≡ true = has-hide names s n ∙ or_right (has s n) (is_among names n) among in
       ap (λ b. cond b (tree_in (hide names s) n) (tree_of below n)) mine
       ∙ tree-retain s (λ m. not (is_among names m)) n ∙ ap (λ b. cond (not b) (tree_in s n) empty) among,
   λ others.
@@ -135,18 +125,10 @@ new_hides s below names n = (
       (λ _. refl),
 )
 
-and_true : (a : Bool) → (a && true) ≡ a
-and_true true = refl
-and_true false = refl
-
-not_or : (a : Bool) → (a || true) ≡ true
-not_or true = refl
-not_or false = refl
-
 -- of the names in brackets those that the scope had, and of the others all
 others_among : (names : List Text) (o : Option (List Text)) (n : Text) → is_among names n ≡ true → is_other (Some (common names o)) n ≡ is_other o n
 others_among names None n e = ap not e
-others_among names (Some old) n e = ap not (among-filter (is_among old) names n ∙ ap (λ b. is_among old n && b) e ∙ and_true (is_among old n))
+others_among names (Some old) n e = ap not (among-filter (is_among old) names n ∙ ap (λ b. is_among old n && b) e ∙ and-true (is_among old n))
 
 others_else : (names : List Text) (o : Option (List Text)) (n : Text) → is_among names n ≡ false → is_other (Some (common names o)) n ≡ true
 others_else names None n e = ap not e
@@ -155,7 +137,7 @@ others_else names (Some old) n e = ap not (among-filter (is_among old) names n �
 pub new_except_hides : NewExceptHides
 new_except_hides s below names n = (
   λ others.
-      let mine : has (hide_others names s) n ≡ true = ap (λ b. is_among s.names n || b) (others_else names s.others n others) ∙ not_or (is_among s.names n) in
+      let mine : has (hide_others names s) n ≡ true = ap (λ b. is_among s.names n || b) (others_else names s.others n others) ∙ or-true (is_among s.names n) in
       ap (λ b. cond b (tree_in (hide_others names s) n) (tree_of below n)) mine
       ∙ tree-retain s (is_among names) n ∙ ap (λ b. cond b (tree_in s n) empty) others,
   λ among.
@@ -244,7 +226,7 @@ module _ (n : Text) (t : Tree) where
 
   stands-spared : (p : Text → Bool) (d : ℕ) (scopes : Scopes) → Stands n t d scopes → Stands n t d (killed_but p scopes)
   stands-spared p d [] h = h
-  stands-spared p zero (s ∷ scopes) h = (h.0, spared-tree (λ m. p m || has s m) n scopes (or_true (p n) (has s n) h.0) ∙ h.1, spared-some (λ m. p m || has s m) scopes h.2)
+  stands-spared p zero (s ∷ scopes) h = (h.0, spared-tree (λ m. p m || has s m) n scopes (or_right (p n) (has s n) h.0) ∙ h.1, spared-some (λ m. p m || has s m) scopes h.2)
   stands-spared p (suc d) (s ∷ scopes) h = stands-spared (λ m. p m || has s m) d scopes h
 
   stands-top : (f : Scope → Scope) → ((s : Scope) → has s n ≡ true → has (f s) n ≡ true) → (d : ℕ) (scopes : Scopes) → Stands n t d scopes → Stands n t d (on_top f scopes)
@@ -260,7 +242,7 @@ module _ (n : Text) (t : Tree) where
     where
       here : (b : Bool) → is_among names n ≡ b → has (hide_others names s) n ≡ true
       here true among = ap (λ b. is_among s.names n || b) (others_among names s.others n among) ∙ e
-      here false others = ap (λ b. is_among s.names n || b) (others_else names s.others n others) ∙ not_or (is_among s.names n)
+      here false others = ap (λ b. is_among s.names n || b) (others_else names s.others n others) ∙ or-true (is_among s.names n)
 
   left : (d : ℕ) (scopes : Scopes) → Stands n t (suc d) scopes → Stands n t d (without_level scopes)
   left d [] h = h

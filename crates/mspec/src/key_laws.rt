@@ -5,6 +5,7 @@ ghost use Rattle.mspec.specs.KeyLaws.{CanonicalValueIsTold, NodesAreOrdered, Key
 
 /// The canonical value of a text is the number of which it is the canonical text, and it has none exactly where it is no
 /// canonical text.
+#[tactic(auto, using(crate::proofs::NodeOrders::canonical_value_is_told))]
 pub fn canonical_value_is_told()
     ensures { CanonicalValueIsTold }
 {}
@@ -15,11 +16,13 @@ pub fn nodes_are_ordered()
 {}
 
 /// The bytes of keys stand in the order of their nodes.
+#[tactic(auto, using(crate::proofs::KeyOrders::key_order))]
 pub fn keys_keep_order()
     ensures { KeysKeepOrder }
 {}
 
 /// One key belongs to one node.
+#[tactic(auto, using(crate::proofs::KeyRanges::keys_are_injective))]
 pub fn keys_are_injective()
     ensures { KeysAreInjective }
 {}
@@ -40,6 +43,7 @@ pub fn descendants_are_ranges()
 {}
 
 /// The bytes of names with subscripts stand in the order of the names, and then of the subscripts.
+#[tactic(auto, using(crate::proofs::KeyOrders::local_order))]
 pub fn locals_keep_order()
     ensures { LocalsKeepOrder }
 {}

@@ -5,6 +5,7 @@ ghost use Rattle.mspec.specs.LockConflict.{Locks};
 ghost use Rattle.mspec.specs.LockLaws.{CountsGoUp, OthersKeepLocks};
 
 /// Taking a list raises each count by the number of times that its name stands in the list.
+#[tactic(auto, using(crate::proofs::LockFacts::counts_go_up))]
 pub fn counts_go_up()
     ensures { CountsGoUp }
 {}

@@ -5,21 +5,25 @@ ghost use Rattle.mspec.specs.NumberLaws.{RoundingIsNearest, EachHasDigits, Neare
 
 /// A fraction with d digits before its point is rounded to the multiple of 10^(d - kept), and of 10^-18 at the least, that
 /// is nearest, of two the one larger in size; there is no number exactly where the fraction or the multiple reaches 10^18.
+#[tactic(auto, using(crate::proofs::DistanceLaws::rounding_is_nearest))]
 pub fn rounding_is_nearest()
     ensures { RoundingIsNearest }
 {}
 
 /// Each fraction but 0 has such a d.
+#[tactic(auto, using(crate::proofs::DistanceLaws::each_has_digits))]
 pub fn each_has_digits()
     ensures { EachHasDigits }
 {}
 
 /// There is one such multiple.
+#[tactic(auto, using(crate::proofs::DistanceLaws::nearest_is_unique))]
 pub fn nearest_is_unique()
     ensures { NearestIsUnique }
 {}
 
 /// 0 is rounded to 0.
+#[tactic(auto, using(crate::proofs::NearestLaws::zero_rounds_to_zero))]
 pub fn zero_rounds_to_zero()
     ensures { ZeroRoundsToZero }
 {}
@@ -30,22 +34,26 @@ pub fn rounded_is_number()
 {}
 
 /// A number is rounded to itself.
+#[tactic(auto, using(crate::proofs::NearestLaws::number_rounds_to_itself))]
 pub fn number_rounds_to_itself()
     ensures { NumberRoundsToItself }
 {}
 
 /// A text without signs is read as the longest literal of the grammar that it begins with, or as 0 where it begins with
 /// none.
+#[tactic(auto, using(crate::proofs::LongestLiteral::reads_longest_literal))]
 pub fn reads_longest_literal()
     ensures { ReadsLongestLiteral }
 {}
 
 /// The numeric value of the text of a number is that number.
+#[tactic(auto, using(crate::proofs::TextLaws::text_has_value))]
 pub fn text_has_value()
     ensures { TextHasValue }
 {}
 
 /// A canonical text is the text of its value, so each number has one.
+#[tactic(auto, using(crate::proofs::TextLaws::canonical_is_text))]
 pub fn canonical_is_text()
     ensures { CanonicalIsText }
 {}
@@ -56,6 +64,7 @@ pub fn text_has_canonical_form()
 {}
 
 /// No two literals of that form have one value, so the text of a number is the only one of that form with its value.
+#[tactic(auto, using(crate::proofs::CanonicalForm::plain_literal_is_unique))]
 pub fn plain_literal_is_unique()
     ensures { PlainLiteralIsUnique }
 {}

@@ -9,6 +9,7 @@ pub fn one_list()
 {}
 
 /// `first_place` gives the first place at which a text stands in another, and none where it stands nowhere.
+#[tactic(auto, using(crate::proofs::FirstPlaces::first_place_stands))]
 pub fn first_place()
     ensures { FirstPlace }
 {}

@@ -1,0 +1,44 @@
+-- SPDX-License-Identifier: Apache-2.0
+-- Trees written shortly, and what examples say of texts: that they have a tree, or none.
+use Rattle.std.proofs.Common.{◌≡◌, ℕ, List, [], ◌∷◌, Some, None, map}
+use Rattle.std.specs.Prelude.{codes}
+use Rattle.mgrammar.specs.Grammar.{OperandTree, operand, PrimaryTree, ExprTree, expr, no_steps, number, ReferenceTree, local, no_exprs, KeywordTree, ArgTree, CommandTree, SpacedTree, LineTree, spell}
+use Rattle.mgrammar.specs.Reading.{line_at}
+
+-- the text has this tree
+abbrev pub IsRead : List ℕ → LineTree → Type 0
+IsRead t l = (spell l ≡ t) × (line_at t ≡ Some l)
+
+-- nothing is read of the texts: they have no tree (`no_tree` of ReadingLines)
+abbrev pub HaveNone : List (List ℕ) → Type 0
+HaveNone ts = map line_at ts ≡ map (λ t. None) ts
+
+-- with no signs in front
+abbrev pub plain : PrimaryTree → OperandTree
+plain p = operand [] p
+
+abbrev pub only : PrimaryTree → ExprTree
+only p = expr (plain p) no_steps
+
+-- the number 1
+abbrev pub the_one : ExprTree
+the_one = only (number (codes "1"))
+
+-- a variable without subscripts
+abbrev pub named : List ℕ → ReferenceTree
+named name = local name no_exprs
+
+abbrev pub command : KeywordTree → List ℕ → List ArgTree → CommandTree
+command k word args = record { keyword = k; word = word; condition = None; args = args }
+
+-- with a postconditional
+abbrev pub conditional : KeywordTree → List ℕ → ExprTree → List ArgTree → CommandTree
+conditional k word e args = record { keyword = k; word = word; condition = Some e; args = args }
+
+-- a line of these commands, with the spaces behind each
+abbrev pub of_commands : List SpacedTree → LineTree
+of_commands cs = record { lead = 0; commands = cs; comment = None }
+
+-- a line of one command
+abbrev pub of_one : KeywordTree → List ℕ → List ArgTree → LineTree
+of_one k word args = of_commands ((command k word args, 0) ∷ [])

@@ -1,0 +1,28 @@
+-- SPDX-License-Identifier: Apache-2.0
+-- The words of examples, one name for what they unfold, and one for the rules by which `simp` runs lines.
+pub use Rattle.std.proofs.Common.{◌≡◌, List, [], ◌∷◌, Some, None, true, false, refl}
+pub use Rattle.std.specs.Prelude.{codes}
+pub use Rattle.std.specs.FinMap.{empty, gets}
+pub use Rattle.mspec.specs.Globals.{Globals}
+pub use Rattle.mspec.specs.Act.{Text}
+pub use Rattle.mmeaning.specs.Step.{new_session}
+pub use Rattle.mmeaning.specs.History.{opening}
+pub use Rattle.mmeaning.proofs.ExampleAccount.{account, with_steps, done, failed}
+pub use Rattle.mmeaning.proofs.LineRuns.{AreAnswered, Answered, AreAnsweredEach, Each, serving, holding, at_first, at_last, at_case, no_more}
+pub use Rattle.mmeaning.proofs.RoutineRuns.{lines_in, asked, serving_in, holding_in, With, WithSteps, Anywhere, computed_operations}
+use Rattle.std.specs.Prelude.{Bool}
+use Rattle.mspec.specs.Act.{no_locals, level_begun, value_of, assigned_to}
+use Rattle.mspec.specs.NodeOrder.{canonical_value}
+use Rattle.mspec.specs.Pieces.{pieces_of}
+use Rattle.mspec.specs.TextFunctions.{first_place, with_piece}
+use Rattle.mspec.proofs.ComputedMaps.{computed_maps}
+use Rattle.mspec.proofs.ComputedNumbers.{computed_numbers}
+use Rattle.mgrammar.proofs.Computing.{reads}
+use Rattle.mmeaning.proofs.RoutineRuns.{computed_levels}
+
+-- its own line names them
+unfoldable pub runs : Bool
+unfolding reads assigned_to canonical_value first_place level_begun no_locals pieces_of value_of with_piece
+runs = true
+
+pub ruleset running = (computed_levels, gets, computed_maps, computed_numbers)

@@ -14,6 +14,7 @@ use crate::bounds::{bounds, key_of};
 use mkey::{Data, Direction, NodeKey, front};
 use mnum::Bytes7;
 use mstore::{NodeStore, StoreFault};
+use mvalue::Value;
 use std::alloc::Global;
 
 /// Whether a node has a text, and whether a node below it has one.
@@ -52,7 +53,7 @@ fn nearest<S: NodeStore>(
 }
 
 /// The subscript next to the last one, of those in its place at which there is a text or a node below. An empty last subscript begins
-/// the walk, at the first or from the last, and none ends it.
+/// the walk, at the first or from the last, and none ends it. One that is a number is given as a number.
 ///
 /// # Errors
 ///
@@ -61,11 +62,11 @@ fn nearest<S: NodeStore>(
 pub fn neighbour<S: NodeStore>(
     store: &mut S,
     alloc: Global,
-    account: &Bytes7,
+    account: &[u8],
     name: &Bytes7,
-    subs: &[Bytes7],
+    subs: &[Value],
     direction: Direction,
-) -> Result<Option<Bytes7>, StoreFault>
+) -> Result<Option<Value>, StoreFault>
     requires account { IsAccountName account.now }
     requires name { IsName name.now }
     requires subs { AreOrderSubscripts subs.now }

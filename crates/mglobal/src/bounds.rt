@@ -10,14 +10,15 @@ ghost use Rattle.mspec.specs.Trees.{front, last, AreOrderSubscripts};
 use mkey::{Direction, KeyFault, NodeKey, last};
 use mnum::Bytes7;
 use mstore::StoreFault;
+use mvalue::Value;
 use std::alloc::Global;
 
 // The key of a node whose subscripts are those of a node.
 pub fn key_of(
     alloc: Global,
-    account: &Bytes7,
+    account: &[u8],
     name: &Bytes7,
-    subs: &[Bytes7],
+    subs: &[Value],
 ) -> Result<NodeKey, StoreFault>
     requires account { IsAccountName account.now }
     requires name { IsName name.now }
@@ -25,7 +26,7 @@ pub fn key_of(
     ensures key { IfOk result (λ key. key ≡ record { account = account.now; name = name.now; subscripts = subs.now }) }
     ensures store { result ≢ Err StoreFault.Store }
 {
-    match NodeKey::build(alloc, account, name, subs) {
+    match NodeKey::build_values(alloc, account, name, subs) {
         Ok(key) => Ok(key),
         Err(KeyFault::Memory) => Err(StoreFault::Memory),
         Err(KeyFault::Sub) => unreachable!(),
@@ -36,9 +37,9 @@ pub fn key_of(
 // all that stands below the present subscript.
 pub fn bounds(
     alloc: Global,
-    account: &Bytes7,
+    account: &[u8],
     name: &Bytes7,
-    subs: &[Bytes7],
+    subs: &[Value],
     direction: Direction,
     above: &NodeKey,
 ) -> Result<(Vec<u8>, Vec<u8>), StoreFault>
@@ -49,13 +50,21 @@ pub fn bounds(
     ensures bounds { IfOk result (λ bounds. BoundsOnward (way direction) above.now (last subs.now) bounds.0.items bounds.1.items) }
     ensures store { result ≢ Err StoreFault.Store }
 {
-    let (low, high) = above.child_bounds(alloc)?;
-    if last(subs).as_bytes().is_empty() {
+    if last(subs).is_empty() {
+        let (low, high) = above.child_bounds(alloc)?;
         return Ok((low, high));
     }
     let present = key_of(alloc, account, name, subs)?;
     match direction {
-        Direction::Forward => Ok((present.after_subtree(alloc)?, high)),
-        Direction::Backward => Ok((low, present.as_bytes().to_vec(alloc)?)),
+        Direction::Forward => {
+            let low = present.into_after_subtree()?;
+            let high = above.after_subtree(alloc)?;
+            Ok((low, high))
+        }
+        Direction::Backward => {
+            let low = above.children_start(alloc)?;
+            let high = present.into_bytes();
+            Ok((low, high))
+        }
     }
 }

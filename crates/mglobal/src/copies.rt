@@ -1,6 +1,6 @@
 // SPDX-License-Identifier: Apache-2.0
 // Copies of routines.
-ghost use Rattle.std.specs.Prelude.{◌≡◌, ◌≢◌, ◌||◌, ◌∷◌, [], not, All, IfOk, IfSome};
+ghost use Rattle.std.specs.Prelude.{◌≡◌, ◌≢◌, ◌||◌, not, All, IfOk, IfSome};
 ghost use Rattle.mglobal.specs.Copies.{IsCopyIn, AreCopiesIn, IsApart};
 ghost use Rattle.mglobal.specs.Lines.{routine_at};
 ghost use Rattle.mspec.specs.Globals.{Globals, is_node_within, lines_of};
@@ -11,8 +11,10 @@ use crate::bounds::key_of;
 use mkey::NodeKey;
 use mnum::Bytes7;
 use mstore::StoreFault;
-use std::alloc::{AllocError, Global};
+use mvalue::Value;
+use std::alloc::Global;
 use std::rc::Rc;
+use std::slice::from_ref;
 
 // The most copies that are kept: more routines than one that runs calls in turn, for the most part.
 const MOST_COPIES: usize = 32;
@@ -62,15 +64,6 @@ pub(crate) fn find(
     None
 }
 
-// The subscripts of the node above the lines of a routine.
-fn subs_above(alloc: Global, name: &Bytes7) -> Result<Vec<Bytes7>, AllocError>
-    ensures { IfOk result (λ subs. subs.items ≡ name.now ∷ []) }
-{
-    let mut subs = Vec::new(alloc);
-    subs.push(name.copy()?)?;
-    Ok(subs)
-}
-
 // The key of the node above the lines of a routine.
 fn key_above(alloc: Global, account: &Bytes7, name: &Bytes7) -> Result<NodeKey, StoreFault>
     requires account { IsAccountName account.now }
@@ -78,8 +71,8 @@ fn key_above(alloc: Global, account: &Bytes7, name: &Bytes7) -> Result<NodeKey, 
     ensures { IfOk result (λ key. key ≡ routine_at account.now name.now) }
 {
     let global = Bytes7::from_slice(alloc, b"ROUTINE")?;
-    let subs = subs_above(alloc, name)?;
-    key_of(alloc, account, &global, &subs)
+    let routine = Value::of_text(name.copy()?);
+    key_of(alloc, account.as_bytes(), &global, from_ref(&routine))
 }
 
 // A copy of a routine.

@@ -15,16 +15,17 @@ use crate::bounds::key_of;
 use mkey::{Direction, collate, is_numeric};
 use mnum::Bytes7;
 use mstore::{NodeStore, StoreFault};
+use mvalue::Value;
 use std::alloc::{AllocError, Global};
 use std::rc::Rc;
 
 // The subscripts of a line.
-fn subs_of(alloc: Global, name: &Bytes7, place: &Bytes7) -> Result<Vec<Bytes7>, AllocError>
+fn subs_of(alloc: Global, name: &Bytes7, place: &Bytes7) -> Result<Vec<Value>, AllocError>
     ensures { IfOk result (λ subs. subs.items ≡ name.now ∷ place.now ∷ []) }
 {
     let mut subs = Vec::new(alloc);
-    subs.push(name.copy()?)?;
-    subs.push(place.copy()?)?;
+    subs.push(Value::of_text(name.copy()?))?;
+    subs.push(Value::of_text(place.copy()?))?;
     Ok(subs)
 }
 
@@ -49,9 +50,17 @@ fn next_place<S: NodeStore>(
     ensures store { S.steady → result ≢ Err StoreFault.Store }
 {
     let subs = subs_of(alloc, name, place)?;
-    match neighbour(store, alloc, account, global, &subs, Direction::Forward)? {
+    match neighbour(
+        store,
+        alloc,
+        account.as_bytes(),
+        global,
+        &subs,
+        Direction::Forward,
+    )? {
         None => Ok(None),
-        Some(next) => {
+        Some(value) => {
+            let next = value.into_text(alloc)?;
             if collate(place, &next).is_lt() {
                 Ok(Some(next))
             } else {
@@ -82,7 +91,7 @@ fn line_text<S: NodeStore>(
         return Ok(None);
     }
     let subs = subs_of(alloc, name, place)?;
-    let key = key_of(alloc, account, global, &subs)?;
+    let key = key_of(alloc, account.as_bytes(), global, &subs)?;
     store.get(&key)
 }
 

@@ -10,10 +10,10 @@ use Rattle.mspec.proofs.KeyRanges.{subtrees_are_ranges, descendants_are_ranges, 
 use Rattle.mkey.specs.Key.{BoundsKeysOf, none_empty}
 
 -- a key, put together from its parts
-pub joined : (account name : Text) (subs : List Text) (first second third : List ℕ) → first ≡ [] ++ text_bytes account → second ≡ first ++ text_bytes name → third ≡ second ++ subscripts_bytes significant_digits subs → key_bytes significant_digits (record { account = account; name = name; subscripts = subs }) ≡ third
-joined account name subs first second third e f g =
-    sym (g ∙ ap (λ b. b ++ subscripts_bytes significant_digits subs) (f ∙ ap (λ b. b ++ text_bytes name) e)
-    ∙ append_assoc (text_bytes account) (text_bytes name) (subscripts_bytes significant_digits subs))
+pub joined : (account name : Text) (subs : List Text) (names all : List ℕ) → names ≡ text_bytes account ++ text_bytes name → all ≡ names ++ subscripts_bytes significant_digits subs
+    → key_bytes significant_digits (record { account = account; name = name; subscripts = subs }) ≡ all
+joined account name subs names all e f =
+    sym (f ∙ ap (λ b. b ++ subscripts_bytes significant_digits subs) e ∙ append_assoc (text_bytes account) (text_bytes name) (subscripts_bytes significant_digits subs))
 
 pub bounds_subtree : (a : Node) (high : List ℕ) → IsStored a → high ≡ key_bytes significant_digits a ++ 3 ∷ [] → BoundsKeysOf (IsWithin a) (key_bytes significant_digits a) high
 bounds_subtree a high stored e =

@@ -1,5 +1,4 @@
 -- SPDX-License-Identifier: Apache-2.0
-pub mod Room
 pub mod Key
 pub mod Front
 pub mod Parent

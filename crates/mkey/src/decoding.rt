@@ -15,7 +15,7 @@ use crate::encoding::RAISE;
 use crate::key::NodeKey;
 use crate::names::is_account_name;
 use crate::order::first_word;
-use crate::subs::{Subs, is_subscript};
+use crate::subs::{MOST_SUBS, Subs, is_subscript};
 use mnum::{Bytes7, Num, is_canonical_by, is_name};
 use std::alloc::{AllocError, Global};
 
@@ -32,9 +32,6 @@ const NUMBER_TEXT: usize = 20;
 
 // The numbers that eight bytes can be, so many.
 const WORD: u128 = 1 << 64;
-
-// The most subscripts of a node.
-const MOST_SUBS: usize = 15;
 
 // What stands behind the first `count` bytes.
 pub fn behind(bytes: &[u8], count: usize) -> &[u8]
@@ -206,7 +203,7 @@ pub fn read_letters(
 }
 
 // The subscript that the bytes begin with, and how many of them are its own.
-pub fn read_subscript(
+fn read_subscript(
     alloc: Global,
     bytes: &[u8],
     kept: u32,

@@ -1,6 +1,6 @@
 // SPDX-License-Identifier: Apache-2.0
 // Keys of nodes.
-ghost use Rattle.std.specs.Prelude.{◌≡◌, ◌↔◌, ◌<◌, [], ◌∷◌, ◌++◌, IfOk, IfSome, Err, All, Some, MatchOption, refl};
+ghost use Rattle.std.specs.Prelude.{◌≡◌, ◌↔◌, ◌*◌, ◌≤◌, [], ◌∷◌, ◌++◌, IfOk, IfSome, Err, All, Some, MatchOption, refl};
 ghost use Rattle.std.specs.Cmp.{partial_equiv_from_equiv, partial_order_from_total, eq_by_cmp_equiv};
 ghost use Rattle.std.specs.Ordering.{eq_by_cmp};
 ghost use Rattle.mkey.specs.Front.{IsSub};
@@ -9,19 +9,21 @@ ghost use Rattle.mkey.specs.Parent.{IsParent};
 ghost use Rattle.mkey.specs.Under.{child_under};
 ghost use Rattle.mspec.specs.Act.{Node};
 ghost use Rattle.mspec.specs.Names.{IsName};
-ghost use Rattle.mspec.specs.KeyBytes.{key_bytes, children_start, subtree_end, IsAccountName, AreSubscripts, IsStored};
+ghost use Rattle.mspec.specs.KeyBytes.{text_bytes, key_bytes, children_start, subtree_end, IsAccountName, AreSubscripts, IsStored};
 ghost use Rattle.mspec.specs.KeyLaws.{BeginsWith, IsWithin};
 ghost use Rattle.mspec.specs.NodeOrder.{IsAncestor, node_cmp};
 ghost use Rattle.mspec.specs.Number.{significant_digits};
 ghost use Rattle.mspec.proofs.NodeOrders.{node_cmp_total};
 
 use crate::ancestors::last_subscript;
-use crate::decoding::{DIGITS, behind, read_subscript};
-use crate::encoding::{push_subscripts, push_text, room};
+use crate::decoding::behind;
+use crate::encoding::{push_text, push_texts, push_values, texts_room, values_room};
 use crate::fault::KeyFault;
 use crate::order::compare;
-use crate::subs::subs_ok;
+use crate::subs::{subs_ok, values_ok};
+use crate::values::read_value;
 use mnum::Bytes7;
+use mvalue::Value;
 use std::alloc::{AllocError, Global};
 use std::cmp::Ordering;
 use std::marker::Model;
@@ -46,6 +48,20 @@ impl Model for NodeKey {
     ghost view = { λ key. key.of_node.0 };
 }
 
+// The bytes of an account's name and of a global's, with room for so many more behind them, and for one that follows a key.
+fn begun(alloc: Global, account: &[u8], name: &Bytes7, room: usize) -> Result<Vec<u8>, AllocError>
+    requires account { IsAccountName account.now }
+    requires name { IsName name.now }
+    requires room { room ≤ 15 * 272 }
+    ensures { IfOk result (λ bytes. bytes.items ≡ text_bytes account.now ++ text_bytes name.now) }
+{
+    let names = account.len() + 1 + name.as_bytes().len() + 1;
+    let mut bytes = Vec::with_capacity(alloc, names + room + 1)?;
+    push_text(&mut bytes, account);
+    push_text(&mut bytes, name.as_bytes());
+    Ok(bytes)
+}
+
 impl NodeKey {
     /// The key of the node of this account, global name and subscripts.
     ///
@@ -67,11 +83,33 @@ impl NodeKey {
         if !subs_ok(subs) {
             return Err(KeyFault::Sub);
         }
-        let names = account.as_bytes().len() + 1 + name.as_bytes().len() + 1;
-        let mut bytes = Vec::with_capacity(alloc, names + room(subs))?;
-        push_text(&mut bytes, account);
-        push_text(&mut bytes, name);
-        push_subscripts(&mut bytes, subs);
+        let mut bytes = begun(alloc, account.as_bytes(), name, texts_room(subs))?;
+        push_texts(&mut bytes, subs)?;
+        Ok(NodeKey { bytes })
+    }
+
+    /// The same of subscripts that are values, as the language has them: a number is put into the key as it is.
+    ///
+    /// # Errors
+    ///
+    /// `Sub` exactly where `values_ok` is false, and `Memory`.
+    pub fn build_values(
+        alloc: Global,
+        account: &[u8],
+        name: &Bytes7,
+        subs: &[Value],
+    ) -> Result<NodeKey, KeyFault>
+        requires account { IsAccountName account.now }
+        requires name { IsName name.now }
+        ensures ok { IfOk result (λ key. key ≡ record { account = account.now; name = name.now; subscripts = subs.now }) }
+        ensures sub { (result ≡ Err KeyFault.Sub) ↔ (AreSubscripts subs.now → ⊥) }
+        ensures memory { result ≡ Err KeyFault.Memory → AreSubscripts subs.now }
+    {
+        if !values_ok(subs) {
+            return Err(KeyFault::Sub);
+        }
+        let mut bytes = begun(alloc, account, name, values_room(subs))?;
+        push_values(&mut bytes, subs)?;
         Ok(NodeKey { bytes })
     }
 
@@ -135,6 +173,38 @@ impl NodeKey {
         Ok(end)
     }
 
+    /// The same, in this key's memory.
+    ///
+    /// # Errors
+    ///
+    /// `AllocError` for want of memory.
+    pub fn into_after_subtree(self) -> Result<Vec<u8>, AllocError>
+        ensures { IfOk result (λ end. end.items ≡ subtree_end (key_bytes significant_digits self)) }
+    {
+        let mut bytes = self.into_bytes();
+        bytes.push(BEHIND_TAGS)?;
+        Ok(bytes)
+    }
+
+    /// The bytes of the key, in its own memory. Takes no memory.
+    pub fn into_bytes(self) -> Vec<u8>
+        ensures { result.items ≡ key_bytes significant_digits self }
+    {
+        self.bytes
+    }
+
+    /// Where the keys of the nodes below this one begin.
+    ///
+    /// # Errors
+    ///
+    /// `AllocError` for want of memory.
+    pub fn children_start(&self, alloc: Global) -> Result<Vec<u8>, AllocError>
+        ensures { IfOk result (λ low. low.items ≡ children_start (key_bytes significant_digits self.now)) }
+    {
+        let low = self.followed_by(alloc, FIRST_TAG)?;
+        Ok(low)
+    }
+
     /// The bounds of the keys of the nodes below this one: they stand from the first on and before the second.
     ///
     /// # Errors
@@ -151,13 +221,13 @@ impl NodeKey {
         Ok((low, high))
     }
 
-    /// The subscript next behind this node's in the node whose key these bytes are, where that node stands below this one. Of bytes
-    /// that are no key nothing is said.
+    /// The subscript next behind this node's in the node whose key these bytes are, where that node stands below this one. One that is a
+    /// number comes as a number, which takes no memory. Of bytes that are no key nothing is said.
     ///
     /// # Errors
     ///
     /// `AllocError` for want of memory.
-    pub fn child_in(&self, alloc: Global, bytes: &[u8]) -> Result<Option<Bytes7>, AllocError>
+    pub fn child_in(&self, alloc: Global, bytes: &[u8]) -> Result<Option<Value>, AllocError>
         ensures child { IfOk result (λ child. (m : Node) → IsKeyOf m bytes.now → child ≡ child_under self.now m) }
         ensures sub { IfOk result (λ child. IfSome child IsSub) }
     {
@@ -165,9 +235,9 @@ impl NodeKey {
         if !bytes.starts_with(key) {
             return Ok(None);
         }
-        match read_subscript(alloc, behind(bytes, key.len()), DIGITS)? {
+        match read_value(alloc, behind(bytes, key.len()))? {
             None => Ok(None),
-            Some((text, _)) => Ok(Some(text)),
+            Some((value, _)) => Ok(Some(value)),
         }
     }
 }

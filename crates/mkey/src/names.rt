@@ -1,10 +1,12 @@
 // SPDX-License-Identifier: Apache-2.0
 // Names of accounts.
-ghost use Rattle.std.specs.Prelude.{◌≡◌, ◌↔◌, All, IsTrue, true};
+ghost use Rattle.std.specs.Prelude.{◌≡◌, ◌↔◌, All, IsTrue, MatchOption, true};
 ghost use Rattle.mspec.specs.Names.{is_name_rest};
 ghost use Rattle.mspec.specs.KeyBytes.{IsAccountName};
 
+use arrayvec::ArrayVec;
 use mnum::Bytes7;
+use std::marker::Model;
 
 // Whether the character is a letter or a digit.
 fn is_word(c: u8) -> bool
@@ -20,10 +22,67 @@ fn are_words(text: &[u8]) -> bool
     text.iter().all(|c| is_word(*c))
 }
 
+// Whether these bytes are an account's name.
+fn names_account(characters: &[u8]) -> bool
+    ensures { IsTrue result ↔ IsAccountName characters.now }
+{
+    !characters.is_empty() && characters.len() <= 16 && are_words(characters)
+}
+
 /// Whether this is an account's name: 1 to 16 letters or digits. Takes no memory.
 pub fn is_account_name(text: &Bytes7) -> bool
     ensures { IsTrue result ↔ IsAccountName text.now }
 {
-    let characters = text.as_bytes();
-    !characters.is_empty() && characters.len() <= 16 && are_words(characters)
+    names_account(text.as_bytes())
+}
+
+/// An account's name, held in place: it takes no memory. Contracts see it as its list of bytes, and what gives its bytes says that
+/// they are such a name.
+#[derive(Debug, Drop)]
+pub struct AccountName {
+    bytes: ArrayVec<u8, 16>,
+}
+
+impl Model for AccountName {
+    ghost use Rattle.std.specs.Prelude.{List, ℕ};
+    ghost use Rattle.mspec.specs.KeyBytes.{IsAccountName};
+
+    ghost Value = { List ℕ };
+
+    ghost view = { λ name. name.bytes.items };
+
+    ghost invariant = { λ name. IsAccountName name.bytes.items };
+}
+
+impl AccountName {
+    /// The account's name that these bytes are, if they are one. Takes no memory.
+    pub fn new(text: &[u8]) -> Option<AccountName>
+        ensures { MatchOption result (IsAccountName text.now → ⊥) (λ name. name ≡ text.now) }
+    {
+        if !names_account(text) {
+            return None;
+        }
+        match ArrayVec::try_from(text) {
+            Ok(bytes) => Some(AccountName { bytes }),
+            Err(_) => unreachable!(),
+        }
+    }
+
+    /// The bytes of the name. Takes no memory.
+    pub fn as_bytes(&self) -> &[u8]
+        ensures bytes { result.now ≡ self.now }
+        ensures is_name { IsAccountName result.now }
+    {
+        self.bytes.as_slice()
+    }
+
+    /// The same name once more. Takes no memory.
+    pub fn copy(&self) -> AccountName
+        ensures { result ≡ self.now }
+    {
+        match ArrayVec::try_from(self.bytes.as_slice()) {
+            Ok(bytes) => AccountName { bytes },
+            Err(_) => unreachable!(),
+        }
+    }
 }

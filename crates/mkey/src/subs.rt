@@ -2,9 +2,15 @@
 // Lists of subscripts.
 ghost use Rattle.std.specs.Prelude.{◌≡◌, ◌↔◌, ◌<◌, ◌≤◌, IsTrue, length};
 ghost use Rattle.mspec.specs.KeyBytes.{IsSubscript, AreSubscripts};
+ghost use Rattle.mspec.specs.Trees.{AreOrderSubscripts};
 
+use crate::walk::{front, last};
 use mnum::Bytes7;
+use mvalue::{Kind, Value};
 use std::marker::Model;
+
+// The most subscripts of a node.
+pub const MOST_SUBS: usize = 15;
 
 /// The subscripts of a node. Contracts see them as a list of texts.
 #[derive(Debug, Drop)]
@@ -29,17 +35,59 @@ impl Subs {
     }
 }
 
+// Whether the text has at most 255 characters.
+fn is_short(text: &Bytes7) -> bool
+    ensures { IsTrue result ↔ length text.now ≤ 255 }
+{
+    let length = text.as_bytes().len();
+    length <= 255
+}
+
 // Whether the text has 1 to 255 characters.
 pub fn is_subscript(text: &Bytes7) -> bool
     ensures { IsTrue result ↔ IsSubscript text.now }
 {
-    let length = text.as_bytes().len();
-    0 < length && length <= 255
+    !text.as_bytes().is_empty() && is_short(text)
+}
+
+// The same of a value. Each number has so many.
+fn is_value_subscript(value: &Value) -> bool
+    ensures { IsTrue result ↔ IsSubscript value.now }
+{
+    match value.kind() {
+        Kind::Number(_) => true,
+        Kind::Text(text) => is_subscript(text),
+    }
+}
+
+// Whether the value can be the last subscript of a walk: one of a node, or empty.
+fn is_value_short(value: &Value) -> bool
+    ensures { IsTrue result ↔ length value.now ≤ 255 }
+{
+    match value.kind() {
+        Kind::Number(_) => true,
+        Kind::Text(text) => is_short(text),
+    }
 }
 
 /// Whether these can be the subscripts of a node: at most 15, of 1 to 255 characters each. Takes no memory.
 pub fn subs_ok(subs: &[Bytes7]) -> bool
     ensures { IsTrue result ↔ AreSubscripts subs.now }
 {
-    subs.len() <= 15 && subs.iter().all(|text| is_subscript(text))
+    subs.len() <= MOST_SUBS && subs.iter().all(|text| is_subscript(text))
+}
+
+/// The same of values, as the language has them. Takes no memory.
+pub fn values_ok(subs: &[Value]) -> bool
+    ensures { IsTrue result ↔ AreSubscripts subs.now }
+{
+    subs.len() <= MOST_SUBS && subs.iter().all(|value| is_value_subscript(value))
+}
+
+/// Whether these can be the subscripts of a walk: as those of a node, at least one, and the last may be empty. Takes no memory.
+pub fn order_values_ok(subs: &[Value]) -> bool
+    ensures { IsTrue result ↔ AreOrderSubscripts subs.now }
+{
+    let count = subs.len();
+    0 < count && count <= MOST_SUBS && is_value_short(last(subs)) && values_ok(front(subs))
 }

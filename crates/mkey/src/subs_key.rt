@@ -14,9 +14,10 @@ ghost use Rattle.mspec.specs.Trees.{is_within, child_of};
 ghost use Rattle.mspec.proofs.NodeOrders.{subscripts_cmp_total};
 
 use crate::decoding::behind;
+use crate::encoding::{push_values, values_room};
 use crate::head::Head;
 use crate::order::compare;
-use crate::values::{push_values, read_value, values_room};
+use crate::values::read_value;
 use mvalue::Value;
 use std::alloc::{AllocError, Global};
 use std::cmp::Ordering;

@@ -1,71 +1,14 @@
 // SPDX-License-Identifier: Apache-2.0
-// Subscripts that are values: a number is put into bytes and read back as it is, and no text of it is made.
-ghost use Rattle.std.specs.Prelude.{◌≡◌, ◌*◌, ◌≤◌, ◌∷◌, ◌++◌, All, IfOk, OnOk, MatchOption};
+// Subscripts read back as values: a number is read as it is, and no text of it is made.
+ghost use Rattle.std.specs.Prelude.{◌∷◌, IfOk, MatchOption};
 ghost use Rattle.mkey.specs.Front.{IsFront, BeginsWithNo, IsSub};
-ghost use Rattle.mspec.specs.KeyBytes.{subscript_bytes, subscripts_bytes, IsSubscript, AreSubscripts, IsAscii};
+ghost use Rattle.mspec.specs.KeyBytes.{subscript_bytes};
 ghost use Rattle.mspec.specs.Number.{significant_digits};
 
 use crate::decoding::{DIGITS, front_number, read_letters};
-use crate::encoding::{push_number, push_subscript};
-use mvalue::{Kind, Value};
+use crate::encoding::NUMBER_ROOM;
+use mvalue::Value;
 use std::alloc::{AllocError, Global};
-
-// A number takes so many bytes, and a text no more than that beside its own.
-const NUMBER_ROOM: usize = 17;
-
-// How much room a subscript may take.
-fn value_room(value: &Value) -> usize
-    requires { IsSubscript value.now }
-    ensures at_most { result ≤ 272 }
-    ensures ascii { IsAscii value.now }
-{
-    match value.kind() {
-        Kind::Number(_) => NUMBER_ROOM,
-        Kind::Text(text) => text.as_bytes().len() + NUMBER_ROOM,
-    }
-}
-
-// How much room subscripts may take.
-pub fn values_room(subs: &[Value]) -> usize
-    requires { AreSubscripts subs.now }
-    ensures at_most { result ≤ 15 * 272 }
-    ensures ascii { All IsAscii subs.now }
-{
-    let mut total = 0;
-    for value in subs {
-        total += value_room(value);
-    }
-    total
-}
-
-// Appends the bytes of a subscript.
-fn push_value(out: &mut Vec<u8>, value: &Value) -> Result<(), AllocError>
-    ensures { OnOk result (out.new.items ≡ out.old.items ++ subscript_bytes significant_digits value.now) }
-{
-    match value.kind() {
-        Kind::Number(number) => {
-            out.reserve(NUMBER_ROOM)?;
-            out.push_reserved(1);
-            push_number(out, number.to_units());
-            Ok(())
-        }
-        Kind::Text(text) => {
-            out.reserve(text.as_bytes().len() + NUMBER_ROOM)?;
-            push_subscript(out, text);
-            Ok(())
-        }
-    }
-}
-
-// Appends the bytes of subscripts.
-pub fn push_values(out: &mut Vec<u8>, subs: &[Value]) -> Result<(), AllocError>
-    ensures { OnOk result (out.new.items ≡ out.old.items ++ subscripts_bytes significant_digits subs.now) }
-{
-    for value in subs {
-        push_value(out, value)?;
-    }
-    Ok(())
-}
 
 // The subscript that bytes with the tag 1 in front begin with, and how many of them are its own.
 #[inline]

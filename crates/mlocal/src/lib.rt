@@ -5,10 +5,8 @@
 mod level;
 mod scope;
 mod scopes;
-mod subs;
 mod subtree;
 mod variable;
 
 pub use mkey::{Data, Direction};
 pub use scopes::Locals;
-pub use subs::{order_subs_ok, subs_ok};

@@ -16,9 +16,8 @@ ghost use Rattle.mspec.specs.Number.{significant_digits};
 ghost use Rattle.mspec.specs.Scopes.{is_bare};
 ghost use Rattle.mspec.specs.Trees.{without, is_within, child_of, has_value, has_descendants, Forward, order_of, is_before, is_empty, front, last, AreOrderSubscripts};
 
-use crate::subs::{front, last};
 use crate::subtree::{keys_from, remove_all};
-use mkey::{Data, Direction, SubsKey};
+use mkey::{Data, Direction, SubsKey, front, last};
 use mvalue::Value;
 use std::alloc::{AllocError, Global};
 use std::collections::BTreeMap;

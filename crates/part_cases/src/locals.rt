@@ -1,7 +1,8 @@
 // SPDX-License-Identifier: Apache-2.0
 // Calls on the scopes of local variables.
 use anyhow::Context;
-use mlocal::{Direction, Locals, order_subs_ok, subs_ok};
+use mkey::{order_values_ok, values_ok};
+use mlocal::{Direction, Locals};
 use mnum::{Bytes7, Name, Num};
 use mtranscript::{data_word, name_of, names_of, play, print_result, text_of, words_of};
 use mvalue::Value;
@@ -50,7 +51,7 @@ fn call(locals: &mut Locals, alloc: Global, words: &[&str]) -> anyhow::Result<Op
 
 fn kill(locals: &mut Locals, alloc: Global, name: &str, subs: &[&str]) -> anyhow::Result<()> {
     let subs = subs_of(alloc, subs)?;
-    if !subs_ok(&subs) {
+    if !values_ok(&subs) {
         anyhow::bail!("no subscripts");
     }
     locals.kill(&name_of(alloc, name)?, &subs)?;
@@ -65,7 +66,7 @@ fn set(
     value: Value,
 ) -> anyhow::Result<()> {
     let subs = subs_of(alloc, subs)?;
-    if !subs_ok(&subs) {
+    if !values_ok(&subs) {
         anyhow::bail!("no subscripts");
     }
     locals.set(&name_of(alloc, name)?, &subs, value)?;
@@ -120,7 +121,7 @@ fn text(
     name: &Name,
     subs: &[Value],
 ) -> anyhow::Result<Option<Bytes7>> {
-    if !subs_ok(subs) {
+    if !values_ok(subs) {
         anyhow::bail!("no subscripts");
     }
     match locals.get(name, subs)? {
@@ -131,7 +132,7 @@ fn text(
 
 // What $DATA gives.
 fn data(locals: &Locals, name: &Name, subs: &[Value]) -> anyhow::Result<&'static str> {
-    if !subs_ok(subs) {
+    if !values_ok(subs) {
         anyhow::bail!("no subscripts");
     }
     let found = locals.data(name, subs)?;
@@ -145,7 +146,7 @@ fn next(
     subs: &[Value],
     direction: Direction,
 ) -> anyhow::Result<Option<Bytes7>> {
-    if !order_subs_ok(subs) {
+    if !order_values_ok(subs) {
         anyhow::bail!("no subscripts");
     }
     match locals.order(name, subs, direction)? {

@@ -2,10 +2,11 @@
 // What the language asks of globals, over any store.
 use anyhow::Context;
 use mglobal::{neighbour, routine, status};
-use mkey::{Direction, NodeKey, is_account_name, is_name, order_subs_ok};
+use mkey::{Direction, NodeKey, is_account_name, is_name, order_values_ok};
 use mnum::Bytes7;
 use mstore::NodeStore;
-use mtranscript::{data_word, text_of, texts_of};
+use mtranscript::{data_word, text_of};
+use mvalue::Value;
 use std::alloc::Global;
 
 /// What $DATA gives of a node.
@@ -18,6 +19,15 @@ pub fn data<S: NodeStore>(
     Ok(data_word(found.descendants, found.value))
 }
 
+// The words as values.
+fn values_of(alloc: Global, words: &[&str]) -> anyhow::Result<Vec<Value>> {
+    let mut values = Vec::new(alloc);
+    for word in words {
+        values.push(Value::of_text(text_of(alloc, word)?))?;
+    }
+    Ok(values)
+}
+
 /// What $ORDER finds of a global of an account: `none` where there is nothing more. Of the subscripts the last may be empty.
 pub fn order<S: NodeStore>(
     store: &mut S,
@@ -28,13 +38,13 @@ pub fn order<S: NodeStore>(
     direction: Direction,
 ) -> anyhow::Result<Bytes7> {
     let name = text_of(alloc, name)?;
-    let subs = texts_of(alloc, subs)?;
-    if !is_account_name(account) || !is_name(&name) || !order_subs_ok(&subs) {
+    let subs = values_of(alloc, subs)?;
+    if !is_account_name(account) || !is_name(&name) || !order_values_ok(&subs) {
         anyhow::bail!("no walk");
     }
-    let found = neighbour(store, alloc, account, &name, &subs, direction);
+    let found = neighbour(store, alloc, account.as_bytes(), &name, &subs, direction);
     match found.ok().context("not read")? {
-        Some(next) => Ok(next),
+        Some(next) => Ok(next.into_text(alloc)?),
         None => text_of(alloc, "none"),
     }
 }

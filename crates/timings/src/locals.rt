@@ -2,7 +2,8 @@
 // Local variables, beside ten thousand others.
 use crate::measuring::{Plan, measure};
 use anyhow::Context;
-use mlocal::{Direction, Locals, order_subs_ok, subs_ok};
+use mkey::{order_values_ok, values_ok};
+use mlocal::{Direction, Locals};
 use mnum::{Bytes7, Name, Num};
 use mtranscript::{numbered, print_result};
 use mvalue::Value;
@@ -53,7 +54,7 @@ fn one_at(items: &[Value], round: usize) -> &[Value] {
 }
 
 fn set(locals: &mut Locals, name: &Name, subs: &[Value], value: Value) -> i128 {
-    if !subs_ok(subs) {
+    if !values_ok(subs) {
         return -1;
     }
     locals.set(name, subs, value).is_ok() as i128
@@ -89,7 +90,7 @@ fn copied(names: &[Name], round: usize) -> i128 {
 // What the variable at a place has, which has no subscripts.
 fn value_at<'a>(locals: &'a Locals, names: &[Name], round: usize) -> Option<&'a Value> {
     let name = at(names, round)?;
-    if !subs_ok(&[]) {
+    if !values_ok(&[]) {
         return None;
     }
     locals.get(name, &[]).ok()?
@@ -118,7 +119,7 @@ fn get_number(locals: &Locals, names: &[Name], round: usize) -> i128 {
 }
 
 fn order(locals: &Locals, name: &Name, subs: &[Value], direction: Direction) -> i128 {
-    if !order_subs_ok(subs) {
+    if !order_values_ok(subs) {
         return -1;
     }
     match locals.order(name, subs, direction) {
@@ -136,7 +137,7 @@ fn step(
     at: &mut [Value; 1],
     direction: Direction,
 ) -> i128 {
-    if !order_subs_ok(at.as_slice()) {
+    if !order_values_ok(at.as_slice()) {
         return -1;
     }
     match locals.order(name, at.as_slice(), direction) {

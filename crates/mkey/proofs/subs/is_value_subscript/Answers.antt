@@ -3,7 +3,7 @@ use Rattle.std.proofs.Common.{refl, sym, ap, subst, ◌∙◌}
 use Rattle.mspec.specs.KeyBytes.{IsSubscript}
 use Rattle.mvalue.specs.Texts.{kind_text}
 use Rattle.mkey.proofs.NumericValues.{number_is_sub}
-use Rattle.mlocal.proofs.subs.is_subscript.Goals as goal
+use Rattle.mkey.proofs.subs.is_value_subscript.Goals as goal
 
 pub returns-in-Number : goal.returns-in-Number
 returns-in-Number c = (λ _. subst IsSubscript (sym (ap kind_text c.in-Number.is) ∙ c.kind.ensures) (number_is_sub c.in-Number.field-0).0, λ _. refl)

@@ -2,8 +2,8 @@
 use Rattle.std.proofs.Common.{[], arith}
 use Rattle.std.proofs.lemmas.List.Elements.{All-from_get_or}
 use Rattle.mspec.specs.KeyBytes.{IsAscii}
-use Rattle.mkey.proofs.values.values_room.Goals as goal
+use Rattle.mkey.proofs.encoding.texts_room.Goals as goal
 
 pub returns-clause-ascii : goal.returns-clause-ascii
 returns-clause-ascii c =
-    All-from_get_or IsAscii c.args.subs.now [] (λ k inside. c.loop-value.invariant.ascii k (let end = c.loop-value-test.false in omega arith))
+    All-from_get_or IsAscii c.args.subs.now [] (λ k inside. c.loop-text.invariant.ascii k (let end = c.loop-text-test.false in omega arith))

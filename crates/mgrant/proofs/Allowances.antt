@@ -1,11 +1,10 @@
 -- SPDX-License-Identifier: Apache-2.0
 -- What a map of permits allows, beside the list of grants.
-use Rattle.std.proofs.Common.{◌≡◌, ℕ, ◌==◌, ◌<◌, Bool, true, false, cond, List, [], ◌∷◌, ◌++◌, length, map, get_or, Some, All, refl, sym, ap, subst, ◌∙◌, arith, eqb-true, eq-eqb, inl, inr, length-append}
-use Rattle.std.specs.Prelude.{slice_get, unwrap_or, ◌&&◌, ◌||◌}
+use Rattle.std.proofs.Common.{◌≡◌, ℕ, ◌==◌, ◌<◌, Bool, true, false, cond, List, ◌∷◌, ◌++◌, length, map, get_or, Some, All, refl, sym, ap, subst, ◌∙◌, arith, eqb-true, eq-eqb, inl, inr, length-append, slice_get, unwrap_or, ◌&&◌, ◌||◌, []}
 use Rattle.std.specs.List.{list_any}
 use Rattle.std.specs.HashMap as hash
 use Rattle.std.specs.Cmp.Lexicographic.{bytes_decides}
-use Rattle.std.proofs.lemmas.Bool.{cases_Bool, and_parts, false≢true, ne_eqb}
+use Rattle.std.proofs.lemmas.Bool.{cases_Bool, and_parts, false≢true, ne_eqb, false_from_ne_true}
 use Rattle.std.proofs.lemmas.List.{map-append}
 use Rattle.std.proofs.lemmas.List.Elements.{All-head, All-tail, All-append, All-cons, All-nil}
 use Rattle.std.proofs.lemmas.List.Folds.{list_any-append, list_any_at}
@@ -14,12 +13,10 @@ use Rattle.mspec.specs.Node.{Text}
 use Rattle.mspec.specs.Trees.{text_eq}
 use Rattle.mspec.specs.Access as access
 use Rattle.mgrant.specs.Words.{text_in, IsPlaceOf}
-use Rattle.mgrant.specs.Placed.{mode_of, placed, lets_at, same_permit, Allowed, allows_so, IsAllowance, IsInterned, carries_at}
-use Rattle.mgrant.specs.Edges.{leads}
+use Rattle.mgrant.specs.Placed.{mode_of, placed, lets_at, same_permit, Allowed, allows_so, IsAllowance, IsInterned}
 use Rattle.mgrant.specs.declared.mode.Mode.{Mode}
 use Rattle.mgrant.specs.declared.grants.Permit.{Permit}
 use Rattle.mgrant.specs.declared.grants.Given.{Given}
-use Rattle.mgrant.specs.declared.flow.Edge.{Edge}
 use Rattle.mgrant.proofs.Places.{slice_get_front, slice_get_last}
 
 -- ---- names of globals
@@ -91,10 +88,7 @@ lets_none globals name me owner asked none [] within = refl
 lets_none globals name me owner asked none (g ∷ gs) within =
     let i = g.permit.global in
     let other : text_eq name (text_in globals i) ≡ false =
-    elim (cases_Bool (text_eq name (text_in globals i))) [
-      | inl same ↦ absurd (false≢true (sym none ∙ list_any_at (text_eq name) globals i [] (All-head (λ g. g.permit.global < length globals) g gs within) (ap (text_eq name) (sym (unwrap_or-slice_get globals i [])) ∙ same)))
-      | inr other ↦ other
-    ] in
+    false_from_ne_true _ (λ same. false≢true (sym none ∙ list_any_at (text_eq name) globals i [] (All-head (λ g. g.permit.global < length globals) g gs within) (ap (text_eq name) (sym (unwrap_or-slice_get globals i [])) ∙ same))) in
     rw (unlike (owner == g.permit.from) (me == g.permit.to) (text_eq name (text_in globals i)) (access.allows (mode_of g.mode) asked) other) (lets_none globals name me owner asked none gs (All-tail (λ g. g.permit.global < length globals) g gs within))
 
 -- ---- the map
@@ -109,11 +103,7 @@ same_same : (p : Permit) → same_permit p p ≡ true
 same_same p = rw (eq-eqb p.from p.from refl, eq-eqb p.to p.to refl, eq-eqb p.global p.global refl) refl
 
 unlike_back : (p q : Permit) → same_permit p q ≡ false → same_permit q p ≡ false
-unlike_back p q e =
-    elim (cases_Bool (same_permit q p)) [
-      | inl same ↦ absurd (false≢true (sym e ∙ ap (λ r. same_permit r q) (sym (permit_is q p same)) ∙ same_same q))
-      | inr other ↦ other
-    ]
+unlike_back p q e = false_from_ne_true _ (λ same. false≢true (sym e ∙ ap (λ r. same_permit r q) (sym (permit_is q p same)) ∙ same_same q))
 
 no_more : (b : Bool) → b ≡ (b || false)
 no_more true = refl
@@ -138,34 +128,3 @@ allowance_more gs m n p mode best had u wider = record {
             ∙ sym (more ∙ rw (unlike_back p q other) (sym (no_more _)))
       ];
 }
-
--- ---- flow
-
--- the steps of a grant: to its taker, and from there back where it lets write
-abbrev pub edges_of : Given → List Edge
-edges_of g = record { source = g.permit.from; target = g.permit.to } ∷ cond (access.allows (mode_of g.mode) access.Write) (record { source = g.permit.to; target = g.permit.from } ∷ []) []
-
-one_way : (a b : Bool) → (a || false) ≡ (a || (b && false))
-one_way true b = refl
-one_way false true = refl
-one_way false false = refl
-
-two_ways : (a b : Bool) → (a || (b || false)) ≡ (a || (b && true))
-two_ways true b = refl
-two_ways false true = refl
-two_ways false false = refl
-
--- they lead where the grant carries
-edges_carry : (globals : List Text) (x y : ℕ) (g : Given) → list_any (leads x y) (edges_of g) ≡ carries_at x y (placed globals g)
-edges_carry globals x y g =
-    elim (cases_Bool (access.allows (mode_of g.mode) access.Write)) [
-      | inl both ↦ rw both (two_ways (x == g.permit.from && y == g.permit.to) (x == g.permit.to && y == g.permit.from))
-      | inr one ↦ rw one (one_way (x == g.permit.from && y == g.permit.to) (x == g.permit.to && y == g.permit.from))
-    ]
-
--- one more grant, with its steps
-pub carry_more : (globals : List Text) (gs : List Given) (g : Given) (edges : List Edge) → ((x y : ℕ) → list_any (leads x y) edges ≡ list_any (carries_at x y) (map (placed globals) gs))
-    → (x y : ℕ) → list_any (leads x y) (edges ++ edges_of g) ≡ list_any (carries_at x y) (map (placed globals) (gs ++ g ∷ []))
-carry_more globals gs g edges had x y =
-    list_any-append (leads x y) edges (edges_of g)
-    ∙ rw (had x y, edges_carry globals x y g, map-append (placed globals) gs (g ∷ [])) (ap (λ b. list_any (carries_at x y) (map (placed globals) gs) || b) (no_more (carries_at x y (placed globals g))) ∙ sym (list_any-append (carries_at x y) (map (placed globals) gs) (placed globals g ∷ [])))

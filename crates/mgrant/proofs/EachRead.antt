@@ -1,8 +1,7 @@
 -- SPDX-License-Identifier: Apache-2.0
 -- The values of a list, read one after another.
-use Rattle.std.proofs.Common.{◌≡◌, ◌+◌, ◌<◌, ◌++◌, ap, refl, sym, ℕ, suc, ◌≤◌, List, [], ◌∷◌, Option, Some, None, length, get_or, drop, append_assoc}
-use Rattle.std.specs.Prelude.{option_map}
-use Rattle.std.proofs.lemmas.List.{drop_more}
+use Rattle.std.proofs.Common.{◌≡◌, ◌+◌, ◌<◌, ◌++◌, ap, refl, sym, ℕ, suc, ◌≤◌, List, [], ◌∷◌, Option, Some, None, length, get_or, drop, append_assoc, option_map, append-nil, ◌∙◌}
+use Rattle.std.proofs.lemmas.List.{drop_more, drop_all}
 use Rattle.std.proofs.lemmas.Bool.{lt-leb, le-leb}
 use Rattle.toml.specs.Data.{Data}
 use Rattle.toml.specs.View.{view, items_view}
@@ -33,3 +32,9 @@ module _ {X : Type 0} (read : Data → Option X) where
 
   pub short_enough : (vs : List Value) → length vs ≤ entry_limit → entries_of read (items_view vs) ≡ each_read read (items_view vs)
   short_enough vs short = rw (count_view vs, le-leb (length vs) entry_limit short) refl
+
+  -- all have been read
+  pub all_read : (vs : List Value) (i : ℕ) (all : List X) → length vs ≤ i → length vs ≤ entry_limit
+      → option_map (λ xs. all ++ xs) (each_read read (items_view (drop i vs))) ≡ each_read read (items_view vs) → Some all ≡ entries_of read (items_view vs)
+  all_read vs i all past short e =
+      ap Some (sym (append-nil all)) ∙ ap (λ xs. option_map (λ zs. all ++ zs) (each_read read (items_view xs))) (sym (drop_all i vs past)) ∙ e ∙ sym (short_enough vs short)

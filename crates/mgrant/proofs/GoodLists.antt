@@ -1,7 +1,6 @@
 -- SPDX-License-Identifier: Apache-2.0
 -- Lists of which each element passes a test and none is there twice: one more element, and those that do not.
-use Rattle.std.proofs.Common.{◌≡◌, inl, inr, Bool, true, false, List, [], ◌∷◌, ◌++◌, refl, sym, ap, ◌∙◌, append_assoc}
-use Rattle.std.specs.Prelude.{not, ◌&&◌, ◌||◌}
+use Rattle.std.proofs.Common.{◌≡◌, inl, inr, Bool, true, false, List, [], ◌∷◌, ◌++◌, refl, sym, ap, ◌∙◌, append_assoc, not, ◌&&◌, ◌||◌}
 use Rattle.std.specs.List.{list_any, list_all}
 use Rattle.std.proofs.lemmas.Bool.{false≢true, cases_Bool, and_left, and_right}
 use Rattle.std.proofs.lemmas.List.Folds.{list_any-append, list_all-append}

@@ -1,13 +1,12 @@
 -- SPDX-License-Identifier: Apache-2.0
 -- The island of an account: the names at the places that chains of ties lead to.
-use Rattle.std.proofs.Common.{◌≡◌, ◌↔◌, ◌⊎◌, inl, inr, ℕ, zero, suc, ◌+◌, ◌==◌, ◌<◌, ◌≤◌, Bool, true, false, List, [], ◌∷◌, ◌++◌, length, map, get_or, Option, Some, All, refl, sym, ap, subst, subst₂, ◌∙◌, arith}
-use Rattle.std.specs.Prelude.{◌&&◌, ◌||◌, unwrap_or}
+use Rattle.std.proofs.Common.{◌≡◌, ◌↔◌, ◌⊎◌, inl, inr, ℕ, zero, suc, ◌+◌, ◌==◌, ◌<◌, ◌≤◌, Bool, true, false, List, ◌∷◌, ◌++◌, length, map, get_or, Option, Some, All, refl, sym, ap, subst, subst₂, ◌∙◌, arith, ◌&&◌, ◌||◌, unwrap_or, []}
+use Rattle.std.specs.Cmp.{both_ways}
 use Rattle.std.specs.List.{list_any, filter, range_with_len}
 use Rattle.std.specs.Cmp.Lexicographic.{bytes_decides}
-use Rattle.std.proofs.lemmas.Bool.{cases_Bool, cases_lt, and_parts, and_from, or_cases, or_left, or_right, eq-eqb, eqb-true, false≢true}
+use Rattle.std.proofs.lemmas.Bool.{cases_lt, and_parts, and_from, or_cases, or_left, or_right, false≢true, false_from_ne_true}
 use Rattle.std.proofs.lemmas.List.{get_or_past, append-nil}
-use Rattle.std.proofs.lemmas.List.Elements.{filter_agree, filter-append, All-head, All-tail}
-use Rattle.std.proofs.lemmas.List.Folds.{list_any_at}
+use Rattle.std.proofs.lemmas.List.Elements.{filter_agree, filter-append}
 use Rattle.std.proofs.lemmas.Option.{slice_get_past}
 use Rattle.mspec.specs.Node.{Text}
 use Rattle.mspec.specs.Trees.{text_eq}
@@ -20,24 +19,11 @@ use Rattle.mgrant.specs.Placed.{Placed, carries_at, ties_at}
 use Rattle.mgrant.specs.View.{settings_view, named, IsAmong, AreSettings}
 use Rattle.mgrant.specs.Words.{text_in}
 use Rattle.mgrant.specs.declared.flow.Edge.{Edge}
-use Rattle.mgrant.proofs.Chains.{flows_seen, carried_from, carried_to, none_empty}
+use Rattle.mgrant.proofs.Chains.{flows_seen, none_empty, carried_between, any_more, targets_within, tied_on, tied_within}
 use Rattle.mgrant.proofs.Marks.{leads_on, closed_under}
 use Rattle.mgrant.proofs.Seen.{place_is, name_seen, length_seen}
 
--- tests that pass together are the same
-same_test : (a b : Bool) → (a ≡ true → b ≡ true) → (b ≡ true → a ≡ true) → a ≡ b
-same_test true b f g = sym (f refl)
-same_test false true f g = absurd (false≢true (g refl))
-same_test false false f g = refl
-
 -- ---- flows and ties, by places
-
-tie_on : (a b c d w : Bool) → ((a && b) || ((c && d) && w)) ≡ true → ((a && b) || (c && d)) ≡ true
-tie_on a b c d w e =
-    elim (or_cases (a && b) ((c && d) && w) e) [
-      | inl on ↦ or_left (a && b) _ on
-      | inr back ↦ or_right (a && b) _ (and_parts (c && d) w back).0
-    ]
 
 tie_back : (a b c d w : Bool) → ((a && b) || ((c && d) && w)) ≡ true → ((d && c) || (b && a)) ≡ true
 tie_back a b c d w e =
@@ -53,22 +39,9 @@ tie_carries a b c d w e =
       | inr back ↦ let (first, second) = and_parts c d back in inr (or_left (d && c) _ (and_from d c second first))
     ]
 
--- what flows is tied, in both directions
-tied_on : (x y : ℕ) (gs : List Placed) → list_any (carries_at x y) gs ≡ true → list_any (ties_at x y) gs ≡ true
-tied_on x y [] e = absurd (false≢true e)
-tied_on x y (g ∷ gs) e =
-    elim (or_cases (carries_at x y g) (list_any (carries_at x y) gs) e) [
-      | inl first ↦ or_left (ties_at x y g) _ (tie_on (x == g.from) (y == g.to) (x == g.to) (y == g.from) (access.allows g.mode access.Write) first)
-      | inr later ↦ or_right (ties_at x y g) _ (tied_on x y gs later)
-    ]
-
+-- what flows is tied back too
 tied_back : (x y : ℕ) (gs : List Placed) → list_any (carries_at x y) gs ≡ true → list_any (ties_at y x) gs ≡ true
-tied_back x y [] e = absurd (false≢true e)
-tied_back x y (g ∷ gs) e =
-    elim (or_cases (carries_at x y g) (list_any (carries_at x y) gs) e) [
-      | inl first ↦ or_left (ties_at y x g) _ (tie_back (x == g.from) (y == g.to) (x == g.to) (y == g.from) (access.allows g.mode access.Write) first)
-      | inr later ↦ or_right (ties_at y x g) _ (tied_back x y gs later)
-    ]
+tied_back x y = any_more (carries_at x y) (ties_at y x) (λ g. tie_back (x == g.from) (y == g.to) (x == g.to) (y == g.from) (access.allows g.mode access.Write))
 
 -- and what is tied flows in one of them
 tied_flows : (x y : ℕ) (gs : List Placed) → list_any (ties_at x y) gs ≡ true → (list_any (carries_at x y) gs ≡ true) ⊎ (list_any (carries_at y x) gs ≡ true)
@@ -87,25 +60,8 @@ tied_flows x y (g ∷ gs) e =
           ]
     ]
 
-tied_within : (names : List Text) (x y : ℕ) (gs : List Placed) → All (IsAmong (length names)) gs → list_any (ties_at x y) gs ≡ true → y < length names
-tied_within names x y [] among e = absurd (false≢true e)
-tied_within names x y (g ∷ gs) among e =
-    let here : IsAmong (length names) g = All-head (IsAmong (length names)) g gs among in
-    let within : (i : ℕ) → (y == i) ≡ true → i < length names → y < length names = λ i same inside. subst (λ k. k < length names) (sym (eqb-true y i same)) inside in
-    elim (or_cases (ties_at x y g) (list_any (ties_at x y) gs) e) [
-      | inl first ↦
-          elim (or_cases (x == g.from && y == g.to) (x == g.to && y == g.from) first) [
-            | inl on ↦ within g.to (and_parts (x == g.from) (y == g.to) on).1 here.to
-            | inr back ↦ within g.from (and_parts (x == g.to) (y == g.from) back).1 here.from
-          ]
-      | inr later ↦ tied_within names x y gs (All-tail (IsAmong (length names)) g gs among) later
-    ]
-
 pub ties_within : (names : List Text) (gs : List Placed) → All (IsAmong (length names)) gs → (edges : List Edge) → ((x y : ℕ) → list_any (leads x y) edges ≡ list_any (ties_at x y) gs) → All (λ e. e.target < length names) edges
-ties_within names gs among edges is k d within =
-    let e = get_or edges k d in
-    let led : list_any (leads e.source e.target) edges ≡ true = list_any_at (leads e.source e.target) edges k d within (and_from _ _ (eq-eqb e.source e.source refl) (eq-eqb e.target e.target refl)) in
-    tied_within names e.source e.target gs among (sym (is e.source e.target) ∙ led)
+ties_within names gs among edges is = targets_within (length names) edges (λ x y led. tied_within (length names) x y gs among (sym (is x y) ∙ led))
 
 -- ---- names at marked places
 
@@ -143,9 +99,9 @@ module _ (names : List Text) (good : are_names names ≡ true) where
   mark_is : (marks : List Bool) → length marks ≡ length names → (p : ℕ) → get_or marks p false ≡ marked_name names marks (text_in names p)
   mark_is marks size p =
       elim (cases_lt p (length names)) [
-        | inl within ↦ same_test (get_or marks p false) (marked_name names marks (text_in names p)) (name_marked names marks p within) (mark_of marks p within)
+        | inl within ↦ both_ways (get_or marks p false) (marked_name names marks (text_in names p)) (name_marked names marks p within) (mark_of marks p within)
         | inr past ↦
-            same_test (get_or marks p false) (marked_name names marks (text_in names p))
+            both_ways (get_or marks p false) (marked_name names marks (text_in names p))
             (λ on. absurd (false≢true (sym (get_or_past marks p false (omega arith)) ∙ on)))
             (λ e.
             let (q, inside, at, on) = place_of_marked names marks (text_in names p) e in
@@ -154,19 +110,14 @@ module _ (names : List Text) (good : are_names names ≡ true) where
 
   -- no account has an empty name
   empty_apart : (x : Text) (i : ℕ) → i < length names → x ≡ text_in names i → text_eq [] x ≡ false
-  empty_apart x i within at =
-      elim (cases_Bool (text_eq [] x)) [
-        | inl same ↦ absurd (none_empty names good i within ((bytes_decides [] x).0 same ∙ at))
-        | inr other ↦ other
-      ]
+  empty_apart x i within at = false_from_ne_true _ (λ same. none_empty names good i within ((bytes_decides [] x).0 same ∙ at))
 
   module _ (gs : List Placed) (among : All (IsAmong (length names)) gs) (settings : access.Settings) (has : settings.grants ≡ map (named names) gs) where
     -- what flows by names flows by places
     flow_at : (x y : Text) → flows settings x y ≡ true → (i : ℕ) × (j : ℕ) × (i < length names) × (j < length names) × (x ≡ text_in names i) × (y ≡ text_in names j) × (list_any (carries_at i j) gs ≡ true)
     flow_at x y flow =
         let carried : list_any (carries x y) (map (named names) gs) ≡ true = ap (list_any (carries x y)) (sym has) ∙ flow in
-        let (i, low, from) = carried_from names good x y gs among carried in
-        let (j, high, to) = carried_to names good x y gs among carried in
+        let ((i, low, from), (j, high, to)) = carried_between names good x y gs among carried in
         (i, j, low, high, from, to, sym (flows_seen names good i j gs among) ∙ subst₂ (λ v w. list_any (carries v w) (map (named names) gs) ≡ true) from to carried)
 
     flow_of : (i j : ℕ) → list_any (carries_at i j) gs ≡ true → flows settings (text_in names i) (text_in names j) ≡ true
@@ -185,7 +136,7 @@ module _ (names : List Text) (good : are_names names ≡ true) where
         island = λ x y flow.
             let (i, j, within, within', from, to, carried) = flow_at x y flow in
             subst₂ (λ v w. marked_name names marks v ≡ marked_name names marks w) (sym from) (sym to)
-            (same_test _ _ (joins i j within within' (tied_on i j gs carried)) (joins j i within' within (tied_back i j gs carried)));
+            (both_ways _ _ (joins i j within within' (tied_on i j gs carried)) (joins j i within' within (tied_back i j gs carried)));
         least = λ other island own x e.
             let (p, within, at, on) = place_of_marked names marks x e in
             subst (λ t. other t ≡ true) (sym at)

@@ -1,7 +1,6 @@
 -- SPDX-License-Identifier: Apache-2.0
 -- The keys of a table, against those that it may have.
-use Rattle.std.proofs.Common.{◌≡◌, ap, Bool, true, List, [], ◌∷◌, String, Global, Bor, string_bytes, refl}
-use Rattle.std.specs.Prelude.{◌&&◌, ◌||◌}
+use Rattle.std.proofs.Common.{◌≡◌, ap, Bool, true, List, [], ◌∷◌, String, Global, Bor, string_bytes, refl, ◌&&◌, ◌||◌}
 use Rattle.std.specs.List.{list_any}
 use Rattle.std.specs.Map.{keys_of}
 use Rattle.mspec.specs.Node.{Text}

@@ -4,7 +4,7 @@ mod GoodLists
 mod Places
 mod Allowances
 mod Parts
-mod EachRead
+pub mod EachRead
 mod Keys
 mod Marks
 mod Seen

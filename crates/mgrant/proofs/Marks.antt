@@ -1,7 +1,6 @@
 -- SPDX-License-Identifier: Apache-2.0
 -- Marked places: one more, those that are led to from a place, and what is reached when there are no more.
-use Rattle.std.proofs.Common.{◌≡◌, ◌↔◌, inl, inr, ℕ, zero, suc, ◌+◌, ◌-◌, ◌==◌, ◌<◌, ◌≤◌, Bool, true, false, cond, List, [], ◌∷◌, ◌++◌, length, get_or, set, take, drop, All, refl, sym, ap, subst, ◌∙◌, arith, length-append, length-drop, length-take-le, add-zero}
-use Rattle.std.specs.Prelude.{Any, sum_by, count_by, nat_lt, nat_le, replicate}
+use Rattle.std.proofs.Common.{◌≡◌, ◌↔◌, inl, inr, ℕ, zero, suc, ◌+◌, ◌-◌, ◌==◌, ◌<◌, ◌≤◌, Bool, true, false, cond, List, ◌∷◌, ◌++◌, length, get_or, set, take, drop, All, refl, sym, ap, subst, ◌∙◌, arith, length-append, length-drop, length-take-le, add-zero, Any, sum_by, count_by, nat_lt, nat_le, replicate, []}
 use Rattle.std.specs.List.{list_any}
 use Rattle.std.specs.List.Sorted.{IsPartitionPoint, IsPermutation}
 use Rattle.std.proofs.lemmas.Bool.{cases_Bool, cases_eq, cases_lt, false≢true, and_parts, and_from, ltb-true, ltb-false, leb-true, leb-false, eqb-true, eq-eqb}
@@ -84,9 +83,6 @@ more_mark marks order place within = record {
   grown = longer order place (get_or marks place false);
   same = same_before order place (get_or marks place false);
 }
-
-pub more_itself : (marks : List Bool) (order : List ℕ) → IsMore marks order marks order
-more_itself marks order = record { kept = λ y marked. marked; grown = omega arith; same = λ k within. refl }
 
 pub more_on : (a b c : List Bool) (p q r : List ℕ) → IsMore a p b q → IsMore b q c r → IsMore a p c r
 more_on a b c p q r first next = record {

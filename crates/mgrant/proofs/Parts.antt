@@ -1,12 +1,10 @@
 -- SPDX-License-Identifier: Apache-2.0
 -- The parts of settings, entry by entry.
-use Rattle.std.proofs.Common.{◌≡◌, inl, inr, ℕ, zero, suc, ◌+◌, ◌<◌, ℤ, pos, Bool, true, false, List, [], ◌∷◌, ◌++◌, length, map, take, drop, get_or, set, Option, Some, None, refl, sym, ap, subst, ◌∙◌, arith, append_assoc, append-nil, length-take-le, add-one, add-zero, take-append-drop}
-use Rattle.std.specs.Prelude.{is_some, not, ◌&&◌, unwrap_or, unsigned_abs, if◌then◌else◌}
+use Rattle.std.proofs.Common.{◌≡◌, inl, inr, ℕ, zero, suc, ◌+◌, ◌<◌, ℤ, pos, Bool, true, false, List, ◌∷◌, ◌++◌, length, map, take, drop, get_or, set, Option, Some, None, refl, sym, ap, subst, ◌∙◌, arith, append_assoc, append-nil, length-take-le, add-one, add-zero, take-append-drop, is_some, not, ◌&&◌, unwrap_or, unsigned_abs, if◌then◌else◌, int_eq, []}
 use Rattle.std.specs.List.{list_any, list_all}
-use Rattle.std.specs.Ordering.{int_eq}
 use Rattle.std.specs.Cmp.Lexicographic.{nat_list_eq_equiv}
 use Rattle.std.proofs.lemmas.Cmp.{int_eq_equiv}
-use Rattle.std.proofs.lemmas.Bool.{cases_eq, cases_Bool, and_right, false≢true}
+use Rattle.std.proofs.lemmas.Bool.{cases_eq, cases_Bool, and_right, false≢true, false_from_ne_true}
 use Rattle.std.proofs.lemmas.Bool.Decides.{Decides-int_eq}
 use Rattle.std.proofs.lemmas.List.{map-append, take_more, length-map, get_or-set_same, get_or-set_other}
 use Rattle.std.proofs.lemmas.List.Folds.{list_all-append}
@@ -103,11 +101,7 @@ pub same_pos : {t n : ℕ} → pos t ≡ pos n → t ≡ n
 same_pos e = cc
 
 pub different : (t n : ℕ) → (t ≡ n → ⊥) → int_eq (pos t) (pos n) ≡ false
-different t n other =
-    elim (cases_Bool (int_eq (pos t) (pos n))) [
-      | inl same ↦ absurd (other (same_pos ((Decides-int_eq (pos t) (pos n)).0 same)))
-      | inr e ↦ e
-    ]
+different t n other = false_from_ne_true _ (λ same. other (same_pos ((Decides-int_eq (pos t) (pos n)).0 same)))
 
 -- one claim more
 pub claim_more : (cs : List Claim) (v : List (Option ℕ)) (n place : ℕ) → HasTerminals cs v → is_within 1 9999 (pos n) ≡ true → n < length v → get_or v n None ≡ None → HasTerminals (cs ++ (pos n, place) ∷ []) (set v n (Some place))

@@ -1,13 +1,11 @@
 -- SPDX-License-Identifier: Apache-2.0
 -- Texts with their places.
-use Rattle.std.proofs.Common.{◌≡◌, ◌⊎◌, ℕ, zero, suc, ◌<◌, Bool, true, false, cond, List, [], ◌∷◌, ◌++◌, length, get_or, Option, Some, None, IfSome, IfNone, refl, sym, ap, subst, ◌∙◌, inl, inr, arith}
-use Rattle.std.specs.Prelude.{slice_get, is_some}
+use Rattle.std.proofs.Common.{◌≡◌, ◌⊎◌, ℕ, zero, suc, ◌<◌, Bool, true, false, cond, List, ◌∷◌, ◌++◌, length, get_or, Option, Some, None, IfSome, IfNone, refl, sym, ap, subst, ◌∙◌, inl, inr, arith, slice_get, is_some, bytes_eq, []}
 use Rattle.std.specs.List.{list_any}
 use Rattle.std.specs.HashMap as hash
 use Rattle.std.specs.Map.{lookup, KeepsOthers, IsKeyTest, AreApart}
-use Rattle.std.specs.Str.{bytes_eq}
 use Rattle.std.specs.Cmp.Lexicographic.{bytes_decides, nat_list_eq_equiv}
-use Rattle.std.proofs.lemmas.Bool.{cases_Bool, cond-true, cond-false, false≢true}
+use Rattle.std.proofs.lemmas.Bool.{cases_Bool, cond-true, cond-false, false≢true, false_from_ne_true}
 use Rattle.std.proofs.lemmas.List.Folds.{list_any_none, list_any_at}
 use Rattle.std.proofs.lemmas.Option.{none-some, same_Some, slice_get-get_or, slice_get_within, get_or_from_slice_get}
 use Rattle.mspec.specs.Node.{Text}
@@ -24,12 +22,7 @@ place_told texts places index text (Some i) e = record {
 pub absence_told : (texts : List Text) (places : Places) → IsIndex texts places → (text : Text) (r : Option ℕ) → r ≡ found_at places text → IfNone r (list_any (text_eq text) texts ≡ false)
 absence_told texts places index text (Some i) e = tt
 absence_told texts places index text None e = list_any_none (text_eq text) texts (λ k d within.
-    elim (cases_Bool (text_eq text (get_or texts k d))) [
-      | inl same ↦
-          let at = slice_get-get_or texts k d within ∙ ap Some (sym ((bytes_decides text (get_or texts k d)).0 same)) in
-          absurd (none-some k (e ∙ index.each text k at))
-      | inr other ↦ other
-    ])
+    false_from_ne_true _ (λ same. none-some k (e ∙ index.each text k (slice_get-get_or texts k d within ∙ ap Some (sym ((bytes_decides text (get_or texts k d)).0 same))))))
 
 pub place_any : (texts : List Text) (text : Text) (i : ℕ) → slice_get texts i ≡ Some text → list_any (text_eq text) texts ≡ true
 place_any texts text i at = list_any_at (text_eq text) texts i text (slice_get_within texts i text at) ((bytes_decides text _).1 (sym (get_or_from_slice_get texts i text text at)))
@@ -101,12 +94,7 @@ index_more texts m n v index absent u = record {
       elim (slice_get_end texts v.items text i e) [
         | inl before ↦
             let other : bytes_eq v.items text ≡ false =
-            elim (cases_Bool (bytes_eq v.items text)) [
-              | inl same ↦
-                  let k = slice_get_within texts i text before in
-                  absurd (false≢true (sym absent ∙ list_any_at (text_eq v.items) texts i text k (ap (bytes_eq v.items) (get_or_from_slice_get texts i text text before) ∙ same)))
-              | inr other ↦ other
-            ] in
+            false_from_ne_true _ (λ same. false≢true (sym absent ∙ list_any_at (text_eq v.items) texts i text (slice_get_within texts i text before) (ap (bytes_eq v.items) (get_or_from_slice_get texts i text text before) ∙ same))) in
             rw other (index.each text i before)
         | inr last ↦ rw ((bytes_decides v.items text).1 last.1) (ap Some (sym last.0))
       ];

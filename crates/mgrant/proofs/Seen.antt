@@ -1,14 +1,13 @@
 -- SPDX-License-Identifier: Apache-2.0
 -- The settings of the definitions, beside the parts that the code keeps.
-use Rattle.std.proofs.Common.{◌≡◌, inl, inr, ℕ, zero, suc, ◌+◌, ◌==◌, ◌<◌, Bool, true, false, List, [], ◌∷◌, length, map, get_or, Option, Some, None, All, refl, sym, subst, ap, ◌∙◌, arith, add-zero, zero-add}
-use Rattle.std.specs.Prelude.{not, ◌&&◌, ◌||◌, nat_le, slice_get, option_map, option_and_then, unwrap_or}
+use Rattle.std.proofs.Common.{◌≡◌, inl, inr, ℕ, zero, suc, ◌+◌, ◌==◌, ◌<◌, Bool, true, false, List, ◌∷◌, length, map, get_or, Option, Some, None, All, refl, sym, subst, ap, ◌∙◌, arith, add-zero, zero-add, not, ◌&&◌, ◌||◌, nat_le, slice_get, option_map, option_and_then, unwrap_or, []}
 use Rattle.std.specs.List.{list_any, list_all, find as first_of}
 use Rattle.std.specs.Ordering.{nat_cmp, eq_by_cmp}
 use Rattle.std.specs.FinMap.{get, from_entries, get-from_entries}
 use Rattle.std.specs.FinMap.Entries.{find}
 use Rattle.std.specs.Cmp.{nat_cmp_total}
 use Rattle.std.specs.Cmp.Lexicographic.{bytes_decides}
-use Rattle.std.proofs.lemmas.Bool.{cases_Bool, cases_lt, and_parts, or_cases, leb-true, false≢true, ne_eqb, eq-eqb, not-true}
+use Rattle.std.proofs.lemmas.Bool.{cases_Bool, cases_lt, and_parts, or_cases, leb-true, false≢true, ne_eqb, eq-eqb, not-true, false_from_ne_true}
 use Rattle.std.proofs.lemmas.Bool.Decides.{nat_tests}
 use Rattle.std.proofs.lemmas.List.Elements.{All-head, All-tail}
 use Rattle.std.proofs.lemmas.List.Folds.{list_any_at}
@@ -20,10 +19,10 @@ use Rattle.mspec.specs.Literal.{is_digit}
 use Rattle.mspec.specs.Names.{is_letter, is_name_rest}
 use Rattle.mspec.proofs.SubscriptTests.{account_name_is}
 use Rattle.mspec.specs.Access as access
-use Rattle.mspec.specs.Access.{Account, Grant}
+use Rattle.mspec.specs.Access.{Account}
 use Rattle.mgrant.specs.Document.{are_names, are_distinct, is_account_name}
 use Rattle.mgrant.specs.Placed.{Placed, lets_at}
-use Rattle.mgrant.specs.View.{accounts_of, terminals_from, with_terminal, named, IsAmong}
+use Rattle.mgrant.specs.View.{accounts_of, terminals_from, with_terminal, named, IsAmong, settings_view, AreSettings}
 use Rattle.mgrant.specs.Words.{text_in, IsPlaceOf}
 use Rattle.mgrant.proofs.Allowances.{place_test}
 
@@ -60,11 +59,7 @@ named_seen [] steps name i same is = absurd (none-some name is.here)
 named_seen (n ∷ ns) [] name i same is = absurd (omega arith)
 named_seen (n ∷ ns) (s ∷ ss) name zero same is = rw ((bytes_decides name n).1 (sym (same_Some n name is.here))) refl
 named_seen (n ∷ ns) (s ∷ ss) name (suc i) same is =
-    let other : text_eq name n ≡ false =
-    elim (cases_Bool (text_eq name n)) [
-      | inl here ↦ let first = is.alone 0 (ap Some (sym ((bytes_decides name n).0 here))) in absurd (omega arith)
-      | inr other ↦ other
-    ] in
+    let other : text_eq name n ≡ false = false_from_ne_true _ (λ here. let first = is.alone 0 (ap Some (sym ((bytes_decides name n).0 here))) in absurd (omega arith)) in
     rw other (named_seen ns ss name i (omega arith) (record { here = is.here; alone = λ j at. let next = is.alone (suc j) at in omega arith }))
 
 pub unnamed_seen : (names : List Text) (steps : List ℕ) (name : Text) → list_any (text_eq name) names ≡ false → first_of (λ (a : Account). text_eq name a.name) (accounts_of names steps) ≡ None
@@ -164,10 +159,7 @@ me_test names good me i within =
       | inr outside ↦
           let empty : text_in names me ≡ [] = ap (λ o. unwrap_or o []) (slice_get_past names me outside) in
           let other : text_eq (text_in names me) (text_in names i) ≡ false =
-          elim (cases_Bool (text_eq (text_in names me) (text_in names i))) [
-            | inl same ↦ absurd (false≢true (ap is_account_name (sym empty ∙ (bytes_decides (text_in names me) (text_in names i)).0 same) ∙ name_good names good i within))
-            | inr other ↦ other
-          ] in
+          false_from_ne_true _ (λ same. false≢true (ap is_account_name (sym empty ∙ (bytes_decides (text_in names me) (text_in names i)).0 same) ∙ name_good names good i within)) in
           other ∙ sym (ne_eqb me i (λ e. absurd (omega arith)))
     ]
 
@@ -191,10 +183,7 @@ lets_unknown names me owner_name name asked none [] among = refl
 lets_unknown names me owner_name name asked none (g ∷ gs) among =
     let here : IsAmong (length names) g = All-head (IsAmong (length names)) g gs among in
     let other : text_eq owner_name (text_in names g.from) ≡ false =
-    elim (cases_Bool (text_eq owner_name (text_in names g.from))) [
-      | inl same ↦ absurd (false≢true (sym none ∙ list_any_at (text_eq owner_name) names g.from [] here.from (ap (text_eq owner_name) (sym (unwrap_or-slice_get names g.from [])) ∙ same)))
-      | inr other ↦ other
-    ] in
+    false_from_ne_true _ (λ same. false≢true (sym none ∙ list_any_at (text_eq owner_name) names g.from [] here.from (ap (text_eq owner_name) (sym (unwrap_or-slice_get names g.from [])) ∙ same))) in
     rw (unowned (text_eq owner_name (text_in names g.from)) (text_eq me (text_in names g.to)) (text_eq name g.global && access.allows g.mode asked) other) (lets_unknown names me owner_name name asked none gs (All-tail (IsAmong (length names)) g gs among))
 
 pub there : (v : List (Option ℕ)) (t i : ℕ) → get_or v t None ≡ Some i → slice_get v t ≡ Some (Some i)
@@ -204,3 +193,9 @@ there (o ∷ v) (suc t) i e = there v t i e
 
 pub either : (a b r : Bool) → a ≡ false → b ≡ r → (a || b) ≡ r
 either a b r e f = rw e f
+
+-- what settings as they are seen let the account at a place do
+pub may_seen : (names : List Text) (steps : List ℕ) (terminals : List (Option ℕ)) (gs : List Placed) → AreSettings names steps terminals gs → (now : access.Settings) → settings_view names steps terminals gs ≡ now → (me : ℕ) (owner name : Text) (asked : access.Mode)
+    → access.may (settings_view names steps terminals gs) (text_in names me) owner name asked ≡ access.may now (access.name_at now me) owner name asked
+may_seen names steps terminals gs inside now is me owner name asked =
+    ap (λ x. access.may (settings_view names steps terminals gs) x owner name asked) (name_seen names steps me inside.stepped) ∙ ap (λ s. access.may s (access.name_at s me) owner name asked) is

@@ -1,11 +1,8 @@
 -- SPDX-License-Identifier: Apache-2.0
 -- What a column of numbers makes of a value.
 use Rattle.std.proofs.Common.{◌≡◌, ℤ, Bool, cond, true, false, refl}
-use Rattle.sqlite.specs.declared.types.Value.{Value}
-use Rattle.sqlite.specs.declared.types.Value.TheVariants.{Null, Int}
+use Rattle.mstore.proofs.Words.{Value, Null, Int, Integer, cast}
 use Rattle.sqlite.specs.Ops.{unary}
-use Rattle.sqlite.specs.Kind.TheVariants.{Integer}
-use Rattle.sqlite.specs.Cast.{cast}
 
 either : (b : Bool) (x : Value) → cond b x x ≡ x
 either true x = refl

@@ -4,14 +4,8 @@ use Rattle.std.proofs.Common.{◌≡◌, ℕ, ℤ, Bool, true, false, not, List,
 use Rattle.std.proofs.lemmas.Int.{ints}
 use Rattle.std.proofs.lemmas.Bool.{true≢false, not-true, false_from_ne_true}
 use Rattle.std.proofs.lemmas.Cmp.{tied_itself}
-use Rattle.sqlite.specs.declared.types.Value.TheVariants.{Int}
-use Rattle.sqlite.specs.Order.{Row}
+use Rattle.mstore.proofs.Words.{Int, Row, value_cmp_total, value_cmp-Int, rowid, has_rowid, without_rowid, Has, id_in, without_all, is_taken, has_filtered, has_kept, some_from}
 use Rattle.sqlite_value.specs.Order.{value_cmp}
-use Rattle.sqlite_value.proofs.OrderLemmas.{value_cmp_total, value_cmp-Int}
-use Rattle.sqlite_trees.specs.Tree.{rowid, has_rowid, without_rowid}
-use Rattle.sqlite_rules.specs.Lists.{Has}
-use Rattle.sqlite_rules.specs.Edit.{id_in, without_all, is_taken}
-use Rattle.sqlite_rules.proofs.ListLemmas.{has_filtered, has_kept, some_from}
 use Rattle.mstore.specs.Rows.{IsNode, AreRows, lookup, key_of, value_of}
 use Rattle.mstore.proofs.Maps.{lookup_some, lookup_has, lookup_none}
 

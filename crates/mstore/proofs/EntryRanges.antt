@@ -1,11 +1,10 @@
 -- SPDX-License-Identifier: Apache-2.0
 -- The entries within bounds of bytes.
-use Rattle.std.proofs.Common.{◌≡◌, ℕ, zero, suc, ◌-◌, ◌<◌, Bool, true, false, cond, ◌&&◌, List, [], ◌∷◌, ◌++◌, map, reverse, length, slice_index_or, slice_get, take, drop, Option, Some, None, find, if◌then◌else◌, refl, sym, ap, ◌∙◌, arith}
+use Rattle.std.proofs.Common.{◌≡◌, ℕ, zero, suc, ◌-◌, ◌<◌, Bool, true, false, cond, ◌&&◌, List, [], ◌∷◌, ◌++◌, map, reverse, length, slice_index_or, slice_get, take, drop, Option, Some, None, find, if◌then◌else◌, refl, sym, ap, ◌∙◌, arith, Ordering, Less, Equal, Greater}
+use Rattle.std.proofs.lemmas.Bool.{false_from_ne_true}
 use Rattle.std.specs.Cmp.Lexicographic.{slice_cmp, nat_list_cmp_total}
 use Rattle.std.specs.Option.{option_or}
 use Rattle.std.specs.Ordering.{nat_cmp, is_lt, is_le, ordering_reverse}
-use Rattle.std.specs.declared.cmp.Ordering.{Ordering}
-use Rattle.std.specs.declared.cmp.Ordering.TheVariants.{Less, Equal, Greater}
 use Rattle.std.proofs.lemmas.List.{length-drop, reverse-append, take_all}
 use Rattle.std.proofs.lemmas.List.Folds.{find-append}
 use Rattle.mspec.specs.Globals.{is_between, next_key, previous_key}
@@ -19,10 +18,6 @@ pub and_no : (a b : Bool) → b ≡ false → (a && b) ≡ false
 and_no true b e = e
 and_no false b e = refl
 
-pub not_true : (b : Bool) → (b ≡ true → ⊥) → b ≡ false
-not_true true h = absurd (h refl)
-not_true false h = refl
-
 pub not_both : {P : Type 0} (b : Bool) → b ≡ true → b ≡ false → P
 not_both true e f = absurd (cc)
 not_both false e f = absurd (cc)
@@ -33,7 +28,7 @@ module _ (a b c : List ℕ) where
   less_than e f = ap is_lt (nat_list_cmp_total.trans a b c e (less _ f))
 
   pub not_less_than : slice_cmp nat_cmp a b ≡ Less → is_lt (slice_cmp nat_cmp a c) ≡ false → is_lt (slice_cmp nat_cmp b c) ≡ false
-  not_less_than e f = not_true _ (λ g. not_both _ (less_than e g) f)
+  not_less_than e f = false_from_ne_true _ (λ g. not_both _ (less_than e g) f)
 
   at_most_by : (o : Ordering) → slice_cmp nat_cmp a b ≡ o → is_le o ≡ true → slice_cmp nat_cmp b c ≡ Less → is_le (slice_cmp nat_cmp a c) ≡ true
   at_most_by Less e f g = ap is_le (nat_list_cmp_total.trans a b c e g)
@@ -58,7 +53,7 @@ pub from_on : (a b : List ℕ) → is_lt (slice_cmp nat_cmp b a) ≡ false → i
 from_on a b e = ap is_le (nat_list_cmp_total.antisymm a b) ∙ turned_back _ e
 
 pub not_from : (a b : List ℕ) → is_lt (slice_cmp nat_cmp b a) ≡ true → is_le (slice_cmp nat_cmp a b) ≡ false
-not_from a b e = not_true _ (λ f. not_both _ e (turned _ (ap is_le (sym (nat_list_cmp_total.antisymm a b)) ∙ f)))
+not_from a b e = false_from_ne_true _ (λ f. not_both _ e (turned _ (ap is_le (sym (nat_list_cmp_total.antisymm a b)) ∙ f)))
 
 -- ---- the key of one entry
 
@@ -157,7 +152,7 @@ module _ (low high : List ℕ) where
 
   -- where a key is out of bounds that stands before the upper one, so are those before it
   below_out : (e f : Entry) → slice_cmp nat_cmp (bytes_of e) (bytes_of f) ≡ Less → is_before high f ≡ true → is_between low high (bytes_of f) ≡ false → is_between low high (bytes_of e) ≡ false
-  below_out e f lt before out = not_true _ (λ in_bounds.
+  below_out e f lt before out = false_from_ne_true _ (λ in_bounds.
       let from = at_most low (bytes_of e) (bytes_of f) (first _ _ in_bounds) lt in
       not_both _ (ap (λ a. a && is_lt (slice_cmp nat_cmp (bytes_of f) high)) from ∙ before) out)
 

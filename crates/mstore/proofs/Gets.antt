@@ -1,13 +1,9 @@
 -- SPDX-License-Identifier: Apache-2.0
 -- What `get` finds.
 use Rattle.std.proofs.Common.{◌≡◌, ℕ, List, [], ◌∷◌, Some, None, Ok, Err, refl, sym, ap, subst, ◌∙◌, inl}
-use Rattle.sqlite.specs.declared.types.Value.TheVariants.{Null, Blob}
-use Rattle.sqlite.specs.Order.{Row, column}
-use Rattle.sqlite.specs.State.{State, QueriesRow}
+use Rattle.mstore.proofs.Words.{Null, Blob, Row, column, State, QueryReturnedNoRows, IsPlain, first_as, reads_as, same_bytes}
+use Rattle.sqlite.specs.State.{QueriesRow}
 use Rattle.sqlite.specs.Listing.{understood}
-use Rattle.sqlite.specs.declared.error.Error.TheVariants.{QueryReturnedNoRows}
-use Rattle.sqlite.proofs.Callers.{IsPlain, first_as, reads_as}
-use Rattle.sqlite_typed.proofs.TestLemmas.{same_bytes}
 use Rattle.mstore.specs.Layout.{schema}
 use Rattle.mstore.specs.Database.{IsStore, content}
 use Rattle.mstore.specs.Rows.{key_of, value_of}

@@ -1,10 +1,8 @@
 -- SPDX-License-Identifier: Apache-2.0
 -- What entries and rows hold are nodes of a store, with texts that they may have.
-use Rattle.std.proofs.Common.{◌≡◌, List, [], ◌∷◌, length, All, refl, sym, ◌∙◌, subst, inl, inr, arith}
+use Rattle.std.proofs.Common.{◌≡◌, List, [], ◌∷◌, length, All, refl, sym, ◌∙◌, subst, inl, inr, arith, Ordering, Less, Equal, Greater}
 use Rattle.std.specs.FinMap.{entries, empty, entries-insert, len-entries, len-empty}
 use Rattle.std.specs.FinMap.Entries.{put, by_order}
-use Rattle.std.specs.declared.cmp.Ordering.{Ordering}
-use Rattle.std.specs.declared.cmp.Ordering.TheVariants.{Less, Equal, Greater}
 use Rattle.std.proofs.lemmas.List.Elements.{All-map, All-nil, All-cons, All-head, All-tail}
 use Rattle.mspec.specs.KeyReading.{node_of}
 use Rattle.mspec.specs.Node.{Text, Node}
@@ -12,10 +10,7 @@ use Rattle.mspec.specs.NodeOrder.{node_cmp}
 use Rattle.mspec.specs.Number.{significant_digits}
 use Rattle.mspec.specs.KeyBytes.{IsStored}
 use Rattle.mspec.proofs.NodeOrders.{node_cmp_total}
-use Rattle.sqlite.specs.Order.{Row}
-use Rattle.sqlite_rules.specs.Lists.{Has}
-use Rattle.sqlite_trees.specs.declared.store.Store.{Ghosts}
-use Rattle.sqlite.specs.Held.{Held, state}
+use Rattle.mstore.proofs.Words.{Row, Has, Ghosts, Held, state}
 use Rattle.mstore.specs.declared.plain.Entry.{Entry}
 use Rattle.mstore.specs.Database.{IsSound, stored}
 use Rattle.mstore.specs.Entries.{entries_of, entry_of, held, AreEntries}
@@ -32,7 +27,7 @@ entries_held es are = subst (All IsHeld) (sym (entries_from (entries_of es) are.
 
 -- ---- the rows of a table
 
-put_held : (n : Node) (t : Text) → IsHeld (n, t) → (es : List (Node × Text)) → All IsHeld es → All IsHeld (put (node_cmp significant_digits) n t es)
+pub put_held : (n : Node) (t : Text) → IsHeld (n, t) → (es : List (Node × Text)) → All IsHeld es → All IsHeld (put (node_cmp significant_digits) n t es)
 put_held n t is [] all = All-cons IsHeld (n, t) [] is (All-nil IsHeld)
 put_held n t is (e ∷ es) all = by_place (node_cmp significant_digits n e.0) (put_held n t is es (All-tail IsHeld e es all))
   where
@@ -58,3 +53,7 @@ rows_held (r ∷ rows) in_form =
 
 pub table_held : {S : Type 0} (g : Ghosts S) (h : Held S) → IsSound g h → AreHeld (stored g h)
 table_held g h sound = rows_held ((state g h).now.trees 0) sound.1.nodes.in_form
+
+-- the same of the table as it is seen
+pub seen_held : {S : Type 0} (g : Ghosts S) (h t : Held S) → h ≡ t → IsSound g h → AreHeld (stored g t)
+seen_held g h t is sound = subst (λ t. AreHeld (stored g t)) is (table_held g h sound)

@@ -1,12 +1,12 @@
 -- SPDX-License-Identifier: Apache-2.0
 -- The first and the last key of rows within bounds, as those of the globals that the rows hold.
-use Rattle.std.proofs.Common.{ℕ, ◌≡◌, ◌⊎◌, inl, inr, Bool, true, false, cond, ◌&&◌, Option, Some, None, option_map, is_some, List, [], ◌∷◌, map, length, reverse, refl, sym, ◌∙◌, ap, subst, arith}
+use Rattle.std.proofs.Common.{ℕ, ◌≡◌, ◌⊎◌, inl, inr, Bool, true, false, cond, ◌&&◌, Option, Some, None, option_map, is_some, List, [], ◌∷◌, map, length, reverse, refl, sym, ◌∙◌, ap, subst, arith, Ordering, Less, Equal, Greater}
+use Rattle.mstore.proofs.SortedEntries.{from_T}
+use Rattle.std.proofs.lemmas.Bool.{and_parts}
 use Rattle.std.specs.Prelude.{⊤, T, IsSome}
 use Rattle.std.specs.Option.{option_or}
 use Rattle.std.specs.List.{find, AllByRecursion}
 use Rattle.std.specs.Ordering.{nat_cmp, is_eq, is_lt, eq_by_cmp, ordering_reverse}
-use Rattle.std.specs.declared.cmp.Ordering.{Ordering}
-use Rattle.std.specs.declared.cmp.Ordering.TheVariants.{Less, Equal, Greater}
 use Rattle.std.specs.Cmp.{eq_by_cmp_equiv, Equal-is}
 use Rattle.std.specs.Cmp.Lexicographic.{slice_cmp, nat_list_cmp_total}
 use Rattle.std.specs.FinMap.{nat_cmp-IsAntisymmetric, slice_cmp-IsAntisymmetric, len-entries, len-empty, entries, entries_sorted, entries-insert, get-entries, empty}
@@ -24,7 +24,7 @@ use Rattle.mspec.proofs.KeyOrders.{key_order}
 use Rattle.mkey.specs.Key.{IsKey, none_empty}
 use Rattle.mstore.specs.Map.{ShowsBytes, is_below, is_nearer}
 use Rattle.mstore.specs.Keyed.{lookup_by, globals_by, AreKeyed}
-use Rattle.mstore.proofs.KeyedRows.{key, node_at, both_true, same_of, gets}
+use Rattle.mstore.proofs.KeyedRows.{key, node_at, same_of, gets}
 
 -- ---- keys in a list
 
@@ -101,10 +101,6 @@ found_last p (k ∷ ks) rising =
 
 -- ---- the keys of globals
 
-truth : (b : Bool) → T b → b ≡ true
-truth true t = refl
-truth false t = absurd t
-
 AllSome : List (Node × Text) → Type 0
 AllSome = AllByRecursion (λ e. NoneEmpty e.0.subscripts)
 
@@ -118,7 +114,7 @@ below_in : (x : Node) → NoneEmpty x.subscripts → (es : List (Node × Text)) 
 unfolding In AllSome keys_in
 below_in x some [] all below q is = absurd is
 below_in x some (e ∷ es) all below q is =
-    let parts = both_true (is_lt (node_cmp significant_digits x e.0)) (Entries.below_all (node_cmp significant_digits) x es) (truth (is_lt (node_cmp significant_digits x e.0) && Entries.below_all (node_cmp significant_digits) x es) below) in
+    let parts = and_parts (is_lt (node_cmp significant_digits x e.0)) (Entries.below_all (node_cmp significant_digits) x es) (from_T (is_lt (node_cmp significant_digits x e.0) && Entries.below_all (node_cmp significant_digits) x es) below) in
     by_place parts.0 (below_in x some es all.1 (subst T (sym parts.1) tt) q) is
   where
     by_place : is_lt (node_cmp significant_digits x e.0) ≡ true → (In (keys_in es) q → is_below (key x) q ≡ true) → (q ≡ key e.0) ⊎ In (keys_in es) q → is_below (key x) q ≡ true
@@ -129,7 +125,7 @@ rising : (es : List (Node × Text)) → AllSome es → T (Entries.is_sorted (nod
 unfolding AllSome AreRising keys_in
 rising [] all sorted = tt
 rising (e ∷ es) all sorted =
-    let parts = both_true (Entries.below_all (node_cmp significant_digits) e.0 es) (Entries.is_sorted (node_cmp significant_digits) es) (truth (Entries.below_all (node_cmp significant_digits) e.0 es && Entries.is_sorted (node_cmp significant_digits) es) sorted) in
+    let parts = and_parts (Entries.below_all (node_cmp significant_digits) e.0 es) (Entries.is_sorted (node_cmp significant_digits) es) (from_T (Entries.below_all (node_cmp significant_digits) e.0 es && Entries.is_sorted (node_cmp significant_digits) es) sorted) in
     (below_in e.0 all.0 es all.1 (subst T (sym parts.0) tt), rising es all.1 (subst T (sym parts.1) tt))
 
 -- a key in the list is that of a node that has a text

@@ -1,27 +1,25 @@
 -- SPDX-License-Identifier: Apache-2.0
 -- What calls do to rows by their keys, they do to the globals that the rows hold.
-use Rattle.std.proofs.Common.{ℕ, ◌≡◌, ◌≢◌, ◌<◌, ◌⊎◌, inl, inr, Bool, true, false, cond, not, ◌&&◌, Some, None, option_map, List, [], ◌∷◌, map, length, drop, refl, sym, ◌∙◌, ap, subst, arith, append-nil}
-use Rattle.std.specs.List.{find}
+use Rattle.std.proofs.Common.{ℕ, ◌≡◌, ◌≢◌, ◌<◌, ◌⊎◌, inl, inr, Bool, true, false, cond, not, Some, None, option_map, List, [], ◌∷◌, map, length, refl, sym, ◌∙◌, ap, subst, arith, find}
+use Rattle.mstore.proofs.SortedEntries.{less}
+use Rattle.mstore.proofs.Subtrees.{told_within, within_told}
+use Rattle.std.proofs.lemmas.Bool.{and_parts, and_from}
 use Rattle.std.specs.Ordering.{nat_cmp, is_eq, is_lt, is_le, eq_by_cmp}
-use Rattle.std.specs.declared.cmp.Ordering.{Ordering}
-use Rattle.std.specs.Cmp.{IsTotalOrder, eq_by_cmp_equiv, Equal-is}
-use Rattle.std.specs.Cmp.Lexicographic.{slice_cmp, bytes_decides}
-use Rattle.std.specs.declared.cmp.Ordering.TheVariants.{Less, Equal, Greater}
+use Rattle.std.specs.Cmp.{IsTotalOrder, eq_by_cmp_equiv, Equal-is, both_ways}
+use Rattle.std.specs.Cmp.Lexicographic.{slice_cmp}
 use Rattle.std.specs.FinMap.{get, insert, get-from_entries, get-insert, get-retain_keys, same_map}
 use Rattle.std.specs.FinMap.Entries as Entries
 use Rattle.std.proofs.lemmas.List.Elements.{All-head, All-tail, All-cons, All-nil}
-use Rattle.std.proofs.lemmas.Slice.Eq.{starts_is}
 use Rattle.mspec.specs.Node.{Text, Node}
 use Rattle.mspec.specs.Number.{significant_digits}
 use Rattle.mspec.specs.NodeOrder.{node_cmp}
 use Rattle.mspec.specs.KeyBytes.{key_bytes, subtree_end}
-use Rattle.mspec.specs.KeyLaws.{NoneEmpty, IsWithin}
+use Rattle.mspec.specs.KeyLaws.{NoneEmpty}
 use Rattle.mspec.specs.KeyReading.{node_of}
-use Rattle.mspec.specs.Trees.{text_eq, is_within}
 use Rattle.mspec.specs.Globals.{Globals, is_node_within, without_subtree}
 use Rattle.mspec.proofs.NodeOrders.{node_cmp_total, node_cmp_exact}
 use Rattle.mspec.proofs.KeyOrders.{key_order}
-use Rattle.mspec.proofs.KeyRanges.{keys_are_injective, subtrees_are_ranges, within}
+use Rattle.mspec.proofs.KeyRanges.{keys_are_injective, subtrees_are_ranges}
 use Rattle.mspec.proofs.KeyReadings.{keys_are_read}
 use Rattle.mkey.specs.Key.{IsKey, none_empty}
 use Rattle.mstore.specs.Map.{PutsAt, RemovesWithin, in_bounds}
@@ -61,58 +59,17 @@ same_keys k is n some =
 
 -- ---- what is within a node
 
-pub both_true : (a b : Bool) → (a && b) ≡ true → (a ≡ true) × (b ≡ true)
-both_true true true e = (refl, refl)
-both_true true false e = (refl, e)
-both_true false b e = absurd (cc)
-
-two_true : (a b : Bool) → a ≡ true → b ≡ true → (a && b) ≡ true
-two_true true b e f = f
-two_true false b e f = e
-
-all_true : (a b c : Bool) → a ≡ true → b ≡ true → c ≡ true → (a && (b && c)) ≡ true
-all_true true true true e f g = refl
-all_true true true false e f g = g
-all_true true false c e f g = f
-all_true false b c e f g = e
-
-within_of : (n m : Node) → is_node_within n m ≡ true → IsWithin n m
-within_of n m e =
-    let first = both_true (text_eq n.account m.account) (text_eq n.name m.name && is_within n.subscripts m.subscripts) e in
-    let second = both_true (text_eq n.name m.name) (is_within n.subscripts m.subscripts) first.1 in
-    within n m (drop (length n.subscripts) m.subscripts) ((bytes_decides n.account m.account).0 first.0) ((bytes_decides n.name m.name).0 second.0)
-    ((starts_is bytes_decides m.subscripts n.subscripts (is_within n.subscripts m.subscripts) refl).0 second.1)
-
-of_within : (n m : Node) → IsWithin n m → is_node_within n m ≡ true
-of_within n m (inl same) =
-    subst (λ q. is_node_within n q ≡ true) same
-    (all_true (text_eq n.account n.account) (text_eq n.name n.name) (is_within n.subscripts n.subscripts) ((bytes_decides n.account n.account).1 refl) ((bytes_decides n.name n.name).1 refl)
-    ((starts_is bytes_decides n.subscripts n.subscripts (is_within n.subscripts n.subscripts) refl).1 [] (sym (append-nil n.subscripts))))
-of_within n m (inr above) =
-    all_true (text_eq n.account m.account) (text_eq n.name m.name) (is_within n.subscripts m.subscripts) ((bytes_decides n.account m.account).1 above.account) ((bytes_decides n.name m.name).1 above.name)
-    ((starts_is bytes_decides m.subscripts n.subscripts (is_within n.subscripts m.subscripts) refl).1 (above.longer.0 ∷ above.longer.1) above.longer.2)
-
-less : (r : Ordering) → is_lt r ≡ true → r ≡ Less
-less Less e = refl
-less Equal e = absurd (cc)
-less Greater e = absurd (cc)
-
-same_truth : (a b : Bool) → (a ≡ true → b ≡ true) → (b ≡ true → a ≡ true) → a ≡ b
-same_truth true b f g = sym (f refl)
-same_truth false true f g = g refl
-same_truth false false f g = refl
-
 -- the range of a node's keys is that of the nodes within it
 range_is : (n m : Node) → NoneEmpty n.subscripts → NoneEmpty m.subscripts → in_bounds (key n) (subtree_end (key n)) (key m) ≡ is_node_within n m
 range_is n m some_n some_m =
     let ranges = subtrees_are_ranges significant_digits n m some_n some_m in
-    same_truth (in_bounds (key n) (subtree_end (key n)) (key m)) (is_node_within n m)
+    both_ways (in_bounds (key n) (subtree_end (key n)) (key m)) (is_node_within n m)
     (λ e.
-    let both = both_true (is_le (slice_cmp nat_cmp (key n) (key m))) (is_lt (slice_cmp nat_cmp (key m) (subtree_end (key n)))) e in
-    of_within n m (ranges.0 (record { from = both.0; below = less (slice_cmp nat_cmp (key m) (subtree_end (key n))) both.1 })))
+    let both = and_parts (is_le (slice_cmp nat_cmp (key n) (key m))) (is_lt (slice_cmp nat_cmp (key m) (subtree_end (key n)))) e in
+    within_told n m (ranges.0 (record { from = both.0; below = less (slice_cmp nat_cmp (key m) (subtree_end (key n))) both.1 })))
     (λ e.
-    let between = ranges.1 (within_of n m e) in
-    two_true (is_le (slice_cmp nat_cmp (key n) (key m))) (is_lt (slice_cmp nat_cmp (key m) (subtree_end (key n)))) between.from (ap is_lt between.below))
+    let between = ranges.1 (told_within n m e) in
+    and_from (is_le (slice_cmp nat_cmp (key n) (key m))) (is_lt (slice_cmp nat_cmp (key m) (subtree_end (key n)))) between.from (ap is_lt between.below))
 
 -- ---- a node's text is the value at its key
 

@@ -1,24 +1,9 @@
 -- SPDX-License-Identifier: Apache-2.0
 -- What `kill` takes out.
-use Rattle.std.proofs.Common.{◌≡◌, ℕ, ℤ, true, List, [], ◌∷◌, Ok, refl, sym, ap, subst, ◌∙◌}
-use Rattle.std.proofs.lemmas.Bool.{true≢false}
-use Rattle.sqlite.specs.declared.types.Value.TheVariants.{Null, Blob}
-use Rattle.sqlite.specs.Order.{Row}
-use Rattle.sqlite.specs.Term.{col}
-use Rattle.sqlite.specs.Rows.{Written}
+use Rattle.std.proofs.Common.{◌≡◌, ℕ, ℤ, true, List, [], ◌∷◌, Ok, refl, sym, ap, subst, ◌∙◌, true≢false}
+use Rattle.mstore.proofs.Words.{Null, Blob, Row, col, Written, Database, IsAnswer, overlay, Enforced, Given, rowid, Has, id_in, without_all, ids_of, State, Executes, runs_as, one_step}
 use Rattle.sqlite.specs.Tree.{Trees}
-use Rattle.sqlite.specs.Effect.{Database}
-use Rattle.sqlite.specs.Query.{IsAnswer}
-use Rattle.sqlite.specs.Program.{overlay}
-use Rattle.sqlite_schema.specs.declared.schema.Keys.TheVariants.{Enforced}
-use Rattle.sqlite_rules.specs.declared.error.Rowids.TheVariants.{Given}
-use Rattle.sqlite_trees.specs.Tree.{rowid}
-use Rattle.sqlite_rules.specs.Lists.{Has}
-use Rattle.sqlite_rules.specs.Edit.{id_in, without_all, edit_of}
-use Rattle.sqlite_rules.specs.Calls.{ids_of}
-use Rattle.sqlite.specs.State.{State}
-use Rattle.sqlite.proofs.Callers.{runs_as, one_step}
-use Rattle.sqlite.specs.State.{Executes}
+use Rattle.sqlite_rules.specs.Edit.{edit_of}
 use Rattle.mstore.specs.Layout.{node, schema}
 use Rattle.mstore.specs.Database.{IsIdle}
 use Rattle.mstore.specs.Map.{in_bounds, RemovesWithin}

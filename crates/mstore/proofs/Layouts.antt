@@ -2,7 +2,8 @@
 -- The schema of a store, written out.
 use Rattle.std.proofs.Common.{◌≡◌, true, false, [], ◌∷◌, codes, refl}
 use Rattle.std.specs.Fmt.{digits}
-use Rattle.sqlite.specs.Kind.TheVariants.{Integer, Text, Any}
+use Rattle.mstore.proofs.Words.{Integer, Any}
+use Rattle.sqlite.specs.Kind.TheVariants.{Text}
 use Rattle.mstore.specs.Layout.{column_of, table_of, index_of, schema}
 
 pub schema_is : schema ≡ record {

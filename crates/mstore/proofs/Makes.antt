@@ -1,38 +1,25 @@
 -- SPDX-License-Identifier: Apache-2.0
 -- How the tables are made.
 use Rattle.std.proofs.Common.{◌≡◌, ℕ, pos, true, false, List, [], ◌∷◌, codes, None, Ok, refl, sym, ap, ap₂, subst, ◌∙◌, inl, arith}
-use Rattle.sqlite.specs.declared.types.Value.TheVariants.{Null, Int, Text}
-use Rattle.sqlite.specs.Order.{Row}
-use Rattle.sqlite.specs.Term.{lit}
-use Rattle.sqlite.specs.Source.{Source}
+use Rattle.mstore.proofs.Words.{Null, Int, Row, lit, Source, CreateTable, Insert, Enforced, Chosen, Tally, Does, lacks_sequence, Written, Database, State, mode_of, Writes, Executes, IsPlain, command_of, statement_of, runs_as, one_step, over_memory, IsEmpty, put_all_adds, Has}
+use Rattle.sqlite.specs.declared.types.Value.TheVariants.{Text}
 use Rattle.sqlite.specs.Source.TheVariants.{Values}
-use Rattle.sqlite.specs.Command.TheVariants.{CreateTable, Insert}
 use Rattle.sqlite.specs.Table.{Table}
 use Rattle.sqlite.specs.Tree.{Trees}
 use Rattle.sqlite.specs.Edit.{edit_of, numbered, next_rowid, put_all}
-use Rattle.sqlite_schema.specs.declared.schema.Keys.TheVariants.{Enforced}
-use Rattle.sqlite_rules.specs.declared.error.Rowids.TheVariants.{Chosen}
 use Rattle.sqlite.specs.Change.{created, next_tree}
-use Rattle.sqlite.specs.Does.{Tally, Does, lacks_sequence}
-use Rattle.sqlite.specs.Rows.{Written}
 use Rattle.sqlite_trees.specs.Memory.{memory_is_listed, memory_is_ordered}
 use Rattle.sqlite_tied.specs.Compute.{everything}
 use Rattle.sqlite.specs.Listing.{understood}
-use Rattle.sqlite.specs.Effect.{Database}
-use Rattle.sqlite.specs.State.{State, mode_of, Writes, Executes}
-use Rattle.sqlite.proofs.Callers.{IsPlain, command_of, statement_of, runs_as, one_step}
 use Rattle.mstore.specs.Layout.{node, meta, schema, no_schema}
 use Rattle.mstore.specs.Database.{version_name, this_version, IsIdle, IsStore, IsBare, IsBlank, IsMemory}
 use Rattle.mstore.specs.Rows.{AreNodes, key_of, value_of}
 use Rattle.mstore.specs.Keyed.{globals_by}
 use Rattle.std.specs.FinMap.{empty}
-use Rattle.sqlite.specs.Steps.{over_memory, IsEmpty}
 use Rattle.sqlite_trees.proofs.Doubt.{no_doubt}
 use Rattle.mstore.proofs.Texts.{node_is, meta_is}
 use Rattle.mstore.specs.Statements.{node_text, meta_text, version_text}
 use Rattle.mstore.proofs.Casts.{cast_null, cast_int}
-use Rattle.sqlite_rules.proofs.TableLemmas.{put_all_adds}
-use Rattle.sqlite_rules.specs.Lists.{Has}
 use Rattle.mstore.proofs.Writes.{went, same_value}
 
 abbrev version_source : Source
@@ -119,9 +106,6 @@ adds_version old new count bare h =
 
 pub bare_nodes : (rows : List Row) → rows ≡ [] → AreNodes rows
 bare_nodes rows none = subst AreNodes (sym none) (record { each = λ r h. absurd h; in_form = λ r h. absurd h; ids = λ r s h. absurd h; keys = λ r s h. absurd h })
-
-pub bare_store : (s : State) → IsBare s.now → IsIdle s → IsStore s
-bare_store s bare idle = record { calm = record { idle = idle; schema_is = bare.schema_is }; nodes = bare_nodes (s.now.trees 0) bare.empty }
 
 pub blank_from : (s : State) → IsEmpty s → IsBlank s
 blank_from s h = record { idle = record { autocommit = h.0.autocommit; settled = h.0.clean }; schema_is = h.2 }

@@ -1,11 +1,7 @@
 -- SPDX-License-Identifier: Apache-2.0
 -- The map that the rows are.
-use Rattle.std.proofs.Common.{◌≡◌, ◌≢◌, ℕ, Bool, cond, true, false, List, [], ◌∷◌, find, option_map, Option, Some, None, refl, sym, ap, subst, ◌∙◌, inl, inr}
-use Rattle.std.proofs.lemmas.Bool.{true≢false}
-use Rattle.sqlite.specs.Order.{Row}
-use Rattle.sqlite_rules.specs.Lists.{Has}
-use Rattle.sqlite_rules.proofs.ListLemmas.{has_found}
-use Rattle.sqlite_typed.proofs.TestLemmas.{same_bytes, bytes_eq_refl}
+use Rattle.std.proofs.Common.{◌≡◌, ◌≢◌, ℕ, Bool, cond, true, false, List, [], ◌∷◌, find, option_map, Option, Some, None, refl, sym, ap, subst, ◌∙◌, inl, inr, true≢false}
+use Rattle.mstore.proofs.Words.{Row, Has, has_found, same_bytes, bytes_eq_refl}
 use Rattle.mstore.specs.Rows.{AreRows, lookup, is_at, key_of, value_of}
 
 pub at_itself : (r : Row) (k : List ℕ) → key_of r ≡ k → is_at k r ≡ true

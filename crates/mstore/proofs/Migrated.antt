@@ -1,19 +1,7 @@
 -- SPDX-License-Identifier: Apache-2.0
 -- A store of version 1 whose rows have all been moved.
-use Rattle.std.proofs.Common.{◌≡◌, ℕ, true, false, List, [], ◌∷◌, Option, Some, None, refl, sym, ap, ap₂, subst, ◌∙◌, inl, inr}
-use Rattle.sqlite.specs.declared.types.Value.{Value}
-use Rattle.sqlite.specs.declared.types.Value.TheVariants.{Blob}
-use Rattle.sqlite.specs.Order.{Row, column}
-use Rattle.sqlite_rules.specs.Lists.{Has}
-use Rattle.sqlite_rules.proofs.ListLemmas.{all_from}
-use Rattle.std.proofs.Common.{OnErr, Result, Ok, Err, IsTrue}
-use Rattle.std.proofs.lemmas.Bool.{true≢false}
-use Rattle.sqlite_trees.specs.declared.store.Store.{Ghosts}
-use Rattle.sqlite.specs.Effect.{Database}
-use Rattle.sqlite.specs.Held.{Held, state}
-use Rattle.sqlite.specs.declared.error.Error.{Error}
-use Rattle.sqlite.specs.State.{State, Shows, IsRolledBack}
-use Rattle.sqlite.specs.Steps.{FailsToCommit}
+use Rattle.std.proofs.Common.{◌≡◌, ℕ, true, false, List, [], ◌∷◌, Option, Some, None, refl, sym, ap, ap₂, subst, ◌∙◌, inl, inr, true≢false, OnErr, Result, Ok, Err, IsTrue}
+use Rattle.mstore.proofs.Words.{Value, Blob, Row, column, Has, all_from, Ghosts, Database, Held, state, Error, State, Shows, IsRolledBack, FailsToCommit}
 use Rattle.mspec.specs.Node.{Node}
 use Rattle.mspec.specs.Number.{significant_digits}
 use Rattle.mspec.specs.KeyBytes.{key_bytes, IsStored}

@@ -1,13 +1,9 @@
 -- SPDX-License-Identifier: Apache-2.0
 -- Rows that go from their keys by fifteen digits to those of this version.
-use Rattle.std.proofs.Common.{◌≡◌, ◌≢◌, ◌⊎◌, ℕ, suc, true, List, [], ◌∷◌, Option, Some, None, sym, ap, subst, ◌∙◌, inl, inr, is_eq, nat_cmp}
+use Rattle.std.proofs.Common.{◌≡◌, ◌≢◌, ◌⊎◌, ℕ, suc, true, List, [], ◌∷◌, Option, Some, None, sym, ap, subst, ◌∙◌, inl, inr, is_eq, nat_cmp, drop-cons, ◌+◌, ◌<◌, length, drop, get_or, add-one}
 use Rattle.std.proofs.lemmas.Bool.{cases_Bool, true≢false}
 use Rattle.std.specs.Cmp.Lexicographic.{slice_cmp}
-use Rattle.sqlite.specs.declared.types.Value.{Value}
-use Rattle.sqlite.specs.declared.types.Value.TheVariants.{Blob}
-use Rattle.sqlite.specs.Order.{Row, column}
-use Rattle.sqlite_rules.specs.Lists.{Has}
-use Rattle.sqlite_typed.proofs.TestLemmas.{same_bytes, bytes_eq_refl}
+use Rattle.mstore.proofs.Words.{Value, Blob, Row, column, Has, same_bytes, bytes_eq_refl, has_at, State}
 use Rattle.mspec.specs.Node.{Node}
 use Rattle.mspec.specs.Number.{significant_digits}
 use Rattle.mspec.specs.KeyBytes.{key_bytes, IsStored}
@@ -15,10 +11,6 @@ use Rattle.mspec.specs.KeyReading.{node_of}
 use Rattle.mspec.proofs.KeyReadings.{keys_are_read}
 use Rattle.mkey.specs.Key.{IsKeyBy, old_digits}
 use Rattle.mstore.specs.Map.{Content}
-use Rattle.std.proofs.Common.{◌+◌, ◌<◌, length, drop, get_or, add-one}
-use Rattle.std.proofs.Math.Seq.{drop-cons}
-use Rattle.sqlite_rules.proofs.ListLemmas.{has_at}
-use Rattle.sqlite.specs.State.{State}
 use Rattle.mstore.specs.Database.{content}
 use Rattle.mstore.specs.Moving.{MovesKey, MovesRow, IsMoving, ShowContent}
 
@@ -39,9 +31,6 @@ same_text a b e = cc
 
 shown_key : (k v l w : List ℕ) → ◌≡◌ {A = Row} (Blob k ∷ Blob v ∷ []) (Blob l ∷ Blob w ∷ []) → k ≡ l
 shown_key k v l w e = same_text k l (ap (λ (r : Row). column r 0) e)
-
-some_same : (a b : List ℕ) → ◌≡◌ {A = Option (List ℕ)} (Some a) (Some b) → a ≡ b
-some_same a b e = cc
 
 none_some : (b : List ℕ) → ◌≡◌ {A = Option (List ℕ)} None (Some b) → ⊥
 none_some b e = cc

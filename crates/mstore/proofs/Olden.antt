@@ -1,12 +1,7 @@
 -- SPDX-License-Identifier: Apache-2.0
 -- A store of version 1 whose rows were read.
 use Rattle.std.proofs.Common.{Result, Ok, Err, OnErr, List, ap, subst, sym, ◌∙◌}
-use Rattle.sqlite.specs.Order.{Row, column}
-use Rattle.sqlite.specs.Effect.{Database, IsDatabase}
-use Rattle.sqlite.specs.Held.{Held, state}
-use Rattle.sqlite.specs.State.{State, IsLive}
-use Rattle.sqlite_rules.specs.Lists.{Has}
-use Rattle.sqlite_trees.specs.declared.store.Store.{Ghosts}
+use Rattle.mstore.proofs.Words.{Row, column, Database, IsDatabase, Held, state, State, IsLive, Has, Ghosts}
 use Rattle.mkey.specs.Key.{old_digits}
 use Rattle.mstore.specs.Versions.{HoldBy}
 use Rattle.mstore.specs.Rows.{AreRows, IsInFormBy}

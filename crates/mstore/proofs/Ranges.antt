@@ -1,11 +1,10 @@
 -- SPDX-License-Identifier: Apache-2.0
 -- What stands from a key on and before the bytes that come next after it: the key alone.
-use Rattle.std.proofs.Common.{◌≡◌, ◌≢◌, ◌⊎◌, ◌<◌, ℕ, true, false, List, [], ◌∷◌, ◌++◌, refl, sym, ap, ap₂, subst, ◌∙◌, inl, inr, nat_cmp, arith}
+use Rattle.std.proofs.Common.{◌≡◌, ◌≢◌, ◌⊎◌, ◌<◌, ℕ, true, false, List, [], ◌∷◌, ◌++◌, refl, sym, ap, ap₂, subst, ◌∙◌, inl, inr, nat_cmp, arith, Equal, Greater}
 use Rattle.std.proofs.lemmas.Bool.{and_parts, and_from, true≢false, false_from_ne_true, cases_order}
 use Rattle.std.specs.Cmp.{nat_cmp_is}
 use Rattle.std.specs.Cmp.Lexicographic.{slice_cmp}
 use Rattle.std.specs.Ordering.{is_lt, is_le, ordering_then}
-use Rattle.std.specs.declared.cmp.Ordering.TheVariants.{Equal, Greater}
 use Rattle.mspec.proofs.KeyRanges.{same_bytes}
 use Rattle.mstore.specs.Map.{Content, in_bounds, PutsAt, RemovesWithin}
 use Rattle.mstore.specs.Moving.{MovesKey}
@@ -55,6 +54,3 @@ key_moved old mid new from to v next apart is gone put =
       same = λ e. absurd (apart e);
       others = λ q other_from other_to. put.others q other_to ∙ removed.others q (holds_no_other from q other_from);
     }
-
-pub key_stays : (c : Content) (from to v : List ℕ) → from ≡ to → MovesKey c c from to v
-key_stays c from to v same = record { at = λ apart. absurd (apart same); gone = λ apart. absurd (apart same); same = λ _ q. refl; others = λ q _ _. refl }

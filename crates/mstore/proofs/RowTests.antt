@@ -1,13 +1,8 @@
 -- SPDX-License-Identifier: Apache-2.0
 -- What the tests of the statements say of a row.
 use Rattle.std.proofs.Common.{◌≡◌, ℕ, Bool, false, ◌&&◌, List, [], ◌∷◌, ap, ap₂, ◌∙◌}
-use Rattle.sqlite.specs.declared.types.Value.TheVariants.{Blob}
-use Rattle.sqlite.specs.Order.{Row, column}
-use Rattle.sqlite.specs.Collation.TheVariants.{Binary}
-use Rattle.sqlite_sql.specs.declared.ops.BinaryOp.TheVariants.{Compare}
-use Rattle.sqlite_sql.specs.declared.ops.CompareOp.TheVariants.{Eq, Ge, Lt}
-use Rattle.sqlite_sql.specs.Ops.{binary, is_true}
-use Rattle.sqlite_typed.proofs.TestLemmas.{at_blobs, last_term}
+use Rattle.mstore.proofs.Words.{Blob, Row, column, Binary, Compare, Eq, Ge, Lt, is_true, at_blobs, last_term}
+use Rattle.sqlite_sql.specs.Ops.{binary}
 use Rattle.mstore.specs.Map.{in_bounds}
 use Rattle.mstore.specs.Rows.{IsNode, key_of, value_of, is_at}
 use Rattle.mstore.proofs.Texts.{at_key, in_range}

@@ -1,13 +1,12 @@
 -- SPDX-License-Identifier: Apache-2.0
 -- What entries in order hold, and how their nodes and the bytes of their keys rise.
-use Rattle.std.proofs.Common.{◌≡◌, ℕ, zero, suc, ◌<◌, Bool, true, false, cond, ◌&&◌, T, None, List, [], ◌∷◌, map, length, slice_index_or, Option, Some, refl, sym, ap, subst, ◌∙◌, arith}
+use Rattle.std.proofs.Common.{◌≡◌, ℕ, zero, suc, ◌<◌, Bool, true, false, cond, ◌&&◌, T, None, List, [], ◌∷◌, map, length, slice_index_or, Option, Some, refl, sym, ap, subst, ◌∙◌, arith, Ordering, Less, Equal, Greater}
+use Rattle.std.proofs.lemmas.Bool.{and_parts}
 use Rattle.std.specs.Cmp.{IsTotalOrder}
 use Rattle.std.specs.Cmp.Lexicographic.{slice_cmp, slice_partial_cmp}
 use Rattle.std.specs.FinMap.{empty, entries, get, insert, from_entries, retain_keys, entries-insert, get-from_entries, get-retain_keys, len-entries, len-empty, same_entries_map, same_map}
 use Rattle.std.specs.FinMap.Entries.{find, put, where_key, is_sorted, below_all, by_order, is_sorted-put, is_sorted-where_key, find-where_key}
 use Rattle.std.specs.Ordering.{nat_cmp, is_lt, is_some_and, ordering_reverse, ordering_then, partial_ordering_then}
-use Rattle.std.specs.declared.cmp.Ordering.{Ordering}
-use Rattle.std.specs.declared.cmp.Ordering.TheVariants.{Less, Equal, Greater}
 use Rattle.mspec.specs.Globals.{Globals, keys_of}
 use Rattle.mspec.specs.KeyBytes.{key_bytes, IsStored}
 use Rattle.mspec.specs.Node.{Text, Node}
@@ -28,12 +27,10 @@ total = node_cmp_total significant_digits
 -- ---- tests
 
 pub first : (a b : Bool) → (a && b) ≡ true → a ≡ true
-first true b e = refl
-first false b e = e
+first a b e = (and_parts a b e).0
 
 pub second : (a b : Bool) → (a && b) ≡ true → b ≡ true
-second true b e = e
-second false b e = absurd (cc)
+second a b e = (and_parts a b e).1
 
 pub less : (o : Ordering) → is_lt o ≡ true → o ≡ Less
 less Less e = refl
@@ -43,7 +40,7 @@ less Greater e = absurd (cc)
 to_T : (b : Bool) → b ≡ true → T b
 to_T b e = subst T (sym e) tt
 
-from_T : (b : Bool) → T b → b ≡ true
+pub from_T : (b : Bool) → T b → b ≡ true
 from_T true h = refl
 from_T false h = absurd h
 

@@ -1,20 +1,15 @@
 -- SPDX-License-Identifier: Apache-2.0
 -- From what a call says to what it leaves of a sound store.
 use Rattle.std.proofs.Common.{◌≡◌, ℕ, List, [], ◌∷◌, Result, Ok, Err, sym, ap, subst}
-use Rattle.sqlite_trees.specs.declared.store.Store.{Ghosts}
-use Rattle.sqlite.specs.Order.{Row}
-use Rattle.sqlite.specs.declared.error.Error.{Error}
-use Rattle.sqlite.specs.Effect.{Database}
-use Rattle.sqlite.specs.Held.{Held, state}
-use Rattle.sqlite.specs.State.{HasCleanDisk, QueriesRow, Executes}
+use Rattle.mstore.specs.Layout.{schema}
+use Rattle.mstore.proofs.Words.{Ghosts, Row, Error, Database, Held, state, HasCleanDisk, Executes, IsPlain, Blob}
+use Rattle.sqlite.specs.State.{QueriesRow}
 use Rattle.sqlite.specs.Listing.{understood}
-use Rattle.sqlite.proofs.Callers.{IsPlain}
 use Rattle.mstore.specs.Database.{IsSound, IsIdle, Stays, holds, stored}
 use Rattle.mstore.specs.Map.{PutsAt, RemovesWithin}
 use Rattle.mstore.specs.Rows.{IsInForm, AreNodes, key_of, value_of}
 use Rattle.mstore.specs.Keyed.{globals_by}
 use Rattle.mstore.proofs.States.{stays_calm, query_row_stays, failed_execute_stays}
-use Rattle.sqlite.specs.declared.types.Value.TheVariants.{Blob}
 use Rattle.mstore.specs.Statements.{put_text, kill_text}
 use Rattle.mstore.proofs.Puts.{puts, put_nodes, put_map}
 use Rattle.mstore.proofs.Kills.{kills, kill_map}
@@ -34,8 +29,9 @@ module _ {S : Type 0} (g : Ghosts S) (old new : Held S) (sound : IsSound g old) 
     ap (λ (d : Database). globals_by key_of value_of (d.trees 0)) k.same,
   )
 
-  pub query_keeps : (sql : List ℕ) (params : Row) (r : Result Row Error) → IsPlain (understood old.schema sql) → QueriesRow sql params (state g old) (state g new) r → IsSound g new × (stored g new ≡ stored g old)
-  query_keeps sql params r plain h = kept_sound (query_row_stays (state g old) (state g new) idle (sound.0.is_open new.store) sql params r plain h)
+  pub query_keeps : (sql : List ℕ) (params : Row) (r : Result Row Error) → IsPlain (understood schema sql) → QueriesRow sql params (state g old) (state g new) r → IsSound g new × (stored g new ≡ stored g old)
+  query_keeps sql params r plain h =
+      kept_sound (query_row_stays (state g old) (state g new) idle (sound.0.is_open new.store) sql params r (subst (λ s. IsPlain (understood s sql)) (sym sound.1.calm.schema_is) plain) h)
 
   pub failed_execute : (sql : List ℕ) (params : Row) (e : Error) → Executes sql params (state g old) (state g new) (Err e) → IsSound g new × (stored g new ≡ stored g old)
   failed_execute sql params e h = kept_sound (failed_execute_stays (state g old) (state g new) idle (sound.0.is_open new.store) sql params e h)

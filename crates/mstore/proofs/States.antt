@@ -2,17 +2,11 @@
 -- What a statement leaves, whatever became of it.
 use Rattle.std.proofs.Common.{◌≡◌, ◌≢◌, ℕ, false, List, [], Option, Some, None, Result, Ok, Err, IsTrue, sym, ap, subst, ◌∙◌, inl, inr}
 use Rattle.std.proofs.lemmas.Bool.{cases_Bool}
-use Rattle.sqlite.specs.Order.{Row}
-use Rattle.sqlite.specs.Command.{Command}
-use Rattle.sqlite.specs.Command.TheVariants.{Select, Rows}
-use Rattle.sqlite.specs.Effect.{Database, RefusesToRead}
+use Rattle.mstore.proofs.Words.{Row, Command, Select, Rows, Database, RefusesToRead, Error, QueryReturnedNoRows, State, IsUnchanged, IsRolledBack, FailsToShow, Executes, RunsCommand, ShowsRows, store_error, shows_rows, IsPlain}
 use Rattle.sqlite_trees.specs.declared.error.StoreError.{StoreError}
 use Rattle.sqlite_trees.specs.declared.error.StoreError.TheVariants.{OutOfMemory, Io, Corrupt, Full, Broken, Unstorable}
-use Rattle.sqlite.specs.declared.error.Error.{Error}
-use Rattle.sqlite.specs.declared.error.Error.TheVariants.{QueryReturnedNoRows}
 use Rattle.sqlite.specs.Listing.{understood}
-use Rattle.sqlite.specs.State.{State, IsUnchanged, IsRolledBack, IsNotRun, FailsToQuery, FailsToShow, QueriesRow, ExecutesIn, Executes, RunsCommand, Shown, ShowsRows, store_error, shows_rows}
-use Rattle.sqlite.proofs.Callers.{IsPlain}
+use Rattle.sqlite.specs.State.{IsNotRun, FailsToQuery, QueriesRow, ExecutesIn, Shown}
 use Rattle.mstore.specs.Database.{IsIdle, IsCalm, Stays, IsUntouched}
 
 pub stays_calm : (old new : State) → IsCalm old → Stays old new → IsCalm new

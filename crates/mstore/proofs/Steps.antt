@@ -1,24 +1,11 @@
 -- SPDX-License-Identifier: Apache-2.0
 -- The first key of a range, and the last.
-use Rattle.std.proofs.Common.{◌≡◌, ℕ, suc, ◌<◌, Bool, true, false, List, [], ◌∷◌, length, get_or, map, Option, Some, None, Ok, Err, IsSome, refl, sym, ap, ap₂, subst, ◌∙◌, inl, inr, arith, is_lt}
-use Rattle.std.specs.List.Sorted.{IsSorted, IsSortedBy}
+use Rattle.std.proofs.Common.{◌≡◌, ℕ, suc, ◌<◌, Bool, true, false, List, [], ◌∷◌, length, get_or, map, Option, Some, None, Ok, Err, IsSome, refl, sym, ap, ap₂, subst, ◌∙◌, inl, inr, arith, is_lt, IsSorted, IsSortedBy}
 use Rattle.std.proofs.lemmas.List.Sorted.{sorted_far, ranks_by}
-use Rattle.sqlite.specs.declared.types.Value.{Value}
-use Rattle.sqlite.specs.declared.types.Value.TheVariants.{Null, Blob}
-use Rattle.sqlite.specs.Order.{Row, column}
-use Rattle.sqlite.specs.Collation.TheVariants.{Binary}
-use Rattle.sqlite_value.specs.declared.keys.Key.{Key}
+use Rattle.mstore.proofs.Words.{Value, Null, Blob, Row, column, Binary, Key, by_key_total, then-Equal, value_cmp-Blob, col, IsAnswer, output, output_cmp, Output, overlay, State, QueryReturnedNoRows, IsPlain, command_of, first_as, reads_as, Has}
 use Rattle.sqlite_value.specs.Keys.{by_key}
-use Rattle.sqlite_value.proofs.KeyLemmas.{by_key_total}
-use Rattle.sqlite_value.proofs.OrderLemmas.{then-Equal, value_cmp-Blob}
-use Rattle.sqlite.specs.Term.{col}
-use Rattle.sqlite.specs.Query.{IsAnswer, output, output_cmp, Output}
-use Rattle.sqlite.specs.Program.{overlay}
 use Rattle.sqlite.specs.Listing.{understood, reads_listing}
-use Rattle.sqlite.specs.State.{State, QueriesRow}
-use Rattle.sqlite.specs.declared.error.Error.TheVariants.{QueryReturnedNoRows}
-use Rattle.sqlite.proofs.Callers.{IsPlain, command_of, first_as, reads_as}
-use Rattle.sqlite_rules.specs.Lists.{Has}
+use Rattle.sqlite.specs.State.{QueriesRow}
 use Rattle.mstore.specs.Layout.{schema}
 use Rattle.mstore.specs.Database.{IsStore, content}
 use Rattle.mstore.specs.Map.{in_bounds, is_nearer, IsNearest, HasNone}

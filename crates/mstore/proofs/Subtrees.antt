@@ -1,12 +1,9 @@
 -- SPDX-License-Identifier: Apache-2.0
 -- The entries of a node and of what stands below it.
-use Rattle.std.proofs.Common.{◌≡◌, ℕ, zero, suc, ◌<◌, ◌≤◌, Bool, true, false, cond, not, ◌&&◌, List, [], ◌∷◌, ◌++◌, length, slice_index_or, take, drop, refl, sym, ap, ◌∙◌, inl, inr, arith}
+use Rattle.std.proofs.Common.{◌≡◌, ℕ, zero, suc, ◌<◌, ◌≤◌, Bool, true, false, cond, not, List, [], ◌∷◌, ◌++◌, length, slice_index_or, take, drop, refl, sym, ap, ◌∙◌, inl, inr, arith, nat_cmp, is_lt, Less, append-nil}
 use Rattle.std.specs.Cmp.Lexicographic.{slice_cmp, bytes_decides}
 use Rattle.std.specs.FinMap.Entries.{where_key}
-use Rattle.std.specs.Ordering.{nat_cmp, is_lt}
-use Rattle.std.specs.declared.cmp.Ordering.TheVariants.{Less}
-use Rattle.std.proofs.lemmas.Bool.{cases_lt}
-use Rattle.std.proofs.lemmas.List.{append-nil}
+use Rattle.std.proofs.lemmas.Bool.{cases_lt, and_from, false_from_ne_true}
 use Rattle.std.proofs.lemmas.List.Elements.{All-append, All-drop, All-take}
 use Rattle.std.proofs.lemmas.Slice.Eq.{starts_is}
 use Rattle.mspec.specs.Globals.{is_node_within, without_subtree}
@@ -20,15 +17,10 @@ use Rattle.mspec.proofs.NodeOrders.{same_node}
 use Rattle.mkey.specs.Key.{BoundsKeysOf}
 use Rattle.mstore.specs.declared.plain.Entry.{Entry}
 use Rattle.mstore.specs.Entries.{entries_of, held, bytes_of, AreEntries, IsPlaceOf}
-use Rattle.mstore.proofs.EntryRanges.{not_true, not_both, less_than, from_on, not_from}
+use Rattle.mstore.proofs.EntryRanges.{not_both, less_than, from_on, not_from}
 use Rattle.mstore.proofs.SortedEntries.{order, less, first, second, order_where, held_where}
 
 -- ---- what the test of nodes says
-
-all_three : (a b c : Bool) → a ≡ true → b ≡ true → c ≡ true → (a && (b && c)) ≡ true
-all_three true true c e f g = g
-all_three true false c e f g = f
-all_three false b c e f g = e
 
 module _ (n m : Node) where
   below : (rest : List Text) → n.account ≡ m.account → n.name ≡ m.name → m.subscripts ≡ n.subscripts ++ rest → IsWithin n m
@@ -45,7 +37,7 @@ module _ (n m : Node) where
       below (drop (length n.subscripts) m.subscripts) ((bytes_decides n.account m.account).0 (first _ _ e)) ((bytes_decides n.name m.name).0 (first _ _ names)) (behind.0 (second _ _ names))
 
   within_parts : (rest : List Text) → n.account ≡ m.account → n.name ≡ m.name → m.subscripts ≡ n.subscripts ++ rest → is_node_within n m ≡ true
-  within_parts rest account name e = all_three _ _ _ ((bytes_decides n.account m.account).1 account) ((bytes_decides n.name m.name).1 name) (behind.1 rest e)
+  within_parts rest account name e = and_from _ _ ((bytes_decides n.account m.account).1 account) (and_from _ _ ((bytes_decides n.name m.name).1 name) (behind.1 rest e))
 
   pub within_told : IsWithin n m → is_node_within n m ≡ true
   within_told (inl same) = within_parts [] (ap (λ x. x.account) same) (ap (λ x. x.name) same) (ap (λ x. x.subscripts) (sym same) ∙ sym (append-nil n.subscripts))
@@ -111,7 +103,7 @@ module _ (es : List Entry) (are : AreEntries es) (n : Node) (stored : IsStored n
   outside : (k : ℕ) (d : Entry) → k < length es → (IsBetween (key_bytes significant_digits n) end (bytes_of (slice_index_or es k d)) → ⊥) → not (is_node_within n (slice_index_or es k d).key) ≡ true
   outside k d in_range out =
       let m = (slice_index_or es k d).key in
-      ap not (not_true (is_node_within n m) (λ t. out ((bounds m (are.stored k d in_range)).1 (told_within n m t))))
+      ap not (false_from_ne_true (is_node_within n m) (λ t. out ((bounds m (are.stored k d in_range)).1 (told_within n m t))))
 
   leaves : Leaves (λ m. not (is_node_within n m)) es i j
   leaves = record {

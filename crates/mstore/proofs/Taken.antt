@@ -1,14 +1,12 @@
 -- SPDX-License-Identifier: Apache-2.0
 -- What `prepare` says of a statement that the columns do not take.
 use Rattle.std.proofs.Common.{◌≡◌, ◌≢◌, ℕ, List, [], Result, Ok, Err, IsTrue, IfOk, IfErr, sym, inl, inr}
-use Rattle.sqlite.specs.Order.{Row}
+use Rattle.mstore.proofs.Words.{Row, Error, SqlInputError, State, IsUnchanged, store_error}
 use Rattle.sqlite_trees.specs.declared.error.StoreError.{StoreError}
 use Rattle.sqlite_trees.specs.declared.error.StoreError.TheVariants.{OutOfMemory, Io, Corrupt, Full, Broken, Unstorable}
 use Rattle.sqlite_resolve.specs.declared.error.CompileError.{CompileError}
-use Rattle.sqlite.specs.declared.error.Error.{Error}
-use Rattle.sqlite.specs.declared.error.Error.TheVariants.{SqlInputError}
 use Rattle.sqlite.specs.Listing.{understood}
-use Rattle.sqlite.specs.State.{State, IsUnchanged, IsNotRun, store_error}
+use Rattle.sqlite.specs.State.{IsNotRun}
 use Rattle.mstore.specs.Database.{IsIdle, Stays}
 use Rattle.mstore.proofs.States.{unchanged_stays, not_run_stays}
 

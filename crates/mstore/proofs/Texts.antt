@@ -1,24 +1,14 @@
 -- SPDX-License-Identifier: Apache-2.0
 -- What the statements are compiled to.
 use Rattle.std.proofs.Common.{◌≡◌, ℕ, Bool, List, [], ◌∷◌, codes, Ok, refl, pos, negsuc, true, false, Some, None}
-use Rattle.sqlite.specs.Query.{Query, inner, end}
-use Rattle.sqlite.specs.Term.{Term, lit, col, op2}
-use Rattle.sqlite.specs.Source.{Source}
-use Rattle.sqlite.specs.Command.{Command}
+use Rattle.mstore.proofs.Words.{Query, inner, end, lit, col, op2, Source, Command, Key, Binary, Null, Int, Compare, Eq, Ge, Lt, Abort, Select, InsertOr, Delete, IsPlain, command_of}
+use Rattle.sqlite.specs.Term.{Term}
 use Rattle.sqlite_schema.specs.declared.command.Upsert.{Upsert}
 use Rattle.sqlite_schema.specs.declared.program.Program.{Program}
-use Rattle.sqlite_value.specs.declared.keys.Key.{Key}
 use Rattle.sqlite.specs.Source.TheVariants.{Values}
-use Rattle.sqlite.specs.Collation.TheVariants.{Binary}
-use Rattle.sqlite.specs.declared.types.Value.TheVariants.{Null, Int}
-use Rattle.sqlite_sql.specs.declared.ops.BinaryOp.TheVariants.{Compare}
-use Rattle.sqlite_sql.specs.declared.ops.CompareOp.TheVariants.{Eq, Ge, Lt}
-use Rattle.sqlite_schema.specs.declared.command.Conflict.TheVariants.{Abort}
 use Rattle.sqlite.specs.Compile.{table_defined_by}
-use Rattle.sqlite.specs.Command.TheVariants.{Select, InsertOr, Delete}
 use Rattle.sqlite_tied.specs.Compute.{everything}
 use Rattle.sqlite.specs.Listing.{understood, reads_listing}
-use Rattle.sqlite.proofs.Callers.{IsPlain, command_of}
 use Rattle.mstore.specs.Database.{version_name}
 use Rattle.mstore.specs.Layout.{node, meta, schema}
 use Rattle.mstore.specs.Statements.{node_text, meta_text, get_text, put_text, kill_text, next_text, prev_text, which_text, all_text}

@@ -2,12 +2,7 @@
 -- What the statements do, of the globals that the rows are.
 use Rattle.std.proofs.Common.{◌≡◌, ℕ, Bool, false, true, List, [], ◌∷◌, Option, Some, None, Result, Ok, Err, OnOk, sym, ap, subst, ◌∙◌}
 use Rattle.std.specs.FinMap.{get, insert}
-use Rattle.sqlite.specs.declared.types.Value.{Value}
-use Rattle.sqlite.specs.declared.types.Value.TheVariants.{Blob}
-use Rattle.sqlite.specs.Order.{Row, column}
-use Rattle.sqlite_trees.specs.declared.store.Store.{Ghosts}
-use Rattle.sqlite_rules.proofs.ListLemmas.{all_from}
-use Rattle.sqlite.specs.Held.{Held, state}
+use Rattle.mstore.proofs.Words.{Value, Blob, Row, column, Ghosts, all_from, Held, state}
 use Rattle.mspec.specs.Node.{Node}
 use Rattle.mspec.specs.Number.{significant_digits}
 use Rattle.mspec.specs.KeyBytes.{key_bytes, subtree_end, IsStored}

@@ -1,21 +1,13 @@
 -- SPDX-License-Identifier: Apache-2.0
 -- The row of the version.
 use Rattle.std.proofs.Common.{◌≡◌, ℕ, true, false, List, [], ◌∷◌, codes, Some, None, Result, Ok, Err, refl, sym, ap, subst, ◌∙◌, inl, IsTrue}
-use Rattle.sqlite.specs.declared.types.Value.{Value}
-use Rattle.sqlite.specs.declared.types.Value.TheVariants.{Null, Int, Real, Text, Blob}
-use Rattle.sqlite.specs.Order.{Row, column}
+use Rattle.mstore.proofs.Words.{Value, Null, Int, Real, Blob, Row, column, Binary, col, is_true, Compare, Eq, at_texts, last_term, same_bytes, bytes_eq_refl, State, QueryReturnedNoRows, IsPlain, first_as, reads_as}
+use Rattle.sqlite.specs.declared.types.Value.TheVariants.{Text}
 use Rattle.sqlite_value.specs.Order.{value_cmp}
-use Rattle.sqlite.specs.Collation.TheVariants.{Binary}
-use Rattle.sqlite.specs.Term.{col}
-use Rattle.sqlite_sql.specs.Ops.{binary, is_true}
-use Rattle.sqlite_sql.specs.declared.ops.BinaryOp.TheVariants.{Compare}
-use Rattle.sqlite_sql.specs.declared.ops.CompareOp.TheVariants.{Eq}
-use Rattle.sqlite_typed.proofs.TestLemmas.{at_texts, last_term, same_bytes, bytes_eq_refl}
+use Rattle.sqlite_sql.specs.Ops.{binary}
 use Rattle.std.proofs.lemmas.Bool.{and_parts}
-use Rattle.sqlite.specs.State.{State, QueriesRow}
+use Rattle.sqlite.specs.State.{QueriesRow}
 use Rattle.sqlite.specs.Listing.{understood}
-use Rattle.sqlite.specs.declared.error.Error.TheVariants.{QueryReturnedNoRows}
-use Rattle.sqlite.proofs.Callers.{IsPlain, first_as, reads_as}
 use Rattle.mstore.specs.Layout.{schema}
 use Rattle.mstore.specs.Statements.{which_text}
 use Rattle.mstore.specs.Database.{IsCalm, Stays, ShowsVersion}

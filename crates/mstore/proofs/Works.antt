@@ -1,32 +1,12 @@
 -- SPDX-License-Identifier: Apache-2.0
 -- What the statements do inside the transaction of a migration.
 use Rattle.std.proofs.Common.{◌≡◌, ℕ, pos, true, List, [], ◌∷◌, codes, drop, map, None, Ok, refl, sym, ap, subst, ◌∙◌}
-use Rattle.sqlite.specs.declared.types.Value.{Value}
-use Rattle.sqlite.specs.declared.types.Value.TheVariants.{Null, Blob}
-use Rattle.sqlite.specs.Order.{Row, column}
-use Rattle.sqlite.specs.Term.{col, lit}
-use Rattle.sqlite.specs.Query.{Query, IsAnswer}
-use Rattle.sqlite.specs.Command.{Command}
-use Rattle.sqlite.specs.Command.TheVariants.{Update}
-use Rattle.sqlite.specs.Program.{overlay}
-use Rattle.sqlite.specs.Cast.{cast, cast_row}
+use Rattle.mstore.proofs.Words.{Value, Null, Blob, Row, column, col, lit, Query, IsAnswer, Command, Update, overlay, cast, cast_row, Written, Task, Updates, Tally, Does, Database, State, mode_of, ExecutesInside, IsPlain, command_of, runs_as, one_step, statement_of, Enforced, Given, Has, without_all, are_fresh, ids_of, put_all_adds, given, rowid, last_term}
 use Rattle.sqlite.specs.Kind.TheVariants.{Text as KindText}
-use Rattle.sqlite.specs.Rows.{Written, Task, Updates}
 use Rattle.sqlite.specs.Tree.{Trees}
-use Rattle.sqlite.specs.Does.{Tally, Does}
-use Rattle.sqlite.specs.Effect.{Database}
 use Rattle.sqlite.specs.Listing.{understood}
-use Rattle.sqlite.specs.State.{State, mode_of, ExecutesInside}
-use Rattle.sqlite.proofs.Callers.{IsPlain, command_of, runs_as, one_step, statement_of}
-use Rattle.sqlite_schema.specs.declared.schema.Keys.TheVariants.{Enforced}
-use Rattle.sqlite_rules.specs.declared.error.Rowids.TheVariants.{Given}
-use Rattle.sqlite_rules.specs.Lists.{Has}
-use Rattle.sqlite_rules.specs.Edit.{edit_of, without_all, put_all, are_fresh}
-use Rattle.sqlite_rules.specs.Calls.{ids_of}
-use Rattle.sqlite_rules.proofs.TableLemmas.{put_all_adds}
-use Rattle.sqlite_rules.proofs.PlaceLemmas.{given}
+use Rattle.sqlite_rules.specs.Edit.{edit_of, put_all}
 use Rattle.sqlite_tied.specs.Compute.{everything}
-use Rattle.sqlite_trees.specs.Tree.{rowid}
 use Rattle.mstore.specs.Layout.{schema}
 use Rattle.mstore.specs.Map.{PutsAt, RemovesWithin}
 use Rattle.mstore.specs.Statements.{kill_text, put_text, set_text}
@@ -42,7 +22,6 @@ use Rattle.mstore.proofs.Casts.{cast_int}
 use Rattle.mstore.proofs.Texts.{table_query, program, at_name}
 use Rattle.mstore.proofs.Versions.{text_equal}
 use Rattle.mstore.proofs.Writes.{went, same_value}
-use Rattle.sqlite_typed.proofs.TestLemmas.{last_term}
 
 module _ (old new : State) (was : IsWorking old) (count : ℕ) where
   -- the rows are still a map, and the version's table is as it was

@@ -1,18 +1,9 @@
 -- SPDX-License-Identifier: Apache-2.0
 -- What a statement that writes the table leaves.
 use Rattle.std.proofs.Common.{◌≡◌, ◌⊎◌, ℕ, cond, List, None, Ok, Err, Result, sym, ap, subst, ◌∙◌, inl, inr}
-use Rattle.sqlite.specs.Order.{Row}
-use Rattle.sqlite.specs.Command.{Command}
-use Rattle.sqlite.specs.Command.TheVariants.{InsertOr, Delete}
-use Rattle.sqlite_schema.specs.declared.schema.Keys.TheVariants.{Enforced}
-use Rattle.sqlite_schema.specs.declared.command.Conflict.TheVariants.{Abort}
-use Rattle.sqlite.specs.Source.{Source}
+use Rattle.mstore.proofs.Words.{Row, Command, InsertOr, Delete, Enforced, Abort, Source, Tally, Does, Written, Task, InsertsOr, Deletes, Database, State, mode_of, Writes}
 use Rattle.sqlite_schema.specs.declared.command.Upsert.{Upsert}
 use Rattle.sqlite_schema.specs.declared.program.Program.{Program}
-use Rattle.sqlite.specs.Does.{Tally, Does}
-use Rattle.sqlite.specs.Rows.{Written, Task, InsertsOr, Deletes}
-use Rattle.sqlite.specs.Effect.{Database}
-use Rattle.sqlite.specs.State.{State, mode_of, Writes}
 use Rattle.mstore.specs.Layout.{node, schema}
 use Rattle.mstore.specs.Database.{IsIdle}
 

@@ -31,7 +31,7 @@ fn create_tables<S: Alter>(conn: &mut Connection<S>) -> Result<(), Error>
 }
 
 // Makes the tables of a database that has none, or leaves it as it is.
-pub fn make_tables<S: Alter>(conn: &mut Connection<S>) -> Result<(), OpenFault>
+pub(crate) fn make_tables<S: Alter>(conn: &mut Connection<S>) -> Result<(), OpenFault>
     requires { conn.old.in_transaction ≡ false }
     ensures store { IsMemory S.Store → IsBlank (state S.Store conn.old) → OnOk result (IsStore (state S.Store conn.new)) }
     ensures made { IsMemory S.Store → IsBlank (state S.Store conn.old) → OnOk result (IsBare (state S.Store conn.new).now) }

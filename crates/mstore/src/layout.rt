@@ -143,7 +143,7 @@ fn has_indexes(indexes: &[Index]) -> bool
 
 /// Whether the schema has the two tables, and nothing else.
 #[tactic(auto, using(crate::proofs::Layouts::schema_is))]
-pub fn is_store(schema: &Schema) -> bool
+pub(crate) fn is_store(schema: &Schema) -> bool
     ensures { IsTrue result ↔ (schema.now ≡ schema_of) }
 {
     has_tables(schema.tables.as_slice())
@@ -152,7 +152,7 @@ pub fn is_store(schema: &Schema) -> bool
 }
 
 // Whether the schema has no table.
-pub fn is_blank(schema: &Schema) -> bool
+pub(crate) fn is_blank(schema: &Schema) -> bool
     ensures { IsTrue result ↔ (schema.now ≡ no_schema) }
 {
     schema.tables.is_empty() && schema.indexes.is_empty() && schema.views.is_empty()

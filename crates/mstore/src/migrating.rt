@@ -153,7 +153,7 @@ fn move_rows<S: Alter>(
 
 /// Moves what each of the rows shows, which are all that a store of version 1 has, and gives the store this version; or leaves
 /// it as it is.
-pub fn migrate<S: Alter>(
+pub(crate) fn migrate<S: Alter>(
     alloc: Global,
     conn: &mut Connection<S>,
     rows: &[Row],

@@ -9,22 +9,22 @@ ghost use Rattle.mstore.specs.Rows.{IsInForm, ShowsValue, ShowsKey};
 use crate::store::StoreFault;
 use sqlite::{Alter, Connection, Error, ErrorCode, Row, params};
 
-pub const GET: &str = "SELECT v FROM node WHERE k = ?1";
+pub(crate) const GET: &str = "SELECT v FROM node WHERE k = ?1";
 
-pub const PUT: &str =
+pub(crate) const PUT: &str =
     "INSERT INTO node (k, v) VALUES (?1, ?2) ON CONFLICT (k) DO UPDATE SET v = excluded.v";
 
-pub const KILL: &str = "DELETE FROM node WHERE k >= ?1 AND k < ?2";
+pub(crate) const KILL: &str = "DELETE FROM node WHERE k >= ?1 AND k < ?2";
 
-pub const NEXT: &str = "SELECT k FROM node WHERE k >= ?1 AND k < ?2 ORDER BY k";
+pub(crate) const NEXT: &str = "SELECT k FROM node WHERE k >= ?1 AND k < ?2 ORDER BY k";
 
-pub const PREV: &str = "SELECT k FROM node WHERE k >= ?1 AND k < ?2 ORDER BY k DESC";
+pub(crate) const PREV: &str = "SELECT k FROM node WHERE k >= ?1 AND k < ?2 ORDER BY k DESC";
 
 // For a store of version 1, whose rows are moved by the two that put and take away.
-pub const SET: &str = "UPDATE meta SET n = 2 WHERE name = 'version'";
+pub(crate) const SET: &str = "UPDATE meta SET n = 2 WHERE name = 'version'";
 
 // What went wrong, of which nothing but want of memory is told apart.
-pub fn fault_of(error: &Error) -> StoreFault
+pub(crate) fn fault_of(error: &Error) -> StoreFault
     ensures { (result ≡ StoreFault.Memory) ↔ (error.now ≡ Error.SqliteFailure ErrorCode.OutOfMemory) }
 {
     match error {
@@ -34,7 +34,10 @@ pub fn fault_of(error: &Error) -> StoreFault
 }
 
 // The row of the value at a key.
-pub fn find_value<S: Alter>(conn: &mut Connection<S>, key: &[u8]) -> Result<Option<Row>, StoreFault>
+pub(crate) fn find_value<S: Alter>(
+    conn: &mut Connection<S>,
+    key: &[u8],
+) -> Result<Option<Row>, StoreFault>
     ensures kept { IsKept S.Store conn.old conn.new }
     ensures found { IsSound S.Store conn.old → IfOk result (ShowsValue (holds S.Store conn.old key.now)) }
 {
@@ -46,7 +49,7 @@ pub fn find_value<S: Alter>(conn: &mut Connection<S>, key: &[u8]) -> Result<Opti
 }
 
 // The row of the first key of a range.
-pub fn find_first<S: Alter>(
+pub(crate) fn find_first<S: Alter>(
     conn: &mut Connection<S>,
     low: &[u8],
     high: &[u8],
@@ -62,7 +65,7 @@ pub fn find_first<S: Alter>(
 }
 
 // The row of the last key of a range.
-pub fn find_last<S: Alter>(
+pub(crate) fn find_last<S: Alter>(
     conn: &mut Connection<S>,
     low: &[u8],
     high: &[u8],
@@ -78,7 +81,7 @@ pub fn find_last<S: Alter>(
 }
 
 // Puts a value at a key.
-pub fn store_value<S: Alter>(
+pub(crate) fn store_value<S: Alter>(
     conn: &mut Connection<S>,
     key: &[u8],
     value: &[u8],
@@ -95,7 +98,7 @@ pub fn store_value<S: Alter>(
 }
 
 // Takes the rows of a range of keys away.
-pub fn remove_range<S: Alter>(
+pub(crate) fn remove_range<S: Alter>(
     conn: &mut Connection<S>,
     low: &[u8],
     high: &[u8],

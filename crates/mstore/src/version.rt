@@ -3,7 +3,7 @@
 
 /// By how many digits the numbers of a store's keys are told: fifteen in the first version, eighteen in the second.
 #[derive(Clone, Copy)]
-pub enum Version {
+pub(crate) enum Version {
     First,
     Second,
 }

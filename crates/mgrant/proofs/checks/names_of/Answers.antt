@@ -1,6 +1,5 @@
 -- SPDX-License-Identifier: Apache-2.0
-use Rattle.std.proofs.Common.{◌≡◌, ◌++◌, [], ◌∷◌, inr, true, false, get_or, take, refl, sym, ap, ◌∙◌, arith, rules}
-use Rattle.std.specs.Prelude.{not}
+use Rattle.std.proofs.Common.{◌≡◌, ◌++◌, [], ◌∷◌, inr, true, false, get_or, take, refl, sym, ap, ◌∙◌, arith, rules, not}
 use Rattle.std.specs.List.{list_any}
 use Rattle.std.proofs.lemmas.Bool.{and_right}
 use Rattle.std.proofs.lemmas.Grind.{common_steps}

@@ -1,6 +1,6 @@
 -- SPDX-License-Identifier: Apache-2.0
 use Rattle.std.proofs.Common.{◌≡◌, true, sym, subst, rules}
-use Rattle.sqlite.specs.Held.{state}
+use Rattle.mstore.proofs.Words.{state}
 use Rattle.mstore.specs.Database.{IsBare}
 use Rattle.mstore.proofs.Makes.{makes_node, makes_meta, adds_version}
 use Rattle.mstore.proofs.create.create_tables.Goals as goal
@@ -8,18 +8,12 @@ use Rattle.mstore.proofs.create.create_tables.Goals as goal
 pub returns-clause-made : goal.returns-clause-made
 returns-clause-made g c quiet blank =
     let s = state g.S.Store in
-    let old = c.args.conn.now in
-    let first = c.execute.new.self.conn.now in
-    let second = c.execute-2.new.self.conn.now in
-    let third = c.execute-3.new.self.conn.now in
-    let begun = c.transaction-tx.ensures.begun in
-    let one = c.in_ok-execute.ensures.runs (quiet.clean first.store) (rw begun) in
-    let two = c.in_ok-execute-2.ensures.runs (quiet.clean second.store) one.1.mode in
-    let three = c.in_ok-execute-3.ensures.runs (quiet.clean third.store) two.1.mode in
-    let a = makes_node (state g.S.Store (record old { in_transaction = true })) (state g.S.Store first) _ blank.schema_is (rw begun at one.0) in
-    let b = makes_meta (state g.S.Store first) (state g.S.Store second) _ a.0 a.1 two.0 in
-    let bare = adds_version (state g.S.Store second) (state g.S.Store third) _ b three.0 in
-    let end = c.commit.new.self.0 in
-    let same : end ≡ c.conn-2-1.given.0 = search rules in
-    let is = (c.in_ok-commit.ensures.ok (quiet.clean end.store)).1.now_is in
+    let one = c.in_ok-execute.ensures.runs (quiet.clean c.execute.new.self.conn.now.store) (rw c.transaction-tx.ensures.begun) in
+    let two = c.in_ok-execute-2.ensures.runs (quiet.clean c.execute-2.new.self.conn.now.store) one.1.mode in
+    let three = c.in_ok-execute-3.ensures.runs (quiet.clean c.execute-3.new.self.conn.now.store) two.1.mode in
+    let a = makes_node (state g.S.Store (record c.args.conn.now { in_transaction = true })) (state g.S.Store c.execute.new.self.conn.now) _ blank.schema_is (rw c.transaction-tx.ensures.begun at one.0) in
+    let b = makes_meta (state g.S.Store c.execute.new.self.conn.now) (state g.S.Store c.execute-2.new.self.conn.now) _ a.0 a.1 two.0 in
+    let bare = adds_version (state g.S.Store c.execute-2.new.self.conn.now) (state g.S.Store c.execute-3.new.self.conn.now) _ b three.0 in
+    let same : c.commit.new.self.0 ≡ c.conn-2-1.given.0 = search rules in
+    let is = (c.in_ok-commit.ensures.ok (quiet.clean c.commit.new.self.0.store)).1.now_is in
     subst (λ h. IsBare (state g.S.Store h).now) same (subst IsBare (sym is) bare)

@@ -1,8 +1,7 @@
 -- SPDX-License-Identifier: Apache-2.0
-use Rattle.std.proofs.Common.{◌≢◌, sym, subst, ◌∙◌}
-use Rattle.std.proofs.lemmas.Bool.{true≢false}
+use Rattle.std.proofs.Common.{◌≢◌, sym, subst, ◌∙◌, true≢false}
 use Rattle.std.specs.Cmp.Lexicographic.{bytes_decides}
-use Rattle.sqlite.specs.Held.{state}
+use Rattle.mstore.proofs.Words.{state}
 use Rattle.mspec.specs.KeyBytes.{key_bytes}
 use Rattle.mspec.specs.Number.{significant_digits}
 use Rattle.mstore.specs.Database.{content}
@@ -17,15 +16,14 @@ returns-clause-moved g c quiet was =
     let old = content (s c.args.tx.now.conn.now) in
     let mid = content (s c.remove_inside.new.tx.conn.now) in
     let new = content (s c.put_inside.new.tx.conn.now) in
-    let key = c.args.key.now in
     let to = key_bytes significant_digits c.in_ok-node.node in
     let working = c.in_ok-remove_inside.ensures.working quiet was in
-    let apart : key ≢ to = λ e. true≢false (sym (c.eq.ensures ∙ (bytes_decides c.as_bytes-place.result.now key).1 (c.as_bytes-place.ensures.bytes ∙ sym e)) ∙ c.if-eq.false) in
+    let apart : c.args.key.now ≢ to = λ e. true≢false (sym (c.eq.ensures ∙ (bytes_decides c.as_bytes-place.result.now c.args.key.now).1 (c.as_bytes-place.ensures.bytes ∙ sym e)) ∙ c.if-eq.false) in
     let gone = c.in_ok-remove_inside.ensures.removed quiet was in
     on_ok c.put_inside.result
     (λ put. (
       c.in_ok-node.node,
       c.in_ok-node.ensures,
-      key_moved old mid new key to c.args.value.now c.as_slice.result.now apart (c.as_slice.ensures.value ∙ c.in_ok-next.ensures) gone (subst (λ k. PutsAt mid new k c.args.value.now) c.as_bytes-place.ensures.bytes put),
+      key_moved old mid new c.args.key.now to c.args.value.now c.as_slice.result.now apart (c.as_slice.ensures.value ∙ c.in_ok-next.ensures) gone (subst (λ k. PutsAt mid new k c.args.value.now) c.as_bytes-place.ensures.bytes put),
     ))
     (c.put_inside.ensures.put quiet working)

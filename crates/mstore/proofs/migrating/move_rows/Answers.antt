@@ -1,6 +1,6 @@
 -- SPDX-License-Identifier: Apache-2.0
 use Rattle.std.proofs.Common.{refl, ◌∙◌}
-use Rattle.sqlite.specs.Held.{state}
+use Rattle.mstore.proofs.Words.{state}
 use Rattle.mstore.specs.Database.{content}
 use Rattle.mstore.proofs.Moves.{nothing_moved, next_moved}
 use Rattle.mstore.proofs.migrating.move_rows.Goals as goal

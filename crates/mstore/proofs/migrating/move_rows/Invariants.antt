@@ -1,6 +1,6 @@
 -- SPDX-License-Identifier: Apache-2.0
 use Rattle.std.proofs.Common.{◌≡◌, drop}
-use Rattle.sqlite.specs.Held.{state}
+use Rattle.mstore.proofs.Words.{state}
 use Rattle.mstore.specs.Database.{IsMemory, content}
 use Rattle.mstore.specs.Moving.{IsWorking, ShowContent, IsMoving}
 use Rattle.mstore.proofs.migrating.move_rows.Given as goal

@@ -1,20 +1,17 @@
 -- SPDX-License-Identifier: Apache-2.0
-use Rattle.sqlite.specs.Held.{state}
+use Rattle.mstore.proofs.Words.{state}
 use Rattle.mstore.specs.Database.{old_version}
 use Rattle.mstore.proofs.Works.{sets_inside, version_set}
 use Rattle.mstore.proofs.migrating.set_version.Goals as goal
 
 pub returns-in-Ok-clause-working : goal.returns-in-Ok-clause-working
 returns-in-Ok-clause-working g c quiet was =
-    let new = c.execute.new.self.conn.now in
-    (sets_inside (state g.S.Store c.args.tx.now.conn.now) (state g.S.Store new) was _ (c.in-Ok.ensures.runs (quiet.clean new.store) was.inside)).0
+    (sets_inside (state g.S.Store c.args.tx.now.conn.now) (state g.S.Store c.execute.new.self.conn.now) was _ (c.in-Ok.ensures.runs (quiet.clean c.execute.new.self.conn.now.store) was.inside)).0
 
 pub returns-in-Ok-clause-rows : goal.returns-in-Ok-clause-rows
 returns-in-Ok-clause-rows g c quiet was =
-    let new = c.execute.new.self.conn.now in
-    (sets_inside (state g.S.Store c.args.tx.now.conn.now) (state g.S.Store new) was _ (c.in-Ok.ensures.runs (quiet.clean new.store) was.inside)).1
+    (sets_inside (state g.S.Store c.args.tx.now.conn.now) (state g.S.Store c.execute.new.self.conn.now) was _ (c.in-Ok.ensures.runs (quiet.clean c.execute.new.self.conn.now.store) was.inside)).1
 
 pub returns-in-Ok-clause-version : goal.returns-in-Ok-clause-version
 returns-in-Ok-clause-version g c quiet was has =
-    let new = c.execute.new.self.conn.now in
-    version_set (state g.S.Store c.args.tx.now.conn.now) (state g.S.Store new) was _ (c.in-Ok.ensures.runs (quiet.clean new.store) was.inside) old_version has
+    version_set (state g.S.Store c.args.tx.now.conn.now) (state g.S.Store c.execute.new.self.conn.now) was _ (c.in-Ok.ensures.runs (quiet.clean c.execute.new.self.conn.now.store) was.inside) old_version has

@@ -7,10 +7,8 @@ use Rattle.mstore.proofs.plain.search.Goals as goal
 
 pub returns-clause-found : goal.returns-clause-found
 returns-clause-found c =
-    let facts = c.binary_search_by.ensures in
-    found_at _ c.requires _ _ facts.bound (facts.position (λ e. order e.key c.args.key.now) (always_returns_same _ _ _ (λ a r g called. search rules)))
+    found_at _ c.requires _ _ c.binary_search_by.ensures.bound (c.binary_search_by.ensures.position (λ e. order e.key c.args.key.now) (always_returns_same _ _ _ (λ a r g called. search rules)))
 
 pub returns-clause-absent : goal.returns-clause-absent
 returns-clause-absent c =
-    let facts = c.binary_search_by.ensures in
-    gap_at _ c.requires _ _ (facts.position (λ e. order e.key c.args.key.now) (always_returns_same _ _ _ (λ a r g called. search rules)))
+    gap_at _ c.requires _ _ (c.binary_search_by.ensures.position (λ e. order e.key c.args.key.now) (always_returns_same _ _ _ (λ a r g called. search rules)))

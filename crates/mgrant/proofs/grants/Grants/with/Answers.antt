@@ -1,6 +1,5 @@
 -- SPDX-License-Identifier: Apache-2.0
-use Rattle.std.proofs.Common.{◌≡◌, ◌<◌, ◌++◌, [], ◌∷◌, length, All, map, refl, ap, sym, subst, ◌∙◌, rules}
-use Rattle.std.specs.Prelude.{◌||◌}
+use Rattle.std.proofs.Common.{◌≡◌, ◌<◌, ◌++◌, [], ◌∷◌, length, All, map, refl, ap, sym, subst, ◌∙◌, rules, ◌||◌}
 use Rattle.std.specs.HashMap as hash
 use Rattle.mspec.specs.Access as access
 use Rattle.mgrant.specs.Placed.{IsAllowance, IsInterned, placed, mode_of, same_permit, allows_so}

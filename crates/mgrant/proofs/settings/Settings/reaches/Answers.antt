@@ -1,16 +1,13 @@
 -- SPDX-License-Identifier: Apache-2.0
-use Rattle.std.proofs.Common.{◌≡◌, ◌<◌, [], All, length, refl, sym, ap, subst, ◌∙◌, arith}
-use Rattle.std.specs.Prelude.{unwrap_or}
+use Rattle.std.proofs.Common.{◌≡◌, ◌<◌, [], All, length, refl, sym, ap, subst, ◌∙◌, arith, unwrap_or}
 use Rattle.std.specs.Cmp.Lexicographic.{bytes_decides}
 use Rattle.std.proofs.lemmas.Bool.{false≢true}
 use Rattle.std.proofs.lemmas.Option.{slice_get_past}
-use Rattle.mspec.specs.Access as access
-use Rattle.mspec.specs.Flow.{itself}
+use Rattle.mspec.specs.Flow.{Reaches, itself}
 use Rattle.mgrant.specs.Edges.{Leads}
 use Rattle.mgrant.specs.View.{settings_view}
 use Rattle.mgrant.specs.Words.{text_in}
-use Rattle.mgrant.proofs.Chains.{edges_within, reached_by, led_by, empty_start, empty_end, reaches_at, reaches_of}
-use Rattle.mgrant.proofs.Seen.{name_seen}
+use Rattle.mgrant.proofs.Chains.{edges_within, reached_by, led_by, empty_start, empty_end, chain_at, chain_of}
 use Rattle.mgrant.proofs.settings.Settings.reaches.Goals as goal
 
 pub leads-requires-clause-in_range : goal.leads-requires-clause-in_range
@@ -22,68 +19,43 @@ leads-requires-clause-in_range c =
 pub returns-then-eq : goal.returns-then-eq
 returns-then-eq c =
     let names = c.self.inside.names in
-    let grants = c.self.inside.grants in
-    let settings = settings_view names c.self.inside.steps.items c.self.inside.terminals.items grants in
-    let a = c.args.from in
-    let b = c.args.to in
-    let start : text_in names a ≡ access.name_at settings a = name_seen names c.self.inside.steps.items a c.self.invariant.stepped in
-    let end : text_in names b ≡ access.name_at settings b = name_seen names c.self.inside.steps.items b c.self.invariant.stepped in
-    let from : c.at.result.now ≡ text_in names a = c.at.ensures ∙ ap (text_in names) c.place-start.ensures in
-    let to : c.at-2.result.now ≡ text_in names b = c.at-2.ensures ∙ ap (text_in names) c.place-end.ensures in
-    let same : text_in names a ≡ text_in names b = sym from ∙ (bytes_decides c.at.result.now c.at-2.result.now).0 (sym c.eq.ensures ∙ c.if-eq.true) ∙ to in
-    (λ e. reaches_at settings c.args.self.now c.self.view_is (text_in names a) (text_in names a) a b start (same ∙ end) (itself (text_in names a)), λ chain. refl)
+    let from = c.at.ensures ∙ ap (text_in names) c.place-start.ensures in
+    let same = sym from ∙ (bytes_decides c.at.result.now c.at-2.result.now).0 (sym c.eq.ensures ∙ c.if-eq.true) ∙ c.at-2.ensures ∙ ap (text_in names) c.place-end.ensures in
+    (λ e. chain_at _ _ _ _ c.self.invariant _ c.self.view_is c.args.from c.args.to (subst (Reaches _ (text_in names c.args.from)) same (itself (text_in names c.args.from))), λ chain. refl)
 
 pub returns-then-start-count : goal.returns-then-start-count
 returns-then-start-count c =
     let names = c.self.inside.names in
-    let grants = c.self.inside.grants in
-    let settings = settings_view names c.self.inside.steps.items c.self.inside.terminals.items grants in
-    let a = c.args.from in
-    let b = c.args.to in
-    let start : text_in names a ≡ access.name_at settings a = name_seen names c.self.inside.steps.items a c.self.invariant.stepped in
-    let end : text_in names b ≡ access.name_at settings b = name_seen names c.self.inside.steps.items b c.self.invariant.stepped in
-    let from : c.at.result.now ≡ text_in names a = c.at.ensures ∙ ap (text_in names) c.place-start.ensures in
-    let to : c.at-2.result.now ≡ text_in names b = c.at-2.ensures ∙ ap (text_in names) c.place-end.ensures in
-    let empty : text_in names a ≡ [] = ap (λ o. unwrap_or o []) (slice_get_past names a (omega arith)) in (
+    let from = c.at.ensures ∙ ap (text_in names) c.place-start.ensures in
+    let to = c.at-2.ensures ∙ ap (text_in names) c.place-end.ensures in
+    let empty : text_in names c.args.from ≡ [] = ap (λ o. unwrap_or o []) (slice_get_past names c.args.from (omega arith)) in (
       λ e. absurd (false≢true e),
       λ chain.
-          let same = empty_start names c.self.invariant.named grants c.self.invariant.granted settings refl (reaches_of settings c.args.self.now c.self.view_is (text_in names a) (text_in names b) a b start end chain) empty in
+          let same = empty_start names c.self.invariant.named c.self.inside.grants c.self.invariant.granted _ refl (chain_of _ _ _ _ c.self.invariant _ c.self.view_is c.args.from c.args.to chain) empty in
           absurd (false≢true (sym c.if-eq.false ∙ c.eq.ensures ∙ (bytes_decides c.at.result.now c.at-2.result.now).1 (from ∙ same ∙ sym to))),
     )
 
 pub returns-then-end-count : goal.returns-then-end-count
 returns-then-end-count c =
     let names = c.self.inside.names in
-    let grants = c.self.inside.grants in
-    let settings = settings_view names c.self.inside.steps.items c.self.inside.terminals.items grants in
-    let a = c.args.from in
-    let b = c.args.to in
-    let start : text_in names a ≡ access.name_at settings a = name_seen names c.self.inside.steps.items a c.self.invariant.stepped in
-    let end : text_in names b ≡ access.name_at settings b = name_seen names c.self.inside.steps.items b c.self.invariant.stepped in
-    let from : c.at.result.now ≡ text_in names a = c.at.ensures ∙ ap (text_in names) c.place-start.ensures in
-    let to : c.at-2.result.now ≡ text_in names b = c.at-2.ensures ∙ ap (text_in names) c.place-end.ensures in
-    let empty : text_in names b ≡ [] = ap (λ o. unwrap_or o []) (slice_get_past names b (omega arith)) in (
+    let from = c.at.ensures ∙ ap (text_in names) c.place-start.ensures in
+    let to = c.at-2.ensures ∙ ap (text_in names) c.place-end.ensures in
+    let empty : text_in names c.args.to ≡ [] = ap (λ o. unwrap_or o []) (slice_get_past names c.args.to (omega arith)) in (
       λ e. absurd (false≢true e),
       λ chain.
-          let same = empty_end names c.self.invariant.named grants c.self.invariant.granted settings refl (reaches_of settings c.args.self.now c.self.view_is (text_in names a) (text_in names b) a b start end chain) empty in
+          let same = empty_end names c.self.invariant.named c.self.inside.grants c.self.invariant.granted _ refl (chain_of _ _ _ _ c.self.invariant _ c.self.view_is c.args.from c.args.to chain) empty in
           absurd (false≢true (sym c.if-eq.false ∙ c.eq.ensures ∙ (bytes_decides c.at.result.now c.at-2.result.now).1 (from ∙ same ∙ sym to))),
     )
 
 pub returns : goal.returns
 returns c =
     let names = c.self.inside.names in
-    let grants = c.self.inside.grants in
-    let settings = settings_view names c.self.inside.steps.items c.self.inside.terminals.items grants in
-    let a = c.args.from in
-    let b = c.args.to in
-    let start : text_in names a ≡ access.name_at settings a = name_seen names c.self.inside.steps.items a c.self.invariant.stepped in
-    let end : text_in names b ≡ access.name_at settings b = name_seen names c.self.inside.steps.items b c.self.invariant.stepped in
     let edges = c.in_ok-edges.edges.items in
-    let low : a < length names = omega arith in
-    let high : b < length names = omega arith in
+    let low : c.args.from < length names = omega arith in
+    let high : c.args.to < length names = omega arith in
     let told = c.in_ok-leads.ensures in (
-      λ e. reaches_at settings c.args.self.now c.self.view_is (text_in names a) (text_in names b) a b start end
-          (reached_by names c.self.invariant.named grants c.self.invariant.granted edges c.in_ok-edges.ensures settings refl (subst (λ k. Leads edges k b) c.place-start.ensures (subst (Leads edges c.place-start.result) c.place-end.ensures (told.0 e)))),
-      λ chain. told.1 (subst (λ k. Leads edges k c.place-end.result) (sym c.place-start.ensures) (subst (Leads edges a) (sym c.place-end.ensures)
-          (led_by names c.self.invariant.named grants c.self.invariant.granted edges c.in_ok-edges.ensures settings refl (reaches_of settings c.args.self.now c.self.view_is (text_in names a) (text_in names b) a b start end chain) a b low high refl refl))),
+      λ e. chain_at _ _ _ _ c.self.invariant _ c.self.view_is c.args.from c.args.to (reached_by names c.self.invariant.named c.self.inside.grants c.self.invariant.granted edges c.in_ok-edges.ensures _ refl
+          (subst (λ k. Leads edges k c.args.to) c.place-start.ensures (subst (Leads edges c.place-start.result) c.place-end.ensures (told.0 e)))),
+      λ chain. told.1 (subst (λ k. Leads edges k c.place-end.result) (sym c.place-start.ensures) (subst (Leads edges c.args.from) (sym c.place-end.ensures)
+          (led_by names c.self.invariant.named c.self.inside.grants c.self.invariant.granted edges c.in_ok-edges.ensures _ refl (chain_of _ _ _ _ c.self.invariant _ c.self.view_is c.args.from c.args.to chain) c.args.from c.args.to low high refl refl))),
     )

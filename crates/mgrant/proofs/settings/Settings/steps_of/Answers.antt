@@ -1,6 +1,5 @@
 -- SPDX-License-Identifier: Apache-2.0
-use Rattle.std.proofs.Common.{ap, ◌∙◌}
-use Rattle.std.specs.Prelude.{slice_get, unwrap_or}
+use Rattle.std.proofs.Common.{ap, ◌∙◌, slice_get, unwrap_or}
 use Rattle.mspec.specs.Access as access
 use Rattle.mgrant.proofs.Seen.{steps_seen}
 use Rattle.mgrant.proofs.settings.Settings.steps_of.Goals as goal

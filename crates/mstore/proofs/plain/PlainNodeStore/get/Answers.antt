@@ -11,18 +11,17 @@ use Rattle.mstore.proofs.Holding.{entries_held}
 
 pub returns-clause-found : goal.returns-clause-found
 returns-clause-found c u =
-    let items = c.self.inside.entries.items in
     let node = c.args.key.now in
-    let had = sym (get_held items node) ∙ ap (λ g. get g node) c.self.view_is in
+    let had = sym (get_held c.self.inside.entries.items node) ∙ ap (λ g. get g node) c.self.view_is in
     elim c.match-search.branch [
       | in-Ok+in_ok-copy-in-Ok w ↦
           let at = subst (λ es. IsAt es node w.in-Ok.at) c.deref.ensures.value w.in-Ok.ensures.found in
           subst (λ r. IfOk r (λ text. text ≡ get c.args.self.now node)) (sym w.result-is)
-          (ap Some (w.in_ok-copy-in-Ok.ensures ∙ ap (λ e. e.text) w.index.ensures) ∙ sym (find_at items c.self.invariant.sorted node w.in-Ok.at at w.index.result.now) ∙ had)
+          (ap Some (w.in_ok-copy-in-Ok.ensures ∙ ap (λ e. e.text) w.index.ensures) ∙ sym (find_at c.self.inside.entries.items c.self.invariant.sorted node w.in-Ok.at at w.index.result.now) ∙ had)
       | in-Err w ↦
           let gap = subst (λ es. IsGapFor es node w.in-Err.field-0) c.deref.ensures.value w.in-Err.ensures.absent in
           subst (λ r. IfOk r (λ text. text ≡ get c.args.self.now node)) (sym w.result-is)
-          (sym (find_in_gap items node w.in-Err.field-0 gap) ∙ had)
+          (sym (find_in_gap c.self.inside.entries.items node w.in-Err.field-0 gap) ∙ had)
     ]
 
 pub returns-clause-held : goal.returns-clause-held

@@ -9,12 +9,9 @@ use Rattle.mstore.proofs.plain.PlainNodeStore.prev.Goals as goal
 
 pub returns-clause-found : goal.returns-clause-found
 returns-clause-found c u =
-    let low = c.args.low.now in
-    let high = c.args.high.now in
-    let place = c.place_of-place.result in
-    c.in_ok-key_within.ensures ∙ ap (key_within low high) (c.last-last.ensures.value ∙ ap (λ es. slice_get (take place es) (length (take place es) - 1)) c.deref-2.ensures.value)
-    ∙ previous_found low high c.self.inside.entries.items c.self.invariant place (subst (λ es. IsPlaceOf es high place) c.deref.ensures.value c.place_of-place.ensures.place)
-    ∙ ap (λ g. previous_key g low high) c.self.view_is
+    c.in_ok-key_within.ensures ∙ ap (key_within c.args.low.now c.args.high.now) (c.last-last.ensures.value ∙ ap (λ es. slice_get (take c.place_of-place.result es) (length (take c.place_of-place.result es) - 1)) c.deref-2.ensures.value)
+    ∙ previous_found c.args.low.now c.args.high.now c.self.inside.entries.items c.self.invariant c.place_of-place.result (subst (λ es. IsPlaceOf es c.args.high.now c.place_of-place.result) c.deref.ensures.value c.place_of-place.ensures.place)
+    ∙ ap (λ g. previous_key g c.args.low.now c.args.high.now) c.self.view_is
 
 pub returns-clause-held : goal.returns-clause-held
 returns-clause-held c u = subst AreHeld c.self.view_is (entries_held c.self.inside.entries.items c.self.invariant)

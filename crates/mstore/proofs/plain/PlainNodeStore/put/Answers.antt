@@ -11,44 +11,34 @@ use Rattle.mstore.proofs.plain.PlainNodeStore.put.Goals as goal
 -- the entry is there, and has another text now
 pub invariant_of-self : goal.invariant_of-self
 invariant_of-self c =
-    let items = c.self.inside.entries.items in
-    let node = c.args.key.now in
-    let at = subst (λ es. IsAt es node c.in-Ok.at) c.deref.ensures.value c.in-Ok.ensures.found in
-    are_set items c.self.invariant node c.in_ok-text.text c.in-Ok.at _ (ap (λ e. e.key) c.index_mut.ensures.value ∙ at.of_node c.index_mut.result.now) refl at
+    let at = subst (λ es. IsAt es c.args.key.now c.in-Ok.at) c.deref.ensures.value c.in-Ok.ensures.found in
+    are_set c.self.inside.entries.items c.self.invariant c.args.key.now c.in_ok-text.text c.in-Ok.at _ (ap (λ e. e.key) c.index_mut.ensures.value ∙ at.of_node c.index_mut.result.now) refl at
     (subst (λ x. length x ≤ longest_text) (sym c.in_ok-text.ensures) c.requires)
 
 pub returns-in-Ok-clause-put : goal.returns-in-Ok-clause-put
 returns-in-Ok-clause-put c u =
-    let items = c.self.inside.entries.items in
-    let node = c.args.key.now in
-    let at = subst (λ es. IsAt es node c.in-Ok.at) c.deref.ensures.value c.in-Ok.ensures.found in
-    held_set items c.self.invariant node c.args.text.now c.in-Ok.at _ (ap (λ e. e.key) c.index_mut.ensures.value ∙ at.of_node c.index_mut.result.now) c.in_ok-text.ensures at
-    ∙ ap (λ g. finite.insert g node c.args.text.now) c.self.view_is
+    let at = subst (λ es. IsAt es c.args.key.now c.in-Ok.at) c.deref.ensures.value c.in-Ok.ensures.found in
+    held_set c.self.inside.entries.items c.self.invariant c.args.key.now c.args.text.now c.in-Ok.at _ (ap (λ e. e.key) c.index_mut.ensures.value ∙ at.of_node c.index_mut.result.now) c.in_ok-text.ensures at
+    ∙ ap (λ g. finite.insert g c.args.key.now c.args.text.now) c.self.view_is
 
 -- a new entry is put between those before it and those behind it
 pub invariant_of-self-in-Continue-branch-3 : goal.invariant_of-self-in-Continue-branch-3
 invariant_of-self-in-Continue-branch-3 c =
-    let items = c.self.inside.entries.items in
-    let node = c.args.key.now in
-    let place = c.in-Err.place in
-    let le = subst (λ es. place ≤ length es) c.deref.ensures.value c.in-Err.ensures.bound in
-    let gap = subst (λ es. IsGapFor es node place) c.deref.ensures.value c.in-Err.ensures.absent in
-    let new = c.insert.ensures.items ∙ had_room _ _ items (sym c.map_err.ensures.variant ∙ ap is_ok c.in_ok-map_err-in-Err.was) in
+    let le = subst (λ es. c.in-Err.place ≤ length es) c.deref.ensures.value c.in-Err.ensures.bound in
+    let gap = subst (λ es. IsGapFor es c.args.key.now c.in-Err.place) c.deref.ensures.value c.in-Err.ensures.absent in
+    let new = c.insert.ensures.items ∙ had_room _ _ c.self.inside.entries.items (sym c.map_err.ensures.variant ∙ ap is_ok c.in_ok-map_err-in-Err.was) in
     subst AreEntries (sym new)
-    (are_inserted items c.self.invariant node c.in_ok-text.text place _ c.in_ok-key-in-Err.ensures.key refl le gap c.copy-in-Err.ensures.stored
+    (are_inserted c.self.inside.entries.items c.self.invariant c.args.key.now c.in_ok-text.text c.in-Err.place _ c.in_ok-key-in-Err.ensures.key refl le gap c.copy-in-Err.ensures.stored
     (subst (λ x. length x ≤ longest_text) (sym c.in_ok-text.ensures) c.requires))
 
 pub returns-in_ok-map_err-in-Err-clause-put : goal.returns-in_ok-map_err-in-Err-clause-put
 returns-in_ok-map_err-in-Err-clause-put c u =
-    let items = c.self.inside.entries.items in
-    let node = c.args.key.now in
-    let place = c.in-Err.place in
-    let le = subst (λ es. place ≤ length es) c.deref.ensures.value c.in-Err.ensures.bound in
-    let gap = subst (λ es. IsGapFor es node place) c.deref.ensures.value c.in-Err.ensures.absent in
-    let new = c.insert.ensures.items ∙ had_room _ _ items (sym c.map_err.ensures.variant ∙ ap is_ok c.in_ok-map_err-in-Err.was) in
+    let le = subst (λ es. c.in-Err.place ≤ length es) c.deref.ensures.value c.in-Err.ensures.bound in
+    let gap = subst (λ es. IsGapFor es c.args.key.now c.in-Err.place) c.deref.ensures.value c.in-Err.ensures.absent in
+    let new = c.insert.ensures.items ∙ had_room _ _ c.self.inside.entries.items (sym c.map_err.ensures.variant ∙ ap is_ok c.in_ok-map_err-in-Err.was) in
     ap held new
-    ∙ held_inserted items c.self.invariant node c.args.text.now place _ c.in_ok-key-in-Err.ensures.key c.in_ok-text.ensures le gap
-    ∙ ap (λ g. finite.insert g node c.args.text.now) c.self.view_is
+    ∙ held_inserted c.self.inside.entries.items c.self.invariant c.args.key.now c.args.text.now c.in-Err.place _ c.in_ok-key-in-Err.ensures.key c.in_ok-text.ensures le gap
+    ∙ ap (λ g. finite.insert g c.args.key.now c.args.text.now) c.self.view_is
 
 pub returns-in-Ok-clause-held : goal.returns-in-Ok-clause-held
 returns-in-Ok-clause-held c u = subst AreHeld c.self.view_is (entries_held c.self.inside.entries.items c.self.invariant)

@@ -1,6 +1,5 @@
 -- SPDX-License-Identifier: Apache-2.0
-use Rattle.sqlite.specs.Held.{state}
-use Rattle.sqlite.specs.Steps.{over_memory}
+use Rattle.mstore.proofs.Words.{state, over_memory}
 use Rattle.mstore.proofs.Makes.{bare_is_empty, blank_from, memory_is}
 use Rattle.mstore.proofs.table.Table+MemStore.open_memory.Goals as goal
 

@@ -3,37 +3,30 @@ use Rattle.std.proofs.Common.{◌≡◌, None, Some, subst}
 use Rattle.mspec.specs.Globals.{previous_key}
 use Rattle.mstore.specs.Database.{IsSound, stored}
 use Rattle.mstore.proofs.Tied.{previous_none, previous_some}
-use Rattle.mstore.specs.Held.{AreHeld}
-use Rattle.mstore.proofs.Holding.{table_held}
+use Rattle.mstore.proofs.Holding.{seen_held}
 use Rattle.mstore.proofs.table.TableNodeStore.prev.Goals as goal
 
 pub returns-in_default-clause-found : goal.returns-in_default-clause-found
 returns-in_default-clause-found g c quiet =
-    let h = c.self.inside.conn in
-    let sound : IsSound g.S.Store h = (quiet, c.self.invariant quiet) in
+    let sound : IsSound g.S.Store c.self.inside.conn = (quiet, c.self.invariant quiet) in
     let shows = rw c.in_default.is at c.in_ok-row.ensures.found sound in
-    subst (λ t. None ≡ previous_key (stored g.S.Store t) c.args.low.now c.args.high.now) c.self.view_is (previous_none g.S.Store h sound c.args.low.now c.args.high.now shows)
+    subst (λ t. None ≡ previous_key (stored g.S.Store t) c.args.low.now c.args.high.now) c.self.view_is (previous_none g.S.Store c.self.inside.conn sound c.args.low.now c.args.high.now shows)
 
 pub returns-clause-found : goal.returns-clause-found
 returns-clause-found g c quiet =
-    let h = c.self.inside.conn in
-    let sound : IsSound g.S.Store h = (quiet, c.self.invariant quiet) in
+    let sound : IsSound g.S.Store c.self.inside.conn = (quiet, c.self.invariant quiet) in
     let shows = rw c.in-Some.is at c.in_ok-row.ensures.found sound in
     subst (λ t. Some c.in_ok-bytes.bytes.items ≡ previous_key (stored g.S.Store t) c.args.low.now c.args.high.now) c.self.view_is
-    (previous_some g.S.Store h sound c.args.low.now c.args.high.now c.in-Some.row c.in_ok-bytes.bytes.items shows c.in_ok-bytes.ensures)
+    (previous_some g.S.Store c.self.inside.conn sound c.args.low.now c.args.high.now c.in-Some.row c.in_ok-bytes.bytes.items shows c.in_ok-bytes.ensures)
 
 pub returns-in_err-row-clause-held : goal.returns-in_err-row-clause-held
-returns-in_err-row-clause-held g c quiet =
-    subst (λ t. AreHeld (stored g.S.Store t)) c.self.view_is (table_held g.S.Store c.self.inside.conn (quiet, c.self.invariant quiet))
+returns-in_err-row-clause-held g c quiet = seen_held g.S.Store c.self.inside.conn _ c.self.view_is (quiet, c.self.invariant quiet)
 
 pub returns-clause-held : goal.returns-clause-held
-returns-clause-held g c quiet =
-    subst (λ t. AreHeld (stored g.S.Store t)) c.self.view_is (table_held g.S.Store c.self.inside.conn (quiet, c.self.invariant quiet))
+returns-clause-held g c quiet = seen_held g.S.Store c.self.inside.conn _ c.self.view_is (quiet, c.self.invariant quiet)
 
 pub returns-in_default-clause-held : goal.returns-in_default-clause-held
-returns-in_default-clause-held g c quiet =
-    subst (λ t. AreHeld (stored g.S.Store t)) c.self.view_is (table_held g.S.Store c.self.inside.conn (quiet, c.self.invariant quiet))
+returns-in_default-clause-held g c quiet = seen_held g.S.Store c.self.inside.conn _ c.self.view_is (quiet, c.self.invariant quiet)
 
 pub returns-in_err-bytes-clause-held : goal.returns-in_err-bytes-clause-held
-returns-in_err-bytes-clause-held g c quiet =
-    subst (λ t. AreHeld (stored g.S.Store t)) c.self.view_is (table_held g.S.Store c.self.inside.conn (quiet, c.self.invariant quiet))
+returns-in_err-bytes-clause-held g c quiet = seen_held g.S.Store c.self.inside.conn _ c.self.view_is (quiet, c.self.invariant quiet)

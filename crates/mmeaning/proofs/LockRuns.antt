@@ -7,7 +7,7 @@ use Rattle.std.specs.FinMap.{get, insert, empty, entries, remove, retain_keys, g
 use Rattle.std.specs.FinMap.Entries.{put}
 use Rattle.mspec.specs.LockConflict.{LockName, Locks, Held, held_cmp}
 use Rattle.mspec.specs.Access.{Account, Settings, Read}
-use Rattle.mspec.specs.Plan.{Plan, Ask, Take, Give_back, Release, perform}
+use Rattle.mspec.specs.Plan.{Plan, Ask, Take, Give_back, Release, perform, Ops}
 use Rattle.mspec.specs.Act.{Text, Outcome, no_locals}
 use Rattle.mspec.proofs.LockOrders.{held_cmp_total, held_cmp_exact}
 use Rattle.mspec.proofs.MapCuts.{equal_of, get_cut, cut_drops}
@@ -18,6 +18,7 @@ use Rattle.mmeaning.specs.LineMeaning.{Signal}
 use Rattle.mmeaning.specs.World.{World, act}
 use Rattle.mmeaning.specs.Step.{Session, Server, Event, Reply, Halted, normal}
 use Rattle.mmeaning.specs.History.{replies}
+use Rattle.mmeaning.specs.Expression.{Inside, inside}
 use Rattle.mmeaning.proofs.LineRuns.{shut_step, step_is_shut}
 
 abbrev pub account : Text → Account
@@ -30,6 +31,19 @@ lending = record {
   terminals = insert (insert (insert empty 1 (account (codes "ALICE"))) 2 (account (codes "ALICE"))) 3 (account (codes "BOB"));
   grants = record { from = codes "ALICE"; to = codes "BOB"; global = codes "X"; mode = Read } ∷ [];
 }
+
+-- what she and he may do at their terminals, and a line of each
+abbrev pub hers : Ops World
+hers = act lending 1 (codes "ALICE")
+
+abbrev pub his : Ops World
+his = act lending 3 (codes "BOB")
+
+abbrev pub her_line : Inside
+her_line = inside (codes "ALICE") 9 (record { levels = 0; indirections = 0 })
+
+abbrev pub his_line : Inside
+his_line = inside (codes "BOB") 9 (record { levels = 0; indirections = 0 })
 
 abbrev pub line_of : ℕ × Text → Event
 line_of l = record { terminal = l.0; text = l.1 }

@@ -125,15 +125,6 @@ targets =
     at_case _ refl (simp running) (at_case _ refl (simp running) (at_case _ refl (simp running) (at_case _ refl (simp running)
     (at_case _ refl (simp running) (at_case _ refl (simp (running, numbers.place_without_fraction)) (at_case _ refl (simp running) no_more))))))
 
-record Targets : Type 0 where
-  place_too_far : Answered (codes "S B=1,$P(B,\",\",501)=2" ∷ codes "W B" ∷ []) (failed [] Zarg ∷ done (codes "1") ∷ [])
-
-targets_after : Targets
-unfolding runs
-targets_after = record {
-  place_too_far = at_first (holding (codes "B") (codes "1")) _ refl (simp (running, numbers.place_too_far)) (at_last _ refl (simp running));
-}
-
 lines_run : Each (
     -- a line end is the byte 255
     (codes "SET A=\"x\" W A_1,!,A-1*2", done (codes "x1" ++ (255 ∷ codes "-2"))) ∷
@@ -143,7 +134,9 @@ lines_run : Each (
 unfolding runs
 lines_run = at_case _ refl (simp running) (at_case _ refl (simp running) (at_case _ refl (simp running) no_more))
 
-record LinesRun : Type 0 where
+-- lines one after another
+record Sessions : Type 0 where
+  place_too_far : Answered (codes "S B=1,$P(B,\",\",501)=2" ∷ codes "W B" ∷ []) (failed [] Zarg ∷ done (codes "1") ∷ [])
   -- locals last from line to line
   locals_last : Answered (codes "S A=5" ∷ codes "W A,A+1" ∷ []) (done [] ∷ done (codes "56") ∷ [])
   -- what stands before an error stands, and what stands behind it is not done
@@ -152,9 +145,10 @@ record LinesRun : Type 0 where
   steps_of_line : AreAnswered (with_steps 13) (opening empty) (codes "S (A,B)=1 S $P(A,\",\",2)=(1) K A(1) I $D(A(1))+1" ∷ []) (done [] ∷ [])
   step_too_few : AreAnswered (with_steps 12) (opening empty) (codes "S (A,B)=1 S $P(A,\",\",2)=(1) K A(1) I $D(A(1))+1" ∷ []) (failed [] Zsteps ∷ [])
 
-lines_run_after : LinesRun
+sessions : Sessions
 unfolding runs
-lines_run_after = record {
+sessions = record {
+  place_too_far = at_first (holding (codes "B") (codes "1")) _ refl (simp (running, numbers.place_too_far)) (at_last _ refl (simp running));
   locals_last = at_first (holding (codes "A") (codes "5")) _ refl (simp running) (at_last _ refl (simp running));
   set_stops_at_fault = at_first (holding (codes "A") (codes "1")) _ refl (simp running) (at_last _ refl (simp running));
   steps_of_line = at_last _ refl (simp running);

@@ -13,7 +13,7 @@ use Rattle.mmeaning.specs.World.{act}
 use Rattle.mmeaning.specs.Step.{Settings, World, Session, Server, Reply}
 use Rattle.mmeaning.specs.History.{opening}
 use Rattle.mmeaning.proofs.Calls.{assoc_plan}
-use Rattle.mmeaning.proofs.LineRuns.{opened, text_opened, list_opened, name_found, AreAnswered}
+use Rattle.mmeaning.proofs.LineRuns.{opened, text_opened, list_opened, name_found, AreAnswered, Cases, AreAnsweredEach}
 use Rattle.mmeaning.proofs.ExampleAccount.{with_steps, account}
 
 -- the lines of ALICE's routines
@@ -59,3 +59,7 @@ With name lines ts rs = (g : Globals) → lines_in g name ≡ lines → AreAnswe
 
 abbrev pub WithSteps : ℕ → Text → List Text → List Text → List Reply → Type 0
 WithSteps n name lines ts rs = (g : Globals) → lines_in g name ≡ lines → AreAnswered (with_steps n) (opening g) ts rs
+
+-- where each line stands by itself
+abbrev pub WithEach : Text → List Text → Cases → Type 0
+WithEach name lines cases = (g : Globals) → lines_in g name ≡ lines → AreAnsweredEach account (opening g) cases

@@ -9,7 +9,7 @@ pub use Rattle.mmeaning.specs.Step.{new_session}
 pub use Rattle.mmeaning.specs.History.{opening}
 pub use Rattle.mmeaning.proofs.ExampleAccount.{account, with_steps, done, failed}
 pub use Rattle.mmeaning.proofs.LineRuns.{AreAnswered, Answered, AreAnsweredEach, Each, serving, holding, at_first, at_last, at_case, no_more}
-pub use Rattle.mmeaning.proofs.RoutineRuns.{lines_in, asked, serving_in, holding_in, With, WithSteps, Anywhere, computed_operations}
+pub use Rattle.mmeaning.proofs.RoutineRuns.{lines_in, asked, serving_in, holding_in, With, WithSteps, WithEach, Anywhere, computed_operations}
 use Rattle.std.specs.Prelude.{Bool}
 use Rattle.mspec.specs.Act.{no_locals, level_begun, value_of, assigned_to}
 use Rattle.mspec.specs.NodeOrder.{canonical_value}

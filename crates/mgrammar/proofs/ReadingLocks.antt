@@ -44,16 +44,12 @@ LockedIs cs x = (cs ≡ spell_locked x.0 ++ x.1) × WellLocked x.0
 abbrev listed : List ℕ → Read ReferenceTree
 listed = lock_ref_with (readers_at (max_depth - 1))
 
-several_takes : (c : ℕ) (cs : List ℕ) (x : LockedTree × List ℕ) → c ≡ 40 → (list_at listed cs >>= λ y. past 41 y.1 >>= λ rest. Some (lock_several y.0, rest)) ≡ Some x → LockedIs (c ∷ cs) x
-several_takes c cs x at e =
-    bracketed_takes spell_reference (WellLockRef (max_depth - 1)) listed lock_several (LockedIs (c ∷ cs)) (name_takes (max_depth - 1)) c cs x at e (λ ys rest p w. (p, w))
-
 locked_takes : Takes spell_locked WellLocked locked_at
 unfolding locked_at
 locked_takes [] x e = absurd cc
 locked_takes (c ∷ cs) x e =
     elim (chosen (eqb c 40) (list_at listed cs >>= λ y. past 41 y.1 >>= λ rest. Some (lock_several y.0, rest)) (lock_ref_with (readers_at max_depth) (c ∷ cs) >>= λ v. Some (lock_one v.0, v.1)) (Some x) e) [
-      | inl p ↦ several_takes c cs x (eqb-true _ _ p.0) p.1
+      | inl p ↦ bracketed_takes spell_reference (WellLockRef (max_depth - 1)) listed lock_several (LockedIs (c ∷ cs)) (name_takes (max_depth - 1)) c cs x (eqb-true _ _ p.0) p.1 (λ ys rest q w. (q, w))
       | inr p ↦
           let b = bind_some (lock_ref_with (readers_at max_depth) (c ∷ cs)) (λ v. Some (lock_one v.0, v.1)) x p.1 in
           subst (LockedIs (c ∷ cs)) {x = (lock_one b.0.0, b.0.1)} (some_is (lock_one b.0.0, b.0.1) x b.2) (name_takes max_depth (c ∷ cs) b.0 b.1)

@@ -98,17 +98,14 @@ DestinationIs cs x = (cs ≡ spell_destination x.0 ++ x.1) × WellDestination x.
 abbrev listed : List ℕ → Read TargetTree
 listed = target_with (readers_at (max_depth - 1))
 
-several_takes : (c : ℕ) (cs : List ℕ) (x : DestinationTree × List ℕ) → c ≡ 40 → (list_at listed cs >>= λ y. past 41 y.1 >>= λ rest. Some (several y.0, rest)) ≡ Some x → DestinationIs (c ∷ cs) x
-several_takes c cs x at e =
-    bracketed_takes spell_target (WellTarget (max_depth - 1)) listed several (DestinationIs (c ∷ cs))
-    (target_takes (max_depth - 1) (readers_at (max_depth - 1)) (inner_takes (max_depth - 1)) (within_takes (max_depth - 1)) (below_takes (max_depth - 1))) c cs x at e (λ ys rest p w. (p, w))
-
 destination_takes : Takes spell_destination WellDestination destination_at
 unfolding destination_at
 destination_takes [] x e = absurd cc
 destination_takes (c ∷ cs) x e =
     elim (chosen (eqb c 40) (list_at listed cs >>= λ y. past 41 y.1 >>= λ rest. Some (several y.0, rest)) (target_with (readers_at max_depth) (c ∷ cs) >>= λ t. Some (one t.0, t.1)) (Some x) e) [
-      | inl p ↦ several_takes c cs x (eqb-true _ _ p.0) p.1
+      | inl p ↦
+          bracketed_takes spell_target (WellTarget (max_depth - 1)) listed several (DestinationIs (c ∷ cs))
+          (target_takes (max_depth - 1) (readers_at (max_depth - 1)) (inner_takes (max_depth - 1)) (within_takes (max_depth - 1)) (below_takes (max_depth - 1))) c cs x (eqb-true _ _ p.0) p.1 (λ ys rest q w. (q, w))
       | inr p ↦
           let b = bind_some (target_with (readers_at max_depth) (c ∷ cs)) (λ t. Some (one t.0, t.1)) x p.1 in
           subst (DestinationIs (c ∷ cs)) (some_is (one b.0.0, b.0.1) x b.2) (target_takes max_depth (readers_at max_depth) (inner_takes max_depth) (within_takes max_depth) (below_takes max_depth) (c ∷ cs) b.0 b.1)

@@ -1,13 +1,11 @@
 -- SPDX-License-Identifier: Apache-2.0
 -- Control flow on examples, as proved equations.
-use Rattle.std.proofs.Common.{◌*◌, rules}
-use Rattle.std.specs.Prelude.{◌^◌}
+use Rattle.mmeaning.proofs.MeaningWords.{◌*◌, rules, ◌^◌, Server}
 use Rattle.mspec.proofs.ComputedNumbers.{computes}
 use Rattle.mspec.specs.NumberText.{size_text}
 use Rattle.mspec.specs.Code.{M9, M15, Zover, Zsteps}
 use Rattle.mspec.specs.Act.{no_locals, assigned_to}
-use Rattle.mmeaning.specs.Step.{Server}
-use Rattle.mmeaning.proofs.Running.{◌≡◌, [], ◌∷◌, None, true, false, refl, codes, empty, new_session, opening, with_steps, done, failed, AreAnswered, Answered, serving, holding, at_first, at_last, Each, at_case, no_more, runs, running}
+use Rattle.mmeaning.proofs.Running.{◌≡◌, [], ◌∷◌, None, true, false, refl, codes, empty, new_session, opening, with_steps, done, failed, AreAnswered, Answered, serving, holding, at_first, at_last, Each, at_case, no_more, runs, running, numbers}
 
 loops : Each (
     -- a FOR turns down to its limit where the increment is below zero
@@ -29,14 +27,6 @@ loops =
     at_case _ refl (simp running) (at_case _ refl (simp running) (at_case _ refl (simp running) (at_case _ refl (simp running)
     (at_case _ refl (simp running) (at_case _ refl (simp running) (at_case _ refl (simp running) no_more))))))
 
-record Numbers : Type 0 where
-  tenth : size_text (10 ^ 17) ≡ codes ".1"
-  largest : size_text (999999999999999999 * 10 ^ 18) ≡ codes "999999999999999999"
-
-numbers : Numbers
-unfolding computes
-numbers = search rules
-
 sums : Each (
     -- the limit is compared with the exact sum, not with the rounded one
     (codes "F I=999999999999999999:.1:999999999999999999 W 1", done (codes "1")) ∷
@@ -45,7 +35,7 @@ sums : Each (
     -- and none where one does
     (codes "F I=9E17:9E17:9E17 W 1", done (codes "1")) ∷ [])
 unfolding runs
-sums = at_case _ refl (simp (running, numbers.tenth, numbers.largest)) (at_case _ refl (simp running) (at_case _ refl (simp running) no_more))
+sums = at_case _ refl (simp (running, numbers.of_tenth, numbers.of_largest)) (at_case _ refl (simp running) (at_case _ refl (simp running) no_more))
 
 turns_ended : Each (
     -- a FOR in a FOR: QUIT ends the inner one

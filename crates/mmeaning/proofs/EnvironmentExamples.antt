@@ -1,15 +1,10 @@
 -- SPDX-License-Identifier: Apache-2.0
 -- Globals of other accounts on examples, as proved equations over any world: what is asked in which order, and what is refused.
-use Rattle.std.proofs.Common.{◌≡◌, ℕ, suc, Bool, [], ◌∷◌, Option, Some, refl, rules}
-use Rattle.std.specs.Prelude.{codes}
-use Rattle.std.specs.FinMap.{get}
-use Rattle.mspec.specs.Code.{M9, Zarg, Zgrant, Zsub}
-use Rattle.mspec.specs.Plan.{perform}
+use Rattle.mmeaning.proofs.MeaningWords.{◌≡◌, ℕ, suc, Bool, [], ◌∷◌, Option, Some, refl, rules, codes, get, M9, Zarg, Zgrant, Zsub, perform, setting}
 use Rattle.mspec.specs.Act.{Text, Node, Locals, State, Gives, Fails}
 use Rattle.mgrammar.specs.Grammar.{ExprTree, divide, number, text, reference, refer, ReferenceTree, naked, extended, ExprsTree, exprs, no_exprs, variable, one}
 use Rattle.mgrammar.specs.Functions.{function_of}
 use Rattle.mmeaning.specs.Expression.{value}
-use Rattle.mmeaning.specs.LineMeaning.{setting}
 use Rattle.mmeaning.specs.World.{World}
 use Rattle.mmeaning.proofs.LineTrees.{only, with_operator}
 use Rattle.mmeaning.proofs.LockRuns.{hers, his, her_line, his_line}

@@ -1,8 +1,6 @@
 -- SPDX-License-Identifier: Apache-2.0
 -- Indirection on examples, as proved equations. What is read of the texts that stand for an `@` stands beside the lines.
-use Rattle.std.proofs.Common.{ℕ, ◌++◌, rules}
-use Rattle.std.specs.Prelude.{replicate}
-use Rattle.mspec.specs.Code.{M6, M9, Zsteps, Zsyntax, Zdepth}
+use Rattle.mmeaning.proofs.MeaningWords.{ℕ, ◌++◌, rules, replicate, M6, M9, Zsteps, Zsyntax, Zdepth}
 use Rattle.mspec.specs.Act.{no_locals, assigned_to}
 use Rattle.mgrammar.specs.Grammar.{divide, ExprTree, number, text, reference, local, exprs, no_exprs, assignment, removal, hiding, condition, output, execution, breaks, shown, kill_one, new_one, tested, executed, indirect_args}
 use Rattle.mgrammar.specs.IndirectTexts.{ref_at, args_of}

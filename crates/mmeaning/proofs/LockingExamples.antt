@@ -1,12 +1,8 @@
 -- SPDX-License-Identifier: Apache-2.0
 -- LOCK on examples, as proved equations over any world: what is asked in which order, and what is refused.
-use Rattle.std.proofs.Common.{◌≡◌, ℕ, suc, Bool, true, false, [], ◌∷◌, Option, Some, None, refl, rules}
-use Rattle.std.specs.Prelude.{codes}
-use Rattle.std.specs.FinMap.{empty, get}
+use Rattle.mmeaning.proofs.MeaningWords.{◌≡◌, ℕ, suc, Bool, true, false, [], ◌∷◌, Option, Some, None, refl, rules, codes, empty, get, M9, Zgrant, Zlocked, Zsub, Zsyntax, perform}
 use Rattle.mspec.specs.LockConflict.{LockName, Locks, taken, given_back, released}
 use Rattle.mspec.specs.Access.{Settings, Read}
-use Rattle.mspec.specs.Code.{M9, Zgrant, Zlocked, Zsub, Zsyntax}
-use Rattle.mspec.specs.Plan.{perform}
 use Rattle.mspec.specs.Act.{Text, Node, Locals, State, Gives, Fails}
 use Rattle.mgrammar.specs.Grammar.{ExprTree, divide, number, text, ReferenceTree, local, global, indirect, extended, exprs, no_exprs, anew, adding, giving_back, lock_one, lock_several, reference}
 use Rattle.mgrammar.proofs.Computing.{reads}

@@ -1,6 +1,6 @@
 -- SPDX-License-Identifier: Apache-2.0
 -- The two laws for steps.
-use Rattle.misolation.proofs.Words.{◌≡◌, ℕ, Bool, true, false, Option, Some, None, refl, sym, ap, ◌∙◌, subst, not, ◌||◌, List, [], ◌∷◌, if◌then◌else◌, FinMap, get, retain_keys, nat_cmp-IsAntisymmetric, nat_cmp, nat_cmp_total, Text, Account, Settings, Write, Outcome, Op, May, Value, Status, Neighbour, Routine, Put, Kill, Take, Give_back, Release, Plan, perform, cut_short, line_at, Signal, act, Accounts, IsClosed, is_member, is_inside, cut_settings, cut_locks, cut_world, cut_server, AreFit, IsFit}
+use Rattle.misolation.proofs.IsolationWords.{◌≡◌, ℕ, Bool, true, false, Option, Some, None, refl, sym, ap, ◌∙◌, subst, not, ◌||◌, List, [], ◌∷◌, if◌then◌else◌, FinMap, get, retain_keys, nat_cmp-IsAntisymmetric, nat_cmp, nat_cmp_total, Text, Account, Settings, Write, Outcome, Op, May, Value, Status, Neighbour, Routine, Put, Kill, Take, Give_back, Release, Plan, perform, cut_short, line_at, Signal, act, Accounts, IsClosed, is_member, is_inside, cut_settings, cut_locks, cut_world, cut_server, AreFit, IsFit}
 use Rattle.std.specs.List.{flat_map}
 use Rattle.mmeaning.specs.Step.{Session, session_or_new, Server, Event, Reply, plan_of, ended, is_too_long, is_ascii, at_tree, checked, at_account, normal, FailedStep, is_failure, StepBy}
 use Rattle.misolation.specs.PlanLaws.{Exchange, exchanges, Actor, ops_of, cut_ops, InsidePlan, OutsidePlan}

@@ -1,7 +1,7 @@
 -- SPDX-License-Identifier: Apache-2.0
 -- What plans and steps leave of globals, by their writes.
 use Rattle.std.proofs.Common.{◌≡◌, ℕ, zero, suc, Bool, true, false, List, [], ◌∷◌, ◌++◌, Option, Some, None, refl, sym, ap, ◌∙◌, append_assoc}
-use Rattle.misolation.proofs.Words.{not, ◌||◌, if◌then◌else◌, get, insert, list_all, Text, Node, Account, Settings, State, Outcome, Locks, taken, line_at, Signal, session_or_new, Server, Event, Reply, Ending, Finished, Halted, Faulted, reply_of, state_of, settled, plan_of, is_too_long, is_ascii, checked, at_account, FailedStep, is_failure, StepBy}
+use Rattle.misolation.proofs.IsolationWords.{not, ◌||◌, if◌then◌else◌, get, insert, list_all, Text, Node, Account, Settings, State, Outcome, Locks, taken, line_at, Signal, session_or_new, Server, Event, Reply, Ending, Finished, Halted, Faulted, reply_of, state_of, settled, plan_of, is_too_long, is_ascii, checked, at_account, FailedStep, is_failure, StepBy}
 use Rattle.std.proofs.lemmas.List.{append-nil}
 use Rattle.mspec.specs.Globals.{Globals, without_subtree}
 use Rattle.mspec.specs.Plan.{Op, May, Value, Status, Neighbour, Routine, Put, Kill, Take, Give_back, Release, Plan, Done, Ask, Ops, perform, cut_short}

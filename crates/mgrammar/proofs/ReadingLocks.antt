@@ -93,8 +93,7 @@ unsigned (c ∷ cs) b = let t = locked_tests c b in (rw (t.0, t.1) refl, rw (t.0
 kind_again : (k : LockKindTree) (names : LockedTree) (rest : List ℕ) → WellLocked names → (kind_of (spell_kind k ++ (spell_locked names ++ rest)) ≡ k) × (after_sign (spell_kind k ++ (spell_locked names ++ rest)) ≡ spell_locked names ++ rest)
 kind_again anew (lock_one v) rest w = unsigned (spell_reference v ++ rest) (Begins-append begins_reference (spell_reference v) rest (reference_begins max_depth v w.0))
 kind_again anew (lock_several rs) rest w = (refl, refl)
-kind_again adding names rest w = (refl, refl)
-kind_again giving_back names rest w = (refl, refl)
+kind_again k names rest w = (refl, refl)
 
 -- ---- arguments
 

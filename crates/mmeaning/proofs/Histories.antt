@@ -8,11 +8,8 @@ use Rattle.mmeaning.specs.StepLaws.{NormalNeverFails, NormalStepsAreHistory, His
 
 -- no act ends with a loss
 ending_is_own : (s : Signal) → is_failure (ending_of s) ≡ false
-ending_is_own Go_on = refl
-ending_is_own Skips = refl
-ending_is_own Quits = refl
-ending_is_own (Goes t) = refl
 ending_is_own Halts = refl
+ending_is_own s = refl
 
 reply_is_own : (o : Outcome Signal) → is_failure (reply_of o).ending ≡ false
 reply_is_own (Gives signal s) = ending_is_own signal

@@ -1,6 +1,6 @@
 -- SPDX-License-Identifier: Apache-2.0
 -- The grammar on examples, as proved equations: texts with their trees, and how deep brackets may lie.
-use Rattle.std.proofs.Common.{ℕ, zero, suc, List, [], ◌∷◌, ◌++◌, Option, Some, None, refl, rules}
+use Rattle.std.proofs.Common.{ℕ, zero, suc, List, [], ◌∷◌, ◌++◌, Option, Some, None, rules}
 use Rattle.std.specs.Prelude.{codes, replicate}
 use Rattle.mgrammar.specs.Grammar.{plus, minus, negate, equals, less, greater, contains, follows, sorts_after, both, either, add, subtract, multiply, divide, divide_whole, remainder, join, is, is_not, CountTree, RepeatedTree, classes, copies, AtomTree, OperandTree, ExprTree, expr, StepTree, steps_of, apply, matches, matches_not, operand, number, text, special, reference, bracket, call, select, refer, ReferenceTree, local, global, naked, no_exprs, exprs_of, choices_of, variable, piece, DestinationTree, one, several, once, onward, until, assign, breaks, shown, kill_one, kill_others, new_one, new_others, tested, loop, set_word, kill_word, new_word, if_word, else_word, for_word, quit_word, write_word, LineTree}
 use Rattle.mgrammar.specs.Reading.{line_at}
@@ -213,14 +213,6 @@ abbrev IsSome : {A : Type 0} → Option A → Type 0
 IsSome None = ⊥
 IsSome (Some a) = Unit {0}
 
-forty_open : IsSome (line_at (codes "W " ++ in_brackets 40))
-unfolding reads
-forty_open = tt
-
-forty_one_open : HaveNone ((codes "W " ++ in_brackets 41) ∷ [])
-unfolding reads
-forty_one_open = refl
-
 -- a number in the subscripts of so many variables, one within another
 abbrev subscripts_opened : ℕ → List ℕ
 subscripts_opened zero = []
@@ -229,10 +221,12 @@ subscripts_opened (suc n) = 65 ∷ 40 ∷ subscripts_opened n
 abbrev in_subscripts : ℕ → List ℕ
 in_subscripts n = subscripts_opened n ++ (49 ∷ replicate n 41)
 
-forty_subscripts : IsSome (line_at (codes "K " ++ in_subscripts 40))
-unfolding reads
-forty_subscripts = tt
+record Depths : Type 0 where
+  forty_open : IsSome (line_at (codes "W " ++ in_brackets 40))
+  forty_one_open : HaveNone ((codes "W " ++ in_brackets 41) ∷ [])
+  forty_subscripts : IsSome (line_at (codes "K " ++ in_subscripts 40))
+  forty_one_subscripts : HaveNone ((codes "K " ++ in_subscripts 41) ∷ [])
 
-forty_one_subscripts : HaveNone ((codes "K " ++ in_subscripts 41) ∷ [])
+depths : Depths
 unfolding reads
-forty_one_subscripts = refl
+depths = search rules

@@ -1,6 +1,6 @@
 -- SPDX-License-Identifier: Apache-2.0
 -- What is read of a run, a name or a string is spelled so, and what is spelled so is read.
-use Rattle.std.proofs.Common.{◌≡◌, ℕ, ◌<◌, ◌≤◌, Bool, true, false, cond, eqb, List, [], ◌∷◌, ◌++◌, length, Option, Some, None, ◌⊎◌, inl, inr, refl, ap, subst, arith}
+use Rattle.std.proofs.Common.{◌≡◌, ℕ, ◌<◌, ◌≤◌, Bool, true, false, cond, eqb, List, [], ◌∷◌, ◌++◌, length, Option, Some, None, ◌⊎◌, inl, inr, refl, sym, ◌∙◌, ap, subst, arith, ◌↔◌}
 use Rattle.std.specs.Prelude.{nat_le, ◌&&◌, ◌||◌}
 use Rattle.std.proofs.lemmas.Bool.{eqb-true}
 use Rattle.std.proofs.lemmas.Bool.Decides.{nat_tests}
@@ -70,6 +70,14 @@ chosen false x y z e = inr (refl, e)
 
 pub some_is : {A : Type 0} (x y : A) → ◌≡◌ {A = Option A} (Some x) (Some y) → x ≡ y
 some_is x y e = cc
+
+-- what is spelled so is read as one tree, and what is read is the tree that spells it
+module _ {A : Type 0} (spell : A → List ℕ) (P : A → Type 0) (read : List ℕ → Option A) (again : (x : A) → P x → read (spell x) ≡ Some x) where
+  pub unique : (s t : A) → P s → P t → spell s ≡ spell t → s ≡ t
+  unique s t v w e = some_is s t (sym (again s v) ∙ ap read e ∙ again t w)
+
+  pub told : ((cs : List ℕ) (x : A) → read cs ≡ Some x → (spell x ≡ cs) × P x) → (cs : List ℕ) (x : A) → (read cs ≡ Some x) ↔ ((spell x ≡ cs) × P x)
+  told takes cs x = (takes cs x, λ h. subst (λ (cs : List ℕ). read cs ≡ Some x) h.0 (again x h.1))
 
 -- ---- runs
 

@@ -260,19 +260,8 @@ word_ends None rest s = Stops-weaker goes_on is_letter rest (λ c h. (not_on c h
 word_ends (Some e) rest s = refl
 
 counted : (k : KeywordTree) (n : ℕ) → takes_args k n ≡ true → IsCounted (form_of k) n
-counted set_word n h = λ f. absurd cc
-counted kill_word n h = λ f. absurd cc
-counted new_word n h = λ f. absurd cc
-counted if_word n h = λ f. absurd cc
-counted else_word n h = λ f. absurd cc
 counted for_word n h = λ f. grind (arith, nat_tests, h)
-counted quit_word n h = λ f. absurd cc
-counted write_word n h = λ f. absurd cc
-counted do_word n h = λ f. absurd cc
-counted goto_word n h = λ f. absurd cc
-counted execute_word n h = λ f. absurd cc
-counted lock_word n h = λ f. absurd cc
-counted halt_word n h = λ f. absurd cc
+counted k n h = λ f. absurd cc
 
 command_parts : (w c a rest : List ℕ) → (w ++ (c ++ a)) ++ rest ≡ w ++ (c ++ (a ++ rest))
 command_parts w c a rest = simp append_assoc

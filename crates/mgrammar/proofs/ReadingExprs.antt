@@ -124,8 +124,7 @@ begins_either c h = grind (arith, nat_tests)
 pub operand_begins : (d : ℕ) (o : OperandTree) → WellOperand d o → Begins begins_operand (spell_operand o)
 operand_begins d (operand [] p) w = Begins-weaker begins_primary begins_operand (spell_primary p) begins_either (primary_begins d p w)
 operand_begins d (operand (plus ∷ ss) p) w = refl
-operand_begins d (operand (minus ∷ ss) p) w = refl
-operand_begins d (operand (negate ∷ ss) p) w = refl
+operand_begins d o w = refl
 
 pub expr_begins : (d : ℕ) (e : ExprTree) → WellExpr d e → Begins begins_operand (spell_expr e)
 expr_begins d (expr first rest) w = Begins-append begins_operand (spell_operand first) (spell_steps rest) (operand_begins d first w.0)

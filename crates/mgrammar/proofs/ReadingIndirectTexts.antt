@@ -6,7 +6,7 @@ use Rattle.mgrammar.specs.Grammar.{ReferenceTree, ArgTree, FormTree, repetition,
 use Rattle.mgrammar.specs.WellFormed.{max_depth, WellReference, WellList, WellArg}
 use Rattle.mgrammar.specs.Reading.{Read, ◌>>=◌, list_at, readers_at, reference_with, arg_at}
 use Rattle.mgrammar.specs.IndirectTexts.{whole_by, ref_at, args_of}
-use Rattle.mgrammar.proofs.ReadingBasics.{Takes, bind_some, some_is}
+use Rattle.mgrammar.proofs.ReadingBasics.{Takes, bind_some, some_is, unique, told}
 use Rattle.mgrammar.proofs.ReadingLists.{list_takes}
 use Rattle.mgrammar.proofs.ReadingArguments.{variable_takes, variable_again}
 use Rattle.mgrammar.proofs.ReadingCommands.{IsCounted, is_form}
@@ -41,10 +41,10 @@ unfolding ref_at
 reference_takes cs v e = whole_takes spell_reference (WellReference max_depth) (reference_with (readers_at max_depth)) variable_takes cs v e
 
 pub reads_its_reference : (text : List ℕ) (v : ReferenceTree) → (ref_at text ≡ Some v) ↔ ((spell_reference v ≡ text) × WellReference max_depth v)
-reads_its_reference text v = (reference_takes text v, λ h. subst (λ (cs : List ℕ). ref_at cs ≡ Some v) h.0 (reference_again v h.1))
+reads_its_reference = told spell_reference (WellReference max_depth) ref_at reference_again reference_takes
 
 pub one_reference : (s t : ReferenceTree) → WellReference max_depth s → WellReference max_depth t → spell_reference s ≡ spell_reference t → s ≡ t
-one_reference s t v w e = some_is s t (sym (reference_again s v) ∙ ap ref_at e ∙ reference_again t w)
+one_reference = unique spell_reference (WellReference max_depth) ref_at reference_again
 
 -- ---- arguments
 

@@ -18,13 +18,7 @@ bare_expr_is : (d : ℕ) (e : ExprTree) (p : PrimaryTree) → bare_expr e ≡ So
 bare_expr_is d (expr (operand [] (reference v)) no_steps) p e w =
     let is = bare_reference_is d v p e w.0 in
     (append-nil _ ∙ is.0, is.1)
-bare_expr_is d (expr (operand [] (number t)) no_steps) p e w = absurd cc
-bare_expr_is d (expr (operand [] (text t)) no_steps) p e w = absurd cc
-bare_expr_is d (expr (operand [] (special t)) no_steps) p e w = absurd cc
-bare_expr_is d (expr (operand [] (bracket x)) no_steps) p e w = absurd cc
-bare_expr_is d (expr (operand [] (call t xs)) no_steps) p e w = absurd cc
-bare_expr_is d (expr (operand [] (select t xs)) no_steps) p e w = absurd cc
-bare_expr_is d (expr (operand [] (refer t v xs)) no_steps) p e w = absurd cc
+bare_expr_is d (expr (operand [] q) no_steps) p e w = absurd cc
 bare_expr_is d (expr (operand (s ∷ ss) q) no_steps) p e w = absurd cc
 bare_expr_is d (expr o (step s rest)) p e w = absurd cc
 
@@ -58,51 +52,18 @@ bare_arg_is f a p h w = absurd w
 
 no_plain : (f g : FormTree) (p : PrimaryTree) → WellPlain f (indirect_args g p) → ⊥
 no_plain assignment g p w = w
-no_plain removal g p w = w
-no_plain hiding g p w = w
-no_plain condition g p w = w
-no_plain repetition g p w = w
-no_plain output g p w = w
-no_plain entrance g p w = w
-no_plain leap g p w = w
-no_plain execution g p w = w
-no_plain locking g p w = w
-no_plain nothing g p w = w
+no_plain f g p w = w
 
 pub plain_well : (f : FormTree) (a : ArgTree) → WellPlain f a → bare_arg a ≡ None → WellArg f a
-plain_well f (assign d e) w n = (w, n)
-plain_well f (breaks m) w n = (w, n)
-plain_well f (shown e) w n = (w, n)
-plain_well f (kill_one v) w n = (w, n)
-plain_well f (kill_others names) w n = (w, n)
-plain_well f (new_one name) w n = (w, n)
-plain_well f (new_others names) w n = (w, n)
-plain_well f (tested e) w n = (w, n)
-plain_well f (loop index parameters) w n = (w, n)
-plain_well f (do_one e c) w n = (w, n)
-plain_well f (go_to e c) w n = (w, n)
-plain_well f (executed e c) w n = (w, n)
-plain_well f (locked k names t) w n = (w, n)
 plain_well f (indirect_args g p) w n = absurd (no_plain f g p w)
+plain_well f a w n = (w, n)
 
 abbrev IsGiven : FormTree → ArgTree → Type 0
 IsGiven f a = (p : PrimaryTree) × (a ≡ indirect_args f p) × WellBelow max_depth p
 
 pub which : (f : FormTree) (a : ArgTree) → WellArg f a → IsGiven f a ⊎ (WellPlain f a × (bare_arg a ≡ None))
-which f (assign d e) w = inr w
-which f (breaks n) w = inr w
-which f (shown e) w = inr w
-which f (kill_one v) w = inr w
-which f (kill_others names) w = inr w
-which f (new_one name) w = inr w
-which f (new_others names) w = inr w
-which f (tested e) w = inr w
-which f (loop index parameters) w = inr w
-which f (do_one e c) w = inr w
-which f (go_to e c) w = inr w
-which f (executed e c) w = inr w
-which f (locked k names t) w = inr w
 which f (indirect_args g p) w = inl (p, ap (λ (g : FormTree). indirect_args g p) w.0, w.2)
+which f a w = inr w
 
 -- ---- one that begins as a variable or an expression
 

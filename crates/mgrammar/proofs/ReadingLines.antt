@@ -9,7 +9,7 @@ use Rattle.mspec.specs.Names.{is_letter, is_character, AllAre}
 use Rattle.mgrammar.specs.Grammar.{ArgTree, CommandTree, SpacedTree, LineTree, spell_command, spell_commands, spell_comment, spell}
 use Rattle.mgrammar.specs.WellFormed.{least_gap, WellCommand, WellCommands, WellComment, well}
 use Rattle.mgrammar.specs.Reading.{◌>>=◌, run_of, after_run, many, more_by, has_args, command_at, is_space, at_end, spaced, spaced_at, comment_by, comment_at, line_at}
-use Rattle.mgrammar.proofs.ReadingBasics.{Stops, Begins, Begins-append, Begins-long, bind_some, chosen, some_is, run_parts, run_again}
+use Rattle.mgrammar.proofs.ReadingBasics.{Stops, Begins, Begins-append, Begins-long, bind_some, chosen, some_is, run_parts, run_again, unique, told}
 use Rattle.mgrammar.proofs.ReadingArguments.{all_copies, copies_are}
 use Rattle.mgrammar.proofs.ReadingCommands.{Closes, After, command_takes, command_again, command_letter}
 
@@ -250,13 +250,11 @@ line_again l w =
 
 -- no text has two trees: what is read of it is each of them
 pub one_tree : (s t : LineTree) → well s → well t → spell s ≡ spell t → s ≡ t
-one_tree s t v w e = some_is s t (sym (line_again s v) ∙ ap line_at e ∙ line_again t w)
+one_tree = unique spell well line_at line_again
 
 -- what is read of a text is the tree that spells it, and that is read
 pub reads_its_tree : (text : List ℕ) (l : LineTree) → (line_at text ≡ Some l) ↔ ((spell l ≡ text) × well l)
-reads_its_tree text l =
-    let P : List ℕ → Type 0 = λ cs. line_at cs ≡ Some l in
-    (line_takes text l, λ h. subst P h.0 (line_again l h.1))
+reads_its_tree = told spell well line_at line_again line_takes
 
 -- a text of which nothing is read has no tree
 pub no_tree : (cs : List ℕ) → line_at cs ≡ None → (t : LineTree) → well t → spell t ≡ cs → ⊥

@@ -141,3 +141,13 @@ module _ {A : Type 0} (f : A → List ℕ) (P : A → Type 0) (item : List ℕ �
     list_again (x ∷ xs) rest w s =
         ap (list_at item) (append_assoc (f x) (spell_more f xs) rest)
         ∙ rw (again x (spell_more f xs ++ rest) w.0 (more_follows xs rest s.0), more_again xs rest w.1 s.0 s.1) refl
+
+-- a list in brackets, of which a tree is made
+pub bracketed_takes : {A B : Type 0} (spell : A → List ℕ) (P : A → Type 0) (item : List ℕ → Read A) (made : List A → B) (Q : B × List ℕ → Type 0) → Takes spell P item
+    → (c : ℕ) (cs : List ℕ) (x : B × List ℕ) → c ≡ 40 → (list_at item cs >>= λ y. past 41 y.1 >>= λ rest. Some (made y.0, rest)) ≡ Some x
+    → ((ys : List A) (rest : List ℕ) → c ∷ cs ≡ (40 ∷ (spell_list spell ys ++ 41 ∷ [])) ++ rest → WellList P ys → Q (made ys, rest)) → Q x
+bracketed_takes spell P item made Q takes c cs x at e is =
+    let b = bind_some (list_at item cs) (λ y. past 41 y.1 >>= λ rest. Some (made y.0, rest)) x e in
+    let k = bind_some (past 41 b.0.1) (λ rest. Some (made b.0.0, rest)) x b.2 in
+    let t = list_takes spell P item takes cs b.0 b.1 in
+    subst Q {x = (made b.0.0, k.0)} (some_is (made b.0.0, k.0) x k.2) (is b.0.0 k.0 (enclosed c cs (spell_list spell b.0.0) b.0.1 k.0 at t.0 (past_takes 41 b.0.1 k.0 k.1)) t.1)

@@ -7,8 +7,8 @@ use Rattle.std.proofs.lemmas.Bool.Decides.{nat_tests}
 use Rattle.mgrammar.specs.Grammar.{ExprTree, ReferenceTree, LockKindTree, anew, adding, giving_back, LockedTree, lock_one, lock_several, ArgTree, locked, locking, spell_reference, spell_list, spell_kind, spell_locked, spell_condition, spell_arg}
 use Rattle.mgrammar.specs.WellFormed.{max_depth, is_named, WellLockRef, WellLocked, WellPlain}
 use Rattle.mgrammar.specs.Reading.{Read, ◌>>=◌, past, list_at, readers_at, reference_with, after_sign, conditioned, lock_ref_with, locked_at, kind_of, locking_at}
-use Rattle.mgrammar.proofs.ReadingBasics.{Takes, Again, Begins, Begins-append, Begins-weaker, bind_some, chosen, some_is, past_takes}
-use Rattle.mgrammar.proofs.ReadingLists.{enclosed, list_takes, list_again}
+use Rattle.mgrammar.proofs.ReadingBasics.{Takes, Again, Begins, Begins-append, Begins-weaker, bind_some, chosen, some_is}
+use Rattle.mgrammar.proofs.ReadingLists.{bracketed_takes, list_again}
 use Rattle.mgrammar.proofs.ReadingReferences.{OperandEnds, begins_reference, reference_takes, reference_again, reference_begins}
 use Rattle.mgrammar.proofs.ReadingPrimaries.{reference_tests}
 use Rattle.mgrammar.proofs.ReadingExprs.{begins_operand, inner_takes, below_takes, inner_again, below_again}
@@ -44,20 +44,12 @@ LockedIs cs x = (cs ≡ spell_locked x.0 ++ x.1) × WellLocked x.0
 abbrev listed : List ℕ → Read ReferenceTree
 listed = lock_ref_with (readers_at (max_depth - 1))
 
-several_takes : (c : ℕ) (cs : List ℕ) (x : LockedTree × List ℕ) → c ≡ 40 → (list_at listed cs >>= λ y. past 41 y.1 >>= λ rest. Some (lock_several y.0, rest)) ≡ Some x → LockedIs (c ∷ cs) x
-several_takes c cs x at e =
-    let b = bind_some (list_at listed cs) (λ y. past 41 y.1 >>= λ rest. Some (lock_several y.0, rest)) x e in
-    let k = bind_some (past 41 b.0.1) (λ rest. Some (lock_several b.0.0, rest)) x b.2 in
-    let t = list_takes spell_reference (WellLockRef (max_depth - 1)) listed (name_takes (max_depth - 1)) cs b.0 b.1 in
-    let z = past_takes 41 b.0.1 k.0 k.1 in
-    subst (LockedIs (c ∷ cs)) {x = (lock_several b.0.0, k.0)} (some_is (lock_several b.0.0, k.0) x k.2) (enclosed c cs (spell_list spell_reference b.0.0) b.0.1 k.0 at t.0 z, t.1)
-
 locked_takes : Takes spell_locked WellLocked locked_at
 unfolding locked_at
 locked_takes [] x e = absurd cc
 locked_takes (c ∷ cs) x e =
     elim (chosen (eqb c 40) (list_at listed cs >>= λ y. past 41 y.1 >>= λ rest. Some (lock_several y.0, rest)) (lock_ref_with (readers_at max_depth) (c ∷ cs) >>= λ v. Some (lock_one v.0, v.1)) (Some x) e) [
-      | inl p ↦ several_takes c cs x (eqb-true _ _ p.0) p.1
+      | inl p ↦ bracketed_takes spell_reference (WellLockRef (max_depth - 1)) listed lock_several (LockedIs (c ∷ cs)) (name_takes (max_depth - 1)) c cs x (eqb-true _ _ p.0) p.1 (λ ys rest q w. (q, w))
       | inr p ↦
           let b = bind_some (lock_ref_with (readers_at max_depth) (c ∷ cs)) (λ v. Some (lock_one v.0, v.1)) x p.1 in
           subst (LockedIs (c ∷ cs)) {x = (lock_one b.0.0, b.0.1)} (some_is (lock_one b.0.0, b.0.1) x b.2) (name_takes max_depth (c ∷ cs) b.0 b.1)
@@ -101,8 +93,7 @@ unsigned (c ∷ cs) b = let t = locked_tests c b in (rw (t.0, t.1) refl, rw (t.0
 kind_again : (k : LockKindTree) (names : LockedTree) (rest : List ℕ) → WellLocked names → (kind_of (spell_kind k ++ (spell_locked names ++ rest)) ≡ k) × (after_sign (spell_kind k ++ (spell_locked names ++ rest)) ≡ spell_locked names ++ rest)
 kind_again anew (lock_one v) rest w = unsigned (spell_reference v ++ rest) (Begins-append begins_reference (spell_reference v) rest (reference_begins max_depth v w.0))
 kind_again anew (lock_several rs) rest w = (refl, refl)
-kind_again adding names rest w = (refl, refl)
-kind_again giving_back names rest w = (refl, refl)
+kind_again k names rest w = (refl, refl)
 
 -- ---- arguments
 

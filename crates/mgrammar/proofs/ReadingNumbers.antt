@@ -33,18 +33,18 @@ point_parts_by : (ds cs : List ℕ) → AllAre is_digit ds → cs ≡ ds ++ afte
 point_parts_by [] cs all e = (None, refl, tt, refl)
 point_parts_by (d ∷ ds) cs all e = (Some (d ∷ ds), refl, some_digits d ds all, ap (λ (x : List ℕ). 46 ∷ x) e)
 
--- as point_parts, where the first character's test gives b
-point_parts_test : (c : ℕ) (cs : List ℕ) (b : Bool) → eqb c 46 ≡ b → Part spell_fraction IsFraction (46 ∷ cs) (point_by (run_of is_digit cs) cs)
-    → Part spell_fraction IsFraction (c ∷ cs) (cond b (point_by (run_of is_digit cs) cs) ([], c ∷ cs))
-point_parts_test c cs true h p = let at : c ≡ 46 = eqb-true _ _ h in rw at p
-point_parts_test c cs false h p = (None, refl, tt, refl)
+-- a part behind a mark, where the first character's test gives b
+marked : {A : Type 0} (spell : Option A → List ℕ) (P : Option A → Type 0) (mark c : ℕ) (cs : List ℕ) (y : List ℕ × List ℕ) (b : Bool) → eqb c mark ≡ b
+    → Part spell P (mark ∷ cs) y → Part spell P (c ∷ cs) ([], c ∷ cs) → Part spell P (c ∷ cs) (cond b y ([], c ∷ cs))
+marked spell P mark c cs y true h p none = let at : c ≡ mark = eqb-true _ _ h in rw at p
+marked spell P mark c cs y false h p none = none
 
 point_parts : (cs : List ℕ) → Part spell_fraction IsFraction cs (point_at cs)
 unfolding point_at
 point_parts [] = (None, refl, tt, refl)
 point_parts (c ∷ cs) =
     let r = run_parts is_digit cs in
-    point_parts_test c cs (eqb c 46) refl (point_parts_by (run_of is_digit cs) cs r.1 r.0)
+    marked spell_fraction IsFraction 46 c cs (point_by (run_of is_digit cs) cs) (eqb c 46) refl (point_parts_by (run_of is_digit cs) cs r.1 r.0) (None, refl, tt, refl)
 
 -- a sign or none, as a part of an exponent
 abbrev SignIs : List ℕ → Type 0
@@ -75,17 +75,13 @@ exponent_parts_by (d ∷ ds) cs all e s = (
   exponent_text cs (one_sign cs) (spell_sign s.0) (d ∷ ds) (after_sign cs) (after_run is_digit (after_sign cs)) s.2 s.1 e,
 )
 
-exponent_parts_test : (c : ℕ) (cs : List ℕ) (b : Bool) → eqb c 69 ≡ b → Part spell_exponent IsExponent (69 ∷ cs) (exponent_by (run_of is_digit (after_sign cs)) cs)
-    → Part spell_exponent IsExponent (c ∷ cs) (cond b (exponent_by (run_of is_digit (after_sign cs)) cs) ([], c ∷ cs))
-exponent_parts_test c cs true h p = let at : c ≡ 69 = eqb-true _ _ h in rw at p
-exponent_parts_test c cs false h p = (None, refl, tt, refl)
-
 exponent_parts : (cs : List ℕ) → Part spell_exponent IsExponent cs (exponent_at cs)
 unfolding exponent_at
 exponent_parts [] = (None, refl, tt, refl)
 exponent_parts (c ∷ cs) =
     let r = run_parts is_digit (after_sign cs) in
-    exponent_parts_test c cs (eqb c 69) refl (exponent_parts_by (run_of is_digit (after_sign cs)) cs r.1 r.0 (sign_parts cs))
+    marked spell_exponent IsExponent 69 c cs (exponent_by (run_of is_digit (after_sign cs)) cs) (eqb c 69) refl
+    (exponent_parts_by (run_of is_digit (after_sign cs)) cs r.1 r.0 (sign_parts cs)) (None, refl, tt, refl)
 
 -- digits, and a fraction or none, are a mantissa where there is a digit
 is_mantissa : (ds : List ℕ) (o : Option (List ℕ)) → AllAre is_digit ds → IsFraction o → ds ++ spell_fraction o ≢ [] → IsMantissa ds o

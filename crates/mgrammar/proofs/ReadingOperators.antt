@@ -91,14 +91,8 @@ follows_again (c ∷ rest) s = rw s refl
 
 truth_again : (t : TruthTree) (rest : List ℕ) → Stops is_follows rest → truth_at (spell_truth t ++ rest) ≡ Some (t, rest)
 unfolding truth_at
-truth_again equals rest s = refl
-truth_again less rest s = refl
-truth_again greater rest s = refl
-truth_again contains rest s = refl
 truth_again follows rest s = ap (λ (x : TruthTree × List ℕ). Some x) (follows_again rest s)
-truth_again sorts_after rest s = refl
-truth_again both rest s = refl
-truth_again either rest s = refl
+truth_again t rest s = refl
 
 -- ---- operators
 
@@ -151,39 +145,19 @@ operator_takes (c ∷ cs) x e =
     ]
 
 negated_again : (t : TruthTree) (rest : List ℕ) → Stops is_follows rest → negated_at (spell_truth t ++ rest) ≡ Some (between (is_not t), rest)
-negated_again equals rest s = rw (truth_again equals rest s) refl
-negated_again less rest s = rw (truth_again less rest s) refl
-negated_again greater rest s = rw (truth_again greater rest s) refl
-negated_again contains rest s = rw (truth_again contains rest s) refl
 negated_again follows rest s = rw (truth_again follows rest s) refl
-negated_again sorts_after rest s = rw (truth_again sorts_after rest s) refl
-negated_again both rest s = rw (truth_again both rest s) refl
-negated_again either rest s = rw (truth_again either rest s) refl
+negated_again t rest s = rw (truth_again t rest s) refl
 
 is_again : (t : TruthTree) (rest : List ℕ) → Stops is_follows rest → operator_at (spell_truth t ++ rest) ≡ Some (between (is t), rest)
 unfolding operator_at
-is_again equals rest s = rw (truth_again equals rest s) refl
-is_again less rest s = rw (truth_again less rest s) refl
-is_again greater rest s = rw (truth_again greater rest s) refl
-is_again contains rest s = rw (truth_again contains rest s) refl
 is_again follows rest s = rw (truth_again follows rest s) refl
-is_again sorts_after rest s = rw (truth_again sorts_after rest s) refl
-is_again both rest s = rw (truth_again both rest s) refl
-is_again either rest s = rw (truth_again either rest s) refl
+is_again t rest s = rw (truth_again t rest s) refl
 
 pub operator_again : (o : OperatorTree) (rest : List ℕ) → Stops is_follows rest → operator_at (spell_operator o ++ rest) ≡ Some (o, rest)
 unfolding operator_at
-operator_again (between add) rest s = refl
-operator_again (between subtract) rest s = refl
-operator_again (between multiply) rest s = refl
-operator_again (between divide) rest s = refl
-operator_again (between divide_whole) rest s = refl
-operator_again (between remainder) rest s = refl
-operator_again (between join) rest s = refl
 operator_again (between (is t)) rest s = is_again t rest s
 operator_again (between (is_not t)) rest s = negated_again t rest s
-operator_again matching rest s = refl
-operator_again matching_not rest s = refl
+operator_again o rest s = refl
 
 -- ---- where an operator begins
 
@@ -193,26 +167,12 @@ is_operator c = list_any (λ a. eqb c a) (43 ∷ 45 ∷ 42 ∷ 47 ∷ 92 ∷ 35 
 
 truth_begins : (t : TruthTree) (rest : List ℕ) → Begins is_operator (spell_truth t ++ rest)
 truth_begins equals rest = refl
-truth_begins less rest = refl
-truth_begins greater rest = refl
-truth_begins contains rest = refl
-truth_begins follows rest = refl
-truth_begins sorts_after rest = refl
-truth_begins both rest = refl
-truth_begins either rest = refl
+truth_begins t rest = refl
 
 pub operator_begins : (o : OperatorTree) (rest : List ℕ) → Begins is_operator (spell_operator o ++ rest)
-operator_begins (between add) rest = refl
-operator_begins (between subtract) rest = refl
-operator_begins (between multiply) rest = refl
-operator_begins (between divide) rest = refl
-operator_begins (between divide_whole) rest = refl
-operator_begins (between remainder) rest = refl
-operator_begins (between join) rest = refl
 operator_begins (between (is t)) rest = truth_begins t rest
-operator_begins (between (is_not t)) rest = refl
-operator_begins matching rest = refl
-operator_begins matching_not rest = refl
+operator_begins (between b) rest = refl
+operator_begins o rest = refl
 
 not_operator : (c : ℕ) → is_operator c ≡ false → (eqb c 39 ≡ false) × (eqb c 63 ≡ false) × (found arithmetic c ≡ None) × (eqb c 93 ≡ false) × (found truths c ≡ None)
 not_operator c h =

@@ -202,13 +202,8 @@ digit_or_point_begins c h = grind (arith, nat_tests)
 
 pub primary_begins : (d : ℕ) (p : PrimaryTree) → WellPrimary d p → Begins begins_primary (spell_primary p)
 primary_begins d (number t) w = Begins-weaker is_digit_or_point begins_primary t digit_or_point_begins (number_begins t w)
-primary_begins d (text t) w = refl
-primary_begins d (special word) w = refl
 primary_begins d (reference v) w = Begins-weaker begins_reference begins_primary (spell_reference v) variable_begins (reference_begins d v w)
-primary_begins d (refer word v more) w = refl
-primary_begins d (bracket e) w = refl
-primary_begins d (call word args) w = refl
-primary_begins d (select word all) w = refl
+primary_begins d p w = refl
 
 -- ---- what is spelled so is read, below some depth
 

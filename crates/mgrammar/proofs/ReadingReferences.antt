@@ -356,10 +356,7 @@ name_begins_reference c h = rw h refl
 
 pub reference_begins : (d : ℕ) (v : ReferenceTree) → WellReference d v → Begins begins_reference (spell_reference v)
 reference_begins d (local name s) w = Begins-weaker is_name_start begins_reference (name ++ spell_subscripts s) name_begins_reference (Begins-append is_name_start name (spell_subscripts s) (named name w.0))
-reference_begins d (global name s) w = refl
-reference_begins d (naked s) w = refl
-reference_begins d (indirect p s) w = refl
-reference_begins d (extended e name s) w = refl
+reference_begins d v w = refl
 
 -- ---- an `@` and its operand alone
 
@@ -370,11 +367,7 @@ pub bare_well : (d : ℕ) (p : PrimaryTree) → WellBelow d p → WellReference 
 bare_well d p w = (w.0, w.1, tt, tt)
 
 pub bare_reference_is : (d : ℕ) (v : ReferenceTree) (p : PrimaryTree) → bare_reference v ≡ Some p → WellReference d v → (spell_reference v ≡ 64 ∷ spell_primary p) × WellBelow d p
-bare_reference_is d (local name s) p e w = absurd cc
-bare_reference_is d (global name s) p e w = absurd cc
-bare_reference_is d (naked s) p e w = absurd cc
 bare_reference_is d (indirect q no_exprs) p e w =
     let same : q ≡ p = some_is q p e in
     (bare_spelled q ∙ ap (λ (x : PrimaryTree). 64 ∷ spell_primary x) same, subst (WellBelow d) same (w.0, w.1))
-bare_reference_is d (indirect q (exprs f more)) p e w = absurd cc
-bare_reference_is d (extended x name s) p e w = absurd cc
+bare_reference_is d v p e w = absurd cc

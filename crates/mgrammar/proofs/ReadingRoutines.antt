@@ -11,7 +11,7 @@ use Rattle.mgrammar.specs.WellFormed.{WellCommands, WellAll, well}
 use Rattle.mgrammar.specs.Reading.{◌>>=◌, run_of, after_run, name_at, past, is_space, at_end, comment_at, line_at}
 use Rattle.mgrammar.specs.RoutineLine.{BodyTree, short, spaced_out, RoutineLineTree, dots_of_body, spell_dot, spell_dots, spell_body, spell_label, spell_routine_line, WellLabel, WellBody, well_routine_line, label_ends, label_by, label_at, is_dot, is_space_or_dot, dots_in, dot_by, dot_at, dots_at, body_by, body_at, routine_line_at}
 use Rattle.mgrammar.specs.GrammarLaws.{TellsRoutineLine}
-use Rattle.mgrammar.proofs.ReadingBasics.{Stops, Stops-weaker, Begins-stops, Begins-append, bind_some, some_is, run_parts, run_again, past_takes, not_past, name_takes, name_again}
+use Rattle.mgrammar.proofs.ReadingBasics.{Stops, Stops-weaker, Begins-stops, Begins-append, bind_some, some_is, run_parts, run_again, past_takes, not_past, name_takes, name_again, unique, told}
 use Rattle.mgrammar.proofs.ReadingLists.{each, many_takes, many_again, count_le}
 use Rattle.mgrammar.proofs.ReadingArguments.{all_copies, copies_are}
 use Rattle.mgrammar.proofs.ReadingCommands.{command_letter}
@@ -173,12 +173,10 @@ unfolding routine_line_at
 routine_line_again l w = rw (label_again l.label l.body w.0, body_again l.body w.1) refl
 
 pub one_routine_tree : (s t : RoutineLineTree) → well_routine_line s → well_routine_line t → spell_routine_line s ≡ spell_routine_line t → s ≡ t
-one_routine_tree s t v w e = some_is s t (sym (routine_line_again s v) ∙ ap routine_line_at e ∙ routine_line_again t w)
+one_routine_tree = unique spell_routine_line well_routine_line routine_line_at routine_line_again
 
 pub reads_its_routine_tree : (text : List ℕ) (l : RoutineLineTree) → (routine_line_at text ≡ Some l) ↔ ((spell_routine_line l ≡ text) × well_routine_line l)
-reads_its_routine_tree text l =
-    let P : List ℕ → Type 0 = λ cs. routine_line_at cs ≡ Some l in
-    (routine_line_takes text l, λ h. subst P h.0 (routine_line_again l h.1))
+reads_its_routine_tree = told spell_routine_line well_routine_line routine_line_at routine_line_again routine_line_takes
 
 -- ---- what is told of a line
 

@@ -9,7 +9,7 @@ use Rattle.mgrammar.specs.Functions.{is_piece}
 use Rattle.mgrammar.specs.WellFormed.{max_depth, bare_primary, bare_destination, WellBelow, WellReference, WellOptional, WellTarget, WellDestination, WellArg}
 use Rattle.mgrammar.specs.Reading.{Read, ◌>>=◌, run_of, after_run, past, list_at, Readers, reference_with, expr_at, readers_at, place_with, piece_with, piece_by, target_with, destination_at, given_by, assignment_by, assignment_at}
 use Rattle.mgrammar.proofs.ReadingBasics.{Takes, Again, Stops, Begins, Begins-append, Begins-stops, Begins-weaker, bind_some, chosen, some_is, both_are, run_parts, run_again, past_takes, not_past}
-use Rattle.mgrammar.proofs.ReadingLists.{joined_by, enclosed, is_comma, list_takes, list_again}
+use Rattle.mgrammar.proofs.ReadingLists.{joined_by, bracketed_takes, is_comma, list_again}
 use Rattle.mgrammar.proofs.ReadingTrees.{WellInner}
 use Rattle.mgrammar.proofs.ReadingReferences.{OperandEnds, Ends, TakesFree, AgainFree, WellWithin, begins_reference, reference_takes, reference_again, reference_begins, bare_spelled, bare_well, bare_reference_is}
 use Rattle.mgrammar.proofs.ReadingPrimaries.{reference_tests}
@@ -98,20 +98,14 @@ DestinationIs cs x = (cs ≡ spell_destination x.0 ++ x.1) × WellDestination x.
 abbrev listed : List ℕ → Read TargetTree
 listed = target_with (readers_at (max_depth - 1))
 
-several_takes : (c : ℕ) (cs : List ℕ) (x : DestinationTree × List ℕ) → c ≡ 40 → (list_at listed cs >>= λ y. past 41 y.1 >>= λ rest. Some (several y.0, rest)) ≡ Some x → DestinationIs (c ∷ cs) x
-several_takes c cs x at e =
-    let b = bind_some (list_at listed cs) (λ y. past 41 y.1 >>= λ rest. Some (several y.0, rest)) x e in
-    let k = bind_some (past 41 b.0.1) (λ rest. Some (several b.0.0, rest)) x b.2 in
-    let t = list_takes spell_target (WellTarget (max_depth - 1)) listed (target_takes (max_depth - 1) (readers_at (max_depth - 1)) (inner_takes (max_depth - 1)) (within_takes (max_depth - 1)) (below_takes (max_depth - 1))) cs b.0 b.1 in
-    let z = past_takes 41 b.0.1 k.0 k.1 in
-    subst (DestinationIs (c ∷ cs)) (some_is (several b.0.0, k.0) x k.2) (enclosed c cs (spell_list spell_target b.0.0) b.0.1 k.0 at t.0 z, t.1)
-
 destination_takes : Takes spell_destination WellDestination destination_at
 unfolding destination_at
 destination_takes [] x e = absurd cc
 destination_takes (c ∷ cs) x e =
     elim (chosen (eqb c 40) (list_at listed cs >>= λ y. past 41 y.1 >>= λ rest. Some (several y.0, rest)) (target_with (readers_at max_depth) (c ∷ cs) >>= λ t. Some (one t.0, t.1)) (Some x) e) [
-      | inl p ↦ several_takes c cs x (eqb-true _ _ p.0) p.1
+      | inl p ↦
+          bracketed_takes spell_target (WellTarget (max_depth - 1)) listed several (DestinationIs (c ∷ cs))
+          (target_takes (max_depth - 1) (readers_at (max_depth - 1)) (inner_takes (max_depth - 1)) (within_takes (max_depth - 1)) (below_takes (max_depth - 1))) c cs x (eqb-true _ _ p.0) p.1 (λ ys rest q w. (q, w))
       | inr p ↦
           let b = bind_some (target_with (readers_at max_depth) (c ∷ cs)) (λ t. Some (one t.0, t.1)) x p.1 in
           subst (DestinationIs (c ∷ cs)) (some_is (one b.0.0, b.0.1) x b.2) (target_takes max_depth (readers_at max_depth) (inner_takes max_depth) (within_takes max_depth) (below_takes max_depth) (c ∷ cs) b.0 b.1)

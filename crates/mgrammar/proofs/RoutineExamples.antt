@@ -29,7 +29,7 @@ record Commands : Type 0 where
   -- beside one of the command
   conditions : IsRead (codes "goto:1 A:A,B") (of_commands ((conditional goto_word (codes "goto") the_one (go_to (at_label (codes "A")) (Some (variable (codes "A"))) ∷ go_to (at_label (codes "B")) None ∷ []), 0) ∷ []))
   -- texts, and an argumentless DO, behind which two spaces stand
-  texts : IsRead (codes "X \"W 1\":A,A D  W 1") (of_commands ( spaced execute_word (codes "X") (executed (only (text (codes "W 1"))) (Some (variable (codes "A"))) ∷ executed (variable (codes "A")) None ∷ []) 1 ∷ spaced do_word (codes "D") [] 2 ∷ spaced write_word (codes "W") (shown the_one ∷ []) 0 ∷ []))
+  texts : IsRead (codes "X \"W 1\":A,A D  W 1") (of_commands (spaced execute_word (codes "X") (executed (only (text (codes "W 1"))) (Some (variable (codes "A"))) ∷ executed (variable (codes "A")) None ∷ []) 1 ∷ spaced do_word (codes "D") [] 2 ∷ spaced write_word (codes "W") (shown the_one ∷ []) 0 ∷ []))
 
 commands : Commands
 unfolding reads

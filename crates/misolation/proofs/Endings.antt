@@ -1,6 +1,6 @@
 -- SPDX-License-Identifier: Apache-2.0
 -- How a line ends, over the cut: the only place that reads what becomes of a session.
-use Rattle.misolation.proofs.Words.{◌≡◌, ℕ, true, false, sym, ap, ◌∙◌, FinMap, insert, remove, retain_keys, nat_cmp-IsAntisymmetric, nat_cmp, nat_cmp_total, Settings, State, Outcome, Signal, World, Accounts, is_inside, cut_world, cut_server, IsFit}
+use Rattle.misolation.proofs.IsolationWords.{◌≡◌, ℕ, true, false, sym, ap, ◌∙◌, FinMap, insert, remove, retain_keys, nat_cmp-IsAntisymmetric, nat_cmp, nat_cmp_total, Settings, State, Outcome, Signal, World, Accounts, is_inside, cut_world, cut_server, IsFit}
 use Rattle.mspec.proofs.MapCuts.{cut_drops, cut_removed}
 use Rattle.mmeaning.specs.Step.{Session, Server, Ending, Finished, Halted, Faulted, settled, ended, kept, state_of, reply_of}
 use Rattle.misolation.proofs.CutMaps.{cut_insert, cut_remove}

@@ -1,6 +1,6 @@
 -- SPDX-License-Identifier: Apache-2.0
 -- The laws of islands: the whole comes apart, and machines run together.
-use Rattle.misolation.proofs.Words.{◌≡◌, ℕ, Bool, true, false, List, [], ◌∷◌, Option, Some, None, refl, sym, ap, ◌∙◌, subst, subst₂, nat_cmp_total, nat_eq, get, remove, nat_cmp-IsAntisymmetric, significant_digits, held, released, Account, Settings, Outcome, Plan, cut_short, held_cmp_total, held_cmp_exact, node_cmp_total, node_cmp_exact, by_test, line_at, Signal, Accounts, IsClosed, is_member, is_inside, cut_settings, cut_world, cut_server, cut_events, part, IsFit, Actor, ops_of, cut_ops, InsidePlan, OutsideStep}
+use Rattle.misolation.proofs.IsolationWords.{◌≡◌, ℕ, Bool, true, false, List, [], ◌∷◌, Option, Some, None, refl, sym, ap, ◌∙◌, subst, subst₂, nat_cmp_total, nat_eq, get, remove, nat_cmp-IsAntisymmetric, significant_digits, held, released, Account, Settings, Outcome, Plan, cut_short, held_cmp_total, held_cmp_exact, node_cmp_total, node_cmp_exact, by_test, line_at, Signal, Accounts, IsClosed, is_member, is_inside, cut_settings, cut_world, cut_server, cut_events, part, IsFit, Actor, ops_of, cut_ops, InsidePlan, OutsideStep}
 use Rattle.std.proofs.lemmas.Bool.{eqb-true, eq-eqb}
 use Rattle.mspec.specs.Flow.{IsIsland}
 use Rattle.mmeaning.specs.Step.{Session, session_or_new, Server, Event, Reply, plan_of, at_account, normal, FailedStep, is_failure, StepBy, Step}

@@ -2,7 +2,7 @@
 -- The laws on a host of three customers, as proved equations: they are not empty, and they claim no more than is so.
 --
 -- The laboratory lets the clinic read its results. The bank has no tie to either, or else the clinic lets it write its bills.
-use Rattle.misolation.proofs.Words.{◌≡◌, ℕ, Bool, true, false, cond, List, [], ◌∷◌, Option, Some, None, refl, sym, ap, ◌∙◌, subst, subst₂, nat_cmp, eq_by_cmp, nat_cmp_total, Text, Node, significant_digits, LockName, held, held_cmp, released, Read, Write, Account, Grant, Settings, cut_drops, held_cmp_total, held_cmp_exact, node_cmp_total, node_cmp_exact, Put, Take, Value, World, act, History, NoneFailed, Accounts, IsClosed, reach, IsLeastClosed, is_member, is_inside, cut_settings, cut_world, cut_server, cut_events, part, holds_by, IsFit, only}
+use Rattle.misolation.proofs.IsolationWords.{◌≡◌, ℕ, Bool, true, false, cond, List, [], ◌∷◌, Option, Some, None, refl, sym, ap, ◌∙◌, subst, subst₂, nat_cmp, eq_by_cmp, nat_cmp_total, Text, Node, significant_digits, LockName, held, held_cmp, released, Read, Write, Account, Grant, Settings, cut_drops, held_cmp_total, held_cmp_exact, node_cmp_total, node_cmp_exact, Put, Take, Value, World, act, History, NoneFailed, Accounts, IsClosed, reach, IsLeastClosed, is_member, is_inside, cut_settings, cut_world, cut_server, cut_events, part, holds_by, IsFit, only}
 use Rattle.std.specs.Prelude.{codes}
 use Rattle.std.specs.FinMap.{FinMap, get, insert, remove, retain_keys, empty, entries, from_sorted, same_map, get-empty, get-insert, get-from_sorted, entries-from_sorted, entries-insert, gets, nat_cmp-IsAntisymmetric}
 use Rattle.std.specs.FinMap.Entries.{put}

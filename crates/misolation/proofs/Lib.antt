@@ -1,5 +1,5 @@
 -- SPDX-License-Identifier: Apache-2.0
-pub mod Words
+pub mod IsolationWords
 pub mod Reaching
 pub mod CutMaps
 pub mod Access

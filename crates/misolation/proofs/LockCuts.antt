@@ -3,7 +3,7 @@
 use Rattle.std.proofs.Common.{◌≡◌, ℕ, ◌+◌, ◌-◌, ◌||◌, Bool, true, false, not, List, [], ◌∷◌, Option, Some, None, refl, sym, ap, ◌∙◌, ⊎_elim}
 use Rattle.std.specs.Prelude.{unwrap_or, option_map, nat_lt, nat_eq, if◌then◌else◌}
 use Rattle.std.proofs.lemmas.Bool.{or_cases, and_parts, eqb-true}
-use Rattle.misolation.proofs.Words.{bytes_decides, get, insert, remove, keys, list_all, list_any, filter, Text, text_eq, Account, Settings, held_cmp_total, held_cmp_exact, may_lock, Accounts, IsClosed}
+use Rattle.misolation.proofs.IsolationWords.{bytes_decides, get, insert, remove, keys, list_all, list_any, filter, Text, text_eq, Account, Settings, held_cmp_total, held_cmp_exact, may_lock, Accounts, IsClosed}
 use Rattle.mspec.specs.Globals.{is_node_within}
 use Rattle.mspec.specs.LockConflict.{LockName, Held, Locks, held, count, most_counts, is_within, is_conflict, has_conflict, one_more, counted, taken, given_back, released}
 use Rattle.mspec.proofs.MapCuts.{cut_drops, cut_removed}

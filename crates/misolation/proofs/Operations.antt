@@ -1,6 +1,6 @@
 -- SPDX-License-Identifier: Apache-2.0
 -- The two laws, operation by operation.
-use Rattle.misolation.proofs.Words.{◌≡◌, Bool, true, false, not, List, Option, Some, None, refl, sym, ap, ◌∙◌, bytes_decides, and_parts, retain_keys, list_all, Node, text_eq, significant_digits, Read, Write, Settings, LockName, Locks, taken, given_back, released, Op, May, Value, Status, Neighbour, Routine, Put, Kill, Take, Give_back, Release, cut_drops, node_cmp_total, node_cmp_exact, by_test, Accounts, IsClosed, is_member, is_inside, cut_settings, cut_locks, cut_world, IsFit, AreFit}
+use Rattle.misolation.proofs.IsolationWords.{◌≡◌, Bool, true, false, not, List, Option, Some, None, refl, sym, ap, ◌∙◌, bytes_decides, and_parts, retain_keys, list_all, Node, text_eq, significant_digits, Read, Write, Settings, LockName, Locks, taken, given_back, released, Op, May, Value, Status, Neighbour, Routine, Put, Kill, Take, Give_back, Release, cut_drops, node_cmp_total, node_cmp_exact, by_test, Accounts, IsClosed, is_member, is_inside, cut_settings, cut_locks, cut_world, IsFit, AreFit}
 use Rattle.std.specs.Prelude.{option_map}
 use Rattle.mspec.specs.Globals.{is_node_within}
 use Rattle.mmeaning.specs.World.{World, guarded, may_read, may_write, may_lock, took}

@@ -1,6 +1,6 @@
 -- SPDX-License-Identifier: Apache-2.0
 -- The two laws for histories of different length, and the isolation theorem.
-use Rattle.misolation.proofs.Words.{◌≡◌, Bool, true, false, cond, List, [], ◌∷◌, Option, Some, None, map, refl, sym, ap, ◌∙◌, subst, subst₂, nat_cmp_total, Text, Settings, held_cmp, held_cmp_total, held_cmp_exact, get_cut, by_test, Server, Event, Reply, normal, Accounts, reach, is_member, is_inside, cut_settings, cut_server, cut_events, part, IsFit, AlikeServers, IsLeastClosed}
+use Rattle.misolation.proofs.IsolationWords.{◌≡◌, Bool, true, false, cond, List, [], ◌∷◌, Option, Some, None, map, refl, sym, ap, ◌∙◌, subst, subst₂, nat_cmp_total, Text, Settings, held_cmp, held_cmp_total, held_cmp_exact, get_cut, by_test, Server, Event, Reply, normal, Accounts, reach, is_member, is_inside, cut_settings, cut_server, cut_events, part, IsFit, AlikeServers, IsLeastClosed}
 use Rattle.std.proofs.lemmas.List.Elements.{filter_agree}
 use Rattle.std.specs.Cmp.{IsTotalOrder}
 use Rattle.std.specs.declared.cmp.Ordering.{Ordering}

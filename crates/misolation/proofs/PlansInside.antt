@@ -1,6 +1,6 @@
 -- SPDX-License-Identifier: Apache-2.0
 -- The two laws for every plan, by one induction each over what its operations keep.
-use Rattle.misolation.proofs.Words.{◌≡◌, true, false, ◌∷◌, Option, Some, None, refl, ap, ◌∙◌, subst, Account, Settings, get, nat_cmp-IsAntisymmetric, nat_cmp_total, Held, held_cmp_total, held_cmp_exact, World, Accounts, IsClosed, is_member, is_inside, cut_settings, cut_world, holds_by, IsFit}
+use Rattle.misolation.proofs.IsolationWords.{◌≡◌, true, false, ◌∷◌, Option, Some, None, refl, ap, ◌∙◌, subst, Account, Settings, get, nat_cmp-IsAntisymmetric, nat_cmp_total, Held, held_cmp_total, held_cmp_exact, World, Accounts, IsClosed, is_member, is_inside, cut_settings, cut_world, holds_by, IsFit}
 use Rattle.mspec.specs.Plan.{Plan, Done, Ask, Ops}
 use Rattle.mspec.proofs.Plans.{Respects, respects, respects_short, keeps, keeps_short}
 use Rattle.misolation.specs.PlanLaws.{exchanges, Actor, ops_of, cut_ops, InsidePlan, InsidePlans, OutsidePlan, OutsidePlans, PlansKeepFit, CutIsFit}

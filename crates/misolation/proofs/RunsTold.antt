@@ -1,6 +1,6 @@
 -- SPDX-License-Identifier: Apache-2.0
 -- What a run of lines tells an account, step by step, apart, and alone.
-use Rattle.misolation.proofs.Words.{◌≡◌, List, [], ◌∷◌, ◌++◌, map, refl, sym, ap, ◌∙◌, subst, Settings, Server, Event, Reply, History, NoneFailed, reach, is_inside, cut_settings, cut_events, part, IsLeastClosed, IsAlone, SameReplies}
+use Rattle.misolation.proofs.IsolationWords.{◌≡◌, List, [], ◌∷◌, ◌++◌, map, refl, sym, ap, ◌∙◌, subst, Settings, Server, Event, Reply, History, NoneFailed, reach, is_inside, cut_settings, cut_events, part, IsLeastClosed, IsAlone, SameReplies}
 use Rattle.std.proofs.lemmas.List.{map-append}
 use Rattle.std.proofs.lemmas.List.Elements.{filter-append}
 use Rattle.std.specs.Prelude.{IsTrue, ◌↔◌}

@@ -1,6 +1,6 @@
 -- SPDX-License-Identifier: Apache-2.0
 -- The two laws for steps.
-use Rattle.misolation.proofs.Words.{◌≡◌, ℕ, Bool, true, false, Option, Some, None, refl, sym, ap, ◌∙◌, subst, not, ◌||◌, List, [], ◌∷◌, if◌then◌else◌, FinMap, get, retain_keys, nat_cmp-IsAntisymmetric, nat_cmp, nat_cmp_total, Text, Account, Settings, Write, Outcome, Op, May, Value, Status, Neighbour, Routine, Put, Kill, Take, Give_back, Release, Plan, perform, cut_short, line_at, Signal, act, Accounts, IsClosed, is_member, is_inside, cut_settings, cut_locks, cut_world, cut_server, AreFit, IsFit}
+use Rattle.misolation.proofs.IsolationWords.{◌≡◌, ℕ, Bool, true, false, Option, Some, None, refl, sym, ap, ◌∙◌, subst, not, ◌||◌, List, [], ◌∷◌, if◌then◌else◌, FinMap, get, retain_keys, nat_cmp-IsAntisymmetric, nat_cmp, nat_cmp_total, Text, Account, Settings, Write, Outcome, Op, May, Value, Status, Neighbour, Routine, Put, Kill, Take, Give_back, Release, Plan, perform, cut_short, line_at, Signal, act, Accounts, IsClosed, is_member, is_inside, cut_settings, cut_locks, cut_world, cut_server, AreFit, IsFit}
 use Rattle.std.specs.List.{flat_map}
 use Rattle.mmeaning.specs.Step.{Session, session_or_new, Server, Event, Reply, plan_of, ended, is_too_long, is_ascii, at_tree, checked, at_account, normal, FailedStep, is_failure, StepBy}
 use Rattle.misolation.specs.PlanLaws.{Exchange, exchanges, Actor, ops_of, cut_ops, InsidePlan, OutsidePlan}
@@ -80,16 +80,9 @@ module _ (s : Accounts) (settings : Settings) (e : Event) (server : Server) wher
 
   -- and so are the writes among them, since what a member may write is the same
   writes_among : (me : Text) → IsClosed settings s → s me ≡ true → (op : Op) → write_of (cut_settings s settings) me op ≡ write_of settings me op
-  writes_among me closed m (May owner name mode) = refl
-  writes_among me closed m (Value n) = refl
-  writes_among me closed m (Status n) = refl
-  writes_among me closed m (Neighbour direction n) = refl
-  writes_among me closed m (Routine name) = refl
   writes_among me closed m (Put n t) = ap (λ b. if b then Puts n t ∷ [] else []) (may_cut s settings closed me n.account n.name Write m)
   writes_among me closed m (Kill n) = ap (λ b. if b then Kills n ∷ [] else []) (may_cut s settings closed me n.account n.name Write m)
-  writes_among me closed m (Take names) = refl
-  writes_among me closed m (Give_back n) = refl
-  writes_among me closed m Release = refl
+  writes_among me closed m op = refl
 
   written_inside : (o : Option Account) → get settings.terminals e.terminal ≡ o → IsClosed settings s → IsFit settings server.world → is_inside s settings e.terminal ≡ true
       → writes_by (cut_settings s settings) e (cut_server s settings server) o ≡ writes_by settings e server o

@@ -1,7 +1,7 @@
 -- SPDX-License-Identifier: Apache-2.0
 -- What plans and steps leave of globals, by their writes.
 use Rattle.std.proofs.Common.{◌≡◌, ℕ, zero, suc, Bool, true, false, List, [], ◌∷◌, ◌++◌, Option, Some, None, refl, sym, ap, ◌∙◌, append_assoc}
-use Rattle.misolation.proofs.Words.{not, ◌||◌, if◌then◌else◌, get, insert, list_all, Text, Node, Account, Settings, State, Outcome, Locks, taken, line_at, Signal, session_or_new, Server, Event, Reply, Ending, Finished, Halted, Faulted, reply_of, state_of, settled, plan_of, is_too_long, is_ascii, checked, at_account, FailedStep, is_failure, StepBy}
+use Rattle.misolation.proofs.IsolationWords.{not, ◌||◌, if◌then◌else◌, get, insert, list_all, Text, Node, Account, Settings, State, Outcome, Locks, taken, line_at, Signal, session_or_new, Server, Event, Reply, Ending, Finished, Halted, Faulted, reply_of, state_of, settled, plan_of, is_too_long, is_ascii, checked, at_account, FailedStep, is_failure, StepBy}
 use Rattle.std.proofs.lemmas.List.{append-nil}
 use Rattle.mspec.specs.Globals.{Globals, without_subtree}
 use Rattle.mspec.specs.Plan.{Op, May, Value, Status, Neighbour, Routine, Put, Kill, Take, Give_back, Release, Plan, Done, Ask, Ops, perform, cut_short}
@@ -40,16 +40,13 @@ module _ (settings : Settings) (terminal : ℕ) (me : Text) where
   ops = act settings terminal me
 
   operation_writes : (op : Op) (w : World) → (ops op w).1.globals ≡ written (write_of settings me op) w.globals
-  operation_writes (May owner name mode) w = refl
   operation_writes (Value n) w = kept_by (may_read settings me n) _ w _ refl
   operation_writes (Status n) w = kept_by (may_read settings me n) _ w _ refl
   operation_writes (Neighbour direction n) w = kept_by (may_read settings me n) _ w _ refl
-  operation_writes (Routine name) w = refl
   operation_writes (Put n t) w = put_by (may_write settings me n) n t w
   operation_writes (Kill n) w = killed_by (may_write settings me n) n w
   operation_writes (Take names) w = kept_by (list_all (may_lock settings me) names) _ w _ (kept_taken w (taken w.locks terminal names))
-  operation_writes (Give_back n) w = refl
-  operation_writes Release w = refl
+  operation_writes op w = refl
 
   -- ---- plans
 
@@ -77,9 +74,8 @@ module _ (settings : Settings) (terminal : ℕ) (me : Text) where
 -- ---- steps
 
 settled_globals : (terminal : ℕ) (server : Server) (ending : Ending) (s : State) (w : World) → (settled terminal server ending s w).world.globals ≡ w.globals
-settled_globals terminal server Finished s w = refl
-settled_globals terminal server (Faulted fault) s w = refl
 settled_globals terminal server Halted s w = refl
+settled_globals terminal server ending s w = refl
 
 module _ (settings : Settings) (e : Event) (server : Server) where
   -- the plan of a line, and what it comes to

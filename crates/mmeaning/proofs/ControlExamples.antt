@@ -1,24 +1,22 @@
 -- SPDX-License-Identifier: Apache-2.0
 -- Control flow on examples, as proved equations.
-use Rattle.std.proofs.Common.{◌*◌, rules}
-use Rattle.std.specs.Prelude.{◌^◌}
+use Rattle.mmeaning.proofs.MeaningWords.{◌*◌, rules, ◌^◌, Server}
 use Rattle.mspec.proofs.ComputedNumbers.{computes}
 use Rattle.mspec.specs.NumberText.{size_text}
 use Rattle.mspec.specs.Code.{M9, M15, Zover, Zsteps}
 use Rattle.mspec.specs.Act.{no_locals, assigned_to}
-use Rattle.mmeaning.specs.Step.{Server}
-use Rattle.mmeaning.proofs.Running.{◌≡◌, [], ◌∷◌, None, true, false, refl, codes, empty, new_session, opening, with_steps, done, failed, AreAnswered, Answered, serving, holding, at_first, at_last, Each, at_case, no_more, runs, running}
+use Rattle.mmeaning.proofs.Running.{◌≡◌, [], ◌∷◌, None, true, false, refl, codes, empty, new_session, opening, with_steps, done, failed, AreAnswered, Answered, serving, holding, at_first, at_last, Each, at_case, no_more, runs, running, numbers}
 
 loops : Each (
-    -- down to its limit where the increment is below zero
+    -- a FOR turns down to its limit where the increment is below zero
     (codes "F I=3:-1:1 W I", done (codes "321")) ∷
     -- parameters one after another, texts among them
     (codes "F I=\"a\",3:2:8,9 W I", done (codes "a3579")) ∷
     -- each parameter is evaluated where it is reached
     (codes "F I=1:1:2,I+5 W I", done (codes "127")) ∷
-    -- so an error in one comes behind the turns of those before it
+    -- an error in a parameter comes behind the turns of those before it
     (codes "F I=1,1/0 W I", failed (codes "1") M9) ∷
-    -- and one alone stays a text
+    -- a text that is a parameter alone stays a text
     (codes "F I=\"3X\" W I", done (codes "3X")) ∷
     -- the start is a number before the increment is evaluated
     (codes "F I=\"1E30\":1/0:1", failed [] Zover) ∷
@@ -29,30 +27,6 @@ loops =
     at_case _ refl (simp running) (at_case _ refl (simp running) (at_case _ refl (simp running) (at_case _ refl (simp running)
     (at_case _ refl (simp running) (at_case _ refl (simp running) (at_case _ refl (simp running) no_more))))))
 
-record Loops : Type 0 where
-  -- a FOR sets its index at each turn, up to its limit, and leaves it
-  each_turn : Answered (codes "F I=1:1:3 W I" ∷ codes "W I" ∷ []) (done (codes "123") ∷ done (codes "3") ∷ [])
-  -- without a turn, where its start is past the limit
-  limit_passed : Answered (codes "F I=5:1:3 W \"x\"" ∷ codes "W I" ∷ []) (done [] ∷ done (codes "5") ∷ [])
-  -- a start before an increment becomes a number
-  start_is_number : Answered (codes "F I=\"3X\":1:1 W 1" ∷ codes "W I" ∷ []) (done [] ∷ done (codes "3") ∷ [])
-
-loops_after : Loops
-unfolding runs
-loops_after = record {
-  each_turn = at_first (holding (codes "I") (codes "3")) _ refl (simp running) (at_last _ refl (simp running));
-  limit_passed = at_first (holding (codes "I") (codes "5")) _ refl (simp running) (at_last _ refl (simp running));
-  start_is_number = at_first (holding (codes "I") (codes "3")) _ refl (simp running) (at_last _ refl (simp running));
-}
-
-record Numbers : Type 0 where
-  tenth : size_text (10 ^ 17) ≡ codes ".1"
-  largest : size_text (999999999999999999 * 10 ^ 18) ≡ codes "999999999999999999"
-
-numbers : Numbers
-unfolding computes
-numbers = search rules
-
 sums : Each (
     -- the limit is compared with the exact sum, not with the rounded one
     (codes "F I=999999999999999999:.1:999999999999999999 W 1", done (codes "1")) ∷
@@ -61,7 +35,7 @@ sums : Each (
     -- and none where one does
     (codes "F I=9E17:9E17:9E17 W 1", done (codes "1")) ∷ [])
 unfolding runs
-sums = at_case _ refl (simp (running, numbers.tenth, numbers.largest)) (at_case _ refl (simp running) (at_case _ refl (simp running) no_more))
+sums = at_case _ refl (simp (running, numbers.of_tenth, numbers.of_largest)) (at_case _ refl (simp running) (at_case _ refl (simp running) no_more))
 
 turns_ended : Each (
     -- a FOR in a FOR: QUIT ends the inner one
@@ -81,16 +55,6 @@ turns_ended =
     at_case _ refl (simp running) (at_case _ refl (simp running) (at_case _ refl (simp running) (at_case _ refl (simp running)
     (at_case _ refl (simp running) (at_case _ refl (simp running) no_more)))))
 
-record TurnsEnded : Type 0 where
-  -- a FOR without an index turns until QUIT
-  without_index : Answered (codes "S A=1 F  S A=A+1 Q:A=3" ∷ codes "W A" ∷ []) (done [] ∷ done (codes "3") ∷ [])
-
-turns_ended_after : TurnsEnded
-unfolding runs
-turns_ended_after = record {
-  without_index = at_first (holding (codes "A") (codes "3")) _ refl (simp running) (at_last _ refl (simp running));
-}
-
 -- what a line with so many steps leaves
 abbrev turned_out : Server
 turned_out = serving (record { locals = assigned_to (assigned_to no_locals (codes "N") [] (codes "3")) (codes "I") [] (codes "4"); naked = None; test = false })
@@ -103,7 +67,16 @@ tests : Each (
 unfolding runs
 tests = at_case _ refl (simp running) (at_case _ refl (simp running) no_more)
 
-record Tests : Type 0 where
+-- lines one after another
+record Sessions : Type 0 where
+  -- a FOR sets its index at each turn, up to its limit, and leaves it
+  each_turn : Answered (codes "F I=1:1:3 W I" ∷ codes "W I" ∷ []) (done (codes "123") ∷ done (codes "3") ∷ [])
+  -- a FOR without a turn, where its start is past the limit
+  limit_passed : Answered (codes "F I=5:1:3 W \"x\"" ∷ codes "W I" ∷ []) (done [] ∷ done (codes "5") ∷ [])
+  -- a start before an increment becomes a number
+  start_is_number : Answered (codes "F I=\"3X\":1:1 W 1" ∷ codes "W I" ∷ []) (done [] ∷ done (codes "3") ∷ [])
+  -- a FOR without an index turns until QUIT
+  without_index : Answered (codes "S A=1 F  S A=A+1 Q:A=3" ∷ codes "W A" ∷ []) (done [] ∷ done (codes "3") ∷ [])
   -- Three steps for the FOR and its numbers, and three for each turn: the fourth turn has its index, and no step.
   steps_used_up : AreAnswered (with_steps 12) (opening empty) (codes "F I=1:1 S N=I" ∷ codes "W I,N" ∷ []) (failed [] Zsteps ∷ done (codes "43") ∷ [])
   -- $TEST lasts from line to line
@@ -113,9 +86,13 @@ record Tests : Type 0 where
   -- IF goes on while its arguments are true, and each sets $TEST
   each_sets_test : Answered (codes "I 1,0 W 5" ∷ codes "W $T" ∷ []) (done [] ∷ done (codes "0") ∷ [])
 
-tests_after : Tests
+sessions : Sessions
 unfolding runs
-tests_after = record {
+sessions = record {
+  each_turn = at_first (holding (codes "I") (codes "3")) _ refl (simp running) (at_last _ refl (simp running));
+  limit_passed = at_first (holding (codes "I") (codes "5")) _ refl (simp running) (at_last _ refl (simp running));
+  start_is_number = at_first (holding (codes "I") (codes "3")) _ refl (simp running) (at_last _ refl (simp running));
+  without_index = at_first (holding (codes "A") (codes "3")) _ refl (simp running) (at_last _ refl (simp running));
   steps_used_up = at_first turned_out _ refl (simp running) (at_last _ refl (simp running));
   else_after_if = at_first (serving new_session) _ refl (simp running) (at_last _ refl (simp running));
   else_passed_over = at_first (serving (record { locals = no_locals; naked = None; test = true })) _ refl (simp running) (at_last _ refl (simp running));

@@ -1,32 +1,14 @@
 -- SPDX-License-Identifier: Apache-2.0
 -- Globals of other accounts on examples, as proved equations over any world: what is asked in which order, and what is refused.
-use Rattle.std.proofs.Common.{◌≡◌, ℕ, suc, Bool, [], ◌∷◌, Option, Some, refl, rules}
-use Rattle.std.specs.Prelude.{codes}
-use Rattle.std.specs.FinMap.{get}
-use Rattle.mspec.specs.Code.{M9, Zarg, Zgrant, Zsub}
-use Rattle.mspec.specs.Plan.{Ops, perform}
+use Rattle.mmeaning.proofs.MeaningWords.{◌≡◌, ℕ, suc, Bool, [], ◌∷◌, Option, Some, refl, rules, codes, get, M9, Zarg, Zgrant, Zsub, perform, setting}
 use Rattle.mspec.specs.Act.{Text, Node, Locals, State, Gives, Fails}
 use Rattle.mgrammar.specs.Grammar.{ExprTree, divide, number, text, reference, refer, ReferenceTree, naked, extended, ExprsTree, exprs, no_exprs, variable, one}
 use Rattle.mgrammar.specs.Functions.{function_of}
-use Rattle.mmeaning.specs.Expression.{Inside, inside, value}
-use Rattle.mmeaning.specs.LineMeaning.{setting}
-use Rattle.mmeaning.specs.World.{World, act}
+use Rattle.mmeaning.specs.Expression.{value}
+use Rattle.mmeaning.specs.World.{World}
 use Rattle.mmeaning.proofs.LineTrees.{only, with_operator}
-use Rattle.mmeaning.proofs.LockRuns.{lending}
+use Rattle.mmeaning.proofs.LockRuns.{hers, his, her_line, his_line}
 use Rattle.mspec.proofs.ComputedNumbers.{computes}
-
--- terminal 1 is ALICE's, who lets BOB at terminal 3 read her X
-abbrev hers : Ops World
-hers = act lending 1 (codes "ALICE")
-
-abbrev his : Ops World
-his = act lending 3 (codes "BOB")
-
-abbrev her_line : Inside
-her_line = inside (codes "ALICE") 9 (record { levels = 0; indirections = 0 })
-
-abbrev his_line : Inside
-his_line = inside (codes "BOB") 9 (record { levels = 0; indirections = 0 })
 
 -- of ALICE's, and of what is no account
 abbrev of_alice : Text → ExprsTree → ReferenceTree

@@ -1,9 +1,6 @@
 -- SPDX-License-Identifier: Apache-2.0
 -- The account of the examples, and replies to its lines.
-use Rattle.std.proofs.Common.{ℕ, [], ◌∷◌}
-use Rattle.std.specs.Prelude.{codes}
-use Rattle.std.specs.FinMap.{empty, insert}
-use Rattle.mspec.specs.Code.{Code, Own}
+use Rattle.mmeaning.proofs.MeaningWords.{ℕ, [], ◌∷◌, codes, empty, insert, Code, Own}
 use Rattle.mspec.specs.Act.{Text}
 use Rattle.mmeaning.specs.Step.{Account, Settings, Reply, Finished, Faulted}
 

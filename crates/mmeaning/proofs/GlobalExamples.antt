@@ -1,9 +1,7 @@
 -- SPDX-License-Identifier: Apache-2.0
 -- Globals on examples, as proved equations. What a line asks of the world is followed one operation after another.
-use Rattle.std.proofs.Common.{Bool, cond, Option, ap, ◌∙◌}
+use Rattle.mmeaning.proofs.MeaningWords.{Bool, cond, Option, ap, ◌∙◌, eq_by_cmp, nat_cmp, get, insert, retain_keys, get-insert, get-empty, Op, Answer, Plan, Done, Ask, Ops, perform, Outcome, Fails, State, LineTree, line_at, Signal, Reply, Server, Session, normal, kept, ended, begun, is_too_long, is_ascii}
 use Rattle.std.specs.Prelude.{not, option_map}
-use Rattle.std.specs.Ordering.{eq_by_cmp, nat_cmp}
-use Rattle.std.specs.FinMap.{get, insert, retain_keys, get-insert, get-empty}
 use Rattle.mspec.proofs.MapCuts.{get_cut}
 use Rattle.mspec.proofs.NodeOrders.{node_cmp_total, node_cmp_exact}
 use Rattle.mspec.proofs.ComputedNumbers.{computes}
@@ -12,13 +10,7 @@ use Rattle.mspec.specs.Node.{Text, Node}
 use Rattle.mspec.specs.NodeOrder.{node_cmp}
 use Rattle.mspec.specs.Number.{significant_digits}
 use Rattle.mspec.specs.Globals.{is_node_within, status}
-use Rattle.mspec.specs.Plan.{Op, Answer, Plan, Done, Ask, Ops, perform}
-use Rattle.mspec.specs.Act.{Outcome, Fails, State}
-use Rattle.mgrammar.specs.Grammar.{LineTree}
-use Rattle.mgrammar.specs.Reading.{line_at}
-use Rattle.mmeaning.specs.LineMeaning.{Signal}
 use Rattle.mmeaning.specs.World.{World, act}
-use Rattle.mmeaning.specs.Step.{Reply, Server, Session, normal, kept, ended, begun, is_too_long, is_ascii}
 use Rattle.mmeaning.proofs.ExampleAccount.{alice}
 use Rattle.mmeaning.proofs.LineRuns.{event, shut, shut_run, shut_step, step_is_shut}
 use Rattle.mmeaning.proofs.Running.{◌≡◌, List, [], ◌∷◌, Some, None, true, false, refl, codes, empty, gets, Globals, new_session, opening, account, done, failed, AreAnswered, at_last, Anywhere, runs}

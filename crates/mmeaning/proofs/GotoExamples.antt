@@ -1,25 +1,19 @@
 -- SPDX-License-Identifier: Apache-2.0
 -- GOTO on examples, as proved equations: a loop of six turns, each in an equation of its own.
-use Rattle.std.proofs.Common.{sym, zero, ◌*◌, ℕ}
-use Rattle.std.specs.Prelude.{◌^◌}
+use Rattle.mmeaning.proofs.MeaningWords.{sym, zero, ◌*◌, ℕ, ◌^◌, suc, ap, ◌∙◌, insert, Plan, then_plan, perform, Gives, give, Locals, State, Outcome, Act, on_gives, Signal, Go_on, Spot}
 use Rattle.std.specs.Fmt.{digits}
 use Rattle.mspec.specs.NodeOrder.{canonical_value}
 use Rattle.mspec.specs.NumberText.{size_text}
 use Rattle.mspec.specs.Act.{no_locals, level_begun, value_of, assigned_to}
 use Rattle.mgrammar.specs.Reading.{name_at, line_at}
 use Rattle.mgrammar.specs.RoutineLine.{label_at, routine_line_at}
-use Rattle.std.proofs.Common.{suc, ap, ◌∙◌}
 use Rattle.mspec.proofs.ComputedMaps.{tree_none, tree_put, tree_again, text_none, text_put, text_again}
 use Rattle.mspec.proofs.ComputedNumbers.{value_some, round_pos, text_1, text_2, text_3, text_4, text_8, text_16}
 use Rattle.mspec.specs.Scopes.{bottom}
-use Rattle.std.specs.FinMap.{insert}
-use Rattle.mspec.specs.Plan.{Plan, then_plan, perform}
-use Rattle.mspec.specs.Act.{Gives, give, Locals, State, Outcome, Act, on_gives}
 use Rattle.mgrammar.specs.Grammar.{multiply, loop, until, for_word, is, less, number, text, reference, at_label, at_label_in, shown, do_one, go_to, set_word, quit_word, write_word, do_word, goto_word, CommandTree, LineTree, SpacedTree}
 use Rattle.mgrammar.specs.RoutineLine.{RoutineLineTree, spaced_out}
 use Rattle.mgrammar.proofs.Computing.{reads}
 use Rattle.mmeaning.specs.World.{World, act}
-use Rattle.mmeaning.specs.LineMeaning.{Signal, Go_on, Spot}
 use Rattle.mmeaning.specs.Levels.{commands_in}
 use Rattle.mmeaning.proofs.Calls.{assoc_plan, then_give}
 use Rattle.mmeaning.proofs.ExampleAccount.{alice}
@@ -121,30 +115,27 @@ module _ (levels : ℕ) (locals : Text → Locals) (reads : (x : Text) → value
   reopened : (n steps : ℕ) (x : Text) (f : Signal → Act Signal) (w : World) → shut_at n steps x f w ≡ entered_at n steps x f w
   reopened n steps x f w = ap (λ p. in_store (then_plan p (on_gives f)) w) (text_opened (codes "ALICE") n second looping (locals x) None false [] steps)
 
-  turn_1 : Turn (codes "1") (codes "2")
-  unfolding name_at label_at
-  turn_1 n steps f w = simp (by_number, reads, sets, doubling_2_read)
+  record Turns : Type 0 where
+    from_1 : Turn (codes "1") (codes "2")
+    from_2 : Turn (codes "2") (codes "4")
+    from_4 : Turn (codes "4") (codes "8")
+    from_8 : Turn (codes "8") (codes "16")
+    from_16 : Turn (codes "16") (codes "32")
 
-  turn_2 : Turn (codes "2") (codes "4")
+  turns : Turns
   unfolding name_at label_at
-  turn_2 n steps f w = simp (by_number, reads, sets, doubling_2_read)
-
-  turn_3 : Turn (codes "4") (codes "8")
-  unfolding name_at label_at
-  turn_3 n steps f w = simp (by_number, reads, sets, doubling_2_read)
-
-  turn_4 : Turn (codes "8") (codes "16")
-  unfolding name_at label_at
-  turn_4 n steps f w = simp (by_number, reads, sets, doubling_2_read)
-
-  turn_5 : Turn (codes "16") (codes "32")
-  unfolding name_at label_at
-  turn_5 n steps f w = simp (by_number, reads, sets, doubling_2_read)
+  turns = record {
+    from_1 = λ n steps f w. simp (by_number, reads, sets, doubling_2_read);
+    from_2 = λ n steps f w. simp (by_number, reads, sets, doubling_2_read);
+    from_4 = λ n steps f w. simp (by_number, reads, sets, doubling_2_read);
+    from_8 = λ n steps f w. simp (by_number, reads, sets, doubling_2_read);
+    from_16 = λ n steps f w. simp (by_number, reads, sets, doubling_2_read);
+  }
 
   -- six steps of the last turn, one of the third line and three of its commands
   last_turn : (n steps : ℕ) (f : Signal → Act Signal) (w : World) → entered_at (suc (suc n)) (suc (suc (suc (suc (suc (suc (suc (suc (suc (suc steps)))))))))) (codes "32") f w ≡ in_store (f Go_on (at_number steps (codes "64") (codes "64"))) w
   unfolding name_at label_at
-  last_turn n steps f w = simp (by_number, text_opened, reads, sets, doubling_2_read, doubling_3_read)
+  last_turn n steps f w = simp (by_number, text_opened, reads, sets, doubling_3_read)
 
   abbrev for_turns : ℕ → ℕ → ℕ
   for_turns zero steps = suc (suc (suc (suc (suc (suc (suc (suc (suc (suc steps)))))))))
@@ -152,11 +143,11 @@ module _ (levels : ℕ) (locals : Text → Locals) (reads : (x : Text) → value
 
   all_turns : (n steps : ℕ) (f : Signal → Act Signal) (w : World) → shut_at (suc (suc (suc (suc (suc (suc (suc n))))))) (for_turns 5 steps) (codes "1") f w ≡ in_store (f Go_on (at_number steps (codes "64") (codes "64"))) w
   all_turns n steps f w =
-      reopened (suc (suc (suc (suc (suc (suc (suc n))))))) (for_turns 5 steps) (codes "1") f w ∙ turn_1 (suc (suc (suc (suc (suc (suc n)))))) (for_turns 4 steps) f w
-      ∙ reopened (suc (suc (suc (suc (suc (suc n)))))) (for_turns 4 steps) (codes "2") f w ∙ turn_2 (suc (suc (suc (suc (suc n))))) (for_turns 3 steps) f w
-      ∙ reopened (suc (suc (suc (suc (suc n))))) (for_turns 3 steps) (codes "4") f w ∙ turn_3 (suc (suc (suc (suc n)))) (for_turns 2 steps) f w
-      ∙ reopened (suc (suc (suc (suc n)))) (for_turns 2 steps) (codes "8") f w ∙ turn_4 (suc (suc (suc n))) (for_turns 1 steps) f w
-      ∙ reopened (suc (suc (suc n))) (for_turns 1 steps) (codes "16") f w ∙ turn_5 (suc (suc n)) (for_turns 0 steps) f w
+      reopened (suc (suc (suc (suc (suc (suc (suc n))))))) (for_turns 5 steps) (codes "1") f w ∙ turns.from_1 (suc (suc (suc (suc (suc (suc n)))))) (for_turns 4 steps) f w
+      ∙ reopened (suc (suc (suc (suc (suc (suc n)))))) (for_turns 4 steps) (codes "2") f w ∙ turns.from_2 (suc (suc (suc (suc (suc n))))) (for_turns 3 steps) f w
+      ∙ reopened (suc (suc (suc (suc (suc n))))) (for_turns 3 steps) (codes "4") f w ∙ turns.from_4 (suc (suc (suc (suc n)))) (for_turns 2 steps) f w
+      ∙ reopened (suc (suc (suc (suc n)))) (for_turns 2 steps) (codes "8") f w ∙ turns.from_8 (suc (suc (suc n))) (for_turns 1 steps) f w
+      ∙ reopened (suc (suc (suc n))) (for_turns 1 steps) (codes "16") f w ∙ turns.from_16 (suc (suc n)) (for_turns 0 steps) f w
       ∙ reopened (suc (suc n)) (for_turns 0 steps) (codes "32") f w ∙ last_turn n steps f w
 
 -- ---- in the level of a DO

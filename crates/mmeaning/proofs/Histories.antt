@@ -1,9 +1,6 @@
 -- SPDX-License-Identifier: Apache-2.0
 -- Histories and normal steps.
-use Rattle.std.proofs.Common.{◌≡◌, Bool, true, false, [], ◌∷◌, Option, Some, None, refl, sym, ap, ◌∙◌, subst}
-use Rattle.std.specs.Prelude.{map}
-use Rattle.std.specs.FinMap.{get}
-use Rattle.mspec.specs.Act.{Outcome, Gives, Fails}
+use Rattle.mmeaning.proofs.MeaningWords.{◌≡◌, Bool, true, false, [], ◌∷◌, Option, Some, None, refl, sym, ap, ◌∙◌, subst, map, get, Outcome, Gives, Fails}
 use Rattle.mmeaning.specs.LineMeaning.{Signal, Go_on, Skips, Quits, Goes, Halts}
 use Rattle.mmeaning.specs.Step.{Settings, Account, Server, Event, Reply, Step, StepBy, normal, at_account, checked, is_too_long, is_ascii, ending_of, reply_of, is_failure}
 use Rattle.mmeaning.specs.History.{replies, server_after}
@@ -11,11 +8,8 @@ use Rattle.mmeaning.specs.StepLaws.{NormalNeverFails, NormalStepsAreHistory, His
 
 -- no act ends with a loss
 ending_is_own : (s : Signal) → is_failure (ending_of s) ≡ false
-ending_is_own Go_on = refl
-ending_is_own Skips = refl
-ending_is_own Quits = refl
-ending_is_own (Goes t) = refl
 ending_is_own Halts = refl
+ending_is_own s = refl
 
 reply_is_own : (o : Outcome Signal) → is_failure (reply_of o).ending ≡ false
 reply_is_own (Gives signal s) = ending_is_own signal

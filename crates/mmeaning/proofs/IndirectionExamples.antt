@@ -1,8 +1,6 @@
 -- SPDX-License-Identifier: Apache-2.0
 -- Indirection on examples, as proved equations. What is read of the texts that stand for an `@` stands beside the lines.
-use Rattle.std.proofs.Common.{ℕ, ◌++◌, rules}
-use Rattle.std.specs.Prelude.{replicate}
-use Rattle.mspec.specs.Code.{M6, M9, Zsteps, Zsyntax, Zdepth}
+use Rattle.mmeaning.proofs.MeaningWords.{ℕ, ◌++◌, rules, replicate, M6, M9, Zsteps, Zsyntax, Zdepth}
 use Rattle.mspec.specs.Act.{no_locals, assigned_to}
 use Rattle.mgrammar.specs.Grammar.{divide, ExprTree, number, text, reference, local, exprs, no_exprs, assignment, removal, hiding, condition, output, execution, breaks, shown, kill_one, new_one, tested, executed, indirect_args}
 use Rattle.mgrammar.specs.IndirectTexts.{ref_at, args_of}
@@ -66,16 +64,6 @@ names =
     at_case _ refl (simp running) (at_case _ refl (simp running) (at_case _ refl (simp running) (at_case _ refl (simp running)
     (at_case _ refl (simp running) (at_case _ refl (simp running) (at_case _ refl (simp running) no_more))))))
 
-record Names : Type 0 where
-  -- the variable that a text names costs no step of its own: of ten steps eight are used before the turns
-  name_costs_nothing : AreAnswered (with_steps 10) (opening empty) (codes "S A=1 I +@\"A\"  F %N=1:1" ∷ codes "W %N" ∷ []) (failed [] Zsteps ∷ done (codes "3") ∷ [])
-
-names_after : Names
-unfolding runs
-names_after = record {
-  name_costs_nothing = at_first (serving (record { locals = assigned_to (assigned_to no_locals (codes "A") [] (codes "1")) (codes "%N") [] (codes "3"); naked = None; test = true })) _ refl (simp running) (at_last _ refl (simp running));
-}
-
 -- ---- argument indirection
 
 arguments_given : Each (
@@ -103,15 +91,19 @@ arguments_given =
     (at_case _ refl (simp running) (at_case _ refl (simp running) (at_case _ refl (simp running) (at_case _ refl (simp running)
     (at_case _ refl (simp running) (at_case _ refl (simp running) no_more)))))))))
 
-record ArgumentsGiven : Type 0 where
+-- lines one after another
+record Sessions : Type 0 where
+  -- the variable that a text names costs no step of its own: of ten steps eight are used before the turns
+  name_costs_nothing : AreAnswered (with_steps 10) (opening empty) (codes "S A=1 I +@\"A\"  F %N=1:1" ∷ codes "W %N" ∷ []) (failed [] Zsteps ∷ done (codes "3") ∷ [])
   -- IF: a false condition of the text skips the rest of the line
   given_conditions : Answered (codes "I @\"1,0\" W 1" ∷ codes "W $T" ∷ []) (done [] ∷ done (codes "0") ∷ [])
   -- the argument itself costs no step: of ten six are used before the turns
   argument_costs_operand : AreAnswered (with_steps 10) (opening empty) (codes "W @\"1\"  F %N=1:1" ∷ codes "W %N" ∷ []) (failed (codes "1") Zsteps ∷ done (codes "5") ∷ [])
 
-arguments_given_after : ArgumentsGiven
+sessions : Sessions
 unfolding runs
-arguments_given_after = record {
+sessions = record {
+  name_costs_nothing = at_first (serving (record { locals = assigned_to (assigned_to no_locals (codes "A") [] (codes "1")) (codes "%N") [] (codes "3"); naked = None; test = true })) _ refl (simp running) (at_last _ refl (simp running));
   given_conditions = at_first (serving (record { locals = no_locals; naked = None; test = false })) _ refl (simp running) (at_last _ refl (simp running));
   argument_costs_operand = at_first (holding (codes "%N") (codes "5")) _ refl (simp running) (at_last _ refl (simp running));
 }

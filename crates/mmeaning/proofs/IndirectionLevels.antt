@@ -1,10 +1,7 @@
 -- SPDX-License-Identifier: Apache-2.0
 -- How deep indirections may stand, on examples, as proved equations: which are levels at once, and in which order they are refused.
-use Rattle.std.proofs.Common.{◌≡◌, ℕ, zero, suc, ◌+◌, ◌≤◌, Bool, true, false, List, [], ◌∷◌, Option, Some, None, refl, arith, rules}
-use Rattle.std.specs.Prelude.{codes, nat_lt}
+use Rattle.mmeaning.proofs.MeaningWords.{◌≡◌, ℕ, zero, suc, ◌+◌, ◌≤◌, Bool, true, false, List, [], ◌∷◌, Option, Some, None, refl, arith, rules, codes, nat_lt, M9, Zdepth, Zsyntax, Done}
 use Rattle.std.proofs.lemmas.Bool.Decides.{nat_tests}
-use Rattle.mspec.specs.Code.{M9, Zdepth, Zsyntax}
-use Rattle.mspec.specs.Plan.{Done}
 use Rattle.mspec.specs.Act.{Text, Node, Locals, level_begun, State, Gives, Fails, value_of, assigned_to}
 use Rattle.mgrammar.specs.Grammar.{divide, number, PrimaryTree, text, bracket, reference, ReferenceTree, indirect, exprs, no_exprs, variable, one, output, at_label, entrance, do_one, indirect_args, do_word, CommandTree}
 use Rattle.mgrammar.specs.Reading.{many, list_at, name_at, subscripts_with, attached_with, indirect_with, reference_with, primary_with, readers_at, entry_at, entrance_at}

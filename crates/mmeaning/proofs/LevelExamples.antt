@@ -1,18 +1,13 @@
 -- SPDX-License-Identifier: Apache-2.0
 -- Levels on examples, as proved equations: how many may be open, and in which order DO, GOTO and XECUTE are refused.
-use Rattle.std.proofs.Common.{◌≡◌, ℕ, zero, suc, ◌+◌, ◌≤◌, Bool, true, false, List, [], ◌∷◌, Option, Some, None, refl, ap, subst, ◌∙◌, arith, rules}
-use Rattle.std.specs.Prelude.{codes, nat_lt}
+use Rattle.mmeaning.proofs.MeaningWords.{◌≡◌, ℕ, zero, suc, ◌+◌, ◌≤◌, Bool, true, false, List, [], ◌∷◌, Option, Some, None, refl, ap, subst, ◌∙◌, arith, rules, codes, nat_lt, M9, M13, Zdepth, Zlevel, Zsyntax, Plan, Done, then_plan, line_at, text_run}
 use Rattle.std.proofs.lemmas.Bool.Decides.{nat_tests}
 use Rattle.mspec.specs.Scopes.{Scope}
-use Rattle.mspec.specs.Code.{M9, M13, Zdepth, Zlevel, Zsyntax}
-use Rattle.mspec.specs.Plan.{Plan, Done, then_plan}
 use Rattle.mspec.specs.Act.{Text, Node, Locals, State, Outcome, Gives, Fails, on_gives, level_begun, value_of}
 use Rattle.mgrammar.specs.Grammar.{divide, number, text, reference, at_label, executed, execute_word, LineTree}
-use Rattle.mgrammar.specs.Reading.{line_at}
 use Rattle.mgrammar.proofs.Computing.{reads}
 use Rattle.mmeaning.specs.LineMeaning.{Signal, Spot, outset, after_level, run_within, Context, Go_on, Goes, context, commands, doing, doing_block, executing, going}
 use Rattle.mmeaning.specs.Levels.{commands_of}
-use Rattle.mmeaning.specs.Step.{text_run}
 use Rattle.mmeaning.proofs.LineTrees.{only, with_operator, named, command, line}
 use Rattle.mspec.proofs.ComputedNumbers.{computes}
 

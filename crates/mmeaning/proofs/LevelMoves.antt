@@ -1,8 +1,7 @@
 -- SPDX-License-Identifier: Apache-2.0
 -- Levels as frames: what a text that is entered pushes, as equations of what the frames have then to do.
-use Rattle.std.proofs.Common.{◌≡◌, ℕ, suc, List, [], ◌∷◌, sym, ap, ◌∙◌}
+use Rattle.mmeaning.proofs.MeaningWords.{◌≡◌, ℕ, suc, List, [], ◌∷◌, sym, ap, ◌∙◌, CommandTree}
 use Rattle.mspec.specs.Act.{Text, Act, ◌>>=◌}
-use Rattle.mgrammar.specs.Grammar.{CommandTree}
 use Rattle.mmeaning.specs.LineMeaning.{run_within, outset, Signal, Go_on, Spot, Closing, texts, context, commands, after_level, closed}
 use Rattle.mmeaning.specs.Levels.{stays}
 use Rattle.mmeaning.specs.Frames.{View, Rests, Levels, left}

@@ -1,4 +1,5 @@
 -- SPDX-License-Identifier: Apache-2.0
+pub mod MeaningWords
 pub mod ExampleAccount
 pub mod MeaningExamples
 pub mod Histories

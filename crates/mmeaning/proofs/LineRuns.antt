@@ -1,20 +1,13 @@
 -- SPDX-License-Identifier: Apache-2.0
 -- Lines of a terminal, one after another, in a form that `simp` computes: a turn is opened only where its state is known, since what
 -- runs a turn holds what runs the next one, and so on for all the fuel.
-use Rattle.std.proofs.Common.{◌≡◌, ℕ, zero, suc, Bool, true, false, List, [], ◌∷◌, Option, Some, None, refl, ap, ◌∙◌}
-use Rattle.std.specs.Prelude.{map}
-use Rattle.std.specs.FinMap.{empty, get, insert}
-use Rattle.mspec.specs.Plan.{Plan, perform}
+use Rattle.mmeaning.proofs.MeaningWords.{◌≡◌, ℕ, zero, suc, Bool, true, false, List, [], ◌∷◌, Option, Some, None, refl, ap, ◌∙◌, map, empty, get, insert, Plan, perform, Zsyntax, Zsteps, Zterm, Zline, Zchar, ReferenceTree, ExprsTree, ArgTree, CommandTree, LineTree, line_at, opening, replies}
 use Rattle.mspec.specs.Act.{Text, Node, Locals, no_locals, assigned_to, State, Outcome, Act, ◌>>=◌, fail}
-use Rattle.mspec.specs.Code.{Zsyntax, Zsteps, Zterm, Zline, Zchar}
-use Rattle.mgrammar.specs.Grammar.{ReferenceTree, ExprsTree, ArgTree, CommandTree, LineTree}
-use Rattle.mgrammar.specs.Reading.{line_at}
 use Rattle.mmeaning.specs.Variables.{Evaluated}
 use Rattle.mmeaning.specs.Expression.{Depth, through, finds, inside}
 use Rattle.mmeaning.specs.LineMeaning.{Signal, Spot, outset, Turning, Texts, Context, texts, arguments, commands, after_turn, after_level}
 use Rattle.mmeaning.specs.Levels.{commands_of}
 use Rattle.mmeaning.specs.Step.{Account, Settings, Session, Server, Event, Reply, act, plan_of, begun, session_or_new, ended, refused, is_too_long, is_ascii, checked, at_account, normal}
-use Rattle.mmeaning.specs.History.{opening, replies}
 use Rattle.mmeaning.proofs.ExampleAccount.{account, settings_of}
 
 -- ---- what lines are answered

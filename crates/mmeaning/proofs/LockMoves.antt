@@ -1,11 +1,8 @@
 -- SPDX-License-Identifier: Apache-2.0
 -- What the code of LOCK needs of the operations on locks: a name that the checks let through may be taken.
-use Rattle.std.proofs.Common.{◌≡◌, true, List, refl}
+use Rattle.mmeaning.proofs.MeaningWords.{◌≡◌, true, List, refl, LockName, taken, Take, Standing, ops_of}
 use Rattle.std.specs.List.{list_all}
-use Rattle.mspec.specs.LockConflict.{LockName, taken}
-use Rattle.mspec.specs.Plan.{Take}
 use Rattle.mmeaning.specs.World.{World, may_lock, took}
-use Rattle.mmeaning.specs.Calls.{Standing, ops_of}
 
 -- names that may all be taken are
 pub take_open : (b : Standing) (ns : List LockName) (w : World) → list_all (may_lock b.settings b.account) ns ≡ true → ops_of b (Take ns) w ≡ took w (taken w.locks b.terminal ns)

@@ -1,14 +1,11 @@
 -- SPDX-License-Identifier: Apache-2.0
 -- LOCK and HALT of several terminals on examples, as proved equations.
-use Rattle.std.proofs.Common.{rules}
+use Rattle.mmeaning.proofs.MeaningWords.{rules, nat_cmp, M6, M9, Zlocked, Zsyntax, Session, Server, Halted}
 use Rattle.std.specs.FinMap.{FinMap, insert, remove}
-use Rattle.std.specs.Ordering.{nat_cmp}
 use Rattle.mspec.specs.LockConflict.{LockName, Locks, held}
-use Rattle.mspec.specs.Code.{M6, M9, Zlocked, Zsyntax}
 use Rattle.mgrammar.specs.Grammar.{divide, number, global, naked, exprs, no_exprs, anew, adding, lock_one, locking, locked}
 use Rattle.mgrammar.specs.IndirectTexts.{ref_at, args_of}
 use Rattle.mgrammar.proofs.Computing.{reads}
-use Rattle.mmeaning.specs.Step.{Session, Server, Halted}
 use Rattle.mmeaning.proofs.LineTrees.{only, with_operator}
 use Rattle.mmeaning.proofs.LockRuns.{AreReplied, replied_first, replied_last, plain_session, halted, computed_locks}
 use Rattle.mmeaning.proofs.Running.{◌≡◌, List, [], ◌∷◌, Some, None, true, false, refl, codes, empty, Text, opening, done, failed, computed_operations, runs, running}

@@ -1,23 +1,16 @@
 -- SPDX-License-Identifier: Apache-2.0
 -- Lines of several terminals, one after another, and the maps of locks and sessions that they leave: for examples of LOCK and HALT.
-use Rattle.std.proofs.Common.{◌≡◌, ℕ, Bool, true, false, cond, List, [], ◌∷◌, Option, Some, None, refl, sym, ap, ◌∙◌}
-use Rattle.std.specs.Prelude.{codes, not, map}
-use Rattle.std.specs.Ordering.{eq_by_cmp}
+use Rattle.mmeaning.proofs.MeaningWords.{◌≡◌, ℕ, Bool, true, false, cond, List, [], ◌∷◌, Option, Some, None, refl, sym, ap, ◌∙◌, codes, not, map, eq_by_cmp, Plan, Ask, Take, Give_back, Release, perform, Ops, LineTree, line_at, Signal, Session, Server, Event, Reply, Halted, normal, replies}
 use Rattle.std.specs.FinMap.{get, insert, empty, entries, remove, retain_keys, get-insert, get-remove, get-empty, entries-insert, same_map}
 use Rattle.std.specs.FinMap.Entries.{put}
 use Rattle.mspec.specs.LockConflict.{LockName, Locks, Held, held_cmp}
 use Rattle.mspec.specs.Access.{Account, Settings, Read}
-use Rattle.mspec.specs.Plan.{Plan, Ask, Take, Give_back, Release, perform}
 use Rattle.mspec.specs.Act.{Text, Outcome, no_locals}
 use Rattle.mspec.proofs.LockOrders.{held_cmp_total, held_cmp_exact}
 use Rattle.mspec.proofs.MapCuts.{equal_of, get_cut, cut_drops}
 use Rattle.mspec.proofs.ComputedMaps.{entries_none}
-use Rattle.mgrammar.specs.Grammar.{LineTree}
-use Rattle.mgrammar.specs.Reading.{line_at}
-use Rattle.mmeaning.specs.LineMeaning.{Signal}
 use Rattle.mmeaning.specs.World.{World, act}
-use Rattle.mmeaning.specs.Step.{Session, Server, Event, Reply, Halted, normal}
-use Rattle.mmeaning.specs.History.{replies}
+use Rattle.mmeaning.specs.Expression.{Inside, inside}
 use Rattle.mmeaning.proofs.LineRuns.{shut_step, step_is_shut}
 
 abbrev pub account : Text → Account
@@ -30,6 +23,19 @@ lending = record {
   terminals = insert (insert (insert empty 1 (account (codes "ALICE"))) 2 (account (codes "ALICE"))) 3 (account (codes "BOB"));
   grants = record { from = codes "ALICE"; to = codes "BOB"; global = codes "X"; mode = Read } ∷ [];
 }
+
+-- what she and he may do at their terminals, and a line of each
+abbrev pub hers : Ops World
+hers = act lending 1 (codes "ALICE")
+
+abbrev pub his : Ops World
+his = act lending 3 (codes "BOB")
+
+abbrev pub her_line : Inside
+her_line = inside (codes "ALICE") 9 (record { levels = 0; indirections = 0 })
+
+abbrev pub his_line : Inside
+his_line = inside (codes "BOB") 9 (record { levels = 0; indirections = 0 })
 
 abbrev pub line_of : ℕ × Text → Event
 line_of l = record { terminal = l.0; text = l.1 }

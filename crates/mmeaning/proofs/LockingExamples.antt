@@ -1,19 +1,16 @@
 -- SPDX-License-Identifier: Apache-2.0
 -- LOCK on examples, as proved equations over any world: what is asked in which order, and what is refused.
-use Rattle.std.proofs.Common.{◌≡◌, ℕ, suc, Bool, true, false, [], ◌∷◌, Option, Some, None, refl, rules}
-use Rattle.std.specs.Prelude.{codes}
-use Rattle.std.specs.FinMap.{empty, get}
+use Rattle.mmeaning.proofs.MeaningWords.{◌≡◌, ℕ, suc, Bool, true, false, [], ◌∷◌, Option, Some, None, refl, rules, codes, empty, get, M9, Zgrant, Zlocked, Zsub, Zsyntax, perform}
 use Rattle.mspec.specs.LockConflict.{LockName, Locks, taken, given_back, released}
 use Rattle.mspec.specs.Access.{Settings, Read}
-use Rattle.mspec.specs.Code.{M9, Zgrant, Zlocked, Zsub, Zsyntax}
-use Rattle.mspec.specs.Plan.{Ops, perform}
 use Rattle.mspec.specs.Act.{Text, Node, Locals, State, Gives, Fails}
 use Rattle.mgrammar.specs.Grammar.{ExprTree, divide, number, text, ReferenceTree, local, global, indirect, extended, exprs, no_exprs, anew, adding, giving_back, lock_one, lock_several, reference}
 use Rattle.mgrammar.proofs.Computing.{reads}
-use Rattle.mmeaning.specs.Expression.{Inside, inside, finds}
+use Rattle.mmeaning.specs.Expression.{finds}
 use Rattle.mmeaning.specs.Locking.{locking}
-use Rattle.mmeaning.specs.World.{World, act}
+use Rattle.mmeaning.specs.World.{World}
 use Rattle.mmeaning.proofs.LineTrees.{only, with_operator}
+use Rattle.mmeaning.proofs.LockRuns.{hers, his, her_line, his_line}
 use Rattle.mspec.proofs.ComputedNumbers.{computes}
 
 -- ALICE lets BOB read her global X
@@ -23,19 +20,6 @@ lending = record {
   terminals = empty;
   grants = record { from = codes "ALICE"; to = codes "BOB"; global = codes "X"; mode = Read } ∷ [];
 }
-
--- terminal 1 is hers, and terminal 3 his
-abbrev hers : Ops World
-hers = act lending 1 (codes "ALICE")
-
-abbrev his : Ops World
-his = act lending 3 (codes "BOB")
-
-abbrev her_line : Inside
-her_line = inside (codes "ALICE") 9 (record { levels = 0; indirections = 0 })
-
-abbrev his_line : Inside
-his_line = inside (codes "BOB") 9 (record { levels = 0; indirections = 0 })
 
 abbrev global_j : ReferenceTree
 global_j = global (codes "J") no_exprs

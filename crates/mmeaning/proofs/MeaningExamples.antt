@@ -1,20 +1,14 @@
 -- SPDX-License-Identifier: Apache-2.0
 -- The interpreter on examples, as proved equations.
-use Rattle.std.proofs.Common.{ℕ, ◌*◌, ◌++◌, Option, rules}
-use Rattle.std.specs.Prelude.{◌^◌, map, replicate}
+use Rattle.mmeaning.proofs.MeaningWords.{ℕ, ◌*◌, ◌++◌, Option, rules, ◌^◌, map, replicate, line_at, Done, perform, State, Outcome, Gives, Fails, Signal, replies}
 use Rattle.mspec.proofs.ComputedNumbers.{computes}
 use Rattle.mspec.specs.NumberText.{size_text}
 use Rattle.mgrammar.specs.Grammar.{join}
-use Rattle.mgrammar.specs.Reading.{line_at}
 use Rattle.mspec.specs.Code.{Code, M4, M6, M9, M10, Zlong, Zsyntax, Zover, Zarg, Zchar, Zline, Zterm, Zsteps}
-use Rattle.mspec.specs.Plan.{Done, perform}
-use Rattle.mspec.specs.Act.{State, Outcome, Gives, Fails}
 use Rattle.mmeaning.specs.Operators.{binary}
-use Rattle.mmeaning.specs.LineMeaning.{Signal}
 use Rattle.mmeaning.specs.Step.{Event, Reply, act, begun, text_run}
-use Rattle.mmeaning.specs.History.{replies}
 use Rattle.mmeaning.proofs.ExampleAccount.{alice}
-use Rattle.mmeaning.proofs.Running.{◌≡◌, List, [], ◌∷◌, Some, None, refl, codes, empty, gets, Text, new_session, opening, account, with_steps, done, failed, AreAnswered, Answered, holding, at_first, at_last, Each, at_case, no_more, runs, running}
+use Rattle.mmeaning.proofs.Running.{◌≡◌, List, [], ◌∷◌, Some, None, refl, codes, empty, gets, Text, new_session, opening, account, with_steps, done, failed, AreAnswered, Answered, holding, at_first, at_last, Each, at_case, no_more, runs, running, numbers}
 
 abbrev event : ℕ × Text → Event
 event e = record { terminal = e.0; text = e.1 }
@@ -36,8 +30,8 @@ Rows = List (Text × (Text × Option Code))
 abbrev AreShown : Rows → Type 0
 AreShown rows = map (λ r. shown r.0) rows ≡ map (λ r. r.1) rows
 
--- operators from left to right, numbers and their rounding
-arithmetic : AreShown (
+shown_by_lines : AreShown (
+    -- operators from left to right, numbers and their rounding
     (codes "WRITE 1+2*3", (codes "9", None)) ∷
     (codes "W (1+2)*3,1+(2*3)", (codes "97", None)) ∷
     (codes "W 2/3,\"|\",-7\\2,\"|\",-7#3", (codes ".666666666666666667|-3|2", None)) ∷
@@ -51,33 +45,21 @@ arithmetic : AreShown (
     (codes "W 1E18", ([], Some Zover)) ∷
     (codes "W 1/0", ([], Some M9)) ∷
     (codes "W 1,1#0", (codes "1", Some M9)) ∷
-    (codes "W .5+.25,-.5", (codes ".75-.5", None)) ∷ [])
-unfolding runs computes
-arithmetic = refl
-
--- comparisons, logic and the order of subscripts
-truths : AreShown (
+    (codes "W .5+.25,-.5", (codes ".75-.5", None)) ∷
+    -- comparisons, logic and the order of subscripts
     (codes "W 10]]9,10]9,\"A\"]]10,2]]\"01\"", (codes "1010", None)) ∷
     (codes "W 1'=2,1'<2,'0", (codes "101", None)) ∷
     (codes "W \"ab\"[\"b\",\"ab\"[\"c\",\"b\"]\"a\"", (codes "101", None)) ∷
-    (codes "W 1&2,0!0,1'&0,0'!0,''5", (codes "10111", None)) ∷ [])
-unfolding runs computes
-truths = refl
-
--- patterns, and counts that no text can have
-patterns : AreShown (
+    (codes "W 1&2,0!0,1'&0,0'!0,''5", (codes "10111", None)) ∷
+    -- patterns, and counts that no text can have
     (codes "W \"AB-12\"?2U1\"-\"1.N,\"\"?.E", (codes "11", None)) ∷
     (codes "W \"a\"?3.1A", ([], Some M10)) ∷
     (codes "W \"\"?1N3.1A", ([], Some M10)) ∷
     (codes "W 1/0?3.1A", ([], Some M9)) ∷
     (codes "W 1?00001N", ([], Some Zsyntax)) ∷
     (codes "W \"\"?3\"\",\"x55\"?1E.5N,\"x\"?.1N1A", (codes "111", None)) ∷
-    (codes "W 12'?2n,12'?1NA", (codes "01", None)) ∷ [])
-unfolding runs computes
-patterns = refl
-
--- functions and their bounds
-functions : AreShown (
+    (codes "W 12'?2n,12'?1NA", (codes "01", None)) ∷
+    -- functions and their bounds
     (codes "W $P(\"a,b,,d\",\",\",2,3),$F(\"abcabc\",\"bc\",3),$L(\"\",\",\")", (codes "b,71", None)) ∷
     (codes "W $J(\"ab\",4),$TR(\"banana\",\"an\",\"o\"),$A(\"AB\",2),$C(72,105),$E(\"hello\",2,3),$L(\"abc\")", (codes "  abbooo66Hiel3", None)) ∷
     (codes "W $P(\"aaa\",\"aa\",1),\"|\",$P(\"aaa\",\"aa\",2),$L(\"aaa\",\"aa\")", (codes "|a2", None)) ∷
@@ -88,12 +70,8 @@ functions : AreShown (
     (codes "W $S(0:1)", ([], Some M4)) ∷
     (codes "W $s(0:B,1:2,1:C)", (codes "2", None)) ∷
     (codes "W $C(200)", ([], Some Zchar)) ∷
-    (codes "W $SELECT(1:1/0)", ([], Some M9)) ∷ [])
-unfolding runs computes
-functions = refl
-
--- what is evaluated before an error, and what is no syntax
-refusals : AreShown (
+    (codes "W $SELECT(1:1/0)", ([], Some M9)) ∷
+    -- what is evaluated before an error, and what is no syntax
     (codes "W \"1E30\"+1", ([], Some Zover)) ∷
     (codes "W -+-3,-\"1E2X\",+\"A\"", (codes "3-1000", None)) ∷
     (codes "W 007,123456789012345678", (codes "7123456789012345678", None)) ∷
@@ -101,15 +79,7 @@ refusals : AreShown (
     (codes "S (A)=", ([], Some Zsyntax)) ∷
     (codes "W $X(1)", ([], Some Zsyntax)) ∷ [])
 unfolding runs computes
-refusals = refl
-
-record Numbers : Type 0 where
-  place_too_far : size_text (501 * 10 ^ 18) ≡ codes "501"
-  place_without_fraction : size_text (29 * 10 ^ 17) ≡ codes "2.9"
-
-numbers : Numbers
-unfolding computes
-numbers = search rules
+shown_by_lines = refl
 
 targets : Each (
     -- targets of SET, from left to right
@@ -123,16 +93,7 @@ targets : Each (
 unfolding runs
 targets =
     at_case _ refl (simp running) (at_case _ refl (simp running) (at_case _ refl (simp running) (at_case _ refl (simp running)
-    (at_case _ refl (simp running) (at_case _ refl (simp (running, numbers.place_without_fraction)) (at_case _ refl (simp running) no_more))))))
-
-record Targets : Type 0 where
-  place_too_far : Answered (codes "S B=1,$P(B,\",\",501)=2" ∷ codes "W B" ∷ []) (failed [] Zarg ∷ done (codes "1") ∷ [])
-
-targets_after : Targets
-unfolding runs
-targets_after = record {
-  place_too_far = at_first (holding (codes "B") (codes "1")) _ refl (simp (running, numbers.place_too_far)) (at_last _ refl (simp running));
-}
+    (at_case _ refl (simp running) (at_case _ refl (simp (running, numbers.of_2_point_9)) (at_case _ refl (simp running) no_more))))))
 
 lines_run : Each (
     -- a line end is the byte 255
@@ -143,7 +104,9 @@ lines_run : Each (
 unfolding runs
 lines_run = at_case _ refl (simp running) (at_case _ refl (simp running) (at_case _ refl (simp running) no_more))
 
-record LinesRun : Type 0 where
+-- lines one after another
+record Sessions : Type 0 where
+  place_too_far : Answered (codes "S B=1,$P(B,\",\",501)=2" ∷ codes "W B" ∷ []) (failed [] Zarg ∷ done (codes "1") ∷ [])
   -- locals last from line to line
   locals_last : Answered (codes "S A=5" ∷ codes "W A,A+1" ∷ []) (done [] ∷ done (codes "56") ∷ [])
   -- what stands before an error stands, and what stands behind it is not done
@@ -152,9 +115,10 @@ record LinesRun : Type 0 where
   steps_of_line : AreAnswered (with_steps 13) (opening empty) (codes "S (A,B)=1 S $P(A,\",\",2)=(1) K A(1) I $D(A(1))+1" ∷ []) (done [] ∷ [])
   step_too_few : AreAnswered (with_steps 12) (opening empty) (codes "S (A,B)=1 S $P(A,\",\",2)=(1) K A(1) I $D(A(1))+1" ∷ []) (failed [] Zsteps ∷ [])
 
-lines_run_after : LinesRun
+sessions : Sessions
 unfolding runs
-lines_run_after = record {
+sessions = record {
+  place_too_far = at_first (holding (codes "B") (codes "1")) _ refl (simp (running, numbers.of_501)) (at_last _ refl (simp running));
   locals_last = at_first (holding (codes "A") (codes "5")) _ refl (simp running) (at_last _ refl (simp running));
   set_stops_at_fault = at_first (holding (codes "A") (codes "1")) _ refl (simp running) (at_last _ refl (simp running));
   steps_of_line = at_last _ refl (simp running);

@@ -1,11 +1,7 @@
 -- SPDX-License-Identifier: Apache-2.0
 -- What is left of a line, a step of it at a time.
-use Rattle.std.proofs.Common.{◌≡◌, ℕ, ◌≤◌, List, [], ◌∷◌, Result, Ok, Err, sym, subst, arith}
-use Rattle.mspec.specs.Code.{Fault}
-use Rattle.mspec.specs.Act.{Act, ◌>>=◌, give}
-use Rattle.mmeaning.specs.LineMeaning.{Signal}
+use Rattle.mmeaning.proofs.MeaningWords.{◌≡◌, ℕ, ◌≤◌, List, [], ◌∷◌, Result, Ok, Err, sym, subst, arith, Fault, Act, ◌>>=◌, give, Signal, Standing, Here, Did, MayLose, Follows}
 use Rattle.mmeaning.specs.Frames.{View, frame, left, Enough, MovedAs, MovedOn}
-use Rattle.mmeaning.specs.Calls.{Standing, Here, Did, MayLose, Follows}
 use Rattle.mmeaning.proofs.Calls.{then_follows, then_failed, follows_itself, follows_on, failed_after, assoc, did_lost}
 
 moved_after : {X E : Type 0} (b : Standing) (steady : Type 0) (fault_of : E → Fault) (signal_of : X → Signal) (p q : Act Signal) (h h1 : Here) (r : Result X E) (fs : List View) (h2 : Here)

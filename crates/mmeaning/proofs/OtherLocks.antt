@@ -1,14 +1,12 @@
 -- SPDX-License-Identifier: Apache-2.0
 -- No operation changes the locks of another terminal.
-use Rattle.std.proofs.Common.{◌≡◌, ℕ, Bool, true, false, List, Option, Some, None, refl, ◌∙◌}
+use Rattle.mmeaning.proofs.MeaningWords.{◌≡◌, ℕ, Bool, true, false, List, Option, Some, None, refl, ◌∙◌, LockName, Locks, taken, released, Signal}
 use Rattle.std.specs.List.{list_all}
 use Rattle.mspec.specs.Plan.{Op, May, Value, Status, Neighbour, Routine, Put, Kill, Take, Give_back, Release, Plan}
-use Rattle.mspec.specs.LockConflict.{LockName, Locks, taken, released}
 use Rattle.mspec.specs.LockLaws as laws
 use Rattle.mspec.specs.Act.{Text, Outcome}
 use Rattle.mspec.proofs.LockFacts.{others_keep_locks}
 use Rattle.mspec.proofs.Plans.{keeps, keeps_short}
-use Rattle.mmeaning.specs.LineMeaning.{Signal}
 use Rattle.mmeaning.specs.Step.{Settings}
 use Rattle.mmeaning.specs.World.{World, act, guarded, may_read, may_write, may_lock, took}
 use Rattle.mmeaning.specs.StepLaws.{PlanKeepsOthersLocks}

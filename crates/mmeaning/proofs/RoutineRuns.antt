@@ -1,19 +1,13 @@
 -- SPDX-License-Identifier: Apache-2.0
 -- Lines that lead to routines: for examples in a server whose store has a routine of ALICE.
-use Rattle.std.proofs.Common.{◌≡◌, ℕ, Bool, false, List, [], None, refl, ap}
-use Rattle.std.specs.Prelude.{codes}
-use Rattle.std.specs.FinMap.{empty, insert}
+use Rattle.mmeaning.proofs.MeaningWords.{◌≡◌, ℕ, Bool, false, List, [], None, refl, ap, codes, empty, insert, Locks, May, Put, Kill, Routine, Plan, Ask, perform, Signal, opening}
 use Rattle.mspec.specs.Globals.{Globals, lines_of}
-use Rattle.mspec.specs.LockConflict.{Locks}
 use Rattle.mspec.specs.Access.{Mode, may}
-use Rattle.mspec.specs.Plan.{May, Put, Kill, Routine, Plan, Ask, perform}
 use Rattle.mspec.specs.Act.{Text, Node, Outcome, no_locals, assigned_to}
-use Rattle.mmeaning.specs.LineMeaning.{Signal}
 use Rattle.mmeaning.specs.World.{act}
 use Rattle.mmeaning.specs.Step.{Settings, World, Session, Server, Reply}
-use Rattle.mmeaning.specs.History.{opening}
 use Rattle.mmeaning.proofs.Calls.{assoc_plan}
-use Rattle.mmeaning.proofs.LineRuns.{opened, text_opened, list_opened, name_found, AreAnswered}
+use Rattle.mmeaning.proofs.LineRuns.{opened, text_opened, list_opened, name_found, AreAnswered, Cases, AreAnsweredEach}
 use Rattle.mmeaning.proofs.ExampleAccount.{with_steps, account}
 
 -- the lines of ALICE's routines
@@ -59,3 +53,7 @@ With name lines ts rs = (g : Globals) → lines_in g name ≡ lines → AreAnswe
 
 abbrev pub WithSteps : ℕ → Text → List Text → List Text → List Reply → Type 0
 WithSteps n name lines ts rs = (g : Globals) → lines_in g name ≡ lines → AreAnswered (with_steps n) (opening g) ts rs
+
+-- where each line stands by itself
+abbrev pub WithEach : Text → List Text → Cases → Type 0
+WithEach name lines cases = (g : Globals) → lines_in g name ≡ lines → AreAnsweredEach account (opening g) cases

@@ -9,14 +9,16 @@ pub use Rattle.mmeaning.specs.Step.{new_session}
 pub use Rattle.mmeaning.specs.History.{opening}
 pub use Rattle.mmeaning.proofs.ExampleAccount.{account, with_steps, done, failed}
 pub use Rattle.mmeaning.proofs.LineRuns.{AreAnswered, Answered, AreAnsweredEach, Each, serving, holding, at_first, at_last, at_case, no_more}
-pub use Rattle.mmeaning.proofs.RoutineRuns.{lines_in, asked, serving_in, holding_in, With, WithSteps, Anywhere, computed_operations}
-use Rattle.std.specs.Prelude.{Bool}
+pub use Rattle.mmeaning.proofs.RoutineRuns.{lines_in, asked, serving_in, holding_in, With, WithSteps, WithEach, Anywhere, computed_operations}
+use Rattle.std.proofs.Common.{◌*◌, rules}
+use Rattle.std.specs.Prelude.{Bool, ◌^◌}
 use Rattle.mspec.specs.Act.{no_locals, level_begun, value_of, assigned_to}
 use Rattle.mspec.specs.NodeOrder.{canonical_value}
+use Rattle.mspec.specs.NumberText.{size_text}
 use Rattle.mspec.specs.Pieces.{pieces_of}
 use Rattle.mspec.specs.TextFunctions.{first_place, with_piece}
 use Rattle.mspec.proofs.ComputedMaps.{computed_maps}
-use Rattle.mspec.proofs.ComputedNumbers.{computed_numbers}
+use Rattle.mspec.proofs.ComputedNumbers.{computed_numbers, computes}
 use Rattle.mgrammar.proofs.Computing.{reads}
 use Rattle.mmeaning.proofs.RoutineRuns.{computed_levels}
 
@@ -26,3 +28,15 @@ unfolding reads assigned_to canonical_value first_place level_begun no_locals pi
 runs = true
 
 pub ruleset running = (computed_levels, gets, computed_maps, computed_numbers)
+
+-- texts of numbers that few examples have
+pub record Numbers : Type 0 where
+  pub of_tenth : size_text (10 ^ 17) ≡ codes ".1"
+  pub of_1_point_9 : size_text (19 * 10 ^ 17) ≡ codes "1.9"
+  pub of_2_point_9 : size_text (29 * 10 ^ 17) ≡ codes "2.9"
+  pub of_501 : size_text (501 * 10 ^ 18) ≡ codes "501"
+  pub of_largest : size_text (999999999999999999 * 10 ^ 18) ≡ codes "999999999999999999"
+
+pub numbers : Numbers
+unfolding computes
+numbers = search rules

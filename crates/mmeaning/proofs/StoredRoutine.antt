@@ -4,10 +4,8 @@ use Rattle.mspec.proofs.ComputedMaps.{computed_maps}
 use Rattle.mspec.proofs.ComputedNumbers.{computed_numbers, computes}
 use Rattle.mspec.specs.NodeOrder.{canonical_value}
 use Rattle.mspec.specs.Act.{no_locals}
-use Rattle.mmeaning.specs.Step.{Session}
+use Rattle.mmeaning.proofs.MeaningWords.{Session, ◌∙◌, insert, entries, entries-insert}
 use Rattle.mmeaning.proofs.RoutineRuns.{lines_in, computed_levels}
-use Rattle.std.proofs.Common.{◌∙◌}
-use Rattle.std.specs.FinMap.{insert, entries, entries-insert}
 use Rattle.mspec.specs.Node.{Node}
 use Rattle.mspec.specs.Number.{significant_digits}
 use Rattle.mspec.specs.NodeOrder.{node_cmp}

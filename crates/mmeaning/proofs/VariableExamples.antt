@@ -1,17 +1,11 @@
 -- SPDX-License-Identifier: Apache-2.0
 -- Variables on examples, as proved equations.
-use Rattle.std.proofs.Common.{◌*◌}
-use Rattle.std.specs.Prelude.{◌^◌}
+use Rattle.mmeaning.proofs.MeaningWords.{◌*◌, ◌^◌, M9, Zsub, Zarg}
 use Rattle.std.specs.Fmt.{digits}
 use Rattle.mspec.proofs.ComputedNumbers.{computes}
 use Rattle.mspec.specs.NumberText.{size_text}
-use Rattle.mspec.specs.Code.{M9, Zsub, Zarg}
 use Rattle.mgrammar.proofs.Computing.{reads}
-use Rattle.mmeaning.proofs.Running.{◌≡◌, [], ◌∷◌, refl, codes, gets, done, failed, Answered, holding, at_first, at_last, Each, at_case, no_more, runs, running}
-
-whole_direction_number : size_text (19 * 10 ^ 17) ≡ codes "1.9"
-unfolding size_text digits
-whole_direction_number = refl
+use Rattle.mmeaning.proofs.Running.{◌≡◌, [], ◌∷◌, refl, codes, gets, done, failed, Answered, holding, at_first, at_last, Each, at_case, no_more, runs, running, numbers}
 
 values : Each (
     -- a variable has its own text and texts at subscripts
@@ -31,7 +25,7 @@ values : Each (
 unfolding runs
 values =
     at_case _ refl (simp running) (at_case _ refl (simp running) (at_case _ refl (simp running) (at_case _ refl (simp running)
-    (at_case _ refl (simp running) (at_case _ refl (simp running) (at_case _ refl (simp (running, whole_direction_number)) no_more))))))
+    (at_case _ refl (simp running) (at_case _ refl (simp running) (at_case _ refl (simp (running, numbers.of_1_point_9)) no_more))))))
 
 refusals : Each (
     -- and none but 1 and -1

@@ -1,17 +1,10 @@
 -- SPDX-License-Identifier: Apache-2.0
 -- What operations do on examples, as proved equations: an account does what its settings let it, and nothing else.
-use Rattle.std.proofs.Common.{◌≡◌, [], ◌∷◌, None, true, false, rules}
-use Rattle.std.specs.Prelude.{codes}
-use Rattle.std.specs.FinMap.{empty, get, insert, remove}
+use Rattle.mmeaning.proofs.MeaningWords.{◌≡◌, [], ◌∷◌, None, true, false, rules, codes, empty, get, insert, remove, LockName, taken, released, May, Value, Status, Put, Kill, Take, State, Gives, Halts, Quits, Server, Finished, Halted, ended, kept}
 use Rattle.mspec.specs.Node.{Text, Node}
 use Rattle.mspec.specs.Access.{Settings, Read, Write}
 use Rattle.mspec.specs.Globals.{status}
-use Rattle.mspec.specs.LockConflict.{LockName, taken, released}
-use Rattle.mspec.specs.Plan.{May, Value, Status, Put, Kill, Take}
-use Rattle.mspec.specs.Act.{State, Gives}
-use Rattle.mmeaning.specs.LineMeaning.{Halts, Quits}
 use Rattle.mmeaning.specs.World.{World, act, took}
-use Rattle.mmeaning.specs.Step.{Server, Finished, Halted, ended, kept}
 
 -- ALICE lets BOB read her global X
 abbrev lending : Settings

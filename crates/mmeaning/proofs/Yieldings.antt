@@ -1,12 +1,8 @@
 -- SPDX-License-Identifier: Apache-2.0
 -- How acts that look at no state are put together.
-use Rattle.std.proofs.Common.{◌≡◌, Result, Ok, Err, refl, sym, ap, ◌∙◌, subst, arith}
+use Rattle.mmeaning.proofs.MeaningWords.{◌≡◌, Result, Ok, Err, refl, sym, ap, ◌∙◌, subst, arith, Fault, Own, Lost, Memory, Store, Done, then_plan, perform, State, Gives, Act, on_gives, ◌>>=◌, give, Standing, Here, Ends, FailedBy, Did, ops_of}
 use Rattle.std.specs.Result.{IsErr, IsErrAnd}
-use Rattle.mspec.specs.Code.{Fault, Own, Lost, Memory, Store}
-use Rattle.mspec.specs.Plan.{Done, then_plan, perform}
-use Rattle.mspec.specs.Act.{State, Gives, Act, on_gives, ◌>>=◌, give}
 use Rattle.mmeaning.specs.Yields.{YieldsFault, YieldsAs, Yields}
-use Rattle.mmeaning.specs.Calls.{Standing, Here, Ends, FailedBy, Did, ops_of}
 use Rattle.mmeaning.proofs.Calls.{residual_is}
 
 first_gives : {A B : Type 0} (p : Act A) (q : A → Act B) (a : A) → ((s : State) → p s ≡ Done (Gives a s)) → (s : State) → (p >>= q) s ≡ q a s

@@ -1,15 +1,15 @@
 -- SPDX-License-Identifier: Apache-2.0
 -- Names above a name.
-use Rattle.std.proofs.Common.{◌≡◌, ◌<◌, ◌+◌, ℕ, true, List, [], ◌∷◌, ◌++◌, length, take, drop, ◌⊎◌, inl, inr, refl, sym, ap, ◌∙◌, arith, append-nil, append_assoc, length-append}
+use Rattle.std.proofs.Common.{◌≡◌, ◌<◌, ◌+◌, ℕ, true, List, [], ◌∷◌, ◌++◌, length, take, drop, ◌⊎◌, inl, inr, refl, sym, ap, ◌∙◌, arith, append-nil, append_assoc, length-append, take-append-drop}
+use Rattle.std.proofs.lemmas.Bool.{and_parts, and_from}
 use Rattle.std.proofs.Math.Seq.{take-append_seam}
-use Rattle.std.proofs.lemmas.List.{take-append-drop}
 use mathlib.Core.Bool.{beq}
 use Rattle.mspec.specs.Globals.{is_node_within}
 use Rattle.mspec.specs.LockConflict.{LockName, is_within}
 use Rattle.mspec.specs.Node.{Text}
 use Rattle.mspec.proofs.KeyRanges.{within}
 use Rattle.mlock.specs.Above.{IsAbove, name_above}
-use Rattle.mlock.proofs.Names.{of_within, within_of, both_true, parts, beq_same, same_beq, both}
+use Rattle.mlock.proofs.Names.{of_within, within_of, parts, beq_same, same_beq}
 
 -- ---- the name that is looked up
 
@@ -36,20 +36,20 @@ above_next n below above is next =
 
 pub above_within : (i : ℕ) (n : LockName) → is_within (name_above i n) n ≡ true
 above_within i n =
-    both (beq n.global n.global) (is_node_within (name_above i n).node n.node) (same_beq n.global n.global refl)
+    and_from (beq n.global n.global) (is_node_within (name_above i n).node n.node) (same_beq n.global n.global refl)
     (of_within (name_above i n).node n.node (within (name_above i n).node n.node (drop i n.node.subscripts) refl refl (sym (take-append-drop i n.node.subscripts))))
 
 -- a name above another is one of those with fewer subscripts, or the name itself
 pub above_or_same : (q n : LockName) → is_within q n ≡ true → (is_within n q ≡ true) ⊎ ((i : ℕ) × (i < length n.node.subscripts) × (name_above i n ≡ q))
 above_or_same q n is =
-    let inside = both_true (beq q.global n.global) (is_node_within q.node n.node) is in
+    let inside = and_parts (beq q.global n.global) (is_node_within q.node n.node) is in
     let p = parts q.node n.node (within_of q.node n.node inside.1) in
     by_more (beq_same q.global n.global inside.0) p.account p.name p.more p.subscripts
   where
     by_more : q.global ≡ n.global → q.node.account ≡ n.node.account → q.node.name ≡ n.node.name → (more : List Text) → n.node.subscripts ≡ q.node.subscripts ++ more
         → (is_within n q ≡ true) ⊎ ((i : ℕ) × (i < length n.node.subscripts) × (name_above i n ≡ q))
     by_more kind account name [] subs =
-        inl (both (beq n.global q.global) (is_node_within n.node q.node) (same_beq n.global q.global (sym kind))
+        inl (and_from (beq n.global q.global) (is_node_within n.node q.node) (same_beq n.global q.global (sym kind))
         (of_within n.node q.node (within n.node q.node [] (sym account) (sym name) (sym (append-nil q.node.subscripts) ∙ sym subs ∙ sym (append-nil n.node.subscripts)))))
     by_more kind account name (s ∷ more) subs =
         let fewer : take (length q.node.subscripts) n.node.subscripts ≡ q.node.subscripts = ap (take (length q.node.subscripts)) subs ∙ take-append_seam q.node.subscripts (s ∷ more) in

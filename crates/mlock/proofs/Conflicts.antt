@@ -1,13 +1,14 @@
 -- SPDX-License-Identifier: Apache-2.0
 -- Whether a name conflicts with those that are held, by the holdings.
-use Rattle.std.proofs.Common.{◌≡◌, ◌<◌, ℕ, zero, suc, Bool, true, false, not, nat_eq, ◌&&◌, ◌||◌, List, [], ◌∷◌, map, length, All, Option, Some, None, ◌⊎◌, inl, inr, refl, sym, ap, ◌∙◌, subst}
-use Rattle.std.specs.Prelude.{is_some, slice_get, unwrap_or}
+use Rattle.std.proofs.Common.{◌≡◌, ◌<◌, ℕ, Bool, true, false, not, nat_eq, ◌&&◌, ◌||◌, List, [], ◌∷◌, map, length, Option, Some, None, ◌⊎◌, inl, inr, refl, sym, ap, ◌∙◌, subst, is_some, slice_get, true≢false}
+use Rattle.std.proofs.lemmas.Option.{slice_get_within, get_or_from_slice_get, slice_get-get_or}
+use Rattle.std.proofs.lemmas.List.Folds.{Any-from_list_any, list_any_at}
+use Rattle.std.proofs.lemmas.Bool.{and_parts, and_from, false_from_ne_true, or_left, or_right, or_cases}
 use Rattle.std.specs.FinMap.{get, keys, contains_key-keys, get-from_entries}
 use Rattle.std.specs.FinMap.Entries.{is_some-find}
 use Rattle.std.specs.List.{list_any}
 use Rattle.std.specs.Ordering.{eq_by_cmp}
-use Rattle.std.specs.Cmp.{eq_by_cmp_equiv}
-use Rattle.std.proofs.lemmas.List.Elements.{All-head, All-tail}
+use Rattle.std.specs.Cmp.{eq_by_cmp_equiv, both_ways}
 use Rattle.std.proofs.lemmas.Map.Entries.{place_from_lookup, lookup_from_place}
 use Rattle.indexmap.specs.IndexMap as index
 use Rattle.indexmap.specs.IndexMap.{IndexMap, IsUnique}
@@ -20,7 +21,7 @@ use Rattle.mlock.specs.declared.locks.Holding.{Holding}
 use Rattle.mlock.specs.Holdings.{lock_of, locks_of, IsFree}
 use Rattle.mlock.specs.Tallies.{name_eq, is_under}
 use Rattle.mlock.proofs.Above.{above_within, above_or_same}
-use Rattle.mlock.proofs.Names.{of_within, both_true, same_truth, both}
+use Rattle.mlock.proofs.Names.{of_within}
 use Rattle.mlock.proofs.Steps.{same_lock, tied_itself}
 use Rattle.mlock.proofs.Sums.{under_other}
 use Rattle.mlock.proofs.Under.{both_within, is_same}
@@ -31,19 +32,10 @@ Entry = LockName × Holding
 
 -- ---- names that conflict with none
 
-pub any_none : {X : Type 0} (p : X → Bool) (xs : List X) → All (λ x. p x ≡ false) xs → list_any p xs ≡ false
-any_none p [] all = refl
-any_none p (x ∷ xs) all = ap (λ b. b || list_any p xs) (All-head (λ x. p x ≡ false) x xs all) ∙ any_none p xs (All-tail (λ x. p x ≡ false) x xs all)
-
 fewer : {X : Type 0} (p q : X → Bool) (xs : List X) → ((x : X) → q x ≡ true → p x ≡ true) → list_any p xs ≡ false → list_any q xs ≡ false
-fewer p q [] h none = refl
-fewer p q (x ∷ xs) h none = by_test (q x) (p x) refl (h x) none (fewer p q xs h)
-  where
-    by_test : (b c : Bool) → q x ≡ b → (q x ≡ true → c ≡ true) → (c || list_any p xs) ≡ false → (list_any p xs ≡ false → list_any q xs ≡ false) → (b || list_any q xs) ≡ false
-    by_test true true e f none rest = none
-    by_test true false e f none rest = sym (f e)
-    by_test false true e f none rest = absurd (cc)
-    by_test false false e f none rest = rest none
+fewer p q xs h none = false_from_ne_true (list_any q xs) (λ e.
+    let (k, x, within, at, is) = Any-from_list_any q xs e in
+    true≢false (sym (list_any_at p xs k x within (ap p at ∙ h x is)) ∙ none))
 
 pub within_itself : (n : LockName) → is_within n n ≡ true
 within_itself n = by_kind n.global
@@ -70,29 +62,14 @@ free_of l t n none u other =
 -- ---- what is held, by the holdings
 
 found_any : (p : Held → Bool) (ks : List Held) → list_any p ks ≡ true → (q : Held) × (p q ≡ true) × (list_any (eq_by_cmp held_cmp q) ks ≡ true)
-found_any p [] e = absurd (cc)
-found_any p (k ∷ ks) e = by_test (p k) refl e (found_any p ks)
-  where
-    or_true : (b : Bool) → (b || true) ≡ true
-    or_true true = refl
-    or_true false = refl
-
-    by_test : (b : Bool) → p k ≡ b → (b || list_any p ks) ≡ true → (list_any p ks ≡ true → (q : Held) × (p q ≡ true) × (list_any (eq_by_cmp held_cmp q) ks ≡ true))
-        → (q : Held) × (p q ≡ true) × (list_any (eq_by_cmp held_cmp q) (k ∷ ks) ≡ true)
-    by_test true is e rest = (k, is, ap (λ b. b || list_any (eq_by_cmp held_cmp k) ks) (tied_itself k))
-    by_test false is e rest = let r = rest e in (r.0, r.1, ap (λ b. eq_by_cmp held_cmp r.0 k || b) r.2 ∙ or_true (eq_by_cmp held_cmp r.0 k))
+found_any p ks e =
+    let (k, q, within, at, is) = Any-from_list_any p ks e in
+    (q, is, list_any_at (eq_by_cmp held_cmp q) ks k q within (ap (eq_by_cmp held_cmp q) at ∙ tied_itself q))
 
 any_found : (p : Held → Bool) (q : Held) (ks : List Held) → p q ≡ true → list_any (eq_by_cmp held_cmp q) ks ≡ true → list_any p ks ≡ true
-any_found p q [] is e = e
-any_found p q (k ∷ ks) is e = by_test (eq_by_cmp held_cmp q k) (λ t. ap p (sym (same_lock q k t)) ∙ is) e (any_found p q ks is)
-  where
-    or_true : (b : Bool) → (b || true) ≡ true
-    or_true true = refl
-    or_true false = refl
-
-    by_test : (b : Bool) → (b ≡ true → p k ≡ true) → (b || list_any (eq_by_cmp held_cmp q) ks) ≡ true → (list_any (eq_by_cmp held_cmp q) ks ≡ true → list_any p ks ≡ true) → (p k || list_any p ks) ≡ true
-    by_test true f e rest = ap (λ b. b || list_any p ks) (f refl)
-    by_test false f e rest = ap (λ b. p k || b) (rest e) ∙ or_true (p k)
+any_found p q ks is e =
+    let (k, x, within, at, t) = Any-from_list_any (eq_by_cmp held_cmp q) ks e in
+    list_any_at p ks k x within (ap p (at ∙ sym (same_lock q x t)) ∙ is)
 
 pub any_lock : (p : Held → Bool) (es : List Entry) → list_any p (map (λ l. l.0) (map lock_of es)) ≡ list_any (λ e. p (held e.1.terminal e.0)) es
 any_lock p [] = refl
@@ -101,7 +78,7 @@ any_lock p (e ∷ es) = ap (λ b. p (held e.1.terminal e.0) || b) (any_lock p es
 -- a conflict with what is held is one with a holding
 pub conflict_is : {S : Type 0} (m : IndexMap LockName Holding S) (h : Held) → has_conflict (locks_of m) h ≡ list_any (λ e. is_conflict h (held e.1.terminal e.0)) m.entries
 conflict_is m h =
-    same_truth (list_any (is_conflict h) (keys (locks_of m))) (list_any (is_conflict h) names)
+    both_ways (list_any (is_conflict h) (keys (locks_of m))) (list_any (is_conflict h) names)
     (λ e. let f = found_any (is_conflict h) (keys (locks_of m)) e in any_found (is_conflict h) f.0 names f.1 (sym (alike f.0) ∙ f.2))
     (λ e. let f = found_any (is_conflict h) names e in any_found (is_conflict h) f.0 (keys (locks_of m)) f.1 (alike f.0 ∙ f.2))
     ∙ any_lock (is_conflict h) m.entries
@@ -115,41 +92,10 @@ conflict_is m h =
         ∙ is_some-find held_cmp q (map lock_of m.entries)
 
 any_at : {X : Type 0} (p : X → Bool) (xs : List X) (i : ℕ) (x : X) → slice_get xs i ≡ Some x → p x ≡ true → list_any p xs ≡ true
-any_at p [] i x at is = let none : ◌≡◌ None (Some x) = at in absurd (cc)
-any_at p (y ∷ xs) zero x at is = ap (λ z. p z || list_any p xs) (ap (λ o. unwrap_or o x) at) ∙ ap (λ b. b || list_any p xs) is
-any_at p (y ∷ xs) (suc i) x at is = ap (λ b. p y || b) (any_at p xs i x at is) ∙ or_true (p y)
-  where
-    or_true : (b : Bool) → (b || true) ≡ true
-    or_true true = refl
-    or_true false = refl
+any_at p xs i x at is = list_any_at p xs i x (slice_get_within xs i x at) (ap p (get_or_from_slice_get xs i x x at) ∙ is)
 
 at_any : {X : Type 0} (p : X → Bool) (xs : List X) → list_any p xs ≡ true → (i : ℕ) × (x : X) × (slice_get xs i ≡ Some x) × (p x ≡ true)
-at_any p [] e = absurd (cc)
-at_any {X} p (y ∷ xs) e = by_test (p y) refl e (at_any p xs)
-  where
-    by_test : (b : Bool) → p y ≡ b → (b || list_any p xs) ≡ true → (list_any p xs ≡ true → (i : ℕ) × (x : X) × (slice_get xs i ≡ Some x) × (p x ≡ true))
-        → (i : ℕ) × (x : X) × (slice_get (y ∷ xs) i ≡ Some x) × (p x ≡ true)
-    by_test true is e rest = (0, y, refl, is)
-    by_test false is e rest = let r = rest e in (suc r.0, r.1, r.2, r.3)
-
-or_left : (a b : Bool) → a ≡ true → (a || b) ≡ true
-or_left true b e = refl
-or_left false b e = absurd (cc)
-
-or_right : (a b : Bool) → b ≡ true → (a || b) ≡ true
-or_right true b e = refl
-or_right false b e = e
-
-either : (a b : Bool) → (a || b) ≡ true → (a ≡ true) ⊎ (b ≡ true)
-either true b e = inl refl
-either false b e = inr e
-
-false_from : (b : Bool) → (b ≡ true → ⊥) → b ≡ false
-false_from true f = absurd (f refl)
-false_from false f = refl
-
-unlike : (b : Bool) → b ≡ true → b ≡ false → ⊥
-unlike b t f = let no : true ≡ false = sym t ∙ f in absurd (cc)
+at_any p xs e = let (k, x, within, at, is) = Any-from_list_any p xs e in (k, x, slice_get-get_or xs k x within ∙ ap Some at, is)
 
 module _ {S : Type 0} (m : IndexMap LockName Holding S) (n : LockName) (t : ℕ) where
   abbrev conflicts_with : Entry → Bool
@@ -159,11 +105,11 @@ module _ {S : Type 0} (m : IndexMap LockName Holding S) (n : LockName) (t : ℕ)
   pub by_below : list_any (under_other n t) m.entries ≡ true → has_conflict (locks_of m) (held t n) ≡ true
   by_below e =
       let f = at_any (under_other n t) m.entries e in
-      let is = both_true (is_under n f.1.0) (not (nat_eq t f.1.1.terminal)) f.3 in
-      let inside = both_true (is_within n f.1.0) (not (is_within f.1.0 n)) is.0 in
+      let is = and_parts (is_under n f.1.0) (not (nat_eq t f.1.1.terminal)) f.3 in
+      let inside = and_parts (is_within n f.1.0) (not (is_within f.1.0 n)) is.0 in
       conflict_is m (held t n)
       ∙ any_at conflicts_with m.entries f.0 f.1 f.2
-      (both (not (nat_eq t f.1.1.terminal)) (is_within n f.1.0 || is_within f.1.0 n) is.1 (or_left (is_within n f.1.0) (is_within f.1.0 n) inside.0))
+      (and_from (not (nat_eq t f.1.1.terminal)) (is_within n f.1.0 || is_within f.1.0 n) is.1 (or_left (is_within n f.1.0) (is_within f.1.0 n) inside.0))
 
   -- and so does the name itself, or one above it
   pub by_name : (a : LockName) → is_within a n ≡ true → is_other t (index.get name_eq m a) ≡ true → has_conflict (locks_of m) (held t n) ≡ true
@@ -176,7 +122,7 @@ module _ {S : Type 0} (m : IndexMap LockName Holding S) (n : LockName) (t : ℕ)
           let same : a ≡ place.1 = is_same a place.1 place.3 in
           conflict_is m (held t n)
           ∙ any_at conflicts_with m.entries place.0 (place.1, h) place.2
-          (both (not (nat_eq t h.terminal)) (is_within n place.1 || is_within place.1 n) e
+          (and_from (not (nat_eq t h.terminal)) (is_within n place.1 || is_within place.1 n) e
           (or_right (is_within n place.1) (is_within place.1 n) (subst (λ k. is_within k n ≡ true) same above)))
 
   pub by_above : (i : ℕ) → is_other t (index.get name_eq m (name_above i n)) ≡ true → has_conflict (locks_of m) (held t n) ≡ true
@@ -188,7 +134,7 @@ module _ {S : Type 0} (m : IndexMap LockName Holding S) (n : LockName) (t : ℕ)
   -- where none of these is another's, none conflicts
   pub by_none : IsUnique name_eq m → list_any (under_other n t) m.entries ≡ false → is_other t (index.get name_eq m n) ≡ false
       → ((i : ℕ) → i < length n.node.subscripts → is_other t (index.get name_eq m (name_above i n)) ≡ false) → has_conflict (locks_of m) (held t n) ≡ false
-  by_none unique below itself above = conflict_is m (held t n) ∙ false_from (list_any conflicts_with m.entries) refuted
+  by_none unique below itself above = conflict_is m (held t n) ∙ false_from_ne_true (list_any conflicts_with m.entries) refuted
     where
       held_there : (i : ℕ) (e : Entry) → slice_get m.entries i ≡ Some e → not (nat_eq t e.1.terminal) ≡ true → is_other t (index.get name_eq m e.0) ≡ true
       held_there i e at other = ap (is_other t) (lookup_from_place (eq_by_cmp_equiv lock_name_cmp_total) m.entries i e.0 e.1 unique at) ∙ other
@@ -197,21 +143,21 @@ module _ {S : Type 0} (m : IndexMap LockName Holding S) (n : LockName) (t : ℕ)
       refuted_above i e at other is = by_side (above_or_same e.0 n is)
         where
           by_side : (is_within n e.0 ≡ true) ⊎ ((j : ℕ) × (j < length n.node.subscripts) × (name_above j n ≡ e.0)) → ⊥
-          by_side (inl back) = unlike (is_other t (index.get name_eq m n)) (ap (λ k. is_other t (index.get name_eq m k)) (both_within n e.0 back is) ∙ held_there i e at other) itself
+          by_side (inl back) = true≢false (sym (ap (λ k. is_other t (index.get name_eq m k)) (both_within n e.0 back is) ∙ held_there i e at other) ∙ itself)
           by_side (inr found) =
-              unlike (is_other t (index.get name_eq m (name_above found.0 n))) (ap (λ k. is_other t (index.get name_eq m k)) found.2 ∙ held_there i e at other) (above found.0 found.1)
+              true≢false (sym (ap (λ k. is_other t (index.get name_eq m k)) found.2 ∙ held_there i e at other) ∙ above found.0 found.1)
 
       by_within : (i : ℕ) (e : Entry) → slice_get m.entries i ≡ Some e → not (nat_eq t e.1.terminal) ≡ true → (b : Bool) → is_within e.0 n ≡ b → is_within n e.0 ≡ true → ⊥
       by_within i e at other true back is = refuted_above i e at other back
       by_within i e at other false back is =
-          unlike (list_any (under_other n t) m.entries)
-          (any_at (under_other n t) m.entries i e at (both (is_under n e.0) (not (nat_eq t e.1.terminal)) (both (is_within n e.0) (not (is_within e.0 n)) is (ap not back)) other)) below
+          true≢false
+          (sym (any_at (under_other n t) m.entries i e at (and_from (is_under n e.0) (not (nat_eq t e.1.terminal)) (and_from (is_within n e.0) (not (is_within e.0 n)) is (ap not back)) other)) ∙ below)
 
       refuted : list_any conflicts_with m.entries ≡ true → ⊥
       refuted e =
           let f = at_any conflicts_with m.entries e in
-          let is = both_true (not (nat_eq t f.1.1.terminal)) (is_within n f.1.0 || is_within f.1.0 n) f.3 in
-          by_side f.0 f.1 f.2 is.0 (either (is_within n f.1.0) (is_within f.1.0 n) is.1)
+          let is = and_parts (not (nat_eq t f.1.1.terminal)) (is_within n f.1.0 || is_within f.1.0 n) f.3 in
+          by_side f.0 f.1 f.2 is.0 (or_cases (is_within n f.1.0) (is_within f.1.0 n) is.1)
         where
           by_side : (i : ℕ) (d : Entry) → slice_get m.entries i ≡ Some d → not (nat_eq t d.1.terminal) ≡ true → (is_within n d.0 ≡ true) ⊎ (is_within d.0 n ≡ true) → ⊥
           by_side i d at other (inl is) = by_within i d at other (is_within d.0 n) refl is

@@ -1,18 +1,14 @@
 -- SPDX-License-Identifier: Apache-2.0
 -- Tallies of one name, and of all the names above one.
-use Rattle.std.proofs.Common.{◌≡◌, ◌+◌, ◌*◌, ℕ, Bool, true, false, cond, ◌&&◌, nat_eq, Option, Some, None, refl, sym, ap, ◌∙◌, subst, arith}
-use Rattle.std.specs.Prelude.{unwrap_or, is_some, IsSome}
+use Rattle.std.proofs.Common.{◌≡◌, ◌+◌, ◌*◌, ℕ, Bool, true, false, cond, ◌&&◌, nat_eq, Option, Some, None, refl, sym, ap, ◌∙◌, subst, arith, unwrap_or, is_some, IsSome, true≢false, inl, inr}
+use Rattle.std.proofs.lemmas.Bool.{and_parts, false_from_ne_true, cases_Bool}
 use Rattle.std.proofs.lemmas.Bool.Decides.{nat_tests}
 use Rattle.indexmap.specs.IndexMap.{IndexMap, get, Updates}
 use Rattle.mspec.specs.LockConflict.{LockName}
 use Rattle.mlock.specs.Above.{IsAbove}
 use Rattle.mlock.specs.declared.tally.Tally.{Tally}
 use Rattle.mlock.specs.Tallies.{name_eq, is_under, no_names, with_one, is_none, tally_at, HasEntry}
-use Rattle.mlock.proofs.Names.{both_true}
 use Rattle.mlock.proofs.Under.{is_same, same_is, above_is, not_itself, others_above, from_above}
-
-unlike : {A : Type 0} (b : Bool) → b ≡ true → b ≡ false → A
-unlike b t f = let no : true ≡ false = sym t ∙ f in absurd (cc)
 
 -- ---- the entry of one name
 
@@ -30,11 +26,7 @@ module _ {S : Type 0} (m n : IndexMap LockName Tally S) (k : LockName) where
   written w u q = ap (λ o. unwrap_or o no_names) (u.0 q) ∙ or_none (name_eq k q) w (get name_eq m q)
 
   pub keeps : (w : Tally) → Updates name_eq m n k (Some w) → (q : LockName) → HasEntry m q → HasEntry n q
-  keeps w u q some = subst IsSome (sym (u.0 q)) (by_test (name_eq k q))
-    where
-      by_test : (b : Bool) → IsSome (cond b (Some w) (get name_eq m q))
-      by_test true = refl
-      by_test false = some
+  keeps w u q some = subst IsSome (sym (u.0 q)) (elim (name_eq k q) as (λ b. IsSome (cond b (Some w) (get name_eq m q))) [ true ↦ refl | false ↦ some ])
 
   -- an entry of no name changes no tally
   pub made_same : Updates name_eq m n k (Some no_names) → get name_eq m k ≡ None → (q : LockName) → tally_at n q ≡ tally_at m q
@@ -69,16 +61,12 @@ module _ {S : Type 0} (m n : IndexMap LockName Tally S) (k : LockName) where
 -- an entry that is left as it was, and then taken away
 pub twice_written : {S : Type 0} (m l n : IndexMap LockName Tally S) (k : LockName) (v w : Tally) → ((q : LockName) → tally_at l q ≡ cond (name_eq k q) v (tally_at m q))
     → ((q : LockName) → tally_at n q ≡ cond (name_eq k q) w (tally_at l q)) → (q : LockName) → tally_at n q ≡ cond (name_eq k q) w (tally_at m q)
-twice_written m l n k v w first second q = second q ∙ ap (cond (name_eq k q) w) (first q) ∙ by_test (name_eq k q)
-  where
-    by_test : (b : Bool) → cond b w (cond b v (tally_at m q)) ≡ cond b w (tally_at m q)
-    by_test true = refl
-    by_test false = refl
+twice_written m l n k v w first second q = second q ∙ ap (cond (name_eq k q) w) (first q) ∙ elim (name_eq k q) as (λ b. cond b w (cond b v (tally_at m q)) ≡ cond b w (tally_at m q)) [ true ↦ refl | false ↦ refl ]
 
 pub none_is : (a : Tally) → is_none a ≡ true → a ≡ no_names
 none_is a e =
-    let names = both_true (nat_eq a.names 0) (nat_eq a.terminals 0 && nat_eq a.squares 0) e in
-    let sums = both_true (nat_eq a.terminals 0) (nat_eq a.squares 0) names.1 in
+    let names = and_parts (nat_eq a.names 0) (nat_eq a.terminals 0 && nat_eq a.squares 0) e in
+    let sums = and_parts (nat_eq a.terminals 0) (nat_eq a.squares 0) names.1 in
     let x : a.names ≡ 0 = zero_from a.names names.0 in
     let y : a.terminals ≡ 0 = zero_from a.terminals sums.0 in
     let z : a.squares ≡ 0 = zero_from a.squares sums.1 in
@@ -86,10 +74,6 @@ none_is a e =
   where
     zero_from : (v : ℕ) → nat_eq v 0 ≡ true → v ≡ 0
     zero_from v e = grind (arith, nat_tests, e)
-
--- a tally of no name has none to take off
-pub some_names : (t : ℕ) (rest a : Tally) → with_one t rest ≡ a → a ≡ no_names → {A : Type 0} → A
-some_names t rest a one none = let e : rest.names + 1 ≡ 0 = ap (λ x. x.names) (one ∙ none) in absurd (omega (arith, e))
 
 pub same_rest : (t : ℕ) (x y : Tally) → with_one t x ≡ with_one t y → x ≡ y
 same_rest t x y e =
@@ -114,36 +98,29 @@ module _ (above below : LockName) (next : IsAbove above below) where
 
   -- a name above the next one is another
   pub not_next : (n : LockName) → is_under n above ≡ true → name_eq above n ≡ false
-  not_next n is = by_test (name_eq above n) refl
-    where
-      by_test : (b : Bool) → name_eq above n ≡ b → name_eq above n ≡ false
-      by_test true e = unlike (is_under n above) is (next_is n e).0
-      by_test false e = e
+  not_next n is = false_from_ne_true (name_eq above n) (λ e. true≢false (sym is ∙ (next_is n e).0))
 
   module _ (f : Tally → Tally) (old mid new : LockName → Tally) where
     pub all_counted : ((n : LockName) → mid n ≡ cond (name_eq above n) (f (old n)) (old n)) → ((n : LockName) → new n ≡ cond (is_under n above) (f (mid n)) (mid n))
         → (n : LockName) → new n ≡ cond (is_under n below) (f (old n)) (old n)
-    all_counted first rest n = by_test (name_eq above n) refl
-      where
-        by_test : (b : Bool) → name_eq above n ≡ b → new n ≡ cond (is_under n below) (f (old n)) (old n)
-        by_test true e =
+    all_counted first rest n = elim (cases_Bool (name_eq above n)) [
+      | inl e ↦
             let is = next_is n e in
             rest n ∙ ap (λ b. cond b (f (mid n)) (mid n)) is.0 ∙ first n ∙ ap (λ b. cond b (f (old n)) (old n)) e ∙ sym (ap (λ b. cond b (f (old n)) (old n)) is.1)
-        by_test false e =
+      | inr e ↦
             let same : mid n ≡ old n = first n ∙ ap (λ b. cond b (f (old n)) (old n)) e in
             rest n ∙ ap (λ x. cond (is_under n above) (f x) x) same ∙ ap (λ b. cond b (f (old n)) (old n)) (sym (others_above above below next n e))
+    ]
 
     pub all_taken_off : ((n : LockName) → old n ≡ cond (name_eq above n) (f (mid n)) (mid n)) → ((n : LockName) → mid n ≡ cond (is_under n above) (f (new n)) (new n))
         → (n : LockName) → old n ≡ cond (is_under n below) (f (new n)) (new n)
-    all_taken_off first rest n = by_test (name_eq above n) refl
-      where
-        by_test : (b : Bool) → name_eq above n ≡ b → old n ≡ cond (is_under n below) (f (new n)) (new n)
-        by_test true e =
+    all_taken_off first rest n = elim (cases_Bool (name_eq above n)) [
+      | inl e ↦
             let is = next_is n e in
             let same : mid n ≡ new n = rest n ∙ ap (λ b. cond b (f (new n)) (new n)) is.0 in
             first n ∙ ap (λ b. cond b (f (mid n)) (mid n)) e ∙ ap f same ∙ sym (ap (λ b. cond b (f (new n)) (new n)) is.1)
-        by_test false e =
-            first n ∙ ap (λ b. cond b (f (mid n)) (mid n)) e ∙ rest n ∙ ap (λ b. cond b (f (new n)) (new n)) (sym (others_above above below next n e))
+      | inr e ↦ first n ∙ ap (λ b. cond b (f (mid n)) (mid n)) e ∙ rest n ∙ ap (λ b. cond b (f (new n)) (new n)) (sym (others_above above below next n e))
+    ]
 
   -- what holds of the names above the name holds of those above the next one, which the first step left alone
   pub levels_left : (P : LockName → Type 0) → ((n : LockName) → is_under n below ≡ true → P n) → (n : LockName) → is_under n above ≡ true → P n
@@ -151,8 +128,7 @@ module _ (above below : LockName) (next : IsAbove above below) where
 
   -- what holds of the next name and of those above it holds of all above the name
   pub level_has : (P : LockName → Type 0) → P above → ((n : LockName) → is_under n above ≡ true → P n) → (n : LockName) → is_under n below ≡ true → P n
-  level_has P here all n is = by_test (name_eq above n) refl
-    where
-      by_test : (b : Bool) → name_eq above n ≡ b → P n
-      by_test true e = subst P (is_same above n e) here
-      by_test false e = all n (sym (others_above above below next n e) ∙ is)
+  level_has P here all n is = elim (cases_Bool (name_eq above n)) [
+    | inl e ↦ subst P (is_same above n e) here
+    | inr e ↦ all n (sym (others_above above below next n e) ∙ is)
+  ]

@@ -1,13 +1,11 @@
 -- SPDX-License-Identifier: Apache-2.0
 -- What the moves of the holdings keep, and what they do to the locks.
-use Rattle.std.proofs.Common.{◌≡◌, ◌<◌, ◌+◌, ◌-◌, ◌^◌, ℕ, true, false, cond, nat_eq, List, [], ◌∷◌, ◌++◌, Some, None, length, get_or, ◌⊎◌, inl, inr, refl, sym, ap, ◌∙◌, subst, arith}
-use Rattle.std.specs.Prelude.{slice_get, slice_set, slice_index_or}
+use Rattle.std.proofs.Common.{◌≡◌, ◌<◌, ◌+◌, ◌-◌, ◌^◌, ℕ, true, false, cond, nat_eq, List, [], ◌∷◌, ◌++◌, Some, None, length, get_or, ◌⊎◌, inl, inr, refl, sym, ap, ◌∙◌, subst, arith, slice_get, slice_set, slice_index_or, get_or-take, get_or-set_other, length-take-le, length-set}
 use Rattle.std.specs.FinMap.{insert, remove}
 use Rattle.std.specs.Cmp.{eq_by_cmp_equiv}
 use Rattle.std.specs.List.{swap_remove, IsDistinct}
 use Rattle.std.specs.Map.{keys_of}
 use Rattle.std.proofs.lemmas.Bool.{cases_eq}
-use Rattle.std.proofs.lemmas.List.{get_or-take, get_or-set_other, length-take-le, length-set}
 use Rattle.std.proofs.lemmas.Map.Entries.{lookup_from_place}
 use Rattle.std.proofs.lemmas.Option.{slice_get_within, slice_get-get_or, get_or_from_slice_get}
 use Rattle.indexmap.specs.IndexMap as index

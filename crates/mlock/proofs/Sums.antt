@@ -1,9 +1,8 @@
 -- SPDX-License-Identifier: Apache-2.0
 -- What is counted below a name, when the holdings change, and what it tells.
-use Rattle.std.proofs.Common.{◌≡◌, ◌<◌, ◌≤◌, ◌+◌, ◌-◌, ◌*◌, ◌^◌, ℕ, zero, suc, Bool, true, false, cond, not, ◌&&◌, ◌||◌, nat_eq, List, [], ◌∷◌, ◌++◌, length, Some, refl, sym, ap, ◌∙◌, subst, arith}
-use Rattle.std.specs.Prelude.{nat_lt, slice_get, unwrap_or}
+use Rattle.std.proofs.Common.{◌≡◌, ◌<◌, ◌≤◌, ◌+◌, ◌-◌, ◌*◌, ◌^◌, ℕ, zero, suc, Bool, true, false, cond, not, ◌&&◌, ◌||◌, nat_eq, List, [], ◌∷◌, ◌++◌, length, Some, refl, sym, ap, ◌∙◌, subst, arith, nat_lt, slice_get, unwrap_or, mul-le-mul_left, mul-le-mul_right}
+use Rattle.std.proofs.lemmas.Bool.{and_parts, and_from, or_parts}
 use Rattle.std.specs.List.{sum_by, list_any, swap_remove}
-use Rattle.std.proofs.Math.Nat.{mul-le-mul_left, mul-le-mul_right}
 use Rattle.std.proofs.lemmas.Bool.Decides.{nat_tests}
 use Rattle.std.proofs.lemmas.List.Sums.{sum_by-cons, sum_by_push, sum_by-swap_remove}
 use Rattle.std.proofs.lemmas.Option.{slice_get_within, get_or_from_slice_get}
@@ -12,7 +11,6 @@ use Rattle.mspec.specs.LockConflict.{LockName}
 use Rattle.mlock.specs.declared.locks.Holding.{Holding}
 use Rattle.mlock.specs.declared.tally.Tally.{Tally}
 use Rattle.mlock.specs.Tallies.{is_under, with_one, is_only, below_sum, tally_of, too_large, HasRoom}
-use Rattle.mlock.proofs.Names.{both_true, both}
 
 abbrev Entry : Type 0
 Entry = LockName × Holding
@@ -183,15 +181,11 @@ none_other t n (d ∷ es) e =
     by_test true e = let same : d.1.terminal ≡ t = not_apart t d.1.terminal e in grind (arith, nat_tests, same)
     by_test false e = refl
 
-both_false : (a b : Bool) → (a || b) ≡ false → (a ≡ false) × (b ≡ false)
-both_false true b e = absurd (cc)
-both_false false b e = (refl, e)
-
 own_sums : (t : ℕ) (n : LockName) (es : List Entry) → list_any (under_other n t) es ≡ false
     → (below_sum (λ u. u) n es ≡ below_sum (λ u. 1) n es * t) × (below_sum (λ u. u * u) n es ≡ below_sum (λ u. u) n es * t)
 own_sums t n [] e = (omega arith, omega arith)
 own_sums t n (d ∷ es) e =
-    let parts = both_false (under_other n t d) (list_any (under_other n t) es) e in
+    let parts = or_parts (under_other n t d) (list_any (under_other n t) es) e in
     let rest = own_sums t n es parts.1 in
     let here = by_test (is_under n d.0) parts.0 in (
       sum_by-cons (term (λ u. u) n) d es ∙ added t (term (λ u. u) n d) (term (λ u. 1) n d) (below_sum (λ u. u) n es) (below_sum (λ u. 1) n es) here.0 rest.0 ∙ ap (λ x. x * t) (sym (sum_by-cons (term (λ u. 1) n) d es)),
@@ -232,7 +226,7 @@ only_is t n es = turned (is_only t (tally_of es n)) (list_any (under_other n t) 
 
     forth : is_only t (tally_of es n) ≡ true → list_any (under_other n t) es ≡ false
     forth e =
-        let is = both_true (nat_eq (N * t) S) (nat_eq (S * t) Q) e in
+        let is = and_parts (nat_eq (N * t) S) (nat_eq (S * t) Q) e in
         let first : N * t ≡ S = grind (arith, nat_tests, is.0) in
         let second : S * t ≡ Q = grind (arith, nat_tests, is.1) in
         none_other t n es (vanishes N S Q (below_sum (apart t) n es) t first second (all_terms t n es))
@@ -240,7 +234,7 @@ only_is t n es = turned (is_only t (tally_of es n)) (list_any (under_other n t) 
     back : list_any (under_other n t) es ≡ false → is_only t (tally_of es n) ≡ true
     back e =
         let own = own_sums t n es e in
-        both (nat_eq (N * t) S) (nat_eq (S * t) Q) (equal (N * t) S (sym own.0)) (equal (S * t) Q (sym own.1))
+        and_from (nat_eq (N * t) S) (nat_eq (S * t) Q) (equal (N * t) S (sym own.0)) (equal (S * t) Q (sym own.1))
       where
         equal : (x y : ℕ) → x ≡ y → nat_eq x y ≡ true
         equal x y e = grind (arith, nat_tests, e)

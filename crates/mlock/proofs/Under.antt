@@ -1,9 +1,9 @@
 -- SPDX-License-Identifier: Apache-2.0
 -- Names below other names, and the name next above one.
-use Rattle.std.proofs.Common.{◌≡◌, ◌<◌, ◌≤◌, ◌+◌, ◌-◌, ℕ, Bool, true, false, not, List, [], ◌∷◌, ◌++◌, length, take, ◌⊎◌, inl, inr, refl, sym, ap, ◌∙◌, subst, arith, append-nil, append_assoc, length-append}
-use Rattle.std.specs.Cmp.{Equal-is, eq_by_cmp_equiv}
+use Rattle.std.proofs.Common.{◌≡◌, ◌<◌, ◌≤◌, ◌+◌, ◌-◌, ℕ, true, false, not, List, [], ◌∷◌, ◌++◌, length, take, ◌⊎◌, inl, inr, refl, sym, ap, ◌∙◌, subst, arith, append-nil, append_assoc, length-append, true≢false}
+use Rattle.std.specs.Cmp.{Equal-is, eq_by_cmp_equiv, both_ways}
 use Rattle.std.proofs.Math.Seq.{take-append_seam, take-append-add}
-use Rattle.std.proofs.lemmas.Bool.{cases_eq}
+use Rattle.std.proofs.lemmas.Bool.{cases_eq, and_parts, and_from, false_from_ne_true}
 use mathlib.Core.Bool.{beq}
 use Rattle.mspec.specs.Globals.{is_node_within}
 use Rattle.mspec.specs.LockConflict.{LockName, lock_name_cmp, is_within}
@@ -12,7 +12,7 @@ use Rattle.mspec.proofs.KeyRanges.{within}
 use Rattle.mspec.proofs.LockOrders.{lock_name_cmp_total, lock_name_cmp_exact}
 use Rattle.mlock.specs.Above.{IsAbove}
 use Rattle.mlock.specs.Tallies.{name_eq, is_under}
-use Rattle.mlock.proofs.Names.{of_within, within_of, both_true, same_truth, parts, beq_same, same_beq, both}
+use Rattle.mlock.proofs.Names.{of_within, within_of, parts, beq_same, same_beq}
 
 -- the second name is the first with more subscripts
 pub record Inside (a b : LockName) : Type 0 where
@@ -24,13 +24,13 @@ pub record Inside (a b : LockName) : Type 0 where
 
 pub inside : (a b : LockName) → is_within a b ≡ true → Inside a b
 inside a b e =
-    let is = both_true (beq a.global b.global) (is_node_within a.node b.node) e in
+    let is = and_parts (beq a.global b.global) (is_node_within a.node b.node) e in
     let p = parts a.node b.node (within_of a.node b.node is.1) in
     record { kind = beq_same a.global b.global is.0; account = p.account; name = p.name; more = p.more; subscripts = p.subscripts }
 
 pub of_inside : (a b : LockName) → Inside a b → is_within a b ≡ true
 of_inside a b i =
-    both (beq a.global b.global) (is_node_within a.node b.node) (same_beq a.global b.global i.kind)
+    and_from (beq a.global b.global) (is_node_within a.node b.node) (same_beq a.global b.global i.kind)
     (of_within a.node b.node (within a.node b.node i.more i.account i.name i.subscripts))
 
 longer : (a b : LockName) → Inside a b → length a.node.subscripts ≤ length b.node.subscripts
@@ -57,22 +57,11 @@ whole a b i short = by_more i.more i.subscripts
 pub both_within : (a b : LockName) → is_within a b ≡ true → is_within b a ≡ true → a ≡ b
 both_within a b e f = whole a b (inside a b e) (longer b a (inside b a f))
 
-true_false : {A : Type 0} (b : Bool) → b ≡ true → b ≡ false → A
-true_false b t f = let no : true ≡ false = sym t ∙ f in absurd (cc)
-
-is_not : (b : Bool) → (b ≡ true → ⊥) → not b ≡ true
-is_not true f = absurd (f refl)
-is_not false f = refl
-
-not_is : (b : Bool) → not b ≡ true → b ≡ true → ⊥
-not_is true e f = true_false (not true) e refl
-not_is false e f = true_false false f refl
-
 pub under : (a b : LockName) → is_under a b ≡ true → Inside a b × (length a.node.subscripts < length b.node.subscripts)
 under a b e = by_length (cases_eq (length a.node.subscripts) (length b.node.subscripts))
   where
     is : (is_within a b ≡ true) × (not (is_within b a) ≡ true)
-    is = both_true (is_within a b) (not (is_within b a)) e
+    is = and_parts (is_within a b) (not (is_within b a)) e
 
     i : Inside a b
     i = inside a b is.0
@@ -83,25 +72,21 @@ under a b e = by_length (cases_eq (length a.node.subscripts) (length b.node.subs
     by_length : (length a.node.subscripts ≡ length b.node.subscripts) ⊎ (length a.node.subscripts ≡ length b.node.subscripts → ⊥) → Inside a b × (length a.node.subscripts < length b.node.subscripts)
     by_length (inl same) =
         let equal : a ≡ b = whole a b i (omega (arith, same)) in
-        absurd (not_is (is_within b a) is.1 (subst (λ n. is_within b n ≡ true) (sym equal) (subst (λ n. is_within n b ≡ true) equal is.0)))
+        absurd (true≢false (sym is.1 ∙ ap not (subst (λ n. is_within b n ≡ true) (sym equal) (subst (λ n. is_within n b ≡ true) equal is.0))))
     by_length (inr other) = (i, grind (arith, more, other))
 
 pub of_under : (a b : LockName) → Inside a b → length a.node.subscripts < length b.node.subscripts → is_under a b ≡ true
 of_under a b i less =
-    both (is_within a b) (not (is_within b a)) (of_inside a b i)
-    (is_not (is_within b a) (λ back. let short : length b.node.subscripts ≤ length a.node.subscripts = longer b a (inside b a back) in absurd (omega (arith, short, less))))
-
-false_from : (b : Bool) → (b ≡ true → ⊥) → b ≡ false
-false_from true f = absurd (f refl)
-false_from false f = refl
+    and_from (is_within a b) (not (is_within b a)) (of_inside a b i)
+    (ap not (false_from_ne_true (is_within b a) (λ back. let short : length b.node.subscripts ≤ length a.node.subscripts = longer b a (inside b a back) in absurd (omega (arith, short, less)))))
 
 -- nothing stands above a name without subscripts
 pub none_above : (n b : LockName) → b.node.subscripts ≡ [] → is_under n b ≡ false
-none_above n b none = false_from (is_under n b) (λ e. let less = (under n b e).1 in let short : length b.node.subscripts ≡ 0 = ap length none in absurd (omega (arith, less, short)))
+none_above n b none = false_from_ne_true (is_under n b) (λ e. let less = (under n b e).1 in let short : length b.node.subscripts ≡ 0 = ap length none in absurd (omega (arith, less, short)))
 
 -- no name stands below itself
 pub not_itself : (n : LockName) → is_under n n ≡ false
-not_itself n = false_from (is_under n n) (λ e. let less = (under n n e).1 in absurd (omega (arith, less)))
+not_itself n = false_from_ne_true (is_under n n) (λ e. let less = (under n n e).1 in absurd (omega (arith, less)))
 
 module _ (above below : LockName) (next : IsAbove above below) where
   pub one_more : length below.node.subscripts ≡ length above.node.subscripts + 1
@@ -130,7 +115,7 @@ module _ (above below : LockName) (next : IsAbove above below) where
           → (length n.node.subscripts ≡ length above.node.subscripts) ⊎ (length n.node.subscripts ≡ length above.node.subscripts → ⊥) → is_under n above ≡ true
       by_length i long (inl same) =
           let equal : n ≡ above = whole n above i (omega (arith, same)) in
-          true_false (name_eq above n) (same_is above n (sym equal)) other
+          absurd (true≢false (sym (same_is above n (sym equal)) ∙ other))
       by_length i long (inr apart) = of_under n above i (grind (arith, long, apart))
 
   pub from_above : (n : LockName) → is_under n above ≡ true → is_under n below ≡ true
@@ -144,4 +129,4 @@ module _ (above below : LockName) (next : IsAbove above below) where
 
   -- the names above a name are the next one and those above that
   pub others_above : (n : LockName) → name_eq above n ≡ false → is_under n below ≡ is_under n above
-  others_above n other = same_truth (is_under n below) (is_under n above) (to_above n other) (from_above n)
+  others_above n other = both_ways (is_under n below) (is_under n above) (to_above n other) (from_above n)

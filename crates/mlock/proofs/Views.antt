@@ -1,19 +1,18 @@
 -- SPDX-License-Identifier: Apache-2.0
 -- What calls of the map of holdings do to the locks that it holds.
-use Rattle.std.proofs.Common.{◌≡◌, ◌<◌, ◌≤◌, ℕ, Bool, true, false, cond, not, ◌&&◌, List, [], ◌∷◌, Option, Some, None, map, nat_eq, length, refl, sym, ap, ◌∙◌, subst, arith}
+use Rattle.std.proofs.Common.{◌≡◌, ◌<◌, ◌≤◌, ℕ, Bool, true, false, cond, not, ◌&&◌, List, [], ◌∷◌, Option, Some, None, map, nat_eq, length, refl, sym, ap, ◌∙◌, subst, arith, Ordering, Less, Equal, Greater}
+use Rattle.std.proofs.lemmas.Bool.{and_right}
 use Rattle.std.specs.Prelude.{option_map, unwrap_or, slice_get, ⊤}
 use Rattle.std.specs.FinMap.{get, insert, remove, empty, retain_keys, get-insert, get-remove, get-from_entries, get-retain_keys, get-empty, same_map}
 use Rattle.std.specs.FinMap.Entries.{find}
 use Rattle.std.specs.List.{AllByRecursion, IsDistinct}
 use Rattle.std.specs.Map.{lookup, keys_of}
 use Rattle.std.specs.Ordering.{is_eq, nat_cmp, ordering_then, eq_by_cmp}
-use Rattle.std.specs.declared.cmp.Ordering.{Ordering}
-use Rattle.std.specs.declared.cmp.Ordering.TheVariants.{Less, Equal, Greater}
 use Rattle.std.specs.Cmp.{eq_by_cmp_equiv}
 use Rattle.std.proofs.lemmas.Bool.Decides.{nat_tests}
 use Rattle.std.proofs.lemmas.Map.Keys.{IsDistinct-head, IsDistinct-tail}
 use Rattle.std.proofs.lemmas.Map.Entries.{place_from_lookup}
-use Rattle.std.proofs.lemmas.Option.{slice_get_within}
+use Rattle.std.proofs.lemmas.Option.{slice_get_within, none-some}
 use Rattle.indexmap.specs.IndexMap as index
 use Rattle.indexmap.specs.IndexMap.{IndexMap, IsUnique, Updates}
 use Rattle.mspec.specs.LockConflict.{LockName, Held, held, Locks, lock_name_cmp, held_cmp, released, count, most_counts}
@@ -89,11 +88,7 @@ count_of o = option_map (λ h. h.count) o
 
 -- what is a terminal's own is the terminal's, and no other's
 own_one : (t u : ℕ) (o : Option Holding) → IsOwn t o → own_count u o ≡ cond (nat_eq t u) (count_of o) None
-own_one t u None own = here (nat_eq t u)
-  where
-    here : (b : Bool) → None ≡ cond {A = Option ℕ} b None None
-    here true = refl
-    here false = refl
+own_one t u None own = elim (nat_eq t u) as (λ b. None ≡ cond {A = Option ℕ} b None None) [ true ↦ refl | false ↦ refl ]
 own_one t u (Some h) own = ap (λ v. cond (nat_eq v u) (Some h.count) None) own
 
 twice : (b : Bool) (x y : Option ℕ) → cond b x None ≡ cond b x (cond b y None)
@@ -138,14 +133,10 @@ released_after l t n =
     released_get (remove l (held t n)) t q ∙ by_test q (nat_eq q.terminal t) refl ∙ sym (released_get l t q))
   where
     apart : (q : Held) → nat_eq q.terminal t ≡ false → eq_by_cmp held_cmp q (held t n) ≡ false
-    apart q other = tied_names q (held t n) ∙ by_name (name_eq q.name n) (nat_eq t q.terminal) (no t q.terminal (λ e. differs q.terminal (sym e) other))
+    apart q other = tied_names q (held t n) ∙ and_right (name_eq q.name n) (nat_eq t q.terminal) (no t q.terminal (λ e. differs q.terminal (sym e) other))
       where
         differs : (u : ℕ) → u ≡ t → nat_eq u t ≡ false → ⊥
         differs u e f = let no : true ≡ false = sym (yes u t e) ∙ f in absurd (cc)
-
-        by_name : (a b : Bool) → b ≡ false → (a && b) ≡ false
-        by_name true b e = e
-        by_name false b e = refl
 
     by_test : (q : Held) (b : Bool) → nat_eq q.terminal t ≡ b → cond (not b) (get (remove l (held t n)) q) None ≡ cond (not b) (get l q) None
     by_test q true is = refl
@@ -171,26 +162,19 @@ released_none m t unique none = same_map held_cmp_total held_cmp_exact _ _ (λ q
 
 -- ---- counts from 1 to 1,000,000
 
+chosen : (b : Bool) (x y : Option ℕ) (d : ℕ) → (x ≡ Some d → (0 < d) × (d ≤ most_counts)) → (y ≡ Some d → (0 < d) × (d ≤ most_counts)) → cond b x y ≡ Some d → (0 < d) × (d ≤ most_counts)
+chosen true x y d f g e = f e
+chosen false x y d f g e = g e
+
 pub counts_insert : (l : Locks) (h : Held) (c : ℕ) → AreCounts l → 0 < c → c ≤ most_counts → AreCounts (insert l h c)
-counts_insert l h c counts some few q d e = by_test (eq_by_cmp held_cmp q h) (sym (get-insert held_cmp_total l h c q) ∙ e)
-  where
-    by_test : (b : Bool) → cond b (Some c) (get l q) ≡ Some d → (0 < d) × (d ≤ most_counts)
-    by_test true e = let same : c ≡ d = cc in (omega (arith, same, some), omega (arith, same, few))
-    by_test false e = counts q d e
+counts_insert l h c counts some few q d e =
+    chosen (eq_by_cmp held_cmp q h) (Some c) (get l q) d (λ is. let same : c ≡ d = cc in (omega (arith, same, some), omega (arith, same, few))) (counts q d) (sym (get-insert held_cmp_total l h c q) ∙ e)
 
 pub counts_remove : (l : Locks) (h : Held) → AreCounts l → AreCounts (remove l h)
-counts_remove l h counts q d e = by_test (eq_by_cmp held_cmp q h) (sym (get-remove held_cmp_total l h q) ∙ e)
-  where
-    by_test : (b : Bool) → cond b None (get l q) ≡ Some d → (0 < d) × (d ≤ most_counts)
-    by_test true e = absurd (cc)
-    by_test false e = counts q d e
+counts_remove l h counts q d e = chosen (eq_by_cmp held_cmp q h) None (get l q) d (λ is. absurd (none-some d is)) (counts q d) (sym (get-remove held_cmp_total l h q) ∙ e)
 
 pub counts_released : (l : Locks) (t : ℕ) → AreCounts l → AreCounts (released l t)
-counts_released l t counts q d e = by_test (not (nat_eq q.terminal t)) (sym (released_get l t q) ∙ e)
-  where
-    by_test : (b : Bool) → cond b (get l q) None ≡ Some d → (0 < d) × (d ≤ most_counts)
-    by_test true e = counts q d e
-    by_test false e = absurd (cc)
+counts_released l t counts q d e = chosen (not (nat_eq q.terminal t)) (get l q) None d (counts q d) (λ is. absurd (none-some d is)) (sym (released_get l t q) ∙ e)
 
 pub counts_empty : AreCounts empty
 counts_empty q d e = let none : ◌≡◌ {A = Option ℕ} None (Some d) = sym (get-empty held_cmp q) ∙ e in absurd (cc)

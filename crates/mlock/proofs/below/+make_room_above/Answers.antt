@@ -1,6 +1,5 @@
 -- SPDX-License-Identifier: Apache-2.0
-use Rattle.std.proofs.Common.{Result, Ok, Err}
-use Rattle.std.specs.Prelude.{OnOk}
+use Rattle.std.proofs.Common.{Result, Ok, Err, OnOk}
 use Rattle.mlock.specs.Tallies.{HasEntry}
 use Rattle.mlock.proofs.Levels.{level_has}
 use Rattle.mlock.proofs.below.+make_room_above.Goals as goal

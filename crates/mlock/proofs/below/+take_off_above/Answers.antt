@@ -11,14 +11,12 @@ take_off-requires t c = c.requires c.in-Some.above (above_is c.in-Some.above c.a
 
 pub take_off_above-requires : goal.take_off_above-requires
 take_off_above-requires t c =
-    let above = c.in-Some.above in
-    let below = c.args.name in
     let next = c.in-Some.ensures in (
-      omega (arith, c.decreases, one_more above below next),
+      omega (arith, c.decreases, one_more c.in-Some.above c.args.name next),
       λ n is.
           subst (λ a. (rest : Tally) × (with_one c.args.terminal rest ≡ a))
-          (c.take_off.ensures n ∙ ap (λ b. cond b (with_one c.args.terminal (tally_at c.take_off.new.below n)) (tally_at c.take_off.new.below n)) (not_next above below next n is))
-          (levels_left above below next (λ k. (rest : Tally) × (with_one c.args.terminal rest ≡ tally_at c.args.below.now k)) c.requires n is),
+          (c.take_off.ensures n ∙ ap (λ b. cond b (with_one c.args.terminal (tally_at c.take_off.new.below n)) (tally_at c.take_off.new.below n)) (not_next c.in-Some.above c.args.name next n is))
+          (levels_left c.in-Some.above c.args.name next (λ k. (rest : Tally) × (with_one c.args.terminal rest ≡ tally_at c.args.below.now k)) c.requires n is),
     )
 
 pub returns-in_default : goal.returns-in_default

@@ -8,7 +8,5 @@ use Rattle.mlock.proofs.below.make_room.Goals as goal
 pub returns-in_ok-insert-clause-same : goal.returns-in_ok-insert-clause-same
 returns-in_ok-insert-clause-same c =
     let m = c.args.below.now in
-    let n = c.insert.new.self in
-    let k = c.in_ok-key.key in
-    made_same m n k (subst (λ a. Updates name_eq m n k (Some a)) c.none.ensures c.in_ok-insert.ensures.updates)
+    made_same m c.insert.new.self c.in_ok-key.key (subst (λ a. Updates name_eq m c.insert.new.self c.in_ok-key.key (Some a)) c.none.ensures c.in_ok-insert.ensures.updates)
     (ap (get name_eq m) c.in_ok-key.ensures.name ∙ absent_from (get name_eq m c.args.name.now) (sym c.contains_key.ensures ∙ c.if-not-contains_key.true))

@@ -1,6 +1,5 @@
 -- SPDX-License-Identifier: Apache-2.0
-use Rattle.std.proofs.Common.{◌≡◌, ◌<◌, ℕ, Bool, true, false, Result, Ok, Err, not, length, refl, sym, ap, ◌∙◌}
-use Rattle.std.specs.Result.{IfOk}
+use Rattle.std.proofs.Common.{◌≡◌, ◌<◌, ℕ, Bool, true, false, Result, Ok, Err, not, length, refl, sym, ap, ◌∙◌, IfOk}
 use Rattle.std.specs.List.{list_any}
 use Rattle.indexmap.specs.IndexMap.{IndexMap, IsUnique, get}
 use Rattle.mspec.specs.LockConflict.{LockName, held, has_conflict}
@@ -23,20 +22,17 @@ module _ {S : Type 0} (m : IndexMap LockName Holding S) (unique : IsUnique name_
 
 pub returns-then-is_others_below : goal.returns-then-is_others_below
 returns-then-is_others_below c =
-    let m = c.args.holdings.now in
     let n = c.args.name.now in
     let t = c.args.terminal in
-    sym (by_below m n t (sym (only_is t n m.entries) ∙ ap (λ a. not (is_only t a)) (sym (c.requires.tied n)) ∙ sym c.is_others_below.ensures ∙ c.if-is_others_below.true))
+    sym (by_below c.args.holdings.now n t (sym (only_is t n c.args.holdings.now.entries) ∙ ap (λ a. not (is_only t a)) (sym (c.requires.tied n)) ∙ sym c.is_others_below.ensures ∙ c.if-is_others_below.true))
 
 pub returns-then-is_others : goal.returns-then-is_others
 returns-then-is_others c = sym (by_itself c.args.holdings.now c.args.name.now c.args.terminal (sym c.is_others.ensures ∙ c.if-is_others.true))
 
 pub returns : goal.returns
 returns c =
-    let m = c.args.holdings.now in
-    let n = c.args.name.now in
     let t = c.args.terminal in
-    by_answer m c.requires.unique n t
-    (sym (only_is t n m.entries) ∙ ap (λ a. not (is_only t a)) (sym (c.requires.tied n)) ∙ sym c.is_others_below.ensures ∙ c.if-is_others_below.false)
+    by_answer c.args.holdings.now c.requires.unique c.args.name.now t
+    (sym (only_is t c.args.name.now c.args.holdings.now.entries) ∙ ap (λ a. not (is_only t a)) (sym (c.requires.tied c.args.name.now)) ∙ sym c.is_others_below.ensures ∙ c.if-is_others_below.false)
     (sym c.is_others.ensures ∙ c.if-is_others.false)
     c.is_held_above.result c.is_held_above.ensures.yes c.is_held_above.ensures.no

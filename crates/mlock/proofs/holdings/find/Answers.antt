@@ -1,6 +1,5 @@
 -- SPDX-License-Identifier: Apache-2.0
-use Rattle.std.proofs.Common.{◌≡◌, Bool, true, false, cond, List, [], ◌∷◌, Some, ap, sym, refl, ◌∙◌}
-use Rattle.std.specs.Prelude.{unwrap_or}
+use Rattle.std.proofs.Common.{◌≡◌, Bool, true, false, cond, List, [], ◌∷◌, Some, ap, sym, refl, ◌∙◌, unwrap_or}
 use Rattle.std.specs.Map.{lookup_key}
 use Rattle.mlock.specs.Tallies.{name_eq}
 use Rattle.mlock.proofs.Under.{is_same}
@@ -17,7 +16,5 @@ passes test (d ∷ es) k e = by_test (test d.0) refl e (passes test es k)
 
 pub returns : goal.returns
 returns c =
-    let key = c.in_ok-index.field-0-1.now in
-    let name = c.args.name.now in
-    let same = is_same name key (passes (name_eq name) c.args.holdings.now.entries key c.in_ok-index.ensures.key) in
+    let same = is_same c.args.name.now c.in_ok-index.field-0-1.now (passes (name_eq c.args.name.now) c.args.holdings.now.entries c.in_ok-index.field-0-1.now c.in_ok-index.ensures.key) in
     c.in_ok-index.ensures.entry ∙ ap (λ k. Some (k, c.in_ok-index.holding.now)) (sym same)

@@ -16,22 +16,15 @@ add_above-requires-clause-room c n is =
 
 pub returns-clause-kept : goal.returns-clause-kept
 returns-clause-kept c =
-    let h = c.args.holdings.now in
-    let k = c.in_ok-key.key in
-    let t = c.args.terminal in
-    let w : Holding = record { terminal = t; count = 1 } in
-    let b = c.make_room_above.new.below in
+    let w : Holding = record { terminal = c.args.terminal; count = 1 } in
     let walk = c.in_ok-walk.ensures.name ∙ sym c.in_ok-key.ensures.name in
-    kept_held h c.insert.new.self c.args.below.now b c.add_above.new.below k w c.requires.kept (omega (arith, c.ranges.terminal.fits))
-    (c.in_ok-insert.ensures.entries ∙ insert_entry-new name_eq h k w (ap (get name_eq h) c.in_ok-key.ensures.name ∙ c.requires.free))
+    kept_held c.args.holdings.now c.insert.new.self c.args.below.now c.make_room_above.new.below c.add_above.new.below c.in_ok-key.key w c.requires.kept (omega (arith, c.ranges.terminal.fits))
+    (c.in_ok-insert.ensures.entries ∙ insert_entry-new name_eq c.args.holdings.now c.in_ok-key.key w (ap (get name_eq c.args.holdings.now) c.in_ok-key.ensures.name ∙ c.requires.free))
     c.in_ok-insert.ensures.unique c.make_room_above.ensures.same
-    (λ n. c.add_above.ensures n ∙ ap (λ m. cond (is_under n m) (with_one t (tally_at b n)) (tally_at b n)) walk)
+    (λ n. c.add_above.ensures n ∙ ap (λ m. cond (is_under n m) (with_one c.args.terminal (tally_at c.make_room_above.new.below n)) (tally_at c.make_room_above.new.below n)) walk)
 
 pub returns-clause-held : goal.returns-clause-held
 returns-clause-held c =
-    let h = c.args.holdings.now in
-    let k = c.in_ok-key.key in
-    let t = c.args.terminal in
-    held_locks h c.insert.new.self k (record { terminal = t; count = 1 }) c.requires.kept.unique c.in_ok-insert.ensures.unique
-    (ap (get name_eq h) c.in_ok-key.ensures.name ∙ c.requires.free) refl c.in_ok-insert.ensures.updates
-    ∙ ap (λ n. one_more (locks_of h) (held t n)) c.in_ok-key.ensures.name
+    held_locks c.args.holdings.now c.insert.new.self c.in_ok-key.key (record { terminal = c.args.terminal; count = 1 }) c.requires.kept.unique c.in_ok-insert.ensures.unique
+    (ap (get name_eq c.args.holdings.now) c.in_ok-key.ensures.name ∙ c.requires.free) refl c.in_ok-insert.ensures.updates
+    ∙ ap (λ n. one_more (locks_of c.args.holdings.now) (held c.args.terminal n)) c.in_ok-key.ensures.name

@@ -1,6 +1,5 @@
 -- SPDX-License-Identifier: Apache-2.0
-use Rattle.std.proofs.Common.{◌≡◌, None, ap, sym, subst, ◌∙◌}
-use Rattle.std.specs.Prelude.{unwrap_or}
+use Rattle.std.proofs.Common.{◌≡◌, None, ap, sym, subst, ◌∙◌, unwrap_or}
 use Rattle.indexmap.specs.IndexMap.{Updates}
 use Rattle.mspec.specs.LockConflict.{LockName}
 use Rattle.mlock.specs.declared.locks.Holding.{Holding}

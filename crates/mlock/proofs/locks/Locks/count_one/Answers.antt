@@ -1,6 +1,5 @@
 -- SPDX-License-Identifier: Apache-2.0
-use Rattle.std.proofs.Common.{◌≡◌, ◌+◌, ◌<◌, ◌≤◌, ℕ, true, false, Some, None, ap, sym, ◌∙◌, subst, arith}
-use Rattle.std.specs.Prelude.{IfSome, nat_lt, slice_get}
+use Rattle.std.proofs.Common.{◌≡◌, ◌+◌, ◌<◌, ◌≤◌, ℕ, true, false, Some, None, ap, sym, ◌∙◌, subst, arith, IfSome, nat_lt, slice_get}
 use Rattle.std.specs.FinMap.{insert}
 use Rattle.std.proofs.lemmas.Bool.Decides.{nat_tests}
 use Rattle.std.proofs.lemmas.Option.{slice_get_within}
@@ -40,10 +39,9 @@ module _ {S : Type 0} (m : IndexMap LockName Holding S) (l : Locks) (is : locks_
 
 pub invariant_of-self-in_default : goal.invariant_of-self-in_default
 invariant_of-self-in_default c =
-    let m = c.self.inside.holdings in
     let q = held c.args.terminal c.args.name.now in
-    let none = count_none m c.self.invariant.0.unique c.args.name.now c.args.terminal (sym c.in_default.ensures) in
-    (c.in_ok-hold.ensures.kept, subst AreCounts (sym c.in_ok-hold.ensures.held) (counts_one_more (locks_of m) q c.self.invariant.1 (omega (arith, none))))
+    let none = count_none c.self.inside.holdings c.self.invariant.0.unique c.args.name.now c.args.terminal (sym c.in_default.ensures) in
+    (c.in_ok-hold.ensures.kept, subst AreCounts (sym c.in_ok-hold.ensures.held) (counts_one_more (locks_of c.self.inside.holdings) q c.self.invariant.1 (omega (arith, none))))
 
 pub returns-in_default-clause-room : goal.returns-in_default-clause-room
 returns-in_default-clause-room c =
@@ -67,15 +65,13 @@ set_count-requires-clause-own c =
 
 pub invariant_of-self-2 : goal.invariant_of-self-2
 invariant_of-self-2 c =
-    let m = c.self.inside.holdings in
     let unique = c.self.invariant.0.unique in
-    let name = c.args.name.now in
     let t = c.args.terminal in (
-      kept_recounted m c.set_count.new.holdings c.self.inside.below c.self.invariant.0 (c.set_count.ensures.kept unique),
+      kept_recounted c.self.inside.holdings c.set_count.new.holdings c.self.inside.below c.self.invariant.0 (c.set_count.ensures.kept unique),
       subst AreCounts
-          (sym (c.set_count.ensures.locks name c.in-Some.holding c.in-Some.ensures unique
-          ∙ more_is m c.args.self.now c.self.view_is unique name t c.in-Some.index c.in-Some.holding c.in-Some.ensures c.requires))
-          (more_counts m c.args.self.now c.self.view_is unique name t c.in-Some.index c.in-Some.holding c.in-Some.ensures c.requires c.self.invariant.1 c.if-holding-ge-MOST_COUNTS.false),
+          (sym (c.set_count.ensures.locks c.args.name.now c.in-Some.holding c.in-Some.ensures unique
+          ∙ more_is c.self.inside.holdings c.args.self.now c.self.view_is unique c.args.name.now t c.in-Some.index c.in-Some.holding c.in-Some.ensures c.requires))
+          (more_counts c.self.inside.holdings c.args.self.now c.self.view_is unique c.args.name.now t c.in-Some.index c.in-Some.holding c.in-Some.ensures c.requires c.self.invariant.1 c.if-holding-ge-MOST_COUNTS.false),
     )
 
 pub returns-clause-room : goal.returns-clause-room
@@ -86,10 +82,6 @@ returns-clause-room c =
 
 pub returns-clause-counted : goal.returns-clause-counted
 returns-clause-counted c =
-    let m = c.self.inside.holdings in
-    let unique = c.self.invariant.0.unique in
-    let name = c.args.name.now in
-    let t = c.args.terminal in
-    c.set_count.ensures.locks name c.in-Some.holding c.in-Some.ensures unique
-    ∙ more_is m c.args.self.now c.self.view_is unique name t c.in-Some.index c.in-Some.holding c.in-Some.ensures c.requires
-    ∙ ap (λ l. one_more l (held t name)) c.self.view_is
+    c.set_count.ensures.locks c.args.name.now c.in-Some.holding c.in-Some.ensures c.self.invariant.0.unique
+    ∙ more_is c.self.inside.holdings c.args.self.now c.self.view_is c.self.invariant.0.unique c.args.name.now c.args.terminal c.in-Some.index c.in-Some.holding c.in-Some.ensures c.requires
+    ∙ ap (λ l. one_more l (held c.args.terminal c.args.name.now)) c.self.view_is

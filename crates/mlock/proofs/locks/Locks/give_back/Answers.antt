@@ -1,6 +1,5 @@
 -- SPDX-License-Identifier: Apache-2.0
-use Rattle.std.proofs.Common.{◌≡◌, ◌-◌, ◌<◌, ◌≤◌, ℕ, Some, ap, sym, ◌∙◌, subst}
-use Rattle.std.specs.Prelude.{slice_get}
+use Rattle.std.proofs.Common.{◌≡◌, ◌-◌, ◌<◌, ◌≤◌, ℕ, Some, ap, sym, ◌∙◌, subst, slice_get}
 use Rattle.std.specs.FinMap.{insert, remove}
 use Rattle.std.proofs.lemmas.Option.{slice_get_within}
 use Rattle.indexmap.specs.IndexMap.{IndexMap, IsUnique}
@@ -21,9 +20,8 @@ module _ {S : Type 0} (m : IndexMap LockName Holding S) (unique : IsUnique name_
 
 pub returns-in_default : goal.returns-in_default
 returns-in_default c =
-    let m = c.self.inside.holdings in
     sym c.self.view_is
-    ∙ give_none (locks_of m) c.args.terminal c.args.name.now (get_none m c.self.invariant.0.unique c.args.name.now c.args.terminal (sym c.in_default.ensures))
+    ∙ give_none (locks_of c.self.inside.holdings) c.args.terminal c.args.name.now (get_none c.self.inside.holdings c.self.invariant.0.unique c.args.name.now c.args.terminal (sym c.in_default.ensures))
     ∙ ap (λ l. given_back l c.args.terminal c.args.name.now) c.self.view_is
 
 pub returns-then-holding-terminal : goal.returns-then-holding-terminal
@@ -31,9 +29,8 @@ returns-then-holding-terminal c =
     let m = c.self.inside.holdings in
     let unique = c.self.invariant.0.unique in
     let name = c.args.name.now in
-    let h = c.in-Some.holding in
     sym c.self.view_is
-    ∙ give_none (locks_of m) c.args.terminal name (get_other m unique name c.args.terminal h (sym (there m c.in-Some.index name h unique c.in-Some.ensures)) c.if-holding-terminal.true)
+    ∙ give_none (locks_of m) c.args.terminal name (get_other m unique name c.args.terminal c.in-Some.holding (sym (there m c.in-Some.index name c.in-Some.holding unique c.in-Some.ensures)) c.if-holding-terminal.true)
     ∙ ap (λ l. given_back l c.args.terminal name) c.self.view_is
 
 pub set_count-requires-clause-within : goal.set_count-requires-clause-within
@@ -53,33 +50,26 @@ invariant_of-self c =
 
 pub returns-then-holding-gt1 : goal.returns-then-holding-gt1
 returns-then-holding-gt1 c =
-    let unique = c.self.invariant.0.unique in
-    let name = c.args.name.now in
-    let h = c.in-Some.holding in
-    c.set_count.ensures.locks name h c.in-Some.ensures unique
-    ∙ less_is c.self.inside.holdings unique name c.args.terminal c.in-Some.index h c.in-Some.ensures c.if-holding-terminal.false c.if-holding-gt1.true
-    ∙ ap (λ l. given_back l c.args.terminal name) c.self.view_is
+    c.set_count.ensures.locks c.args.name.now c.in-Some.holding c.in-Some.ensures c.self.invariant.0.unique
+    ∙ less_is c.self.inside.holdings c.self.invariant.0.unique c.args.name.now c.args.terminal c.in-Some.index c.in-Some.holding c.in-Some.ensures c.if-holding-terminal.false c.if-holding-gt1.true
+    ∙ ap (λ l. given_back l c.args.terminal c.args.name.now) c.self.view_is
 
 pub let_go-requires-clause-within : goal.let_go-requires-clause-within
 let_go-requires-clause-within c = slice_get_within c.self.inside.holdings.entries c.in-Some.index (c.args.name.now, c.in-Some.holding) c.in-Some.ensures
 
 pub invariant_of-self-else-holding-gt1 : goal.invariant_of-self-else-holding-gt1
 invariant_of-self-else-holding-gt1 c =
-    let m = c.self.inside.holdings in
     let unique = c.self.invariant.0.unique in
     let name = c.args.name.now in
     let h = c.in-Some.holding in (
       c.let_go.ensures.kept,
       subst AreCounts
-          (sym (c.let_go.ensures.removed name h c.in-Some.ensures ∙ last_is m unique name c.args.terminal c.in-Some.index h c.in-Some.ensures c.if-holding-terminal.false c.if-holding-gt1.false))
-          (counts_given_back (locks_of m) c.args.terminal name c.self.invariant.1),
+          (sym (c.let_go.ensures.removed name h c.in-Some.ensures ∙ last_is c.self.inside.holdings unique name c.args.terminal c.in-Some.index h c.in-Some.ensures c.if-holding-terminal.false c.if-holding-gt1.false))
+          (counts_given_back (locks_of c.self.inside.holdings) c.args.terminal name c.self.invariant.1),
     )
 
 pub returns-else-holding-gt1 : goal.returns-else-holding-gt1
 returns-else-holding-gt1 c =
-    let unique = c.self.invariant.0.unique in
-    let name = c.args.name.now in
-    let h = c.in-Some.holding in
-    c.let_go.ensures.removed name h c.in-Some.ensures
-    ∙ last_is c.self.inside.holdings unique name c.args.terminal c.in-Some.index h c.in-Some.ensures c.if-holding-terminal.false c.if-holding-gt1.false
-    ∙ ap (λ l. given_back l c.args.terminal name) c.self.view_is
+    c.let_go.ensures.removed c.args.name.now c.in-Some.holding c.in-Some.ensures
+    ∙ last_is c.self.inside.holdings c.self.invariant.0.unique c.args.name.now c.args.terminal c.in-Some.index c.in-Some.holding c.in-Some.ensures c.if-holding-terminal.false c.if-holding-gt1.false
+    ∙ ap (λ l. given_back l c.args.terminal c.args.name.now) c.self.view_is

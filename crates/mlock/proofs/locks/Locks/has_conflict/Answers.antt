@@ -1,6 +1,5 @@
 -- SPDX-License-Identifier: Apache-2.0
-use Rattle.std.proofs.Common.{◌≡◌, subst}
-use Rattle.std.specs.Result.{IfOk}
+use Rattle.std.proofs.Common.{◌≡◌, subst, IfOk}
 use Rattle.mspec.specs.LockConflict.{held, has_conflict}
 use Rattle.mlock.proofs.locks.Locks.has_conflict.Goals as goal
 

@@ -1,6 +1,5 @@
 -- SPDX-License-Identifier: Apache-2.0
-use Rattle.std.proofs.Common.{ap, sym, subst, ◌∙◌}
-use Rattle.std.specs.Prelude.{unwrap_or}
+use Rattle.std.proofs.Common.{ap, sym, subst, ◌∙◌, unwrap_or}
 use Rattle.std.specs.Map.{lookup}
 use Rattle.mlock.specs.Holdings.{locks_in, AreCounts}
 use Rattle.mlock.specs.Tallies.{name_eq, no_names, tally_of, too_large}

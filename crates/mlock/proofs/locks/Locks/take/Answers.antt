@@ -1,9 +1,8 @@
 -- SPDX-License-Identifier: Apache-2.0
-use Rattle.std.proofs.Common.{◌≡◌, false, Some, None, cond, All, ap, sym, subst}
-use Rattle.std.specs.Result.{IfOk}
-use Rattle.std.proofs.lemmas.List.{take_all}
+use Rattle.std.proofs.Common.{◌≡◌, false, Some, None, cond, All, ap, sym, subst, IfOk, take_all}
+use Rattle.std.proofs.lemmas.List.Folds.{list_any_none}
 use Rattle.mspec.specs.LockConflict.{held, has_conflict, counted, taken}
-use Rattle.mlock.proofs.Conflicts.{any_none, free_of}
+use Rattle.mlock.proofs.Conflicts.{free_of}
 use Rattle.mlock.proofs.locks.Locks.take.Goals as goal
 
 pub count_all-requires : goal.count_all-requires
@@ -17,5 +16,5 @@ returns-clause-taken c =
     let t = c.args.terminal in
     let names = c.args.names.now in
     let none = subst (All (λ n. has_conflict l (held t n) ≡ false)) (take_all c.loop-name.name-index names c.loop-name-test.false) c.loop-name.invariant in
-    let same : counted l t names ≡ taken l t names = sym (ap (λ b. cond b None (counted l t names)) (any_none (λ n. has_conflict l (held t n)) names none)) in
+    let same : counted l t names ≡ taken l t names = sym (ap (λ b. cond b None (counted l t names)) (list_any_none (λ n. has_conflict l (held t n)) names none)) in
     subst (λ x. IfOk c.count_all.result (λ all. x ≡ cond all (Some c.count_all.new.self) None)) same c.count_all.ensures.counted

@@ -49,7 +49,7 @@ pub fn order_subs_ok(subs: &[Value]) -> bool
 }
 
 // The subscripts in front of the last one.
-pub fn front(subs: &[Value]) -> &[Value]
+pub(crate) fn front(subs: &[Value]) -> &[Value]
     requires { 0 < length subs.now }
     ensures { result.now ≡ front subs.now }
 {
@@ -57,7 +57,7 @@ pub fn front(subs: &[Value]) -> &[Value]
 }
 
 // The last subscript.
-pub fn last(subs: &[Value]) -> &Value
+pub(crate) fn last(subs: &[Value]) -> &Value
     requires { 0 < length subs.now }
     ensures { result.now ≡ last subs.now }
 {

@@ -1,16 +1,11 @@
 -- SPDX-License-Identifier: Apache-2.0
 -- Variables that have no text left.
-use Rattle.std.proofs.Common.{◌≡◌, ℕ, suc, Bool, true, false, not, cond, ◌&&◌, List, [], ◌∷◌, length, map, Option, Some, None, refl, sym, ap, ◌∙◌, arith}
-use Rattle.std.specs.Prelude.{is_none, nat_eq}
-use Rattle.std.specs.BTreeMap.{BTreeMap}
+use Rattle.std.proofs.Common.{◌≡◌, ℕ, suc, Bool, true, false, not, cond, ◌&&◌, List, [], ◌∷◌, length, map, Option, Some, None, refl, sym, ap, ◌∙◌, arith, is_none, nat_eq, BTreeMap, HashMap, Ordering, Less, Equal, Greater}
 use Rattle.std.specs.Cmp.Lexicographic.{slice_cmp, pointwise, texts_ties, nat_list_cmp_total}
 use Rattle.std.specs.FinMap.{get, insert, empty, entries, from_entries, retain_keys, entries-insert, len-empty, len-entries, get-remove, get-retain_keys, same_map}
 use Rattle.std.specs.FinMap.Entries.{by_order, put}
 use Rattle.std.specs.HashMap as hash
-use Rattle.std.specs.HashMap.{HashMap}
 use Rattle.std.specs.Ordering.{nat_cmp, eq_by_cmp}
-use Rattle.std.specs.declared.cmp.Ordering.{Ordering}
-use Rattle.std.specs.declared.cmp.Ordering.TheVariants.{Less, Equal, Greater}
 use Rattle.std.proofs.lemmas.Bool.Decides.{nat_tests}
 use Rattle.std.proofs.lemmas.Cmp.{eq_by_cmp_equiv}
 use Rattle.std.proofs.lemmas.Map.Entries.{length-keys_of}

@@ -1,12 +1,10 @@
 -- SPDX-License-Identifier: Apache-2.0
 -- The lists of subscripts between two bounds.
-use Rattle.std.proofs.Common.{◌≡◌, ℕ, ◌<◌, Bool, true, false, not, ◌&&◌, List, [], ◌∷◌, ◌++◌, length, drop, All, Option, Some, None, refl, sym, ap, ◌∙◌, arith, append_assoc, append-nil}
-use Rattle.std.specs.Prelude.{ℤ, slice_get, cond}
+use Rattle.std.proofs.Common.{◌≡◌, ℕ, ◌<◌, Bool, true, false, not, ◌&&◌, List, [], ◌∷◌, ◌++◌, length, drop, All, Option, Some, None, refl, sym, ap, ◌∙◌, arith, append_assoc, append-nil, ℤ, slice_get, cond, Ordering, Less, Equal, Greater}
+use Rattle.std.proofs.lemmas.Bool.{false_from_ne_true}
 use Rattle.std.specs.Cmp.Lexicographic.{slice_cmp, bytes_decides}
 use Rattle.std.specs.Fmt.{digits}
 use Rattle.std.specs.Ordering.{nat_cmp, is_lt, is_le, ordering_then, ordering_reverse}
-use Rattle.std.specs.declared.cmp.Ordering.{Ordering}
-use Rattle.std.specs.declared.cmp.Ordering.TheVariants.{Less, Equal, Greater}
 use Rattle.std.proofs.Math.Bool.{and-true}
 use Rattle.std.proofs.lemmas.Bool.Decides.{nat_tests}
 use Rattle.std.proofs.lemmas.Cmp.{tied_itself}
@@ -31,23 +29,25 @@ R = subscripts_cmp significant_digits
 -- ---- what two bounds begin with alike
 
 not_same : (x y : Text) (o : Ordering) → C x y ≡ o → (o ≡ Equal → ⊥) → text_eq x y ≡ false
-not_same x y o e other = here (text_eq x y) refl
-  where
-    here : (b : Bool) → text_eq x y ≡ b → b ≡ false
-    here false t = refl
-    here true t =
-        let same : x ≡ y = (bytes_decides x y).0 t in
-        absurd (other (sym e ∙ ap (C x) (sym same) ∙ tied_itself (text_cmp_total significant_digits) x))
+not_same x y o e other = false_from_ne_true (text_eq x y) (λ t. other (sym e ∙ ap (C x) (sym ((bytes_decides x y).0 t)) ∙ tied_itself (text_cmp_total significant_digits) x))
 
-step : (x y : Text) (o : Ordering) → C x y ≡ o → (a b : Ordering) (w i : Bool) → (is_lt a && not (is_le b)) ≡ (w && i) → (is_lt (ordering_then o a) && not (is_le (ordering_then o b))) ≡ ((text_eq x y && w) && i)
-step x y Less e a b w i h = ap (λ t. (t && w) && i) (sym (not_same x y Less e (λ n. cc)))
-step x y Equal e a b w i h = h ∙ ap (λ t. (t && w) && i) (sym ((bytes_decides x y).1 (text_cmp_exact significant_digits x y e)))
-step x y Greater e a b w i h = ap (λ t. (t && w) && i) (sym (not_same x y Greater e (λ n. cc)))
+-- by a test that says where a range starts: it passes what is less, and not what is greater
+module _ (starts : Ordering → Bool) (less : starts Less ≡ true) (greater : starts Greater ≡ false) where
+  step : (x y : Text) (o : Ordering) → C x y ≡ o → (a b : Ordering) (w i : Bool) → (starts a && not (is_le b)) ≡ (w && i) → (starts (ordering_then o a) && not (is_le (ordering_then o b))) ≡ ((text_eq x y && w) && i)
+  step x y Less e a b w i h = rw less (ap (λ t. (t && w) && i) (sym (not_same x y Less e (λ n. cc))))
+  step x y Equal e a b w i h = h ∙ ap (λ t. (t && w) && i) (sym ((bytes_decides x y).1 (text_cmp_exact significant_digits x y e)))
+  step x y Greater e a b w i h = rw greater (ap (λ t. (t && w) && i) (sym (not_same x y Greater e (λ n. cc))))
+
+  front : (xs low high ys : List Text) → (starts (R (xs ++ low) ys) && not (is_le (R (xs ++ high) ys))) ≡ (is_within xs ys && (starts (R low (drop (length xs) ys)) && not (is_le (R high (drop (length xs) ys)))))
+  front [] low high ys = refl
+  front (x ∷ xs) low high [] = rw greater refl
+  front (x ∷ xs) low high (y ∷ ys) = step x y (C x y) refl (R (xs ++ low) ys) (R (xs ++ high) ys) _ _ (front xs low high ys)
 
 between-front : (xs low high ys : List Text) → is_between (xs ++ low) (xs ++ high) ys ≡ (is_within xs ys && is_between low high (drop (length xs) ys))
-between-front [] low high ys = refl
-between-front (x ∷ xs) low high [] = refl
-between-front (x ∷ xs) low high (y ∷ ys) = step x y (C x y) refl (R (xs ++ low) ys) (R (xs ++ high) ys) _ _ (between-front xs low high ys)
+between-front = front is_lt refl refl
+
+from-front : (xs low high ys : List Text) → is_from (xs ++ low) (xs ++ high) ys ≡ (is_within xs ys && is_from low high (drop (length xs) ys))
+from-front = front is_le refl refl
 
 cmp-front : (k xs ys : List Text) → R (k ++ xs) (k ++ ys) ≡ R xs ys
 cmp-front [] xs ys = refl
@@ -141,16 +141,6 @@ below_before xs x ys =
     ∙ child-drop (λ c. is_before c x) xs ys
 
 -- ---- a node, and what stands below it
-
-within_step : (x y : Text) (o : Ordering) → C x y ≡ o → (a b : Ordering) (w i : Bool) → (is_le a && not (is_le b)) ≡ (w && i) → (is_le (ordering_then o a) && not (is_le (ordering_then o b))) ≡ ((text_eq x y && w) && i)
-within_step x y Less e a b w i h = ap (λ t. (t && w) && i) (sym (not_same x y Less e (λ n. cc)))
-within_step x y Equal e a b w i h = h ∙ ap (λ t. (t && w) && i) (sym ((bytes_decides x y).1 (text_cmp_exact significant_digits x y e)))
-within_step x y Greater e a b w i h = ap (λ t. (t && w) && i) (sym (not_same x y Greater e (λ n. cc)))
-
-from-front : (xs low high ys : List Text) → is_from (xs ++ low) (xs ++ high) ys ≡ (is_within xs ys && is_from low high (drop (length xs) ys))
-from-front [] low high ys = refl
-from-front (x ∷ xs) low high [] = refl
-from-front (x ∷ xs) low high (y ∷ ys) = within_step x y (C x y) refl (R (xs ++ low) ys) (R (xs ++ high) ys) _ _ (from-front xs low high ys)
 
 all_from : (d : List Text) → All IsSub d → is_from [] (beyond ∷ []) d ≡ true
 all_from [] all = refl

@@ -1,7 +1,7 @@
 -- SPDX-License-Identifier: Apache-2.0
 -- KILL of all but some names, from the bottom up.
-use Rattle.std.proofs.Common.{◌≡◌, ℕ, ◌+◌, ◌<◌, Bool, true, false, ◌||◌, List, [], ◌∷◌, ◌++◌, length, reverse, take, drop, get_or, set, refl, sym, ap, ◌∙◌, append_assoc, ◌≤◌, arith, add-one, subst}
-use Rattle.std.proofs.Math.Seq.{drop-cons}
+use Rattle.std.proofs.Common.{◌≡◌, ℕ, ◌+◌, ◌<◌, Bool, true, false, ◌||◌, List, [], ◌∷◌, ◌++◌, length, reverse, take, drop, get_or, set, refl, sym, ap, ◌∙◌, append_assoc, ◌≤◌, arith, add-one, subst, drop-cons}
+use Rattle.std.proofs.Math.Bool.{or-false}
 use Rattle.std.specs.List.{list_any}
 use Rattle.std.proofs.lemmas.List.{reverse-append, take-append-drop, take_more_set, drop-set-lt, drop_all, take-set, length-set}
 use Rattle.mspec.specs.Node.{Text}
@@ -13,12 +13,8 @@ or_assoc : (a b c : Bool) → ((a || b) || c) ≡ (a || (b || c))
 or_assoc true b c = refl
 or_assoc false b c = refl
 
-or_false : (a : Bool) → a ≡ (a || false)
-or_false true = refl
-or_false false = refl
-
 kill-append : (p : Text → Bool) (xs ys : Scopes) → killed_but p (xs ++ ys) ≡ killed_but p xs ++ killed_but (λ n. p n || list_any (has_name n) xs) ys
-kill-append p [] ys = λ i. killed_but (λ n. or_false (p n) i) ys
+kill-append p [] ys = λ i. killed_but (λ n. sym (or-false (p n)) i) ys
 kill-append p (s ∷ xs) ys = ap (λ l. emptied p s ∷ l) (kill-append (λ n. p n || has s n) xs ys ∙ (λ i. killed_but (λ n. p n || has s n) xs ++ killed_but (λ n. or_assoc (p n) (has s n) (list_any (has_name n) xs) i) ys))
 
 kill-reverse : (p : Text → Bool) (xs : List Scope) → killed_but p (reverse xs) ≡ reverse (killed_up p xs)

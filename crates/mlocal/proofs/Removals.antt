@@ -1,14 +1,10 @@
 -- SPDX-License-Identifier: Apache-2.0
 -- A variable without the keys of a node and of the nodes below it.
-use Rattle.std.proofs.Common.{◌≡◌, Bool, true, false, not, cond, ◌||◌, List, [], ◌∷◌, map, All, Option, Some, None, refl, sym, ap, ◌∙◌}
+use Rattle.std.proofs.Common.{◌≡◌, Bool, true, false, not, cond, ◌||◌, List, [], ◌∷◌, map, All, Option, Some, None, refl, sym, ap, ◌∙◌, BTreeMap, filter, is_eq, Ordering, Less, Equal, Greater}
+use Rattle.std.proofs.Math.Bool.{or-true}
 use Rattle.std.specs.BTreeMap as tree
-use Rattle.std.specs.BTreeMap.{BTreeMap}
 use Rattle.std.specs.FinMap.{same_map}
-use Rattle.std.specs.List.{filter}
 use Rattle.std.specs.Map.{lookup, keys_of}
-use Rattle.std.specs.Ordering.{is_eq}
-use Rattle.std.specs.declared.cmp.Ordering.{Ordering}
-use Rattle.std.specs.declared.cmp.Ordering.TheVariants.{Less, Equal, Greater}
 use Rattle.std.proofs.lemmas.Cmp.{tied_itself}
 use Rattle.std.proofs.lemmas.List.Elements.{All-head, All-tail}
 use Rattle.mspec.specs.Maps.{map_of}
@@ -66,12 +62,8 @@ module _ (p : List Text → Bool) (q : List Text) where
   is_taken passes [] x e = cc
   is_taken passes (e ∷ es) x found = here (is_eq (R q e.0)) refl found (is_taken passes es x)
     where
-      or_true : (b : Bool) → (b || true) ≡ true
-      or_true true = refl
-      or_true false = refl
-
       later : (b : Bool) → is_one_of (taken p es) q ≡ true → is_one_of (map (λ e. e.0) (cond b (e ∷ filter (λ e. p e.0) es) (filter (λ e. p e.0) es))) q ≡ true
-      later true rest = ap (λ t. is_eq (R e.0 q) || t) rest ∙ or_true (is_eq (R e.0 q))
+      later true rest = ap (λ t. is_eq (R e.0 q) || t) rest ∙ or-true (is_eq (R e.0 q))
       later false rest = rest
 
       here : (b : Bool) → is_eq (R q e.0) ≡ b → cond b (Some e.1) (lookup (λ k. is_eq (R q k)) es) ≡ Some x → (lookup (λ k. is_eq (R q k)) es ≡ Some x → is_one_of (taken p es) q ≡ true)

@@ -1,10 +1,10 @@
 -- SPDX-License-Identifier: Apache-2.0
 -- The scope where a name lives, by its place.
-use Rattle.std.proofs.Common.{◌≡◌, ℕ, ◌+◌, ◌<◌, Bool, true, false, cond, ◌||◌, List, [], ◌∷◌, ◌++◌, length, reverse, take, drop, get_or, set, Some, None, refl, sym, ap, ◌∙◌, append_assoc, add-one, arith}
+use Rattle.std.proofs.Common.{◌≡◌, ℕ, ◌+◌, ◌<◌, Bool, true, false, cond, ◌||◌, List, [], ◌∷◌, ◌++◌, length, reverse, take, drop, get_or, set, Some, None, refl, sym, ap, ◌∙◌, append_assoc, add-one, arith, drop-cons}
+use Rattle.std.proofs.Math.Bool.{or-true}
 use Rattle.std.specs.List.{list_any}
 use Rattle.std.proofs.lemmas.List.{reverse-append, take-append-drop, set_split, drop_all}
 use Rattle.std.proofs.lemmas.List.Folds.{list_any-append}
-use Rattle.std.proofs.Math.Seq.{drop-cons}
 use Rattle.mspec.specs.Node.{Text}
 use Rattle.mspec.specs.Scopes.{Scope, Scopes, has, is_among, is_other, tree_in, tree_of, at_home, on_top, common}
 use Rattle.mlocal.specs.Home.{has_name, IsHome}
@@ -66,13 +66,9 @@ home-at f n xs bs i d w h e =
     ∙ home-past f n (reverse (drop (i + 1) xs)) (get_or xs i d ∷ (reverse (take i xs) ++ bs)) (any-reverse _ (drop (i + 1) xs) ∙ h.2)
     ∙ ap (λ l. reverse (drop (i + 1) xs) ++ l) (here (has (get_or xs i d) n) _ _ (h.1 d)))
 
-or_true : (a : Bool) → (a || true) ≡ true
-or_true true = refl
-or_true false = refl
-
 -- the scope at the bottom has every name
 bottom_has : (b : Scope) (n : Text) → b.others ≡ Some [] → has b n ≡ true
-bottom_has b n e = ap (λ o. is_among b.names n || is_other o n) e ∙ or_true (is_among b.names n)
+bottom_has b n e = ap (λ o. is_among b.names n || is_other o n) e ∙ or-true (is_among b.names n)
 
 pub tree-bottom : (n : Text) (xs : List Scope) (b : Scope) → b.others ≡ Some [] → IsHome n xs None → tree_of (reverse xs ++ b ∷ []) n ≡ tree_in b n
 tree-bottom n xs b e h = tree-past n (reverse xs) (b ∷ []) (any-reverse _ xs ∙ h) ∙ here (has b n) _ _ (bottom_has b n e)

@@ -1,7 +1,6 @@
 -- SPDX-License-Identifier: Apache-2.0
 -- What a search in the map of a variable finds of its tree.
-use Rattle.std.proofs.Common.{◌≡◌, Bool, false, List, [], ◌++◌, reverse, All, Option, sym, ap, ◌∙◌}
-use Rattle.std.specs.Prelude.{option_and_then, is_some}
+use Rattle.std.proofs.Common.{◌≡◌, Bool, false, List, [], ◌++◌, reverse, All, Option, sym, ap, ◌∙◌, option_and_then, is_some}
 use Rattle.std.specs.BTreeMap as tree
 use Rattle.std.specs.BTreeMap.{BTreeMap, IsOrdered}
 use Rattle.std.specs.FinMap as map

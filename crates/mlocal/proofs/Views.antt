@@ -1,21 +1,13 @@
 -- SPDX-License-Identifier: Apache-2.0
 -- Scopes of the code as scopes of the definitions.
-use Rattle.std.proofs.Common.{◌≡◌, Bool, true, false, cond, ◌||◌, Option, Some, None, List, [], ◌∷◌, Bor, Result, Ok, Err, map, refl, sym, ap, subst, ◌∙◌}
-use Rattle.std.specs.Prelude.{option_map, unwrap_or, nat_eq}
-use Rattle.std.specs.Option.{option_copied}
-use Rattle.std.specs.Result.{IfOk, OnOk, OnErr}
+use Rattle.std.proofs.Common.{◌≡◌, Bool, true, false, cond, ◌||◌, Option, Some, None, List, [], ◌∷◌, Bor, Result, Ok, Err, map, refl, sym, ap, subst, ◌∙◌, option_map, unwrap_or, nat_eq, option_copied, IfOk, OnOk, OnErr, HashMap, filter, nat_cmp, Ordering, Equal, subst₂}
 use Rattle.std.specs.Map.{lookup, set_value}
 use Rattle.std.specs.HashMap as hash
-use Rattle.std.specs.HashMap.{HashMap}
 use Rattle.std.specs.Cmp.Lexicographic.{slice_cmp, pointwise, texts_ties, nat_list_cmp_total}
-use Rattle.std.specs.FinMap.{IsAntisymmetric, from_entries, empty, retain_keys, same_map, get-from_entries, get-retain_keys, nat_cmp-IsAntisymmetric, slice_cmp-IsAntisymmetric}
+use Rattle.std.specs.FinMap.{IsAntisymmetric, from_entries, empty, retain_keys, same_map, get-from_entries, get-retain_keys, nat_cmp-IsAntisymmetric, slice_cmp-IsAntisymmetric, insert}
 use Rattle.std.specs.FinMap.Entries.{where_key, find-where_key}
 use Rattle.std.specs.Cmp.{IsTotalOrder}
-use Rattle.std.specs.List.{filter}
 use Rattle.std.specs.Map.Calls.{RetainsPairs}
-use Rattle.std.specs.Ordering.{nat_cmp}
-use Rattle.std.specs.declared.cmp.Ordering.{Ordering}
-use Rattle.std.specs.declared.cmp.Ordering.TheVariants.{Equal}
 use Rattle.std.proofs.lemmas.Map.Entries.{filter_from_retain_pairs}
 use Rattle.std.proofs.lemmas.Map.Steps.{set_value_same}
 use Rattle.mspec.specs.Maps.{hash_map_of}
@@ -62,8 +54,21 @@ module _ {S : Type 0} (ns : List Text) (o : Option (List Text)) (m : HashMap Tex
   pub tree_is : (n : Text) (r : Option Tree) → r ≡ hash.get (pointwise nat_eq) m n → unwrap_or r empty ≡ tree_in (scope_of ns o m) n
   tree_is n r e = ap (λ q. unwrap_or q empty) (e ∙ hash_found_is_had nat_list_cmp_total (pointwise nat_eq) texts_ties m n)
 
+  pub tree_seen : (n : Text) (r : Option Tree) → r ≡ hash.get (pointwise nat_eq) m n → (s : Scope) → scope_of ns o m ≡ s → unwrap_or r empty ≡ tree_in s n
+  tree_seen n r e s seen = tree_is n r e ∙ ap (λ s. tree_in s n) seen
+
   pub tree_put : (m' : HashMap Text Tree S) (n : Text) (t : Tree) → hash.Updates (pointwise nat_eq) m m' n (Some t) → scope_of ns o m' ≡ with_tree n t (scope_of ns o m)
   tree_put m' n t u = ap (λ ts. record { names = ns; others = o; trees = ts }) (insert-hash_map_of nat_list_cmp_total (pointwise nat_eq) texts_ties (λ t. t) names_exact m m' n t u)
+
+  -- a value that a node was given, in a tree that was there or is new
+  pub put_at : (m' : HashMap Text Tree S) (n : Text) (k : List Text) (v : Text) (t w : Tree) (r : Option Tree) → hash.Updates (pointwise nat_eq) m m' n (Some w) → w ≡ insert t k v → r ≡ hash.get (pointwise nat_eq) m n → t ≡ unwrap_or r empty
+      → (s : Scope) → scope_of ns o m ≡ s → scope_of ns o m' ≡ with_tree n (insert (tree_in s n) k v) s
+  put_at m' n k v t w r u is found was s seen =
+      tree_put m' n w u ∙ ap (λ t. with_tree n t (scope_of ns o m)) (is ∙ ap (λ t. insert t k v) (was ∙ tree_is n r found)) ∙ ap (λ s. with_tree n (insert (tree_in s n) k v) s) seen
+
+  pub put_new : (m0 m' : HashMap Text Tree S) (j n : Text) (k : List Text) (v : Text) (t w : Tree) → hash.Updates (pointwise nat_eq) m0 m' j (Some w) → m0 ≡ m → j ≡ n → w ≡ insert t k v → t ≡ empty → None ≡ hash.get (pointwise nat_eq) m n
+      → (s : Scope) → scope_of ns o m ≡ s → scope_of ns o m' ≡ with_tree n (insert (tree_in s n) k v) s
+  put_new m0 m' j n k v t w u same name is new none s seen = put_at m' n k v t w None (subst₂ (λ x y. hash.Updates (pointwise nat_eq) x m' y (Some w)) same name u) is none new s seen
 
   -- what was there is written back
   pub tree_kept : (m' : HashMap Text Tree S) (test : Text → Bool) (t v : Tree) → m'.entries ≡ set_value test m.entries t → t ≡ v → lookup test m.entries ≡ Some v → scope_of ns o m' ≡ scope_of ns o m

@@ -1,7 +1,7 @@
 -- SPDX-License-Identifier: Apache-2.0
 -- The first and the last of the nodes that a test takes, as what $DATA and $ORDER ask.
-use Rattle.std.proofs.Common.{◌≡◌, Bool, true, false, not, ◌&&◌, ◌||◌, cond, List, [], ◌∷◌, ◌++◌, map, reverse, All, Option, Some, None, refl, sym, ap, ◌∙◌, subst}
-use Rattle.std.specs.Prelude.{slice_get, option_and_then, option_map, is_some, T}
+use Rattle.std.proofs.Common.{◌≡◌, Bool, true, false, not, ◌&&◌, ◌||◌, cond, List, [], ◌∷◌, ◌++◌, map, reverse, All, Option, Some, None, refl, sym, ap, ◌∙◌, subst, slice_get, option_and_then, option_map, is_some, T, is_lt, is_le, Ordering, Less, Equal, Greater}
+use Rattle.std.proofs.lemmas.Bool.{and_right}
 use Rattle.std.specs.BTreeMap as tree
 use Rattle.std.specs.BTreeMap.{BTreeMap, IsOrdered}
 use Rattle.std.specs.Cmp.{IsTotalOrder}
@@ -12,9 +12,6 @@ use Rattle.std.specs.List.{list_any, find, filter, flat_map}
 use Rattle.std.specs.List.Sorted.{IsStrictlySortedBy}
 use Rattle.std.specs.Map.{keys_of}
 use Rattle.std.specs.Option.{option_to_list, option_or}
-use Rattle.std.specs.Ordering.{is_lt, is_le}
-use Rattle.std.specs.declared.cmp.Ordering.{Ordering}
-use Rattle.std.specs.declared.cmp.Ordering.TheVariants.{Less, Equal, Greater}
 use Rattle.std.proofs.lemmas.List.{reverse-append, map-id}
 use Rattle.std.proofs.lemmas.List.Folds.{find-append}
 use Rattle.std.proofs.lemmas.Map.Keys.{sorted_tail}
@@ -25,7 +22,7 @@ use Rattle.mspec.specs.Node.{Text}
 use Rattle.mspec.specs.NodeOrder.{subscripts_cmp}
 use Rattle.mspec.specs.Number.{significant_digits}
 use Rattle.mspec.specs.Trees as trees
-use Rattle.mspec.specs.Trees.{Tree, is_within, is_below, child_of, children, order_of, is_before, is_empty, front, last, AreOrderSubscripts, has_value, has_descendants}
+use Rattle.mspec.specs.Trees.{Tree, is_below, child_of, order_of, is_before, is_empty, has_value, has_descendants}
 use Rattle.mspec.proofs.NodeOrders.{subscripts_cmp_total}
 use Rattle.mkey.specs.Front.{AreSubs}
 use Rattle.mkey.specs.SubsKey.{behind_below}
@@ -160,11 +157,7 @@ passed (Some c) e = cc
 -- what stands at the end of those below a list or behind it is not below it
 past_below : (xs k : List Text) → AreSubs k → not (is_le (R (behind_below xs) k)) ≡ false → child_of xs k ≡ None
 past_below xs k subs e =
-    passed (child_of xs k) (sym (each_below (λ c. true) (λ s sub. refl) xs k subs) ∙ ap (λ b. is_lt (R xs k) && b) e ∙ and_no (is_lt (R xs k)))
-  where
-    and_no : (b : Bool) → (b && false) ≡ false
-    and_no true = refl
-    and_no false = refl
+    passed (child_of xs k) (sym (each_below (λ c. true) (λ s sub. refl) xs k subs) ∙ ap (λ b. is_lt (R xs k) && b) e ∙ and_right (is_lt (R xs k)) false refl)
 
 later : (h k q : List Text) → not (is_le (R h k)) ≡ false → R k q ≡ Less → not (is_le (R h q)) ≡ false
 later h k q e less = by_order (R h k) refl e

@@ -18,7 +18,7 @@ use std::marker::Model;
 // The scope of a level. It takes memory from the level's first NEW on: most levels have none, and to open and to close one costs
 // next to nothing. Contracts see it as the scope.
 #[derive(Drop)]
-pub struct Level {
+pub(crate) struct Level {
     scope: Option<Box<Scope>>,
 }
 
@@ -36,14 +36,14 @@ impl Model for Level {
 
 impl Level {
     // A scope that has no name. Takes no memory.
-    pub fn new() -> Level
+    pub(crate) fn new() -> Level
         ensures { result ≡ entered }
     {
         Level { scope: None }
     }
 
     // Whether it has the name by itself.
-    pub fn has(&self, name: &Name) -> bool
+    pub(crate) fn has(&self, name: &Name) -> bool
         ensures { result ≡ has self.now name.now }
     {
         match &self.scope {
@@ -53,7 +53,7 @@ impl Level {
     }
 
     // The scope, to read from.
-    pub fn scope(&self) -> &Scope
+    pub(crate) fn scope(&self) -> &Scope
         requires { self.now ≢ entered }
         ensures { result.now ≡ self.now }
     {
@@ -64,7 +64,7 @@ impl Level {
     }
 
     // Gives a node a value. For want of memory the scope is as it was.
-    pub fn set(
+    pub(crate) fn set(
         &mut self,
         alloc: Global,
         name: &Name,
@@ -83,7 +83,12 @@ impl Level {
     }
 
     // Gives a variable without subscripts a value. For want of memory the scope is as it was.
-    pub fn set_own(&mut self, alloc: Global, name: &Name, value: Value) -> Result<(), AllocError>
+    pub(crate) fn set_own(
+        &mut self,
+        alloc: Global,
+        name: &Name,
+        value: Value,
+    ) -> Result<(), AllocError>
         requires { self.old ≢ entered }
         ensures ok { OnOk result (self.new ≡ with_tree name.now (insert (tree_in self.old name.now) [] value) self.old) }
         ensures err { OnErr result (self.new ≡ self.old) }
@@ -96,7 +101,7 @@ impl Level {
 
     // Takes the texts of a node and of the nodes below it away, where `end` is the bound behind them. For want of memory the scope
     // is as it was.
-    pub fn kill(
+    pub(crate) fn kill(
         &mut self,
         alloc: Global,
         name: &Name,
@@ -116,7 +121,7 @@ impl Level {
 
     // Takes the texts of all names away but these and those that a level above has. Takes no memory.
     #[tactic(auto, using(crate::proofs::Levels::none_emptied))]
-    pub fn keep_spared(&mut self, names: &[Name], above: &[Level])
+    pub(crate) fn keep_spared(&mut self, names: &[Name], above: &[Level])
         ensures { self.new ≡ emptied (λ n. is_among names.now n || list_any (has_name n) above.now) self.old }
     {
         if let Some(scope) = &mut self.scope {
@@ -125,7 +130,7 @@ impl Level {
     }
 
     // Has these names too, with empty trees. For want of memory the scope is as it was.
-    pub fn hide(&mut self, alloc: Global, names: &[Name]) -> Result<(), AllocError>
+    pub(crate) fn hide(&mut self, alloc: Global, names: &[Name]) -> Result<(), AllocError>
         ensures ok { OnOk result (self.new ≡ hide names.now self.old) }
         ensures err { OnErr result (self.new ≡ self.old) }
     {
@@ -140,7 +145,7 @@ impl Level {
 
     // Has all names but these, and of these those that it had. The trees of the others are empty. For want of memory the scope is as
     // it was.
-    pub fn hide_others(&mut self, alloc: Global, names: Vec<Name>) -> Result<(), AllocError>
+    pub(crate) fn hide_others(&mut self, alloc: Global, names: Vec<Name>) -> Result<(), AllocError>
         ensures ok { OnOk result (self.new ≡ hide_others names.items self.old) }
         ensures err { OnErr result (self.new ≡ self.old) }
     {
@@ -172,7 +177,7 @@ fn any_has(levels: &[Level], name: &Name) -> bool
 }
 
 // Whether a name is one of these, or a level above has it.
-pub fn is_spared(names: &[Name], above: &[Level], name: &Name) -> bool
+pub(crate) fn is_spared(names: &[Name], above: &[Level], name: &Name) -> bool
     ensures { result ≡ (is_among names.now name.now || list_any (has_name name.now) above.now) }
 {
     is_among(name, names) || any_has(above, name)

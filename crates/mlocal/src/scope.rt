@@ -26,7 +26,7 @@ use std::marker::Model;
 // The names that NEW gave a scope, the names that it has not where it has all but some, and its variables by their names.
 // Contracts see it as the scope of the definitions.
 #[derive(Drop)]
-pub struct Scope {
+pub(crate) struct Scope {
     names: Vec<Name>,
     others: Option<Vec<Name>>,
     trees: HashMap<Name, Variable>,
@@ -46,7 +46,7 @@ impl Model for Scope {
 }
 
 // Whether a name is one of these.
-pub fn is_among(name: &Name, names: &[Name]) -> bool
+pub(crate) fn is_among(name: &Name, names: &[Name]) -> bool
     ensures { result ≡ is_among names.now name.now }
 {
     names.iter().any(|n| name == n)
@@ -54,7 +54,7 @@ pub fn is_among(name: &Name, names: &[Name]) -> bool
 
 impl Scope {
     // A scope that has no name. Takes no memory.
-    pub fn new(alloc: Global) -> Scope
+    pub(crate) fn new(alloc: Global) -> Scope
         ensures { result ≡ entered }
     {
         Scope {
@@ -65,7 +65,7 @@ impl Scope {
     }
 
     // The scope of a new session, which has every name. Takes no memory.
-    pub fn bottom(alloc: Global) -> Scope
+    pub(crate) fn bottom(alloc: Global) -> Scope
         ensures { result ≡ bottom }
     {
         Scope {
@@ -77,7 +77,7 @@ impl Scope {
 
     // Whether it has the name by itself. Not drawn in, so that the walk over levels, most of which have no name, stays short.
     #[inline(never)]
-    pub fn has(&self, name: &Name) -> bool
+    pub(crate) fn has(&self, name: &Name) -> bool
         ensures { result ≡ has self.now name.now }
     {
         if is_among(name, self.names.as_slice()) {
@@ -90,7 +90,7 @@ impl Scope {
     }
 
     // The value of a variable without subscripts.
-    pub fn own(&self, name: &Name) -> Option<&Value>
+    pub(crate) fn own(&self, name: &Name) -> Option<&Value>
         ensures { option_map (λ value. value.now) result ≡ get (tree_in self.now name.now) [] }
     {
         match self.trees.get(name) {
@@ -100,7 +100,7 @@ impl Scope {
     }
 
     // The value at a node.
-    pub fn get(&self, name: &Name, key: &SubsKey) -> Option<&Value>
+    pub(crate) fn get(&self, name: &Name, key: &SubsKey) -> Option<&Value>
         ensures { option_map (λ value. value.now) result ≡ get (tree_in self.now name.now) key.now }
     {
         match self.trees.get(name) {
@@ -110,7 +110,12 @@ impl Scope {
     }
 
     // Whether a node has a text, and whether a node below it has one.
-    pub fn data(&self, alloc: Global, name: &Name, subs: &[Value]) -> Result<Data, AllocError>
+    pub(crate) fn data(
+        &self,
+        alloc: Global,
+        name: &Name,
+        subs: &[Value],
+    ) -> Result<Data, AllocError>
         requires { AreSubscripts subs.now }
         ensures value { IfOk result (λ found. found.value ≡ has_value (tree_in self.now name.now) subs.now) }
         ensures descendants { IfOk result (λ found. found.descendants ≡ has_descendants (tree_in self.now name.now) subs.now) }
@@ -125,7 +130,7 @@ impl Scope {
     }
 
     // The subscript next to the last of these, of those below which there is a text.
-    pub fn order(
+    pub(crate) fn order(
         &self,
         alloc: Global,
         name: &Name,
@@ -142,7 +147,7 @@ impl Scope {
     }
 
     // Gives a node a value. For want of memory the scope is as it was.
-    pub fn set(
+    pub(crate) fn set(
         &mut self,
         alloc: Global,
         name: &Name,
@@ -166,7 +171,12 @@ impl Scope {
     }
 
     // Gives a variable without subscripts a value. For want of memory the scope is as it was.
-    pub fn set_own(&mut self, alloc: Global, name: &Name, value: Value) -> Result<(), AllocError>
+    pub(crate) fn set_own(
+        &mut self,
+        alloc: Global,
+        name: &Name,
+        value: Value,
+    ) -> Result<(), AllocError>
         ensures ok { OnOk result (self.new ≡ with_tree name.now (insert (tree_in self.old name.now) [] value) self.old) }
         ensures err { OnErr result (self.new ≡ self.old) }
         ensures others { self.new.others ≡ self.old.others }
@@ -187,7 +197,7 @@ impl Scope {
 
     // Takes the texts of a node and of the nodes below it away, where `end` is the bound behind them, and lets go of the name if no
     // text is left. For want of memory the scope is as it was.
-    pub fn kill(
+    pub(crate) fn kill(
         &mut self,
         alloc: Global,
         name: &Name,
@@ -226,7 +236,7 @@ impl Scope {
     }
 
     // Takes the texts of all names away but these and those that a level above has. Takes no memory.
-    pub fn keep_spared(&mut self, names: &[Name], above: &[Level])
+    pub(crate) fn keep_spared(&mut self, names: &[Name], above: &[Level])
         ensures { self.new ≡ emptied (λ n. is_among names.now n || list_any (has_name n) above.now) self.old }
     {
         self.trees.retain(
@@ -250,7 +260,7 @@ impl Scope {
     }
 
     // Has these names too, with empty trees. For want of memory the scope is as it was.
-    pub fn hide(&mut self, alloc: Global, names: &[Name]) -> Result<(), AllocError>
+    pub(crate) fn hide(&mut self, alloc: Global, names: &[Name]) -> Result<(), AllocError>
         ensures ok { OnOk result (self.new ≡ hide names.now self.old) }
         ensures err { OnErr result (self.new ≡ self.old) }
         ensures others { self.new.others ≡ self.old.others }
@@ -262,7 +272,7 @@ impl Scope {
     }
 
     // Has all names but these, and of these those that it had. The trees of the others are empty.
-    pub fn hide_others(&mut self, names: Vec<Name>)
+    pub(crate) fn hide_others(&mut self, names: Vec<Name>)
         ensures { self.new ≡ hide_others names.items self.old }
     {
         keep_names(&mut self.trees, names.as_slice());

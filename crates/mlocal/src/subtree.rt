@@ -16,7 +16,7 @@ use std::collections::BTreeMap;
 use std::ops::Bound;
 
 // Copies of the keys that stand at one, or behind it and before another.
-pub fn keys_from(
+pub(crate) fn keys_from(
     alloc: Global,
     values: &BTreeMap<SubsKey, Value>,
     low: &SubsKey,
@@ -34,7 +34,7 @@ pub fn keys_from(
 }
 
 // Takes out what stands at these keys. Takes no memory.
-pub fn remove_all(values: &mut BTreeMap<SubsKey, Value>, found: &[SubsKey])
+pub(crate) fn remove_all(values: &mut BTreeMap<SubsKey, Value>, found: &[SubsKey])
     ensures taken { (q : _) → get (subscripts_cmp significant_digits) values.new q ≡ cond (is_one_of found.now q) None (get (subscripts_cmp significant_digits) values.old q) }
     ensures subs { All AreSomeSubs (keys values.old) → All AreSomeSubs (keys values.new) }
 {

@@ -26,7 +26,7 @@ use std::ops::Bound;
 
 // The values at the nodes of a variable. Contracts see it as the tree of their texts.
 #[derive(Drop)]
-pub struct Variable {
+pub(crate) struct Variable {
     // its own value; most variables have no other
     own: Option<Value>,
     // the values at nodes with subscripts, by these
@@ -53,7 +53,7 @@ impl Model for Variable {
 
 impl Variable {
     // A variable without a text, which takes no memory.
-    pub fn new(alloc: Global) -> Variable
+    pub(crate) fn new(alloc: Global) -> Variable
         ensures { result ≡ empty }
     {
         Variable {
@@ -63,14 +63,14 @@ impl Variable {
     }
 
     // Its own value.
-    pub fn own(&self) -> Option<&Value>
+    pub(crate) fn own(&self) -> Option<&Value>
         ensures { option_map (λ value. value.now) result ≡ get self.now [] }
     {
         self.own.as_ref()
     }
 
     // The value at a node.
-    pub fn get(&self, key: &SubsKey) -> Option<&Value>
+    pub(crate) fn get(&self, key: &SubsKey) -> Option<&Value>
         ensures { option_map (λ value. value.now) result ≡ get self.now key.now }
     {
         if key.is_empty() {
@@ -80,21 +80,21 @@ impl Variable {
     }
 
     // Whether it has no text.
-    pub fn is_bare(&self) -> bool
+    pub(crate) fn is_bare(&self) -> bool
         ensures { result ≡ is_bare self.now }
     {
         self.own.is_none() && self.values.is_empty()
     }
 
     // Gives it a value of its own.
-    pub fn set_own(&mut self, value: Value)
+    pub(crate) fn set_own(&mut self, value: Value)
         ensures { self.new ≡ insert self.old [] value }
     {
         self.own = Some(value);
     }
 
     // Gives a node a value. For want of memory the variable is as it was.
-    pub fn set(&mut self, key: SubsKey, value: Value) -> Result<(), AllocError>
+    pub(crate) fn set(&mut self, key: SubsKey, value: Value) -> Result<(), AllocError>
         requires { AreSubs key }
         ensures ok { OnOk result (self.new ≡ insert self.old key value) }
         ensures err { OnErr result (self.new ≡ self.old) }
@@ -109,7 +109,12 @@ impl Variable {
 
     // Takes the texts of a node and of the nodes below it away, where `end` is the bound behind them. It looks at no other node.
     // For want of memory the variable is as it was.
-    pub fn kill(&mut self, alloc: Global, key: &SubsKey, end: &SubsKey) -> Result<(), AllocError>
+    pub(crate) fn kill(
+        &mut self,
+        alloc: Global,
+        key: &SubsKey,
+        end: &SubsKey,
+    ) -> Result<(), AllocError>
         requires { end.now ≡ behind_below key.now }
         ensures ok { OnOk result (self.new ≡ without self.old key.now) }
         ensures err { OnErr result (self.new ≡ self.old) }
@@ -125,7 +130,7 @@ impl Variable {
     }
 
     // Whether a node has a text, and whether a node below it has one.
-    pub fn data(&self, alloc: Global, subs: &[Value]) -> Result<Data, AllocError>
+    pub(crate) fn data(&self, alloc: Global, subs: &[Value]) -> Result<Data, AllocError>
         requires { AreSubscripts subs.now }
         ensures value { IfOk result (λ found. found.value ≡ has_value self.now subs.now) }
         ensures descendants { IfOk result (λ found. found.descendants ≡ has_descendants self.now subs.now) }
@@ -139,7 +144,7 @@ impl Variable {
     }
 
     // The subscript next to the last of these, of those below which there is a text.
-    pub fn order(
+    pub(crate) fn order(
         &self,
         alloc: Global,
         subs: &[Value],

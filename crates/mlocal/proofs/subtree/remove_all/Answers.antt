@@ -1,8 +1,7 @@
 -- SPDX-License-Identifier: Apache-2.0
-use Rattle.std.proofs.Common.{cond, None, ◌||◌, All, take, ap, sym, subst, ◌∙◌}
+use Rattle.std.proofs.Common.{cond, None, ◌||◌, All, take, ap, sym, subst, ◌∙◌, is_eq}
 use Rattle.std.specs.BTreeMap.{get}
 use Rattle.std.specs.Map.{keys_of}
-use Rattle.std.specs.Ordering.{is_eq}
 use Rattle.std.proofs.lemmas.List.Folds.{list_any_more}
 use Rattle.std.proofs.lemmas.Map.Views.{All-map-remove_entry}
 use Rattle.mspec.specs.NodeOrder.{subscripts_cmp}

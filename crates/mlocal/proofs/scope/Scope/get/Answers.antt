@@ -1,19 +1,13 @@
 -- SPDX-License-Identifier: Apache-2.0
 use Rattle.std.proofs.Common.{ap, sym, ◌∙◌}
-use Rattle.std.specs.Prelude.{option_map}
 use Rattle.std.specs.FinMap.{get, get-empty}
 use Rattle.mspec.specs.NodeOrder.{subscripts_cmp}
 use Rattle.mspec.specs.Number.{significant_digits}
-use Rattle.mspec.specs.Scopes.{tree_in}
-use Rattle.mlocal.proofs.Views.{tree_is}
+use Rattle.mlocal.proofs.Views.{tree_seen}
 use Rattle.mlocal.proofs.scope.Scope.get.Goals as goal
 
 pub returns-in-None : goal.returns-in-None
-returns-in-None c =
-    sym (get-empty (subscripts_cmp significant_digits) c.args.key.now)
-    ∙ ap (λ t. get t c.args.key.now) (tree_is c.self.inside.names.items (option_map (λ names. names.items) c.self.inside.others) c.self.inside.trees c.args.name.now _ c.in-None.ensures.value ∙ ap (λ s. tree_in s c.args.name.now) c.self.view_is)
+returns-in-None c = sym (get-empty (subscripts_cmp significant_digits) c.args.key.now) ∙ ap (λ t. get t c.args.key.now) (tree_seen _ _ c.self.inside.trees c.args.name.now _ c.in-None.ensures.value _ c.self.view_is)
 
 pub returns-in-Some : goal.returns-in-Some
-returns-in-Some c =
-    c.get-in-Some.ensures
-    ∙ ap (λ t. get t c.args.key.now) (tree_is c.self.inside.names.items (option_map (λ names. names.items) c.self.inside.others) c.self.inside.trees c.args.name.now _ c.in-Some.ensures.value ∙ ap (λ s. tree_in s c.args.name.now) c.self.view_is)
+returns-in-Some c = c.get-in-Some.ensures ∙ ap (λ t. get t c.args.key.now) (tree_seen _ _ c.self.inside.trees c.args.name.now _ c.in-Some.ensures.value _ c.self.view_is)

@@ -1,20 +1,17 @@
 -- SPDX-License-Identifier: Apache-2.0
-use Rattle.std.proofs.Common.{false, ap, sym, not, ◌∙◌}
-use Rattle.std.specs.Prelude.{option_map}
+use Rattle.std.proofs.Common.{false, ap, sym, not, ◌∙◌, option_map}
 use Rattle.mspec.specs.Scopes.{has, is_among, is_other}
 use Rattle.mlocal.proofs.Views.{yes_or, no_or}
 use Rattle.mlocal.proofs.scope.Scope.has.Goals as goal
 
 pub returns-then-is_among : goal.returns-then-is_among
 returns-then-is_among c =
-    let n = c.args.name.now in
-    yes_or _ _ (ap (λ l. is_among l n) (sym c.as_slice.ensures.value) ∙ sym c.is_among.ensures ∙ c.if-is_among.true) ∙ ap (λ s. has s n) c.self.view_is
+    yes_or _ _ (ap (λ l. is_among l c.args.name.now) (sym c.as_slice.ensures.value) ∙ sym c.is_among.ensures ∙ c.if-is_among.true) ∙ ap (λ s. has s c.args.name.now) c.self.view_is
 
 pub returns-in-None : goal.returns-in-None
 returns-in-None c =
-    let n = c.args.name.now in
-    no_or _ _ false (ap (λ l. is_among l n) (sym c.as_slice.ensures.value) ∙ sym c.is_among.ensures ∙ c.if-is_among.false)
-    (ap (λ o. is_other (option_map (λ names. names.items) o) n) (sym c.in-None.is)) ∙ ap (λ s. has s n) c.self.view_is
+    no_or _ _ false (ap (λ l. is_among l c.args.name.now) (sym c.as_slice.ensures.value) ∙ sym c.is_among.ensures ∙ c.if-is_among.false)
+    (ap (λ o. is_other (option_map (λ names. names.items) o) c.args.name.now) (sym c.in-None.is)) ∙ ap (λ s. has s c.args.name.now) c.self.view_is
 
 pub returns-in-Some : goal.returns-in-Some
 returns-in-Some c =

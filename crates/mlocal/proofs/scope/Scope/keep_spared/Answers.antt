@@ -1,8 +1,7 @@
 -- SPDX-License-Identifier: Apache-2.0
-use Rattle.std.proofs.Common.{Bool, ◌||◌, rules, ap, ◌∙◌}
+use Rattle.std.proofs.Common.{Bool, ◌||◌, rules, ap, ◌∙◌, option_map}
 use Rattle.std.specs.Cmp.Lexicographic.{nat_list_cmp_total}
 use Rattle.std.specs.List.{list_any}
-use Rattle.std.specs.Prelude.{option_map}
 use Rattle.mspec.specs.Node.{Text}
 use Rattle.mspec.specs.Scopes.{is_among, emptied}
 use Rattle.mlocal.specs.Home.{has_name}
@@ -12,7 +11,6 @@ use Rattle.mlocal.proofs.scope.Scope.keep_spared.Goals as goal
 pub returns : goal.returns
 returns c =
     let p : Text → Bool = λ n. is_among c.args.names.now n || list_any (has_name n) c.args.above.now in
-    let l = c.self.inside in
-    ap (λ ts. record { names = l.names.items; others = option_map (λ names. names.items) l.others; trees = ts })
-    (retain-hash_map_of nat_list_cmp_total names_exact l.trees c.retain.new.self p (retain_same _ _ (λ e. p e.0) (λ k v b w g call. search rules) _ _ c.retain.ensures.filtered))
+    ap (λ ts. record { names = c.self.inside.names.items; others = option_map (λ names. names.items) c.self.inside.others; trees = ts })
+    (retain-hash_map_of nat_list_cmp_total names_exact c.self.inside.trees c.retain.new.self p (retain_same _ _ (λ e. p e.0) (λ k v b w g call. search rules) _ _ c.retain.ensures.filtered))
     ∙ ap (emptied p) c.self.view_is

@@ -1,6 +1,5 @@
 -- SPDX-License-Identifier: Apache-2.0
-use Rattle.std.proofs.Common.{◌≡◌, ◌++◌, drop, not}
-use Rattle.std.specs.List.{filter}
+use Rattle.std.proofs.Common.{◌≡◌, ◌++◌, drop, not, filter}
 use Rattle.mspec.specs.Scopes.{has}
 use Rattle.mlocal.proofs.scope.Scope.new_names.Given as goal
 

@@ -18,8 +18,7 @@ returns-in-None-clause-ok c =
 pub returns-clause-ok : goal.returns-clause-ok
 returns-clause-ok c =
     let n = c.args.name.now in
-    let l = c.self.inside in
     let f : Scope → Scope = λ s. kill_in n c.args.subs.now (get s.trees n) s in
-    OnOk-map c.kill-in-Some.result (λ e. home-at f n l.levels.items (l.bottom ∷ []) c.in-Some.place c.index_mut.result.now c.kill-in-Some.new.self c.in-Some.ensures
+    OnOk-map c.kill-in-Some.result (λ e. home-at f n c.self.inside.levels.items (c.self.inside.bottom ∷ []) c.in-Some.place c.index_mut.result.now c.kill-in-Some.new.self c.in-Some.ensures
     (e ∙ ap (λ k. kill_in n k (get c.index_mut.result.now.trees n) c.index_mut.result.now) c.in_ok-key.ensures.key ∙ ap f c.index_mut.ensures.value)
     ∙ ap (λ s. killed s n c.args.subs.now) c.self.view_is) c.kill-in-Some.ensures.ok

@@ -8,7 +8,6 @@ use Rattle.mlocal.proofs.scopes.Locals.kill_except.Goals as goal
 
 pub returns : goal.returns
 returns c =
-    let l = c.self.inside in
-    kill-all (is_among c.args.names.now) l.levels.items c.spare.new.levels.items l.bottom c.keep_spared.new.self c.spare.ensures
-    (c.keep_spared.ensures ∙ ap (λ above. emptied (λ n. is_among c.args.names.now n || list_any (has_name n) above) l.bottom) c.as_slice.ensures.value)
+    kill-all (is_among c.args.names.now) c.self.inside.levels.items c.spare.new.levels.items c.self.inside.bottom c.keep_spared.new.self c.spare.ensures
+    (c.keep_spared.ensures ∙ ap (λ above. emptied (λ n. is_among c.args.names.now n || list_any (has_name n) above) c.self.inside.bottom) c.as_slice.ensures.value)
     ∙ ap (killed_except c.args.names.now) c.self.view_is

@@ -11,8 +11,7 @@ invariant_of-self c =
 
 pub returns-clause-ok : goal.returns-clause-ok
 returns-clause-ok c =
-    let l = c.self.inside in
-    let at : c.len-count.result - 1 + 1 ≡ length l.levels.items = omega arith in
-    OnOk-map c.hide_others-2.result (λ e. top-at (hide_others c.args.names.items) l.levels.items (l.bottom ∷ []) (c.len-count.result - 1) c.index_mut.result.now c.hide_others-2.new.self at
+    let at : c.len-count.result - 1 + 1 ≡ length c.self.inside.levels.items = omega arith in
+    OnOk-map c.hide_others-2.result (λ e. top-at (hide_others c.args.names.items) c.self.inside.levels.items (c.self.inside.bottom ∷ []) (c.len-count.result - 1) c.index_mut.result.now c.hide_others-2.new.self at
     (e ∙ ap (hide_others c.args.names.items) c.index_mut.ensures.value)
     ∙ ap (newed_except c.args.names.items) c.self.view_is) c.hide_others-2.ensures.ok

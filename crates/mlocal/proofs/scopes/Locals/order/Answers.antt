@@ -7,5 +7,4 @@ use Rattle.mlocal.proofs.scopes.Locals.order.Goals as goal
 
 pub returns : goal.returns
 returns c =
-    let subs = c.args.subs.now in
-    IfOk-map c.order.result (λ found is. is ∙ ap (λ t. order_of t (way c.args.direction) (front subs) (last subs)) c.scope_of.ensures) c.order.ensures
+    IfOk-map c.order.result (λ found is. is ∙ ap (λ t. order_of t (way c.args.direction) (front c.args.subs.now) (last c.args.subs.now)) c.scope_of.ensures) c.order.ensures

@@ -9,16 +9,14 @@ use Rattle.mlocal.proofs.scopes.Locals.set_own.Goals as goal
 pub returns-in-None-clause-ok : goal.returns-in-None-clause-ok
 returns-in-None-clause-ok c =
     let n = c.args.name.now in
-    let l = c.self.inside in
     let f : Scope → Scope = λ s. with_tree n (insert (tree_in s n) [] c.args.value) s in
-    OnOk-map c.set_own.result (λ e. home-bottom f n l.levels.items l.bottom c.set_own.new.self c.self.invariant c.in-None.ensures e
+    OnOk-map c.set_own.result (λ e. home-bottom f n c.self.inside.levels.items c.self.inside.bottom c.set_own.new.self c.self.invariant c.in-None.ensures e
     ∙ ap (λ s. assigned s n [] c.args.value) c.self.view_is) c.set_own.ensures.ok
 
 pub returns-in-Some-clause-ok : goal.returns-in-Some-clause-ok
 returns-in-Some-clause-ok c =
     let n = c.args.name.now in
-    let l = c.self.inside in
     let f : Scope → Scope = λ s. with_tree n (insert (tree_in s n) [] c.args.value) s in
-    OnOk-map c.set_own-in-Some.result (λ e. home-at f n l.levels.items (l.bottom ∷ []) c.in-Some.place c.index_mut.result.now c.set_own-in-Some.new.self c.in-Some.ensures
+    OnOk-map c.set_own-in-Some.result (λ e. home-at f n c.self.inside.levels.items (c.self.inside.bottom ∷ []) c.in-Some.place c.index_mut.result.now c.set_own-in-Some.new.self c.in-Some.ensures
     (e ∙ ap f c.index_mut.ensures.value)
     ∙ ap (λ s. assigned s n [] c.args.value) c.self.view_is) c.set_own-in-Some.ensures.ok

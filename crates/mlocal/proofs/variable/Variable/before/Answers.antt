@@ -1,6 +1,5 @@
 -- SPDX-License-Identifier: Apache-2.0
-use Rattle.std.proofs.Common.{◌≡◌, ◌<◌, ◌||◌, [], length, ap, sym, subst, ◌∙◌, arith}
-use Rattle.std.specs.Prelude.{option_map}
+use Rattle.std.proofs.Common.{◌≡◌, ◌<◌, ◌||◌, [], length, ap, sym, subst, ◌∙◌, arith, option_map}
 use Rattle.std.proofs.lemmas.Bool.Decides.{nat_tests}
 use Rattle.mspec.specs.NodeOrder.{subscripts_cmp}
 use Rattle.mspec.specs.Number.{significant_digits}
@@ -15,9 +14,8 @@ use Rattle.mlocal.proofs.variable.Variable.before.Goals as goal
 
 pub last_between-requires-clause-forward : goal.last_between-requires-clause-forward
 last_between-requires-clause-forward c =
-    let subs = c.args.subs.now in
     let end = c.in_ok-end.ensures.key ∙ ap behind_below c.front.ensures in
-    ap (λ low. subscripts_cmp significant_digits low c.in_ok-end.end) c.requires.above ∙ ap (subscripts_cmp significant_digits (front subs)) end ∙ more_behind (front subs) beyond []
+    ap (λ low. subscripts_cmp significant_digits low c.in_ok-end.end) c.requires.above ∙ ap (subscripts_cmp significant_digits (front c.args.subs.now)) end ∙ more_behind (front c.args.subs.now) beyond []
 
 pub returns-then-is_empty-clause-key : goal.returns-then-is_empty-clause-key
 returns-then-is_empty-clause-key c =

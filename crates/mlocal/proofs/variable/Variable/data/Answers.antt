@@ -1,6 +1,5 @@
 -- SPDX-License-Identifier: Apache-2.0
-use Rattle.std.proofs.Common.{true, refl, [], ap, sym, ◌∙◌}
-use Rattle.std.specs.Prelude.{is_some}
+use Rattle.std.proofs.Common.{true, refl, [], ap, sym, ◌∙◌, is_some}
 use Rattle.mspec.specs.NodeOrder.{subscripts_cmp}
 use Rattle.mspec.specs.Number.{significant_digits}
 use Rattle.mspec.specs.Trees.{is_below, has_value}
@@ -14,8 +13,7 @@ use Rattle.mlocal.proofs.variable.Variable.data.Goals as goal
 
 pub first_between-requires-clause-forward : goal.first_between-requires-clause-forward
 first_between-requires-clause-forward c =
-    let subs = c.args.subs.now in
-    ap (λ low. subscripts_cmp significant_digits low c.in_ok-end.end) c.in_ok-key.ensures.key ∙ ap (subscripts_cmp significant_digits subs) c.in_ok-end.ensures.key ∙ more_behind subs beyond []
+    ap (λ low. subscripts_cmp significant_digits low c.in_ok-end.end) c.in_ok-key.ensures.key ∙ ap (subscripts_cmp significant_digits c.args.subs.now) c.in_ok-end.ensures.key ∙ more_behind c.args.subs.now beyond []
 
 pub returns-clause-value : goal.returns-clause-value
 returns-clause-value c =

@@ -20,12 +20,11 @@ keys_from-requires c = ap (subscripts_cmp significant_digits c.args.key.now) c.r
 pub returns-then-is_empty-clause-ok : goal.returns-then-is_empty-clause-ok
 returns-then-is_empty-clause-ok c =
     let v = c.self.inside in
-    let key = c.args.key.now in
-    let none : key ≡ [] = no_list key (grind (arith, nat_tests, c.if-is_empty.ensures)) in
+    let none : c.args.key.now ≡ [] = no_list c.args.key.now (grind (arith, nat_tests, c.if-is_empty.ensures)) in
     ap (λ es. from_entries {R = subscripts_cmp significant_digits} (map (λ e. (e.0, e.1)) es)) c.clear.ensures.empty
     ∙ own_killed (map_of (λ x. x) v.values) v.own
     ∙ ap (without (with_own v.own (map_of (λ x. x) v.values))) (sym none)
-    ∙ ap (λ t. without t key) c.self.view_is
+    ∙ ap (λ t. without t c.args.key.now) c.self.view_is
 
 pub returns-clause-ok : goal.returns-clause-ok
 returns-clause-ok c =

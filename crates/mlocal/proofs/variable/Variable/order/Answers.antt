@@ -1,6 +1,5 @@
 -- SPDX-License-Identifier: Apache-2.0
-use Rattle.std.proofs.Common.{ap, sym, ◌∙◌}
-use Rattle.std.specs.Prelude.{option_map, option_and_then}
+use Rattle.std.proofs.Common.{ap, sym, ◌∙◌, option_map, option_and_then}
 use Rattle.mspec.specs.Trees.{child_of, order_of, front, last}
 use Rattle.mkey.specs.Way.{way}
 use Rattle.mlocal.proofs.Views.{IfOk-map}
@@ -9,12 +8,11 @@ use Rattle.mlocal.proofs.variable.Variable.order.Goals as goal
 
 pub returns-in-Forward : goal.returns-in-Forward
 returns-in-Forward c =
-    let subs = c.args.subs.now in
     let above = c.in_ok-above.ensures.key ∙ c.front.ensures in
     IfOk-map c.child.result (λ next is. is
     ∙ ap (λ xs. option_and_then (child_of xs) (option_map (λ k. k.now) c.in_ok-behind-in-Forward.field-0)) above
     ∙ c.in_ok-behind-in-Forward.ensures.next
-    ∙ ap (λ d. order_of c.args.self.now (way d) (front subs) (last subs)) (sym c.in-Forward.is)) c.child.ensures
+    ∙ ap (λ d. order_of c.args.self.now (way d) (front c.args.subs.now) (last c.args.subs.now)) (sym c.in-Forward.is)) c.child.ensures
 
 pub returns : goal.returns
 returns c =

@@ -7,5 +7,4 @@ use Rattle.mlocal.proofs.variable.Variable.own.Goals as goal
 
 pub returns : goal.returns
 returns c =
-    let v = c.self.inside in
-    shown c.as_ref.result ∙ c.as_ref.ensures.value ∙ own_there v.own v.values c.self.invariant ∙ ap (λ t. get t []) c.self.view_is
+    shown c.as_ref.result ∙ c.as_ref.ensures.value ∙ own_there c.self.inside.own c.self.inside.values c.self.invariant ∙ ap (λ t. get t []) c.self.view_is

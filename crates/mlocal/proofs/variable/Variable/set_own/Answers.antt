@@ -7,5 +7,4 @@ use Rattle.mlocal.proofs.variable.Variable.set_own.Goals as goal
 
 pub returns : goal.returns
 returns c =
-    let v = c.self.inside in
-    own_set (map_of (λ x. x) v.values) v.own c.args.value ∙ ap (λ t. insert t [] c.args.value) c.self.view_is
+    own_set (map_of (λ x. x) c.self.inside.values) c.self.inside.own c.args.value ∙ ap (λ t. insert t [] c.args.value) c.self.view_is

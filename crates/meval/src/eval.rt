@@ -16,6 +16,7 @@ ghost use Rattle.mspec.specs.Access.{Write};
 
 use crate::depth::Depth;
 use crate::global_node::GlobalNode;
+use crate::owner::Owner;
 use crate::place::{
     LocalName, Pending, Place, extended_parts, indirect_parts, local_node, plain_name,
     subscripts_of,
@@ -23,7 +24,6 @@ use crate::place::{
 use crate::reading::read_reference;
 use crate::session::Session;
 use crate::values::Values;
-use crate::walk::texts;
 use mgrant::{AccountId, Mode, Settings};
 use mnum::{Name, Num};
 use moperator::{Code, binary, call, computed, matching, number_of, truth_of, unaries};
@@ -139,12 +139,7 @@ impl<'a, S: NodeStore> Eval<'a, S> {
     // The value of a function of values.
     #[cycle(eval)]
     #[inline(never)]
-    fn called(
-        &mut self,
-        alloc: Global,
-        word: &ValueWord,
-        arguments: &[Expr],
-    ) -> Result<Value, Code>
+    fn called(&mut self, alloc: Global, word: &ValueWord, arguments: &[Expr]) -> Result<Value, Code>
         ensures loans { KeepsEval self.old self.new }
         ensures fewer { self.new.steps ≤ self.old.steps }
         ensures does { Evaluates S.NodeStore (λ i. acts.call_act i word.now (exprs_of (map expr_tree arguments.now))) (λ v. v) self.old result self.new }
@@ -191,10 +186,9 @@ impl<'a, S: NodeStore> Eval<'a, S> {
         ensures does { Evaluates S.NodeStore (λ i. meaning.evaluated i (extended (expr_tree environment.now) name.now (exprs_of (map expr_tree subscripts.now)))) pending_view self.old result self.new }
     {
         let owner = self.value(alloc, environment)?;
-        let account = owner.into_text(alloc)?;
+        let account = Owner::of_value(alloc, owner)?;
         let subscripts = self.values(alloc, subscripts)?;
-        let texts = texts(alloc, subscripts)?;
-        let node = GlobalNode::new(account, name.copy()?, texts);
+        let node = GlobalNode::new(account, name.copy()?, subscripts);
         Ok(Pending::Global(node))
     }
 

@@ -1,6 +1,6 @@
 // SPDX-License-Identifier: Apache-2.0
 // Nodes of globals, as references give them.
-ghost use Rattle.std.specs.Prelude.{◌≡◌, ◌++◌, Some, IfOk, take};
+ghost use Rattle.std.specs.Prelude.{◌≡◌, ◌↔◌, ◌++◌, Some, IfOk, IsTrue};
 ghost use Rattle.mspec.specs.Act.{unless};
 ghost use Rattle.mspec.specs.Code.{Zsub};
 ghost use Rattle.mspec.specs.KeyBytes.{IsAccountName};
@@ -9,22 +9,24 @@ ghost use Rattle.mspec.specs.Subscripts.{are_subscripts};
 ghost use Rattle.mmeaning.specs.Variables.{replaced};
 ghost use Rattle.mmeaning.specs.Yields.{Yields};
 ghost use Rattle.moperator.specs.Codes.{fault_of};
+ghost use Rattle.meval.specs.Held.{owner_text};
 
+use crate::owner::Owner;
 use crate::values::Values;
-use crate::walk::texts;
 use mkey::{KeyFault, NodeKey, front};
 use mnum::{Bytes7, Name};
 use moperator::Code;
+use mvalue::Value;
 use std::alloc::{AllocError, Global};
 use std::marker::Model;
 
 /// A node of a global as a reference gives it, whether or not a store can have it: no grant may allow it, and its subscripts may be
-/// none that a node can have. Contracts see it as the node.
+/// none that a node can have. Its subscripts are values up to the key. Contracts see it as the node.
 #[derive(Drop)]
 pub struct GlobalNode {
-    account: Bytes7,
+    owner: Owner,
     name: Name,
-    subscripts: Vec<Bytes7>,
+    subscripts: Values,
 }
 
 impl Model for GlobalNode {
@@ -32,37 +34,35 @@ impl Model for GlobalNode {
 
     ghost Value = { Node };
 
-    ghost view = { λ n. record { account = n.account; name = n.name; subscripts = n.subscripts.items } };
-}
+    ghost use Rattle.meval.specs.Held.{owner_text};
 
-// The same texts once more.
-fn copied(alloc: Global, texts: &[Bytes7]) -> Result<Vec<Bytes7>, AllocError>
-    ensures { IfOk result (λ copies. copies.items ≡ texts.now) }
-{
-    let mut copies = Vec::with_capacity(alloc, texts.len())?;
-    for text in texts {
-        copies.push(text.copy()?)?;
-    }
-    Ok(copies)
+    ghost view = { λ n. record { account = owner_text n.owner; name = n.name; subscripts = n.subscripts } };
 }
 
 impl GlobalNode {
     // The node of this account, global name and subscripts. Takes no memory.
-    pub(crate) fn new(account: Bytes7, name: Name, subscripts: Vec<Bytes7>) -> GlobalNode
-        ensures { result ≡ record { account = account; name = name; subscripts = subscripts.items } }
+    pub(crate) fn new(owner: Owner, name: Name, subscripts: Values) -> GlobalNode
+        ensures { result ≡ record { account = owner_text owner; name = name; subscripts = subscripts } }
     {
         GlobalNode {
-            account,
+            owner,
             name,
             subscripts,
         }
     }
 
     // The account whose global it is.
-    pub(crate) fn account(&self) -> &Bytes7
+    pub(crate) fn account(&self) -> &[u8]
         ensures { result.now ≡ self.now.account }
     {
-        &self.account
+        self.owner.as_bytes()
+    }
+
+    // Whether an account can have that name.
+    pub(crate) fn is_of_account(&self) -> bool
+        ensures { IsTrue result ↔ IsAccountName self.now.account }
+    {
+        self.owner.is_account()
     }
 
     // The name of the global.
@@ -74,7 +74,7 @@ impl GlobalNode {
     }
 
     // Its subscripts.
-    pub(crate) fn subscripts(&self) -> &[Bytes7]
+    pub(crate) fn subscripts(&self) -> &[Value]
         ensures { result.now ≡ self.now.subscripts }
     {
         self.subscripts.as_slice()
@@ -84,24 +84,18 @@ impl GlobalNode {
     pub(crate) fn copy(&self, alloc: Global) -> Result<GlobalNode, AllocError>
         ensures { IfOk result (λ node. node ≡ self.now) }
     {
-        let account = self.account.copy()?;
+        let owner = self.owner.copy()?;
         let name = self.name.copy()?;
-        let subscripts = copied(alloc, &self.subscripts)?;
-        Ok(GlobalNode {
-            account,
-            name,
-            subscripts,
-        })
+        let subscripts = self.subscripts.copy(alloc)?;
+        Ok(GlobalNode::new(owner, name, subscripts))
     }
 
     // The node with these subscripts behind its own.
     pub(crate) fn extended(self, alloc: Global, values: Values) -> Result<GlobalNode, AllocError>
         ensures { IfOk result (λ node. node ≡ record self { subscripts = self.subscripts ++ values }) }
     {
-        let mut node = self;
-        let mut texts = texts(alloc, values)?;
-        node.subscripts.append(&mut texts)?;
-        Ok(node)
+        let subscripts = self.subscripts.joined(alloc, values)?;
+        Ok(GlobalNode::new(self.owner, self.name, subscripts))
     }
 
     // Its key: `Zsub` where its subscripts are none that a node can have.
@@ -110,12 +104,7 @@ impl GlobalNode {
         ensures checked { Yields fault_of (unless Zsub (are_subscripts self.now.subscripts)) (λ _. tt) result }
         ensures key { IfOk result (λ key. key ≡ self.now) }
     {
-        match NodeKey::build(
-            alloc,
-            &self.account,
-            self.name.as_bytes7(),
-            &self.subscripts,
-        ) {
+        match NodeKey::build_values(alloc, self.account(), self.name(), self.subscripts()) {
             Ok(key) => Ok(key),
             Err(KeyFault::Sub) => Err(Code::Zsub),
             Err(KeyFault::Memory) => Err(Code::Zmem),
@@ -126,18 +115,13 @@ impl GlobalNode {
     pub(crate) fn beside(&self, alloc: Global, values: Values) -> Result<GlobalNode, Code>
         ensures { Yields fault_of (replaced values (Some self.now)) (λ node. node) result }
     {
-        if self.subscripts.is_empty() {
+        let subscripts = self.subscripts();
+        if subscripts.is_empty() {
             return Err(Code::M1);
         }
-        let account = self.account.copy()?;
+        let owner = self.owner.copy()?;
         let name = self.name.copy()?;
-        let mut subscripts = copied(alloc, front(&self.subscripts))?;
-        let mut texts = texts(alloc, values)?;
-        subscripts.append(&mut texts)?;
-        Ok(GlobalNode {
-            account,
-            name,
-            subscripts,
-        })
+        let subscripts = values.behind(alloc, front(subscripts))?;
+        Ok(GlobalNode::new(owner, name, subscripts))
     }
 }

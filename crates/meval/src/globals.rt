@@ -64,7 +64,7 @@ impl<'a, S: NodeStore> Eval<'a, S> {
         alloc: Global,
         node: &GlobalNode,
         direction: Direction,
-    ) -> Result<Option<Bytes7>, Code>
+    ) -> Result<Option<mvalue::Value>, Code>
         requires account { IsAccountName node.now.account }
         requires subscripts { AreOrderSubscripts node.now.subscripts }
         requires allowed { IsOpen (standing_of self.old) Read (at_node node.now) }

@@ -9,6 +9,7 @@ mod globals;
 mod levels;
 mod lock;
 mod lookups;
+mod owner;
 mod place;
 mod reading;
 mod referring;

@@ -13,7 +13,6 @@ use crate::global_node::GlobalNode;
 use crate::place::Pending;
 use crate::values::Values;
 use mgrant::Mode;
-use mkey::is_account_name;
 use mlock::LockName;
 use mnum::Name;
 use moperator::Code;
@@ -57,7 +56,7 @@ impl<'a, S: NodeStore> Eval<'a, S> {
         ensures does { Evaluates S.NodeStore (λ i. variables.named_lock i.account (variables.of_local name.now values)) (λ name. name) self.now result self.now }
     {
         let node = self.own_node(alloc, name, values)?;
-        if !is_account_name(node.account()) {
+        if !node.is_of_account() {
             // the id is of other settings, which a world never hands in
             return Err(Code::Zmem);
         }

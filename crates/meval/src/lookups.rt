@@ -20,10 +20,9 @@ ghost use Rattle.meval.specs.Holds.{Holds};
 use crate::eval::Eval;
 use crate::place::{Pending, Place, Walk, plain_name, undefined};
 use crate::values::Values;
-use crate::walk::{data_value, first_or_empty, next_text, next_value};
+use crate::walk::{data_value, first_or_empty, next_value};
 use mgrant::Mode;
-use mkey::{Data, Direction};
-use mlocal::subs_ok;
+use mkey::{Data, Direction, values_ok};
 use mnum::{Bytes7, Name, Num};
 use moperator::Code;
 use mstore::NodeStore;
@@ -217,7 +216,7 @@ impl<'a, S: NodeStore> Eval<'a, S> {
             }
             Walk::Node(node) => {
                 let next = self.node_neighbour(alloc, node, direction)?;
-                Ok(next_text(alloc, next))
+                Ok(next_value(alloc, next))
             }
         }
     }
@@ -229,7 +228,7 @@ impl<'a, S: NodeStore> Eval<'a, S> {
         ensures does { Evaluates S.NodeStore (λ i. acts.read_act (variables.of_local name.now (subscript.now ∷ []))) (λ v. v) self.old result self.new }
     {
         let subscripts = from_ref(subscript);
-        if !subs_ok(subscripts) {
+        if !values_ok(subscripts) {
             return Err(Code::Zsub);
         }
         match self.session.locals.get(name, subscripts)? {
@@ -261,7 +260,7 @@ impl<'a, S: NodeStore> Eval<'a, S> {
         ensures does { Evaluates S.NodeStore (λ i. acts.put_act (variables.of_local name.now (subscript.now ∷ [])) value) (λ u. u) self.old result self.new }
     {
         let subscripts = from_ref(subscript);
-        if !subs_ok(subscripts) {
+        if !values_ok(subscripts) {
             return Err(Code::Zsub);
         }
         self.set_local(name, subscripts, value)

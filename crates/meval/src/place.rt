@@ -15,9 +15,8 @@ ghost use Rattle.meval.specs.Places.{name_view, pending_view, place_view, subscr
 
 use crate::global_node::GlobalNode;
 use crate::values::Values;
-use mkey::NodeKey;
-use mlocal::{order_subs_ok, subs_ok};
-use mnum::{Bytes7, Name};
+use mkey::{NodeKey, order_values_ok, values_ok};
+use mnum::Name;
 use moperator::Code;
 use mtree::{Expr, Primary, Reference};
 use mvalue::Value;
@@ -181,7 +180,7 @@ impl Subscripts {
         ensures when { IsSome result ↔ IsTrue (are_subscripts values) }
         ensures subscripts { IfSome result (λ subscripts. subscripts ≡ values) }
     {
-        if !subs_ok(values.as_slice()) {
+        if !values_ok(values.as_slice()) {
             return None;
         }
         Some(Subscripts { values })
@@ -241,21 +240,7 @@ pub fn check_walk(values: &[Value]) -> Result<(), Code>
     if values.is_empty() {
         return Err(Code::Zarg);
     }
-    if !order_subs_ok(values) {
-        return Err(Code::Zsub);
-    }
-    Ok(())
-}
-
-// The same of a global's.
-pub fn check_node_walk(texts: &[Bytes7]) -> Result<(), Code>
-    ensures checked { Yields fault_of (checked ordering texts.now) (λ u. u) result }
-    ensures walk { IfOk result (λ _. AreOrderSubscripts texts.now) }
-{
-    if texts.is_empty() {
-        return Err(Code::Zarg);
-    }
-    if !mkey::order_subs_ok(texts) {
+    if !order_values_ok(values) {
         return Err(Code::Zsub);
     }
     Ok(())

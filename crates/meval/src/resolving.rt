@@ -12,12 +12,11 @@ ghost use Rattle.meval.specs.Places.{pending_view, place_view, walk_view, use_of
 
 use crate::eval::Eval;
 use crate::global_node::GlobalNode;
-use crate::place::{LocalName, Pending, Place, Walk, check_node_walk, check_walk, local_place};
+use crate::owner::Owner;
+use crate::place::{LocalName, Pending, Place, Walk, check_walk, local_place};
 use crate::values::Values;
-use crate::walk::texts;
 use mgrant::Mode;
-use mkey::is_account_name;
-use mnum::{Bytes7, Name};
+use mnum::Name;
 use moperator::Code;
 use mstore::NodeStore;
 use mtree::Reference;
@@ -33,9 +32,8 @@ impl<'a, S: NodeStore> Eval<'a, S> {
     ) -> Result<GlobalNode, AllocError>
         ensures { IfOk result (λ node. node ≡ record { account = (standing_of self.now).account; name = name.now; subscripts = values }) }
     {
-        let account = Bytes7::from_slice(alloc, self.settings.name_of(self.account))?;
-        let texts = texts(alloc, values)?;
-        Ok(GlobalNode::new(account, name.copy()?, texts))
+        let owner = Owner::of_bytes(alloc, self.settings.name_of(self.account))?;
+        Ok(GlobalNode::new(owner, name.copy()?, values))
     }
 
     // What a reference without an environment is whose name stands in it, once its subscripts have these values.
@@ -67,10 +65,10 @@ impl<'a, S: NodeStore> Eval<'a, S> {
         ensures allowed { IfOk result (λ _. IsOpen (standing_of self.now) (mode_of mode) (variables.at_node node.now)) }
         ensures does { Evaluates S.NodeStore (λ i. variables.allowed (mode_of mode) node.now) (λ u. u) self.now result self.now }
     {
-        if !is_account_name(node.account()) {
+        if !node.is_of_account() {
             return Err(Code::Zgrant);
         }
-        let (owner, name) = (node.account().as_bytes(), node.name().as_bytes());
+        let (owner, name) = (node.account(), node.name().as_bytes());
         if !self.settings.may(self.account, owner, name, mode) {
             return Err(Code::Zgrant);
         }
@@ -147,7 +145,7 @@ impl<'a, S: NodeStore> Eval<'a, S> {
         ensures does { Evaluates S.NodeStore (λ i. variables.node_place variables.ordering node) walk_view self.old result self.new }
     {
         self.check(Mode::Read, &node)?;
-        check_node_walk(node.subscripts())?;
+        check_walk(node.subscripts())?;
         let walk = node.copy(alloc)?;
         self.refer(node);
         Ok(Walk::Node(walk))

@@ -30,6 +30,17 @@ impl Model for Values {
     ghost view = { λ values. held_texts values.held };
 }
 
+// The same values once more.
+fn copied(alloc: Global, values: &[Value]) -> Result<Vec<Value>, AllocError>
+    ensures { IfOk result (λ copies. copies.items ≡ values.now) }
+{
+    let mut copies = Vec::with_capacity(alloc, values.len())?;
+    for value in values {
+        copies.push(value.copy()?)?;
+    }
+    Ok(copies)
+}
+
 impl Values {
     // No value. Takes no memory.
     pub(crate) fn none(alloc: Global) -> Values
@@ -88,6 +99,27 @@ impl Values {
             Held::One(value) => Some(value),
             Held::Several(values) => values.into_iter().next(),
         }
+    }
+
+    // The same values once more. One number takes no memory.
+    pub(crate) fn copy(&self, alloc: Global) -> Result<Values, AllocError>
+        ensures { IfOk result (λ values. values ≡ self.now) }
+    {
+        match &self.held {
+            Held::One(value) => Ok(Values::one(value.copy()?)),
+            Held::Several(values) => Ok(Values::of_vec(copied(alloc, values)?)),
+        }
+    }
+
+    // These values behind copies of others. Takes no memory where there are no others.
+    pub(crate) fn behind(self, alloc: Global, others: &[Value]) -> Result<Values, AllocError>
+        ensures { IfOk result (λ all. all ≡ others.now ++ self) }
+    {
+        if others.is_empty() {
+            return Ok(self);
+        }
+        let front = copied(alloc, others)?;
+        Values::of_vec(front).joined(alloc, self)
     }
 
     // These values, and others behind them.

@@ -1,6 +1,6 @@
 // SPDX-License-Identifier: Apache-2.0
 // Values as texts, as $DATA's number and as $ORDER's direction.
-ghost use Rattle.std.specs.Prelude.{◌≡◌, [], pos, slice_get, unwrap_or, IfOk};
+ghost use Rattle.std.specs.Prelude.{◌≡◌, [], pos, slice_get, unwrap_or};
 ghost use Rattle.mmeaning.specs.Functions.{whole_text};
 ghost use Rattle.mmeaning.specs.Variables.{data_number, direction_of};
 ghost use Rattle.mmeaning.specs.Yields.{Yields};
@@ -12,7 +12,7 @@ use mkey::{Data, Direction};
 use mnum::Bytes7;
 use moperator::{Code, whole_of};
 use mvalue::Value;
-use std::alloc::{AllocError, Global};
+use std::alloc::Global;
 
 // The number of $DATA: 1 where the node has a text, and 10 more where a node below it has one.
 pub fn data_value(found: Data) -> Value
@@ -50,7 +50,7 @@ pub fn first_or_empty(alloc: Global, values: Values) -> Value
     }
 }
 
-// What $ORDER gives of a local variable: the subscript that was found, or the empty text.
+// What $ORDER gives: the subscript that was found, or the empty text.
 pub fn next_value(alloc: Global, next: Option<Value>) -> Value
     ensures { result ≡ unwrap_or next [] }
 {
@@ -58,27 +58,4 @@ pub fn next_value(alloc: Global, next: Option<Value>) -> Value
         Some(value) => value,
         None => Value::of_text(Bytes7::empty(alloc)),
     }
-}
-
-// What it gives of a global.
-pub fn next_text(alloc: Global, next: Option<Bytes7>) -> Value
-    ensures { result ≡ unwrap_or next [] }
-{
-    match next {
-        Some(text) => Value::of_text(text),
-        None => Value::of_text(Bytes7::empty(alloc)),
-    }
-}
-
-// The texts of values.
-pub fn texts(alloc: Global, values: Values) -> Result<Vec<Bytes7>, AllocError>
-    ensures { IfOk result (λ texts. texts.items ≡ values) }
-{
-    let values = values.into_vec(alloc)?;
-    let mut texts = Vec::with_capacity(alloc, values.len())?;
-    for value in values {
-        let text = value.into_text(alloc)?;
-        texts.push(text)?;
-    }
-    Ok(texts)
 }

@@ -1,5 +1,5 @@
 -- SPDX-License-Identifier: Apache-2.0
-use Rattle.std.proofs.Common.{◌≡◌, ◌∙◌, ◌++◌, List, [], ◌∷◌, map, refl, sym, ap, arith}
+use Rattle.std.proofs.Common.{◌≡◌, ◌∙◌, ◌++◌, List, [], ◌∷◌, map, refl, ap, arith}
 use Rattle.std.proofs.lemmas.Bool.Decides.{nat_tests}
 use Rattle.std.proofs.lemmas.List.{nil_from_length}
 use Rattle.mgrammar.specs.Grammar.{exprs_of}
@@ -163,12 +163,6 @@ extended-returns-in_err-subscripts-clause-does g t c =
     evaluates_then (λ i owner. values i [] subscripts >>= (λ xs. give (of_global (node_of owner c.args.name.now xs)))) c.in_ok-owner.ensures.does
     (evaluates_stopped (λ i xs. give (of_global (node_of c.in_ok-owner.owner c.args.name.now xs))) c.in_err-subscripts.ensures.does c.from_residual-in_err-subscripts.ensures)
 
-pub extended-returns-in_err-texts-clause-does : goal.extended-returns-in_err-texts-clause-does
-extended-returns-in_err-texts-clause-does g t c =
-    let subscripts = exprs_of (map expr_tree c.args.subscripts.now) in
-    evaluates_then (λ i owner. values i [] subscripts >>= (λ xs. give (of_global (node_of owner c.args.name.now xs)))) c.in_ok-owner.ensures.does
-    (evaluates_then (λ i xs. give (of_global (node_of c.in_ok-owner.owner c.args.name.now xs))) c.in_ok-subscripts.ensures.does (evaluates_wanting _ _ _ c.from_residual-in_err-texts.ensures))
-
 pub extended-returns-in_err-copy-clause-does : goal.extended-returns-in_err-copy-clause-does
 extended-returns-in_err-copy-clause-does g t c =
     let subscripts = exprs_of (map expr_tree c.args.subscripts.now) in
@@ -178,7 +172,7 @@ extended-returns-in_err-copy-clause-does g t c =
 pub extended-returns-clause-does : goal.extended-returns-clause-does
 extended-returns-clause-does g t c =
     let subscripts = exprs_of (map expr_tree c.args.subscripts.now) in
-    let is = rw (c.account.view_is, c.in_ok-account.ensures, c.in_ok-copy.ensures, c.in_ok-texts.ensures) at c.new-node.ensures in
+    let is = rw (c.in_ok-account.ensures, c.in_ok-copy.ensures) at c.new-node.ensures in
     evaluates_then (λ i owner. values i [] subscripts >>= (λ xs. give (of_global (node_of owner c.args.name.now xs)))) c.in_ok-owner.ensures.does
     (evaluates_then (λ i xs. give (of_global (node_of c.in_ok-owner.owner c.args.name.now xs))) c.in_ok-subscripts.ensures.does (evaluates_gives _ pending_view _ (ap of_global is)))
 

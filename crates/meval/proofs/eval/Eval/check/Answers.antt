@@ -5,13 +5,13 @@ use Rattle.mspec.proofs.SubscriptTests.{decides_account_name}
 use Rattle.meval.proofs.Asking.{let_in, no_account}
 use Rattle.meval.proofs.eval.Eval.check.Goals as goal
 
-pub returns-then-not-is_account_name-clause-does : goal.returns-then-not-is_account_name-clause-does
-returns-then-not-is_account_name-clause-does g c =
-    let other = rw (c.if-not-is_account_name.true, c.account.ensures) at (decides_account_name _ _ c.is_account_name.ensures) in
+pub returns-then-not-is_of_account-clause-does : goal.returns-then-not-is_of_account-clause-does
+returns-then-not-is_of_account-clause-does g c =
+    let other = rw c.if-not-is_of_account.true at (decides_account_name _ _ c.is_of_account.ensures) in
     no_account c.args.mode c.args.node.now (sym other)
 
 pub returns-clause-does : goal.returns-clause-does
 returns-clause-does g c =
-    let account = rw (c.if-not-is_account_name.false, c.account.ensures) at (decides_account_name _ _ c.is_account_name.ensures) in
-    let may = rw (c.if-not-may.false, c.as_bytes-owner.ensures.bytes, c.account-2.ensures, c.as_bytes-name.ensures.bytes, c.name.ensures.name) at c.may.ensures in
+    let account = rw c.if-not-is_of_account.false at (decides_account_name _ _ c.is_of_account.ensures) in
+    let may = rw (c.if-not-may.false, c.account-owner.ensures, c.as_bytes-name.ensures.bytes, c.name.ensures.name) at c.may.ensures in
     let_in c.args.mode c.args.node.now (and_from _ _ (sym account) (sym may))

@@ -12,7 +12,7 @@ pub returns-in_ok-copy-in-Some-clause-does : goal.returns-in_ok-copy-in-Some-cla
 unfolding value_of
 returns-in_ok-copy-in-Some-clause-does g c =
     let xs = c.args.subscript.now ∷ [] in
-    let passed = sym (rw (c.if-not-subs_ok.false, c.from_ref-subscripts.ensures.value) at (decides_subscripts _ _ c.subs_ok.ensures)) in
+    let passed = sym (rw (c.if-not-values_ok.false, c.from_ref-subscripts.ensures.value) at (decides_subscripts _ _ c.values_ok.ensures)) in
     let is = rw (c.from_ref-subscripts.ensures.value, c.in-Some.is) at c.in_ok-value.ensures in
     evaluates_then (λ i p. read_at p) (let_through c.args.name.now xs passed)
     (evaluates_then (λ i found. give_some M6 found) (asks_locals (λ l. value_of l c.args.name.now xs) (λ found. found) _ is) (evaluates_gives _ _ _ c.in_ok-copy-in-Some.ensures))
@@ -21,7 +21,7 @@ pub returns-in-None-clause-does : goal.returns-in-None-clause-does
 unfolding value_of
 returns-in-None-clause-does g c =
     let xs = c.args.subscript.now ∷ [] in
-    let passed = sym (rw (c.if-not-subs_ok.false, c.from_ref-subscripts.ensures.value) at (decides_subscripts _ _ c.subs_ok.ensures)) in
+    let passed = sym (rw (c.if-not-values_ok.false, c.from_ref-subscripts.ensures.value) at (decides_subscripts _ _ c.values_ok.ensures)) in
     let is = rw (c.from_ref-subscripts.ensures.value, c.in-None.is) at c.in_ok-value.ensures in
     evaluates_then (λ i p. read_at p) (let_through c.args.name.now xs passed)
     (evaluates_then (λ i found. give_some M6 found) (asks_locals (λ l. value_of l c.args.name.now xs) (λ found. found) _ is) (evaluates_fails _ _ _ refl))

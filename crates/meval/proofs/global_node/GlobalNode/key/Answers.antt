@@ -1,11 +1,9 @@
 -- SPDX-License-Identifier: Apache-2.0
-use Rattle.std.proofs.Common.{ap, subst, ◌∙◌}
+use Rattle.std.proofs.Common.{subst}
 use Rattle.mspec.specs.KeyBytes.{AreSubscripts}
-use Rattle.mspec.specs.Node.{Node}
 use Rattle.meval.proofs.Asking.{key_checked, not_error}
 use Rattle.meval.proofs.global_node.GlobalNode.key.Goals as goal
 
 pub returns-in-Ok-clause-checked : goal.returns-in-Ok-clause-checked
 returns-in-Ok-clause-checked c =
-    let is = c.deref.ensures.value ∙ ap (λ (n : Node). n.subscripts) c.self.view_is in
-    key_checked _ _ (λ none. not_error (c.in-Ok.ensures.sub.1 (λ are. none (subst AreSubscripts is are))))
+    key_checked _ _ (λ none. not_error (c.in-Ok.ensures.sub.1 (λ are. none (subst AreSubscripts c.subscripts.ensures are))))

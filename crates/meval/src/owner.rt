@@ -1,0 +1,76 @@
+// SPDX-License-Identifier: Apache-2.0
+// Whose global a reference names.
+ghost use Rattle.std.specs.Prelude.{◌≡◌, ◌↔◌, ◌<◌, All, IfOk, IsTrue};
+ghost use Rattle.mspec.specs.KeyBytes.{IsAccountName};
+ghost use Rattle.meval.specs.Held.{owner_text};
+
+use mkey::{AccountName, is_account_name};
+use mnum::Bytes7;
+use mvalue::Value;
+use std::alloc::{AllocError, Global};
+
+// What stands in the place of an account: a name that one can have, which takes no memory, or any other text that an environment gave.
+// Contracts see it by `owner_text`, as the text.
+#[derive(Drop)]
+pub(crate) enum Owner {
+    Account(AccountName),
+    Other(Bytes7),
+}
+
+impl Owner {
+    // The owner of these bytes. Takes no memory where they are the name of an account.
+    pub(crate) fn of_bytes(alloc: Global, bytes: &[u8]) -> Result<Owner, AllocError>
+        requires { All (λ c. c < 128) bytes.now }
+        ensures { IfOk result (λ owner. owner_text owner ≡ bytes.now) }
+    {
+        match AccountName::new(bytes) {
+            Some(name) => Ok(Owner::Account(name)),
+            None => {
+                let text = Bytes7::from_slice(alloc, bytes)?;
+                Ok(Owner::Other(text))
+            }
+        }
+    }
+
+    // The owner that a value names.
+    pub(crate) fn of_value(alloc: Global, value: Value) -> Result<Owner, AllocError>
+        ensures { IfOk result (λ owner. owner_text owner ≡ value) }
+    {
+        let text = value.into_text(alloc)?;
+        match AccountName::new(text.as_bytes()) {
+            Some(name) => Ok(Owner::Account(name)),
+            None => Ok(Owner::Other(text)),
+        }
+    }
+
+    // Its bytes.
+    pub(crate) fn as_bytes(&self) -> &[u8]
+        ensures { result.now ≡ owner_text self.now }
+    {
+        match self {
+            Owner::Account(name) => name.as_bytes(),
+            Owner::Other(text) => text.as_bytes(),
+        }
+    }
+
+    // Whether it is a name that an account can have.
+    pub(crate) fn is_account(&self) -> bool
+        ensures { IsTrue result ↔ IsAccountName (owner_text self.now) }
+    {
+        match self {
+            // no such name is empty
+            Owner::Account(name) => !name.as_bytes().is_empty(),
+            Owner::Other(text) => is_account_name(text),
+        }
+    }
+
+    // The same once more.
+    pub(crate) fn copy(&self) -> Result<Owner, AllocError>
+        ensures { IfOk result (λ owner. owner_text owner ≡ owner_text self.now) }
+    {
+        match self {
+            Owner::Account(name) => Ok(Owner::Account(name.copy())),
+            Owner::Other(text) => Ok(Owner::Other(text.copy()?)),
+        }
+    }
+}

@@ -1,6 +1,6 @@
 -- SPDX-License-Identifier: Apache-2.0
 -- What calls of the evaluation do, where the meaning has it inside of more.
-use Rattle.std.specs.Prelude.{pos, Bool, [], Some, slice_get}
+use Rattle.std.specs.Prelude.{pos, Bool, [], slice_get}
 use Rattle.mspec.specs.Trees.{Direction}
 use Rattle.mspec.specs.Act.{Text, Act, ◌>>=◌, give}
 use Rattle.mgrammar.specs.Grammar.{ExprTree, ExprsTree, ReferenceTree}

@@ -20,4 +20,4 @@ returns-in_err-next-in-Node-clause-does g c =
 
 pub returns-in_ok-next-in-Node-clause-does : goal.returns-in_ok-next-in-Node-clause-does
 returns-in_ok-next-in-Node-clause-does g c =
-    rw c.in-Node.is (evaluates_then (λ i next. give (unwrap_or next [])) c.in_ok-next-in-Node.ensures.does (evaluates_gives _ _ _ c.next_value.ensures))
+    rw c.in-Node.is (evaluates_then (λ i next. give (unwrap_or next [])) c.in_ok-next-in-Node.ensures.does (evaluates_gives _ _ _ c.next_value-in-Node.ensures))

@@ -1,6 +1,7 @@
 -- SPDX-License-Identifier: Apache-2.0
 -- What a map of permits allows, beside the list of grants.
 use Rattle.std.proofs.Common.{◌≡◌, ℕ, ◌==◌, ◌<◌, Bool, true, false, cond, List, ◌∷◌, ◌++◌, length, map, get_or, Some, All, refl, sym, ap, subst, ◌∙◌, arith, eqb-true, eq-eqb, inl, inr, length-append, slice_get, unwrap_or, ◌&&◌, ◌||◌, []}
+use Rattle.std.proofs.Math.Bool.{or-false}
 use Rattle.std.specs.List.{list_any}
 use Rattle.std.specs.HashMap as hash
 use Rattle.std.specs.Cmp.Lexicographic.{bytes_decides}
@@ -105,10 +106,6 @@ same_same p = rw (eq-eqb p.from p.from refl, eq-eqb p.to p.to refl, eq-eqb p.glo
 unlike_back : (p q : Permit) → same_permit p q ≡ false → same_permit q p ≡ false
 unlike_back p q e = false_from_ne_true _ (λ same. false≢true (sym e ∙ ap (λ r. same_permit r q) (sym (permit_is q p same)) ∙ same_same q))
 
-no_more : (b : Bool) → b ≡ (b || false)
-no_more true = refl
-no_more false = refl
-
 -- a grant is put where the wider of its mode and the earlier one is
 pub allowance_more : (gs : List Given) (m n : Allowed) (p : Permit) (mode best : Mode) → IsAllowance gs m → hash.UpdatesBy same_permit (same_permit p) m n (Some best)
     → ((asked : access.Mode) → access.allows (mode_of best) asked ≡ (allows_so (hash.get same_permit m p) asked || access.allows (mode_of mode) asked))
@@ -121,10 +118,10 @@ allowance_more gs m n p mode best had u wider = record {
             ap (λ o. allows_so o asked) (u.0 q ∙ ap (λ b. cond b (Some best) (hash.get same_permit m q)) same)
             ∙ wider asked
             ∙ ap (λ r. allows_so (hash.get same_permit m r) asked || access.allows (mode_of mode) asked) (permit_is p q same)
-            ∙ sym (more ∙ rw (sym (had.at q asked), ap (λ r. same_permit q r) (permit_is p q same), same_same q) (ap (λ b. allows_so (hash.get same_permit m q) asked || b) (sym (no_more (access.allows (mode_of mode) asked)))))
+            ∙ sym (more ∙ rw (sym (had.at q asked), ap (λ r. same_permit q r) (permit_is p q same), same_same q) (ap (λ b. allows_so (hash.get same_permit m q) asked || b) (or-false (access.allows (mode_of mode) asked))))
         | inr other ↦
             ap (λ o. allows_so o asked) (u.0 q ∙ ap (λ b. cond b (Some best) (hash.get same_permit m q)) other)
             ∙ had.at q asked
-            ∙ sym (more ∙ rw (unlike_back p q other) (sym (no_more _)))
+            ∙ sym (more ∙ rw (unlike_back p q other) (or-false _))
       ];
 }

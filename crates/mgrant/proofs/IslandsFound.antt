@@ -1,6 +1,7 @@
 -- SPDX-License-Identifier: Apache-2.0
 -- The island of an account: the names at the places that chains of ties lead to.
 use Rattle.std.proofs.Common.{◌≡◌, ◌↔◌, ◌⊎◌, inl, inr, ℕ, zero, suc, ◌+◌, ◌==◌, ◌<◌, ◌≤◌, Bool, true, false, List, ◌∷◌, ◌++◌, length, map, get_or, Option, Some, All, refl, sym, ap, subst, subst₂, ◌∙◌, arith, ◌&&◌, ◌||◌, unwrap_or, []}
+use Rattle.std.proofs.lemmas.List.Folds.{Any-from_list_any, list_any_at}
 use Rattle.std.specs.Cmp.{both_ways}
 use Rattle.std.specs.List.{list_any, filter, range_with_len}
 use Rattle.std.specs.Cmp.Lexicographic.{bytes_decides}
@@ -45,19 +46,11 @@ tied_back x y = any_more (carries_at x y) (ties_at y x) (λ g. tie_back (x == g.
 
 -- and what is tied flows in one of them
 tied_flows : (x y : ℕ) (gs : List Placed) → list_any (ties_at x y) gs ≡ true → (list_any (carries_at x y) gs ≡ true) ⊎ (list_any (carries_at y x) gs ≡ true)
-tied_flows x y [] e = absurd (false≢true e)
-tied_flows x y (g ∷ gs) e =
-    elim (or_cases (ties_at x y g) (list_any (ties_at x y) gs) e) [
-      | inl first ↦
-          elim (tie_carries (x == g.from) (y == g.to) (x == g.to) (y == g.from) (access.allows g.mode access.Write) first) [
-            | inl on ↦ inl (or_left (carries_at x y g) _ on)
-            | inr back ↦ inr (or_left (carries_at y x g) _ back)
-          ]
-      | inr later ↦
-          elim (tied_flows x y gs later) [
-            | inl on ↦ inl (or_right (carries_at x y g) _ on)
-            | inr back ↦ inr (or_right (carries_at y x g) _ back)
-          ]
+tied_flows x y gs e =
+    let (k, g, within, at, is) = Any-from_list_any (ties_at x y) gs e in
+    elim (tie_carries (x == g.from) (y == g.to) (x == g.to) (y == g.from) (access.allows g.mode access.Write) is) [
+      | inl on ↦ inl (list_any_at (carries_at x y) gs k g within (ap (carries_at x y) at ∙ on))
+      | inr back ↦ inr (list_any_at (carries_at y x) gs k g within (ap (carries_at y x) at ∙ back))
     ]
 
 pub ties_within : (names : List Text) (gs : List Placed) → All (IsAmong (length names)) gs → (edges : List Edge) → ((x y : ℕ) → list_any (leads x y) edges ≡ list_any (ties_at x y) gs) → All (λ e. e.target < length names) edges

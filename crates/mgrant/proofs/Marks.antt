@@ -4,7 +4,7 @@ use Rattle.std.proofs.Common.{◌≡◌, ◌↔◌, inl, inr, ℕ, zero, suc, �
 use Rattle.std.specs.List.{list_any}
 use Rattle.std.specs.List.Sorted.{IsPartitionPoint, IsPermutation}
 use Rattle.std.proofs.lemmas.Bool.{cases_Bool, cases_eq, cases_lt, false≢true, and_parts, and_from, ltb-true, ltb-false, leb-true, leb-false, eqb-true, eq-eqb}
-use Rattle.std.proofs.lemmas.List.{set-get_or, get_or-set_same, get_or-set_other, get_or-take, get_or-drop, length-replicate}
+use Rattle.std.proofs.lemmas.List.{set-get_or, get_or-set_same, get_or-set_other, get_or-take, get_or-drop, length-replicate, get_or_default}
 use Rattle.std.proofs.Math.ListN.{get_or-append}
 use Rattle.std.proofs.lemmas.List.Elements.{All-append, All-cons, All-nil, Contains-append_left, Contains-append_right}
 use Rattle.std.proofs.lemmas.List.Folds.{Any-from_list_any, list_any_at}
@@ -140,11 +140,6 @@ get_or-replicate_default zero y = refl
 get_or-replicate_default (suc n) zero = refl
 get_or-replicate_default (suc n) (suc y) = get_or-replicate_default n y
 
-pub get_or-default : {X : Type 0} (xs : List X) (k : ℕ) (d e : X) → k < length xs → get_or xs k d ≡ get_or xs k e
-get_or-default [] k d e within = absurd (omega arith)
-get_or-default (x ∷ xs) zero d e within = refl
-get_or-default (x ∷ xs) (suc k) d e within = get_or-default xs k d e (omega arith)
-
 count_none : (n : ℕ) → count_by (λ b. b) (replicate n false) ≡ 0
 count_none zero = refl
 count_none (suc n) = count_none n
@@ -173,7 +168,7 @@ spread_all edges start marks order turn stage done closed y = (
   λ marked. let (k, within, at) = stage.listed y marked in subst (Leads edges start) at (stage.reached k y within),
   λ led. closed_under edges (λ x. get_or marks x false ≡ true) (λ x z marked one.
       let (k, within, at) = stage.listed x marked in
-      closed k (omega arith) z (subst (λ v. list_any (leads v z) edges ≡ true) (sym at ∙ get_or-default order k x 0 within) one)) led stage.begun,
+      closed k (omega arith) z (subst (λ v. list_any (leads v z) edges ≡ true) (sym at ∙ get_or_default order k x 0 within) one)) led stage.begun,
 )
 
 -- one more place has been followed

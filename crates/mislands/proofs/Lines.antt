@@ -1,37 +1,19 @@
 -- SPDX-License-Identifier: Apache-2.0
--- The lines of islands, and an account by its name.
-use Rattle.std.proofs.Common.{◌≡◌, inl, inr, ℕ, ◌+◌, ◌-◌, ◌<◌, Bool, true, false, List, [], ◌∷◌, ◌++◌, length, map, get_or, take, drop, Option, Some, None, refl, sym, ap, ◌∙◌, append_assoc, arith}
-use Rattle.std.specs.Prelude.{slice_get, option_map, unwrap_or}
-use Rattle.std.specs.List.{flat_map, list_any, find}
+-- An account by its name, and tests of what a list is mapped to.
+use Rattle.std.proofs.Common.{◌≡◌, inl, inr, ℕ, ◌+◌, ◌-◌, ◌<◌, Bool, true, false, List, ◌∷◌, length, map, get_or, take, Option, Some, None, refl, sym, ap, ◌∙◌, arith, option_map, unwrap_or, []}
+use Rattle.std.specs.List.{list_any, find, flat_map}
 use Rattle.std.specs.Cmp.Lexicographic.{bytes_decides}
 use Rattle.std.proofs.lemmas.Bool.{cases_Bool, false≢true}
-use Rattle.std.proofs.lemmas.List.{flat_map_more, map_more, take_rest, length-map, get_or-map}
+use Rattle.std.proofs.lemmas.List.{map_more, length-map, get_or-map}
 use Rattle.std.proofs.lemmas.List.Folds.{list_any_at, list_any-append}
 use Rattle.std.proofs.lemmas.Option.{none-some, same_Some}
 use Rattle.mspec.specs.Node.{Text}
 use Rattle.mspec.specs.Trees.{text_eq}
 use Rattle.mspec.specs.Access.{Settings, Account, account_at, account_named, name_at}
-use Rattle.mislands.specs.Listing.{names_of, names_at, line_of}
+use Rattle.mislands.specs.Listing.{names_of}
 
 abbrev pub behind_spaces : List Text → Text
 behind_spaces names = flat_map (λ b. 32 ∷ b) names
-
--- one name more behind a space
-pub name_more : (settings : Settings) (places : List ℕ) (i d : ℕ) (old text : Text) → i < length places → text ≡ old ++ behind_spaces (names_at settings (take i places))
-    → (text ++ 32 ∷ []) ++ name_at settings (get_or places i d) ≡ old ++ behind_spaces (names_at settings (take (i + 1) places))
-name_more settings places i d old text within is =
-    append_assoc text (32 ∷ []) (name_at settings (get_or places i d))
-    ∙ ap (λ t. t ++ 32 ∷ name_at settings (get_or places i d)) is
-    ∙ flat_map_more (λ b. 32 ∷ b) old (names_at settings (take i places)) (name_at settings (get_or places i d))
-    ∙ ap (λ names. old ++ behind_spaces names) (sym (map_more (name_at settings) places i d within))
-
--- the line of an island is that of its first account and the others
-pub line_split : (settings : Settings) (places : List ℕ) (p : ℕ) → slice_get places 0 ≡ Some p
-    → line_of (names_at settings places) ≡ name_at settings p ++ (behind_spaces (names_at settings (take (length places - 1) (drop 1 places))) ++ 10 ∷ [])
-line_split settings [] p here = absurd (none-some p here)
-line_split settings (q ∷ rest) p here =
-    ap (λ k. name_at settings k ++ (behind_spaces (names_at settings rest) ++ 10 ∷ [])) (same_Some q p here)
-    ∙ ap (λ ps. name_at settings p ++ (behind_spaces (names_at settings ps) ++ 10 ∷ [])) (sym (take_rest (q ∷ rest) 1))
 
 -- ---- an account by its name
 

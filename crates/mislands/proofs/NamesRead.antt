@@ -1,7 +1,6 @@
 -- SPDX-License-Identifier: Apache-2.0
 -- The names that are read of a document are those of the accounts that it says.
-use Rattle.std.proofs.Common.{◌≡◌, ℤ, Bool, true, false, cond, List, [], ◌∷◌, map, Option, Some, None, codes, refl, ap, ◌∙◌}
-use Rattle.std.specs.Prelude.{option_map, option_and_then, nat_le}
+use Rattle.std.proofs.Common.{◌≡◌, ℤ, Bool, true, false, cond, List, [], ◌∷◌, map, Option, Some, None, codes, refl, ap, ◌∙◌, option_map, option_and_then, nat_le}
 use Rattle.std.proofs.lemmas.Option.{none-some, same_Some}
 use Rattle.toml.specs.Data.{Data, Members, Items, no_items, item, get_member, as_array, as_table}
 use Rattle.mspec.specs.Node.{Text}

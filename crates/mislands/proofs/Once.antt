@@ -1,10 +1,11 @@
 -- SPDX-License-Identifier: Apache-2.0
 -- Each account is in exactly one of the islands.
-use Rattle.std.proofs.Common.{◌≡◌, inl, inr, ℕ, ◌+◌, Bool, true, false, not, cond, List, [], ◌∷◌, ◌++◌, length, map, get_or, Some, refl, sym, ap, subst, ◌∙◌, append_assoc, length-append, arith}
-use Rattle.std.specs.Prelude.{◌&&◌, ◌||◌, slice_get, option_map, unwrap_or, count_by}
+use Rattle.std.proofs.Common.{◌≡◌, inl, inr, ℕ, ◌+◌, Bool, true, false, not, cond, List, ◌∷◌, ◌++◌, length, map, get_or, Some, refl, sym, ap, subst, ◌∙◌, append_assoc, length-append, arith, ◌&&◌, ◌||◌, slice_get, option_map, unwrap_or, count_by, ◌⊎◌, []}
+use Rattle.std.proofs.Math.Bool.{or-false}
+use Rattle.std.specs.Cmp.{both_ways}
 use Rattle.std.specs.List.{list_any, filter, range_with_len}
 use Rattle.std.specs.Cmp.Lexicographic.{bytes_decides}
-use Rattle.std.proofs.lemmas.Bool.{cases_Bool, or_cases, or_left, or_right, and_parts, and_from, false≢true}
+use Rattle.std.proofs.lemmas.Bool.{cases_Bool, or_cases, or_left, or_right, and_parts, and_from, false≢true, false_from_ne_true}
 use Rattle.std.proofs.lemmas.List.Folds.{list_any_at, list_any-append}
 use Rattle.std.proofs.lemmas.List.Sums.{sum_by_push}
 use Rattle.mspec.specs.Node.{Text}
@@ -14,13 +15,15 @@ use Rattle.mspec.specs.Flow.{IsIsland}
 use Rattle.mgrant.specs.Islands.{IsIslandOf}
 use Rattle.mislands.specs.Listing.{names_of, names_at, IsIslandBy, is_among, AreIslands, none, adds, has, EachInOne}
 
-same_test : (a b : Bool) → (a ≡ true → b ≡ true) → (b ≡ true → a ≡ true) → a ≡ b
-same_test true b f g = sym (f refl)
-same_test false true f g = absurd (false≢true (g refl))
-same_test false false f g = refl
-
 itself : (a : Text) → text_eq a a ≡ true
 itself a = (bytes_decides a a).1 refl
+
+any_last : {X : Type 0} (p : X → Bool) (xs : List X) (x : X) → list_any p (xs ++ x ∷ []) ≡ true → (list_any p xs ≡ true) ⊎ (p x ≡ true)
+any_last p xs x e =
+    elim (or_cases (list_any p xs) (p x || false) (sym (list_any-append p xs (x ∷ [])) ∙ e)) [
+      | inl earlier ↦ inl earlier
+      | inr last ↦ inr (sym (or-false (p x)) ∙ last)
+    ]
 
 -- ---- sets of accounts
 
@@ -43,7 +46,7 @@ module _ (settings : Settings) where
   -- islands that have an account in common are the same
   same_sets : (a b x : Text) (s t : Text → Bool) → IsIslandOf settings a s → IsIslandOf settings b t → s x ≡ true → t x ≡ true → (y : Text) → s y ≡ t y
   same_sets a b x s t one two here there y =
-      same_test (s y) (t y) ((moved a x s one here).least t two.island there y) ((moved b x t two there).least s one.island here y)
+      both_ways (s y) (t y) ((moved a x s one here).least t two.island there y) ((moved b x t two there).least s one.island here y)
 
 -- ---- the names in a line
 
@@ -121,13 +124,9 @@ module _ (settings : Settings) where
   shared_before _ _ none a x island own here known e = absurd (false≢true e)
   shared_before _ _ (adds before islands b other old free own') a x island own here known e =
       list_any-append (list_any (text_eq a)) islands (other ∷ [])
-      ∙ elim (or_cases (is_among x islands) (is_among x (other ∷ [])) (sym (list_any-append (list_any (text_eq x)) islands (other ∷ [])) ∙ e)) [
+      ∙ elim (any_last (list_any (text_eq x)) islands other e) [
         | inl earlier ↦ or_left (is_among a islands) _ (shared_before before islands old a x island own here known earlier)
-        | inr last ↦
-            elim (or_cases (list_any (text_eq x) other) false last) [
-              | inl there ↦ or_right (is_among a islands) _ (or_left (list_any (text_eq a) other) false (shared a b x island other own own' here there known))
-              | inr not ↦ absurd (false≢true not)
-            ]
+        | inr there ↦ or_right (is_among a islands) _ (or_left (list_any (text_eq a) other) false (shared a b x island other own own' here there known))
       ]
   shared_before _ _ (has before islands b old there) a x island own here known e = shared_before before islands old a x island own here known e
 
@@ -152,11 +151,7 @@ module _ (settings : Settings) where
   counted _ _ (adds before islands a island old free own) all x =
       sum_by_push (λ line. cond (list_any (text_eq x) line) 1 0) islands island
       ∙ one_more (is_among x islands) (count_by (list_any (text_eq x)) islands) (list_any (text_eq x) island) (counted before islands old (front_known before a all) x)
-      (λ here.
-      elim (cases_Bool (is_among x islands)) [
-        | inl there ↦ absurd (false≢true (sym free ∙ shared_before before islands old a x island own here (last_known before a all) there))
-        | inr apart ↦ apart
-      ])
+      (λ here. false_from_ne_true _ (λ there. false≢true (sym free ∙ shared_before before islands old a x island own here (last_known before a all) there)))
       ∙ ap (λ b. cond b 1 0) (sym (list_any-append (list_any (text_eq x)) islands (island ∷ [])))
   counted _ _ (has before islands a old there) all x = counted before islands old (front_known before a all) x
 
@@ -165,24 +160,16 @@ module _ (settings : Settings) where
   covered _ _ none all x e = absurd (false≢true e)
   covered _ _ (adds before islands a island old free own) all x e =
       list_any-append (list_any (text_eq x)) islands (island ∷ [])
-      ∙ elim (or_cases (list_any (text_eq x) before) (list_any (text_eq x) (a ∷ [])) (sym (list_any-append (text_eq x) before (a ∷ [])) ∙ e)) [
+      ∙ elim (any_last (text_eq x) before a e) [
         | inl earlier ↦ or_left (is_among x islands) _ (covered before islands old (front_known before a all) x earlier)
-        | inr last ↦
-            elim (or_cases (text_eq x a) false last) [
-              | inl same ↦
-                  let line : list_any (text_eq a) island ≡ true = in_line a island a own (last_known before a all) own.1.least.has in
-                  or_right (is_among x islands) _ (or_left (list_any (text_eq x) island) false (ap (λ t. list_any (text_eq t) island) ((bytes_decides x a).0 same) ∙ line))
-              | inr not ↦ absurd (false≢true not)
-            ]
+        | inr same ↦
+            let line : list_any (text_eq a) island ≡ true = in_line a island a own (last_known before a all) own.1.least.has in
+            or_right (is_among x islands) _ (or_left (list_any (text_eq x) island) false (ap (λ t. list_any (text_eq t) island) ((bytes_decides x a).0 same) ∙ line))
       ]
   covered _ _ (has before islands a old there) all x e =
-      elim (or_cases (list_any (text_eq x) before) (list_any (text_eq x) (a ∷ [])) (sym (list_any-append (text_eq x) before (a ∷ [])) ∙ e)) [
+      elim (any_last (text_eq x) before a e) [
         | inl earlier ↦ covered before islands old (front_known before a all) x earlier
-        | inr last ↦
-            elim (or_cases (text_eq x a) false last) [
-              | inl same ↦ ap (λ t. is_among t islands) ((bytes_decides x a).0 same) ∙ there
-              | inr not ↦ absurd (false≢true not)
-            ]
+        | inr same ↦ ap (λ t. is_among t islands) ((bytes_decides x a).0 same) ∙ there
       ]
 
 pub each_in_one : (settings : Settings) (islands : List (List Text)) → AreIslands settings (names_of settings) islands → EachInOne settings islands

@@ -1,8 +1,7 @@
 -- SPDX-License-Identifier: Apache-2.0
 -- What `rounded` returns, on plain numbers.
-use Rattle.std.proofs.Common.{ℕ, suc, ◌≡◌, ◌+◌, ◌*◌, ◌-◌, ◌/◌, ◌^◌, ◌<◌, ◌≤◌, ◌⊎◌, ◌≢◌, Option, Some, None, refl, sym, ◌∙◌, ap, arith, inl, inr, ⊎_elim}
+use Rattle.std.proofs.Common.{ℕ, suc, ◌≡◌, ◌+◌, ◌*◌, ◌-◌, ◌/◌, ◌^◌, ◌<◌, ◌≤◌, ◌⊎◌, ◌≢◌, Option, Some, None, refl, sym, ◌∙◌, ap, arith, inl, inr, ⊎_elim, MatchOption, option_map}
 use Rattle.std.proofs.Math.Nat.{mul-le-mul_right, pow-le-pow_right, mul_assoc, mul-lt-mul_of_pos_right, lt_of_mul-lt-mul_right, pow-suc, div-mul-le_self}
-use Rattle.std.specs.Prelude.{MatchOption, option_map}
 use Rattle.mnum.proofs.Rounds.{Drops, drops_some, drops_none, exact_some, over_none}
 use Rattle.mnum.specs.Floor.{IsFloor, IsFine}
 use Rattle.mnum.specs.Size.{size_units}

@@ -1,6 +1,6 @@
 -- SPDX-License-Identifier: Apache-2.0
 -- The parts of a literal.
-use Rattle.std.proofs.Common.{ℕ, ◌≡◌, ◌+◌, ◌*◌, ◌^◌, ◌<◌, ◌≤◌, ◌⊎◌, Bool, true, false, cond, not, eqb, Option, List, ◌++◌, drop, length, get_or, refl, sym, ◌∙◌, ap, subst, arith, inl, inr, ⊎_elim, add-one, drop-cons}
+use Rattle.std.proofs.Common.{ℕ, ◌≡◌, ◌+◌, ◌*◌, ◌^◌, ◌<◌, ◌≤◌, ◌⊎◌, Bool, true, false, cond, not, eqb, Option, List, ◌++◌, drop, length, get_or, refl, sym, ◌∙◌, ap, subst, arith, inl, inr, ⊎_elim, add-one, drop-cons, option_map}
 use Rattle.std.proofs.lemmas.Bool.Decides.{nat_tests}
 use Rattle.std.proofs.lemmas.List.Sums.{fold-append, prefix_len_is}
 use Rattle.std.specs.List.{prefix_len}
@@ -8,25 +8,9 @@ use Rattle.mnum.specs.Head.{IsHead, IsCapped}
 use Rattle.mspec.specs.Literal.{is_digit, with_digit, digits_after}
 use Rattle.mspec.specs.Number.{round_size, signed}
 use Rattle.mspec.specs.NumberText.{is_sign, is_negated, front_digits, fraction_digits, after_digits, after_fraction, front_exponent, literal_size, numeric_value}
-use Rattle.std.specs.Prelude.{option_map}
 
 negated_at : (s : List ℕ) (i : ℕ) → i < length s → is_negated (drop i s) ≡ cond (eqb (get_or s i 0) 45) (not (is_negated (drop (i + 1) s))) (cond (eqb (get_or s i 0) 43) (is_negated (drop (i + 1) s)) false)
 negated_at s i h = rw (add-one, drop-cons s i 0) refl
-
-flip_twice : (b r : Bool) → cond b (not (not r)) (not r) ≡ cond (not b) (not r) r
-flip_twice true true = refl
-flip_twice true false = refl
-flip_twice false r = refl
-
-pub minus_more : (b : Bool) (s : List ℕ) (i : ℕ) → i < length s → get_or s i 0 ≡ 45 → is_negated s ≡ cond b (not (is_negated (drop i s))) (is_negated (drop i s)) → is_negated s ≡ cond (not b) (not (is_negated (drop (i + 1) s))) (is_negated (drop (i + 1) s))
-minus_more b s i h e w =
-    let at : is_negated (drop i s) ≡ not (is_negated (drop (i + 1) s)) = negated_at s i h ∙ grind (arith, nat_tests) in
-    w ∙ ap (λ r. cond b (not r) r) at ∙ flip_twice b (is_negated (drop (i + 1) s))
-
-pub plus_more : (b : Bool) (s : List ℕ) (i : ℕ) → i < length s → get_or s i 0 ≡ 43 → is_negated s ≡ cond b (not (is_negated (drop i s))) (is_negated (drop i s)) → is_negated s ≡ cond b (not (is_negated (drop (i + 1) s))) (is_negated (drop (i + 1) s))
-plus_more b s i h e w =
-    let at : is_negated (drop i s) ≡ is_negated (drop (i + 1) s) = negated_at s i h ∙ grind (arith, nat_tests) in
-    w ∙ ap (λ r. cond b (not r) r) at
 
 flag : (b : Bool) → cond b (not false) false ≡ b
 flag true = refl
@@ -39,9 +23,6 @@ signs_stop b s i h minus plus w =
 
 pub signs_is : (s : List ℕ) (i : ℕ) → i ≤ length s → ((k : ℕ) → k < i → is_sign (get_or s k 0) ≡ true) → (i < length s → is_sign (get_or s i 0) ≡ false) → i ≡ prefix_len is_sign s
 signs_is s i h all stop = sym (prefix_len_is is_sign s i 0 h all stop)
-
-pub is_sign_true : (c : ℕ) → (c ≡ 45) ⊎ (c ≡ 43) → is_sign c ≡ true
-is_sign_true c w = grind (arith, nat_tests)
 
 pub is_sign_false : (c : ℕ) → (c ≡ 45 → ⊥) → (c ≡ 43 → ⊥) → is_sign c ≡ false
 is_sign_false c a b = grind (arith, nat_tests)

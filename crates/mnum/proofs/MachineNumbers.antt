@@ -1,13 +1,7 @@
 -- SPDX-License-Identifier: Apache-2.0
 -- The order and the sum of two numbers in their own places, in a machine's numbers.
-use Rattle.std.proofs.Common.{ℕ, ◌≡◌, ◌*◌, ◌-◌, ◌^◌, ◌<◌, ◌≤◌, Bool, true, false, cond, refl, ◌∙◌, ap, arith, Less, Equal, Greater}
-use Rattle.std.specs.Prelude.{ℤ, pos, negsuc, ◌+ℤ◌, unsigned_abs}
-use Rattle.std.specs.Int.{w64}
-use Rattle.std.specs.Ordering.{int_cmp}
-use Rattle.std.specs.declared.cmp.Ordering.{Ordering}
+use Rattle.std.proofs.Common.{ℕ, ◌≡◌, ◌*◌, ◌-◌, ◌^◌, ◌<◌, ◌≤◌, Bool, true, false, cond, refl, ◌∙◌, ap, arith, Less, Equal, Greater, ℤ, pos, negsuc, ◌+ℤ◌, unsigned_abs, w64, int_cmp, Ordering, mul-lt-mul_of_pos_right, mul-le-mul_right, mul-pos, le-ltb}
 use lib.Signed.{lt_z}
-use Rattle.std.proofs.Math.Nat.{mul-lt-mul_of_pos_right, mul-le-mul_right, mul-pos}
-use Rattle.std.proofs.lemmas.Bool.{le-ltb}
 use Rattle.std.proofs.lemmas.Bool.Decides.{nat_tests}
 use Rattle.mspec.proofs.Powers.{ten_pos}
 use mir.Val.{to_z, of_z}

@@ -1,7 +1,6 @@
 -- SPDX-License-Identifier: Apache-2.0
 -- What an operation gives, under another name of its definition.
-use Rattle.std.proofs.Common.{◌≡◌, ℕ, ◌<◌, ◌∙◌, subst, sym, refl}
-use Rattle.std.specs.Prelude.{ℤ, unsigned_abs, Option, Some, None, Result, Ok, Err, IfErr, MatchResult, option_map}
+use Rattle.std.proofs.Common.{◌≡◌, ℕ, ◌<◌, ◌∙◌, subst, sym, refl, ℤ, unsigned_abs, Option, Some, None, Result, Ok, Err, IfErr, MatchResult, option_map}
 use Rattle.mnum.specs.Division.{IsOutcome}
 use Rattle.mnum.specs.Num.{units}
 use Rattle.mnum.specs.declared.num.Num.{Num}

@@ -1,6 +1,6 @@
 -- SPDX-License-Identifier: Apache-2.0
 -- Texts of numbers.
-use Rattle.std.proofs.Common.{ℕ, zero, suc, ◌≡◌, ◌+◌, ◌*◌, ◌-◌, ◌/◌, ◌%◌, ◌^◌, ◌<◌, ◌≤◌, Bool, true, false, not, cond, eqb, List, [], ◌∷◌, ◌++◌, length, refl, sym, ◌∙◌, ap, subst, arith, append_assoc, decimal}
+use Rattle.std.proofs.Common.{ℕ, zero, suc, ◌≡◌, ◌+◌, ◌*◌, ◌-◌, ◌/◌, ◌%◌, ◌^◌, ◌<◌, ◌≤◌, Bool, true, false, not, cond, eqb, List, [], ◌∷◌, ◌++◌, length, refl, sym, ◌∙◌, ap, subst, arith, append_assoc, decimal, append-nil}
 use Rattle.std.proofs.Math.Nat.{zero-mul, mul-div-mul_right, div-add-mod', mul-pos}
 use Rattle.std.proofs.lemmas.Nat.{mod_below}
 use Rattle.std.proofs.lemmas.Fmt.{length-decimal-le}
@@ -39,6 +39,10 @@ scaled_remainder f P u h =
     let both : (f / P * P + f % P) * u ≡ f * u = ap (λ x. x * u) one in
     omega arith
 
+same_test : (f j : ℕ) → eqb (f * 10 ^ j) 0 ≡ eqb f 0
+same_test zero j = ap (λ x. eqb x 0) (zero-mul (10 ^ j))
+same_test (suc f) j = eqb_zero (suc f * 10 ^ j) (mul-pos (omega arith) (ten_pos j)) ∙ sym (eqb_zero (suc f) (omega arith))
+
 pub fraction_scaled : (k j m f : ℕ) → m ≡ k + j → f < 10 ^ k → fraction_text m (f * 10 ^ j) ≡ fraction_text k f
 fraction_scaled zero j m f e below =
     let none : f ≡ 0 = omega arith in
@@ -54,10 +58,6 @@ fraction_scaled (suc k) j (suc m) f e below =
     ap (λ b. cond b [] ((48 + f * 10 ^ j / 10 ^ m) ∷ fraction_text m (f * 10 ^ j % 10 ^ m))) (same_test f j)
     ∙ ap (λ x. cond (eqb f 0) [] ((48 + x) ∷ fraction_text m (f * 10 ^ j % 10 ^ m))) first
     ∙ ap (λ t. cond (eqb f 0) [] ((48 + f / 10 ^ k) ∷ t)) (ap (fraction_text m) rest ∙ deeper)
-  where
-    same_test : (f j : ℕ) → eqb (f * 10 ^ j) 0 ≡ eqb f 0
-    same_test zero j = ap (λ x. eqb x 0) (zero-mul (10 ^ j))
-    same_test (suc f) j = eqb_zero (suc f * 10 ^ j) (mul-pos (omega arith) (ten_pos j)) ∙ sym (eqb_zero (suc f) (omega arith))
 
 -- the parts of a size, in its own places
 pub size_parts : (d p : ℕ) → p ≤ 18 → 0 < d → size_text (d * 10 ^ (18 - p)) ≡ whole_text (d / 10 ^ p) ++ cond (eqb (d % 10 ^ p) 0) [] (46 ∷ fraction_text p (d % 10 ^ p))
@@ -77,10 +77,6 @@ size_parts d p near some =
   where
     sum : (p : ℕ) → p ≤ 18 → 18 ≡ p + (18 - p)
     sum p near = omega arith
-
-    same_test : (f j : ℕ) → eqb (f * 10 ^ j) 0 ≡ eqb f 0
-    same_test zero j = ap (λ x. eqb x 0) (zero-mul (10 ^ j))
-    same_test (suc f) j = eqb_zero (suc f * 10 ^ j) (mul-pos (omega arith) (ten_pos j)) ∙ sym (eqb_zero (suc f) (omega arith))
 
 sign_text : (b : Bool) (n : ℕ) → 0 < n → number_text (signed b n) ≡ cond b (45 ∷ []) [] ++ size_text n
 sign_text b zero h = absurd (omega arith)
@@ -108,14 +104,10 @@ pub text_whole : (b : Bool) (d p unit : ℕ) (first out : List ℕ) → unit ≡
 text_whole b d p unit first out is near some f o none =
     let zero_part : d % unit ≡ 0 = omega arith in
     o ∙ ap (λ t. t ++ whole_text (d / unit)) f
-    ∙ ap (λ t. cond b (45 ∷ []) [] ++ t) (sym (append_nil (whole_text (d / unit))))
+    ∙ ap (λ t. cond b (45 ∷ []) [] ++ t) (sym (append-nil (whole_text (d / unit))))
     ∙ ap (λ x. cond b (45 ∷ []) [] ++ (whole_text (d / unit) ++ cond (eqb x 0) [] (46 ∷ fraction_text p x))) (sym zero_part)
     ∙ ap (λ u. cond b (45 ∷ []) [] ++ (whole_text (d / u) ++ cond (eqb (d % u) 0) [] (46 ∷ fraction_text p (d % u)))) is
     ∙ sym (text_parts b d p near some)
-  where
-    append_nil : (xs : List ℕ) → xs ++ [] ≡ xs
-    append_nil [] = refl
-    append_nil (x ∷ xs) = ap (λ t. x ∷ t) (append_nil xs)
 
 pub decimal_short : (n : ℕ) (bs : List ℕ) → n < 10 ^ 18 → bs ≡ decimal n → length bs ≤ 18
 decimal_short n bs h e = subst (λ (t : List ℕ). length t ≤ 18) (sym e) (length-decimal-le 18 n (omega arith) h (omega arith))

@@ -1,7 +1,7 @@
 -- SPDX-License-Identifier: Apache-2.0
 -- The quotient of two sizes.
-use Rattle.std.proofs.Common.{ℕ, zero, suc, ◌≡◌, ◌+◌, ◌*◌, ◌-◌, ◌/◌, ◌%◌, Some, ◌^◌, ◌<◌, ◌≤◌, ◌⊎◌, Bool, true, false, not, Option, None, refl, sym, ◌∙◌, ap, subst, arith, inl, inr, ⊎_elim}
-use Rattle.std.specs.Prelude.{unsigned_abs}
+use Rattle.std.proofs.Common.{ℕ, zero, suc, ◌≡◌, ◌+◌, ◌*◌, ◌-◌, ◌/◌, ◌%◌, Some, ◌^◌, ◌<◌, ◌≤◌, ◌⊎◌, Bool, true, false, not, Option, None, refl, sym, ◌∙◌, ap, subst, arith, inl, inr, ⊎_elim, unsigned_abs, option_map}
+use Rattle.mspec.proofs.DistanceLaws.{abs_signed}
 use Rattle.std.proofs.Math.Nat.{div-add-mod, zero-mul, div-le_self, mul-le-mul_right, mul-le-mul_left, mul-pos, div-mul-le_self, lt-div-mul-add, mul-lt-mul_of_pos_right, mul_assoc}
 use Rattle.std.proofs.lemmas.Nat.{le-div}
 use mathlib.Core.Bool.{beq}
@@ -11,12 +11,6 @@ use Rattle.mnum.specs.Floor.{IsFloor, IsFine}
 use Rattle.mspec.proofs.Powers.{ten_pos, ten_add}
 use Rattle.mspec.proofs.Rounding.{round_none}
 use Rattle.mspec.specs.Number.{round_size, signed, over_size, round}
-use Rattle.std.specs.Prelude.{option_map}
-
-pub abs_signed : (s : Bool) (n : ℕ) → unsigned_abs (signed s n) ≡ n
-abs_signed false n = refl
-abs_signed true zero = refl
-abs_signed true (suc n) = refl
 
 pub over_size_signed : (s t : Bool) (m n : ℕ) → 0 < n → over_size (signed s m) (signed t n) ≡ signed (not (beq s t)) m
 over_size_signed s t m zero h = absurd (omega arith)

@@ -1,7 +1,7 @@
 -- SPDX-License-Identifier: Apache-2.0
 -- What a division with floor leaves.
-use Rattle.std.proofs.Common.{ℕ, zero, suc, ◌≡◌, ◌+◌, ◌*◌, ◌-◌, ◌/◌, ◌%◌, ◌^◌, ◌<◌, ◌≤◌, Bool, true, false, cond, not, eqb, refl, sym, ◌∙◌, ap, subst, arith, inl, ⊎_elim}
-use Rattle.std.specs.Prelude.{ℤ, pos, negsuc, ◌-ℤ◌, ◌*ℤ◌, neg_ℤ, unsigned_abs, Option, Some, None, option_map}
+use Rattle.std.proofs.Common.{ℕ, zero, suc, ◌≡◌, ◌+◌, ◌*◌, ◌-◌, ◌/◌, ◌%◌, ◌^◌, ◌<◌, ◌≤◌, Bool, true, false, cond, not, eqb, refl, sym, ◌∙◌, ap, subst, arith, inl, ⊎_elim, ℤ, pos, negsuc, ◌-ℤ◌, ◌*ℤ◌, neg_ℤ, unsigned_abs, Option, Some, None, option_map}
+use Rattle.mspec.proofs.DistanceLaws.{abs_signed}
 use Rattle.std.specs.Int.{int_div_euclid}
 use Rattle.std.proofs.lemmas.Int.{ints}
 use Rattle.std.proofs.lemmas.Nat.{mod_below}
@@ -12,9 +12,8 @@ use mathlib.Core.Bool.{beq}
 use Rattle.mnum.proofs.SignLaws.{with_sign, exact_floor}
 use Rattle.mnum.specs.Floor.{IsFloor, IsFine, floor_left}
 use Rattle.mspec.proofs.Powers.{ten_pos, ten_add}
-use Rattle.mspec.proofs.Rounding.{round_some, digits_before_le}
+use Rattle.mspec.proofs.Rounding.{round_some, digits_before_le, rounding_unit_is}
 use Rattle.mspec.specs.Number.{round_size, nearest, rounding_unit, digits_before, signed, round, floor_remainder}
-use Rattle.mnum.proofs.Quotients.{abs_signed}
 use Rattle.mnum.proofs.Prints.{scaled_remainder}
 
 eqb_zero : (n : ℕ) → (n ≡ 0 → ⊥) → eqb n 0 ≡ false
@@ -114,10 +113,6 @@ remainder_is s t a b g A B P n x near g_is some a_is b_is n_is value =
   where
     back : (P : ℕ) → P ≤ 18 → 18 ≡ 18 - P + P
     back P near = omega arith
-
-rounding_unit_is : (kept p q : ℕ) → rounding_unit kept p q ≡ 10 ^ (digits_before 36 p q - kept)
-unfolding rounding_unit
-rounding_unit_is kept p q = refl
 
 nearest_most : (g p q : ℕ) → 2 * q * nearest g p q ≤ 2 * p + g * q
 unfolding nearest

@@ -1,29 +1,12 @@
 -- SPDX-License-Identifier: Apache-2.0
 -- The size of a number from its first digits.
-use Rattle.std.proofs.Common.{ℕ, ◌≡◌, ◌+◌, ◌*◌, ◌-◌, ◌^◌, ◌<◌, ◌≤◌, ◌⊎◌, Some, None, List, take, length, get_or, sym, ◌∙◌, ap, arith, inl, inr, ⊎_elim}
+use Rattle.std.proofs.Common.{ℕ, ◌≡◌, ◌+◌, ◌*◌, ◌-◌, ◌^◌, ◌<◌, ◌≤◌, ◌⊎◌, Some, None, sym, ◌∙◌, ap, arith, inl, inr, ⊎_elim}
 use Rattle.std.proofs.Math.Nat.{mul-le-mul_right, mul-lt-mul_of_pos_right, mul_assoc, pow-le-pow_right}
-use Rattle.std.proofs.lemmas.List.Sums.{fold_more}
 use Rattle.mnum.specs.Floor.{IsFloor, IsFine}
-use Rattle.mnum.specs.Head.{IsHead, IsCapped}
+use Rattle.mnum.specs.Head.{IsHead}
 use Rattle.mspec.proofs.Powers.{ten_pos, ten_add}
 use Rattle.mspec.proofs.Rounding.{round_none, round_small, round_zero}
-use Rattle.mspec.specs.Literal.{with_digit, digits_after}
 use Rattle.mspec.specs.Number.{round_size}
-
--- one more digit of a capped number
-pub capped_more : (r n i : ℕ) (s : List ℕ) → i < length s → r < 10 ^ 20 → IsCapped r (digits_after 0 (take i s)) → IsCapped (r * 10 + (get_or s i 0 - 48)) (digits_after 0 (take (i + 1) s))
-capped_more r n i s h few w =
-    let c : ℕ = get_or s i 0 in
-    let before : ℕ = digits_after 0 (take i s) in
-    let next : digits_after 0 (take (i + 1) s) ≡ before * 10 + (c - 48) = fold_more with_digit 0 s i 0 h in
-    ⊎_elim (λ (e : r ≡ before). inl (ap (λ x. x * 10 + (c - 48)) e ∙ sym next)) (λ (k : (10 ^ 20 ≤ r) × (10 ^ 20 ≤ before)). absurd (omega arith)) w
-
-pub capped_stays : (r i : ℕ) (s : List ℕ) → i < length s → 10 ^ 20 ≤ r → IsCapped r (digits_after 0 (take i s)) → IsCapped r (digits_after 0 (take (i + 1) s))
-capped_stays r i s h many w =
-    let c : ℕ = get_or s i 0 in
-    let before : ℕ = digits_after 0 (take i s) in
-    let next : digits_after 0 (take (i + 1) s) ≡ before * 10 + (c - 48) = fold_more with_digit 0 s i 0 h in
-    ⊎_elim (λ (e : r ≡ before). inr (many, omega arith)) (λ (k : (10 ^ 20 ≤ r) × (10 ^ 20 ≤ before)). inr (many, omega arith)) w
 
 -- the number with its exponent, between its first digits and the next
 head_low : (n d number a : ℕ) → IsHead n d number → n * 10 ^ (d + a) ≤ number * 10 ^ a
@@ -102,15 +85,11 @@ pub record Scaling (n d number raise lower a down : ℕ) : Type 0 where
   pub short : d < 2 ^ 64
   pub one_way : (raise ≡ 0) ⊎ (lower < 2 ^ 64)
   pub head : IsHead n d number
-  pub up : IsCapped raise a
-  pub under : IsCapped lower down
+  pub up : (raise ≡ a) ⊎ ((10 ^ 20 ≤ raise) × (10 ^ 20 ≤ a))
+  pub under : (lower ≡ down) ⊎ ((10 ^ 20 ≤ lower) × (10 ^ 20 ≤ down))
 
 pub scaled_none : (kept n d number raise lower a down : ℕ) → Scaling n d number raise lower a down → 0 < n → lower < d + raise → ((0 < d) ⊎ (18 < d + raise - lower)) → round_size kept (number * 10 ^ a) (10 ^ down) ≡ None
 scaled_none kept n d number raise lower a down s some far w =
-    let one : (raise ≡ 0) ⊎ (lower < 2 ^ 64) = s.one_way in
-    let ups : (raise ≡ a) ⊎ ((10 ^ 20 ≤ raise) × (10 ^ 20 ≤ a)) = s.up in
-    let unders : (lower ≡ down) ⊎ ((10 ^ 20 ≤ lower) × (10 ^ 20 ≤ down)) = s.under in
-    let short : d < 2 ^ 64 = s.short in
     let exact : lower ≡ down = omega arith in
     ⊎_elim
     (λ (long : 0 < d). head_long kept n d number a down long s.head (omega arith))
@@ -119,29 +98,17 @@ scaled_none kept n d number raise lower a down s some far w =
 
 pub scaled_zeros : (n d number raise lower a down : ℕ) → Scaling n d number raise lower a down → lower < d + raise → d ≤ 0 → d + raise - lower ≤ 18 → n * 10 ^ (d + raise - lower) * 10 ^ down ≡ number * 10 ^ a * 10 ^ 0
 scaled_zeros n d number raise lower a down s far none few =
-    let one : (raise ≡ 0) ⊎ (lower < 2 ^ 64) = s.one_way in
-    let ups : (raise ≡ a) ⊎ ((10 ^ 20 ≤ raise) × (10 ^ 20 ≤ a)) = s.up in
-    let unders : (lower ≡ down) ⊎ ((10 ^ 20 ≤ lower) × (10 ^ 20 ≤ down)) = s.under in
-    let short : d < 2 ^ 64 = s.short in
     let exact : lower ≡ down = omega arith in
     let same : raise ≡ a = omega arith in
     head_zeros n d number a down (d + raise - lower) (omega arith) s.head (omega arith)
 
 pub scaled_small : (kept n d number raise lower a down : ℕ) → Scaling n d number raise lower a down → d + raise ≤ lower → 38 < lower - (d + raise) → round_size kept (number * 10 ^ a) (10 ^ down) ≡ Some 0
 scaled_small kept n d number raise lower a down s near far =
-    let one : (raise ≡ 0) ⊎ (lower < 2 ^ 64) = s.one_way in
-    let ups : (raise ≡ a) ⊎ ((10 ^ 20 ≤ raise) × (10 ^ 20 ≤ a)) = s.up in
-    let unders : (lower ≡ down) ⊎ ((10 ^ 20 ≤ lower) × (10 ^ 20 ≤ down)) = s.under in
-    let short : d < 2 ^ 64 = s.short in
     let same : raise ≡ a = omega arith in
     head_small kept n d number a down s.few s.head (omega arith)
 
 pub scaled_places : (n d number raise lower a down : ℕ) → Scaling n d number raise lower a down → d + raise ≤ lower → lower - (d + raise) ≤ 38 → lower - (d + raise) + (d + a) ≡ down
 scaled_places n d number raise lower a down s near few =
-    let one : (raise ≡ 0) ⊎ (lower < 2 ^ 64) = s.one_way in
-    let ups : (raise ≡ a) ⊎ ((10 ^ 20 ≤ raise) × (10 ^ 20 ≤ a)) = s.up in
-    let unders : (lower ≡ down) ⊎ ((10 ^ 20 ≤ lower) × (10 ^ 20 ≤ down)) = s.under in
-    let short : d < 2 ^ 64 = s.short in
     let same : raise ≡ a = omega arith in
     let exact : lower ≡ down = omega arith in
     omega arith

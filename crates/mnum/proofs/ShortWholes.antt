@@ -1,7 +1,6 @@
 -- SPDX-License-Identifier: Apache-2.0
 -- When one to eighteen digits are canonical.
-use Rattle.std.proofs.Common.{ℕ, suc, ◌≡◌, ◌<◌, ◌≤◌, true, not, List, [], ◌∷◌, length, get_or, All, sym, ap, subst, arith, ⊎_elim}
-use Rattle.std.specs.Prelude.{IsTrue, nat_eq}
+use Rattle.std.proofs.Common.{ℕ, suc, ◌≡◌, ◌<◌, ◌≤◌, true, not, List, [], ◌∷◌, length, get_or, All, sym, ap, subst, arith, ⊎_elim, IsTrue, nat_eq}
 use Rattle.std.proofs.lemmas.Bool.Decides.{nat_tests}
 use Rattle.mspec.specs.Literal.{is_digit}
 use Rattle.mspec.specs.NumberText.{IsCanonical}

@@ -1,8 +1,6 @@
 -- SPDX-License-Identifier: Apache-2.0
 -- Signs, and rounding with a sign.
-use Rattle.std.proofs.Common.{ℕ, zero, suc, ◌≡◌, ◌+◌, ◌*◌, ◌-◌, ◌^◌, ◌<◌, ◌≤◌, Bool, true, false, not, Option, refl, sym, ◌∙◌, ap, arith}
-use Rattle.std.specs.Prelude.{ℤ, ◌*ℤ◌, neg_ℤ, option_map}
-use Rattle.std.proofs.Math.Nat.{mul-zero, zero-mul}
+use Rattle.std.proofs.Common.{ℕ, zero, suc, ◌≡◌, ◌+◌, ◌*◌, ◌-◌, ◌^◌, ◌<◌, ◌≤◌, Bool, true, false, not, Option, refl, sym, ◌∙◌, ap, arith, ℤ, ◌*ℤ◌, option_map, mul-zero, zero-mul}
 use mathlib.Core.Bool.{beq}
 use Rattle.mnum.specs.Floor.{IsFloor}
 use Rattle.mspec.proofs.Powers.{ten_add}
@@ -20,11 +18,6 @@ signed_mul true true zero zero = refl
 signed_mul true true zero (suc n) = rw zero-mul refl
 signed_mul true true (suc m) zero = rw mul-zero refl
 signed_mul true true (suc m) (suc n) = refl
-
-pub signed_neg : (s : Bool) (n : ℕ) → signed (not s) n ≡ neg_ℤ (signed s n)
-signed_neg false n = refl
-signed_neg true zero = refl
-signed_neg true (suc n) = refl
 
 -- what an exact whole part gives
 pub exact_floor : (n t p q : ℕ) → 0 < q → n * q ≡ p * 10 ^ t → IsFloor n t p q

@@ -1,19 +1,17 @@
 -- SPDX-License-Identifier: Apache-2.0
 -- Sums, whole quotients and remainders at one scale.
-use Rattle.std.proofs.Common.{ℕ, zero, suc, ◌≡◌, ◌+◌, ◌*◌, ◌-◌, ◌/◌, ◌^◌, ◌<◌, ◌≤◌, Bool, true, false, not, refl, sym, ◌∙◌, ap, subst, arith, inl}
-use Rattle.std.specs.Prelude.{pos, ◌-ℤ◌, ◌+ℤ◌, neg_ℤ}
+use Rattle.std.proofs.Common.{ℕ, zero, suc, ◌≡◌, ◌+◌, ◌*◌, ◌-◌, ◌/◌, ◌^◌, ◌<◌, ◌≤◌, Bool, true, false, not, refl, sym, ◌∙◌, ap, subst, arith, inl, pos, ◌-ℤ◌, ◌+ℤ◌, neg_ℤ, int_div, unsigned_abs, Option, option_map}
+use Rattle.mspec.proofs.DistanceLaws.{abs_signed}
 use Rattle.std.specs.Int.{w128}
 use mir.Val.{to_z, of_z, SFits}
 use Rattle.std.proofs.lemmas.Int.{ints}
 use Rattle.std.proofs.Math.Nat.{mul_assoc, mul-lt-mul_of_pos_right, pow-le-pow_right}
 use Rattle.std.proofs.Math.Nat.{zero-div, mul-div-mul_right}
-use Rattle.std.specs.Prelude.{int_div, unsigned_abs, Option, option_map}
 use mathlib.Core.Bool.{beq}
 use Rattle.mnum.proofs.SignLaws.{with_sign, exact_floor}
 use Rattle.mnum.specs.Floor.{IsFloor, IsFine}
 use Rattle.mspec.proofs.Powers.{ten_pos, ten_add}
 use Rattle.mspec.specs.Number.{round_size, signed, round}
-use Rattle.mnum.proofs.Quotients.{abs_signed}
 
 pub places_value : (d s P : ℕ) → s ≤ P → P ≤ 18 → d * 10 ^ (P - s) * 10 ^ (18 - P) ≡ d * 10 ^ (18 - s)
 places_value d s P h k = mul_assoc d (10 ^ (P - s)) (10 ^ (18 - P)) ∙ ap (λ x. d * x) (sym (ten_add (P - s) (18 - P)) ∙ ap (λ x. 10 ^ x) (sum s P h k))
@@ -38,38 +36,14 @@ kept_is n h = omega (arith, ints)
 
 -- a sum at another scale
 pub scale_sum : (s na nb : Bool) (n a b g : ℕ) → signed s n ≡ signed na a +ℤ signed nb b → signed s (n * g) ≡ signed na (a * g) +ℤ signed nb (b * g)
-scale_sum false false false n a b g h =
-    let e : n ≡ a + b = omega (arith, ints) in
-    let scaled : (n) * g ≡ (a + b) * g = ap (λ x. x * g) e in
-    omega (arith, ints)
-scale_sum false false true n a b g h =
-    let e : n + b ≡ a = omega (arith, ints) in
-    let scaled : (n + b) * g ≡ (a) * g = ap (λ x. x * g) e in
-    omega (arith, ints)
-scale_sum false true false n a b g h =
-    let e : n + a ≡ b = omega (arith, ints) in
-    let scaled : (n + a) * g ≡ (b) * g = ap (λ x. x * g) e in
-    omega (arith, ints)
-scale_sum false true true n a b g h =
-    let e : n + a + b ≡ 0 = omega (arith, ints) in
-    let scaled : (n + a + b) * g ≡ (0) * g = ap (λ x. x * g) e in
-    omega (arith, ints)
-scale_sum true false false n a b g h =
-    let e : n + a + b ≡ 0 = omega (arith, ints) in
-    let scaled : (n + a + b) * g ≡ (0) * g = ap (λ x. x * g) e in
-    omega (arith, ints)
-scale_sum true false true n a b g h =
-    let e : n + a ≡ b = omega (arith, ints) in
-    let scaled : (n + a) * g ≡ (b) * g = ap (λ x. x * g) e in
-    omega (arith, ints)
-scale_sum true true false n a b g h =
-    let e : n + b ≡ a = omega (arith, ints) in
-    let scaled : (n + b) * g ≡ (a) * g = ap (λ x. x * g) e in
-    omega (arith, ints)
-scale_sum true true true n a b g h =
-    let e : n ≡ a + b = omega (arith, ints) in
-    let scaled : (n) * g ≡ (a + b) * g = ap (λ x. x * g) e in
-    omega (arith, ints)
+scale_sum false false false n a b g h = let e : n ≡ a + b = omega (arith, ints) in omega (arith, ints, ap (λ x. x * g) e)
+scale_sum false false true n a b g h = let e : n + b ≡ a = omega (arith, ints) in omega (arith, ints, ap (λ x. x * g) e)
+scale_sum false true false n a b g h = let e : n + a ≡ b = omega (arith, ints) in omega (arith, ints, ap (λ x. x * g) e)
+scale_sum false true true n a b g h = let e : n + a + b ≡ 0 = omega (arith, ints) in omega (arith, ints, ap (λ x. x * g) e)
+scale_sum true false false n a b g h = let e : n + a + b ≡ 0 = omega (arith, ints) in omega (arith, ints, ap (λ x. x * g) e)
+scale_sum true false true n a b g h = let e : n + a ≡ b = omega (arith, ints) in omega (arith, ints, ap (λ x. x * g) e)
+scale_sum true true false n a b g h = let e : n + b ≡ a = omega (arith, ints) in omega (arith, ints, ap (λ x. x * g) e)
+scale_sum true true true n a b g h = let e : n ≡ a + b = omega (arith, ints) in omega (arith, ints, ap (λ x. x * g) e)
 
 pub sum_is : (s na nb : Bool) (n a b g A B P : ℕ) (x : Option ℕ) → P ≤ 18 → g ≡ 10 ^ (18 - P) → signed s n ≡ signed na a +ℤ signed nb b → a * g ≡ A → b * g ≡ B →
     ((p q : ℕ) → 0 < q → IsFloor n P p q → IsFine 18 n P p q → x ≡ round_size 18 p q) →

@@ -1,9 +1,7 @@
 -- SPDX-License-Identifier: Apache-2.0
 -- The whole part of a number, and whether it is 0.
-use Rattle.std.proofs.Common.{ℕ, zero, suc, ◌≡◌, ◌*◌, ◌-◌, ◌/◌, ◌^◌, ◌<◌, ◌≤◌, ◌+◌, Bool, true, false, not, refl, sym, ◌∙◌, ap, arith, lit<}
-use Rattle.std.specs.Prelude.{pos, ◌-ℤ◌, ◌==◌, unsigned_abs}
-use Rattle.std.specs.Ordering.{int_eq}
-use Rattle.std.specs.Int.{w64}
+use Rattle.std.proofs.Common.{ℕ, zero, suc, ◌≡◌, ◌*◌, ◌-◌, ◌/◌, ◌^◌, ◌<◌, ◌≤◌, ◌+◌, Bool, true, false, not, refl, sym, ◌∙◌, ap, arith, lit<, pos, ◌-ℤ◌, ◌==◌, unsigned_abs, int_eq, w64}
+use Rattle.mspec.proofs.DistanceLaws.{abs_signed}
 use Rattle.std.proofs.Math.Nat.{mul-div-mul_right, mul-pos, zero-mul, div-le_self}
 use Rattle.std.proofs.lemmas.Bool.Decides.{Decides-eqb, Decides-int_eq, same_from_decides}
 use Rattle.std.proofs.lemmas.Int.{ints}
@@ -13,7 +11,6 @@ use Rattle.mspec.specs.Number.{signed}
 use Rattle.mspec.specs.Interpretations.{whole_part, is_true}
 use Rattle.mspec.proofs.Powers.{ten_pos, ten_add}
 use Rattle.mnum.proofs.Sums.{quotient_signed}
-use Rattle.mnum.proofs.Quotients.{abs_signed}
 
 positive : (s : Bool) → not (beq s false) ≡ s
 positive true = refl

@@ -1,8 +1,7 @@
 -- SPDX-License-Identifier: Apache-2.0
 -- Whole numbers of at most eighteen digits.
-use Rattle.std.proofs.Common.{ℕ, ◌≡◌, ◌+◌, ◌*◌, ◌-◌, ◌^◌, ◌<◌, ◌≤◌, true, List, take, length, get_or, All, ◌∙◌, ap, sym, arith}
+use Rattle.std.proofs.Common.{ℕ, ◌≡◌, ◌+◌, ◌*◌, ◌-◌, ◌^◌, ◌<◌, ◌≤◌, true, List, take, length, get_or, All, ◌∙◌, ap, sym, arith, take_all}
 use Rattle.std.proofs.Math.Nat.{pow-le-pow_right}
-use Rattle.std.proofs.lemmas.List.{take_all}
 use Rattle.std.proofs.lemmas.List.Elements.{All-from_get_or}
 use Rattle.std.proofs.lemmas.List.Sums.{fold_more}
 use Rattle.mspec.specs.Literal.{is_digit, with_digit, digits_after}

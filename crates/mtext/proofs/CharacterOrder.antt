@@ -1,8 +1,7 @@
 -- SPDX-License-Identifier: Apache-2.0
 -- The order of character codes as the comparison of slices has it.
-use Rattle.std.proofs.Common.{◌≡◌, ℕ, Bool, List, refl, arith, eqb}
+use Rattle.std.proofs.Common.{◌≡◌, ℕ, Bool, List, refl, arith, eqb, Ordering}
 use Rattle.std.specs.Ordering.{nat_cmp, ordering_index}
-use Rattle.std.specs.declared.cmp.Ordering.{Ordering}
 use Rattle.std.specs.Cmp.Lexicographic.{slice_cmp}
 use Rattle.std.proofs.lemmas.Bool.Decides.{nat_tests}
 use Rattle.std.proofs.lemmas.Cmp.{same_from_slice_cmp}

@@ -1,7 +1,6 @@
 -- SPDX-License-Identifier: Apache-2.0
 -- What a search for a text finds, in the words of the definitions.
-use Rattle.std.proofs.Common.{◌≡◌, ℕ, zero, suc, ◌+◌, ◌-◌, Bool, true, false, List, [], ◌∷◌, ◌++◌, length, take, drop, Option, Some, None, refl, sym, ap, subst, ◌∙◌, arith}
-use Rattle.std.specs.Prelude.{cond, option_map, unwrap_or, min, ℤ, pos}
+use Rattle.std.proofs.Common.{◌≡◌, ℕ, zero, suc, ◌+◌, ◌-◌, Bool, true, false, List, [], ◌∷◌, ◌++◌, length, take, drop, Option, Some, None, refl, sym, ap, subst, ◌∙◌, arith, cond, option_map, unwrap_or, min, ℤ, pos}
 use Rattle.std.proofs.lemmas.List.{length-append, take_rest, drop_min}
 use Rattle.std.proofs.Math.Seq.{drop-append_seam, take-append_seam}
 use Rattle.memchr.specs.Find.{IsFirst, IsFirstByte, Passes, is_byte, OccursAt, FindsNeedle, NoneBefore}

@@ -1,15 +1,9 @@
 -- SPDX-License-Identifier: Apache-2.0
 -- Texts that are made part by part, and refused where they are too long.
-use Rattle.std.proofs.Common.{◌≡◌, ℕ, zero, suc, ◌+◌, ◌*◌, ◌≤◌, ◌<◌, Bool, List, [], ◌∷◌, ◌++◌, length, refl, sym, ap, subst, ◌∙◌, arith, add-one}
-use Rattle.std.specs.Prelude.{cond, Option, Some, None, Result, Ok, Err, slice_get, MatchOption}
-use Rattle.std.specs.Result.{IsErr, IsErrAnd, IsOk}
-use Rattle.std.specs.Option.{option_copied, option_to_list}
-use Rattle.std.specs.List.{HoldsAt}
-use Rattle.std.specs.Borrow.{Bor}
+use Rattle.std.proofs.Common.{◌≡◌, ℕ, zero, suc, ◌+◌, ◌*◌, ◌≤◌, ◌<◌, Bool, List, [], ◌∷◌, ◌++◌, length, refl, sym, ap, subst, ◌∙◌, arith, add-one, cond, Option, Some, None, Result, Ok, Err, slice_get, MatchOption, IsErr, IsErrAnd, IsOk, option_copied, option_to_list, HoldsAt, Bor, append_assoc, append-nil, length-append}
 use Rattle.std.proofs.lemmas.Option.{slice_get_past, slice_get-get_or}
 use Rattle.std.specs.List.{repeat}
 use Rattle.std.proofs.lemmas.Bool.{le-leb, lt-leb}
-use Rattle.std.proofs.lemmas.List.{append_assoc, append-nil, length-append}
 use Rattle.mspec.specs.Code.{Zlong}
 use Rattle.mspec.specs.TextFunctions.{longest_text, made, translated_at, first_place}
 use Rattle.mtext.specs.declared.fault.TextFault.{TextFault}

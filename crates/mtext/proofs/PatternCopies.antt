@@ -1,10 +1,8 @@
 -- SPDX-License-Identifier: Apache-2.0
 -- Copies of a string, one taken off after another from the end.
-use Rattle.std.proofs.Common.{ℕ, zero, suc, ◌≡◌, ◌+◌, ◌-◌, ◌<◌, ◌≤◌, inl, inr, true, false, Bool, List, [], ◌∷◌, ◌++◌, get_or, length, refl, sym, subst, ◌∙◌, ap, arith, append_assoc, append-nil, true≢false}
+use Rattle.std.proofs.Common.{ℕ, zero, suc, ◌≡◌, ◌+◌, ◌-◌, ◌<◌, ◌≤◌, inl, inr, true, false, Bool, List, ◌∷◌, ◌++◌, get_or, length, refl, sym, subst, ◌∙◌, ap, arith, append_assoc, append-nil, true≢false, length-append, Option, Some, None, option_map, slice_range, Decides, MatchOption, Result, Ok, Err, Vec, IfOk, []}
 use Rattle.std.proofs.lemmas.Bool.{cases_eq}
-use Rattle.std.proofs.lemmas.List.{length-append}
 use Rattle.std.proofs.lemmas.List.Edits.{length-between, between_none}
-use Rattle.std.specs.Prelude.{Option, Some, None, option_map, slice_range, Decides, MatchOption, Result, Ok, Err, Vec, IfOk}
 use Rattle.mspec.specs.Pattern.{Count, IsAtMost, copied, copies}
 use Rattle.mtext.proofs.PatternSlices.{part_split, joined_front, joined_rest}
 use Rattle.mtext.specs.PatternPlaces.{IsEnd, IsBefore, IsCopiedTo, IsFewest, AreEnds}
@@ -74,9 +72,6 @@ one_fewer text string starts place n within (s, low, is, e) =
     record { last = (omega arith, rest); first = (s, omega arith, is, front) }
 
 -- ---- the fewest copies
-
-pub fewest_at : (text string : List ℕ) (least : ℕ) (starts : List Bool) (place : ℕ) → IsCopiedTo text string starts place least → IsFewest text string least starts place (Some least)
-fewest_at text string least starts place e = (omega arith, e, λ n h c. h)
 
 -- more than the least, so that one may be taken off
 above_least : (text string : List ℕ) (least : ℕ) (starts : List Bool) (place n : ℕ) → (IsCopiedTo text string starts place least → ⊥) → least ≤ n → IsCopiedTo text string starts place n → least < n

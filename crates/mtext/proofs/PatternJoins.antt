@@ -1,8 +1,6 @@
 -- SPDX-License-Identifier: Apache-2.0
 -- A pattern with one more atom at its end.
-use Rattle.std.proofs.Common.{ℕ, ◌≡◌, ◌+◌, ◌≤◌, true, false, Bool, List, [], ◌∷◌, ◌++◌, get_or, take, length, refl, sym, subst, ◌∙◌, ap, arith, append_assoc, append-nil}
-use Rattle.std.proofs.lemmas.List.{length-append, length-take-le, take-take, take_at}
-use Rattle.std.specs.Prelude.{slice_range, Decides}
+use Rattle.std.proofs.Common.{ℕ, ◌≡◌, ◌+◌, ◌≤◌, true, false, Bool, List, ◌∷◌, ◌++◌, get_or, take, length, refl, sym, subst, ◌∙◌, ap, arith, append_assoc, append-nil, length-append, length-take-le, take-take, take_at, slice_range, []}
 use Rattle.mspec.specs.Pattern.{Count, Repeated, Atom, IsSegment, IsRepetition, Matches}
 use Rattle.mtext.proofs.PatternSlices.{front_and_part, joined_rest}
 use Rattle.mtext.specs.PatternPlaces.{IsEnd, AreEnds, AreMatched}
@@ -65,16 +63,4 @@ matched_more text atoms count what starts ends matched are = record {
     λ h. matched_to text atoms count what starts place within matched ((are.each place within).0 h),
     λ m. (are.each place within).1 (matched_from text atoms count what starts place within matched m),
   );
-}
-
--- no atom matches the empty text alone
-pub matched_none : (text : List ℕ) (marks : List Bool) → length marks ≡ length text + 1 → ((place : ℕ) → place ≤ length text → Decides (get_or marks place false) (place ≡ 0)) →
-    AreMatched text [] marks
-matched_none text marks size each = record {
-  size = size;
-  each = λ place within.
-      let long : length (take place text) ≡ place = length-take-le place text within in (
-        λ h. ap (λ n. take n text) ((each place within).0 h),
-        λ none. (each place within).1 (sym long ∙ ap length none),
-      );
 }

@@ -1,9 +1,8 @@
 -- SPDX-License-Identifier: Apache-2.0
 -- Runs of characters of classes: where they end, from the latest place at which they may start.
-use Rattle.std.proofs.Common.{ℕ, zero, suc, ◌≡◌, ◌+◌, ◌-◌, ◌<◌, ◌≤◌, ◌⊎◌, inl, inr, true, false, Bool, List, [], ◌∷◌, get_or, length, sym, subst, ◌∙◌, ap, arith, true≢false, below_more, add-sub_cancel}
+use Rattle.std.proofs.Common.{ℕ, zero, suc, ◌≡◌, ◌+◌, ◌-◌, ◌<◌, ◌≤◌, ◌⊎◌, inl, inr, true, false, Bool, List, [], ◌∷◌, get_or, length, sym, subst, ◌∙◌, ap, arith, true≢false, below_more, add-sub_cancel, Option, Some, None, slice_range, Decides}
 use Rattle.std.proofs.lemmas.Bool.{cases_lt}
 use Rattle.std.proofs.lemmas.List.Edits.{length-between, get_or-between}
-use Rattle.std.specs.Prelude.{Option, Some, None, slice_range, Decides}
 use Rattle.mspec.specs.Names.{AllAre}
 use Rattle.mspec.specs.Pattern.{PatternCode, Count, IsAtMost, is_in_any, members}
 use Rattle.mtext.specs.PatternPlaces.{IsNear, IsEnd}

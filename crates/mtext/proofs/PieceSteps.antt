@@ -1,9 +1,6 @@
 -- SPDX-License-Identifier: Apache-2.0
 -- Passing over the pieces of a text by a search for the delimiter.
-use Rattle.std.proofs.Common.{◌≡◌, ◌≢◌, ℕ, ◌+◌, ◌≤◌, ◌<◌, List, [], ◌∷◌, ◌++◌, length, take, drop, Some, None, refl, sym, ap, subst, ◌∙◌, arith}
-use Rattle.std.proofs.Common.{true, eqb}
-use Rattle.std.proofs.lemmas.Bool.{eqb-true}
-use Rattle.std.proofs.lemmas.List.{append_assoc, append-nil, length-append, length-take-le, length-drop, take-append-drop, take_all, drop-drop}
+use Rattle.std.proofs.Common.{◌≡◌, ◌≢◌, ℕ, ◌+◌, ◌≤◌, ◌<◌, List, ◌∷◌, ◌++◌, length, take, drop, Some, None, refl, sym, ap, subst, ◌∙◌, arith, eqb-true, append_assoc, append-nil, length-append, length-take-le, length-drop, take-append-drop, take_all, drop-drop, true, eqb, []}
 use Rattle.std.proofs.Math.Seq.{take-add, take-length, take-nil, drop-nil}
 use Rattle.std.proofs.lemmas.List.Concat.{flat_map-append}
 use Rattle.memchr.specs.Find.{OccursAt, FindsNeedle}
@@ -72,9 +69,6 @@ join_behind d (a ∷ b ∷ fronts) p qs =
     ap (λ t. a ++ (d ++ t)) (join_behind d (b ∷ fronts) p qs) ∙ sym (append_assoc (a ++ d) front rest ∙ append_assoc a d (front ++ rest))
 
 -- ---- passing over
-
-pub behind_none : (d s : List ℕ) → IsBehind d s 0 0
-behind_none d s = record { inside = omega arith; front = refl; rest = refl }
 
 -- the pieces from a place on
 pub rest_is : (d s : List ℕ) (n at k : ℕ) → d ≢ [] → IsBehind d s n at → FindsNeedle (drop at s) d 0 (Some k)

@@ -1,6 +1,6 @@
 -- SPDX-License-Identifier: Apache-2.0
 use Rattle.std.proofs.Common.{◌≡◌, ◌<◌, false, length, get_or, sym, ◌∙◌, arith}
-use Rattle.mgrant.proofs.Marks.{get_or-default}
+use Rattle.std.proofs.lemmas.List.{get_or_default}
 use Rattle.mgrant.proofs.flow.leads.Goals as goal
 
 pub returns : goal.returns
@@ -10,7 +10,7 @@ returns c =
     let len = c.in_ok-marks.ensures.len in
     let low = c.requires.to in
     let inside : c.args.to < length marks = omega arith in
-    let is : c.index.result.now ≡ get_or marks c.args.to false = c.index.ensures ∙ get_or-default marks c.args.to c.index.result.now false inside in (
+    let is : c.index.result.now ≡ get_or marks c.args.to false = c.index.ensures ∙ get_or_default marks c.args.to c.index.result.now false inside in (
       λ e. told.0 (sym is ∙ e),
       λ led. is ∙ told.1 led,
     )

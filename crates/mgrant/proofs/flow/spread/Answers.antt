@@ -1,8 +1,9 @@
 -- SPDX-License-Identifier: Apache-2.0
 use Rattle.std.proofs.Common.{◌≡◌, ◌<◌, ◌≤◌, length, get_or, sym, subst, ◌∙◌, arith}
+use Rattle.std.proofs.lemmas.List.{get_or_default}
 use Rattle.std.proofs.lemmas.List.Sums.{count_by-le-length}
 use Rattle.mgrant.specs.Edges.{Leads}
-use Rattle.mgrant.proofs.Marks.{leads_on, turn_closed, spread_all, get_or-default}
+use Rattle.mgrant.proofs.Marks.{leads_on, turn_closed, spread_all}
 use Rattle.mgrant.proofs.flow.spread.Goals as goal
 
 pub loop-turn-preserved : goal.loop-turn-preserved
@@ -12,7 +13,7 @@ loop-turn-preserved c =
     let turn = c.loop-turn.turn in
     let place = c.index-place.result.now in
     let within : turn < length order = omega arith in
-    let at : get_or order turn 0 ≡ place = get_or-default order turn 0 place within ∙ sym c.index-place.ensures in
+    let at : get_or order turn 0 ≡ place = get_or_default order turn 0 place within ∙ sym c.index-place.ensures in
     let told = c.in_ok-mark_targets.ensures in
     let grown = told.more.grown in
     record {

@@ -1,6 +1,5 @@
 -- SPDX-License-Identifier: Apache-2.0
-use Rattle.std.proofs.Common.{arith, ap, sym, ◌∙◌, ◌≡◌, ◌*◌, ◌^◌, ◌+◌}
-use Rattle.std.proofs.Math.Nat.{mul_assoc}
+use Rattle.std.proofs.Common.{arith, ap, sym, ◌∙◌, ◌≡◌, ◌*◌, ◌^◌, ◌+◌, mul_assoc}
 use Rattle.mspec.proofs.Powers.{ten_add}
 use Rattle.mnum.proofs.arithmetic.raised.Goals as goal
 

@@ -8,13 +8,12 @@ use Rattle.mtext.proofs.cutting.delimiters.Goals as goal
 pub loop-before-preserved : goal.loop-before-preserved
 loop-before-preserved c =
     let d = c.args.finder.now in
-    let s = c.args.text.now in
     let some = some_characters d c.requires in
     let same = ap length c.needle.ensures in
     record {
-      behind = subst (λ needle. IsBehind d s (c.loop-before.passed + 1) (c.loop-before.at + (c.in-Some.before + length needle))) (sym c.needle.ensures)
-          (behind_more d s c.loop-before.passed c.loop-before.at c.in-Some.before c.requires c.loop-before.invariant.behind
-          (in_rest s d c.loop-before.at (Some c.in-Some.before) c.in-Some.ensures));
+      behind = subst (λ needle. IsBehind d c.args.text.now (c.loop-before.passed + 1) (c.loop-before.at + (c.in-Some.before + length needle))) (sym c.needle.ensures)
+          (behind_more d c.args.text.now c.loop-before.passed c.loop-before.at c.in-Some.before c.requires c.loop-before.invariant.behind
+          (in_rest c.args.text.now d c.loop-before.at (Some c.in-Some.before) c.in-Some.ensures));
       few = omega arith;
     }
 

@@ -6,6 +6,5 @@ use Rattle.mtext.proofs.cutting.pieces.Goals as goal
 
 pub returns-then-is_empty : goal.returns-then-is_empty
 returns-then-is_empty c =
-    let s = c.args.text.now in
     let none = empty_is c.args.delimiter.now c.if-is_empty.ensures in
-    sym (ap (λ d. length (pieces_of d s)) none ∙ ap length (no_pieces s))
+    sym (ap (λ d. length (pieces_of d c.args.text.now)) none ∙ ap length (no_pieces c.args.text.now))

@@ -15,8 +15,6 @@ returns-in-None-clause-missing c =
 
 pub loop-passed-preserved : goal.loop-passed-preserved
 loop-passed-preserved c =
-    let d = c.args.finder.now in
-    let s = c.args.text.now in
-    subst (λ needle. IsBehind d s (c.loop-passed.passed + 1) (c.loop-passed.at + (c.in-Some.before + length needle))) (sym c.needle.ensures)
-    (behind_more d s c.loop-passed.passed c.loop-passed.at c.in-Some.before c.requires c.loop-passed.invariant
-    (in_rest s d c.loop-passed.at (Some c.in-Some.before) c.in-Some.ensures))
+    subst (λ needle. IsBehind c.args.finder.now c.args.text.now (c.loop-passed.passed + 1) (c.loop-passed.at + (c.in-Some.before + length needle))) (sym c.needle.ensures)
+    (behind_more c.args.finder.now c.args.text.now c.loop-passed.passed c.loop-passed.at c.in-Some.before c.requires c.loop-passed.invariant
+    (in_rest c.args.text.now c.args.finder.now c.loop-passed.at (Some c.in-Some.before) c.in-Some.ensures))

@@ -11,28 +11,24 @@ use Rattle.mtext.proofs.making.replaced.Goals as goal
 
 pub returns-in-Err : goal.returns-in-Err
 returns-in-Err c =
-    let d = c.args.delimiter.now in
-    let s = c.args.text.now in
-    let missing = subst (λ needle. length (pieces_of needle s) + c.in-Err.missing ≡ c.args.before + 1) c.new-finder.ensures c.in-Err.ensures.missing in
-    subst (λ t. Answers (made t) c.padded.result) (set_past d s c.args.value.now c.args.before c.in-Err.missing c.requires.some missing c.in-Err.ensures.some)
+    let missing = subst (λ needle. length (pieces_of needle c.args.text.now) + c.in-Err.missing ≡ c.args.before + 1) c.new-finder.ensures c.in-Err.ensures.missing in
+    subst (λ t. Answers (made t) c.padded.result) (set_past c.args.delimiter.now c.args.text.now c.args.value.now c.args.before c.in-Err.missing c.requires.some missing c.in-Err.ensures.some)
     c.padded.ensures
 
 pub returns-in-None : goal.returns-in-None
 returns-in-None c =
-    let d = c.args.delimiter.now in
     let s = c.args.text.now in
     let at = c.in-Ok.start in
     let behind = subst (λ needle. IsBehind needle s c.args.before at) c.new-finder.ensures c.in-Ok.ensures.behind in
     let finds = subst (λ needle. FindsNeedle (drop at s) needle 0 None) c.new-finder.ensures (in_rest s c.new-finder.result at None c.in-None.ensures) in
-    subst (λ t. Answers (made t) c.spliced.result) (set_last d s c.args.value.now c.args.before at c.requires.some behind finds) c.spliced.ensures
+    subst (λ t. Answers (made t) c.spliced.result) (set_last c.args.delimiter.now s c.args.value.now c.args.before at c.requires.some behind finds) c.spliced.ensures
 
 pub returns : goal.returns
 returns c =
-    let d = c.args.delimiter.now in
     let s = c.args.text.now in
     let at = c.in-Ok.start in
     let behind = subst (λ needle. IsBehind needle s c.args.before at) c.new-finder.ensures c.in-Ok.ensures.behind in
     let finds = subst (λ needle. FindsNeedle (drop at s) needle 0 (Some c.in-Some.length)) c.new-finder.ensures
     (in_rest s c.new-finder.result at (Some c.in-Some.length) c.in-Some.ensures) in
-    subst (λ t. Answers (made t) c.spliced-in-Some.result) (set_found d s c.args.value.now c.args.before at c.in-Some.length c.requires.some behind finds)
+    subst (λ t. Answers (made t) c.spliced-in-Some.result) (set_found c.args.delimiter.now s c.args.value.now c.args.before at c.in-Some.length c.requires.some behind finds)
     c.spliced-in-Some.ensures

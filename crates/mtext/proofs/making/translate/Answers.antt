@@ -8,25 +8,20 @@ use Rattle.mtext.proofs.making.translate.Goals.{then-characters-gt-LONGEST_TEXT+
 
 pub returns-in_err-translation : goal.returns-in_err-translation
 returns-in_err-translation c =
-    let s = c.as_bytes-characters.result.now in
-    let from = c.as_bytes-known.result.now in
     let to = c.as_bytes-others.result.now in
-    let same = same_translation s c.args.text.now from c.args.from.now to c.args.to.now c.as_bytes-characters.ensures.bytes c.as_bytes-known.ensures.bytes
-    c.as_bytes-others.ensures.bytes in
-    let fits : length (translation s from to) ≤ longest_text = elim c.if-characters-gt-LONGEST_TEXT.branch [
+    let same = same_translation c.as_bytes-characters.result.now _ c.as_bytes-known.result.now _ to _ c.as_bytes-characters.ensures.bytes c.as_bytes-known.ensures.bytes c.as_bytes-others.ensures.bytes in
+    let fits : length (translation c.as_bytes-characters.result.now c.as_bytes-known.result.now to) ≤ longest_text = elim c.if-characters-gt-LONGEST_TEXT.branch [
       | then-characters-gt-LONGEST_TEXT+in_ok-check_length w ↦ omega arith
-      | else-characters-gt-LONGEST_TEXT w ↦ omega (arith, translation_is_short s from to)
+      | else-characters-gt-LONGEST_TEXT w ↦ omega (arith, translation_is_short c.as_bytes-characters.result.now c.as_bytes-known.result.now to)
     ] in
-    subst (λ t. Answers (made t) c.from_residual-in_err-translation.result) same
-    (wanting (translation s from to) c.from_residual-in_err-translation.result fits c.from_residual-in_err-translation.ensures)
+    subst (λ t. Answers (made t) c.from_residual-in_err-translation.result) same (wanting _ c.from_residual-in_err-translation.result fits c.from_residual-in_err-translation.ensures)
 
 pub returns : goal.returns
 returns c =
     let s = c.as_bytes-characters.result.now in
     let from = c.as_bytes-known.result.now in
     let to = c.as_bytes-others.result.now in
-    let same = same_translation s c.args.text.now from c.args.from.now to c.args.to.now c.as_bytes-characters.ensures.bytes c.as_bytes-known.ensures.bytes
-    c.as_bytes-others.ensures.bytes in
+    let same = same_translation s _ from _ to _ c.as_bytes-characters.ensures.bytes c.as_bytes-known.ensures.bytes c.as_bytes-others.ensures.bytes in
     let fits : length (translation s from to) ≤ longest_text = elim c.if-characters-gt-LONGEST_TEXT.branch [
       | then-characters-gt-LONGEST_TEXT+in_ok-check_length w ↦ omega arith
       | else-characters-gt-LONGEST_TEXT w ↦ omega (arith, translation_is_short s from to)

@@ -1,6 +1,5 @@
 -- SPDX-License-Identifier: Apache-2.0
-use Rattle.std.proofs.Common.{Some, None, sym, ap, ◌∙◌}
-use Rattle.std.specs.Option.{option_to_list}
+use Rattle.std.proofs.Common.{Some, None, sym, ap, ◌∙◌, option_to_list}
 use Rattle.mspec.specs.TextFunctions.{translated_at}
 use Rattle.mtext.proofs.FoundPlaces.{character_place_is}
 use Rattle.mtext.proofs.MadeTexts.{got_is}
@@ -11,6 +10,5 @@ returns-in-None c = ap (translated_at c.args.to.now c.args.character) (sym (char
 
 pub returns-in-Some : goal.returns-in-Some
 returns-in-Some c =
-    let to = c.args.to.now in
-    ap option_to_list (c.copied.ensures ∙ got_is to c.in-Some.place c.get.result c.get.ensures.lookup.3)
-    ∙ ap (translated_at to c.args.character) (sym (character_place_is c.args.character c.args.from.now (Some c.in-Some.place) c.in-Some.ensures))
+    ap option_to_list (c.copied.ensures ∙ got_is c.args.to.now c.in-Some.place c.get.result c.get.ensures.lookup.3)
+    ∙ ap (translated_at c.args.to.now c.args.character) (sym (character_place_is c.args.character c.args.from.now (Some c.in-Some.place) c.in-Some.ensures))

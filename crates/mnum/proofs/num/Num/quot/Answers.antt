@@ -1,6 +1,5 @@
 -- SPDX-License-Identifier: Apache-2.0
-use Rattle.std.proofs.Common.{◌*◌, ◌/◌, ◌^◌, ◌-◌, Some, refl, ap, arith, lit≤}
-use Rattle.std.proofs.Math.Nat.{div-le_self}
+use Rattle.std.proofs.Common.{◌*◌, ◌/◌, ◌^◌, ◌-◌, Some, refl, ap, arith, lit≤, div-le_self}
 use Rattle.mspec.proofs.Powers.{ten_pos}
 use Rattle.mnum.proofs.Cuts.{returns_exact}
 use Rattle.mnum.proofs.Quotients.{some_units}

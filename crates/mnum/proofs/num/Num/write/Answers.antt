@@ -1,6 +1,5 @@
 -- SPDX-License-Identifier: Apache-2.0
-use Rattle.std.proofs.Common.{◌≡◌, ℕ, List, ◌++◌, ◌∙◌, subst, rules}
-use Rattle.std.specs.Prelude.{OnOk}
+use Rattle.std.proofs.Common.{◌≡◌, ℕ, List, ◌++◌, ◌∙◌, subst, rules, OnOk}
 use Rattle.mspec.specs.NumberText.{number_text}
 use Rattle.mnum.specs.Num.{units}
 use Rattle.mnum.proofs.Prints.{text_of_digits}

@@ -1,15 +1,15 @@
 -- SPDX-License-Identifier: Apache-2.0
 -- Texts that are kept, behind calls of the store.
-use Rattle.std.proofs.Common.{◌≡◌, ◌≢◌, ◌≤◌, ℕ, Bool, true, false, cond, not, List, [], ◌∷◌, length, All, Some, None, Contains, nat_eq, refl, sym, ap, ◌∙◌, subst, inl, inr}
-use Rattle.std.proofs.lemmas.List.Elements.{All-nil, All-cons, All-head, All-tail, All-filter}
+use Rattle.std.proofs.Common.{◌≡◌, ◌≢◌, ◌≤◌, ℕ, Bool, true, false, cond, not, List, length, All, Some, None, Contains, nat_eq, refl, sym, ap, ◌∙◌, subst, inl, inr, Ordering}
+use Rattle.std.proofs.lemmas.Bool.{false_from_ne_true}
+use Rattle.mstore.proofs.Holding.{put_held}
+use Rattle.std.proofs.lemmas.List.Elements.{All-filter}
 use Rattle.std.proofs.lemmas.Cmp.{eq_by_cmp_equiv}
 use Rattle.std.specs.Cmp.{IsTotalOrder}
 use Rattle.std.specs.FinMap.{FinMap, get, insert, entries, retain_keys, entries-insert, entries_sorted, from_sorted, entries-from_sorted, get-entries, get-from_sorted, get-insert, same_map, IsAntisymmetric}
-use Rattle.std.specs.FinMap.Entries.{put, by_order, where_key, is_sorted-where_key, find-where_key}
+use Rattle.std.specs.FinMap.Entries.{where_key, is_sorted-where_key, find-where_key}
 use Rattle.std.specs.List.{starts_with}
 use Rattle.std.specs.Ordering.{eq_by_cmp}
-use Rattle.std.specs.declared.cmp.Ordering.{Ordering}
-use Rattle.std.specs.declared.cmp.Ordering.TheVariants.{Less, Equal, Greater}
 use Rattle.mspec.specs.Globals.{Globals, is_node_within, without_subtree}
 use Rattle.mspec.specs.KeyBytes.{key_bytes, IsStored}
 use Rattle.mspec.specs.Node.{Text, Node}
@@ -27,18 +27,6 @@ abbrev order : Node → Node → Ordering
 order = node_cmp significant_digits
 
 -- ---- what a store holds, behind a write
-
-put_held : (n : Node) (t : Text) → IsHeld (n, t) → (es : List (Node × Text)) → All IsHeld es → All IsHeld (put order n t es)
-put_held n t is [] all = All-cons IsHeld (n, t) [] is (All-nil IsHeld)
-put_held n t is (e ∷ es) all = by_place (order n e.0) (put_held n t is es (All-tail IsHeld e es all))
-  where
-    here : IsHeld (e.0, t)
-    here = record { node = (All-head IsHeld e es all).node; text = is.text }
-
-    by_place : (r : Ordering) → All IsHeld (put order n t es) → All IsHeld (by_order r ((n, t) ∷ e ∷ es) ((e.0, t) ∷ es) (e ∷ put order n t es))
-    by_place Less rest = All-cons IsHeld (n, t) (e ∷ es) is all
-    by_place Equal rest = All-cons IsHeld (e.0, t) es here (All-tail IsHeld e es all)
-    by_place Greater rest = All-cons IsHeld e (put order n t es) (All-head IsHeld e es all) rest
 
 held_put : (g : Globals) (n : Node) (t : Text) → IsStored n → length t ≤ longest_text → AreHeld g → AreHeld (insert g n t)
 held_put g n t stored short held = subst (All IsHeld) (sym (entries-insert (node_cmp_total significant_digits) g n t)) (put_held n t (record { node = stored; text = short }) (entries g) held)
@@ -60,11 +48,9 @@ held_killed g n held =
 -- ---- what a store has at a node, behind a write elsewhere
 
 got_other : (g : Globals) (n m : Node) (t : Text) → m ≢ n → get (insert g n t) m ≡ get g m
-got_other g n m t other = get-insert (node_cmp_total significant_digits) g n t m ∙ by_test (eq_by_cmp order m n) refl
-  where
-    by_test : (b : Bool) → eq_by_cmp order m n ≡ b → cond b (Some t) (get g m) ≡ get g m
-    by_test true e = absurd (other (node_cmp_exact significant_digits m n (equal_of (order m n) e)))
-    by_test false e = refl
+got_other g n m t other =
+    get-insert (node_cmp_total significant_digits) g n t m
+    ∙ ap (λ b. cond b (Some t) (get g m)) (false_from_ne_true (eq_by_cmp order m n) (λ e. other (node_cmp_exact significant_digits m n (equal_of (order m n) e))))
 
 pub got_itself : (g : Globals) (n : Node) (t : Text) → get (insert g n t) n ≡ Some t
 got_itself g n t = get-insert (node_cmp_total significant_digits) g n t n ∙ ap (λ b. cond b (Some t) (get g n)) ((eq_by_cmp_equiv (node_cmp_total significant_digits)).refl n)

@@ -1,13 +1,13 @@
 -- SPDX-License-Identifier: Apache-2.0
 -- What the calls of a map leave of the texts that are kept.
-use Rattle.std.proofs.Common.{◌≡◌, ◌≢◌, ◌⊎◌, ℕ, ◌+◌, ◌<◌, length, slice_index_or, Bool, true, false, List, [], ◌∷◌, ◌++◌, Option, Some, Vec, Contains, Result, Ok, Err, OnOk, OnErr, IfOk, IfSome, nat_eq, refl, sym, ap, ◌∙◌, subst, inl, inr}
+use Rattle.std.proofs.Common.{◌≡◌, ◌≢◌, ◌⊎◌, ℕ, ◌+◌, ◌<◌, length, slice_index_or, Bool, true, false, List, [], ◌∷◌, ◌++◌, Option, Some, Vec, Contains, Result, Ok, Err, IfOk, IfSome, nat_eq, refl, sym, ap, ◌∙◌, subst, inl, inr, Global}
+use Rattle.std.proofs.lemmas.Bool.{false_from_ne_true}
 use Rattle.std.proofs.lemmas.List.Elements.{Contains-push, Contains-append_left}
 use borrow.Author.Count.{below_more}
 use Rattle.std.specs.Cmp.Lexicographic.{pointwise, same_text, bytes_decides}
 use Rattle.std.specs.List.{IsDistinct, AllByRecursion, starts_with}
 use Rattle.std.specs.Map.{keys_of, lookup, remove_entry}
 use Rattle.std.specs.Result.{result_ok}
-use Rattle.std.specs.declared.alloc.Global.{Global}
 use Rattle.lru.specs.LruCache.{LruCache, promoted, put_entries}
 use Rattle.lru.proofs.CallerLemmas.{Contains-lookup, Contains-promoted, Contains-put_entries, Contains-remove_entry}
 use Rattle.lru.proofs.Splits.{Contains-cons, Contains-nil}
@@ -53,11 +53,6 @@ put_in c bytes text key held k h e at = elim (Contains-put_entries same_key c ke
     | inr other ↦ inr other.2
   ]))
 ]
-
--- whether it was put or found no memory
-pub either : {A E P Q R : Type 0} (r : Result A E) → OnOk r P → OnErr r Q → (P → R) → (Q → R) → R
-either (Ok a) p q f g = f p
-either (Err e) p q f g = g q
 
 -- ---- a key that is forgotten
 
@@ -137,12 +132,8 @@ gone_more before after keys n key at in_before not gone =
     (λ k less d e c. gone k less d e (in_before e c))
     (λ d e c same. not e c (same ∙ ap (λ x. x.items) (at d)))
 
-by_truth : (b : Bool) → (b ≡ true → ⊥) → b ≡ false
-by_truth true h = absurd (h refl)
-by_truth false h = refl
-
 -- once it is so of all keys, what is kept does not begin with that one
 pub none_below : (es before : List Entry) (front : List ℕ) (keys : List (Vec ℕ Global)) (n : ℕ) → n ≡ length keys → AreKeysOf before front keys → IsIn es before → AreGone es keys n → (e : Entry) → Contains es e → starts_with nat_eq e.0.items front ≡ false
-none_below es before front keys n all are in_before gone e c = by_truth (starts_with nat_eq e.0.items front) (λ begins.
+none_below es before front keys n all are in_before gone e c = false_from_ne_true (starts_with nat_eq e.0.items front) (λ begins.
     let among = are e (in_before e c) begins in
     gone among.1.0 (subst (λ m. among.1.0 < m) (sym all) among.1.1) among.0 e c (sym (ap (λ x. x.items) among.1.2 ∙ among.2)))

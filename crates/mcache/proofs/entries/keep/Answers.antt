@@ -1,7 +1,8 @@
 -- SPDX-License-Identifier: Apache-2.0
 use Rattle.std.proofs.Common.{subst, sym, inl}
+use Rattle.mcache.proofs.Shelves.{either}
 use Rattle.mcache.specs.NodeTexts.{IsInOr}
-use Rattle.mcache.proofs.EntryLists.{put_in, either}
+use Rattle.mcache.proofs.EntryLists.{put_in}
 use Rattle.mcache.proofs.entries.keep.Goals as goal
 
 pub returns-clause-kept : goal.returns-clause-kept

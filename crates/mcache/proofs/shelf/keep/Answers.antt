@@ -7,9 +7,7 @@ use Rattle.mcache.proofs.shelf.keep.Goals as goal
 
 pub returns-clause-within : goal.returns-clause-within
 returns-clause-within g c =
-    let text = c.in-Ok.text in
-    let tree = c.in-Ok-clone.tree in
-    let here = put_within c.args.shelf.now c.args.text.now c.args.tree.now.value text tree (c.in-Ok.ensures.items_if_clones_equal (λ x y e. e)) c.in-Ok-clone.ensures.cases in
+    let here = put_within c.args.shelf.now c.args.text.now c.args.tree.now.value c.in-Ok.text c.in-Ok-clone.tree (c.in-Ok.ensures.items_if_clones_equal (λ x y e. e)) c.in-Ok-clone.ensures.cases in
     either c.put.result c.put.ensures.entries c.put.ensures.err
     (λ is. subst (λ m. IsWithinOr m.entries c.args.shelf.now.entries c.args.text.now c.args.tree.now.value) (sym is) here)
     (λ is. subst (λ m. IsWithinOr m.entries c.args.shelf.now.entries c.args.text.now c.args.tree.now.value) (sym is) (λ e at. inl at))

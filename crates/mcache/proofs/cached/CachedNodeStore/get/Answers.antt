@@ -18,12 +18,10 @@ returns-in-Some-clause-held g c sound = subst (λ v. AreHeld (g.S.NodeStore.cont
 
 pub invariant_of-self-in-Some-found : goal.invariant_of-self-in-Some-found
 invariant_of-self-in-Some-found g c sound =
-    let key = c.args.key.now in
     let same = c.get-answer.ensures.same sound in
     let now = g.S.NodeStore.content c.get-answer.new.self in
     let before = in_them (c.self.invariant sound) c.find.new.entries.entries c.find.ensures.kept in
     let were = read_now before now same (c.get-answer.ensures.held sound) in
-    let text = c.in-Some-found.text in
-    let has : get now key ≡ Some text = ap (λ x. get x key) same ∙ sym (c.in_ok-found.ensures.found sound) ∙ c.in-Some-found.is in
+    let has : get now c.args.key.now ≡ Some c.in-Some-found.text = ap (λ x. get x c.args.key.now) same ∙ sym (c.in_ok-found.ensures.found sound) ∙ c.in-Some-found.is in
     let again = c.as_bytes-in-Some-found.ensures in
-    with_one were key c.as_bytes-in-Some-found.result.now text c.keep_if.new.entries.entries refl again.stored again.bytes has c.keep_if.ensures.kept
+    with_one were c.args.key.now c.as_bytes-in-Some-found.result.now c.in-Some-found.text c.keep_if.new.entries.entries refl again.stored again.bytes has c.keep_if.ensures.kept

@@ -9,7 +9,7 @@ use Rattle.mspec.specs.LockConflict.{LockName, Locks, taken, given_back, release
 use Rattle.mspec.specs.Plan.{Op, Answer, Take, Give_back, Release}
 use Rattle.mspec.specs.Act.{Text, Act, ◌>>=◌, ◌>>◌, give, ask}
 use Rattle.mspec.proofs.ListPlaces.{next_item}
-use Rattle.mmeaning.specs.World.{World, may_lock, took}
+use Rattle.mmeaning.specs.Shared.{Shared, may_lock, took}
 use Rattle.mgrammar.specs.Grammar.{ReferenceTree}
 use Rattle.mmeaning.specs.Variables.{named_lock}
 use Rattle.mmeaning.specs.Expression.{Inside, evaluated}

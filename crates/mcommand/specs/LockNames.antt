@@ -3,7 +3,7 @@
 use Rattle.std.specs.Prelude.{◌≡◌, true, List}
 use Rattle.std.specs.List.{list_all}
 use Rattle.mspec.specs.LockConflict.{LockName}
-use Rattle.mmeaning.specs.World.{may_lock}
+use Rattle.mmeaning.specs.Shared.{may_lock}
 use Rattle.mmeaning.specs.Calls.{Standing}
 
 -- the line's account may lock each of them

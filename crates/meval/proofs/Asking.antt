@@ -18,7 +18,7 @@ use Rattle.mspec.proofs.SubscriptTests.{subscripts_test}
 use Rattle.mgrant.specs.declared.mode.Mode as grant
 use Rattle.mgrant.specs.declared.mode.Mode.TheVariants as mode
 use Rattle.mgrant.specs.Placed as placed
-use Rattle.mmeaning.specs.World.{World}
+use Rattle.mmeaning.specs.Shared.{Shared}
 use Rattle.mmeaning.specs.Calls.{Standing, Did, ops_of}
 use Rattle.mmeaning.specs.Yields.{Yields}
 use Rattle.mmeaning.specs.Variables.{Place, at_local, at_node, replaced, beside, allowed, node_place, resolve, of_local}
@@ -34,17 +34,17 @@ use Rattle.meval.proofs.Calls.{evaluates_then, evaluates_gives, evaluates_fails,
 
 -- ---- operations
 
-abbrev pub world : {S : Type 0} → Ghosts S → Eval S → Locks → World
-world g e locks = record { globals = g.content e.store.now; locks = locks }
+abbrev pub shared : {S : Type 0} → Ghosts S → Eval S → Locks → Shared
+shared g e locks = record { globals = g.content e.store.now; locks = locks }
 
 -- an operation that was carried out
 pub asks : {S X : Type 0} {g : Ghosts S} {e new : Eval S} (op : Op) (f : X → Answer op) (x : X) → standing_of new ≡ standing_of e → new.depth ≡ e.depth
     → ((out : Text) (locks : Locks) → (eval_here g new out locks).0 ≡ (eval_here g e out locks).0)
-    → (g.sound → (locks : Locks) → ops_of (standing_of e) op (world g e locks) ≡ (f x, world g new locks)) → Evaluates g (λ i. ask op) f e (Ok x) new
+    → (g.sound → (locks : Locks) → ops_of (standing_of e) op (shared g e locks) ≡ (f x, shared g new locks)) → Evaluates g (λ i. ask op) f e (Ok x) new
 asks {g = g} {e = e} {new = new} op f x same depth state answer = record {
   at = λ sound out locks.
-      subst (λ s. Did (standing_of e) g.steady fault_of (λ n. ask op) f (eval_here g e out locks) (Ok x) (s, world g new locks)) (sym (state out locks))
-      (asked op f x (world g new locks) (answer sound locks));
+      subst (λ s. Did (standing_of e) g.steady fault_of (λ n. ask op) f (eval_here g e out locks) (Ok x) (s, shared g new locks)) (sym (state out locks))
+      (asked op f x (shared g new locks) (answer sound locks));
   same = same;
   depth = depth;
 }

@@ -2,7 +2,7 @@
 // The locks that references name.
 ghost use Rattle.std.specs.Prelude.{◌≡◌, ◌≤◌, true, IfOk};
 ghost use Rattle.mmeaning.specs.Variables as variables;
-ghost use Rattle.mmeaning.specs.World.{may_lock};
+ghost use Rattle.mmeaning.specs.Shared.{may_lock};
 ghost use Rattle.mtree.specs.Tree.{reference_tree};
 ghost use Rattle.meval.specs.Acts as acts;
 ghost use Rattle.meval.specs.Evaluates.{Evaluates, KeepsEval, standing_of};

@@ -11,7 +11,6 @@ use Rattle.mspec.specs.Act.{Text}
 use Rattle.mspec.specs.Globals.{Globals}
 use Rattle.mspec.specs.Trees.{text_eq}
 use Rattle.mspec.specs.Access.{Account, Settings, account_at, account_named, name_at}
-use Rattle.mmeaning.specs.Step.{Server}
 use Rattle.mmeaning.specs.History.{opening}
 use Rattle.misolation.specs.Reach.{reach}
 use Rattle.misolation.specs.Alone.{alone}
@@ -20,7 +19,7 @@ use Rattle.mstore.specs.declared.store.NodeStore.{Ghosts}
 use Rattle.mjob.specs.declared.jobs.Store.{Store}
 use Rattle.mjob.specs.declared.jobs.Store.TheVariants as store
 use Rattle.mworld.specs.declared.world.World.{World}
-use Rattle.mworld.specs.View.{settings_of, server_of}
+use Rattle.mworld.specs.View.{settings_of, world_of}
 use Rattle.mworld.specs.Isolated.{IsToldEach}
 use Rattle.mwire.specs.Wire.{events_of}
 use Rattle.mwire.specs.Only.{told_text, RanOnly, ServesOnly}
@@ -143,14 +142,14 @@ module _ {S I O : Type 0} (g : Ghosts S) (left : I → Option Text) (held : O �
     pub empty_no_store : HasAccount document name → (fault : RunFault) → IsMemoryFault fault → OnlyEndsEarly g (BeginsEmpty g) left held document name input input' output output' fault
     empty_no_store = only_no_store (BeginsEmpty g) same
 
-  module _ (known : HasAccount document name) (old new : World S g) (by : settings_of old ≡ known.settings) (globals : Globals) (opens : server_of g old ≡ opening globals) (place : ℕ) where
+  module _ (known : HasAccount document name) (old new : World S g) (by : settings_of old ≡ known.settings) (globals : Globals) (opens : world_of g old ≡ opening globals) (place : ℕ) where
     -- a stream that was answered to its end, over a store that tells its content
     told_alone : g.sound → globals ≡ empty → name_at known.settings place ≡ name → (whole : Bool)
         → ServesOnly g old place (left (inner_of input)) (left (inner_of input')) (held (inner_of output)) (held (inner_of output')) (Ok whole) new
         → ToldAlone document name (left (inner_of input)) (left (inner_of input')) (held (inner_of output)) (held (inner_of output'))
     told_alone sound none is whole s =
         let ran : RanOnly g old place (events_of (lines s.read)) s.sent whole new = s.outcome.1 in
-        let at : ◌≡◌ {A = Text × (Settings × Server)} (name_at (settings_of old) place, (settings_of old, server_of g old)) (name, (known.settings, opening empty)) =
+        let at : ◌≡◌ {A = Text × (Settings × step.World)} (name_at (settings_of old) place, (settings_of old, world_of g old)) (name, (known.settings, opening empty)) =
         λ i. ((ap (λ (t : Settings). name_at t place) by ∙ is) i, (by i, (opens ∙ ap opening none) i)) in
         record {
           known = known;
@@ -160,9 +159,9 @@ module _ {S I O : Type 0} (g : Ghosts S) (left : I → Option Text) (held : O �
           replies = ran.replies;
           appended = subst (Appends (held (inner_of output)) (held (inner_of output'))) ran.text s.appended;
           whole = whole;
-          after = server_of g new;
-          tells = subst (λ (q : Text × (Settings × Server)). Tells q.0 q.1.0 q.1.1 (events_of (lines s.read)) ran.replies whole (server_of g new)) at (ran.told sound).run;
-          alone = λ w. subst (λ (q : Text × (Settings × Server)). ran.replies ≡ told_to q.0 q.1.0 (alone (reach q.1.0 q.0) q.1.0 q.1.1 (events_of (lines s.read)))) at (ran.alone sound w);
+          after = world_of g new;
+          tells = subst (λ (q : Text × (Settings × step.World)). Tells q.0 q.1.0 q.1.1 (events_of (lines s.read)) ran.replies whole (world_of g new)) at (ran.told sound).run;
+          alone = λ w. subst (λ (q : Text × (Settings × step.World)). ran.replies ≡ told_to q.0 q.1.0 (alone (reach q.1.0 q.0) q.1.0 q.1.1 (events_of (lines s.read)))) at (ran.alone sound w);
         }
 
     -- or over any store

@@ -4,7 +4,7 @@ use Rattle.std.proofs.Common.{◌≡◌, Option, Result, Ok, Err, ap, ◌∙◌}
 use Rattle.std.specs.FinMap.{empty}
 use Rattle.mspec.specs.Act.{Text}
 use Rattle.mspec.specs.Globals.{Globals}
-use Rattle.mmeaning.specs.Step.{Settings, Server}
+use Rattle.mmeaning.specs.Step.{Settings, World}
 use Rattle.mmeaning.specs.History.{opening}
 use Rattle.mgrant.specs.Reading.{IsRead}
 use Rattle.mstore.specs.declared.store.NodeStore.{Ghosts}
@@ -12,10 +12,10 @@ use Rattle.mwire.specs.Serves.{Serves}
 use Rattle.mwire.specs.declared.fault.WireFault.{WireFault}
 use Rattle.mhost.specs.Runs.{StreamAnswered, Broken, Followed, ServedOver}
 
-module _ {S V : Type 0} (g : Ghosts S) {settings settings' : Settings} {server : Server} {globals : Globals} {content : V → Globals} {document : Text} {left left' held held' : Option Text}
-    (reads : IsRead document settings) (same : settings' ≡ settings) (begins : server ≡ opening globals) where
+module _ {S V : Type 0} (g : Ghosts S) {settings settings' : Settings} {world : World} {globals : Globals} {content : V → Globals} {document : Text} {left left' held held' : Option Text}
+    (reads : IsRead document settings) (same : settings' ≡ settings) (begins : world ≡ opening globals) where
   -- a stream that was answered to its end, over a store that tells its content
-  pub answered : {v : V} → globals ≡ empty → g.sound → ServedOver g settings' server content left left' held held' (Ok v) → StreamAnswered document left left' held held' (content v)
+  pub answered : {v : V} → globals ≡ empty → g.sound → ServedOver g settings' world content left left' held held' (Ok v) → StreamAnswered document left left' held held' (content v)
   answered none sound s = record {
     settings = settings;
     of_document = reads;
@@ -31,7 +31,7 @@ module _ {S V : Type 0} (g : Ghosts S) {settings settings' : Settings} {server :
   }
 
   -- one over any store
-  pub followed : {v : V} → ServedOver g settings' server content left left' held held' (Ok v) → Followed document left left' held held'
+  pub followed : {v : V} → ServedOver g settings' world content left left' held held' (Ok v) → Followed document left left' held held'
   followed s = record {
     settings = settings;
     of_document = reads;
@@ -44,5 +44,5 @@ module _ {S V : Type 0} (g : Ghosts S) {settings settings' : Settings} {server :
   }
 
   -- one that a fault broke off
-  pub broken : {fault : WireFault} → ServedOver g settings' server content left left' held held' (Err fault) → Broken g document globals left left' held held' fault
+  pub broken : {fault : WireFault} → ServedOver g settings' world content left left' held held' (Err fault) → Broken g document globals left left' held held' fault
   broken s = record { settings = settings; of_document = reads; after = s.after; serves = let t = s.serves in let u = rw same at t in rw begins at u }

@@ -32,7 +32,7 @@ abbrev pub status_of : Result (Unit {0}) RunFault → ℕ
 status_of (Ok done) = 0
 status_of (Err fault) = status_of_fault fault
 
--- a fault of a server on a port
+-- a fault of a world on a port
 abbrev pub IsServeFault : RunFault → Type 0
 IsServeFault early.Unread = Unit {0}
 IsServeFault (early.Settings fault) = Unit {0}
@@ -65,7 +65,7 @@ RunsBy memory file left held store input input' output output' result =
     (HasNoDocument result × AreUntouched input input' output output')
     ⊎ ((document : Text) × RunsOver memory file left held store document input input' output output' result)
 
--- what carries a job out; a server on a port asks the input and the output for nothing
+-- what carries a job out; a world on a port asks the input and the output for nothing
 abbrev pub CarriesOut : {M F I O : Type 0} → Ghosts M → Ghosts F → (I → Option Text) → (O → Option Text)
     → Job → Watched I → Watched I → Watched O → Watched O → Result (Unit {0}) RunFault → Type 0
 CarriesOut memory file left held (job.Run settings store None) input input' output output' result =

@@ -7,7 +7,6 @@ use Rattle.std.specs.Str.Lines.{lines}
 use Rattle.mspec.specs.Act.{Text}
 use Rattle.mspec.specs.Globals.{Globals}
 use Rattle.mspec.specs.Access.{Account, Settings, account_named, name_at}
-use Rattle.mmeaning.specs.Step.{Server}
 use Rattle.mmeaning.specs.History.{opening}
 use Rattle.misolation.specs.Reach.{reach}
 use Rattle.misolation.specs.Alone.{alone}
@@ -18,7 +17,7 @@ use Rattle.mjob.specs.declared.jobs.Store.{Store}
 use Rattle.mjob.specs.declared.jobs.Store.TheVariants as store
 use Rattle.mstore.specs.declared.store.NodeStore.{Ghosts}
 use Rattle.mworld.specs.declared.world.World.{World}
-use Rattle.mworld.specs.View.{settings_of, server_of}
+use Rattle.mworld.specs.View.{settings_of, world_of}
 use Rattle.mworld.specs.Isolated.{IsToldEach}
 use Rattle.mwire.specs.Wire.{events_of}
 use Rattle.mwire.specs.Only.{told_text, ServesOnly}
@@ -49,7 +48,7 @@ pub record ToldAlone (document name : Text) (left left' held held' : Option Text
   pub replies : List Told
   pub appended : Appends held held' (told_text replies)
   pub whole : Bool
-  pub after : Server
+  pub after : step.World
   pub tells : Tells name known.settings (opening empty) (events_of (lines read)) replies whole after
   pub alone :
       IsTrue whole →
@@ -74,7 +73,7 @@ pub record BrokeOff {S : Type 0} (g : Ghosts S) (document name : Text) (globals 
   pub old : World S g
   pub new : World S g
   pub by : settings_of old ≡ known.settings
-  pub opens : server_of g old ≡ opening globals
+  pub opens : world_of g old ≡ opening globals
   pub place : ℕ
   pub its_name : name_at known.settings place ≡ name
   pub serves : ServesOnly g old place left left' held held' (Err fault) new

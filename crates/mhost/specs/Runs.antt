@@ -6,7 +6,7 @@ use Rattle.std.specs.Io.KnownBytes.{Appends, Consumes, IsAtEnd}
 use Rattle.std.specs.Str.Lines.{lines}
 use Rattle.mspec.specs.Act.{Text}
 use Rattle.mspec.specs.Globals.{Globals}
-use Rattle.mmeaning.specs.Step.{Settings, Server, Event, Reply}
+use Rattle.mmeaning.specs.Step.{Settings, World, Event, Reply}
 use Rattle.mmeaning.specs.History.{History, opening}
 use Rattle.mgrant.specs.Reading.{IsRead, IsRefused}
 use Rattle.mgrant.specs.declared.fault.SettingsFault.TheVariants as settings_fault
@@ -32,10 +32,10 @@ pub record StreamAnswered (document : Text) (left left' held held' : Option Text
   pub at_end : IsAtEnd left'
   pub trace : List (Event × Reply)
   pub events : map (λ e. e.0) trace ≡ events_of (lines read)
-  pub after : Server
+  pub after : World
   pub history : History settings (opening empty) trace after
   pub appended : Appends held held' (answer_text (lines read) (map (λ e. e.1) trace))
-  pub last : globals ≡ after.world.globals
+  pub last : globals ≡ after.shared.globals
 
 -- A stream was read to its end, and the bytes written are a reply in form for each of its lines' events: what is known of a store whose
 -- content no contract tells.
@@ -53,7 +53,7 @@ pub record Followed (document : Text) (left left' held held' : Option Text) : Ty
 pub record Broken {S : Type 0} (g : Ghosts S) (document : Text) (globals : Globals) (left left' held held' : Option Text) (fault : WireFault) : Type 0 where
   pub settings : Settings
   pub of_document : IsRead document settings
-  pub after : Server
+  pub after : World
   pub serves : Serves g settings (opening globals) after left left' held held' (Err fault)
 
 -- the device that a fault tells of broke between these two moments
@@ -142,7 +142,7 @@ without_value (Ok v) = Ok tt
 without_value (Err fault) = Err fault
 
 -- a stream was served from this point on, and where that went well, the value given has the globals behind the last line
-pub record ServedOver {S V : Type 0} (g : Ghosts S) (settings : Settings) (server : Server) (content : V → Globals) (left left' held held' : Option Text) (result : Result V WireFault) : Type 0 where
-  pub after : Server
-  pub serves : Serves g settings server after left left' held held' (without_value result)
-  pub last : IfOk result (λ value. content value ≡ after.world.globals)
+pub record ServedOver {S V : Type 0} (g : Ghosts S) (settings : Settings) (world : World) (content : V → Globals) (left left' held held' : Option Text) (result : Result V WireFault) : Type 0 where
+  pub after : World
+  pub serves : Serves g settings world after left left' held held' (without_value result)
+  pub last : IfOk result (λ value. content value ≡ after.shared.globals)

@@ -3,7 +3,7 @@
 ghost use Rattle.std.specs.Prelude.{◌≡◌, false, IfOk, IfErr, OnOk};
 ghost use Rattle.sqlite.specs.Steps.{over_memory};
 ghost use Rattle.mstore.specs.Database.{stored};
-ghost use Rattle.mworld.specs.View.{settings_of, server_of};
+ghost use Rattle.mworld.specs.View.{settings_of, world_of};
 ghost use Rattle.mwire.specs.Watched.{inner_of, failed_of};
 ghost use Rattle.mhost.specs.Runs.{StreamAnswered, EndsEarly, EndsEarlyOverFile, Followed, ServedOver, DeviceBroke};
 
@@ -99,7 +99,7 @@ fn serve_over<S: NodeStore + Drop, I: Read, O: Write>(
 ) -> Result<S, WireFault>
     requires input_works { failed_of input.old ≡ false }
     requires output_works { failed_of output.old ≡ false }
-    ensures served { ServedOver S.NodeStore (settings_of world) (server_of S.NodeStore world) S.content (I.remaining (inner_of input.old)) (I.remaining (inner_of input.new))
+    ensures served { ServedOver S.NodeStore (settings_of world) (world_of S.NodeStore world) S.content (I.remaining (inner_of input.old)) (I.remaining (inner_of input.new))
         (O.contents (inner_of output.old)) (O.contents (inner_of output.new)) result }
     ensures broke { IfErr result (DeviceBroke input.old input.new output.old output.new) }
 {

@@ -4,7 +4,7 @@ ghost use Rattle.std.specs.Prelude.{◌≡◌, ◌<◌, IfOk, IfErr, IfSome};
 ghost use Rattle.std.specs.FinMap.{empty};
 ghost use Rattle.mspec.specs.Globals.{Globals};
 ghost use Rattle.mmeaning.specs.History.{opening};
-ghost use Rattle.mworld.specs.View.{settings_of, server_of};
+ghost use Rattle.mworld.specs.View.{settings_of, world_of};
 ghost use Rattle.mcache.specs.CachedStore.{cached_store};
 ghost use Rattle.mhost.specs.Runs.{IsMemoryFault, IsStoreFault};
 
@@ -50,7 +50,7 @@ fn kept_over<S: NodeStore + Drop>(
 /// `Store`, which is `Memory`, of the world and of what is kept in front of the table too, or `Store`.
 pub fn memory_world(alloc: Global, settings: Settings) -> Result<MemoryWorld, RunFault>
     ensures settings { IfOk result (λ world. settings_of world ≡ settings) }
-    ensures server { IfOk result (λ world. server_of ⟦<Kept<Cached<Table<MemStore>>> as NodeStore>⟧ world ≡ opening empty) }
+    ensures world { IfOk result (λ world. world_of ⟦<Kept<Cached<Table<MemStore>>> as NodeStore>⟧ world ≡ opening empty) }
     ensures sound { IfOk result (λ _. ⟦<Kept<Cached<Table<MemStore>>> as NodeStore>⟧.sound) }
     ensures early { IfErr result IsMemoryFault }
 {
@@ -74,7 +74,7 @@ pub fn memory_world(alloc: Global, settings: Settings) -> Result<MemoryWorld, Ru
 /// `Store`, with the faults of `Table::open_file`; `Memory` of the world and of what is kept in front of the table too.
 pub fn file_world(rt: &HostRuntime, path: &str, settings: Settings) -> Result<FileWorld, RunFault>
     ensures settings { IfOk result (λ world. settings_of world ≡ settings) }
-    ensures server { IfOk result (λ world. (globals : Globals) × (server_of ⟦<Kept<Cached<Table<FileStore<File>>>> as NodeStore>⟧ world ≡ opening globals)) }
+    ensures world { IfOk result (λ world. (globals : Globals) × (world_of ⟦<Kept<Cached<Table<FileStore<File>>>> as NodeStore>⟧ world ≡ opening globals)) }
     ensures early { IfErr result IsStoreFault }
 {
     let table = match Table::open_file(rt, path) {

@@ -1,8 +1,8 @@
 -- SPDX-License-Identifier: Apache-2.0
 -- How a line ends, over the cut: the only place that reads what becomes of a session.
-use Rattle.misolation.proofs.IsolationWords.{◌≡◌, ℕ, true, false, sym, ap, ◌∙◌, FinMap, insert, remove, retain_keys, nat_cmp-IsAntisymmetric, nat_cmp, nat_cmp_total, Settings, State, Outcome, Signal, World, Accounts, is_inside, cut_world, cut_server, IsFit}
+use Rattle.misolation.proofs.IsolationWords.{◌≡◌, ℕ, true, false, sym, ap, ◌∙◌, FinMap, insert, remove, retain_keys, nat_cmp-IsAntisymmetric, nat_cmp, nat_cmp_total, Settings, State, Outcome, Signal, Shared, Accounts, is_inside, cut_shared, cut_world, IsFit}
 use Rattle.mspec.proofs.MapCuts.{cut_drops, cut_removed}
-use Rattle.mmeaning.specs.Step.{Session, Server, Ending, Finished, Halted, Faulted, settled, ended, kept, state_of, reply_of}
+use Rattle.mmeaning.specs.Step.{Session, World, Ending, Finished, Halted, Faulted, settled, ended, kept, state_of, reply_of}
 use Rattle.misolation.proofs.CutMaps.{cut_insert, cut_remove}
 use Rattle.misolation.proofs.FittingLocks.{released_fits}
 use Rattle.misolation.proofs.LockCuts.{released_cut, released_outside}
@@ -27,36 +27,36 @@ module _ (s : Accounts) (settings : Settings) where
 
   -- ---- ends of lines
 
-  settled_inside : (t : ℕ) → is_inside s settings t ≡ true → (server : Server) (ending : Ending) (state : State) (w : World)
-      → settled t (cut_server s settings server) ending state (cut_world s settings w) ≡ cut_server s settings (settled t server ending state w)
-  settled_inside t here server Finished state w = λ i. record { world = cut_world s settings w; sessions = kept_inside server.sessions t (kept state) here i }
-  settled_inside t here server (Faulted fault) state w = λ i. record { world = cut_world s settings w; sessions = kept_inside server.sessions t (kept state) here i }
-  settled_inside t here server Halted state w = λ i. record {
-    world = record { globals = (cut_world s settings w).globals; locks = released_cut s settings w.locks t i };
-    sessions = gone_inside server.sessions t i;
+  settled_inside : (t : ℕ) → is_inside s settings t ≡ true → (world : World) (ending : Ending) (state : State) (w : Shared)
+      → settled t (cut_world s settings world) ending state (cut_shared s settings w) ≡ cut_world s settings (settled t world ending state w)
+  settled_inside t here world Finished state w = λ i. record { shared = cut_shared s settings w; sessions = kept_inside world.sessions t (kept state) here i }
+  settled_inside t here world (Faulted fault) state w = λ i. record { shared = cut_shared s settings w; sessions = kept_inside world.sessions t (kept state) here i }
+  settled_inside t here world Halted state w = λ i. record {
+    shared = record { globals = (cut_shared s settings w).globals; locks = released_cut s settings w.locks t i };
+    sessions = gone_inside world.sessions t i;
   }
 
-  pub ended_inside : (t : ℕ) → is_inside s settings t ≡ true → (server : Server) (o : Outcome Signal) (w : World)
-      → ended t (cut_server s settings server) (o, cut_world s settings w) ≡ ((ended t server (o, w)).0, cut_server s settings (ended t server (o, w)).1)
-  ended_inside t here server o w = λ i. (reply_of o, settled_inside t here server (reply_of o).ending (state_of o) w i)
+  pub ended_inside : (t : ℕ) → is_inside s settings t ≡ true → (world : World) (o : Outcome Signal) (w : Shared)
+      → ended t (cut_world s settings world) (o, cut_shared s settings w) ≡ ((ended t world (o, w)).0, cut_world s settings (ended t world (o, w)).1)
+  ended_inside t here world o w = λ i. (reply_of o, settled_inside t here world (reply_of o).ending (state_of o) w i)
 
-  settled_outside : (t : ℕ) → is_inside s settings t ≡ false → (server : Server) (ending : Ending) (state : State) (w : World) → cut_world s settings w ≡ cut_world s settings server.world
-      → cut_server s settings (settled t server ending state w) ≡ cut_server s settings server
-  settled_outside t away server Finished state w same = λ i. record { world = same i; sessions = kept_outside server.sessions t (kept state) away i }
-  settled_outside t away server (Faulted fault) state w same = λ i. record { world = same i; sessions = kept_outside server.sessions t (kept state) away i }
-  settled_outside t away server Halted state w same =
+  settled_outside : (t : ℕ) → is_inside s settings t ≡ false → (world : World) (ending : Ending) (state : State) (w : Shared) → cut_shared s settings w ≡ cut_shared s settings world.shared
+      → cut_world s settings (settled t world ending state w) ≡ cut_world s settings world
+  settled_outside t away world Finished state w same = λ i. record { shared = same i; sessions = kept_outside world.sessions t (kept state) away i }
+  settled_outside t away world (Faulted fault) state w same = λ i. record { shared = same i; sessions = kept_outside world.sessions t (kept state) away i }
+  settled_outside t away world Halted state w same =
       let locks = released_outside s settings t away w.locks ∙ ap (λ v. v.locks) same in
-      λ i. record { world = record { globals = (same i).globals; locks = locks i }; sessions = gone_outside server.sessions t away i }
+      λ i. record { shared = record { globals = (same i).globals; locks = locks i }; sessions = gone_outside world.sessions t away i }
 
-  pub ended_outside : (t : ℕ) → is_inside s settings t ≡ false → (server : Server) (o : Outcome Signal) (w : World) → cut_world s settings w ≡ cut_world s settings server.world
-      → cut_server s settings (ended t server (o, w)).1 ≡ cut_server s settings server
-  ended_outside t away server o w same = settled_outside t away server (reply_of o).ending (state_of o) w same
+  pub ended_outside : (t : ℕ) → is_inside s settings t ≡ false → (world : World) (o : Outcome Signal) (w : Shared) → cut_shared s settings w ≡ cut_shared s settings world.shared
+      → cut_world s settings (ended t world (o, w)).1 ≡ cut_world s settings world
+  ended_outside t away world o w same = settled_outside t away world (reply_of o).ending (state_of o) w same
 
 -- fitting locks stay
-settled_fits : (settings : Settings) (t : ℕ) (server : Server) (ending : Ending) (state : State) (w : World) → IsFit settings w → IsFit settings (settled t server ending state w).world
-settled_fits settings t server Finished state w fit = fit
-settled_fits settings t server (Faulted fault) state w fit = fit
-settled_fits settings t server Halted state w fit = released_fits settings w.locks t fit
+settled_fits : (settings : Settings) (t : ℕ) (world : World) (ending : Ending) (state : State) (w : Shared) → IsFit settings w → IsFit settings (settled t world ending state w).shared
+settled_fits settings t world Finished state w fit = fit
+settled_fits settings t world (Faulted fault) state w fit = fit
+settled_fits settings t world Halted state w fit = released_fits settings w.locks t fit
 
-pub ended_fits : (settings : Settings) (t : ℕ) (server : Server) (o : Outcome Signal) (w : World) → IsFit settings w → IsFit settings (ended t server (o, w)).1.world
-ended_fits settings t server o w fit = settled_fits settings t server (reply_of o).ending (state_of o) w fit
+pub ended_fits : (settings : Settings) (t : ℕ) (world : World) (o : Outcome Signal) (w : Shared) → IsFit settings w → IsFit settings (ended t world (o, w)).1.shared
+ended_fits settings t world o w fit = settled_fits settings t world (reply_of o).ending (state_of o) w fit

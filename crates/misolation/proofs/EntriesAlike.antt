@@ -1,9 +1,9 @@
 -- SPDX-License-Identifier: Apache-2.0
 -- Settings of the same entries allow the same, also between the members of a set, and the same accounts reach each.
-use Rattle.misolation.proofs.IsolationWords.{◌≡◌, ℕ, Bool, true, false, cond, ◌&&◌, ◌||◌, List, [], ◌∷◌, Option, None, refl, sym, ap, ◌∙◌, subst, ⊎_elim, or_cases, and_parts, and_from, or_left, or_right, nat_cmp_total, any-filter_same, bytes_decides, get, retain_keys, nat_cmp-IsAntisymmetric, filter, list_any, Text, text_eq, carries, Reaches, itself, through, get_cut, Session, session_or_new, Server, Event, Accounts, reach, is_member, is_inside, is_between, cut_settings, cut_server, cut_events}
+use Rattle.misolation.proofs.IsolationWords.{◌≡◌, ℕ, Bool, true, false, cond, ◌&&◌, ◌||◌, List, [], ◌∷◌, Option, None, refl, sym, ap, ◌∙◌, subst, ⊎_elim, or_cases, and_parts, and_from, or_left, or_right, nat_cmp_total, any-filter_same, bytes_decides, get, retain_keys, nat_cmp-IsAntisymmetric, filter, list_any, Text, text_eq, carries, Reaches, itself, through, get_cut, Session, session_or_new, World, Event, Accounts, reach, is_member, is_inside, is_between, cut_settings, cut_world, cut_events}
 use Rattle.std.specs.Cmp.Derive.{one_truth}
 use Rattle.mspec.specs.Access.{Mode, Read, Write, Account, Grant, Settings, allows, lets, may}
-use Rattle.misolation.specs.Alike.{AlikeSettings, AlikeServers, AllowsAll, SameEntries}
+use Rattle.misolation.specs.Alike.{AlikeSettings, AlikeWorlds, AllowsAll, SameEntries}
 use Rattle.misolation.specs.AlikeLaws.{SameEntriesAgree}
 use Rattle.misolation.proofs.Access.{any_more, let_by}
 use Rattle.misolation.proofs.Reaching.{reach_is_chains}
@@ -124,11 +124,11 @@ module _ (one two : Settings) (same : SameEntries one two) where
     session_alike true o p e = e
     session_alike false o p e = refl
 
-    servers_alike : (first second : Server) → AlikeServers first second → AlikeServers (cut_server s one first) (cut_server s two second)
-    servers_alike first second alike = record {
-      world = λ i. record {
-        globals = retain_keys (alike.world i).globals (λ n. s n.account);
-        locks = retain_keys (alike.world i).locks (λ h. inside_paths i h.terminal);
+    worlds_alike : (first second : World) → AlikeWorlds first second → AlikeWorlds (cut_world s one first) (cut_world s two second)
+    worlds_alike first second alike = record {
+      shared = λ i. record {
+        globals = retain_keys (alike.shared i).globals (λ n. s n.account);
+        locks = retain_keys (alike.shared i).locks (λ h. inside_paths i h.terminal);
       };
       sessions = λ t.
           ap session_or_new (get_cut nat_cmp_total nat_cmp-IsAntisymmetric first.sessions (is_inside s one) t)
@@ -141,7 +141,7 @@ pub same_entries_agree : SameEntriesAgree
 same_entries_agree a one two first second events same alike = record {
   reaching = reach_same one two same a;
   settings = subst (λ (s : Accounts). AlikeSettings (cut_settings (reach one a) one) (cut_settings s two)) reaches (settings_alike one two same (reach one a));
-  server = subst (λ (s : Accounts). AlikeServers (cut_server (reach one a) one first) (cut_server s two second)) reaches (servers_alike one two same (reach one a) first second alike);
+  world = subst (λ (s : Accounts). AlikeWorlds (cut_world (reach one a) one first) (cut_world s two second)) reaches (worlds_alike one two same (reach one a) first second alike);
   events = events_same one two same (reach one a) events ∙ ap (λ (s : Accounts). cut_events s two events) reaches;
 }
   where

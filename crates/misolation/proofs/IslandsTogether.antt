@@ -1,10 +1,10 @@
 -- SPDX-License-Identifier: Apache-2.0
 -- The laws of islands: the whole comes apart, and machines run together.
-use Rattle.misolation.proofs.IsolationWords.{◌≡◌, ℕ, Bool, true, false, List, [], ◌∷◌, Option, Some, None, refl, sym, ap, ◌∙◌, subst, subst₂, nat_cmp_total, nat_eq, get, remove, nat_cmp-IsAntisymmetric, significant_digits, held, released, Account, Settings, Outcome, Plan, cut_short, held_cmp_total, held_cmp_exact, node_cmp_total, node_cmp_exact, by_test, line_at, Signal, Accounts, IsClosed, is_member, is_inside, cut_settings, cut_world, cut_server, cut_events, part, IsFit, Actor, ops_of, cut_ops, InsidePlan, OutsideStep}
+use Rattle.misolation.proofs.IsolationWords.{◌≡◌, ℕ, Bool, true, false, List, [], ◌∷◌, Option, Some, None, refl, sym, ap, ◌∙◌, subst, subst₂, nat_cmp_total, nat_eq, get, remove, nat_cmp-IsAntisymmetric, significant_digits, held, released, Account, Settings, Outcome, Plan, cut_short, held_cmp_total, held_cmp_exact, node_cmp_total, node_cmp_exact, by_test, line_at, Signal, Accounts, IsClosed, is_member, is_inside, cut_settings, cut_shared, cut_world, cut_events, part, IsFit, Actor, ops_of, cut_ops, InsidePlan, OutsideStep}
 use Rattle.std.proofs.lemmas.Bool.{eqb-true, eq-eqb}
 use Rattle.mspec.specs.Flow.{IsIsland}
-use Rattle.mmeaning.specs.Step.{Session, session_or_new, Server, Event, Reply, plan_of, at_account, normal, FailedStep, is_failure, StepBy, Step}
-use Rattle.mmeaning.specs.History.{History, opening, server_after, answered}
+use Rattle.mmeaning.specs.Step.{Session, session_or_new, World, Event, Reply, plan_of, at_account, normal, FailedStep, is_failure, StepBy, Step}
+use Rattle.mmeaning.specs.History.{History, opening, world_after, answered}
 use Rattle.misolation.specs.HistoryLaws.{events_of, IsAlone}
 use Rattle.misolation.specs.Islands.{Placement, on, KeepsTies, refusal, StrangersRefused, LaidTogether}
 use Rattle.misolation.specs.IslandLaws.{IslandRunsAlone, MachinesAreIslands, WholeComesApart, MachinesRunTogether, MovedIslandGoesOn}
@@ -40,83 +40,83 @@ island_runs_alone s settings globals es after island h none =
     let own = cut_events s settings (events_of es) in
     record {
       lines = law.lines ∙ ap (λ v. answered low v own) start;
-      left = ap (λ v. v.world.globals) law.left ∙ ap (λ v. (server_after low v own).world.globals) start;
+      left = ap (λ v. v.shared.globals) law.left ∙ ap (λ v. (world_after low v own).shared.globals) start;
     }
 
 -- ---- a step over the cut is one of the whole
 
-module _ (s : Accounts) (settings : Settings) (e : Event) (server : Server) (closed : IsClosed settings s) (fit : IsFit settings server.world) (here : is_inside s settings e.terminal ≡ true) where
+module _ (s : Accounts) (settings : Settings) (e : Event) (world : World) (closed : IsClosed settings s) (fit : IsFit settings world.shared) (here : is_inside s settings e.terminal ≡ true) where
   abbrev plan_in : Account → Option Session → Plan (Outcome Signal)
   plan_in account session = plan_of account (session_or_new session) (line_at e.text)
 
-  failed_whole : (left : Server) → FailedStep (cut_settings s settings) e (cut_server s settings server) left → (after : Server) × FailedStep settings e server after × (cut_server s settings after ≡ left)
+  failed_whole : (left : World) → FailedStep (cut_settings s settings) e (cut_world s settings world) left → (after : World) × FailedStep settings e world after × (cut_world s settings after ≡ left)
   failed_whole left f =
       let known : get settings.terminals e.terminal ≡ Some f.account = sym (get_kept nat_cmp_total nat_cmp-IsAntisymmetric settings.terminals (is_inside s settings) e.terminal here) ∙ f.known in
       let b : Actor = record { settings = settings; terminal = e.terminal; account = f.account; known = known } in
       let member : s f.account.name ≡ true = sym (ap (is_member s) known) ∙ here in
-      let p : Plan (Outcome Signal) = plan_in f.account (get server.sessions e.terminal) in
-      let inside : InsidePlan s b p server.world = inside_plans s b p server.world closed member fit in
-      let after : Server = record {
-        world = record { globals = (cut_short (ops_of b) f.operations p server.world).globals; locks = released server.world.locks e.terminal };
-        sessions = remove server.sessions e.terminal;
+      let p : Plan (Outcome Signal) = plan_in f.account (get world.sessions e.terminal) in
+      let inside : InsidePlan s b p world.shared = inside_plans s b p world.shared closed member fit in
+      let after : World = record {
+        shared = record { globals = (cut_short (ops_of b) f.operations p world.shared).globals; locks = released world.shared.locks e.terminal };
+        sessions = remove world.sessions e.terminal;
       } in
       let globals = sym (f.globals
-      ∙ ap (λ o. (cut_short (cut_ops s b) f.operations (plan_in f.account o) (cut_world s settings server.world)).globals) (get_kept nat_cmp_total nat_cmp-IsAntisymmetric server.sessions (is_inside s settings) e.terminal here)
+      ∙ ap (λ o. (cut_short (cut_ops s b) f.operations (plan_in f.account o) (cut_shared s settings world.shared)).globals) (get_kept nat_cmp_total nat_cmp-IsAntisymmetric world.sessions (is_inside s settings) e.terminal here)
       ∙ ap (λ w. w.globals) (inside.short f.operations)) in
-      let locks = sym (f.locks ∙ released_cut s settings server.world.locks e.terminal) in
-      let sessions = sym (f.sessions ∙ gone_inside s settings server.sessions e.terminal) in (
+      let locks = sym (f.locks ∙ released_cut s settings world.shared.locks e.terminal) in
+      let sessions = sym (f.sessions ∙ gone_inside s settings world.sessions e.terminal) in (
         after,
         record { account = f.account; known = known; short = f.short; ascii = f.ascii; operations = f.operations; globals = refl; locks = refl; sessions = refl },
-        λ i. record { world = record { globals = globals i; locks = locks i }; sessions = sessions i },
+        λ i. record { shared = record { globals = globals i; locks = locks i }; sessions = sessions i },
       )
 
-  step_by : (b : Bool) (reply : Reply) (left : Server) → StepBy b (cut_settings s settings) e reply (cut_server s settings server) left → (after : Server) × StepBy b settings e reply server after × (cut_server s settings after ≡ left)
+  step_by : (b : Bool) (reply : Reply) (left : World) → StepBy b (cut_settings s settings) e reply (cut_world s settings world) left → (after : World) × StepBy b settings e reply world after × (cut_world s settings after ≡ left)
   step_by false reply left h =
-      let same = sym (normal_inside s settings e server closed fit here) ∙ h in
-      ((normal settings e server).1, (λ i. ((same i).0, (normal settings e server).1)), (λ i. (same i).1))
+      let same = sym (normal_inside s settings e world closed fit here) ∙ h in
+      ((normal settings e world).1, (λ i. ((same i).0, (normal settings e world).1)), (λ i. (same i).1))
   step_by true reply left h =
       let whole = failed_whole left h.1 in
       (whole.0, (h.0, whole.1), whole.2)
 
-  step_whole : (reply : Reply) (left : Server) → Step (cut_settings s settings) e reply (cut_server s settings server) left → (after : Server) × Step settings e reply server after × (cut_server s settings after ≡ left)
+  step_whole : (reply : Reply) (left : World) → Step (cut_settings s settings) e reply (cut_world s settings world) left → (after : World) × Step settings e reply world after × (cut_world s settings after ≡ left)
   step_whole reply left h = step_by (is_failure reply.ending) reply left h
 
 -- ---- lines of no account
 
-refused_normal : (settings : Settings) (e : Event) (server : Server) → get settings.terminals e.terminal ≡ None → normal settings e server ≡ (refusal, server)
-refused_normal settings e server none = ap (at_account settings e server) none
+refused_normal : (settings : Settings) (e : Event) (world : World) → get settings.terminals e.terminal ≡ None → normal settings e world ≡ (refusal, world)
+refused_normal settings e world none = ap (at_account settings e world) none
 
-stranger_by : (settings : Settings) (e : Event) (server after : Server) (b : Bool) (reply : Reply) → StepBy b settings e reply server after → get settings.terminals e.terminal ≡ None → reply ≡ refusal
-stranger_by settings e server after false reply h none = ap (λ r. r.0) (sym h ∙ refused_normal settings e server none)
-stranger_by settings e server after true reply h none = let no : None ≡ Some h.1.account = sym none ∙ h.1.known in absurd (cc)
+stranger_by : (settings : Settings) (e : Event) (world after : World) (b : Bool) (reply : Reply) → StepBy b settings e reply world after → get settings.terminals e.terminal ≡ None → reply ≡ refusal
+stranger_by settings e world after false reply h none = ap (λ r. r.0) (sym h ∙ refused_normal settings e world none)
+stranger_by settings e world after true reply h none = let no : None ≡ Some h.1.account = sym none ∙ h.1.known in absurd (cc)
 
-strangers_refused : (settings : Settings) (server after : Server) (es : List (Event × Reply)) → History settings server es after → StrangersRefused settings es
-strangers_refused settings server after [] h = tt
-strangers_refused settings server after (e ∷ es) h = (stranger_by settings e.0 server h.0 (is_failure e.1.ending) e.1 h.1, strangers_refused settings h.0 after es h.2)
+strangers_refused : (settings : Settings) (world after : World) (es : List (Event × Reply)) → History settings world es after → StrangersRefused settings es
+strangers_refused settings world after [] h = tt
+strangers_refused settings world after (e ∷ es) h = (stranger_by settings e.0 world h.0 (is_failure e.1.ending) e.1 h.1, strangers_refused settings h.0 after es h.2)
 
 -- ---- what is left
 
-laid_together : (place : Placement) (settings : Settings) (left : ℕ → Server) (whole : Server) → ((m : ℕ) → cut_server (on place m) settings whole ≡ left m) → LaidTogether place settings left whole
+laid_together : (place : Placement) (settings : Settings) (left : ℕ → World) (whole : World) → ((m : ℕ) → cut_world (on place m) settings whole ≡ left m) → LaidTogether place settings left whole
 laid_together place settings left whole parts = record {
   parts = parts;
   globals = λ n.
       let m = place n.account in
-      sym (get_kept (node_cmp_total significant_digits) (node_cmp_exact significant_digits) whole.world.globals (λ k. on place m k.account) n (eq-eqb m m refl)) ∙ ap (λ v. get v.world.globals n) (parts m);
+      sym (get_kept (node_cmp_total significant_digits) (node_cmp_exact significant_digits) whole.shared.globals (λ k. on place m k.account) n (eq-eqb m m refl)) ∙ ap (λ v. get v.shared.globals n) (parts m);
   sessions = λ t a known.
       let m = place a.name in
       sym (get_kept nat_cmp_total nat_cmp-IsAntisymmetric whole.sessions (is_inside (on place m) settings) t (ap (is_member (on place m)) known ∙ eq-eqb m m refl)) ∙ ap (λ v. get v.sessions t) (parts m);
   locks = λ t a known n.
       let m = place a.name in
-      sym (get_kept held_cmp_total held_cmp_exact whole.world.locks (λ h. is_inside (on place m) settings h.terminal) (held t n) (ap (is_member (on place m)) known ∙ eq-eqb m m refl)) ∙ ap (λ v. get v.world.locks (held t n)) (parts m);
+      sym (get_kept held_cmp_total held_cmp_exact whole.shared.locks (λ h. is_inside (on place m) settings h.terminal) (held t n) (ap (is_member (on place m)) known ∙ eq-eqb m m refl)) ∙ ap (λ v. get v.shared.locks (held t n)) (parts m);
 }
 
 pub whole_comes_apart : WholeComesApart
-whole_comes_apart place settings server after es ties fit h = record {
+whole_comes_apart place settings world after es ties fit h = record {
   apart = record {
-    machines = λ m. part_is_history (on place m) settings server after es (island_closed (on place m) settings (machine_island settings place ties m)) fit h;
-    strangers = strangers_refused settings server after es h;
+    machines = λ m. part_is_history (on place m) settings world after es (island_closed (on place m) settings (machine_island settings place ties m)) fit h;
+    strangers = strangers_refused settings world after es h;
   };
-  laid = laid_together place settings (λ m. cut_server (on place m) settings after) after (λ m. refl);
+  laid = laid_together place settings (λ m. cut_world (on place m) settings after) after (λ m. refl);
 }
 
 -- ---- machines run together
@@ -125,9 +125,9 @@ module _ (place : Placement) (settings : Settings) (ties : KeepsTies settings pl
   closed_on : (m : ℕ) → IsClosed settings (on place m)
   closed_on m = island_closed (on place m) settings (machine_island settings place ties m)
 
-  -- each machine's history from its part of a server
-  abbrev Histories : Server → List (Event × Reply) → (ℕ → Server) → Type 0
-  Histories server es left = (m : ℕ) → History (cut_settings (on place m) settings) (cut_server (on place m) settings server) (part (on place m) settings es) (left m)
+  -- each machine's history from its part of a world
+  abbrev Histories : World → List (Event × Reply) → (ℕ → World) → Type 0
+  Histories world es left = (m : ℕ) → History (cut_settings (on place m) settings) (cut_world (on place m) settings world) (part (on place m) settings es) (left m)
 
   part_here : (m : ℕ) (e : Event × Reply) (es : List (Event × Reply)) → is_inside (on place m) settings e.0.terminal ≡ true → part (on place m) settings (e ∷ es) ≡ e ∷ part (on place m) settings es
   part_here m e es here = rw here refl
@@ -135,57 +135,57 @@ module _ (place : Placement) (settings : Settings) (ties : KeepsTies settings pl
   part_away : (m : ℕ) (e : Event × Reply) (es : List (Event × Reply)) → is_inside (on place m) settings e.0.terminal ≡ false → part (on place m) settings (e ∷ es) ≡ part (on place m) settings es
   part_away m e es away = rw away refl
 
-  module _ (server : Server) (e : Event × Reply) (es : List (Event × Reply)) (left : ℕ → Server) (fit : IsFit settings server.world) (h : Histories server (e ∷ es) left) where
+  module _ (world : World) (e : Event × Reply) (es : List (Event × Reply)) (left : ℕ → World) (fit : IsFit settings world.shared) (h : Histories world (e ∷ es) left) where
     -- a machine that the line is not of
-    passed : (m : ℕ) → is_inside (on place m) settings e.0.terminal ≡ false → (between : Server) → cut_server (on place m) settings between ≡ cut_server (on place m) settings server
-        → History (cut_settings (on place m) settings) (cut_server (on place m) settings between) (part (on place m) settings es) (left m)
+    passed : (m : ℕ) → is_inside (on place m) settings e.0.terminal ≡ false → (between : World) → cut_world (on place m) settings between ≡ cut_world (on place m) settings world
+        → History (cut_settings (on place m) settings) (cut_world (on place m) settings between) (part (on place m) settings es) (left m)
     passed m away between same =
         subst (λ v. History (cut_settings (on place m) settings) v (part (on place m) settings es) (left m)) (sym same)
-        (subst (λ xs. History (cut_settings (on place m) settings) (cut_server (on place m) settings server) xs (left m)) (part_away m e es away) (h m))
+        (subst (λ xs. History (cut_settings (on place m) settings) (cut_world (on place m) settings world) xs (left m)) (part_away m e es away) (h m))
 
     -- the first line's step in the whole, and the machines' histories behind it
     stepped : (o : Option Account) → get settings.terminals e.0.terminal ≡ o → (get settings.terminals e.0.terminal ≡ None → e.1 ≡ refusal)
-        → (between : Server) × Step settings e.0 e.1 server between × Histories between es left
+        → (between : World) × Step settings e.0 e.1 world between × Histories between es left
     stepped None known stranger = (
-      server,
-      subst (λ r. Step settings e.0 r server server) (sym (stranger known)) (refused_normal settings e.0 server known),
-      λ m. passed m (ap (is_member (on place m)) known) server refl,
+      world,
+      subst (λ r. Step settings e.0 r world world) (sym (stranger known)) (refused_normal settings e.0 world known),
+      λ m. passed m (ap (is_member (on place m)) known) world refl,
     )
     stepped (Some account) known stranger =
         let own = place account.name in
         let inside : (m : ℕ) → is_inside (on place m) settings e.0.terminal ≡ nat_eq own m = λ m. ap (is_member (on place m)) known in
         let here : is_inside (on place own) settings e.0.terminal ≡ true = inside own ∙ eq-eqb own own refl in
-        let apart : History (cut_settings (on place own) settings) (cut_server (on place own) settings server) (e ∷ part (on place own) settings es) (left own) =
-        subst (λ xs. History (cut_settings (on place own) settings) (cut_server (on place own) settings server) xs (left own)) (part_here own e es here) (h own) in
-        let whole = step_whole (on place own) settings e.0 server (closed_on own) fit here e.1 apart.0 apart.1 in (
+        let apart : History (cut_settings (on place own) settings) (cut_world (on place own) settings world) (e ∷ part (on place own) settings es) (left own) =
+        subst (λ xs. History (cut_settings (on place own) settings) (cut_world (on place own) settings world) xs (left own)) (part_here own e es here) (h own) in
+        let whole = step_whole (on place own) settings e.0 world (closed_on own) fit here e.1 apart.0 apart.1 in (
           whole.0,
           whole.1,
           λ m. by_test (nat_eq own m)
               (λ same.
-              subst (λ k. History (cut_settings (on place k) settings) (cut_server (on place k) settings whole.0) (part (on place k) settings es) (left k)) (eqb-true own m same)
+              subst (λ k. History (cut_settings (on place k) settings) (cut_world (on place k) settings whole.0) (part (on place k) settings es) (left k)) (eqb-true own m same)
               (subst (λ v. History (cut_settings (on place own) settings) v (part (on place own) settings es) (left own)) (sym whole.2) apart.2))
               (λ other.
-              let law : OutsideStep (on place m) settings e.0 server = outside_steps (on place m) settings e.0 server (closed_on m) (inside m ∙ other) in
+              let law : OutsideStep (on place m) settings e.0 world = outside_steps (on place m) settings e.0 world (closed_on m) (inside m ∙ other) in
               passed m (inside m ∙ other) whole.0 (law.step e.1 whole.0 whole.1)),
         )
 
-  joined : (server : Server) (es : List (Event × Reply)) (left : ℕ → Server) → IsFit settings server.world → Histories server es left → StrangersRefused settings es
-      → (after : Server) × History settings server es after × ((m : ℕ) → cut_server (on place m) settings after ≡ left m)
-  joined server [] left fit h strangers = (server, refl, λ m. sym (h m))
-  joined server (e ∷ es) left fit h strangers =
-      let first = stepped server e es left fit h (get settings.terminals e.0.terminal) refl strangers.0 in
-      let rest = joined first.0 es left (steps_keep_fit settings e.0 e.1 server first.0 first.1 fit) first.2 strangers.1 in
+  joined : (world : World) (es : List (Event × Reply)) (left : ℕ → World) → IsFit settings world.shared → Histories world es left → StrangersRefused settings es
+      → (after : World) × History settings world es after × ((m : ℕ) → cut_world (on place m) settings after ≡ left m)
+  joined world [] left fit h strangers = (world, refl, λ m. sym (h m))
+  joined world (e ∷ es) left fit h strangers =
+      let first = stepped world e es left fit h (get settings.terminals e.0.terminal) refl strangers.0 in
+      let rest = joined first.0 es left (steps_keep_fit settings e.0 e.1 world first.0 first.1 fit) first.2 strangers.1 in
       (rest.0, (first.0, first.1, rest.1), rest.2)
 
 pub machines_run_together : MachinesRunTogether
-machines_run_together place settings server es left ties fit apart =
-    let whole = joined place settings ties server es left fit apart.machines apart.strangers in
+machines_run_together place settings world es left ties fit apart =
+    let whole = joined place settings ties world es left fit apart.machines apart.strangers in
     (whole.0, whole.1, laid_together place settings left whole.0 whole.2)
 
 -- ---- a move
 
 pub moved_island_goes_on : MovedIslandGoesOn
-moved_island_goes_on s here there server between opened after es fs island island' same fit fit' h moved k = record {
-  before = part_is_history s here server between es (island_closed s here island) fit h;
-  behind = subst₂ (λ low v. History low v (part s there fs) (cut_server s there after)) (sym same) moved (part_is_history s there opened after fs (island_closed s there island') fit' k);
+moved_island_goes_on s here there world between opened after es fs island island' same fit fit' h moved k = record {
+  before = part_is_history s here world between es (island_closed s here island) fit h;
+  behind = subst₂ (λ low v. History low v (part s there fs) (cut_world s there after)) (sym same) moved (part_is_history s there opened after fs (island_closed s there island') fit' k);
 }

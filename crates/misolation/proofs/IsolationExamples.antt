@@ -2,22 +2,22 @@
 -- The laws on a host of three customers, as proved equations: they are not empty, and they claim no more than is so.
 --
 -- The laboratory lets the clinic read its results. The bank has no tie to either, or else the clinic lets it write its bills.
-use Rattle.misolation.proofs.IsolationWords.{◌≡◌, ℕ, Bool, true, false, cond, List, [], ◌∷◌, Option, Some, None, refl, sym, ap, ◌∙◌, subst, subst₂, nat_cmp, eq_by_cmp, nat_cmp_total, Text, Node, significant_digits, LockName, held, held_cmp, released, Read, Write, Account, Grant, Settings, cut_drops, held_cmp_total, held_cmp_exact, node_cmp_total, node_cmp_exact, Put, Take, Value, World, act, History, NoneFailed, Accounts, IsClosed, reach, IsLeastClosed, is_member, is_inside, cut_settings, cut_world, cut_server, cut_events, part, holds_by, IsFit, only}
+use Rattle.misolation.proofs.IsolationWords.{◌≡◌, ℕ, Bool, true, false, cond, List, [], ◌∷◌, Option, Some, None, refl, sym, ap, ◌∙◌, subst, subst₂, nat_cmp, eq_by_cmp, nat_cmp_total, Text, Node, significant_digits, LockName, held, held_cmp, released, Read, Write, Account, Grant, Settings, cut_drops, held_cmp_total, held_cmp_exact, node_cmp_total, node_cmp_exact, Put, Take, Value, Shared, act, History, NoneFailed, Accounts, IsClosed, reach, IsLeastClosed, is_member, is_inside, cut_settings, cut_shared, cut_world, cut_events, part, holds_by, IsFit, only}
 use Rattle.std.specs.Prelude.{codes}
 use Rattle.std.specs.FinMap.{FinMap, get, insert, remove, retain_keys, empty, entries, from_sorted, same_map, get-empty, get-insert, get-from_sorted, entries-from_sorted, entries-insert, gets, nat_cmp-IsAntisymmetric}
 use Rattle.std.specs.FinMap.Entries.{put}
 use Rattle.mspec.specs.Code.{Lost, Memory, Store}
-use Rattle.mmeaning.specs.Step.{Session, new_session, session_or_new, Server, Event, Reply, Faulted, is_too_long, is_ascii, normal, FailedStep, lost, StepBy, Step}
+use Rattle.mmeaning.specs.Step.{Session, new_session, session_or_new, World, Event, Reply, Faulted, is_too_long, is_ascii, normal, FailedStep, lost, StepBy, Step}
 use Rattle.mmeaning.proofs.Histories.{normal_never_fails}
 use Rattle.misolation.specs.PlanLaws.{Actor, ops_of, cut_ops, InsideOperation}
-use Rattle.misolation.specs.Alike.{AlikeServers, SameEntries}
+use Rattle.misolation.specs.Alike.{AlikeWorlds, SameEntries}
 use Rattle.misolation.specs.Agreement.{Run, Agree}
 use Rattle.misolation.specs.HistoryLaws.{Answered, SameReplies}
 use Rattle.misolation.proofs.CutMaps.{get_kept}
 use Rattle.misolation.proofs.FittingLocks.{fit_insert}
 use Rattle.misolation.proofs.Operations.{inside_operations}
 use Rattle.misolation.proofs.Reaching.{reach_is_least_closed}
-use Rattle.misolation.proofs.StepsAlike.{alike_servers}
+use Rattle.misolation.proofs.StepsAlike.{alike_worlds}
 use Rattle.misolation.proofs.EntriesAlike.{same_entries_agree}
 use Rattle.misolation.proofs.PartsAlone.{part_is_history, opening_is_fit, agreeing_replies}
 use Rattle.std.proofs.Common.{rules}
@@ -67,7 +67,7 @@ record WhoReaches : Type 0 where
 reaching : WhoReaches
 reaching = search rules
 
--- ---- two servers that differ in the bank's globals, locks and sessions alone
+-- ---- two worlds that differ in the bank's globals, locks and sessions alone
 
 abbrev node : Text → Text → Node
 node owner name = record { account = owner; name = name; subscripts = [] }
@@ -84,12 +84,12 @@ bills = node clinic (codes "BILLS")
 abbrev ledger : Node
 ledger = node bank (codes "LEDGER")
 
-abbrev quiet : Server
-quiet = record { world = record { globals = insert empty results (codes "7"); locks = empty }; sessions = empty }
+abbrev quiet : World
+quiet = record { shared = record { globals = insert empty results (codes "7"); locks = empty }; sessions = empty }
 
-abbrev busy : Server
+abbrev busy : World
 busy = record {
-  world = record { globals = insert quiet.world.globals ledger (codes "9"); locks = insert quiet.world.locks (held 3 (lock ledger)) 1 };
+  shared = record { globals = insert quiet.shared.globals ledger (codes "9"); locks = insert quiet.shared.locks (held 3 (lock ledger)) 1 };
   sessions = insert quiet.sessions 3 new_session;
 }
 
@@ -116,17 +116,17 @@ own_outside : is_inside (only clinic) apart 3 ≡ false
 own_outside = ap (is_member (only clinic)) of_bank
 
 -- the cuts are one
-same_cut : cut_server tied apart busy ≡ cut_server tied apart quiet
+same_cut : cut_world tied apart busy ≡ cut_world tied apart quiet
 same_cut = λ i. record {
-  world = record {
-    globals = cut_drops (node_cmp_total significant_digits) (node_cmp_exact significant_digits) quiet.world.globals (λ n. tied n.account) ledger (codes "9") refl i;
-    locks = cut_drops held_cmp_total held_cmp_exact quiet.world.locks (λ h. is_inside tied apart h.terminal) (held 3 (lock ledger)) 1 bank_outside i;
+  shared = record {
+    globals = cut_drops (node_cmp_total significant_digits) (node_cmp_exact significant_digits) quiet.shared.globals (λ n. tied n.account) ledger (codes "9") refl i;
+    locks = cut_drops held_cmp_total held_cmp_exact quiet.shared.locks (λ h. is_inside tied apart h.terminal) (held 3 (lock ledger)) 1 bank_outside i;
   };
   sessions = cut_drops nat_cmp_total nat_cmp-IsAntisymmetric quiet.sessions (is_inside tied apart) 3 new_session bank_outside i;
 }
 
 -- and the bank holds what it may hold
-busy_fits : IsFit apart busy.world
+busy_fits : IsFit apart busy.shared
 busy_fits = fit_insert apart empty (held 3 (lock ledger)) 1 (ap (λ o. holds_by apart o (lock ledger)) of_bank) (opening_is_fit apart empty)
 
 -- ---- the bank's lines fail, and the clinic's is answered as if there were no bank
@@ -135,14 +135,14 @@ abbrev line : ℕ → Text → Event
 line t text = record { terminal = t; text = text }
 
 -- what a failed line of the bank leaves that failed before it did anything
-abbrev failed : Server → Server
-failed server = record {
-  world = record { globals = server.world.globals; locks = released server.world.locks 3 };
-  sessions = remove server.sessions 3;
+abbrev failed : World → World
+failed world = record {
+  shared = record { globals = world.shared.globals; locks = released world.shared.locks 3 };
+  sessions = remove world.sessions 3;
 }
 
-bank_fails : (server : Server) (text : Text) → is_too_long text ≡ false → is_ascii text ≡ true → FailedStep apart (line 3 text) server (failed server)
-bank_fails server text short ascii = record {
+bank_fails : (world : World) (text : Text) → is_too_long text ≡ false → is_ascii text ≡ true → FailedStep apart (line 3 text) world (failed world)
+bank_fails world text short ascii = record {
   account = account bank;
   known = of_bank;
   short = short;
@@ -153,8 +153,8 @@ bank_fails server text short ascii = record {
   sessions = refl;
 }
 
-clinic_runs : (server : Server) (e : Event) → Step apart e (normal apart e server).0 server (normal apart e server).1
-clinic_runs server e = subst (λ b. StepBy b apart e (normal apart e server).0 server (normal apart e server).1) (sym (normal_never_fails apart e server)) refl
+clinic_runs : (world : World) (e : Event) → Step apart e (normal apart e world).0 world (normal apart e world).1
+clinic_runs world e = subst (λ b. StepBy b apart e (normal apart e world).0 world (normal apart e world).1) (sym (normal_never_fails apart e world)) refl
 
 module _ (text : Text) where
   abbrev first : Event
@@ -174,10 +174,10 @@ module _ (text : Text) where
   lonely = (line 1 text, (normal apart (line 1 text) quiet).0) ∷ []
 
   abbrev with_bank : Run
-  with_bank = record { settings = apart; server = busy; events = first ∷ line 1 text ∷ last ∷ [] }
+  with_bank = record { settings = apart; world = busy; events = first ∷ line 1 text ∷ last ∷ [] }
 
   abbrev without_bank : Run
-  without_bank = record { settings = apart; server = quiet; events = line 1 text ∷ [] }
+  without_bank = record { settings = apart; world = quiet; events = line 1 text ∷ [] }
 
   crowded_runs : History apart busy crowded (failed (normal apart (line 1 text) (failed busy)).1)
   crowded_runs = (
@@ -201,7 +201,7 @@ module _ (text : Text) where
   agreed = record {
     reaching = λ x. refl;
     settings = record { terminals = λ t. refl; allowed = λ me owner name mode. refl };
-    server = alike_servers (cut_server tied apart busy) (cut_server tied apart quiet) same_cut;
+    world = alike_worlds (cut_world tied apart busy) (cut_world tied apart quiet) same_cut;
     events = simp (clinic_inside, bank_outside) refl;
   }
 
@@ -227,7 +227,7 @@ module _ (text : Text) where
 
   same_replies : SameReplies clinic with_bank without_bank crowded lonely (failed (normal apart (line 1 text) (failed busy)).1) (normal apart (line 1 text) quiet).1
   same_replies =
-      agreeing_replies clinic with_bank without_bank agreed busy_fits (opening_is_fit apart quiet.world.globals) crowded lonely
+      agreeing_replies clinic with_bank without_bank agreed busy_fits (opening_is_fit apart quiet.shared.globals) crowded lonely
       (failed (normal apart (line 1 text) (failed busy)).1) (normal apart (line 1 text) quiet).1 crowded_answered lonely_answered
 
   -- whatever the clinic sends, it is answered alike
@@ -243,10 +243,10 @@ laboratory_inside : is_inside tied apart 2 ≡ true
 laboratory_inside = ap (is_member tied) of_laboratory
 
 -- what a failed line of the laboratory leaves
-abbrev laboratory_failed : Server → Server
-laboratory_failed server = record {
-  world = record { globals = server.world.globals; locks = released server.world.locks 2 };
-  sessions = remove server.sessions 2;
+abbrev laboratory_failed : World → World
+laboratory_failed world = record {
+  shared = record { globals = world.shared.globals; locks = released world.shared.locks 2 };
+  sessions = remove world.sessions 2;
 }
 
 module _ (text : Text) where
@@ -269,11 +269,11 @@ module _ (text : Text) where
   whole_part = simp (clinic_inside, laboratory_inside) refl
 
   -- the same lines with the same replies are a history where there is no bank
-  past_failure : History (cut_settings tied apart) (cut_server tied apart quiet) short_of_memory (cut_server tied apart (normal apart (line 1 text) (laboratory_failed busy)).1)
+  past_failure : History (cut_settings tied apart) (cut_world tied apart quiet) short_of_memory (cut_world tied apart (normal apart (line 1 text) (laboratory_failed busy)).1)
   past_failure =
       let least : IsLeastClosed apart clinic tied = reach_is_least_closed apart clinic in
       let after = (normal apart (line 1 text) (laboratory_failed busy)).1 in
-      subst₂ (λ server es. History (cut_settings tied apart) server es (cut_server tied apart after)) same_cut whole_part
+      subst₂ (λ world es. History (cut_settings tied apart) world es (cut_world tied apart after)) same_cut whole_part
       (part_is_history tied apart busy after short_of_memory least.closed busy_fits laboratory_fails)
 
 -- ---- how settings are listed, and whether a session is new or none, counts for nothing
@@ -293,18 +293,18 @@ same_entries : SameEntries let_in relisted
 same_entries = record { terminals = λ t. refl; there = refl; back = refl }
 
 -- the clinic has a new session
-abbrev opened : Server
+abbrev opened : World
 opened = record quiet { sessions = insert quiet.sessions 1 new_session }
 
-quiet_opened : AlikeServers quiet opened
-quiet_opened = record { world = refl; sessions = λ t. by_terminal (eq_by_cmp nat_cmp t 1) (get quiet.sessions t) (get-empty nat_cmp t) ∙ sym (ap session_or_new (get-insert nat_cmp_total quiet.sessions 1 new_session t)) }
+quiet_opened : AlikeWorlds quiet opened
+quiet_opened = record { shared = refl; sessions = λ t. by_terminal (eq_by_cmp nat_cmp t 1) (get quiet.sessions t) (get-empty nat_cmp t) ∙ sym (ap session_or_new (get-insert nat_cmp_total quiet.sessions 1 new_session t)) }
   where
     by_terminal : (b : Bool) (o : Option Session) → o ≡ None → session_or_new o ≡ session_or_new (cond b (Some new_session) o)
     by_terminal true o e = ap session_or_new e
     by_terminal false o e = refl
 
 relisted_agree : (a : Text) (events : List Event)
-    → Agree a (record { settings = let_in; server = quiet; events = events }) (record { settings = relisted; server = opened; events = events })
+    → Agree a (record { settings = let_in; world = quiet; events = events }) (record { settings = relisted; world = opened; events = events })
 relisted_agree a events = same_entries_agree a let_in relisted quiet opened events same_entries quiet_opened
 
 -- but a grant to write for one to read is another entry
@@ -316,48 +316,48 @@ not_same_entries same = let no : false ≡ true = same.back in absurd (cc)
 abbrev clinics : Actor
 clinics = record { settings = apart; terminal = 1; account = account clinic; known = of_clinic }
 
-results_shown : (ops_of clinics (Value results) busy.world).0 ≡ Some (codes "7")
+results_shown : (ops_of clinics (Value results) busy.shared).0 ≡ Some (codes "7")
 results_shown = simp (gets, node_cmp_total significant_digits) refl
 
 -- alone it is shown the laboratory's results as well
-results_shown_alone : (cut_ops tied clinics (Value results) (cut_world tied apart busy.world)).0 ≡ Some (codes "7")
+results_shown_alone : (cut_ops tied clinics (Value results) (cut_shared tied apart busy.shared)).0 ≡ Some (codes "7")
 results_shown_alone =
     let least : IsLeastClosed apart clinic tied = reach_is_least_closed apart clinic in
-    let law : InsideOperation tied clinics (Value results) busy.world = inside_operations tied clinics (Value results) busy.world least.closed refl busy_fits in
+    let law : InsideOperation tied clinics (Value results) busy.shared = inside_operations tied clinics (Value results) busy.shared least.closed refl busy_fits in
     law.answer ∙ results_shown
 
 -- ---- the bank let in
 
 -- nothing that the bank tries at the clinic is done where it has no grant
-write_refused : (x : Text) (w : World) → act apart 3 bank (Put bills x) w ≡ (tt, w)
+write_refused : (x : Text) (w : Shared) → act apart 3 bank (Put bills x) w ≡ (tt, w)
 write_refused x w = refl
 
-lock_refused : (w : World) → act apart 3 bank (Take (lock bills ∷ [])) w ≡ (false, w)
+lock_refused : (w : Shared) → act apart 3 bank (Take (lock bills ∷ [])) w ≡ (false, w)
 lock_refused w = refl
 
 -- where it has one, what it writes shows at the clinic
-write_shows : (x : Text) → (act let_in 1 clinic (Value bills) (act let_in 3 bank (Put bills x) quiet.world).1).0 ≡ Some x
+write_shows : (x : Text) → (act let_in 1 clinic (Value bills) (act let_in 3 bank (Put bills x) quiet.shared).1).0 ≡ Some x
 write_shows x = simp (gets, node_cmp_total significant_digits) refl
 
-nothing_billed : (act let_in 1 clinic (Value bills) quiet.world).0 ≡ None
+nothing_billed : (act let_in 1 clinic (Value bills) quiet.shared).0 ≡ None
 nothing_billed = simp (gets, node_cmp_total significant_digits) refl
 
 -- and so does what it locks
-none_held : entries quiet.world.locks ≡ []
+none_held : entries quiet.shared.locks ≡ []
 none_held =
-    ap entries (same_map held_cmp_total held_cmp_exact quiet.world.locks (from_sorted []) (λ q. get-empty held_cmp q ∙ sym (get-from_sorted held_cmp [] q tt)))
+    ap entries (same_map held_cmp_total held_cmp_exact quiet.shared.locks (from_sorted []) (λ q. get-empty held_cmp q ∙ sym (get-from_sorted held_cmp [] q tt)))
     ∙ entries-from_sorted held_cmp [] tt
 
-abbrev billed : World
-billed = record quiet.world { locks = insert quiet.world.locks (held 3 (lock bills)) 1 }
+abbrev billed : Shared
+billed = record quiet.shared { locks = insert quiet.shared.locks (held 3 (lock bills)) 1 }
 
 one_held : entries billed.locks ≡ (held 3 (lock bills), 1) ∷ []
-one_held = entries-insert held_cmp_total quiet.world.locks (held 3 (lock bills)) 1 ∙ ap (put held_cmp (held 3 (lock bills)) 1) none_held
+one_held = entries-insert held_cmp_total quiet.shared.locks (held 3 (lock bills)) 1 ∙ ap (put held_cmp (held 3 (lock bills)) 1) none_held
 
-lock_taken : act let_in 3 bank (Take (lock bills ∷ [])) quiet.world ≡ (true, billed)
+lock_taken : act let_in 3 bank (Take (lock bills ∷ [])) quiet.shared ≡ (true, billed)
 lock_taken = simp (none_held, gets) refl
 
-lock_free : (act let_in 1 clinic (Take (lock bills ∷ [])) quiet.world).0 ≡ true
+lock_free : (act let_in 1 clinic (Take (lock bills ∷ [])) quiet.shared).0 ≡ true
 lock_free = simp (none_held, gets) refl
 
 lock_shows : (act let_in 1 clinic (Take (lock bills ∷ [])) billed).0 ≡ false
@@ -368,13 +368,13 @@ no_longer_closed : IsClosed let_in tied → ⊥
 no_longer_closed closed = let no : tied bank ≡ true = closed bank clinic refl refl in absurd (cc)
 
 -- and the bank does not leave their cut as it was: the outside law would be false of a set that is not closed
-write_is_seen : (x : Text) → cut_world tied let_in (act let_in 3 bank (Put bills x) quiet.world).1 ≡ cut_world tied let_in quiet.world → ⊥
+write_is_seen : (x : Text) → cut_shared tied let_in (act let_in 3 bank (Put bills x) quiet.shared).1 ≡ cut_shared tied let_in quiet.shared → ⊥
 write_is_seen x e =
-    let cut : Some x ≡ get (retain_keys quiet.world.globals (λ n. tied n.account)) bills =
-    sym (get_kept (node_cmp_total significant_digits) (node_cmp_exact significant_digits) (insert quiet.world.globals bills x) (λ n. tied n.account) bills refl ∙ simp (gets, node_cmp_total significant_digits) refl)
+    let cut : Some x ≡ get (retain_keys quiet.shared.globals (λ n. tied n.account)) bills =
+    sym (get_kept (node_cmp_total significant_digits) (node_cmp_exact significant_digits) (insert quiet.shared.globals bills x) (λ n. tied n.account) bills refl ∙ simp (gets, node_cmp_total significant_digits) refl)
     ∙ ap (λ w. get w.globals bills) e in
-    let none : get (retain_keys quiet.world.globals (λ n. tied n.account)) bills ≡ None =
-    get_kept (node_cmp_total significant_digits) (node_cmp_exact significant_digits) quiet.world.globals (λ n. tied n.account) bills refl ∙ simp (gets, node_cmp_total significant_digits) refl in
+    let none : get (retain_keys quiet.shared.globals (λ n. tied n.account)) bills ≡ None =
+    get_kept (node_cmp_total significant_digits) (node_cmp_exact significant_digits) quiet.shared.globals (λ n. tied n.account) bills refl ∙ simp (gets, node_cmp_total significant_digits) refl in
     let no : Some x ≡ None = cut ∙ none in
     absurd (cc)
 

@@ -22,13 +22,13 @@ pub use Rattle.mspec.specs.Number.{significant_digits}
 pub use Rattle.mspec.specs.Plan.{Plan, cut_short, Put, Take, Value, Op, May, Status, Neighbour, Routine, Kill, Give_back, Release, Ops, perform}
 pub use Rattle.mspec.specs.Trees.{text_eq}
 pub use Rattle.mgrammar.specs.Reading.{line_at}
-pub use Rattle.mmeaning.specs.History.{History, server_after, answered, NoneFailed}
+pub use Rattle.mmeaning.specs.History.{History, world_after, answered, NoneFailed}
 pub use Rattle.mmeaning.specs.LineMeaning.{Signal}
-pub use Rattle.mmeaning.specs.Step.{Session, Server, Ending, Finished, Halted, Faulted, settled, ended, state_of, reply_of, session_or_new, Event, Reply, plan_of, at_account, normal, FailedStep, is_failure, StepBy, is_too_long, is_ascii, checked}
-pub use Rattle.mmeaning.specs.World.{may_write, may_lock, World, act, guarded, took}
-pub use Rattle.misolation.specs.Alike.{AlikeServers}
+pub use Rattle.mmeaning.specs.Step.{Session, World, Ending, Finished, Halted, Faulted, settled, ended, state_of, reply_of, session_or_new, Event, Reply, plan_of, at_account, normal, FailedStep, is_failure, StepBy, is_too_long, is_ascii, checked}
+pub use Rattle.mmeaning.specs.Shared.{may_write, may_lock, Shared, act, guarded, took}
+pub use Rattle.misolation.specs.Alike.{AlikeWorlds}
 pub use Rattle.misolation.specs.Alone.{only}
-pub use Rattle.misolation.specs.Cut.{is_between, cut_settings, is_inside, cut_world, cut_server, IsFit, is_member, cut_events, holds_by, AreFit, part, cut_locks}
+pub use Rattle.misolation.specs.Cut.{is_between, cut_settings, is_inside, cut_shared, cut_world, IsFit, is_member, cut_events, holds_by, AreFit, part, cut_locks}
 pub use Rattle.misolation.specs.HistoryLaws.{IsAlone, SameReplies}
 pub use Rattle.misolation.specs.PlanLaws.{Actor, ops_of, cut_ops, InsidePlan, exchanges}
 pub use Rattle.misolation.specs.Reach.{Accounts, IsClosed, reach}

@@ -1,6 +1,6 @@
 -- SPDX-License-Identifier: Apache-2.0
 -- The two laws for every plan, by one induction each over what its operations keep.
-use Rattle.misolation.proofs.IsolationWords.{◌≡◌, true, false, ◌∷◌, Option, Some, None, refl, ap, ◌∙◌, subst, Account, Settings, get, nat_cmp-IsAntisymmetric, nat_cmp_total, Held, held_cmp_total, held_cmp_exact, World, Accounts, IsClosed, is_member, is_inside, cut_settings, cut_world, holds_by, IsFit}
+use Rattle.misolation.proofs.IsolationWords.{◌≡◌, true, false, ◌∷◌, Option, Some, None, refl, ap, ◌∙◌, subst, Account, Settings, get, nat_cmp-IsAntisymmetric, nat_cmp_total, Held, held_cmp_total, held_cmp_exact, Shared, Accounts, IsClosed, is_member, is_inside, cut_settings, cut_shared, holds_by, IsFit}
 use Rattle.mspec.specs.Plan.{Plan, Done, Ask, Ops}
 use Rattle.mspec.proofs.Plans.{Respects, respects, respects_short, keeps, keeps_short}
 use Rattle.misolation.specs.PlanLaws.{exchanges, Actor, ops_of, cut_ops, InsidePlan, InsidePlans, OutsidePlan, OutsidePlans, PlansKeepFit, CutIsFit}
@@ -20,23 +20,23 @@ same_exchanges R low high h (Ask op k) v w r =
 
 module _ (s : Accounts) (b : Actor) (closed : IsClosed b.settings s) (member : s b.account.name ≡ true) where
   -- the first world is the second's cut, and the second has fitting locks
-  abbrev Tied : World → World → Type 0
-  Tied v w = (v ≡ cut_world s b.settings w) × IsFit b.settings w
+  abbrev Tied : Shared → Shared → Type 0
+  Tied v w = (v ≡ cut_shared s b.settings w) × IsFit b.settings w
 
   ties : Respects Tied (cut_ops s b) (ops_of b)
   ties = record {
     answers = λ op v w h. ap (λ v. (cut_ops s b op v).0) h.0 ∙ (inside_operations s b op w closed member h.1).answer;
-    tied = λ op v w h. (ap (λ v. (cut_ops s b op v).1) h.0 ∙ (inside_operations s b op w closed member h.1).world, operation_fits b op w h.1);
+    tied = λ op v w h. (ap (λ v. (cut_ops s b op v).1) h.0 ∙ (inside_operations s b op w closed member h.1).shared, operation_fits b op w h.1);
   }
 
-  pub inside_plan : {A : Type 0} (p : Plan A) (w : World) → IsFit b.settings w → InsidePlan s b p w
+  pub inside_plan : {A : Type 0} (p : Plan A) (w : Shared) → IsFit b.settings w → InsidePlan s b p w
   inside_plan p w fit =
-      let whole = respects Tied (cut_ops s b) (ops_of b) ties p (cut_world s b.settings w) w (refl, fit) in
+      let whole = respects Tied (cut_ops s b) (ops_of b) ties p (cut_shared s b.settings w) w (refl, fit) in
       record {
         outcome = whole.0;
-        exchanges = same_exchanges Tied (cut_ops s b) (ops_of b) ties p (cut_world s b.settings w) w (refl, fit);
-        world = whole.1.0;
-        short = λ n. (respects_short Tied (cut_ops s b) (ops_of b) ties n p (cut_world s b.settings w) w (refl, fit)).0;
+        exchanges = same_exchanges Tied (cut_ops s b) (ops_of b) ties p (cut_shared s b.settings w) w (refl, fit);
+        shared = whole.1.0;
+        short = λ n. (respects_short Tied (cut_ops s b) (ops_of b) ties n p (cut_shared s b.settings w) w (refl, fit)).0;
       }
 
 pub inside_plans : InsidePlans
@@ -45,10 +45,10 @@ inside_plans s b p w closed member fit = inside_plan s b closed member p w fit
 -- ---- outside
 
 module _ (s : Accounts) (b : Actor) (closed : IsClosed b.settings s) (outsider : s b.account.name ≡ false) where
-  pub outside_plan : {A : Type 0} (p : Plan A) (w : World) → OutsidePlan s b p w
+  pub outside_plan : {A : Type 0} (p : Plan A) (w : Shared) → OutsidePlan s b p w
   outside_plan p w = record {
-    world = keeps (λ v. cut_world s b.settings v ≡ cut_world s b.settings w) (ops_of b) (λ op v h. outside_operations s b op v closed outsider ∙ h) p w refl;
-    short = λ n. keeps_short (λ v. cut_world s b.settings v ≡ cut_world s b.settings w) (ops_of b) (λ op v h. outside_operations s b op v closed outsider ∙ h) n p w refl;
+    shared = keeps (λ v. cut_shared s b.settings v ≡ cut_shared s b.settings w) (ops_of b) (λ op v h. outside_operations s b op v closed outsider ∙ h) p w refl;
+    short = λ n. keeps_short (λ v. cut_shared s b.settings v ≡ cut_shared s b.settings w) (ops_of b) (λ op v h. outside_operations s b op v closed outsider ∙ h) n p w refl;
   }
 
 pub outside_plans : OutsidePlans

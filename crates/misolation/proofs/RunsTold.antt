@@ -1,6 +1,6 @@
 -- SPDX-License-Identifier: Apache-2.0
 -- What a run of lines tells an account, step by step, apart, and alone.
-use Rattle.misolation.proofs.IsolationWords.{◌≡◌, List, [], ◌∷◌, ◌++◌, map, refl, sym, ap, ◌∙◌, subst, Settings, Server, Event, Reply, History, NoneFailed, reach, is_inside, cut_settings, cut_events, part, IsLeastClosed, IsAlone, SameReplies}
+use Rattle.misolation.proofs.IsolationWords.{◌≡◌, List, [], ◌∷◌, ◌++◌, map, refl, sym, ap, ◌∙◌, subst, Settings, World, Event, Reply, History, NoneFailed, reach, is_inside, cut_settings, cut_events, part, IsLeastClosed, IsAlone, SameReplies}
 use Rattle.std.proofs.lemmas.List.{map-append}
 use Rattle.std.proofs.lemmas.List.Elements.{filter-append}
 use Rattle.std.specs.Prelude.{IsTrue, ◌↔◌}
@@ -15,11 +15,11 @@ use Rattle.misolation.proofs.PartsAlone.{part_is_history, part_is_alone, events_
 -- ---- step by step
 
 pub nothing_is_told : NothingIsTold
-nothing_is_told a settings server = record { lines = []; sent = refl; history = refl; replies = refl; failures = (λ _. tt, λ _. refl) }
+nothing_is_told a settings world = record { lines = []; sent = refl; history = refl; replies = refl; failures = (λ _. tt, λ _. refl) }
 
-pub history_on : (settings : Settings) (server between after : Server) (es fs : List (Event × Reply)) → History settings server es between → History settings between fs after → History settings server (es ++ fs) after
-history_on settings server between after [] fs h k = subst (λ v. History settings v fs after) h k
-history_on settings server between after (e ∷ es) fs h k = (h.0, h.1, history_on settings h.0 between after es fs h.2 k)
+pub history_on : (settings : Settings) (world between after : World) (es fs : List (Event × Reply)) → History settings world es between → History settings between fs after → History settings world (es ++ fs) after
+history_on settings world between after [] fs h k = subst (λ v. History settings v fs after) h k
+history_on settings world between after (e ∷ es) fs h k = (h.0, h.1, history_on settings h.0 between after es fs h.2 k)
 
 none_on : (es fs : List (Event × Reply)) → NoneFailed es → NoneFailed fs → NoneFailed (es ++ fs)
 none_on [] fs h k = k
@@ -30,10 +30,10 @@ none_parts [] fs h = (tt, h)
 none_parts (e ∷ es) fs h = let rest = none_parts es fs h.1 in ((h.0, rest.0), rest.1)
 
 pub tells_on : TellsOn
-tells_on a settings server between after events told whole h e reply step more is = record {
+tells_on a settings world between after events told whole h e reply step more is = record {
   lines = h.lines ++ last;
   sent = map-append (λ (x : Event × Reply). x.0) h.lines last ∙ ap (λ es. es ++ e ∷ []) h.sent;
-  history = history_on settings server between after h.lines last h.history (after, step, refl);
+  history = history_on settings world between after h.lines last h.history (after, step, refl);
   replies =
       ap (map told_by) (filter-append (λ (x : Event × Reply). is_inside (only a) settings x.0.terminal) h.lines last)
       ∙ map-append told_by (part (only a) settings h.lines) (part (only a) settings last)
@@ -53,11 +53,11 @@ tells_on a settings server between after events told whole h e reply step more i
 -- ---- apart
 
 pub told_apart : ToldApart
-told_apart s a settings server after events told whole closed m fit h = record {
+told_apart s a settings world after events told whole closed m fit h = record {
   tells = record {
     lines = part s settings h.lines;
     sent = events_of_part s settings h.lines ∙ ap (cut_events s settings) h.sent;
-    history = part_is_history s settings server after h.lines closed fit h.history;
+    history = part_is_history s settings world after h.lines closed fit h.history;
     replies = ap (map told_by) (part_kept (only a) s settings (only_among s a m) h.lines) ∙ h.replies;
     failures = subst (λ es. IsTrue whole ↔ NoneFailed es) (sym reaching) h.failures;
   };
@@ -75,12 +75,12 @@ told_apart s a settings server after events told whole closed m fit h = record {
 -- ---- alone
 
 pub equally_told : EquallyTold
-equally_told a settings server after events told fit h =
+equally_told a settings world after events told fit h =
     let least : IsLeastClosed settings a (reach settings a) = reach_is_least_closed settings a in
-    let law : IsAlone (reach settings a) settings server after h.lines = part_is_alone (reach settings a) settings server after h.lines least.closed fit h.history (h.failures.0 refl) in
+    let law : IsAlone (reach settings a) settings world after h.lines = part_is_alone (reach settings a) settings world after h.lines least.closed fit h.history (h.failures.0 refl) in
     sym h.replies
     ∙ ap (map told_by) (sym (part_of_part (only a) (reach settings a) settings (only_among (reach settings a) a least.has) h.lines))
-    ∙ ap (told_to a settings) (law.lines ∙ ap (alone (reach settings a) settings server) h.sent)
+    ∙ ap (told_to a settings) (law.lines ∙ ap (alone (reach settings a) settings world) h.sent)
 
 pub told_the_same : ToldTheSame
 told_the_same a one two agree fit fit' first second told told' h k =

@@ -1,17 +1,17 @@
 -- SPDX-License-Identifier: Apache-2.0
--- When two servers and what is sent to them agree for an account: on all that reaches it.
+-- When two worlds and what is sent to them agree for an account: on all that reaches it.
 use Rattle.std.specs.Prelude.{◌≡◌, List}
 use Rattle.mspec.specs.Node.{Text}
 use Rattle.mspec.specs.Access.{Settings}
-use Rattle.mmeaning.specs.Step.{Server, Event}
+use Rattle.mmeaning.specs.Step.{World, Event}
 use Rattle.misolation.specs.Reach.{reach}
-use Rattle.misolation.specs.Cut.{cut_settings, cut_server, cut_events}
-use Rattle.misolation.specs.Alike.{AlikeSettings, AlikeServers}
+use Rattle.misolation.specs.Cut.{cut_settings, cut_world, cut_events}
+use Rattle.misolation.specs.Alike.{AlikeSettings, AlikeWorlds}
 
 -- where lines are run, and which
 pub record Run : Type 0 where
   pub settings : Settings
-  pub server : Server
+  pub world : World
   pub events : List Event
 
 -- The same accounts reach `a`. Of these both have the same terminals and steps, and allow the same between them; the same globals and
@@ -19,5 +19,5 @@ pub record Run : Type 0 where
 pub record Agree (a : Text) (one two : Run) : Type 0 where
   pub reaching : (x : Text) → reach one.settings a x ≡ reach two.settings a x
   pub settings : AlikeSettings (cut_settings (reach one.settings a) one.settings) (cut_settings (reach two.settings a) two.settings)
-  pub server : AlikeServers (cut_server (reach one.settings a) one.settings one.server) (cut_server (reach two.settings a) two.settings two.server)
+  pub world : AlikeWorlds (cut_world (reach one.settings a) one.settings one.world) (cut_world (reach two.settings a) two.settings two.world)
   pub events : cut_events (reach one.settings a) one.settings one.events ≡ cut_events (reach two.settings a) two.settings two.events

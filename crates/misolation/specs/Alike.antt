@@ -1,11 +1,11 @@
 -- SPDX-License-Identifier: Apache-2.0
--- What a line cannot tell apart: settings that allow the same, and servers whose sessions differ in none or a new one alone.
+-- What a line cannot tell apart: settings that allow the same, and worlds whose sessions differ in none or a new one alone.
 use Rattle.std.specs.Prelude.{◌≡◌, ℕ, IsTrue, List}
 use Rattle.std.specs.List.{list_all, list_any}
 use Rattle.std.specs.FinMap.{get}
 use Rattle.mspec.specs.Node.{Text}
 use Rattle.mspec.specs.Access.{Mode, Grant, Settings, lets, may}
-use Rattle.mmeaning.specs.Step.{Server, Reply, session_or_new}
+use Rattle.mmeaning.specs.Step.{World, Reply, session_or_new}
 
 -- The same accounts at the same terminals with the same steps, and who may do what is the same.
 pub record AlikeSettings (one two : Settings) : Type 0 where
@@ -13,14 +13,14 @@ pub record AlikeSettings (one two : Settings) : Type 0 where
   pub allowed : (me owner name : Text) (mode : Mode) → may one me owner name mode ≡ may two me owner name mode
 
 -- The same globals and locks, and the same sessions, where one as new counts as none.
-pub record AlikeServers (one two : Server) : Type 0 where
-  pub world : one.world ≡ two.world
+pub record AlikeWorlds (one two : World) : Type 0 where
+  pub shared : one.shared ≡ two.shared
   pub sessions : (t : ℕ) → session_or_new (get one.sessions t) ≡ session_or_new (get two.sessions t)
 
--- the same reply, and servers left alike
-pub record AlikeSteps (one two : Reply × Server) : Type 0 where
+-- the same reply, and worlds left alike
+pub record AlikeSteps (one two : Reply × World) : Type 0 where
   pub reply : one.0 ≡ two.0
-  pub server : AlikeServers one.1 two.1
+  pub world : AlikeWorlds one.1 two.1
 
 -- ---- settings of the same entries
 

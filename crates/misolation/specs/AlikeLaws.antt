@@ -3,21 +3,21 @@
 use Rattle.std.specs.Prelude.{◌≡◌, List}
 use Rattle.mspec.specs.Node.{Text}
 use Rattle.mspec.specs.Access.{Settings}
-use Rattle.mmeaning.specs.Step.{Server, Event, normal}
-use Rattle.misolation.specs.Alike.{AlikeSettings, AlikeServers, AlikeSteps, SameEntries}
+use Rattle.mmeaning.specs.Step.{World, Event, normal}
+use Rattle.misolation.specs.Alike.{AlikeSettings, AlikeWorlds, AlikeSteps, SameEntries}
 use Rattle.misolation.specs.Agreement.{Agree}
 
 -- a normal step depends on the settings by their terminals and by what is allowed alone
 abbrev pub StepsByAllowed : Type 0
-StepsByAllowed = (one two : Settings) (e : Event) (server : Server) → AlikeSettings one two → normal one e server ≡ normal two e server
+StepsByAllowed = (one two : Settings) (e : Event) (world : World) → AlikeSettings one two → normal one e world ≡ normal two e world
 
 -- and on sessions as if each terminal without one had a new one
 abbrev pub StepsBySessions : Type 0
 StepsBySessions =
-    (settings : Settings) (e : Event) (one two : Server) → AlikeServers one two → AlikeSteps (normal settings e one) (normal settings e two)
+    (settings : Settings) (e : Event) (one two : World) → AlikeWorlds one two → AlikeSteps (normal settings e one) (normal settings e two)
 
--- So runs agree for every account that have the same lines, servers alike, and settings of the same entries, however these are listed.
+-- So runs agree for every account that have the same lines, worlds alike, and settings of the same entries, however these are listed.
 abbrev pub SameEntriesAgree : Type 0
 SameEntriesAgree =
-    (a : Text) (one two : Settings) (first second : Server) (events : List Event) → SameEntries one two → AlikeServers first second →
-    Agree a (record { settings = one; server = first; events = events }) (record { settings = two; server = second; events = events })
+    (a : Text) (one two : Settings) (first second : World) (events : List Event) → SameEntries one two → AlikeWorlds first second →
+    Agree a (record { settings = one; world = first; events = events }) (record { settings = two; world = second; events = events })

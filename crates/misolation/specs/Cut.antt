@@ -1,12 +1,12 @@
 -- SPDX-License-Identifier: Apache-2.0
--- The cut to a set of accounts: what is left of settings, worlds, servers and lines where there is nothing but the set.
+-- The cut to a set of accounts: what is left of settings, of what terminals share, of worlds and of lines where there is nothing but the set.
 use Rattle.std.specs.Prelude.{◌≡◌, ℕ, Bool, false, IsTrue, ◌&&◌, List, Option, Some, None}
 use Rattle.std.specs.FinMap.{get, retain_keys}
 use Rattle.std.specs.List.{filter}
 use Rattle.mspec.specs.LockConflict.{LockName, Held, Locks}
 use Rattle.mspec.specs.Access.{Account, Grant, Settings}
-use Rattle.mmeaning.specs.World.{World, may_lock}
-use Rattle.mmeaning.specs.Step.{Server, Event, Reply}
+use Rattle.mmeaning.specs.Shared.{Shared, may_lock}
+use Rattle.mmeaning.specs.Step.{World, Event, Reply}
 use Rattle.misolation.specs.Reach.{Accounts}
 
 -- ---- terminals
@@ -38,17 +38,17 @@ abbrev pub cut_locks : Accounts → Settings → Locks → Locks
 cut_locks s settings locks = retain_keys locks (λ h. is_inside s settings h.terminal)
 
 -- their globals and locks
-abbrev pub cut_world : Accounts → Settings → World → World
-cut_world s settings w = record {
+abbrev pub cut_shared : Accounts → Settings → Shared → Shared
+cut_shared s settings w = record {
   globals = retain_keys w.globals (λ n. s n.account);
   locks = cut_locks s settings w.locks;
 }
 
 -- and the sessions of their terminals
-abbrev pub cut_server : Accounts → Settings → Server → Server
-cut_server s settings server = record {
-  world = cut_world s settings server.world;
-  sessions = retain_keys server.sessions (is_inside s settings);
+abbrev pub cut_world : Accounts → Settings → World → World
+cut_world s settings world = record {
+  shared = cut_shared s settings world.shared;
+  sessions = retain_keys world.sessions (is_inside s settings);
 }
 
 -- the lines at the members' terminals
@@ -74,5 +74,5 @@ may_hold settings h = holds_by settings (get settings.terminals h.terminal) h.na
 abbrev pub AreFit : Settings → Locks → Type 0
 AreFit settings locks = (h : Held) (n : ℕ) → get locks h ≡ Some n → IsTrue (may_hold settings h)
 
-abbrev pub IsFit : Settings → World → Type 0
+abbrev pub IsFit : Settings → Shared → Type 0
 IsFit settings w = AreFit settings w.locks

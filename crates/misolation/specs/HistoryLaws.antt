@@ -5,13 +5,13 @@ use Rattle.std.specs.FinMap.{retain_keys}
 use Rattle.mspec.specs.Node.{Text}
 use Rattle.mspec.specs.Globals.{Globals}
 use Rattle.mspec.specs.Access.{Settings}
-use Rattle.mmeaning.specs.Step.{Server, Event, Reply}
-use Rattle.mmeaning.specs.History.{History, opening, server_after, answered, NoneFailed}
+use Rattle.mmeaning.specs.Step.{World, Event, Reply}
+use Rattle.mmeaning.specs.History.{History, opening, world_after, answered, NoneFailed}
 use Rattle.misolation.specs.Reach.{Accounts, IsClosed, reach}
-use Rattle.misolation.specs.Cut.{cut_settings, cut_server, cut_events, part, IsFit}
+use Rattle.misolation.specs.Cut.{cut_settings, cut_world, cut_events, part, IsFit}
 use Rattle.misolation.specs.Alone.{alone, only}
 use Rattle.misolation.specs.Trace.{Moment, Trace, lines_of, left_by, cut_trace}
-use Rattle.misolation.specs.Alike.{AlikeServers}
+use Rattle.misolation.specs.Alike.{AlikeWorlds}
 use Rattle.misolation.specs.Agreement.{Run, Agree}
 
 abbrev pub events_of : List (Event × Reply) → List Event
@@ -20,104 +20,104 @@ events_of es = map (λ e. e.0) es
 -- the members' part of a history is a history over the cuts, whichever of all its steps failed
 abbrev pub PartIsHistory : Type 0
 PartIsHistory =
-    (s : Accounts) (settings : Settings) (server after : Server) (es : List (Event × Reply)) → IsClosed settings s → IsFit settings server.world →
-    History settings server es after → History (cut_settings s settings) (cut_server s settings server) (part s settings es) (cut_server s settings after)
+    (s : Accounts) (settings : Settings) (world after : World) (es : List (Event × Reply)) → IsClosed settings s → IsFit settings world.shared →
+    History settings world es after → History (cut_settings s settings) (cut_world s settings world) (part s settings es) (cut_world s settings after)
 
--- a history is what a trace tells without the servers between
+-- a history is what a trace tells without the worlds between
 abbrev pub HistoryHasTrace : Type 0
 HistoryHasTrace =
-    (settings : Settings) (server after : Server) (es : List (Event × Reply)) →
-    History settings server es after ↔ ((ms : List Moment) × Trace settings server ms × (lines_of ms ≡ es) × (left_by server ms ≡ after))
+    (settings : Settings) (world after : World) (es : List (Event × Reply)) →
+    History settings world es after ↔ ((ms : List Moment) × Trace settings world ms × (lines_of ms ≡ es) × (left_by world ms ≡ after))
 
--- and of a trace too the members' part is one over the cuts: each server between is cut
-pub record PartOfTrace (s : Accounts) (settings : Settings) (server : Server) (ms : List Moment) : Type 0 where
-  pub steps : Trace (cut_settings s settings) (cut_server s settings server) (cut_trace s settings ms)
+-- and of a trace too the members' part is one over the cuts: each world between is cut
+pub record PartOfTrace (s : Accounts) (settings : Settings) (world : World) (ms : List Moment) : Type 0 where
+  pub steps : Trace (cut_settings s settings) (cut_world s settings world) (cut_trace s settings ms)
   pub lines : lines_of (cut_trace s settings ms) ≡ part s settings (lines_of ms)
-  pub left : left_by (cut_server s settings server) (cut_trace s settings ms) ≡ cut_server s settings (left_by server ms)
+  pub left : left_by (cut_world s settings world) (cut_trace s settings ms) ≡ cut_world s settings (left_by world ms)
 
 abbrev pub PartIsTrace : Type 0
 PartIsTrace =
-    (s : Accounts) (settings : Settings) (server : Server) (ms : List Moment) → IsClosed settings s → IsFit settings server.world →
-    Trace settings server ms → PartOfTrace s settings server ms
+    (s : Accounts) (settings : Settings) (world : World) (ms : List Moment) → IsClosed settings s → IsFit settings world.shared →
+    Trace settings world ms → PartOfTrace s settings world ms
 
 -- the members' lines have the replies that they have alone, and leave what they leave alone
-pub record IsAlone (s : Accounts) (settings : Settings) (server after : Server) (es : List (Event × Reply)) : Type 0 where
-  pub lines : part s settings es ≡ alone s settings server (events_of es)
-  pub left : cut_server s settings after ≡ server_after (cut_settings s settings) (cut_server s settings server) (cut_events s settings (events_of es))
+pub record IsAlone (s : Accounts) (settings : Settings) (world after : World) (es : List (Event × Reply)) : Type 0 where
+  pub lines : part s settings es ≡ alone s settings world (events_of es)
+  pub left : cut_world s settings after ≡ world_after (cut_settings s settings) (cut_world s settings world) (cut_events s settings (events_of es))
 
 -- so it is where none of the members' steps failed, whichever others did
 abbrev pub PartIsAlone : Type 0
 PartIsAlone =
-    (s : Accounts) (settings : Settings) (server after : Server) (es : List (Event × Reply)) → IsClosed settings s → IsFit settings server.world →
-    History settings server es after → NoneFailed (part s settings es) → IsAlone s settings server after es
+    (s : Accounts) (settings : Settings) (world after : World) (es : List (Event × Reply)) → IsClosed settings s → IsFit settings world.shared →
+    History settings world es after → NoneFailed (part s settings es) → IsAlone s settings world after es
 
 -- and so it always is of the definitional interpreter, whose steps never fail: run on all lines, it gives the members' lines the replies
 -- that it gives them alone
 abbrev pub InterpreterIsolates : Type 0
 InterpreterIsolates =
-    (s : Accounts) (settings : Settings) (server : Server) (events : List Event) → IsClosed settings s → IsFit settings server.world →
-    part s settings (answered settings server events) ≡ alone s settings server events
+    (s : Accounts) (settings : Settings) (world : World) (events : List Event) → IsClosed settings s → IsFit settings world.shared →
+    part s settings (answered settings world events) ≡ alone s settings world events
 
 -- The isolation theorem: for all settings, globals and lines, the replies at an account's terminals are those that it gets where there
 -- is nothing but what reaches it, if no line of an account that reaches it failed.
 abbrev pub Isolation : Type 0
 Isolation =
-    (settings : Settings) (a : Text) (globals : Globals) (es : List (Event × Reply)) (after : Server) → History settings (opening globals) es after →
+    (settings : Settings) (a : Text) (globals : Globals) (es : List (Event × Reply)) (after : World) → History settings (opening globals) es after →
     NoneFailed (part (reach settings a) settings es) →
     part (only a) settings es ≡ part (only a) settings (alone (reach settings a) settings (opening globals) (events_of es))
 
 -- the premises of these laws are met: no lock is held where the first line comes
 abbrev pub OpeningIsFit : Type 0
-OpeningIsFit = (settings : Settings) (globals : Globals) → IsFit settings (opening globals).world
+OpeningIsFit = (settings : Settings) (globals : Globals) → IsFit settings (opening globals).shared
 
 -- and histories keep them
 abbrev pub HistoriesKeepFit : Type 0
 HistoriesKeepFit =
-    (settings : Settings) (server after : Server) (es : List (Event × Reply)) → History settings server es after →
-    IsFit settings server.world → IsFit settings after.world
+    (settings : Settings) (world after : World) (es : List (Event × Reply)) → History settings world es after →
+    IsFit settings world.shared → IsFit settings after.shared
 
--- what is left of an opening server is the opening server of the members' globals
+-- what is left of an opening world is the opening world of the members' globals
 abbrev pub OpeningIsCut : Type 0
 OpeningIsCut =
     (s : Accounts) (settings : Settings) (globals : Globals) →
-    cut_server s settings (opening globals) ≡ opening (retain_keys globals (λ n. s n.account))
+    cut_world s settings (opening globals) ≡ opening (retain_keys globals (λ n. s n.account))
 
--- the run's lines got these replies and left this server, and no line of an account that reaches `a` failed
-pub record Answered (a : Text) (run : Run) (es : List (Event × Reply)) (after : Server) : Type 0 where
+-- the run's lines got these replies and left this world, and no line of an account that reaches `a` failed
+pub record Answered (a : Text) (run : Run) (es : List (Event × Reply)) (after : World) : Type 0 where
   pub events : events_of es ≡ run.events
-  pub history : History run.settings run.server es after
+  pub history : History run.settings run.world es after
   pub none_failed : NoneFailed (part (reach run.settings a) run.settings es)
 
 -- the same lines with the same replies, at the terminals of the accounts that reach `a` and at its own; and what is left to these is
 -- alike, and equal if it was so before
-pub record SameReplies (a : Text) (one two : Run) (es fs : List (Event × Reply)) (first second : Server) : Type 0 where
+pub record SameReplies (a : Text) (one two : Run) (es fs : List (Event × Reply)) (first second : World) : Type 0 where
   pub reaching : part (reach one.settings a) one.settings es ≡ part (reach two.settings a) two.settings fs
   pub own : part (only a) one.settings es ≡ part (only a) two.settings fs
-  pub left : AlikeServers (cut_server (reach one.settings a) one.settings first) (cut_server (reach two.settings a) two.settings second)
+  pub left : AlikeWorlds (cut_world (reach one.settings a) one.settings first) (cut_world (reach two.settings a) two.settings second)
   pub equal :
-      cut_server (reach one.settings a) one.settings one.server ≡ cut_server (reach two.settings a) two.settings two.server →
-      cut_server (reach one.settings a) one.settings first ≡ cut_server (reach two.settings a) two.settings second
+      cut_world (reach one.settings a) one.settings one.world ≡ cut_world (reach two.settings a) two.settings two.world →
+      cut_world (reach one.settings a) one.settings first ≡ cut_world (reach two.settings a) two.settings second
 
 -- two runs that agree for an account give it the same replies, however long each is and whatever else is in it
 abbrev pub AgreeingReplies : Type 0
 AgreeingReplies =
-    (a : Text) (one two : Run) → Agree a one two → IsFit one.settings one.server.world → IsFit two.settings two.server.world →
-    (es fs : List (Event × Reply)) (first second : Server) → Answered a one es first → Answered a two fs second →
+    (a : Text) (one two : Run) → Agree a one two → IsFit one.settings one.world.shared → IsFit two.settings two.world.shared →
+    (es fs : List (Event × Reply)) (first second : World) → Answered a one es first → Answered a two fs second →
     SameReplies a one two es fs first second
 
 -- ---- what an account may be promised
 
--- lines that are sent to a server which has globals alone
+-- lines that are sent to a world which has globals alone
 abbrev pub sent_to : Settings → Globals → List (Event × Reply) → Run
-sent_to settings globals es = record { settings = settings; server = opening globals; events = events_of es }
+sent_to settings globals es = record { settings = settings; world = opening globals; events = events_of es }
 
 -- The replies at the account's terminals are those of the definitional interpreter, run on the lines of the accounts that reach it, over
--- their globals and the grants between them alone. And any other server of which that is said, and that agrees with this one on these,
+-- their globals and the grants between them alone. And any other world of which that is said, and that agrees with this one on these,
 -- gives it the same replies, whatever other accounts store, lock, run or exhaust in either.
 pub record Promise (a : Text) (settings : Settings) (globals : Globals) (es : List (Event × Reply)) : Type 0 where
   pub alone : part (only a) settings es ≡ part (only a) settings (alone (reach settings a) settings (opening globals) (events_of es))
   pub elsewhere :
-      (settings' : Settings) (globals' : Globals) (es' : List (Event × Reply)) (after' : Server) → Agree a (sent_to settings globals es) (sent_to settings' globals' es') →
+      (settings' : Settings) (globals' : Globals) (es' : List (Event × Reply)) (after' : World) → Agree a (sent_to settings globals es) (sent_to settings' globals' es') →
       History settings' (opening globals') es' after' → NoneFailed (part (reach settings' a) settings' es') →
       part (only a) settings es ≡ part (only a) settings' es'
 
@@ -125,5 +125,5 @@ pub record Promise (a : Text) (settings : Settings) (globals : Globals) (es : Li
 -- this one failed.
 abbrev pub PromiseIsKept : Type 0
 PromiseIsKept =
-    (settings : Settings) (a : Text) (globals : Globals) (es : List (Event × Reply)) (after : Server) → History settings (opening globals) es after →
+    (settings : Settings) (a : Text) (globals : Globals) (es : List (Event × Reply)) (after : World) → History settings (opening globals) es after →
     NoneFailed (part (reach settings a) settings es) → Promise a settings globals es

@@ -8,10 +8,10 @@ use Rattle.mspec.specs.Globals.{Globals}
 use Rattle.mspec.specs.LockConflict.{LockName, held}
 use Rattle.mspec.specs.Access.{Account, Settings}
 use Rattle.mspec.specs.Flow.{Flows}
-use Rattle.mmeaning.specs.Step.{Server, Event, Reply, Faulted}
+use Rattle.mmeaning.specs.Step.{World, Event, Reply, Faulted}
 use Rattle.mmeaning.specs.History.{History}
 use Rattle.misolation.specs.Reach.{Accounts}
-use Rattle.misolation.specs.Cut.{cut_settings, cut_server, part}
+use Rattle.misolation.specs.Cut.{cut_settings, cut_world, part}
 
 -- the members' globals
 abbrev pub globals_of : Accounts → Globals → Globals
@@ -39,14 +39,14 @@ abbrev pub StrangersRefused : Settings → List (Event × Reply) → Type 0
 StrangersRefused settings [] = Unit {0}
 StrangersRefused settings (e ∷ es) = (get settings.terminals e.0.terminal ≡ None → e.1 ≡ refusal) × StrangersRefused settings es
 
--- Each machine by itself: its part of the lines is a history over its own settings, globals, sessions and locks, and leaves it a server.
-pub record RunsApart (place : Placement) (settings : Settings) (server : Server) (es : List (Event × Reply)) (left : ℕ → Server) : Type 0 where
-  pub machines : (m : ℕ) → History (cut_settings (on place m) settings) (cut_server (on place m) settings server) (part (on place m) settings es) (left m)
+-- Each machine by itself: its part of the lines is a history over its own settings, globals, sessions and locks, and leaves it a world.
+pub record RunsApart (place : Placement) (settings : Settings) (world : World) (es : List (Event × Reply)) (left : ℕ → World) : Type 0 where
+  pub machines : (m : ℕ) → History (cut_settings (on place m) settings) (cut_world (on place m) settings world) (part (on place m) settings es) (left m)
   pub strangers : StrangersRefused settings es
 
--- The machines' servers laid together: each is its part of the whole, and the whole has of each account what the account's machine has.
-pub record LaidTogether (place : Placement) (settings : Settings) (left : ℕ → Server) (whole : Server) : Type 0 where
-  pub parts : (m : ℕ) → cut_server (on place m) settings whole ≡ left m
-  pub globals : (n : Node) → get whole.world.globals n ≡ get (left (place n.account)).world.globals n
+-- The machines' worlds laid together: each is its part of the whole, and the whole has of each account what the account's machine has.
+pub record LaidTogether (place : Placement) (settings : Settings) (left : ℕ → World) (whole : World) : Type 0 where
+  pub parts : (m : ℕ) → cut_world (on place m) settings whole ≡ left m
+  pub globals : (n : Node) → get whole.shared.globals n ≡ get (left (place n.account)).shared.globals n
   pub sessions : (t : ℕ) (a : Account) → get settings.terminals t ≡ Some a → get whole.sessions t ≡ get (left (place a.name)).sessions t
-  pub locks : (t : ℕ) (a : Account) → get settings.terminals t ≡ Some a → (n : LockName) → get whole.world.locks (held t n) ≡ get (left (place a.name)).world.locks (held t n)
+  pub locks : (t : ℕ) (a : Account) → get settings.terminals t ≡ Some a → (n : LockName) → get whole.shared.locks (held t n) ≡ get (left (place a.name)).shared.locks (held t n)

@@ -3,7 +3,7 @@
 use Rattle.std.specs.Prelude.{◌≡◌, Bool, true, IsTrue, ◌↔◌, List, [], ◌∷◌, ◌++◌}
 use Rattle.mspec.specs.Node.{Text}
 use Rattle.mspec.specs.Access.{Settings}
-use Rattle.mmeaning.specs.Step.{Server, Event, Reply, Step}
+use Rattle.mmeaning.specs.Step.{World, Event, Reply, Step}
 use Rattle.mmeaning.specs.History.{NoneFailed}
 use Rattle.misolation.specs.Reach.{Accounts, IsClosed, reach}
 use Rattle.misolation.specs.Cut.{part, IsFit}
@@ -15,16 +15,16 @@ use Rattle.misolation.specs.Telling.{Told, told_to, Tells, TellsPart}
 
 -- where nothing was run, nothing is told
 abbrev pub NothingIsTold : Type 0
-NothingIsTold = (a : Text) (settings : Settings) (server : Server) → Tells a settings server [] [] true server
+NothingIsTold = (a : Text) (settings : Settings) (world : World) → Tells a settings world [] [] true world
 
 -- a run goes on by one step: where that is at a terminal of the account its reply is told, and the run stays whole where the step
 -- did not fail at a terminal of an account that reaches `a`
 abbrev pub TellsOn : Type 0
 TellsOn =
-    (a : Text) (settings : Settings) (server between after : Server) (events : List Event) (told : List Told) (whole : Bool) →
-    Tells a settings server events told whole between → (e : Event) (reply : Reply) → Step settings e reply between after →
+    (a : Text) (settings : Settings) (world between after : World) (events : List Event) (told : List Told) (whole : Bool) →
+    Tells a settings world events told whole between → (e : Event) (reply : Reply) → Step settings e reply between after →
     (more : Bool) → (IsTrue more ↔ (IsTrue whole × NoneFailed (part (reach settings a) settings ((e, reply) ∷ [])))) →
-    Tells a settings server (events ++ e ∷ []) (told ++ told_to a settings ((e, reply) ∷ [])) more after
+    Tells a settings world (events ++ e ∷ []) (told ++ told_to a settings ((e, reply) ∷ [])) more after
 
 -- ---- what it tells
 
@@ -32,22 +32,22 @@ TellsOn =
 -- closed set that has the account, whichever of their steps failed.
 abbrev pub ToldApart : Type 0
 ToldApart =
-    (s : Accounts) (a : Text) (settings : Settings) (server after : Server) (events : List Event) (told : List Told) (whole : Bool) →
-    IsClosed settings s → IsTrue (s a) → IsFit settings server.world → (run : Tells a settings server events told whole after) →
-    TellsPart s a settings server events told whole after run.lines
+    (s : Accounts) (a : Text) (settings : Settings) (world after : World) (events : List Event) (told : List Told) (whole : Bool) →
+    IsClosed settings s → IsTrue (s a) → IsFit settings world.shared → (run : Tells a settings world events told whole after) →
+    TellsPart s a settings world events told whole after run.lines
 
 -- Equally told: a whole run tells the account what the definitional interpreter answers to the lines of the accounts that reach it,
 -- over their globals, their sessions and locks, and the grants between them alone.
 abbrev pub EquallyTold : Type 0
 EquallyTold =
-    (a : Text) (settings : Settings) (server after : Server) (events : List Event) (told : List Told) →
-    IsFit settings server.world → Tells a settings server events told true after →
-    told ≡ told_to a settings (alone (reach settings a) settings server events)
+    (a : Text) (settings : Settings) (world after : World) (events : List Event) (told : List Told) →
+    IsFit settings world.shared → Tells a settings world events told true after →
+    told ≡ told_to a settings (alone (reach settings a) settings world events)
 
 -- Told the same: two runs that agree for an account, and are whole, tell it the same, however long each is and whatever else is in it.
 abbrev pub ToldTheSame : Type 0
 ToldTheSame =
-    (a : Text) (one two : Run) → Agree a one two → IsFit one.settings one.server.world → IsFit two.settings two.server.world →
-    (first second : Server) (told told' : List Told) →
-    Tells a one.settings one.server one.events told true first → Tells a two.settings two.server two.events told' true second →
+    (a : Text) (one two : Run) → Agree a one two → IsFit one.settings one.world.shared → IsFit two.settings two.world.shared →
+    (first second : World) (told told' : List Told) →
+    Tells a one.settings one.world one.events told true first → Tells a two.settings two.world two.events told' true second →
     told ≡ told'

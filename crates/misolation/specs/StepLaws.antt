@@ -4,93 +4,93 @@ use Rattle.std.specs.Prelude.{◌≡◌, false, not, ◌||◌, IsTrue, List, [],
 use Rattle.std.specs.FinMap.{get}
 use Rattle.mspec.specs.Access.{Account, Settings}
 use Rattle.mgrammar.specs.Reading.{line_at}
-use Rattle.mmeaning.specs.World.{act}
-use Rattle.mmeaning.specs.Step.{Server, Event, Reply, session_or_new, plan_of, is_too_long, is_ascii, normal, FailedStep, is_failure, Step}
+use Rattle.mmeaning.specs.Shared.{act}
+use Rattle.mmeaning.specs.Step.{World, Event, Reply, session_or_new, plan_of, is_too_long, is_ascii, normal, FailedStep, is_failure, Step}
 use Rattle.misolation.specs.Reach.{Accounts, IsClosed}
-use Rattle.misolation.specs.Cut.{is_inside, cut_settings, cut_server, IsFit}
+use Rattle.misolation.specs.Cut.{is_inside, cut_settings, cut_world, IsFit}
 use Rattle.misolation.specs.PlanLaws.{Exchange, exchanges}
 use Rattle.misolation.specs.Writes.{GlobalWrite, written, writes}
 
 -- the operations that a line comes to, with their answers; none where it is refused before it is run
-abbrev pub exchanges_by : Settings → Event → Server → Option Account → List Exchange
-exchanges_by settings e server None = []
-exchanges_by settings e server (Some account) =
+abbrev pub exchanges_by : Settings → Event → World → Option Account → List Exchange
+exchanges_by settings e world None = []
+exchanges_by settings e world (Some account) =
     if is_too_long e.text || not (is_ascii e.text) then []
-    else exchanges (act settings e.terminal account.name) (plan_of account (session_or_new (get server.sessions e.terminal)) (line_at e.text)) server.world
+    else exchanges (act settings e.terminal account.name) (plan_of account (session_or_new (get world.sessions e.terminal)) (line_at e.text)) world.shared
 
-abbrev pub line_exchanges : Settings → Event → Server → List Exchange
-line_exchanges settings e server = exchanges_by settings e server (get settings.terminals e.terminal)
+abbrev pub line_exchanges : Settings → Event → World → List Exchange
+line_exchanges settings e world = exchanges_by settings e world (get settings.terminals e.terminal)
 
 -- the writes of globals among them
-abbrev pub writes_by : Settings → Event → Server → Option Account → List GlobalWrite
-writes_by settings e server None = []
-writes_by settings e server (Some account) = writes settings account.name (exchanges_by settings e server (Some account))
+abbrev pub writes_by : Settings → Event → World → Option Account → List GlobalWrite
+writes_by settings e world None = []
+writes_by settings e world (Some account) = writes settings account.name (exchanges_by settings e world (Some account))
 
-abbrev pub line_writes : Settings → Event → Server → List GlobalWrite
-line_writes settings e server = writes_by settings e server (get settings.terminals e.terminal)
+abbrev pub line_writes : Settings → Event → World → List GlobalWrite
+line_writes settings e world = writes_by settings e world (get settings.terminals e.terminal)
 
 -- The globals that a step leaves are the old ones after some first of the line's writes: after all, if it did not fail.
-pub record StepWrites (settings : Settings) (e : Event) (reply : Reply) (server after : Server) : Type 0 where
+pub record StepWrites (settings : Settings) (e : Event) (reply : Reply) (world after : World) : Type 0 where
   pub done : List GlobalWrite
   pub undone : List GlobalWrite
-  pub all : line_writes settings e server ≡ done ++ undone
-  pub globals : after.world.globals ≡ written done server.world.globals
+  pub all : line_writes settings e world ≡ done ++ undone
+  pub globals : after.shared.globals ≡ written done world.shared.globals
   pub whole : is_failure reply.ending ≡ false → undone ≡ []
 
 abbrev pub StepsWrite : Type 0
 StepsWrite =
-    (settings : Settings) (e : Event) (reply : Reply) (server after : Server) → Step settings e reply server after →
-    StepWrites settings e reply server after
+    (settings : Settings) (e : Event) (reply : Reply) (world after : World) → Step settings e reply world after →
+    StepWrites settings e reply world after
 
 -- A step at a member's terminal is that step over the cuts, with the same reply. A normal one gives what it gives there, by the same
 -- operations with the same answers, and by the same writes; a failed one is a failed one there.
-pub record InsideStep (s : Accounts) (settings : Settings) (e : Event) (server : Server) : Type 0 where
+pub record InsideStep (s : Accounts) (settings : Settings) (e : Event) (world : World) : Type 0 where
   pub normal :
-      normal (cut_settings s settings) e (cut_server s settings server) ≡
-      ((normal settings e server).0, cut_server s settings (normal settings e server).1)
-  pub exchanges : line_exchanges (cut_settings s settings) e (cut_server s settings server) ≡ line_exchanges settings e server
-  pub writes : line_writes (cut_settings s settings) e (cut_server s settings server) ≡ line_writes settings e server
+      normal (cut_settings s settings) e (cut_world s settings world) ≡
+      ((normal settings e world).0, cut_world s settings (normal settings e world).1)
+  pub exchanges : line_exchanges (cut_settings s settings) e (cut_world s settings world) ≡ line_exchanges settings e world
+  pub writes : line_writes (cut_settings s settings) e (cut_world s settings world) ≡ line_writes settings e world
   pub failed :
-      (after : Server) → FailedStep settings e server after →
-      FailedStep (cut_settings s settings) e (cut_server s settings server) (cut_server s settings after)
+      (after : World) → FailedStep settings e world after →
+      FailedStep (cut_settings s settings) e (cut_world s settings world) (cut_world s settings after)
   pub step :
-      (reply : Reply) (after : Server) → Step settings e reply server after →
-      Step (cut_settings s settings) e reply (cut_server s settings server) (cut_server s settings after)
+      (reply : Reply) (after : World) → Step settings e reply world after →
+      Step (cut_settings s settings) e reply (cut_world s settings world) (cut_world s settings after)
 
 abbrev pub InsideSteps : Type 0
 InsideSteps =
-    (s : Accounts) (settings : Settings) (e : Event) (server : Server) → IsClosed settings s → IsFit settings server.world →
-    IsTrue (is_inside s settings e.terminal) → InsideStep s settings e server
+    (s : Accounts) (settings : Settings) (e : Event) (world : World) → IsClosed settings s → IsFit settings world.shared →
+    IsTrue (is_inside s settings e.terminal) → InsideStep s settings e world
 
 -- a step at any other terminal leaves the cut as it was
-pub record OutsideStep (s : Accounts) (settings : Settings) (e : Event) (server : Server) : Type 0 where
-  pub normal : cut_server s settings (normal settings e server).1 ≡ cut_server s settings server
-  pub failed : (after : Server) → FailedStep settings e server after → cut_server s settings after ≡ cut_server s settings server
-  pub step : (reply : Reply) (after : Server) → Step settings e reply server after → cut_server s settings after ≡ cut_server s settings server
+pub record OutsideStep (s : Accounts) (settings : Settings) (e : Event) (world : World) : Type 0 where
+  pub normal : cut_world s settings (normal settings e world).1 ≡ cut_world s settings world
+  pub failed : (after : World) → FailedStep settings e world after → cut_world s settings after ≡ cut_world s settings world
+  pub step : (reply : Reply) (after : World) → Step settings e reply world after → cut_world s settings after ≡ cut_world s settings world
 
 abbrev pub OutsideSteps : Type 0
 OutsideSteps =
-    (s : Accounts) (settings : Settings) (e : Event) (server : Server) → IsClosed settings s →
-    is_inside s settings e.terminal ≡ false → OutsideStep s settings e server
+    (s : Accounts) (settings : Settings) (e : Event) (world : World) → IsClosed settings s →
+    is_inside s settings e.terminal ≡ false → OutsideStep s settings e world
 
 abbrev pub StepsKeepFit : Type 0
 StepsKeepFit =
-    (settings : Settings) (e : Event) (reply : Reply) (server after : Server) → Step settings e reply server after →
-    IsFit settings server.world → IsFit settings after.world
+    (settings : Settings) (e : Event) (reply : Reply) (world after : World) → Step settings e reply world after →
+    IsFit settings world.shared → IsFit settings after.shared
 
 -- A step at a member's terminal is that step over the cuts, with the same reply and the same writes.
-pub record StepWithin (s : Accounts) (settings : Settings) (e : Event) (reply : Reply) (server after : Server) : Type 0 where
-  pub step : Step (cut_settings s settings) e reply (cut_server s settings server) (cut_server s settings after)
-  pub writes : line_writes (cut_settings s settings) e (cut_server s settings server) ≡ line_writes settings e server
+pub record StepWithin (s : Accounts) (settings : Settings) (e : Event) (reply : Reply) (world after : World) : Type 0 where
+  pub step : Step (cut_settings s settings) e reply (cut_world s settings world) (cut_world s settings after)
+  pub writes : line_writes (cut_settings s settings) e (cut_world s settings world) ≡ line_writes settings e world
 
 -- Both laws of one step, in one, as a call that makes steps may say it of each. Only the inside law asks something of the locks.
-pub record IsolatedStep (s : Accounts) (settings : Settings) (e : Event) (reply : Reply) (server after : Server) : Type 0 where
-  pub inside : IsFit settings server.world → IsTrue (is_inside s settings e.terminal) → StepWithin s settings e reply server after
-  pub outside : is_inside s settings e.terminal ≡ false → cut_server s settings after ≡ cut_server s settings server
-  pub writes : StepWrites settings e reply server after
-  pub fit : IsFit settings server.world → IsFit settings after.world
+pub record IsolatedStep (s : Accounts) (settings : Settings) (e : Event) (reply : Reply) (world after : World) : Type 0 where
+  pub inside : IsFit settings world.shared → IsTrue (is_inside s settings e.terminal) → StepWithin s settings e reply world after
+  pub outside : is_inside s settings e.terminal ≡ false → cut_world s settings after ≡ cut_world s settings world
+  pub writes : StepWrites settings e reply world after
+  pub fit : IsFit settings world.shared → IsFit settings after.shared
 
 abbrev pub StepsAreIsolated : Type 0
 StepsAreIsolated =
-    (settings : Settings) (e : Event) (reply : Reply) (server after : Server) → Step settings e reply server after →
-    (s : Accounts) → IsClosed settings s → IsolatedStep s settings e reply server after
+    (settings : Settings) (e : Event) (reply : Reply) (world after : World) → Step settings e reply world after →
+    (s : Accounts) → IsClosed settings s → IsolatedStep s settings e reply world after

@@ -7,7 +7,7 @@ use Rattle.mspec.specs.Node.{Text, Node}
 use Rattle.mspec.specs.Globals.{Globals, without_subtree}
 use Rattle.mspec.specs.Access.{Settings}
 use Rattle.mspec.specs.Plan.{Op, May, Value, Status, Neighbour, Routine, Put, Kill, Take, Give_back, Release}
-use Rattle.mmeaning.specs.World.{may_write}
+use Rattle.mmeaning.specs.Shared.{may_write}
 use Rattle.misolation.specs.PlanLaws.{Exchange}
 
 -- a text put at a node, or a node and all below it killed

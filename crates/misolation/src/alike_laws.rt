@@ -14,7 +14,7 @@ pub fn steps_by_sessions()
     ensures { StepsBySessions }
 {}
 
-/// Runs agree for every account that have the same lines, servers alike, and settings of the same entries, however these are listed.
+/// Runs agree for every account that have the same lines, worlds alike, and settings of the same entries, however these are listed.
 pub fn same_entries_agree()
     ensures { SameEntriesAgree }
 {}

@@ -8,12 +8,12 @@ pub fn part_is_history()
     ensures { PartIsHistory }
 {}
 
-/// A history is what a trace tells without the servers between its steps.
+/// A history is what a trace tells without the worlds between its steps.
 pub fn history_has_trace()
     ensures { HistoryHasTrace }
 {}
 
-/// Of a trace too the members' part is one over the cuts, each server between its steps cut to the set.
+/// Of a trace too the members' part is one over the cuts, each world between its steps cut to the set.
 pub fn part_is_trace()
     ensures { PartIsTrace }
 {}
@@ -38,7 +38,7 @@ pub fn isolation()
     ensures { Isolation }
 {}
 
-/// A server before its first line has fitting locks: none is held.
+/// A world before its first line has fitting locks: none is held.
 pub fn opening_is_fit()
     ensures { OpeningIsFit }
 {}
@@ -48,7 +48,7 @@ pub fn histories_keep_fit()
     ensures { HistoriesKeepFit }
 {}
 
-/// What is left of an opening server is the opening server of the members' globals.
+/// What is left of an opening world is the opening world of the members' globals.
 #[tactic(auto, using(crate::proofs::PartsAlone::opening_is_cut))]
 pub fn opening_is_cut()
     ensures { OpeningIsCut }
@@ -61,7 +61,7 @@ pub fn agreeing_replies()
 {}
 
 /// What a host may promise each account: if no line of an account that reaches it failed, its replies are those of the definitional
-/// interpreter run on the reaching accounts' lines, globals and grants alone; and two servers that agree on these give it the same
+/// interpreter run on the reaching accounts' lines, globals and grants alone; and two worlds that agree on these give it the same
 /// replies, whatever other accounts store, lock, run or exhaust.
 #[tactic(auto, using(crate::proofs::PartsAlone::promise_is_kept))]
 pub fn promise_is_kept()

@@ -5,7 +5,7 @@ use Rattle.mspec.specs.Code.{Memory, Store, Fault, Own, Lost}
 use Rattle.mspec.specs.Plan.{Op, Answer, Plan, Done, Ask, then_plan, perform, cut_short}
 use Rattle.mspec.specs.Act.{Outcome, Gives, Fails, Act, on_gives, ◌>>=◌, give, ask}
 use Rattle.mspec.proofs.Plans.{perform-then, cut_first, cut_second, cut_whole}
-use Rattle.mmeaning.specs.Step.{World}
+use Rattle.mmeaning.specs.Step.{Shared}
 use Rattle.mmeaning.specs.Calls.{Standing, Here, Gave, IsCut, FailedBy, Ends, Did, MayLose, Follows, ops_of}
 pub use Rattle.mspec.proofs.Basics.{residual_is}
 
@@ -117,7 +117,7 @@ did_lost {b = b} {steady = steady} {fault_of = fault_of} {h = h} {h1 = h1} p f e
 }
 
 -- an operation that was carried out
-pub asked : {X E : Type 0} {b : Standing} {steady : Type 0} {fault_of : E → Fault} {h : Here} (op : Op) (f : X → Answer op) (x : X) (w : World) → ops_of b op h.1 ≡ (f x, w) → Did b steady fault_of (λ n. ask op) f h (Ok x) (h.0, w)
+pub asked : {X E : Type 0} {b : Standing} {steady : Type 0} {fault_of : E → Fault} {h : Here} (op : Op) (f : X → Answer op) (x : X) (w : Shared) → ops_of b op h.1 ≡ (f x, w) → Did b steady fault_of (λ n. ask op) f h (Ok x) (h.0, w)
 asked {h = h} op f x w e = record {
   at = λ n le. ap (λ r. (Gives r.0 h.0, r.1)) e;
   fewer = omega arith;

@@ -1,6 +1,6 @@
 -- SPDX-License-Identifier: Apache-2.0
 -- Control flow on examples, as proved equations.
-use Rattle.mmeaning.proofs.MeaningWords.{◌*◌, rules, ◌^◌, Server}
+use Rattle.mmeaning.proofs.MeaningWords.{◌*◌, rules, ◌^◌, World}
 use Rattle.mspec.proofs.ComputedNumbers.{computes}
 use Rattle.mspec.specs.NumberText.{size_text}
 use Rattle.mspec.specs.Code.{M9, M15, Zover, Zsteps}
@@ -56,7 +56,7 @@ turns_ended =
     (at_case _ refl (simp running) (at_case _ refl (simp running) no_more)))))
 
 -- what a line with so many steps leaves
-abbrev turned_out : Server
+abbrev turned_out : World
 turned_out = serving (record { locals = assigned_to (assigned_to no_locals (codes "N") [] (codes "3")) (codes "I") [] (codes "4"); naked = None; test = false })
 
 tests : Each (

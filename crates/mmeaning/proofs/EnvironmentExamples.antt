@@ -5,7 +5,7 @@ use Rattle.mspec.specs.Act.{Text, Node, Locals, State, Gives, Fails}
 use Rattle.mgrammar.specs.Grammar.{ExprTree, divide, number, text, reference, refer, ReferenceTree, naked, extended, ExprsTree, exprs, no_exprs, variable, one}
 use Rattle.mgrammar.specs.Functions.{function_of}
 use Rattle.mmeaning.specs.Expression.{value}
-use Rattle.mmeaning.specs.World.{World}
+use Rattle.mmeaning.specs.Shared.{Shared}
 use Rattle.mmeaning.proofs.LineTrees.{only, with_operator}
 use Rattle.mmeaning.proofs.LockRuns.{hers, his, her_line, his_line}
 use Rattle.mspec.proofs.ComputedNumbers.{computes}
@@ -26,7 +26,7 @@ node name subscript = record { account = codes "ALICE"; name = name; subscripts 
 abbrev next_of : ReferenceTree → ExprTree
 next_of r = only (refer (codes "O") r no_exprs)
 
-module _ (w : World) (last : Option Node) (test : Bool) (out : Text) (locals : Locals) (steps : ℕ) where
+module _ (w : Shared) (last : Option Node) (test : Bool) (out : Text) (locals : Locals) (steps : ℕ) where
   abbrev state : Option Node → ℕ → State
   state at n = record { locals = locals; naked = at; test = test; out = out; steps = n }
 

@@ -1,6 +1,6 @@
 -- SPDX-License-Identifier: Apache-2.0
 -- Globals on examples, as proved equations. What a line asks of the world is followed one operation after another.
-use Rattle.mmeaning.proofs.MeaningWords.{Bool, cond, Option, ap, ◌∙◌, eq_by_cmp, nat_cmp, get, insert, retain_keys, get-insert, get-empty, Op, Answer, Plan, Done, Ask, Ops, perform, Outcome, Fails, State, LineTree, line_at, Signal, Reply, Server, Session, normal, kept, ended, begun, is_too_long, is_ascii}
+use Rattle.mmeaning.proofs.MeaningWords.{Bool, cond, Option, ap, ◌∙◌, eq_by_cmp, nat_cmp, get, insert, retain_keys, get-insert, get-empty, Op, Answer, Plan, Done, Ask, Ops, perform, Outcome, Fails, State, LineTree, line_at, Signal, Reply, World, Session, normal, kept, ended, begun, is_too_long, is_ascii}
 use Rattle.std.specs.Prelude.{not, option_map}
 use Rattle.mspec.proofs.MapCuts.{get_cut}
 use Rattle.mspec.proofs.NodeOrders.{node_cmp_total, node_cmp_exact}
@@ -10,36 +10,36 @@ use Rattle.mspec.specs.Node.{Text, Node}
 use Rattle.mspec.specs.NodeOrder.{node_cmp}
 use Rattle.mspec.specs.Number.{significant_digits}
 use Rattle.mspec.specs.Globals.{is_node_within, status}
-use Rattle.mmeaning.specs.World.{World, act}
+use Rattle.mmeaning.specs.Shared.{Shared, act}
 use Rattle.mmeaning.proofs.ExampleAccount.{alice}
 use Rattle.mmeaning.proofs.LineRuns.{event, shut, shut_run, shut_step, step_is_shut}
 use Rattle.mmeaning.proofs.Running.{◌≡◌, List, [], ◌∷◌, Some, None, true, false, refl, codes, empty, gets, Globals, new_session, opening, account, done, failed, AreAnswered, at_last, Anywhere, runs}
 
 -- ---- operations, one after another
 
-abbrev doing : Ops World
+abbrev doing : Ops Shared
 doing = act alice 1 (codes "ALICE")
 
 -- a plan that is carried out has this outcome, and leaves this world
-record Comes (p : Plan (Outcome Signal)) (w : World) (r : Outcome Signal × World) : Type 0 where
+record Comes (p : Plan (Outcome Signal)) (w : Shared) (r : Outcome Signal × Shared) : Type 0 where
   is : perform doing p w ≡ r
 
-asked : {op : Op} {k : Answer op → Plan (Outcome Signal)} {w w' : World} {r : Outcome Signal × World} (a : Answer op) → doing op w ≡ (a, w') → Comes (k a) w' r → Comes (Ask op k) w r
+asked : {op : Op} {k : Answer op → Plan (Outcome Signal)} {w w' : Shared} {r : Outcome Signal × Shared} (a : Answer op) → doing op w ≡ (a, w') → Comes (k a) w' r → Comes (Ask op k) w r
 asked {k = k} a is rest = record { is = ap (λ x. perform doing (k x.0) x.1) is ∙ rest.is }
 
-finished : {o : Outcome Signal} {w : World} → Comes (Done o) w (o, w)
+finished : {o : Outcome Signal} {w : Shared} → Comes (Done o) w (o, w)
 finished = record { is = refl }
 
-same : {A : Type 0} {a b : A} {w : World} → a ≡ b → ◌≡◌ {A = A × World} (a, w) (b, w)
+same : {A : Type 0} {a b : A} {w : Shared} → a ≡ b → ◌≡◌ {A = A × Shared} (a, w) (b, w)
 same {w = w} e = ap (λ a. (a, w)) e
 
 opened : (g : Globals) (t : Text) (l : Option LineTree) → is_too_long t ≡ false → is_ascii t ≡ true
-    → shut_step alice (event t) l (opening g) ≡ ended 1 (opening g) (perform doing (shut_run (codes "ALICE") l (begun account new_session)) (opening g).world)
+    → shut_step alice (event t) l (opening g) ≡ ended 1 (opening g) (perform doing (shut_run (codes "ALICE") l (begun account new_session)) (opening g).shared)
 opened g t l short ascii = simp (gets, short, ascii)
 
 -- a line over these globals, by what its operations do
-answers : {g : Globals} {t : Text} {r : Outcome Signal × World} (l : Option LineTree) → line_at t ≡ l → is_too_long t ≡ false → is_ascii t ≡ true
-    → Comes (shut_run (codes "ALICE") l (begun account new_session)) (opening g).world r → AreAnswered account (opening g) (t ∷ []) ((ended 1 (opening g) r).0 ∷ [])
+answers : {g : Globals} {t : Text} {r : Outcome Signal × Shared} (l : Option LineTree) → line_at t ≡ l → is_too_long t ≡ false → is_ascii t ≡ true
+    → Comes (shut_run (codes "ALICE") l (begun account new_session)) (opening g).shared r → AreAnswered account (opening g) (t ∷ []) ((ended 1 (opening g) r).0 ∷ [])
 answers {g = g} {t = t} l tree short ascii run = at_last l tree (ap (λ x. x.0) (opened g t l short ascii) ∙ ap (λ r. (ended 1 (opening g) r).0) run.is)
 
 -- behind a line over these globals that ends in a code, this is the node that was referred to last
@@ -49,11 +49,11 @@ record Refers (g : Globals) (t : Text) (last : Option Node) : Type 0 where
 kept_session : (s : Session) → get (insert (empty {X = Session} {R = nat_cmp}) 1 s) 1 ≡ Some s
 kept_session s = simp gets
 
-refers : {g : Globals} {t : Text} {c : Code} {s : State} {w : World} (l : Option LineTree) → line_at t ≡ l → is_too_long t ≡ false → is_ascii t ≡ true
-    → Comes (shut_run (codes "ALICE") l (begun account new_session)) (opening g).world (Fails c s, w) → Refers g t s.naked
+refers : {g : Globals} {t : Text} {c : Code} {s : State} {w : Shared} (l : Option LineTree) → line_at t ≡ l → is_too_long t ≡ false → is_ascii t ≡ true
+    → Comes (shut_run (codes "ALICE") l (begun account new_session)) (opening g).shared (Fails c s, w) → Refers g t s.naked
 refers {g = g} {t = t} {s = s} l tree short ascii run = record {
   is =
-      ap (λ (x : Reply × Server). option_map (λ (s : Session). s.naked) (get x.1.sessions 1))
+      ap (λ (x : Reply × World). option_map (λ (s : Session). s.naked) (get x.1.sessions 1))
       (step_is_shut alice (event t) (opening g) ∙ ap (λ l. shut_step alice (event t) l (opening g)) tree ∙ opened g t l short ascii ∙ ap (ended 1 (opening g)) run.is)
       ∙ ap (option_map (λ (s : Session). s.naked)) (kept_session (kept s));
 }

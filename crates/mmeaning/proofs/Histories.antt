@@ -2,8 +2,8 @@
 -- Histories and normal steps.
 use Rattle.mmeaning.proofs.MeaningWords.{◌≡◌, Bool, true, false, [], ◌∷◌, Option, Some, None, refl, sym, ap, ◌∙◌, subst, map, get, Outcome, Gives, Fails}
 use Rattle.mmeaning.specs.LineMeaning.{Signal, Go_on, Skips, Quits, Goes, Halts}
-use Rattle.mmeaning.specs.Step.{Settings, Account, Server, Event, Reply, Step, StepBy, normal, at_account, checked, is_too_long, is_ascii, ending_of, reply_of, is_failure}
-use Rattle.mmeaning.specs.History.{replies, server_after}
+use Rattle.mmeaning.specs.Step.{Settings, Account, World, Event, Reply, Step, StepBy, normal, at_account, checked, is_too_long, is_ascii, ending_of, reply_of, is_failure}
+use Rattle.mmeaning.specs.History.{replies, world_after}
 use Rattle.mmeaning.specs.StepLaws.{NormalNeverFails, NormalStepsAreHistory, HistoryIsNormal}
 
 -- no act ends with a loss
@@ -15,40 +15,40 @@ reply_is_own : (o : Outcome Signal) → is_failure (reply_of o).ending ≡ false
 reply_is_own (Gives signal s) = ending_is_own signal
 reply_is_own (Fails code s) = refl
 
-checked_is_own : (long ascii : Bool) (settings : Settings) (e : Event) (server : Server) (account : Account) → is_failure (checked long ascii settings e server account).0.ending ≡ false
-checked_is_own true ascii settings e server account = refl
-checked_is_own false false settings e server account = refl
-checked_is_own false true settings e server account = reply_is_own _
+checked_is_own : (long ascii : Bool) (settings : Settings) (e : Event) (world : World) (account : Account) → is_failure (checked long ascii settings e world account).0.ending ≡ false
+checked_is_own true ascii settings e world account = refl
+checked_is_own false false settings e world account = refl
+checked_is_own false true settings e world account = reply_is_own _
 
-account_is_own : (settings : Settings) (e : Event) (server : Server) (o : Option Account) → is_failure (at_account settings e server o).0.ending ≡ false
-account_is_own settings e server None = refl
-account_is_own settings e server (Some account) = checked_is_own (is_too_long e.text) (is_ascii e.text) settings e server account
+account_is_own : (settings : Settings) (e : Event) (world : World) (o : Option Account) → is_failure (at_account settings e world o).0.ending ≡ false
+account_is_own settings e world None = refl
+account_is_own settings e world (Some account) = checked_is_own (is_too_long e.text) (is_ascii e.text) settings e world account
 
 pub normal_never_fails : NormalNeverFails
-normal_never_fails settings e server = account_is_own settings e server (get settings.terminals e.terminal)
+normal_never_fails settings e world = account_is_own settings e world (get settings.terminals e.terminal)
 
 -- a normal step is a step
-normal_step : (settings : Settings) (e : Event) (server : Server) → Step settings e (normal settings e server).0 server (normal settings e server).1
-normal_step settings e server =
-    subst (λ (b : Bool). StepBy b settings e (normal settings e server).0 server (normal settings e server).1) (sym (normal_never_fails settings e server)) refl
+normal_step : (settings : Settings) (e : Event) (world : World) → Step settings e (normal settings e world).0 world (normal settings e world).1
+normal_step settings e world =
+    subst (λ (b : Bool). StepBy b settings e (normal settings e world).0 world (normal settings e world).1) (sym (normal_never_fails settings e world)) refl
 
 pub normal_steps_are_history : NormalStepsAreHistory
-normal_steps_are_history settings server [] = refl
-normal_steps_are_history settings server (e ∷ es) =
-    ((normal settings e server).1, normal_step settings e server, normal_steps_are_history settings (normal settings e server).1 es)
+normal_steps_are_history settings world [] = refl
+normal_steps_are_history settings world (e ∷ es) =
+    ((normal settings e world).1, normal_step settings e world, normal_steps_are_history settings (normal settings e world).1 es)
 
 -- a step that did not fail is a normal one
-step_is : (settings : Settings) (e : Event) (r : Reply) (server after : Server) → Step settings e r server after → is_failure r.ending ≡ false → normal settings e server ≡ (r, after)
-step_is settings e r server after h ok = subst (λ (b : Bool). StepBy b settings e r server after) ok h
+step_is : (settings : Settings) (e : Event) (r : Reply) (world after : World) → Step settings e r world after → is_failure r.ending ≡ false → normal settings e world ≡ (r, after)
+step_is settings e r world after h ok = subst (λ (b : Bool). StepBy b settings e r world after) ok h
 
 pub history_is_normal : HistoryIsNormal
-history_is_normal settings server after [] h none = (refl, h)
-history_is_normal settings server after (e ∷ es) h none =
-    let here : normal settings e.0 server ≡ (e.1, h.0) = step_is settings e.0 e.1 server h.0 h.1 none.0 in
+history_is_normal settings world after [] h none = (refl, h)
+history_is_normal settings world after (e ∷ es) h none =
+    let here : normal settings e.0 world ≡ (e.1, h.0) = step_is settings e.0 e.1 world h.0 h.1 none.0 in
     let rest = history_is_normal settings h.0 after es h.2 none.1 in
-    let first : e.1 ≡ (normal settings e.0 server).0 = sym (ap (λ r. r.0) here) in
-    let second : h.0 ≡ (normal settings e.0 server).1 = sym (ap (λ r. r.1) here) in (
+    let first : e.1 ≡ (normal settings e.0 world).0 = sym (ap (λ r. r.0) here) in
+    let second : h.0 ≡ (normal settings e.0 world).1 = sym (ap (λ r. r.1) here) in (
       ap (λ x. x ∷ map (λ y. y.1) es) first
-          ∙ ap (λ xs. (normal settings e.0 server).0 ∷ xs) (rest.0 ∙ ap (λ s. replies settings s (map (λ y. y.0) es)) second),
-      rest.1 ∙ ap (λ s. server_after settings s (map (λ y. y.0) es)) second,
+          ∙ ap (λ xs. (normal settings e.0 world).0 ∷ xs) (rest.0 ∙ ap (λ s. replies settings s (map (λ y. y.0) es)) second),
+      rest.1 ∙ ap (λ s. world_after settings s (map (λ y. y.0) es)) second,
     )

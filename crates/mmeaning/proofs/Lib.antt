@@ -10,7 +10,7 @@ pub mod LevelMoves
 pub mod Indirections
 pub mod LockMoves
 pub mod Yieldings
-pub mod WorldExamples
+pub mod SharedExamples
 pub mod LineTrees
 pub mod LineRuns
 pub mod RoutineRuns

@@ -7,7 +7,7 @@ use Rattle.mmeaning.specs.Variables.{Evaluated}
 use Rattle.mmeaning.specs.Expression.{Depth, through, finds, inside}
 use Rattle.mmeaning.specs.LineMeaning.{Signal, Spot, outset, Turning, Texts, Context, texts, arguments, commands, after_turn, after_level}
 use Rattle.mmeaning.specs.Levels.{commands_of}
-use Rattle.mmeaning.specs.Step.{Account, Settings, Session, Server, Event, Reply, act, plan_of, begun, session_or_new, ended, refused, is_too_long, is_ascii, checked, at_account, normal}
+use Rattle.mmeaning.specs.Step.{Account, Settings, Session, World, Event, Reply, act, plan_of, begun, session_or_new, ended, refused, is_too_long, is_ascii, checked, at_account, normal}
 use Rattle.mmeaning.proofs.ExampleAccount.{account, settings_of}
 
 -- ---- what lines are answered
@@ -15,30 +15,30 @@ use Rattle.mmeaning.proofs.ExampleAccount.{account, settings_of}
 abbrev pub event : Text → Event
 event t = record { terminal = 1; text = t }
 
--- what lines of terminal 1 are answered, of an account and in a server
-pub record AreAnswered (a : Account) (server : Server) (ts : List Text) (rs : List Reply) : Type 0 where
-  pub answers : replies (settings_of a) server (map event ts) ≡ rs
+-- what lines of terminal 1 are answered, of an account and in a world
+pub record AreAnswered (a : Account) (world : World) (ts : List Text) (rs : List Reply) : Type 0 where
+  pub answers : replies (settings_of a) world (map event ts) ≡ rs
 
--- in a new server, with 2,000 steps a line
+-- in a new world, with 2,000 steps a line
 abbrev pub Answered : List Text → List Reply → Type 0
 Answered ts rs = AreAnswered account (opening empty) ts rs
 
--- each line by itself, in this server, with its reply
+-- each line by itself, in this world, with its reply
 abbrev pub Cases : Type 0
 Cases = List (Text × Reply)
 
-pub record AreAnsweredEach (a : Account) (server : Server) (cases : Cases) : Type 0 where
-  pub answers : map (λ c. (normal (settings_of a) (event c.0) server).0) cases ≡ map (λ c. c.1) cases
+pub record AreAnsweredEach (a : Account) (world : World) (cases : Cases) : Type 0 where
+  pub answers : map (λ c. (normal (settings_of a) (event c.0) world).0) cases ≡ map (λ c. c.1) cases
 
 abbrev pub Each : Cases → Type 0
 Each cases = AreAnsweredEach account (opening empty) cases
 
--- a server in which terminal 1 has a session, and nothing is stored
-abbrev pub serving : Session → Server
-serving s = record { world = (opening empty).world; sessions = insert empty 1 s }
+-- a world in which terminal 1 has a session, and nothing is stored
+abbrev pub serving : Session → World
+serving s = record { shared = (opening empty).shared; sessions = insert empty 1 s }
 
 -- where it holds one text, at a variable's name
-abbrev pub holding : Text → Text → Server
+abbrev pub holding : Text → Text → World
 holding name x = serving (record { locals = assigned_to no_locals name [] x; naked = None; test = false })
 
 -- ---- the same with turns and texts that are shut
@@ -60,59 +60,59 @@ run_is_shut a s (Some l) = refl
 
 -- ---- steps, by the trees of their lines
 
-abbrev shut_checked : Bool → Bool → Settings → Event → Option LineTree → Server → Account → Reply × Server
-shut_checked true ascii settings e l server a = refused Zline server
-shut_checked false false settings e l server a = refused Zchar server
-shut_checked false true settings e l server a =
-    ended e.terminal server (perform (act settings e.terminal a.name) (shut_run a.name l (begun a (session_or_new (get server.sessions e.terminal)))) server.world)
+abbrev shut_checked : Bool → Bool → Settings → Event → Option LineTree → World → Account → Reply × World
+shut_checked true ascii settings e l world a = refused Zline world
+shut_checked false false settings e l world a = refused Zchar world
+shut_checked false true settings e l world a =
+    ended e.terminal world (perform (act settings e.terminal a.name) (shut_run a.name l (begun a (session_or_new (get world.sessions e.terminal)))) world.shared)
 
-abbrev shut_at_account : Settings → Event → Option LineTree → Server → Option Account → Reply × Server
-shut_at_account settings e l server None = refused Zterm server
-shut_at_account settings e l server (Some a) = shut_checked (is_too_long e.text) (is_ascii e.text) settings e l server a
+abbrev shut_at_account : Settings → Event → Option LineTree → World → Option Account → Reply × World
+shut_at_account settings e l world None = refused Zterm world
+shut_at_account settings e l world (Some a) = shut_checked (is_too_long e.text) (is_ascii e.text) settings e l world a
 
-abbrev pub shut_step : Settings → Event → Option LineTree → Server → Reply × Server
-shut_step settings e l server = shut_at_account settings e l server (get settings.terminals e.terminal)
+abbrev pub shut_step : Settings → Event → Option LineTree → World → Reply × World
+shut_step settings e l world = shut_at_account settings e l world (get settings.terminals e.terminal)
 
-checked_is_shut : (long ascii : Bool) (settings : Settings) (e : Event) (server : Server) (a : Account) → checked long ascii settings e server a ≡ shut_checked long ascii settings e (line_at e.text) server a
-checked_is_shut true ascii settings e server a = refl
-checked_is_shut false false settings e server a = refl
-checked_is_shut false true settings e server a =
-    ap (λ p. ended e.terminal server (perform (act settings e.terminal a.name) p server.world)) (run_is_shut a (session_or_new (get server.sessions e.terminal)) (line_at e.text))
+checked_is_shut : (long ascii : Bool) (settings : Settings) (e : Event) (world : World) (a : Account) → checked long ascii settings e world a ≡ shut_checked long ascii settings e (line_at e.text) world a
+checked_is_shut true ascii settings e world a = refl
+checked_is_shut false false settings e world a = refl
+checked_is_shut false true settings e world a =
+    ap (λ p. ended e.terminal world (perform (act settings e.terminal a.name) p world.shared)) (run_is_shut a (session_or_new (get world.sessions e.terminal)) (line_at e.text))
 
-at_account_is_shut : (settings : Settings) (e : Event) (server : Server) (o : Option Account) → at_account settings e server o ≡ shut_at_account settings e (line_at e.text) server o
-at_account_is_shut settings e server None = refl
-at_account_is_shut settings e server (Some a) = checked_is_shut (is_too_long e.text) (is_ascii e.text) settings e server a
+at_account_is_shut : (settings : Settings) (e : Event) (world : World) (o : Option Account) → at_account settings e world o ≡ shut_at_account settings e (line_at e.text) world o
+at_account_is_shut settings e world None = refl
+at_account_is_shut settings e world (Some a) = checked_is_shut (is_too_long e.text) (is_ascii e.text) settings e world a
 
-pub step_is_shut : (settings : Settings) (e : Event) (server : Server) → normal settings e server ≡ shut_step settings e (line_at e.text) server
-step_is_shut settings e server = at_account_is_shut settings e server (get settings.terminals e.terminal)
+pub step_is_shut : (settings : Settings) (e : Event) (world : World) → normal settings e world ≡ shut_step settings e (line_at e.text) world
+step_is_shut settings e world = at_account_is_shut settings e world (get settings.terminals e.terminal)
 
 -- ---- proofs of examples: lines with their trees, one after another
 
-line_is : (a : Account) (server : Server) (t : Text) (l : Option LineTree) → line_at t ≡ l → normal (settings_of a) (event t) server ≡ shut_step (settings_of a) (event t) l server
-line_is a server t l e = step_is_shut (settings_of a) (event t) server ∙ ap (λ l. shut_step (settings_of a) (event t) l server) e
+line_is : (a : Account) (world : World) (t : Text) (l : Option LineTree) → line_at t ≡ l → normal (settings_of a) (event t) world ≡ shut_step (settings_of a) (event t) l world
+line_is a world t l e = step_is_shut (settings_of a) (event t) world ∙ ap (λ l. shut_step (settings_of a) (event t) l world) e
 
-pub at_last : {a : Account} {server : Server} {t : Text} {r : Reply} (l : Option LineTree)
-    → line_at t ≡ l → (shut_step (settings_of a) (event t) l server).0 ≡ r → AreAnswered a server (t ∷ []) (r ∷ [])
-at_last {a = a} {server = server} {t = t} l e run = record {
-  answers = ap (λ (x : Reply × Server). x.0 ∷ []) (line_is a server t l e) ∙ ap (λ (r : Reply). r ∷ []) run;
+pub at_last : {a : Account} {world : World} {t : Text} {r : Reply} (l : Option LineTree)
+    → line_at t ≡ l → (shut_step (settings_of a) (event t) l world).0 ≡ r → AreAnswered a world (t ∷ []) (r ∷ [])
+at_last {a = a} {world = world} {t = t} l e run = record {
+  answers = ap (λ (x : Reply × World). x.0 ∷ []) (line_is a world t l e) ∙ ap (λ (r : Reply). r ∷ []) run;
 }
 
 -- one more line by itself
-pub at_case : {a : Account} {server : Server} {t : Text} {r : Reply} {cases : Cases} (l : Option LineTree)
-    → line_at t ≡ l → (shut_step (settings_of a) (event t) l server).0 ≡ r → AreAnsweredEach a server cases → AreAnsweredEach a server ((t, r) ∷ cases)
-at_case {a = a} {server = server} {t = t} l e run rest = record {
-  answers = let first = ap (λ (x : Reply × Server). x.0) (line_is a server t l e) ∙ run in λ i. first i ∷ rest.answers i;
+pub at_case : {a : Account} {world : World} {t : Text} {r : Reply} {cases : Cases} (l : Option LineTree)
+    → line_at t ≡ l → (shut_step (settings_of a) (event t) l world).0 ≡ r → AreAnsweredEach a world cases → AreAnsweredEach a world ((t, r) ∷ cases)
+at_case {a = a} {world = world} {t = t} l e run rest = record {
+  answers = let first = ap (λ (x : Reply × World). x.0) (line_is a world t l e) ∙ run in λ i. first i ∷ rest.answers i;
 }
 
-pub no_more : {a : Account} {server : Server} → AreAnsweredEach a server []
+pub no_more : {a : Account} {world : World} → AreAnsweredEach a world []
 no_more = record { answers = refl }
 
--- a line, and then those behind it in the server that it leaves
-pub at_first : {a : Account} {server : Server} {t : Text} {r : Reply} {ts : List Text} {rs : List Reply} (after : Server) (l : Option LineTree)
-    → line_at t ≡ l → shut_step (settings_of a) (event t) l server ≡ (r, after) → AreAnswered a after ts rs → AreAnswered a server (t ∷ ts) (r ∷ rs)
-at_first {a = a} {server = server} {t = t} {r = r} {ts = ts} after l e first rest = record {
+-- a line, and then those behind it in the world that it leaves
+pub at_first : {a : Account} {world : World} {t : Text} {r : Reply} {ts : List Text} {rs : List Reply} (after : World) (l : Option LineTree)
+    → line_at t ≡ l → shut_step (settings_of a) (event t) l world ≡ (r, after) → AreAnswered a after ts rs → AreAnswered a world (t ∷ ts) (r ∷ rs)
+at_first {a = a} {world = world} {t = t} {r = r} {ts = ts} after l e first rest = record {
   answers =
-      ap (λ (x : Reply × Server). x.0 ∷ replies (settings_of a) x.1 (map event ts)) (line_is a server t l e ∙ first)
+      ap (λ (x : Reply × World). x.0 ∷ replies (settings_of a) x.1 (map event ts)) (line_is a world t l e ∙ first)
       ∙ ap (λ (rs : List Reply). r ∷ rs) rest.answers;
 }
 

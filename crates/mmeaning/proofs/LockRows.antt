@@ -1,6 +1,6 @@
 -- SPDX-License-Identifier: Apache-2.0
 -- LOCK and HALT of several terminals on examples, as proved equations.
-use Rattle.mmeaning.proofs.MeaningWords.{rules, nat_cmp, M6, M9, Zlocked, Zsyntax, Session, Server, Halted}
+use Rattle.mmeaning.proofs.MeaningWords.{rules, nat_cmp, M6, M9, Zlocked, Zsyntax, Session, World, Halted}
 use Rattle.std.specs.FinMap.{FinMap, insert, remove}
 use Rattle.mspec.specs.LockConflict.{LockName, Locks, held}
 use Rattle.mgrammar.specs.Grammar.{divide, number, global, naked, exprs, no_exprs, anew, adding, lock_one, locking, locked}
@@ -12,9 +12,9 @@ use Rattle.mmeaning.proofs.Running.{◌≡◌, List, [], ◌∷◌, Some, None, 
 
 ruleset lock_running = (computed_operations, computed_locks, running)
 
--- a server of these locks, with these sessions
-abbrev server : Locks → FinMap nat_cmp Session → Server
-server locks sessions = record { world = record { globals = (opening empty).world.globals; locks = locks }; sessions = sessions }
+-- a world of these locks, with these sessions
+abbrev world : Locks → FinMap nat_cmp Session → World
+world locks sessions = record { shared = record { globals = (opening empty).shared.globals; locks = locks }; sessions = sessions }
 
 -- names with a `^`, of ALICE and of BOB, and her name without one
 abbrev hers : Text → List Text → LockName
@@ -41,43 +41,43 @@ one_session = insert empty 1 no_test
 locks_between_terminals : AreReplied (opening empty) ((1, codes "L +^J(1)") ∷ (2, codes "L +^J:0 W $T") ∷ (3, codes "L +^J(1):0 W $T") ∷ (2, codes "L ^J(1,5)") ∷ (1, codes "S V=1 H") ∷ (1, codes "W V") ∷ (2, codes "L +^J:0 W $T") ∷ []) (done [] ∷ done (codes "0") ∷ done (codes "1") ∷ failed [] Zlocked ∷ halted ∷ failed [] M6 ∷ done (codes "1") ∷ [])
 unfolding runs
 locks_between_terminals =
-    replied_first (server (insert empty (held 1 (hers (codes "J") (codes "1" ∷ []))) 1) one_session) _ refl (simp lock_running)
-    (replied_first (server (insert empty (held 1 (hers (codes "J") (codes "1" ∷ []))) 1) (insert one_session 2 no_test)) _ refl (simp lock_running)
-    (replied_first (server (insert (insert empty (held 1 (hers (codes "J") (codes "1" ∷ []))) 1) (held 3 (his (codes "J") (codes "1" ∷ []))) 1) (insert (insert one_session 2 no_test) 3 true_test)) _ refl (simp lock_running)
-    (replied_first (server (insert (insert empty (held 1 (hers (codes "J") (codes "1" ∷ []))) 1) (held 3 (his (codes "J") (codes "1" ∷ []))) 1) (insert (insert (insert one_session 2 no_test) 3 true_test) 2 no_test)) _ refl (simp lock_running)
-    (replied_first (server (insert empty (held 3 (his (codes "J") (codes "1" ∷ []))) 1) (remove (insert (insert (insert one_session 2 no_test) 3 true_test) 2 no_test) 1)) _ refl (simp lock_running)
-    (replied_first (server (insert empty (held 3 (his (codes "J") (codes "1" ∷ []))) 1) (insert (remove (insert (insert (insert one_session 2 no_test) 3 true_test) 2 no_test) 1) 1 no_test)) _ refl (simp lock_running)
+    replied_first (world (insert empty (held 1 (hers (codes "J") (codes "1" ∷ []))) 1) one_session) _ refl (simp lock_running)
+    (replied_first (world (insert empty (held 1 (hers (codes "J") (codes "1" ∷ []))) 1) (insert one_session 2 no_test)) _ refl (simp lock_running)
+    (replied_first (world (insert (insert empty (held 1 (hers (codes "J") (codes "1" ∷ []))) 1) (held 3 (his (codes "J") (codes "1" ∷ []))) 1) (insert (insert one_session 2 no_test) 3 true_test)) _ refl (simp lock_running)
+    (replied_first (world (insert (insert empty (held 1 (hers (codes "J") (codes "1" ∷ []))) 1) (held 3 (his (codes "J") (codes "1" ∷ []))) 1) (insert (insert (insert one_session 2 no_test) 3 true_test) 2 no_test)) _ refl (simp lock_running)
+    (replied_first (world (insert empty (held 3 (his (codes "J") (codes "1" ∷ []))) 1) (remove (insert (insert (insert one_session 2 no_test) 3 true_test) 2 no_test) 1)) _ refl (simp lock_running)
+    (replied_first (world (insert empty (held 3 (his (codes "J") (codes "1" ∷ []))) 1) (insert (remove (insert (insert (insert one_session 2 no_test) 3 true_test) 2 no_test) 1) 1 no_test)) _ refl (simp lock_running)
     (replied_last _ refl (simp lock_running)))))))
 
 -- counts nest; a list is taken whole; a name without a `^` is another
 nested_locks : AreReplied (opening empty) ((1, codes "L +^J,+^J,-^J") ∷ (2, codes "L +^J:0 W $T") ∷ (1, codes "L -^J") ∷ (2, codes "L +(^J,M):0 W $T") ∷ (1, codes "L M") ∷ []) (done [] ∷ done (codes "0") ∷ done [] ∷ done (codes "1") ∷ failed [] Zlocked ∷ [])
 unfolding runs
 nested_locks =
-    replied_first (server (insert empty (held 1 (hers (codes "J") [])) 1) one_session) _ refl (simp lock_running)
-    (replied_first (server (insert empty (held 1 (hers (codes "J") [])) 1) (insert one_session 2 no_test)) _ refl (simp lock_running)
-    (replied_first (server empty (insert (insert one_session 2 no_test) 1 no_test)) _ refl (simp lock_running)
-    (replied_first (server (insert (insert empty (held 2 (hers (codes "J") [])) 1) (held 2 (her_local (codes "M"))) 1) (insert (insert (insert one_session 2 no_test) 1 no_test) 2 true_test)) _ refl (simp lock_running)
+    replied_first (world (insert empty (held 1 (hers (codes "J") [])) 1) one_session) _ refl (simp lock_running)
+    (replied_first (world (insert empty (held 1 (hers (codes "J") [])) 1) (insert one_session 2 no_test)) _ refl (simp lock_running)
+    (replied_first (world empty (insert (insert one_session 2 no_test) 1 no_test)) _ refl (simp lock_running)
+    (replied_first (world (insert (insert empty (held 2 (hers (codes "J") [])) 1) (held 2 (her_local (codes "M"))) 1) (insert (insert (insert one_session 2 no_test) 1 no_test) 2 true_test)) _ refl (simp lock_running)
     (replied_last _ refl (simp lock_running)))))
 
 -- nothing is released before all is evaluated, and a timeout is no number
 nothing_released_before : AreReplied (opening empty) ((1, codes "L ^X") ∷ (1, codes "L ^Y(1/0)") ∷ (1, codes "L ^Y:1/0") ∷ (2, codes "L +^X:0 W $T") ∷ (1, codes "L +^Y:\"1E30\" W $T") ∷ []) (done [] ∷ failed [] M9 ∷ failed [] M9 ∷ done (codes "0") ∷ done (codes "1") ∷ [])
 unfolding runs
 nothing_released_before =
-    replied_first (server (insert empty (held 1 (hers (codes "X") [])) 1) one_session) _ refl (simp lock_running)
-    (replied_first (server (insert empty (held 1 (hers (codes "X") [])) 1) one_session) _ refl (simp lock_running)
-    (replied_first (server (insert empty (held 1 (hers (codes "X") [])) 1) one_session) _ refl (simp lock_running)
-    (replied_first (server (insert empty (held 1 (hers (codes "X") [])) 1) (insert one_session 2 no_test)) _ refl (simp lock_running)
+    replied_first (world (insert empty (held 1 (hers (codes "X") [])) 1) one_session) _ refl (simp lock_running)
+    (replied_first (world (insert empty (held 1 (hers (codes "X") [])) 1) one_session) _ refl (simp lock_running)
+    (replied_first (world (insert empty (held 1 (hers (codes "X") [])) 1) one_session) _ refl (simp lock_running)
+    (replied_first (world (insert empty (held 1 (hers (codes "X") [])) 1) (insert one_session 2 no_test)) _ refl (simp lock_running)
     (replied_last _ refl (simp lock_running)))))
 
 -- a name that stands twice in a list counts twice, and each argument without a sign releases
 list_counts_twice : AreReplied (opening empty) ((1, codes "L +(^X,^X) L -^X") ∷ (2, codes "L +^X:0 W $T") ∷ (1, codes "L -(^X,^X):0 W $T") ∷ (2, codes "L +^X:0 W $T") ∷ (1, codes "L ^Y,^Z") ∷ (2, codes "L +^Y:0 W $T") ∷ []) (done [] ∷ done (codes "0") ∷ done (codes "1") ∷ done (codes "1") ∷ done [] ∷ done (codes "1") ∷ [])
 unfolding runs
 list_counts_twice =
-    replied_first (server (insert empty (held 1 (hers (codes "X") [])) 1) one_session) _ refl (simp lock_running)
-    (replied_first (server (insert empty (held 1 (hers (codes "X") [])) 1) (insert one_session 2 no_test)) _ refl (simp lock_running)
-    (replied_first (server empty (insert (insert one_session 2 no_test) 1 true_test)) _ refl (simp lock_running)
-    (replied_first (server (insert empty (held 2 (hers (codes "X") [])) 1) (insert (insert (insert one_session 2 no_test) 1 true_test) 2 true_test)) _ refl (simp lock_running)
-    (replied_first (server (insert (insert empty (held 2 (hers (codes "X") [])) 1) (held 1 (hers (codes "Z") [])) 1) (insert (insert (insert (insert one_session 2 no_test) 1 true_test) 2 true_test) 1 true_test)) _ refl (simp lock_running)
+    replied_first (world (insert empty (held 1 (hers (codes "X") [])) 1) one_session) _ refl (simp lock_running)
+    (replied_first (world (insert empty (held 1 (hers (codes "X") [])) 1) (insert one_session 2 no_test)) _ refl (simp lock_running)
+    (replied_first (world empty (insert (insert one_session 2 no_test) 1 true_test)) _ refl (simp lock_running)
+    (replied_first (world (insert empty (held 2 (hers (codes "X") [])) 1) (insert (insert (insert one_session 2 no_test) 1 true_test) 2 true_test)) _ refl (simp lock_running)
+    (replied_first (world (insert (insert empty (held 2 (hers (codes "X") [])) 1) (held 1 (hers (codes "Z") [])) 1) (insert (insert (insert (insert one_session 2 no_test) 1 true_test) 2 true_test) 1 true_test)) _ refl (simp lock_running)
     (replied_last _ refl (simp lock_running))))))
 
 -- ---- names and arguments that a text gives
@@ -98,18 +98,18 @@ texts_read = search rules
 naked_locks : AreReplied (opening empty) ((1, codes "W 1 L +^(1)") ∷ (1, codes "W 1 L @\"^(1)\"") ∷ (1, codes "W 1 L +@\"^(1)\"") ∷ (1, codes "L +@\"^(1/0)\"") ∷ (1, codes "L +@\"^(1)\"@(1/0)") ∷ (1, codes "L +(@\"^(1)\",^X(1/0))") ∷ []) (failed [] Zsyntax ∷ failed (codes "1") Zsyntax ∷ failed (codes "1") Zsyntax ∷ failed [] M9 ∷ failed [] M9 ∷ failed [] Zsyntax ∷ [])
 unfolding runs
 naked_locks =
-    replied_first (server empty one_session) _ refl (simp lock_running)
-    (replied_first (server empty one_session) _ refl (simp lock_running)
-    (replied_first (server empty one_session) _ refl (simp lock_running)
-    (replied_first (server empty one_session) _ refl (simp lock_running)
-    (replied_first (server empty one_session) _ refl (simp lock_running)
+    replied_first (world empty one_session) _ refl (simp lock_running)
+    (replied_first (world empty one_session) _ refl (simp lock_running)
+    (replied_first (world empty one_session) _ refl (simp lock_running)
+    (replied_first (world empty one_session) _ refl (simp lock_running)
+    (replied_first (world empty one_session) _ refl (simp lock_running)
     (replied_last _ refl (simp lock_running))))))
 
 -- a timeout behind it makes an operand a name
 locks_given : AreReplied (opening empty) ((1, codes "L @\"^X,^Y\":0") ∷ (1, codes "L @\"^X,+^Y:0\" W $T") ∷ []) (failed [] Zsyntax ∷ done (codes "1") ∷ [])
 unfolding runs
 locks_given =
-    replied_first (server empty one_session) _ refl (simp lock_running)
+    replied_first (world empty one_session) _ refl (simp lock_running)
     (replied_last _ refl (simp lock_running))
 
 -- ---- HALT
@@ -118,5 +118,5 @@ locks_given =
 output_before_halt : AreReplied (opening empty) ((1, codes "W 1 H  W 2") ∷ (1, codes "F I=1:1 W I H:I=2") ∷ []) (record { out = codes "1"; ending = Halted } ∷ record { out = codes "12"; ending = Halted } ∷ [])
 unfolding runs
 output_before_halt =
-    replied_first (server empty (remove empty 1)) _ refl (simp lock_running)
+    replied_first (world empty (remove empty 1)) _ refl (simp lock_running)
     (replied_last _ refl (simp lock_running))

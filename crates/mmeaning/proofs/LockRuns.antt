@@ -1,6 +1,6 @@
 -- SPDX-License-Identifier: Apache-2.0
 -- Lines of several terminals, one after another, and the maps of locks and sessions that they leave: for examples of LOCK and HALT.
-use Rattle.mmeaning.proofs.MeaningWords.{◌≡◌, ℕ, Bool, true, false, cond, List, [], ◌∷◌, Option, Some, None, refl, sym, ap, ◌∙◌, codes, not, map, eq_by_cmp, Plan, Ask, Take, Give_back, Release, perform, Ops, LineTree, line_at, Signal, Session, Server, Event, Reply, Halted, normal, replies}
+use Rattle.mmeaning.proofs.MeaningWords.{◌≡◌, ℕ, Bool, true, false, cond, List, [], ◌∷◌, Option, Some, None, refl, sym, ap, ◌∙◌, codes, not, map, eq_by_cmp, Plan, Ask, Take, Give_back, Release, perform, Ops, LineTree, line_at, Signal, Session, World, Event, Reply, Halted, normal, replies}
 use Rattle.std.specs.FinMap.{get, insert, empty, entries, remove, retain_keys, get-insert, get-remove, get-empty, entries-insert, same_map}
 use Rattle.std.specs.FinMap.Entries.{put}
 use Rattle.mspec.specs.LockConflict.{LockName, Locks, Held, held_cmp}
@@ -9,7 +9,7 @@ use Rattle.mspec.specs.Act.{Text, Outcome, no_locals}
 use Rattle.mspec.proofs.LockOrders.{held_cmp_total, held_cmp_exact}
 use Rattle.mspec.proofs.MapCuts.{equal_of, get_cut, cut_drops}
 use Rattle.mspec.proofs.ComputedMaps.{entries_none}
-use Rattle.mmeaning.specs.World.{World, act}
+use Rattle.mmeaning.specs.Shared.{Shared, act}
 use Rattle.mmeaning.specs.Expression.{Inside, inside}
 use Rattle.mmeaning.proofs.LineRuns.{shut_step, step_is_shut}
 
@@ -25,10 +25,10 @@ lending = record {
 }
 
 -- what she and he may do at their terminals, and a line of each
-abbrev pub hers : Ops World
+abbrev pub hers : Ops Shared
 hers = act lending 1 (codes "ALICE")
 
-abbrev pub his : Ops World
+abbrev pub his : Ops Shared
 his = act lending 3 (codes "BOB")
 
 abbrev pub her_line : Inside
@@ -40,24 +40,24 @@ his_line = inside (codes "BOB") 9 (record { levels = 0; indirections = 0 })
 abbrev pub line_of : ℕ × Text → Event
 line_of l = record { terminal = l.0; text = l.1 }
 
--- what lines are answered in a server
-pub record AreReplied (server : Server) (ls : List (ℕ × Text)) (rs : List Reply) : Type 0 where
-  pub answers : replies lending server (map line_of ls) ≡ rs
+-- what lines are answered in a world
+pub record AreReplied (world : World) (ls : List (ℕ × Text)) (rs : List Reply) : Type 0 where
+  pub answers : replies lending world (map line_of ls) ≡ rs
 
-line_is : (server : Server) (l : ℕ × Text) (tree : Option LineTree) → line_at l.1 ≡ tree → normal lending (line_of l) server ≡ shut_step lending (line_of l) tree server
-line_is server l tree e = step_is_shut lending (line_of l) server ∙ ap (λ t. shut_step lending (line_of l) t server) e
+line_is : (world : World) (l : ℕ × Text) (tree : Option LineTree) → line_at l.1 ≡ tree → normal lending (line_of l) world ≡ shut_step lending (line_of l) tree world
+line_is world l tree e = step_is_shut lending (line_of l) world ∙ ap (λ t. shut_step lending (line_of l) t world) e
 
-pub replied_last : {server : Server} {l : ℕ × Text} {r : Reply} (tree : Option LineTree) → line_at l.1 ≡ tree → (shut_step lending (line_of l) tree server).0 ≡ r → AreReplied server (l ∷ []) (r ∷ [])
-replied_last {server = server} {l = l} tree e run = record {
-  answers = ap (λ (x : Reply × Server). x.0 ∷ []) (line_is server l tree e) ∙ ap (λ (r : Reply). r ∷ []) run;
+pub replied_last : {world : World} {l : ℕ × Text} {r : Reply} (tree : Option LineTree) → line_at l.1 ≡ tree → (shut_step lending (line_of l) tree world).0 ≡ r → AreReplied world (l ∷ []) (r ∷ [])
+replied_last {world = world} {l = l} tree e run = record {
+  answers = ap (λ (x : Reply × World). x.0 ∷ []) (line_is world l tree e) ∙ ap (λ (r : Reply). r ∷ []) run;
 }
 
--- a line, and then those behind it in the server that it leaves
-pub replied_first : {server : Server} {l : ℕ × Text} {r : Reply} {ls : List (ℕ × Text)} {rs : List Reply} (after : Server) (tree : Option LineTree)
-    → line_at l.1 ≡ tree → shut_step lending (line_of l) tree server ≡ (r, after) → AreReplied after ls rs → AreReplied server (l ∷ ls) (r ∷ rs)
-replied_first {server = server} {l = l} {r = r} {ls = ls} after tree e first rest = record {
+-- a line, and then those behind it in the world that it leaves
+pub replied_first : {world : World} {l : ℕ × Text} {r : Reply} {ls : List (ℕ × Text)} {rs : List Reply} (after : World) (tree : Option LineTree)
+    → line_at l.1 ≡ tree → shut_step lending (line_of l) tree world ≡ (r, after) → AreReplied after ls rs → AreReplied world (l ∷ ls) (r ∷ rs)
+replied_first {world = world} {l = l} {r = r} {ls = ls} after tree e first rest = record {
   answers =
-      ap (λ (x : Reply × Server). x.0 ∷ replies lending x.1 (map line_of ls)) (line_is server l tree e ∙ first)
+      ap (λ (x : Reply × World). x.0 ∷ replies lending x.1 (map line_of ls)) (line_is world l tree e ∙ first)
       ∙ ap (λ (rs : List Reply). r ∷ rs) rest.answers;
 }
 
@@ -71,7 +71,7 @@ halted = record { out = []; ending = Halted }
 
 -- ---- what is asked of locks, an operation at a time
 
-module _ (settings : Settings) (terminal : ℕ) (me : Text) (w : World) where
+module _ (settings : Settings) (terminal : ℕ) (me : Text) (w : Shared) where
   pub takes : (ns : List LockName) (k : Bool → Plan (Outcome Signal)) → perform (act settings terminal me) (Ask (Take ns) k) w ≡ perform (act settings terminal me) (k (act settings terminal me (Take ns) w).0) (act settings terminal me (Take ns) w).1
   takes ns k = refl
 

@@ -8,7 +8,7 @@ use Rattle.mgrammar.specs.Grammar.{ExprTree, divide, number, text, ReferenceTree
 use Rattle.mgrammar.proofs.Computing.{reads}
 use Rattle.mmeaning.specs.Expression.{finds}
 use Rattle.mmeaning.specs.Locking.{locking}
-use Rattle.mmeaning.specs.World.{World}
+use Rattle.mmeaning.specs.Shared.{Shared}
 use Rattle.mmeaning.proofs.LineTrees.{only, with_operator}
 use Rattle.mmeaning.proofs.LockRuns.{hers, his, her_line, his_line}
 use Rattle.mspec.proofs.ComputedNumbers.{computes}
@@ -40,7 +40,7 @@ her_y = record { account = codes "ALICE"; name = codes "Y"; subscripts = codes "
 abbrev error : ExprTree
 error = with_operator (number (codes "1")) divide (number (codes "0"))
 
-module _ (w : World) (naked : Option Node) (test : Bool) (out : Text) (locals : Locals) (steps : ℕ) where
+module _ (w : Shared) (naked : Option Node) (test : Bool) (out : Text) (locals : Locals) (steps : ℕ) where
   abbrev state : Bool → ℕ → State
   state b n = record { locals = locals; naked = naked; test = b; out = out; steps = n }
 

@@ -22,7 +22,7 @@ shown_by (Gives signal s) = (s.out, None)
 shown_by (Fails code s) = (s.out, Some code)
 
 abbrev shown : Text → Text × Option Code
-shown t = shown_by (perform (act alice 1 account.name) (text_run account.name (line_at t) (begun account new_session)) (opening empty).world).0
+shown t = shown_by (perform (act alice 1 account.name) (text_run account.name (line_at t) (begun account new_session)) (opening empty).shared).0
 
 abbrev Rows : Type 0
 Rows = List (Text × (Text × Option Code))

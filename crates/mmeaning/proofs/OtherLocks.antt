@@ -8,22 +8,22 @@ use Rattle.mspec.specs.Act.{Text, Outcome}
 use Rattle.mspec.proofs.LockFacts.{others_keep_locks}
 use Rattle.mspec.proofs.Plans.{keeps, keeps_short}
 use Rattle.mmeaning.specs.Step.{Settings}
-use Rattle.mmeaning.specs.World.{World, act, guarded, may_read, may_write, may_lock, took}
+use Rattle.mmeaning.specs.Shared.{Shared, act, guarded, may_read, may_write, may_lock, took}
 use Rattle.mmeaning.specs.StepLaws.{PlanKeepsOthersLocks}
 
 module _ (settings : Settings) (terminal : ℕ) (me : Text) where
-  abbrev IsKept : World → World → Type 0
+  abbrev IsKept : Shared → Shared → Type 0
   IsKept w v = released v.locks terminal ≡ released w.locks terminal
 
-  by_guard : {A : Type 0} (b : Bool) (a : A) (w : World) (r : A × World) → IsKept w r.1 → IsKept w (guarded b a w r).1
+  by_guard : {A : Type 0} (b : Bool) (a : A) (w : Shared) (r : A × Shared) → IsKept w r.1 → IsKept w (guarded b a w r).1
   by_guard true a w r h = h
   by_guard false a w r h = refl
 
-  by_take : (names : List LockName) (w : World) (o : Option Locks) → taken w.locks terminal names ≡ o → IsKept w (took w o).1
+  by_take : (names : List LockName) (w : Shared) (o : Option Locks) → taken w.locks terminal names ≡ o → IsKept w (took w o).1
   by_take names w None e = refl
   by_take names w (Some locks) e = let law : laws.OthersKeepLocks w.locks terminal = others_keep_locks w.locks terminal in law.taken names locks e
 
-  by_operation : (op : Op) (w : World) → IsKept w (act settings terminal me op w).1
+  by_operation : (op : Op) (w : Shared) → IsKept w (act settings terminal me op w).1
   by_operation (May owner name mode) w = refl
   by_operation (Value n) w = by_guard (may_read settings me n) _ w _ refl
   by_operation (Status n) w = by_guard (may_read settings me n) _ w _ refl
@@ -35,7 +35,7 @@ module _ (settings : Settings) (terminal : ℕ) (me : Text) where
   by_operation (Give_back n) w = let law : laws.OthersKeepLocks w.locks terminal = others_keep_locks w.locks terminal in law.given_back n
   by_operation Release w = let law : laws.OthersKeepLocks w.locks terminal = others_keep_locks w.locks terminal in law.released
 
-  pub others_kept : (p : Plan (Outcome Signal)) (w : World) → PlanKeepsOthersLocks settings terminal me p w
+  pub others_kept : (p : Plan (Outcome Signal)) (w : Shared) → PlanKeepsOthersLocks settings terminal me p w
   others_kept p w = record {
     whole = keeps (IsKept w) (act settings terminal me) (λ op v h. by_operation op v ∙ h) p w refl;
     short = λ n. keeps_short (IsKept w) (act settings terminal me) (λ op v h. by_operation op v ∙ h) n p w refl;

@@ -1,11 +1,11 @@
 -- SPDX-License-Identifier: Apache-2.0
--- Lines that lead to routines: for examples in a server whose store has a routine of ALICE.
+-- Lines that lead to routines: for examples in a world whose store has a routine of ALICE.
 use Rattle.mmeaning.proofs.MeaningWords.{◌≡◌, ℕ, Bool, false, List, [], None, refl, ap, codes, empty, insert, Locks, May, Put, Kill, Routine, Plan, Ask, perform, Signal, opening}
 use Rattle.mspec.specs.Globals.{Globals, lines_of}
 use Rattle.mspec.specs.Access.{Mode, may}
 use Rattle.mspec.specs.Act.{Text, Node, Outcome, no_locals, assigned_to}
-use Rattle.mmeaning.specs.World.{act}
-use Rattle.mmeaning.specs.Step.{Settings, World, Session, Server, Reply}
+use Rattle.mmeaning.specs.Shared.{act}
+use Rattle.mmeaning.specs.Step.{Settings, Shared, Session, World, Reply}
 use Rattle.mmeaning.proofs.Calls.{assoc_plan}
 use Rattle.mmeaning.proofs.LineRuns.{opened, text_opened, list_opened, name_found, AreAnswered, Cases, AreAnsweredEach}
 use Rattle.mmeaning.proofs.ExampleAccount.{with_steps, account}
@@ -21,7 +21,7 @@ unfolding lines_in
 asked g name lines h locks settings terminal k = ap (λ xs. perform (act settings terminal (codes "ALICE")) (k xs) (record { globals = g; locks = locks })) h
 
 -- what is asked and what is written otherwise, an operation at a time
-module _ (settings : Settings) (terminal : ℕ) (me : Text) (w : World) where
+module _ (settings : Settings) (terminal : ℕ) (me : Text) (w : Shared) where
   pub told : (owner name : Text) (mode : Mode) (k : Bool → Plan (Outcome Signal)) → perform (act settings terminal me) (Ask (May owner name mode) k) w ≡ perform (act settings terminal me) (k (may settings me owner name mode)) w
   told owner name mode k = refl
 
@@ -33,12 +33,12 @@ module _ (settings : Settings) (terminal : ℕ) (me : Text) (w : World) where
 
 pub ruleset computed_operations = (told, put, killed)
 
--- a server with this store, in which terminal 1 has a session
-abbrev pub serving_in : Globals → Session → Server
-serving_in g s = record { world = (opening g).world; sessions = insert empty 1 s }
+-- a world with this store, in which terminal 1 has a session
+abbrev pub serving_in : Globals → Session → World
+serving_in g s = record { shared = (opening g).shared; sessions = insert empty 1 s }
 
 -- where it holds one text, at a variable's name
-abbrev pub holding_in : Globals → Text → Text → Server
+abbrev pub holding_in : Globals → Text → Text → World
 holding_in g name x = serving_in g (record { locals = assigned_to no_locals name [] x; naked = None; test = false })
 
 -- A level stands deep within plans one behind another, where `simp` doesn't look: it brings what is done next to the front.

@@ -7,7 +7,7 @@ use Rattle.std.specs.Prelude.{◌≡◌, ◌≤◌, ℕ, Bool, Option, Result, O
 use Rattle.mspec.specs.Code.{Fault, Own, Lost, Memory, Store}
 use Rattle.mspec.specs.Plan.{Ops, perform, cut_short}
 use Rattle.mspec.specs.Act.{Text, Node, Locals, State, Gives, Fails, Act}
-use Rattle.mmeaning.specs.Step.{Settings, World, act}
+use Rattle.mmeaning.specs.Step.{Settings, Shared, act}
 
 -- what stays the same while a line runs
 pub record Standing : Type 0 where
@@ -15,15 +15,15 @@ pub record Standing : Type 0 where
   pub terminal : ℕ
   pub account : Text
 
-abbrev pub ops_of : Standing → Ops World
+abbrev pub ops_of : Standing → Ops Shared
 ops_of b = act b.settings b.terminal b.account
 
 -- a session's state in a world
 abbrev pub Here : Type 0
-Here = State × World
+Here = State × Shared
 
 -- the same by its parts
-abbrev pub point : Locals → Option Node → Bool → Text → ℕ → World → Here
+abbrev pub point : Locals → Option Node → Bool → Text → ℕ → Shared → Here
 point locals naked test out steps w = (record { locals = locals; naked = naked; test = test; out = out; steps = steps }, w)
 
 abbrev pub Gave : {A : Type 0} → Standing → Act A → Here → A → Here → Type 0

@@ -7,7 +7,7 @@ pub mod Courses
 pub mod Locking
 pub mod Levels
 pub mod LineMeaning
-pub mod World
+pub mod Shared
 pub mod Step
 pub mod History
 pub mod StepLaws

@@ -14,7 +14,7 @@ use Rattle.mgrammar.specs.Grammar.{LineTree}
 use Rattle.mgrammar.specs.Reading.{line_at}
 use Rattle.mmeaning.specs.LineMeaning.{Signal, Go_on, Skips, Quits, Goes, Halts, run}
 pub use Rattle.mspec.specs.Access.{Account, Settings}
-pub use Rattle.mmeaning.specs.World.{World, act}
+pub use Rattle.mmeaning.specs.Shared.{Shared, act}
 
 -- what a terminal keeps from line to line; a new one has no locals, no naked indicator, and 0 as $TEST
 pub record Session : Type 0 where
@@ -29,8 +29,8 @@ abbrev pub session_or_new : Option Session → Session
 session_or_new None = new_session
 session_or_new (Some s) = s
 
-pub record Server : Type 0 where
-  pub world : World
+pub record World : Type 0 where
+  pub shared : Shared
   pub sessions : FinMap nat_cmp Session
 
 pub record Event : Type 0 where
@@ -83,22 +83,22 @@ state_of (Gives signal s) = s
 state_of (Fails code s) = s
 
 -- effects before an error stand, and so does the session; where the line halts, session and locks are gone
-abbrev pub settled : ℕ → Server → Ending → State → World → Server
-settled terminal server Finished s w = record { world = w; sessions = insert server.sessions terminal (kept s) }
-settled terminal server (Faulted fault) s w = record { world = w; sessions = insert server.sessions terminal (kept s) }
-settled terminal server Halted s w =
-    record { world = record w { locks = released w.locks terminal }; sessions = remove server.sessions terminal }
+abbrev pub settled : ℕ → World → Ending → State → Shared → World
+settled terminal world Finished s w = record { shared = w; sessions = insert world.sessions terminal (kept s) }
+settled terminal world (Faulted fault) s w = record { shared = w; sessions = insert world.sessions terminal (kept s) }
+settled terminal world Halted s w =
+    record { shared = record w { locks = released w.locks terminal }; sessions = remove world.sessions terminal }
 
-abbrev pub ended : ℕ → Server → Outcome Signal × World → Reply × Server
-ended terminal server r = (reply_of r.0, settled terminal server (reply_of r.0).ending (state_of r.0) r.1)
+abbrev pub ended : ℕ → World → Outcome Signal × Shared → Reply × World
+ended terminal world r = (reply_of r.0, settled terminal world (reply_of r.0).ending (state_of r.0) r.1)
 
-abbrev pub refused : Code → Server → Reply × Server
-refused code server = (record { out = []; ending = Faulted (Own code) }, server)
+abbrev pub refused : Code → World → Reply × World
+refused code world = (record { out = []; ending = Faulted (Own code) }, world)
 
 -- the run of a line that passed the checks before it; a session that it opens for a text without a tree is as new, so as none
-abbrev pub at_tree : Settings → Event → Server → Account → Reply × Server
-at_tree settings e server account =
-    ended e.terminal server (perform (act settings e.terminal account.name) (plan_of account (session_or_new (get server.sessions e.terminal)) (line_at e.text)) server.world)
+abbrev pub at_tree : Settings → Event → World → Account → Reply × World
+at_tree settings e world account =
+    ended e.terminal world (perform (act settings e.terminal account.name) (plan_of account (session_or_new (get world.sessions e.terminal)) (line_at e.text)) world.shared)
 
 abbrev pub is_too_long : Text → Bool
 is_too_long text = nat_lt line_limit (length text)
@@ -107,32 +107,32 @@ abbrev pub is_ascii : Text → Bool
 is_ascii text = list_all is_character text
 
 -- where the text is too long, or of ASCII
-abbrev pub checked : Bool → Bool → Settings → Event → Server → Account → Reply × Server
-checked true ascii settings e server account = refused Zline server
-checked false false settings e server account = refused Zchar server
-checked false true settings e server account = at_tree settings e server account
+abbrev pub checked : Bool → Bool → Settings → Event → World → Account → Reply × World
+checked true ascii settings e world account = refused Zline world
+checked false false settings e world account = refused Zchar world
+checked false true settings e world account = at_tree settings e world account
 
-abbrev pub at_account : Settings → Event → Server → Option Account → Reply × Server
-at_account settings e server None = refused Zterm server
-at_account settings e server (Some account) = checked (is_too_long e.text) (is_ascii e.text) settings e server account
+abbrev pub at_account : Settings → Event → World → Option Account → Reply × World
+at_account settings e world None = refused Zterm world
+at_account settings e world (Some account) = checked (is_too_long e.text) (is_ascii e.text) settings e world account
 
 -- a step that memory and the store suffice for: the checks in their order, and then the run
-abbrev pub normal : Settings → Event → Server → Reply × Server
-normal settings e server = at_account settings e server (get settings.terminals e.terminal)
+abbrev pub normal : Settings → Event → World → Reply × World
+normal settings e world = at_account settings e world (get settings.terminals e.terminal)
 
 -- A step that they do not suffice for. It comes behind the checks that take no memory; no output is replied, the terminal's
 -- session and its locks are gone, the globals are those of the line cut short, and all else is unchanged.
-pub record FailedStep (settings : Settings) (e : Event) (server after : Server) : Type 0 where
+pub record FailedStep (settings : Settings) (e : Event) (world after : World) : Type 0 where
   pub account : Account
   pub known : get settings.terminals e.terminal ≡ Some account
   pub short : is_too_long e.text ≡ false
   pub ascii : is_ascii e.text ≡ true
   pub operations : ℕ
   pub globals :
-      after.world.globals ≡
-      (cut_short (act settings e.terminal account.name) operations (plan_of account (session_or_new (get server.sessions e.terminal)) (line_at e.text)) server.world).globals
-  pub locks : after.world.locks ≡ released server.world.locks e.terminal
-  pub sessions : after.sessions ≡ remove server.sessions e.terminal
+      after.shared.globals ≡
+      (cut_short (act settings e.terminal account.name) operations (plan_of account (session_or_new (get world.sessions e.terminal)) (line_at e.text)) world.shared).globals
+  pub locks : after.shared.locks ≡ released world.shared.locks e.terminal
+  pub sessions : after.sessions ≡ remove world.sessions e.terminal
 
 -- memory or the store did not suffice
 abbrev pub is_lost : Fault → Bool
@@ -148,9 +148,9 @@ abbrev pub lost : Ending → Reply
 lost ending = record { out = []; ending = ending }
 
 -- a normal step, or a failed one where the reply says so
-abbrev pub StepBy : Bool → Settings → Event → Reply → Server → Server → Type 0
-StepBy false settings e reply server after = normal settings e server ≡ (reply, after)
-StepBy true settings e reply server after = (reply ≡ lost reply.ending) × FailedStep settings e server after
+abbrev pub StepBy : Bool → Settings → Event → Reply → World → World → Type 0
+StepBy false settings e reply world after = normal settings e world ≡ (reply, after)
+StepBy true settings e reply world after = (reply ≡ lost reply.ending) × FailedStep settings e world after
 
-abbrev pub Step : Settings → Event → Reply → Server → Server → Type 0
-Step settings e reply server after = StepBy (is_failure reply.ending) settings e reply server after
+abbrev pub Step : Settings → Event → Reply → World → World → Type 0
+Step settings e reply world after = StepBy (is_failure reply.ending) settings e reply world after

@@ -5,27 +5,27 @@ use Rattle.mspec.specs.Plan.{Plan, perform, cut_short}
 use Rattle.mspec.specs.LockConflict.{released}
 use Rattle.mspec.specs.Act.{Text, Outcome}
 use Rattle.mmeaning.specs.LineMeaning.{Signal}
-use Rattle.mmeaning.specs.World.{World, act}
-use Rattle.mmeaning.specs.Step.{Settings, Event, Reply, Server, normal, is_failure}
-use Rattle.mmeaning.specs.History.{History, replies, server_after, answered, NoneFailed}
+use Rattle.mmeaning.specs.Shared.{Shared, act}
+use Rattle.mmeaning.specs.Step.{Settings, Event, Reply, World, normal, is_failure}
+use Rattle.mmeaning.specs.History.{History, replies, world_after, answered, NoneFailed}
 
 -- a normal step is never answered as one that failed, so a reply says which of the two its step was
 abbrev pub NormalNeverFails : Type 0
-NormalNeverFails = (settings : Settings) (e : Event) (server : Server) → is_failure (normal settings e server).0.ending ≡ false
+NormalNeverFails = (settings : Settings) (e : Event) (world : World) → is_failure (normal settings e world).0.ending ≡ false
 
 -- what a line does changes no lock of another terminal, whole or cut short
-pub record PlanKeepsOthersLocks (settings : Settings) (terminal : ℕ) (me : Text) (p : Plan (Outcome Signal)) (w : World) : Type 0 where
+pub record PlanKeepsOthersLocks (settings : Settings) (terminal : ℕ) (me : Text) (p : Plan (Outcome Signal)) (w : Shared) : Type 0 where
   pub whole : released (perform (act settings terminal me) p w).1.locks terminal ≡ released w.locks terminal
   pub short : (n : ℕ) → released (cut_short (act settings terminal me) n p w).locks terminal ≡ released w.locks terminal
 
--- normal steps, one after another, are a history of any events from any server
+-- normal steps, one after another, are a history of any events from any world
 abbrev pub NormalStepsAreHistory : Type 0
 NormalStepsAreHistory =
-    (settings : Settings) (server : Server) (events : List Event) →
-    History settings server (answered settings server events) (server_after settings server events)
+    (settings : Settings) (world : World) (events : List Event) →
+    History settings world (answered settings world events) (world_after settings world events)
 
--- and where none of its steps failed, a history has their replies and leaves their server
+-- and where none of its steps failed, a history has their replies and leaves their world
 abbrev pub HistoryIsNormal : Type 0
 HistoryIsNormal =
-    (settings : Settings) (server after : Server) (es : List (Event × Reply)) → History settings server es after → NoneFailed es →
-    (map (λ e. e.1) es ≡ replies settings server (map (λ e. e.0) es)) × (after ≡ server_after settings server (map (λ e. e.0) es))
+    (settings : Settings) (world after : World) (es : List (Event × Reply)) → History settings world es after → NoneFailed es →
+    (map (λ e. e.1) es ≡ replies settings world (map (λ e. e.0) es)) × (after ≡ world_after settings world (map (λ e. e.0) es))

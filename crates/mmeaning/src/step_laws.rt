@@ -4,7 +4,7 @@ ghost use Rattle.std.specs.Prelude.{ℕ};
 ghost use Rattle.mspec.specs.Plan.{Plan};
 ghost use Rattle.mspec.specs.Act.{Text, Outcome};
 ghost use Rattle.mmeaning.specs.LineMeaning.{Signal};
-ghost use Rattle.mmeaning.specs.World.{World};
+ghost use Rattle.mmeaning.specs.Shared.{Shared};
 ghost use Rattle.mmeaning.specs.Step.{Settings};
 ghost use Rattle.mmeaning.specs.StepLaws.{NormalNeverFails, PlanKeepsOthersLocks, NormalStepsAreHistory, HistoryIsNormal};
 
@@ -16,7 +16,7 @@ pub fn normal_never_fails()
 
 /// What a line does changes no lock of another terminal.
 pub fn others_kept()
-    ensures { (settings : Settings) (terminal : ℕ) (me : Text) (p : Plan (Outcome Signal)) (w : World) → PlanKeepsOthersLocks settings terminal me p w }
+    ensures { (settings : Settings) (terminal : ℕ) (me : Text) (p : Plan (Outcome Signal)) (w : Shared) → PlanKeepsOthersLocks settings terminal me p w }
 {}
 
 /// Normal steps are a history of any events, so there is one.
@@ -25,7 +25,7 @@ pub fn normal_steps_are_history()
     ensures { NormalStepsAreHistory }
 {}
 
-/// A history of which no step failed has the replies of the definitional interpreter, and leaves its server.
+/// A history of which no step failed has the replies of the definitional interpreter, and leaves its world.
 pub fn history_is_normal()
     ensures { HistoryIsNormal }
 {}

@@ -6,7 +6,7 @@ use Rattle.std.proofs.KnownBytes.{Appends-nil, Appends-trans, Consumes-nil, Cons
 use Rattle.std.specs.Str.Lines.{lines_of_parts, strip_carriage_return}
 use Rattle.std.specs.Io.KnownBytes.{Keeps, Consumes, IsAtEnd}
 use Rattle.mspec.specs.Act.{Text}
-use Rattle.mmeaning.specs.Step.{Settings, Server}
+use Rattle.mmeaning.specs.Step.{Settings, World}
 use Rattle.mstore.specs.declared.store.NodeStore.{Ghosts}
 use Rattle.mwire.specs.Wire.{fate_of}
 use Rattle.mwire.specs.Answers.{LinesAnswered, LineAnswered, Breaks}
@@ -18,18 +18,18 @@ use Rattle.mwire.proofs.Cuts.{fate_of-kept_end, lines-cut, finished_lines-cut, l
 use Rattle.mwire.proofs.LineAnswers.{LineAnswered-same, EachAnswered-more, LinesAnswered-each}
 use Rattle.mwire.proofs.Progresses.{Stands-start}
 
-LineAnswered-kept_end : {S : Type 0} (g : Ghosts S) (settings : Settings) (old : Server) (kept rest answer : Text) (new : Server)
+LineAnswered-kept_end : {S : Type 0} (g : Ghosts S) (settings : Settings) (old : World) (kept rest answer : Text) (new : World)
     → kept ≡ take 262 rest → LineAnswered g settings old kept answer new → LineAnswered g settings old rest answer new
 LineAnswered-kept_end g settings old kept rest answer new e t =
     LineAnswered-same g settings old kept rest answer new (ap fate_of e ∙ fate_of-kept_end 262 rest (omega arith)) t
 
 -- ---- how far `serve` has come
 
-pub HasServed-start : {S : Type 0} (g : Ghosts S) (settings : Settings) (first : Server) (left held : Option Text) → HasServed g settings first first left left held held []
+pub HasServed-start : {S : Type 0} (g : Ghosts S) (settings : Settings) (first : World) (left held : Option Text) → HasServed g settings first first left left held held []
 HasServed-start g settings first left held = record { read = []; sent = []; consumed = Consumes-nil left; appended = Appends-nil held; stands = Stands-start g settings first }
 
 -- a read that failed
-pub HasServed-kept : {S : Type 0} (g : Ghosts S) (settings : Settings) (first now : Server) (left left' left'' held held' : Option Text) (kept : Text)
+pub HasServed-kept : {S : Type 0} (g : Ghosts S) (settings : Settings) (first now : World) (left left' left'' held held' : Option Text) (kept : Text)
     → HasServed g settings first now left left' held held' kept → Keeps left' left'' → HasServed g settings first now left left'' held held' kept
 HasServed-kept g settings first now left left' left'' held held' kept h k = record {
   read = h.read;
@@ -40,7 +40,7 @@ HasServed-kept g settings first now left left' left'' held held' kept h k = reco
 }
 
 -- a piece that was taken whole
-pub HasServed-more : {S E : Type 0} (g : Ghosts S) (settings : Settings) (first now new : Server) (left left' left'' held held' held'' : Option Text) (kept kept' piece : Text) (u : Unit {0})
+pub HasServed-more : {S E : Type 0} (g : Ghosts S) (settings : Settings) (first now new : World) (left left' left'' held held' held'' : Option Text) (kept kept' piece : Text) (u : Unit {0})
     → HasServed g settings first now left left' held held' kept → Consumes left' left'' piece → TakesOn {E = E} g settings now kept piece new kept' held' held'' (Ok u)
     → HasServed g settings first new left left'' held held'' kept'
 HasServed-more g settings first now new left left' left'' held held' held'' kept kept' piece u h c p = record {
@@ -54,7 +54,7 @@ HasServed-more g settings first now new left left' left'' held held' held'' kept
 -- ---- how it ends
 
 -- no more is read
-pub Serves-read : {S : Type 0} (g : Ghosts S) (settings : Settings) (first now : Server) (left left' held held' : Option Text) (kept : Text)
+pub Serves-read : {S : Type 0} (g : Ghosts S) (settings : Settings) (first now : World) (left left' held held' : Option Text) (kept : Text)
     → HasServed g settings first now left left' held held' kept → Serves g settings first now left left' held held' (Err Read)
 Serves-read g settings first now left left' held held' kept h = record {
   read = h.read;
@@ -67,14 +67,14 @@ Serves-read g settings first now left left' held held' kept h = record {
       subst P (sym (finished_lines-cut h.read s.finished kept s.cut)) (LinesAnswered-each g settings first (map strip_carriage_return s.finished) h.sent now s.answered);
 }
 
-EachAnswered-end : {S : Type 0} (g : Ghosts S) (settings : Settings) (first : Server) (done : List Text) (rest : Text) (now : Server) (text : Text) (new : Server) (answer : Text)
+EachAnswered-end : {S : Type 0} (g : Ghosts S) (settings : Settings) (first : World) (done : List Text) (rest : Text) (now : World) (text : Text) (new : World) (answer : Text)
     → EachAnswered g settings first done text now → LineAnswered g settings now rest answer new → EachAnswered g settings first (done ++ lines_of_parts (rest ∷ [])) (text ++ answer) new
 EachAnswered-end g settings first done [] now text new answer h t =
-    let P : Text → Server → Type 0 = λ x m. EachAnswered g settings first done x m in
+    let P : Text → World → Type 0 = λ x m. EachAnswered g settings first done x m in
     rw (append-nil, t.by_fate.0, append-nil) (subst (P text) (sym t.by_fate.1) h)
 EachAnswered-end g settings first done (x ∷ xs) now text new answer h t = rw (last_part x xs) (EachAnswered-more g settings first done text now (x ∷ xs) answer new h t)
 
-Breaks-end : {S : Type 0} (g : Ghosts S) (settings : Settings) (first : Server) (done : List Text) (rest : Text) (now : Server) (text : Text) (new : Server) (answer part unsent : Text)
+Breaks-end : {S : Type 0} (g : Ghosts S) (settings : Settings) (first : World) (done : List Text) (rest : Text) (now : World) (text : Text) (new : World) (answer part unsent : Text)
     → (rest ≡ [] → ⊥) → EachAnswered g settings first done text now → LineAnswered g settings now rest answer new → answer ≡ part ++ unsent
     → Breaks g settings first (done ++ lines_of_parts (rest ∷ [])) (text ++ part) new
 Breaks-end g settings first done [] now text new answer part unsent ne h t e = absurd (ne refl)
@@ -94,7 +94,7 @@ Breaks-end g settings first done (x ∷ xs) now text new answer part unsent ne h
   sent = refl;
 }
 
-EndsBy-break : {S : Type 0} (g : Ghosts S) (settings : Settings) (old : Server) (left : Option Text) (read sent : Text) (new : Server) (e : WireFault)
+EndsBy-break : {S : Type 0} (g : Ghosts S) (settings : Settings) (old : World) (left : Option Text) (read sent : Text) (new : World) (e : WireFault)
     → e ≢ Read → BreaksOff g settings old left read sent new → EndsBy g settings old left read sent new e
 EndsBy-break g settings old left read sent new Read ne b = absurd (ne refl)
 EndsBy-break g settings old left read sent new Write ne b = b
@@ -108,7 +108,7 @@ Consumes-none a b c bs buf n e p q =
     subst P none (Consumes-trans a b c bs (take n buf) p q)
 
 -- the stream is at its end, and the unfinished last line is answered, if there is one
-serves_end : (X : WireFault → Type 0) {S : Type 0} (g : Ghosts S) (settings : Settings) (first now new : Server) (left left' held held' held'' : Option Text) (kept : Text) (result : Result (Unit {0}) WireFault)
+serves_end : (X : WireFault → Type 0) {S : Type 0} (g : Ghosts S) (settings : Settings) (first now new : World) (left left' held held' held'' : Option Text) (kept : Text) (result : Result (Unit {0}) WireFault)
     → HasServed g settings first now left left' held held' kept → IsAtEnd left'
     → LineSent g settings now kept new held' held'' (is_ok result) → (kept ≡ [] → result ≡ Ok tt) → IfErr result (λ e. (e ≢ Read) × X e)
     → Serves g settings first new left left' held held'' result
@@ -137,7 +137,7 @@ serves_end X g settings first now new left left' held held' held'' kept (Err e) 
       EndsBy-break g settings first left' h.read (h.sent ++ p.sent.part) new e f.0 (inr (z, rw (lines-cut h.read s.finished kept s.cut) breaks));
 }
 
-pub Serves-end : (X : WireFault → Type 0) {S : Type 0} (g : Ghosts S) (settings : Settings) (first now new : Server) (left left' left'' held held' held'' : Option Text) (kept line buf : Text) (n : ℕ) (result : Result (Unit {0}) WireFault)
+pub Serves-end : (X : WireFault → Type 0) {S : Type 0} (g : Ghosts S) (settings : Settings) (first now new : World) (left left' left'' held held' held'' : Option Text) (kept line buf : Text) (n : ℕ) (result : Result (Unit {0}) WireFault)
     → HasServed g settings first now left left' held held' kept → n ≡ 0 → Consumes left' left'' (take n buf) → IsAtEnd left'' → line ≡ kept
     → LineSent g settings now line new held' held'' (is_ok result) → (line ≡ [] → result ≡ Ok tt) → IfErr result (λ e. (e ≢ Read) × X e)
     → Serves g settings first new left left'' held held'' result
@@ -147,7 +147,7 @@ Serves-end X g settings first now new left left' left'' held held' held'' kept l
     serves_end X g settings first now new left left'' held held' held'' line result (subst P (sym same) at_end) z p idle f
 
 -- a line of a piece broke
-pub Serves-piece : {S : Type 0} (g : Ghosts S) (settings : Settings) (first now new : Server) (left left' left'' held held' held'' : Option Text) (kept kept' piece : Text) (e : WireFault)
+pub Serves-piece : {S : Type 0} (g : Ghosts S) (settings : Settings) (first now new : World) (left left' left'' held held' held'' : Option Text) (kept kept' piece : Text) (e : WireFault)
     → HasServed g settings first now left left' held held' kept → Consumes left' left'' piece → TakesOn g settings now kept piece new kept' held' held'' (Err e) → e ≢ Read
     → Serves g settings first new left left'' held held'' (Err e)
 Serves-piece g settings first now new left left' left'' held held' held'' kept kept' piece e h c p f = record {

@@ -3,7 +3,7 @@
 use Rattle.std.proofs.Common.{◌≡◌, ◌≢◌, ◌++◌, List, [], ◌∷◌, refl, sym, ◌∙◌, ap, subst, append_assoc, append-nil}
 use Rattle.std.specs.Prelude.{map}
 use Rattle.mspec.specs.Act.{Text}
-use Rattle.mmeaning.specs.Step.{Settings, Server, Event, Reply, Step}
+use Rattle.mmeaning.specs.Step.{Settings, World, Event, Reply, Step}
 use Rattle.mmeaning.specs.History.{History}
 use Rattle.mstore.specs.declared.store.NodeStore.{Ghosts}
 use Rattle.moperator.specs.declared.code.Code.TheVariants.{Zstore}
@@ -16,27 +16,27 @@ use Rattle.mwire.specs.Answers.{line_text, replies_behind, answer_text, LinesAns
 use Rattle.mwire.specs.Progress.{EachAnswered}
 use Rattle.mwire.proofs.StoreFaults.{store_sufficed}
 
-pub LineAnswered-at : {S : Type 0} (g : Ghosts S) (settings : Settings) (old : Server) (line answer : Text) (new : Server) (fate : Fate)
+pub LineAnswered-at : {S : Type 0} (g : Ghosts S) (settings : Settings) (old : World) (line answer : Text) (new : World) (fate : Fate)
     → fate_of line ≡ fate → FateAnswered g settings old fate answer new → LineAnswered g settings old line answer new
 LineAnswered-at g settings old line answer new fate e h =
     let P : Fate → Type 0 = λ f. FateAnswered g settings old f answer new in record { by_fate = subst P (sym e) h }
 
 -- a line that was run, and its reply
-pub replied : {S : Type 0} {g : Ghosts S} {settings : Settings} {old new : Server} {e : Event} (answer : Text) (reply : CodeReply)
+pub replied : {S : Type 0} {g : Ghosts S} {settings : Settings} {old new : World} {e : Event} (answer : Text) (reply : CodeReply)
     → answer ≡ reply_text e.terminal (reply_of reply) → (g.sound → Step settings e (reply_of reply) old new) → (g.steady → ◌≢◌ {A = Ended} reply.ending (Fault Zstore))
     → RunAnswered g settings old e answer new
 replied answer reply shown step steady = record { reply = reply_of reply; text = shown; step = step; steady = λ holds. store_sufficed reply.ending (steady holds) }
 
 -- lines of one fate are answered alike
-pub LineAnswered-same : {S : Type 0} (g : Ghosts S) (settings : Settings) (old : Server) (line line' answer : Text) (new : Server)
+pub LineAnswered-same : {S : Type 0} (g : Ghosts S) (settings : Settings) (old : World) (line line' answer : Text) (new : World)
     → fate_of line ≡ fate_of line' → LineAnswered g settings old line answer new → LineAnswered g settings old line' answer new
 LineAnswered-same g settings old line line' answer new e h = LineAnswered-at g settings old line' answer new (fate_of line) (sym e) h.by_fate
 
 -- a further line
-pub EachAnswered-more : {S : Type 0} (g : Ghosts S) (settings : Settings) (old : Server) (lines : List Text) (text : Text) (mid : Server) (line answer : Text) (new : Server)
+pub EachAnswered-more : {S : Type 0} (g : Ghosts S) (settings : Settings) (old : World) (lines : List Text) (text : Text) (mid : World) (line answer : Text) (new : World)
     → EachAnswered g settings old lines text mid → LineAnswered g settings mid line answer new → EachAnswered g settings old (lines ++ line ∷ []) (text ++ answer) new
 EachAnswered-more g settings old [] text mid line answer new h t =
-    let P : Server → Type 0 = λ m. LineAnswered g settings m line answer new in
+    let P : World → Type 0 = λ m. LineAnswered g settings m line answer new in
     (answer, new, [], subst P h.1 t, (refl, refl), rw h.0 (sym (append-nil answer)))
 EachAnswered-more g settings old (l ∷ ls) text mid line answer new h t =
     (h.0, h.1, h.2 ++ answer, h.3, EachAnswered-more g settings h.1 ls h.2 mid line answer new h.4 t, ap (λ x. x ++ answer) h.5 ∙ append_assoc h.0 h.2 answer)
@@ -46,10 +46,10 @@ EachAnswered-more g settings old (l ∷ ls) text mid line answer new h t =
 abbrev both_texts : List Text → Fate → List Reply → Text
 both_texts more fate replies = line_text fate replies ++ answer_text more (replies_behind fate replies)
 
-LinesAnswered-line : {S : Type 0} (g : Ghosts S) (settings : Settings) (old : Server) (line : Text) (more : List Text) (fate : Fate) (answer : Text) (mid : Server) (rest : Text) (new : Server)
+LinesAnswered-line : {S : Type 0} (g : Ghosts S) (settings : Settings) (old : World) (line : Text) (more : List Text) (fate : Fate) (answer : Text) (mid : World) (rest : Text) (new : World)
     → fate_of line ≡ fate → FateAnswered g settings old fate answer mid → LinesAnswered g settings mid more rest new → LinesAnswered g settings old (line ∷ more) (answer ++ rest) new
 LinesAnswered-line g settings old line more Ignored answer mid rest new e h a =
-    let P : Server → Type 0 = λ s. History settings s a.trace new in
+    let P : World → Type 0 = λ s. History settings s a.trace new in
     record {
       trace = a.trace;
       events = a.events ∙ ap (λ f. before_events f (events_of more)) (sym e);
@@ -58,7 +58,7 @@ LinesAnswered-line g settings old line more Ignored answer mid rest new e h a =
       steady = a.steady;
     }
 LinesAnswered-line g settings old line more TooLong answer mid rest new e h a =
-    let P : Server → Type 0 = λ s. History settings s a.trace new in
+    let P : World → Type 0 = λ s. History settings s a.trace new in
     record {
       trace = a.trace;
       events = a.events ∙ ap (λ f. before_events f (events_of more)) (sym e);
@@ -67,7 +67,7 @@ LinesAnswered-line g settings old line more TooLong answer mid rest new e h a =
       steady = a.steady;
     }
 LinesAnswered-line g settings old line more Unreadable answer mid rest new e h a =
-    let P : Server → Type 0 = λ s. History settings s a.trace new in
+    let P : World → Type 0 = λ s. History settings s a.trace new in
     record {
       trace = a.trace;
       events = a.events ∙ ap (λ f. before_events f (events_of more)) (sym e);
@@ -85,7 +85,7 @@ LinesAnswered-line g settings old line more (Runs event) answer mid rest new e h
   steady = λ steady. (h.steady steady, a.steady steady);
 }
 
-pub LinesAnswered-each : {S : Type 0} (g : Ghosts S) (settings : Settings) (old : Server) (lines : List Text) (text : Text) (new : Server) → EachAnswered g settings old lines text new → LinesAnswered g settings old lines text new
+pub LinesAnswered-each : {S : Type 0} (g : Ghosts S) (settings : Settings) (old : World) (lines : List Text) (text : Text) (new : World) → EachAnswered g settings old lines text new → LinesAnswered g settings old lines text new
 LinesAnswered-each g settings old [] text new h = record { trace = []; events = refl; text = h.0; history = λ sound. h.1; steady = λ steady. tt }
 LinesAnswered-each g settings old (line ∷ more) text new h =
     let P : Text → Type 0 = λ t. LinesAnswered g settings old (line ∷ more) t new in

@@ -6,7 +6,7 @@ use Rattle.std.proofs.KnownBytes.{Appends-nil, Appends-trans}
 use Rattle.std.specs.Str.Lines.{strip_carriage_return}
 use Rattle.std.proofs.lemmas.List.{take_more, map-append}
 use Rattle.mspec.specs.Act.{Text}
-use Rattle.mmeaning.specs.Step.{Settings, Server}
+use Rattle.mmeaning.specs.Step.{Settings, World}
 use Rattle.mstore.specs.declared.store.NodeStore.{Ghosts}
 use Rattle.mwire.specs.Wire.{fate_of, finished_lines}
 use Rattle.mwire.specs.Answers.{LineAnswered, Breaks}
@@ -15,17 +15,17 @@ use Rattle.mwire.proofs.Cuts.{fate_of-kept, IsCut-nil, IsCut-byte, IsCut-line, f
 use Rattle.mwire.proofs.LineAnswers.{LineAnswered-same, EachAnswered-more, LinesAnswered-each}
 
 -- where the stream begins
-pub Stands-start : {S : Type 0} (g : Ghosts S) (settings : Settings) (first : Server) → Stands g settings first [] first [] []
+pub Stands-start : {S : Type 0} (g : Ghosts S) (settings : Settings) (first : World) → Stands g settings first [] first [] []
 Stands-start g settings first = record { finished = []; cut = IsCut-nil; answered = (refl, refl) }
 
 -- what answers the front that is kept of a line answers the line
-LineAnswered-kept : {S : Type 0} (g : Ghosts S) (settings : Settings) (old : Server) (kept rest answer : Text) (new : Server)
+LineAnswered-kept : {S : Type 0} (g : Ghosts S) (settings : Settings) (old : World) (kept rest answer : Text) (new : World)
     → kept ≡ take 262 rest → LineAnswered g settings old (strip_carriage_return kept) answer new → LineAnswered g settings old (strip_carriage_return rest) answer new
 LineAnswered-kept g settings old kept rest answer new e t =
     LineAnswered-same g settings old _ _ answer new (ap (λ l. fate_of (strip_carriage_return l)) e ∙ fate_of-kept 262 rest (omega arith)) t
 
 -- a line's end, whose answer was sent
-pub Stands-line : {S : Type 0} (g : Ghosts S) (settings : Settings) (first : Server) (past : Text) (old : Server) (kept text : Text) (new : Server) (answer : Text)
+pub Stands-line : {S : Type 0} (g : Ghosts S) (settings : Settings) (first : World) (past : Text) (old : World) (kept text : Text) (new : World) (answer : Text)
     → Stands g settings first past old kept text → LineAnswered g settings old (strip_carriage_return kept) answer new → Stands g settings first (past ++ 10 ∷ []) new [] (text ++ answer)
 Stands-line g settings first past old kept text new answer s t = record {
   finished = s.finished ++ s.cut.rest ∷ [];
@@ -38,7 +38,7 @@ Stands-line g settings first past old kept text new answer s t = record {
 }
 
 -- a line's end, of whose answer a front was sent
-Breaks-line : {S : Type 0} (g : Ghosts S) (settings : Settings) (first : Server) (past : Text) (old : Server) (kept text : Text) (new : Server) (answer part unsent : Text)
+Breaks-line : {S : Type 0} (g : Ghosts S) (settings : Settings) (first : World) (past : Text) (old : World) (kept text : Text) (new : World) (answer part unsent : Text)
     → Stands g settings first past old kept text → LineAnswered g settings old (strip_carriage_return kept) answer new → answer ≡ part ++ unsent
     → (more : Text) → Breaks g settings first (finished_lines ((past ++ 10 ∷ []) ++ more)) (text ++ part) new
 Breaks-line g settings first past old kept text new answer part unsent s t e more = record {
@@ -58,7 +58,7 @@ Breaks-line g settings first past old kept text new answer part unsent s t e mor
 }
 
 -- a line feed
-pub TakesOn-line : {S E : Type 0} (g : Ghosts S) (settings : Settings) (old : Server) (kept line : Text) (byte : ℕ) (new : Server) (kept' : Text) (before after : Option Text) (result : Result (Unit {0}) E)
+pub TakesOn-line : {S E : Type 0} (g : Ghosts S) (settings : Settings) (old : World) (kept line : Text) (byte : ℕ) (new : World) (kept' : Text) (before after : Option Text) (result : Result (Unit {0}) E)
     → byte ≡ 10 → kept' ≡ [] → line ≡ strip_carriage_return kept → LineSent g settings old line new before after (is_ok result)
     → TakesOn g settings old kept (byte ∷ []) new kept' before after result
 TakesOn-line g settings old kept line byte new kept' before after (Ok u) eb ek el p = record {
@@ -79,7 +79,7 @@ TakesOn-line g settings old kept line byte new kept' before after (Err e) eb ek 
 }
 
 -- another byte
-pub TakesOn-byte : {S E : Type 0} (g : Ghosts S) (settings : Settings) (old : Server) (kept : Text) (byte : ℕ) (kept' : Text) (before : Option Text) (u : Unit {0})
+pub TakesOn-byte : {S E : Type 0} (g : Ghosts S) (settings : Settings) (old : World) (kept : Text) (byte : ℕ) (kept' : Text) (before : Option Text) (u : Unit {0})
     → (byte == 10) ≡ false → kept' ≡ take 262 (kept ++ byte ∷ [])
     → TakesOn {E = E} g settings old kept (byte ∷ []) old kept' before before (Ok u)
 TakesOn-byte g settings old kept byte kept' before u e k = record {
@@ -91,7 +91,7 @@ TakesOn-byte g settings old kept byte kept' before u e k = record {
       rw append-nil stands;
 }
 
-pub TakesOn-nil : {S E : Type 0} (g : Ghosts S) (settings : Settings) (old : Server) (kept : Text) (before : Option Text) (u : Unit {0})
+pub TakesOn-nil : {S E : Type 0} (g : Ghosts S) (settings : Settings) (old : World) (kept : Text) (before : Option Text) (u : Unit {0})
     → TakesOn {E = E} g settings old kept [] old kept before before (Ok u)
 TakesOn-nil g settings old kept before u = record {
   sent = [];
@@ -99,7 +99,7 @@ TakesOn-nil g settings old kept before u = record {
   outcome = λ first past text s. simp append-nil s;
 }
 
-TakesOn-then : {S E : Type 0} (g : Ghosts S) (settings : Settings) (a : Server) (ka xs : Text) (b : Server) (kb : Text) (wa wb : Option Text) (u : Unit {0}) (ys : Text) (c : Server) (kc : Text) (wc : Option Text) (result : Result (Unit {0}) E)
+TakesOn-then : {S E : Type 0} (g : Ghosts S) (settings : Settings) (a : World) (ka xs : Text) (b : World) (kb : Text) (wa wb : Option Text) (u : Unit {0}) (ys : Text) (c : World) (kc : Text) (wc : Option Text) (result : Result (Unit {0}) E)
     → TakesOn {E = E} g settings a ka xs b kb wa wb (Ok u) → TakesOn g settings b kb ys c kc wb wc result → TakesOn g settings a ka (xs ++ ys) c kc wa wc result
 TakesOn-then g settings a ka xs b kb wa wb u ys c kc wc (Ok v) p q = record {
   sent = p.sent ++ q.sent;
@@ -115,7 +115,7 @@ TakesOn-then g settings a ka xs b kb wa wb u ys c kc wc (Err e) p q = record {
 }
 
 -- a break stands, whatever is left unread
-TakesOn-cut : {S E : Type 0} (g : Ghosts S) (settings : Settings) (a : Server) (ka xs : Text) (b : Server) (kb : Text) (wa wb : Option Text) (e e' : E) (ys : Text)
+TakesOn-cut : {S E : Type 0} (g : Ghosts S) (settings : Settings) (a : World) (ka xs : Text) (b : World) (kb : Text) (wa wb : Option Text) (e e' : E) (ys : Text)
     → TakesOn g settings a ka xs b kb wa wb (Err e) → TakesOn g settings a ka (xs ++ ys) b kb wa wb (Err e')
 TakesOn-cut g settings a ka xs b kb wa wb e e' ys p = record {
   sent = p.sent;
@@ -126,24 +126,24 @@ TakesOn-cut g settings a ka xs b kb wa wb e e' ys p = record {
 }
 
 -- by settings that stayed the same
-pub TakesOn-under : {S E : Type 0} {g : Ghosts S} {settings settings' : Settings} {old new : Server} {kept bytes kept' : Text} {before after : Option Text} {result : Result (Unit {0}) E}
+pub TakesOn-under : {S E : Type 0} {g : Ghosts S} {settings settings' : Settings} {old new : World} {kept bytes kept' : Text} {before after : Option Text} {result : Result (Unit {0}) E}
     → settings' ≡ settings → TakesOn g settings' old kept bytes new kept' before after result → TakesOn g settings old kept bytes new kept' before after result
 TakesOn-under {g = g} {old = old} {new = new} {kept = kept} {bytes = bytes} {kept' = kept'} {before = before} {after = after} {result = result} same p =
     subst (λ (s : Settings). TakesOn g s old kept bytes new kept' before after result) same p
 
-pub LineSent-under : {S : Type 0} {g : Ghosts S} {settings settings' : Settings} {old new : Server} {line : Text} {before after : Option Text} {whole : Bool}
+pub LineSent-under : {S : Type 0} {g : Ghosts S} {settings settings' : Settings} {old new : World} {line : Text} {before after : Option Text} {whole : Bool}
     → settings' ≡ settings → LineSent g settings' old line new before after whole → LineSent g settings old line new before after whole
 LineSent-under {g = g} {old = old} {new = new} {line = line} {before = before} {after = after} {whole = whole} same p =
     subst (λ (s : Settings). LineSent g s old line new before after whole) same p
 
 -- one more byte of a piece
-pub TakesOn-more : {S E : Type 0} (g : Ghosts S) (settings : Settings) (a : Server) (ka piece : Text) (i : ℕ) (b : Server) (kb : Text) (wa wb : Option Text) (u : Unit {0}) (c : Server) (kc : Text) (wc : Option Text) (v : Unit {0})
+pub TakesOn-more : {S E : Type 0} (g : Ghosts S) (settings : Settings) (a : World) (ka piece : Text) (i : ℕ) (b : World) (kb : Text) (wa wb : Option Text) (u : Unit {0}) (c : World) (kc : Text) (wc : Option Text) (v : Unit {0})
     → i < length piece → TakesOn {E = E} g settings a ka (take i piece) b kb wa wb (Ok u) → TakesOn {E = E} g settings b kb (get_or piece i 0 ∷ []) c kc wb wc (Ok v) → TakesOn {E = E} g settings a ka (take (i + 1) piece) c kc wa wc (Ok v)
 TakesOn-more g settings a ka piece i b kb wa wb u c kc wc v lt p q =
     rw (take_more piece i 0 lt) (TakesOn-then g settings a ka (take i piece) b kb wa wb u (get_or piece i 0 ∷ []) c kc wc (Ok v) p q)
 
 -- a byte of a piece at which it breaks
-pub TakesOn-stop : {S E : Type 0} (g : Ghosts S) (settings : Settings) (a : Server) (ka piece : Text) (i : ℕ) (b : Server) (kb : Text) (wa wb : Option Text) (u : Unit {0}) (c : Server) (kc : Text) (wc : Option Text) (e e' : E)
+pub TakesOn-stop : {S E : Type 0} (g : Ghosts S) (settings : Settings) (a : World) (ka piece : Text) (i : ℕ) (b : World) (kb : Text) (wa wb : Option Text) (u : Unit {0}) (c : World) (kc : Text) (wc : Option Text) (e e' : E)
     → i < length piece → TakesOn {E = E} g settings a ka (take i piece) b kb wa wb (Ok u) → TakesOn {E = E} g settings b kb (get_or piece i 0 ∷ []) c kc wb wc (Err e) → TakesOn {E = E} g settings a ka piece c kc wa wc (Err e')
 TakesOn-stop {E = E} g settings a ka piece i b kb wa wb u c kc wc e e' lt p q =
     let r = TakesOn-then g settings a ka (take i piece) b kb wa wb u (get_or piece i 0 ∷ []) c kc wc (Err e) p q in

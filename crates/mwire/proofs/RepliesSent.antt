@@ -14,7 +14,7 @@ use Rattle.mmeaning.specs.Step.{Event}
 use Rattle.misolation.specs.Telling.{Told}
 use Rattle.mstore.specs.declared.store.NodeStore.{Ghosts}
 use Rattle.mworld.specs.declared.world.World.{World}
-use Rattle.mworld.specs.View.{settings_of, server_of}
+use Rattle.mworld.specs.View.{settings_of, world_of}
 use Rattle.mworld.specs.Isolated.{IsTold, IsEquallyTold, IsToldEach, RanFirst}
 use Rattle.mworld.proofs.Tellings.{take_on}
 use Rattle.mwire.specs.Wire.{events_of, reply_text}
@@ -81,10 +81,10 @@ module _ {S : Type 0} (g : Ghosts S) (old new : World S g) (account : ℕ) (left
       broke : (e : WireFault) → e ≢ Write → OnlyBroke g old account left' (events_of (lines read)) [] new e
       broke Read o = (refl, same)
       broke Write o = absurd (o refl)
-      broke Memory o = inl (refl, λ sound. record { count = 0; lines = []; sent = refl; history = ap (server_of g) same })
+      broke Memory o = inl (refl, λ sound. record { count = 0; lines = []; sent = refl; history = ap (world_of g) same })
 
   -- want of memory for what is told
-  pub untold : (g.sound → RanFirst (settings_of old) (server_of g old) (events_of (lines read)) (server_of g new)) → held' ≡ held → ServesOnly g old account left left' held held' (Err Memory) new
+  pub untold : (g.sound → RanFirst (settings_of old) (world_of g old) (events_of (lines read)) (world_of g new)) → held' ≡ held → ServesOnly g old account left left' held held' (Err Memory) new
   untold first kept = record {
     read = read;
     consumed = consumed;

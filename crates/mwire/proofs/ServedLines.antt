@@ -4,61 +4,61 @@ use Rattle.std.proofs.Common.{◌≡◌, ◌++◌, List, [], ◌∷◌, true, fa
 use Rattle.std.specs.Prelude.{map}
 use Rattle.std.specs.Str.Lines.{lines}
 use Rattle.mspec.specs.Act.{Text}
-use Rattle.mmeaning.specs.Step.{Settings, Server, Event, Reply, normal, is_failure}
-use Rattle.mmeaning.specs.History.{replies, server_after, answered, opening}
+use Rattle.mmeaning.specs.Step.{Settings, World, Event, Reply, normal, is_failure}
+use Rattle.mmeaning.specs.History.{replies, world_after, answered, opening}
 use Rattle.mmeaning.proofs.Histories.{normal_never_fails, normal_steps_are_history, history_is_normal}
 use Rattle.mstore.specs.declared.store.NodeStore.{Ghosts}
 use Rattle.mwire.specs.Wire.{Fate, Ignored, TooLong, Unreadable, Runs, fate_of, before_events, events_of, line_served, lines_served, reply_text, too_long_text, unreadable_text}
 use Rattle.mwire.specs.Answers.{StoreSufficed, StoreSufficedForEach, line_text, replies_behind, answer_text}
 use Rattle.mwire.specs.WireLaws.{NormalAnswersAreServed, NormalStreamsAreServed, LinesHaveAnswers}
 
-line_is_served : (settings : Settings) (server : Server) (more : List Text) (fate : Fate)
-    → ((s : Server) → answer_text more (replies settings s (events_of more)) ≡ lines_served settings s more)
-    → line_text fate (replies settings server (before_events fate (events_of more))) ++ answer_text more (replies_behind fate (replies settings server (before_events fate (events_of more))))
-    ≡ (line_served settings server fate).0 ++ lines_served settings (line_served settings server fate).1 more
-line_is_served settings server more Ignored rest = rest server
-line_is_served settings server more TooLong rest = ap (λ t. too_long_text ++ t) (rest server)
-line_is_served settings server more Unreadable rest = ap (λ t. unreadable_text ++ t) (rest server)
-line_is_served settings server more (Runs e) rest = ap (λ t. reply_text e.terminal (normal settings e server).0 ++ t) (rest (normal settings e server).1)
+line_is_served : (settings : Settings) (world : World) (more : List Text) (fate : Fate)
+    → ((s : World) → answer_text more (replies settings s (events_of more)) ≡ lines_served settings s more)
+    → line_text fate (replies settings world (before_events fate (events_of more))) ++ answer_text more (replies_behind fate (replies settings world (before_events fate (events_of more))))
+    ≡ (line_served settings world fate).0 ++ lines_served settings (line_served settings world fate).1 more
+line_is_served settings world more Ignored rest = rest world
+line_is_served settings world more TooLong rest = ap (λ t. too_long_text ++ t) (rest world)
+line_is_served settings world more Unreadable rest = ap (λ t. unreadable_text ++ t) (rest world)
+line_is_served settings world more (Runs e) rest = ap (λ t. reply_text e.terminal (normal settings e world).0 ++ t) (rest (normal settings e world).1)
 
 -- the replies of normal steps make the bytes of the definitional interpreter
-lines_are_served : (settings : Settings) (server : Server) (all : List Text) → answer_text all (replies settings server (events_of all)) ≡ lines_served settings server all
-lines_are_served settings server [] = refl
-lines_are_served settings server (line ∷ more) = line_is_served settings server more (fate_of line) (λ s. lines_are_served settings s more)
+lines_are_served : (settings : Settings) (world : World) (all : List Text) → answer_text all (replies settings world (events_of all)) ≡ lines_served settings world all
+lines_are_served settings world [] = refl
+lines_are_served settings world (line ∷ more) = line_is_served settings world more (fate_of line) (λ s. lines_are_served settings s more)
 
 pub normal_answers_are_served : {S : Type 0} {g : Ghosts S} → g.sound → NormalAnswersAreServed g
-normal_answers_are_served sound settings server after all bytes answers none =
-    let normal_history = history_is_normal settings server after answers.trace (answers.history sound) none in (
+normal_answers_are_served sound settings world after all bytes answers none =
+    let normal_history = history_is_normal settings world after answers.trace (answers.history sound) none in (
       answers.text
-          ∙ (ap (answer_text all) (normal_history.0 ∙ ap (replies settings server) answers.events) ∙ lines_are_served settings server all),
-      normal_history.1 ∙ ap (server_after settings server) answers.events,
+          ∙ (ap (answer_text all) (normal_history.0 ∙ ap (replies settings world) answers.events) ∙ lines_are_served settings world all),
+      normal_history.1 ∙ ap (world_after settings world) answers.events,
     )
 
 pub normal_streams_are_served : {S : Type 0} {g : Ghosts S} → g.sound → NormalStreamsAreServed g
 normal_streams_are_served sound settings globals after stream bytes answers none = (normal_answers_are_served sound settings (opening globals) after (lines stream) bytes answers none).0
 
-events_of_answered : (settings : Settings) (server : Server) (es : List Event) → map (λ e. e.0) (answered settings server es) ≡ es
-events_of_answered settings server [] = refl
-events_of_answered settings server (e ∷ es) = ap (λ xs. e ∷ xs) (events_of_answered settings (normal settings e server).1 es)
+events_of_answered : (settings : Settings) (world : World) (es : List Event) → map (λ e. e.0) (answered settings world es) ≡ es
+events_of_answered settings world [] = refl
+events_of_answered settings world (e ∷ es) = ap (λ xs. e ∷ xs) (events_of_answered settings (normal settings e world).1 es)
 
-replies_of_answered : (settings : Settings) (server : Server) (es : List Event) → map (λ e. e.1) (answered settings server es) ≡ replies settings server es
-replies_of_answered settings server [] = refl
-replies_of_answered settings server (e ∷ es) = ap (λ xs. (normal settings e server).0 ∷ xs) (replies_of_answered settings (normal settings e server).1 es)
+replies_of_answered : (settings : Settings) (world : World) (es : List Event) → map (λ e. e.1) (answered settings world es) ≡ replies settings world es
+replies_of_answered settings world [] = refl
+replies_of_answered settings world (e ∷ es) = ap (λ xs. (normal settings e world).0 ∷ xs) (replies_of_answered settings (normal settings e world).1 es)
 
 -- a reply that is no failure does not tell of the store's
 sufficed_by : (reply : Reply) → is_failure reply.ending ≡ false → StoreSufficed reply
 sufficed_by reply fine told = let lost : true ≡ false = sym (ap is_failure told) ∙ fine in cc
 
-store_sufficed : (settings : Settings) (server : Server) (es : List Event) → StoreSufficedForEach (answered settings server es)
-store_sufficed settings server [] = tt
-store_sufficed settings server (e ∷ es) =
-    (sufficed_by (normal settings e server).0 (normal_never_fails settings e server), store_sufficed settings (normal settings e server).1 es)
+store_sufficed : (settings : Settings) (world : World) (es : List Event) → StoreSufficedForEach (answered settings world es)
+store_sufficed settings world [] = tt
+store_sufficed settings world (e ∷ es) =
+    (sufficed_by (normal settings e world).0 (normal_never_fails settings e world), store_sufficed settings (normal settings e world).1 es)
 
 pub lines_have_answers : {S : Type 0} {g : Ghosts S} → LinesHaveAnswers g
-lines_have_answers settings server all = record {
-  trace = answered settings server (events_of all);
-  events = events_of_answered settings server (events_of all);
-  text = sym (lines_are_served settings server all) ∙ ap (answer_text all) (sym (replies_of_answered settings server (events_of all)));
-  history = λ sound. normal_steps_are_history settings server (events_of all);
-  steady = λ steady. store_sufficed settings server (events_of all);
+lines_have_answers settings world all = record {
+  trace = answered settings world (events_of all);
+  events = events_of_answered settings world (events_of all);
+  text = sym (lines_are_served settings world all) ∙ ap (answer_text all) (sym (replies_of_answered settings world (events_of all)));
+  history = λ sound. normal_steps_are_history settings world (events_of all);
+  steady = λ steady. store_sufficed settings world (events_of all);
 }

@@ -6,7 +6,7 @@ use Rattle.std.specs.List.{All}
 use Rattle.std.proofs.lemmas.List.{append_assoc, append-nil, length-append, map-append}
 use Rattle.std.proofs.lemmas.List.Elements.{All-append, All-cons, All-nil}
 use Rattle.mspec.specs.Act.{Text}
-use Rattle.mmeaning.specs.Step.{Settings, Server}
+use Rattle.mmeaning.specs.Step.{Settings, World}
 use Rattle.mstore.specs.declared.store.NodeStore.{Ghosts}
 use Rattle.mwire.specs.Serves.{Serves}
 use Rattle.mwire.specs.Connections.{Visit, AreServed, AreOfPeers, HasServedEach, ServesEach}
@@ -27,37 +27,37 @@ of_peers_on vs ws waiting waiting' waiting'' answered answered' answered'' p q =
 }
 
 module _ {S : Type 0} (g : Ghosts S) (settings : Settings) where
-  served_on : (vs ws : List Visit) (server between after : Server) → AreServed g settings vs server between → AreServed g settings ws between after → AreServed g settings (vs ++ ws) server after
-  served_on [] ws server between after s t = subst (λ (from : Server). AreServed g settings ws from after) s t
-  served_on (v ∷ vs) ws server between after s t = (s.0, s.1, served_on vs ws s.0 between after s.2 t)
+  served_on : (vs ws : List Visit) (world between after : World) → AreServed g settings vs world between → AreServed g settings ws between after → AreServed g settings (vs ++ ws) world after
+  served_on [] ws world between after s t = subst (λ (from : World). AreServed g settings ws from after) s t
+  served_on (v ∷ vs) ws world between after s t = (s.0, s.1, served_on vs ws s.0 between after s.2 t)
 
   module _ (tells : Type 0) where
     -- no connection yet
-    pub each_start : (server : Server) (waiting answered : List Text) → HasServedEach g settings 0 server server tells waiting waiting answered answered
-    each_start server waiting answered = record {
+    pub each_start : (world : World) (waiting answered : List Text) → HasServedEach g settings 0 world world tells waiting waiting answered answered
+    each_start world waiting answered = record {
       visits = [];
       many = refl;
       served = refl;
       of_peers = λ t. record { came = refl; fresh = All-nil (λ (v : Visit). v.held ≡ Some []); went = sym (append-nil (map Some answered)) };
     }
 
-    pub each_on : (n m : ℕ) (server between after : Server) (waiting waiting' waiting'' answered answered' answered'' : List Text)
-        → HasServedEach g settings n server between tells waiting waiting' answered answered' → HasServedEach g settings m between after tells waiting' waiting'' answered' answered''
-        → HasServedEach g settings (n + m) server after tells waiting waiting'' answered answered''
-    each_on n m server between after waiting waiting' waiting'' answered answered' answered'' h k = record {
+    pub each_on : (n m : ℕ) (world between after : World) (waiting waiting' waiting'' answered answered' answered'' : List Text)
+        → HasServedEach g settings n world between tells waiting waiting' answered answered' → HasServedEach g settings m between after tells waiting' waiting'' answered' answered''
+        → HasServedEach g settings (n + m) world after tells waiting waiting'' answered answered''
+    each_on n m world between after waiting waiting' waiting'' answered answered' answered'' h k = record {
       visits = h.visits ++ k.visits;
       many = length-append h.visits k.visits ∙ ap (λ (i : ℕ). i + length k.visits) h.many ∙ ap (λ (i : ℕ). n + i) k.many;
-      served = served_on h.visits k.visits server between after h.served k.served;
+      served = served_on h.visits k.visits world between after h.served k.served;
       of_peers = λ t. of_peers_on h.visits k.visits waiting waiting' waiting'' answered answered' answered'' (h.of_peers t) (k.of_peers t);
     }
 
     -- a connection that was accepted, served and closed
-    pub one_served : (server after : Server) (left left' held held' : Option Text) (result : Result (Unit {0}) WireFault) (waiting waiting' waiting'' answered answered' answered'' : List Text)
-        → Serves g settings server after left left' held held' result
+    pub one_served : (world after : World) (left left' held held' : Option Text) (result : Result (Unit {0}) WireFault) (waiting waiting' waiting'' answered answered' answered'' : List Text)
+        → Serves g settings world after left left' held held' result
         → (tells → map Some waiting ≡ left ∷ map Some waiting') → (tells → waiting'' ≡ waiting') → (tells → held ≡ Some [])
         → (tells → answered' ≡ answered) → (tells → map Some answered'' ≡ map Some answered' ++ held' ∷ [])
-        → HasServedEach g settings 1 server after tells waiting waiting'' answered answered''
-    one_served server after left left' held held' result waiting waiting' waiting'' answered answered' answered'' s came stays fresh kept went =
+        → HasServedEach g settings 1 world after tells waiting waiting'' answered answered''
+    one_served world after left left' held held' result waiting waiting' waiting'' answered answered' answered'' s came stays fresh kept went =
         let visit : Visit = record { left = left; left' = left'; held = held; held' = held'; result = result } in
         record {
           visits = visit ∷ [];
@@ -71,10 +71,10 @@ module _ {S : Type 0} (g : Ghosts S) (settings : Settings) where
         }
 
     -- none that could be accepted
-    pub none_served : (server : Server) (fault : AcceptFault) (waiting waiting' answered answered' : List Text)
+    pub none_served : (world : World) (fault : AcceptFault) (waiting waiting' answered answered' : List Text)
         → (tells → (waiting ≡ []) × (waiting' ≡ [])) → (tells → answered' ≡ answered)
-        → ServesEach g settings 1 server server tells waiting waiting' answered answered' (Err fault)
-    none_served server fault waiting waiting' answered answered' nobody kept = (
+        → ServesEach g settings 1 world world tells waiting waiting' answered answered' (Err fault)
+    none_served world fault waiting waiting' answered answered' nobody kept = (
       0,
       omega arith,
       λ t. (nobody t).1,

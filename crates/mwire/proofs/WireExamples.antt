@@ -15,7 +15,7 @@ use Rattle.mgrammar.specs.Commands.{keyword_of}
 use Rattle.mgrammar.specs.Functions.{function_of}
 use Rattle.mgrammar.specs.Reading.{many, list_at, point_at, exponent_at, number_at, name_at, operator_at, truth_at, bracket_with, refer_with, dollar_with, subscripts_with, reference_with, primary_with, operand_with, step_by, step_with, expr_with, readers_at, target_with, destination_at, assignment_at, names_at, removal_at, hiding_at, condition_at, parameter_at, repetition_at, output_at, args_at, postcondition_at, command_at, spaced_at, comment_at, line_at}
 use Rattle.mgrammar.proofs.Computing.{reads}
-use Rattle.mmeaning.specs.Step.{Settings, Server, Reply, Finished, Halted, Faulted}
+use Rattle.mmeaning.specs.Step.{Settings, World, Reply, Finished, Halted, Faulted}
 use Rattle.mmeaning.specs.History.{opening}
 use Rattle.mmeaning.proofs.ExampleAccount.{alice}
 use Rattle.mmeaning.proofs.LineRuns.{shut_step, step_is_shut}
@@ -69,28 +69,28 @@ reply_endings = (refl, refl)
 
 -- ---- streams, by steps whose turns are shut
 
-abbrev line_by_shut : Settings → Server → Fate → Text × Server
-line_by_shut settings server Ignored = ([], server)
-line_by_shut settings server TooLong = (too_long_text, server)
-line_by_shut settings server Unreadable = (unreadable_text, server)
-line_by_shut settings server (Runs e) = (reply_text e.terminal (shut_step settings e (line_at e.text) server).0, (shut_step settings e (line_at e.text) server).1)
+abbrev line_by_shut : Settings → World → Fate → Text × World
+line_by_shut settings world Ignored = ([], world)
+line_by_shut settings world TooLong = (too_long_text, world)
+line_by_shut settings world Unreadable = (unreadable_text, world)
+line_by_shut settings world (Runs e) = (reply_text e.terminal (shut_step settings e (line_at e.text) world).0, (shut_step settings e (line_at e.text) world).1)
 
-abbrev lines_by_shut : Settings → Server → List Text → Text
-lines_by_shut settings server [] = []
-lines_by_shut settings server (line ∷ more) =
-    (line_by_shut settings server (fate_of line)).0 ++ lines_by_shut settings (line_by_shut settings server (fate_of line)).1 more
+abbrev lines_by_shut : Settings → World → List Text → Text
+lines_by_shut settings world [] = []
+lines_by_shut settings world (line ∷ more) =
+    (line_by_shut settings world (fate_of line)).0 ++ lines_by_shut settings (line_by_shut settings world (fate_of line)).1 more
 
-line_is_shut : (settings : Settings) (server : Server) (f : Fate) → line_served settings server f ≡ line_by_shut settings server f
-line_is_shut settings server Ignored = refl
-line_is_shut settings server TooLong = refl
-line_is_shut settings server Unreadable = refl
-line_is_shut settings server (Runs e) = ap (λ (r : Reply × Server). (reply_text e.terminal r.0, r.1)) (step_is_shut settings e server)
+line_is_shut : (settings : Settings) (world : World) (f : Fate) → line_served settings world f ≡ line_by_shut settings world f
+line_is_shut settings world Ignored = refl
+line_is_shut settings world TooLong = refl
+line_is_shut settings world Unreadable = refl
+line_is_shut settings world (Runs e) = ap (λ (r : Reply × World). (reply_text e.terminal r.0, r.1)) (step_is_shut settings e world)
 
-lines_are_shut : (settings : Settings) (server : Server) (ls : List Text) → lines_served settings server ls ≡ lines_by_shut settings server ls
-lines_are_shut settings server [] = refl
-lines_are_shut settings server (line ∷ more) =
-    ap (λ (r : Text × Server). r.0 ++ lines_served settings r.1 more) (line_is_shut settings server (fate_of line))
-    ∙ (let r = line_by_shut settings server (fate_of line) in ap (λ (t : Text). r.0 ++ t) (lines_are_shut settings r.1 more))
+lines_are_shut : (settings : Settings) (world : World) (ls : List Text) → lines_served settings world ls ≡ lines_by_shut settings world ls
+lines_are_shut settings world [] = refl
+lines_are_shut settings world (line ∷ more) =
+    ap (λ (r : Text × World). r.0 ++ lines_served settings r.1 more) (line_is_shut settings world (fate_of line))
+    ∙ (let r = line_by_shut settings world (fate_of line) in ap (λ (t : Text). r.0 ++ t) (lines_are_shut settings r.1 more))
 
 served : (bytes : Text) {answer : Text} → lines_by_shut alice (opening empty) (lines bytes) ≡ answer → stream_served alice empty bytes ≡ answer
 served bytes is = lines_are_shut alice (opening empty) (lines bytes) ∙ is

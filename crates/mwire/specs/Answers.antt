@@ -4,7 +4,7 @@
 use Rattle.std.specs.Prelude.{◌≡◌, ◌≢◌, List, [], ◌∷◌, ◌++◌, map}
 use Rattle.mspec.specs.Act.{Text}
 use Rattle.mspec.specs.Code.{Lost, Store}
-use Rattle.mmeaning.specs.Step.{Settings, Server, Event, Faulted, Reply, Step}
+use Rattle.mmeaning.specs.Step.{Settings, World, Event, Faulted, Reply, Step}
 use Rattle.mmeaning.specs.History.{History}
 use Rattle.mstore.specs.declared.store.NodeStore.{Ghosts}
 use Rattle.mwire.specs.Wire.{Fate, Ignored, TooLong, Unreadable, Runs, fate_of, reply_text, too_long_text, unreadable_text, events_of}
@@ -39,40 +39,40 @@ StoreSufficedForEach [] = Unit {0}
 StoreSufficedForEach (e ∷ es) = StoreSufficed e.1 × StoreSufficedForEach es
 
 -- the lines are answered by these bytes, which a history of their events gives
-pub record LinesAnswered {S : Type 0} (g : Ghosts S) (settings : Settings) (server : Server) (all : List Text) (bytes : Text) (after : Server) : Type 0 where
+pub record LinesAnswered {S : Type 0} (g : Ghosts S) (settings : Settings) (world : World) (all : List Text) (bytes : Text) (after : World) : Type 0 where
   pub trace : List (Event × Reply)
   pub events : map (λ e. e.0) trace ≡ events_of all
   pub text : bytes ≡ answer_text all (map (λ e. e.1) trace)
-  pub history : g.sound → History settings server trace after
+  pub history : g.sound → History settings world trace after
   pub steady : g.steady → StoreSufficedForEach trace
 
 -- a line that is run is answered by these bytes: those of a reply, by a step
-pub record RunAnswered {S : Type 0} (g : Ghosts S) (settings : Settings) (server : Server) (e : Event) (bytes : Text) (after : Server) : Type 0 where
+pub record RunAnswered {S : Type 0} (g : Ghosts S) (settings : Settings) (world : World) (e : Event) (bytes : Text) (after : World) : Type 0 where
   pub reply : Reply
   pub text : bytes ≡ reply_text e.terminal reply
-  pub step : g.sound → Step settings e reply server after
+  pub step : g.sound → Step settings e reply world after
   pub steady : g.steady → StoreSufficed reply
 
 -- a line of this fate is answered by these bytes
-abbrev pub FateAnswered : {S : Type 0} → Ghosts S → Settings → Server → Fate → Text → Server → Type 0
-FateAnswered g settings server Ignored bytes after = (bytes ≡ []) × (after ≡ server)
-FateAnswered g settings server TooLong bytes after = (bytes ≡ too_long_text) × (after ≡ server)
-FateAnswered g settings server Unreadable bytes after = (bytes ≡ unreadable_text) × (after ≡ server)
-FateAnswered g settings server (Runs e) bytes after = RunAnswered g settings server e bytes after
+abbrev pub FateAnswered : {S : Type 0} → Ghosts S → Settings → World → Fate → Text → World → Type 0
+FateAnswered g settings world Ignored bytes after = (bytes ≡ []) × (after ≡ world)
+FateAnswered g settings world TooLong bytes after = (bytes ≡ too_long_text) × (after ≡ world)
+FateAnswered g settings world Unreadable bytes after = (bytes ≡ unreadable_text) × (after ≡ world)
+FateAnswered g settings world (Runs e) bytes after = RunAnswered g settings world e bytes after
 
-pub record LineAnswered {S : Type 0} (g : Ghosts S) (settings : Settings) (server : Server) (line bytes : Text) (after : Server) : Type 0 where
-  pub by_fate : FateAnswered g settings server (fate_of line) bytes after
+pub record LineAnswered {S : Type 0} (g : Ghosts S) (settings : Settings) (world : World) (line bytes : Text) (after : World) : Type 0 where
+  pub by_fate : FateAnswered g settings world (fate_of line) bytes after
 
 -- The lines are answered up to a last one. This one was answered too, but of its bytes only a front, perhaps the whole, went
 -- out; the others were not run.
-pub record Breaks {S : Type 0} (g : Ghosts S) (settings : Settings) (server : Server) (all : List Text) (bytes : Text) (after : Server) : Type 0 where
+pub record Breaks {S : Type 0} (g : Ghosts S) (settings : Settings) (world : World) (all : List Text) (bytes : Text) (after : World) : Type 0 where
   pub done : List Text
   pub last : Text
   pub others : List Text
   pub of_all : all ≡ done ++ last ∷ others
   pub whole : Text
-  pub between : Server
-  pub answered : LinesAnswered g settings server done whole between
+  pub between : World
+  pub answered : LinesAnswered g settings world done whole between
   pub answer : Text
   pub last_answered : LineAnswered g settings between last answer after
   pub part : Text

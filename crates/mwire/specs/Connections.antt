@@ -3,7 +3,7 @@
 use Rattle.std.specs.Prelude.{◌≡◌, ◌<◌, ℕ, List, [], ◌∷◌, ◌++◌, length, map, Option, Some, Result, MatchResult}
 use Rattle.std.specs.List.{All}
 use Rattle.mspec.specs.Act.{Text}
-use Rattle.mmeaning.specs.Step.{Settings, Server}
+use Rattle.mmeaning.specs.Step.{Settings, World}
 use Rattle.mstore.specs.declared.store.NodeStore.{Ghosts}
 use Rattle.mwire.specs.Serves.{Serves}
 use Rattle.mwire.specs.declared.fault.WireFault.{WireFault}
@@ -17,11 +17,11 @@ pub record Visit : Type 0 where
   pub held' : Option Text
   pub result : Result (Unit {0}) WireFault
 
--- connections, one after another, lead from one server to the other, each as `serve` says
-abbrev pub AreServed : {S : Type 0} → Ghosts S → Settings → List Visit → Server → Server → Type 0
-AreServed g settings [] server after = after ≡ server
-AreServed g settings (v ∷ more) server after = (between : Server)
-    × Serves g settings server between v.left v.left' v.held v.held' v.result × AreServed g settings more between after
+-- connections, one after another, lead from one world to the other, each as `serve` says
+abbrev pub AreServed : {S : Type 0} → Ghosts S → Settings → List Visit → World → World → Type 0
+AreServed g settings [] world after = after ≡ world
+AreServed g settings (v ∷ more) world after = (between : World)
+    × Serves g settings world between v.left v.left' v.held v.held' v.result × AreServed g settings more between after
 
 -- The connections are those of the peers that waited first: each reader had what its peer sends, each writer held nothing, and what it
 -- holds at the end is what its peer was answered.
@@ -31,16 +31,16 @@ pub record AreOfPeers (visits : List Visit) (waiting waiting' answered answered'
   pub went : map Some answered' ≡ map Some answered ++ map (λ (v : Visit). v.held') visits
 
 -- So many connections were served, and where the listener tells who comes, they are those of its peers.
-pub record HasServedEach {S : Type 0} (g : Ghosts S) (settings : Settings) (count : ℕ) (server after : Server)
+pub record HasServedEach {S : Type 0} (g : Ghosts S) (settings : Settings) (count : ℕ) (world after : World)
     (tells : Type 0) (waiting waiting' answered answered' : List Text) : Type 0 where
   pub visits : List Visit
   pub many : length visits ≡ count
-  pub served : AreServed g settings visits server after
+  pub served : AreServed g settings visits world after
   pub of_peers : tells → AreOfPeers visits waiting waiting' answered answered'
 
 -- All the connections were served; or fewer, until none could be accepted: where the listener tells who comes, until nobody waited.
-abbrev pub ServesEach : {S : Type 0} → Ghosts S → Settings → ℕ → Server → Server
+abbrev pub ServesEach : {S : Type 0} → Ghosts S → Settings → ℕ → World → World
     → (tells : Type 0) → List Text → List Text → List Text → List Text → Result (Unit {0}) AcceptFault → Type 0
-ServesEach g settings count server after tells waiting waiting' answered answered' result = MatchResult result
-    (λ _. HasServedEach g settings count server after tells waiting waiting' answered answered')
-    (λ _. (n : ℕ) × (n < count) × (tells → waiting' ≡ []) × HasServedEach g settings n server after tells waiting waiting' answered answered')
+ServesEach g settings count world after tells waiting waiting' answered answered' result = MatchResult result
+    (λ _. HasServedEach g settings count world after tells waiting waiting' answered answered')
+    (λ _. (n : ℕ) × (n < count) × (tells → waiting' ≡ []) × HasServedEach g settings n world after tells waiting waiting' answered answered')

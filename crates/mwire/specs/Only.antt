@@ -10,7 +10,7 @@ use Rattle.mmeaning.specs.Step.{Event}
 use Rattle.misolation.specs.Telling.{Told}
 use Rattle.mstore.specs.declared.store.NodeStore.{Ghosts}
 use Rattle.mworld.specs.declared.world.World.{World}
-use Rattle.mworld.specs.View.{settings_of, server_of}
+use Rattle.mworld.specs.View.{settings_of, world_of}
 use Rattle.mworld.specs.Isolated.{IsTold, IsEquallyTold, IsToldEach, RanFirst}
 use Rattle.mwire.specs.Wire.{events_of, reply_text}
 use Rattle.mwire.specs.declared.fault.WireFault.{WireFault}
@@ -40,7 +40,7 @@ pub record CutOff {S : Type 0} (g : Ghosts S) (old : World S g) (account : ℕ) 
 
 -- nothing was sent, and some first events were run, one step each
 abbrev pub Unsent : {S : Type 0} (g : Ghosts S) → World S g → List Event → Text → World S g → Type 0
-Unsent g old events sent new = (sent ≡ []) × (g.sound → RanFirst (settings_of old) (server_of g old) events (server_of g new))
+Unsent g old events sent new = (sent ≡ []) × (g.sound → RanFirst (settings_of old) (world_of g old) events (world_of g new))
 
 -- how far it came where there was a fault
 abbrev pub OnlyBroke : {S : Type 0} (g : Ghosts S) → World S g → ℕ → Option Text → List Event → Text → World S g → WireFault → Type 0

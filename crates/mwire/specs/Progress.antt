@@ -5,7 +5,7 @@ use Rattle.std.specs.List.{All, flat_map}
 use Rattle.std.specs.Io.KnownBytes.{Appends, Consumes}
 use Rattle.std.specs.Str.Lines.{strip_carriage_return}
 use Rattle.mspec.specs.Act.{Text}
-use Rattle.mmeaning.specs.Step.{Settings, Server, Event}
+use Rattle.mmeaning.specs.Step.{Settings, World, Event}
 use Rattle.mstore.specs.declared.store.NodeStore.{Ghosts}
 use Rattle.mwire.specs.Wire.{finished_lines, events_of}
 use Rattle.mwire.specs.Answers.{LineAnswered, Breaks}
@@ -28,22 +28,22 @@ pub record IsCut (bytes : Text) (finished : List Text) (kept : Text) : Type 0 wh
   pub kept_is : kept ≡ take 262 rest
 
 -- the lines are answered, one after another
-abbrev pub EachAnswered : {S : Type 0} → Ghosts S → Settings → Server → List Text → Text → Server → Type 0
-EachAnswered g settings server [] bytes after = (bytes ≡ []) × (after ≡ server)
-EachAnswered g settings server (line ∷ more) bytes after = (answer : Text) × (between : Server) × (rest : Text)
-    × LineAnswered g settings server line answer between × EachAnswered g settings between more rest after × (bytes ≡ answer ++ rest)
+abbrev pub EachAnswered : {S : Type 0} → Ghosts S → Settings → World → List Text → Text → World → Type 0
+EachAnswered g settings world [] bytes after = (bytes ≡ []) × (after ≡ world)
+EachAnswered g settings world (line ∷ more) bytes after = (answer : Text) × (between : World) × (rest : Text)
+    × LineAnswered g settings world line answer between × EachAnswered g settings between more rest after × (bytes ≡ answer ++ rest)
 
 -- the finished lines of the bytes so far are answered
-pub record Stands {S : Type 0} (g : Ghosts S) (settings : Settings) (first : Server) (bytes : Text) (now : Server) (kept sent : Text) : Type 0 where
+pub record Stands {S : Type 0} (g : Ghosts S) (settings : Settings) (first : World) (bytes : Text) (now : World) (kept sent : Text) : Type 0 where
   pub finished : List Text
   pub cut : IsCut bytes finished kept
   pub answered : EachAnswered g settings first (map strip_carriage_return finished) sent now
 
 -- what taking more bytes does, wherever the stream stands
-pub record TakesOn {S E : Type 0} (g : Ghosts S) (settings : Settings) (old : Server) (kept bytes : Text) (new : Server) (kept' : Text) (before after : Option Text) (result : Result (Unit {0}) E) : Type 0 where
+pub record TakesOn {S E : Type 0} (g : Ghosts S) (settings : Settings) (old : World) (kept bytes : Text) (new : World) (kept' : Text) (before after : Option Text) (result : Result (Unit {0}) E) : Type 0 where
   pub sent : Text
   pub appended : Appends before after sent
-  pub outcome : (first : Server) (past text : Text) → Stands g settings first past old kept text
+  pub outcome : (first : World) (past text : Text) → Stands g settings first past old kept text
       → MatchResult result (λ _. Stands g settings first (past ++ bytes) new kept' (text ++ sent))
       (λ _. (more : Text) → Breaks g settings first (finished_lines ((past ++ bytes) ++ more)) (text ++ sent) new)
 
@@ -62,13 +62,13 @@ pub record FrontSent (bytes : Text) (before after : Option Text) (whole : Bool) 
   pub appended : Appends before after part
 
 -- a line was answered, and of its answer a front was sent
-pub record LineSent {S : Type 0} (g : Ghosts S) (settings : Settings) (old : Server) (line : Text) (new : Server) (before after : Option Text) (whole : Bool) : Type 0 where
+pub record LineSent {S : Type 0} (g : Ghosts S) (settings : Settings) (old : World) (line : Text) (new : World) (before after : Option Text) (whole : Bool) : Type 0 where
   pub answer : Text
   pub answered : LineAnswered g settings old line answer new
   pub sent : FrontSent answer before after whole
 
 -- so far these bytes were read and those sent, and the finished lines of those read are answered
-pub record HasServed {S : Type 0} (g : Ghosts S) (settings : Settings) (first now : Server) (left left' held held' : Option Text) (kept : Text) : Type 0 where
+pub record HasServed {S : Type 0} (g : Ghosts S) (settings : Settings) (first now : World) (left left' held held' : Option Text) (kept : Text) : Type 0 where
   pub read : Text
   pub sent : Text
   pub consumed : Consumes left left' read

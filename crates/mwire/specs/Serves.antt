@@ -4,7 +4,7 @@ use Rattle.std.specs.Prelude.{◌≡◌, ◌≢◌, ◌⊎◌, List, MatchResult
 use Rattle.std.specs.Io.KnownBytes.{Appends, Consumes, IsAtEnd}
 use Rattle.std.specs.Str.Lines.{lines}
 use Rattle.mspec.specs.Act.{Text}
-use Rattle.mmeaning.specs.Step.{Settings, Server, Event}
+use Rattle.mmeaning.specs.Step.{Settings, World, Event}
 use Rattle.mstore.specs.declared.store.NodeStore.{Ghosts}
 use Rattle.mwire.specs.Wire.{finished_lines, events_of}
 use Rattle.mwire.specs.Answers.{LinesAnswered, Breaks}
@@ -12,25 +12,25 @@ use Rattle.mwire.specs.declared.fault.WireFault.{WireFault}
 use Rattle.mwire.specs.declared.fault.WireFault.TheVariants.{Read, Write, Memory}
 
 -- the answer of a finished line is cut off, or, where the reader is at its end, that of any line
-abbrev pub BreaksOff : {S : Type 0} → Ghosts S → Settings → Server → Option Text → Text → Text → Server → Type 0
-BreaksOff g settings server left read sent after =
-    Breaks g settings server (finished_lines read) sent after ⊎ (IsAtEnd left × Breaks g settings server (lines read) sent after)
+abbrev pub BreaksOff : {S : Type 0} → Ghosts S → Settings → World → Option Text → Text → Text → World → Type 0
+BreaksOff g settings world left read sent after =
+    Breaks g settings world (finished_lines read) sent after ⊎ (IsAtEnd left × Breaks g settings world (lines read) sent after)
 
 -- how far the bytes read are answered after a fault: after one of a read exactly the finished lines are, and after another
 -- one the answer of one line is cut off
-abbrev pub EndsBy : {S : Type 0} → Ghosts S → Settings → Server → Option Text → Text → Text → Server → WireFault → Type 0
-EndsBy g settings server left read sent after Read = LinesAnswered g settings server (finished_lines read) sent after
-EndsBy g settings server left read sent after Write = BreaksOff g settings server left read sent after
-EndsBy g settings server left read sent after Memory = BreaksOff g settings server left read sent after
+abbrev pub EndsBy : {S : Type 0} → Ghosts S → Settings → World → Option Text → Text → Text → World → WireFault → Type 0
+EndsBy g settings world left read sent after Read = LinesAnswered g settings world (finished_lines read) sent after
+EndsBy g settings world left read sent after Write = BreaksOff g settings world left read sent after
+EndsBy g settings world left read sent after Memory = BreaksOff g settings world left read sent after
 
 -- So many bytes were read, and so many were sent, where the reader tells what it has left and the writer what it holds. At
 -- the stream's end all its lines are answered.
-pub record Serves {S : Type 0} (g : Ghosts S) (settings : Settings) (server after : Server) (left left' held held' : Option Text) (result : Result (Unit {0}) WireFault) : Type 0 where
+pub record Serves {S : Type 0} (g : Ghosts S) (settings : Settings) (world after : World) (left left' held held' : Option Text) (result : Result (Unit {0}) WireFault) : Type 0 where
   pub read : Text
   pub consumed : Consumes left left' read
   pub sent : Text
   pub appended : Appends held held' sent
-  pub outcome : MatchResult result (λ _. IsAtEnd left' × LinesAnswered g settings server (lines read) sent after) (EndsBy g settings server left' read sent after)
+  pub outcome : MatchResult result (λ _. IsAtEnd left' × LinesAnswered g settings world (lines read) sent after) (EndsBy g settings world left' read sent after)
 
 -- so many bytes were read, and at the stream's end the events are those of its lines
 pub record ReadsEvents {V : Type 0} (events : V → List Event) (left left' : Option Text) (result : Result V WireFault) : Type 0 where

@@ -10,7 +10,7 @@ use Rattle.mspec.specs.Code.{fault_text}
 use Rattle.mspec.specs.Globals.{Globals}
 use Rattle.mspec.specs.Literal.{is_digit, digits_after}
 use Rattle.mmeaning.specs.LineMeaning.{line_end}
-use Rattle.mmeaning.specs.Step.{Settings, Server, Event, Ending, Finished, Halted, Faulted, Reply, normal}
+use Rattle.mmeaning.specs.Step.{Settings, World, Event, Ending, Finished, Halted, Faulted, Reply, normal}
 use Rattle.mmeaning.specs.History.{opening}
 
 -- what becomes of a line
@@ -84,17 +84,17 @@ too_long_text = codes "?!ZLINE" ++ 10 ∷ []
 abbrev pub unreadable_text : Text
 unreadable_text = codes "?!ZWIRE" ++ 10 ∷ []
 
--- the bytes that answer a line, and the server after it, by a normal step
-abbrev pub line_served : Settings → Server → Fate → Text × Server
-line_served settings server Ignored = ([], server)
-line_served settings server TooLong = (too_long_text, server)
-line_served settings server Unreadable = (unreadable_text, server)
-line_served settings server (Runs e) = (reply_text e.terminal (normal settings e server).0, (normal settings e server).1)
+-- the bytes that answer a line, and the world after it, by a normal step
+abbrev pub line_served : Settings → World → Fate → Text × World
+line_served settings world Ignored = ([], world)
+line_served settings world TooLong = (too_long_text, world)
+line_served settings world Unreadable = (unreadable_text, world)
+line_served settings world (Runs e) = (reply_text e.terminal (normal settings e world).0, (normal settings e world).1)
 
-abbrev pub lines_served : Settings → Server → List Text → Text
-lines_served settings server [] = []
-lines_served settings server (line ∷ more) =
-    (line_served settings server (fate_of line)).0 ++ lines_served settings (line_served settings server (fate_of line)).1 more
+abbrev pub lines_served : Settings → World → List Text → Text
+lines_served settings world [] = []
+lines_served settings world (line ∷ more) =
+    (line_served settings world (fate_of line)).0 ++ lines_served settings (line_served settings world (fate_of line)).1 more
 
 -- The bytes that answer a stream over some globals, by normal steps. A line feed ends a line and takes a carriage return just before it with it;
 -- an unfinished last line counts, and keeps its carriage return.

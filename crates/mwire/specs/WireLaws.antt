@@ -6,8 +6,8 @@ use Rattle.std.specs.Fmt.{decimal}
 use Rattle.std.specs.Str.Lines.{lines, strip_carriage_return}
 use Rattle.mspec.specs.Act.{Text}
 use Rattle.mspec.specs.Globals.{Globals}
-use Rattle.mmeaning.specs.Step.{Settings, Server, Event, line_limit}
-use Rattle.mmeaning.specs.History.{opening, server_after, NoneFailed}
+use Rattle.mmeaning.specs.Step.{Settings, World, Event, line_limit}
+use Rattle.mmeaning.specs.History.{opening, world_after, NoneFailed}
 use Rattle.mstore.specs.declared.store.NodeStore.{Ghosts}
 use Rattle.mwire.specs.Wire.{lines_served, stream_served, events_of}
 use Rattle.mwire.specs.Answers.{LinesAnswered}
@@ -31,17 +31,17 @@ abbrev pub EventsHaveStream : Type 0
 EventsHaveStream = (events : List Event) → All HasLine events → events_of (lines (flat_map (λ e. line_of e ++ 10 ∷ []) events)) ≡ events
 
 -- Where memory and the store sufficed for each line, the bytes that answer lines are those of the definitional interpreter,
--- and it leaves the same server
+-- and it leaves the same world
 abbrev pub NormalAnswersAreServed : {S : Type 0} → Ghosts S → Type 0
-NormalAnswersAreServed g = (settings : Settings) (server after : Server) (all : List Text) (bytes : Text) (answers : LinesAnswered g settings server all bytes after)
-    → NoneFailed answers.trace → (bytes ≡ lines_served settings server all) × (after ≡ server_after settings server (events_of all))
+NormalAnswersAreServed g = (settings : Settings) (world after : World) (all : List Text) (bytes : Text) (answers : LinesAnswered g settings world all bytes after)
+    → NoneFailed answers.trace → (bytes ≡ lines_served settings world all) × (after ≡ world_after settings world (events_of all))
 
 -- so what answers a whole stream, from an opening world, is told by the settings, the globals and the stream alone
 abbrev pub NormalStreamsAreServed : {S : Type 0} → Ghosts S → Type 0
-NormalStreamsAreServed g = (settings : Settings) (globals : Globals) (after : Server) (stream bytes : Text) (answers : LinesAnswered g settings (opening globals) (lines stream) bytes after)
+NormalStreamsAreServed g = (settings : Settings) (globals : Globals) (after : World) (stream bytes : Text) (answers : LinesAnswered g settings (opening globals) (lines stream) bytes after)
     → NoneFailed answers.trace → bytes ≡ stream_served settings globals stream
 
 -- and any lines have an answer, by normal steps, over a store of any type
 abbrev pub LinesHaveAnswers : {S : Type 0} → Ghosts S → Type 0
-LinesHaveAnswers g = (settings : Settings) (server : Server) (all : List Text)
-    → LinesAnswered g settings server all (lines_served settings server all) (server_after settings server (events_of all))
+LinesHaveAnswers g = (settings : Settings) (world : World) (all : List Text)
+    → LinesAnswered g settings world all (lines_served settings world all) (world_after settings world (events_of all))

@@ -1,7 +1,7 @@
 // SPDX-License-Identifier: Apache-2.0
 // A stream, served: each line is run and answered before the next one.
 ghost use Rattle.std.specs.Prelude.{◌≡◌, ◌≢◌, ◌+◌, ◌≤◌, ℕ, List, [], ◌∷◌, ◌++◌, false, OnOk, IfOk, IfErr, is_ok, Ok, Err};
-ghost use Rattle.mworld.specs.View.{settings_of, server_of, reply_of};
+ghost use Rattle.mworld.specs.View.{settings_of, world_of, reply_of};
 ghost use Rattle.mwire.specs.Wire.{reply_text};
 ghost use Rattle.mwire.specs.Watched.{inner_of, failed_of, calls_of, stalls_of, ReadBroke, WriteBroke};
 ghost use Rattle.mwire.specs.Serves.{Serves};
@@ -38,7 +38,7 @@ pub fn serve<S: NodeStore, R: Read, W: Write>(
 ) -> Result<(), WireFault>
     requires reader_works { failed_of reader.old ≡ false }
     requires writer_works { failed_of writer.old ≡ false }
-    ensures serves { Serves S.NodeStore (settings_of world.old) (server_of S.NodeStore world.old) (server_of S.NodeStore world.new)
+    ensures serves { Serves S.NodeStore (settings_of world.old) (world_of S.NodeStore world.old) (world_of S.NodeStore world.new)
         (R.remaining (inner_of reader.old)) (R.remaining (inner_of reader.new))
         (W.contents (inner_of writer.old)) (W.contents (inner_of writer.new)) result }
     ensures settings { settings_of world.new ≡ settings_of world.old }
@@ -76,7 +76,7 @@ fn take_piece<S: NodeStore, W: Write>(
     piece: &[u8],
     writer: &mut Watched<W>,
 ) -> Result<(), WireFault>
-    ensures passes { TakesOn S.NodeStore (settings_of world.old) (server_of S.NodeStore world.old) line.old piece.now (server_of S.NodeStore world.new) line.new
+    ensures passes { TakesOn S.NodeStore (settings_of world.old) (world_of S.NodeStore world.old) line.old piece.now (world_of S.NodeStore world.new) line.new
         (W.contents (inner_of writer.old)) (W.contents (inner_of writer.new)) result }
     ensures settings { settings_of world.new ≡ settings_of world.old }
     ensures fault { IfErr result (λ e. (e ≢ WireFault.Read) × (e ≡ WireFault.Write → WriteBroke writer.old writer.new)) }
@@ -97,7 +97,7 @@ fn take_byte<S: NodeStore, W: Write>(
     byte: u8,
     writer: &mut Watched<W>,
 ) -> Result<(), WireFault>
-    ensures passes { TakesOn S.NodeStore (settings_of world.old) (server_of S.NodeStore world.old) line.old (byte ∷ []) (server_of S.NodeStore world.new) line.new
+    ensures passes { TakesOn S.NodeStore (settings_of world.old) (world_of S.NodeStore world.old) line.old (byte ∷ []) (world_of S.NodeStore world.new) line.new
         (W.contents (inner_of writer.old)) (W.contents (inner_of writer.new)) result }
     ensures settings { settings_of world.new ≡ settings_of world.old }
     ensures fault { IfErr result (λ e. (e ≢ WireFault.Read) × (e ≡ WireFault.Write → WriteBroke writer.old writer.new)) }
@@ -120,7 +120,7 @@ fn answer_line<S: NodeStore, W: Write>(
     line: &[u8],
     writer: &mut Watched<W>,
 ) -> Result<(), WireFault>
-    ensures sent { LineSent S.NodeStore (settings_of world.old) (server_of S.NodeStore world.old) line.now (server_of S.NodeStore world.new)
+    ensures sent { LineSent S.NodeStore (settings_of world.old) (world_of S.NodeStore world.old) line.now (world_of S.NodeStore world.new)
         (W.contents (inner_of writer.old)) (W.contents (inner_of writer.new)) (is_ok result) }
     ensures settings { settings_of world.new ≡ settings_of world.old }
     ensures fault { IfErr result (λ e. (e ≢ WireFault.Read) × (e ≡ WireFault.Write → WriteBroke writer.old writer.new)) }

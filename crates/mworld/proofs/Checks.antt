@@ -5,7 +5,7 @@ use Rattle.std.specs.Prelude.{slice_get, unwrap_or, option_map, Err}
 use Rattle.std.specs.FinMap.{get}
 use Rattle.std.proofs.lemmas.Bool.Decides.{nat_tests}
 use Rattle.mspec.specs.Access.{Settings, account_at, account_of}
-use Rattle.mmeaning.specs.Step.{Account, Event, Reply, Server, Step, Faulted, normal, refused, checked, at_account, at_tree, is_too_long, is_ascii}
+use Rattle.mmeaning.specs.Step.{Account, Event, Reply, World, Step, Faulted, normal, refused, checked, at_account, at_tree, is_too_long, is_ascii}
 use Rattle.mspec.specs.Code.{Zterm, Zline, Zchar}
 use Rattle.moperator.specs.Codes.{fault_of}
 use Rattle.moperator.specs.declared.code.Code.{Code}
@@ -35,22 +35,22 @@ known settings terminal place text same within short ascii =
     }
 
 -- what each check refuses
-pub unknown_refused : (settings : Settings) (e : Event) (server : Server) → get settings.terminals e.terminal ≡ None → normal settings e server ≡ refused Zterm server
-unknown_refused settings e server none = ap (at_account settings e server) none
+pub unknown_refused : (settings : Settings) (e : Event) (world : World) → get settings.terminals e.terminal ≡ None → normal settings e world ≡ refused Zterm world
+unknown_refused settings e world none = ap (at_account settings e world) none
 
-pub long_refused : (settings : Settings) (e : Event) (account : Account) (server : Server) → get settings.terminals e.terminal ≡ Some account → is_too_long e.text ≡ true → normal settings e server ≡ refused Zline server
-long_refused settings e account server some long = ap (at_account settings e server) some ∙ ap (λ l. checked l (is_ascii e.text) settings e server account) long
+pub long_refused : (settings : Settings) (e : Event) (account : Account) (world : World) → get settings.terminals e.terminal ≡ Some account → is_too_long e.text ≡ true → normal settings e world ≡ refused Zline world
+long_refused settings e account world some long = ap (at_account settings e world) some ∙ ap (λ l. checked l (is_ascii e.text) settings e world account) long
 
-pub other_refused : (settings : Settings) (e : Event) (account : Account) (server : Server) → get settings.terminals e.terminal ≡ Some account → is_too_long e.text ≡ false → is_ascii e.text ≡ false → normal settings e server ≡ refused Zchar server
-other_refused settings e account server some short other =
-    ap (at_account settings e server) some ∙ ap (λ l. checked l (is_ascii e.text) settings e server account) short
-    ∙ ap (λ a. checked false a settings e server account) other
+pub other_refused : (settings : Settings) (e : Event) (account : Account) (world : World) → get settings.terminals e.terminal ≡ Some account → is_too_long e.text ≡ false → is_ascii e.text ≡ false → normal settings e world ≡ refused Zchar world
+other_refused settings e account world some short other =
+    ap (at_account settings e world) some ∙ ap (λ l. checked l (is_ascii e.text) settings e world account) short
+    ∙ ap (λ a. checked false a settings e world account) other
 
 -- what they let through
-pub let_through : (settings : Settings) (e : Event) (account : Account) (server : Server) → get settings.terminals e.terminal ≡ Some account → is_too_long e.text ≡ false → is_ascii e.text ≡ true → normal settings e server ≡ at_tree settings e server account
-let_through settings e account server some short ascii =
-    ap (at_account settings e server) some ∙ ap (λ l. checked l (is_ascii e.text) settings e server account) short
-    ∙ ap (λ a. checked false a settings e server account) ascii
+pub let_through : (settings : Settings) (e : Event) (account : Account) (world : World) → get settings.terminals e.terminal ≡ Some account → is_too_long e.text ≡ false → is_ascii e.text ≡ true → normal settings e world ≡ at_tree settings e world account
+let_through settings e account world some short ascii =
+    ap (at_account settings e world) some ∙ ap (λ l. checked l (is_ascii e.text) settings e world account) short
+    ∙ ap (λ a. checked false a settings e world account) ascii
 
 pub is_short : (text : List ℕ) → length text ≤ 255 → is_too_long text ≡ false
 is_short text h = grind (arith, nat_tests)
@@ -59,6 +59,6 @@ pub is_long : (text : List ℕ) → 255 < length text → is_too_long text ≡ t
 is_long text h = grind (arith, nat_tests)
 
 -- a line that they refuse is a step that changes nothing
-pub refused_step : (settings : Settings) (e : Event) (code : Code) (reply : Reply) (server : Server) → Admits settings e (Err code) → reply ≡ record { out = []; ending = Faulted (fault_of code) } → Step settings e reply server server
-refused_step settings e code reply server admits is =
-    subst (λ r. Step settings e r server server) (sym (is ∙ ap (λ fault. record { out = []; ending = Faulted fault }) admits.1)) (admits.2 server)
+pub refused_step : (settings : Settings) (e : Event) (code : Code) (reply : Reply) (world : World) → Admits settings e (Err code) → reply ≡ record { out = []; ending = Faulted (fault_of code) } → Step settings e reply world world
+refused_step settings e code reply world admits is =
+    subst (λ r. Step settings e r world world) (sym (is ∙ ap (λ fault. record { out = []; ending = Faulted fault }) admits.1)) (admits.2 world)

@@ -12,7 +12,7 @@ use Rattle.mspec.specs.Act.{Text, Act, State, Gives, Fails, level_begun}
 use Rattle.mgrammar.specs.Reading.{line_at}
 use Rattle.mmeaning.specs.LineMeaning.{Signal}
 use Rattle.mmeaning.specs.Step as step
-use Rattle.mmeaning.specs.Step.{Account, World, Event, Server, Step, FailedStep, lost, StepBy, normal, begun, kept, ended, settled, session_or_new, text_run, is_failure, is_lost, Ending, Finished, Halted, Faulted, act}
+use Rattle.mmeaning.specs.Step.{Account, Shared, Event, World, Step, FailedStep, lost, StepBy, normal, begun, kept, ended, settled, session_or_new, text_run, is_failure, is_lost, Ending, Finished, Halted, Faulted, act}
 use Rattle.mmeaning.specs.Calls.{Standing, Here, IsCut, FailedBy, ops_of, point}
 use Rattle.mspec.proofs.Plans.{cut_whole}
 use Rattle.mmeaning.specs.StepLaws.{PlanKeepsOthersLocks}
@@ -41,23 +41,23 @@ use Rattle.mworld.proofs.Checks.{let_through}
 -- ---- a run that is not lost
 
 -- a signal that ends a line so
-gave_by : (b : Standing) (terminal : ℕ) (server : Server) (p : Act Signal) (h : Here) (ending : Ending) (h' : Here) → GaveEnding b p h ending h'
-    → ended terminal server (perform (ops_of b) (p h.0) h.1) ≡ (record { out = h'.0.out; ending = ending }, settled terminal server ending h'.0 h'.1)
-gave_by b terminal server p h ending h' d =
+gave_by : (b : Standing) (terminal : ℕ) (world : World) (p : Act Signal) (h : Here) (ending : Ending) (h' : Here) → GaveEnding b p h ending h'
+    → ended terminal world (perform (ops_of b) (p h.0) h.1) ≡ (record { out = h'.0.out; ending = ending }, settled terminal world ending h'.0 h'.1)
+gave_by b terminal world p h ending h' d =
     let gave : perform (ops_of b) (p h.0) h.1 ≡ (Gives d.0 h'.0, h'.1) = d.2 in
-    ap (ended terminal server) gave ∙ ap (λ (x : Ending). (record { out = h'.0.out; ending = x }, settled terminal server x h'.0 h'.1)) d.1
+    ap (ended terminal world) gave ∙ ap (λ (x : Ending). (record { out = h'.0.out; ending = x }, settled terminal world x h'.0 h'.1)) d.1
 
 -- a fault that is no loss is the line's own code
-failed_by : (b : Standing) (steady : Type 0) (terminal : ℕ) (server : Server) (p : Act Signal) (h : Here) (fault : spec.Fault) (h' : Here) → FailedBy b steady p h fault h' → is_lost fault ≡ false
-    → ended terminal server (perform (ops_of b) (p h.0) h.1) ≡ (record { out = h'.0.out; ending = Faulted fault }, settled terminal server (Faulted fault) h'.0 h'.1)
-failed_by b steady terminal server p h (Own c) h' d fine = let failed : perform (ops_of b) (p h.0) h.1 ≡ (Fails c h'.0, h'.1) = d in ap (ended terminal server) failed
-failed_by b steady terminal server p h (Lost loss) h' d fine = cc
+failed_by : (b : Standing) (steady : Type 0) (terminal : ℕ) (world : World) (p : Act Signal) (h : Here) (fault : spec.Fault) (h' : Here) → FailedBy b steady p h fault h' → is_lost fault ≡ false
+    → ended terminal world (perform (ops_of b) (p h.0) h.1) ≡ (record { out = h'.0.out; ending = Faulted fault }, settled terminal world (Faulted fault) h'.0 h'.1)
+failed_by b steady terminal world p h (Own c) h' d fine = let failed : perform (ops_of b) (p h.0) h.1 ≡ (Fails c h'.0, h'.1) = d in ap (ended terminal world) failed
+failed_by b steady terminal world p h (Lost loss) h' d fine = cc
 
-ended_by : (b : Standing) (steady : Type 0) (terminal : ℕ) (server : Server) (p : Act Signal) (h : Here) (ending : Ended) (h' : Here) → EndsBy b steady p h ending h' → is_failure (ending_of ending) ≡ false
-    → ended terminal server (perform (ops_of b) (p h.0) h.1) ≡ (record { out = h'.0.out; ending = ending_of ending }, settled terminal server (ending_of ending) h'.0 h'.1)
-ended_by b steady terminal server p h Done h' d fine = gave_by b terminal server p h Finished h' d
-ended_by b steady terminal server p h Halt h' d fine = gave_by b terminal server p h Halted h' d
-ended_by b steady terminal server p h (Fault c) h' d fine = failed_by b steady terminal server p h (fault_of c) h' d fine
+ended_by : (b : Standing) (steady : Type 0) (terminal : ℕ) (world : World) (p : Act Signal) (h : Here) (ending : Ended) (h' : Here) → EndsBy b steady p h ending h' → is_failure (ending_of ending) ≡ false
+    → ended terminal world (perform (ops_of b) (p h.0) h.1) ≡ (record { out = h'.0.out; ending = ending_of ending }, settled terminal world (ending_of ending) h'.0 h'.1)
+ended_by b steady terminal world p h Done h' d fine = gave_by b terminal world p h Finished h' d
+ended_by b steady terminal world p h Halt h' d fine = gave_by b terminal world p h Halted h' d
+ended_by b steady terminal world p h (Fault c) h' d fine = failed_by b steady terminal world p h (fault_of c) h' d fine
 
 -- ---- a run that is lost
 
@@ -83,8 +83,8 @@ is_cut b steady p h (Fault c) h' d = is_cut_by b steady p h (fault_of c) h' d
 
 module _ {S : Type 0} (g : Ghosts S) (settings : Settings) (e : Event) (place : ℕ) (sessions : FinMap nat_cmp step.Session) (old new : Session) (store store' : S) (locks locks' : Locks) (reply : Reply) (passes : Passes settings e place)
     (same : session_of old ≡ session_or_new (get sessions e.terminal)) (ran : Ran g settings e.terminal place e.text old store locks reply new store' locks') (sound : g.sound) where
-  abbrev server : Server
-  server = record { world = shared g store locks; sessions = sessions }
+  abbrev world : World
+  world = record { shared = shared g store locks; sessions = sessions }
 
   abbrev b : Standing
   b = record { settings = settings; terminal = e.terminal; account = name_at settings place }
@@ -102,19 +102,19 @@ module _ {S : Type 0} (g : Ghosts S) (settings : Settings) (e : Event) (place : 
   begins = λ i. record { locals = level_begun (sym same i).locals; naked = (sym same i).naked; test = (sym same i).test; out = []; steps = passes.steps i }
 
   -- a line that is not lost
-  pub ran_step : (after : Server) → is_failure (ending_of reply.ending) ≡ false → after ≡ settled e.terminal server (ending_of reply.ending) there.0 there.1 → Step settings e (reply_of reply) server after
-  ran_step after fine stored = subst (λ l. StepBy l settings e (reply_of reply) server after) (sym fine) normally
+  pub ran_step : (after : World) → is_failure (ending_of reply.ending) ≡ false → after ≡ settled e.terminal world (ending_of reply.ending) there.0 there.1 → Step settings e (reply_of reply) world after
+  ran_step after fine stored = subst (λ l. StepBy l settings e (reply_of reply) world after) (sym fine) normally
     where
-      normally : normal settings e server ≡ (reply_of reply, after)
+      normally : normal settings e world ≡ (reply_of reply, after)
       normally =
-          let_through settings e passes.account server passes.known passes.short passes.ascii
-          ∙ (λ i. ended e.terminal server (perform (act settings e.terminal (passes.name i)) (text_run (passes.name i) (line_at e.text) (begins i)) server.world))
-          ∙ ended_by b g.steady e.terminal server (text_run (name_at settings place) (line_at e.text)) here reply.ending there ends fine
-          ∙ ap (λ (s : Server). (reply_of reply, s)) (sym stored)
+          let_through settings e passes.account world passes.known passes.short passes.ascii
+          ∙ (λ i. ended e.terminal world (perform (act settings e.terminal (passes.name i)) (text_run (passes.name i) (line_at e.text) (begins i)) world.shared))
+          ∙ ended_by b g.steady e.terminal world (text_run (name_at settings place) (line_at e.text)) here reply.ending there ends fine
+          ∙ ap (λ (s : World). (reply_of reply, s)) (sym stored)
 
   -- one that is lost, also where it was run to its end: what it left of its session is gone
-  pub lost_step : (after : Server) (answer : step.Reply) (loss : spec.Loss) → after ≡ record { world = shared g store' (released locks' e.terminal); sessions = remove sessions e.terminal } → answer ≡ lost (Faulted (Lost loss)) → Step settings e answer server after
-  lost_step after answer loss gone is = subst (λ r. Step settings e r server after) (sym is) (refl, failed)
+  pub lost_step : (after : World) (answer : step.Reply) (loss : spec.Loss) → after ≡ record { shared = shared g store' (released locks' e.terminal); sessions = remove sessions e.terminal } → answer ≡ lost (Faulted (Lost loss)) → Step settings e answer world after
+  lost_step after answer loss gone is = subst (λ r. Step settings e r world after) (sym is) (refl, failed)
     where
       cut : IsCut b (text_run (name_at settings place) (line_at e.text)) here there
       cut = is_cut b g.steady (text_run (name_at settings place) (line_at e.text)) here reply.ending there ends
@@ -123,7 +123,7 @@ module _ {S : Type 0} (g : Ghosts S) (settings : Settings) (e : Event) (place : 
       others : PlanKeepsOthersLocks settings e.terminal (name_at settings place) (text_run (name_at settings place) (line_at e.text) here.0) here.1
       others = others_kept settings e.terminal (name_at settings place) (text_run (name_at settings place) (line_at e.text) here.0) here.1
 
-      failed : FailedStep settings e server after
+      failed : FailedStep settings e world after
       failed = record {
         account = passes.account;
         known = passes.known;
@@ -131,10 +131,10 @@ module _ {S : Type 0} (g : Ghosts S) (settings : Settings) (e : Event) (place : 
         ascii = passes.ascii;
         operations = cut.0;
         globals =
-            ap (λ (s : Server). s.world.globals) gone ∙ sym (ap (λ (w : World). w.globals) cut.1)
-            ∙ (λ i. (cut_short (act settings e.terminal (sym passes.name i)) cut.0 (text_run (sym passes.name i) (line_at e.text) (sym begins i)) server.world).globals);
-        locks = ap (λ (s : Server). s.world.locks) gone ∙ sym (ap (λ (w : World). released w.locks e.terminal) cut.1) ∙ others.short cut.0;
-        sessions = ap (λ (s : Server). s.sessions) gone;
+            ap (λ (s : World). s.world.globals) gone ∙ sym (ap (λ (w : Shared). w.globals) cut.1)
+            ∙ (λ i. (cut_short (act settings e.terminal (sym passes.name i)) cut.0 (text_run (sym passes.name i) (line_at e.text) (sym begins i)) world.shared).globals);
+        locks = ap (λ (s : World). s.world.locks) gone ∙ sym (ap (λ (w : Shared). released w.locks e.terminal) cut.1) ∙ others.short cut.0;
+        sessions = ap (λ (s : World). s.sessions) gone;
       }
 
 -- whatever a text did, what is held is held as it may be
@@ -148,14 +148,14 @@ ran_fits g settings e place old new store store' locks locks' reply passes ran s
     let cut : IsCut b p here there = is_cut b g.steady p here reply.ending there (ran.at sound) in
     let sender : Actor = record { settings = settings; terminal = e.terminal; account = passes.account; known = passes.known } in
     let kept : KeepsFit sender (p here.0) here.1 = plans_keep_fit sender (p here.0) here.1 fit in
-    subst (λ (w : World). AreFit settings w.locks)
+    subst (λ (w : Shared). AreFit settings w.locks)
     ((λ i. cut_short (act settings e.terminal (passes.name i)) cut.0 (p here.0) here.1) ∙ cut.1)
     (kept.short cut.0)
 
 -- a line that was not run for a loss
-pub unrun_step : {S : Type 0} (g : Ghosts S) (settings : Settings) (e : Event) (place : ℕ) (sessions : FinMap nat_cmp step.Session) (store : S) (locks : Locks) (passes : Passes settings e place) (after : Server) (answer : step.Reply) (loss : spec.Loss)
-    → after ≡ record { world = shared g store (released locks e.terminal); sessions = remove sessions e.terminal } → answer ≡ lost (Faulted (Lost loss)) → Step settings e answer (record { world = shared g store locks; sessions = sessions }) after
-unrun_step g settings e place sessions store locks passes after answer loss gone is = subst (λ r. Step settings e r (record { world = shared g store locks; sessions = sessions }) after) (sym is) (
+pub unrun_step : {S : Type 0} (g : Ghosts S) (settings : Settings) (e : Event) (place : ℕ) (sessions : FinMap nat_cmp step.Session) (store : S) (locks : Locks) (passes : Passes settings e place) (after : World) (answer : step.Reply) (loss : spec.Loss)
+    → after ≡ record { shared = shared g store (released locks e.terminal); sessions = remove sessions e.terminal } → answer ≡ lost (Faulted (Lost loss)) → Step settings e answer (record { shared = shared g store locks; sessions = sessions }) after
+unrun_step g settings e place sessions store locks passes after answer loss gone is = subst (λ r. Step settings e r (record { shared = shared g store locks; sessions = sessions }) after) (sym is) (
   refl,
   record {
     account = passes.account;
@@ -163,9 +163,9 @@ unrun_step g settings e place sessions store locks passes after answer loss gone
     short = passes.short;
     ascii = passes.ascii;
     operations = 0;
-    globals = ap (λ (s : Server). s.world.globals) gone;
-    locks = ap (λ (s : Server). s.world.locks) gone;
-    sessions = ap (λ (s : Server). s.sessions) gone;
+    globals = ap (λ (s : World). s.world.globals) gone;
+    locks = ap (λ (s : World). s.world.locks) gone;
+    sessions = ap (λ (s : World). s.sessions) gone;
   },
 )
 
@@ -197,14 +197,14 @@ not_run {g = g} {settings = settings} {terminal = terminal} {place = place} {tex
 }
 
 -- what a line leaves that is not lost and does not halt
-pub settles : (t : ℕ) (server : Server) (ending : Ended) (s : State) (w : World) → (ending ≡ Halt → ⊥) → settled t server (ending_of ending) s w ≡ record { world = w; sessions = insert server.sessions t (kept s) }
+pub settles : (t : ℕ) (world : World) (ending : Ended) (s : State) (w : Shared) → (ending ≡ Halt → ⊥) → settled t world (ending_of ending) s w ≡ record { shared = w; sessions = insert world.sessions t (kept s) }
 settles t _ Done s w _ = refl
 settles t _ Halt s w not_halt = absurd (not_halt refl)
 settles t _ (Fault c) s w _ = refl
 
 -- and one that halts
-pub halts : (t : ℕ) (server : Server) (ending : Ended) (s : State) (w : World) → ending ≡ Halt → settled t server (ending_of ending) s w ≡ record { world = record w { locks = released w.locks t }; sessions = remove server.sessions t }
-halts t server ending s w is = ap (λ (x : Ended). settled t server (ending_of x) s w) is
+pub halts : (t : ℕ) (world : World) (ending : Ended) (s : State) (w : Shared) → ending ≡ Halt → settled t world (ending_of ending) s w ≡ record { shared = record w { locks = released w.locks t }; sessions = remove world.sessions t }
+halts t world ending s w is = ap (λ (x : Ended). settled t world (ending_of x) s w) is
 
 -- an ending that is no code is not lost
 pub not_lost : (ending : Ended) → ((c : Code) → ending ≡ Fault c → ⊥) → is_failure (ending_of ending) ≡ false

@@ -10,7 +10,7 @@ use Rattle.mspec.specs.Node.{Text}
 use Rattle.mspec.specs.Trees.{text_eq}
 use Rattle.mspec.specs.Access.{Account, Settings, account_at, account_of, name_at}
 use Rattle.mspec.specs.Flow.{Reaches}
-use Rattle.mmeaning.specs.Step.{Server, Event, Reply, Step, is_failure}
+use Rattle.mmeaning.specs.Step.{World, Event, Reply, Step, is_failure}
 use Rattle.mmeaning.specs.History.{History, NoneFailed}
 use Rattle.misolation.specs.Reach.{Accounts, reach}
 use Rattle.misolation.specs.Cut.{is_member, is_inside, part}
@@ -48,19 +48,19 @@ module _ (settings : Settings) (e : Event) (place : ℕ) (same : account_at sett
   inside : (s : Accounts) → is_inside s settings e.terminal ≡ s (name_at settings place)
   inside s = ap (is_member s) there.1 ∙ ap s named
 
-module _ (a : Text) (settings : Settings) (server between after : Server) (events : List Event) (told : List Told) (whole : Bool) (h : Tells a settings server events told whole between) (e : Event) (reply : Reply)
+module _ (a : Text) (settings : Settings) (world between after : World) (events : List Event) (told : List Told) (whole : Bool) (h : Tells a settings world events told whole between) (e : Event) (reply : Reply)
     (step : Step settings e reply between after) where
   told_more : (b : Bool) → is_inside (only a) settings e.terminal ≡ b → (more : Bool) → (IsTrue more ↔ (IsTrue whole × NoneFailed (part (reach settings a) settings ((e, reply) ∷ []))))
-      → Tells a settings server (events ++ e ∷ []) (told ++ map told_by (cond b ((e, reply) ∷ []) [])) more after
+      → Tells a settings world (events ++ e ∷ []) (told ++ map told_by (cond b ((e, reply) ∷ []) [])) more after
   told_more b is more iff =
-      subst (λ es. Tells a settings server (events ++ e ∷ []) (told ++ map told_by es) more after) (part_of_one (only a) settings e reply b is)
-      (tells_on a settings server between after events told whole h e reply step more iff)
+      subst (λ es. Tells a settings world (events ++ e ∷ []) (told ++ map told_by es) more after) (part_of_one (only a) settings e reply b is)
+      (tells_on a settings world between after events told whole h e reply step more iff)
 
   -- at a terminal of no account
-  pub nobody_told : get settings.terminals e.terminal ≡ None → Tells a settings server (events ++ e ∷ []) told whole after
+  pub nobody_told : get settings.terminals e.terminal ≡ None → Tells a settings world (events ++ e ∷ []) told whole after
   nobody_told none =
       let outside = part_of_one (reach settings a) settings e reply false (ap (is_member (reach settings a)) none) in
-      subst (λ ts. Tells a settings server (events ++ e ∷ []) ts whole after) (append-nil told)
+      subst (λ ts. Tells a settings world (events ++ e ∷ []) ts whole after) (append-nil told)
       (told_more false (ap (is_member (only a)) none) whole (λ w. (w, subst NoneFailed (sym outside) tt), λ both. both.0))
 
   module _ (place : ℕ) (same : account_at settings place ≡ account_of settings e.terminal) (within : place < length settings.accounts) (more : Bool) (iff : IsTrue more ↔ (IsTrue whole × IsUnseen settings (name_at settings place) a reply)) where
@@ -76,13 +76,13 @@ module _ (a : Text) (settings : Settings) (server between after : Server) (event
     still = (λ m. let both = iff.0 m in (both.0, unseen.0 both.1), λ both. iff.1 (both.0, unseen.1 both.1))
 
     -- at another account's terminal
-    pub other_told : text_eq a sender ≡ false → Tells a settings server (events ++ e ∷ []) told more after
+    pub other_told : text_eq a sender ≡ false → Tells a settings world (events ++ e ∷ []) told more after
     other_told apart =
-        subst (λ ts. Tells a settings server (events ++ e ∷ []) ts more after) (append-nil told)
+        subst (λ ts. Tells a settings world (events ++ e ∷ []) ts more after) (append-nil told)
         (told_more false (inside settings e place same within (only a) ∙ apart) more still)
 
     -- at its own
-    pub own_told : text_eq a sender ≡ true → Tells a settings server (events ++ e ∷ []) (told ++ told_by (e, reply) ∷ []) more after
+    pub own_told : text_eq a sender ≡ true → Tells a settings world (events ++ e ∷ []) (told ++ told_by (e, reply) ∷ []) more after
     own_told own = told_more true (inside settings e place same within (only a) ∙ own) more still
 
 -- ---- the same, whatever the store does
@@ -120,16 +120,16 @@ module _ (a : Text) (settings : Settings) (events : List Event) (told : List Tol
 pub take_on : {X Y : Type 0} (f : X → Y) (xs : List X) (i : ℕ) (x : X) → i < length xs → x ≡ get_or xs i x → map f (take (i + 1) xs) ≡ map f (take i xs) ++ f x ∷ []
 take_on f xs i x within is = ap (map f) (take_more xs i x within ∙ ap (λ y. take i xs ++ y ∷ []) (sym is)) ∙ map-append f (take i xs) (x ∷ [])
 
-module _ {X : Type 0} (f : X → Event) (xs : List X) (i : ℕ) (x : X) (a : Text) (settings : Settings) (server between after : Server) (told : List Told) (whole : Bool) where
+module _ {X : Type 0} (f : X → Event) (xs : List X) (i : ℕ) (x : X) (a : Text) (settings : Settings) (world between after : World) (told : List Told) (whole : Bool) where
   -- where a run ends early
-  pub ran_first : i < length xs → x ≡ get_or xs i x → Tells a settings server (map f (take i xs)) told whole between → (reply : Reply) × Step settings (f x) reply between after → RanFirst settings server (map f xs) after
+  pub ran_first : i < length xs → x ≡ get_or xs i x → Tells a settings world (map f (take i xs)) told whole between → (reply : Reply) × Step settings (f x) reply between after → RanFirst settings world (map f xs) after
   ran_first within is h more = record {
     count = i + 1;
     lines = h.lines ++ (f x, more.0) ∷ [];
     sent =
         map-append (λ (e : Event × Reply). e.0) h.lines ((f x, more.0) ∷ []) ∙ ap (λ es. es ++ f x ∷ []) h.sent
         ∙ sym (take_on f xs i x within is) ∙ sym (take-map f (i + 1) xs);
-    history = history_on settings server between after h.lines ((f x, more.0) ∷ []) h.history (after, more.1, refl);
+    history = history_on settings world between after h.lines ((f x, more.0) ∷ []) h.history (after, more.1, refl);
   }
 
 -- what is so is so whatever the error is

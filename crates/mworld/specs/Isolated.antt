@@ -5,7 +5,6 @@ use Rattle.mspec.specs.Node.{Text}
 use Rattle.mspec.specs.Access.{Settings, name_at}
 use Rattle.mspec.specs.Flow.{Reaches}
 use Rattle.mmeaning.specs.Step as step
-use Rattle.mmeaning.specs.Step.{Server}
 use Rattle.mmeaning.specs.History.{History}
 use Rattle.misolation.specs.Reach.{Accounts, IsClosed, reach}
 use Rattle.misolation.specs.Alone.{alone}
@@ -16,7 +15,7 @@ use Rattle.mstore.specs.declared.store.NodeStore.{Ghosts}
 use Rattle.mworld.specs.declared.isolated.Told.{Told}
 use Rattle.mworld.specs.declared.isolated.Isolated.{Isolated}
 use Rattle.mworld.specs.declared.world.World.{World}
-use Rattle.mworld.specs.View.{settings_of, server_of, reply_of}
+use Rattle.mworld.specs.View.{settings_of, world_of, reply_of}
 
 -- the replies that were told, as those of the definitions
 abbrev pub told_of : Told → telling.Told
@@ -30,10 +29,10 @@ replies_of i = map told_of i.replies.items
 -- are those of the members' part of this history alone, from the one cut to the other: over the members' globals, sessions and locks,
 -- and the grants between them.
 pub record IsTold {S : Type 0} (g : Ghosts S) (old : World S g) (account : ℕ) (events : List step.Event) (told : List telling.Told) (whole : Bool) (new : World S g) : Type 0 where
-  pub run : Tells (name_at (settings_of old) account) (settings_of old) (server_of g old) events told whole (server_of g new)
+  pub run : Tells (name_at (settings_of old) account) (settings_of old) (world_of g old) events told whole (world_of g new)
   pub apart :
       (s : Accounts) → IsClosed (settings_of old) s → IsTrue (s (name_at (settings_of old) account)) →
-      TellsPart s (name_at (settings_of old) account) (settings_of old) (server_of g old) events told whole (server_of g new) run.lines
+      TellsPart s (name_at (settings_of old) account) (settings_of old) (world_of g old) events told whole (world_of g new) run.lines
 
 -- Where it is whole, they are those of the definitional interpreter, run on the lines of the accounts that reach this one, over their
 -- globals, their sessions and locks, and the grants between them alone.
@@ -42,7 +41,7 @@ IsEquallyTold g old account events told whole =
     IsTrue whole →
     told ≡
     told_to (name_at (settings_of old) account) (settings_of old)
-    (alone (reach (settings_of old) (name_at (settings_of old) account)) (settings_of old) (server_of g old) events)
+    (alone (reach (settings_of old) (name_at (settings_of old) account)) (settings_of old) (world_of g old) events)
 
 -- Whatever the store does, they are replies to the account's events, one each and in their order.
 pub record IsToldEach (a : Text) (settings : Settings) (events : List step.Event) (told : List telling.Told) : Type 0 where
@@ -51,11 +50,11 @@ pub record IsToldEach (a : Text) (settings : Settings) (events : List step.Event
   pub replies : told_to a settings lines ≡ told
 
 -- some first events were run, one step each
-pub record RanFirst (settings : Settings) (server : Server) (events : List step.Event) (after : Server) : Type 0 where
+pub record RanFirst (settings : Settings) (world : step.World) (events : List step.Event) (after : step.World) : Type 0 where
   pub count : ℕ
   pub lines : List (step.Event × step.Reply)
   pub sent : events_of lines ≡ take count events
-  pub history : History settings server lines after
+  pub history : History settings world lines after
 
 -- no line failed here whose sender reaches the account
 abbrev pub IsUnseen : Settings → (sender a : Text) → step.Reply → Type 0

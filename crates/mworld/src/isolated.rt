@@ -4,9 +4,9 @@ ghost use Rattle.std.specs.Prelude.{◌≡◌, List, ◌∷◌, [], ◌++◌, ma
 ghost use Rattle.mspec.specs.Access.{name_at};
 ghost use Rattle.mspec.specs.Trees.{text_eq};
 ghost use Rattle.mmeaning.specs.Step as step;
-ghost use Rattle.mmeaning.specs.Step.{Server, Step};
+ghost use Rattle.mmeaning.specs.Step.{Step};
 ghost use Rattle.misolation.specs.Telling.{Tells};
-ghost use Rattle.mworld.specs.View.{settings_of, server_of, reply_of, event_of};
+ghost use Rattle.mworld.specs.View.{settings_of, world_of, reply_of, event_of};
 ghost use Rattle.mworld.specs.Isolated.{replies_of, IsTold, IsEquallyTold, IsToldEach, IsUnseen, RanFirst};
 
 use crate::reply::{Event, Reply};
@@ -54,7 +54,7 @@ pub fn isolated_replies<S: NodeStore>(
     ensures told { S.sound → IfOk result (λ isolated. IsTold S.NodeStore world.old account (map event_of events.now) (replies_of isolated) isolated.whole world.new) }
     ensures alone { S.sound → IfOk result (λ isolated. IsEquallyTold S.NodeStore world.old account (map event_of events.now) (replies_of isolated) isolated.whole) }
     ensures each { IfOk result (λ isolated. IsToldEach (name_at (settings_of world.old) account) (settings_of world.old) (map event_of events.now) (replies_of isolated)) }
-    ensures first { S.sound → IfErr result (λ _. RanFirst (settings_of world.old) (server_of S.NodeStore world.old) (map event_of events.now) (server_of S.NodeStore world.new)) }
+    ensures first { S.sound → IfErr result (λ _. RanFirst (settings_of world.old) (world_of S.NodeStore world.old) (map event_of events.now) (world_of S.NodeStore world.new)) }
     ensures settings { settings_of world.new ≡ settings_of world.old }
 {
     let mut isolated = Isolated {
@@ -75,13 +75,13 @@ fn tell<S: NodeStore>(
     account: AccountId,
     isolated: &mut Isolated,
 ) -> Result<(), AllocError>
-    ensures told { S.sound → OnOk result ((server : Server) (events : List step.Event) →
-        Tells (name_at (settings_of world.old) account) (settings_of world.old) server events (replies_of isolated.old) isolated.old.whole (server_of S.NodeStore world.old) →
-        Tells (name_at (settings_of world.old) account) (settings_of world.old) server (events ++ event_of event.now ∷ []) (replies_of isolated.new) isolated.new.whole (server_of S.NodeStore world.new)) }
+    ensures told { S.sound → OnOk result ((world : step.World) (events : List step.Event) →
+        Tells (name_at (settings_of world.old) account) (settings_of world.old) world events (replies_of isolated.old) isolated.old.whole (world_of S.NodeStore world.old) →
+        Tells (name_at (settings_of world.old) account) (settings_of world.old) world (events ++ event_of event.now ∷ []) (replies_of isolated.new) isolated.new.whole (world_of S.NodeStore world.new)) }
     ensures each { OnOk result ((events : List step.Event) →
         IsToldEach (name_at (settings_of world.old) account) (settings_of world.old) events (replies_of isolated.old) →
         IsToldEach (name_at (settings_of world.old) account) (settings_of world.old) (events ++ event_of event.now ∷ []) (replies_of isolated.new)) }
-    ensures step { S.sound → (reply : step.Reply) × Step (settings_of world.old) (event_of event.now) reply (server_of S.NodeStore world.old) (server_of S.NodeStore world.new) }
+    ensures step { S.sound → (reply : step.Reply) × Step (settings_of world.old) (event_of event.now) reply (world_of S.NodeStore world.old) (world_of S.NodeStore world.new) }
     ensures settings { settings_of world.new ≡ settings_of world.old }
 {
     let reply = world.line(event.terminal, &event.text);

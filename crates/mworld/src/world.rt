@@ -22,7 +22,7 @@ use std::collections::HashMap;
 const KEPT_TREES: usize = 256;
 
 /// The sessions and the locks of all terminals over a store, with the settings that say whose the terminals are. Contracts see it by
-/// `server_of`, as the server of the definitions, and by `settings_of`.
+/// `world_of`, as the world of the definitions, and by `settings_of`.
 ///
 /// Of every world over a sound store it is known that each lock is on a name that its terminal's account may hold: one without `^` of its
 /// own, or a global that it may write.
@@ -46,9 +46,9 @@ impl<S: NodeStore> World<S> {
     ghost use Rattle.mmeaning.specs.History.{opening};
     ghost use Rattle.moperator.specs.declared.code.Code.TheVariants.{Zstore};
     ghost use Rattle.misolation.specs.Reach.{Accounts, IsClosed};
-    ghost use Rattle.misolation.specs.Cut.{is_inside, cut_server};
+    ghost use Rattle.misolation.specs.Cut.{is_inside, cut_world};
     ghost use Rattle.misolation.specs.StepLaws.{StepWrites, StepWithin};
-    ghost use Rattle.mworld.specs.View.{settings_of, server_of, reply_of};
+    ghost use Rattle.mworld.specs.View.{settings_of, world_of, reply_of};
     ghost use Rattle.mworld.specs.Admits.{Passes};
 
     /// A world without a session and without a lock, over a store. It keeps the trees of texts that were run, of all accounts, of 256 texts at
@@ -58,7 +58,7 @@ impl<S: NodeStore> World<S> {
     ///
     /// The settings and the store are given back for want of memory.
     pub fn new(alloc: Global, settings: Settings, store: S) -> Result<World<S>, (Settings, S)>
-        ensures server { IfOk result (λ world. server_of S.NodeStore world ≡ opening (S.content store)) }
+        ensures world { IfOk result (λ world. world_of S.NodeStore world ≡ opening (S.content store)) }
         ensures settings { IfOk result (λ world. settings_of world ≡ settings) }
         ensures back { IfErr result (λ back. back ≡ (settings, store)) }
     {
@@ -77,7 +77,7 @@ impl<S: NodeStore> World<S> {
         entries: usize,
     ) -> Result<World<S>, (Settings, S)>
         requires { 1 ≤ entries }
-        ensures server { IfOk result (λ world. server_of S.NodeStore world ≡ opening (S.content store)) }
+        ensures world { IfOk result (λ world. world_of S.NodeStore world ≡ opening (S.content store)) }
         ensures settings { IfOk result (λ world. settings_of world ≡ settings) }
         ensures back { IfErr result (λ back. back ≡ (settings, store)) }
     {
@@ -97,14 +97,14 @@ impl<S: NodeStore> World<S> {
 
     /// The store as the lines left it, lent. Takes no memory.
     pub fn store(&self) -> &S
-        ensures { S.content result.now ≡ (server_of S.NodeStore self.now).world.globals }
+        ensures { S.content result.now ≡ (world_of S.NodeStore self.now).shared.globals }
     {
         &self.store
     }
 
     /// The store as the lines left it. Takes no memory.
     pub fn into_store(self) -> S
-        ensures { S.content result ≡ (server_of S.NodeStore self).world.globals }
+        ensures { S.content result ≡ (world_of S.NodeStore self).shared.globals }
     {
         self.store
     }
@@ -119,12 +119,12 @@ impl<S: NodeStore> World<S> {
     /// is nothing but the set, with the same reply and the same writes; at any other terminal it leaves that as it was. The globals that
     /// it leaves are the old ones after some first of the line's writes: after all, where it did not fail.
     pub fn line(&mut self, terminal: u32, text: &[u8]) -> Reply
-        ensures step { S.sound → Step (settings_of self.old) (record { terminal = terminal; text = text.now }) (reply_of result) (server_of S.NodeStore self.old) (server_of S.NodeStore self.new) }
-        ensures writes { S.sound → StepWrites (settings_of self.old) (record { terminal = terminal; text = text.now }) (reply_of result) (server_of S.NodeStore self.old) (server_of S.NodeStore self.new) }
+        ensures step { S.sound → Step (settings_of self.old) (record { terminal = terminal; text = text.now }) (reply_of result) (world_of S.NodeStore self.old) (world_of S.NodeStore self.new) }
+        ensures writes { S.sound → StepWrites (settings_of self.old) (record { terminal = terminal; text = text.now }) (reply_of result) (world_of S.NodeStore self.old) (world_of S.NodeStore self.new) }
         ensures inside { S.sound → (s : Accounts) → IsClosed (settings_of self.old) s → IsTrue (is_inside s (settings_of self.old) terminal) →
-            StepWithin s (settings_of self.old) (record { terminal = terminal; text = text.now }) (reply_of result) (server_of S.NodeStore self.old) (server_of S.NodeStore self.new) }
+            StepWithin s (settings_of self.old) (record { terminal = terminal; text = text.now }) (reply_of result) (world_of S.NodeStore self.old) (world_of S.NodeStore self.new) }
         ensures outside { S.sound → (s : Accounts) → IsClosed (settings_of self.old) s → is_inside s (settings_of self.old) terminal ≡ false →
-            cut_server s (settings_of self.old) (server_of S.NodeStore self.new) ≡ cut_server s (settings_of self.old) (server_of S.NodeStore self.old) }
+            cut_world s (settings_of self.old) (world_of S.NodeStore self.new) ≡ cut_world s (settings_of self.old) (world_of S.NodeStore self.old) }
         ensures settings { settings_of self.new ≡ settings_of self.old }
         ensures steady { S.steady → result.ending ≢ Ended.Fault Zstore }
     {
@@ -143,7 +143,7 @@ impl<S: NodeStore> World<S> {
 
     /// Takes the room of a reply back for the lines to come, so that they ask for none. Takes no memory.
     pub fn reuse(&mut self, reply: Reply)
-        ensures server { server_of S.NodeStore self.new ≡ server_of S.NodeStore self.old }
+        ensures world { world_of S.NodeStore self.new ≡ world_of S.NodeStore self.old }
         ensures settings { settings_of self.new ≡ settings_of self.old }
     {
         self.room = reply.out;
@@ -152,7 +152,7 @@ impl<S: NodeStore> World<S> {
     // Runs a line that passed the checks before its text is parsed. The session stays where it is, and the line changes it there.
     fn run(&mut self, terminal: u32, account: AccountId, text: &[u8]) -> Reply
         requires { Passes (settings_of self.now) (record { terminal = terminal; text = text.now }) account }
-        ensures step { S.sound → Step (settings_of self.old) (record { terminal = terminal; text = text.now }) (reply_of result) (server_of S.NodeStore self.old) (server_of S.NodeStore self.new) }
+        ensures step { S.sound → Step (settings_of self.old) (record { terminal = terminal; text = text.now }) (reply_of result) (world_of S.NodeStore self.old) (world_of S.NodeStore self.new) }
         ensures settings { settings_of self.new ≡ settings_of self.old }
         ensures steady { S.steady → result.ending ≢ Ended.Fault Zstore }
     {

@@ -22,7 +22,7 @@ returns-in-Ok-memory_world g c =
     let has = has_account _ c.args.name.now c.in-Ok.settings c.in-Some.account c.in-Ok.ensures.ok c.in-Some.ensures.account c.in-Some.ensures.known in
     rw c.in-Memory.is
     (over_memory _ g.I.Read.remaining g.O.Write.contents c.args.document.now c.args.name.now _ _ _ _ has c.in-Ok-memory_world.world c.only_in.new.world
-    c.in-Ok-memory_world.ensures.settings _ c.in-Ok-memory_world.ensures.server c.in-Some.account c.in-Ok-memory_world.ensures.sound refl
+    c.in-Ok-memory_world.ensures.settings _ c.in-Ok-memory_world.ensures.world c.in-Some.account c.in-Ok-memory_world.ensures.sound refl
     (its_name c.in-Ok.settings c.args.name.now c.in-Some.account c.in-Some.ensures.account c.in-Some.ensures.known) c.only_in.result c.only_in.ensures)
 
 pub returns-in-Err-memory_world : goal.returns-in-Err-memory_world
@@ -38,7 +38,7 @@ returns-in-Ok-file_world g c =
     let has = has_account _ c.args.name.now c.in-Ok.settings c.in-Some.account c.in-Ok.ensures.ok c.in-Some.ensures.account c.in-Some.ensures.known in
     rw c.in-File.is
     (over_file _ g.I.Read.remaining g.O.Write.contents c.args.document.now c.args.name.now _ _ _ _ has c.in-Ok-file_world.world c.only_in-outcome.new.world
-    c.in-Ok-file_world.ensures.settings c.in-Ok-file_world.ensures.server.0 c.in-Ok-file_world.ensures.server.1 c.in-Some.account
+    c.in-Ok-file_world.ensures.settings c.in-Ok-file_world.ensures.world.0 c.in-Ok-file_world.ensures.world.1 c.in-Some.account
     (its_name c.in-Ok.settings c.args.name.now c.in-Some.account c.in-Some.ensures.account c.in-Some.ensures.known) c.in-File.path
     c.only_in-outcome.result c.only_in-outcome.ensures)
 

@@ -13,8 +13,8 @@ returns-in-Err-memory_world-clause-early g c =
 
 pub returns-in-Ok-serve_over-clause-answered : goal.returns-in-Ok-serve_over-clause-answered
 returns-in-Ok-serve_over-clause-answered g c =
-    rw c.table_of.ensures (answered _ c.in-Ok.ensures.ok c.in-Ok-memory_world.ensures.settings c.in-Ok-memory_world.ensures.server refl c.in-Ok-memory_world.ensures.sound c.in-Ok-serve_over.ensures.served)
+    rw c.table_of.ensures (answered _ c.in-Ok.ensures.ok c.in-Ok-memory_world.ensures.settings c.in-Ok-memory_world.ensures.world refl c.in-Ok-memory_world.ensures.sound c.in-Ok-serve_over.ensures.served)
 
 pub returns-in-Err-serve_over-clause-early : goal.returns-in-Err-serve_over-clause-early
 returns-in-Err-serve_over-clause-early g c =
-    (c.in-Ok-memory_world.ensures.sound, broken _ c.in-Ok.ensures.ok c.in-Ok-memory_world.ensures.settings c.in-Ok-memory_world.ensures.server c.in-Err-serve_over.ensures.served, c.in-Err-serve_over.ensures.broke)
+    (c.in-Ok-memory_world.ensures.sound, broken _ c.in-Ok.ensures.ok c.in-Ok-memory_world.ensures.settings c.in-Ok-memory_world.ensures.world c.in-Err-serve_over.ensures.served, c.in-Err-serve_over.ensures.broke)

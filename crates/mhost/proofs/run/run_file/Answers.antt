@@ -13,10 +13,10 @@ returns-in-Err-file_world-clause-early g c =
 
 pub returns-in-Ok-serve_over-clause-answered : goal.returns-in-Ok-serve_over-clause-answered
 returns-in-Ok-serve_over-clause-answered g c =
-    followed _ c.in-Ok.ensures.ok c.in-Ok-file_world.ensures.settings c.in-Ok-file_world.ensures.server.1 c.in-Ok-serve_over.ensures.served
+    followed _ c.in-Ok.ensures.ok c.in-Ok-file_world.ensures.settings c.in-Ok-file_world.ensures.world.1 c.in-Ok-serve_over.ensures.served
 
 pub returns-in-Err-serve_over-clause-early : goal.returns-in-Err-serve_over-clause-early
 returns-in-Err-serve_over-clause-early g c = (
-  (c.in-Ok-file_world.ensures.server.0, broken _ c.in-Ok.ensures.ok c.in-Ok-file_world.ensures.settings c.in-Ok-file_world.ensures.server.1 c.in-Err-serve_over.ensures.served),
+  (c.in-Ok-file_world.ensures.world.0, broken _ c.in-Ok.ensures.ok c.in-Ok-file_world.ensures.settings c.in-Ok-file_world.ensures.world.1 c.in-Err-serve_over.ensures.served),
   c.in-Err-serve_over.ensures.broke,
 )

@@ -1,17 +1,17 @@
 -- SPDX-License-Identifier: Apache-2.0
 use Rattle.mhost.proofs.run.serve_over.Goals as goal
-use Rattle.mworld.specs.View.{server_of}
+use Rattle.mworld.specs.View.{world_of}
 
 pub returns-in-Ok-clause-served : goal.returns-in-Ok-clause-served
 returns-in-Ok-clause-served g c = record {
-  after = server_of g.S.NodeStore c.serve.new.world;
+  after = world_of g.S.NodeStore c.serve.new.world;
   serves = c.in-Ok.ensures.serves;
   last = c.into_store.ensures;
 }
 
 pub returns-in-Err-clause-served : goal.returns-in-Err-clause-served
 returns-in-Err-clause-served g c = record {
-  after = server_of g.S.NodeStore c.serve.new.world;
+  after = world_of g.S.NodeStore c.serve.new.world;
   serves = c.in-Err.ensures.serves;
   last = tt;
 }

@@ -5,8 +5,8 @@ use Rattle.sqlite.specs.Steps.{over_memory}
 use Rattle.mstore.specs.Database.{stored}
 use Rattle.mhost.proofs.worlds.memory_world.Goals as goal
 
-pub returns-in-Ok-new-clause-server : goal.returns-in-Ok-new-clause-server
-returns-in-Ok-new-clause-server c = c.in-Ok-new.ensures.server ∙ ap opening (ap (λ kept. stored over_memory kept.store) c.in-Some.ensures ∙ c.in-Ok.ensures.empty)
+pub returns-in-Ok-new-clause-world : goal.returns-in-Ok-new-clause-world
+returns-in-Ok-new-clause-world c = c.in-Ok-new.ensures.world ∙ ap opening (ap (λ kept. stored over_memory kept.store) c.in-Some.ensures ∙ c.in-Ok.ensures.empty)
 
 pub returns-in-Ok-new-clause-sound : goal.returns-in-Ok-new-clause-sound
 returns-in-Ok-new-clause-sound c = c.in-Ok.ensures.sound

@@ -1,6 +1,6 @@
 -- SPDX-License-Identifier: Apache-2.0
 use Rattle.std.proofs.Common.{◌≡◌}
-use Rattle.mworld.specs.View.{settings_of, server_of}
+use Rattle.mworld.specs.View.{settings_of, world_of}
 use Rattle.mwire.specs.Connections.{HasServedEach}
 use Rattle.mwire.proofs.connections.serve_each.Given as goal
 
@@ -8,6 +8,6 @@ use Rattle.mwire.proofs.connections.serve_each.Given as goal
 abbrev pub invariant-loop-number : goal.invariant-loop-number
 invariant-loop-number g l = record {
   settings : settings_of l.world ≡ settings_of l.initial.world;
-  served : HasServedEach g.S.NodeStore (settings_of l.initial.world) l.number (server_of g.S.NodeStore l.initial.world) (server_of g.S.NodeStore l.world)
+  served : HasServedEach g.S.NodeStore (settings_of l.initial.world) l.number (world_of g.S.NodeStore l.initial.world) (world_of g.S.NodeStore l.world)
       g.L.Listener.tells (g.L.Listener.waiting l.initial.listener) (g.L.Listener.waiting l.listener) (g.L.Listener.answered l.initial.listener) (g.L.Listener.answered l.listener);
 }

@@ -34,7 +34,7 @@ pub returns-in_ok-show_reply-in-Runs-clause-sent : goal.returns-in_ok-show_reply
 returns-in_ok-show_reply-in-Runs-clause-sent g c =
     let is = sym c.fate_of.ensures ∙ ap fate_in c.in-Runs.is in
     let same = c.deref.ensures.value ∙ c.in_ok-show_reply-in-Runs.ensures.ok in
-    rw c.reuse.ensures.server (record {
+    rw c.reuse.ensures.world (record {
       answer = c.deref.result.now;
       answered = LineAnswered-at _ _ _ _ _ _ _ is (replied _ c.line-reply.result same c.line-reply.ensures.step c.line-reply.ensures.steady);
       sent = c.write_whole-in-Runs.ensures.sent;

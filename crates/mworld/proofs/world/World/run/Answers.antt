@@ -7,7 +7,7 @@ use Rattle.mspec.specs.Code.{Memory}
 use Rattle.mmeaning.specs.Step.{Faulted, lost, is_failure, session_or_new}
 use Rattle.moperator.specs.Codes.{fault_of}
 use Rattle.mexec.specs.Runs.{ending_of}
-use Rattle.mworld.specs.View.{server_of, sessions_of, shared}
+use Rattle.mworld.specs.View.{world_of, sessions_of, shared}
 use Rattle.misolation.specs.Cut.{AreFit}
 use Rattle.misolation.proofs.FittingLocks.{released_fits}
 use Rattle.mworld.proofs.Runs.{ran_step, lost_step, unrun_step, ran_fits, is_loss, not_lost, settles, halts}
@@ -18,7 +18,7 @@ use Rattle.mworld.proofs.world.World.run.Goals.{in-Fault+else-loses_session, in_
 pub returns-in_default-clause-step : goal.returns-in_default-clause-step
 returns-in_default-clause-step g c = λ sound.
     unrun_step g.S.NodeStore c.args.self.now.settings (record { terminal = c.args.terminal; text = c.args.text.now }) c.args.account (sessions_of c.args.self.now.sessions) c.args.self.now.store c.args.self.now.locks c.requires _ _ Memory
-    (λ i. record { world = shared g.S.NodeStore c.args.self.now.store (c.release_all.ensures i); sessions = c.in_default.ensures.none i })
+    (λ i. record { shared = shared g.S.NodeStore c.args.self.now.store (c.release_all.ensures i); sessions = c.in_default.ensures.none i })
     c.refused.ensures
 
 pub returns-then-loses_session-clause-step : goal.returns-then-loses_session-clause-step
@@ -31,7 +31,7 @@ returns-then-loses_session-clause-step g c = λ sound.
     c.args.self.now.store c.run_over-reply.new.store c.args.self.now.locks c.run_over-reply.new.locks c.run_over-reply.result c.requires
     (is_lent c.args.terminal m (session_or_new (get sessions c.args.terminal)) c.in-Ok.ensures.session c.in-Some.session.now c.in-Some.ensures.value) c.run_over-reply.ensures.ran sound _ _ loss.0
     (λ i. record {
-      world = shared g.S.NodeStore c.run_over-reply.new.store (c.end_session.ensures.locks i);
+      shared = shared g.S.NodeStore c.run_over-reply.new.store (c.end_session.ensures.locks i);
       sessions = (c.end_session.ensures.session ∙ gone sessions c.args.terminal m c.begin_session.ensures.others some c.get_mut.follows.lender c.get_mut.follows.holds c.run_over-reply.new.session) i;
     })
     (c.refused-then-loses_session.ensures ∙ ap (λ fault. lost (Faulted fault)) loss.1)
@@ -46,10 +46,10 @@ returns-in-Halt-clause-step g c = λ sound.
     c.args.self.now.store c.run_over-reply.new.store c.args.self.now.locks c.run_over-reply.new.locks c.run_over-reply.result c.requires
     (is_lent c.args.terminal m (session_or_new (get sessions c.args.terminal)) c.in-Ok.ensures.session c.in-Some.session.now c.in-Some.ensures.value) c.run_over-reply.ensures.ran sound _ fine
     ((λ i. record {
-      world = shared g.S.NodeStore c.run_over-reply.new.store (c.end_session-in-Halt.ensures.locks i);
+      shared = shared g.S.NodeStore c.run_over-reply.new.store (c.end_session-in-Halt.ensures.locks i);
       sessions = (c.end_session-in-Halt.ensures.session ∙ gone sessions c.args.terminal m c.begin_session.ensures.others some c.get_mut.follows.lender c.get_mut.follows.holds c.run_over-reply.new.session) i;
     })
-    ∙ sym (halts c.args.terminal (server_of g.S.NodeStore c.args.self.now) c.run_over-reply.result.ending _ (shared g.S.NodeStore c.run_over-reply.new.store c.run_over-reply.new.locks) c.in-Halt.is))
+    ∙ sym (halts c.args.terminal (world_of g.S.NodeStore c.args.self.now) c.run_over-reply.result.ending _ (shared g.S.NodeStore c.run_over-reply.new.store c.run_over-reply.new.locks) c.in-Halt.is))
 
 pub returns-clause-step : goal.returns-clause-step
 returns-clause-step g c = λ sound.
@@ -63,10 +63,10 @@ returns-clause-step g c = λ sound.
     ran_step g.S.NodeStore c.args.self.now.settings (record { terminal = c.args.terminal; text = c.args.text.now }) c.args.account sessions c.in-Some.session.now c.run_over-reply.new.session
     c.args.self.now.store c.run_over-reply.new.store c.args.self.now.locks c.run_over-reply.new.locks c.run_over-reply.result c.requires
     (is_lent c.args.terminal m (session_or_new (get sessions c.args.terminal)) c.in-Ok.ensures.session c.in-Some.session.now c.in-Some.ensures.value) c.run_over-reply.ensures.ran sound _ fine
-    (ap (λ (s : _). record { world = shared g.S.NodeStore c.run_over-reply.new.store c.run_over-reply.new.locks; sessions = s })
+    (ap (λ (s : _). record { shared = shared g.S.NodeStore c.run_over-reply.new.store c.run_over-reply.new.locks; sessions = s })
     (left sessions c.args.terminal m c.begin_session.ensures.others some c.get_mut.follows.lender c.get_mut.follows.holds (record c.run_over-reply.new.session { locals = c.leave_all.new.self })
     ∙ ap (λ l. insert sessions c.args.terminal (record { locals = l; naked = c.run_over-reply.new.session.naked; test = c.run_over-reply.new.session.test })) c.leave_all.ensures)
-    ∙ sym (settles c.args.terminal (server_of g.S.NodeStore c.args.self.now) c.run_over-reply.result.ending _ (shared g.S.NodeStore c.run_over-reply.new.store c.run_over-reply.new.locks) c.in_default-ending-2.not-Halt))
+    ∙ sym (settles c.args.terminal (world_of g.S.NodeStore c.args.self.now) c.run_over-reply.result.ending _ (shared g.S.NodeStore c.run_over-reply.new.store c.run_over-reply.new.locks) c.in_default-ending-2.not-Halt))
 
 -- a session is there, now or from the line before
 pub unreachable-requires : goal.unreachable-requires

@@ -10,7 +10,7 @@ use Rattle.mspec.specs.LockConflict.{LockName, Locks, taken, given_back, release
 use Rattle.mspec.specs.Access.{Settings, Read, Write, may}
 use Rattle.mspec.specs.Plan.{May, Value, Status, Neighbour, Routine, Put, Kill, Take, Give_back, Release, Ops}
 
-pub record World : Type 0 where
+pub record Shared : Type 0 where
   pub globals : Globals
   pub locks : Locks
 
@@ -32,14 +32,14 @@ guarded false a w r = (a, w)
 
 -- ---- operations
 
-abbrev pub took : World → Option Locks → Bool × World
+abbrev pub took : Shared → Option Locks → Bool × Shared
 took w None = (false, w)
 took w (Some locks) = (true, record w { locks = locks })
 
 -- What is done for a terminal of the account `me`. One that the account may not do does nothing, so that no plan tells or
 -- changes more than the settings allow. Those without a guard touch only what is the terminal's or its account's own: a routine
 -- of the account, counts of the terminal.
-abbrev pub act : Settings → ℕ → Text → Ops World
+abbrev pub act : Settings → ℕ → Text → Ops Shared
 act settings terminal me (May owner name mode) w = (may settings me owner name mode, w)
 act settings terminal me (Value n) w = guarded (may_read settings me n) None w (get w.globals n, w)
 act settings terminal me (Status n) w = guarded (may_read settings me n) (false, false) w (status w.globals n, w)

@@ -1,6 +1,6 @@
 -- SPDX-License-Identifier: Apache-2.0
 -- A session of the program as one of the definitions.
-use Rattle.mmeaning.specs.Step as step
+use Rattle.mmeaning.specs.Transition as transition
 use Rattle.meval.specs.declared.session.Session.{Session}
 
 abbrev pub session_of : Session → step.Session

@@ -1,7 +1,7 @@
 // SPDX-License-Identifier: Apache-2.0
 // What a terminal keeps from line to line.
 ghost use Rattle.std.specs.Prelude.{◌≡◌};
-ghost use Rattle.mmeaning.specs.Step.{new_session};
+ghost use Rattle.mmeaning.specs.Transition.{new_session};
 ghost use Rattle.meval.specs.Sessions.{session_of};
 
 use crate::global_node::GlobalNode;

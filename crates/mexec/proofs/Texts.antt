@@ -6,8 +6,8 @@ use Rattle.mgrammar.specs.Grammar.{LineTree}
 use Rattle.mmeaning.specs.Levels.{commands_of}
 use Rattle.mmeaning.specs.LineMeaning as meaning
 use Rattle.mmeaning.specs.LineMeaning.{run, run_within}
-use Rattle.mmeaning.specs.Step as step
-use Rattle.mmeaning.specs.Step.{Ending, Faulted}
+use Rattle.mmeaning.specs.Transition as transition
+use Rattle.mmeaning.specs.Transition.{Ending, Faulted}
 use Rattle.mmeaning.specs.Calls.{Standing, Here, Gave}
 use Rattle.mstore.specs.declared.store.NodeStore.{Ghosts}
 use Rattle.moperator.specs.declared.code.Code.{Code}

@@ -4,8 +4,8 @@ use Rattle.std.specs.Prelude.{◌≡◌, ◌≤◌, Option}
 use Rattle.mspec.specs.Act.{Act}
 use Rattle.mgrammar.specs.Grammar.{LineTree}
 use Rattle.mmeaning.specs.LineMeaning.{Signal}
-use Rattle.mmeaning.specs.Step as step
-use Rattle.mmeaning.specs.Step.{Ending, Finished, Halted, Faulted, text_run}
+use Rattle.mmeaning.specs.Transition as transition
+use Rattle.mmeaning.specs.Transition.{Ending, Finished, Halted, Faulted, text_run}
 use Rattle.mmeaning.specs.Calls.{Standing, Here, Gave, FailedBy}
 use Rattle.mstore.specs.declared.store.NodeStore.{Ghosts}
 use Rattle.moperator.specs.Codes.{fault_of}

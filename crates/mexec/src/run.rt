@@ -1,7 +1,7 @@
 // SPDX-License-Identifier: Apache-2.0
 // A text, carried out.
 ghost use Rattle.std.specs.Prelude.{◌≡◌, ◌≢◌};
-ghost use Rattle.mmeaning.specs.Step as meaning;
+ghost use Rattle.mmeaning.specs.Transition as meaning;
 ghost use Rattle.mgrammar.specs.Reading.{line_at};
 ghost use Rattle.moperator.specs.declared.code.Code.TheVariants.{Zstore};
 ghost use Rattle.mcommand.specs.Does.{KeepsLoans};

@@ -2,7 +2,7 @@
 -- From why there are no settings, or no store, to how a run ends early.
 use Rattle.std.proofs.Common.{Option}
 use Rattle.mspec.specs.Act.{Text}
-use Rattle.mmeaning.specs.Step.{Settings}
+use Rattle.mmeaning.specs.Transition.{Settings}
 use Rattle.mgrant.specs.Reading.{IsRead}
 use Rattle.mstore.specs.declared.store.NodeStore.{Ghosts}
 use Rattle.mwire.specs.declared.watched.Watched.{Watched}

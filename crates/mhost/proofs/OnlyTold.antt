@@ -11,6 +11,7 @@ use Rattle.mspec.specs.Act.{Text}
 use Rattle.mspec.specs.Globals.{Globals}
 use Rattle.mspec.specs.Trees.{text_eq}
 use Rattle.mspec.specs.Access.{Account, Settings, account_at, account_named, name_at}
+use Rattle.mmeaning.specs.Transition as transition
 use Rattle.mmeaning.specs.History.{opening}
 use Rattle.misolation.specs.Reach.{reach}
 use Rattle.misolation.specs.Alone.{alone}
@@ -149,7 +150,7 @@ module _ {S I O : Type 0} (g : Ghosts S) (left : I → Option Text) (held : O �
         → ToldAlone document name (left (inner_of input)) (left (inner_of input')) (held (inner_of output)) (held (inner_of output'))
     told_alone sound none is whole s =
         let ran : RanOnly g old place (events_of (lines s.read)) s.sent whole new = s.outcome.1 in
-        let at : ◌≡◌ {A = Text × (Settings × step.World)} (name_at (settings_of old) place, (settings_of old, world_of g old)) (name, (known.settings, opening empty)) =
+        let at : ◌≡◌ {A = Text × (Settings × transition.World)} (name_at (settings_of old) place, (settings_of old, world_of g old)) (name, (known.settings, opening empty)) =
         λ i. ((ap (λ (t : Settings). name_at t place) by ∙ is) i, (by i, (opens ∙ ap opening none) i)) in
         record {
           known = known;
@@ -160,8 +161,8 @@ module _ {S I O : Type 0} (g : Ghosts S) (left : I → Option Text) (held : O �
           appended = subst (Appends (held (inner_of output)) (held (inner_of output'))) ran.text s.appended;
           whole = whole;
           after = world_of g new;
-          tells = subst (λ (q : Text × (Settings × step.World)). Tells q.0 q.1.0 q.1.1 (events_of (lines s.read)) ran.replies whole (world_of g new)) at (ran.told sound).run;
-          alone = λ w. subst (λ (q : Text × (Settings × step.World)). ran.replies ≡ told_to q.0 q.1.0 (alone (reach q.1.0 q.0) q.1.0 q.1.1 (events_of (lines s.read)))) at (ran.alone sound w);
+          tells = subst (λ (q : Text × (Settings × transition.World)). Tells q.0 q.1.0 q.1.1 (events_of (lines s.read)) ran.replies whole (world_of g new)) at (ran.told sound).run;
+          alone = λ w. subst (λ (q : Text × (Settings × transition.World)). ran.replies ≡ told_to q.0 q.1.0 (alone (reach q.1.0 q.0) q.1.0 q.1.1 (events_of (lines s.read)))) at (ran.alone sound w);
         }
 
     -- or over any store

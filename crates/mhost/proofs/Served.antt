@@ -4,7 +4,7 @@ use Rattle.std.proofs.Common.{◌≡◌, Option, Result, Ok, Err, ap, ◌∙◌}
 use Rattle.std.specs.FinMap.{empty}
 use Rattle.mspec.specs.Act.{Text}
 use Rattle.mspec.specs.Globals.{Globals}
-use Rattle.mmeaning.specs.Step.{Settings, World}
+use Rattle.mmeaning.specs.Transition.{Settings, World}
 use Rattle.mmeaning.specs.History.{opening}
 use Rattle.mgrant.specs.Reading.{IsRead}
 use Rattle.mstore.specs.declared.store.NodeStore.{Ghosts}

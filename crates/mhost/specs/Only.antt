@@ -7,6 +7,7 @@ use Rattle.std.specs.Str.Lines.{lines}
 use Rattle.mspec.specs.Act.{Text}
 use Rattle.mspec.specs.Globals.{Globals}
 use Rattle.mspec.specs.Access.{Account, Settings, account_named, name_at}
+use Rattle.mmeaning.specs.Transition as transition
 use Rattle.mmeaning.specs.History.{opening}
 use Rattle.misolation.specs.Reach.{reach}
 use Rattle.misolation.specs.Alone.{alone}
@@ -48,7 +49,7 @@ pub record ToldAlone (document name : Text) (left left' held held' : Option Text
   pub replies : List Told
   pub appended : Appends held held' (told_text replies)
   pub whole : Bool
-  pub after : step.World
+  pub after : transition.World
   pub tells : Tells name known.settings (opening empty) (events_of (lines read)) replies whole after
   pub alone :
       IsTrue whole →

@@ -6,7 +6,7 @@ use Rattle.std.specs.Io.KnownBytes.{Appends, Consumes, IsAtEnd}
 use Rattle.std.specs.Str.Lines.{lines}
 use Rattle.mspec.specs.Act.{Text}
 use Rattle.mspec.specs.Globals.{Globals}
-use Rattle.mmeaning.specs.Step.{Settings, World, Event, Reply}
+use Rattle.mmeaning.specs.Transition.{Settings, World, Event, Reply}
 use Rattle.mmeaning.specs.History.{History, opening}
 use Rattle.mgrant.specs.Reading.{IsRead, IsRefused}
 use Rattle.mgrant.specs.declared.fault.SettingsFault.TheVariants as settings_fault

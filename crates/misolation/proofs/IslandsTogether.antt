@@ -1,9 +1,9 @@
 -- SPDX-License-Identifier: Apache-2.0
 -- The laws of islands: the whole comes apart, and machines run together.
-use Rattle.misolation.proofs.IsolationWords.{◌≡◌, ℕ, Bool, true, false, List, [], ◌∷◌, Option, Some, None, refl, sym, ap, ◌∙◌, subst, subst₂, nat_cmp_total, nat_eq, get, remove, nat_cmp-IsAntisymmetric, significant_digits, held, released, Account, Settings, Outcome, Plan, cut_short, held_cmp_total, held_cmp_exact, node_cmp_total, node_cmp_exact, by_test, line_at, Signal, Accounts, IsClosed, is_member, is_inside, cut_settings, cut_shared, cut_world, cut_events, part, IsFit, Actor, ops_of, cut_ops, InsidePlan, OutsideStep}
+use Rattle.misolation.proofs.IsolationWords.{◌≡◌, ℕ, Bool, true, false, List, [], ◌∷◌, Option, Some, None, refl, sym, ap, ◌∙◌, subst, subst₂, nat_cmp_total, nat_eq, get, remove, nat_cmp-IsAntisymmetric, significant_digits, held, released, Account, Settings, Outcome, Plan, cut_short, held_cmp_total, held_cmp_exact, node_cmp_total, node_cmp_exact, by_test, line_at, Signal, Accounts, IsClosed, is_member, is_inside, cut_settings, cut_shared, cut_world, cut_events, part, IsFit, Actor, ops_of, cut_ops, InsidePlan, OutsideTransition}
 use Rattle.std.proofs.lemmas.Bool.{eqb-true, eq-eqb}
 use Rattle.mspec.specs.Flow.{IsIsland}
-use Rattle.mmeaning.specs.Step.{Session, session_or_new, World, Event, Reply, plan_of, at_account, normal, FailedStep, is_failure, StepBy, Step}
+use Rattle.mmeaning.specs.Transition.{Session, session_or_new, World, Event, Reply, plan_of, at_account, normal, FailedTransition, is_failure, TransitionBy, Transition}
 use Rattle.mmeaning.specs.History.{History, opening, world_after, answered}
 use Rattle.misolation.specs.HistoryLaws.{events_of, IsAlone}
 use Rattle.misolation.specs.Islands.{Placement, on, KeepsTies, refusal, StrangersRefused, LaidTogether}
@@ -12,7 +12,7 @@ use Rattle.misolation.proofs.CutMaps.{get_kept}
 use Rattle.misolation.proofs.LockCuts.{released_cut}
 use Rattle.misolation.proofs.Endings.{gone_inside}
 use Rattle.misolation.proofs.PlansInside.{inside_plans}
-use Rattle.misolation.proofs.Steps.{normal_inside, outside_steps, steps_keep_fit}
+use Rattle.misolation.proofs.Transitions.{normal_inside, outside_transitions, transitions_keep_fit}
 use Rattle.misolation.proofs.PartsAlone.{part_is_history, part_is_alone, opening_is_fit, opening_is_cut}
 
 -- ---- islands are closed, and machines' accounts are islands
@@ -43,13 +43,13 @@ island_runs_alone s settings globals es after island h none =
       left = ap (λ v. v.shared.globals) law.left ∙ ap (λ v. (world_after low v own).shared.globals) start;
     }
 
--- ---- a step over the cut is one of the whole
+-- ---- a transition over the cut is one of the whole
 
 module _ (s : Accounts) (settings : Settings) (e : Event) (world : World) (closed : IsClosed settings s) (fit : IsFit settings world.shared) (here : is_inside s settings e.terminal ≡ true) where
   abbrev plan_in : Account → Option Session → Plan (Outcome Signal)
   plan_in account session = plan_of account (session_or_new session) (line_at e.text)
 
-  failed_whole : (left : World) → FailedStep (cut_settings s settings) e (cut_world s settings world) left → (after : World) × FailedStep settings e world after × (cut_world s settings after ≡ left)
+  failed_whole : (left : World) → FailedTransition (cut_settings s settings) e (cut_world s settings world) left → (after : World) × FailedTransition settings e world after × (cut_world s settings after ≡ left)
   failed_whole left f =
       let known : get settings.terminals e.terminal ≡ Some f.account = sym (get_kept nat_cmp_total nat_cmp-IsAntisymmetric settings.terminals (is_inside s settings) e.terminal here) ∙ f.known in
       let b : Actor = record { settings = settings; terminal = e.terminal; account = f.account; known = known } in
@@ -70,7 +70,7 @@ module _ (s : Accounts) (settings : Settings) (e : Event) (world : World) (close
         λ i. record { shared = record { globals = globals i; locks = locks i }; sessions = sessions i },
       )
 
-  step_by : (b : Bool) (reply : Reply) (left : World) → StepBy b (cut_settings s settings) e reply (cut_world s settings world) left → (after : World) × StepBy b settings e reply world after × (cut_world s settings after ≡ left)
+  step_by : (b : Bool) (reply : Reply) (left : World) → TransitionBy b (cut_settings s settings) e reply (cut_world s settings world) left → (after : World) × TransitionBy b settings e reply world after × (cut_world s settings after ≡ left)
   step_by false reply left h =
       let same = sym (normal_inside s settings e world closed fit here) ∙ h in
       ((normal settings e world).1, (λ i. ((same i).0, (normal settings e world).1)), (λ i. (same i).1))
@@ -78,15 +78,15 @@ module _ (s : Accounts) (settings : Settings) (e : Event) (world : World) (close
       let whole = failed_whole left h.1 in
       (whole.0, (h.0, whole.1), whole.2)
 
-  step_whole : (reply : Reply) (left : World) → Step (cut_settings s settings) e reply (cut_world s settings world) left → (after : World) × Step settings e reply world after × (cut_world s settings after ≡ left)
-  step_whole reply left h = step_by (is_failure reply.ending) reply left h
+  transition_whole : (reply : Reply) (left : World) → Transition (cut_settings s settings) e reply (cut_world s settings world) left → (after : World) × Transition settings e reply world after × (cut_world s settings after ≡ left)
+  transition_whole reply left h = step_by (is_failure reply.ending) reply left h
 
 -- ---- lines of no account
 
 refused_normal : (settings : Settings) (e : Event) (world : World) → get settings.terminals e.terminal ≡ None → normal settings e world ≡ (refusal, world)
 refused_normal settings e world none = ap (at_account settings e world) none
 
-stranger_by : (settings : Settings) (e : Event) (world after : World) (b : Bool) (reply : Reply) → StepBy b settings e reply world after → get settings.terminals e.terminal ≡ None → reply ≡ refusal
+stranger_by : (settings : Settings) (e : Event) (world after : World) (b : Bool) (reply : Reply) → TransitionBy b settings e reply world after → get settings.terminals e.terminal ≡ None → reply ≡ refusal
 stranger_by settings e world after false reply h none = ap (λ r. r.0) (sym h ∙ refused_normal settings e world none)
 stranger_by settings e world after true reply h none = let no : None ≡ Some h.1.account = sym none ∙ h.1.known in absurd (cc)
 
@@ -143,12 +143,12 @@ module _ (place : Placement) (settings : Settings) (ties : KeepsTies settings pl
         subst (λ v. History (cut_settings (on place m) settings) v (part (on place m) settings es) (left m)) (sym same)
         (subst (λ xs. History (cut_settings (on place m) settings) (cut_world (on place m) settings world) xs (left m)) (part_away m e es away) (h m))
 
-    -- the first line's step in the whole, and the machines' histories behind it
+    -- the first line's transition in the whole, and the machines' histories behind it
     stepped : (o : Option Account) → get settings.terminals e.0.terminal ≡ o → (get settings.terminals e.0.terminal ≡ None → e.1 ≡ refusal)
-        → (between : World) × Step settings e.0 e.1 world between × Histories between es left
+        → (between : World) × Transition settings e.0 e.1 world between × Histories between es left
     stepped None known stranger = (
       world,
-      subst (λ r. Step settings e.0 r world world) (sym (stranger known)) (refused_normal settings e.0 world known),
+      subst (λ r. Transition settings e.0 r world world) (sym (stranger known)) (refused_normal settings e.0 world known),
       λ m. passed m (ap (is_member (on place m)) known) world refl,
     )
     stepped (Some account) known stranger =
@@ -157,7 +157,7 @@ module _ (place : Placement) (settings : Settings) (ties : KeepsTies settings pl
         let here : is_inside (on place own) settings e.0.terminal ≡ true = inside own ∙ eq-eqb own own refl in
         let apart : History (cut_settings (on place own) settings) (cut_world (on place own) settings world) (e ∷ part (on place own) settings es) (left own) =
         subst (λ xs. History (cut_settings (on place own) settings) (cut_world (on place own) settings world) xs (left own)) (part_here own e es here) (h own) in
-        let whole = step_whole (on place own) settings e.0 world (closed_on own) fit here e.1 apart.0 apart.1 in (
+        let whole = transition_whole (on place own) settings e.0 world (closed_on own) fit here e.1 apart.0 apart.1 in (
           whole.0,
           whole.1,
           λ m. by_test (nat_eq own m)
@@ -165,8 +165,8 @@ module _ (place : Placement) (settings : Settings) (ties : KeepsTies settings pl
               subst (λ k. History (cut_settings (on place k) settings) (cut_world (on place k) settings whole.0) (part (on place k) settings es) (left k)) (eqb-true own m same)
               (subst (λ v. History (cut_settings (on place own) settings) v (part (on place own) settings es) (left own)) (sym whole.2) apart.2))
               (λ other.
-              let law : OutsideStep (on place m) settings e.0 world = outside_steps (on place m) settings e.0 world (closed_on m) (inside m ∙ other) in
-              passed m (inside m ∙ other) whole.0 (law.step e.1 whole.0 whole.1)),
+              let law : OutsideTransition (on place m) settings e.0 world = outside_transitions (on place m) settings e.0 world (closed_on m) (inside m ∙ other) in
+              passed m (inside m ∙ other) whole.0 (law.transition e.1 whole.0 whole.1)),
         )
 
   joined : (world : World) (es : List (Event × Reply)) (left : ℕ → World) → IsFit settings world.shared → Histories world es left → StrangersRefused settings es
@@ -174,7 +174,7 @@ module _ (place : Placement) (settings : Settings) (ties : KeepsTies settings pl
   joined world [] left fit h strangers = (world, refl, λ m. sym (h m))
   joined world (e ∷ es) left fit h strangers =
       let first = stepped world e es left fit h (get settings.terminals e.0.terminal) refl strangers.0 in
-      let rest = joined first.0 es left (steps_keep_fit settings e.0 e.1 world first.0 first.1 fit) first.2 strangers.1 in
+      let rest = joined first.0 es left (transitions_keep_fit settings e.0 e.1 world first.0 first.1 fit) first.2 strangers.1 in
       (rest.0, (first.0, first.1, rest.1), rest.2)
 
 pub machines_run_together : MachinesRunTogether

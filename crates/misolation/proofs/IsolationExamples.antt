@@ -7,7 +7,7 @@ use Rattle.std.specs.Prelude.{codes}
 use Rattle.std.specs.FinMap.{FinMap, get, insert, remove, retain_keys, empty, entries, from_sorted, same_map, get-empty, get-insert, get-from_sorted, entries-from_sorted, entries-insert, gets, nat_cmp-IsAntisymmetric}
 use Rattle.std.specs.FinMap.Entries.{put}
 use Rattle.mspec.specs.Code.{Lost, Memory, Store}
-use Rattle.mmeaning.specs.Step.{Session, new_session, session_or_new, World, Event, Reply, Faulted, is_too_long, is_ascii, normal, FailedStep, lost, StepBy, Step}
+use Rattle.mmeaning.specs.Transition.{Session, new_session, session_or_new, World, Event, Reply, Faulted, is_too_long, is_ascii, normal, FailedTransition, lost, TransitionBy, Transition}
 use Rattle.mmeaning.proofs.Histories.{normal_never_fails}
 use Rattle.misolation.specs.PlanLaws.{Actor, ops_of, cut_ops, InsideOperation}
 use Rattle.misolation.specs.Alike.{AlikeWorlds, SameEntries}
@@ -17,7 +17,7 @@ use Rattle.misolation.proofs.CutMaps.{get_kept}
 use Rattle.misolation.proofs.FittingLocks.{fit_insert}
 use Rattle.misolation.proofs.Operations.{inside_operations}
 use Rattle.misolation.proofs.Reaching.{reach_is_least_closed}
-use Rattle.misolation.proofs.StepsAlike.{alike_worlds}
+use Rattle.misolation.proofs.TransitionsAlike.{alike_worlds}
 use Rattle.misolation.proofs.EntriesAlike.{same_entries_agree}
 use Rattle.misolation.proofs.PartsAlone.{part_is_history, opening_is_fit, agreeing_replies}
 use Rattle.std.proofs.Common.{rules}
@@ -141,7 +141,7 @@ failed world = record {
   sessions = remove world.sessions 3;
 }
 
-bank_fails : (world : World) (text : Text) → is_too_long text ≡ false → is_ascii text ≡ true → FailedStep apart (line 3 text) world (failed world)
+bank_fails : (world : World) (text : Text) → is_too_long text ≡ false → is_ascii text ≡ true → FailedTransition apart (line 3 text) world (failed world)
 bank_fails world text short ascii = record {
   account = account bank;
   known = of_bank;
@@ -153,8 +153,8 @@ bank_fails world text short ascii = record {
   sessions = refl;
 }
 
-clinic_runs : (world : World) (e : Event) → Step apart e (normal apart e world).0 world (normal apart e world).1
-clinic_runs world e = subst (λ b. StepBy b apart e (normal apart e world).0 world (normal apart e world).1) (sym (normal_never_fails apart e world)) refl
+clinic_runs : (world : World) (e : Event) → Transition apart e (normal apart e world).0 world (normal apart e world).1
+clinic_runs world e = subst (λ b. TransitionBy b apart e (normal apart e world).0 world (normal apart e world).1) (sym (normal_never_fails apart e world)) refl
 
 module _ (text : Text) where
   abbrev first : Event

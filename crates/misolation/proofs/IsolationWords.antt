@@ -24,7 +24,7 @@ pub use Rattle.mspec.specs.Trees.{text_eq}
 pub use Rattle.mgrammar.specs.Reading.{line_at}
 pub use Rattle.mmeaning.specs.History.{History, world_after, answered, NoneFailed}
 pub use Rattle.mmeaning.specs.LineMeaning.{Signal}
-pub use Rattle.mmeaning.specs.Step.{Session, World, Ending, Finished, Halted, Faulted, settled, ended, state_of, reply_of, session_or_new, Event, Reply, plan_of, at_account, normal, FailedStep, is_failure, StepBy, is_too_long, is_ascii, checked}
+pub use Rattle.mmeaning.specs.Transition.{Session, World, Ending, Finished, Halted, Faulted, settled, ended, state_of, reply_of, session_or_new, Event, Reply, plan_of, at_account, normal, FailedTransition, is_failure, TransitionBy, is_too_long, is_ascii, checked}
 pub use Rattle.mmeaning.specs.Shared.{may_write, may_lock, Shared, act, guarded, took}
 pub use Rattle.misolation.specs.Alike.{AlikeWorlds}
 pub use Rattle.misolation.specs.Alone.{only}
@@ -33,4 +33,4 @@ pub use Rattle.misolation.specs.HistoryLaws.{IsAlone, SameReplies}
 pub use Rattle.misolation.specs.PlanLaws.{Actor, ops_of, cut_ops, InsidePlan, exchanges}
 pub use Rattle.misolation.specs.Reach.{Accounts, IsClosed, reach}
 pub use Rattle.misolation.specs.ReachLaws.{IsLeastClosed}
-pub use Rattle.misolation.specs.StepLaws.{OutsideStep}
+pub use Rattle.misolation.specs.TransitionLaws.{OutsideTransition}

@@ -9,9 +9,9 @@ pub mod GlobalCuts
 pub mod Operations
 pub mod PlansInside
 pub mod Endings
-pub mod StepsWrite
-pub mod Steps
-pub mod StepsAlike
+pub mod TransitionsWrite
+pub mod Transitions
+pub mod TransitionsAlike
 pub mod PartsOfParts
 pub mod PartsAlone
 pub mod ReachKept

@@ -6,31 +6,31 @@ use Rattle.std.specs.Cmp.{IsTotalOrder}
 use Rattle.std.specs.declared.cmp.Ordering.{Ordering}
 use Rattle.std.specs.FinMap.{empty, retain_keys, get-empty, same_map, IsAntisymmetric, nat_cmp-IsAntisymmetric}
 use Rattle.mmeaning.specs.History.{History, opening, replies, world_after, answered, NoneFailed}
-use Rattle.mmeaning.proofs.Histories.{normal_never_fails, normal_steps_are_history, history_is_normal}
+use Rattle.mmeaning.proofs.Histories.{normal_never_fails, normal_transitions_are_history, history_is_normal}
 use Rattle.misolation.specs.Alone.{alone, only}
 use Rattle.misolation.specs.Trace.{Moment, Trace, lines_of, left_by, cut_trace}
 use Rattle.misolation.specs.Agreement.{Run, Agree}
-use Rattle.misolation.specs.StepLaws.{InsideStep, OutsideStep}
+use Rattle.misolation.specs.TransitionLaws.{InsideTransition, OutsideTransition}
 use Rattle.misolation.specs.HistoryLaws.{events_of, PartIsHistory, HistoryHasTrace, PartOfTrace, PartIsTrace, OpeningIsFit, HistoriesKeepFit, IsAlone, PartIsAlone, InterpreterIsolates, Isolation, OpeningIsCut, Answered, SameReplies, AgreeingReplies, sent_to, PromiseIsKept}
 use Rattle.misolation.proofs.CutMaps.{map_filter}
 use Rattle.misolation.proofs.Reaching.{reach_is_least_closed}
 use Rattle.misolation.proofs.PartsOfParts.{part_of_part, part_kept, only_among}
-use Rattle.misolation.proofs.Steps.{inside_steps, outside_steps, steps_keep_fit}
-use Rattle.misolation.proofs.StepsAlike.{answered_alike, left_alike, left_equal}
+use Rattle.misolation.proofs.Transitions.{inside_transitions, outside_transitions, transitions_keep_fit}
+use Rattle.misolation.proofs.TransitionsAlike.{answered_alike, left_alike, left_equal}
 
 -- ---- the part is a history
 
 pub part_is_history : PartIsHistory
 part_is_history s settings world after [] closed fit h = ap (cut_world s settings) h
 part_is_history s settings world after (e ∷ es) closed fit h =
-    let rest = part_is_history s settings h.0 after es closed (steps_keep_fit settings e.0 e.1 world h.0 h.1 fit) h.2 in
+    let rest = part_is_history s settings h.0 after es closed (transitions_keep_fit settings e.0 e.1 world h.0 h.1 fit) h.2 in
     by_test (is_inside s settings e.0.terminal)
     (λ here.
-    let law : InsideStep s settings e.0 world = inside_steps s settings e.0 world closed fit here in
-    rw here (cut_world s settings h.0, law.step e.1 h.0 h.1, rest))
+    let law : InsideTransition s settings e.0 world = inside_transitions s settings e.0 world closed fit here in
+    rw here (cut_world s settings h.0, law.transition e.1 h.0 h.1, rest))
     (λ away.
-    let law : OutsideStep s settings e.0 world = outside_steps s settings e.0 world closed away in
-    rw away (subst (λ v. History (cut_settings s settings) v (part s settings es) (cut_world s settings after)) (law.step e.1 h.0 h.1) rest))
+    let law : OutsideTransition s settings e.0 world = outside_transitions s settings e.0 world closed away in
+    rw away (subst (λ v. History (cut_settings s settings) v (part s settings es) (cut_world s settings after)) (law.transition e.1 h.0 h.1) rest))
 
 -- ---- traces
 
@@ -53,18 +53,18 @@ history_has_trace settings world after es = (
 pub part_is_trace : PartIsTrace
 part_is_trace s settings world [] closed fit h = record { steps = tt; lines = refl; left = refl }
 part_is_trace s settings world (m ∷ ms) closed fit h =
-    let rest : PartOfTrace s settings m.after ms = part_is_trace s settings m.after ms closed (steps_keep_fit settings m.event m.reply world m.after h.0 fit) h.1 in
+    let rest : PartOfTrace s settings m.after ms = part_is_trace s settings m.after ms closed (transitions_keep_fit settings m.event m.reply world m.after h.0 fit) h.1 in
     by_test (is_inside s settings m.event.terminal)
     (λ here.
-    let law : InsideStep s settings m.event world = inside_steps s settings m.event world closed fit here in
+    let law : InsideTransition s settings m.event world = inside_transitions s settings m.event world closed fit here in
     record {
-      steps = rw here (law.step m.reply m.after h.0, rest.steps);
+      steps = rw here (law.transition m.reply m.after h.0, rest.steps);
       lines = rw here (ap (λ es. (m.event, m.reply) ∷ es) rest.lines);
       left = rw here rest.left;
     })
     (λ away.
-    let law : OutsideStep s settings m.event world = outside_steps s settings m.event world closed away in
-    let same = law.step m.reply m.after h.0 in
+    let law : OutsideTransition s settings m.event world = outside_transitions s settings m.event world closed away in
+    let same = law.transition m.reply m.after h.0 in
     record {
       steps = rw away (subst (λ v. Trace (cut_settings s settings) v (cut_trace s settings ms)) same rest.steps);
       lines = rw away rest.lines;
@@ -73,7 +73,7 @@ part_is_trace s settings world (m ∷ ms) closed fit h =
 
 pub histories_keep_fit : HistoriesKeepFit
 histories_keep_fit settings world after [] h fit = subst (λ v. IsFit settings v.shared) (sym h) fit
-histories_keep_fit settings world after (e ∷ es) h fit = histories_keep_fit settings h.0 after es h.2 (steps_keep_fit settings e.0 e.1 world h.0 h.1 fit)
+histories_keep_fit settings world after (e ∷ es) h fit = histories_keep_fit settings h.0 after es h.2 (transitions_keep_fit settings e.0 e.1 world h.0 h.1 fit)
 
 -- ---- the replies alone
 
@@ -127,7 +127,7 @@ pub interpreter_isolates : InterpreterIsolates
 interpreter_isolates s settings world events closed fit =
     let es = answered settings world events in
     let law : IsAlone s settings world (world_after settings world events) es =
-    part_is_alone s settings world (world_after settings world events) es closed fit (normal_steps_are_history settings world events)
+    part_is_alone s settings world (world_after settings world events) es closed fit (normal_transitions_are_history settings world events)
     (none_of_part s settings es (none_failed settings world events)) in
     law.lines ∙ ap (alone s settings world) (events_answered settings world events)
 

@@ -1,5 +1,5 @@
 -- SPDX-License-Identifier: Apache-2.0
--- What a run of lines tells an account, step by step, apart, and alone.
+-- What a run of lines tells an account, transition by transition, apart, and alone.
 use Rattle.misolation.proofs.IsolationWords.{◌≡◌, List, [], ◌∷◌, ◌++◌, map, refl, sym, ap, ◌∙◌, subst, Settings, World, Event, Reply, History, NoneFailed, reach, is_inside, cut_settings, cut_events, part, IsLeastClosed, IsAlone, SameReplies}
 use Rattle.std.proofs.lemmas.List.{map-append}
 use Rattle.std.proofs.lemmas.List.Elements.{filter-append}
@@ -12,7 +12,7 @@ use Rattle.misolation.proofs.Reaching.{reach_is_least_closed}
 use Rattle.misolation.proofs.ReachKept.{reach_is_kept}
 use Rattle.misolation.proofs.PartsAlone.{part_is_history, part_is_alone, events_of_part, agreeing_replies}
 
--- ---- step by step
+-- ---- transition by transition
 
 pub nothing_is_told : NothingIsTold
 nothing_is_told a settings world = record { lines = []; sent = refl; history = refl; replies = refl; failures = (λ _. tt, λ _. refl) }
@@ -30,10 +30,10 @@ none_parts [] fs h = (tt, h)
 none_parts (e ∷ es) fs h = let rest = none_parts es fs h.1 in ((h.0, rest.0), rest.1)
 
 pub tells_on : TellsOn
-tells_on a settings world between after events told whole h e reply step more is = record {
+tells_on a settings world between after events told whole h e reply transition more is = record {
   lines = h.lines ++ last;
   sent = map-append (λ (x : Event × Reply). x.0) h.lines last ∙ ap (λ es. es ++ e ∷ []) h.sent;
-  history = history_on settings world between after h.lines last h.history (after, step, refl);
+  history = history_on settings world between after h.lines last h.history (after, transition, refl);
   replies =
       ap (map told_by) (filter-append (λ (x : Event × Reply). is_inside (only a) settings x.0.terminal) h.lines last)
       ∙ map-append told_by (part (only a) settings h.lines) (part (only a) settings last)

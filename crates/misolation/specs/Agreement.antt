@@ -3,7 +3,7 @@
 use Rattle.std.specs.Prelude.{◌≡◌, List}
 use Rattle.mspec.specs.Node.{Text}
 use Rattle.mspec.specs.Access.{Settings}
-use Rattle.mmeaning.specs.Step.{World, Event}
+use Rattle.mmeaning.specs.Transition.{World, Event}
 use Rattle.misolation.specs.Reach.{reach}
 use Rattle.misolation.specs.Cut.{cut_settings, cut_world, cut_events}
 use Rattle.misolation.specs.Alike.{AlikeSettings, AlikeWorlds}

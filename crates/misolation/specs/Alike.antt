@@ -5,7 +5,7 @@ use Rattle.std.specs.List.{list_all, list_any}
 use Rattle.std.specs.FinMap.{get}
 use Rattle.mspec.specs.Node.{Text}
 use Rattle.mspec.specs.Access.{Mode, Grant, Settings, lets, may}
-use Rattle.mmeaning.specs.Step.{World, Reply, session_or_new}
+use Rattle.mmeaning.specs.Transition.{World, Reply, session_or_new}
 
 -- The same accounts at the same terminals with the same steps, and who may do what is the same.
 pub record AlikeSettings (one two : Settings) : Type 0 where
@@ -18,7 +18,7 @@ pub record AlikeWorlds (one two : World) : Type 0 where
   pub sessions : (t : ℕ) → session_or_new (get one.sessions t) ≡ session_or_new (get two.sessions t)
 
 -- the same reply, and worlds left alike
-pub record AlikeSteps (one two : Reply × World) : Type 0 where
+pub record AlikeTransitions (one two : Reply × World) : Type 0 where
   pub reply : one.0 ≡ two.0
   pub world : AlikeWorlds one.1 two.1
 

@@ -3,18 +3,18 @@
 use Rattle.std.specs.Prelude.{◌≡◌, List}
 use Rattle.mspec.specs.Node.{Text}
 use Rattle.mspec.specs.Access.{Settings}
-use Rattle.mmeaning.specs.Step.{World, Event, normal}
-use Rattle.misolation.specs.Alike.{AlikeSettings, AlikeWorlds, AlikeSteps, SameEntries}
+use Rattle.mmeaning.specs.Transition.{World, Event, normal}
+use Rattle.misolation.specs.Alike.{AlikeSettings, AlikeWorlds, AlikeTransitions, SameEntries}
 use Rattle.misolation.specs.Agreement.{Agree}
 
--- a normal step depends on the settings by their terminals and by what is allowed alone
-abbrev pub StepsByAllowed : Type 0
-StepsByAllowed = (one two : Settings) (e : Event) (world : World) → AlikeSettings one two → normal one e world ≡ normal two e world
+-- a normal transition depends on the settings by their terminals and by what is allowed alone
+abbrev pub TransitionsByAllowed : Type 0
+TransitionsByAllowed = (one two : Settings) (e : Event) (world : World) → AlikeSettings one two → normal one e world ≡ normal two e world
 
 -- and on sessions as if each terminal without one had a new one
-abbrev pub StepsBySessions : Type 0
-StepsBySessions =
-    (settings : Settings) (e : Event) (one two : World) → AlikeWorlds one two → AlikeSteps (normal settings e one) (normal settings e two)
+abbrev pub TransitionsBySessions : Type 0
+TransitionsBySessions =
+    (settings : Settings) (e : Event) (one two : World) → AlikeWorlds one two → AlikeTransitions (normal settings e one) (normal settings e two)
 
 -- So runs agree for every account that have the same lines, worlds alike, and settings of the same entries, however these are listed.
 abbrev pub SameEntriesAgree : Type 0

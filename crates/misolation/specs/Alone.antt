@@ -4,7 +4,7 @@ use Rattle.std.specs.Prelude.{List}
 use Rattle.mspec.specs.Node.{Text}
 use Rattle.mspec.specs.Trees.{text_eq}
 use Rattle.mspec.specs.Access.{Settings}
-use Rattle.mmeaning.specs.Step.{World, Event, Reply}
+use Rattle.mmeaning.specs.Transition.{World, Event, Reply}
 use Rattle.mmeaning.specs.History.{answered}
 use Rattle.misolation.specs.Reach.{Accounts}
 use Rattle.misolation.specs.Cut.{cut_settings, cut_world, cut_events}

@@ -6,7 +6,7 @@ use Rattle.std.specs.List.{filter}
 use Rattle.mspec.specs.LockConflict.{LockName, Held, Locks}
 use Rattle.mspec.specs.Access.{Account, Grant, Settings}
 use Rattle.mmeaning.specs.Shared.{Shared, may_lock}
-use Rattle.mmeaning.specs.Step.{World, Event, Reply}
+use Rattle.mmeaning.specs.Transition.{World, Event, Reply}
 use Rattle.misolation.specs.Reach.{Accounts}
 
 -- ---- terminals
@@ -70,7 +70,7 @@ abbrev pub may_hold : Settings → Held → Bool
 may_hold settings h = holds_by settings (get settings.terminals h.terminal) h.name
 
 -- Each lock is on a name that its terminal's account may hold: one without `^` of its own, or a global that it may write. So
--- it is where no lock is held, and each step keeps it so.
+-- it is where no lock is held, and each transition keeps it so.
 abbrev pub AreFit : Settings → Locks → Type 0
 AreFit settings locks = (h : Held) (n : ℕ) → get locks h ≡ Some n → IsTrue (may_hold settings h)
 

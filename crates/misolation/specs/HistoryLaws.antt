@@ -5,7 +5,7 @@ use Rattle.std.specs.FinMap.{retain_keys}
 use Rattle.mspec.specs.Node.{Text}
 use Rattle.mspec.specs.Globals.{Globals}
 use Rattle.mspec.specs.Access.{Settings}
-use Rattle.mmeaning.specs.Step.{World, Event, Reply}
+use Rattle.mmeaning.specs.Transition.{World, Event, Reply}
 use Rattle.mmeaning.specs.History.{History, opening, world_after, answered, NoneFailed}
 use Rattle.misolation.specs.Reach.{Accounts, IsClosed, reach}
 use Rattle.misolation.specs.Cut.{cut_settings, cut_world, cut_events, part, IsFit}

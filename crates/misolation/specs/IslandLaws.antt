@@ -4,7 +4,7 @@ use Rattle.std.specs.Prelude.{◌≡◌, ℕ, ◌↔◌, List}
 use Rattle.mspec.specs.Globals.{Globals}
 use Rattle.mspec.specs.Access.{Settings}
 use Rattle.mspec.specs.Flow.{IsIsland}
-use Rattle.mmeaning.specs.Step.{World, Event, Reply}
+use Rattle.mmeaning.specs.Transition.{World, Event, Reply}
 use Rattle.mmeaning.specs.History.{History, opening, world_after, answered, NoneFailed}
 use Rattle.misolation.specs.Reach.{Accounts}
 use Rattle.misolation.specs.Cut.{cut_settings, cut_world, cut_events, part, IsFit}

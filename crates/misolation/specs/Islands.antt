@@ -8,7 +8,7 @@ use Rattle.mspec.specs.Globals.{Globals}
 use Rattle.mspec.specs.LockConflict.{LockName, held}
 use Rattle.mspec.specs.Access.{Account, Settings}
 use Rattle.mspec.specs.Flow.{Flows}
-use Rattle.mmeaning.specs.Step.{World, Event, Reply, Faulted}
+use Rattle.mmeaning.specs.Transition.{World, Event, Reply, Faulted}
 use Rattle.mmeaning.specs.History.{History}
 use Rattle.misolation.specs.Reach.{Accounts}
 use Rattle.misolation.specs.Cut.{cut_settings, cut_world, part}

@@ -9,7 +9,7 @@ pub mod AlikeLaws
 pub mod ReachLaws
 pub mod PlanLaws
 pub mod Writes
-pub mod StepLaws
+pub mod TransitionLaws
 pub mod HistoryLaws
 pub mod Telling
 pub mod RunLaws

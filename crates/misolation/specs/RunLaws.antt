@@ -3,7 +3,7 @@
 use Rattle.std.specs.Prelude.{◌≡◌, Bool, true, IsTrue, ◌↔◌, List, [], ◌∷◌, ◌++◌}
 use Rattle.mspec.specs.Node.{Text}
 use Rattle.mspec.specs.Access.{Settings}
-use Rattle.mmeaning.specs.Step.{World, Event, Reply, Step}
+use Rattle.mmeaning.specs.Transition.{World, Event, Reply, Transition}
 use Rattle.mmeaning.specs.History.{NoneFailed}
 use Rattle.misolation.specs.Reach.{Accounts, IsClosed, reach}
 use Rattle.misolation.specs.Cut.{part, IsFit}
@@ -17,12 +17,12 @@ use Rattle.misolation.specs.Telling.{Told, told_to, Tells, TellsPart}
 abbrev pub NothingIsTold : Type 0
 NothingIsTold = (a : Text) (settings : Settings) (world : World) → Tells a settings world [] [] true world
 
--- a run goes on by one step: where that is at a terminal of the account its reply is told, and the run stays whole where the step
+-- a run goes on by one transition: where that is at a terminal of the account its reply is told, and the run stays whole where the transition
 -- did not fail at a terminal of an account that reaches `a`
 abbrev pub TellsOn : Type 0
 TellsOn =
     (a : Text) (settings : Settings) (world between after : World) (events : List Event) (told : List Told) (whole : Bool) →
-    Tells a settings world events told whole between → (e : Event) (reply : Reply) → Step settings e reply between after →
+    Tells a settings world events told whole between → (e : Event) (reply : Reply) → Transition settings e reply between after →
     (more : Bool) → (IsTrue more ↔ (IsTrue whole × NoneFailed (part (reach settings a) settings ((e, reply) ∷ [])))) →
     Tells a settings world (events ++ e ∷ []) (told ++ told_to a settings ((e, reply) ∷ [])) more after
 

@@ -27,12 +27,12 @@
 //! # What is left where there is nothing else
 //!
 //! The *cut* to a set of accounts keeps, of the settings, the members with their steps and terminals, and the grants from members
-//! to members; of a server, the members' globals, and the sessions and the locks of their terminals; of lines, those at their
+//! to members; of a world, the members' globals, and the sessions and the locks of their terminals; of lines, those at their
 //! terminals. *Alone*, the members' lines get the replies that the definitional interpreter gives over these three cuts.
 //!
 //! # The laws
 //!
-//! For every closed set, every settings, and every server on which each lock is on a name that its terminal's account may hold:
+//! For every closed set, every settings, and every world on which each lock is on a name that its terminal's account may hold:
 //!
 //! - **Inside.** What is done for a member's terminal is done as if there were the cut alone, with the same answers.
 //! - **Outside.** What is done for any other terminal leaves the cut as it was.
@@ -41,31 +41,31 @@
 //! |---|---|---|
 //! | an operation on globals and locks | `inside_operations` | `outside_operations` |
 //! | a plan, which is whatever a line may do, whole or cut short | `inside_plans` | `outside_plans` |
-//! | a step: a line that is run, or one that failed | `inside_steps` | `outside_steps` |
+//! | a transition: a line that is run, or one that failed | `inside_transitions` | `outside_transitions` |
 //!
 //! The outside law asks nothing of the locks. What the inside law asks of them is so before the first line, when none is held
-//! (`opening_is_fit`), and everything keeps it so (`plans_keep_fit`, `steps_keep_fit`, `histories_keep_fit`, `cut_is_fit`).
+//! (`opening_is_fit`), and everything keeps it so (`plans_keep_fit`, `transitions_keep_fit`, `histories_keep_fit`, `cut_is_fit`).
 //!
-//! A step changes globals by its writes alone, a failed one by some first of them (`steps_write`); inside, they are the same over
-//! the cut. `steps_are_isolated` says all of this of a step in one, for calls that make steps.
+//! A transition changes globals by its writes alone, a failed one by some first of them (`transitions_write`); inside, they are the same over
+//! the cut. `transitions_are_isolated` says all of this of a transition in one, for calls that make transitions.
 //!
 //! From the two laws, for histories of any length:
 //!
 //! - The members' part of a history is a history over the cuts, whichever of its steps failed (`part_is_history`). So it is also
-//!   with the servers between the steps written out, each of them cut (`part_is_trace`, `history_has_trace`).
+//!   with the worlds between the transitions written out, each of them cut (`part_is_trace`, `history_has_trace`).
 //! - Where none of the members' own steps failed, their lines have the replies that they have alone, and leave what they leave
 //!   alone (`part_is_alone`). Others' steps may have failed. Of the definitional interpreter itself this is always so, since its
 //!   steps never fail (`interpreter_isolates`).
 //! - **The isolation theorem**: for all settings, globals and lines, the replies at an account's terminals are those that it has
 //!   alone with the accounts that reach it, if no line of these failed (`isolation`, with `opening_is_cut`).
-//! - Two servers that agree on all that reaches an account give it the same replies, however they differ in all else, and agree
+//! - Two worlds that agree on all that reaches an account give it the same replies, however they differ in all else, and agree
 //!   still when their lines are run (`agreeing_replies`).
-//! - **The promise above, in one law**: both of these, of servers that begin with globals alone (`promise_is_kept`).
+//! - **The promise above, in one law**: both of these, of worlds that begin with globals alone (`promise_is_kept`).
 //!
 //! To *agree* it is enough that the same accounts have the same terminals and steps, that the same is allowed between them, and
 //! that globals, locks and lines are the same, and sessions too, where a new one counts as none. For a normal step depends on
-//! settings by their terminals and by what is allowed alone (`steps_by_allowed`), and on a session as if a terminal without one had
-//! a new one (`steps_by_sessions`). So how settings are listed counts for nothing (`same_entries_agree`).
+//! settings by their terminals and by what is allowed alone (`transitions_by_allowed`), and on a session as if a terminal without one had
+//! a new one (`transitions_by_sessions`). So how settings are listed counts for nothing (`same_entries_agree`).
 //!
 //! An *island* is a set of accounts that is closed in both directions: no grant ties it to others. Accounts may be kept on several
 //! machines if each machine's are an island (`machines_are_islands`), since then:
@@ -79,8 +79,8 @@
 //!   (`moved_island_goes_on`).
 //!
 //! A call that runs lines for an account and hands it its replies says what it did by one word, `Tells`: some history of all these
-//! lines leads from the server that it began at to the one that it left, the replies are those at the account's terminals, and it is
-//! *whole* exactly where no step failed at a terminal of an account that reaches it. A run is made step by step (`nothing_is_told`,
+//! lines leads from the world that it began at to the one that it left, the replies are those at the account's terminals, and it is
+//! *whole* exactly where no transition failed at a terminal of an account that reaches it. A run is made step by step (`nothing_is_told`,
 //! `tells_on`), and of what it tells:
 //!
 //! - Whichever steps failed, the members' part of that history alone tells the account the same, over the cuts to any closed set
@@ -98,7 +98,7 @@
 //!
 //! The laws speak of plans of operations and never of commands, so they hold whatever the language has: a new command changes
 //! nothing here, and a new operation is one more case of either law. The definitions that they speak of stand in `mspec` (settings,
-//! `Flow`, locks, plans) and in `mmeaning` (`World`, `Step`, `History`). That the program's steps are those of the definitions is said,
+//! `Flow`, locks, plans) and in `mmeaning` (`Shared`, `Transition`, `History`). That the program's transitions are those of the definitions is said,
 //! over a store in memory, by the contracts of the program. `proofs/IsolationExamples.antt` has the clinic, the laboratory and the bank as proved equations:
 //! apart from them the bank is not seen, even while its lines fail; and with leave to write bills it is no outsider any more.
 //!
@@ -111,4 +111,4 @@ pub mod island_laws;
 pub mod plan_laws;
 pub mod reach_laws;
 pub mod run_laws;
-pub mod step_laws;
+pub mod transition_laws;

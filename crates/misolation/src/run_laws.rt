@@ -8,7 +8,7 @@ pub fn nothing_is_told()
     ensures { NothingIsTold }
 {}
 
-/// A run goes on by one step: its reply is told where it is at a terminal of the account, and the run stays whole where the step did
+/// A run goes on by one transition: its reply is told where it is at a terminal of the account, and the run stays whole where the transition did
 /// not fail at a terminal of an account that reaches it.
 #[tactic(auto, using(crate::proofs::RunsTold::tells_on))]
 pub fn tells_on()

@@ -5,7 +5,7 @@ use Rattle.mspec.specs.Code.{Memory, Store, Fault, Own, Lost}
 use Rattle.mspec.specs.Plan.{Op, Answer, Plan, Done, Ask, then_plan, perform, cut_short}
 use Rattle.mspec.specs.Act.{Outcome, Gives, Fails, Act, on_gives, ◌>>=◌, give, ask}
 use Rattle.mspec.proofs.Plans.{perform-then, cut_first, cut_second, cut_whole}
-use Rattle.mmeaning.specs.Step.{Shared}
+use Rattle.mmeaning.specs.Transition.{Shared}
 use Rattle.mmeaning.specs.Calls.{Standing, Here, Gave, IsCut, FailedBy, Ends, Did, MayLose, Follows, ops_of}
 pub use Rattle.mspec.proofs.Basics.{residual_is}
 

@@ -2,9 +2,9 @@
 -- Histories and normal steps.
 use Rattle.mmeaning.proofs.MeaningWords.{◌≡◌, Bool, true, false, [], ◌∷◌, Option, Some, None, refl, sym, ap, ◌∙◌, subst, map, get, Outcome, Gives, Fails}
 use Rattle.mmeaning.specs.LineMeaning.{Signal, Go_on, Skips, Quits, Goes, Halts}
-use Rattle.mmeaning.specs.Step.{Settings, Account, World, Event, Reply, Step, StepBy, normal, at_account, checked, is_too_long, is_ascii, ending_of, reply_of, is_failure}
+use Rattle.mmeaning.specs.Transition.{Settings, Account, World, Event, Reply, Transition, TransitionBy, normal, at_account, checked, is_too_long, is_ascii, ending_of, reply_of, is_failure}
 use Rattle.mmeaning.specs.History.{replies, world_after}
-use Rattle.mmeaning.specs.StepLaws.{NormalNeverFails, NormalStepsAreHistory, HistoryIsNormal}
+use Rattle.mmeaning.specs.TransitionLaws.{NormalNeverFails, NormalTransitionsAreHistory, HistoryIsNormal}
 
 -- no act ends with a loss
 ending_is_own : (s : Signal) → is_failure (ending_of s) ≡ false
@@ -27,19 +27,19 @@ account_is_own settings e world (Some account) = checked_is_own (is_too_long e.t
 pub normal_never_fails : NormalNeverFails
 normal_never_fails settings e world = account_is_own settings e world (get settings.terminals e.terminal)
 
--- a normal step is a step
-normal_step : (settings : Settings) (e : Event) (world : World) → Step settings e (normal settings e world).0 world (normal settings e world).1
-normal_step settings e world =
-    subst (λ (b : Bool). StepBy b settings e (normal settings e world).0 world (normal settings e world).1) (sym (normal_never_fails settings e world)) refl
+-- a normal transition is a transition
+normal_transition : (settings : Settings) (e : Event) (world : World) → Transition settings e (normal settings e world).0 world (normal settings e world).1
+normal_transition settings e world =
+    subst (λ (b : Bool). TransitionBy b settings e (normal settings e world).0 world (normal settings e world).1) (sym (normal_never_fails settings e world)) refl
 
-pub normal_steps_are_history : NormalStepsAreHistory
-normal_steps_are_history settings world [] = refl
-normal_steps_are_history settings world (e ∷ es) =
-    ((normal settings e world).1, normal_step settings e world, normal_steps_are_history settings (normal settings e world).1 es)
+pub normal_transitions_are_history : NormalTransitionsAreHistory
+normal_transitions_are_history settings world [] = refl
+normal_transitions_are_history settings world (e ∷ es) =
+    ((normal settings e world).1, normal_transition settings e world, normal_transitions_are_history settings (normal settings e world).1 es)
 
--- a step that did not fail is a normal one
-step_is : (settings : Settings) (e : Event) (r : Reply) (world after : World) → Step settings e r world after → is_failure r.ending ≡ false → normal settings e world ≡ (r, after)
-step_is settings e r world after h ok = subst (λ (b : Bool). StepBy b settings e r world after) ok h
+-- a transition that did not fail is a normal one
+step_is : (settings : Settings) (e : Event) (r : Reply) (world after : World) → Transition settings e r world after → is_failure r.ending ≡ false → normal settings e world ≡ (r, after)
+step_is settings e r world after h ok = subst (λ (b : Bool). TransitionBy b settings e r world after) ok h
 
 pub history_is_normal : HistoryIsNormal
 history_is_normal settings world after [] h none = (refl, h)

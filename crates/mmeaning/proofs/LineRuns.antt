@@ -7,7 +7,7 @@ use Rattle.mmeaning.specs.Variables.{Evaluated}
 use Rattle.mmeaning.specs.Expression.{Depth, through, finds, inside}
 use Rattle.mmeaning.specs.LineMeaning.{Signal, Spot, outset, Turning, Texts, Context, texts, arguments, commands, after_turn, after_level}
 use Rattle.mmeaning.specs.Levels.{commands_of}
-use Rattle.mmeaning.specs.Step.{Account, Settings, Session, World, Event, Reply, act, plan_of, begun, session_or_new, ended, refused, is_too_long, is_ascii, checked, at_account, normal}
+use Rattle.mmeaning.specs.Transition.{Account, Settings, Session, World, Event, Reply, act, plan_of, begun, session_or_new, ended, refused, is_too_long, is_ascii, checked, at_account, normal}
 use Rattle.mmeaning.proofs.ExampleAccount.{account, settings_of}
 
 -- ---- what lines are answered

@@ -7,9 +7,9 @@ use Rattle.mspec.specs.LockLaws as laws
 use Rattle.mspec.specs.Act.{Text, Outcome}
 use Rattle.mspec.proofs.LockFacts.{others_keep_locks}
 use Rattle.mspec.proofs.Plans.{keeps, keeps_short}
-use Rattle.mmeaning.specs.Step.{Settings}
+use Rattle.mmeaning.specs.Transition.{Settings}
 use Rattle.mmeaning.specs.Shared.{Shared, act, guarded, may_read, may_write, may_lock, took}
-use Rattle.mmeaning.specs.StepLaws.{PlanKeepsOthersLocks}
+use Rattle.mmeaning.specs.TransitionLaws.{PlanKeepsOthersLocks}
 
 module _ (settings : Settings) (terminal : ℕ) (me : Text) where
   abbrev IsKept : Shared → Shared → Type 0

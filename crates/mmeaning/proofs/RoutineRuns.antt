@@ -5,7 +5,7 @@ use Rattle.mspec.specs.Globals.{Globals, lines_of}
 use Rattle.mspec.specs.Access.{Mode, may}
 use Rattle.mspec.specs.Act.{Text, Node, Outcome, no_locals, assigned_to}
 use Rattle.mmeaning.specs.Shared.{act}
-use Rattle.mmeaning.specs.Step.{Settings, Shared, Session, World, Reply}
+use Rattle.mmeaning.specs.Transition.{Settings, Shared, Session, World, Reply}
 use Rattle.mmeaning.proofs.Calls.{assoc_plan}
 use Rattle.mmeaning.proofs.LineRuns.{opened, text_opened, list_opened, name_found, AreAnswered, Cases, AreAnsweredEach}
 use Rattle.mmeaning.proofs.ExampleAccount.{with_steps, account}

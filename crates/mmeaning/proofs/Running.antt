@@ -5,7 +5,7 @@ pub use Rattle.std.specs.Prelude.{codes}
 pub use Rattle.std.specs.FinMap.{empty, gets}
 pub use Rattle.mspec.specs.Globals.{Globals}
 pub use Rattle.mspec.specs.Act.{Text}
-pub use Rattle.mmeaning.specs.Step.{new_session}
+pub use Rattle.mmeaning.specs.Transition.{new_session}
 pub use Rattle.mmeaning.specs.History.{opening}
 pub use Rattle.mmeaning.proofs.ExampleAccount.{account, with_steps, done, failed}
 pub use Rattle.mmeaning.proofs.LineRuns.{AreAnswered, Answered, AreAnsweredEach, Each, serving, holding, at_first, at_last, at_case, no_more}

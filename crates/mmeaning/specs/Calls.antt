@@ -7,7 +7,7 @@ use Rattle.std.specs.Prelude.{◌≡◌, ◌≤◌, ℕ, Bool, Option, Result, O
 use Rattle.mspec.specs.Code.{Fault, Own, Lost, Memory, Store}
 use Rattle.mspec.specs.Plan.{Ops, perform, cut_short}
 use Rattle.mspec.specs.Act.{Text, Node, Locals, State, Gives, Fails, Act}
-use Rattle.mmeaning.specs.Step.{Settings, Shared, act}
+use Rattle.mmeaning.specs.Transition.{Settings, Shared, act}
 
 -- what stays the same while a line runs
 pub record Standing : Type 0 where

@@ -1,13 +1,13 @@
 -- SPDX-License-Identifier: Apache-2.0
--- Histories: events with their replies, one step after another.
+-- Histories: events with their replies, one transition after another.
 use Rattle.std.specs.Prelude.{◌≡◌, false, List, [], ◌∷◌}
 use Rattle.std.specs.FinMap.{empty}
 use Rattle.mspec.specs.Globals.{Globals}
-use Rattle.mmeaning.specs.Step.{Settings, World, Event, Reply, Step, normal, is_failure}
+use Rattle.mmeaning.specs.Transition.{Settings, World, Event, Reply, Transition, normal, is_failure}
 
 abbrev pub History : Settings → World → List (Event × Reply) → World → Type 0
 History settings world [] after = after ≡ world
-History settings world (e ∷ es) after = (between : World) × Step settings e.0 e.1 world between × History settings between es after
+History settings world (e ∷ es) after = (between : World) × Transition settings e.0 e.1 world between × History settings between es after
 
 -- a world before its first line: it has globals alone, no session is open and no lock is held
 abbrev pub opening : Globals → World
@@ -28,7 +28,7 @@ abbrev pub answered : Settings → World → List Event → List (Event × Reply
 answered settings world [] = []
 answered settings world (e ∷ es) = (e, (normal settings e world).0) ∷ answered settings (normal settings e world).1 es
 
--- no step failed
+-- no transition failed
 abbrev pub NoneFailed : List (Event × Reply) → Type 0
 NoneFailed [] = Unit {0}
 NoneFailed (e ∷ es) = (is_failure e.1.ending ≡ false) × NoneFailed es

@@ -8,9 +8,9 @@ pub mod Locking
 pub mod Levels
 pub mod LineMeaning
 pub mod Shared
-pub mod Step
+pub mod Transition
 pub mod History
-pub mod StepLaws
+pub mod TransitionLaws
 pub mod Calls
 pub mod Frames
 pub mod Yields

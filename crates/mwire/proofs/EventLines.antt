@@ -14,7 +14,7 @@ use Rattle.std.proofs.lemmas.Fmt.{first_decimal, decimal_nonempty, length-decima
 use Rattle.mspec.specs.Act.{Text}
 use Rattle.mspec.specs.Literal.{is_digit, digits_after}
 use Rattle.mspec.proofs.TextLaws.{Digit, decimal_reads}
-use Rattle.mmeaning.specs.Step.{Event, line_limit}
+use Rattle.mmeaning.specs.Transition.{Event, line_limit}
 use Rattle.mwire.specs.Wire.{Ignored, TooLong, Unreadable, Runs, is_space, is_terminal, is_event, event_of, fate_of, before_events, events_of}
 use Rattle.mwire.specs.Progress.{IsOpen, AreOpen, IsCut}
 use Rattle.mwire.specs.WireLaws.{line_of, HasLine, EventsHaveStream}

@@ -7,7 +7,7 @@ use Rattle.std.specs.Io.KnownBytes.{Consumes}
 use Rattle.std.specs.Str.Lines.{lines, lines_of_parts, strip_carriage_return}
 use Rattle.std.proofs.lemmas.List.{map-append, take_all, take_more}
 use Rattle.mspec.specs.Act.{Text}
-use Rattle.mmeaning.specs.Step.{Event}
+use Rattle.mmeaning.specs.Transition.{Event}
 use Rattle.mwire.specs.Wire.{Fate, Ignored, TooLong, Unreadable, Runs, fate_of, before_events, events_of}
 use Rattle.mwire.specs.Progress.{Gathered, HasGathered}
 use Rattle.mwire.proofs.Cuts.{fate_of-kept, fate_of-kept_end, IsCut-nil, IsCut-byte, IsCut-line, lines-cut, last_part}

@@ -3,7 +3,7 @@
 use Rattle.std.proofs.Common.{◌≡◌, ◌≢◌, ◌++◌, List, [], ◌∷◌, refl, sym, ◌∙◌, ap, subst, append_assoc, append-nil}
 use Rattle.std.specs.Prelude.{map}
 use Rattle.mspec.specs.Act.{Text}
-use Rattle.mmeaning.specs.Step.{Settings, World, Event, Reply, Step}
+use Rattle.mmeaning.specs.Transition.{Settings, World, Event, Reply, Transition}
 use Rattle.mmeaning.specs.History.{History}
 use Rattle.mstore.specs.declared.store.NodeStore.{Ghosts}
 use Rattle.moperator.specs.declared.code.Code.TheVariants.{Zstore}
@@ -23,9 +23,9 @@ LineAnswered-at g settings old line answer new fate e h =
 
 -- a line that was run, and its reply
 pub replied : {S : Type 0} {g : Ghosts S} {settings : Settings} {old new : World} {e : Event} (answer : Text) (reply : CodeReply)
-    → answer ≡ reply_text e.terminal (reply_of reply) → (g.sound → Step settings e (reply_of reply) old new) → (g.steady → ◌≢◌ {A = Ended} reply.ending (Fault Zstore))
+    → answer ≡ reply_text e.terminal (reply_of reply) → (g.sound → Transition settings e (reply_of reply) old new) → (g.steady → ◌≢◌ {A = Ended} reply.ending (Fault Zstore))
     → RunAnswered g settings old e answer new
-replied answer reply shown step steady = record { reply = reply_of reply; text = shown; step = step; steady = λ holds. store_sufficed reply.ending (steady holds) }
+replied answer reply shown transition steady = record { reply = reply_of reply; text = shown; transition = transition; steady = λ holds. store_sufficed reply.ending (steady holds) }
 
 -- lines of one fate are answered alike
 pub LineAnswered-same : {S : Type 0} (g : Ghosts S) (settings : Settings) (old : World) (line line' answer : Text) (new : World)
@@ -81,7 +81,7 @@ LinesAnswered-line g settings old line more (Runs event) answer mid rest new e h
   text =
       ap (λ t. t ++ rest) h.text
       ∙ (ap (λ t. reply_text event.terminal h.reply ++ t) a.text ∙ ap (λ f. both_texts more f (h.reply ∷ map (λ x. x.1) a.trace)) (sym e));
-  history = λ sound. (mid, h.step sound, a.history sound);
+  history = λ sound. (mid, h.transition sound, a.history sound);
   steady = λ steady. (h.steady steady, a.steady steady);
 }
 

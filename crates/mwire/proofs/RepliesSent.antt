@@ -10,7 +10,7 @@ use Rattle.std.specs.Io.KnownBytes.{Appends, Consumes, IsAtEnd}
 use Rattle.std.specs.Str.Lines.{lines}
 use Rattle.mspec.specs.Act.{Text}
 use Rattle.mspec.specs.Access.{name_at}
-use Rattle.mmeaning.specs.Step.{Event}
+use Rattle.mmeaning.specs.Transition.{Event}
 use Rattle.misolation.specs.Telling.{Told}
 use Rattle.mstore.specs.declared.store.NodeStore.{Ghosts}
 use Rattle.mworld.specs.declared.world.World.{World}

@@ -4,9 +4,9 @@ use Rattle.std.proofs.Common.{◌≡◌, ◌++◌, List, [], ◌∷◌, true, fa
 use Rattle.std.specs.Prelude.{map}
 use Rattle.std.specs.Str.Lines.{lines}
 use Rattle.mspec.specs.Act.{Text}
-use Rattle.mmeaning.specs.Step.{Settings, World, Event, Reply, normal, is_failure}
+use Rattle.mmeaning.specs.Transition.{Settings, World, Event, Reply, normal, is_failure}
 use Rattle.mmeaning.specs.History.{replies, world_after, answered, opening}
-use Rattle.mmeaning.proofs.Histories.{normal_never_fails, normal_steps_are_history, history_is_normal}
+use Rattle.mmeaning.proofs.Histories.{normal_never_fails, normal_transitions_are_history, history_is_normal}
 use Rattle.mstore.specs.declared.store.NodeStore.{Ghosts}
 use Rattle.mwire.specs.Wire.{Fate, Ignored, TooLong, Unreadable, Runs, fate_of, before_events, events_of, line_served, lines_served, reply_text, too_long_text, unreadable_text}
 use Rattle.mwire.specs.Answers.{StoreSufficed, StoreSufficedForEach, line_text, replies_behind, answer_text}
@@ -59,6 +59,6 @@ lines_have_answers settings world all = record {
   trace = answered settings world (events_of all);
   events = events_of_answered settings world (events_of all);
   text = sym (lines_are_served settings world all) ∙ ap (answer_text all) (sym (replies_of_answered settings world (events_of all)));
-  history = λ sound. normal_steps_are_history settings world (events_of all);
+  history = λ sound. normal_transitions_are_history settings world (events_of all);
   steady = λ steady. store_sufficed settings world (events_of all);
 }

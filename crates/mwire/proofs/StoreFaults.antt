@@ -2,7 +2,7 @@
 -- When a reply tells of the store's failure.
 use Rattle.std.proofs.Common.{◌≡◌, ◌≢◌, refl}
 use Rattle.mspec.specs.Code.{Lost, Store}
-use Rattle.mmeaning.specs.Step.{Faulted}
+use Rattle.mmeaning.specs.Transition.{Faulted}
 use Rattle.moperator.specs.Codes.{fault_of}
 use Rattle.moperator.specs.declared.code.Code.{Code}
 use Rattle.moperator.specs.declared.code.Code.TheVariants.{M1, M4, M6, M7, M9, M10, M13, M15, Zlong, Zsyntax, Zover, Zarg, Zsub, Zgrant, Zlocked, Zsteps, Zdepth, Zlevel, Zchar, Zline, Zterm, Zmem, Zstore}

@@ -4,7 +4,7 @@
 use Rattle.std.specs.Prelude.{◌≡◌, ◌≢◌, List, [], ◌∷◌, ◌++◌, map}
 use Rattle.mspec.specs.Act.{Text}
 use Rattle.mspec.specs.Code.{Lost, Store}
-use Rattle.mmeaning.specs.Step.{Settings, World, Event, Faulted, Reply, Step}
+use Rattle.mmeaning.specs.Transition.{Settings, World, Event, Faulted, Reply, Transition}
 use Rattle.mmeaning.specs.History.{History}
 use Rattle.mstore.specs.declared.store.NodeStore.{Ghosts}
 use Rattle.mwire.specs.Wire.{Fate, Ignored, TooLong, Unreadable, Runs, fate_of, reply_text, too_long_text, unreadable_text, events_of}
@@ -46,11 +46,11 @@ pub record LinesAnswered {S : Type 0} (g : Ghosts S) (settings : Settings) (worl
   pub history : g.sound → History settings world trace after
   pub steady : g.steady → StoreSufficedForEach trace
 
--- a line that is run is answered by these bytes: those of a reply, by a step
+-- a line that is run is answered by these bytes: those of a reply, by a transition
 pub record RunAnswered {S : Type 0} (g : Ghosts S) (settings : Settings) (world : World) (e : Event) (bytes : Text) (after : World) : Type 0 where
   pub reply : Reply
   pub text : bytes ≡ reply_text e.terminal reply
-  pub step : g.sound → Step settings e reply world after
+  pub transition : g.sound → Transition settings e reply world after
   pub steady : g.steady → StoreSufficed reply
 
 -- a line of this fate is answered by these bytes

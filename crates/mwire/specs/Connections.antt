@@ -3,7 +3,7 @@
 use Rattle.std.specs.Prelude.{◌≡◌, ◌<◌, ℕ, List, [], ◌∷◌, ◌++◌, length, map, Option, Some, Result, MatchResult}
 use Rattle.std.specs.List.{All}
 use Rattle.mspec.specs.Act.{Text}
-use Rattle.mmeaning.specs.Step.{Settings, World}
+use Rattle.mmeaning.specs.Transition.{Settings, World}
 use Rattle.mstore.specs.declared.store.NodeStore.{Ghosts}
 use Rattle.mwire.specs.Serves.{Serves}
 use Rattle.mwire.specs.declared.fault.WireFault.{WireFault}

@@ -6,7 +6,7 @@ use Rattle.std.specs.Io.KnownBytes.{Appends, Consumes, IsAtEnd}
 use Rattle.std.specs.Str.Lines.{lines}
 use Rattle.mspec.specs.Act.{Text}
 use Rattle.mspec.specs.Access.{name_at}
-use Rattle.mmeaning.specs.Step.{Event}
+use Rattle.mmeaning.specs.Transition.{Event}
 use Rattle.misolation.specs.Telling.{Told}
 use Rattle.mstore.specs.declared.store.NodeStore.{Ghosts}
 use Rattle.mworld.specs.declared.world.World.{World}
@@ -38,7 +38,7 @@ pub record CutOff {S : Type 0} (g : Ghosts S) (old : World S g) (account : ℕ) 
   pub unsent : Text
   pub of_bytes : bytes ≡ sent ++ unsent
 
--- nothing was sent, and some first events were run, one step each
+-- nothing was sent, and some first events were run, one transition each
 abbrev pub Unsent : {S : Type 0} (g : Ghosts S) → World S g → List Event → Text → World S g → Type 0
 Unsent g old events sent new = (sent ≡ []) × (g.sound → RanFirst (settings_of old) (world_of g old) events (world_of g new))
 

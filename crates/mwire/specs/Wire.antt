@@ -10,7 +10,7 @@ use Rattle.mspec.specs.Code.{fault_text}
 use Rattle.mspec.specs.Globals.{Globals}
 use Rattle.mspec.specs.Literal.{is_digit, digits_after}
 use Rattle.mmeaning.specs.LineMeaning.{line_end}
-use Rattle.mmeaning.specs.Step.{Settings, World, Event, Ending, Finished, Halted, Faulted, Reply, normal}
+use Rattle.mmeaning.specs.Transition.{Settings, World, Event, Ending, Finished, Halted, Faulted, Reply, normal}
 use Rattle.mmeaning.specs.History.{opening}
 
 -- what becomes of a line
@@ -84,7 +84,7 @@ too_long_text = codes "?!ZLINE" ++ 10 ∷ []
 abbrev pub unreadable_text : Text
 unreadable_text = codes "?!ZWIRE" ++ 10 ∷ []
 
--- the bytes that answer a line, and the world after it, by a normal step
+-- the bytes that answer a line, and the world after it, by a normal transition
 abbrev pub line_served : Settings → World → Fate → Text × World
 line_served settings world Ignored = ([], world)
 line_served settings world TooLong = (too_long_text, world)

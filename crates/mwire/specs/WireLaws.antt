@@ -6,7 +6,7 @@ use Rattle.std.specs.Fmt.{decimal}
 use Rattle.std.specs.Str.Lines.{lines, strip_carriage_return}
 use Rattle.mspec.specs.Act.{Text}
 use Rattle.mspec.specs.Globals.{Globals}
-use Rattle.mmeaning.specs.Step.{Settings, World, Event, line_limit}
+use Rattle.mmeaning.specs.Transition.{Settings, World, Event, line_limit}
 use Rattle.mmeaning.specs.History.{opening, world_after, NoneFailed}
 use Rattle.mstore.specs.declared.store.NodeStore.{Ghosts}
 use Rattle.mwire.specs.Wire.{lines_served, stream_served, events_of}

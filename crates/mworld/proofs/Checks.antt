@@ -5,7 +5,7 @@ use Rattle.std.specs.Prelude.{slice_get, unwrap_or, option_map, Err}
 use Rattle.std.specs.FinMap.{get}
 use Rattle.std.proofs.lemmas.Bool.Decides.{nat_tests}
 use Rattle.mspec.specs.Access.{Settings, account_at, account_of}
-use Rattle.mmeaning.specs.Step.{Account, Event, Reply, World, Step, Faulted, normal, refused, checked, at_account, at_tree, is_too_long, is_ascii}
+use Rattle.mmeaning.specs.Transition.{Account, Event, Reply, World, Transition, Faulted, normal, refused, checked, at_account, at_tree, is_too_long, is_ascii}
 use Rattle.mspec.specs.Code.{Zterm, Zline, Zchar}
 use Rattle.moperator.specs.Codes.{fault_of}
 use Rattle.moperator.specs.declared.code.Code.{Code}
@@ -58,7 +58,7 @@ is_short text h = grind (arith, nat_tests)
 pub is_long : (text : List ℕ) → 255 < length text → is_too_long text ≡ true
 is_long text h = grind (arith, nat_tests)
 
--- a line that they refuse is a step that changes nothing
-pub refused_step : (settings : Settings) (e : Event) (code : Code) (reply : Reply) (world : World) → Admits settings e (Err code) → reply ≡ record { out = []; ending = Faulted (fault_of code) } → Step settings e reply world world
-refused_step settings e code reply world admits is =
-    subst (λ r. Step settings e r world world) (sym (is ∙ ap (λ fault. record { out = []; ending = Faulted fault }) admits.1)) (admits.2 world)
+-- a line that they refuse is a transition that changes nothing
+pub refused_transition : (settings : Settings) (e : Event) (code : Code) (reply : Reply) (world : World) → Admits settings e (Err code) → reply ≡ record { out = []; ending = Faulted (fault_of code) } → Transition settings e reply world world
+refused_transition settings e code reply world admits is =
+    subst (λ r. Transition settings e r world world) (sym (is ∙ ap (λ fault. record { out = []; ending = Faulted fault }) admits.1)) (admits.2 world)

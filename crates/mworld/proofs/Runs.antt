@@ -1,5 +1,5 @@
 -- SPDX-License-Identifier: Apache-2.0
--- A line's step, from the run of its text.
+-- A line's transition, from the run of its text.
 use Rattle.std.proofs.Common.{◌≡◌, ℕ, [], true, false, Vec, Global, refl, sym, ap, subst, ◌∙◌}
 use Rattle.std.specs.Ordering.{nat_cmp}
 use Rattle.std.specs.FinMap.{FinMap, get, insert, remove}
@@ -11,11 +11,11 @@ use Rattle.mspec.specs.Access.{Settings, name_at, steps_at}
 use Rattle.mspec.specs.Act.{Text, Act, State, Gives, Fails, level_begun}
 use Rattle.mgrammar.specs.Reading.{line_at}
 use Rattle.mmeaning.specs.LineMeaning.{Signal}
-use Rattle.mmeaning.specs.Step as step
-use Rattle.mmeaning.specs.Step.{Account, Shared, Event, World, Step, FailedStep, lost, StepBy, normal, begun, kept, ended, settled, session_or_new, text_run, is_failure, is_lost, Ending, Finished, Halted, Faulted, act}
+use Rattle.mmeaning.specs.Transition as transition
+use Rattle.mmeaning.specs.Transition.{Account, Shared, Event, World, Transition, FailedTransition, lost, TransitionBy, normal, begun, kept, ended, settled, session_or_new, text_run, is_failure, is_lost, Ending, Finished, Halted, Faulted, act}
 use Rattle.mmeaning.specs.Calls.{Standing, Here, IsCut, FailedBy, ops_of, point}
 use Rattle.mspec.proofs.Plans.{cut_whole}
-use Rattle.mmeaning.specs.StepLaws.{PlanKeepsOthersLocks}
+use Rattle.mmeaning.specs.TransitionLaws.{PlanKeepsOthersLocks}
 use Rattle.misolation.specs.Cut.{AreFit}
 use Rattle.misolation.specs.PlanLaws.{Actor, KeepsFit}
 use Rattle.misolation.proofs.PlansInside.{plans_keep_fit}
@@ -81,7 +81,7 @@ is_cut b steady p h (Fault c) h' d = is_cut_by b steady p h (fault_of c) h' d
 
 -- ---- steps
 
-module _ {S : Type 0} (g : Ghosts S) (settings : Settings) (e : Event) (place : ℕ) (sessions : FinMap nat_cmp step.Session) (old new : Session) (store store' : S) (locks locks' : Locks) (reply : Reply) (passes : Passes settings e place)
+module _ {S : Type 0} (g : Ghosts S) (settings : Settings) (e : Event) (place : ℕ) (sessions : FinMap nat_cmp transition.Session) (old new : Session) (store store' : S) (locks locks' : Locks) (reply : Reply) (passes : Passes settings e place)
     (same : session_of old ≡ session_or_new (get sessions e.terminal)) (ran : Ran g settings e.terminal place e.text old store locks reply new store' locks') (sound : g.sound) where
   abbrev world : World
   world = record { shared = shared g store locks; sessions = sessions }
@@ -102,8 +102,8 @@ module _ {S : Type 0} (g : Ghosts S) (settings : Settings) (e : Event) (place : 
   begins = λ i. record { locals = level_begun (sym same i).locals; naked = (sym same i).naked; test = (sym same i).test; out = []; steps = passes.steps i }
 
   -- a line that is not lost
-  pub ran_step : (after : World) → is_failure (ending_of reply.ending) ≡ false → after ≡ settled e.terminal world (ending_of reply.ending) there.0 there.1 → Step settings e (reply_of reply) world after
-  ran_step after fine stored = subst (λ l. StepBy l settings e (reply_of reply) world after) (sym fine) normally
+  pub ran_transition : (after : World) → is_failure (ending_of reply.ending) ≡ false → after ≡ settled e.terminal world (ending_of reply.ending) there.0 there.1 → Transition settings e (reply_of reply) world after
+  ran_transition after fine stored = subst (λ l. TransitionBy l settings e (reply_of reply) world after) (sym fine) normally
     where
       normally : normal settings e world ≡ (reply_of reply, after)
       normally =
@@ -113,8 +113,8 @@ module _ {S : Type 0} (g : Ghosts S) (settings : Settings) (e : Event) (place : 
           ∙ ap (λ (s : World). (reply_of reply, s)) (sym stored)
 
   -- one that is lost, also where it was run to its end: what it left of its session is gone
-  pub lost_step : (after : World) (answer : step.Reply) (loss : spec.Loss) → after ≡ record { shared = shared g store' (released locks' e.terminal); sessions = remove sessions e.terminal } → answer ≡ lost (Faulted (Lost loss)) → Step settings e answer world after
-  lost_step after answer loss gone is = subst (λ r. Step settings e r world after) (sym is) (refl, failed)
+  pub lost_transition : (after : World) (answer : transition.Reply) (loss : spec.Loss) → after ≡ record { shared = shared g store' (released locks' e.terminal); sessions = remove sessions e.terminal } → answer ≡ lost (Faulted (Lost loss)) → Transition settings e answer world after
+  lost_transition after answer loss gone is = subst (λ r. Transition settings e r world after) (sym is) (refl, failed)
     where
       cut : IsCut b (text_run (name_at settings place) (line_at e.text)) here there
       cut = is_cut b g.steady (text_run (name_at settings place) (line_at e.text)) here reply.ending there ends
@@ -123,7 +123,7 @@ module _ {S : Type 0} (g : Ghosts S) (settings : Settings) (e : Event) (place : 
       others : PlanKeepsOthersLocks settings e.terminal (name_at settings place) (text_run (name_at settings place) (line_at e.text) here.0) here.1
       others = others_kept settings e.terminal (name_at settings place) (text_run (name_at settings place) (line_at e.text) here.0) here.1
 
-      failed : FailedStep settings e world after
+      failed : FailedTransition settings e world after
       failed = record {
         account = passes.account;
         known = passes.known;
@@ -153,9 +153,9 @@ ran_fits g settings e place old new store store' locks locks' reply passes ran s
     (kept.short cut.0)
 
 -- a line that was not run for a loss
-pub unrun_step : {S : Type 0} (g : Ghosts S) (settings : Settings) (e : Event) (place : ℕ) (sessions : FinMap nat_cmp step.Session) (store : S) (locks : Locks) (passes : Passes settings e place) (after : World) (answer : step.Reply) (loss : spec.Loss)
-    → after ≡ record { shared = shared g store (released locks e.terminal); sessions = remove sessions e.terminal } → answer ≡ lost (Faulted (Lost loss)) → Step settings e answer (record { shared = shared g store locks; sessions = sessions }) after
-unrun_step g settings e place sessions store locks passes after answer loss gone is = subst (λ r. Step settings e r (record { shared = shared g store locks; sessions = sessions }) after) (sym is) (
+pub unrun_transition : {S : Type 0} (g : Ghosts S) (settings : Settings) (e : Event) (place : ℕ) (sessions : FinMap nat_cmp transition.Session) (store : S) (locks : Locks) (passes : Passes settings e place) (after : World) (answer : transition.Reply) (loss : spec.Loss)
+    → after ≡ record { shared = shared g store (released locks e.terminal); sessions = remove sessions e.terminal } → answer ≡ lost (Faulted (Lost loss)) → Transition settings e answer (record { shared = shared g store locks; sessions = sessions }) after
+unrun_transition g settings e place sessions store locks passes after answer loss gone is = subst (λ r. Transition settings e r (record { shared = shared g store locks; sessions = sessions }) after) (sym is) (
   refl,
   record {
     account = passes.account;
@@ -219,7 +219,7 @@ memory_is_none e = cc
 
 -- a reply of another fault is not the store's
 pub not_refused : (reply : Reply) (c : Code) → (fault_of c ≡ Lost Store → ⊥) → reply.ending ≡ Fault Zstore → reply_of reply ≡ record { out = []; ending = Faulted (fault_of c) } → ⊥
-not_refused reply c other is refused = other (faults (sym (ap (λ (r : step.Reply). r.ending) refused) ∙ ap ending_of is))
+not_refused reply c other is refused = other (faults (sym (ap (λ (r : transition.Reply). r.ending) refused) ∙ ap ending_of is))
   where
     faults : Faulted (fault_of c) ≡ Faulted (Lost Store) → fault_of c ≡ Lost Store
     faults e = cc

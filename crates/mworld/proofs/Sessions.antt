@@ -12,8 +12,8 @@ use Rattle.mspec.specs.Maps.{hash_map_of}
 use Rattle.mspec.proofs.HashMaps.{get-hash_map_of, insert-hash_map_of, remove-hash_map_of}
 use Rattle.mspec.proofs.Maps.{insert-remove}
 use Rattle.mspec.proofs.MapCuts.{equal_of}
-use Rattle.mmeaning.specs.Step as step
-use Rattle.mmeaning.specs.Step.{new_session, session_or_new}
+use Rattle.mmeaning.specs.Transition as transition
+use Rattle.mmeaning.specs.Transition.{new_session, session_or_new}
 use Rattle.meval.specs.declared.session.Session.{Session}
 use Rattle.meval.specs.Sessions.{session_of}
 
@@ -55,7 +55,7 @@ module _ {H : Type 0} (m : HashMap ℕ Session H) where
 
 -- ---- through what `get_mut` lends
 
-module _ {H : Type 0} (sessions : FinMap nat_cmp step.Session) (t : ℕ) (m : HashMap ℕ Session H) (others : remove (hash_map_of {R = nat_cmp} session_of m) t ≡ remove sessions t) (there : IsSome (hash.get nat_eq m t))
+module _ {H : Type 0} (sessions : FinMap nat_cmp transition.Session) (t : ℕ) (m : HashMap ℕ Session H) (others : remove (hash_map_of {R = nat_cmp} session_of m) t ≡ remove sessions t) (there : IsSome (hash.get nat_eq m t))
     (lender : Session → HashMap ℕ Session H) (holds : (w : Session) → WritesThrough nat_eq (nat_eq t) m w (lender w)) where
   -- the session as the line left it stands in place of what was there
   pub left : (w : Session) → hash_map_of {R = nat_cmp} session_of (lender w) ≡ insert sessions t (session_of w)
@@ -69,7 +69,7 @@ module _ {H : Type 0} (sessions : FinMap nat_cmp step.Session) (t : ℕ) (m : Ha
   pub gone : (w : Session) → remove (hash_map_of {R = nat_cmp} session_of (lender w)) t ≡ remove sessions t
   gone w = ap (λ s. remove s t) (left w) ∙ remove-insert sessions t (session_of w)
 
-module _ {H : Type 0} (t : ℕ) (m : HashMap ℕ Session H) (s : step.Session) (known : get (hash_map_of {R = nat_cmp} session_of m) t ≡ Some s) where
+module _ {H : Type 0} (t : ℕ) (m : HashMap ℕ Session H) (s : transition.Session) (known : get (hash_map_of {R = nat_cmp} session_of m) t ≡ Some s) where
   -- what is lent of a terminal's entry
   pub is_lent : (old : Session) → Some old ≡ hash.get nat_eq m t → session_of old ≡ s
   is_lent old found = ap (λ o. unwrap_or o (session_of old)) (ap (option_map session_of) found ∙ sym (held_at m t) ∙ known)
@@ -80,11 +80,11 @@ module _ {H : Type 0} (t : ℕ) (m : HashMap ℕ Session H) (s : step.Session) (
 
 -- ---- before the line
 
-has_one : (o : Option Session) (g : Option step.Session) → true ≡ is_some o → g ≡ option_map session_of o → g ≡ Some (session_or_new g)
+has_one : (o : Option Session) (g : Option transition.Session) → true ≡ is_some o → g ≡ option_map session_of o → g ≡ Some (session_or_new g)
 has_one None g is e = cc
 has_one (Some x) g is e = e ∙ ap (λ o. Some (session_or_new o)) (sym e)
 
-has_none : (o : Option Session) (g : Option step.Session) → false ≡ is_some o → g ≡ option_map session_of o → g ≡ None
+has_none : (o : Option Session) (g : Option transition.Session) → false ≡ is_some o → g ≡ option_map session_of o → g ≡ None
 has_none None g is e = e
 has_none (Some x) g is e = cc
 

@@ -1,5 +1,5 @@
 -- SPDX-License-Identifier: Apache-2.0
--- A run of events goes on by one step of the program.
+-- A run of events goes on by one transition of the program.
 use Rattle.std.proofs.Common.{◌≡◌, ℕ, ◌+◌, ◌<◌, Bool, true, false, cond, List, [], ◌∷◌, ◌++◌, Option, Some, None, map, take, length, get_or, refl, sym, ap, ◌∙◌, subst}
 use Rattle.std.specs.Prelude.{IsTrue, ◌↔◌, unwrap_or, option_map, Result, Ok, Err, IfErr}
 use Rattle.std.proofs.lemmas.List.{append-nil, map-append, take_more, take-map}
@@ -10,7 +10,7 @@ use Rattle.mspec.specs.Node.{Text}
 use Rattle.mspec.specs.Trees.{text_eq}
 use Rattle.mspec.specs.Access.{Account, Settings, account_at, account_of, name_at}
 use Rattle.mspec.specs.Flow.{Reaches}
-use Rattle.mmeaning.specs.Step.{World, Event, Reply, Step, is_failure}
+use Rattle.mmeaning.specs.Transition.{World, Event, Reply, Transition, is_failure}
 use Rattle.mmeaning.specs.History.{History, NoneFailed}
 use Rattle.misolation.specs.Reach.{Accounts, reach}
 use Rattle.misolation.specs.Cut.{is_member, is_inside, part}
@@ -49,12 +49,12 @@ module _ (settings : Settings) (e : Event) (place : ℕ) (same : account_at sett
   inside s = ap (is_member s) there.1 ∙ ap s named
 
 module _ (a : Text) (settings : Settings) (world between after : World) (events : List Event) (told : List Told) (whole : Bool) (h : Tells a settings world events told whole between) (e : Event) (reply : Reply)
-    (step : Step settings e reply between after) where
+    (transition : Transition settings e reply between after) where
   told_more : (b : Bool) → is_inside (only a) settings e.terminal ≡ b → (more : Bool) → (IsTrue more ↔ (IsTrue whole × NoneFailed (part (reach settings a) settings ((e, reply) ∷ []))))
       → Tells a settings world (events ++ e ∷ []) (told ++ map told_by (cond b ((e, reply) ∷ []) [])) more after
   told_more b is more iff =
       subst (λ es. Tells a settings world (events ++ e ∷ []) (told ++ map told_by es) more after) (part_of_one (only a) settings e reply b is)
-      (tells_on a settings world between after events told whole h e reply step more iff)
+      (tells_on a settings world between after events told whole h e reply transition more iff)
 
   -- at a terminal of no account
   pub nobody_told : get settings.terminals e.terminal ≡ None → Tells a settings world (events ++ e ∷ []) told whole after
@@ -122,7 +122,7 @@ take_on f xs i x within is = ap (map f) (take_more xs i x within ∙ ap (λ y. t
 
 module _ {X : Type 0} (f : X → Event) (xs : List X) (i : ℕ) (x : X) (a : Text) (settings : Settings) (world between after : World) (told : List Told) (whole : Bool) where
   -- where a run ends early
-  pub ran_first : i < length xs → x ≡ get_or xs i x → Tells a settings world (map f (take i xs)) told whole between → (reply : Reply) × Step settings (f x) reply between after → RanFirst settings world (map f xs) after
+  pub ran_first : i < length xs → x ≡ get_or xs i x → Tells a settings world (map f (take i xs)) told whole between → (reply : Reply) × Transition settings (f x) reply between after → RanFirst settings world (map f xs) after
   ran_first within is h more = record {
     count = i + 1;
     lines = h.lines ++ (f x, more.0) ∷ [];

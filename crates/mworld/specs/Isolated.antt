@@ -4,7 +4,7 @@ use Rattle.std.specs.Prelude.{◌≡◌, ℕ, Bool, List, map, take, IsTrue}
 use Rattle.mspec.specs.Node.{Text}
 use Rattle.mspec.specs.Access.{Settings, name_at}
 use Rattle.mspec.specs.Flow.{Reaches}
-use Rattle.mmeaning.specs.Step as step
+use Rattle.mmeaning.specs.Transition as transition
 use Rattle.mmeaning.specs.History.{History}
 use Rattle.misolation.specs.Reach.{Accounts, IsClosed, reach}
 use Rattle.misolation.specs.Alone.{alone}
@@ -25,10 +25,10 @@ abbrev pub replies_of : Isolated → List telling.Told
 replies_of i = map told_of i.replies.items
 
 -- These are the replies at the account's terminals of a history of all the events, from the old world to the new; and it is whole
--- exactly where no step failed in it at a terminal of an account that reaches this one. For every closed set that has the account they
+-- exactly where no transition failed in it at a terminal of an account that reaches this one. For every closed set that has the account they
 -- are those of the members' part of this history alone, from the one cut to the other: over the members' globals, sessions and locks,
 -- and the grants between them.
-pub record IsTold {S : Type 0} (g : Ghosts S) (old : World S g) (account : ℕ) (events : List step.Event) (told : List telling.Told) (whole : Bool) (new : World S g) : Type 0 where
+pub record IsTold {S : Type 0} (g : Ghosts S) (old : World S g) (account : ℕ) (events : List transition.Event) (told : List telling.Told) (whole : Bool) (new : World S g) : Type 0 where
   pub run : Tells (name_at (settings_of old) account) (settings_of old) (world_of g old) events told whole (world_of g new)
   pub apart :
       (s : Accounts) → IsClosed (settings_of old) s → IsTrue (s (name_at (settings_of old) account)) →
@@ -36,7 +36,7 @@ pub record IsTold {S : Type 0} (g : Ghosts S) (old : World S g) (account : ℕ) 
 
 -- Where it is whole, they are those of the definitional interpreter, run on the lines of the accounts that reach this one, over their
 -- globals, their sessions and locks, and the grants between them alone.
-abbrev pub IsEquallyTold : {S : Type 0} (g : Ghosts S) → World S g → ℕ → List step.Event → List telling.Told → Bool → Type 0
+abbrev pub IsEquallyTold : {S : Type 0} (g : Ghosts S) → World S g → ℕ → List transition.Event → List telling.Told → Bool → Type 0
 IsEquallyTold g old account events told whole =
     IsTrue whole →
     told ≡
@@ -44,18 +44,18 @@ IsEquallyTold g old account events told whole =
     (alone (reach (settings_of old) (name_at (settings_of old) account)) (settings_of old) (world_of g old) events)
 
 -- Whatever the store does, they are replies to the account's events, one each and in their order.
-pub record IsToldEach (a : Text) (settings : Settings) (events : List step.Event) (told : List telling.Told) : Type 0 where
-  pub lines : List (step.Event × step.Reply)
+pub record IsToldEach (a : Text) (settings : Settings) (events : List transition.Event) (told : List telling.Told) : Type 0 where
+  pub lines : List (transition.Event × transition.Reply)
   pub sent : events_of lines ≡ events
   pub replies : told_to a settings lines ≡ told
 
--- some first events were run, one step each
-pub record RanFirst (settings : Settings) (world : step.World) (events : List step.Event) (after : step.World) : Type 0 where
+-- some first events were run, one transition each
+pub record RanFirst (settings : Settings) (world : transition.World) (events : List transition.Event) (after : transition.World) : Type 0 where
   pub count : ℕ
-  pub lines : List (step.Event × step.Reply)
+  pub lines : List (transition.Event × transition.Reply)
   pub sent : events_of lines ≡ take count events
   pub history : History settings world lines after
 
 -- no line failed here whose sender reaches the account
-abbrev pub IsUnseen : Settings → (sender a : Text) → step.Reply → Type 0
-IsUnseen settings sender a reply = IsTrue (step.is_failure reply.ending) → Reaches settings sender a → ⊥
+abbrev pub IsUnseen : Settings → (sender a : Text) → transition.Reply → Type 0
+IsUnseen settings sender a reply = IsTrue (transition.is_failure reply.ending) → Reaches settings sender a → ⊥

@@ -5,7 +5,7 @@ use Rattle.mspec.specs.Access.{Settings, name_at, steps_at}
 use Rattle.mspec.specs.LockConflict.{Locks}
 use Rattle.mspec.specs.Act.{Text, level_begun}
 use Rattle.mgrammar.specs.Reading.{line_at}
-use Rattle.mmeaning.specs.Step.{text_run}
+use Rattle.mmeaning.specs.Transition.{text_run}
 use Rattle.mmeaning.specs.Calls.{point}
 use Rattle.mstore.specs.declared.store.NodeStore.{Ghosts}
 use Rattle.meval.specs.declared.session.Session.{Session}

@@ -7,7 +7,7 @@ use Rattle.std.specs.FinMap.{FinMap}
 use Rattle.mspec.specs.Maps.{hash_map_of}
 use Rattle.mspec.specs.Access.{Settings}
 use Rattle.mspec.specs.LockConflict.{Locks}
-use Rattle.mmeaning.specs.Step as step
+use Rattle.mmeaning.specs.Transition as transition
 use Rattle.mstore.specs.declared.store.NodeStore.{Ghosts}
 use Rattle.meval.specs.declared.session.Session.{Session}
 use Rattle.meval.specs.Sessions.{session_of}
@@ -20,17 +20,17 @@ abbrev pub settings_of : {S : Type 0} {g : Ghosts S} → World S g → Settings
 settings_of w = w.settings
 
 -- what all terminals share
-abbrev pub shared : {S : Type 0} → Ghosts S → S → Locks → step.Shared
+abbrev pub shared : {S : Type 0} → Ghosts S → S → Locks → transition.Shared
 shared g store locks = record { globals = g.content store; locks = locks }
 
-abbrev pub sessions_of : {H : Type 0} → HashMap ℕ Session H → FinMap nat_cmp step.Session
+abbrev pub sessions_of : {H : Type 0} → HashMap ℕ Session H → FinMap nat_cmp transition.Session
 sessions_of m = hash_map_of {R = nat_cmp} session_of m
 
-abbrev pub world_of : {S : Type 0} (g : Ghosts S) → World S g → step.World
+abbrev pub world_of : {S : Type 0} (g : Ghosts S) → World S g → transition.World
 world_of g w = record { shared = shared g w.store w.locks; sessions = sessions_of w.sessions }
 
-abbrev pub reply_of : Reply → step.Reply
+abbrev pub reply_of : Reply → transition.Reply
 reply_of r = record { out = r.out.items; ending = ending_of r.ending }
 
-abbrev pub event_of : Event → step.Event
+abbrev pub event_of : Event → transition.Event
 event_of e = record { terminal = e.terminal; text = e.text.items }

@@ -1,7 +1,7 @@
 // SPDX-License-Identifier: Apache-2.0
 // The checks before a line's text is parsed.
 ghost use Rattle.std.specs.Prelude.{◌≡◌};
-ghost use Rattle.mmeaning.specs.Step.{is_ascii};
+ghost use Rattle.mmeaning.specs.Transition.{is_ascii};
 ghost use Rattle.mworld.specs.Admits.{Admits};
 
 use mgrant::{AccountId, Settings};

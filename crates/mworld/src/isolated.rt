@@ -3,8 +3,8 @@
 ghost use Rattle.std.specs.Prelude.{◌≡◌, List, ◌∷◌, [], ◌++◌, map, IfOk, IfErr, OnOk, IsTrue, ◌↔◌};
 ghost use Rattle.mspec.specs.Access.{name_at};
 ghost use Rattle.mspec.specs.Trees.{text_eq};
-ghost use Rattle.mmeaning.specs.Step as step;
-ghost use Rattle.mmeaning.specs.Step.{Step};
+ghost use Rattle.mmeaning.specs.Transition as transition;
+ghost use Rattle.mmeaning.specs.Transition.{Transition};
 ghost use Rattle.misolation.specs.Telling.{Tells};
 ghost use Rattle.mworld.specs.View.{settings_of, world_of, reply_of, event_of};
 ghost use Rattle.mworld.specs.Isolated.{replies_of, IsTold, IsEquallyTold, IsToldEach, IsUnseen, RanFirst};
@@ -44,7 +44,7 @@ pub struct Isolated {
 ///
 /// # Errors
 ///
-/// Want of memory for what is told. The world then stands after some first events, one step each.
+/// Want of memory for what is told. The world then stands after some first events, one transition each.
 pub fn isolated_replies<S: NodeStore>(
     alloc: Global,
     world: &mut World<S>,
@@ -75,13 +75,13 @@ fn tell<S: NodeStore>(
     account: AccountId,
     isolated: &mut Isolated,
 ) -> Result<(), AllocError>
-    ensures told { S.sound → OnOk result ((world : step.World) (events : List step.Event) →
+    ensures told { S.sound → OnOk result ((world : transition.World) (events : List transition.Event) →
         Tells (name_at (settings_of world.old) account) (settings_of world.old) world events (replies_of isolated.old) isolated.old.whole (world_of S.NodeStore world.old) →
         Tells (name_at (settings_of world.old) account) (settings_of world.old) world (events ++ event_of event.now ∷ []) (replies_of isolated.new) isolated.new.whole (world_of S.NodeStore world.new)) }
-    ensures each { OnOk result ((events : List step.Event) →
+    ensures each { OnOk result ((events : List transition.Event) →
         IsToldEach (name_at (settings_of world.old) account) (settings_of world.old) events (replies_of isolated.old) →
         IsToldEach (name_at (settings_of world.old) account) (settings_of world.old) (events ++ event_of event.now ∷ []) (replies_of isolated.new)) }
-    ensures step { S.sound → (reply : step.Reply) × Step (settings_of world.old) (event_of event.now) reply (world_of S.NodeStore world.old) (world_of S.NodeStore world.new) }
+    ensures transition { S.sound → (reply : transition.Reply) × Transition (settings_of world.old) (event_of event.now) reply (world_of S.NodeStore world.old) (world_of S.NodeStore world.new) }
     ensures settings { settings_of world.new ≡ settings_of world.old }
 {
     let reply = world.line(event.terminal, &event.text);

@@ -1,7 +1,7 @@
 // SPDX-License-Identifier: Apache-2.0
 // Events and replies.
 ghost use Rattle.std.specs.Prelude.{◌≡◌, []};
-ghost use Rattle.mmeaning.specs.Step.{Faulted, is_failure};
+ghost use Rattle.mmeaning.specs.Transition.{Faulted, is_failure};
 ghost use Rattle.moperator.specs.Codes.{fault_of};
 ghost use Rattle.mworld.specs.View.{reply_of};
 

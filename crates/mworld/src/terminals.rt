@@ -3,7 +3,7 @@
 ghost use Rattle.std.specs.Prelude.{◌≡◌, Some, None, OnOk, OnErr};
 ghost use Rattle.std.specs.FinMap.{get, remove};
 ghost use Rattle.mspec.specs.LockConflict.{released};
-ghost use Rattle.mmeaning.specs.Step.{session_or_new};
+ghost use Rattle.mmeaning.specs.Transition.{session_or_new};
 ghost use Rattle.mworld.specs.View.{sessions_of};
 
 use meval::Session;

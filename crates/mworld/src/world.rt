@@ -1,7 +1,7 @@
 // SPDX-License-Identifier: Apache-2.0
 // The world: one session for each terminal, and the locks of all, over a store.
 ghost use Rattle.std.specs.Prelude.{◌≡◌};
-ghost use Rattle.mmeaning.specs.Step.{is_lost};
+ghost use Rattle.mmeaning.specs.Transition.{is_lost};
 ghost use Rattle.moperator.specs.Codes.{fault_of};
 ghost use Rattle.misolation.specs.Cut.{AreFit};
 
@@ -42,12 +42,12 @@ pub struct World<S: NodeStore> {
 
 impl<S: NodeStore> World<S> {
     ghost use Rattle.std.specs.Prelude.{◌≡◌, ◌≢◌, ◌≤◌, false, IsTrue, IfOk, IfErr};
-    ghost use Rattle.mmeaning.specs.Step.{Step};
+    ghost use Rattle.mmeaning.specs.Transition.{Transition};
     ghost use Rattle.mmeaning.specs.History.{opening};
     ghost use Rattle.moperator.specs.declared.code.Code.TheVariants.{Zstore};
     ghost use Rattle.misolation.specs.Reach.{Accounts, IsClosed};
     ghost use Rattle.misolation.specs.Cut.{is_inside, cut_world};
-    ghost use Rattle.misolation.specs.StepLaws.{StepWrites, StepWithin};
+    ghost use Rattle.misolation.specs.TransitionLaws.{TransitionWrites, TransitionWithin};
     ghost use Rattle.mworld.specs.View.{settings_of, world_of, reply_of};
     ghost use Rattle.mworld.specs.Admits.{Passes};
 
@@ -109,20 +109,20 @@ impl<S: NodeStore> World<S> {
         self.store
     }
 
-    /// Runs a line of a terminal, to its end: one step of the definitions, where the store is sound.
+    /// Runs a line of a terminal, to its end: one transition of the definitions, where the store is sound.
     ///
     /// The reply says how it ended. `Zterm`, `Zline` and `Zchar` change nothing. After HALT the terminal's session and its locks are gone, and
     /// so they are after `Zmem` and `Zstore`, when there is no output; these can come anywhere after the check for `Zchar`, and `Zstore` never
     /// over a steady store.
     ///
-    /// **It keeps every closed set of accounts apart from the others.** At a member's terminal it is that step over what is left where there
+    /// **It keeps every closed set of accounts apart from the others.** At a member's terminal it is that transition over what is left where there
     /// is nothing but the set, with the same reply and the same writes; at any other terminal it leaves that as it was. The globals that
     /// it leaves are the old ones after some first of the line's writes: after all, where it did not fail.
     pub fn line(&mut self, terminal: u32, text: &[u8]) -> Reply
-        ensures step { S.sound → Step (settings_of self.old) (record { terminal = terminal; text = text.now }) (reply_of result) (world_of S.NodeStore self.old) (world_of S.NodeStore self.new) }
-        ensures writes { S.sound → StepWrites (settings_of self.old) (record { terminal = terminal; text = text.now }) (reply_of result) (world_of S.NodeStore self.old) (world_of S.NodeStore self.new) }
+        ensures transition { S.sound → Transition (settings_of self.old) (record { terminal = terminal; text = text.now }) (reply_of result) (world_of S.NodeStore self.old) (world_of S.NodeStore self.new) }
+        ensures writes { S.sound → TransitionWrites (settings_of self.old) (record { terminal = terminal; text = text.now }) (reply_of result) (world_of S.NodeStore self.old) (world_of S.NodeStore self.new) }
         ensures inside { S.sound → (s : Accounts) → IsClosed (settings_of self.old) s → IsTrue (is_inside s (settings_of self.old) terminal) →
-            StepWithin s (settings_of self.old) (record { terminal = terminal; text = text.now }) (reply_of result) (world_of S.NodeStore self.old) (world_of S.NodeStore self.new) }
+            TransitionWithin s (settings_of self.old) (record { terminal = terminal; text = text.now }) (reply_of result) (world_of S.NodeStore self.old) (world_of S.NodeStore self.new) }
         ensures outside { S.sound → (s : Accounts) → IsClosed (settings_of self.old) s → is_inside s (settings_of self.old) terminal ≡ false →
             cut_world s (settings_of self.old) (world_of S.NodeStore self.new) ≡ cut_world s (settings_of self.old) (world_of S.NodeStore self.old) }
         ensures settings { settings_of self.new ≡ settings_of self.old }
@@ -152,7 +152,7 @@ impl<S: NodeStore> World<S> {
     // Runs a line that passed the checks before its text is parsed. The session stays where it is, and the line changes it there.
     fn run(&mut self, terminal: u32, account: AccountId, text: &[u8]) -> Reply
         requires { Passes (settings_of self.now) (record { terminal = terminal; text = text.now }) account }
-        ensures step { S.sound → Step (settings_of self.old) (record { terminal = terminal; text = text.now }) (reply_of result) (world_of S.NodeStore self.old) (world_of S.NodeStore self.new) }
+        ensures transition { S.sound → Transition (settings_of self.old) (record { terminal = terminal; text = text.now }) (reply_of result) (world_of S.NodeStore self.old) (world_of S.NodeStore self.new) }
         ensures settings { settings_of self.new ≡ settings_of self.old }
         ensures steady { S.steady → result.ending ≢ Ended.Fault Zstore }
     {

@@ -11,7 +11,7 @@ returns-in_err-show_reply-in-Runs-clause-sent g c =
     let is = sym c.fate_of.ensures ∙ ap fate_in c.in-Runs.is in
     record {
       answer = _;
-      answered = LineAnswered-at _ _ _ _ _ _ _ is (replied _ c.line-reply.result refl c.line-reply.ensures.step c.line-reply.ensures.steady);
+      answered = LineAnswered-at _ _ _ _ _ _ _ is (replied _ c.line-reply.result refl c.line-reply.ensures.transition c.line-reply.ensures.steady);
       sent = FrontSent-none _ _ _ (not_ok _ c.from_residual.ensures.0);
     }
 
@@ -36,6 +36,6 @@ returns-in_ok-show_reply-in-Runs-clause-sent g c =
     let same = c.deref.ensures.value ∙ c.in_ok-show_reply-in-Runs.ensures.ok in
     rw c.reuse.ensures.world (record {
       answer = c.deref.result.now;
-      answered = LineAnswered-at _ _ _ _ _ _ _ is (replied _ c.line-reply.result same c.line-reply.ensures.step c.line-reply.ensures.steady);
+      answered = LineAnswered-at _ _ _ _ _ _ _ is (replied _ c.line-reply.result same c.line-reply.ensures.transition c.line-reply.ensures.steady);
       sent = c.write_whole-in-Runs.ensures.sent;
     })

@@ -9,9 +9,9 @@ use Rattle.mworld.proofs.isolated.isolated_replies.Goals as goal
 
 pub returns-in_err-tell-clause-first : goal.returns-in_err-tell-clause-first
 returns-in_err-tell-clause-first g c = λ sound.
-    let step = rw c.loop-event.invariant.settings at c.in_err-tell.ensures.step in
+    let transition = rw c.loop-event.invariant.settings at c.in_err-tell.ensures.transition in
     whichever c.from_residual.result
-    (ran_first event_of c.args.events.now c.loop-event.event-index c.event-item.result _ _ _ _ _ _ _ c.loop-event-test.true c.event-item.is (c.loop-event.invariant.told sound) (step sound))
+    (ran_first event_of c.args.events.now c.loop-event.event-index c.event-item.result _ _ _ _ _ _ _ c.loop-event-test.true c.event-item.is (c.loop-event.invariant.told sound) (transition sound))
 
 pub loop-event-preserved : goal.loop-event-preserved
 loop-event-preserved g c =

@@ -1,7 +1,7 @@
 -- SPDX-License-Identifier: Apache-2.0
 use Rattle.std.proofs.Common.{ap}
 use Rattle.mspec.specs.Act.{no_locals, Locals}
-use Rattle.mmeaning.specs.Step.{new_session}
+use Rattle.mmeaning.specs.Transition.{new_session}
 use Rattle.meval.proofs.session.Session.new.Goals as goal
 
 pub returns : goal.returns

@@ -4,30 +4,30 @@ use Rattle.std.specs.Prelude.{IsSome}
 use Rattle.std.specs.Option.{option_copied_mut}
 use Rattle.std.specs.FinMap.{get, insert}
 use Rattle.mspec.specs.Code.{Memory}
-use Rattle.mmeaning.specs.Step.{Faulted, lost, is_failure, session_or_new}
+use Rattle.mmeaning.specs.Transition.{Faulted, lost, is_failure, session_or_new}
 use Rattle.moperator.specs.Codes.{fault_of}
 use Rattle.mexec.specs.Runs.{ending_of}
 use Rattle.mworld.specs.View.{world_of, sessions_of, shared}
 use Rattle.misolation.specs.Cut.{AreFit}
 use Rattle.misolation.proofs.FittingLocks.{released_fits}
-use Rattle.mworld.proofs.Runs.{ran_step, lost_step, unrun_step, ran_fits, is_loss, not_lost, settles, halts}
+use Rattle.mworld.proofs.Runs.{ran_transition, lost_transition, unrun_transition, ran_fits, is_loss, not_lost, settles, halts}
 use Rattle.mworld.proofs.Sessions.{is_there, is_lent, left, gone}
 use Rattle.mworld.proofs.world.World.run.Goals as goal
 use Rattle.mworld.proofs.world.World.run.Goals.{in-Fault+else-loses_session, in_default-ending}
 
-pub returns-in_default-clause-step : goal.returns-in_default-clause-step
-returns-in_default-clause-step g c = λ sound.
-    unrun_step g.S.NodeStore c.args.self.now.settings (record { terminal = c.args.terminal; text = c.args.text.now }) c.args.account (sessions_of c.args.self.now.sessions) c.args.self.now.store c.args.self.now.locks c.requires _ _ Memory
+pub returns-in_default-clause-transition : goal.returns-in_default-clause-transition
+returns-in_default-clause-transition g c = λ sound.
+    unrun_transition g.S.NodeStore c.args.self.now.settings (record { terminal = c.args.terminal; text = c.args.text.now }) c.args.account (sessions_of c.args.self.now.sessions) c.args.self.now.store c.args.self.now.locks c.requires _ _ Memory
     (λ i. record { shared = shared g.S.NodeStore c.args.self.now.store (c.release_all.ensures i); sessions = c.in_default.ensures.none i })
     c.refused.ensures
 
-pub returns-then-loses_session-clause-step : goal.returns-then-loses_session-clause-step
-returns-then-loses_session-clause-step g c = λ sound.
+pub returns-then-loses_session-clause-transition : goal.returns-then-loses_session-clause-transition
+returns-then-loses_session-clause-transition g c = λ sound.
     let sessions = sessions_of c.args.self.now.sessions in
     let m = c.begin_session.new.sessions in
     let some = subst IsSome c.in-Some.ensures.value refl in
     let loss = is_loss (fault_of c.in-Fault.code) (sym c.loses_session.ensures ∙ c.if-loses_session.true) in
-    lost_step g.S.NodeStore c.args.self.now.settings (record { terminal = c.args.terminal; text = c.args.text.now }) c.args.account sessions c.in-Some.session.now c.run_over-reply.new.session
+    lost_transition g.S.NodeStore c.args.self.now.settings (record { terminal = c.args.terminal; text = c.args.text.now }) c.args.account sessions c.in-Some.session.now c.run_over-reply.new.session
     c.args.self.now.store c.run_over-reply.new.store c.args.self.now.locks c.run_over-reply.new.locks c.run_over-reply.result c.requires
     (is_lent c.args.terminal m (session_or_new (get sessions c.args.terminal)) c.in-Ok.ensures.session c.in-Some.session.now c.in-Some.ensures.value) c.run_over-reply.ensures.ran sound _ _ loss.0
     (λ i. record {
@@ -36,13 +36,13 @@ returns-then-loses_session-clause-step g c = λ sound.
     })
     (c.refused-then-loses_session.ensures ∙ ap (λ fault. lost (Faulted fault)) loss.1)
 
-pub returns-in-Halt-clause-step : goal.returns-in-Halt-clause-step
-returns-in-Halt-clause-step g c = λ sound.
+pub returns-in-Halt-clause-transition : goal.returns-in-Halt-clause-transition
+returns-in-Halt-clause-transition g c = λ sound.
     let sessions = sessions_of c.args.self.now.sessions in
     let m = c.begin_session.new.sessions in
     let some = subst IsSome c.in-Some.ensures.value refl in
     let fine : is_failure (ending_of c.run_over-reply.result.ending) ≡ false = ap (λ ending. is_failure (ending_of ending)) c.in-Halt.is in
-    ran_step g.S.NodeStore c.args.self.now.settings (record { terminal = c.args.terminal; text = c.args.text.now }) c.args.account sessions c.in-Some.session.now c.run_over-reply.new.session
+    ran_transition g.S.NodeStore c.args.self.now.settings (record { terminal = c.args.terminal; text = c.args.text.now }) c.args.account sessions c.in-Some.session.now c.run_over-reply.new.session
     c.args.self.now.store c.run_over-reply.new.store c.args.self.now.locks c.run_over-reply.new.locks c.run_over-reply.result c.requires
     (is_lent c.args.terminal m (session_or_new (get sessions c.args.terminal)) c.in-Ok.ensures.session c.in-Some.session.now c.in-Some.ensures.value) c.run_over-reply.ensures.ran sound _ fine
     ((λ i. record {
@@ -51,8 +51,8 @@ returns-in-Halt-clause-step g c = λ sound.
     })
     ∙ sym (halts c.args.terminal (world_of g.S.NodeStore c.args.self.now) c.run_over-reply.result.ending _ (shared g.S.NodeStore c.run_over-reply.new.store c.run_over-reply.new.locks) c.in-Halt.is))
 
-pub returns-clause-step : goal.returns-clause-step
-returns-clause-step g c = λ sound.
+pub returns-clause-transition : goal.returns-clause-transition
+returns-clause-transition g c = λ sound.
     let sessions = sessions_of c.args.self.now.sessions in
     let m = c.begin_session.new.sessions in
     let some = subst IsSome c.in-Some.ensures.value refl in
@@ -60,7 +60,7 @@ returns-clause-step g c = λ sound.
       | in-Fault+else-loses_session w ↦ ap (λ ending. is_failure (ending_of ending)) w.in-Fault.is ∙ sym w.loses_session.ensures ∙ w.if-loses_session.false
       | in_default-ending w ↦ not_lost c.run_over-reply.result.ending w.in_default-ending.not-Fault
     ] in
-    ran_step g.S.NodeStore c.args.self.now.settings (record { terminal = c.args.terminal; text = c.args.text.now }) c.args.account sessions c.in-Some.session.now c.run_over-reply.new.session
+    ran_transition g.S.NodeStore c.args.self.now.settings (record { terminal = c.args.terminal; text = c.args.text.now }) c.args.account sessions c.in-Some.session.now c.run_over-reply.new.session
     c.args.self.now.store c.run_over-reply.new.store c.args.self.now.locks c.run_over-reply.new.locks c.run_over-reply.result c.requires
     (is_lent c.args.terminal m (session_or_new (get sessions c.args.terminal)) c.in-Ok.ensures.session c.in-Some.session.now c.in-Some.ensures.value) c.run_over-reply.ensures.ran sound _ fine
     (ap (λ (s : _). record { shared = shared g.S.NodeStore c.run_over-reply.new.store c.run_over-reply.new.locks; sessions = s })

@@ -1,5 +1,5 @@
 -- SPDX-License-Identifier: Apache-2.0
--- A step: one line of one terminal, run to its end.
+-- A transition: one line of one terminal, run to its end.
 use Rattle.std.specs.Prelude.{◌≡◌, ℕ, Bool, true, false, nat_lt, [], length, Option, Some, None}
 use Rattle.std.specs.List.{list_all}
 use Rattle.std.specs.Ordering.{nat_cmp}
@@ -116,13 +116,13 @@ abbrev pub at_account : Settings → Event → World → Option Account → Repl
 at_account settings e world None = refused Zterm world
 at_account settings e world (Some account) = checked (is_too_long e.text) (is_ascii e.text) settings e world account
 
--- a step that memory and the store suffice for: the checks in their order, and then the run
+-- a transition that memory and the store suffice for: the checks in their order, and then the run
 abbrev pub normal : Settings → Event → World → Reply × World
 normal settings e world = at_account settings e world (get settings.terminals e.terminal)
 
--- A step that they do not suffice for. It comes behind the checks that take no memory; no output is replied, the terminal's
+-- A transition that they do not suffice for. It comes behind the checks that take no memory; no output is replied, the terminal's
 -- session and its locks are gone, the globals are those of the line cut short, and all else is unchanged.
-pub record FailedStep (settings : Settings) (e : Event) (world after : World) : Type 0 where
+pub record FailedTransition (settings : Settings) (e : Event) (world after : World) : Type 0 where
   pub account : Account
   pub known : get settings.terminals e.terminal ≡ Some account
   pub short : is_too_long e.text ≡ false
@@ -147,10 +147,10 @@ is_failure (Faulted fault) = is_lost fault
 abbrev pub lost : Ending → Reply
 lost ending = record { out = []; ending = ending }
 
--- a normal step, or a failed one where the reply says so
-abbrev pub StepBy : Bool → Settings → Event → Reply → World → World → Type 0
-StepBy false settings e reply world after = normal settings e world ≡ (reply, after)
-StepBy true settings e reply world after = (reply ≡ lost reply.ending) × FailedStep settings e world after
+-- a normal transition, or a failed one where the reply says so
+abbrev pub TransitionBy : Bool → Settings → Event → Reply → World → World → Type 0
+TransitionBy false settings e reply world after = normal settings e world ≡ (reply, after)
+TransitionBy true settings e reply world after = (reply ≡ lost reply.ending) × FailedTransition settings e world after
 
-abbrev pub Step : Settings → Event → Reply → World → World → Type 0
-Step settings e reply world after = StepBy (is_failure reply.ending) settings e reply world after
+abbrev pub Transition : Settings → Event → Reply → World → World → Type 0
+Transition settings e reply world after = TransitionBy (is_failure reply.ending) settings e reply world after

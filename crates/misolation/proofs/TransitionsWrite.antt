@@ -1,14 +1,14 @@
 -- SPDX-License-Identifier: Apache-2.0
 -- What plans and steps leave of globals, by their writes.
 use Rattle.std.proofs.Common.{◌≡◌, ℕ, zero, suc, Bool, true, false, List, [], ◌∷◌, ◌++◌, Option, Some, None, refl, sym, ap, ◌∙◌, append_assoc}
-use Rattle.misolation.proofs.IsolationWords.{not, ◌||◌, if◌then◌else◌, get, insert, list_all, Text, Node, Account, Settings, State, Outcome, Locks, taken, line_at, Signal, session_or_new, World, Event, Reply, Ending, Finished, Halted, Faulted, reply_of, state_of, settled, plan_of, is_too_long, is_ascii, checked, at_account, FailedStep, is_failure, StepBy}
+use Rattle.misolation.proofs.IsolationWords.{not, ◌||◌, if◌then◌else◌, get, insert, list_all, Text, Node, Account, Settings, State, Outcome, Locks, taken, line_at, Signal, session_or_new, World, Event, Reply, Ending, Finished, Halted, Faulted, reply_of, state_of, settled, plan_of, is_too_long, is_ascii, checked, at_account, FailedTransition, is_failure, TransitionBy}
 use Rattle.std.proofs.lemmas.List.{append-nil}
 use Rattle.mspec.specs.Globals.{Globals, without_subtree}
 use Rattle.mspec.specs.Plan.{Op, May, Value, Status, Neighbour, Routine, Put, Kill, Take, Give_back, Release, Plan, Done, Ask, Ops, perform, cut_short}
 use Rattle.mmeaning.specs.Shared.{Shared, act, guarded, may_read, may_write, may_lock, took}
 use Rattle.misolation.specs.PlanLaws.{Exchange, exchanges}
 use Rattle.misolation.specs.Writes.{GlobalWrite, Puts, Kills, written_by, written, write_of, writes}
-use Rattle.misolation.specs.StepLaws.{line_writes, writes_by, StepWrites, StepsWrite}
+use Rattle.misolation.specs.TransitionLaws.{line_writes, writes_by, TransitionWrites, TransitionsWrite}
 
 -- writes one after another
 written-append : (xs ys : List GlobalWrite) (globals : Globals) → written (xs ++ ys) globals ≡ written ys (written xs globals)
@@ -104,7 +104,7 @@ module _ (settings : Settings) (e : Event) (world : World) where
       ap (writes_by settings e world) known
       ∙ (λ i. writes settings account.name (if short i || not (ascii i) then [] else plan_exchanges account))
 
-  by_kind : (b : Bool) (reply : Reply) (after : World) → is_failure reply.ending ≡ b → StepBy b settings e reply world after → StepWrites settings e reply world after
+  by_kind : (b : Bool) (reply : Reply) (after : World) → is_failure reply.ending ≡ b → TransitionBy b settings e reply world after → TransitionWrites settings e reply world after
   by_kind false reply after is h = record {
     done = line_writes settings e world;
     undone = [];
@@ -113,7 +113,7 @@ module _ (settings : Settings) (e : Event) (world : World) where
     whole = λ fine. refl;
   }
   by_kind true reply after is h =
-      let f : FailedStep settings e world after = h.1 in
+      let f : FailedTransition settings e world after = h.1 in
       let short = short_writes settings e.terminal f.account.name f.operations (line_plan f.account) world.shared in
       record {
         done = short.0;
@@ -123,5 +123,5 @@ module _ (settings : Settings) (e : Event) (world : World) where
         whole = λ fine. let no : true ≡ false = sym is ∙ fine in absurd (cc);
       }
 
-pub steps_write : StepsWrite
-steps_write settings e reply world after h = by_kind settings e world (is_failure reply.ending) reply after refl h
+pub transitions_write : TransitionsWrite
+transitions_write settings e reply world after h = by_kind settings e world (is_failure reply.ending) reply after refl h

@@ -1,15 +1,15 @@
 -- SPDX-License-Identifier: Apache-2.0
--- The laws of steps, as statements. The functions of src/ named after them carry them.
+-- The laws of transitions, as statements. The functions of src/ named after them carry them.
 use Rattle.std.specs.Prelude.{◌≡◌, ℕ, false, List, map}
 use Rattle.mspec.specs.Plan.{Plan, perform, cut_short}
 use Rattle.mspec.specs.LockConflict.{released}
 use Rattle.mspec.specs.Act.{Text, Outcome}
 use Rattle.mmeaning.specs.LineMeaning.{Signal}
 use Rattle.mmeaning.specs.Shared.{Shared, act}
-use Rattle.mmeaning.specs.Step.{Settings, Event, Reply, World, normal, is_failure}
+use Rattle.mmeaning.specs.Transition.{Settings, Event, Reply, World, normal, is_failure}
 use Rattle.mmeaning.specs.History.{History, replies, world_after, answered, NoneFailed}
 
--- a normal step is never answered as one that failed, so a reply says which of the two its step was
+-- a normal transition is never answered as one that failed, so a reply says which of the two its transition was
 abbrev pub NormalNeverFails : Type 0
 NormalNeverFails = (settings : Settings) (e : Event) (world : World) → is_failure (normal settings e world).0.ending ≡ false
 
@@ -18,13 +18,13 @@ pub record PlanKeepsOthersLocks (settings : Settings) (terminal : ℕ) (me : Tex
   pub whole : released (perform (act settings terminal me) p w).1.locks terminal ≡ released w.locks terminal
   pub short : (n : ℕ) → released (cut_short (act settings terminal me) n p w).locks terminal ≡ released w.locks terminal
 
--- normal steps, one after another, are a history of any events from any world
-abbrev pub NormalStepsAreHistory : Type 0
-NormalStepsAreHistory =
+-- normal transitions, one after another, are a history of any events from any world
+abbrev pub NormalTransitionsAreHistory : Type 0
+NormalTransitionsAreHistory =
     (settings : Settings) (world : World) (events : List Event) →
     History settings world (answered settings world events) (world_after settings world events)
 
--- and where none of its steps failed, a history has their replies and leaves their world
+-- and where none of its transitions failed, a history has their replies and leaves their world
 abbrev pub HistoryIsNormal : Type 0
 HistoryIsNormal =
     (settings : Settings) (world after : World) (es : List (Event × Reply)) → History settings world es after → NoneFailed es →

@@ -1,10 +1,10 @@
 -- SPDX-License-Identifier: Apache-2.0
--- What a normal step cannot tell apart.
+-- What a normal transition cannot tell apart.
 use Rattle.misolation.proofs.IsolationWords.{◌≡◌, ℕ, Bool, true, false, cond, List, [], ◌∷◌, Option, Some, None, refl, sym, ap, ◌∙◌, subst, get, insert, remove, get-insert, get-remove, nat_cmp, eq_by_cmp, list_all, nat_cmp_total, Text, text_eq, Account, Settings, Read, Write, LockName, taken, Op, May, Value, Status, Neighbour, Routine, Put, Kill, Take, Give_back, Release, Ops, perform, State, Outcome, line_at, Signal, Shared, act, guarded, may_lock, took, answered, world_after}
 use Rattle.mspec.specs.Globals.{status, order_at, without_subtree}
-use Rattle.mmeaning.specs.Step.{Session, session_or_new, World, Event, Reply, Ending, Finished, Halted, Faulted, kept, plan_of, reply_of, state_of, settled, ended, is_too_long, is_ascii, at_tree, checked, at_account, normal}
-use Rattle.misolation.specs.Alike.{AlikeSettings, AlikeWorlds, AlikeSteps}
-use Rattle.misolation.specs.AlikeLaws.{StepsByAllowed, StepsBySessions}
+use Rattle.mmeaning.specs.Transition.{Session, session_or_new, World, Event, Reply, Ending, Finished, Halted, Faulted, kept, plan_of, reply_of, state_of, settled, ended, is_too_long, is_ascii, at_tree, checked, at_account, normal}
+use Rattle.misolation.specs.Alike.{AlikeSettings, AlikeWorlds, AlikeTransitions}
+use Rattle.misolation.specs.AlikeLaws.{TransitionsByAllowed, TransitionsBySessions}
 
 -- ---- settings that allow the same
 
@@ -41,8 +41,8 @@ module _ (one two : Settings) (alike : AlikeSettings one two) where
   same_account e world None = refl
   same_account e world (Some account) = same_checked (is_too_long e.text) (is_ascii e.text) e world account
 
-pub steps_by_allowed : StepsByAllowed
-steps_by_allowed one two e world alike = ap (at_account one e world) (alike.terminals e.terminal) ∙ same_account one two alike e world (get two.terminals e.terminal)
+pub transitions_by_allowed : TransitionsByAllowed
+transitions_by_allowed one two e world alike = ap (at_account one e world) (alike.terminals e.terminal) ∙ same_account one two alike e world (get two.terminals e.terminal)
 
 -- ---- worlds alike
 
@@ -76,53 +76,53 @@ module _ (one two : World) (alike : AlikeWorlds one two) where
   settled_alike t (Faulted fault) state w = record { shared = refl; sessions = kept_alike t (kept state) }
   settled_alike t Halted state w = record { shared = refl; sessions = halted_alike t }
 
-  ended_alike : (t : ℕ) (r : Outcome Signal × Shared) → AlikeSteps (ended t one r) (ended t two r)
+  ended_alike : (t : ℕ) (r : Outcome Signal × Shared) → AlikeTransitions (ended t one r) (ended t two r)
   ended_alike t r = record { reply = refl; world = settled_alike t (reply_of r.0).ending (state_of r.0) r.1 }
 
   module _ (settings : Settings) (e : Event) where
     abbrev run_of : Account → Session → Shared → Outcome Signal × Shared
     run_of account session w = perform (act settings e.terminal account.name) (plan_of account session (line_at e.text)) w
 
-    tree_alike : (account : Account) → AlikeSteps (at_tree settings e one account) (at_tree settings e two account)
+    tree_alike : (account : Account) → AlikeTransitions (at_tree settings e one account) (at_tree settings e two account)
     tree_alike account =
-        subst (λ (r : Outcome Signal × Shared). AlikeSteps (at_tree settings e one account) (ended e.terminal two r))
+        subst (λ (r : Outcome Signal × Shared). AlikeTransitions (at_tree settings e one account) (ended e.terminal two r))
         (λ i. run_of account (alike.sessions e.terminal i) (alike.shared i))
         (ended_alike e.terminal (run_of account (session_or_new (get one.sessions e.terminal)) one.shared))
 
-    checked_alike : (long ascii : Bool) (account : Account) → AlikeSteps (checked long ascii settings e one account) (checked long ascii settings e two account)
+    checked_alike : (long ascii : Bool) (account : Account) → AlikeTransitions (checked long ascii settings e one account) (checked long ascii settings e two account)
     checked_alike true ascii account = record { reply = refl; world = alike }
     checked_alike false false account = record { reply = refl; world = alike }
     checked_alike false true account = tree_alike account
 
-    account_alike : (o : Option Account) → AlikeSteps (at_account settings e one o) (at_account settings e two o)
+    account_alike : (o : Option Account) → AlikeTransitions (at_account settings e one o) (at_account settings e two o)
     account_alike None = record { reply = refl; world = alike }
     account_alike (Some account) = checked_alike (is_too_long e.text) (is_ascii e.text) account
 
-pub steps_by_sessions : StepsBySessions
-steps_by_sessions settings e one two alike = account_alike one two alike settings e (get settings.terminals e.terminal)
+pub transitions_by_sessions : TransitionsBySessions
+transitions_by_sessions settings e one two alike = account_alike one two alike settings e (get settings.terminals e.terminal)
 
 -- ---- normal steps, one after another
 
 module _ (one two : Settings) (alike : AlikeSettings one two) where
-  both_alike : (e : Event) (first second : World) → AlikeWorlds first second → AlikeSteps (normal one e first) (normal two e second)
+  both_alike : (e : Event) (first second : World) → AlikeWorlds first second → AlikeTransitions (normal one e first) (normal two e second)
   both_alike e first second h =
-      subst (λ (r : Reply × World). AlikeSteps (normal one e first) r) (steps_by_allowed one two e second alike) (steps_by_sessions one e first second h)
+      subst (λ (r : Reply × World). AlikeTransitions (normal one e first) r) (transitions_by_allowed one two e second alike) (transitions_by_sessions one e first second h)
 
   pub answered_alike : (events : List Event) (first second : World) → AlikeWorlds first second → answered one first events ≡ answered two second events
   answered_alike [] first second h = refl
   answered_alike (e ∷ events) first second h =
-      let step : AlikeSteps (normal one e first) (normal two e second) = both_alike e first second h in
-      let rest = answered_alike events (normal one e first).1 (normal two e second).1 step.world in
-      λ i. (e, step.reply i) ∷ rest i
+      let transition : AlikeTransitions (normal one e first) (normal two e second) = both_alike e first second h in
+      let rest = answered_alike events (normal one e first).1 (normal two e second).1 transition.world in
+      λ i. (e, transition.reply i) ∷ rest i
 
   pub left_alike : (events : List Event) (first second : World) → AlikeWorlds first second → AlikeWorlds (world_after one first events) (world_after two second events)
   left_alike [] first second h = h
   left_alike (e ∷ events) first second h =
-      let step : AlikeSteps (normal one e first) (normal two e second) = both_alike e first second h in
-      left_alike events (normal one e first).1 (normal two e second).1 step.world
+      let transition : AlikeTransitions (normal one e first) (normal two e second) = both_alike e first second h in
+      left_alike events (normal one e first).1 (normal two e second).1 transition.world
 
   pub left_equal : (events : List Event) (world : World) → world_after one world events ≡ world_after two world events
   left_equal [] world = refl
   left_equal (e ∷ events) world =
       left_equal events (normal one e world).1
-      ∙ ap (λ (r : Reply × World). world_after two r.1 events) (steps_by_allowed one two e world alike)
+      ∙ ap (λ (r : Reply × World). world_after two r.1 events) (transitions_by_allowed one two e world alike)

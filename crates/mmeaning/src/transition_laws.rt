@@ -1,14 +1,14 @@
 // SPDX-License-Identifier: Apache-2.0
-// The laws of steps. Each function's contract is the law, and its body is empty: the code never calls them.
+// The laws of transitions. Each function's contract is the law, and its body is empty: the code never calls them.
 ghost use Rattle.std.specs.Prelude.{ℕ};
 ghost use Rattle.mspec.specs.Plan.{Plan};
 ghost use Rattle.mspec.specs.Act.{Text, Outcome};
 ghost use Rattle.mmeaning.specs.LineMeaning.{Signal};
 ghost use Rattle.mmeaning.specs.Shared.{Shared};
-ghost use Rattle.mmeaning.specs.Step.{Settings};
-ghost use Rattle.mmeaning.specs.StepLaws.{NormalNeverFails, PlanKeepsOthersLocks, NormalStepsAreHistory, HistoryIsNormal};
+ghost use Rattle.mmeaning.specs.Transition.{Settings};
+ghost use Rattle.mmeaning.specs.TransitionLaws.{NormalNeverFails, PlanKeepsOthersLocks, NormalTransitionsAreHistory, HistoryIsNormal};
 
-/// A normal step is never answered ZMEM or ZSTORE.
+/// A normal transition is never answered ZMEM or ZSTORE.
 #[tactic(auto, using(crate::proofs::Histories::normal_never_fails))]
 pub fn normal_never_fails()
     ensures { NormalNeverFails }
@@ -19,13 +19,13 @@ pub fn others_kept()
     ensures { (settings : Settings) (terminal : ℕ) (me : Text) (p : Plan (Outcome Signal)) (w : Shared) → PlanKeepsOthersLocks settings terminal me p w }
 {}
 
-/// Normal steps are a history of any events, so there is one.
-#[tactic(auto, using(crate::proofs::Histories::normal_steps_are_history))]
-pub fn normal_steps_are_history()
-    ensures { NormalStepsAreHistory }
+/// Normal transitions are a history of any events, so there is one.
+#[tactic(auto, using(crate::proofs::Histories::normal_transitions_are_history))]
+pub fn normal_transitions_are_history()
+    ensures { NormalTransitionsAreHistory }
 {}
 
-/// A history of which no step failed has the replies of the definitional interpreter, and leaves its world.
+/// A history of which no transition failed has the replies of the definitional interpreter, and leaves its world.
 pub fn history_is_normal()
     ensures { HistoryIsNormal }
 {}

@@ -2,12 +2,12 @@
 -- The two laws for steps.
 use Rattle.misolation.proofs.IsolationWords.{◌≡◌, ℕ, Bool, true, false, Option, Some, None, refl, sym, ap, ◌∙◌, subst, not, ◌||◌, List, [], ◌∷◌, if◌then◌else◌, FinMap, get, retain_keys, nat_cmp-IsAntisymmetric, nat_cmp, nat_cmp_total, Text, Account, Settings, Write, Outcome, Op, May, Value, Status, Neighbour, Routine, Put, Kill, Take, Give_back, Release, Plan, perform, cut_short, line_at, Signal, act, Accounts, IsClosed, is_member, is_inside, cut_settings, cut_locks, cut_shared, cut_world, AreFit, IsFit}
 use Rattle.std.specs.List.{flat_map}
-use Rattle.mmeaning.specs.Step.{Session, session_or_new, World, Event, Reply, plan_of, ended, is_too_long, is_ascii, at_tree, checked, at_account, normal, FailedStep, is_failure, StepBy}
+use Rattle.mmeaning.specs.Transition.{Session, session_or_new, World, Event, Reply, plan_of, ended, is_too_long, is_ascii, at_tree, checked, at_account, normal, FailedTransition, is_failure, TransitionBy}
 use Rattle.misolation.specs.PlanLaws.{Exchange, exchanges, Actor, ops_of, cut_ops, InsidePlan, OutsidePlan}
 use Rattle.misolation.specs.Writes.{GlobalWrite, Puts, Kills, write_of, writes}
-use Rattle.misolation.specs.StepLaws.{exchanges_by, line_exchanges, writes_by, line_writes, InsideStep, InsideSteps, OutsideStep, OutsideSteps, StepsKeepFit, StepsAreIsolated}
+use Rattle.misolation.specs.TransitionLaws.{exchanges_by, line_exchanges, writes_by, line_writes, InsideTransition, InsideTransitions, OutsideTransition, OutsideTransitions, TransitionsKeepFit, TransitionsAreIsolated}
 use Rattle.misolation.proofs.Access.{may_cut}
-use Rattle.misolation.proofs.StepsWrite.{steps_write}
+use Rattle.misolation.proofs.TransitionsWrite.{transitions_write}
 use Rattle.misolation.proofs.CutMaps.{get_kept}
 use Rattle.misolation.proofs.FittingLocks.{released_fits}
 use Rattle.misolation.proofs.LockCuts.{released_cut, released_outside}
@@ -98,8 +98,8 @@ module _ (s : Accounts) (settings : Settings) (e : Event) (world : World) where
       ap (writes_by (cut_settings s settings) e (cut_world s settings world)) (nat_kept settings.terminals (is_inside s settings) e.terminal here)
       ∙ written_inside (get settings.terminals e.terminal) refl closed fit here
 
-  pub failed_inside : IsClosed settings s → IsFit settings world.shared → is_inside s settings e.terminal ≡ true → (after : World) → FailedStep settings e world after
-      → FailedStep (cut_settings s settings) e (cut_world s settings world) (cut_world s settings after)
+  pub failed_inside : IsClosed settings s → IsFit settings world.shared → is_inside s settings e.terminal ≡ true → (after : World) → FailedTransition settings e world after
+      → FailedTransition (cut_settings s settings) e (cut_world s settings world) (cut_world s settings after)
   failed_inside closed fit here after f =
       let b : Actor = sender settings e f.account f.known in
       let member : s f.account.name ≡ true = sym (ap (is_member s) f.known) ∙ here in
@@ -144,7 +144,7 @@ module _ (s : Accounts) (settings : Settings) (e : Event) (world : World) where
   pub normal_outside : IsClosed settings s → is_inside s settings e.terminal ≡ false → cut_world s settings (normal settings e world).1 ≡ cut_world s settings world
   normal_outside closed away = account_outside (get settings.terminals e.terminal) refl closed away
 
-  pub failed_outside : IsClosed settings s → is_inside s settings e.terminal ≡ false → (after : World) → FailedStep settings e world after → cut_world s settings after ≡ cut_world s settings world
+  pub failed_outside : IsClosed settings s → is_inside s settings e.terminal ≡ false → (after : World) → FailedTransition settings e world after → cut_world s settings after ≡ cut_world s settings world
   failed_outside closed away after f =
       let b : Actor = sender settings e f.account f.known in
       let outsider : s f.account.name ≡ false = sym (ap (is_member s) f.known) ∙ away in
@@ -157,27 +157,27 @@ module _ (s : Accounts) (settings : Settings) (e : Event) (world : World) where
 
 -- ---- steps, by whether their replies say that they failed
 
-pub inside_steps : InsideSteps
-inside_steps s settings e world closed fit here = record {
+pub inside_transitions : InsideTransitions
+inside_transitions s settings e world closed fit here = record {
   normal = normal_inside s settings e world closed fit here;
   exchanges = exchanges_inside s settings e world closed fit here;
   writes = writes_inside s settings e world closed fit here;
   failed = failed_inside s settings e world closed fit here;
-  step = λ reply after h. by_kind (is_failure reply.ending) reply after h;
+  transition = λ reply after h. by_kind (is_failure reply.ending) reply after h;
 }
   where
-    by_kind : (b : Bool) (reply : Reply) (after : World) → StepBy b settings e reply world after → StepBy b (cut_settings s settings) e reply (cut_world s settings world) (cut_world s settings after)
+    by_kind : (b : Bool) (reply : Reply) (after : World) → TransitionBy b settings e reply world after → TransitionBy b (cut_settings s settings) e reply (cut_world s settings world) (cut_world s settings after)
     by_kind false reply after h = normal_inside s settings e world closed fit here ∙ ap (λ x. (x.0, cut_world s settings x.1)) h
     by_kind true reply after h = (h.0, failed_inside s settings e world closed fit here after h.1)
 
-pub outside_steps : OutsideSteps
-outside_steps s settings e world closed away = record {
+pub outside_transitions : OutsideTransitions
+outside_transitions s settings e world closed away = record {
   normal = normal_outside s settings e world closed away;
   failed = failed_outside s settings e world closed away;
-  step = λ reply after h. by_kind (is_failure reply.ending) reply after h;
+  transition = λ reply after h. by_kind (is_failure reply.ending) reply after h;
 }
   where
-    by_kind : (b : Bool) (reply : Reply) (after : World) → StepBy b settings e reply world after → cut_world s settings after ≡ cut_world s settings world
+    by_kind : (b : Bool) (reply : Reply) (after : World) → TransitionBy b settings e reply world after → cut_world s settings after ≡ cut_world s settings world
     by_kind false reply after h = sym (ap (λ x. cut_world s settings x.1) h) ∙ normal_outside s settings e world closed away
     by_kind true reply after h = failed_outside s settings e world closed away after h.1
 
@@ -199,19 +199,19 @@ module _ (settings : Settings) (e : Event) (world : World) (fit : IsFit settings
   account_fits None known = fit
   account_fits (Some account) known = checked_fits (is_too_long e.text) (is_ascii e.text) account known
 
-  kind_fits : (b : Bool) (reply : Reply) (after : World) → StepBy b settings e reply world after → IsFit settings after.shared
+  kind_fits : (b : Bool) (reply : Reply) (after : World) → TransitionBy b settings e reply world after → IsFit settings after.shared
   kind_fits false reply after h = subst (λ v. IsFit settings v.shared) (ap (λ x. x.1) h) (account_fits (get settings.terminals e.terminal) refl)
   kind_fits true reply after h = subst (AreFit settings) (sym h.1.locks) (released_fits settings world.shared.locks e.terminal fit)
 
-pub steps_keep_fit : StepsKeepFit
-steps_keep_fit settings e reply world after h fit = kind_fits settings e world fit (is_failure reply.ending) reply after h
+pub transitions_keep_fit : TransitionsKeepFit
+transitions_keep_fit settings e reply world after h fit = kind_fits settings e world fit (is_failure reply.ending) reply after h
 
-pub steps_are_isolated : StepsAreIsolated
-steps_are_isolated settings e reply world after h s closed = record {
+pub transitions_are_isolated : TransitionsAreIsolated
+transitions_are_isolated settings e reply world after h s closed = record {
   inside = λ fit here.
-      let law : InsideStep s settings e world = inside_steps s settings e world closed fit here in
-      record { step = law.step reply after h; writes = law.writes };
-  outside = λ away. let law : OutsideStep s settings e world = outside_steps s settings e world closed away in law.step reply after h;
-  writes = steps_write settings e reply world after h;
-  fit = steps_keep_fit settings e reply world after h;
+      let law : InsideTransition s settings e world = inside_transitions s settings e world closed fit here in
+      record { transition = law.transition reply after h; writes = law.writes };
+  outside = λ away. let law : OutsideTransition s settings e world = outside_transitions s settings e world closed away in law.transition reply after h;
+  writes = transitions_write settings e reply world after h;
+  fit = transitions_keep_fit settings e reply world after h;
 }

@@ -7,15 +7,15 @@ use Rattle.mspec.specs.Number.{significant_digits}
 use Rattle.mspec.specs.NumberText.{numeric_value}
 use Rattle.mspec.specs.Act.{Text, Act, ◌>>=◌, charge, give}
 use Rattle.mspec.proofs.ListPlaces.{next_item}
-use Rattle.mgrammar.specs.Grammar.{PrimaryTree, ExprTree, step, steps_of, exprs_of, choices_of, number, text, special, reference, bracket, call, select, refer, special_of}
+use Rattle.mgrammar.specs.Grammar.{PrimaryTree, ExprTree, tail, tails_of, exprs_of, choices_of, number, text, special, reference, bracket, call, select, refer, special_of}
 use Rattle.mgrammar.specs.Functions.{function_of}
 use Rattle.mmeaning.specs.Operators.{as_text, as_truth}
 use Rattle.mmeaning.specs.Functions.{call_value}
-use Rattle.mmeaning.specs.Expression.{Inside, value, steps_value, primary_value, evaluated, values, chosen}
+use Rattle.mmeaning.specs.Expression.{Inside, value, tails_value, primary_value, evaluated, values, chosen}
 use Rattle.mmeaning.specs.Variables.{reading, resolve, read_at, referring, special_value}
-use Rattle.mtree.specs.Tree.{expr_tree, step_tree, choice_tree}
+use Rattle.mtree.specs.Tree.{expr_tree, tail_tree, choice_tree}
 use Rattle.mtree.specs.declared.tree.Expr.{Expr}
-use Rattle.mtree.specs.declared.tree.Step.{Step}
+use Rattle.mtree.specs.declared.tree.Tail.{Tail}
 use Rattle.mtree.specs.declared.tree.Choice.{Choice}
 use Rattle.mstore.specs.declared.store.NodeStore.{Ghosts}
 use Rattle.moperator.specs.declared.code.Code.{Code}
@@ -45,16 +45,16 @@ module _ {S : Type 0} {g : Ghosts S} where
 
   module _ {X : Type 0} (f : X → Text) where
     -- a step and those behind it, from where the step is on
-    pub from_step : {old new : Eval S} (items : List Step) (i : ℕ) (d : Step) (x : Text) (r : Result X Code) → i < length items → d ≡ get_or items i d
-        → Evaluates g (λ a. steps_value a x (step (step_tree d) (steps_of (map step_tree (drop (i + 1) items))))) f old r new
-        → Evaluates g (λ a. steps_value a x (steps_of (map step_tree (drop i items)))) f old r new
-    from_step {old = old} {new = new} items i d x r within is h =
-        subst (λ (rest : List Step). Evaluates g (λ a. steps_value a x (steps_of (map step_tree rest))) f old r new) (sym (next_item items i d within is)) h
+    pub from_tail : {old new : Eval S} (items : List Tail) (i : ℕ) (d : Tail) (x : Text) (r : Result X Code) → i < length items → d ≡ get_or items i d
+        → Evaluates g (λ a. tails_value a x (tail (tail_tree d) (tails_of (map tail_tree (drop (i + 1) items))))) f old r new
+        → Evaluates g (λ a. tails_value a x (tails_of (map tail_tree (drop i items)))) f old r new
+    from_tail {old = old} {new = new} items i d x r within is h =
+        subst (λ (rest : List Tail). Evaluates g (λ a. tails_value a x (tails_of (map tail_tree rest))) f old r new) (sym (next_item items i d within is)) h
 
     -- behind the last step
-    pub from_end : {e : Eval S} (items : List Step) (i : ℕ) (y : X) → length items ≤ i → Evaluates g (λ a. steps_value a (f y) (steps_of (map step_tree (drop i items)))) f e (Ok y) e
+    pub from_end : {e : Eval S} (items : List Tail) (i : ℕ) (y : X) → length items ≤ i → Evaluates g (λ a. tails_value a (f y) (tails_of (map tail_tree (drop i items)))) f e (Ok y) e
     from_end {e = e} items i y past =
-        subst (λ (rest : List Step). Evaluates g (λ a. steps_value a (f y) (steps_of (map step_tree rest))) f e (Ok y) e) (sym (drop_of_length-le items past)) (evaluates_gives (f y) f y refl)
+        subst (λ (rest : List Tail). Evaluates g (λ a. tails_value a (f y) (tails_of (map tail_tree rest))) f e (Ok y) e) (sym (drop_of_length-le items past)) (evaluates_gives (f y) f y refl)
 
   -- ---- arguments
 

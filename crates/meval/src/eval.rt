@@ -1,13 +1,13 @@
 // SPDX-License-Identifier: Apache-2.0
 // The evaluation of expressions.
 ghost use Rattle.std.specs.Prelude.{◌≡◌, ◌≢◌, ◌≤◌, ◌<◌, [], map, Some, Err, IfOk, IfErr, IsErr};
-ghost use Rattle.mgrammar.specs.Grammar.{local, no_exprs, exprs, indirect, extended, steps_of, exprs_of, choices_of};
+ghost use Rattle.mgrammar.specs.Grammar.{local, no_exprs, exprs, indirect, extended, tails_of, exprs_of, choices_of};
 ghost use Rattle.mmeaning.specs.Expression as meaning;
 ghost use Rattle.mmeaning.specs.LineMeaning as line;
 ghost use Rattle.mmeaning.specs.Variables as variables;
 ghost use Rattle.mnum.specs.Num.{units};
 ghost use Rattle.mspec.specs.Act.{charge};
-ghost use Rattle.mtree.specs.Tree.{expr_tree, step_tree, operand_tree, primary_tree, reference_tree, choice_tree};
+ghost use Rattle.mtree.specs.Tree.{expr_tree, tail_tree, operand_tree, primary_tree, reference_tree, choice_tree};
 ghost use Rattle.moperator.specs.declared.code.Code.TheVariants.{Zsteps, Zstore};
 ghost use Rattle.meval.specs.Evaluates.{Evaluates, KeepsEval, standing_of};
 ghost use Rattle.meval.specs.Acts as acts;
@@ -28,7 +28,7 @@ use mgrant::{AccountId, Mode, Settings};
 use mnum::{Name, Num};
 use moperator::{Code, binary, call, computed, matching, number_of, truth_of, unaries};
 use mstore::NodeStore;
-use mtree::{Choice, Expr, Operand, Primary, Reference, Step, ValueWord};
+use mtree::{Choice, Expr, Operand, Primary, Reference, Tail, ValueWord};
 use mvalue::Value;
 use std::alloc::Global;
 
@@ -289,25 +289,25 @@ impl<'a, S: NodeStore> Eval<'a, S> {
     // What is done with the value to the left, which becomes what it gives. It is changed where it stands: a value that is written and
     // then moved at once is waited for.
     #[cycle(eval)]
-    fn step(&mut self, alloc: Global, left: &mut Value, step: &Step) -> Result<(), Code>
+    fn tail(&mut self, alloc: Global, left: &mut Value, tail: &Tail) -> Result<(), Code>
         ensures loans { KeepsEval self.old self.new }
         ensures fewer { self.new.steps ≤ self.old.steps }
-        ensures does { Evaluates S.NodeStore (λ i. meaning.step_value i left.old (step_tree step.now)) (λ _. left.new) self.old result self.new }
+        ensures does { Evaluates S.NodeStore (λ i. meaning.tail_value i left.old (tail_tree tail.now)) (λ _. left.new) self.old result self.new }
     {
-        match step {
-            Step::Apply(operator, operand) => match self.number_at_once(operand) {
+        match tail {
+            Tail::Apply(operator, operand) => match self.number_at_once(operand) {
                 Some(number) => binary(alloc, *operator, left, &Value::of_number(number)),
                 None => {
                     let right = self.operand(alloc, operand)?;
                     binary(alloc, *operator, left, &right)
                 }
             },
-            Step::Matches(atoms) => {
+            Tail::Matches(atoms) => {
                 let matches = matching(alloc, atoms, left)?;
                 *left = Value::of_truth(matches);
                 Ok(())
             }
-            Step::MatchesNot(atoms) => {
+            Tail::MatchesNot(atoms) => {
                 let matches = matching(alloc, atoms, left)?;
                 *left = Value::of_truth(!matches);
                 Ok(())
@@ -317,13 +317,13 @@ impl<'a, S: NodeStore> Eval<'a, S> {
 
     // What is done with the value to the left, one step after another.
     #[cycle(eval)]
-    fn stepped(&mut self, alloc: Global, value: &mut Value, steps: &[Step]) -> Result<(), Code>
+    fn with_tails(&mut self, alloc: Global, value: &mut Value, tails: &[Tail]) -> Result<(), Code>
         ensures loans { KeepsEval self.old self.new }
         ensures fewer { self.new.steps ≤ self.old.steps }
-        ensures does { Evaluates S.NodeStore (λ i. meaning.steps_value i value.old (steps_of (map step_tree steps.now))) (λ _. value.new) self.old result self.new }
+        ensures does { Evaluates S.NodeStore (λ i. meaning.tails_value i value.old (tails_of (map tail_tree tails.now))) (λ _. value.new) self.old result self.new }
     {
-        for step in steps {
-            self.step(alloc, value, step)?;
+        for tail in tails {
+            self.tail(alloc, value, tail)?;
         }
         Ok(())
     }
@@ -342,12 +342,12 @@ impl<'a, S: NodeStore> Eval<'a, S> {
         match self.number_at_once(&e.first) {
             Some(number) => {
                 let mut value = Value::of_number(number);
-                self.stepped(alloc, &mut value, &e.rest)?;
+                self.with_tails(alloc, &mut value, &e.rest)?;
                 Ok(value)
             }
             None => {
                 let mut value = self.operand(alloc, &e.first)?;
-                self.stepped(alloc, &mut value, &e.rest)?;
+                self.with_tails(alloc, &mut value, &e.rest)?;
                 Ok(value)
             }
         }

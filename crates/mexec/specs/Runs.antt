@@ -22,7 +22,7 @@ ending_of (ended.Fault c) = Faulted (fault_of c)
 
 -- the act gave a signal that ends a line so
 abbrev pub GaveEnding : Standing → Act Signal → Here → Ending → Here → Type 0
-GaveEnding b p h ending h' = (s : Signal) × (step.ending_of s ≡ ending) × Gave b p h s h'
+GaveEnding b p h ending h' = (s : Signal) × (transition.ending_of s ≡ ending) × Gave b p h s h'
 
 abbrev pub EndsBy : Standing → (steady : Type 0) → Act Signal → Here → Ended → Here → Type 0
 EndsBy b steady p h ended.Done h' = GaveEnding b p h Finished h'

@@ -25,7 +25,7 @@ use std::alloc::Global;
 use std::rc::Rc;
 
 // What the top frame does with a signal.
-fn step<S: NodeStore>(
+fn run_frame<S: NodeStore>(
     alloc: Global,
     parts: &mut Parts<S>,
     top: Frame,
@@ -90,7 +90,7 @@ pub(crate) fn run_line<S: NodeStore>(
 {
     let mut signal = begin(alloc, parts, line, machine)?;
     while let Some(frame) = machine.frames.pop() {
-        signal = step(alloc, parts, frame, signal, machine)?;
+        signal = run_frame(alloc, parts, frame, signal, machine)?;
     }
     Ok(signal)
 }

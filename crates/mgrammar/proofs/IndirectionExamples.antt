@@ -2,7 +2,7 @@
 -- Indirection on examples, as proved equations: texts with their trees, and texts that have none.
 use Rattle.std.proofs.Common.{◌≡◌, ℕ, zero, suc, ◌≢◌, List, [], ◌∷◌, ◌++◌, Some, None, refl, rules}
 use Rattle.std.specs.Prelude.{codes, replicate}
-use Rattle.mgrammar.specs.Grammar.{plus, add, apply, expr, no_steps, step, operand, PrimaryTree, number, text, reference, bracket, ReferenceTree, local, naked, indirect, no_exprs, exprs, variable, one, several, at_label_in, assignment, removal, hiding, condition, output, entrance, leap, execution, assign, breaks, shown, kill_one, do_one, executed, indirect_args, set_word, kill_word, new_word, if_word, write_word, do_word, goto_word, execute_word}
+use Rattle.mgrammar.specs.Grammar.{plus, add, apply, expr, no_tails, tail, operand, PrimaryTree, number, text, reference, bracket, ReferenceTree, local, naked, indirect, no_exprs, exprs, variable, one, several, at_label_in, assignment, removal, hiding, condition, output, entrance, leap, execution, assign, breaks, shown, kill_one, do_one, executed, indirect_args, set_word, kill_word, new_word, if_word, write_word, do_word, goto_word, execute_word}
 use Rattle.mgrammar.specs.Reading.{line_at}
 use Rattle.mgrammar.specs.IndirectTexts.{ref_at, args_of}
 use Rattle.mgrammar.proofs.Computing.{reads}
@@ -26,7 +26,7 @@ at_digit p t = indirect p (exprs (only (number t)) no_exprs)
 
 record Names : Type 0 where
   -- in the place of a variable; with subscripts behind a further `@`; and those belong to the innermost `@` that has none yet
-  operand_and_subscripts : IsRead (codes "W @A+1,@A@(1),@@A@(1)@(2),+@@A@(1)") (of_one write_word (codes "W") (shown (expr (operand [] (reference (at a))) (step (apply add (operand [] (number (codes "1")))) no_steps)) ∷ shown (only (reference (at_digit a (codes "1")))) ∷ shown (only (reference (at_digit (reference (at_digit a (codes "1"))) (codes "2")))) ∷ shown (expr (operand (plus ∷ []) (reference (at (reference (at_digit a (codes "1")))))) no_steps) ∷ []))
+  operand_and_subscripts : IsRead (codes "W @A+1,@A@(1),@@A@(1)@(2),+@@A@(1)") (of_one write_word (codes "W") (shown (expr (operand [] (reference (at a))) (tail (apply add (operand [] (number (codes "1")))) no_tails)) ∷ shown (only (reference (at_digit a (codes "1")))) ∷ shown (only (reference (at_digit (reference (at_digit a (codes "1"))) (codes "2")))) ∷ shown (expr (operand (plus ∷ []) (reference (at (reference (at_digit a (codes "1")))))) no_tails) ∷ []))
   -- a target of SET, and what KILL takes away
   targets : IsRead (codes "S @A=1,(@A,B)=@A") (of_one set_word (codes "S") (assign (one (variable (at a))) (only (number (codes "1"))) ∷ assign (several (variable (at a) ∷ variable (named (codes "B")) ∷ [])) (only (reference (at a))) ∷ []))
   -- a postconditional makes it an expression

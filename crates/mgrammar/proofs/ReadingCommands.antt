@@ -5,7 +5,7 @@ use Rattle.std.specs.Prelude.{◌||◌}
 use Rattle.std.proofs.lemmas.Bool.{eqb-true, and_parts}
 use Rattle.std.proofs.lemmas.Bool.Decides.{nat_tests}
 use Rattle.mspec.specs.Names.{is_letter, is_name_rest, AllAre}
-use Rattle.mgrammar.specs.Grammar.{ExprTree, expr, no_steps, operand, PrimaryTree, reference, indirect, no_exprs, ArgTree, breaks, shown, kill_one, tested, loop, executed, locked, indirect_args, anew, lock_one, CommandTree, KeywordTree, set_word, kill_word, new_word, if_word, else_word, for_word, quit_word, write_word, do_word, goto_word, execute_word, lock_word, halt_word, FormTree, assignment, removal, hiding, condition, repetition, output, entrance, leap, execution, locking, nothing, spell_expr, spell_arg, spell_args, spell_condition, spell_list, spell_more, spell_command}
+use Rattle.mgrammar.specs.Grammar.{ExprTree, expr, no_tails, operand, PrimaryTree, reference, indirect, no_exprs, ArgTree, breaks, shown, kill_one, tested, loop, executed, locked, indirect_args, anew, lock_one, CommandTree, KeywordTree, set_word, kill_word, new_word, if_word, else_word, for_word, quit_word, write_word, do_word, goto_word, execute_word, lock_word, halt_word, FormTree, assignment, removal, hiding, condition, repetition, output, entrance, leap, execution, locking, nothing, spell_expr, spell_arg, spell_args, spell_condition, spell_list, spell_more, spell_command}
 use Rattle.mgrammar.specs.Commands.{keyword_of, form_of, takes_args, takes_condition}
 use Rattle.mgrammar.specs.WellFormed.{max_depth, bare_arg, WellAll, WellList, WellExpr, WellBelow, WellOptional, WellPlain, WellArg, WellCondition, WellCommand}
 use Rattle.mgrammar.specs.Reading.{◌>>=◌, run_of, after_run, past, list_at, is_bang, removal_at, hiding_at, condition_at, output_at, entrance_at, leap_at, execution_at, locking_at, arg_at, has_args, args_at, postcondition_by, postcondition_at, command_by, command_at}
@@ -86,7 +86,7 @@ form_begins f begins a w =
 
 -- how an `@` with this operand alone is read as an expression
 abbrev bare : PrimaryTree → ExprTree
-bare p = expr (operand [] (reference (indirect p no_exprs))) no_steps
+bare p = expr (operand [] (reference (indirect p no_exprs))) no_tails
 
 bare_expr_well : (p : PrimaryTree) → WellBelow max_depth p → WellExpr max_depth (bare p)
 bare_expr_well p w = (bare_well max_depth p w, tt)

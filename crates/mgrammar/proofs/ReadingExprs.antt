@@ -4,14 +4,14 @@ use Rattle.std.proofs.Common.{◌≡◌, ℕ, zero, suc, ◌<◌, ◌-◌, Bool,
 use Rattle.std.specs.Prelude.{◌||◌}
 use Rattle.std.proofs.lemmas.Bool.Decides.{nat_tests}
 use Rattle.std.proofs.lemmas.List.{append-nil}
-use Rattle.mgrammar.specs.Grammar.{plus, minus, negate, BinaryTree, AtomTree, ExprTree, expr, StepTree, apply, matches, matches_not, StepsTree, no_steps, step, steps_of, OperandTree, operand, spell_signs, spell_binary, spell_atoms, spell_expr, spell_steps, spell_step, spell_operand, spell_primary, spell_reference}
-use Rattle.mgrammar.specs.WellFormed.{bare_primary, WellExpr, WellSteps, WellStep, WellOperand, WellPrimary, WellReference, WellBelow}
-use Rattle.mgrammar.specs.Reading.{◌>>=◌, many, pattern_at, signs_of, after_signs, OperatorTree, between, matching, matching_not, operator_at, Readers, primary_with, operand_with, step_by, step_behind, step_with, expr_with, readers_at, inner_at}
+use Rattle.mgrammar.specs.Grammar.{plus, minus, negate, BinaryTree, AtomTree, ExprTree, expr, TailTree, apply, matches, matches_not, TailsTree, no_tails, tail, tails_of, OperandTree, operand, spell_signs, spell_binary, spell_atoms, spell_expr, spell_tails, spell_tail, spell_operand, spell_primary, spell_reference}
+use Rattle.mgrammar.specs.WellFormed.{bare_primary, WellExpr, WellTails, WellTail, WellOperand, WellPrimary, WellReference, WellBelow}
+use Rattle.mgrammar.specs.Reading.{◌>>=◌, many, pattern_at, signs_of, after_signs, OperatorTree, between, matching, matching_not, operator_at, Readers, primary_with, operand_with, tail_by, tail_behind, tail_with, expr_with, readers_at, inner_at}
 use Rattle.mgrammar.proofs.ReadingBasics.{Takes, Again, Begins, Begins-stops, Begins-append, Begins-weaker, Begins-long, goes_further, bind_some, some_is}
 use Rattle.mgrammar.proofs.ReadingLists.{each, ItemTakes, many_takes, many_again, count_le, joined}
 use Rattle.mgrammar.proofs.ReadingPatterns.{pattern_takes, pattern_again}
 use Rattle.mgrammar.proofs.ReadingOperators.{is_sign, signs_parts, signs_again, is_follows, spell_operator, operator_takes, operator_again, is_operator, operator_begins, no_operator}
-use Rattle.mgrammar.proofs.ReadingTrees.{steps_list, steps_back, spell_steps-each, steps_well, list_well, WellInner}
+use Rattle.mgrammar.proofs.ReadingTrees.{tails_list, tails_back, spell_tails-each, tails_well, list_well, WellInner}
 use Rattle.mgrammar.proofs.ReadingReferences.{OperandEnds, Ends, TakesFree, AgainFree, operand_ends, WellWithin, reference_takes, reference_again}
 use Rattle.mgrammar.proofs.ReadingPrimaries.{begins_primary, primary_begins, primary_takes_free, primary_takes, primary_again_free, primary_again}
 
@@ -32,46 +32,46 @@ module _ (d : ℕ) (r : Readers) (inner_takes : Takes spell_expr (WellInner d) (
       (s ∙ ap (λ (y : List ℕ). spell_signs (signs_of cs) ++ y) p.0 ∙ sym (append_assoc (spell_signs (signs_of cs)) (spell_primary b.0.0) b.0.1), p.1)
 
   -- this step was read of this operator and the text behind it
-  abbrev StepIs : List ℕ → StepTree × List ℕ → Type 0
-  StepIs cs x = (cs ≡ spell_step x.0 ++ x.1) × WellStep d x.0
+  abbrev StepIs : List ℕ → TailTree × List ℕ → Type 0
+  StepIs cs x = (cs ≡ spell_tail x.0 ++ x.1) × WellTail d x.0
 
-  step_takes_by : (o : OperatorTree) (cs : List ℕ) (x : StepTree × List ℕ) → step_by r o cs ≡ Some x → StepIs (spell_operator o ++ cs) x
-  unfolding step_by
-  step_takes_by (between b) cs x e =
+  tail_takes_by : (o : OperatorTree) (cs : List ℕ) (x : TailTree × List ℕ) → tail_by r o cs ≡ Some x → StepIs (spell_operator o ++ cs) x
+  unfolding tail_by
+  tail_takes_by (between b) cs x e =
       let k = bind_some (operand_with r cs) (λ o. Some (apply b o.0, o.1)) x e in
       let o = operand_takes cs k.0 k.1 in
       subst (StepIs (spell_binary b ++ cs)) (some_is (apply b k.0.0, k.0.1) x k.2) (behind_parts (spell_binary b) cs (spell_operand k.0.0) k.0.1 o.0, o.1)
-  step_takes_by matching cs x e =
+  tail_takes_by matching cs x e =
       let k = bind_some (pattern_at cs) (λ p. Some (matches p.0, p.1)) x e in
       let p = pattern_takes cs k.0 k.1 in
       subst (StepIs (63 ∷ cs)) (some_is (matches k.0.0, k.0.1) x k.2) (behind_parts (63 ∷ []) cs (spell_atoms k.0.0) k.0.1 p.0, p.1)
-  step_takes_by matching_not cs x e =
+  tail_takes_by matching_not cs x e =
       let k = bind_some (pattern_at cs) (λ p. Some (matches_not p.0, p.1)) x e in
       let p = pattern_takes cs k.0 k.1 in
       subst (StepIs (39 ∷ 63 ∷ cs)) (some_is (matches_not k.0.0, k.0.1) x k.2) (behind_parts (39 ∷ 63 ∷ []) cs (spell_atoms k.0.0) k.0.1 p.0, p.1)
 
   -- as step_takes, where this operator is in front
-  step_takes_behind : (cs : List ℕ) (o : Option (OperatorTree × List ℕ)) (x : StepTree × List ℕ) → operator_at cs ≡ o → step_behind r o ≡ Some (Some x) → StepIs cs x
-  step_takes_behind cs None x h e = absurd cc
-  step_takes_behind cs (Some o) x h e =
-      let k = bind_some (step_by r o.0 o.1) (λ s. Some (Some s)) (Some x) e in
-      let s = step_takes_by o.0 o.1 k.0 k.1 in
+  tail_takes_behind : (cs : List ℕ) (o : Option (OperatorTree × List ℕ)) (x : TailTree × List ℕ) → operator_at cs ≡ o → tail_behind r o ≡ Some (Some x) → StepIs cs x
+  tail_takes_behind cs None x h e = absurd cc
+  tail_takes_behind cs (Some o) x h e =
+      let k = bind_some (tail_by r o.0 o.1) (λ s. Some (Some s)) (Some x) e in
+      let s = tail_takes_by o.0 o.1 k.0 k.1 in
       let parts : cs ≡ spell_operator o.0 ++ o.1 = operator_takes cs o h in
       subst (StepIs cs) (some_is k.0 x (some_is (Some k.0) (Some x) k.2)) (parts ∙ s.0, s.1)
 
-  step_takes : ItemTakes spell_step (WellStep d) (step_with r)
-  unfolding step_with
-  step_takes cs x e = step_takes_behind cs (operator_at cs) x refl e
+  tail_takes : ItemTakes spell_tail (WellTail d) (tail_with r)
+  unfolding tail_with
+  tail_takes cs x e = tail_takes_behind cs (operator_at cs) x refl e
 
   pub expr_takes : Takes spell_expr (WellExpr d) (expr_with r)
   unfolding expr_with
   expr_takes cs x e =
-      let b = bind_some (operand_with r cs) (λ o. many (step_with r) (length o.1) o.1 >>= λ s. Some (expr o.0 (steps_of s.0), s.1)) x e in
-      let k = bind_some (many (step_with r) (length b.0.1) b.0.1) (λ s. Some (expr b.0.0 (steps_of s.0), s.1)) x b.2 in
+      let b = bind_some (operand_with r cs) (λ o. many (tail_with r) (length o.1) o.1 >>= λ s. Some (expr o.0 (tails_of s.0), s.1)) x e in
+      let k = bind_some (many (tail_with r) (length b.0.1) b.0.1) (λ s. Some (expr b.0.0 (tails_of s.0), s.1)) x b.2 in
       let o = operand_takes cs b.0 b.1 in
-      let s = many_takes spell_step (WellStep d) (step_with r) step_takes (length b.0.1) b.0.1 k.0 k.1 in
-      let parts : cs ≡ (spell_operand b.0.0 ++ spell_steps (steps_of k.0.0)) ++ k.0.1 = joined cs (spell_operand b.0.0) b.0.1 (each spell_step k.0.0) k.0.1 (spell_steps (steps_of k.0.0)) o.0 s.0 (spell_steps-each k.0.0) in
-      subst (λ (y : ExprTree × List ℕ). (cs ≡ spell_expr y.0 ++ y.1) × WellExpr d y.0) (some_is (expr b.0.0 (steps_of k.0.0), k.0.1) x k.2) (parts, (o.1, steps_well d k.0.0 s.1))
+      let s = many_takes spell_tail (WellTail d) (tail_with r) tail_takes (length b.0.1) b.0.1 k.0 k.1 in
+      let parts : cs ≡ (spell_operand b.0.0 ++ spell_tails (tails_of k.0.0)) ++ k.0.1 = joined cs (spell_operand b.0.0) b.0.1 (each spell_tail k.0.0) k.0.1 (spell_tails (tails_of k.0.0)) o.0 s.0 (spell_tails-each k.0.0) in
+      subst (λ (y : ExprTree × List ℕ). (cs ≡ spell_expr y.0 ++ y.1) × WellExpr d y.0) (some_is (expr b.0.0 (tails_of k.0.0), k.0.1) x k.2) (parts, (o.1, tails_well d k.0.0 s.1))
 
 -- what was read within brackets stands one place deeper
 deeper : {A : Type 0} (P : ℕ → A → Type 0) (d : ℕ) (a : A) → P d a → (0 < suc d) × P (suc d - 1) a
@@ -127,41 +127,41 @@ operand_begins d (operand (plus ∷ ss) p) w = refl
 operand_begins d o w = refl
 
 pub expr_begins : (d : ℕ) (e : ExprTree) → WellExpr d e → Begins begins_operand (spell_expr e)
-expr_begins d (expr first rest) w = Begins-append begins_operand (spell_operand first) (spell_steps rest) (operand_begins d first w.0)
+expr_begins d (expr first rest) w = Begins-append begins_operand (spell_operand first) (spell_tails rest) (operand_begins d first w.0)
 
 not_follows : (c : ℕ) → begins_operand c ≡ true → is_follows c ≡ false
 not_follows c h = grind (arith, nat_tests)
 
-step_begins : (s : StepTree) → Begins is_operator (spell_step s)
-step_begins (apply b o) = Begins-append is_operator (spell_binary b) (spell_operand o) (subst (Begins is_operator) (append-nil (spell_binary b)) (operator_begins (between b) []))
-step_begins (matches atoms) = refl
-step_begins (matches_not atoms) = refl
+tail_begins : (s : TailTree) → Begins is_operator (spell_tail s)
+tail_begins (apply b o) = Begins-append is_operator (spell_binary b) (spell_operand o) (subst (Begins is_operator) (append-nil (spell_binary b)) (operator_begins (between b) []))
+tail_begins (matches atoms) = refl
+tail_begins (matches_not atoms) = refl
 
 operator_ends : (c : ℕ) → is_operator c ≡ true → goes_further c ≡ false
 operator_ends c h = grind (arith, nat_tests)
 
-step_ends : (s : StepTree) (rest : List ℕ) → OperandEnds (spell_step s ++ rest)
-step_ends s rest = Begins-stops is_operator goes_further (spell_step s ++ rest) operator_ends (Begins-append is_operator (spell_step s) rest (step_begins s))
+tail_ends : (s : TailTree) (rest : List ℕ) → OperandEnds (spell_tail s ++ rest)
+tail_ends s rest = Begins-stops is_operator goes_further (spell_tail s ++ rest) operator_ends (Begins-append is_operator (spell_tail s) rest (tail_begins s))
 
 -- steps begin with what may follow an operand
-steps_stop : (s : StepsTree) (rest : List ℕ) → OperandEnds rest → OperandEnds (spell_steps s ++ rest)
-steps_stop no_steps rest f = f
-steps_stop (step s more) rest f = subst OperandEnds (sym (append_assoc (spell_step s) (spell_steps more) rest)) (step_ends s (spell_steps more ++ rest))
+tails_stop : (s : TailsTree) (rest : List ℕ) → OperandEnds rest → OperandEnds (spell_tails s ++ rest)
+tails_stop no_tails rest f = f
+tails_stop (tail s more) rest f = subst OperandEnds (sym (append_assoc (spell_tail s) (spell_tails more) rest)) (tail_ends s (spell_tails more ++ rest))
 
-by_operator : (r : Readers) (cs ds : List ℕ) (o : OperatorTree) (s : StepTree) (rest : List ℕ) → operator_at cs ≡ Some (o, ds) → step_by r o ds ≡ Some (s, rest) → step_with r cs ≡ Some (Some (s, rest))
-unfolding step_with
+by_operator : (r : Readers) (cs ds : List ℕ) (o : OperatorTree) (s : TailTree) (rest : List ℕ) → operator_at cs ≡ Some (o, ds) → tail_by r o ds ≡ Some (s, rest) → tail_with r cs ≡ Some (Some (s, rest))
+unfolding tail_with
 by_operator r cs ds o s rest h k = rw (h, k) refl
 
-apply_step : (r : Readers) (b : BinaryTree) (cs : List ℕ) (o : OperandTree) (rest : List ℕ) → operand_with r cs ≡ Some (o, rest) → step_by r (between b) cs ≡ Some (apply b o, rest)
-unfolding step_by
+apply_step : (r : Readers) (b : BinaryTree) (cs : List ℕ) (o : OperandTree) (rest : List ℕ) → operand_with r cs ≡ Some (o, rest) → tail_by r (between b) cs ≡ Some (apply b o, rest)
+unfolding tail_by
 apply_step r b cs o rest h = rw h refl
 
-matches_step : (r : Readers) (cs : List ℕ) (atoms : List AtomTree) (rest : List ℕ) → pattern_at cs ≡ Some (atoms, rest) → step_by r matching cs ≡ Some (matches atoms, rest)
-unfolding step_by
+matches_step : (r : Readers) (cs : List ℕ) (atoms : List AtomTree) (rest : List ℕ) → pattern_at cs ≡ Some (atoms, rest) → tail_by r matching cs ≡ Some (matches atoms, rest)
+unfolding tail_by
 matches_step r cs atoms rest h = rw h refl
 
-matches_not_step : (r : Readers) (cs : List ℕ) (atoms : List AtomTree) (rest : List ℕ) → pattern_at cs ≡ Some (atoms, rest) → step_by r matching_not cs ≡ Some (matches_not atoms, rest)
-unfolding step_by
+matches_not_step : (r : Readers) (cs : List ℕ) (atoms : List AtomTree) (rest : List ℕ) → pattern_at cs ≡ Some (atoms, rest) → tail_by r matching_not cs ≡ Some (matches_not atoms, rest)
+unfolding tail_by
 matches_not_step r cs atoms rest h = rw h refl
 
 match_operators : (cs : List ℕ) → (operator_at (63 ∷ cs) ≡ Some (matching, cs)) × (operator_at (39 ∷ 63 ∷ cs) ≡ Some (matching_not, cs))
@@ -177,36 +177,36 @@ module _ (d : ℕ) (r : Readers) (inner_again : Again spell_expr (WellInner d) E
       let parts : (spell_signs signs ++ spell_primary p) ++ rest ≡ spell_signs signs ++ (spell_primary p ++ rest) = append_assoc (spell_signs signs) (spell_primary p) rest in
       ap (operand_with r) parts ∙ rw (i.0, i.1, primary_again d r inner_again within_again below_again p rest w s) refl
 
-  step_again : (x : StepTree) (rest : List ℕ) → WellStep d x → OperandEnds rest → step_with r (spell_step x ++ rest) ≡ Some (Some (x, rest))
-  step_again (apply b o) rest w s =
+  tail_again : (x : TailTree) (rest : List ℕ) → WellTail d x → OperandEnds rest → tail_with r (spell_tail x ++ rest) ≡ Some (Some (x, rest))
+  tail_again (apply b o) rest w s =
       let stops = Begins-stops begins_operand is_follows (spell_operand o ++ rest) not_follows (Begins-append begins_operand (spell_operand o) rest (operand_begins d o w)) in
       by_operator r ((spell_binary b ++ spell_operand o) ++ rest) (spell_operand o ++ rest) (between b) (apply b o) rest
       (ap operator_at (append_assoc (spell_binary b) (spell_operand o) rest) ∙ operator_again (between b) (spell_operand o ++ rest) stops) (apply_step r b (spell_operand o ++ rest) o rest (operand_again o rest w s))
-  step_again (matches atoms) rest w s =
+  tail_again (matches atoms) rest w s =
       by_operator r (63 ∷ (spell_atoms atoms ++ rest)) (spell_atoms atoms ++ rest) matching (matches atoms) rest (match_operators (spell_atoms atoms ++ rest)).0
       (matches_step r (spell_atoms atoms ++ rest) atoms rest (pattern_again atoms rest w (operand_ends rest s)))
-  step_again (matches_not atoms) rest w s =
+  tail_again (matches_not atoms) rest w s =
       by_operator r (39 ∷ 63 ∷ (spell_atoms atoms ++ rest)) (spell_atoms atoms ++ rest) matching_not (matches_not atoms) rest (match_operators (spell_atoms atoms ++ rest)).1
       (matches_not_step r (spell_atoms atoms ++ rest) atoms rest (pattern_again atoms rest w (operand_ends rest s)))
 
-  step_none : (rest : List ℕ) → operator_at rest ≡ None → step_with r rest ≡ Some None
-  unfolding step_with
-  step_none rest h = rw h refl
+  no_tail_after : (rest : List ℕ) → operator_at rest ≡ None → tail_with r rest ≡ Some None
+  unfolding tail_with
+  no_tail_after rest h = rw h refl
 
-  steps_again : (s : StepsTree) (rest : List ℕ) → WellSteps d s → Ends rest → many (step_with r) (length (spell_steps s ++ rest)) (spell_steps s ++ rest) ≡ Some (steps_list s, rest)
-  steps_again s rest w f =
-      let xs = steps_list s in
-      let same : spell_steps s ≡ each spell_step xs = ap spell_steps (sym (steps_back s)) ∙ spell_steps-each xs in
+  tails_again : (s : TailsTree) (rest : List ℕ) → WellTails d s → Ends rest → many (tail_with r) (length (spell_tails s ++ rest)) (spell_tails s ++ rest) ≡ Some (tails_list s, rest)
+  tails_again s rest w f =
+      let xs = tails_list s in
+      let same : spell_tails s ≡ each spell_tail xs = ap spell_tails (sym (tails_back s)) ∙ spell_tails-each xs in
       let well = list_well d s w in
-      let enough = count_le spell_step (WellStep d) (step_with r) (λ x v. Begins-long is_operator (spell_step x) (step_begins x)) xs rest well in
-      rw same (many_again spell_step (WellStep d) (step_with r) OperandEnds step_again (λ x cs v. step_ends x cs)
-      (length (each spell_step xs ++ rest)) xs rest enough well f.0 (step_none rest (no_operator rest f.1)))
+      let enough = count_le spell_tail (WellTail d) (tail_with r) (λ x v. Begins-long is_operator (spell_tail x) (tail_begins x)) xs rest well in
+      rw same (many_again spell_tail (WellTail d) (tail_with r) OperandEnds tail_again (λ x cs v. tail_ends x cs)
+      (length (each spell_tail xs ++ rest)) xs rest enough well f.0 (no_tail_after rest (no_operator rest f.1)))
 
   pub expr_again : Again spell_expr (WellExpr d) Ends (expr_with r)
   unfolding expr_with
-  expr_again (expr first steps) rest w f =
-      let parts : (spell_operand first ++ spell_steps steps) ++ rest ≡ spell_operand first ++ (spell_steps steps ++ rest) = append_assoc (spell_operand first) (spell_steps steps) rest in
-      ap (expr_with r) parts ∙ rw (operand_again first (spell_steps steps ++ rest) w.0 (steps_stop steps rest f.0), steps_again steps rest w.1 f, steps_back steps) refl
+  expr_again (expr first tails) rest w f =
+      let parts : (spell_operand first ++ spell_tails tails) ++ rest ≡ spell_operand first ++ (spell_tails tails ++ rest) = append_assoc (spell_operand first) (spell_tails tails) rest in
+      ap (expr_with r) parts ∙ rw (operand_again first (spell_tails tails ++ rest) w.0 (tails_stop tails rest f.0), tails_again tails rest w.1 f, tails_back tails) refl
 
 record Spelled (d : ℕ) : Type 0 where
   inner : Again spell_expr (WellInner d) Ends (inner_at d)

@@ -4,7 +4,7 @@ use Rattle.std.proofs.Common.{◌≡◌, ℕ, true, false, eqb, List, [], ◌∷
 use Rattle.std.proofs.lemmas.Bool.Decides.{nat_tests}
 use Rattle.std.proofs.lemmas.List.{append-nil}
 use Rattle.mspec.specs.Names.{is_name_start, IsName}
-use Rattle.mgrammar.specs.Grammar.{ExprTree, expr, no_steps, step, operand, PrimaryTree, number, text, special, reference, bracket, call, select, refer, EntryTree, at_label, at_label_in, at_routine, FormTree, assignment, removal, hiding, condition, repetition, output, entrance, leap, execution, locking, nothing, ArgTree, assign, breaks, shown, kill_one, kill_others, new_one, new_others, tested, loop, do_one, go_to, executed, locked, indirect_args, anew, adding, giving_back, lock_one, lock_several, may_be_indirect, spell_expr, spell_reference, spell_primary, spell_entry, spell_condition, spell_arg}
+use Rattle.mgrammar.specs.Grammar.{ExprTree, expr, no_tails, tail, operand, PrimaryTree, number, text, special, reference, bracket, call, select, refer, EntryTree, at_label, at_label_in, at_routine, FormTree, assignment, removal, hiding, condition, repetition, output, entrance, leap, execution, locking, nothing, ArgTree, assign, breaks, shown, kill_one, kill_others, new_one, new_others, tested, loop, do_one, go_to, executed, locked, indirect_args, anew, adding, giving_back, lock_one, lock_several, may_be_indirect, spell_expr, spell_reference, spell_primary, spell_entry, spell_condition, spell_arg}
 use Rattle.mgrammar.specs.WellFormed.{bare_primary, bare_expr, bare_arg, settled, max_depth, WellExpr, WellBelow, WellEntry, WellPlain, WellArg}
 use Rattle.mgrammar.specs.Reading.{Read, past, readers_at, settled_with, operand_by, operand_or}
 use Rattle.mgrammar.proofs.ReadingBasics.{Takes, Again, Stops, Begins-stops, Begins-append, bind_some, some_is, past_takes, not_past}
@@ -15,12 +15,12 @@ use Rattle.mgrammar.proofs.ReadingArguments.{Follows}
 -- ---- an `@` with its operand alone
 
 bare_expr_is : (d : ℕ) (e : ExprTree) (p : PrimaryTree) → bare_expr e ≡ Some p → WellExpr d e → (spell_expr e ≡ 64 ∷ spell_primary p) × WellBelow d p
-bare_expr_is d (expr (operand [] (reference v)) no_steps) p e w =
+bare_expr_is d (expr (operand [] (reference v)) no_tails) p e w =
     let is = bare_reference_is d v p e w.0 in
     (append-nil _ ∙ is.0, is.1)
-bare_expr_is d (expr (operand [] q) no_steps) p e w = absurd cc
-bare_expr_is d (expr (operand (s ∷ ss) q) no_steps) p e w = absurd cc
-bare_expr_is d (expr o (step s rest)) p e w = absurd cc
+bare_expr_is d (expr (operand [] q) no_tails) p e w = absurd cc
+bare_expr_is d (expr (operand (s ∷ ss) q) no_tails) p e w = absurd cc
+bare_expr_is d (expr o (tail s rest)) p e w = absurd cc
 
 -- an argument as it is written
 bare_arg_is : (f : FormTree) (a : ArgTree) (p : PrimaryTree) → bare_arg a ≡ Some p → WellPlain f a → (spell_arg a ≡ 64 ∷ spell_primary p) × WellBelow max_depth p

@@ -279,9 +279,9 @@ module _ (d : ℕ) (r : Readers) (inner_again : Again spell_expr (WellInner d) E
       let cs = choices_list all in
       let same : spell_choices all ≡ spell_list spell_choice cs = ap spell_choices (sym (choices_back all)) ∙ spell_choices-list cs in
       let l = list_again spell_choice (WellChoice d) (choice_with r) Ends (λ more. (refl, refl)) choice_again cs (41 ∷ rest) (choices_inner d all h.0 h.2 h.3) ((refl, refl), refl) in
-      let step = function_step r w (spell_list spell_choice cs ++ 41 ∷ rest) (select w (choices_of cs)) rest h.1.1 (select_step r w (spell_list spell_choice cs ++ 41 ∷ rest) cs rest h.1.0 l) in
+      let tail = function_step r w (spell_list spell_choice cs ++ 41 ∷ rest) (select w (choices_of cs)) rest h.1.1 (select_step r w (spell_list spell_choice cs ++ 41 ∷ rest) cs rest h.1.0 l) in
       ap (primary_with r) (in_brackets w (spell_choices all) rest ∙ ap (λ (y : List ℕ). 36 ∷ (w ++ 40 ∷ (y ++ 41 ∷ rest))) same)
-      ∙ step ∙ ap (λ (y : ChoicesTree). Some (select w y, rest)) (choices_back all)
+      ∙ tail ∙ ap (λ (y : ChoicesTree). Some (select w y, rest)) (choices_back all)
 
   exprs_some : (least : ℕ) (most : Option ℕ) (es : List ExprTree) → takes least most (length es) ≡ true → WellAll (WellInner d) es → WellList (WellInner d) es
   exprs_some least most [] t w = absurd cc
@@ -295,9 +295,9 @@ module _ (d : ℕ) (r : Readers) (inner_again : Again spell_expr (WellInner d) E
       let same : spell_exprs args ≡ spell_list spell_expr es = ap spell_exprs (sym (exprs_back args)) ∙ spell_exprs-list es in
       let count : takes least most (length es) ≡ true = ap (takes least most) (sym (count-length es) ∙ ap exprs_count (exprs_back args)) ∙ h.2.4 in
       let l = list_again spell_expr (WellInner d) (r.inner) Ends (λ more. (refl, refl)) inner_again es (41 ∷ rest) (exprs_some least most es count (exprs_inner d args h.0 h.3)) ((refl, refl), refl) in
-      let step = function_step r w (spell_list spell_expr es ++ 41 ∷ rest) (call w (exprs_of es)) rest h.1 (call_step r h.2.0 least most w (spell_list spell_expr es ++ 41 ∷ rest) es rest h.2.3 count l) in
+      let tail = function_step r w (spell_list spell_expr es ++ 41 ∷ rest) (call w (exprs_of es)) rest h.1 (call_step r h.2.0 least most w (spell_list spell_expr es ++ 41 ∷ rest) es rest h.2.3 count l) in
       ap (primary_with r) (in_brackets w (spell_exprs args) rest ∙ ap (λ (y : List ℕ). 36 ∷ (w ++ 40 ∷ (y ++ 41 ∷ rest))) same)
-      ∙ step ∙ ap (λ (y : ExprsTree). Some (call w y, rest)) (exprs_back args)
+      ∙ tail ∙ ap (λ (y : ExprsTree). Some (call w y, rest)) (exprs_back args)
 
   -- the text of a function of a variable, and what follows it
   refer_spread : (w v more rest : List ℕ) → (36 ∷ (w ++ 40 ∷ (v ++ (more ++ 41 ∷ [])))) ++ rest ≡ 36 ∷ (w ++ 40 ∷ (v ++ (more ++ 41 ∷ rest)))
@@ -317,9 +317,9 @@ module _ (d : ℕ) (r : Readers) (inner_again : Again spell_expr (WellInner d) E
       let t : List ℕ = spell_more spell_expr es ++ 41 ∷ rest in
       let variable = within_again v t (h.0, h.3) (more_ends es rest) in
       let others = more_again spell_expr (WellInner d) (r.inner) Ends (λ more. (refl, refl)) inner_again es (41 ∷ rest) (exprs_inner d more h.0 h.4) (refl, refl) refl in
-      let step = function_step r w (spell_reference v ++ t) (refer w v (exprs_of es)) rest h.1 (refer_step r h.2.0 most w (spell_reference v ++ t) t v es rest h.2.2 count variable others) in
+      let tail = function_step r w (spell_reference v ++ t) (refer w v (exprs_of es)) rest h.1 (refer_step r h.2.0 most w (spell_reference v ++ t) t v es rest h.2.2 count variable others) in
       ap (primary_with r) (refer_spread w (spell_reference v) (spell_more_exprs more) rest ∙ ap (λ (y : List ℕ). 36 ∷ (w ++ 40 ∷ (spell_reference v ++ (y ++ 41 ∷ rest)))) same)
-      ∙ step ∙ ap (λ (y : ExprsTree). Some (refer w v y, rest)) (exprs_back more)
+      ∙ tail ∙ ap (λ (y : ExprsTree). Some (refer w v y, rest)) (exprs_back more)
 
   pub primary_again_free : AgainFree spell_primary (WellPrimary d) bare_primary (primary_with r)
   primary_again_free (number t) rest w s g =

@@ -1,31 +1,31 @@
 -- SPDX-License-Identifier: Apache-2.0
 -- Runs of steps, of arguments and of choices, as lists.
 use Rattle.std.proofs.Common.{◌≡◌, ℕ, suc, ◌<◌, ◌-◌, List, [], ◌∷◌, ◌++◌, length, refl, sym, ap, ◌∙◌, append_assoc}
-use Rattle.mgrammar.specs.Grammar.{ExprTree, StepTree, StepsTree, no_steps, step, steps_of, ExprsTree, no_exprs, exprs, exprs_of, ChoicesTree, no_choices, choice, choices_of, spell_step, spell_steps, spell_expr, spell_exprs, spell_more_exprs, spell_choices, spell_more_choices, spell_list, spell_more}
-use Rattle.mgrammar.specs.WellFormed.{exprs_count, HasChoice, WellExpr, WellStep, WellSteps, WellExprs, WellChoices, WellAll, WellList}
+use Rattle.mgrammar.specs.Grammar.{ExprTree, TailTree, TailsTree, no_tails, tail, tails_of, ExprsTree, no_exprs, exprs, exprs_of, ChoicesTree, no_choices, choice, choices_of, spell_tail, spell_tails, spell_expr, spell_exprs, spell_more_exprs, spell_choices, spell_more_choices, spell_list, spell_more}
+use Rattle.mgrammar.specs.WellFormed.{exprs_count, HasChoice, WellExpr, WellTail, WellTails, WellExprs, WellChoices, WellAll, WellList}
 use Rattle.mgrammar.proofs.ReadingLists.{each}
 
 -- ---- steps
 
-abbrev pub steps_list : StepsTree → List StepTree
-steps_list no_steps = []
-steps_list (step s rest) = s ∷ steps_list rest
+abbrev pub tails_list : TailsTree → List TailTree
+tails_list no_tails = []
+tails_list (tail s rest) = s ∷ tails_list rest
 
-pub steps_back : (s : StepsTree) → steps_of (steps_list s) ≡ s
-steps_back no_steps = refl
-steps_back (step s rest) = ap (λ (x : StepsTree). step s x) (steps_back rest)
+pub tails_back : (s : TailsTree) → tails_of (tails_list s) ≡ s
+tails_back no_tails = refl
+tails_back (tail s rest) = ap (λ (x : TailsTree). tail s x) (tails_back rest)
 
-pub spell_steps-each : (xs : List StepTree) → spell_steps (steps_of xs) ≡ each spell_step xs
-spell_steps-each [] = refl
-spell_steps-each (x ∷ xs) = ap (λ (y : List ℕ). spell_step x ++ y) (spell_steps-each xs)
+pub spell_tails-each : (xs : List TailTree) → spell_tails (tails_of xs) ≡ each spell_tail xs
+spell_tails-each [] = refl
+spell_tails-each (x ∷ xs) = ap (λ (y : List ℕ). spell_tail x ++ y) (spell_tails-each xs)
 
-pub steps_well : (d : ℕ) (xs : List StepTree) → WellAll (WellStep d) xs → WellSteps d (steps_of xs)
-steps_well d [] w = tt
-steps_well d (x ∷ xs) w = (w.0, steps_well d xs w.1)
+pub tails_well : (d : ℕ) (xs : List TailTree) → WellAll (WellTail d) xs → WellTails d (tails_of xs)
+tails_well d [] w = tt
+tails_well d (x ∷ xs) w = (w.0, tails_well d xs w.1)
 
-pub list_well : (d : ℕ) (s : StepsTree) → WellSteps d s → WellAll (WellStep d) (steps_list s)
-list_well d no_steps w = tt
-list_well d (step s rest) w = (w.0, list_well d rest w.1)
+pub list_well : (d : ℕ) (s : TailsTree) → WellTails d s → WellAll (WellTail d) (tails_list s)
+list_well d no_tails w = tt
+list_well d (tail s rest) w = (w.0, list_well d rest w.1)
 
 -- ---- what stands in brackets
 

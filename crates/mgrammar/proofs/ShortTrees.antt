@@ -2,7 +2,7 @@
 -- Trees written shortly, and what examples say of texts: that they have a tree, or none.
 use Rattle.std.proofs.Common.{◌≡◌, ℕ, List, [], ◌∷◌, Some, None, map}
 use Rattle.std.specs.Prelude.{codes}
-use Rattle.mgrammar.specs.Grammar.{OperandTree, operand, PrimaryTree, ExprTree, expr, no_steps, number, ReferenceTree, local, no_exprs, KeywordTree, ArgTree, CommandTree, SpacedTree, LineTree, spell}
+use Rattle.mgrammar.specs.Grammar.{OperandTree, operand, PrimaryTree, ExprTree, expr, no_tails, number, ReferenceTree, local, no_exprs, KeywordTree, ArgTree, CommandTree, SpacedTree, LineTree, spell}
 use Rattle.mgrammar.specs.Reading.{line_at}
 
 -- the text has this tree
@@ -18,7 +18,7 @@ abbrev pub plain : PrimaryTree → OperandTree
 plain p = operand [] p
 
 abbrev pub only : PrimaryTree → ExprTree
-only p = expr (plain p) no_steps
+only p = expr (plain p) no_tails
 
 -- the number 1
 abbrev pub the_one : ExprTree

@@ -60,16 +60,16 @@ pub record AtomTree : Type 0 where
 -- apart
 mutual
   pub data ExprTree : Type 0 where
-    expr : OperandTree → StepsTree → ExprTree
+    expr : OperandTree → TailsTree → ExprTree
 
-  pub data StepsTree : Type 0 where
-    no_steps : StepsTree
-    step : StepTree → StepsTree → StepsTree
+  pub data TailsTree : Type 0 where
+    no_tails : TailsTree
+    tail : TailTree → TailsTree → TailsTree
 
-  pub data StepTree : Type 0 where
-    apply : BinaryTree → OperandTree → StepTree
-    matches : List AtomTree → StepTree
-    matches_not : List AtomTree → StepTree
+  pub data TailTree : Type 0 where
+    apply : BinaryTree → OperandTree → TailTree
+    matches : List AtomTree → TailTree
+    matches_not : List AtomTree → TailTree
 
   pub data OperandTree : Type 0 where
     operand : List SignTree → PrimaryTree → OperandTree
@@ -104,9 +104,9 @@ mutual
     no_choices : ChoicesTree
     choice : ExprTree → ExprTree → ChoicesTree → ChoicesTree
 
-abbrev pub steps_of : List StepTree → StepsTree
-steps_of [] = no_steps
-steps_of (s ∷ ss) = step s (steps_of ss)
+abbrev pub tails_of : List TailTree → TailsTree
+tails_of [] = no_tails
+tails_of (s ∷ ss) = tail s (tails_of ss)
 
 abbrev pub exprs_of : List ExprTree → ExprsTree
 exprs_of [] = no_exprs
@@ -275,16 +275,16 @@ spell_atoms (a ∷ rest) = spell_atom a ++ spell_atoms rest
 
 abbrev mutual
   pub spell_expr : ExprTree → List ℕ
-  spell_expr (expr first rest) = spell_operand first ++ spell_steps rest
+  spell_expr (expr first rest) = spell_operand first ++ spell_tails rest
 
-  pub spell_steps : StepsTree → List ℕ
-  spell_steps no_steps = []
-  spell_steps (step s rest) = spell_step s ++ spell_steps rest
+  pub spell_tails : TailsTree → List ℕ
+  spell_tails no_tails = []
+  spell_tails (tail s rest) = spell_tail s ++ spell_tails rest
 
-  pub spell_step : StepTree → List ℕ
-  spell_step (apply b o) = spell_binary b ++ spell_operand o
-  spell_step (matches atoms) = 63 ∷ spell_atoms atoms
-  spell_step (matches_not atoms) = 39 ∷ 63 ∷ spell_atoms atoms
+  pub spell_tail : TailTree → List ℕ
+  spell_tail (apply b o) = spell_binary b ++ spell_operand o
+  spell_tail (matches atoms) = 63 ∷ spell_atoms atoms
+  spell_tail (matches_not atoms) = 39 ∷ 63 ∷ spell_atoms atoms
 
   pub spell_operand : OperandTree → List ℕ
   spell_operand (operand signs p) = spell_signs signs ++ spell_primary p

@@ -4,7 +4,7 @@
 use Rattle.std.specs.Prelude.{ℕ, zero, suc, ◌-◌, Bool, true, false, not, ◌&&◌, ◌||◌, ◌==◌, nat_le, nat_lt, if◌then◌else◌, List, [], ◌∷◌, ◌++◌, length, drop, Option, Some, None}
 use Rattle.mspec.specs.Literal.{is_digit}
 use Rattle.mspec.specs.Names.{is_letter, is_name_start, is_name_rest, is_character}
-use Rattle.mgrammar.specs.Grammar.{SignTree, plus, minus, negate, TruthTree, equals, less, greater, contains, follows, sorts_after, both, either, BinaryTree, add, subtract, multiply, divide, divide_whole, remainder, join, is, is_not, CountTree, RepeatedTree, classes, copies, AtomTree, ExprTree, expr, StepTree, apply, matches, matches_not, steps_of, OperandTree, operand, PrimaryTree, number, text, special, reference, bracket, call, select, refer, ReferenceTree, local, global, naked, indirect, extended, ExprsTree, no_exprs, exprs_of, choices_of, TargetTree, variable, piece, DestinationTree, one, several, ParameterTree, once, onward, until, EntryTree, at_label, at_label_in, at_routine, ArgTree, assign, breaks, shown, kill_one, kill_others, new_one, new_others, tested, loop, do_one, go_to, executed, locked, indirect_args, LockKindTree, anew, adding, giving_back, LockedTree, lock_one, lock_several, CommandTree, SpacedTree, LineTree, KeywordTree, FormTree, assignment, removal, hiding, condition, repetition, output, entrance, leap, execution, locking, nothing, SpecialTree, special_of, is_pattern_letter}
+use Rattle.mgrammar.specs.Grammar.{SignTree, plus, minus, negate, TruthTree, equals, less, greater, contains, follows, sorts_after, both, either, BinaryTree, add, subtract, multiply, divide, divide_whole, remainder, join, is, is_not, CountTree, RepeatedTree, classes, copies, AtomTree, ExprTree, expr, TailTree, apply, matches, matches_not, tails_of, OperandTree, operand, PrimaryTree, number, text, special, reference, bracket, call, select, refer, ReferenceTree, local, global, naked, indirect, extended, ExprsTree, no_exprs, exprs_of, choices_of, TargetTree, variable, piece, DestinationTree, one, several, ParameterTree, once, onward, until, EntryTree, at_label, at_label_in, at_routine, ArgTree, assign, breaks, shown, kill_one, kill_others, new_one, new_others, tested, loop, do_one, go_to, executed, locked, indirect_args, LockKindTree, anew, adding, giving_back, LockedTree, lock_one, lock_several, CommandTree, SpacedTree, LineTree, KeywordTree, FormTree, assignment, removal, hiding, condition, repetition, output, entrance, leap, execution, locking, nothing, SpecialTree, special_of, is_pattern_letter}
 use Rattle.mgrammar.specs.Commands.{keyword_of, form_of, takes_args, takes_condition}
 use Rattle.mgrammar.specs.Functions.{FunctionTree, of_values, of_variable, of_choices, function_of, takes, is_piece}
 use Rattle.mgrammar.specs.WellFormed.{bare_destination, is_named, bare_arg, settled, least_gap, max_depth}
@@ -355,20 +355,20 @@ module _ (r : Readers) where
   operand_with cs = primary_with (after_signs cs) >>= λ p. Some (operand (signs_of cs) p.0, p.1)
 
   -- a step, where this operator is in front and this text behind it
-  unfoldable pub step_by : OperatorTree → List ℕ → Read StepTree
-  step_by (between b) cs = operand_with cs >>= λ o. Some (apply b o.0, o.1)
-  step_by matching cs = pattern_at cs >>= λ p. Some (matches p.0, p.1)
-  step_by matching_not cs = pattern_at cs >>= λ p. Some (matches_not p.0, p.1)
+  unfoldable pub tail_by : OperatorTree → List ℕ → Read TailTree
+  tail_by (between b) cs = operand_with cs >>= λ o. Some (apply b o.0, o.1)
+  tail_by matching cs = pattern_at cs >>= λ p. Some (matches p.0, p.1)
+  tail_by matching_not cs = pattern_at cs >>= λ p. Some (matches_not p.0, p.1)
 
-  abbrev pub step_behind : Option (OperatorTree × List ℕ) → Option (Option (StepTree × List ℕ))
-  step_behind None = Some None
-  step_behind (Some o) = step_by o.0 o.1 >>= λ s. Some (Some s)
+  abbrev pub tail_behind : Option (OperatorTree × List ℕ) → Option (Option (TailTree × List ℕ))
+  tail_behind None = Some None
+  tail_behind (Some o) = tail_by o.0 o.1 >>= λ s. Some (Some s)
 
-  unfoldable pub step_with : List ℕ → Option (Option (StepTree × List ℕ))
-  step_with cs = step_behind (operator_at cs)
+  unfoldable pub tail_with : List ℕ → Option (Option (TailTree × List ℕ))
+  tail_with cs = tail_behind (operator_at cs)
 
   unfoldable pub expr_with : List ℕ → Read ExprTree
-  expr_with cs = operand_with cs >>= λ o. many step_with (length o.1) o.1 >>= λ s. Some (expr o.0 (steps_of s.0), s.1)
+  expr_with cs = operand_with cs >>= λ o. many tail_with (length o.1) o.1 >>= λ s. Some (expr o.0 (tails_of s.0), s.1)
 
 -- what may stand within, where so many more brackets may be open
 unfoldable pub readers_at : ℕ → Readers

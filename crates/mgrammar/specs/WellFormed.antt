@@ -4,7 +4,7 @@
 use Rattle.std.specs.Prelude.{◌≡◌, ℕ, suc, ◌-◌, ◌<◌, ◌≤◌, Bool, true, false, nat_le, List, [], ◌∷◌, length, Option, Some, None}
 use Rattle.mspec.specs.Literal.{is_digit, Literal, IsLiteral, spell_literal}
 use Rattle.mspec.specs.Names.{is_letter, is_character, AllAre, IsName}
-use Rattle.mgrammar.specs.Grammar.{RepeatedTree, classes, copies, AtomTree, ExprTree, expr, StepsTree, no_steps, step, StepTree, apply, matches, matches_not, OperandTree, operand, PrimaryTree, number, text, special, reference, bracket, call, select, refer, ReferenceTree, local, global, naked, indirect, extended, ExprsTree, no_exprs, exprs, ChoicesTree, no_choices, choice, TargetTree, variable, piece, DestinationTree, one, several, ParameterTree, once, onward, until, EntryTree, at_label, at_label_in, at_routine, ArgTree, assign, breaks, shown, kill_one, kill_others, new_one, new_others, tested, loop, do_one, go_to, executed, locked, indirect_args, LockedTree, lock_one, lock_several, anew, adding, giving_back, KeywordTree, CommandTree, SpacedTree, LineTree, FormTree, assignment, removal, hiding, condition, repetition, output, entrance, leap, execution, locking, may_be_indirect, SpecialTree, special_of, is_pattern_letter}
+use Rattle.mgrammar.specs.Grammar.{RepeatedTree, classes, copies, AtomTree, ExprTree, expr, TailsTree, no_tails, tail, TailTree, apply, matches, matches_not, OperandTree, operand, PrimaryTree, number, text, special, reference, bracket, call, select, refer, ReferenceTree, local, global, naked, indirect, extended, ExprsTree, no_exprs, exprs, ChoicesTree, no_choices, choice, TargetTree, variable, piece, DestinationTree, one, several, ParameterTree, once, onward, until, EntryTree, at_label, at_label_in, at_routine, ArgTree, assign, breaks, shown, kill_one, kill_others, new_one, new_others, tested, loop, do_one, go_to, executed, locked, indirect_args, LockedTree, lock_one, lock_several, anew, adding, giving_back, KeywordTree, CommandTree, SpacedTree, LineTree, FormTree, assignment, removal, hiding, condition, repetition, output, entrance, leap, execution, locking, may_be_indirect, SpecialTree, special_of, is_pattern_letter}
 use Rattle.mgrammar.specs.Commands.{keyword_of, form_of, takes_args, takes_condition}
 use Rattle.mgrammar.specs.Functions.{ValueFunctionTree, VariableFunctionTree, of_values, of_variable, of_choices, function_of, takes, is_piece}
 
@@ -92,8 +92,8 @@ bare_operand (operand [] p) = bare_primary p
 bare_operand (operand (s ∷ signs) p) = None
 
 abbrev pub bare_expr : ExprTree → Option PrimaryTree
-bare_expr (expr first no_steps) = bare_operand first
-bare_expr (expr first (step s rest)) = None
+bare_expr (expr first no_tails) = bare_operand first
+bare_expr (expr first (tail s rest)) = None
 
 abbrev pub bare_destination : DestinationTree → Option PrimaryTree
 bare_destination (one (variable r)) = bare_reference r
@@ -110,16 +110,16 @@ IsAttached p (exprs e rest) = bare_primary p ≡ None
 -- where so many brackets more may be open, of `( )`, of `| |` and of operands of `@` together
 abbrev mutual
   pub WellExpr : ℕ → ExprTree → Type 0
-  WellExpr d (expr first rest) = WellOperand d first × WellSteps d rest
+  WellExpr d (expr first rest) = WellOperand d first × WellTails d rest
 
-  pub WellSteps : ℕ → StepsTree → Type 0
-  WellSteps d no_steps = Unit {0}
-  WellSteps d (step s rest) = WellStep d s × WellSteps d rest
+  pub WellTails : ℕ → TailsTree → Type 0
+  WellTails d no_tails = Unit {0}
+  WellTails d (tail s rest) = WellTail d s × WellTails d rest
 
-  pub WellStep : ℕ → StepTree → Type 0
-  WellStep d (apply b o) = WellOperand d o
-  WellStep d (matches atoms) = WellList WellAtom atoms
-  WellStep d (matches_not atoms) = WellList WellAtom atoms
+  pub WellTail : ℕ → TailTree → Type 0
+  WellTail d (apply b o) = WellOperand d o
+  WellTail d (matches atoms) = WellList WellAtom atoms
+  WellTail d (matches_not atoms) = WellList WellAtom atoms
 
   pub WellOperand : ℕ → OperandTree → Type 0
   WellOperand d (operand signs p) = WellPrimary d p

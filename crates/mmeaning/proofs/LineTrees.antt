@@ -2,20 +2,20 @@
 -- Trees of lines, written shortly: for examples of lines whose text takes long to read by `simp`.
 use Rattle.std.proofs.Common.{ℕ, List, [], ◌∷◌, Some, None}
 use Rattle.mspec.specs.Act.{Text}
-use Rattle.mgrammar.specs.Grammar.{ExprTree, expr, no_steps, step, BinaryTree, apply, OperandTree, operand, PrimaryTree, minus, ReferenceTree, local, no_exprs, variable, one, KeywordTree, ArgTree, assign, CommandTree, SpacedTree, LineTree}
+use Rattle.mgrammar.specs.Grammar.{ExprTree, expr, no_tails, tail, BinaryTree, apply, OperandTree, operand, PrimaryTree, minus, ReferenceTree, local, no_exprs, variable, one, KeywordTree, ArgTree, assign, CommandTree, SpacedTree, LineTree}
 
 abbrev pub plain : PrimaryTree → OperandTree
 plain p = operand [] p
 
 abbrev pub only : PrimaryTree → ExprTree
-only p = expr (plain p) no_steps
+only p = expr (plain p) no_tails
 
 abbrev pub negative : PrimaryTree → ExprTree
-negative p = expr (operand (minus ∷ []) p) no_steps
+negative p = expr (operand (minus ∷ []) p) no_tails
 
 -- two operands with an operator between
 abbrev pub with_operator : PrimaryTree → BinaryTree → PrimaryTree → ExprTree
-with_operator p b q = expr (plain p) (step (apply b (plain q)) no_steps)
+with_operator p b q = expr (plain p) (tail (apply b (plain q)) no_tails)
 
 abbrev pub named : Text → ReferenceTree
 named name = local name no_exprs

@@ -10,7 +10,7 @@ use Rattle.mspec.specs.Number.{significant_digits}
 use Rattle.mspec.specs.NumberText.{numeric_value}
 use Rattle.mspec.specs.Interpretations.{truth_text}
 use Rattle.mgrammar.specs.Matching.{atom_of}
-use Rattle.mgrammar.specs.Grammar.{ExprTree, expr, StepsTree, no_steps, step, StepTree, apply, matches, matches_not, OperandTree, operand, PrimaryTree, number, text, special, reference, bracket, call, select, refer, ReferenceTree, local, global, naked, indirect, extended, special_of, ExprsTree, no_exprs, exprs, ChoicesTree, no_choices, choice}
+use Rattle.mgrammar.specs.Grammar.{ExprTree, expr, TailsTree, no_tails, tail, TailTree, apply, matches, matches_not, OperandTree, operand, PrimaryTree, number, text, special, reference, bracket, call, select, refer, ReferenceTree, local, global, naked, indirect, extended, special_of, ExprsTree, no_exprs, exprs, ChoicesTree, no_choices, choice}
 use Rattle.mgrammar.specs.Functions.{function_of}
 use Rattle.mgrammar.specs.IndirectTexts.{ref_at}
 use Rattle.mspec.specs.Code.{M4, Zdepth, Zsteps, Zsyntax}
@@ -60,23 +60,23 @@ abbrev mutual
   pub value : Inside → ExprTree → Act Text
   value i (expr first rest) = do
     x ← operand_value i first
-    steps_value i x rest
+    tails_value i x rest
 
   -- what is left of an expression, applied to the value so far
-  pub steps_value : Inside → Text → StepsTree → Act Text
-  steps_value i x no_steps = give x
-  steps_value i x (step s rest) = do
-    y ← step_value i x s
-    steps_value i y rest
+  pub tails_value : Inside → Text → TailsTree → Act Text
+  tails_value i x no_tails = give x
+  tails_value i x (tail s rest) = do
+    y ← tail_value i x s
+    tails_value i y rest
 
-  pub step_value : Inside → Text → StepTree → Act Text
-  step_value i x (apply b o) = do
+  pub tail_value : Inside → Text → TailTree → Act Text
+  tail_value i x (apply b o) = do
     y ← operand_value i o
     binary b x y
-  step_value i x (matches atoms) = do
+  tail_value i x (matches atoms) = do
     b ← matching (map atom_of atoms) x
     give (truth_text b)
-  step_value i x (matches_not atoms) = do
+  tail_value i x (matches_not atoms) = do
     b ← matching (map atom_of atoms) x
     give (truth_text (not b))
 

@@ -2,27 +2,27 @@
 -- What is an `@` with its operand and nothing more, by how many subscripts, signs and steps stand beside it.
 use Rattle.std.proofs.Common.{◌≡◌, ◌<◌, List, [], ◌∷◌, length, map, Some, None, Box, Vec, Global, refl, sym, ap, ◌∙◌, arith}
 use Rattle.mgrammar.specs.Grammar as grammar
-use Rattle.mgrammar.specs.Grammar.{ExprTree, StepTree, steps_of, OperandTree, PrimaryTree, ReferenceTree, exprs_of}
+use Rattle.mgrammar.specs.Grammar.{ExprTree, TailTree, tails_of, OperandTree, PrimaryTree, ReferenceTree, exprs_of}
 use Rattle.mgrammar.specs.WellFormed.{bare_reference, bare_primary, bare_expr}
 use Rattle.mtree.specs.declared.tree.Expr.{Expr}
-use Rattle.mtree.specs.declared.tree.Step.{Step}
+use Rattle.mtree.specs.declared.tree.Tail.{Tail}
 use Rattle.mtree.specs.declared.tree.Operand.{Operand}
 use Rattle.mtree.specs.declared.tree.Primary.{Primary}
 use Rattle.mtree.specs.declared.tree.Reference.TheVariants as reference
 use Rattle.mtree.specs.declared.tree.Sign.{Sign}
 use Rattle.mtree.specs.declared.tree.Primary.TheFolds.{fold_out-Expr, fold_out-Operand, fold-roll-Reference}
-use Rattle.mtree.specs.Tree.{ChoiceTree, expr_tree, step_tree, operand_tree, primary_tree, reference_tree, sign_tree, primary_layer, reference_layer, step_layer, choice_layer, expr_layer, operand_layer, referring_layer}
+use Rattle.mtree.specs.Tree.{ChoiceTree, expr_tree, tail_tree, operand_tree, primary_tree, reference_tree, sign_tree, primary_layer, reference_layer, tail_layer, choice_layer, expr_layer, operand_layer, referring_layer}
 
 -- ---- a level of a tree
 
-expr_is : (e : Expr) → expr_tree e ≡ grammar.expr (operand_tree e.first) (steps_of (map step_tree e.rest.items))
-expr_is = fold_out-Expr PrimaryTree ReferenceTree StepTree ChoiceTree ExprTree OperandTree PrimaryTree primary_layer reference_layer step_layer choice_layer expr_layer operand_layer referring_layer
+expr_is : (e : Expr) → expr_tree e ≡ grammar.expr (operand_tree e.first) (tails_of (map tail_tree e.rest.items))
+expr_is = fold_out-Expr PrimaryTree ReferenceTree TailTree ChoiceTree ExprTree OperandTree PrimaryTree primary_layer reference_layer tail_layer choice_layer expr_layer operand_layer referring_layer
 
 operand_is : (o : Operand) → operand_tree o ≡ grammar.operand (map sign_tree o.signs.items) (primary_tree o.primary)
-operand_is = fold_out-Operand PrimaryTree ReferenceTree StepTree ChoiceTree ExprTree OperandTree PrimaryTree primary_layer reference_layer step_layer choice_layer expr_layer operand_layer referring_layer
+operand_is = fold_out-Operand PrimaryTree ReferenceTree TailTree ChoiceTree ExprTree OperandTree PrimaryTree primary_layer reference_layer tail_layer choice_layer expr_layer operand_layer referring_layer
 
 indirect_is : (operand : Box Primary Global) (subscripts : Vec Expr Global) → reference_tree (reference.Indirect operand subscripts) ≡ grammar.indirect (primary_tree operand.value) (exprs_of (map expr_tree subscripts.items))
-indirect_is operand subscripts = ap reference_tree (sym (reference.rolls-Indirect operand subscripts)) ∙ fold-roll-Reference PrimaryTree ReferenceTree StepTree ChoiceTree ExprTree OperandTree PrimaryTree primary_layer reference_layer step_layer choice_layer expr_layer operand_layer referring_layer _
+indirect_is operand subscripts = ap reference_tree (sym (reference.rolls-Indirect operand subscripts)) ∙ fold-roll-Reference PrimaryTree ReferenceTree TailTree ChoiceTree ExprTree OperandTree PrimaryTree primary_layer reference_layer tail_layer choice_layer expr_layer operand_layer referring_layer _
 
 -- ---- variables
 
@@ -43,27 +43,27 @@ without_subscripts operand subscripts none = rw (indirect_is operand subscripts)
 
 -- ---- expressions
 
-steps_some : (o : OperandTree) (ss : List Step) → 0 < length ss → bare_expr (grammar.expr o (steps_of (map step_tree ss))) ≡ None
-steps_some o [] some = absurd (omega arith)
-steps_some o (s ∷ ss) some = refl
+tails_some : (o : OperandTree) (ss : List Tail) → 0 < length ss → bare_expr (grammar.expr o (tails_of (map tail_tree ss))) ≡ None
+tails_some o [] some = absurd (omega arith)
+tails_some o (s ∷ ss) some = refl
 
-signs_some : (signs : List Sign) (p : PrimaryTree) (ss : List Step) → 0 < length signs → bare_expr (grammar.expr (grammar.operand (map sign_tree signs) p) (steps_of (map step_tree ss))) ≡ None
+signs_some : (signs : List Sign) (p : PrimaryTree) (ss : List Tail) → 0 < length signs → bare_expr (grammar.expr (grammar.operand (map sign_tree signs) p) (tails_of (map tail_tree ss))) ≡ None
 signs_some [] p ss some = absurd (omega arith)
 signs_some (g ∷ signs) p [] some = refl
 signs_some (g ∷ signs) p (s ∷ ss) some = refl
 
-primary_alone : (signs : List Sign) (p : PrimaryTree) (ss : List Step) → length signs ≡ 0 → length ss ≡ 0
-    → bare_expr (grammar.expr (grammar.operand (map sign_tree signs) p) (steps_of (map step_tree ss))) ≡ bare_primary p
-primary_alone [] p [] none no_steps = refl
-primary_alone [] p (s ∷ ss) none no_steps = absurd (omega arith)
-primary_alone (g ∷ signs) p ss none no_steps = absurd (omega arith)
+primary_alone : (signs : List Sign) (p : PrimaryTree) (ss : List Tail) → length signs ≡ 0 → length ss ≡ 0
+    → bare_expr (grammar.expr (grammar.operand (map sign_tree signs) p) (tails_of (map tail_tree ss))) ≡ bare_primary p
+primary_alone [] p [] none no_tails = refl
+primary_alone [] p (s ∷ ss) none no_tails = absurd (omega arith)
+primary_alone (g ∷ signs) p ss none no_tails = absurd (omega arith)
 
-pub with_steps : (e : Expr) → 0 < length e.rest.items → bare_expr (expr_tree e) ≡ None
-with_steps e some = rw (expr_is e) (steps_some (operand_tree e.first) e.rest.items some)
+pub with_tails : (e : Expr) → 0 < length e.rest.items → bare_expr (expr_tree e) ≡ None
+with_tails e some = rw (expr_is e) (tails_some (operand_tree e.first) e.rest.items some)
 
 pub with_signs : (e : Expr) → 0 < length e.first.signs.items → bare_expr (expr_tree e) ≡ None
 with_signs e some = rw (expr_is e, operand_is e.first) (signs_some e.first.signs.items (primary_tree e.first.primary) e.rest.items some)
 
 pub without_both : (e : Expr) → length e.first.signs.items ≡ 0 → length e.rest.items ≡ 0 → bare_expr (expr_tree e) ≡ bare_primary (primary_tree e.first.primary)
-without_both e no_signs no_steps =
-    rw (expr_is e, operand_is e.first) (primary_alone e.first.signs.items (primary_tree e.first.primary) e.rest.items no_signs no_steps)
+without_both e no_signs no_tails =
+    rw (expr_is e, operand_is e.first) (primary_alone e.first.signs.items (primary_tree e.first.primary) e.rest.items no_signs no_tails)

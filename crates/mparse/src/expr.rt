@@ -2,8 +2,8 @@
 // Expressions.
 ghost use Rattle.std.specs.Prelude.{◌≡◌, ◌<◌, length, map, option_map};
 ghost use Rattle.mgrammar.specs.Grammar.{exprs_of, choices_of};
-ghost use Rattle.mgrammar.specs.Reading.{past, with_front, many, after_comma, list_at, subscripts_with, attached_at, attached_with, indirect_with, local_by, extended_with, owned_by, reference_with, bracket_with, choice_with, select_with, call_with, refer_with, dollar_with, primary_with, operand_with, step_by, step_with, expr_with, readers_at, inner_at};
-ghost use Rattle.mtree.specs.Tree.{expr_tree, operand_tree, primary_tree, reference_tree, step_tree, choice_tree};
+ghost use Rattle.mgrammar.specs.Reading.{past, with_front, many, after_comma, list_at, subscripts_with, attached_at, attached_with, indirect_with, local_by, extended_with, owned_by, reference_with, bracket_with, choice_with, select_with, call_with, refer_with, dollar_with, primary_with, operand_with, tail_by, tail_with, expr_with, readers_at, inner_at};
+ghost use Rattle.mtree.specs.Tree.{expr_tree, operand_tree, primary_tree, reference_tree, tail_tree, choice_tree};
 ghost use Rattle.mscan.specs.Gives.{Gives};
 ghost use Rattle.mscan.specs.Operators.{operator_tree};
 
@@ -14,7 +14,7 @@ use mscan::{
     text_after,
 };
 use mtree::{
-    Choice, Expr, FunctionWord, Literal, Operand, Primary, Reference, Referring, Step, ValueWord,
+    Choice, Expr, FunctionWord, Literal, Operand, Primary, Reference, Referring, Tail, ValueWord,
     VariableWord, special_of,
 };
 use std::alloc::Global;
@@ -29,61 +29,61 @@ pub fn expr(alloc: Global, bytes: &[u8], depth: u32) -> Result<(Expr, &[u8]), Pa
     ensures { Gives (λ x. (expr_tree x.0, x.1.now)) result (expr_with (readers_at depth) bytes.now) }
 {
     let (first, rest) = operand(alloc, bytes, depth)?;
-    let (rest, after) = steps(alloc, rest, depth)?;
+    let (rest, after) = tails(alloc, rest, depth)?;
     Ok((Expr { first, rest }, after))
 }
 
 #[cycle(expr)]
-fn steps(alloc: Global, bytes: &[u8], depth: u32) -> Result<(Vec<Step>, &[u8]), ParseFault>
-    ensures { Gives (λ x. (map step_tree x.0.items, x.1.now)) result (many (step_with (readers_at depth)) (length bytes.now) bytes.now) }
+fn tails(alloc: Global, bytes: &[u8], depth: u32) -> Result<(Vec<Tail>, &[u8]), ParseFault>
+    ensures { Gives (λ x. (map tail_tree x.0.items, x.1.now)) result (many (tail_with (readers_at depth)) (length bytes.now) bytes.now) }
 {
-    let mut steps = Vec::new(alloc);
+    let mut tails = Vec::new(alloc);
     let mut rest = bytes;
     for _ in 0..bytes.len() {
-        let Some((step, after)) = step(alloc, rest, depth)? else {
+        let Some((tail, after)) = tail(alloc, rest, depth)? else {
             break;
         };
-        steps.push(step)?;
+        tails.push(tail)?;
         rest = after;
     }
-    Ok((steps, rest))
+    Ok((tails, rest))
 }
 
 // The next step, where an operator begins.
 #[cycle(expr)]
-#[tactic(auto, unfolding(mgrammar::specs::Reading::step_with))]
-fn step(alloc: Global, bytes: &[u8], depth: u32) -> Result<Option<(Step, &[u8])>, ParseFault>
-    ensures { Gives (λ o. option_map (λ x. (step_tree x.0, x.1.now)) o) result (step_with (readers_at depth) bytes.now) }
+#[tactic(auto, unfolding(mgrammar::specs::Reading::tail_with))]
+fn tail(alloc: Global, bytes: &[u8], depth: u32) -> Result<Option<(Tail, &[u8])>, ParseFault>
+    ensures { Gives (λ o. option_map (λ x. (tail_tree x.0, x.1.now)) o) result (tail_with (readers_at depth) bytes.now) }
 {
     let Some((operator, rest)) = next_operator(bytes) else {
         return Ok(None);
     };
-    Ok(Some(step_by(alloc, operator, rest, depth)?))
+    Ok(Some(tail_by(alloc, operator, rest, depth)?))
 }
 
 // The step of this operator.
 #[cycle(expr)]
-#[tactic(auto, unfolding(mgrammar::specs::Reading::step_by))]
-fn step_by(
+#[tactic(auto, unfolding(mgrammar::specs::Reading::tail_by))]
+fn tail_by(
     alloc: Global,
     operator: Operator,
     bytes: &[u8],
     depth: u32,
-) -> Result<(Step, &[u8]), ParseFault>
-    ensures { Gives (λ x. (step_tree x.0, x.1.now)) result (step_by (readers_at depth) (operator_tree operator) bytes.now) }
+) -> Result<(Tail, &[u8]), ParseFault>
+    ensures { Gives (λ x. (tail_tree x.0, x.1.now)) result (tail_by (readers_at depth) (operator_tree operator) bytes.now) }
 {
     match operator {
         Operator::Between(binary) => {
             let (operand, rest) = operand(alloc, bytes, depth)?;
-            Ok((Step::Apply(binary, operand), rest))
+            Ok((Tail::Apply(binary, operand), rest))
         }
         Operator::Match => {
             let (atoms, rest) = pattern(alloc, bytes)?;
-            Ok((Step::Matches(atoms), rest))
+            Ok((Tail::Matches(atoms), rest))
         }
         Operator::MatchNot => {
             let (atoms, rest) = pattern(alloc, bytes)?;
-            Ok((Step::MatchesNot(atoms), rest))
+            Ok((Tail::MatchesNot(atoms), rest))
         }
     }
 }

@@ -3,7 +3,7 @@
 pub use Rattle.mtree.specs.Functions.{value_function_tree, variable_function_tree, function_tree}
 use Rattle.std.specs.Prelude.{Option, Box, map, option_map}
 use Rattle.mgrammar.specs.Grammar as grammar
-use Rattle.mgrammar.specs.Grammar.{SignTree, TruthTree, BinaryTree, KeywordTree, SpecialTree, CountTree, RepeatedTree, AtomTree, ExprTree, StepTree, steps_of, exprs_of, choices_of, OperandTree, PrimaryTree, ReferenceTree, TargetTree, DestinationTree, ParameterTree, EntryTree, LockKindTree, LockedTree, ArgTree, CommandTree, SpacedTree, LineTree}
+use Rattle.mgrammar.specs.Grammar.{SignTree, TruthTree, BinaryTree, KeywordTree, SpecialTree, CountTree, RepeatedTree, AtomTree, ExprTree, TailTree, tails_of, exprs_of, choices_of, OperandTree, PrimaryTree, ReferenceTree, TargetTree, DestinationTree, ParameterTree, EntryTree, LockKindTree, LockedTree, ArgTree, CommandTree, SpacedTree, LineTree}
 use Rattle.mgrammar.specs.Commands.{form_of}
 use Rattle.mgrammar.specs.RoutineLine as routine
 use Rattle.mgrammar.specs.RoutineLine.{BodyTree, RoutineLineTree}
@@ -22,13 +22,13 @@ use Rattle.mtree.specs.declared.tree.Repeated.{Repeated}
 use Rattle.mtree.specs.declared.tree.Repeated.TheVariants as repeated
 use Rattle.mtree.specs.declared.tree.Atom.{Atom}
 use Rattle.mtree.specs.declared.tree.Expr.{Expr, fold-Expr}
-use Rattle.mtree.specs.declared.tree.Step.{Step, fold-Step}
+use Rattle.mtree.specs.declared.tree.Tail.{Tail, fold-Tail}
 use Rattle.mtree.specs.declared.tree.Operand.{Operand, fold-Operand}
 use Rattle.mtree.specs.declared.tree.Primary.{Primary, fold-Primary}
 use Rattle.mtree.specs.declared.tree.Choice.{Choice, fold-Choice}
 use Rattle.mtree.specs.declared.tree.Reference.{Reference, fold-Reference}
 use Rattle.mtree.specs.declared.tree.Referring.{Referring, fold-Referring}
-use Rattle.mtree.specs.declared.tree.Primary.TheOpen.{Primary-F, Expr-F, Operand-F, Step-F, Choice-F, Reference-F, Referring-F}
+use Rattle.mtree.specs.declared.tree.Primary.TheOpen.{Primary-F, Expr-F, Operand-F, Tail-F, Choice-F, Reference-F, Referring-F}
 use Rattle.mtree.specs.declared.tree.PieceTarget.{PieceTarget}
 use Rattle.mtree.specs.declared.tree.Target.{Target}
 use Rattle.mtree.specs.declared.tree.Target.TheVariants as target
@@ -110,18 +110,18 @@ abbrev pub ChoiceTree : Type 0
 ChoiceTree = ExprTree × ExprTree
 
 -- one level of a tree, with what each part stands for in its place
-abbrev pub expr_layer : Expr-F PrimaryTree ReferenceTree StepTree ChoiceTree ExprTree OperandTree PrimaryTree → ExprTree
-expr_layer e = grammar.expr e.first (steps_of e.rest.items)
+abbrev pub expr_layer : Expr-F PrimaryTree ReferenceTree TailTree ChoiceTree ExprTree OperandTree PrimaryTree → ExprTree
+expr_layer e = grammar.expr e.first (tails_of e.rest.items)
 
-abbrev pub step_layer : Step-F PrimaryTree ReferenceTree StepTree ChoiceTree ExprTree OperandTree PrimaryTree → StepTree
-step_layer (Step-F.Apply b o) = grammar.apply (binary_tree b) o
-step_layer (Step-F.Matches atoms) = grammar.matches (map atom_tree atoms.items)
-step_layer (Step-F.MatchesNot atoms) = grammar.matches_not (map atom_tree atoms.items)
+abbrev pub tail_layer : Tail-F PrimaryTree ReferenceTree TailTree ChoiceTree ExprTree OperandTree PrimaryTree → TailTree
+tail_layer (Tail-F.Apply b o) = grammar.apply (binary_tree b) o
+tail_layer (Tail-F.Matches atoms) = grammar.matches (map atom_tree atoms.items)
+tail_layer (Tail-F.MatchesNot atoms) = grammar.matches_not (map atom_tree atoms.items)
 
-abbrev pub operand_layer : Operand-F PrimaryTree ReferenceTree StepTree ChoiceTree ExprTree OperandTree PrimaryTree → OperandTree
+abbrev pub operand_layer : Operand-F PrimaryTree ReferenceTree TailTree ChoiceTree ExprTree OperandTree PrimaryTree → OperandTree
 operand_layer o = grammar.operand (map sign_tree o.signs.items) o.primary
 
-abbrev pub primary_layer : Primary-F PrimaryTree ReferenceTree StepTree ChoiceTree ExprTree OperandTree PrimaryTree → PrimaryTree
+abbrev pub primary_layer : Primary-F PrimaryTree ReferenceTree TailTree ChoiceTree ExprTree OperandTree PrimaryTree → PrimaryTree
 primary_layer (Primary-F.Number literal) = grammar.number literal
 primary_layer (Primary-F.Text t) = grammar.text t
 primary_layer (Primary-F.Special word) = grammar.special word
@@ -131,39 +131,39 @@ primary_layer (Primary-F.Call word args) = grammar.call word (exprs_of args.item
 primary_layer (Primary-F.Select word choices) = grammar.select word (choices_of choices.items)
 primary_layer (Primary-F.Refer r) = r.value
 
-abbrev pub reference_layer : Reference-F PrimaryTree ReferenceTree StepTree ChoiceTree ExprTree OperandTree PrimaryTree → ReferenceTree
+abbrev pub reference_layer : Reference-F PrimaryTree ReferenceTree TailTree ChoiceTree ExprTree OperandTree PrimaryTree → ReferenceTree
 reference_layer (Reference-F.Local name subscripts) = grammar.local name (exprs_of subscripts.items)
 reference_layer (Reference-F.Global name subscripts) = grammar.global name (exprs_of subscripts.items)
 reference_layer (Reference-F.Naked subscripts) = grammar.naked (exprs_of subscripts.items)
 reference_layer (Reference-F.Indirect p subscripts) = grammar.indirect p.value (exprs_of subscripts.items)
 reference_layer (Reference-F.Extended e name subscripts) = grammar.extended e.value name (exprs_of subscripts.items)
 
-abbrev pub referring_layer : Referring-F PrimaryTree ReferenceTree StepTree ChoiceTree ExprTree OperandTree PrimaryTree → PrimaryTree
+abbrev pub referring_layer : Referring-F PrimaryTree ReferenceTree TailTree ChoiceTree ExprTree OperandTree PrimaryTree → PrimaryTree
 referring_layer r = grammar.refer r.word r.reference (exprs_of r.more.items)
 
-abbrev pub choice_layer : Choice-F PrimaryTree ReferenceTree StepTree ChoiceTree ExprTree OperandTree PrimaryTree → ChoiceTree
+abbrev pub choice_layer : Choice-F PrimaryTree ReferenceTree TailTree ChoiceTree ExprTree OperandTree PrimaryTree → ChoiceTree
 choice_layer c = (c.condition, c.value)
 
 abbrev pub expr_tree : Expr → ExprTree
-expr_tree = fold-Expr PrimaryTree ReferenceTree StepTree ChoiceTree ExprTree OperandTree PrimaryTree primary_layer reference_layer step_layer choice_layer expr_layer operand_layer referring_layer
+expr_tree = fold-Expr PrimaryTree ReferenceTree TailTree ChoiceTree ExprTree OperandTree PrimaryTree primary_layer reference_layer tail_layer choice_layer expr_layer operand_layer referring_layer
 
-abbrev pub step_tree : Step → StepTree
-step_tree = fold-Step PrimaryTree ReferenceTree StepTree ChoiceTree ExprTree OperandTree PrimaryTree primary_layer reference_layer step_layer choice_layer expr_layer operand_layer referring_layer
+abbrev pub tail_tree : Tail → TailTree
+tail_tree = fold-Tail PrimaryTree ReferenceTree TailTree ChoiceTree ExprTree OperandTree PrimaryTree primary_layer reference_layer tail_layer choice_layer expr_layer operand_layer referring_layer
 
 abbrev pub operand_tree : Operand → OperandTree
-operand_tree = fold-Operand PrimaryTree ReferenceTree StepTree ChoiceTree ExprTree OperandTree PrimaryTree primary_layer reference_layer step_layer choice_layer expr_layer operand_layer referring_layer
+operand_tree = fold-Operand PrimaryTree ReferenceTree TailTree ChoiceTree ExprTree OperandTree PrimaryTree primary_layer reference_layer tail_layer choice_layer expr_layer operand_layer referring_layer
 
 abbrev pub primary_tree : Primary → PrimaryTree
-primary_tree = fold-Primary PrimaryTree ReferenceTree StepTree ChoiceTree ExprTree OperandTree PrimaryTree primary_layer reference_layer step_layer choice_layer expr_layer operand_layer referring_layer
+primary_tree = fold-Primary PrimaryTree ReferenceTree TailTree ChoiceTree ExprTree OperandTree PrimaryTree primary_layer reference_layer tail_layer choice_layer expr_layer operand_layer referring_layer
 
 abbrev pub choice_tree : Choice → ChoiceTree
-choice_tree = fold-Choice PrimaryTree ReferenceTree StepTree ChoiceTree ExprTree OperandTree PrimaryTree primary_layer reference_layer step_layer choice_layer expr_layer operand_layer referring_layer
+choice_tree = fold-Choice PrimaryTree ReferenceTree TailTree ChoiceTree ExprTree OperandTree PrimaryTree primary_layer reference_layer tail_layer choice_layer expr_layer operand_layer referring_layer
 
 abbrev pub reference_tree : Reference → ReferenceTree
-reference_tree = fold-Reference PrimaryTree ReferenceTree StepTree ChoiceTree ExprTree OperandTree PrimaryTree primary_layer reference_layer step_layer choice_layer expr_layer operand_layer referring_layer
+reference_tree = fold-Reference PrimaryTree ReferenceTree TailTree ChoiceTree ExprTree OperandTree PrimaryTree primary_layer reference_layer tail_layer choice_layer expr_layer operand_layer referring_layer
 
 abbrev pub referring_tree : Referring → PrimaryTree
-referring_tree = fold-Referring PrimaryTree ReferenceTree StepTree ChoiceTree ExprTree OperandTree PrimaryTree primary_layer reference_layer step_layer choice_layer expr_layer operand_layer referring_layer
+referring_tree = fold-Referring PrimaryTree ReferenceTree TailTree ChoiceTree ExprTree OperandTree PrimaryTree primary_layer reference_layer tail_layer choice_layer expr_layer operand_layer referring_layer
 
 abbrev pub piece_tree : PieceTarget → TargetTree
 piece_tree p = grammar.piece p.word (reference_tree p.reference) (expr_tree p.delimiter) (option_map expr_tree p.place)

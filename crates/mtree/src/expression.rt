@@ -1,14 +1,14 @@
 // SPDX-License-Identifier: Apache-2.0
 // The text of an expression.
 ghost use Rattle.std.specs.Prelude.{◌≡◌, ◌++◌, ◌<◌, ◌∷◌, [], List, ℕ, OnOk, map};
-ghost use Rattle.mgrammar.specs.Grammar.{sign_char, spell_truth, spell_binary, spell_signs, spell_behind, spell_repeated, spell_atom, spell_atoms, spell_expr, steps_of, exprs_of, choices_of, spell_steps, spell_step, spell_operand, spell_primary, spell_reference, spell_subscripts, spell_attached, spell_exprs, spell_more_exprs, spell_choices};
-ghost use Rattle.mtree.specs.Tree.{sign_tree, truth_tree, binary_tree, repeated_tree, atom_tree, expr_tree, step_tree, operand_tree, primary_tree, reference_tree, referring_tree, choice_tree};
+ghost use Rattle.mgrammar.specs.Grammar.{sign_char, spell_truth, spell_binary, spell_signs, spell_behind, spell_repeated, spell_atom, spell_atoms, spell_expr, tails_of, exprs_of, choices_of, spell_tails, spell_tail, spell_operand, spell_primary, spell_reference, spell_subscripts, spell_attached, spell_exprs, spell_more_exprs, spell_choices};
+ghost use Rattle.mtree.specs.Tree.{sign_tree, truth_tree, binary_tree, repeated_tree, atom_tree, expr_tree, tail_tree, operand_tree, primary_tree, reference_tree, referring_tree, choice_tree};
 
 use crate::function_word::ValueWord;
 use crate::list::{Listed, put_list};
 use crate::pieces::{put_string, put_text};
 use crate::tree::{
-    Atom, Binary, Choice, Expr, Operand, Primary, Reference, Referring, Repeated, Sign, Step, Truth,
+    Atom, Binary, Choice, Expr, Operand, Primary, Reference, Referring, Repeated, Sign, Tail, Truth,
 };
 use mnum::Bytes7;
 use std::alloc::AllocError;
@@ -111,33 +111,33 @@ pub fn put_expr(out: &mut Bytes7, expr: &Expr) -> Result<(), AllocError>
     ensures { OnOk result (out.new ≡ out.old ++ spell_expr (expr_tree expr.now)) }
 {
     put_operand(out, &expr.first)?;
-    put_steps(out, &expr.rest)
+    put_tails(out, &expr.rest)
 }
 
 #[cycle(expr)]
-fn put_steps(out: &mut Bytes7, steps: &[Step]) -> Result<(), AllocError>
-    ensures { OnOk result (out.new ≡ out.old ++ spell_steps (steps_of (map step_tree steps.now))) }
+fn put_tails(out: &mut Bytes7, tails: &[Tail]) -> Result<(), AllocError>
+    ensures { OnOk result (out.new ≡ out.old ++ spell_tails (tails_of (map tail_tree tails.now))) }
 {
-    for step in steps {
-        put_step(out, step)?;
+    for tail in tails {
+        put_tail(out, tail)?;
     }
     Ok(())
 }
 
 #[cycle(expr)]
-fn put_step(out: &mut Bytes7, step: &Step) -> Result<(), AllocError>
-    ensures { OnOk result (out.new ≡ out.old ++ spell_step (step_tree step.now)) }
+fn put_tail(out: &mut Bytes7, tail: &Tail) -> Result<(), AllocError>
+    ensures { OnOk result (out.new ≡ out.old ++ spell_tail (tail_tree tail.now)) }
 {
-    match step {
-        Step::Apply(operator, operand) => {
+    match tail {
+        Tail::Apply(operator, operand) => {
             put_binary(out, *operator)?;
             put_operand(out, operand)
         }
-        Step::Matches(atoms) => {
+        Tail::Matches(atoms) => {
             out.push(b'?')?;
             put_atoms(out, atoms)
         }
-        Step::MatchesNot(atoms) => {
+        Tail::MatchesNot(atoms) => {
             out.push(b'\'')?;
             out.push(b'?')?;
             put_atoms(out, atoms)

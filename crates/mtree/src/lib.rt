@@ -23,7 +23,7 @@ pub use literal::Literal;
 pub use tree::{
     Arg, Atom, Binary, Body, Choice, Command, Count, Destination, Entry, Expr, Function, Keyword,
     Line, LockKind, Locked, Operand, Parameter, PieceTarget, Primary, Reference, Referring,
-    Repeated, RoutineLine, Sign, Spaced, SpecialVariable, Step, Target, Truth, ValueFunction,
+    Repeated, RoutineLine, Sign, Spaced, SpecialVariable, Tail, Target, Truth, ValueFunction,
     VariableFunction,
 };
 pub use words::{function_of, is_piece, keyword_of, special_of};

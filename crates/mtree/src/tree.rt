@@ -82,13 +82,13 @@ pub struct Atom {
 #[cycle(tree)]
 pub struct Expr {
     pub first: Operand,
-    pub rest: Vec<Step>,
+    pub rest: Vec<Tail>,
 }
 
 /// What is done with the value to the left.
 #[derive(Drop)]
 #[cycle(tree)]
-pub enum Step {
+pub enum Tail {
     /// An operator, and the operand to its right.
     Apply(Binary, Operand),
     /// `?`, and a pattern.

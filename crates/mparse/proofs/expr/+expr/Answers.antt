@@ -2,33 +2,33 @@
 use Rattle.std.proofs.Common.{◌≡◌, ◌++◌, ◌∷◌, [], length, map, refl, sym, rules}
 use Rattle.std.proofs.lemmas.Result.{err_from_is_err_and}
 use Rattle.std.proofs.lemmas.List.{map_push}
-use Rattle.mtree.specs.Tree.{expr_tree, step_tree, choice_tree}
-use Rattle.mgrammar.specs.Reading.{with_front, many, after_comma, list_at, choice_with, step_with, readers_at, inner_at}
+use Rattle.mtree.specs.Tree.{expr_tree, tail_tree, choice_tree}
+use Rattle.mgrammar.specs.Reading.{with_front, many, after_comma, list_at, choice_with, tail_with, readers_at, inner_at}
 use Rattle.mgrammar.proofs.ReadingLoops.{goes_on, stops, is_done, list_begins, comma_goes_on, comma_stops}
 use Rattle.mscan.proofs.Faults.{fails, list_fails, comma_fails}
 use Rattle.mparse.proofs.Lists.{list_goes_on}
 use Rattle.mparse.proofs.expr.+expr.Goals as goal
-use Rattle.mparse.proofs.expr.+expr.Goals.{steps-else-loop-test, steps-then-loop-test+in_ok-step+in_default, more_exprs-else-loop-test, more_exprs-then-loop-test+in_default, choices-else-loop-test, choices-then-loop-test+in_default}
+use Rattle.mparse.proofs.expr.+expr.Goals.{tails-else-loop-test, tails-then-loop-test+in_ok-tail+in_default, more_exprs-else-loop-test, more_exprs-then-loop-test+in_default, choices-else-loop-test, choices-then-loop-test+in_default}
 
-pub steps-returns-in_err-step : goal.steps-returns-in_err-step
-steps-returns-in_err-step t c =
+pub tails-returns-in_err-tail : goal.tails-returns-in_err-tail
+tails-returns-in_err-tail t c =
     let p = err_from_is_err_and c.from_residual.result c.from_residual.ensures.1 in
-    rw (p.1, p.2) (fails (step_with (readers_at c.args.depth)) c.in_err-step.field-0.0 (map step_tree c.loop.steps.items) (length c.args.bytes.now) c.loop.counter c.loop.rest.now
-    (many (step_with (readers_at c.args.depth)) (length c.args.bytes.now) c.args.bytes.now) c.loop-test.true c.in_err-step.ensures c.loop.invariant)
+    rw (p.1, p.2) (fails (tail_with (readers_at c.args.depth)) c.in_err-tail.field-0.0 (map tail_tree c.loop.tails.items) (length c.args.bytes.now) c.loop.counter c.loop.rest.now
+    (many (tail_with (readers_at c.args.depth)) (length c.args.bytes.now) c.args.bytes.now) c.loop-test.true c.in_err-tail.ensures c.loop.invariant)
 
-pub steps-loop-preserved : goal.steps-loop-preserved
-steps-loop-preserved t c =
-    let e : map step_tree c.push.new.self.items ≡ map step_tree c.loop.steps.items ++ step_tree c.in-Some.step ∷ [] = rw c.in_ok-push.ensures.items (map_push _ c.loop.steps.items c.in-Some.step) in
-    rw e (goes_on (step_with (readers_at c.args.depth)) (map step_tree c.loop.steps.items) (length c.args.bytes.now) c.loop.counter c.loop.rest.now (step_tree c.in-Some.step) c.in-Some.after.now
-    (many (step_with (readers_at c.args.depth)) (length c.args.bytes.now) c.args.bytes.now) c.loop-test.true (rw c.in-Some.is at c.in_ok-step.ensures) c.loop.invariant)
+pub tails-loop-preserved : goal.tails-loop-preserved
+tails-loop-preserved t c =
+    let e : map tail_tree c.push.new.self.items ≡ map tail_tree c.loop.tails.items ++ tail_tree c.in-Some.tail ∷ [] = rw c.in_ok-push.ensures.items (map_push _ c.loop.tails.items c.in-Some.tail) in
+    rw e (goes_on (tail_with (readers_at c.args.depth)) (map tail_tree c.loop.tails.items) (length c.args.bytes.now) c.loop.counter c.loop.rest.now (tail_tree c.in-Some.tail) c.in-Some.after.now
+    (many (tail_with (readers_at c.args.depth)) (length c.args.bytes.now) c.args.bytes.now) c.loop-test.true (rw c.in-Some.is at c.in_ok-tail.ensures) c.loop.invariant)
 
-pub steps-returns : goal.steps-returns
-steps-returns t c =
+pub tails-returns : goal.tails-returns
+tails-returns t c =
     elim c.loop-test.branch [
-      | steps-else-loop-test w ↦ is_done (step_with (readers_at c.args.depth)) (map step_tree c.loop.steps.items) (length c.args.bytes.now) c.loop.counter c.loop.rest.now
-          (many (step_with (readers_at c.args.depth)) (length c.args.bytes.now) c.args.bytes.now) w.loop-test.false c.loop.invariant
-      | steps-then-loop-test+in_ok-step+in_default w ↦ stops (step_with (readers_at c.args.depth)) (map step_tree c.loop.steps.items) (length c.args.bytes.now) c.loop.counter c.loop.rest.now
-          (many (step_with (readers_at c.args.depth)) (length c.args.bytes.now) c.args.bytes.now) w.loop-test.true (search rules) c.loop.invariant
+      | tails-else-loop-test w ↦ is_done (tail_with (readers_at c.args.depth)) (map tail_tree c.loop.tails.items) (length c.args.bytes.now) c.loop.counter c.loop.rest.now
+          (many (tail_with (readers_at c.args.depth)) (length c.args.bytes.now) c.args.bytes.now) w.loop-test.false c.loop.invariant
+      | tails-then-loop-test+in_ok-tail+in_default w ↦ stops (tail_with (readers_at c.args.depth)) (map tail_tree c.loop.tails.items) (length c.args.bytes.now) c.loop.counter c.loop.rest.now
+          (many (tail_with (readers_at c.args.depth)) (length c.args.bytes.now) c.args.bytes.now) w.loop-test.true (search rules) c.loop.invariant
     ]
 
 pub exprs-returns-in_err-first : goal.exprs-returns-in_err-first

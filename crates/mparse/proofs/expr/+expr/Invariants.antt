@@ -1,7 +1,7 @@
 -- SPDX-License-Identifier: Apache-2.0
 use Rattle.std.proofs.Common.{◌≡◌, ◌+◌, ◌*◌, ◌-◌, length, map}
-use Rattle.mgrammar.specs.Reading.{with_front, many, after_comma, list_at, choice_with, step_with, readers_at, inner_at}
-use Rattle.mtree.specs.Tree.{expr_tree, step_tree, choice_tree}
+use Rattle.mgrammar.specs.Reading.{with_front, many, after_comma, list_at, choice_with, tail_with, readers_at, inner_at}
+use Rattle.mtree.specs.Tree.{expr_tree, tail_tree, choice_tree}
 use Rattle.mparse.proofs.expr.+expr.Given as goal
 
 -- Brackets fall in number at `inner`, `within` and `below` alone; each other call leads to a lower rank.
@@ -69,21 +69,21 @@ decreases-primary l = 16 * l.depth + 8
 abbrev pub decreases-operand : goal.decreases-operand
 decreases-operand l = 16 * l.depth + 9
 
-abbrev pub decreases-step_by : goal.decreases-step_by
-decreases-step_by l = 16 * l.depth + 10
+abbrev pub decreases-tail_by : goal.decreases-tail_by
+decreases-tail_by l = 16 * l.depth + 10
 
-abbrev pub decreases-step : goal.decreases-step
-decreases-step l = 16 * l.depth + 11
+abbrev pub decreases-tail : goal.decreases-tail
+decreases-tail l = 16 * l.depth + 11
 
-abbrev pub decreases-steps : goal.decreases-steps
-decreases-steps l = 16 * l.depth + 12
+abbrev pub decreases-tails : goal.decreases-tails
+decreases-tails l = 16 * l.depth + 12
 
 abbrev pub decreases-expr : goal.decreases-expr
 decreases-expr l = 16 * l.depth + 13
 
-abbrev pub invariant-steps-loop : goal.invariant-steps-loop
-invariant-steps-loop l =
-    with_front (map step_tree l.steps.items) (many (step_with (readers_at l.depth)) (length l.bytes - l.counter) l.rest) ≡ many (step_with (readers_at l.depth)) (length l.bytes) l.bytes
+abbrev pub invariant-tails-loop : goal.invariant-tails-loop
+invariant-tails-loop l =
+    with_front (map tail_tree l.tails.items) (many (tail_with (readers_at l.depth)) (length l.bytes - l.counter) l.rest) ≡ many (tail_with (readers_at l.depth)) (length l.bytes) l.bytes
 
 abbrev pub invariant-more_exprs-loop : goal.invariant-more_exprs-loop
 invariant-more_exprs-loop l =

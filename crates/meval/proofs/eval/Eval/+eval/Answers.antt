@@ -17,7 +17,7 @@ use Rattle.meval.proofs.AtOnce.{node_evaluated, node_failed, ordered_next, order
 use Rattle.meval.proofs.Indirections.{not_free, is_free, evaluates_behind, evaluates_deep, evaluates_unnamed, evaluates_entry}
 use Rattle.meval.proofs.References.{as_evaluated, gives_named, node_of}
 use Rattle.meval.proofs.TreeViews.{expr_is, operand_is, number_is, text_is, special_is, reference_is, refer_is, referring_is, bracket_is, call_is, select_is, apply_is, matches_is, matches_not_is}
-use Rattle.meval.proofs.Trees.{charge_failed, from_step, from_end, next_value, value_failed, values_end, next_choice, is_chosen, not_chosen, none_chosen}
+use Rattle.meval.proofs.Trees.{charge_failed, from_tail, from_end, next_value, value_failed, values_end, next_choice, is_chosen, not_chosen, none_chosen}
 use Rattle.meval.proofs.eval.Eval.+eval.Goals as goal
 
 -- ---- operand
@@ -348,38 +348,38 @@ order_of_place-returns-clause-does g t c =
 
 -- ---- steps
 
-pub step-returns-in-Some-clause-does : goal.step-returns-in-Some-clause-does
-step-returns-in-Some-clause-does g t c =
+pub tail-returns-in-Some-clause-does : goal.tail-returns-in-Some-clause-does
+tail-returns-in-Some-clause-does g t c =
     let k = rw c.of_number.ensures at c.binary-in-Some.ensures.value in
     rw (c.in-Apply.is, apply_is c.in-Apply.operator c.in-Apply.operand) (evaluates_then _ c.in-Some.ensures.does (evaluates_yielded k))
 
-pub step-returns-in_err-right-in-None-clause-does : goal.step-returns-in_err-right-in-None-clause-does
-step-returns-in_err-right-in-None-clause-does g t c =
+pub tail-returns-in_err-right-in-None-clause-does : goal.tail-returns-in_err-right-in-None-clause-does
+tail-returns-in_err-right-in-None-clause-does g t c =
     let k = rw (c.in-None.ensures.none refl) at c.in_err-right-in-None.ensures.does in
     rw (c.in-Apply.is, apply_is c.in-Apply.operator c.in-Apply.operand) (evaluates_stopped _ k c.from_residual.ensures)
 
-pub step-returns-in_ok-right-in-None-clause-does : goal.step-returns-in_ok-right-in-None-clause-does
-step-returns-in_ok-right-in-None-clause-does g t c =
+pub tail-returns-in_ok-right-in-None-clause-does : goal.tail-returns-in_ok-right-in-None-clause-does
+tail-returns-in_ok-right-in-None-clause-does g t c =
     let k = rw (c.in-None.ensures.none refl) at c.in_ok-right-in-None.ensures.does in
     rw (c.in-Apply.is, apply_is c.in-Apply.operator c.in-Apply.operand) (evaluates_then _ k (evaluates_yielded c.binary-in-None.ensures.value))
 
-pub step-returns-in_err-matches-in-Matches-clause-does : goal.step-returns-in_err-matches-in-Matches-clause-does
-step-returns-in_err-matches-in-Matches-clause-does g t c =
+pub tail-returns-in_err-matches-in-Matches-clause-does : goal.tail-returns-in_err-matches-in-Matches-clause-does
+tail-returns-in_err-matches-in-Matches-clause-does g t c =
     let k = rw c.deref.ensures.value at c.in_err-matches-in-Matches.ensures.value in
     rw (c.in-Matches.is, matches_is c.in-Matches.atoms) (evaluates_stopped _ (evaluates_yielded k) c.from_residual-in_err-matches-in-Matches.ensures)
 
-pub step-returns-in_ok-matches-in-Matches-clause-does : goal.step-returns-in_ok-matches-in-Matches-clause-does
-step-returns-in_ok-matches-in-Matches-clause-does g t c =
+pub tail-returns-in_ok-matches-in-Matches-clause-does : goal.tail-returns-in_ok-matches-in-Matches-clause-does
+tail-returns-in_ok-matches-in-Matches-clause-does g t c =
     let k = rw c.deref.ensures.value at c.in_ok-matches-in-Matches.ensures.value in
     rw (c.in-Matches.is, matches_is c.in-Matches.atoms) (evaluates_then _ (evaluates_yielded k) (evaluates_gives _ _ _ c.of_truth.ensures))
 
-pub step-returns-in_err-matches-in-MatchesNot-clause-does : goal.step-returns-in_err-matches-in-MatchesNot-clause-does
-step-returns-in_err-matches-in-MatchesNot-clause-does g t c =
+pub tail-returns-in_err-matches-in-MatchesNot-clause-does : goal.tail-returns-in_err-matches-in-MatchesNot-clause-does
+tail-returns-in_err-matches-in-MatchesNot-clause-does g t c =
     let k = rw c.deref-in-MatchesNot.ensures.value at c.in_err-matches-in-MatchesNot.ensures.value in
     rw (c.in-MatchesNot.is, matches_not_is c.in-MatchesNot.atoms) (evaluates_stopped _ (evaluates_yielded k) c.from_residual-in_err-matches-in-MatchesNot.ensures)
 
-pub step-returns-in_ok-matches-in-MatchesNot-clause-does : goal.step-returns-in_ok-matches-in-MatchesNot-clause-does
-step-returns-in_ok-matches-in-MatchesNot-clause-does g t c =
+pub tail-returns-in_ok-matches-in-MatchesNot-clause-does : goal.tail-returns-in_ok-matches-in-MatchesNot-clause-does
+tail-returns-in_ok-matches-in-MatchesNot-clause-does g t c =
     let k = rw c.deref-in-MatchesNot.ensures.value at c.in_ok-matches-in-MatchesNot.ensures.value in
     rw (c.in-MatchesNot.is, matches_not_is c.in-MatchesNot.atoms) (evaluates_then _ (evaluates_yielded k) (evaluates_gives _ _ _ c.of_truth-in-MatchesNot.ensures))
 
@@ -392,14 +392,14 @@ value-returns-then-is_empty-clause-does g t c =
     let none : v.items ≡ [] = nil_from_length v.items (omega (arith, v.ok, zero)) in
     rw (expr_is c.args.e.now, none) (evaluates_whole _ c.operand.ensures.does)
 
-pub value-returns-in_err-stepped-in-Some-clause-does : goal.value-returns-in_err-stepped-in-Some-clause-does
-value-returns-in_err-stepped-in-Some-clause-does g t c =
-    let rest = rw (c.of_number-value.ensures, c.deref.ensures.value) at c.in_err-stepped-in-Some.ensures.does in
+pub value-returns-in_err-with_tails-in-Some-clause-does : goal.value-returns-in_err-with_tails-in-Some-clause-does
+value-returns-in_err-with_tails-in-Some-clause-does g t c =
+    let rest = rw (c.of_number-value.ensures, c.deref.ensures.value) at c.in_err-with_tails-in-Some.ensures.does in
     rw (residual_is _ _ c.from_residual.ensures, expr_is c.args.e.now) (evaluates_then _ c.in-Some.ensures.does (evaluates_refused _ rest))
 
-pub value-returns-in_ok-stepped-in-Some-clause-does : goal.value-returns-in_ok-stepped-in-Some-clause-does
-value-returns-in_ok-stepped-in-Some-clause-does g t c =
-    let rest = rw (c.of_number-value.ensures, c.deref.ensures.value) at c.in_ok-stepped-in-Some.ensures.does in
+pub value-returns-in_ok-with_tails-in-Some-clause-does : goal.value-returns-in_ok-with_tails-in-Some-clause-does
+value-returns-in_ok-with_tails-in-Some-clause-does g t c =
+    let rest = rw (c.of_number-value.ensures, c.deref.ensures.value) at c.in_ok-with_tails-in-Some.ensures.does in
     rw (expr_is c.args.e.now) (evaluates_then _ c.in-Some.ensures.does (evaluates_seen tt _ refl rest))
 
 pub value-returns-in_err-value-in-None-clause-does : goal.value-returns-in_err-value-in-None-clause-does
@@ -407,41 +407,41 @@ value-returns-in_err-value-in-None-clause-does g t c =
     let k = rw (c.in-None.ensures.none refl) at c.in_err-value-in-None.ensures.does in
     rw (expr_is c.args.e.now) (evaluates_stopped _ k c.from_residual-in_err-value-in-None.ensures)
 
-pub value-returns-in_err-stepped-in-None-clause-does : goal.value-returns-in_err-stepped-in-None-clause-does
-value-returns-in_err-stepped-in-None-clause-does g t c =
+pub value-returns-in_err-with_tails-in-None-clause-does : goal.value-returns-in_err-with_tails-in-None-clause-does
+value-returns-in_err-with_tails-in-None-clause-does g t c =
     let k = rw (c.in-None.ensures.none refl) at c.in_ok-value-in-None.ensures.does in
-    let rest = rw c.deref-in-None.ensures.value at c.in_err-stepped-in-None.ensures.does in
-    rw (residual_is _ _ c.from_residual-in_err-stepped-in-None.ensures, expr_is c.args.e.now) (evaluates_then _ k (evaluates_refused _ rest))
+    let rest = rw c.deref-in-None.ensures.value at c.in_err-with_tails-in-None.ensures.does in
+    rw (residual_is _ _ c.from_residual-in_err-with_tails-in-None.ensures, expr_is c.args.e.now) (evaluates_then _ k (evaluates_refused _ rest))
 
-pub value-returns-in_ok-stepped-in-None-clause-does : goal.value-returns-in_ok-stepped-in-None-clause-does
-value-returns-in_ok-stepped-in-None-clause-does g t c =
+pub value-returns-in_ok-with_tails-in-None-clause-does : goal.value-returns-in_ok-with_tails-in-None-clause-does
+value-returns-in_ok-with_tails-in-None-clause-does g t c =
     let k = rw (c.in-None.ensures.none refl) at c.in_ok-value-in-None.ensures.does in
-    let rest = rw c.deref-in-None.ensures.value at c.in_ok-stepped-in-None.ensures.does in
+    let rest = rw c.deref-in-None.ensures.value at c.in_ok-with_tails-in-None.ensures.does in
     rw (expr_is c.args.e.now) (evaluates_then _ k (evaluates_seen tt _ refl rest))
 
-pub stepped-loop-step-init : goal.stepped-loop-step-init
-stepped-loop-step-init g t c = record {
+pub with_tails-loop-tail-init : goal.with_tails-loop-tail-init
+with_tails-loop-tail-init g t c = record {
   loans = keeps_itself c.args.self.now;
   fewer = omega arith;
   leads = λ f r e k. k;
 }
 
-pub stepped-returns-in_err-step-clause-does : goal.stepped-returns-in_err-step-clause-does
-stepped-returns-in_err-step-clause-does g t c =
+pub with_tails-returns-in_err-tail-clause-does : goal.with_tails-returns-in_err-tail-clause-does
+with_tails-returns-in_err-tail-clause-does g t c =
     rw (residual_is _ _ c.from_residual.ensures)
-    (c.loop-step.invariant.leads _ _ _ (from_step _ c.args.steps.now c.loop-step.step-index c.step-item.result c.loop-step.value _ c.loop-step-test.true c.step-item.is (evaluates_failed _ c.in_err-step.ensures.does)))
+    (c.loop-tail.invariant.leads _ _ _ (from_tail _ c.args.tails.now c.loop-tail.tail-index c.tail-item.result c.loop-tail.value _ c.loop-tail-test.true c.tail-item.is (evaluates_failed _ c.in_err-tail.ensures.does)))
 
-pub stepped-loop-step-preserved : goal.stepped-loop-step-preserved
-stepped-loop-step-preserved g t c = record {
-  loans = keeps_on c.loop-step.invariant.loans c.in_ok-step.ensures.loans;
+pub with_tails-loop-tail-preserved : goal.with_tails-loop-tail-preserved
+with_tails-loop-tail-preserved g t c = record {
+  loans = keeps_on c.loop-tail.invariant.loans c.in_ok-tail.ensures.loans;
   fewer = omega arith;
   leads = λ f r e k.
-      c.loop-step.invariant.leads f r e
-      (from_step f c.args.steps.now c.loop-step.step-index c.step-item.result c.loop-step.value r c.loop-step-test.true c.step-item.is (evaluates_then _ c.in_ok-step.ensures.does k));
+      c.loop-tail.invariant.leads f r e
+      (from_tail f c.args.tails.now c.loop-tail.tail-index c.tail-item.result c.loop-tail.value r c.loop-tail-test.true c.tail-item.is (evaluates_then _ c.in_ok-tail.ensures.does k));
 }
 
-pub stepped-returns-clause-does : goal.stepped-returns-clause-does
-stepped-returns-clause-does g t c = c.loop-step.invariant.leads _ _ _ (from_end (λ (u : Unit {0}). c.loop-step.value) c.args.steps.now c.loop-step.step-index tt c.loop-step-test.false)
+pub with_tails-returns-clause-does : goal.with_tails-returns-clause-does
+with_tails-returns-clause-does g t c = c.loop-tail.invariant.leads _ _ _ (from_end (λ (u : Unit {0}). c.loop-tail.value) c.args.tails.now c.loop-tail.tail-index tt c.loop-tail-test.false)
 
 -- ---- arguments
 

@@ -2,8 +2,8 @@
 use Rattle.std.proofs.Common.{◌≤◌, ◌+◌, ◌*◌, [], map, drop, Result, List}
 use Rattle.mspec.specs.Act.{Text}
 use Rattle.mmeaning.specs.Expression as meaning
-use Rattle.mgrammar.specs.Grammar.{steps_of, exprs_of, choices_of}
-use Rattle.mtree.specs.Tree.{expr_tree, step_tree, choice_tree}
+use Rattle.mgrammar.specs.Grammar.{tails_of, exprs_of, choices_of}
+use Rattle.mtree.specs.Tree.{expr_tree, tail_tree, choice_tree}
 use Rattle.moperator.specs.declared.code.Code.{Code}
 use Rattle.meval.specs.declared.eval.Eval.{Eval}
 use Rattle.meval.specs.Evaluates.{Evaluates, KeepsEval}
@@ -20,11 +20,11 @@ decreases-operand g l = 16 * l.self.now.steps + 1
 abbrev pub decreases-named : goal.decreases-named
 decreases-named g l = 16 * l.self.now.steps + 1
 
-abbrev pub decreases-step : goal.decreases-step
-decreases-step g l = 16 * l.self.now.steps + 2
+abbrev pub decreases-tail : goal.decreases-tail
+decreases-tail g l = 16 * l.self.now.steps + 2
 
-abbrev pub decreases-stepped : goal.decreases-stepped
-decreases-stepped g l = 16 * l.self.now.steps + 3
+abbrev pub decreases-with_tails : goal.decreases-with_tails
+decreases-with_tails g l = 16 * l.self.now.steps + 3
 
 abbrev pub decreases-value : goal.decreases-value
 decreases-value g l = 16 * l.self.now.steps + 4
@@ -88,12 +88,12 @@ invariant-chosen-loop-choice g l = record {
       → Evaluates g.S.NodeStore (λ a. meaning.chosen a (choices_of (map choice_tree l.choices))) (λ (v : Text). v) l.fn.self r e;
 }
 
-abbrev pub invariant-stepped-loop-step : goal.invariant-stepped-loop-step
-invariant-stepped-loop-step g l = record {
+abbrev pub invariant-with_tails-loop-tail : goal.invariant-with_tails-loop-tail
+invariant-with_tails-loop-tail g l = record {
   loans : KeepsEval l.fn.self l.self;
   fewer : l.self.steps ≤ l.fn.self.steps;
-  leads : (f : Unit {0} → Text) (r : Result (Unit {0}) Code) (e : Eval _) → Evaluates g.S.NodeStore (λ a. meaning.steps_value a l.value (steps_of (map step_tree (drop l.step-index l.steps)))) f l.self r e
-      → Evaluates g.S.NodeStore (λ a. meaning.steps_value a l.fn.value (steps_of (map step_tree l.steps))) f l.fn.self r e;
+  leads : (f : Unit {0} → Text) (r : Result (Unit {0}) Code) (e : Eval _) → Evaluates g.S.NodeStore (λ a. meaning.tails_value a l.value (tails_of (map tail_tree (drop l.tail-index l.tails)))) f l.self r e
+      → Evaluates g.S.NodeStore (λ a. meaning.tails_value a l.fn.value (tails_of (map tail_tree l.tails))) f l.fn.self r e;
 }
 
 abbrev pub invariant-values-loop-e : goal.invariant-values-loop-e

@@ -4,7 +4,7 @@ use Rattle.mtree.specs.Tree.{arg_tree}
 use Rattle.mcommand.proofs.Calls.{keeps_itself}
 use Rattle.mexec.specs.Frames.{spot_of, rest_tree, args_before}
 use Rattle.mexec.proofs.Lines.{rest_passes, list_passes}
-use Rattle.mexec.proofs.line.step.Goals as goal
+use Rattle.mexec.proofs.line.run_frame.Goals as goal
 
 pub returns-in-GoOn-clause-does : goal.returns-in-GoOn-clause-does
 returns-in-GoOn-clause-does g c = rw (c.in-Rest.is, c.in-GoOn.is) c.next_command.ensures.does

@@ -7,7 +7,7 @@ use Rattle.mspec.proofs.ListPlaces.{next_item}
 use Rattle.mgrammar.specs.Grammar.{ExprTree, ArgTree, assign, breaks, shown, kill_one, kill_others, new_one, new_others, tested, loop, do_one, go_to, executed, locked, indirect_args}
 use Rattle.mmeaning.specs.Expression.{inside}
 use Rattle.mmeaning.specs.LineMeaning as meaning
-use Rattle.mmeaning.specs.LineMeaning.{Spot, Context, Go_on, after, argument, arguments, context, doing, executing, holds, inside_of}
+use Rattle.mmeaning.specs.LineMeaning.{Position, Context, Go_on, after, argument, arguments, context, doing, executing, holds, inside_of}
 use Rattle.mmeaning.specs.Frames.{View}
 use Rattle.mmeaning.proofs.Calls.{assoc, ended}
 use Rattle.mtree.specs.Tree.{arg_tree}
@@ -18,29 +18,29 @@ use Rattle.mcommand.specs.declared.parts.Parts.{Parts}
 use Rattle.mcommand.specs.Does.{DoesAt}
 use Rattle.mexec.specs.declared.arguments.Begun.{Begun}
 use Rattle.mexec.specs.declared.arguments.Begun.TheVariants as begun
-use Rattle.mexec.specs.declared.signal.Signal.{Signal}
-use Rattle.mexec.specs.declared.signal.Signal.TheVariants as signal
-use Rattle.mexec.specs.Frames.{Runs, signal_of}
+use Rattle.mexec.specs.declared.completion.Completion.{Completion}
+use Rattle.mexec.specs.declared.completion.Completion.TheVariants as completion
+use Rattle.mexec.specs.Frames.{Runs, completion_of}
 use Rattle.mexec.specs.Arguments.{Start, gave, into_lines, into_text, started, finished, start_of, given, where_applies}
 use Rattle.mexec.proofs.Calls.{at_then, at_failed, at_gives, runs_then, runs_stopped, runs_as}
 
 -- ---- acts
 
 module _ (x : Context) where
-  plain : (p : Act meaning.Signal) → ◌≡◌ {A = Act meaning.Signal} p (p >>= (λ s. give (gave s)) >>= finished x)
+  plain : (p : Act meaning.Completion) → ◌≡◌ {A = Act meaning.Completion} p (p >>= (λ s. give (gave s)) >>= finished x)
   plain p = sym (assoc p (λ s. give (gave s)) (finished x) ∙ ended p)
 
-  entered : (c : Option ExprTree) (st : Start) (p : Act meaning.Signal) → ◌≡◌ {A = Act meaning.Signal} p (finished x st)
-      → ◌≡◌ {A = Act meaning.Signal} (meaning.where_holds x c p) (holds (inside_of x) c >>= (λ b. give (cond b st (gave Go_on))) >>= finished x)
+  entered : (c : Option ExprTree) (st : Start) (p : Act meaning.Completion) → ◌≡◌ {A = Act meaning.Completion} p (finished x st)
+      → ◌≡◌ {A = Act meaning.Completion} (meaning.where_holds x c p) (holds (inside_of x) c >>= (λ b. give (cond b st (gave Go_on))) >>= finished x)
   entered c st p is = sym (
       assoc (holds (inside_of x) c) (λ b. give (cond b st (gave Go_on))) (finished x)
       ∙ (λ i. holds (inside_of x) c >>= (λ b. either b i)))
     where
-      either : (b : Bool) → ◌≡◌ {A = Act meaning.Signal} (finished x (cond b st (gave Go_on))) (cond b p (give Go_on))
+      either : (b : Bool) → ◌≡◌ {A = Act meaning.Completion} (finished x (cond b st (gave Go_on))) (cond b p (give Go_on))
       either true = sym is
       either false = refl
 
-  argument_is : (a : ArgTree) → ◌≡◌ {A = Act meaning.Signal} (argument x a) (started x a >>= finished x)
+  argument_is : (a : ArgTree) → ◌≡◌ {A = Act meaning.Completion} (argument x a) (started x a >>= finished x)
   argument_is (assign d e) = plain (argument x (assign d e))
   argument_is (breaks n) = plain (argument x (breaks n))
   argument_is (shown e) = plain (argument x (shown e))
@@ -57,28 +57,28 @@ module _ (x : Context) where
   argument_is (indirect_args f p) = refl
 
   -- what follows, once it is known what an argument leaves to be done
-  abbrev pub then_more : List ArgTree → Start → Act meaning.Signal
+  abbrev pub then_more : List ArgTree → Start → Act meaning.Completion
   then_more rest st = finished x st >>= (λ s. after s (arguments x rest))
 
-  next_is : (a : ArgTree) (rest : List ArgTree) → ◌≡◌ {A = Act meaning.Signal} (arguments x (a ∷ rest)) (started x a >>= then_more rest)
-  next_is a rest = ap (λ (q : Act meaning.Signal). q >>= (λ s. after s (arguments x rest))) (argument_is a) ∙ assoc (started x a) (finished x) (λ s. after s (arguments x rest))
+  next_is : (a : ArgTree) (rest : List ArgTree) → ◌≡◌ {A = Act meaning.Completion} (arguments x (a ∷ rest)) (started x a >>= then_more rest)
+  next_is a rest = ap (λ (q : Act meaning.Completion). q >>= (λ s. after s (arguments x rest))) (argument_is a) ∙ assoc (started x a) (finished x) (λ s. after s (arguments x rest))
 
 -- ---- calls
 
 module _ {S : Type 0} {g : Ghosts S} where
-  pub gives_start : {p : Text → ℕ → Act meaning.Signal} {old new : Parts S} (r : Result Signal Code) → DoesAt g p signal_of old r new → DoesAt g (λ a n. p a n >>= (λ s. give (gave s))) start_of old (given r) new
-  gives_start (Ok s) d = at_then (λ a n s. give (gave s)) d (at_gives (gave (signal_of s)) start_of (begun.Gave s) refl)
+  pub gives_start : {p : Text → ℕ → Act meaning.Completion} {old new : Parts S} (r : Result Completion Code) → DoesAt g p completion_of old r new → DoesAt g (λ a n. p a n >>= (λ s. give (gave s))) start_of old (given r) new
+  gives_start (Ok s) d = at_then (λ a n s. give (gave s)) d (at_gives (gave (completion_of s)) start_of (begun.Gave s) refl)
   gives_start (Err c) d = at_failed (λ a n s. give (gave s)) d
 
-  pub enters_where : (p : Spot) (c : Option ExprTree) (b : Begun) {old new : Parts S} (r : Result Bool Code) → DoesAt g (λ a n. holds (inside a n p.depth) c) (λ (b : Bool). b) old r new
+  pub enters_where : (p : Position) (c : Option ExprTree) (b : Begun) {old new : Parts S} (r : Result Bool Code) → DoesAt g (λ a n. holds (inside a n p.depth) c) (λ (b : Bool). b) old r new
       → DoesAt g (λ a n. holds (inside a n p.depth) c >>= (λ holds. give (cond holds (start_of b) (gave Go_on)))) start_of old (where_applies r b) new
   enters_where p c b (Ok true) d = at_then (λ a n holds. give (cond holds (start_of b) (gave Go_on))) d (at_gives (start_of b) start_of b refl)
-  enters_where p c b (Ok false) d = at_then (λ a n holds. give (cond holds (start_of b) (gave Go_on))) d (at_gives (gave Go_on) start_of (begun.Gave signal.GoOn) refl)
+  enters_where p c b (Ok false) d = at_then (λ a n holds. give (cond holds (start_of b) (gave Go_on))) d (at_gives (gave Go_on) start_of (begun.Gave completion.GoOn) refl)
   enters_where p c b (Err e) d = at_failed (λ a n holds. give (cond holds (start_of b) (gave Go_on))) d
 
-  module _ (p : Spot) (all : List Arg) (k : ℕ) (x : Arg) (less : k < length all) (is : x ≡ get_or all k x) where
+  module _ (p : Position) (all : List Arg) (k : ℕ) (x : Arg) (less : k < length all) (is : x ≡ get_or all k x) where
     -- an argument is begun, and then those behind it go on
-    pub argument_runs : {o : Begun} {fs fs' : List View} {old mid new : Parts S} {r : Result Signal Code} → DoesAt g (λ a n. started (context a n p) (arg_tree x)) start_of old (Ok o) mid → mid.eval.steps ≤ old.eval.steps
+    pub argument_runs : {o : Begun} {fs fs' : List View} {old mid new : Parts S} {r : Result Completion Code} → DoesAt g (λ a n. started (context a n p) (arg_tree x)) start_of old (Ok o) mid → mid.eval.steps ≤ old.eval.steps
         → Runs g (λ a n. then_more (context a n p) (map arg_tree (drop (k + 1) all)) (start_of o)) fs mid r fs' new
         → Runs g (λ a n. arguments (context a n p) (map arg_tree (drop k all))) fs old r fs' new
     argument_runs {fs = fs} {fs' = fs'} {old = old} {new = new} {r = r} does few then_runs =
@@ -86,7 +86,7 @@ module _ {S : Type 0} {g : Ghosts S} where
         (runs_as (λ a n. next_is (context a n p) (arg_tree x) (map arg_tree (drop (k + 1) all)))
         (runs_then (λ a n. then_more (context a n p) (map arg_tree (drop (k + 1) all))) does few then_runs))
 
-    pub argument_stopped : {fs fs' : List View} {old new : Parts S} {r : Result Signal Code} {e : Code} → DoesAt g (λ a n. started (context a n p) (arg_tree x)) start_of old (Err e) new → new.eval.steps ≤ old.eval.steps
+    pub argument_stopped : {fs fs' : List View} {old new : Parts S} {r : Result Completion Code} {e : Code} → DoesAt g (λ a n. started (context a n p) (arg_tree x)) start_of old (Err e) new → new.eval.steps ≤ old.eval.steps
         → IsErr r × IsErrAnd r (λ x. x ≡ e) → Runs g (λ a n. arguments (context a n p) (map arg_tree (drop k all))) fs old r fs' new
     argument_stopped {fs = fs} {fs' = fs'} {old = old} {new = new} {r = r} does few h =
         subst (λ (xs : List Arg). Runs g (λ a n. arguments (context a n p) (map arg_tree xs)) fs old r fs' new) (sym (next_item all k x less is))

@@ -12,7 +12,7 @@ use Rattle.mmeaning.specs.LineMeaning.{Context, Go_on, after, context}
 use Rattle.mmeaning.specs.Calls.{Standing, Here, Did}
 use Rattle.mmeaning.specs.Frames.{View, Rests, Lists, left, frame, Enough, MovedOn}
 use Rattle.mmeaning.proofs.Calls.{residual_is, did_then, did_failed, did_gives, did_lost, then_follows, then_failed, assoc, ended}
-use Rattle.mmeaning.proofs.Moves.{on_then, on_failed, on_lost, on_signal, on_frame, on_top, enough}
+use Rattle.mmeaning.proofs.Moves.{on_then, on_failed, on_lost, on_completion, on_frame, on_top, enough}
 use Rattle.mstore.specs.declared.store.NodeStore.{Ghosts}
 use Rattle.moperator.specs.Codes.{fault_of}
 use Rattle.moperator.specs.declared.code.Code.{Code}
@@ -23,9 +23,9 @@ use Rattle.mcommand.specs.declared.parts.Parts.{Parts}
 use Rattle.mcommand.specs.Does.{Does, DoesAt, here_of}
 use Rattle.mcommand.specs.Conditions.{tested}
 use Rattle.mexec.specs.declared.frames.Frame.{Frame}
-use Rattle.mexec.specs.declared.signal.Signal.{Signal}
-use Rattle.mexec.specs.declared.signal.Signal.TheVariants as signal
-use Rattle.mexec.specs.Frames.{Runs, view, stack, stacked, resting, signal_of, went}
+use Rattle.mexec.specs.declared.completion.Completion.{Completion}
+use Rattle.mexec.specs.declared.completion.Completion.TheVariants as completion
+use Rattle.mexec.specs.Frames.{Runs, view, stack, stacked, resting, completion_of, went}
 use Rattle.mexec.specs.Arguments.{listing}
 
 -- ---- acts
@@ -69,23 +69,23 @@ module _ {S : Type 0} {g : Ghosts S} (p : Inside → Act (Unit {0})) (depth : De
   there : {r : Result (Unit {0}) Code} → Does g p (λ (u : Unit {0}). u) (record old { eval = record old.eval { depth = depth } }) r new → DoesAt g (λ a n. p (inside a n (depth_of depth))) (λ (u : Unit {0}). u) old r new
   there d = record { at = λ sound. d.at sound; same = d.same }
 
-  pub goes_on : (r : Result (Unit {0}) Code) → Does g p (λ (u : Unit {0}). u) (record old { eval = record old.eval { depth = depth } }) r new → DoesAt g (λ a n. p (inside a n (depth_of depth)) >> give Go_on) signal_of old (went r) new
-  goes_on (Ok u) d = at_then (λ a n _. give Go_on) (there d) (at_gives Go_on signal_of signal.GoOn refl)
+  pub goes_on : (r : Result (Unit {0}) Code) → Does g p (λ (u : Unit {0}). u) (record old { eval = record old.eval { depth = depth } }) r new → DoesAt g (λ a n. p (inside a n (depth_of depth)) >> give Go_on) completion_of old (went r) new
+  goes_on (Ok u) d = at_then (λ a n _. give Go_on) (there d) (at_gives Go_on completion_of completion.GoOn refl)
   goes_on (Err e) d = at_failed (λ a n _. give Go_on) (there d)
 
 -- IF is a condition that is tested, and what follows from it
-pub testing_is : (i : Inside) (e : ExprTree) → ◌≡◌ {A = Act meaning.Signal} (meaning.testing i e) (tested i e >>= (λ b. give (meaning.where_true b)))
+pub testing_is : (i : Inside) (e : ExprTree) → ◌≡◌ {A = Act meaning.Completion} (meaning.testing i e) (tested i e >>= (λ b. give (meaning.where_true b)))
 testing_is i e = sym (
     assoc (value i e) (λ x. as_truth x >>= (λ b. set_test b >> give b)) (λ b. give (meaning.where_true b))
     ∙ (λ j. value i e >>= (λ x. assoc (as_truth x) (λ b. set_test b >> give b) (λ b. give (meaning.where_true b)) j)))
 
--- a signal that passes what is next
-pub passes : (s : Signal) (p : Act meaning.Signal) → (s ≡ signal.GoOn → ⊥) → ◌≡◌ {A = Act meaning.Signal} (after (signal_of s) p) (give (signal_of s))
-passes signal.GoOn p not_go = absurd (not_go refl)
-passes signal.Skips p not_go = refl
-passes signal.Quits p not_go = refl
-passes (signal.Goes t) p not_go = refl
-passes signal.Halts p not_go = refl
+-- a completion that passes what is next
+pub passes : (s : Completion) (p : Act meaning.Completion) → (s ≡ completion.GoOn → ⊥) → ◌≡◌ {A = Act meaning.Completion} (after (completion_of s) p) (give (completion_of s))
+passes completion.GoOn p not_go = absurd (not_go refl)
+passes completion.Skips p not_go = refl
+passes completion.Quits p not_go = refl
+passes (completion.Goes t) p not_go = refl
+passes completion.Halts p not_go = refl
 
 -- a call at a depth that plays no part
 pub at_depth : {S A X : Type 0} {g : Ghosts S} {p : Text → ℕ → Act A} {f : X → A} {old new : Parts S} {r : Result X Code} (d : Depth) → DoesAt g p f (record old { eval = record old.eval { depth = d } }) r new → DoesAt g p f old r new
@@ -102,11 +102,11 @@ in_any_case (Err e) h = tt
 
 -- ---- acts before frames
 
-moved_to : {A : Type 0} {b b1 : Standing} {steady : Type 0} (p : Text → Act A) (k : Text → A → Act meaning.Signal) {h h1 : Here} {r : Result Signal Code} {fs : List View} → b1 ≡ b → MovedOn b1 steady fault_of signal_of (p b1.account) (k b1.account) h r fs h1
-    → MovedOn b steady fault_of signal_of (p b.account) (k b.account) h r fs h1
-moved_to {steady = steady} p k {h = h} {h1 = h1} {r = r} {fs = fs} same m = subst (λ b. MovedOn b steady fault_of signal_of (p b.account) (k b.account) h r fs h1) same m
+moved_to : {A : Type 0} {b b1 : Standing} {steady : Type 0} (p : Text → Act A) (k : Text → A → Act meaning.Completion) {h h1 : Here} {r : Result Completion Code} {fs : List View} → b1 ≡ b → MovedOn b1 steady fault_of completion_of (p b1.account) (k b1.account) h r fs h1
+    → MovedOn b steady fault_of completion_of (p b.account) (k b.account) h r fs h1
+moved_to {steady = steady} p k {h = h} {h1 = h1} {r = r} {fs = fs} same m = subst (λ b. MovedOn b steady fault_of completion_of (p b.account) (k b.account) h r fs h1) same m
 
-pub runs_then : {S A X : Type 0} {g : Ghosts S} {p : Text → ℕ → Act A} (q : Text → ℕ → A → Act meaning.Signal) {f : X → A} {x : X} {fs fs' : List View} {old mid new : Parts S} {r : Result Signal Code}
+pub runs_then : {S A X : Type 0} {g : Ghosts S} {p : Text → ℕ → Act A} (q : Text → ℕ → A → Act meaning.Completion) {f : X → A} {x : X} {fs fs' : List View} {old mid new : Parts S} {r : Result Completion Code}
     → DoesAt g p f old (Ok x) mid → mid.eval.steps ≤ old.eval.steps → Runs g (λ a n. q a n (f x)) fs mid r fs' new → Runs g (λ a n. p a n >>= q a n) fs old r fs' new
 runs_then q {f = f} {x = x} {fs = fs} {old = old} {mid = mid} d few k =
     let fewer = k.fewer in
@@ -119,7 +119,7 @@ runs_then q {f = f} {x = x} {fs = fs} {old = old} {mid = mid} d few k =
     }
 
 -- the same, where the first act spent the step of an entry: what follows runs with one text fewer
-pub runs_spent : {S A X : Type 0} {g : Ghosts S} {p : Text → ℕ → Act A} (q : Text → ℕ → A → Act meaning.Signal) {f : X → A} {x : X} {fs fs' : List View} {old mid new : Parts S} {r : Result Signal Code}
+pub runs_spent : {S A X : Type 0} {g : Ghosts S} {p : Text → ℕ → Act A} (q : Text → ℕ → A → Act meaning.Completion) {f : X → A} {x : X} {fs fs' : List View} {old mid new : Parts S} {r : Result Completion Code}
     → DoesAt g p f old (Ok x) mid → mid.eval.steps < old.eval.steps → Runs g (λ a n. q a (suc n) (f x)) fs mid r fs' new → Runs g (λ a n. p a n >>= q a n) fs old r fs' new
 runs_spent {g = g} {p = p} q {f = f} {x = x} {fs = fs} {fs' = fs'} {old = old} {mid = mid} {new = new} {r = r} d less k = record {
   at = go;
@@ -128,14 +128,14 @@ runs_spent {g = g} {p = p} q {f = f} {x = x} {fs = fs} {fs' = fs'} {old = old} {
 }
   where
     go : g.sound → (n : ℕ) (ns : List ℕ) → old.eval.steps ≤ n → Enough old.eval.steps fs ns
-        → MovedOn (standing_of old.eval) g.steady fault_of signal_of (p (standing_of old.eval).account n >>= q (standing_of old.eval).account n) (left (standing_of old.eval).account fs ns) (here_of g old) r fs' (here_of g new)
+        → MovedOn (standing_of old.eval) g.steady fault_of completion_of (p (standing_of old.eval).account n >>= q (standing_of old.eval).account n) (left (standing_of old.eval).account fs ns) (here_of g old) r fs' (here_of g new)
     go sound zero ns le e = absurd (omega arith)
     go sound (suc n) ns le e =
         on_then (q (standing_of old.eval).account (suc n)) (suc n) le (d.at sound)
         (moved_to (λ a. q a (suc n) (f x)) (λ a. left a fs ns) d.same (k.at sound n ns (omega arith) (enough mid.eval.steps old.eval.steps fs ns (omega arith) e)))
 
 -- an act fails, by a `?` that the call returns
-pub runs_stopped : {S A X : Type 0} {g : Ghosts S} {p : Text → ℕ → Act A} (q : Text → ℕ → A → Act meaning.Signal) {f : X → A} {fs fs' : List View} {old new : Parts S} {r : Result Signal Code} {e : Code}
+pub runs_stopped : {S A X : Type 0} {g : Ghosts S} {p : Text → ℕ → Act A} (q : Text → ℕ → A → Act meaning.Completion) {f : X → A} {fs fs' : List View} {old new : Parts S} {r : Result Completion Code} {e : Code}
     → DoesAt g p f old (Err e) new → new.eval.steps ≤ old.eval.steps → IsErr r × IsErrAnd r (λ x. x ≡ e) → Runs g (λ a n. p a n >>= q a n) fs old r fs' new
 runs_stopped {g = g} {p = p} q {fs = fs} {fs' = fs'} {old = old} {new = new} {r = r} d few h = subst (λ r. Runs g (λ a n. p a n >>= q a n) fs old r fs' new) (sym (residual_is r _ h)) (record {
   at = λ sound n ns le e. on_failed (q (standing_of old.eval).account n) n le (d.at sound);
@@ -144,7 +144,7 @@ runs_stopped {g = g} {p = p} q {fs = fs} {fs' = fs'} {old = old} {new = new} {r 
 })
 
 -- want of memory, by a `?` that the call returns
-pub runs_wanting : {S : Type 0} {g : Ghosts S} (p : Text → ℕ → Act meaning.Signal) {fs fs' : List View} {parts : Parts S} (r : Result Signal Code) → IsErr r × IsErrAnd r (λ x. x ≡ Zmem) → Runs g p fs parts r fs' parts
+pub runs_wanting : {S : Type 0} {g : Ghosts S} (p : Text → ℕ → Act meaning.Completion) {fs fs' : List View} {parts : Parts S} (r : Result Completion Code) → IsErr r × IsErrAnd r (λ x. x ≡ Zmem) → Runs g p fs parts r fs' parts
 runs_wanting {g = g} p {fs = fs} {fs' = fs'} {parts = parts} r h = subst (λ r. Runs g p fs parts r fs' parts) (sym (residual_is r Zmem h)) (record {
   at = λ sound n ns le e. on_lost (p (standing_of parts.eval).account n) (left (standing_of parts.eval).account fs ns) Zmem tt refl (omega arith);
   fewer = omega arith;
@@ -152,37 +152,37 @@ runs_wanting {g = g} p {fs = fs} {fs' = fs'} {parts = parts} r h = subst (λ r. 
 })
 
 -- the same, by a code that the call itself gives
-pub runs_lost : {S : Type 0} {g : Ghosts S} (p : Text → ℕ → Act meaning.Signal) {fs fs' : List View} {parts : Parts S} → Runs g p fs parts (Err Zmem) fs' parts
+pub runs_lost : {S : Type 0} {g : Ghosts S} (p : Text → ℕ → Act meaning.Completion) {fs fs' : List View} {parts : Parts S} → Runs g p fs parts (Err Zmem) fs' parts
 runs_lost p {fs = fs} {parts = parts} = record {
   at = λ sound n ns le e. on_lost (p (standing_of parts.eval).account n) (left (standing_of parts.eval).account fs ns) Zmem tt refl (omega arith);
   fewer = omega arith;
   same = refl;
 }
 
--- a signal is given to the frames
-pub runs_signal : {S : Type 0} {g : Ghosts S} {fs : List View} {parts : Parts S} (s : Signal) → Runs g (λ a n. give (signal_of s)) fs parts (Ok s) fs parts
-runs_signal s = record {
-  at = λ sound n ns le e. on_signal s ns e;
+-- a completion is given to the frames
+pub runs_completion : {S : Type 0} {g : Ghosts S} {fs : List View} {parts : Parts S} (s : Completion) → Runs g (λ a n. give (completion_of s)) fs parts (Ok s) fs parts
+runs_completion s = record {
+  at = λ sound n ns le e. on_completion s ns e;
   fewer = omega arith;
   same = refl;
 }
 
--- the same signal, by another name
-pub runs_given : {S : Type 0} {g : Ghosts S} {fs : List View} {parts : Parts S} (s : Signal) (v : meaning.Signal) → signal_of s ≡ v → Runs g (λ a n. give v) fs parts (Ok s) fs parts
-runs_given {g = g} {fs = fs} {parts = parts} s v is = subst (λ v. Runs g (λ a n. give v) fs parts (Ok s) fs parts) is (runs_signal s)
+-- the same completion, by another name
+pub runs_given : {S : Type 0} {g : Ghosts S} {fs : List View} {parts : Parts S} (s : Completion) (v : meaning.Completion) → completion_of s ≡ v → Runs g (λ a n. give v) fs parts (Ok s) fs parts
+runs_given {g = g} {fs = fs} {parts = parts} s v is = subst (λ v. Runs g (λ a n. give v) fs parts (Ok s) fs parts) is (runs_completion s)
 
 -- an act by another name
-pub runs_as : {S : Type 0} {g : Ghosts S} {p q : Text → ℕ → Act meaning.Signal} {fs fs' : List View} {old new : Parts S} {r : Result Signal Code} → ((a : Text) (n : ℕ) → ◌≡◌ {A = Act meaning.Signal} (p a n) (q a n)) → Runs g q fs old r fs' new → Runs g p fs old r fs' new
+pub runs_as : {S : Type 0} {g : Ghosts S} {p q : Text → ℕ → Act meaning.Completion} {fs fs' : List View} {old new : Parts S} {r : Result Completion Code} → ((a : Text) (n : ℕ) → ◌≡◌ {A = Act meaning.Completion} (p a n) (q a n)) → Runs g q fs old r fs' new → Runs g p fs old r fs' new
 runs_as {g = g} {fs = fs} {fs' = fs'} {old = old} {new = new} {r = r} same k = subst (λ p. Runs g p fs old r fs' new) (λ i a n. sym (same a n) i) k
 
 -- an act that leaves the frames as they are
-pub runs_done : {S : Type 0} {g : Ghosts S} {p : Text → ℕ → Act meaning.Signal} {fs : List View} {old new : Parts S} (r : Result Signal Code) → DoesAt g p signal_of old r new → new.eval.steps ≤ old.eval.steps → Runs g p fs old r fs new
+pub runs_done : {S : Type 0} {g : Ghosts S} {p : Text → ℕ → Act meaning.Completion} {fs : List View} {old new : Parts S} (r : Result Completion Code) → DoesAt g p completion_of old r new → new.eval.steps ≤ old.eval.steps → Runs g p fs old r fs new
 runs_done {g = g} {p = p} {fs = fs} {old = old} {new = new} (Ok s) d few = record {
   at = λ sound n ns le e. record {
     done =
         let b = standing_of old.eval in
         let did = d.at sound in
-        (ns, enough new.eval.steps old.eval.steps fs ns few e, then_follows b (p b.account n) (left b.account fs ns) (here_of g old) (signal_of s) (here_of g new) (did.at n le));
+        (ns, enough new.eval.steps old.eval.steps fs ns few e, then_follows b (p b.account n) (left b.account fs ns) (here_of g old) (completion_of s) (here_of g new) (did.at n le));
   };
   fewer = few;
   same = d.same;
@@ -199,7 +199,7 @@ runs_done {g = g} {p = p} {fs = fs} {old = old} {new = new} (Err c) d few = reco
 }
 
 -- a frame stands below what is done, in place of what it does then
-pub runs_frame : {S : Type 0} {g : Ghosts S} {p : Text → ℕ → Act meaning.Signal} (f : View) {fs fs' : List View} {old new : Parts S} {r : Result Signal Code} → Runs g p (f ∷ fs) old r fs' new → Runs g (λ a n. p a n >>= frame a n f) fs old r fs' new
+pub runs_frame : {S : Type 0} {g : Ghosts S} {p : Text → ℕ → Act meaning.Completion} (f : View) {fs fs' : List View} {old new : Parts S} {r : Result Completion Code} → Runs g p (f ∷ fs) old r fs' new → Runs g (λ a n. p a n >>= frame a n f) fs old r fs' new
 runs_frame f {fs = fs} k = record {
   at = λ sound n ns le e. on_frame fs f n ns (k.at sound n (n ∷ ns) le (le, e));
   fewer = k.fewer;
@@ -207,30 +207,30 @@ runs_frame f {fs = fs} k = record {
 }
 
 -- the rest of a line is on top
-pub runs_rest : {S : Type 0} {g : Ghosts S} {fs : List View} {parts : Parts S} (d : meaning.Spot) (l : List CommandTree) → Runs g (λ a n. meaning.commands (context a n d) l) fs parts (Ok signal.GoOn) (Rests d l ∷ fs) parts
+pub runs_rest : {S : Type 0} {g : Ghosts S} {fs : List View} {parts : Parts S} (d : meaning.Position) (l : List CommandTree) → Runs g (λ a n. meaning.commands (context a n d) l) fs parts (Ok completion.GoOn) (Rests d l ∷ fs) parts
 runs_rest d l = record {
-  at = λ sound n ns le e. on_top (Rests d l) signal.GoOn n ns le e;
+  at = λ sound n ns le e. on_top (Rests d l) completion.GoOn n ns le e;
   fewer = omega arith;
   same = refl;
 }
 
 -- arguments are on top
-pub runs_list : {S : Type 0} {g : Ghosts S} {fs : List View} {parts : Parts S} (d : meaning.Spot) (args : List ArgTree) → Runs g (λ a n. meaning.arguments (context a n d) args) fs parts (Ok signal.GoOn) (Lists d args ∷ fs) parts
+pub runs_list : {S : Type 0} {g : Ghosts S} {fs : List View} {parts : Parts S} (d : meaning.Position) (args : List ArgTree) → Runs g (λ a n. meaning.arguments (context a n d) args) fs parts (Ok completion.GoOn) (Lists d args ∷ fs) parts
 runs_list d args = record {
-  at = λ sound n ns le e. on_top (Lists d args) signal.GoOn n ns le e;
+  at = λ sound n ns le e. on_top (Lists d args) completion.GoOn n ns le e;
   fewer = omega arith;
   same = refl;
 }
 
--- the empty rest of a line gives the signal again, and so does that of a command's arguments
-nothing_left : (d : Context) (s : meaning.Signal) → ◌≡◌ {A = Act meaning.Signal} (after s (meaning.commands d [])) (give s)
+-- the empty rest of a line gives the completion again, and so does that of a command's arguments
+nothing_left : (d : Context) (s : meaning.Completion) → ◌≡◌ {A = Act meaning.Completion} (after s (meaning.commands d [])) (give s)
 nothing_left d meaning.Go_on = refl
 nothing_left d meaning.Skips = refl
 nothing_left d meaning.Quits = refl
 nothing_left d meaning.Halts = refl
 nothing_left d (meaning.Goes l) = refl
 
-none_more : (d : Context) (s : meaning.Signal) → ◌≡◌ {A = Act meaning.Signal} (after s (meaning.arguments d [])) (give s)
+none_more : (d : Context) (s : meaning.Completion) → ◌≡◌ {A = Act meaning.Completion} (after s (meaning.arguments d [])) (give s)
 none_more d meaning.Go_on = refl
 none_more d meaning.Skips = refl
 none_more d meaning.Quits = refl
@@ -238,16 +238,16 @@ none_more d meaning.Halts = refl
 none_more d (meaning.Goes l) = refl
 
 -- an act before it
-runs_last : {S : Type 0} {g : Ghosts S} {p : Text → ℕ → Act meaning.Signal} (d : meaning.Spot) {fs fs' : List View} {old new : Parts S} {r : Result Signal Code} → Runs g p fs old r fs' new → Runs g (λ a n. p a n >>= frame a n (Rests d [])) fs old r fs' new
+runs_last : {S : Type 0} {g : Ghosts S} {p : Text → ℕ → Act meaning.Completion} (d : meaning.Position) {fs fs' : List View} {old new : Parts S} {r : Result Completion Code} → Runs g p fs old r fs' new → Runs g (λ a n. p a n >>= frame a n (Rests d [])) fs old r fs' new
 runs_last {p = p} d k = runs_as (λ a n. (λ i. p a n >>= (λ s. nothing_left (context a n d) s i)) ∙ ended (p a n)) k
 
 -- an act before the rest of a line that may be empty
-pub runs_resting : {S : Type 0} {g : Ghosts S} {p : Text → ℕ → Act meaning.Signal} (d : meaning.Spot) (l : List CommandTree) {fs fs' : List View} {old new : Parts S} {r : Result Signal Code} → Runs g p (resting d l fs) old r fs' new → Runs g (λ a n. p a n >>= frame a n (Rests d l)) fs old r fs' new
+pub runs_resting : {S : Type 0} {g : Ghosts S} {p : Text → ℕ → Act meaning.Completion} (d : meaning.Position) (l : List CommandTree) {fs fs' : List View} {old new : Parts S} {r : Result Completion Code} → Runs g p (resting d l fs) old r fs' new → Runs g (λ a n. p a n >>= frame a n (Rests d l)) fs old r fs' new
 runs_resting d [] k = runs_last d k
 runs_resting d (c ∷ l) k = runs_frame (Rests d (c ∷ l)) k
 
 -- an act before the rest of a command's arguments, of which there may be none
-pub runs_listing : {S : Type 0} {g : Ghosts S} {p : Text → ℕ → Act meaning.Signal} (d : meaning.Spot) (args : List ArgTree) {fs fs' : List View} {old new : Parts S} {r : Result Signal Code}
+pub runs_listing : {S : Type 0} {g : Ghosts S} {p : Text → ℕ → Act meaning.Completion} (d : meaning.Position) (args : List ArgTree) {fs fs' : List View} {old new : Parts S} {r : Result Completion Code}
     → Runs g p (listing d args fs) old r fs' new → Runs g (λ a n. p a n >>= frame a n (Lists d args)) fs old r fs' new
 runs_listing {p = p} d [] k = runs_as (λ a n. (λ i. p a n >>= (λ s. none_more (context a n d) s i)) ∙ ended (p a n)) k
 runs_listing d (x ∷ args) k = runs_frame (Lists d (x ∷ args)) k

@@ -8,7 +8,7 @@ use Rattle.mspec.specs.Act.{Text, Act, ◌>>=◌, give, charge}
 use Rattle.mspec.proofs.ListPlaces.{next_item}
 use Rattle.mgrammar.specs.Grammar.{KeywordTree, CommandTree}
 use Rattle.mmeaning.specs.LineMeaning as meaning
-use Rattle.mmeaning.specs.LineMeaning.{Spot, Context, after, argument, arguments, commands, conditional, effect, context}
+use Rattle.mmeaning.specs.LineMeaning.{Position, Context, after, argument, arguments, commands, conditional, effect, context}
 use Rattle.mtree.specs.Tree.{arg_tree, command_tree, spaced_tree}
 use Rattle.mtree.specs.declared.tree.Arg.{Arg}
 use Rattle.mtree.specs.declared.tree.Arg.TheVariants as arg
@@ -20,10 +20,10 @@ use Rattle.moperator.specs.declared.code.Code.{Code}
 use Rattle.mcommand.specs.declared.parts.Parts.{Parts}
 use Rattle.mcommand.specs.Does.{DoesAt}
 use Rattle.mexec.specs.Arguments.{gave, started}
-use Rattle.mexec.specs.declared.signal.Signal.{Signal}
-use Rattle.mexec.specs.declared.signal.Signal.TheVariants as signal
+use Rattle.mexec.specs.declared.completion.Completion.{Completion}
+use Rattle.mexec.specs.declared.completion.Completion.TheVariants as completion
 use Rattle.mexec.specs.Direct.{is_direct, are_direct, is_direct_word}
-use Rattle.mexec.specs.Frames.{signal_of}
+use Rattle.mexec.specs.Frames.{completion_of}
 use Rattle.mexec.proofs.Calls.{at_then, at_stopped, at_gives, at_as, passes, some_item}
 use Rattle.mexec.proofs.Effects.{other_effect}
 
@@ -92,7 +92,7 @@ started_direct x (arg.Indirect k p) h = absurd cc
 
 -- a command with such arguments does them
 pub direct_effect : (x : Context) (k : KeywordTree) (a : Arg) (more : List Arg) (rest : List CommandTree) → are_direct (a ∷ more) ≡ true
-    → ◌≡◌ {A = Act meaning.Signal} (effect x k (map arg_tree (a ∷ more)) rest) (arguments x (map arg_tree (a ∷ more)))
+    → ◌≡◌ {A = Act meaning.Completion} (effect x k (map arg_tree (a ∷ more)) rest) (arguments x (map arg_tree (a ∷ more)))
 direct_effect x k a more rest h =
     let both = both_true (is_direct a) (are_direct more) h in
     other_effect x k a (map arg_tree more) rest (λ index ps e. no_loop index ps e both.0)
@@ -106,45 +106,45 @@ direct_effect x k a more rest h =
 abbrev pub from : List Spaced → ℕ → List CommandTree
 from all k = map (λ c. c.0) (map spaced_tree (drop k all))
 
-module _ {S : Type 0} {g : Ghosts S} (p : Spot) where
-  -- a signal that passes what is next
-  pub passed : (s : Signal) (q : Text → ℕ → Act meaning.Signal) {parts : Parts S} → (s ≡ signal.GoOn → ⊥) → DoesAt g (λ a n. after (signal_of s) (q a n)) signal_of parts (Ok s) parts
-  passed s q not_go = at_as (λ a n. passes s (q a n) not_go) (at_gives (signal_of s) signal_of s refl)
+module _ {S : Type 0} {g : Ghosts S} (p : Position) where
+  -- a completion that passes what is next
+  pub passed : (s : Completion) (q : Text → ℕ → Act meaning.Completion) {parts : Parts S} → (s ≡ completion.GoOn → ⊥) → DoesAt g (λ a n. after (completion_of s) (q a n)) completion_of parts (Ok s) parts
+  passed s q not_go = at_as (λ a n. passes s (q a n) not_go) (at_gives (completion_of s) completion_of s refl)
 
   module _ (all : List Arg) (k : ℕ) (x : Arg) (less : k < length all) (is : x ≡ get_or all k x) where
-    pub argument_goes : {s : Signal} {old mid new : Parts S} {r : Result Signal Code} → DoesAt g (λ a n. argument (context a n p) (arg_tree x)) signal_of old (Ok s) mid
-        → DoesAt g (λ a n. after (signal_of s) (arguments (context a n p) (map arg_tree (drop (k + 1) all)))) signal_of mid r new
-        → DoesAt g (λ a n. arguments (context a n p) (map arg_tree (drop k all))) signal_of old r new
+    pub argument_goes : {s : Completion} {old mid new : Parts S} {r : Result Completion Code} → DoesAt g (λ a n. argument (context a n p) (arg_tree x)) completion_of old (Ok s) mid
+        → DoesAt g (λ a n. after (completion_of s) (arguments (context a n p) (map arg_tree (drop (k + 1) all)))) completion_of mid r new
+        → DoesAt g (λ a n. arguments (context a n p) (map arg_tree (drop k all))) completion_of old r new
     argument_goes {old = old} {new = new} {r = r} d then_does =
-        subst (λ (xs : List Arg). DoesAt g (λ a n. arguments (context a n p) (map arg_tree xs)) signal_of old r new) (sym (next_item all k x less is))
+        subst (λ (xs : List Arg). DoesAt g (λ a n. arguments (context a n p) (map arg_tree xs)) completion_of old r new) (sym (next_item all k x less is))
         (at_then (λ a n s. after s (arguments (context a n p) (map arg_tree (drop (k + 1) all)))) d then_does)
 
-    pub argument_failed : {old new : Parts S} {r : Result Signal Code} {e : Code} → DoesAt g (λ a n. argument (context a n p) (arg_tree x)) signal_of old (Err e) new → IsErr r × IsErrAnd r (λ x. x ≡ e)
-        → DoesAt g (λ a n. arguments (context a n p) (map arg_tree (drop k all))) signal_of old r new
+    pub argument_failed : {old new : Parts S} {r : Result Completion Code} {e : Code} → DoesAt g (λ a n. argument (context a n p) (arg_tree x)) completion_of old (Err e) new → IsErr r × IsErrAnd r (λ x. x ≡ e)
+        → DoesAt g (λ a n. arguments (context a n p) (map arg_tree (drop k all))) completion_of old r new
     argument_failed {old = old} {new = new} {r = r} d h =
-        subst (λ (xs : List Arg). DoesAt g (λ a n. arguments (context a n p) (map arg_tree xs)) signal_of old r new) (sym (next_item all k x less is))
+        subst (λ (xs : List Arg). DoesAt g (λ a n. arguments (context a n p) (map arg_tree xs)) completion_of old r new) (sym (next_item all k x less is))
         (at_stopped (λ a n s. after s (arguments (context a n p) (map arg_tree (drop (k + 1) all)))) d h)
 
   module _ (all : List Spaced) (k : ℕ) (x : Spaced) (less : k < length all) (is : x ≡ get_or all k x) {X : Type 0} {f : X → Unit {0}} {u : X} {old mid : Parts S} (c : DoesAt g (λ a n. charge) f old (Ok u) mid) where
-    pub command_goes : {s : Signal} {next new : Parts S} {r : Result Signal Code} → DoesAt g (λ a n. conditional (context a n p) (command_tree x.command) (from all (k + 1))) signal_of mid (Ok s) next
-        → DoesAt g (λ a n. after (signal_of s) (commands (context a n p) (from all (k + 1)))) signal_of next r new
-        → DoesAt g (λ a n. commands (context a n p) (from all k)) signal_of old r new
+    pub command_goes : {s : Completion} {next new : Parts S} {r : Result Completion Code} → DoesAt g (λ a n. conditional (context a n p) (command_tree x.command) (from all (k + 1))) completion_of mid (Ok s) next
+        → DoesAt g (λ a n. after (completion_of s) (commands (context a n p) (from all (k + 1)))) completion_of next r new
+        → DoesAt g (λ a n. commands (context a n p) (from all k)) completion_of old r new
     command_goes {new = new} {r = r} d then_does =
-        subst (λ (xs : List Spaced). DoesAt g (λ a n. commands (context a n p) (map (λ c. c.0) (map spaced_tree xs))) signal_of old r new) (sym (next_item all k x less is))
+        subst (λ (xs : List Spaced). DoesAt g (λ a n. commands (context a n p) (map (λ c. c.0) (map spaced_tree xs))) completion_of old r new) (sym (next_item all k x less is))
         (at_then (λ a n _. conditional (context a n p) (command_tree x.command) (from all (k + 1)) >>= (λ s. after s (commands (context a n p) (from all (k + 1))))) c
         (at_then (λ a n s. after s (commands (context a n p) (from all (k + 1)))) d then_does))
 
-    pub command_failed : {new : Parts S} {r : Result Signal Code} {e : Code} → DoesAt g (λ a n. conditional (context a n p) (command_tree x.command) (from all (k + 1))) signal_of mid (Err e) new → IsErr r × IsErrAnd r (λ x. x ≡ e)
-        → DoesAt g (λ a n. commands (context a n p) (from all k)) signal_of old r new
+    pub command_failed : {new : Parts S} {r : Result Completion Code} {e : Code} → DoesAt g (λ a n. conditional (context a n p) (command_tree x.command) (from all (k + 1))) completion_of mid (Err e) new → IsErr r × IsErrAnd r (λ x. x ≡ e)
+        → DoesAt g (λ a n. commands (context a n p) (from all k)) completion_of old r new
     command_failed {new = new} {r = r} d h =
-        subst (λ (xs : List Spaced). DoesAt g (λ a n. commands (context a n p) (map (λ c. c.0) (map spaced_tree xs))) signal_of old r new) (sym (next_item all k x less is))
+        subst (λ (xs : List Spaced). DoesAt g (λ a n. commands (context a n p) (map (λ c. c.0) (map spaced_tree xs))) completion_of old r new) (sym (next_item all k x less is))
         (at_then (λ a n _. conditional (context a n p) (command_tree x.command) (from all (k + 1)) >>= (λ s. after s (commands (context a n p) (from all (k + 1))))) c
         (at_stopped (λ a n s. after s (commands (context a n p) (from all (k + 1)))) d h))
 
   -- want of a step for the next command
-  pub charge_failed : (all : List Spaced) (k : ℕ) {X : Type 0} {f : X → Unit {0}} {old new : Parts S} {r : Result Signal Code} {e : Code} → k < length all → DoesAt g (λ a n. charge) f old (Err e) new → IsErr r × IsErrAnd r (λ x. x ≡ e)
-      → DoesAt g (λ a n. commands (context a n p) (from all k)) signal_of old r new
+  pub charge_failed : (all : List Spaced) (k : ℕ) {X : Type 0} {f : X → Unit {0}} {old new : Parts S} {r : Result Completion Code} {e : Code} → k < length all → DoesAt g (λ a n. charge) f old (Err e) new → IsErr r × IsErrAnd r (λ x. x ≡ e)
+      → DoesAt g (λ a n. commands (context a n p) (from all k)) completion_of old r new
   charge_failed all k {old = old} {new = new} {r = r} less c h =
       let some = some_item k all less in
-      subst (λ (xs : List Spaced). DoesAt g (λ a n. commands (context a n p) (map (λ c. c.0) (map spaced_tree xs))) signal_of old r new) (sym some.1)
+      subst (λ (xs : List Spaced). DoesAt g (λ a n. commands (context a n p) (map (λ c. c.0) (map spaced_tree xs))) completion_of old r new) (sym some.1)
       (at_stopped (λ a n _. conditional (context a n p) (command_tree some.0.command) (from all (k + 1)) >>= (λ s. after s (commands (context a n p) (from all (k + 1))))) c h)

@@ -20,7 +20,7 @@ first_some (y ∷ xs) x e = (xs, ap (λ o. unwrap_or o x ∷ xs) e)
 
 -- where it is not that of FOR
 pub other_effect : (x : Context) (k : KeywordTree) (a : Arg) (more : List ArgTree) (rest : List CommandTree) → ((index : Text) (ps : Vec Parameter Global) → a ≡ arg.Loop index ps → ⊥)
-    → ◌≡◌ {A = Act meaning.Signal} (meaning.effect x k (arg_tree a ∷ more) rest) (meaning.arguments x (arg_tree a ∷ more))
+    → ◌≡◌ {A = Act meaning.Completion} (meaning.effect x k (arg_tree a ∷ more) rest) (meaning.arguments x (arg_tree a ∷ more))
 other_effect x k (arg.Assign d e) more rest h = refl
 other_effect x k (arg.Breaks n) more rest h = refl
 other_effect x k (arg.Value e) more rest h = refl

@@ -9,7 +9,7 @@ use Rattle.mgrammar.specs.Grammar.{ArgTree, CommandTree}
 use Rattle.mgrammar.specs.RoutineLine.{BodyTree, short, spaced_out, RoutineLineTree, dots_of, routine_line_at}
 use Rattle.mmeaning.specs.Expression.{Depth, indirected}
 use Rattle.mmeaning.specs.Levels.{Level, Closing, leaves, deeper, within_indirection, has_dots, commands_of, commands_in}
-use Rattle.mmeaning.specs.LineMeaning.{Spot, Context, Signal, Go_on, texts, context, commands, lines_reached, lines_from, lines_next, line_entered, after_level, closed}
+use Rattle.mmeaning.specs.LineMeaning.{Position, Context, Completion, Go_on, texts, context, commands, lines_reached, lines_from, lines_next, line_entered, after_level, closed}
 use Rattle.mmeaning.specs.Yields.{Yields}
 use Rattle.mmeaning.specs.Frames.{View, Rests, Lists, Levels, frame}
 use Rattle.mmeaning.proofs.Calls.{assoc}
@@ -22,12 +22,12 @@ use Rattle.meval.specs.declared.eval.Eval.{Eval}
 use Rattle.meval.specs.Evaluates.{Evaluates}
 use Rattle.mcommand.specs.declared.parts.Parts.{Parts}
 use Rattle.mcommand.specs.Does.{Does, DoesAt, here_of}
-use Rattle.mexec.specs.declared.signal.Signal as signals
-use Rattle.mexec.specs.declared.signal.Signal.TheVariants as signal
+use Rattle.mexec.specs.declared.completion.Completion as completions
+use Rattle.mexec.specs.declared.completion.Completion.TheVariants as completion
 use Rattle.mexec.specs.Frames.{Runs}
-use Rattle.mexec.specs.Entering.{reached, next_reached, entering, so_deep, at_next, text_spot, on_body}
+use Rattle.mexec.specs.Entering.{reached, next_reached, entering, so_deep, at_next, text_position, on_body}
 use Rattle.mspec.proofs.ListPlaces.{next_item}
-use Rattle.mexec.proofs.Calls.{at_then, at_stopped, at_gives, runs_then, runs_spent, runs_stopped, runs_wanting, runs_as, runs_frame, runs_list, runs_rest, runs_signal}
+use Rattle.mexec.proofs.Calls.{at_then, at_stopped, at_gives, runs_then, runs_spent, runs_stopped, runs_wanting, runs_as, runs_frame, runs_list, runs_rest, runs_completion}
 
 -- ---- lists
 
@@ -55,41 +55,41 @@ item_is (y ∷ lines) (suc k) x less is = item_is lines k x (omega (arith, less)
 -- ---- the line that comes next
 
 -- what follows, once it is known which line is entered
-abbrev pub line_reached : Context → Option ℕ → Act Signal
+abbrev pub line_reached : Context → Option ℕ → Act Completion
 line_reached x None = give Go_on
-line_reached x (Some n) = charge >> line_entered x n (get_or x.spot.level.copy n [])
+line_reached x (Some n) = charge >> line_entered x n (get_or x.position.level.copy n [])
 
 module _ (x : Context) where
-  reached_is : (n : ℕ) (lines : List Text) → drop n x.spot.level.copy ≡ lines → ◌≡◌ {A = Act Signal} (lines_reached x n lines) (reached x.spot.level.dots n lines >>= line_reached x)
+  reached_is : (n : ℕ) (lines : List Text) → drop n x.position.level.copy ≡ lines → ◌≡◌ {A = Act Completion} (lines_reached x n lines) (reached x.position.level.dots n lines >>= line_reached x)
   reached_is n [] e = refl
-  reached_is n (text ∷ rest) e = go (nat_lt x.spot.level.dots (dots_of text)) (dots_of text == x.spot.level.dots) (reached_is (n + 1) rest (behind n x.spot.level.copy text rest e))
+  reached_is n (text ∷ rest) e = go (nat_lt x.position.level.dots (dots_of text)) (dots_of text == x.position.level.dots) (reached_is (n + 1) rest (behind n x.position.level.copy text rest e))
     where
-      go : (more same : Bool) → ◌≡◌ {A = Act Signal} (lines_reached x (n + 1) rest) (reached x.spot.level.dots (n + 1) rest >>= line_reached x)
-          → ◌≡◌ {A = Act Signal} (cond more (charge >> lines_reached x (n + 1) rest) (cond same (charge >> line_entered x n text) (give Go_on)))
-          (cond more (charge >> reached x.spot.level.dots (n + 1) rest) (give (cond same (Some n) None)) >>= line_reached x)
+      go : (more same : Bool) → ◌≡◌ {A = Act Completion} (lines_reached x (n + 1) rest) (reached x.position.level.dots (n + 1) rest >>= line_reached x)
+          → ◌≡◌ {A = Act Completion} (cond more (charge >> lines_reached x (n + 1) rest) (cond same (charge >> line_entered x n text) (give Go_on)))
+          (cond more (charge >> reached x.position.level.dots (n + 1) rest) (give (cond same (Some n) None)) >>= line_reached x)
       go true same then_is =
-          ap (λ (q : Act Signal). charge >> q) then_is
-          ∙ sym (assoc charge (λ _. reached x.spot.level.dots (n + 1) rest) (line_reached x))
-      go false true then_is = ap (λ (t : Text). charge >> line_entered x n t) (sym (there n x.spot.level.copy text rest e))
+          ap (λ (q : Act Completion). charge >> q) then_is
+          ∙ sym (assoc charge (λ _. reached x.position.level.dots (n + 1) rest) (line_reached x))
+      go false true then_is = ap (λ (t : Text). charge >> line_entered x n t) (sym (there n x.position.level.copy text rest e))
       go false false then_is = refl
 
-  next_is : (next : Option ℕ) → ◌≡◌ {A = Act Signal} (lines_from x next) (next_reached x.spot.level.dots x.spot.level.copy next >>= line_reached x)
+  next_is : (next : Option ℕ) → ◌≡◌ {A = Act Completion} (lines_from x next) (next_reached x.position.level.dots x.position.level.copy next >>= line_reached x)
   next_is None = refl
-  next_is (Some n) = reached_is n (drop n x.spot.level.copy) refl
+  next_is (Some n) = reached_is n (drop n x.position.level.copy) refl
 
 -- the same, with how the level closes
-abbrev pub then_closed : Context → Closing → Option ℕ → Act Signal
+abbrev pub then_closed : Context → Closing → Option ℕ → Act Completion
 then_closed x c None = closed c Go_on
-then_closed x c (Some n) = entering x c n (get_or x.spot.level.copy n [])
+then_closed x c (Some n) = entering x c n (get_or x.position.level.copy n [])
 
-module _ (a : Text) (n : ℕ) (p : Spot) (c : Closing) where
-  entered_is : (found : Option ℕ) → ◌≡◌ {A = Act Signal} (line_reached (context a n p) found >>= closed c) (then_closed (context a n p) c found)
+module _ (a : Text) (n : ℕ) (p : Position) (c : Closing) where
+  entered_is : (found : Option ℕ) → ◌≡◌ {A = Act Completion} (line_reached (context a n p) found >>= closed c) (then_closed (context a n p) c found)
   entered_is None = refl
   entered_is (Some k) = assoc charge (λ _. line_entered (context a n p) k (get_or p.level.copy k [])) (closed c)
 
-  pub lines_are : ◌≡◌ {A = Act Signal} (frame a n (Levels p c) Go_on) (next_reached p.level.dots p.level.copy p.level.next >>= then_closed (context a n p) c)
+  pub lines_are : ◌≡◌ {A = Act Completion} (frame a n (Levels p c) Go_on) (next_reached p.level.dots p.level.copy p.level.next >>= then_closed (context a n p) c)
   lines_are =
-      ap (λ (q : Act Signal). q >>= closed c) (next_is (context a n p) p.level.next)
+      ap (λ (q : Act Completion). q >>= closed c) (next_is (context a n p) p.level.next)
       ∙ assoc (next_reached p.level.dots p.level.copy p.level.next) (line_reached (context a n p)) (closed c)
       ∙ (λ i. next_reached p.level.dots p.level.copy p.level.next >>= (λ found. entered_is found i))
 
@@ -112,8 +112,8 @@ is_within dots n lines e = let all = stands_as dots n lines e in all.0
 not_more : (m n : ℕ) → (n == m) ≡ true → nat_lt m n ≡ false
 not_more m n e = let same = eqb-true n m e in le-ltb m n (omega (arith, same))
 
-pub target_entered : (a : Text) (n : ℕ) (p : Spot) (c : Closing) (k : ℕ) → p.level.next ≡ Some k → has_dots p.level.dots (slice_get p.level.copy k) ≡ true
-    → ◌≡◌ {A = Act Signal} (frame a n (Levels p c) Go_on) (entering (context a n p) c k (get_or p.level.copy k []))
+pub target_entered : (a : Text) (n : ℕ) (p : Position) (c : Closing) (k : ℕ) → p.level.next ≡ Some k → has_dots p.level.dots (slice_get p.level.copy k) ≡ true
+    → ◌≡◌ {A = Act Completion} (frame a n (Levels p c) Go_on) (entering (context a n p) c k (get_or p.level.copy k []))
 target_entered a n p c k next stands =
     let all = stands_as p.level.dots k p.level.copy stands in
     let text = get_or p.level.copy k [] in
@@ -122,14 +122,14 @@ target_entered a n p c k next stands =
 
 -- ---- a line behind its step
 
-module _ (p : Spot) (c : Closing) (k : ℕ) (text : Text) where
-  abbrev step_spent : Text → ℕ → Act Signal
+module _ (p : Position) (c : Closing) (k : ℕ) (text : Text) where
+  abbrev step_spent : Text → ℕ → Act Completion
   step_spent a n = line_entered (context a n p) k text >>= closed c
 
-  abbrev line_read : Text → ℕ → RoutineLineTree → Act Signal
+  abbrev line_read : Text → ℕ → RoutineLineTree → Act Completion
   line_read a n l = (context a n p).texts.enter (at_next p (k + 1)) (commands_in l.body) >>= closed c
 
-  read_is : (a : Text) (n : ℕ) → ◌≡◌ {A = Act Signal} (step_spent a n) (give_some Zsyntax (routine_line_at text) >>= line_read a n)
+  read_is : (a : Text) (n : ℕ) → ◌≡◌ {A = Act Completion} (step_spent a n) (give_some Zsyntax (routine_line_at text) >>= line_read a n)
   read_is a n = assoc (give_some Zsyntax (routine_line_at text)) (λ l. (context a n p).texts.enter (at_next p (k + 1)) (commands_in l.body)) (closed c)
 
 -- ---- calls
@@ -149,13 +149,13 @@ module _ {S : Type 0} {g : Ghosts S} where
   at_plain {old = old} k = record { at = λ sound. k.at sound old.out.now.items old.locks.now; same = k.same }
 
   -- the commands of a text that is entered stand on top of its level
-  pub text_runs : {fs : List View} {parts : Parts S} (p : Spot) (c : Closing) (cs : List CommandTree)
-      → Runs g (λ a n. (texts a (suc n)).enter p cs >>= closed c) fs parts (Ok signal.GoOn) (Rests p cs ∷ Levels p c ∷ fs) parts
+  pub text_runs : {fs : List View} {parts : Parts S} (p : Position) (c : Closing) (cs : List CommandTree)
+      → Runs g (λ a n. (texts a (suc n)).enter p cs >>= closed c) fs parts (Ok completion.GoOn) (Rests p cs ∷ Levels p c ∷ fs) parts
   text_runs p c cs = runs_as (λ a n. assoc (commands (context a n p) cs) (after_level (context a n p)) (closed c)) (runs_frame (Levels p c) (runs_rest p cs))
 
-  pub body_runs : {fs : List View} {parts : Parts S} (p : Spot) (c : Closing) (b : BodyTree)
-      → Runs g (λ a n. (texts a (suc n)).enter p (commands_in b) >>= closed c) fs parts (Ok signal.GoOn) (on_body p c b fs) parts
-  body_runs p c (short comment) = runs_frame (Levels p c) (runs_signal signal.GoOn)
+  pub body_runs : {fs : List View} {parts : Parts S} (p : Position) (c : Closing) (b : BodyTree)
+      → Runs g (λ a n. (texts a (suc n)).enter p (commands_in b) >>= closed c) fs parts (Ok completion.GoOn) (on_body p c b fs) parts
+  body_runs p c (short comment) = runs_frame (Levels p c) (runs_completion completion.GoOn)
   body_runs p c (spaced_out dots l) = text_runs p c (commands_of l)
 
   -- ---- lines that are passed over
@@ -176,26 +176,26 @@ module _ {S : Type 0} {g : Ghosts S} where
 
   -- ---- a line that is entered
 
-  module _ (p : Spot) (c : Closing) (k : ℕ) (text : Text) where
+  module _ (p : Position) (c : Closing) (k : ℕ) (text : Text) where
     module _ {X : Type 0} {f : X → Unit {0}} {u : X} {fs : List View} {old mid : Parts S} (d : DoesAt g (λ a n. charge) f old (Ok u) mid) (less : mid.eval.steps < old.eval.steps) where
       -- want of memory behind its step
-      pub step_lost : {fs' : List View} (r : Result signals.Signal Code) → IsErr r × IsErrAnd r (λ x. x ≡ Zmem) → Runs g (λ a n. entering (context a n p) c k text) fs old r fs' mid
+      pub step_lost : {fs' : List View} (r : Result completions.Completion Code) → IsErr r × IsErrAnd r (λ x. x ≡ Zmem) → Runs g (λ a n. entering (context a n p) c k text) fs old r fs' mid
       step_lost r h = runs_then (λ a n _. step_spent p c k text a n) d (omega (arith, less)) (runs_wanting (λ a n. step_spent p c k text a n) r h)
 
       -- it has no tree
-      pub line_refused : {Y : Type 0} {view : Y → RoutineLineTree} {e : Code} {fs' : List View} {r : Result signals.Signal Code} → Yields fault_of (give_some Zsyntax (routine_line_at text)) view (Err e) → IsErr r × IsErrAnd r (λ x. x ≡ e)
+      pub line_refused : {Y : Type 0} {view : Y → RoutineLineTree} {e : Code} {fs' : List View} {r : Result completions.Completion Code} → Yields fault_of (give_some Zsyntax (routine_line_at text)) view (Err e) → IsErr r × IsErrAnd r (λ x. x ≡ e)
           → Runs g (λ a n. entering (context a n p) c k text) fs old r fs' mid
       line_refused y h = runs_then (λ a n _. step_spent p c k text a n) d (omega (arith, less)) (runs_as (λ a n. read_is p c k text a n) (runs_stopped (λ a n. line_read p c k text a n) (at_yielded y) (omega arith) h))
 
       pub line_runs : {Y : Type 0} {view : Y → RoutineLineTree} {l : Y} → Yields fault_of (give_some Zsyntax (routine_line_at text)) view (Ok l)
-          → Runs g (λ a n. entering (context a n p) c k text) fs old (Ok signal.GoOn) (on_body (at_next p (k + 1)) c (view l).body fs) mid
+          → Runs g (λ a n. entering (context a n p) c k text) fs old (Ok completion.GoOn) (on_body (at_next p (k + 1)) c (view l).body fs) mid
       line_runs {view = view} {l = l} y =
           runs_spent (λ a n _. step_spent p c k text a n) d less
           (runs_as (λ a n. read_is p c k text a (suc n)) (runs_then (λ a n. line_read p c k text a (suc n)) (at_yielded y) (omega arith) (body_runs (at_next p (k + 1)) c (view l).body)))
 
   -- ---- levels that are opened
 
-  module _ (p : Spot) (d : Depth) (is : d ≡ record { levels = p.depth.levels + 1; indirections = p.depth.indirections }) {fs fs' : List View} {old new : Parts S} {r : Result signals.Signal Code} where
+  module _ (p : Position) (d : Depth) (is : d ≡ record { levels = p.depth.levels + 1; indirections = p.depth.indirections }) {fs fs' : List View} {old new : Parts S} {r : Result completions.Completion Code} where
     pub lines_opened : (l : Level) (c : Closing) → Runs g (λ a n. frame a n (Levels (record { depth = d; level = l }) c) Go_on) fs old r fs' new
         → Runs g (λ a n. lines_next (context a n (deeper p l)) >>= closed c) fs old r fs' new
     lines_opened l c k = subst (λ (d : Depth). Runs g (λ a n. frame a n (Levels (record { depth = d; level = l }) c) Go_on) fs old r fs' new) is k
@@ -205,16 +205,16 @@ module _ {S : Type 0} {g : Ghosts S} where
         → Runs g (λ a n. lines_next (context a n (deeper p l)) >>= closed c) fs old r fs' new
     lines_opened_as l m same c k = lines_opened l c (subst (λ (m : Level). Runs g (λ a n. frame a n (Levels (record { depth = d; level = m }) c) Go_on) fs old r fs' new) same k)
 
-  pub text_opened : (p : Spot) (d : Depth) → d ≡ record { levels = p.depth.levels + 1; indirections = p.depth.indirections } → {fs : List View} {parts : Parts S} (cs : List CommandTree)
-      → Runs g (λ a n. (texts a (suc n)).enter (deeper p (text_spot d p).level) cs >>= closed leaves) fs parts (Ok signal.GoOn) (Rests (text_spot d p) cs ∷ Levels (text_spot d p) leaves ∷ fs) parts
+  pub text_opened : (p : Position) (d : Depth) → d ≡ record { levels = p.depth.levels + 1; indirections = p.depth.indirections } → {fs : List View} {parts : Parts S} (cs : List CommandTree)
+      → Runs g (λ a n. (texts a (suc n)).enter (deeper p (text_position d p).level) cs >>= closed leaves) fs parts (Ok completion.GoOn) (Rests (text_position d p) cs ∷ Levels (text_position d p) leaves ∷ fs) parts
   text_opened p d is {fs = fs} {parts = parts} cs =
-      let there = deeper p (text_spot d p).level in
-      subst (λ (d : Depth). Runs g (λ a n. (texts a (suc n)).enter there cs >>= closed leaves) fs parts (Ok signal.GoOn) (Rests (text_spot d p) cs ∷ Levels (text_spot d p) leaves ∷ fs) parts) (sym is)
+      let there = deeper p (text_position d p).level in
+      subst (λ (d : Depth). Runs g (λ a n. (texts a (suc n)).enter there cs >>= closed leaves) fs parts (Ok completion.GoOn) (Rests (text_position d p) cs ∷ Levels (text_position d p) leaves ∷ fs) parts) (sym is)
       (text_runs there leaves cs)
 
   -- arguments that a text gives stand on top
-  pub list_opened : (p : Spot) (d : Depth) → d ≡ indirected p.depth → {fs : List View} {parts : Parts S} (args : List ArgTree)
-      → Runs g (λ a n. (texts a (suc n)).list (within_indirection p) args) fs parts (Ok signal.GoOn) (Lists (so_deep d p) args ∷ fs) parts
+  pub list_opened : (p : Position) (d : Depth) → d ≡ indirected p.depth → {fs : List View} {parts : Parts S} (args : List ArgTree)
+      → Runs g (λ a n. (texts a (suc n)).list (within_indirection p) args) fs parts (Ok completion.GoOn) (Lists (so_deep d p) args ∷ fs) parts
   list_opened p d is {fs = fs} {parts = parts} args =
-      subst (λ (d : Depth). Runs g (λ a n. (texts a (suc n)).list (within_indirection p) args) fs parts (Ok signal.GoOn) (Lists (so_deep d p) args ∷ fs) parts) (sym is)
+      subst (λ (d : Depth). Runs g (λ a n. (texts a (suc n)).list (within_indirection p) args) fs parts (Ok completion.GoOn) (Lists (so_deep d p) args ∷ fs) parts) (sym is)
       (runs_list (within_indirection p) args)

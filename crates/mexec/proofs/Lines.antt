@@ -6,7 +6,7 @@ use Rattle.mspec.specs.Act.{Text, Act}
 use Rattle.mgrammar.specs.Grammar.{ArgTree, CommandTree}
 use Rattle.mmeaning.specs.LineMeaning as meaning
 use Rattle.mmeaning.specs.Levels.{stays}
-use Rattle.mmeaning.specs.LineMeaning.{outset, run_within, context, commands, arguments, after}
+use Rattle.mmeaning.specs.LineMeaning.{top_level, run_within, context, commands, arguments, after}
 use Rattle.mmeaning.specs.Calls.{Standing, Here, Follows, FailedBy}
 use Rattle.mmeaning.specs.Frames.{View, Rests, Lists, Levels, left, frame, Enough, MovedAs, MovedOn}
 use Rattle.mmeaning.proofs.LevelMoves.{line_begins}
@@ -17,34 +17,34 @@ use Rattle.moperator.specs.declared.code.Code.{Code}
 use Rattle.meval.specs.Evaluates.{standing_of}
 use Rattle.mcommand.specs.declared.parts.Parts.{Parts}
 use Rattle.mcommand.specs.Does.{DoesAt, here_of}
-use Rattle.mexec.specs.declared.signal.Signal.{Signal}
-use Rattle.mexec.specs.declared.signal.Signal.TheVariants as signal
-use Rattle.mexec.specs.Frames.{Runs, Leads, signal_of}
-use Rattle.mexec.proofs.Calls.{passes, runs_as, runs_signal}
+use Rattle.mexec.specs.declared.completion.Completion.{Completion}
+use Rattle.mexec.specs.declared.completion.Completion.TheVariants as completion
+use Rattle.mexec.specs.Frames.{Runs, Leads, completion_of}
+use Rattle.mexec.proofs.Calls.{passes, runs_as, runs_completion}
 
 module _ {S : Type 0} {g : Ghosts S} where
   -- a line's rest, and its level
-  pub leads_first : (cs : List CommandTree) (parts : Parts S) → Leads g (λ a n. run_within a n cs) parts (Rests outset cs ∷ Levels outset stays ∷ []) meaning.Go_on parts
+  pub leads_first : (cs : List CommandTree) (parts : Parts S) → Leads g (λ a n. run_within a n cs) parts (Rests top_level cs ∷ Levels top_level stays ∷ []) meaning.Go_on parts
   leads_first cs parts = record {
     at = λ sound n le. (n ∷ n ∷ [], (le, (le, tt)), begins (standing_of parts.eval) n (here_of g parts));
     fewer = omega arith;
     same = refl;
   }
     where
-      begins : (b : Standing) (n : ℕ) (h : Here) → Follows b (run_within b.account n cs) h (left b.account (Rests outset cs ∷ Levels outset stays ∷ []) (n ∷ n ∷ []) meaning.Go_on) h
-      begins b n h = subst (λ (q : Act meaning.Signal). Follows b (run_within b.account n cs) h q h) (line_begins b.account n cs) (follows_itself b (run_within b.account n cs) h)
+      begins : (b : Standing) (n : ℕ) (h : Here) → Follows b (run_within b.account n cs) h (left b.account (Rests top_level cs ∷ Levels top_level stays ∷ []) (n ∷ n ∷ []) meaning.Go_on) h
+      begins b n h = subst (λ (q : Act meaning.Completion). Follows b (run_within b.account n cs) h q h) (line_begins b.account n cs) (follows_itself b (run_within b.account n cs) h)
 
-  module _ (p : Text → ℕ → Act meaning.Signal) (f : View) (fs : List View) {s : meaning.Signal} {old mid new : Parts S} (d : Leads g p old (f ∷ fs) s mid) where
+  module _ (p : Text → ℕ → Act meaning.Completion) (f : View) (fs : List View) {s : meaning.Completion} {old mid new : Parts S} (d : Leads g p old (f ∷ fs) s mid) where
     -- what the frame on top does, told by where the line began
-    moved : {fs' : List View} {r : Result Signal Code} → Runs g (λ a n. frame a n f s) fs mid r fs' new → (sound : g.sound) (m : ℕ) (ms : List ℕ) → mid.eval.steps ≤ m → Enough mid.eval.steps fs ms
-        → MovedAs {X = Signal} (standing_of old.eval) g.steady fault_of signal_of (left (standing_of old.eval).account (f ∷ fs) (m ∷ ms) s) (here_of g mid) r fs' (here_of g new)
+    moved : {fs' : List View} {r : Result Completion Code} → Runs g (λ a n. frame a n f s) fs mid r fs' new → (sound : g.sound) (m : ℕ) (ms : List ℕ) → mid.eval.steps ≤ m → Enough mid.eval.steps fs ms
+        → MovedAs {X = Completion} (standing_of old.eval) g.steady fault_of completion_of (left (standing_of old.eval).account (f ∷ fs) (m ∷ ms) s) (here_of g mid) r fs' (here_of g new)
     moved {fs' = fs'} {r = r} k sound m ms le e =
         let here =
-        subst (λ b. MovedOn b g.steady fault_of signal_of (frame b.account m f s) (left b.account fs ms) (here_of g mid) r fs' (here_of g new)) d.same (k.at sound m ms le e)
+        subst (λ b. MovedOn b g.steady fault_of completion_of (frame b.account m f s) (left b.account fs ms) (here_of g mid) r fs' (here_of g new)) d.same (k.at sound m ms le e)
         in
         here.done
 
-    pub leads_on : {fs' : List View} {s' : Signal} → Runs g (λ a n. frame a n f s) fs mid (Ok s') fs' new → Leads g p old fs' (signal_of s') new
+    pub leads_on : {fs' : List View} {s' : Completion} → Runs g (λ a n. frame a n f s) fs mid (Ok s') fs' new → Leads g p old fs' (completion_of s') new
     leads_on {fs' = fs'} {s' = s'} k =
         let fewer = d.fewer in
         let few = k.fewer in
@@ -56,18 +56,18 @@ module _ {S : Type 0} {g : Ghosts S} where
       where
         go : g.sound → (n : ℕ)
             → (ns : List ℕ) × Enough mid.eval.steps (f ∷ fs) ns × Follows (standing_of old.eval) (p (standing_of old.eval).account n) (here_of g old) (left (standing_of old.eval).account (f ∷ fs) ns s) (here_of g mid)
-            → (ns : List ℕ) × Enough new.eval.steps fs' ns × Follows (standing_of old.eval) (p (standing_of old.eval).account n) (here_of g old) (left (standing_of old.eval).account fs' ns (signal_of s')) (here_of g new)
+            → (ns : List ℕ) × Enough new.eval.steps fs' ns × Follows (standing_of old.eval) (p (standing_of old.eval).account n) (here_of g old) (left (standing_of old.eval).account fs' ns (completion_of s')) (here_of g new)
         go sound n ([], e, follows) = absurd e
         go sound n (m ∷ ms, e, follows) =
             let b = standing_of old.eval in
             let done = moved k sound m ms e.0 e.1 in
-            (done.0, done.1, follows_on b (p b.account n) (left b.account (f ∷ fs) (m ∷ ms) s) (left b.account fs' done.0 (signal_of s')) (here_of g old) (here_of g mid) (here_of g new) follows done.2)
+            (done.0, done.1, follows_on b (p b.account n) (left b.account (f ∷ fs) (m ∷ ms) s) (left b.account fs' done.0 (completion_of s')) (here_of g old) (here_of g mid) (here_of g new) follows done.2)
 
-    pub leads_stopped : {fs' : List View} {e : Code} {r : Result Signal Code} → Runs g (λ a n. frame a n f s) fs mid (Err e) fs' new → IsErr r × IsErrAnd r (λ x. x ≡ e) → DoesAt g p signal_of old r new
+    pub leads_stopped : {fs' : List View} {e : Code} {r : Result Completion Code} → Runs g (λ a n. frame a n f s) fs mid (Err e) fs' new → IsErr r × IsErrAnd r (λ x. x ≡ e) → DoesAt g p completion_of old r new
     leads_stopped {e = e} {r = r} k h =
         let fewer = d.fewer in
         let few = k.fewer in
-        subst (λ r. DoesAt g p signal_of old r new) (sym (residual_is r e h)) (record {
+        subst (λ r. DoesAt g p completion_of old r new) (sym (residual_is r e h)) (record {
           at = λ sound. record {
             at = λ n le. go sound n (d.at sound n le);
             fewer = omega (arith, fewer, few);
@@ -83,7 +83,7 @@ module _ {S : Type 0} {g : Ghosts S} where
             let b = standing_of old.eval in
             failed_after b g.steady (p b.account n) (left b.account (f ∷ fs) (m ∷ ms) s) (here_of g old) (here_of g mid) (fault_of e) (here_of g new) follows (moved k sound m ms enough.0 enough.1)
 
-  pub leads_ends : (p : Text → ℕ → Act meaning.Signal) (s : Signal) {old new : Parts S} → Leads g p old [] (signal_of s) new → DoesAt g p signal_of old (Ok s) new
+  pub leads_ends : (p : Text → ℕ → Act meaning.Completion) (s : Completion) {old new : Parts S} → Leads g p old [] (completion_of s) new → DoesAt g p completion_of old (Ok s) new
   leads_ends p s d = record {
     at = λ sound. record {
       at = λ n le. let here = d.at sound n le in let follows = here.2 in follows.whole;
@@ -92,10 +92,10 @@ module _ {S : Type 0} {g : Ghosts S} where
     same = d.same;
   }
 
-  -- a signal that passes the rest of a line
-  pub rest_passes : {fs : List View} {parts : Parts S} (p : meaning.Spot) (cs : List CommandTree) (s : Signal) → (s ≡ signal.GoOn → ⊥) → Runs g (λ a n. frame a n (Rests p cs) (signal_of s)) fs parts (Ok s) fs parts
-  rest_passes p cs s not_go = runs_as (λ a n. passes s (commands (context a n p) cs) not_go) (runs_signal s)
+  -- a completion that passes the rest of a line
+  pub rest_passes : {fs : List View} {parts : Parts S} (p : meaning.Position) (cs : List CommandTree) (s : Completion) → (s ≡ completion.GoOn → ⊥) → Runs g (λ a n. frame a n (Rests p cs) (completion_of s)) fs parts (Ok s) fs parts
+  rest_passes p cs s not_go = runs_as (λ a n. passes s (commands (context a n p) cs) not_go) (runs_completion s)
 
   -- and of a command's arguments
-  pub list_passes : {fs : List View} {parts : Parts S} (p : meaning.Spot) (args : List ArgTree) (s : Signal) → (s ≡ signal.GoOn → ⊥) → Runs g (λ a n. frame a n (Lists p args) (signal_of s)) fs parts (Ok s) fs parts
-  list_passes p args s not_go = runs_as (λ a n. passes s (arguments (context a n p) args) not_go) (runs_signal s)
+  pub list_passes : {fs : List View} {parts : Parts S} (p : meaning.Position) (args : List ArgTree) (s : Completion) → (s ≡ completion.GoOn → ⊥) → Runs g (λ a n. frame a n (Lists p args) (completion_of s)) fs parts (Ok s) fs parts
+  list_passes p args s not_go = runs_as (λ a n. passes s (arguments (context a n p) args) not_go) (runs_completion s)

@@ -12,7 +12,7 @@ use Rattle.mmeaning.specs.Operators.{as_text}
 use Rattle.mmeaning.specs.Variables.{at_local, put_at}
 use Rattle.mmeaning.specs.Expression.{value, inside}
 use Rattle.mmeaning.specs.LineMeaning as meaning
-use Rattle.mmeaning.specs.LineMeaning.{Context, Spot, Turning, Skips, context, inside_of, index_number, number_of, next_parameter, after_course, begin_turn}
+use Rattle.mmeaning.specs.LineMeaning.{Context, Position, Turning, Skips, context, inside_of, index_number, number_of, next_parameter, after_course, begin_turn}
 use Rattle.mmeaning.specs.Frames as frames
 use Rattle.mmeaning.specs.Frames.{View, Rests}
 use Rattle.mmeaning.proofs.Calls.{assoc}
@@ -23,11 +23,11 @@ use Rattle.moperator.specs.declared.code.Code.{Code}
 use Rattle.mcommand.specs.declared.parts.Parts.{Parts}
 use Rattle.mcommand.specs.Does.{DoesAt}
 use Rattle.mcommand.specs.Turns.{course_view, started, added, advanced}
-use Rattle.mexec.specs.declared.signal.Signal.{Signal}
-use Rattle.mexec.specs.declared.signal.Signal.TheVariants as signal
-use Rattle.mexec.specs.declared.frames.Turns.{Turns}
-use Rattle.mexec.specs.Frames.{Runs, commands_from, loop_before, turning, signal_of, spot_of}
-use Rattle.mexec.proofs.Calls.{runs_then, runs_stopped, runs_as, runs_spent, runs_frame, runs_rest, runs_signal}
+use Rattle.mexec.specs.declared.completion.Completion.{Completion}
+use Rattle.mexec.specs.declared.completion.Completion.TheVariants as completion
+use Rattle.mexec.specs.declared.frames.ForLoop.{ForLoop}
+use Rattle.mexec.specs.Frames.{Runs, commands_from, loop_before, turning, completion_of, position_of}
+use Rattle.mexec.proofs.Calls.{runs_then, runs_stopped, runs_as, runs_spent, runs_frame, runs_rest, runs_completion}
 
 -- ---- acts
 
@@ -44,36 +44,36 @@ past_or_not false u v k = refl
 -- ---- parameters
 
 -- what is done once a parameter's index is set
-abbrev pub begun : Context → Text → List CommandTree → List ParameterTree → Option Course → Act meaning.Signal
+abbrev pub begun : Context → Text → List CommandTree → List ParameterTree → Option Course → Act meaning.Completion
 begun x index body rest None = next_parameter x index body rest
 begun x index body rest (Some c) = begin_turn x (record { index = index; course = c; parameters = rest; body = body })
 
-pub next_is : (x : Context) (index : Text) (body : List CommandTree) (p : ParameterTree) (rest : List ParameterTree) → ◌≡◌ {A = Act meaning.Signal} (next_parameter x index body (p ∷ rest)) (started (inside_of x) index p >>= begun x index body rest)
+pub next_is : (x : Context) (index : Text) (body : List CommandTree) (p : ParameterTree) (rest : List ParameterTree) → ◌≡◌ {A = Act meaning.Completion} (next_parameter x index body (p ∷ rest)) (started (inside_of x) index p >>= begun x index body rest)
 next_is x index body (once e) rest = sym (assoc (value (inside_of x) e) (λ a. put_at (at_local index []) a >> give (Some last_turn)) (begun x index body rest))
 next_is x index body (onward e by) rest =
     sym (two (number_of (inside_of x) e) (number_of (inside_of x) by) (λ a b. put_at (at_local index []) (number_text a) >> give (Some (endless b))) (begun x index body rest))
 next_is x index body (until e by to) rest = sym (
     three (number_of (inside_of x) e) (number_of (inside_of x) by) (number_of (inside_of x) to) (λ a b c. put_at (at_local index []) (number_text a) >> give (cond (is_past b a c) None (Some (limited b c)))) (begun x index body rest)
     ∙ (λ i. number_of (inside_of x) e >>= (λ a. number_of (inside_of x) by >>= (λ b. number_of (inside_of x) to >>= (λ c.
-    put_at (at_local index []) (number_text a) >> past_or_not {B = Act meaning.Signal} (is_past b a c) None (Some (limited b c)) (begun x index body rest) i)))))
+    put_at (at_local index []) (number_text a) >> past_or_not {B = Act meaning.Completion} (is_past b a c) None (Some (limited b c)) (begun x index body rest) i)))))
 
 -- ---- behind a turn
 
 -- what is done once it is known whether there is one turn more
-abbrev pub gone_on : Context → Turning → Bool → Act meaning.Signal
+abbrev pub gone_on : Context → Turning → Bool → Act meaning.Completion
 gone_on x t b = cond b (begin_turn x t) (next_parameter x t.index t.body t.parameters)
 
-added_is : (x : Context) (t : Turning) (n by : ℤ) → ◌≡◌ {A = Act meaning.Signal} (added t.index n by >>= gone_on x t) (meaning.stepped x t n by)
+added_is : (x : Context) (t : Turning) (n by : ℤ) → ◌≡◌ {A = Act meaning.Completion} (added t.index n by >>= gone_on x t) (meaning.stepped x t n by)
 added_is x t n by = assoc (as_text (sum_of n by)) (λ next. put_at (at_local t.index []) next >> give true) (gone_on x t)
 
-pub course_is : (x : Context) (t : Turning) (c : Course) → ◌≡◌ {A = Act meaning.Signal} (after_course x t c) (advanced t.index c >>= gone_on x t)
+pub course_is : (x : Context) (t : Turning) (c : Course) → ◌≡◌ {A = Act meaning.Completion} (after_course x t c) (advanced t.index c >>= gone_on x t)
 course_is x t last_turn = refl
 course_is x t (endless by) = sym (assoc (index_number t.index) (λ n. added t.index n by) (gone_on x t) ∙ (λ i. index_number t.index >>= (λ n. added_is x t n by i)))
 course_is x t (limited by limit) = sym (
     assoc (index_number t.index) (λ n. cond (is_past by (n +ℤ by) limit) (give false) (added t.index n by)) (gone_on x t)
     ∙ (λ i. index_number t.index >>= (λ n. limited_is x t n by (is_past by (n +ℤ by) limit) i)))
   where
-    limited_is : (x : Context) (t : Turning) (n by : ℤ) (b : Bool) → ◌≡◌ {A = Act meaning.Signal} (cond b (give false) (added t.index n by) >>= gone_on x t) (cond b (next_parameter x t.index t.body t.parameters) (meaning.stepped x t n by))
+    limited_is : (x : Context) (t : Turning) (n by : ℤ) (b : Bool) → ◌≡◌ {A = Act meaning.Completion} (cond b (give false) (added t.index n by) >>= gone_on x t) (cond b (next_parameter x t.index t.body t.parameters) (meaning.stepped x t n by))
     limited_is x t n by true = refl
     limited_is x t n by false = added_is x t n by
 course_is x t forever = refl
@@ -81,24 +81,24 @@ course_is x t forever = refl
 -- ---- a turn
 
 -- once its step is spent
-pub turn_runs : {S X : Type 0} {g : Ghosts S} {f : X → Unit {0}} {u : X} {fs : List View} {old mid : Parts S} (d : Spot) (t : Turning) → DoesAt g (λ a n. charge) f old (Ok u) mid → mid.eval.steps < old.eval.steps
-    → Runs g (λ a n. begin_turn (context a n d) t) fs old (Ok signal.GoOn) (Rests d t.body ∷ frames.Turns d t ∷ fs) mid
+pub turn_runs : {S X : Type 0} {g : Ghosts S} {f : X → Unit {0}} {u : X} {fs : List View} {old mid : Parts S} (d : Position) (t : Turning) → DoesAt g (λ a n. charge) f old (Ok u) mid → mid.eval.steps < old.eval.steps
+    → Runs g (λ a n. begin_turn (context a n d) t) fs old (Ok completion.GoOn) (Rests d t.body ∷ frames.Turns d t ∷ fs) mid
 turn_runs d t c less = runs_spent (λ a n _. (context a n d).texts.turn d t) c less (runs_frame (frames.Turns d t) (runs_rest d t.body))
 
 -- with its body done at once
-pub turn_done : {S X : Type 0} {g : Ghosts S} {f : X → Unit {0}} {u : X} {s : Signal} {fs fs' : List View} {old mid next new : Parts S} {r : Result Signal Code} (d : Spot) (t : Turning) → DoesAt g (λ a n. charge) f old (Ok u) mid → mid.eval.steps < old.eval.steps
-    → DoesAt g (λ a n. meaning.commands (context a n d) t.body) signal_of mid (Ok s) next → next.eval.steps ≤ mid.eval.steps → Runs g (λ a n. meaning.after_turn (context a n d) t (signal_of s)) fs next r fs' new
+pub turn_done : {S X : Type 0} {g : Ghosts S} {f : X → Unit {0}} {u : X} {s : Completion} {fs fs' : List View} {old mid next new : Parts S} {r : Result Completion Code} (d : Position) (t : Turning) → DoesAt g (λ a n. charge) f old (Ok u) mid → mid.eval.steps < old.eval.steps
+    → DoesAt g (λ a n. meaning.commands (context a n d) t.body) completion_of mid (Ok s) next → next.eval.steps ≤ mid.eval.steps → Runs g (λ a n. meaning.after_turn (context a n d) t (completion_of s)) fs next r fs' new
     → Runs g (λ a n. begin_turn (context a n d) t) fs old r fs' new
 turn_done d t c less does few k = runs_spent (λ a n _. (context a n d).texts.turn d t) c less (runs_then (λ a n s. meaning.after_turn (context a n d) t s) does few k)
 
 -- and where the body fails
-pub turn_failed : {S X : Type 0} {g : Ghosts S} {f : X → Unit {0}} {u : X} {fs fs' : List View} {old mid new : Parts S} {r : Result Signal Code} {e : Code} (d : Spot) (t : Turning) → DoesAt g (λ a n. charge) f old (Ok u) mid → mid.eval.steps < old.eval.steps
-    → DoesAt g (λ a n. meaning.commands (context a n d) t.body) signal_of mid (Err e) new → new.eval.steps ≤ mid.eval.steps → IsErr r × IsErrAnd r (λ x. x ≡ e)
+pub turn_failed : {S X : Type 0} {g : Ghosts S} {f : X → Unit {0}} {u : X} {fs fs' : List View} {old mid new : Parts S} {r : Result Completion Code} {e : Code} (d : Position) (t : Turning) → DoesAt g (λ a n. charge) f old (Ok u) mid → mid.eval.steps < old.eval.steps
+    → DoesAt g (λ a n. meaning.commands (context a n d) t.body) completion_of mid (Err e) new → new.eval.steps ≤ mid.eval.steps → IsErr r × IsErrAnd r (λ x. x ≡ e)
     → Runs g (λ a n. begin_turn (context a n d) t) fs old r fs' new
 turn_failed d t c less does few h = runs_spent (λ a n _. (context a n d).texts.turn d t) c less (runs_stopped (λ a n s. meaning.after_turn (context a n d) t s) does few h)
 
 -- and where there is no step for it
-pub turn_charge_failed : {S X : Type 0} {g : Ghosts S} {f : X → Unit {0}} {fs fs' : List View} {old new : Parts S} {r : Result Signal Code} {e : Code} (d : Spot) (t : Turning) → DoesAt g (λ a n. charge) f old (Err e) new → new.eval.steps ≤ old.eval.steps
+pub turn_charge_failed : {S X : Type 0} {g : Ghosts S} {f : X → Unit {0}} {fs fs' : List View} {old new : Parts S} {r : Result Completion Code} {e : Code} (d : Position) (t : Turning) → DoesAt g (λ a n. charge) f old (Err e) new → new.eval.steps ≤ old.eval.steps
     → IsErr r × IsErrAnd r (λ x. x ≡ e) → Runs g (λ a n. begin_turn (context a n d) t) fs old r fs' new
 turn_charge_failed d t c few h = runs_stopped (λ a n _. (context a n d).texts.turn d t) c few h
 
@@ -110,21 +110,21 @@ falls_on new mid old frames left (Err e) few h = tt
 -- ---- turns as the frames have them
 
 -- those of a FOR without an index
-pub turning_of_none : (t : Turns) → loop_before t.body.line.value t.body.at ≡ ([], []) → turning t ≡ record { index = []; course = course_view t.course; parameters = []; body = commands_from t.body.line.value t.body.at }
+pub turning_of_none : (t : ForLoop) → loop_before t.body.line.value t.body.at ≡ ([], []) → turning t ≡ record { index = []; course = course_view t.course; parameters = []; body = commands_from t.body.line.value t.body.at }
 turning_of_none t e =
     (λ i. record { index = (e i).0; course = course_view t.course; parameters = map parameter_tree (drop t.parameter (e i).1); body = commands_from t.body.line.value t.body.at })
     ∙ (λ i. record { index = []; course = course_view t.course; parameters = map parameter_tree (none_left t.parameter [] (omega arith) i); body = commands_from t.body.line.value t.body.at })
 
 -- and of one with an index
-pub turning_of : (t : Turns) (index : Text) (parameters : List Parameter) → loop_before t.body.line.value t.body.at ≡ (index, parameters)
+pub turning_of : (t : ForLoop) (index : Text) (parameters : List Parameter) → loop_before t.body.line.value t.body.at ≡ (index, parameters)
     → turning t ≡ record { index = index; course = course_view t.course; parameters = map parameter_tree (drop t.parameter parameters); body = commands_from t.body.line.value t.body.at }
 turning_of t index parameters e = λ i. record { index = (e i).0; course = course_view t.course; parameters = map parameter_tree (drop t.parameter (e i).1); body = commands_from t.body.line.value t.body.at }
 
 -- ---- calls
 
-module _ {S : Type 0} {g : Ghosts S} (d : Spot) (index : Text) (body : List CommandTree) where
+module _ {S : Type 0} {g : Ghosts S} (d : Position) (index : Text) (body : List CommandTree) where
   -- a parameter is begun, and then the turns go on
-  pub parameter_runs : (ps : List Parameter) (k : ℕ) (p : Parameter) {X : Type 0} {view : X → Option Course} {o : X} {fs fs' : List View} {old mid new : Parts S} {r : Result Signal Code} → k < length ps → p ≡ get_or ps k p
+  pub parameter_runs : (ps : List Parameter) (k : ℕ) (p : Parameter) {X : Type 0} {view : X → Option Course} {o : X} {fs fs' : List View} {old mid new : Parts S} {r : Result Completion Code} → k < length ps → p ≡ get_or ps k p
       → DoesAt g (λ a n. started (inside a n d.depth) index (parameter_tree p)) view old (Ok o) mid → mid.eval.steps ≤ old.eval.steps
       → Runs g (λ a n. begun (context a n d) index body (map parameter_tree (drop (k + 1) ps)) (view o)) fs mid r fs' new
       → Runs g (λ a n. next_parameter (context a n d) index body (map parameter_tree (drop k ps))) fs old r fs' new
@@ -133,7 +133,7 @@ module _ {S : Type 0} {g : Ghosts S} (d : Spot) (index : Text) (body : List Comm
       (runs_as (λ a n. next_is (context a n d) index body (parameter_tree p) (map parameter_tree (drop (k + 1) ps)))
       (runs_then (λ a n. begun (context a n d) index body (map parameter_tree (drop (k + 1) ps))) does few then_runs))
 
-  pub parameter_stopped : (ps : List Parameter) (k : ℕ) (p : Parameter) {X : Type 0} {view : X → Option Course} {fs fs' : List View} {old new : Parts S} {r : Result Signal Code} {e : Code} → k < length ps → p ≡ get_or ps k p
+  pub parameter_stopped : (ps : List Parameter) (k : ℕ) (p : Parameter) {X : Type 0} {view : X → Option Course} {fs fs' : List View} {old new : Parts S} {r : Result Completion Code} {e : Code} → k < length ps → p ≡ get_or ps k p
       → DoesAt g (λ a n. started (inside a n d.depth) index (parameter_tree p)) view old (Err e) new → new.eval.steps ≤ old.eval.steps → IsErr r × IsErrAnd r (λ x. x ≡ e)
       → Runs g (λ a n. next_parameter (context a n d) index body (map parameter_tree (drop k ps))) fs old r fs' new
   parameter_stopped ps k p {fs = fs} {fs' = fs'} {old = old} {new = new} {r = r} less is does few h =
@@ -142,32 +142,32 @@ module _ {S : Type 0} {g : Ghosts S} (d : Spot) (index : Text) (body : List Comm
       (runs_stopped (λ a n. begun (context a n d) index body (map parameter_tree (drop (k + 1) ps))) does few h))
 
 -- a turn of turns as the frames have them
-pub begun_runs : {S : Type 0} {g : Ghosts S} {fs fs' : List View} {old new : Parts S} {r : Result Signal Code} (t : Turns) (index : Text) (parameters : List Parameter) → loop_before t.body.line.value t.body.at ≡ (index, parameters)
-    → Runs g (λ a n. begin_turn (context a n (spot_of t.body.spot.value)) (turning t)) fs old r fs' new
-    → Runs g (λ a n. begin_turn (context a n (spot_of t.body.spot.value)) (record { index = index; course = course_view t.course; parameters = map parameter_tree (drop t.parameter parameters); body = commands_from t.body.line.value t.body.at })) fs old r fs' new
-begun_runs t index parameters e k = runs_as (λ a n. ap (begin_turn (context a n (spot_of t.body.spot.value))) (sym (turning_of t index parameters e))) k
+pub begun_runs : {S : Type 0} {g : Ghosts S} {fs fs' : List View} {old new : Parts S} {r : Result Completion Code} (t : ForLoop) (index : Text) (parameters : List Parameter) → loop_before t.body.line.value t.body.at ≡ (index, parameters)
+    → Runs g (λ a n. begin_turn (context a n (position_of t.body.position.value)) (turning t)) fs old r fs' new
+    → Runs g (λ a n. begin_turn (context a n (position_of t.body.position.value)) (record { index = index; course = course_view t.course; parameters = map parameter_tree (drop t.parameter parameters); body = commands_from t.body.line.value t.body.at })) fs old r fs' new
+begun_runs t index parameters e k = runs_as (λ a n. ap (begin_turn (context a n (position_of t.body.position.value))) (sym (turning_of t index parameters e))) k
 
 -- the parameters that are left, once its index and its parameters are known
-pub further_runs : {S : Type 0} {g : Ghosts S} {fs fs' : List View} {old new : Parts S} {r : Result Signal Code} (t : Turns) (index : Text) (parameters : List Parameter) → loop_before t.body.line.value t.body.at ≡ (index, parameters)
-    → Runs g (λ a n. next_parameter (context a n (spot_of t.body.spot.value)) index (commands_from t.body.line.value t.body.at) (map parameter_tree (drop t.parameter parameters))) fs old r fs' new
-    → Runs g (λ a n. next_parameter (context a n (spot_of t.body.spot.value)) (turning t).index (turning t).body (turning t).parameters) fs old r fs' new
-further_runs t index parameters e k = runs_as (λ a n. ap (λ u. next_parameter (context a n (spot_of t.body.spot.value)) u.index u.body u.parameters) (turning_of t index parameters e)) k
+pub further_runs : {S : Type 0} {g : Ghosts S} {fs fs' : List View} {old new : Parts S} {r : Result Completion Code} (t : ForLoop) (index : Text) (parameters : List Parameter) → loop_before t.body.line.value t.body.at ≡ (index, parameters)
+    → Runs g (λ a n. next_parameter (context a n (position_of t.body.position.value)) index (commands_from t.body.line.value t.body.at) (map parameter_tree (drop t.parameter parameters))) fs old r fs' new
+    → Runs g (λ a n. next_parameter (context a n (position_of t.body.position.value)) (turning t).index (turning t).body (turning t).parameters) fs old r fs' new
+further_runs t index parameters e k = runs_as (λ a n. ap (λ u. next_parameter (context a n (position_of t.body.position.value)) u.index u.body u.parameters) (turning_of t index parameters e)) k
 
 -- and none of a FOR without an index
-pub no_parameters_run : {S : Type 0} {g : Ghosts S} {fs : List View} {old : Parts S} (t : Turns) → loop_before t.body.line.value t.body.at ≡ ([], [])
-    → Runs g (λ a n. next_parameter (context a n (spot_of t.body.spot.value)) (turning t).index (turning t).body (turning t).parameters) fs old (Ok signal.Skips) fs old
-no_parameters_run t e = runs_as (λ a n. ap (λ u. next_parameter (context a n (spot_of t.body.spot.value)) u.index u.body u.parameters) (turning_of_none t e)) (runs_signal signal.Skips)
+pub no_parameters_run : {S : Type 0} {g : Ghosts S} {fs : List View} {old : Parts S} (t : ForLoop) → loop_before t.body.line.value t.body.at ≡ ([], [])
+    → Runs g (λ a n. next_parameter (context a n (position_of t.body.position.value)) (turning t).index (turning t).body (turning t).parameters) fs old (Ok completion.Skips) fs old
+no_parameters_run t e = runs_as (λ a n. ap (λ u. next_parameter (context a n (position_of t.body.position.value)) u.index u.body u.parameters) (turning_of_none t e)) (runs_completion completion.Skips)
 
-module _ {S : Type 0} {g : Ghosts S} (t : Turns) {fs fs' : List View} where
-  pub one_more : {old mid new : Parts S} {r : Result Signal Code} → DoesAt g (λ a n. advanced (turning t).index (course_view t.course)) (λ (b : Bool). b) old (Ok true) mid → mid.eval.steps ≤ old.eval.steps
-      → Runs g (λ a n. begin_turn (context a n (spot_of t.body.spot.value)) (turning t)) fs mid r fs' new → Runs g (λ a n. after_course (context a n (spot_of t.body.spot.value)) (turning t) (course_view t.course)) fs old r fs' new
-  one_more does few k = runs_as (λ a n. course_is (context a n (spot_of t.body.spot.value)) (turning t) (course_view t.course)) (runs_then (λ a n. gone_on (context a n (spot_of t.body.spot.value)) (turning t)) does few k)
+module _ {S : Type 0} {g : Ghosts S} (t : ForLoop) {fs fs' : List View} where
+  pub one_more : {old mid new : Parts S} {r : Result Completion Code} → DoesAt g (λ a n. advanced (turning t).index (course_view t.course)) (λ (b : Bool). b) old (Ok true) mid → mid.eval.steps ≤ old.eval.steps
+      → Runs g (λ a n. begin_turn (context a n (position_of t.body.position.value)) (turning t)) fs mid r fs' new → Runs g (λ a n. after_course (context a n (position_of t.body.position.value)) (turning t) (course_view t.course)) fs old r fs' new
+  one_more does few k = runs_as (λ a n. course_is (context a n (position_of t.body.position.value)) (turning t) (course_view t.course)) (runs_then (λ a n. gone_on (context a n (position_of t.body.position.value)) (turning t)) does few k)
 
-  pub no_more : {old mid new : Parts S} {r : Result Signal Code} → DoesAt g (λ a n. advanced (turning t).index (course_view t.course)) (λ (b : Bool). b) old (Ok false) mid → mid.eval.steps ≤ old.eval.steps
-      → Runs g (λ a n. next_parameter (context a n (spot_of t.body.spot.value)) (turning t).index (turning t).body (turning t).parameters) fs mid r fs' new
-      → Runs g (λ a n. after_course (context a n (spot_of t.body.spot.value)) (turning t) (course_view t.course)) fs old r fs' new
-  no_more does few k = runs_as (λ a n. course_is (context a n (spot_of t.body.spot.value)) (turning t) (course_view t.course)) (runs_then (λ a n. gone_on (context a n (spot_of t.body.spot.value)) (turning t)) does few k)
+  pub no_more : {old mid new : Parts S} {r : Result Completion Code} → DoesAt g (λ a n. advanced (turning t).index (course_view t.course)) (λ (b : Bool). b) old (Ok false) mid → mid.eval.steps ≤ old.eval.steps
+      → Runs g (λ a n. next_parameter (context a n (position_of t.body.position.value)) (turning t).index (turning t).body (turning t).parameters) fs mid r fs' new
+      → Runs g (λ a n. after_course (context a n (position_of t.body.position.value)) (turning t) (course_view t.course)) fs old r fs' new
+  no_more does few k = runs_as (λ a n. course_is (context a n (position_of t.body.position.value)) (turning t) (course_view t.course)) (runs_then (λ a n. gone_on (context a n (position_of t.body.position.value)) (turning t)) does few k)
 
-  pub not_gone_on : {old new : Parts S} {r : Result Signal Code} {c : Code} → DoesAt g (λ a n. advanced (turning t).index (course_view t.course)) (λ (b : Bool). b) old (Err c) new → new.eval.steps ≤ old.eval.steps → IsErr r × IsErrAnd r (λ x. x ≡ c)
-      → Runs g (λ a n. after_course (context a n (spot_of t.body.spot.value)) (turning t) (course_view t.course)) fs old r fs' new
-  not_gone_on does few h = runs_as (λ a n. course_is (context a n (spot_of t.body.spot.value)) (turning t) (course_view t.course)) (runs_stopped (λ a n. gone_on (context a n (spot_of t.body.spot.value)) (turning t)) does few h)
+  pub not_gone_on : {old new : Parts S} {r : Result Completion Code} {c : Code} → DoesAt g (λ a n. advanced (turning t).index (course_view t.course)) (λ (b : Bool). b) old (Err c) new → new.eval.steps ≤ old.eval.steps → IsErr r × IsErrAnd r (λ x. x ≡ c)
+      → Runs g (λ a n. after_course (context a n (position_of t.body.position.value)) (turning t) (course_view t.course)) fs old r fs' new
+  not_gone_on does few h = runs_as (λ a n. course_is (context a n (position_of t.body.position.value)) (turning t) (course_view t.course)) (runs_stopped (λ a n. gone_on (context a n (position_of t.body.position.value)) (turning t)) does few h)

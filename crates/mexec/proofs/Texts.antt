@@ -15,31 +15,31 @@ use Rattle.moperator.specs.declared.code.Code.TheVariants.{Zsyntax, Zstore}
 use Rattle.meval.specs.Evaluates.{standing_of}
 use Rattle.mcommand.specs.declared.parts.Parts.{Parts}
 use Rattle.mcommand.specs.Does.{DoesAt, here_of}
-use Rattle.mexec.specs.declared.signal.Signal.{Signal}
-use Rattle.mexec.specs.declared.signal.Signal.TheVariants as signal
+use Rattle.mexec.specs.declared.completion.Completion.{Completion}
+use Rattle.mexec.specs.declared.completion.Completion.TheVariants as completion
 use Rattle.mexec.specs.declared.run.Ended.{Ended}
 use Rattle.mexec.specs.declared.run.Ended.TheVariants.{Done, Halt, Fault}
-use Rattle.mexec.specs.Frames.{signal_of}
+use Rattle.mexec.specs.Frames.{completion_of}
 use Rattle.mexec.specs.Runs.{RunsText, EndsBy, ending_of}
 
--- no signal ends a line with a code
-no_fault : (c : Code) (s : Signal) → ending_of (Fault c) ≡ transition.ending_of (signal_of s) → ⊥
-no_fault c signal.GoOn e = cc
-no_fault c signal.Skips e = cc
-no_fault c signal.Quits e = cc
-no_fault c (signal.Goes t) e = cc
-no_fault c signal.Halts e = cc
+-- no completion ends a line with a code
+no_fault : (c : Code) (s : Completion) → ending_of (Fault c) ≡ transition.ending_of (completion_of s) → ⊥
+no_fault c completion.GoOn e = cc
+no_fault c completion.Skips e = cc
+no_fault c completion.Quits e = cc
+no_fault c (completion.Goes t) e = cc
+no_fault c completion.Halts e = cc
 
-ends_by : (b : Standing) (steady : Type 0) (p : Act meaning.Signal) (h : Here) (e : Ended) (s : Signal) (h' : Here) → ending_of e ≡ transition.ending_of (signal_of s) → Gave b p h (signal_of s) h' → EndsBy b steady p h e h'
-ends_by b steady p h Done s h' is gave = (signal_of s, sym is, gave)
-ends_by b steady p h Halt s h' is gave = (signal_of s, sym is, gave)
+ends_by : (b : Standing) (steady : Type 0) (p : Act meaning.Completion) (h : Here) (e : Ended) (s : Completion) (h' : Here) → ending_of e ≡ transition.ending_of (completion_of s) → Gave b p h (completion_of s) h' → EndsBy b steady p h e h'
+ends_by b steady p h Done s h' is gave = (completion_of s, sym is, gave)
+ends_by b steady p h Halt s h' is gave = (completion_of s, sym is, gave)
 ends_by b steady p h (Fault c) s h' is gave = absurd (no_fault c s is)
 
 module _ {S : Type 0} {g : Ghosts S} where
   pub refused : (o : Option LineTree) (parts : Parts S) → o ≡ None → RunsText g o parts (Fault Zsyntax) parts
   refused o parts e = subst (λ o. RunsText g o parts (Fault Zsyntax) parts) (sym e) (record { at = λ sound. refl; fewer = omega arith })
 
-  pub done : (o : Option LineTree) (l : LineTree) (old new : Parts S) (e : Ended) (s : Signal) → o ≡ Some l → ending_of e ≡ transition.ending_of (signal_of s) → DoesAt g (λ a n. run_within a n (commands_of l)) signal_of old (Ok s) new
+  pub done : (o : Option LineTree) (l : LineTree) (old new : Parts S) (e : Ended) (s : Completion) → o ≡ Some l → ending_of e ≡ transition.ending_of (completion_of s) → DoesAt g (λ a n. run_within a n (commands_of l)) completion_of old (Ok s) new
       → new.eval.steps ≤ old.eval.steps → RunsText g o old e new
   done o l old new e s some is d few = subst (λ o. RunsText g o old e new) (sym some) (record {
     at = λ sound.
@@ -49,7 +49,7 @@ module _ {S : Type 0} {g : Ghosts S} where
     fewer = few;
   })
 
-  pub failed : (o : Option LineTree) (l : LineTree) (old new : Parts S) (c : Code) → o ≡ Some l → DoesAt g (λ a n. run_within a n (commands_of l)) signal_of old (Err c) new → new.eval.steps ≤ old.eval.steps → RunsText g o old (Fault c) new
+  pub failed : (o : Option LineTree) (l : LineTree) (old new : Parts S) (c : Code) → o ≡ Some l → DoesAt g (λ a n. run_within a n (commands_of l)) completion_of old (Err c) new → new.eval.steps ≤ old.eval.steps → RunsText g o old (Fault c) new
   failed o l old new c some d few = subst (λ o. RunsText g o old (Fault c) new) (sym some) (record {
     at = λ sound. let did = d.at sound in did.at old.eval.steps (omega arith);
     fewer = few;

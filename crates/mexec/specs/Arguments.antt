@@ -5,20 +5,20 @@ use Rattle.mspec.specs.Act.{Act, ◌>>=◌, give}
 use Rattle.mgrammar.specs.Grammar.{ExprTree, EntryTree, PrimaryTree, FormTree, ArgTree, do_one, executed, indirect_args}
 use Rattle.mgrammar.specs.Commands.{form_of}
 use Rattle.mmeaning.specs.LineMeaning as meaning
-use Rattle.mmeaning.specs.LineMeaning.{Spot, Go_on, Context, inside_of, holds, after, argument, arguments, doing, executing}
+use Rattle.mmeaning.specs.LineMeaning.{Position, Go_on, Context, inside_of, holds, after, argument, arguments, doing, executing}
 use Rattle.mmeaning.specs.Frames.{View, Lists}
 use Rattle.mtree.specs.Tree.{entry_tree, expr_tree, keyword_tree, primary_tree}
 use Rattle.moperator.specs.declared.code.Code.{Code}
 use Rattle.mexec.specs.declared.arguments.Begun.{Begun}
 use Rattle.mexec.specs.declared.arguments.Begun.TheVariants as begun
-use Rattle.mexec.specs.declared.signal.Signal.{Signal}
-use Rattle.mexec.specs.declared.signal.Signal.TheVariants as signal
-use Rattle.mexec.specs.Frames.{signal_of}
+use Rattle.mexec.specs.declared.completion.Completion.{Completion}
+use Rattle.mexec.specs.declared.completion.Completion.TheVariants as completion
+use Rattle.mexec.specs.Frames.{completion_of}
 
--- what an argument leaves to be done: nothing, once it has given its signal; the lines from one on; a text; or arguments of a form that
+-- what an argument leaves to be done: nothing, once it has given its completion; the lines from one on; a text; or arguments of a form that
 -- the value of an operand gives
 pub data Start : Type 0 where
-  gave : meaning.Signal → Start
+  gave : meaning.Completion → Start
   into_lines : EntryTree → Start
   into_text : ExprTree → Start
   into_given : FormTree → PrimaryTree → Start
@@ -29,7 +29,7 @@ started x (executed e c) = holds (inside_of x) c >>= (λ b. give (cond b (into_t
 started x (indirect_args f p) = give (into_given f p)
 started x a = argument x a >>= (λ s. give (gave s))
 
-abbrev pub finished : Context → Start → Act meaning.Signal
+abbrev pub finished : Context → Start → Act meaning.Completion
 finished x (gave s) = give s
 finished x (into_lines e) = doing x e
 finished x (into_text e) = executing x e
@@ -37,33 +37,33 @@ finished x (into_given f p) = meaning.given x f p
 
 -- the same of the program
 abbrev pub start_of : Begun → Start
-start_of (begun.Gave s) = gave (signal_of s)
+start_of (begun.Gave s) = gave (completion_of s)
 start_of (begun.Lines e) = into_lines (entry_tree e.now)
 start_of (begun.Text e) = into_text (expr_tree e.now)
-start_of (begun.Given k p) = into_given (form_of (keyword_tree k)) (primary_tree p.now)
+start_of (begun.Indirect k p) = into_given (form_of (keyword_tree k)) (primary_tree p.now)
 
--- an argument that gave its signal
-abbrev pub given : Result Signal Code → Result Begun Code
+-- an argument that gave its completion
+abbrev pub given : Result Completion Code → Result Begun Code
 given (Ok s) = Ok (begun.Gave s)
 given (Err c) = Err c
 
 -- one that enters where its condition holds
 abbrev pub where_applies : Result Bool Code → Begun → Result Begun Code
 where_applies (Ok true) b = Ok b
-where_applies (Ok false) b = Ok (begun.Gave signal.GoOn)
+where_applies (Ok false) b = Ok (begun.Gave completion.GoOn)
 where_applies (Err c) b = Err c
 
 -- the rest of a command's arguments on top of frames, where there are some
-abbrev pub listing : Spot → List ArgTree → List View → List View
+abbrev pub listing : Position → List ArgTree → List View → List View
 listing p [] fs = fs
 listing p (a ∷ rest) fs = Lists p (a ∷ rest) ∷ fs
 
 -- what is entered, and then the arguments behind it
-abbrev pub lines_then : Context → EntryTree → List ArgTree → Act meaning.Signal
+abbrev pub lines_then : Context → EntryTree → List ArgTree → Act meaning.Completion
 lines_then x e rest = doing x e >>= (λ s. after s (arguments x rest))
 
-abbrev pub text_then : Context → ExprTree → List ArgTree → Act meaning.Signal
+abbrev pub text_then : Context → ExprTree → List ArgTree → Act meaning.Completion
 text_then x e rest = executing x e >>= (λ s. after s (arguments x rest))
 
-abbrev pub given_then : Context → FormTree → PrimaryTree → List ArgTree → Act meaning.Signal
+abbrev pub given_then : Context → FormTree → PrimaryTree → List ArgTree → Act meaning.Completion
 given_then x f p rest = meaning.given x f p >>= (λ s. after s (arguments x rest))

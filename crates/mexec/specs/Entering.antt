@@ -4,8 +4,8 @@ use Rattle.std.specs.Prelude.{ℕ, ◌+◌, cond, nat_lt, ◌==◌, List, [], �
 use Rattle.mspec.specs.Act.{Text, Act, ◌>>=◌, ◌>>◌, give, charge}
 use Rattle.mgrammar.specs.RoutineLine.{BodyTree, short, spaced_out, dots_of}
 use Rattle.mmeaning.specs.Expression.{Depth}
-use Rattle.mmeaning.specs.Levels.{Spot, Target, Closing, commands_of}
-use Rattle.mmeaning.specs.LineMeaning.{Signal, Context, line_entered, closed}
+use Rattle.mmeaning.specs.Levels.{Position, Target, Closing, commands_of}
+use Rattle.mmeaning.specs.LineMeaning.{Completion, Context, line_entered, closed}
 use Rattle.mmeaning.specs.Frames.{View, Rests, Levels}
 
 -- the place of the line that is entered, where these stand from a place on; none where the level ends
@@ -19,26 +19,26 @@ next_reached dots copy None = give None
 next_reached dots copy (Some n) = reached dots n (drop n copy)
 
 -- a line is entered, and then its level closes or goes on
-abbrev pub entering : Context → Closing → ℕ → Text → Act Signal
+abbrev pub entering : Context → Closing → ℕ → Text → Act Completion
 entering x c n text = charge >> (line_entered x n text >>= closed c)
 
 -- the same level, where another line comes next
-abbrev pub at_next : Spot → ℕ → Spot
+abbrev pub at_next : Position → ℕ → Position
 at_next p n = record p { level = record p.level { next = Some n } }
 
 -- and where a GOTO leads
-abbrev pub at_target : Spot → Target → Spot
+abbrev pub at_target : Position → Target → Position
 at_target p t = record p { level = record p.level { copy = t.copy; next = Some t.line } }
 
 -- the same level, so deep
-abbrev pub so_deep : Depth → Spot → Spot
+abbrev pub so_deep : Depth → Position → Position
 so_deep depth p = record { depth = depth; level = p.level }
 
 -- a text of XECUTE stands in a level that has the lines of its own, so deep
-abbrev pub text_spot : Depth → Spot → Spot
-text_spot depth p = record { depth = depth; level = record { copy = p.level.copy; next = None; dots = 0 } }
+abbrev pub text_position : Depth → Position → Position
+text_position depth p = record { depth = depth; level = record { copy = p.level.copy; next = None; dots = 0 } }
 
 -- what is behind a label, on top of its level
-abbrev pub on_body : Spot → Closing → BodyTree → List View → List View
+abbrev pub on_body : Position → Closing → BodyTree → List View → List View
 on_body p c (short comment) fs = Levels p c ∷ fs
 on_body p c (spaced_out dots l) fs = Rests p (commands_of l) ∷ Levels p c ∷ fs

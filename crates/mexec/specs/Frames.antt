@@ -4,7 +4,7 @@ use Rattle.std.specs.Prelude.{◌≡◌, ℕ, ◌≤◌, List, [], ◌∷◌, Re
 use Rattle.mspec.specs.Act.{Text, Act}
 use Rattle.mgrammar.specs.Grammar.{CommandTree}
 use Rattle.mmeaning.specs.LineMeaning as meaning
-use Rattle.mmeaning.specs.LineMeaning.{Spot, Turning}
+use Rattle.mmeaning.specs.LineMeaning.{Position, Turning}
 use Rattle.mmeaning.specs.Calls.{Follows}
 use Rattle.mmeaning.specs.Levels as levels
 use Rattle.mmeaning.specs.Frames.{View, Rests, Lists, Turns, Levels, left, Enough, MovedOn}
@@ -21,30 +21,30 @@ use Rattle.mcommand.specs.Targets.{target_view}
 use Rattle.mcommand.specs.Turns.{course_view}
 pub use Rattle.mexec.specs.Loops.{loop_in, args_of, args_before, loop_before}
 use Rattle.mexec.specs.declared.frames.Level as level
-use Rattle.mexec.specs.declared.frames.Spot as spot
+use Rattle.mexec.specs.declared.frames.Position as position
 use Rattle.mexec.specs.declared.frames.Closing.{Closing}
 use Rattle.mexec.specs.declared.frames.Closing.TheVariants as closing
-use Rattle.mexec.specs.declared.frames.Rest.{Rest}
-use Rattle.mexec.specs.declared.frames.Turns as turns
+use Rattle.mexec.specs.declared.frames.Continuation.{Continuation}
+use Rattle.mexec.specs.declared.frames.ForLoop as loops
 use Rattle.mexec.specs.declared.frames.Frame.{Frame}
 use Rattle.mexec.specs.declared.frames.Frame.TheVariants as frame
-use Rattle.mexec.specs.declared.signal.Signal.{Signal}
-use Rattle.mexec.specs.declared.signal.Signal.TheVariants as signal
+use Rattle.mexec.specs.declared.completion.Completion.{Completion}
+use Rattle.mexec.specs.declared.completion.Completion.TheVariants as completion
 use Rattle.mexec.specs.declared.source.Source.{Source}
 use Rattle.mexec.specs.declared.source.Source.TheVariants as source
 
-abbrev pub signal_of : Signal → meaning.Signal
-signal_of signal.GoOn = meaning.Go_on
-signal_of signal.Skips = meaning.Skips
-signal_of signal.Quits = meaning.Quits
-signal_of (signal.Goes t) = meaning.Goes (target_view t)
-signal_of signal.Halts = meaning.Halts
+abbrev pub completion_of : Completion → meaning.Completion
+completion_of completion.GoOn = meaning.Go_on
+completion_of completion.Skips = meaning.Skips
+completion_of completion.Quits = meaning.Quits
+completion_of (completion.Goes t) = meaning.Goes (target_view t)
+completion_of completion.Halts = meaning.Halts
 
 abbrev pub level_of : level.Level → levels.Level
 level_of l = record { copy = l.copy.value.items; next = l.next; dots = l.dots }
 
-abbrev pub spot_of : spot.Spot → Spot
-spot_of p = record { depth = depth_of p.depth; level = level_of p.level }
+abbrev pub position_of : position.Position → Position
+position_of p = record { depth = depth_of p.depth; level = level_of p.level }
 
 abbrev pub closing_of : Closing → levels.Closing
 closing_of closing.Stays = levels.stays
@@ -52,37 +52,37 @@ closing_of closing.Leaves = levels.leaves
 closing_of (closing.Restores test) = levels.restores test
 
 -- a command that is done goes on with what is next
-abbrev pub went : Result (Unit {0}) Code → Result Signal Code
-went (Ok u) = Ok signal.GoOn
+abbrev pub went : Result (Unit {0}) Code → Result Completion Code
+went (Ok u) = Ok completion.GoOn
 went (Err c) = Err c
 
 -- the commands of a line from a place on
 abbrev pub commands_from : Line → ℕ → List CommandTree
 commands_from l at = map (λ c. c.0) (map spaced_tree (drop at l.commands.items))
 
-abbrev pub rest_tree : Rest → List CommandTree
+abbrev pub rest_tree : Continuation → List CommandTree
 rest_tree r = commands_from r.line.value r.at
 
-abbrev pub turning : turns.Turns → Turning
+abbrev pub turning : loops.ForLoop → Turning
 turning t =
     let found = loop_before t.body.line.value t.body.at in
     record { index = found.0; course = course_view t.course; parameters = map parameter_tree (drop t.parameter found.1); body = rest_tree t.body }
 
 -- where arguments are done, and which they are
-abbrev pub source_spot : Source → spot.Spot
-source_spot (source.Line behind) = behind.now.spot.value
-source_spot (source.Text given) = given.now.value.spot
+abbrev pub source_position : Source → position.Position
+source_position (source.Line behind) = behind.now.position.value
+source_position (source.Text given) = given.now.value.position
 
 abbrev pub source_args : Source → List Arg
 source_args (source.Line behind) = args_before behind.now.line.value behind.now.at
 source_args (source.Text given) = given.now.value.args.items
 
 abbrev pub view : Frame → View
-view (frame.Rest r) = Rests (spot_of r.spot.value) (rest_tree r)
-view (frame.List l) = Lists (spot_of l.behind.spot.value) (map arg_tree (drop l.argument (args_before l.behind.line.value l.behind.at)))
-view (frame.Given g argument) = Lists (spot_of g.value.spot) (map arg_tree (drop argument g.value.args.items))
-view (frame.Turns t) = Turns (spot_of t.value.body.spot.value) (turning t.value)
-view (frame.Level p c) = Levels (spot_of p.value) (closing_of c)
+view (frame.Continuation r) = Rests (position_of r.position.value) (rest_tree r)
+view (frame.PendingArguments l) = Lists (position_of l.behind.position.value) (map arg_tree (drop l.argument (args_before l.behind.line.value l.behind.at)))
+view (frame.IndirectArguments g argument) = Lists (position_of g.value.position) (map arg_tree (drop argument g.value.args.items))
+view (frame.ForLoop t) = Turns (position_of t.value.body.position.value) (turning t.value)
+view (frame.Level p c) = Levels (position_of p.value) (closing_of c)
 
 -- the last frame pushed is on top
 abbrev pub stacked : List View → List Frame → List View
@@ -93,19 +93,19 @@ abbrev pub stack : List Frame → List View
 stack fs = stacked [] fs
 
 -- the rest of a line on top of frames, where there is some
-abbrev pub resting : Spot → List CommandTree → List View → List View
+abbrev pub resting : Position → List CommandTree → List View → List View
 resting p [] fs = fs
 resting p (c ∷ cs) fs = Rests p (c ∷ cs) ∷ fs
 
 -- a call does an act before some frames, and leaves frames that have to do what is then left
-pub record Runs {S : Type 0} (g : Ghosts S) (p : Text → ℕ → Act meaning.Signal) (fs : List View) (old : Parts S) (r : Result Signal Code) (fs' : List View) (new : Parts S) : Type 0 where
+pub record Runs {S : Type 0} (g : Ghosts S) (p : Text → ℕ → Act meaning.Completion) (fs : List View) (old : Parts S) (r : Result Completion Code) (fs' : List View) (new : Parts S) : Type 0 where
   pub at : g.sound → (n : ℕ) (ns : List ℕ) → old.eval.steps ≤ n → Enough old.eval.steps fs ns →
-      MovedOn (standing_of old.eval) g.steady fault_of signal_of (p (standing_of old.eval).account n) (left (standing_of old.eval).account fs ns) (here_of g old) r fs' (here_of g new)
+      MovedOn (standing_of old.eval) g.steady fault_of completion_of (p (standing_of old.eval).account n) (left (standing_of old.eval).account fs ns) (here_of g old) r fs' (here_of g new)
   pub fewer : new.eval.steps ≤ old.eval.steps
   pub same : standing_of new.eval ≡ standing_of old.eval
 
--- what the frames have to do with a signal is what is left of an act
-pub record Leads {S : Type 0} (g : Ghosts S) (p : Text → ℕ → Act meaning.Signal) (old : Parts S) (fs : List View) (s : meaning.Signal) (new : Parts S) : Type 0 where
+-- what the frames have to do with a completion is what is left of an act
+pub record Leads {S : Type 0} (g : Ghosts S) (p : Text → ℕ → Act meaning.Completion) (old : Parts S) (fs : List View) (s : meaning.Completion) (new : Parts S) : Type 0 where
   pub at : g.sound → (n : ℕ) → old.eval.steps ≤ n →
       (ns : List ℕ) × Enough new.eval.steps fs ns ×
       Follows (standing_of old.eval) (p (standing_of old.eval).account n) (here_of g old) (left (standing_of old.eval).account fs ns s) (here_of g new)

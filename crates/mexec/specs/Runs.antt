@@ -3,7 +3,7 @@
 use Rattle.std.specs.Prelude.{◌≡◌, ◌≤◌, Option}
 use Rattle.mspec.specs.Act.{Act}
 use Rattle.mgrammar.specs.Grammar.{LineTree}
-use Rattle.mmeaning.specs.LineMeaning.{Signal}
+use Rattle.mmeaning.specs.LineMeaning.{Completion}
 use Rattle.mmeaning.specs.Transition as transition
 use Rattle.mmeaning.specs.Transition.{Ending, Finished, Halted, Faulted, text_run}
 use Rattle.mmeaning.specs.Calls.{Standing, Here, Gave, FailedBy}
@@ -20,11 +20,11 @@ ending_of ended.Done = Finished
 ending_of ended.Halt = Halted
 ending_of (ended.Fault c) = Faulted (fault_of c)
 
--- the act gave a signal that ends a line so
-abbrev pub GaveEnding : Standing → Act Signal → Here → Ending → Here → Type 0
-GaveEnding b p h ending h' = (s : Signal) × (transition.ending_of s ≡ ending) × Gave b p h s h'
+-- the act gave a completion that ends a line so
+abbrev pub GaveEnding : Standing → Act Completion → Here → Ending → Here → Type 0
+GaveEnding b p h ending h' = (s : Completion) × (transition.ending_of s ≡ ending) × Gave b p h s h'
 
-abbrev pub EndsBy : Standing → (steady : Type 0) → Act Signal → Here → Ended → Here → Type 0
+abbrev pub EndsBy : Standing → (steady : Type 0) → Act Completion → Here → Ended → Here → Type 0
 EndsBy b steady p h ended.Done h' = GaveEnding b p h Finished h'
 EndsBy b steady p h ended.Halt h' = GaveEnding b p h Halted h'
 EndsBy b steady p h (ended.Fault c) h' = FailedBy b steady p h (fault_of c) h'

@@ -6,16 +6,16 @@ ghost use Rattle.mmeaning.specs.LineMeaning as meaning;
 ghost use Rattle.mmeaning.specs.LineMeaning.{context};
 ghost use Rattle.mtree.specs.Tree.{arg_tree, entry_tree, expr_tree, keyword_tree, primary_tree};
 ghost use Rattle.mcommand.specs.Does.{DoesAt, KeepsLoans};
-ghost use Rattle.mexec.specs.Frames.{Runs, source_args, source_spot, spot_of, stack};
+ghost use Rattle.mexec.specs.Frames.{Runs, source_args, source_position, position_of, stack};
 ghost use Rattle.mexec.specs.Arguments.{started, start_of, given, where_applies, lines_then, text_then, given_then};
 
 use crate::commands::holds;
 use crate::direct::direct_argument;
 use crate::entering::{doing, executing};
-use crate::frames::Spot;
+use crate::frames::Position;
 use crate::indirection::giving;
-use crate::machine::Machine;
-use crate::signal::Signal;
+use crate::scratch::Scratch;
+use crate::completion::Completion;
 use crate::source::Source;
 use mcommand::Parts;
 use moperator::Code;
@@ -23,22 +23,22 @@ use mstore::NodeStore;
 use mtree::{Arg, Entry, Expr, Keyword, Primary};
 use std::alloc::Global;
 
-// What an argument leaves to be done: nothing, once it has given its signal; the lines from one on; a text; or the arguments that
+// What an argument leaves to be done: nothing, once it has given its completion; the lines from one on; a text; or the arguments that
 // the value of an operand gives.
 #[derive(Drop)]
 pub(crate) enum Begun<'t> {
-    Gave(Signal),
+    Gave(Completion),
     Lines(&'t Entry),
     Text(&'t Expr),
-    Given(Keyword, &'t Primary),
+    Indirect(Keyword, &'t Primary),
 }
 
-// An argument that gave its signal.
-fn gave<'t>(signal: Result<Signal, Code>) -> Result<Begun<'t>, Code>
-    ensures { result ≡ given signal }
+// An argument that gave its completion.
+fn gave<'t>(completion: Result<Completion, Code>) -> Result<Begun<'t>, Code>
+    ensures { result ≡ given completion }
 {
-    match signal {
-        Ok(signal) => Ok(Begun::Gave(signal)),
+    match completion {
+        Ok(completion) => Ok(Begun::Gave(completion)),
         Err(code) => Err(code),
     }
 }
@@ -49,7 +49,7 @@ fn enters<'t>(applies: Result<bool, Code>, begun: Begun<'t>) -> Result<Begun<'t>
 {
     match applies {
         Ok(true) => Ok(begun),
-        Ok(false) => Ok(Begun::Gave(Signal::GoOn)),
+        Ok(false) => Ok(Begun::Gave(Completion::GoOn)),
         Err(code) => Err(code),
     }
 }
@@ -58,26 +58,26 @@ fn enters<'t>(applies: Result<bool, Code>, begun: Begun<'t>) -> Result<Begun<'t>
 fn argument<'t, S: NodeStore>(
     alloc: Global,
     parts: &mut Parts<S>,
-    spot: &Spot,
+    position: &Position,
     arg: &'t Arg,
 ) -> Result<Begun<'t>, Code>
     ensures loans { KeepsLoans parts.old parts.new }
     ensures fewer { parts.new.eval.steps ≤ parts.old.eval.steps }
-    ensures does { DoesAt S.NodeStore (λ a n. started (context a n (spot_of spot.now)) (arg_tree arg.now)) start_of parts.old result parts.new }
+    ensures does { DoesAt S.NodeStore (λ a n. started (context a n (position_of position.now)) (arg_tree arg.now)) start_of parts.old result parts.new }
 {
     match arg {
-        Arg::Loop(_, _) => Ok(Begun::Gave(Signal::GoOn)),
+        Arg::Loop(_, _) => Ok(Begun::Gave(Completion::GoOn)),
         Arg::DoOne(entry, condition) => {
             enters(
-                holds(alloc, parts, spot.depth, condition),
+                holds(alloc, parts, position.depth, condition),
                 Begun::Lines(entry),
             )
         }
         Arg::Executed(e, condition) => {
-            enters(holds(alloc, parts, spot.depth, condition), Begun::Text(e))
+            enters(holds(alloc, parts, position.depth, condition), Begun::Text(e))
         }
-        Arg::Indirect(keyword, operand) => Ok(Begun::Given(*keyword, operand)),
-        _ => gave(direct_argument(alloc, parts, spot, arg)),
+        Arg::Indirect(keyword, operand) => Ok(Begun::Indirect(*keyword, operand)),
+        _ => gave(direct_argument(alloc, parts, position, arg)),
     }
 }
 
@@ -88,14 +88,14 @@ fn enter_lines<S: NodeStore>(
     source: Source,
     entry: &Entry,
     argument: usize,
-    machine: &mut Machine,
-) -> Result<Signal, Code>
+    scratch: &mut Scratch,
+) -> Result<Completion, Code>
     ensures loans { KeepsLoans parts.old parts.new }
-    ensures falls { IfOk result (λ _. 6 * parts.new.eval.steps + length machine.new.frames.items ≤ 6 * parts.old.eval.steps + length machine.old.frames.items) }
-    ensures does { Runs S.NodeStore (λ a n. lines_then (context a n (spot_of (source_spot source.entry))) (entry_tree entry.now) (map arg_tree (drop argument (source_args source.entry)))) (stack machine.old.frames.items) parts.old result (stack machine.new.frames.items) parts.new }
+    ensures falls { IfOk result (λ _. 6 * parts.new.eval.steps + length scratch.new.frames.items ≤ 6 * parts.old.eval.steps + length scratch.old.frames.items) }
+    ensures does { Runs S.NodeStore (λ a n. lines_then (context a n (position_of (source_position source.entry))) (entry_tree entry.now) (map arg_tree (drop argument (source_args source.entry)))) (stack scratch.old.frames.items) parts.old result (stack scratch.new.frames.items) parts.new }
 {
-    source.leave(argument, machine)?;
-    doing(alloc, parts, source.spot(), entry, machine)
+    source.leave(argument, scratch)?;
+    doing(alloc, parts, source.position(), entry, scratch)
 }
 
 // An argument that enters a text, before those from one on.
@@ -105,14 +105,14 @@ fn enter_text<S: NodeStore>(
     source: Source,
     e: &Expr,
     argument: usize,
-    machine: &mut Machine,
-) -> Result<Signal, Code>
+    scratch: &mut Scratch,
+) -> Result<Completion, Code>
     ensures loans { KeepsLoans parts.old parts.new }
-    ensures falls { IfOk result (λ _. 6 * parts.new.eval.steps + length machine.new.frames.items ≤ 6 * parts.old.eval.steps + length machine.old.frames.items) }
-    ensures does { Runs S.NodeStore (λ a n. text_then (context a n (spot_of (source_spot source.entry))) (expr_tree e.now) (map arg_tree (drop argument (source_args source.entry)))) (stack machine.old.frames.items) parts.old result (stack machine.new.frames.items) parts.new }
+    ensures falls { IfOk result (λ _. 6 * parts.new.eval.steps + length scratch.new.frames.items ≤ 6 * parts.old.eval.steps + length scratch.old.frames.items) }
+    ensures does { Runs S.NodeStore (λ a n. text_then (context a n (position_of (source_position source.entry))) (expr_tree e.now) (map arg_tree (drop argument (source_args source.entry)))) (stack scratch.old.frames.items) parts.old result (stack scratch.new.frames.items) parts.new }
 {
-    source.leave(argument, machine)?;
-    executing(alloc, parts, source.spot(), e, machine)
+    source.leave(argument, scratch)?;
+    executing(alloc, parts, source.position(), e, scratch)
 }
 
 // An argument in whose place the value of an operand gives some, before those from one on.
@@ -123,14 +123,14 @@ fn enter_given<S: NodeStore>(
     keyword: Keyword,
     operand: &Primary,
     argument: usize,
-    machine: &mut Machine,
-) -> Result<Signal, Code>
+    scratch: &mut Scratch,
+) -> Result<Completion, Code>
     ensures loans { KeepsLoans parts.old parts.new }
-    ensures falls { IfOk result (λ _. 6 * parts.new.eval.steps + length machine.new.frames.items ≤ 6 * parts.old.eval.steps + length machine.old.frames.items) }
-    ensures does { Runs S.NodeStore (λ a n. given_then (context a n (spot_of (source_spot source.entry))) (form_of (keyword_tree keyword)) (primary_tree operand.now) (map arg_tree (drop argument (source_args source.entry)))) (stack machine.old.frames.items) parts.old result (stack machine.new.frames.items) parts.new }
+    ensures falls { IfOk result (λ _. 6 * parts.new.eval.steps + length scratch.new.frames.items ≤ 6 * parts.old.eval.steps + length scratch.old.frames.items) }
+    ensures does { Runs S.NodeStore (λ a n. given_then (context a n (position_of (source_position source.entry))) (form_of (keyword_tree keyword)) (primary_tree operand.now) (map arg_tree (drop argument (source_args source.entry)))) (stack scratch.old.frames.items) parts.old result (stack scratch.new.frames.items) parts.new }
 {
-    source.leave(argument, machine)?;
-    giving(alloc, parts, source.spot(), keyword, operand, machine)
+    source.leave(argument, scratch)?;
+    giving(alloc, parts, source.position(), keyword, operand, scratch)
 }
 
 // What the arguments from one on do, as long as each goes on with the next. Where one enters lines or a text, or a text gives some in
@@ -140,29 +140,29 @@ pub(crate) fn arguments<S: NodeStore>(
     parts: &mut Parts<S>,
     source: Source,
     from: usize,
-    machine: &mut Machine,
-) -> Result<Signal, Code>
+    scratch: &mut Scratch,
+) -> Result<Completion, Code>
     ensures loans { KeepsLoans parts.old parts.new }
-    ensures falls { IfOk result (λ _. 6 * parts.new.eval.steps + length machine.new.frames.items ≤ 6 * parts.old.eval.steps + length machine.old.frames.items) }
-    ensures does { Runs S.NodeStore (λ a n. meaning.arguments (context a n (spot_of (source_spot source.entry))) (map arg_tree (drop from (source_args source.entry)))) (stack machine.old.frames.items) parts.old result (stack machine.new.frames.items) parts.new }
+    ensures falls { IfOk result (λ _. 6 * parts.new.eval.steps + length scratch.new.frames.items ≤ 6 * parts.old.eval.steps + length scratch.old.frames.items) }
+    ensures does { Runs S.NodeStore (λ a n. meaning.arguments (context a n (position_of (source_position source.entry))) (map arg_tree (drop from (source_args source.entry)))) (stack scratch.old.frames.items) parts.old result (stack scratch.new.frames.items) parts.new }
 {
     let args = source.all();
-    let spot = source.spot();
+    let position = source.position();
     let mut at = from;
     while at < args.len() {
-        match argument(alloc, parts, spot, &args[at])? {
-            Begun::Gave(signal) => match signal {
-                Signal::GoOn => at += 1,
+        match argument(alloc, parts, position, &args[at])? {
+            Begun::Gave(completion) => match completion {
+                Completion::GoOn => at += 1,
                 other => return Ok(other),
             },
             Begun::Lines(entry) => {
-                return enter_lines(alloc, parts, source, entry, at + 1, machine);
+                return enter_lines(alloc, parts, source, entry, at + 1, scratch);
             }
-            Begun::Text(e) => return enter_text(alloc, parts, source, e, at + 1, machine),
-            Begun::Given(keyword, operand) => {
-                return enter_given(alloc, parts, source, keyword, operand, at + 1, machine);
+            Begun::Text(e) => return enter_text(alloc, parts, source, e, at + 1, scratch),
+            Begun::Indirect(keyword, operand) => {
+                return enter_given(alloc, parts, source, keyword, operand, at + 1, scratch);
             }
         }
     }
-    Ok(Signal::GoOn)
+    Ok(Completion::GoOn)
 }

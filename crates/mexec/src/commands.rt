@@ -8,9 +8,9 @@ ghost use Rattle.mmeaning.specs.Expression.{inside};
 ghost use Rattle.mtree.specs.Tree.{arg_tree, expr_tree, condition_tree};
 ghost use Rattle.meval.specs.Evaluates.{depth_of};
 ghost use Rattle.mcommand.specs.Does.{DoesAt, KeepsLoans};
-ghost use Rattle.mexec.specs.Frames.{signal_of, spot_of, went};
+ghost use Rattle.mexec.specs.Frames.{completion_of, position_of, went};
 
-use crate::signal::Signal;
+use crate::completion::Completion;
 use mcommand::Parts;
 use meval::Depth;
 use moperator::Code;
@@ -44,18 +44,18 @@ pub(crate) fn holds<S: NodeStore>(
 }
 
 // What is next where this is true, and otherwise what is behind the rest of the line.
-pub(crate) fn where_true(is_true: bool) -> Signal
-    ensures { signal_of result ≡ meaning.where_true is_true }
+pub(crate) fn where_true(is_true: bool) -> Completion
+    ensures { completion_of result ≡ meaning.where_true is_true }
 {
-    if is_true { Signal::GoOn } else { Signal::Skips }
+    if is_true { Completion::GoOn } else { Completion::Skips }
 }
 
 // What is next, once this is done.
-pub(crate) fn went_on(done: Result<(), Code>) -> Result<Signal, Code>
+pub(crate) fn went_on(done: Result<(), Code>) -> Result<Completion, Code>
     ensures { result ≡ went done }
 {
     match done {
-        Ok(()) => Ok(Signal::GoOn),
+        Ok(()) => Ok(Completion::GoOn),
         Err(code) => Err(code),
     }
 }

@@ -6,12 +6,12 @@ ghost use Rattle.mmeaning.specs.LineMeaning as meaning;
 ghost use Rattle.mmeaning.specs.LineMeaning.{context};
 ghost use Rattle.mtree.specs.Tree.{arg_tree, command_tree, entry_tree, condition_tree, keyword_tree};
 ghost use Rattle.mcommand.specs.Does.{DoesAt, KeepsLoans};
-ghost use Rattle.mexec.specs.Frames.{commands_from, signal_of, spot_of};
+ghost use Rattle.mexec.specs.Frames.{commands_from, completion_of, position_of};
 ghost use Rattle.mexec.specs.Direct as direct;
 
 use crate::commands::{charge, holds, went_on, where_true};
-use crate::frames::Spot;
-use crate::signal::Signal;
+use crate::frames::Position;
+use crate::completion::Completion;
 use mcommand::Parts;
 use moperator::Code;
 use mstore::NodeStore;
@@ -74,20 +74,20 @@ pub(crate) fn is_direct_from(line: &Line, at: usize) -> bool
 fn going<S: NodeStore>(
     alloc: Global,
     parts: &mut Parts<S>,
-    spot: &Spot,
+    position: &Position,
     entry: &Entry,
     condition: &Option<Box<Expr>>,
-) -> Result<Signal, Code>
+) -> Result<Completion, Code>
     ensures loans { KeepsLoans parts.old parts.new }
     ensures fewer { parts.new.eval.steps ≤ parts.old.eval.steps }
-    ensures does { DoesAt S.NodeStore (λ a n. meaning.where_holds (context a n (spot_of spot.now)) (condition_tree condition.now) (meaning.going (context a n (spot_of spot.now)) (entry_tree entry.now))) signal_of parts.old result parts.new }
+    ensures does { DoesAt S.NodeStore (λ a n. meaning.where_holds (context a n (position_of position.now)) (condition_tree condition.now) (meaning.going (context a n (position_of position.now)) (entry_tree entry.now))) completion_of parts.old result parts.new }
 {
-    let applies = holds(alloc, parts, spot.depth, condition)?;
+    let applies = holds(alloc, parts, position.depth, condition)?;
     if applies {
-        let target = parts.target(alloc, &spot.level.copy, spot.level.dots, entry)?;
-        Ok(Signal::Goes(target))
+        let target = parts.target(alloc, &position.level.copy, position.level.dots, entry)?;
+        Ok(Completion::Goes(target))
     } else {
-        Ok(Signal::GoOn)
+        Ok(Completion::GoOn)
     }
 }
 
@@ -95,15 +95,15 @@ fn going<S: NodeStore>(
 pub(crate) fn direct_argument<S: NodeStore>(
     alloc: Global,
     parts: &mut Parts<S>,
-    spot: &Spot,
+    position: &Position,
     arg: &Arg,
-) -> Result<Signal, Code>
+) -> Result<Completion, Code>
     requires { direct.is_direct arg.now ≡ true }
     ensures loans { KeepsLoans parts.old parts.new }
     ensures fewer { parts.new.eval.steps ≤ parts.old.eval.steps }
-    ensures does { DoesAt S.NodeStore (λ a n. meaning.argument (context a n (spot_of spot.now)) (arg_tree arg.now)) signal_of parts.old result parts.new }
+    ensures does { DoesAt S.NodeStore (λ a n. meaning.argument (context a n (position_of position.now)) (arg_tree arg.now)) completion_of parts.old result parts.new }
 {
-    parts.eval.depth = spot.depth;
+    parts.eval.depth = position.depth;
     match arg {
         Arg::Assign(destination, e) => went_on(parts.setting(alloc, destination, e)),
         Arg::Breaks(count) => went_on(parts.breaks(*count)),
@@ -111,7 +111,7 @@ pub(crate) fn direct_argument<S: NodeStore>(
         Arg::KillOne(reference) => went_on(parts.killing(alloc, reference)),
         Arg::KillOthers(names) => {
             parts.eval.kill_others(names);
-            Ok(Signal::GoOn)
+            Ok(Completion::GoOn)
         }
         Arg::NewOne(name) => went_on(parts.eval.hide_one(name)),
         Arg::NewOthers(names) => went_on(parts.eval.hide_others(alloc, names)),
@@ -119,7 +119,7 @@ pub(crate) fn direct_argument<S: NodeStore>(
             let is_true = parts.testing(alloc, e)?;
             Ok(where_true(is_true))
         }
-        Arg::GoTo(entry, condition) => going(alloc, parts, spot, entry, condition),
+        Arg::GoTo(entry, condition) => going(alloc, parts, position, entry, condition),
         Arg::Lock(kind, names, timeout) => { went_on(parts.locking(alloc, *kind, names, timeout)) }
         Arg::Loop(_, _) => unreachable!(),
         Arg::DoOne(_, _) => unreachable!(),
@@ -132,21 +132,21 @@ pub(crate) fn direct_argument<S: NodeStore>(
 fn direct_arguments<S: NodeStore>(
     alloc: Global,
     parts: &mut Parts<S>,
-    spot: &Spot,
+    position: &Position,
     args: &[Arg],
-) -> Result<Signal, Code>
+) -> Result<Completion, Code>
     requires { direct.are_direct args.now ≡ true }
     ensures loans { KeepsLoans parts.old parts.new }
     ensures fewer { parts.new.eval.steps ≤ parts.old.eval.steps }
-    ensures does { DoesAt S.NodeStore (λ a n. meaning.arguments (context a n (spot_of spot.now)) (map arg_tree args.now)) signal_of parts.old result parts.new }
+    ensures does { DoesAt S.NodeStore (λ a n. meaning.arguments (context a n (position_of position.now)) (map arg_tree args.now)) completion_of parts.old result parts.new }
 {
     for arg in args {
-        match direct_argument(alloc, parts, spot, arg)? {
-            Signal::GoOn => {}
+        match direct_argument(alloc, parts, position, arg)? {
+            Completion::GoOn => {}
             other => return Ok(other),
         }
     }
-    Ok(Signal::GoOn)
+    Ok(Completion::GoOn)
 }
 
 // What a command does at once that has no arguments.
@@ -154,30 +154,30 @@ pub(crate) fn direct_word<S: NodeStore>(
     alloc: Global,
     parts: &mut Parts<S>,
     keyword: Keyword,
-) -> Result<Signal, Code>
+) -> Result<Completion, Code>
     requires { direct.is_direct_word keyword ≡ true }
     ensures loans { KeepsLoans parts.old parts.new }
     ensures fewer { parts.new.eval.steps ≤ parts.old.eval.steps }
-    ensures does { (p : meaning.Spot) (rest : List CommandTree) → DoesAt S.NodeStore (λ a n. meaning.bare (context a n p) (keyword_tree keyword) rest) signal_of parts.old result parts.new }
+    ensures does { (p : meaning.Position) (rest : List CommandTree) → DoesAt S.NodeStore (λ a n. meaning.bare (context a n p) (keyword_tree keyword) rest) completion_of parts.old result parts.new }
 {
     match keyword {
-        Keyword::Set => Ok(Signal::GoOn),
+        Keyword::Set => Ok(Completion::GoOn),
         Keyword::Kill => {
             parts.eval.kill_others(&[]);
-            Ok(Signal::GoOn)
+            Ok(Completion::GoOn)
         }
         Keyword::New => went_on(parts.eval.hide_others(alloc, &[])),
         Keyword::If => Ok(where_true(parts.eval.test())),
         Keyword::Else => Ok(where_true(!parts.eval.test())),
-        Keyword::Quit => Ok(Signal::Quits),
-        Keyword::Write => Ok(Signal::GoOn),
-        Keyword::Goto => Ok(Signal::GoOn),
-        Keyword::Execute => Ok(Signal::GoOn),
+        Keyword::Quit => Ok(Completion::Quits),
+        Keyword::Write => Ok(Completion::GoOn),
+        Keyword::Goto => Ok(Completion::GoOn),
+        Keyword::Execute => Ok(Completion::GoOn),
         Keyword::Lock => {
             parts.release();
-            Ok(Signal::GoOn)
+            Ok(Completion::GoOn)
         }
-        Keyword::Halt => Ok(Signal::Halts),
+        Keyword::Halt => Ok(Completion::Halts),
         Keyword::For => unreachable!(),
         Keyword::Do => unreachable!(),
     }
@@ -187,21 +187,21 @@ pub(crate) fn direct_word<S: NodeStore>(
 fn direct_command<S: NodeStore>(
     alloc: Global,
     parts: &mut Parts<S>,
-    spot: &Spot,
+    position: &Position,
     command: &Command,
-) -> Result<Signal, Code>
+) -> Result<Completion, Code>
     requires { direct.is_direct_command command.now ≡ true }
     ensures loans { KeepsLoans parts.old parts.new }
     ensures fewer { parts.new.eval.steps ≤ parts.old.eval.steps }
-    ensures does { (rest : List CommandTree) → DoesAt S.NodeStore (λ a n. meaning.conditional (context a n (spot_of spot.now)) (command_tree command.now) rest) signal_of parts.old result parts.new }
+    ensures does { (rest : List CommandTree) → DoesAt S.NodeStore (λ a n. meaning.conditional (context a n (position_of position.now)) (command_tree command.now) rest) completion_of parts.old result parts.new }
 {
-    let applies = holds(alloc, parts, spot.depth, &command.condition)?;
+    let applies = holds(alloc, parts, position.depth, &command.condition)?;
     if !applies {
-        return Ok(Signal::GoOn);
+        return Ok(Completion::GoOn);
     }
     match command.args.first() {
         None => direct_word(alloc, parts, command.keyword),
-        Some(_) => direct_arguments(alloc, parts, spot, &command.args),
+        Some(_) => direct_arguments(alloc, parts, position, &command.args),
     }
 }
 
@@ -209,22 +209,22 @@ fn direct_command<S: NodeStore>(
 pub(crate) fn direct_commands<S: NodeStore>(
     alloc: Global,
     parts: &mut Parts<S>,
-    spot: &Spot,
+    position: &Position,
     line: &Line,
     from: usize,
-) -> Result<Signal, Code>
+) -> Result<Completion, Code>
     requires { direct.is_direct_from line.now from ≡ true }
     ensures loans { KeepsLoans parts.old parts.new }
     ensures fewer { parts.new.eval.steps ≤ parts.old.eval.steps }
-    ensures does { DoesAt S.NodeStore (λ a n. meaning.commands (context a n (spot_of spot.now)) (commands_from line.now from)) signal_of parts.old result parts.new }
+    ensures does { DoesAt S.NodeStore (λ a n. meaning.commands (context a n (position_of position.now)) (commands_from line.now from)) completion_of parts.old result parts.new }
 {
     let mut at = from;
     while at < line.commands.len() {
         charge(parts)?;
-        match direct_command(alloc, parts, spot, &line.commands[at].command)? {
-            Signal::GoOn => at += 1,
+        match direct_command(alloc, parts, position, &line.commands[at].command)? {
+            Completion::GoOn => at += 1,
             other => return Ok(other),
         }
     }
-    Ok(Signal::GoOn)
+    Ok(Completion::GoOn)
 }

@@ -8,14 +8,14 @@ ghost use Rattle.mmeaning.specs.Frames.{Rests, Levels};
 ghost use Rattle.mtree.specs.Tree.{entry_tree, expr_tree};
 ghost use Rattle.meval.specs.Evaluates.{depth_of};
 ghost use Rattle.mcommand.specs.Does.{DoesAt, KeepsLoans};
-ghost use Rattle.mexec.specs.Frames.{Runs, stack, spot_of, commands_from};
-ghost use Rattle.mexec.specs.Entering.{text_spot};
+ghost use Rattle.mexec.specs.Frames.{Runs, stack, position_of, commands_from};
+ghost use Rattle.mexec.specs.Entering.{text_position};
 
-use crate::frames::{Closing, Frame, Level, Rest, Spot};
+use crate::frames::{Closing, Frame, Level, Continuation, Position};
 use crate::levels::{enter_line, lines_next};
-use crate::machine::Machine;
+use crate::scratch::Scratch;
 use crate::reading::read_line;
-use crate::signal::Signal;
+use crate::completion::Completion;
 use mcommand::Parts;
 use meval::Depth;
 use moperator::Code;
@@ -43,16 +43,16 @@ fn one_deeper<S: NodeStore>(parts: &mut Parts<S>, depth: Depth) -> Result<Depth,
 pub(crate) fn doing<S: NodeStore>(
     alloc: Global,
     parts: &mut Parts<S>,
-    spot: &Spot,
+    position: &Position,
     entry: &Entry,
-    machine: &mut Machine,
-) -> Result<Signal, Code>
+    scratch: &mut Scratch,
+) -> Result<Completion, Code>
     ensures loans { KeepsLoans parts.old parts.new }
-    ensures falls { IfOk result (λ _. 6 * parts.new.eval.steps + length machine.new.frames.items + 1 ≤ 6 * parts.old.eval.steps + length machine.old.frames.items) }
-    ensures does { Runs S.NodeStore (λ a n. meaning.doing (context a n (spot_of spot.now)) (entry_tree entry.now)) (stack machine.old.frames.items) parts.old result (stack machine.new.frames.items) parts.new }
+    ensures falls { IfOk result (λ _. 6 * parts.new.eval.steps + length scratch.new.frames.items + 1 ≤ 6 * parts.old.eval.steps + length scratch.old.frames.items) }
+    ensures does { Runs S.NodeStore (λ a n. meaning.doing (context a n (position_of position.now)) (entry_tree entry.now)) (stack scratch.old.frames.items) parts.old result (stack scratch.new.frames.items) parts.new }
 {
-    let depth = one_deeper(parts, spot.depth)?;
-    let target = parts.target(alloc, &spot.level.copy, 0, entry)?;
+    let depth = one_deeper(parts, position.depth)?;
+    let target = parts.target(alloc, &position.level.copy, 0, entry)?;
     parts.eval.open_level()?;
     let line = target.line;
     let level = Level {
@@ -60,56 +60,56 @@ pub(crate) fn doing<S: NodeStore>(
         next: Some(line),
         dots: 0,
     };
-    let inner = Spot { depth, level };
-    enter_line(alloc, parts, &inner, Closing::Leaves, line, machine)
+    let inner = Position { depth, level };
+    enter_line(alloc, parts, &inner, Closing::Leaves, line, scratch)
 }
 
 // DO without arguments: the lines behind this one that have one dot more. $TEST is then what it was.
 pub(crate) fn doing_block<S: NodeStore>(
     alloc: Global,
     parts: &mut Parts<S>,
-    spot: &Spot,
-    machine: &mut Machine,
-) -> Result<Signal, Code>
+    position: &Position,
+    scratch: &mut Scratch,
+) -> Result<Completion, Code>
     ensures loans { KeepsLoans parts.old parts.new }
-    ensures falls { IfOk result (λ _. 6 * parts.new.eval.steps + length machine.new.frames.items ≤ 6 * parts.old.eval.steps + length machine.old.frames.items) }
-    ensures does { Runs S.NodeStore (λ a n. meaning.doing_block (context a n (spot_of spot.now))) (stack machine.old.frames.items) parts.old result (stack machine.new.frames.items) parts.new }
+    ensures falls { IfOk result (λ _. 6 * parts.new.eval.steps + length scratch.new.frames.items ≤ 6 * parts.old.eval.steps + length scratch.old.frames.items) }
+    ensures does { Runs S.NodeStore (λ a n. meaning.doing_block (context a n (position_of position.now))) (stack scratch.old.frames.items) parts.old result (stack scratch.new.frames.items) parts.new }
 {
-    let depth = one_deeper(parts, spot.depth)?;
+    let depth = one_deeper(parts, position.depth)?;
     let test = parts.eval.test();
-    let copy = spot.level.copy.clone()?;
+    let copy = position.level.copy.clone()?;
     parts.eval.open_level()?;
     let level = Level {
         copy,
-        next: spot.level.next,
-        dots: spot.level.dots + 1,
+        next: position.level.next,
+        dots: position.level.dots + 1,
     };
-    let inner = Spot { depth, level };
-    lines_next(alloc, parts, &inner, Closing::Restores(test), machine)
+    let inner = Position { depth, level };
+    lines_next(alloc, parts, &inner, Closing::Restores(test), scratch)
 }
 
 // Leaves the commands of a text on the frames, on top of their level. Labels are sought where those of its line are.
 fn enter_text(
     alloc: Global,
     depth: Depth,
-    spot: &Spot,
+    position: &Position,
     line: Rc<Line>,
-    machine: &mut Machine,
+    scratch: &mut Scratch,
 ) -> Result<(), AllocError>
-    ensures frames { OnOk result (stack machine.new.frames.items ≡ Rests (text_spot (depth_of depth) (spot_of spot.now)) (commands_from line.value 0) ∷ Levels (text_spot (depth_of depth) (spot_of spot.now)) leaves ∷ stack machine.old.frames.items) }
-    ensures most { OnOk result (length machine.new.frames.items ≤ length machine.old.frames.items + 2) }
+    ensures frames { OnOk result (stack scratch.new.frames.items ≡ Rests (text_position (depth_of depth) (position_of position.now)) (commands_from line.value 0) ∷ Levels (text_position (depth_of depth) (position_of position.now)) leaves ∷ stack scratch.old.frames.items) }
+    ensures most { OnOk result (length scratch.new.frames.items ≤ length scratch.old.frames.items + 2) }
 {
     let level = Level {
-        copy: spot.level.copy.clone()?,
+        copy: position.level.copy.clone()?,
         next: None,
         dots: 0,
     };
-    let spot = Rc::new(alloc, Spot { depth, level })?;
-    let level = Frame::Level(spot.clone()?, Closing::Leaves);
-    machine.frames.push(level)?;
-    machine
+    let position = Rc::new(alloc, Position { depth, level })?;
+    let level = Frame::Level(position.clone()?, Closing::Leaves);
+    scratch.frames.push(level)?;
+    scratch
         .frames
-        .push(Frame::Rest(Rest { spot, line, at: 0 }))?;
+        .push(Frame::Continuation(Continuation { position, line, at: 0 }))?;
     Ok(())
 }
 
@@ -117,20 +117,20 @@ fn enter_text(
 pub(crate) fn executing<S: NodeStore>(
     alloc: Global,
     parts: &mut Parts<S>,
-    spot: &Spot,
+    position: &Position,
     e: &Expr,
-    machine: &mut Machine,
-) -> Result<Signal, Code>
+    scratch: &mut Scratch,
+) -> Result<Completion, Code>
     ensures loans { KeepsLoans parts.old parts.new }
-    ensures falls { IfOk result (λ _. 6 * parts.new.eval.steps + length machine.new.frames.items + 1 ≤ 6 * parts.old.eval.steps + length machine.old.frames.items) }
-    ensures does { Runs S.NodeStore (λ a n. meaning.executing (context a n (spot_of spot.now)) (expr_tree e.now)) (stack machine.old.frames.items) parts.old result (stack machine.new.frames.items) parts.new }
+    ensures falls { IfOk result (λ _. 6 * parts.new.eval.steps + length scratch.new.frames.items + 1 ≤ 6 * parts.old.eval.steps + length scratch.old.frames.items) }
+    ensures does { Runs S.NodeStore (λ a n. meaning.executing (context a n (position_of position.now)) (expr_tree e.now)) (stack scratch.old.frames.items) parts.old result (stack scratch.new.frames.items) parts.new }
 {
-    parts.eval.depth = spot.depth;
+    parts.eval.depth = position.depth;
     let text = parts.eval.eval(alloc, e)?;
-    let depth = one_deeper(parts, spot.depth)?;
+    let depth = one_deeper(parts, position.depth)?;
     let text = text.into_text(alloc)?;
-    let line = read_line(alloc, &mut machine.trees, text.as_bytes())?;
+    let line = read_line(alloc, &mut scratch.trees, text.as_bytes())?;
     parts.eval.open_level()?;
-    enter_text(alloc, depth, spot, line, machine)?;
-    Ok(Signal::GoOn)
+    enter_text(alloc, depth, position, line, scratch)?;
+    Ok(Completion::GoOn)
 }

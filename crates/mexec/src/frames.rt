@@ -20,7 +20,7 @@ pub(crate) struct Level {
 
 // Where a line stands: how deep, and in which level. Frames share it. Each dot is a level that is open.
 #[derive(Drop)]
-pub(crate) struct Spot {
+pub(crate) struct Position {
     pub(crate) depth: Depth,
     pub(crate) level: Level,
     ghost opened: { level.dots ≤ depth.levels },
@@ -36,21 +36,21 @@ pub(crate) enum Closing {
 
 // The rest of a line: its commands from a place on.
 #[derive(Drop)]
-pub(crate) struct Rest {
-    pub(crate) spot: Rc<Spot>,
+pub(crate) struct Continuation {
+    pub(crate) position: Rc<Position>,
     pub(crate) line: Rc<Line>,
     pub(crate) at: usize,
 }
 
-impl Rest {
+impl Continuation {
     // The same once more.
-    pub(crate) fn copy(&self) -> Result<Rest, AllocError>
-        ensures spot { IfOk result (λ rest. rest.spot.value ≡ self.now.spot.value) }
+    pub(crate) fn copy(&self) -> Result<Continuation, AllocError>
+        ensures position { IfOk result (λ rest. rest.position.value ≡ self.now.position.value) }
         ensures line { IfOk result (λ rest. rest.line.value ≡ self.now.line.value) }
         ensures at { IfOk result (λ rest. rest.at ≡ self.now.at) }
     {
-        Ok(Rest {
-            spot: self.spot.clone()?,
+        Ok(Continuation {
+            position: self.position.clone()?,
             line: self.line.clone()?,
             at: self.at,
         })
@@ -59,23 +59,23 @@ impl Rest {
 
 // The arguments, from one on, of the command before the rest of a line.
 #[derive(Drop)]
-pub(crate) struct List {
-    pub(crate) behind: Rest,
+pub(crate) struct PendingArguments {
+    pub(crate) behind: Continuation,
     pub(crate) argument: usize,
 }
 
 // Arguments that a text gave, and where they are done. Frames share them.
 #[derive(Drop)]
-pub(crate) struct Given {
-    pub(crate) spot: Spot,
+pub(crate) struct IndirectArguments {
+    pub(crate) position: Position,
     pub(crate) args: Vec<Arg>,
 }
 
 // A FOR of which a turn is under way: its body, which stands behind it, its next parameter, and how it goes on. Its index and its
 // parameters are read from the line: unless it goes on without an end, it has an index there.
 #[derive(Drop)]
-pub(crate) struct Turns {
-    pub(crate) body: Rest,
+pub(crate) struct ForLoop {
+    pub(crate) body: Continuation,
     pub(crate) parameter: usize,
     pub(crate) course: Course,
     ghost indexed: { has_course body.line.value body.at course ≡ true },
@@ -84,12 +84,12 @@ pub(crate) struct Turns {
 // Something that is still to be done.
 #[derive(Drop)]
 pub(crate) enum Frame {
-    Rest(Rest),
-    List(List),
+    Continuation(Continuation),
+    PendingArguments(PendingArguments),
     // the arguments, from one on, that a text gave
-    Given(Rc<Given>, usize),
+    IndirectArguments(Rc<IndirectArguments>, usize),
     // in a box, which each turn takes off and puts back
-    Turns(Box<Turns>),
+    ForLoop(Box<ForLoop>),
     // a level of which a line is under way, and how it closes
-    Level(Rc<Spot>, Closing),
+    Level(Rc<Position>, Closing),
 }

@@ -14,13 +14,13 @@ ghost use Rattle.mtree.specs.Tree.{arg_tree, keyword_tree, primary_tree};
 ghost use Rattle.moperator.specs.Codes.{fault_of};
 ghost use Rattle.meval.specs.Evaluates.{depth_of};
 ghost use Rattle.mcommand.specs.Does.{KeepsLoans};
-ghost use Rattle.mexec.specs.Frames.{Runs, spot_of, stack};
+ghost use Rattle.mexec.specs.Frames.{Runs, position_of, stack};
 ghost use Rattle.mexec.specs.Entering.{so_deep};
 
-use crate::frames::{Frame, Given, Level, Spot};
-use crate::machine::Machine;
+use crate::frames::{Frame, IndirectArguments, Level, Position};
+use crate::scratch::Scratch;
 use crate::reading::read_arguments;
-use crate::signal::Signal;
+use crate::completion::Completion;
 use mcommand::Parts;
 use meval::Depth;
 use moperator::Code;
@@ -44,22 +44,22 @@ fn one_indirection_deeper(depth: Depth) -> Result<Depth, Code>
 fn leave_given(
     alloc: Global,
     depth: Depth,
-    spot: &Spot,
+    position: &Position,
     args: Vec<Arg>,
-    machine: &mut Machine,
+    scratch: &mut Scratch,
 ) -> Result<(), AllocError>
-    requires { spot.now.level.dots ≤ depth.levels }
-    ensures frames { OnOk result (stack machine.new.frames.items ≡ Lists (so_deep (depth_of depth) (spot_of spot.now)) (map arg_tree args.items) ∷ stack machine.old.frames.items) }
-    ensures most { OnOk result (length machine.new.frames.items ≤ length machine.old.frames.items + 1) }
+    requires { position.now.level.dots ≤ depth.levels }
+    ensures frames { OnOk result (stack scratch.new.frames.items ≡ Lists (so_deep (depth_of depth) (position_of position.now)) (map arg_tree args.items) ∷ stack scratch.old.frames.items) }
+    ensures most { OnOk result (length scratch.new.frames.items ≤ length scratch.old.frames.items + 1) }
 {
     let level = Level {
-        copy: spot.level.copy.clone()?,
-        next: spot.level.next,
-        dots: spot.level.dots,
+        copy: position.level.copy.clone()?,
+        next: position.level.next,
+        dots: position.level.dots,
     };
-    let spot = Spot { depth, level };
-    let given = Rc::new(alloc, Given { spot, args })?;
-    machine.frames.push(Frame::Given(given, 0))?;
+    let position = Position { depth, level };
+    let given = Rc::new(alloc, IndirectArguments { position, args })?;
+    scratch.frames.push(Frame::IndirectArguments(given, 0))?;
     Ok(())
 }
 
@@ -68,20 +68,20 @@ fn leave_given(
 pub(crate) fn giving<S: NodeStore>(
     alloc: Global,
     parts: &mut Parts<S>,
-    spot: &Spot,
+    position: &Position,
     keyword: Keyword,
     operand: &Primary,
-    machine: &mut Machine,
-) -> Result<Signal, Code>
+    scratch: &mut Scratch,
+) -> Result<Completion, Code>
     ensures loans { KeepsLoans parts.old parts.new }
-    ensures falls { IfOk result (λ _. 6 * parts.new.eval.steps + length machine.new.frames.items + 1 ≤ 6 * parts.old.eval.steps + length machine.old.frames.items) }
-    ensures does { Runs S.NodeStore (λ a n. meaning.given (context a n (spot_of spot.now)) (form_of (keyword_tree keyword)) (primary_tree operand.now)) (stack machine.old.frames.items) parts.old result (stack machine.new.frames.items) parts.new }
+    ensures falls { IfOk result (λ _. 6 * parts.new.eval.steps + length scratch.new.frames.items + 1 ≤ 6 * parts.old.eval.steps + length scratch.old.frames.items) }
+    ensures does { Runs S.NodeStore (λ a n. meaning.given (context a n (position_of position.now)) (form_of (keyword_tree keyword)) (primary_tree operand.now)) (stack scratch.old.frames.items) parts.old result (stack scratch.new.frames.items) parts.new }
 {
-    parts.eval.depth = spot.depth;
+    parts.eval.depth = position.depth;
     let text = parts.eval.eval_primary(alloc, operand)?;
-    let depth = one_indirection_deeper(spot.depth)?;
+    let depth = one_indirection_deeper(position.depth)?;
     let text = text.into_text(alloc)?;
     let args = read_arguments(alloc, keyword, text.as_bytes())?;
-    leave_given(alloc, depth, spot, args, machine)?;
-    Ok(Signal::GoOn)
+    leave_given(alloc, depth, position, args, scratch)?;
+    Ok(Completion::GoOn)
 }

@@ -8,14 +8,14 @@ ghost use Rattle.mmeaning.specs.LineMeaning.{context, Go_on};
 ghost use Rattle.mtree.specs.Tree.{body_tree};
 ghost use Rattle.mcommand.specs.Targets.{target_view};
 ghost use Rattle.mcommand.specs.Does.{DoesAt, KeepsLoans};
-ghost use Rattle.mexec.specs.Frames.{Runs, stack, signal_of, spot_of, closing_of};
+ghost use Rattle.mexec.specs.Frames.{Runs, stack, completion_of, position_of, closing_of};
 ghost use Rattle.mexec.specs.Entering.{reached as first_reached, next_reached, entering, at_next, at_target, on_body};
 
 use crate::commands::charge;
-use crate::frames::{Closing, Frame, Level, Rest, Spot};
-use crate::machine::Machine;
+use crate::frames::{Closing, Frame, Level, Continuation, Position};
+use crate::scratch::Scratch;
 use crate::reading::read_routine_line;
-use crate::signal::Signal;
+use crate::completion::Completion;
 use mcommand::{Parts, Target};
 use moperator::Code;
 use mparse::dots_of;
@@ -40,18 +40,18 @@ fn close<S: NodeStore>(parts: &mut Parts<S>, closing: Closing)
     }
 }
 
-// Closes a level that is done; what is below goes on with this signal.
+// Closes a level that is done; what is below goes on with this completion.
 fn ended<S: NodeStore>(
     parts: &mut Parts<S>,
     closing: Closing,
-    signal: Signal,
-) -> Result<Signal, Code>
+    completion: Completion,
+) -> Result<Completion, Code>
     ensures loans { KeepsLoans parts.old parts.new }
     ensures fewer { parts.new.eval.steps ≤ parts.old.eval.steps }
-    ensures does { DoesAt S.NodeStore (λ a n. meaning.closed (closing_of closing) (signal_of signal)) signal_of parts.old result parts.new }
+    ensures does { DoesAt S.NodeStore (λ a n. meaning.closed (closing_of closing) (completion_of completion)) completion_of parts.old result parts.new }
 {
     close(parts, closing);
-    Ok(signal)
+    Ok(completion)
 }
 
 // A place, where this is so.
@@ -98,38 +98,38 @@ fn next_line<S: NodeStore>(parts: &mut Parts<S>, level: &Level) -> Result<Option
 }
 
 // The same level, where another line comes next.
-fn coming_next(spot: &Spot, next: usize) -> Result<Spot, AllocError>
-    ensures { IfOk result (λ there. spot_of there ≡ at_next (spot_of spot.now) next) }
+fn coming_next(position: &Position, next: usize) -> Result<Position, AllocError>
+    ensures { IfOk result (λ there. position_of there ≡ at_next (position_of position.now) next) }
 {
-    Ok(Spot {
-        depth: spot.depth,
+    Ok(Position {
+        depth: position.depth,
         level: Level {
-            copy: spot.level.copy.clone()?,
+            copy: position.level.copy.clone()?,
             next: Some(next),
-            dots: spot.level.dots,
+            dots: position.level.dots,
         },
     })
 }
 
 // Leaves what is behind a label on the frames, on top of its level.
 fn enter_body(
-    spot: Rc<Spot>,
+    position: Rc<Position>,
     closing: Closing,
     body: &Body,
-    machine: &mut Machine,
+    scratch: &mut Scratch,
 ) -> Result<(), AllocError>
-    ensures frames { OnOk result (stack machine.new.frames.items ≡ on_body (spot_of spot.value) (closing_of closing) (body_tree body.now) (stack machine.old.frames.items)) }
-    ensures most { OnOk result (length machine.new.frames.items ≤ length machine.old.frames.items + 2) }
+    ensures frames { OnOk result (stack scratch.new.frames.items ≡ on_body (position_of position.value) (closing_of closing) (body_tree body.now) (stack scratch.old.frames.items)) }
+    ensures most { OnOk result (length scratch.new.frames.items ≤ length scratch.old.frames.items + 2) }
 {
-    let level = Frame::Level(spot.clone()?, closing);
-    machine.frames.push(level)?;
+    let level = Frame::Level(position.clone()?, closing);
+    scratch.frames.push(level)?;
     match body {
         Body::Short(_) => Ok(()),
         Body::Spaced(_, line) => {
             let line = line.clone()?;
-            machine
+            scratch
                 .frames
-                .push(Frame::Rest(Rest { spot, line, at: 0 }))?;
+                .push(Frame::Continuation(Continuation { position, line, at: 0 }))?;
             Ok(())
         }
     }
@@ -139,39 +139,39 @@ fn enter_body(
 pub(crate) fn enter_line<S: NodeStore>(
     alloc: Global,
     parts: &mut Parts<S>,
-    spot: &Spot,
+    position: &Position,
     closing: Closing,
     at: usize,
-    machine: &mut Machine,
-) -> Result<Signal, Code>
-    requires { at < length spot.now.level.copy.value.items }
+    scratch: &mut Scratch,
+) -> Result<Completion, Code>
+    requires { at < length position.now.level.copy.value.items }
     ensures loans { KeepsLoans parts.old parts.new }
-    ensures falls { IfOk result (λ _. 6 * parts.new.eval.steps + length machine.new.frames.items + 1 ≤ 6 * parts.old.eval.steps + length machine.old.frames.items) }
-    ensures does { Runs S.NodeStore (λ a n. entering (context a n (spot_of spot.now)) (closing_of closing) at (get_or spot.now.level.copy.value.items at [])) (stack machine.old.frames.items) parts.old result (stack machine.new.frames.items) parts.new }
+    ensures falls { IfOk result (λ _. 6 * parts.new.eval.steps + length scratch.new.frames.items + 1 ≤ 6 * parts.old.eval.steps + length scratch.old.frames.items) }
+    ensures does { Runs S.NodeStore (λ a n. entering (context a n (position_of position.now)) (closing_of closing) at (get_or position.now.level.copy.value.items at [])) (stack scratch.old.frames.items) parts.old result (stack scratch.new.frames.items) parts.new }
 {
     charge(parts)?;
-    let text = spot.level.copy[at].as_bytes();
-    let line = read_routine_line(alloc, &mut machine.trees, text)?;
-    let entered = Rc::new(alloc, coming_next(spot, at + 1)?)?;
-    enter_body(entered, closing, &line.body, machine)?;
-    Ok(Signal::GoOn)
+    let text = position.level.copy[at].as_bytes();
+    let line = read_routine_line(alloc, &mut scratch.trees, text)?;
+    let entered = Rc::new(alloc, coming_next(position, at + 1)?)?;
+    enter_body(entered, closing, &line.body, scratch)?;
+    Ok(Completion::GoOn)
 }
 
 // Goes to the line that comes next in a level, or closes it.
 pub(crate) fn lines_next<S: NodeStore>(
     alloc: Global,
     parts: &mut Parts<S>,
-    spot: &Spot,
+    position: &Position,
     closing: Closing,
-    machine: &mut Machine,
-) -> Result<Signal, Code>
+    scratch: &mut Scratch,
+) -> Result<Completion, Code>
     ensures loans { KeepsLoans parts.old parts.new }
-    ensures falls { IfOk result (λ _. 6 * parts.new.eval.steps + length machine.new.frames.items ≤ 6 * parts.old.eval.steps + length machine.old.frames.items) }
-    ensures does { Runs S.NodeStore (λ a n. frame a n (Levels (spot_of spot.now) (closing_of closing)) Go_on) (stack machine.old.frames.items) parts.old result (stack machine.new.frames.items) parts.new }
+    ensures falls { IfOk result (λ _. 6 * parts.new.eval.steps + length scratch.new.frames.items ≤ 6 * parts.old.eval.steps + length scratch.old.frames.items) }
+    ensures does { Runs S.NodeStore (λ a n. frame a n (Levels (position_of position.now) (closing_of closing)) Go_on) (stack scratch.old.frames.items) parts.old result (stack scratch.new.frames.items) parts.new }
 {
-    match next_line(parts, &spot.level)? {
-        None => ended(parts, closing, Signal::GoOn),
-        Some(at) => enter_line(alloc, parts, spot, closing, at, machine),
+    match next_line(parts, &position.level)? {
+        None => ended(parts, closing, Completion::GoOn),
+        Some(at) => enter_line(alloc, parts, position, closing, at, scratch),
     }
 }
 
@@ -179,44 +179,44 @@ pub(crate) fn lines_next<S: NodeStore>(
 fn go_to<S: NodeStore>(
     alloc: Global,
     parts: &mut Parts<S>,
-    spot: &Spot,
+    position: &Position,
     closing: Closing,
     target: Target,
-    machine: &mut Machine,
-) -> Result<Signal, Code>
+    scratch: &mut Scratch,
+) -> Result<Completion, Code>
     ensures loans { KeepsLoans parts.old parts.new }
-    ensures falls { IfOk result (λ _. 6 * parts.new.eval.steps + length machine.new.frames.items ≤ 6 * parts.old.eval.steps + length machine.old.frames.items) }
-    ensures does { Runs S.NodeStore (λ a n. frame a n (Levels (at_target (spot_of spot.now) (target_view target)) (closing_of closing)) Go_on) (stack machine.old.frames.items) parts.old result (stack machine.new.frames.items) parts.new }
+    ensures falls { IfOk result (λ _. 6 * parts.new.eval.steps + length scratch.new.frames.items ≤ 6 * parts.old.eval.steps + length scratch.old.frames.items) }
+    ensures does { Runs S.NodeStore (λ a n. frame a n (Levels (at_target (position_of position.now) (target_view target)) (closing_of closing)) Go_on) (stack scratch.old.frames.items) parts.old result (stack scratch.new.frames.items) parts.new }
 {
-    let there = Spot {
-        depth: spot.depth,
+    let there = Position {
+        depth: position.depth,
         level: Level {
             copy: target.copy,
             next: Some(target.line),
-            dots: spot.level.dots,
+            dots: position.level.dots,
         },
     };
-    lines_next(alloc, parts, &there, closing, machine)
+    lines_next(alloc, parts, &there, closing, scratch)
 }
 
 // What follows a line of a level that went on so.
 pub(crate) fn after_level<S: NodeStore>(
     alloc: Global,
     parts: &mut Parts<S>,
-    spot: &Spot,
+    position: &Position,
     closing: Closing,
-    signal: Signal,
-    machine: &mut Machine,
-) -> Result<Signal, Code>
+    completion: Completion,
+    scratch: &mut Scratch,
+) -> Result<Completion, Code>
     ensures loans { KeepsLoans parts.old parts.new }
-    ensures falls { IfOk result (λ _. 6 * parts.new.eval.steps + length machine.new.frames.items ≤ 6 * parts.old.eval.steps + length machine.old.frames.items) }
-    ensures does { Runs S.NodeStore (λ a n. frame a n (Levels (spot_of spot.now) (closing_of closing)) (signal_of signal)) (stack machine.old.frames.items) parts.old result (stack machine.new.frames.items) parts.new }
+    ensures falls { IfOk result (λ _. 6 * parts.new.eval.steps + length scratch.new.frames.items ≤ 6 * parts.old.eval.steps + length scratch.old.frames.items) }
+    ensures does { Runs S.NodeStore (λ a n. frame a n (Levels (position_of position.now) (closing_of closing)) (completion_of completion)) (stack scratch.old.frames.items) parts.old result (stack scratch.new.frames.items) parts.new }
 {
-    match signal {
-        Signal::GoOn => lines_next(alloc, parts, spot, closing, machine),
-        Signal::Skips => lines_next(alloc, parts, spot, closing, machine),
-        Signal::Quits => ended(parts, closing, Signal::GoOn),
-        Signal::Goes(target) => go_to(alloc, parts, spot, closing, target, machine),
-        Signal::Halts => ended(parts, closing, Signal::Halts),
+    match completion {
+        Completion::GoOn => lines_next(alloc, parts, position, closing, scratch),
+        Completion::Skips => lines_next(alloc, parts, position, closing, scratch),
+        Completion::Quits => ended(parts, closing, Completion::GoOn),
+        Completion::Goes(target) => go_to(alloc, parts, position, closing, target, scratch),
+        Completion::Halts => ended(parts, closing, Completion::Halts),
     }
 }

@@ -7,14 +7,14 @@ ghost use Rattle.mmeaning.specs.LineMeaning.{context};
 ghost use Rattle.mmeaning.specs.Frames.{frame, Levels};
 ghost use Rattle.mtree.specs.Tree.{line_tree};
 ghost use Rattle.mcommand.specs.Does.{DoesAt, KeepsLoans};
-ghost use Rattle.mexec.specs.Frames.{Runs, view, stack, signal_of, commands_from};
+ghost use Rattle.mexec.specs.Frames.{Runs, view, stack, completion_of, commands_from};
 
 use crate::arguments::arguments;
-use crate::frames::{Closing, Frame, Rest};
+use crate::frames::{Closing, Frame, Continuation};
 use crate::levels::after_level;
-use crate::machine::Machine;
+use crate::scratch::Scratch;
 use crate::rest::next_command;
-use crate::signal::Signal;
+use crate::completion::Completion;
 use crate::source::Source;
 use crate::turns::after_turn;
 use mcommand::Parts;
@@ -24,37 +24,37 @@ use mtree::Line;
 use std::alloc::Global;
 use std::rc::Rc;
 
-// What the top frame does with a signal.
+// What the top frame does with a completion.
 fn run_frame<S: NodeStore>(
     alloc: Global,
     parts: &mut Parts<S>,
     top: Frame,
-    signal: Signal,
-    machine: &mut Machine,
-) -> Result<Signal, Code>
+    completion: Completion,
+    scratch: &mut Scratch,
+) -> Result<Completion, Code>
     ensures loans { KeepsLoans parts.old parts.new }
-    ensures falls { IfOk result (λ _. 6 * parts.new.eval.steps + length machine.new.frames.items ≤ 6 * parts.old.eval.steps + length machine.old.frames.items) }
-    ensures does { Runs S.NodeStore (λ a n. frame a n (view top) (signal_of signal)) (stack machine.old.frames.items) parts.old result (stack machine.new.frames.items) parts.new }
+    ensures falls { IfOk result (λ _. 6 * parts.new.eval.steps + length scratch.new.frames.items ≤ 6 * parts.old.eval.steps + length scratch.old.frames.items) }
+    ensures does { Runs S.NodeStore (λ a n. frame a n (view top) (completion_of completion)) (stack scratch.old.frames.items) parts.old result (stack scratch.new.frames.items) parts.new }
 {
     match top {
-        Frame::Rest(rest) => match signal {
-            Signal::GoOn => next_command(alloc, parts, rest, machine),
+        Frame::Continuation(rest) => match completion {
+            Completion::GoOn => next_command(alloc, parts, rest, scratch),
             other => Ok(other),
         },
-        Frame::List(list) => match signal {
-            Signal::GoOn => {
+        Frame::PendingArguments(list) => match completion {
+            Completion::GoOn => {
                 let source = Source::Line(&list.behind);
-                arguments(alloc, parts, source, list.argument, machine)
+                arguments(alloc, parts, source, list.argument, scratch)
             }
             other => Ok(other),
         },
-        Frame::Given(given, argument) => match signal {
-            Signal::GoOn => arguments(alloc, parts, Source::Text(&given), argument, machine),
+        Frame::IndirectArguments(given, argument) => match completion {
+            Completion::GoOn => arguments(alloc, parts, Source::Text(&given), argument, scratch),
             other => Ok(other),
         },
-        Frame::Turns(turns) => after_turn(alloc, parts, turns, signal, machine),
-        Frame::Level(spot, closing) => {
-            after_level(alloc, parts, &spot, closing, signal, machine)
+        Frame::ForLoop(turns) => after_turn(alloc, parts, turns, completion, scratch),
+        Frame::Level(position, closing) => {
+            after_level(alloc, parts, &position, closing, completion, scratch)
         }
     }
 }
@@ -64,17 +64,17 @@ fn begin<S: NodeStore>(
     alloc: Global,
     parts: &mut Parts<S>,
     line: Rc<Line>,
-    machine: &mut Machine,
-) -> Result<Signal, Code>
+    scratch: &mut Scratch,
+) -> Result<Completion, Code>
     ensures loans { KeepsLoans parts.old parts.new }
     ensures fewer { parts.new.eval.steps ≤ parts.old.eval.steps }
-    ensures does { Runs S.NodeStore (λ a n. meaning.commands (context a n meaning.outset) (commands_from line.value 0)) (Levels meaning.outset stays ∷ []) parts.old result (stack machine.new.frames.items) parts.new }
+    ensures does { Runs S.NodeStore (λ a n. meaning.commands (context a n meaning.top_level) (commands_from line.value 0)) (Levels meaning.top_level stays ∷ []) parts.old result (stack scratch.new.frames.items) parts.new }
 {
-    machine.frames.clear();
-    let spot = machine.outset.spot()?;
-    let level = Frame::Level(spot.clone()?, Closing::Stays);
-    machine.frames.push(level)?;
-    next_command(alloc, parts, Rest { spot, line, at: 0 }, machine)
+    scratch.frames.clear();
+    let position = scratch.top_level.position()?;
+    let level = Frame::Level(position.clone()?, Closing::Stays);
+    scratch.frames.push(level)?;
+    next_command(alloc, parts, Continuation { position, line, at: 0 }, scratch)
 }
 
 // A line, from its first command to its end.
@@ -82,15 +82,15 @@ pub(crate) fn run_line<S: NodeStore>(
     alloc: Global,
     parts: &mut Parts<S>,
     line: Rc<Line>,
-    machine: &mut Machine,
-) -> Result<Signal, Code>
+    scratch: &mut Scratch,
+) -> Result<Completion, Code>
     ensures loans { KeepsLoans parts.old parts.new }
     ensures fewer { parts.new.eval.steps ≤ parts.old.eval.steps }
-    ensures does { DoesAt S.NodeStore (λ a n. meaning.run_within a n (commands_of (line_tree line.value))) signal_of parts.old result parts.new }
+    ensures does { DoesAt S.NodeStore (λ a n. meaning.run_within a n (commands_of (line_tree line.value))) completion_of parts.old result parts.new }
 {
-    let mut signal = begin(alloc, parts, line, machine)?;
-    while let Some(frame) = machine.frames.pop() {
-        signal = run_frame(alloc, parts, frame, signal, machine)?;
+    let mut completion = begin(alloc, parts, line, scratch)?;
+    while let Some(frame) = scratch.frames.pop() {
+        completion = run_frame(alloc, parts, frame, completion, scratch)?;
     }
-    Ok(signal)
+    Ok(completion)
 }

@@ -5,12 +5,12 @@ ghost use Rattle.mmeaning.specs.Transition as meaning;
 ghost use Rattle.mgrammar.specs.Reading.{line_at};
 ghost use Rattle.moperator.specs.declared.code.Code.TheVariants.{Zstore};
 ghost use Rattle.mcommand.specs.Does.{KeepsLoans};
-ghost use Rattle.mexec.specs.Frames.{signal_of};
+ghost use Rattle.mexec.specs.Frames.{completion_of};
 ghost use Rattle.mexec.specs.Runs.{RunsText, ending_of};
 
 use crate::line::run_line;
-use crate::machine::Machine;
-use crate::signal::Signal;
+use crate::scratch::Scratch;
+use crate::completion::Completion;
 use mcommand::Parts;
 use moperator::Code;
 use mparse::ParseFault;
@@ -28,36 +28,36 @@ pub enum Ended {
     Fault(Code),
 }
 
-// How a line ends that gives a signal.
-fn ending(signal: Signal) -> Ended
-    ensures { ending_of result ≡ meaning.ending_of (signal_of signal) }
+// How a line ends that gives a completion.
+fn ending(completion: Completion) -> Ended
+    ensures { ending_of result ≡ meaning.ending_of (completion_of completion) }
 {
-    match signal {
-        Signal::Halts => Ended::Halt,
+    match completion {
+        Completion::Halts => Ended::Halt,
         _ => Ended::Done,
     }
 }
 
-/// Carries out a text. What the machine kept before plays no part.
+/// Carries out a text. What the scratch kept before plays no part.
 ///
 /// It answers `Fault` with `Zsyntax`, and has done nothing, where the text has no tree; otherwise what was done before a code
 /// stands. After `Zmem` or `Zstore` the session and the output are any that the text could have had on its way.
 pub fn run_text<S: NodeStore>(
     alloc: Global,
     parts: &mut Parts<S>,
-    machine: &mut Machine,
+    scratch: &mut Scratch,
     text: &[u8],
 ) -> Ended
     ensures loans { KeepsLoans parts.old parts.new }
     ensures does { RunsText S.NodeStore (line_at text.now) parts.old result parts.new }
     ensures steady { S.steady → result ≢ Ended.Fault Zstore }
 {
-    match machine.trees.line(alloc, text) {
+    match scratch.trees.line(alloc, text) {
         Err(ParseFault::Syntax) => Ended::Fault(Code::Zsyntax),
         Err(ParseFault::Memory) => Ended::Fault(Code::Zmem),
-        Ok(line) => match run_line(alloc, parts, line, machine) {
+        Ok(line) => match run_line(alloc, parts, line, scratch) {
             Err(code) => Ended::Fault(code),
-            Ok(signal) => ending(signal),
+            Ok(completion) => ending(completion),
         },
     }
 }

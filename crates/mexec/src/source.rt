@@ -3,11 +3,11 @@
 ghost use Rattle.std.specs.Prelude.{◌≡◌, ◌≤◌, ◌+◌, map, drop, length, IfOk, OnOk};
 ghost use Rattle.mmeaning.specs.Frames.{Lists};
 ghost use Rattle.mtree.specs.Tree.{arg_tree};
-ghost use Rattle.mexec.specs.Frames.{args_before as the_args_before, spot_of, stack, source_spot, source_args, view};
+ghost use Rattle.mexec.specs.Frames.{args_before as the_args_before, position_of, stack, source_position, source_args, view};
 ghost use Rattle.mexec.specs.Arguments.{listing};
 
-use crate::frames::{Frame, Given, List, Rest, Spot};
-use crate::machine::Machine;
+use crate::frames::{Frame, IndirectArguments, PendingArguments, Continuation, Position};
+use crate::scratch::Scratch;
 use mtree::{Arg, Line};
 use std::alloc::AllocError;
 use std::rc::Rc;
@@ -15,8 +15,8 @@ use std::rc::Rc;
 // The arguments of a command: of the one before the rest of a line, or those that a text gave in its place.
 #[derive(Clone, Copy)]
 pub(crate) enum Source<'t> {
-    Line(&'t Rest),
-    Text(&'t Rc<Given>),
+    Line(&'t Continuation),
+    Text(&'t Rc<IndirectArguments>),
 }
 
 // The arguments of the command before a place of a line.
@@ -31,12 +31,12 @@ pub(crate) fn args_before(line: &Line, at: usize) -> &[Arg]
 
 impl<'t> Source<'t> {
     // Where they are done.
-    pub(crate) fn spot(self) -> &'t Spot
-        ensures { result.now ≡ source_spot self.entry }
+    pub(crate) fn position(self) -> &'t Position
+        ensures { result.now ≡ source_position self.entry }
     {
         match self {
-            Source::Line(behind) => &behind.spot,
-            Source::Text(given) => &given.spot,
+            Source::Line(behind) => &behind.position,
+            Source::Text(given) => &given.position,
         }
     }
 
@@ -52,26 +52,26 @@ impl<'t> Source<'t> {
 
     // A frame of those from one on.
     fn frame(self, argument: usize) -> Result<Frame, AllocError>
-        ensures { IfOk result (λ frame. view frame ≡ Lists (spot_of (source_spot self.entry)) (map arg_tree (drop argument (source_args self.entry)))) }
+        ensures { IfOk result (λ frame. view frame ≡ Lists (position_of (source_position self.entry)) (map arg_tree (drop argument (source_args self.entry)))) }
     {
         match self {
             Source::Line(behind) => {
                 let behind = behind.copy()?;
-                Ok(Frame::List(List { behind, argument }))
+                Ok(Frame::PendingArguments(PendingArguments { behind, argument }))
             }
-            Source::Text(given) => Ok(Frame::Given(given.clone()?, argument)),
+            Source::Text(given) => Ok(Frame::IndirectArguments(given.clone()?, argument)),
         }
     }
 
     // Leaves those from one on on the frames, unless there are none.
-    pub(crate) fn leave(self, argument: usize, machine: &mut Machine) -> Result<(), AllocError>
-        ensures frames { OnOk result (stack machine.new.frames.items ≡ listing (spot_of (source_spot self.entry)) (map arg_tree (drop argument (source_args self.entry))) (stack machine.old.frames.items)) }
-        ensures most { OnOk result (length machine.new.frames.items ≤ length machine.old.frames.items + 1) }
+    pub(crate) fn leave(self, argument: usize, scratch: &mut Scratch) -> Result<(), AllocError>
+        ensures frames { OnOk result (stack scratch.new.frames.items ≡ listing (position_of (source_position self.entry)) (map arg_tree (drop argument (source_args self.entry))) (stack scratch.old.frames.items)) }
+        ensures most { OnOk result (length scratch.new.frames.items ≤ length scratch.old.frames.items + 1) }
     {
         if argument >= self.all().len() {
             return Ok(());
         }
-        machine.frames.push(self.frame(argument)?)?;
+        scratch.frames.push(self.frame(argument)?)?;
         Ok(())
     }
 }

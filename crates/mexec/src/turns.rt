@@ -11,14 +11,14 @@ ghost use Rattle.mcommand.specs.Turns.{course_view, started, advanced};
 ghost use Rattle.mmeaning.specs.Frames.{Rests};
 ghost use Rattle.mexec.specs.declared.frames.Frame.TheVariants as frame;
 ghost use Rattle.mexec.specs.Direct as direct;
-ghost use Rattle.mexec.specs.Frames.{Runs, commands_from, turning, stack, view, signal_of, spot_of};
+ghost use Rattle.mexec.specs.Frames.{Runs, commands_from, turning, stack, view, completion_of, position_of};
 ghost use Rattle.mexec.specs.Loops.{has_index, loop_before as the_loop_before};
 
 use crate::commands::charge;
 use crate::direct::{direct_commands, is_direct_from};
-use crate::frames::{Frame, Rest, Turns};
-use crate::machine::Machine;
-use crate::signal::Signal;
+use crate::frames::{Frame, Continuation, ForLoop};
+use crate::scratch::Scratch;
+use crate::completion::Completion;
 use crate::source::args_before;
 use mcommand::{Course, Parts};
 use meval::Depth;
@@ -68,8 +68,8 @@ fn advance<S: NodeStore>(parts: &mut Parts<S>, index: &Name, course: Course) -> 
 }
 
 // The body of a turn.
-fn body(turns: &Turns) -> Result<Rest, AllocError>
-    ensures { IfOk result (λ rest. view (frame.Rest rest) ≡ Rests (spot_of turns.now.body.spot.value) (turning turns.now).body) }
+fn body(turns: &ForLoop) -> Result<Continuation, AllocError>
+    ensures { IfOk result (λ rest. view (frame.Continuation rest) ≡ Rests (position_of turns.now.body.position.value) (turning turns.now).body) }
 {
     turns.body.copy()
 }
@@ -77,18 +77,18 @@ fn body(turns: &Turns) -> Result<Rest, AllocError>
 // A turn, which costs a step.
 pub(crate) fn begin_turn<S: NodeStore>(
     parts: &mut Parts<S>,
-    turns: Box<Turns>,
-    machine: &mut Machine,
-) -> Result<Signal, Code>
+    turns: Box<ForLoop>,
+    scratch: &mut Scratch,
+) -> Result<Completion, Code>
     ensures loans { KeepsLoans parts.old parts.new }
-    ensures falls { IfOk result (λ _. 6 * parts.new.eval.steps + length machine.new.frames.items ≤ 6 * parts.old.eval.steps + length machine.old.frames.items) }
-    ensures does { Runs S.NodeStore (λ a n. meaning.begin_turn (context a n (spot_of turns.value.body.spot.value)) (turning turns.value)) (stack machine.old.frames.items) parts.old result (stack machine.new.frames.items) parts.new }
+    ensures falls { IfOk result (λ _. 6 * parts.new.eval.steps + length scratch.new.frames.items ≤ 6 * parts.old.eval.steps + length scratch.old.frames.items) }
+    ensures does { Runs S.NodeStore (λ a n. meaning.begin_turn (context a n (position_of turns.value.body.position.value)) (turning turns.value)) (stack scratch.old.frames.items) parts.old result (stack scratch.new.frames.items) parts.new }
 {
     charge(parts)?;
     let body = body(&turns)?;
-    machine.frames.push(Frame::Turns(turns))?;
-    machine.frames.push(Frame::Rest(body))?;
-    Ok(Signal::GoOn)
+    scratch.frames.push(Frame::ForLoop(turns))?;
+    scratch.frames.push(Frame::Continuation(body))?;
+    Ok(Completion::GoOn)
 }
 
 // The turns of the parameters from one on. The index and the parameters are those of the FOR before its body.
@@ -97,61 +97,61 @@ pub(crate) fn next_parameter<S: NodeStore>(
     parts: &mut Parts<S>,
     index: &Name,
     parameters: &[Parameter],
-    turns: Turns,
-    machine: &mut Machine,
-) -> Result<Signal, Code>
+    turns: ForLoop,
+    scratch: &mut Scratch,
+) -> Result<Completion, Code>
     requires found { the_loop_before turns.body.line.value turns.body.at ≡ (index.now, parameters.now) }
     requires indexed { has_index turns.body.line.value turns.body.at ≡ true }
     ensures loans { KeepsLoans parts.old parts.new }
-    ensures falls { IfOk result (λ _. 6 * parts.new.eval.steps + length machine.new.frames.items ≤ 6 * parts.old.eval.steps + length machine.old.frames.items) }
-    ensures does { Runs S.NodeStore (λ a n. meaning.next_parameter (context a n (spot_of turns.body.spot.value)) index.now (commands_from turns.body.line.value turns.body.at) (map parameter_tree (drop turns.parameter parameters.now))) (stack machine.old.frames.items) parts.old result (stack machine.new.frames.items) parts.new }
+    ensures falls { IfOk result (λ _. 6 * parts.new.eval.steps + length scratch.new.frames.items ≤ 6 * parts.old.eval.steps + length scratch.old.frames.items) }
+    ensures does { Runs S.NodeStore (λ a n. meaning.next_parameter (context a n (position_of turns.body.position.value)) index.now (commands_from turns.body.line.value turns.body.at) (map parameter_tree (drop turns.parameter parameters.now))) (stack scratch.old.frames.items) parts.old result (stack scratch.new.frames.items) parts.new }
 {
     let mut next = turns.parameter;
     while next < parameters.len() {
         match start(
             alloc,
             parts,
-            turns.body.spot.depth,
+            turns.body.position.depth,
             index,
             &parameters[next],
         )? {
             None => next += 1,
             Some(course) => {
-                let turns = Turns {
+                let turns = ForLoop {
                     body: turns.body,
                     parameter: next + 1,
                     course,
                 };
                 let turns = Box::new(alloc, turns)?;
-                return begin_turn(parts, turns, machine);
+                return begin_turn(parts, turns, scratch);
             }
         }
     }
-    Ok(Signal::Skips)
+    Ok(Completion::Skips)
 }
 
 // The turns of the parameters that are left. Without an index there are none.
 fn further<S: NodeStore>(
     alloc: Global,
     parts: &mut Parts<S>,
-    turns: Turns,
-    machine: &mut Machine,
-) -> Result<Signal, Code>
+    turns: ForLoop,
+    scratch: &mut Scratch,
+) -> Result<Completion, Code>
     ensures loans { KeepsLoans parts.old parts.new }
-    ensures falls { IfOk result (λ _. 6 * parts.new.eval.steps + length machine.new.frames.items ≤ 6 * parts.old.eval.steps + length machine.old.frames.items) }
-    ensures does { Runs S.NodeStore (λ a n. meaning.next_parameter (context a n (spot_of turns.body.spot.value)) (turning turns).index (turning turns).body (turning turns).parameters) (stack machine.old.frames.items) parts.old result (stack machine.new.frames.items) parts.new }
+    ensures falls { IfOk result (λ _. 6 * parts.new.eval.steps + length scratch.new.frames.items ≤ 6 * parts.old.eval.steps + length scratch.old.frames.items) }
+    ensures does { Runs S.NodeStore (λ a n. meaning.next_parameter (context a n (position_of turns.body.position.value)) (turning turns).index (turning turns).body (turning turns).parameters) (stack scratch.old.frames.items) parts.old result (stack scratch.new.frames.items) parts.new }
 {
     let line = turns.body.line.clone()?;
     match loop_before(&line, turns.body.at) {
-        None => Ok(Signal::Skips),
+        None => Ok(Completion::Skips),
         Some((index, parameters)) => next_parameter(
-            alloc, parts, index, parameters, turns, machine,
+            alloc, parts, index, parameters, turns, scratch,
         ),
     }
 }
 
 // Whether there is one turn more of this course of these turns.
-fn goes_on<S: NodeStore>(parts: &mut Parts<S>, turns: &Turns) -> Result<bool, Code>
+fn goes_on<S: NodeStore>(parts: &mut Parts<S>, turns: &ForLoop) -> Result<bool, Code>
     ensures loans { KeepsLoans parts.old parts.new }
     ensures fewer { parts.new.eval.steps ≤ parts.old.eval.steps }
     ensures does { DoesAt S.NodeStore (λ a n. advanced (turning turns.now).index (course_view turns.now.course)) (λ goes_on. goes_on) parts.old result parts.new }
@@ -170,27 +170,27 @@ fn goes_on<S: NodeStore>(parts: &mut Parts<S>, turns: &Turns) -> Result<bool, Co
 fn turns_at_once<S: NodeStore>(
     alloc: Global,
     parts: &mut Parts<S>,
-    turns: Box<Turns>,
-    machine: &mut Machine,
-) -> Result<Signal, Code>
+    turns: Box<ForLoop>,
+    scratch: &mut Scratch,
+) -> Result<Completion, Code>
     requires { direct.is_direct_from turns.value.body.line.value turns.value.body.at ≡ true }
     ensures loans { KeepsLoans parts.old parts.new }
-    ensures falls { IfOk result (λ _. 6 * parts.new.eval.steps + length machine.new.frames.items ≤ 6 * parts.old.eval.steps + length machine.old.frames.items) }
-    ensures does { Runs S.NodeStore (λ a n. meaning.after_course (context a n (spot_of turns.value.body.spot.value)) (turning turns.value) (course_view turns.value.course)) (stack machine.old.frames.items) parts.old result (stack machine.new.frames.items) parts.new }
+    ensures falls { IfOk result (λ _. 6 * parts.new.eval.steps + length scratch.new.frames.items ≤ 6 * parts.old.eval.steps + length scratch.old.frames.items) }
+    ensures does { Runs S.NodeStore (λ a n. meaning.after_course (context a n (position_of turns.value.body.position.value)) (turning turns.value) (course_view turns.value.course)) (stack scratch.old.frames.items) parts.old result (stack scratch.new.frames.items) parts.new }
 {
     'turns: loop {
         let goes_on = goes_on(parts, &turns)?;
         if !goes_on {
-            return further(alloc, parts, Box::into_inner(turns), machine);
+            return further(alloc, parts, Box::into_inner(turns), scratch);
         }
         charge(parts)?;
         let body = &turns.body;
-        match direct_commands(alloc, parts, &body.spot, &body.line, body.at)? {
-            Signal::GoOn => {}
-            Signal::Skips => {}
-            Signal::Quits => return Ok(Signal::Skips),
-            Signal::Goes(target) => return Ok(Signal::Goes(target)),
-            Signal::Halts => return Ok(Signal::Halts),
+        match direct_commands(alloc, parts, &body.position, &body.line, body.at)? {
+            Completion::GoOn => {}
+            Completion::Skips => {}
+            Completion::Quits => return Ok(Completion::Skips),
+            Completion::Goes(target) => return Ok(Completion::Goes(target)),
+            Completion::Halts => return Ok(Completion::Halts),
         }
     }
 }
@@ -199,21 +199,21 @@ fn turns_at_once<S: NodeStore>(
 fn after_course<S: NodeStore>(
     alloc: Global,
     parts: &mut Parts<S>,
-    turns: Box<Turns>,
-    machine: &mut Machine,
-) -> Result<Signal, Code>
+    turns: Box<ForLoop>,
+    scratch: &mut Scratch,
+) -> Result<Completion, Code>
     ensures loans { KeepsLoans parts.old parts.new }
-    ensures falls { IfOk result (λ _. 6 * parts.new.eval.steps + length machine.new.frames.items ≤ 6 * parts.old.eval.steps + length machine.old.frames.items) }
-    ensures does { Runs S.NodeStore (λ a n. meaning.after_course (context a n (spot_of turns.value.body.spot.value)) (turning turns.value) (course_view turns.value.course)) (stack machine.old.frames.items) parts.old result (stack machine.new.frames.items) parts.new }
+    ensures falls { IfOk result (λ _. 6 * parts.new.eval.steps + length scratch.new.frames.items ≤ 6 * parts.old.eval.steps + length scratch.old.frames.items) }
+    ensures does { Runs S.NodeStore (λ a n. meaning.after_course (context a n (position_of turns.value.body.position.value)) (turning turns.value) (course_view turns.value.course)) (stack scratch.old.frames.items) parts.old result (stack scratch.new.frames.items) parts.new }
 {
     if is_direct_from(&turns.body.line, turns.body.at) {
-        return turns_at_once(alloc, parts, turns, machine);
+        return turns_at_once(alloc, parts, turns, scratch);
     }
     let goes_on = goes_on(parts, &turns)?;
     if goes_on {
-        begin_turn(parts, turns, machine)
+        begin_turn(parts, turns, scratch)
     } else {
-        further(alloc, parts, Box::into_inner(turns), machine)
+        further(alloc, parts, Box::into_inner(turns), scratch)
     }
 }
 
@@ -221,19 +221,19 @@ fn after_course<S: NodeStore>(
 pub(crate) fn after_turn<S: NodeStore>(
     alloc: Global,
     parts: &mut Parts<S>,
-    turns: Box<Turns>,
-    signal: Signal,
-    machine: &mut Machine,
-) -> Result<Signal, Code>
+    turns: Box<ForLoop>,
+    completion: Completion,
+    scratch: &mut Scratch,
+) -> Result<Completion, Code>
     ensures loans { KeepsLoans parts.old parts.new }
-    ensures falls { IfOk result (λ _. 6 * parts.new.eval.steps + length machine.new.frames.items ≤ 6 * parts.old.eval.steps + length machine.old.frames.items) }
-    ensures does { Runs S.NodeStore (λ a n. meaning.after_turn (context a n (spot_of turns.value.body.spot.value)) (turning turns.value) (signal_of signal)) (stack machine.old.frames.items) parts.old result (stack machine.new.frames.items) parts.new }
+    ensures falls { IfOk result (λ _. 6 * parts.new.eval.steps + length scratch.new.frames.items ≤ 6 * parts.old.eval.steps + length scratch.old.frames.items) }
+    ensures does { Runs S.NodeStore (λ a n. meaning.after_turn (context a n (position_of turns.value.body.position.value)) (turning turns.value) (completion_of completion)) (stack scratch.old.frames.items) parts.old result (stack scratch.new.frames.items) parts.new }
 {
-    match signal {
-        Signal::GoOn => after_course(alloc, parts, turns, machine),
-        Signal::Skips => after_course(alloc, parts, turns, machine),
-        Signal::Quits => Ok(Signal::Skips),
-        Signal::Goes(target) => Ok(Signal::Goes(target)),
-        Signal::Halts => Ok(Signal::Halts),
+    match completion {
+        Completion::GoOn => after_course(alloc, parts, turns, scratch),
+        Completion::Skips => after_course(alloc, parts, turns, scratch),
+        Completion::Quits => Ok(Completion::Skips),
+        Completion::Goes(target) => Ok(Completion::Goes(target)),
+        Completion::Halts => Ok(Completion::Halts),
     }
 }

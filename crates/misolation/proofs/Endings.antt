@@ -1,6 +1,6 @@
 -- SPDX-License-Identifier: Apache-2.0
 -- How a line ends, over the cut: the only place that reads what becomes of a session.
-use Rattle.misolation.proofs.IsolationWords.{◌≡◌, ℕ, true, false, sym, ap, ◌∙◌, FinMap, insert, remove, retain_keys, nat_cmp-IsAntisymmetric, nat_cmp, nat_cmp_total, Settings, State, Outcome, Signal, Shared, Accounts, is_inside, cut_shared, cut_world, IsFit}
+use Rattle.misolation.proofs.IsolationWords.{◌≡◌, ℕ, true, false, sym, ap, ◌∙◌, FinMap, insert, remove, retain_keys, nat_cmp-IsAntisymmetric, nat_cmp, nat_cmp_total, Settings, State, Outcome, Completion, Shared, Accounts, is_inside, cut_shared, cut_world, IsFit}
 use Rattle.mspec.proofs.MapCuts.{cut_drops, cut_removed}
 use Rattle.mmeaning.specs.Transition.{Session, World, Ending, Finished, Halted, Faulted, settled, ended, kept, state_of, reply_of}
 use Rattle.misolation.proofs.CutMaps.{cut_insert, cut_remove}
@@ -36,7 +36,7 @@ module _ (s : Accounts) (settings : Settings) where
     sessions = gone_inside world.sessions t i;
   }
 
-  pub ended_inside : (t : ℕ) → is_inside s settings t ≡ true → (world : World) (o : Outcome Signal) (w : Shared)
+  pub ended_inside : (t : ℕ) → is_inside s settings t ≡ true → (world : World) (o : Outcome Completion) (w : Shared)
       → ended t (cut_world s settings world) (o, cut_shared s settings w) ≡ ((ended t world (o, w)).0, cut_world s settings (ended t world (o, w)).1)
   ended_inside t here world o w = λ i. (reply_of o, settled_inside t here world (reply_of o).ending (state_of o) w i)
 
@@ -48,7 +48,7 @@ module _ (s : Accounts) (settings : Settings) where
       let locks = released_outside s settings t away w.locks ∙ ap (λ v. v.locks) same in
       λ i. record { shared = record { globals = (same i).globals; locks = locks i }; sessions = gone_outside world.sessions t away i }
 
-  pub ended_outside : (t : ℕ) → is_inside s settings t ≡ false → (world : World) (o : Outcome Signal) (w : Shared) → cut_shared s settings w ≡ cut_shared s settings world.shared
+  pub ended_outside : (t : ℕ) → is_inside s settings t ≡ false → (world : World) (o : Outcome Completion) (w : Shared) → cut_shared s settings w ≡ cut_shared s settings world.shared
       → cut_world s settings (ended t world (o, w)).1 ≡ cut_world s settings world
   ended_outside t away world o w same = settled_outside t away world (reply_of o).ending (state_of o) w same
 
@@ -58,5 +58,5 @@ settled_fits settings t world Finished state w fit = fit
 settled_fits settings t world (Faulted fault) state w fit = fit
 settled_fits settings t world Halted state w fit = released_fits settings w.locks t fit
 
-pub ended_fits : (settings : Settings) (t : ℕ) (world : World) (o : Outcome Signal) (w : Shared) → IsFit settings w → IsFit settings (ended t world (o, w)).1.shared
+pub ended_fits : (settings : Settings) (t : ℕ) (world : World) (o : Outcome Completion) (w : Shared) → IsFit settings w → IsFit settings (ended t world (o, w)).1.shared
 ended_fits settings t world o w fit = settled_fits settings t world (reply_of o).ending (state_of o) w fit

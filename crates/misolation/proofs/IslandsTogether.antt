@@ -1,6 +1,6 @@
 -- SPDX-License-Identifier: Apache-2.0
 -- The laws of islands: the whole comes apart, and machines run together.
-use Rattle.misolation.proofs.IsolationWords.{◌≡◌, ℕ, Bool, true, false, List, [], ◌∷◌, Option, Some, None, refl, sym, ap, ◌∙◌, subst, subst₂, nat_cmp_total, nat_eq, get, remove, nat_cmp-IsAntisymmetric, significant_digits, held, released, Account, Settings, Outcome, Plan, cut_short, held_cmp_total, held_cmp_exact, node_cmp_total, node_cmp_exact, by_test, line_at, Signal, Accounts, IsClosed, is_member, is_inside, cut_settings, cut_shared, cut_world, cut_events, part, IsFit, Actor, ops_of, cut_ops, InsidePlan, OutsideTransition}
+use Rattle.misolation.proofs.IsolationWords.{◌≡◌, ℕ, Bool, true, false, List, [], ◌∷◌, Option, Some, None, refl, sym, ap, ◌∙◌, subst, subst₂, nat_cmp_total, nat_eq, get, remove, nat_cmp-IsAntisymmetric, significant_digits, held, released, Account, Settings, Outcome, Plan, cut_short, held_cmp_total, held_cmp_exact, node_cmp_total, node_cmp_exact, by_test, line_at, Completion, Accounts, IsClosed, is_member, is_inside, cut_settings, cut_shared, cut_world, cut_events, part, IsFit, Actor, ops_of, cut_ops, InsidePlan, OutsideTransition}
 use Rattle.std.proofs.lemmas.Bool.{eqb-true, eq-eqb}
 use Rattle.mspec.specs.Flow.{IsIsland}
 use Rattle.mmeaning.specs.Transition.{Session, session_or_new, World, Event, Reply, plan_of, at_account, normal, FailedTransition, is_failure, TransitionBy, Transition}
@@ -46,7 +46,7 @@ island_runs_alone s settings globals es after island h none =
 -- ---- a transition over the cut is one of the whole
 
 module _ (s : Accounts) (settings : Settings) (e : Event) (world : World) (closed : IsClosed settings s) (fit : IsFit settings world.shared) (here : is_inside s settings e.terminal ≡ true) where
-  abbrev plan_in : Account → Option Session → Plan (Outcome Signal)
+  abbrev plan_in : Account → Option Session → Plan (Outcome Completion)
   plan_in account session = plan_of account (session_or_new session) (line_at e.text)
 
   failed_whole : (left : World) → FailedTransition (cut_settings s settings) e (cut_world s settings world) left → (after : World) × FailedTransition settings e world after × (cut_world s settings after ≡ left)
@@ -54,7 +54,7 @@ module _ (s : Accounts) (settings : Settings) (e : Event) (world : World) (close
       let known : get settings.terminals e.terminal ≡ Some f.account = sym (get_kept nat_cmp_total nat_cmp-IsAntisymmetric settings.terminals (is_inside s settings) e.terminal here) ∙ f.known in
       let b : Actor = record { settings = settings; terminal = e.terminal; account = f.account; known = known } in
       let member : s f.account.name ≡ true = sym (ap (is_member s) known) ∙ here in
-      let p : Plan (Outcome Signal) = plan_in f.account (get world.sessions e.terminal) in
+      let p : Plan (Outcome Completion) = plan_in f.account (get world.sessions e.terminal) in
       let inside : InsidePlan s b p world.shared = inside_plans s b p world.shared closed member fit in
       let after : World = record {
         shared = record { globals = (cut_short (ops_of b) f.operations p world.shared).globals; locks = released world.shared.locks e.terminal };

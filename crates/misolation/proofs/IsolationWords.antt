@@ -23,7 +23,7 @@ pub use Rattle.mspec.specs.Plan.{Plan, cut_short, Put, Take, Value, Op, May, Sta
 pub use Rattle.mspec.specs.Trees.{text_eq}
 pub use Rattle.mgrammar.specs.Reading.{line_at}
 pub use Rattle.mmeaning.specs.History.{History, world_after, answered, NoneFailed}
-pub use Rattle.mmeaning.specs.LineMeaning.{Signal}
+pub use Rattle.mmeaning.specs.LineMeaning.{Completion}
 pub use Rattle.mmeaning.specs.Transition.{Session, World, Ending, Finished, Halted, Faulted, settled, ended, state_of, reply_of, session_or_new, Event, Reply, plan_of, at_account, normal, FailedTransition, is_failure, TransitionBy, is_too_long, is_ascii, checked}
 pub use Rattle.mmeaning.specs.Shared.{may_write, may_lock, Shared, act, guarded, took}
 pub use Rattle.misolation.specs.Alike.{AlikeWorlds}

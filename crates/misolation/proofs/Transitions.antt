@@ -1,6 +1,6 @@
 -- SPDX-License-Identifier: Apache-2.0
 -- The two laws for steps.
-use Rattle.misolation.proofs.IsolationWords.{◌≡◌, ℕ, Bool, true, false, Option, Some, None, refl, sym, ap, ◌∙◌, subst, not, ◌||◌, List, [], ◌∷◌, if◌then◌else◌, FinMap, get, retain_keys, nat_cmp-IsAntisymmetric, nat_cmp, nat_cmp_total, Text, Account, Settings, Write, Outcome, Op, May, Value, Status, Neighbour, Routine, Put, Kill, Take, Give_back, Release, Plan, perform, cut_short, line_at, Signal, act, Accounts, IsClosed, is_member, is_inside, cut_settings, cut_locks, cut_shared, cut_world, AreFit, IsFit}
+use Rattle.misolation.proofs.IsolationWords.{◌≡◌, ℕ, Bool, true, false, Option, Some, None, refl, sym, ap, ◌∙◌, subst, not, ◌||◌, List, [], ◌∷◌, if◌then◌else◌, FinMap, get, retain_keys, nat_cmp-IsAntisymmetric, nat_cmp, nat_cmp_total, Text, Account, Settings, Write, Outcome, Op, May, Value, Status, Neighbour, Routine, Put, Kill, Take, Give_back, Release, Plan, perform, cut_short, line_at, Completion, act, Accounts, IsClosed, is_member, is_inside, cut_settings, cut_locks, cut_shared, cut_world, AreFit, IsFit}
 use Rattle.std.specs.List.{flat_map}
 use Rattle.mmeaning.specs.Transition.{Session, session_or_new, World, Event, Reply, plan_of, ended, is_too_long, is_ascii, at_tree, checked, at_account, normal, FailedTransition, is_failure, TransitionBy}
 use Rattle.misolation.specs.PlanLaws.{Exchange, exchanges, Actor, ops_of, cut_ops, InsidePlan, OutsidePlan}
@@ -15,7 +15,7 @@ use Rattle.misolation.proofs.PlansInside.{inside_plans, outside_plans, plans_kee
 use Rattle.misolation.proofs.Endings.{gone_inside, gone_outside, ended_inside, ended_outside, ended_fits}
 
 -- the plan of a line, in the session that its terminal has or in a new one
-abbrev plan_in : Event → Account → Option Session → Plan (Outcome Signal)
+abbrev plan_in : Event → Account → Option Session → Plan (Outcome Completion)
 plan_in e account session = plan_of account (session_or_new session) (line_at e.text)
 
 -- who sends a line
@@ -33,7 +33,7 @@ module _ (s : Accounts) (settings : Settings) (e : Event) (world : World) where
   tree_inside account known closed fit here =
       let b : Actor = sender settings e account known in
       let member : s account.name ≡ true = sym (ap (is_member s) known) ∙ here in
-      let p : Plan (Outcome Signal) = plan_in e account (get world.sessions e.terminal) in
+      let p : Plan (Outcome Completion) = plan_in e account (get world.sessions e.terminal) in
       let inside : InsidePlan s b p world.shared = inside_plans s b p world.shared closed member fit in
       ap (λ o. ended e.terminal (cut_world s settings world) (perform (cut_ops s b) (plan_in e account o) (cut_shared s settings world.shared)))
       (nat_kept world.sessions (is_inside s settings) e.terminal here)
@@ -103,7 +103,7 @@ module _ (s : Accounts) (settings : Settings) (e : Event) (world : World) where
   failed_inside closed fit here after f =
       let b : Actor = sender settings e f.account f.known in
       let member : s f.account.name ≡ true = sym (ap (is_member s) f.known) ∙ here in
-      let p : Plan (Outcome Signal) = plan_in e f.account (get world.sessions e.terminal) in
+      let p : Plan (Outcome Completion) = plan_in e f.account (get world.sessions e.terminal) in
       let inside : InsidePlan s b p world.shared = inside_plans s b p world.shared closed member fit in
       record {
         account = f.account;
@@ -126,7 +126,7 @@ module _ (s : Accounts) (settings : Settings) (e : Event) (world : World) where
   tree_outside account known closed away =
       let b : Actor = sender settings e account known in
       let outsider : s account.name ≡ false = sym (ap (is_member s) known) ∙ away in
-      let p : Plan (Outcome Signal) = plan_in e account (get world.sessions e.terminal) in
+      let p : Plan (Outcome Completion) = plan_in e account (get world.sessions e.terminal) in
       let outside : OutsidePlan s b p world.shared = outside_plans s b p world.shared closed outsider in
       ended_outside s settings e.terminal away world (perform (ops_of b) p world.shared).0 (perform (ops_of b) p world.shared).1 outside.shared
 
@@ -148,7 +148,7 @@ module _ (s : Accounts) (settings : Settings) (e : Event) (world : World) where
   failed_outside closed away after f =
       let b : Actor = sender settings e f.account f.known in
       let outsider : s f.account.name ≡ false = sym (ap (is_member s) f.known) ∙ away in
-      let p : Plan (Outcome Signal) = plan_in e f.account (get world.sessions e.terminal) in
+      let p : Plan (Outcome Completion) = plan_in e f.account (get world.sessions e.terminal) in
       let outside : OutsidePlan s b p world.shared = outside_plans s b p world.shared closed outsider in
       let globals = ap (λ g. retain_keys g (λ n. s n.account)) f.globals ∙ ap (λ w. w.globals) (outside.short f.operations) in
       let locks = ap (cut_locks s settings) f.locks ∙ released_outside s settings e.terminal away world.shared.locks in
@@ -187,7 +187,7 @@ module _ (settings : Settings) (e : Event) (world : World) (fit : IsFit settings
   tree_fits : (account : Account) → get settings.terminals e.terminal ≡ Some account → IsFit settings (at_tree settings e world account).1.shared
   tree_fits account known =
       let b : Actor = sender settings e account known in
-      let p : Plan (Outcome Signal) = plan_in e account (get world.sessions e.terminal) in
+      let p : Plan (Outcome Completion) = plan_in e account (get world.sessions e.terminal) in
       ended_fits settings e.terminal world (perform (ops_of b) p world.shared).0 (perform (ops_of b) p world.shared).1 (plans_keep_fit b p world.shared fit).whole
 
   checked_fits : (long ascii : Bool) (account : Account) → get settings.terminals e.terminal ≡ Some account → IsFit settings (checked long ascii settings e world account).1.shared

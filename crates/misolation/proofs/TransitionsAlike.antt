@@ -1,6 +1,6 @@
 -- SPDX-License-Identifier: Apache-2.0
 -- What a normal transition cannot tell apart.
-use Rattle.misolation.proofs.IsolationWords.{◌≡◌, ℕ, Bool, true, false, cond, List, [], ◌∷◌, Option, Some, None, refl, sym, ap, ◌∙◌, subst, get, insert, remove, get-insert, get-remove, nat_cmp, eq_by_cmp, list_all, nat_cmp_total, Text, text_eq, Account, Settings, Read, Write, LockName, taken, Op, May, Value, Status, Neighbour, Routine, Put, Kill, Take, Give_back, Release, Ops, perform, State, Outcome, line_at, Signal, Shared, act, guarded, may_lock, took, answered, world_after}
+use Rattle.misolation.proofs.IsolationWords.{◌≡◌, ℕ, Bool, true, false, cond, List, [], ◌∷◌, Option, Some, None, refl, sym, ap, ◌∙◌, subst, get, insert, remove, get-insert, get-remove, nat_cmp, eq_by_cmp, list_all, nat_cmp_total, Text, text_eq, Account, Settings, Read, Write, LockName, taken, Op, May, Value, Status, Neighbour, Routine, Put, Kill, Take, Give_back, Release, Ops, perform, State, Outcome, line_at, Completion, Shared, act, guarded, may_lock, took, answered, world_after}
 use Rattle.mspec.specs.Globals.{status, order_at, without_subtree}
 use Rattle.mmeaning.specs.Transition.{Session, session_or_new, World, Event, Reply, Ending, Finished, Halted, Faulted, kept, plan_of, reply_of, state_of, settled, ended, is_too_long, is_ascii, at_tree, checked, at_account, normal}
 use Rattle.misolation.specs.Alike.{AlikeSettings, AlikeWorlds, AlikeTransitions}
@@ -76,16 +76,16 @@ module _ (one two : World) (alike : AlikeWorlds one two) where
   settled_alike t (Faulted fault) state w = record { shared = refl; sessions = kept_alike t (kept state) }
   settled_alike t Halted state w = record { shared = refl; sessions = halted_alike t }
 
-  ended_alike : (t : ℕ) (r : Outcome Signal × Shared) → AlikeTransitions (ended t one r) (ended t two r)
+  ended_alike : (t : ℕ) (r : Outcome Completion × Shared) → AlikeTransitions (ended t one r) (ended t two r)
   ended_alike t r = record { reply = refl; world = settled_alike t (reply_of r.0).ending (state_of r.0) r.1 }
 
   module _ (settings : Settings) (e : Event) where
-    abbrev run_of : Account → Session → Shared → Outcome Signal × Shared
+    abbrev run_of : Account → Session → Shared → Outcome Completion × Shared
     run_of account session w = perform (act settings e.terminal account.name) (plan_of account session (line_at e.text)) w
 
     tree_alike : (account : Account) → AlikeTransitions (at_tree settings e one account) (at_tree settings e two account)
     tree_alike account =
-        subst (λ (r : Outcome Signal × Shared). AlikeTransitions (at_tree settings e one account) (ended e.terminal two r))
+        subst (λ (r : Outcome Completion × Shared). AlikeTransitions (at_tree settings e one account) (ended e.terminal two r))
         (λ i. run_of account (alike.sessions e.terminal i) (alike.shared i))
         (ended_alike e.terminal (run_of account (session_or_new (get one.sessions e.terminal)) one.shared))
 

@@ -1,7 +1,7 @@
 -- SPDX-License-Identifier: Apache-2.0
 -- What plans and steps leave of globals, by their writes.
 use Rattle.std.proofs.Common.{◌≡◌, ℕ, zero, suc, Bool, true, false, List, [], ◌∷◌, ◌++◌, Option, Some, None, refl, sym, ap, ◌∙◌, append_assoc}
-use Rattle.misolation.proofs.IsolationWords.{not, ◌||◌, if◌then◌else◌, get, insert, list_all, Text, Node, Account, Settings, State, Outcome, Locks, taken, line_at, Signal, session_or_new, World, Event, Reply, Ending, Finished, Halted, Faulted, reply_of, state_of, settled, plan_of, is_too_long, is_ascii, checked, at_account, FailedTransition, is_failure, TransitionBy}
+use Rattle.misolation.proofs.IsolationWords.{not, ◌||◌, if◌then◌else◌, get, insert, list_all, Text, Node, Account, Settings, State, Outcome, Locks, taken, line_at, Completion, session_or_new, World, Event, Reply, Ending, Finished, Halted, Faulted, reply_of, state_of, settled, plan_of, is_too_long, is_ascii, checked, at_account, FailedTransition, is_failure, TransitionBy}
 use Rattle.std.proofs.lemmas.List.{append-nil}
 use Rattle.mspec.specs.Globals.{Globals, without_subtree}
 use Rattle.mspec.specs.Plan.{Op, May, Value, Status, Neighbour, Routine, Put, Kill, Take, Give_back, Release, Plan, Done, Ask, Ops, perform, cut_short}
@@ -79,7 +79,7 @@ settled_globals terminal world ending s w = refl
 
 module _ (settings : Settings) (e : Event) (world : World) where
   -- the plan of a line, and what it comes to
-  abbrev line_plan : Account → Plan (Outcome Signal)
+  abbrev line_plan : Account → Plan (Outcome Completion)
   line_plan account = plan_of account (session_or_new (get world.sessions e.terminal)) (line_at e.text)
 
   abbrev plan_exchanges : Account → List Exchange

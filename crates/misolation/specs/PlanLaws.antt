@@ -7,7 +7,7 @@ use Rattle.std.specs.FinMap.{get}
 use Rattle.mspec.specs.Access.{Account, Settings}
 use Rattle.mspec.specs.Act.{Outcome}
 use Rattle.mspec.specs.Plan.{Op, Answer, Plan, Done, Ask, Ops, perform, cut_short}
-use Rattle.mmeaning.specs.LineMeaning.{Signal}
+use Rattle.mmeaning.specs.LineMeaning.{Completion}
 use Rattle.mmeaning.specs.Shared.{Shared, act}
 use Rattle.misolation.specs.Reach.{Accounts, IsClosed}
 use Rattle.misolation.specs.Cut.{cut_settings, cut_shared, IsFit}
@@ -55,7 +55,7 @@ pub record InsidePlan (s : Accounts) (b : Actor) {A : Type 0} (p : Plan A) (w : 
 
 abbrev pub InsidePlans : Type 0
 InsidePlans =
-    (s : Accounts) (b : Actor) (p : Plan (Outcome Signal)) (w : Shared) → IsClosed b.settings s → IsTrue (s b.account.name) → IsFit b.settings w →
+    (s : Accounts) (b : Actor) (p : Plan (Outcome Completion)) (w : Shared) → IsClosed b.settings s → IsTrue (s b.account.name) → IsFit b.settings w →
     InsidePlan s b p w
 
 -- ---- the outside law: the cut is left as it was
@@ -71,7 +71,7 @@ pub record OutsidePlan (s : Accounts) (b : Actor) {A : Type 0} (p : Plan A) (w :
 
 abbrev pub OutsidePlans : Type 0
 OutsidePlans =
-    (s : Accounts) (b : Actor) (p : Plan (Outcome Signal)) (w : Shared) → IsClosed b.settings s → s b.account.name ≡ false → OutsidePlan s b p w
+    (s : Accounts) (b : Actor) (p : Plan (Outcome Completion)) (w : Shared) → IsClosed b.settings s → s b.account.name ≡ false → OutsidePlan s b p w
 
 -- ---- fitting locks are kept
 
@@ -80,7 +80,7 @@ pub record KeepsFit (b : Actor) {A : Type 0} (p : Plan A) (w : Shared) : Type 0 
   pub short : (n : ℕ) → IsFit b.settings (cut_short (ops_of b) n p w)
 
 abbrev pub PlansKeepFit : Type 0
-PlansKeepFit = (b : Actor) (p : Plan (Outcome Signal)) (w : Shared) → IsFit b.settings w → KeepsFit b p w
+PlansKeepFit = (b : Actor) (p : Plan (Outcome Completion)) (w : Shared) → IsFit b.settings w → KeepsFit b p w
 
 -- and the cut has fitting locks, under its own settings
 abbrev pub CutIsFit : Type 0

@@ -1,6 +1,6 @@
 -- SPDX-License-Identifier: Apache-2.0
 -- Globals on examples, as proved equations. What a line asks of the world is followed one operation after another.
-use Rattle.mmeaning.proofs.MeaningWords.{Bool, cond, Option, ap, ◌∙◌, eq_by_cmp, nat_cmp, get, insert, retain_keys, get-insert, get-empty, Op, Answer, Plan, Done, Ask, Ops, perform, Outcome, Fails, State, LineTree, line_at, Signal, Reply, World, Session, normal, kept, ended, begun, is_too_long, is_ascii}
+use Rattle.mmeaning.proofs.MeaningWords.{Bool, cond, Option, ap, ◌∙◌, eq_by_cmp, nat_cmp, get, insert, retain_keys, get-insert, get-empty, Op, Answer, Plan, Done, Ask, Ops, perform, Outcome, Fails, State, LineTree, line_at, Completion, Reply, World, Session, normal, kept, ended, begun, is_too_long, is_ascii}
 use Rattle.std.specs.Prelude.{not, option_map}
 use Rattle.mspec.proofs.MapCuts.{get_cut}
 use Rattle.mspec.proofs.NodeOrders.{node_cmp_total, node_cmp_exact}
@@ -21,13 +21,13 @@ abbrev doing : Ops Shared
 doing = act alice 1 (codes "ALICE")
 
 -- a plan that is carried out has this outcome, and leaves this world
-record Comes (p : Plan (Outcome Signal)) (w : Shared) (r : Outcome Signal × Shared) : Type 0 where
+record Comes (p : Plan (Outcome Completion)) (w : Shared) (r : Outcome Completion × Shared) : Type 0 where
   is : perform doing p w ≡ r
 
-asked : {op : Op} {k : Answer op → Plan (Outcome Signal)} {w w' : Shared} {r : Outcome Signal × Shared} (a : Answer op) → doing op w ≡ (a, w') → Comes (k a) w' r → Comes (Ask op k) w r
+asked : {op : Op} {k : Answer op → Plan (Outcome Completion)} {w w' : Shared} {r : Outcome Completion × Shared} (a : Answer op) → doing op w ≡ (a, w') → Comes (k a) w' r → Comes (Ask op k) w r
 asked {k = k} a is rest = record { is = ap (λ x. perform doing (k x.0) x.1) is ∙ rest.is }
 
-finished : {o : Outcome Signal} {w : Shared} → Comes (Done o) w (o, w)
+finished : {o : Outcome Completion} {w : Shared} → Comes (Done o) w (o, w)
 finished = record { is = refl }
 
 same : {A : Type 0} {a b : A} {w : Shared} → a ≡ b → ◌≡◌ {A = A × Shared} (a, w) (b, w)
@@ -38,7 +38,7 @@ opened : (g : Globals) (t : Text) (l : Option LineTree) → is_too_long t ≡ fa
 opened g t l short ascii = simp (gets, short, ascii)
 
 -- a line over these globals, by what its operations do
-answers : {g : Globals} {t : Text} {r : Outcome Signal × Shared} (l : Option LineTree) → line_at t ≡ l → is_too_long t ≡ false → is_ascii t ≡ true
+answers : {g : Globals} {t : Text} {r : Outcome Completion × Shared} (l : Option LineTree) → line_at t ≡ l → is_too_long t ≡ false → is_ascii t ≡ true
     → Comes (shut_run (codes "ALICE") l (begun account new_session)) (opening g).shared r → AreAnswered account (opening g) (t ∷ []) ((ended 1 (opening g) r).0 ∷ [])
 answers {g = g} {t = t} l tree short ascii run = at_last l tree (ap (λ x. x.0) (opened g t l short ascii) ∙ ap (λ r. (ended 1 (opening g) r).0) run.is)
 

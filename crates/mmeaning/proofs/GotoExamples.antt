@@ -1,6 +1,6 @@
 -- SPDX-License-Identifier: Apache-2.0
 -- GOTO on examples, as proved equations: a loop of six turns, each in an equation of its own.
-use Rattle.mmeaning.proofs.MeaningWords.{sym, zero, ◌*◌, ℕ, ◌^◌, suc, ap, ◌∙◌, insert, Plan, then_plan, perform, Gives, give, Locals, State, Outcome, Act, on_gives, Signal, Go_on, Spot}
+use Rattle.mmeaning.proofs.MeaningWords.{sym, zero, ◌*◌, ℕ, ◌^◌, suc, ap, ◌∙◌, insert, Plan, then_plan, perform, Gives, give, Locals, State, Outcome, Act, on_gives, Completion, Go_on, Position}
 use Rattle.std.specs.Fmt.{digits}
 use Rattle.mspec.specs.NodeOrder.{canonical_value}
 use Rattle.mspec.specs.NumberText.{size_text}
@@ -92,27 +92,27 @@ looping = commands_in doubling_2.body
 
 -- in a level, and with variables of which N is one
 module _ (levels : ℕ) (locals : Text → Locals) (reads : (x : Text) → value_of (locals x) (codes "N") [] ≡ Some x) (sets : (x y : Text) → assigned_to (locals x) (codes "N") [] y ≡ locals y) where
-  abbrev in_store : Plan (Outcome Signal) → Shared → Outcome Signal × Shared
+  abbrev in_store : Plan (Outcome Completion) → Shared → Outcome Completion × Shared
   in_store p w = perform (act alice 1 (codes "ALICE")) p w
 
   abbrev at_number : ℕ → Text → Text → State
   at_number steps x out = record { locals = locals x; naked = None; test = false; out = out; steps = steps }
 
   -- where the second line stands
-  abbrev second : Spot
+  abbrev second : Position
   second = record { depth = record { levels = levels; indirections = 0 }; level = record { copy = doubling; next = Some 2; dots = 0 } }
 
-  abbrev entered_at : ℕ → ℕ → Text → (Signal → Act Signal) → Shared → Outcome Signal × Shared
+  abbrev entered_at : ℕ → ℕ → Text → (Completion → Act Completion) → Shared → Outcome Completion × Shared
   entered_at n steps x f w = in_store (then_plan (entered (codes "ALICE") n second looping (at_number steps x [])) (on_gives f)) w
 
-  abbrev shut_at : ℕ → ℕ → Text → (Signal → Act Signal) → Shared → Outcome Signal × Shared
+  abbrev shut_at : ℕ → ℕ → Text → (Completion → Act Completion) → Shared → Outcome Completion × Shared
   shut_at n steps x f w = in_store (then_plan ((shut (codes "ALICE") n).enter second looping (at_number steps x [])) (on_gives f)) w
 
   -- from one number to the next, and to the line once more
   abbrev Turn : Text → Text → Type 0
-  Turn x y = (n steps : ℕ) (f : Signal → Act Signal) (w : Shared) → entered_at (suc n) (and_seven steps) x f w ≡ shut_at n steps y f w
+  Turn x y = (n steps : ℕ) (f : Completion → Act Completion) (w : Shared) → entered_at (suc n) (and_seven steps) x f w ≡ shut_at n steps y f w
 
-  reopened : (n steps : ℕ) (x : Text) (f : Signal → Act Signal) (w : Shared) → shut_at n steps x f w ≡ entered_at n steps x f w
+  reopened : (n steps : ℕ) (x : Text) (f : Completion → Act Completion) (w : Shared) → shut_at n steps x f w ≡ entered_at n steps x f w
   reopened n steps x f w = ap (λ p. in_store (then_plan p (on_gives f)) w) (text_opened (codes "ALICE") n second looping (locals x) None false [] steps)
 
   record Turns : Type 0 where
@@ -133,7 +133,7 @@ module _ (levels : ℕ) (locals : Text → Locals) (reads : (x : Text) → value
   }
 
   -- six steps of the last turn, one of the third line and three of its commands
-  last_turn : (n steps : ℕ) (f : Signal → Act Signal) (w : Shared) → entered_at (suc (suc n)) (suc (suc (suc (suc (suc (suc (suc (suc (suc (suc steps)))))))))) (codes "32") f w ≡ in_store (f Go_on (at_number steps (codes "64") (codes "64"))) w
+  last_turn : (n steps : ℕ) (f : Completion → Act Completion) (w : Shared) → entered_at (suc (suc n)) (suc (suc (suc (suc (suc (suc (suc (suc (suc (suc steps)))))))))) (codes "32") f w ≡ in_store (f Go_on (at_number steps (codes "64") (codes "64"))) w
   unfolding name_at label_at
   last_turn n steps f w = simp (by_number, text_opened, reads, sets, doubling_3_read)
 
@@ -141,7 +141,7 @@ module _ (levels : ℕ) (locals : Text → Locals) (reads : (x : Text) → value
   for_turns zero steps = suc (suc (suc (suc (suc (suc (suc (suc (suc (suc steps)))))))))
   for_turns (suc k) steps = and_seven (for_turns k steps)
 
-  all_turns : (n steps : ℕ) (f : Signal → Act Signal) (w : Shared) → shut_at (suc (suc (suc (suc (suc (suc (suc n))))))) (for_turns 5 steps) (codes "1") f w ≡ in_store (f Go_on (at_number steps (codes "64") (codes "64"))) w
+  all_turns : (n steps : ℕ) (f : Completion → Act Completion) (w : Shared) → shut_at (suc (suc (suc (suc (suc (suc (suc n))))))) (for_turns 5 steps) (codes "1") f w ≡ in_store (f Go_on (at_number steps (codes "64") (codes "64"))) w
   all_turns n steps f w =
       reopened (suc (suc (suc (suc (suc (suc (suc n))))))) (for_turns 5 steps) (codes "1") f w ∙ turns.from_1 (suc (suc (suc (suc (suc (suc n)))))) (for_turns 4 steps) f w
       ∙ reopened (suc (suc (suc (suc (suc (suc n)))))) (for_turns 4 steps) (codes "2") f w ∙ turns.from_2 (suc (suc (suc (suc (suc n))))) (for_turns 3 steps) f w
@@ -163,7 +163,7 @@ do_sets : (x y : Text) → assigned_to (in_do x) (codes "N") [] y ≡ in_do y
 unfolding assigned_to level_begun
 do_sets x y = simp variables
 
-do_turns : (f : Signal → Act Signal) (w : Shared) → shut_at 1 in_do do_reads do_sets 1999 1995 (codes "1") f w ≡ in_store 1 in_do do_reads do_sets (f Go_on (at_number 1 in_do do_reads do_sets 1950 (codes "64") (codes "64"))) w
+do_turns : (f : Completion → Act Completion) (w : Shared) → shut_at 1 in_do do_reads do_sets 1999 1995 (codes "1") f w ≡ in_store 1 in_do do_reads do_sets (f Go_on (at_number 1 in_do do_reads do_sets 1950 (codes "64") (codes "64"))) w
 do_turns f w = all_turns 1 in_do do_reads do_sets 1992 1950 f w
 
 goto_in_routine : (g : Globals) → lines_in g (codes "G") ≡ doubling → AreAnswered account (opening g) (codes "D A^G W \".\"" ∷ []) (done (codes "64.") ∷ [])

@@ -1,18 +1,18 @@
 -- SPDX-License-Identifier: Apache-2.0
 -- Histories and normal steps.
 use Rattle.mmeaning.proofs.MeaningWords.{◌≡◌, Bool, true, false, [], ◌∷◌, Option, Some, None, refl, sym, ap, ◌∙◌, subst, map, get, Outcome, Gives, Fails}
-use Rattle.mmeaning.specs.LineMeaning.{Signal, Go_on, Skips, Quits, Goes, Halts}
+use Rattle.mmeaning.specs.LineMeaning.{Completion, Go_on, Skips, Quits, Goes, Halts}
 use Rattle.mmeaning.specs.Transition.{Settings, Account, World, Event, Reply, Transition, TransitionBy, normal, at_account, checked, is_too_long, is_ascii, ending_of, reply_of, is_failure}
 use Rattle.mmeaning.specs.History.{replies, world_after}
 use Rattle.mmeaning.specs.TransitionLaws.{NormalNeverFails, NormalTransitionsAreHistory, HistoryIsNormal}
 
 -- no act ends with a loss
-ending_is_own : (s : Signal) → is_failure (ending_of s) ≡ false
+ending_is_own : (s : Completion) → is_failure (ending_of s) ≡ false
 ending_is_own Halts = refl
 ending_is_own s = refl
 
-reply_is_own : (o : Outcome Signal) → is_failure (reply_of o).ending ≡ false
-reply_is_own (Gives signal s) = ending_is_own signal
+reply_is_own : (o : Outcome Completion) → is_failure (reply_of o).ending ≡ false
+reply_is_own (Gives completion s) = ending_is_own completion
 reply_is_own (Fails code s) = refl
 
 checked_is_own : (long ascii : Bool) (settings : Settings) (e : Event) (world : World) (account : Account) → is_failure (checked long ascii settings e world account).0.ending ≡ false

@@ -10,7 +10,7 @@ use Rattle.mgrammar.specs.RoutineLine.{RoutineLineTree, spaced_out, dots_of, lab
 use Rattle.mgrammar.proofs.Computing.{reads}
 use Rattle.mmeaning.specs.Variables.{of_global, of_naked, of_local}
 use Rattle.mmeaning.specs.Expression.{Inside, inside, evaluated, finds, is_indirection_free}
-use Rattle.mmeaning.specs.LineMeaning.{Context, context, given, setting, Spot, commands}
+use Rattle.mmeaning.specs.LineMeaning.{Context, context, given, setting, Position, commands}
 use Rattle.mmeaning.specs.Levels.{target}
 use Rattle.mmeaning.proofs.LineTrees.{only, with_operator, command, line}
 use Rattle.mspec.proofs.ComputedNumbers.{computes}
@@ -119,7 +119,7 @@ no_dots : dots_of itself_line ≡ 0
 unfolding name_at label_at
 no_dots = refl
 
-abbrev in_line : ℕ → ℕ → Spot
+abbrev in_line : ℕ → ℕ → Position
 in_line levels indirections = record {
   depth = record { levels = levels; indirections = indirections };
   level = record { copy = itself_line ∷ []; next = Some 1; dots = 0 };

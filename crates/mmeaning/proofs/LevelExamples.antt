@@ -6,7 +6,7 @@ use Rattle.mspec.specs.Scopes.{Scope}
 use Rattle.mspec.specs.Act.{Text, Node, Locals, State, Outcome, Gives, Fails, on_gives, level_begun, value_of}
 use Rattle.mgrammar.specs.Grammar.{divide, number, text, reference, at_label, executed, execute_word, LineTree}
 use Rattle.mgrammar.proofs.Computing.{reads}
-use Rattle.mmeaning.specs.LineMeaning.{Signal, Spot, outset, after_level, run_within, Context, Go_on, Goes, context, commands, doing, doing_block, executing, going}
+use Rattle.mmeaning.specs.LineMeaning.{Completion, Position, top_level, after_level, run_within, Context, Go_on, Goes, context, commands, doing, doing_block, executing, going}
 use Rattle.mmeaning.specs.Levels.{commands_of}
 use Rattle.mmeaning.proofs.LineTrees.{only, with_operator, named, command, line}
 use Rattle.mspec.proofs.ComputedNumbers.{computes}
@@ -67,7 +67,7 @@ itself_read : line_at (codes "X A") ≡ Some itself
 unfolding reads
 itself_read = refl
 
-abbrev open_levels : ℕ → Spot
+abbrev open_levels : ℕ → Position
 open_levels levels = record { depth = record { levels = levels; indirections = 0 }; level = record { copy = []; next = None; dots = 0 } }
 
 -- two steps for each level more, and for the one that is refused
@@ -106,8 +106,8 @@ module _ (naked : Option Node) (test : Bool) (out : Text) (steps : ℕ) where
   refused (suc k) levels (suc n) locals e le h =
       below_limit k levels n locals (grind (arith, nat_tests, e)) h (refused k (levels + 1) n (level_begun locals) (omega (arith, e)) (omega (arith, le)) (begun_value locals ∙ h))
 
-run_refused : (n : ℕ) (s after : State) → commands (context (codes "ALICE") n outset) (commands_of itself) s ≡ Done (Fails Zdepth after) → run_within (codes "ALICE") n (commands_of itself) s ≡ Done (Fails Zdepth after)
-run_refused n s after h = ap (λ (p : Plan (Outcome Signal)). then_plan p (on_gives (after_level (context (codes "ALICE") n outset)))) h
+run_refused : (n : ℕ) (s after : State) → commands (context (codes "ALICE") n top_level) (commands_of itself) s ≡ Done (Fails Zdepth after) → run_within (codes "ALICE") n (commands_of itself) s ≡ Done (Fails Zdepth after)
+run_refused n s after h = ap (λ (p : Plan (Outcome Completion)). then_plan p (on_gives (after_level (context (codes "ALICE") n top_level)))) h
 
 -- the state that it leaves: 1,486 of 2,000 steps, and 256 levels more
 text_of_itself : (naked : Option Node) (test : Bool) (out : Text) (locals : Locals) → value_of locals (codes "A") [] ≡ Some (codes "X A")
@@ -117,5 +117,5 @@ text_of_itself naked test out locals h =
     ap (λ l. text_run (codes "ALICE") l (record { locals = locals; naked = naked; test = test; out = out; steps = 2000 })) itself_read
     ∙ run_refused 2000 (state naked test out 1486 locals 2000) (state naked test out 1486 (begun_more 256 locals) 1486) (enough 2000 refl)
   where
-    enough : (n : ℕ) → steps_for 256 1486 ≡ n → commands (context (codes "ALICE") 2000 outset) (commands_of itself) (state naked test out 1486 locals n) ≡ Done (Fails Zdepth (state naked test out 1486 (begun_more 256 locals) 1486))
-    enough n e = subst (λ n. commands (context (codes "ALICE") 2000 outset) (commands_of itself) (state naked test out 1486 locals n) ≡ Done (Fails Zdepth (state naked test out 1486 (begun_more 256 locals) 1486))) e (refused naked test out 1486 256 0 2000 locals refl (omega arith) h)
+    enough : (n : ℕ) → steps_for 256 1486 ≡ n → commands (context (codes "ALICE") 2000 top_level) (commands_of itself) (state naked test out 1486 locals n) ≡ Done (Fails Zdepth (state naked test out 1486 (begun_more 256 locals) 1486))
+    enough n e = subst (λ n. commands (context (codes "ALICE") 2000 top_level) (commands_of itself) (state naked test out 1486 locals n) ≡ Done (Fails Zdepth (state naked test out 1486 (begun_more 256 locals) 1486))) e (refused naked test out 1486 256 0 2000 locals refl (omega arith) h)

@@ -5,7 +5,7 @@ use Rattle.mmeaning.proofs.MeaningWords.{◌≡◌, ℕ, zero, suc, Bool, true, 
 use Rattle.mspec.specs.Act.{Text, Node, Locals, no_locals, assigned_to, State, Outcome, Act, ◌>>=◌, fail}
 use Rattle.mmeaning.specs.Variables.{Evaluated}
 use Rattle.mmeaning.specs.Expression.{Depth, through, finds, inside}
-use Rattle.mmeaning.specs.LineMeaning.{Signal, Spot, outset, Turning, Texts, Context, texts, arguments, commands, after_turn, after_level}
+use Rattle.mmeaning.specs.LineMeaning.{Completion, Position, top_level, Turning, Texts, Context, texts, arguments, commands, after_turn, after_level}
 use Rattle.mmeaning.specs.Levels.{commands_of}
 use Rattle.mmeaning.specs.Transition.{Account, Settings, Session, World, Event, Reply, act, plan_of, begun, session_or_new, ended, refused, is_too_long, is_ascii, checked, at_account, normal}
 use Rattle.mmeaning.proofs.ExampleAccount.{account, settings_of}
@@ -46,12 +46,12 @@ holding name x = serving (record { locals = assigned_to no_locals name [] x; nak
 unfoldable pub shut : Text → ℕ → Texts
 shut a n = texts a n
 
-abbrev pub at : Text → ℕ → Spot → Context
-at a n p = record { account = a; fuel = n; spot = p; texts = shut a n }
+abbrev pub at : Text → ℕ → Position → Context
+at a n p = record { account = a; fuel = n; position = p; texts = shut a n }
 
-abbrev pub shut_run : Text → Option LineTree → State → Plan (Outcome Signal)
+abbrev pub shut_run : Text → Option LineTree → State → Plan (Outcome Completion)
 shut_run a None s = fail Zsyntax s
-shut_run a (Some l) s = (commands (at a s.steps outset) (commands_of l) >>= after_level (at a s.steps outset)) s
+shut_run a (Some l) s = (commands (at a s.steps top_level) (commands_of l) >>= after_level (at a s.steps top_level)) s
 
 run_is_shut : (a : Account) (s : Session) (l : Option LineTree) → plan_of a s l ≡ shut_run a.name l (begun a s)
 unfolding shut
@@ -118,34 +118,34 @@ at_first {a = a} {world = world} {t = t} {r = r} {ts = ts} after l e first rest 
 
 -- ---- turns and texts
 
-abbrev pub turned : Text → ℕ → Spot → Turning → Act Signal
+abbrev pub turned : Text → ℕ → Position → Turning → Act Completion
 turned a zero p t = fail Zsteps
 turned a (suc n) p t = commands (at a n p) t.body >>= after_turn (at a n p) t
 
 -- only where the state is known
-pub opened : (a : Text) (n : ℕ) (p : Spot) (t : Turning) (locals : Locals) (naked : Option Node) (test : Bool) (out : Text) (steps : ℕ)
+pub opened : (a : Text) (n : ℕ) (p : Position) (t : Turning) (locals : Locals) (naked : Option Node) (test : Bool) (out : Text) (steps : ℕ)
     → (shut a n).turn p t (record { locals = locals; naked = naked; test = test; out = out; steps = steps })
     ≡ turned a n p t (record { locals = locals; naked = naked; test = test; out = out; steps = steps })
 unfolding shut
 opened a zero p t locals naked test out steps = refl
 opened a (suc n) p t locals naked test out steps = refl
 
-abbrev pub entered : Text → ℕ → Spot → List CommandTree → Act Signal
+abbrev pub entered : Text → ℕ → Position → List CommandTree → Act Completion
 entered a zero p cs = fail Zsteps
 entered a (suc n) p cs = commands (at a n p) cs >>= after_level (at a n p)
 
-pub text_opened : (a : Text) (n : ℕ) (p : Spot) (cs : List CommandTree) (locals : Locals) (naked : Option Node) (test : Bool) (out : Text) (steps : ℕ)
+pub text_opened : (a : Text) (n : ℕ) (p : Position) (cs : List CommandTree) (locals : Locals) (naked : Option Node) (test : Bool) (out : Text) (steps : ℕ)
     → (shut a n).enter p cs (record { locals = locals; naked = naked; test = test; out = out; steps = steps })
     ≡ entered a n p cs (record { locals = locals; naked = naked; test = test; out = out; steps = steps })
 unfolding shut
 text_opened a zero p cs locals naked test out steps = refl
 text_opened a (suc n) p cs locals naked test out steps = refl
 
-abbrev pub listed : Text → ℕ → Spot → List ArgTree → Act Signal
+abbrev pub listed : Text → ℕ → Position → List ArgTree → Act Completion
 listed a zero p args = fail Zsteps
 listed a (suc n) p args = arguments (at a n p) args
 
-pub list_opened : (a : Text) (n : ℕ) (p : Spot) (args : List ArgTree) (locals : Locals) (naked : Option Node) (test : Bool) (out : Text) (steps : ℕ)
+pub list_opened : (a : Text) (n : ℕ) (p : Position) (args : List ArgTree) (locals : Locals) (naked : Option Node) (test : Bool) (out : Text) (steps : ℕ)
     → (shut a n).list p args (record { locals = locals; naked = naked; test = test; out = out; steps = steps })
     ≡ listed a n p args (record { locals = locals; naked = naked; test = test; out = out; steps = steps })
 unfolding shut

@@ -1,6 +1,6 @@
 -- SPDX-License-Identifier: Apache-2.0
 -- Lines of several terminals, one after another, and the maps of locks and sessions that they leave: for examples of LOCK and HALT.
-use Rattle.mmeaning.proofs.MeaningWords.{◌≡◌, ℕ, Bool, true, false, cond, List, [], ◌∷◌, Option, Some, None, refl, sym, ap, ◌∙◌, codes, not, map, eq_by_cmp, Plan, Ask, Take, Give_back, Release, perform, Ops, LineTree, line_at, Signal, Session, World, Event, Reply, Halted, normal, replies}
+use Rattle.mmeaning.proofs.MeaningWords.{◌≡◌, ℕ, Bool, true, false, cond, List, [], ◌∷◌, Option, Some, None, refl, sym, ap, ◌∙◌, codes, not, map, eq_by_cmp, Plan, Ask, Take, Give_back, Release, perform, Ops, LineTree, line_at, Completion, Session, World, Event, Reply, Halted, normal, replies}
 use Rattle.std.specs.FinMap.{get, insert, empty, entries, remove, retain_keys, get-insert, get-remove, get-empty, entries-insert, same_map}
 use Rattle.std.specs.FinMap.Entries.{put}
 use Rattle.mspec.specs.LockConflict.{LockName, Locks, Held, held_cmp}
@@ -72,13 +72,13 @@ halted = record { out = []; ending = Halted }
 -- ---- what is asked of locks, an operation at a time
 
 module _ (settings : Settings) (terminal : ℕ) (me : Text) (w : Shared) where
-  pub takes : (ns : List LockName) (k : Bool → Plan (Outcome Signal)) → perform (act settings terminal me) (Ask (Take ns) k) w ≡ perform (act settings terminal me) (k (act settings terminal me (Take ns) w).0) (act settings terminal me (Take ns) w).1
+  pub takes : (ns : List LockName) (k : Bool → Plan (Outcome Completion)) → perform (act settings terminal me) (Ask (Take ns) k) w ≡ perform (act settings terminal me) (k (act settings terminal me (Take ns) w).0) (act settings terminal me (Take ns) w).1
   takes ns k = refl
 
-  pub gives_back : (n : LockName) (k : Unit {0} → Plan (Outcome Signal)) → perform (act settings terminal me) (Ask (Give_back n) k) w ≡ perform (act settings terminal me) (k tt) (act settings terminal me (Give_back n) w).1
+  pub gives_back : (n : LockName) (k : Unit {0} → Plan (Outcome Completion)) → perform (act settings terminal me) (Ask (Give_back n) k) w ≡ perform (act settings terminal me) (k tt) (act settings terminal me (Give_back n) w).1
   gives_back n k = refl
 
-  pub releases : (k : Unit {0} → Plan (Outcome Signal)) → perform (act settings terminal me) (Ask Release k) w ≡ perform (act settings terminal me) (k tt) (act settings terminal me Release w).1
+  pub releases : (k : Unit {0} → Plan (Outcome Completion)) → perform (act settings terminal me) (Ask Release k) w ≡ perform (act settings terminal me) (k tt) (act settings terminal me Release w).1
   releases k = refl
 
 -- ---- maps of locks

@@ -1,6 +1,6 @@
 -- SPDX-License-Identifier: Apache-2.0
 -- The interpreter on examples, as proved equations.
-use Rattle.mmeaning.proofs.MeaningWords.{ℕ, ◌*◌, ◌++◌, Option, rules, ◌^◌, map, replicate, line_at, Done, perform, State, Outcome, Gives, Fails, Signal, replies}
+use Rattle.mmeaning.proofs.MeaningWords.{ℕ, ◌*◌, ◌++◌, Option, rules, ◌^◌, map, replicate, line_at, Done, perform, State, Outcome, Gives, Fails, Completion, replies}
 use Rattle.mspec.proofs.ComputedNumbers.{computes}
 use Rattle.mspec.specs.NumberText.{size_text}
 use Rattle.mgrammar.specs.Grammar.{join}
@@ -17,8 +17,8 @@ abbrev answers : List (ℕ × Text) → List Reply
 answers lines = replies alice (opening empty) (map event lines)
 
 -- what a line over no locals writes, and the code that it ends with
-abbrev shown_by : Outcome Signal → Text × Option Code
-shown_by (Gives signal s) = (s.out, None)
+abbrev shown_by : Outcome Completion → Text × Option Code
+shown_by (Gives completion s) = (s.out, None)
 shown_by (Fails code s) = (s.out, Some code)
 
 abbrev shown : Text → Text × Option Code

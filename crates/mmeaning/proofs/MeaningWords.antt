@@ -12,5 +12,5 @@ pub use Rattle.mgrammar.specs.Grammar.{ExprTree, divide, number, text, reference
 pub use Rattle.mgrammar.specs.Reading.{line_at}
 pub use Rattle.mmeaning.specs.Calls.{Standing, Here, FailedBy, Ends, Did, MayLose, Follows, ops_of}
 pub use Rattle.mmeaning.specs.History.{replies, opening}
-pub use Rattle.mmeaning.specs.LineMeaning.{setting, Signal, Go_on, Spot, Quits, Goes, Halts, Context, context, commands, outset, after_level, run_within, texts}
+pub use Rattle.mmeaning.specs.LineMeaning.{setting, Completion, Go_on, Position, Quits, Goes, Halts, Context, context, commands, top_level, after_level, run_within, texts}
 pub use Rattle.mmeaning.specs.Transition.{World, Reply, Finished, Session, normal, kept, ended, begun, is_too_long, is_ascii, Event, at_account, checked, text_run, Halted}

@@ -1,54 +1,54 @@
 -- SPDX-License-Identifier: Apache-2.0
 -- What is left of a line, a step of it at a time.
-use Rattle.mmeaning.proofs.MeaningWords.{◌≡◌, ℕ, ◌≤◌, List, [], ◌∷◌, Result, Ok, Err, sym, subst, arith, Fault, Act, ◌>>=◌, give, Signal, Standing, Here, Did, MayLose, Follows}
+use Rattle.mmeaning.proofs.MeaningWords.{◌≡◌, ℕ, ◌≤◌, List, [], ◌∷◌, Result, Ok, Err, sym, subst, arith, Fault, Act, ◌>>=◌, give, Completion, Standing, Here, Did, MayLose, Follows}
 use Rattle.mmeaning.specs.Frames.{View, frame, left, Enough, MovedAs, MovedOn}
 use Rattle.mmeaning.proofs.Calls.{then_follows, then_failed, follows_itself, follows_on, failed_after, assoc, did_lost}
 
-moved_after : {X E : Type 0} (b : Standing) (steady : Type 0) (fault_of : E → Fault) (signal_of : X → Signal) (p q : Act Signal) (h h1 : Here) (r : Result X E) (fs : List View) (h2 : Here)
-    → Follows b p h q h1 → MovedAs b steady fault_of signal_of q h1 r fs h2 → MovedAs b steady fault_of signal_of p h r fs h2
-moved_after b steady fault_of signal_of p q h h1 (Ok s) fs h2 f m = (m.0, m.1, follows_on b p q (left b.account fs m.0 (signal_of s)) h h1 h2 f m.2)
-moved_after b steady fault_of signal_of p q h h1 (Err e) fs h2 f m = failed_after b steady p q h h1 (fault_of e) h2 f m
+moved_after : {X E : Type 0} (b : Standing) (steady : Type 0) (fault_of : E → Fault) (completion_of : X → Completion) (p q : Act Completion) (h h1 : Here) (r : Result X E) (fs : List View) (h2 : Here)
+    → Follows b p h q h1 → MovedAs b steady fault_of completion_of q h1 r fs h2 → MovedAs b steady fault_of completion_of p h r fs h2
+moved_after b steady fault_of completion_of p q h h1 (Ok s) fs h2 f m = (m.0, m.1, follows_on b p q (left b.account fs m.0 (completion_of s)) h h1 h2 f m.2)
+moved_after b steady fault_of completion_of p q h h1 (Err e) fs h2 f m = failed_after b steady p q h h1 (fault_of e) h2 f m
 
-moved_as : {X E : Type 0} (b : Standing) (steady : Type 0) (fault_of : E → Fault) (signal_of : X → Signal) (p q : Act Signal) (h : Here) (r : Result X E) (fs : List View) (h1 : Here)
-    → ◌≡◌ {A = Act Signal} p q → MovedAs b steady fault_of signal_of q h r fs h1 → MovedAs b steady fault_of signal_of p h r fs h1
-moved_as b steady fault_of signal_of p q h r fs h1 same m = subst (λ p. MovedAs b steady fault_of signal_of p h r fs h1) (sym same) m
+moved_as : {X E : Type 0} (b : Standing) (steady : Type 0) (fault_of : E → Fault) (completion_of : X → Completion) (p q : Act Completion) (h : Here) (r : Result X E) (fs : List View) (h1 : Here)
+    → ◌≡◌ {A = Act Completion} p q → MovedAs b steady fault_of completion_of q h r fs h1 → MovedAs b steady fault_of completion_of p h r fs h1
+moved_as b steady fault_of completion_of p q h r fs h1 same m = subst (λ p. MovedAs b steady fault_of completion_of p h r fs h1) (sym same) m
 
-module _ {X E : Type 0} {b : Standing} {steady : Type 0} {fault_of : E → Fault} {signal_of : X → Signal} where
+module _ {X E : Type 0} {b : Standing} {steady : Type 0} {fault_of : E → Fault} {completion_of : X → Completion} where
   -- an act was done, and the rest goes on
-  pub on_then : {A B Y : Type 0} {h h1 h2 : Here} {p : ℕ → Act A} (q : A → Act B) {k : B → Act Signal} {f : Y → A} {x : Y} {r : Result X E} {fs : List View} (n : ℕ) → h.0.steps ≤ n
-      → Did b steady fault_of p f h (Ok x) h1 → MovedOn b steady fault_of signal_of (q (f x)) k h1 r fs h2 → MovedOn b steady fault_of signal_of (p n >>= q) k h r fs h2
+  pub on_then : {A B Y : Type 0} {h h1 h2 : Here} {p : ℕ → Act A} (q : A → Act B) {k : B → Act Completion} {f : Y → A} {x : Y} {r : Result X E} {fs : List View} (n : ℕ) → h.0.steps ≤ n
+      → Did b steady fault_of p f h (Ok x) h1 → MovedOn b steady fault_of completion_of (q (f x)) k h1 r fs h2 → MovedOn b steady fault_of completion_of (p n >>= q) k h r fs h2
   on_then {h = h} {h1 = h1} {h2 = h2} {p = p} q {k = k} {f = f} {x = x} {r = r} {fs = fs} n le d m = record {
     done =
-        moved_as b steady fault_of signal_of ((p n >>= q) >>= k) (p n >>= (λ a. q a >>= k)) h r fs h2 (assoc (p n) q k)
-        (moved_after b steady fault_of signal_of (p n >>= (λ a. q a >>= k)) (q (f x) >>= k) h h1 r fs h2 (then_follows b (p n) (λ a. q a >>= k) h (f x) h1 (d.at n le)) m.done);
+        moved_as b steady fault_of completion_of ((p n >>= q) >>= k) (p n >>= (λ a. q a >>= k)) h r fs h2 (assoc (p n) q k)
+        (moved_after b steady fault_of completion_of (p n >>= (λ a. q a >>= k)) (q (f x) >>= k) h h1 r fs h2 (then_follows b (p n) (λ a. q a >>= k) h (f x) h1 (d.at n le)) m.done);
   }
 
-  pub on_failed : {A B Y : Type 0} {h h1 : Here} {p : ℕ → Act A} (q : A → Act B) {k : B → Act Signal} {f : Y → A} {e : E} {fs : List View} (n : ℕ) → h.0.steps ≤ n
-      → Did b steady fault_of p f h (Err e) h1 → MovedOn {X = X} b steady fault_of signal_of (p n >>= q) k h (Err e) fs h1
+  pub on_failed : {A B Y : Type 0} {h h1 : Here} {p : ℕ → Act A} (q : A → Act B) {k : B → Act Completion} {f : Y → A} {e : E} {fs : List View} (n : ℕ) → h.0.steps ≤ n
+      → Did b steady fault_of p f h (Err e) h1 → MovedOn {X = X} b steady fault_of completion_of (p n >>= q) k h (Err e) fs h1
   on_failed {h = h} {h1 = h1} {p = p} q {k = k} {e = e} n le d = record {
     done = then_failed b steady (p n >>= q) k h (fault_of e) h1 (then_failed b steady (p n) q h (fault_of e) h1 (d.at n le));
   }
 
   -- a loss, where nothing was done yet
-  pub on_lost : {A : Type 0} {h h1 : Here} (p : Act A) (k : A → Act Signal) (e : E) {fs : List View} → MayLose steady (fault_of e) → h.1 ≡ h1.1 → h1.0.steps ≤ h.0.steps → MovedOn {X = X} b steady fault_of signal_of p k h (Err e) fs h1
+  pub on_lost : {A : Type 0} {h h1 : Here} (p : Act A) (k : A → Act Completion) (e : E) {fs : List View} → MayLose steady (fault_of e) → h.1 ≡ h1.1 → h1.0.steps ≤ h.0.steps → MovedOn {X = X} b steady fault_of completion_of p k h (Err e) fs h1
   on_lost {h = h} {h1 = h1} p k e m same few = record {
-    done = let d : Did b steady fault_of (λ n. p >>= k) (λ (s : Signal). s) h (Err e) h1 = did_lost (λ n. p >>= k) (λ s. s) e m same few in d.at h.0.steps (omega arith);
+    done = let d : Did b steady fault_of (λ n. p >>= k) (λ (s : Completion). s) h (Err e) h1 = did_lost (λ n. p >>= k) (λ s. s) e m same few in d.at h.0.steps (omega arith);
   }
 
-  -- a signal is given to the frames
-  pub on_signal : {h : Here} {fs : List View} (s : X) (ns : List ℕ) → Enough h.0.steps fs ns → MovedOn b steady fault_of signal_of (give (signal_of s)) (left b.account fs ns) h (Ok s) fs h
-  on_signal {h = h} {fs = fs} s ns e = record { done = (ns, e, follows_itself b (left b.account fs ns (signal_of s)) h) }
+  -- a completion is given to the frames
+  pub on_completion : {h : Here} {fs : List View} (s : X) (ns : List ℕ) → Enough h.0.steps fs ns → MovedOn b steady fault_of completion_of (give (completion_of s)) (left b.account fs ns) h (Ok s) fs h
+  on_completion {h = h} {fs = fs} s ns e = record { done = (ns, e, follows_itself b (left b.account fs ns (completion_of s)) h) }
 
   -- a frame is pushed: what it does stands between an act and the frames below
-  pub on_frame : {h h1 : Here} {p : Act Signal} {r : Result X E} {fs' : List View} (fs : List View) (f : View) (n : ℕ) (ns : List ℕ)
-      → MovedOn b steady fault_of signal_of p (left b.account (f ∷ fs) (n ∷ ns)) h r fs' h1 → MovedOn b steady fault_of signal_of (p >>= frame b.account n f) (left b.account fs ns) h r fs' h1
+  pub on_frame : {h h1 : Here} {p : Act Completion} {r : Result X E} {fs' : List View} (fs : List View) (f : View) (n : ℕ) (ns : List ℕ)
+      → MovedOn b steady fault_of completion_of p (left b.account (f ∷ fs) (n ∷ ns)) h r fs' h1 → MovedOn b steady fault_of completion_of (p >>= frame b.account n f) (left b.account fs ns) h r fs' h1
   on_frame {h = h} {h1 = h1} {p = p} {r = r} {fs' = fs'} fs f n ns m = record {
-    done = moved_as b steady fault_of signal_of ((p >>= frame b.account n f) >>= left b.account fs ns) (p >>= left b.account (f ∷ fs) (n ∷ ns)) h r fs' h1 (assoc p (frame b.account n f) (left b.account fs ns)) m.done;
+    done = moved_as b steady fault_of completion_of ((p >>= frame b.account n f) >>= left b.account fs ns) (p >>= left b.account (f ∷ fs) (n ∷ ns)) h r fs' h1 (assoc p (frame b.account n f) (left b.account fs ns)) m.done;
   }
 
-  -- a frame that is on top has to do with a signal what it does
-  pub on_top : {h : Here} {fs : List View} (f : View) (s : X) (n : ℕ) (ns : List ℕ) → h.0.steps ≤ n → Enough h.0.steps fs ns → MovedOn b steady fault_of signal_of (frame b.account n f (signal_of s)) (left b.account fs ns) h (Ok s) (f ∷ fs) h
-  on_top {h = h} {fs = fs} f s n ns le e = record { done = (n ∷ ns, (le, e), follows_itself b (left b.account (f ∷ fs) (n ∷ ns) (signal_of s)) h) }
+  -- a frame that is on top has to do with a completion what it does
+  pub on_top : {h : Here} {fs : List View} (f : View) (s : X) (n : ℕ) (ns : List ℕ) → h.0.steps ≤ n → Enough h.0.steps fs ns → MovedOn b steady fault_of completion_of (frame b.account n f (completion_of s)) (left b.account fs ns) h (Ok s) (f ∷ fs) h
+  on_top {h = h} {fs = fs} f s n ns le e = record { done = (n ∷ ns, (le, e), follows_itself b (left b.account (f ∷ fs) (n ∷ ns) (completion_of s)) h) }
 
 -- fewer steps need no more
 pub enough : (m n : ℕ) (fs : List View) (ns : List ℕ) → m ≤ n → Enough n fs ns → Enough m fs ns

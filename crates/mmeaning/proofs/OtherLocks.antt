@@ -1,6 +1,6 @@
 -- SPDX-License-Identifier: Apache-2.0
 -- No operation changes the locks of another terminal.
-use Rattle.mmeaning.proofs.MeaningWords.{◌≡◌, ℕ, Bool, true, false, List, Option, Some, None, refl, ◌∙◌, LockName, Locks, taken, released, Signal}
+use Rattle.mmeaning.proofs.MeaningWords.{◌≡◌, ℕ, Bool, true, false, List, Option, Some, None, refl, ◌∙◌, LockName, Locks, taken, released, Completion}
 use Rattle.std.specs.List.{list_all}
 use Rattle.mspec.specs.Plan.{Op, May, Value, Status, Neighbour, Routine, Put, Kill, Take, Give_back, Release, Plan}
 use Rattle.mspec.specs.LockLaws as laws
@@ -35,7 +35,7 @@ module _ (settings : Settings) (terminal : ℕ) (me : Text) where
   by_operation (Give_back n) w = let law : laws.OthersKeepLocks w.locks terminal = others_keep_locks w.locks terminal in law.given_back n
   by_operation Release w = let law : laws.OthersKeepLocks w.locks terminal = others_keep_locks w.locks terminal in law.released
 
-  pub others_kept : (p : Plan (Outcome Signal)) (w : Shared) → PlanKeepsOthersLocks settings terminal me p w
+  pub others_kept : (p : Plan (Outcome Completion)) (w : Shared) → PlanKeepsOthersLocks settings terminal me p w
   others_kept p w = record {
     whole = keeps (IsKept w) (act settings terminal me) (λ op v h. by_operation op v ∙ h) p w refl;
     short = λ n. keeps_short (IsKept w) (act settings terminal me) (λ op v h. by_operation op v ∙ h) n p w refl;

@@ -1,6 +1,6 @@
 -- SPDX-License-Identifier: Apache-2.0
 -- Lines that lead to routines: for examples in a world whose store has a routine of ALICE.
-use Rattle.mmeaning.proofs.MeaningWords.{◌≡◌, ℕ, Bool, false, List, [], None, refl, ap, codes, empty, insert, Locks, May, Put, Kill, Routine, Plan, Ask, perform, Signal, opening}
+use Rattle.mmeaning.proofs.MeaningWords.{◌≡◌, ℕ, Bool, false, List, [], None, refl, ap, codes, empty, insert, Locks, May, Put, Kill, Routine, Plan, Ask, perform, Completion, opening}
 use Rattle.mspec.specs.Globals.{Globals, lines_of}
 use Rattle.mspec.specs.Access.{Mode, may}
 use Rattle.mspec.specs.Act.{Text, Node, Outcome, no_locals, assigned_to}
@@ -15,20 +15,20 @@ unfoldable pub lines_in : Globals → Text → List Text
 lines_in g name = lines_of g (codes "ALICE") name
 
 -- a routine of which the lines are known is read
-pub asked : (g : Globals) (name : Text) (lines : List Text) → lines_in g name ≡ lines → (locks : Locks) (settings : Settings) (terminal : ℕ) (k : List Text → Plan (Outcome Signal))
+pub asked : (g : Globals) (name : Text) (lines : List Text) → lines_in g name ≡ lines → (locks : Locks) (settings : Settings) (terminal : ℕ) (k : List Text → Plan (Outcome Completion))
     → perform (act settings terminal (codes "ALICE")) (Ask (Routine name) k) (record { globals = g; locks = locks }) ≡ perform (act settings terminal (codes "ALICE")) (k lines) (record { globals = g; locks = locks })
 unfolding lines_in
 asked g name lines h locks settings terminal k = ap (λ xs. perform (act settings terminal (codes "ALICE")) (k xs) (record { globals = g; locks = locks })) h
 
 -- what is asked and what is written otherwise, an operation at a time
 module _ (settings : Settings) (terminal : ℕ) (me : Text) (w : Shared) where
-  pub told : (owner name : Text) (mode : Mode) (k : Bool → Plan (Outcome Signal)) → perform (act settings terminal me) (Ask (May owner name mode) k) w ≡ perform (act settings terminal me) (k (may settings me owner name mode)) w
+  pub told : (owner name : Text) (mode : Mode) (k : Bool → Plan (Outcome Completion)) → perform (act settings terminal me) (Ask (May owner name mode) k) w ≡ perform (act settings terminal me) (k (may settings me owner name mode)) w
   told owner name mode k = refl
 
-  pub put : (n : Node) (t : Text) (k : Unit {0} → Plan (Outcome Signal)) → perform (act settings terminal me) (Ask (Put n t) k) w ≡ perform (act settings terminal me) (k tt) (act settings terminal me (Put n t) w).1
+  pub put : (n : Node) (t : Text) (k : Unit {0} → Plan (Outcome Completion)) → perform (act settings terminal me) (Ask (Put n t) k) w ≡ perform (act settings terminal me) (k tt) (act settings terminal me (Put n t) w).1
   put n t k = refl
 
-  pub killed : (n : Node) (k : Unit {0} → Plan (Outcome Signal)) → perform (act settings terminal me) (Ask (Kill n) k) w ≡ perform (act settings terminal me) (k tt) (act settings terminal me (Kill n) w).1
+  pub killed : (n : Node) (k : Unit {0} → Plan (Outcome Completion)) → perform (act settings terminal me) (Ask (Kill n) k) w ≡ perform (act settings terminal me) (k tt) (act settings terminal me (Kill n) w).1
   killed n k = refl
 
 pub ruleset computed_operations = (told, put, killed)

@@ -1,27 +1,27 @@
 -- SPDX-License-Identifier: Apache-2.0
--- What a line has still to do, frame by frame: a frame is an act from the signal of what was done before it to its own.
+-- What a line has still to do, frame by frame: a frame is an act from the completion of what was done before it to its own.
 use Rattle.std.specs.Prelude.{ℕ, ◌≤◌, List, [], ◌∷◌, Result, Ok, Err}
 use Rattle.mspec.specs.Code.{Fault}
 use Rattle.mspec.specs.Act.{Text, Act, ◌>>=◌, give}
 use Rattle.mgrammar.specs.Grammar.{ArgTree, CommandTree}
-use Rattle.mmeaning.specs.LineMeaning.{Signal, Spot, Turning, Closing, after, arguments, commands, after_turn, after_level, closed, context}
+use Rattle.mmeaning.specs.LineMeaning.{Completion, Position, Turning, Closing, after, arguments, commands, after_turn, after_level, closed, context}
 use Rattle.mmeaning.specs.Calls.{Standing, Here, FailedBy, Follows}
 
 -- the rest of a line, the rest of a command's arguments, a turn of a FOR, and a level with how it closes
 pub data View : Type 0 where
-  Rests : Spot → List CommandTree → View
-  Lists : Spot → List ArgTree → View
-  Turns : Spot → Turning → View
-  Levels : Spot → Closing → View
+  Rests : Position → List CommandTree → View
+  Lists : Position → List ArgTree → View
+  Turns : Position → Turning → View
+  Levels : Position → Closing → View
 
-abbrev pub frame : Text → ℕ → View → Signal → Act Signal
+abbrev pub frame : Text → ℕ → View → Completion → Act Completion
 frame a n (Rests p cs) s = after s (commands (context a n p) cs)
 frame a n (Lists p args) s = after s (arguments (context a n p) args)
 frame a n (Turns p t) s = after_turn (context a n p) t s
 frame a n (Levels p c) s = after_level (context a n p) s >>= closed c
 
 -- top first, each with as many texts as it may enter
-abbrev pub left : Text → List View → List ℕ → Signal → Act Signal
+abbrev pub left : Text → List View → List ℕ → Completion → Act Completion
 left a [] ns s = give s
 left a (f ∷ fs) [] s = give s
 left a (f ∷ fs) (n ∷ ns) s = frame a n f s >>= left a fs ns
@@ -32,10 +32,10 @@ Enough steps [] [] = Unit {0}
 Enough steps (f ∷ fs) (n ∷ ns) = (steps ≤ n) × Enough steps fs ns
 Enough steps fs ns = ⊥
 
-abbrev pub MovedAs : {X E : Type 0} → Standing → (steady : Type 0) → (E → Fault) → (X → Signal) → Act Signal → Here → Result X E → List View → Here → Type 0
-MovedAs b steady fault_of signal_of p h (Ok s) fs h' = (ns : List ℕ) × Enough h'.0.steps fs ns × Follows b p h (left b.account fs ns (signal_of s)) h'
-MovedAs b steady fault_of signal_of p h (Err e) fs h' = FailedBy b steady p h (fault_of e) h'
+abbrev pub MovedAs : {X E : Type 0} → Standing → (steady : Type 0) → (E → Fault) → (X → Completion) → Act Completion → Here → Result X E → List View → Here → Type 0
+MovedAs b steady fault_of completion_of p h (Ok s) fs h' = (ns : List ℕ) × Enough h'.0.steps fs ns × Follows b p h (left b.account fs ns (completion_of s)) h'
+MovedAs b steady fault_of completion_of p h (Err e) fs h' = FailedBy b steady p h (fault_of e) h'
 
 -- an act, and what is done with what it gives, lead to what the frames have to do, or fail
-pub record MovedOn {A X E : Type 0} (b : Standing) (steady : Type 0) (fault_of : E → Fault) (signal_of : X → Signal) (p : Act A) (k : A → Act Signal) (h : Here) (r : Result X E) (fs : List View) (h' : Here) : Type 0 where
-  pub done : MovedAs b steady fault_of signal_of (p >>= k) h r fs h'
+pub record MovedOn {A X E : Type 0} (b : Standing) (steady : Type 0) (fault_of : E → Fault) (completion_of : X → Completion) (p : Act A) (k : A → Act Completion) (h : Here) (r : Result X E) (fs : List View) (h' : Here) : Type 0 where
+  pub done : MovedAs b steady fault_of completion_of (p >>= k) h r fs h'

@@ -22,13 +22,13 @@ pub record Level : Type 0 where
   pub dots : ℕ
 
 -- where a line stands: how deep, and in which level
-pub record Spot : Type 0 where
+pub record Position : Type 0 where
   pub depth : Depth
   pub level : Level
 
 -- a line from outside, at the only level that is open
-abbrev pub outset : Spot
-outset = record {
+abbrev pub top_level : Position
+top_level = record {
   depth = record { levels = 0; indirections = 0 };
   level = record { copy = []; next = None; dots = 0 };
 }
@@ -74,11 +74,11 @@ abbrev pub a_level_free : Depth → Act (Unit {0})
 a_level_free d = unless Zdepth (nat_lt d.levels most_levels)
 
 -- in a level more
-abbrev pub deeper : Spot → Level → Spot
+abbrev pub deeper : Position → Level → Position
 deeper p l = record { depth = record { levels = p.depth.levels + 1; indirections = p.depth.indirections }; level = l }
 
 -- within an indirection, whose arguments are done in the level that it stands in
-abbrev pub within_indirection : Spot → Spot
+abbrev pub within_indirection : Position → Position
 within_indirection p = record { depth = indirected p.depth; level = p.level }
 
 -- ---- how a level closes

@@ -23,7 +23,7 @@ use Rattle.mmeaning.specs.Variables.{Evaluated, at_local, writing, resolve, foun
 use Rattle.mmeaning.specs.Expression.{Inside, inside, an_indirection_free, primary_value, value, evaluated}
 pub use Rattle.mmeaning.specs.Expression.{optional_value}
 use Rattle.mmeaning.specs.Locking.{locking}
-pub use Rattle.mmeaning.specs.Levels.{Level, Spot, outset, Target, Closing, leaves, restores}
+pub use Rattle.mmeaning.specs.Levels.{Level, Position, top_level, Target, Closing, leaves, restores}
 use Rattle.mmeaning.specs.Levels.{target, a_level_free, deeper, within_indirection, closing, commands_of, commands_in}
 use Rattle.mmeaning.specs.Courses.{Course, last_turn, endless, limited, forever, is_past}
 
@@ -34,15 +34,15 @@ line_end = 255
 -- ---- how a line goes on
 
 -- with what is next; with what is behind the rest of the line; out of its turn or its level; with another line; or not at all
-pub data Signal : Type 0 where
-  Go_on : Signal
-  Skips : Signal
-  Quits : Signal
-  Goes : Target → Signal
-  Halts : Signal
+pub data Completion : Type 0 where
+  Go_on : Completion
+  Skips : Completion
+  Quits : Completion
+  Goes : Target → Completion
+  Halts : Completion
 
--- what is next, unless a signal passes it by
-abbrev pub after : Signal → Act Signal → Act Signal
+-- what is next, unless a completion passes it by
+abbrev pub after : Completion → Act Completion → Act Completion
 after Go_on p = p
 after Skips p = give Skips
 after Quits p = give Quits
@@ -58,22 +58,22 @@ pub record Turning : Type 0 where
 
 -- what runs commands once more, or commands or arguments of a text that is no part of the tree, once its step is spent
 pub record Texts : Type 0 where
-  pub turn : Spot → Turning → Act Signal
-  pub list : Spot → List ArgTree → Act Signal
-  pub enter : Spot → List CommandTree → Act Signal
+  pub turn : Position → Turning → Act Completion
+  pub list : Position → List ArgTree → Act Completion
+  pub enter : Position → List CommandTree → Act Completion
 
 pub record Context : Type 0 where
   pub account : Text
   pub fuel : ℕ
-  pub spot : Spot
+  pub position : Position
   pub texts : Texts
 
 -- the same in another level
 abbrev pub at_level : Context → Level → Context
-at_level x l = record x { spot = record { depth = x.spot.depth; level = l } }
+at_level x l = record x { position = record { depth = x.position.depth; level = l } }
 
 abbrev pub inside_of : Context → Inside
-inside_of x = inside x.account x.fuel x.spot.depth
+inside_of x = inside x.account x.fuel x.position.depth
 
 -- ---- SET
 
@@ -152,11 +152,11 @@ holds i (Some e) = do
   as_truth x
 
 -- what is next where this is true, and otherwise what is behind the rest of the line
-abbrev pub where_true : Bool → Signal
+abbrev pub where_true : Bool → Completion
 where_true b = cond b Go_on Skips
 
 -- IF: each argument sets $TEST
-abbrev pub testing : Inside → ExprTree → Act Signal
+abbrev pub testing : Inside → ExprTree → Act Completion
 testing i e = do
   x ← value i e
   b ← as_truth x
@@ -178,15 +178,15 @@ number_of i e = do
   as_number x
 
 -- a turn costs a step, once its index is set
-abbrev pub begin_turn : Context → Turning → Act Signal
-begin_turn x t = charge >> x.texts.turn x.spot t
+abbrev pub begin_turn : Context → Turning → Act Completion
+begin_turn x t = charge >> x.texts.turn x.position t
 
 -- with this text as index
-abbrev pub turn_with : Context → Text → Turning → Act Signal
+abbrev pub turn_with : Context → Text → Turning → Act Completion
 turn_with x index t = put_at (at_local t.index []) index >> begin_turn x t
 
 -- the turns of these parameters: each is evaluated where it is reached
-abbrev pub next_parameter : Context → Text → List CommandTree → List ParameterTree → Act Signal
+abbrev pub next_parameter : Context → Text → List CommandTree → List ParameterTree → Act Completion
 next_parameter x index body [] = give Skips
 next_parameter x index body (once e ∷ rest) = do
   a ← value (inside_of x) e
@@ -203,12 +203,12 @@ next_parameter x index body (until e by to ∷ rest) = do
   cond (is_past b a c) (next_parameter x index body rest) (begin_turn x (record { index = index; course = limited b c; parameters = rest; body = body }))
 
 -- one turn more, with the increment added
-abbrev pub stepped : Context → Turning → ℤ → ℤ → Act Signal
+abbrev pub stepped : Context → Turning → ℤ → ℤ → Act Completion
 stepped x t n by = do
   next ← as_text (sum_of n by)
   turn_with x next t
 
-abbrev pub after_course : Context → Turning → Course → Act Signal
+abbrev pub after_course : Context → Turning → Course → Act Completion
 after_course x t last_turn = next_parameter x t.index t.body t.parameters
 after_course x t (endless by) = do
   n ← index_number t.index
@@ -219,107 +219,107 @@ after_course x t (limited by limit) = do
 after_course x t forever = begin_turn x t
 
 -- QUIT ends the FOR with all its parameters; the rest of the line was the FOR's
-abbrev pub after_turn : Context → Turning → Signal → Act Signal
+abbrev pub after_turn : Context → Turning → Completion → Act Completion
 after_turn x t Go_on = after_course x t t.course
 after_turn x t Skips = after_course x t t.course
 after_turn x t Quits = give Skips
 after_turn x t (Goes g) = give (Goes g)
 after_turn x t Halts = give Halts
 
-abbrev pub turns_forever : Context → List CommandTree → Act Signal
+abbrev pub turns_forever : Context → List CommandTree → Act Completion
 turns_forever x body = begin_turn x (record { index = []; course = forever; parameters = []; body = body })
 
 -- ---- lines of a routine
 
 -- the commands of a line that is entered; it is read where it is reached, and not before
-abbrev pub line_entered : Context → ℕ → Text → Act Signal
+abbrev pub line_entered : Context → ℕ → Text → Act Completion
 line_entered x n text = do
   l ← give_some Zsyntax (routine_line_at text)
-  x.texts.enter (record { depth = x.spot.depth; level = record x.spot.level { next = Some (n + 1) } }) (commands_in l.body)
+  x.texts.enter (record { depth = x.position.depth; level = record x.position.level { next = Some (n + 1) } }) (commands_in l.body)
 
 -- The lines from a place on, where these stand. One with more dots than the level's is passed over, one with fewer ends the level, as the
 -- end of the lines does. A line that is entered or passed over costs a step.
-abbrev pub lines_reached : Context → ℕ → List Text → Act Signal
+abbrev pub lines_reached : Context → ℕ → List Text → Act Completion
 lines_reached x n [] = give Go_on
 lines_reached x n (text ∷ rest) =
-    cond (nat_lt x.spot.level.dots (dots_of text)) (charge >> lines_reached x (n + 1) rest)
-    (cond (dots_of text == x.spot.level.dots) (charge >> line_entered x n text) (give Go_on))
+    cond (nat_lt x.position.level.dots (dots_of text)) (charge >> lines_reached x (n + 1) rest)
+    (cond (dots_of text == x.position.level.dots) (charge >> line_entered x n text) (give Go_on))
 
-abbrev pub lines_from : Context → Option ℕ → Act Signal
+abbrev pub lines_from : Context → Option ℕ → Act Completion
 lines_from x None = give Go_on
-lines_from x (Some n) = lines_reached x n (drop n x.spot.level.copy)
+lines_from x (Some n) = lines_reached x n (drop n x.position.level.copy)
 
 -- the line that comes next in a level, and those behind it; a level that ends gives Go_on
-abbrev pub lines_next : Context → Act Signal
-lines_next x = lines_from x x.spot.level.next
+abbrev pub lines_next : Context → Act Completion
+lines_next x = lines_from x x.position.level.next
 
 -- What follows a line of a level. GOTO goes on with the line that it names, in the same level.
-abbrev pub after_level : Context → Signal → Act Signal
+abbrev pub after_level : Context → Completion → Act Completion
 after_level x Go_on = lines_next x
 after_level x Skips = lines_next x
 after_level x Quits = give Go_on
-after_level x (Goes t) = lines_next (at_level x (record x.spot.level { copy = t.copy; next = Some t.line }))
+after_level x (Goes t) = lines_next (at_level x (record x.position.level { copy = t.copy; next = Some t.line }))
 after_level x Halts = give Halts
 
 -- ---- levels that DO and XECUTE open
 
-abbrev pub closed : Closing → Signal → Act Signal
+abbrev pub closed : Closing → Completion → Act Completion
 closed c s = closing c >> give s
 
 -- what is done in a level of its own, which then closes
-abbrev pub in_level : Context → Level → Closing → (Context → Act Signal) → Act Signal
-in_level x l c act = with_locals level_begun >> (act (record x { spot = deeper x.spot l }) >>= closed c)
+abbrev pub in_level : Context → Level → Closing → (Context → Act Completion) → Act Completion
+in_level x l c act = with_locals level_begun >> (act (record x { position = deeper x.position l }) >>= closed c)
 
 -- DO with an argument: the lines from the one that it names on
-abbrev pub doing : Context → EntryTree → Act Signal
+abbrev pub doing : Context → EntryTree → Act Completion
 doing x e = do
-  a_level_free x.spot.depth
-  t ← target x.spot.level.copy 0 e
+  a_level_free x.position.depth
+  t ← target x.position.level.copy 0 e
   in_level x (record { copy = t.copy; next = Some t.line; dots = 0 }) leaves lines_next
 
 -- argumentless DO: the lines behind this one that have one dot more
-abbrev pub doing_block : Context → Act Signal
+abbrev pub doing_block : Context → Act Completion
 doing_block x = do
-  a_level_free x.spot.depth
+  a_level_free x.position.depth
   b ← test_is
-  in_level x (record x.spot.level { dots = x.spot.level.dots + 1 }) (restores b) lines_next
+  in_level x (record x.position.level { dots = x.position.level.dots + 1 }) (restores b) lines_next
 
 -- XECUTE: a text, whose labels are sought where those of its line are
-abbrev pub executing : Context → ExprTree → Act Signal
+abbrev pub executing : Context → ExprTree → Act Completion
 executing x e = do
   text ← value (inside_of x) e
-  a_level_free x.spot.depth
+  a_level_free x.position.depth
   l ← give_some Zsyntax (line_at text)
-  in_level x (record { copy = x.spot.level.copy; next = None; dots = 0 }) leaves (λ y. y.texts.enter y.spot (commands_of l))
+  in_level x (record { copy = x.position.level.copy; next = None; dots = 0 }) leaves (λ y. y.texts.enter y.position (commands_of l))
 
 -- GOTO: a line of the level's own dots
-abbrev pub going : Context → EntryTree → Act Signal
+abbrev pub going : Context → EntryTree → Act Completion
 going x e = do
-  t ← target x.spot.level.copy x.spot.level.dots e
+  t ← target x.position.level.copy x.position.level.dots e
   give (Goes t)
 
 -- ---- commands
 
 -- where its own condition holds
-abbrev pub where_holds : Context → Option ExprTree → Act Signal → Act Signal
+abbrev pub where_holds : Context → Option ExprTree → Act Completion → Act Completion
 where_holds x c p = do
   b ← holds (inside_of x) c
   cond b p (give Go_on)
 
 -- arguments that this text gives. The indirection stays open until the last of them is done, a DO or an XECUTE among them too.
-abbrev pub given_by : Context → FormTree → Text → Act Signal
+abbrev pub given_by : Context → FormTree → Text → Act Completion
 given_by x f text = do
-  an_indirection_free x.spot.depth
+  an_indirection_free x.position.depth
   args ← give_some Zsyntax (args_of f text)
-  x.texts.list (within_indirection x.spot) args
+  x.texts.list (within_indirection x.position) args
 
-abbrev pub given : Context → FormTree → PrimaryTree → Act Signal
+abbrev pub given : Context → FormTree → PrimaryTree → Act Completion
 given x f p = do
   text ← primary_value (inside_of x) p
   given_by x f text
 
 -- what an argument does, of whichever command; that of FOR takes the rest of the line, and stands apart
-abbrev pub argument : Context → ArgTree → Act Signal
+abbrev pub argument : Context → ArgTree → Act Completion
 argument x (assign d e) = setting (inside_of x) d e >> give Go_on
 argument x (breaks n) = write (replicate n line_end) >> give Go_on
 argument x (shown e) = showing (inside_of x) e >> give Go_on
@@ -335,13 +335,13 @@ argument x (executed e c) = where_holds x c (executing x e)
 argument x (locked k names t) = locking (inside_of x) k names t >> give Go_on
 argument x (indirect_args f p) = given x f p
 
-abbrev pub arguments : Context → List ArgTree → Act Signal
+abbrev pub arguments : Context → List ArgTree → Act Completion
 arguments x [] = give Go_on
 arguments x (a ∷ rest) = argument x a >>= (λ s. after s (arguments x rest))
 
 -- a command without arguments, before the rest of its line: KILL and NEW are of all variables, LOCK gives up all names, DO is of a block,
 -- and those that take some are of nothing
-abbrev pub bare : Context → KeywordTree → List CommandTree → Act Signal
+abbrev pub bare : Context → KeywordTree → List CommandTree → Act Completion
 bare x set_word rest = give Go_on
 bare x kill_word rest = with_locals (killed_except []) >> give Go_on
 bare x new_word rest = with_locals (newed_except []) >> give Go_on
@@ -361,17 +361,17 @@ bare x lock_word rest = ask Release >> give Go_on
 bare x halt_word rest = give Halts
 
 -- a command, before the rest of its line, which FOR does in its turns
-abbrev pub effect : Context → KeywordTree → List ArgTree → List CommandTree → Act Signal
+abbrev pub effect : Context → KeywordTree → List ArgTree → List CommandTree → Act Completion
 effect x k [] rest = bare x k rest
 effect x k (loop index parameters ∷ more) rest = next_parameter x index rest parameters
 effect x k (a ∷ more) rest = arguments x (a ∷ more)
 
 -- where its condition holds
-abbrev pub conditional : Context → CommandTree → List CommandTree → Act Signal
+abbrev pub conditional : Context → CommandTree → List CommandTree → Act Completion
 conditional x c rest = where_holds x c.condition (effect x c.keyword c.args rest)
 
 -- a command's word costs a step, before the command is done
-abbrev pub commands : Context → List CommandTree → Act Signal
+abbrev pub commands : Context → List CommandTree → Act Completion
 commands x [] = give Go_on
 commands x (c ∷ rest) = charge >> (conditional x c rest >>= (λ s. after s (commands x rest)))
 
@@ -381,19 +381,19 @@ commands x (c ∷ rest) = charge >> (conditional x c rest >>= (λ s. after s (co
 abbrev pub texts : Text → ℕ → Texts
 texts a zero = record { turn = λ _ _. fail Zsteps; list = λ _ _. fail Zsteps; enter = λ _ _. fail Zsteps }
 texts a (suc n) =
-    let at : Spot → Context = λ p. record { account = a; fuel = n; spot = p; texts = texts a n } in
+    let at : Position → Context = λ p. record { account = a; fuel = n; position = p; texts = texts a n } in
     record {
       turn = λ p t. commands (at p) t.body >>= after_turn (at p) t;
       list = λ p args. arguments (at p) args;
       enter = λ p cs. commands (at p) cs >>= after_level (at p);
     }
 
-abbrev pub context : Text → ℕ → Spot → Context
-context a n p = record { account = a; fuel = n; spot = p; texts = texts a n }
+abbrev pub context : Text → ℕ → Position → Context
+context a n p = record { account = a; fuel = n; position = p; texts = texts a n }
 
 -- as many texts can be entered as there are steps, since each costs one
-abbrev pub run_within : Text → ℕ → List CommandTree → Act Signal
-run_within a n cs = (texts a (suc n)).enter outset cs
+abbrev pub run_within : Text → ℕ → List CommandTree → Act Completion
+run_within a n cs = (texts a (suc n)).enter top_level cs
 
-abbrev pub run : Text → LineTree → Act Signal
+abbrev pub run : Text → LineTree → Act Completion
 run a l s = run_within a s.steps (commands_of l) s

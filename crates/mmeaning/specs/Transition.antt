@@ -12,7 +12,7 @@ use Rattle.mspec.specs.Scopes.{outermost}
 use Rattle.mspec.specs.Names.{is_character}
 use Rattle.mgrammar.specs.Grammar.{LineTree}
 use Rattle.mgrammar.specs.Reading.{line_at}
-use Rattle.mmeaning.specs.LineMeaning.{Signal, Go_on, Skips, Quits, Goes, Halts, run}
+use Rattle.mmeaning.specs.LineMeaning.{Completion, Go_on, Skips, Quits, Goes, Halts, run}
 pub use Rattle.mspec.specs.Access.{Account, Settings}
 pub use Rattle.mmeaning.specs.Shared.{Shared, act}
 
@@ -59,27 +59,27 @@ abbrev pub kept : State → Session
 kept s = record { locals = outermost s.locals; naked = s.naked; test = s.test }
 
 -- what a text of an account does; one that has no tree does nothing
-abbrev pub text_run : Text → Option LineTree → Act Signal
+abbrev pub text_run : Text → Option LineTree → Act Completion
 text_run a None = fail Zsyntax
 text_run a (Some tree) = run a tree
 
-abbrev pub plan_of : Account → Session → Option LineTree → Plan (Outcome Signal)
+abbrev pub plan_of : Account → Session → Option LineTree → Plan (Outcome Completion)
 plan_of account s tree = text_run account.name tree (begun account s)
 
--- how a line ends that gives this signal
-abbrev pub ending_of : Signal → Ending
+-- how a line ends that gives this completion
+abbrev pub ending_of : Completion → Ending
 ending_of Go_on = Finished
 ending_of Skips = Finished
 ending_of Quits = Finished
 ending_of (Goes t) = Finished
 ending_of Halts = Halted
 
-abbrev pub reply_of : Outcome Signal → Reply
-reply_of (Gives signal s) = record { out = s.out; ending = ending_of signal }
+abbrev pub reply_of : Outcome Completion → Reply
+reply_of (Gives completion s) = record { out = s.out; ending = ending_of completion }
 reply_of (Fails code s) = record { out = s.out; ending = Faulted (Own code) }
 
-abbrev pub state_of : Outcome Signal → State
-state_of (Gives signal s) = s
+abbrev pub state_of : Outcome Completion → State
+state_of (Gives completion s) = s
 state_of (Fails code s) = s
 
 -- effects before an error stand, and so does the session; where the line halts, session and locks are gone
@@ -89,7 +89,7 @@ settled terminal world (Faulted fault) s w = record { shared = w; sessions = ins
 settled terminal world Halted s w =
     record { shared = record w { locks = released w.locks terminal }; sessions = remove world.sessions terminal }
 
-abbrev pub ended : ℕ → World → Outcome Signal × Shared → Reply × World
+abbrev pub ended : ℕ → World → Outcome Completion × Shared → Reply × World
 ended terminal world r = (reply_of r.0, settled terminal world (reply_of r.0).ending (state_of r.0) r.1)
 
 abbrev pub refused : Code → World → Reply × World

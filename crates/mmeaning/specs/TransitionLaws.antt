@@ -4,7 +4,7 @@ use Rattle.std.specs.Prelude.{◌≡◌, ℕ, false, List, map}
 use Rattle.mspec.specs.Plan.{Plan, perform, cut_short}
 use Rattle.mspec.specs.LockConflict.{released}
 use Rattle.mspec.specs.Act.{Text, Outcome}
-use Rattle.mmeaning.specs.LineMeaning.{Signal}
+use Rattle.mmeaning.specs.LineMeaning.{Completion}
 use Rattle.mmeaning.specs.Shared.{Shared, act}
 use Rattle.mmeaning.specs.Transition.{Settings, Event, Reply, World, normal, is_failure}
 use Rattle.mmeaning.specs.History.{History, replies, world_after, answered, NoneFailed}
@@ -14,7 +14,7 @@ abbrev pub NormalNeverFails : Type 0
 NormalNeverFails = (settings : Settings) (e : Event) (world : World) → is_failure (normal settings e world).0.ending ≡ false
 
 -- what a line does changes no lock of another terminal, whole or cut short
-pub record PlanKeepsOthersLocks (settings : Settings) (terminal : ℕ) (me : Text) (p : Plan (Outcome Signal)) (w : Shared) : Type 0 where
+pub record PlanKeepsOthersLocks (settings : Settings) (terminal : ℕ) (me : Text) (p : Plan (Outcome Completion)) (w : Shared) : Type 0 where
   pub whole : released (perform (act settings terminal me) p w).1.locks terminal ≡ released w.locks terminal
   pub short : (n : ℕ) → released (cut_short (act settings terminal me) n p w).locks terminal ≡ released w.locks terminal
 

@@ -3,7 +3,7 @@
 ghost use Rattle.std.specs.Prelude.{ℕ};
 ghost use Rattle.mspec.specs.Plan.{Plan};
 ghost use Rattle.mspec.specs.Act.{Text, Outcome};
-ghost use Rattle.mmeaning.specs.LineMeaning.{Signal};
+ghost use Rattle.mmeaning.specs.LineMeaning.{Completion};
 ghost use Rattle.mmeaning.specs.Shared.{Shared};
 ghost use Rattle.mmeaning.specs.Transition.{Settings};
 ghost use Rattle.mmeaning.specs.TransitionLaws.{NormalNeverFails, PlanKeepsOthersLocks, NormalTransitionsAreHistory, HistoryIsNormal};
@@ -16,7 +16,7 @@ pub fn normal_never_fails()
 
 /// What a line does changes no lock of another terminal.
 pub fn others_kept()
-    ensures { (settings : Settings) (terminal : ℕ) (me : Text) (p : Plan (Outcome Signal)) (w : Shared) → PlanKeepsOthersLocks settings terminal me p w }
+    ensures { (settings : Settings) (terminal : ℕ) (me : Text) (p : Plan (Outcome Completion)) (w : Shared) → PlanKeepsOthersLocks settings terminal me p w }
 {}
 
 /// Normal transitions are a history of any events, so there is one.

@@ -10,7 +10,7 @@ use Rattle.mspec.specs.LockConflict.{Locks, released}
 use Rattle.mspec.specs.Access.{Settings, name_at, steps_at}
 use Rattle.mspec.specs.Act.{Text, Act, State, Gives, Fails, level_begun}
 use Rattle.mgrammar.specs.Reading.{line_at}
-use Rattle.mmeaning.specs.LineMeaning.{Signal}
+use Rattle.mmeaning.specs.LineMeaning.{Completion}
 use Rattle.mmeaning.specs.Transition as transition
 use Rattle.mmeaning.specs.Transition.{Account, Shared, Event, World, Transition, FailedTransition, lost, TransitionBy, normal, begun, kept, ended, settled, session_or_new, text_run, is_failure, is_lost, Ending, Finished, Halted, Faulted, act}
 use Rattle.mmeaning.specs.Calls.{Standing, Here, IsCut, FailedBy, ops_of, point}
@@ -40,20 +40,20 @@ use Rattle.mworld.proofs.Checks.{let_through}
 
 -- ---- a run that is not lost
 
--- a signal that ends a line so
-gave_by : (b : Standing) (terminal : ℕ) (world : World) (p : Act Signal) (h : Here) (ending : Ending) (h' : Here) → GaveEnding b p h ending h'
+-- a completion that ends a line so
+gave_by : (b : Standing) (terminal : ℕ) (world : World) (p : Act Completion) (h : Here) (ending : Ending) (h' : Here) → GaveEnding b p h ending h'
     → ended terminal world (perform (ops_of b) (p h.0) h.1) ≡ (record { out = h'.0.out; ending = ending }, settled terminal world ending h'.0 h'.1)
 gave_by b terminal world p h ending h' d =
     let gave : perform (ops_of b) (p h.0) h.1 ≡ (Gives d.0 h'.0, h'.1) = d.2 in
     ap (ended terminal world) gave ∙ ap (λ (x : Ending). (record { out = h'.0.out; ending = x }, settled terminal world x h'.0 h'.1)) d.1
 
 -- a fault that is no loss is the line's own code
-failed_by : (b : Standing) (steady : Type 0) (terminal : ℕ) (world : World) (p : Act Signal) (h : Here) (fault : spec.Fault) (h' : Here) → FailedBy b steady p h fault h' → is_lost fault ≡ false
+failed_by : (b : Standing) (steady : Type 0) (terminal : ℕ) (world : World) (p : Act Completion) (h : Here) (fault : spec.Fault) (h' : Here) → FailedBy b steady p h fault h' → is_lost fault ≡ false
     → ended terminal world (perform (ops_of b) (p h.0) h.1) ≡ (record { out = h'.0.out; ending = Faulted fault }, settled terminal world (Faulted fault) h'.0 h'.1)
 failed_by b steady terminal world p h (Own c) h' d fine = let failed : perform (ops_of b) (p h.0) h.1 ≡ (Fails c h'.0, h'.1) = d in ap (ended terminal world) failed
 failed_by b steady terminal world p h (Lost loss) h' d fine = cc
 
-ended_by : (b : Standing) (steady : Type 0) (terminal : ℕ) (world : World) (p : Act Signal) (h : Here) (ending : Ended) (h' : Here) → EndsBy b steady p h ending h' → is_failure (ending_of ending) ≡ false
+ended_by : (b : Standing) (steady : Type 0) (terminal : ℕ) (world : World) (p : Act Completion) (h : Here) (ending : Ended) (h' : Here) → EndsBy b steady p h ending h' → is_failure (ending_of ending) ≡ false
     → ended terminal world (perform (ops_of b) (p h.0) h.1) ≡ (record { out = h'.0.out; ending = ending_of ending }, settled terminal world (ending_of ending) h'.0 h'.1)
 ended_by b steady terminal world p h Done h' d fine = gave_by b terminal world p h Finished h' d
 ended_by b steady terminal world p h Halt h' d fine = gave_by b terminal world p h Halted h' d
@@ -66,7 +66,7 @@ is_loss (Own c) e = cc
 is_loss (Lost loss) e = (loss, refl)
 
 -- however a line ended, its plan was cut somewhere
-is_cut_by : (b : Standing) (steady : Type 0) (p : Act Signal) (h : Here) (fault : spec.Fault) (h' : Here) → FailedBy b steady p h fault h' → IsCut b p h h'
+is_cut_by : (b : Standing) (steady : Type 0) (p : Act Completion) (h : Here) (fault : spec.Fault) (h' : Here) → FailedBy b steady p h fault h' → IsCut b p h h'
 is_cut_by b steady p h (Own c) h' d = cut_own d
   where
     cut_own : perform (ops_of b) (p h.0) h.1 ≡ (Fails c h'.0, h'.1) → IsCut b p h h'
@@ -74,7 +74,7 @@ is_cut_by b steady p h (Own c) h' d = cut_own d
 is_cut_by b steady p h (Lost Memory) h' d = d
 is_cut_by b steady p h (Lost Store) h' d = d.1
 
-is_cut : (b : Standing) (steady : Type 0) (p : Act Signal) (h : Here) (ending : Ended) (h' : Here) → EndsBy b steady p h ending h' → IsCut b p h h'
+is_cut : (b : Standing) (steady : Type 0) (p : Act Completion) (h : Here) (ending : Ended) (h' : Here) → EndsBy b steady p h ending h' → IsCut b p h h'
 is_cut b steady p h Done h' d = cut_all b p h d.0 h' d.2
 is_cut b steady p h Halt h' d = cut_all b p h d.0 h' d.2
 is_cut b steady p h (Fault c) h' d = is_cut_by b steady p h (fault_of c) h' d
@@ -144,7 +144,7 @@ ran_fits g settings e place old new store store' locks locks' reply passes ran s
     let b : Standing = record { settings = settings; terminal = e.terminal; account = name_at settings place } in
     let here : Here = point (level_begun old.locals) old.naked old.test [] (steps_at settings place) (shared g store locks) in
     let there : Here = point new.locals new.naked new.test reply.out.items ran.left (shared g store' locks') in
-    let p : Act Signal = text_run (name_at settings place) (line_at e.text) in
+    let p : Act Completion = text_run (name_at settings place) (line_at e.text) in
     let cut : IsCut b p here there = is_cut b g.steady p here reply.ending there (ran.at sound) in
     let sender : Actor = record { settings = settings; terminal = e.terminal; account = passes.account; known = passes.known } in
     let kept : KeepsFit sender (p here.0) here.1 = plans_keep_fit sender (p here.0) here.1 fit in

@@ -6,7 +6,7 @@ ghost use Rattle.mworld.specs.Ran.{Ran};
 
 use crate::reply::Reply;
 use meval::{Depth, Eval, Session};
-use mexec::{Ended, Machine, Parts, run_text};
+use mexec::{Ended, Scratch, Parts, run_text};
 use mgrant::{AccountId, Settings};
 use mlock::Locks;
 use moperator::Code;
@@ -33,7 +33,7 @@ pub(crate) fn run_over<S: NodeStore>(
     session: &mut Session,
     store: &mut S,
     locks: &mut Locks,
-    machine: &mut Machine,
+    scratch: &mut Scratch,
     room: &mut Vec<u8>,
 ) -> Reply
     ensures ran { Ran S.NodeStore settings.now terminal account text.now session.old store.old locks.old result session.new store.new locks.new }
@@ -63,6 +63,6 @@ pub(crate) fn run_over<S: NodeStore>(
         locks,
         out: &mut out,
     };
-    let ending = run_text(alloc, &mut parts, machine, text);
+    let ending = run_text(alloc, &mut parts, scratch, text);
     Reply { out, ending }
 }

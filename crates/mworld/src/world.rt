@@ -10,7 +10,7 @@ use crate::reply::Reply;
 use crate::run::run_over;
 use crate::terminals::{begin_session, end_session};
 use meval::Session;
-use mexec::{Ended, Machine};
+use mexec::{Ended, Scratch};
 use mgrant::{AccountId, Settings};
 use mlock::Locks;
 use moperator::Code;
@@ -33,7 +33,7 @@ pub struct World<S: NodeStore> {
     locks: Locks,
     store: S,
     // what lines of all accounts run with
-    machine: Machine,
+    scratch: Scratch,
     // room for the output of a line
     room: Vec<u8>,
     alloc: Global,
@@ -81,7 +81,7 @@ impl<S: NodeStore> World<S> {
         ensures settings { IfOk result (λ world. settings_of world ≡ settings) }
         ensures back { IfErr result (λ back. back ≡ (settings, store)) }
     {
-        let Ok(machine) = Machine::new(alloc, entries) else {
+        let Ok(scratch) = Scratch::new(alloc, entries) else {
             return Err((settings, store));
         };
         Ok(World {
@@ -89,7 +89,7 @@ impl<S: NodeStore> World<S> {
             sessions: HashMap::new(alloc),
             locks: Locks::new(alloc),
             store,
-            machine,
+            scratch,
             room: Vec::new(alloc),
             alloc,
         })
@@ -172,7 +172,7 @@ impl<S: NodeStore> World<S> {
             session,
             &mut self.store,
             &mut self.locks,
-            &mut self.machine,
+            &mut self.scratch,
             &mut self.room,
         );
         if let Ended::Fault(code) = reply.ending {

@@ -7,17 +7,17 @@ use Rattle.mtree.specs.Tree.{arg_tree}
 use Rattle.moperator.specs.declared.code.Code.{Code}
 use Rattle.mcommand.specs.declared.parts.Parts.{Parts}
 use Rattle.mcommand.specs.Does.{KeepsLoans}
-use Rattle.mexec.specs.declared.signal.Signal.{Signal}
-use Rattle.mexec.specs.Frames.{Runs, source_args, source_spot, spot_of, stack}
+use Rattle.mexec.specs.declared.completion.Completion.{Completion}
+use Rattle.mexec.specs.Frames.{Runs, source_args, source_position, position_of, stack}
 use Rattle.mexec.proofs.arguments.arguments.Given as goal
 
 abbrev pub invariant-loop-at : goal.invariant-loop-at
 invariant-loop-at g l = record {
   loans : KeepsLoans l.fn.parts l.parts;
   fewer : l.parts.eval.steps ≤ l.fn.parts.eval.steps;
-  machine : l.machine ≡ l.fn.machine;
-  leads : (r : Result Signal Code) (fs : List View) (p : Parts _) → Runs g.S.NodeStore (λ a n. meaning.arguments (context a n (spot_of (source_spot l.source))) (map arg_tree (drop l.at (source_args l.source)))) (stack l.fn.machine.frames.items) l.parts r fs p
-      → Runs g.S.NodeStore (λ a n. meaning.arguments (context a n (spot_of (source_spot l.source))) (map arg_tree (drop l.from (source_args l.source)))) (stack l.fn.machine.frames.items) l.fn.parts r fs p;
+  scratch : l.scratch ≡ l.fn.scratch;
+  leads : (r : Result Completion Code) (fs : List View) (p : Parts _) → Runs g.S.NodeStore (λ a n. meaning.arguments (context a n (position_of (source_position l.source))) (map arg_tree (drop l.at (source_args l.source)))) (stack l.fn.scratch.frames.items) l.parts r fs p
+      → Runs g.S.NodeStore (λ a n. meaning.arguments (context a n (position_of (source_position l.source))) (map arg_tree (drop l.from (source_args l.source)))) (stack l.fn.scratch.frames.items) l.fn.parts r fs p;
 }
 
 abbrev pub decreases-loop-at : goal.decreases-loop-at

@@ -1,7 +1,7 @@
 -- SPDX-License-Identifier: Apache-2.0
 use Rattle.std.proofs.Common.{map, drop}
 use Rattle.mtree.specs.Tree.{arg_tree}
-use Rattle.mexec.specs.Frames.{source_args, source_spot, spot_of}
+use Rattle.mexec.specs.Frames.{source_args, source_position, position_of}
 use Rattle.mexec.proofs.Calls.{runs_wanting, runs_listing}
 use Rattle.mexec.proofs.arguments.enter_given.Goals as goal
 
@@ -11,5 +11,5 @@ returns-in_err-leave-clause-does g c = runs_wanting _ _ c.from_residual.ensures
 pub returns-clause-does : goal.returns-clause-does
 returns-clause-does g c =
     let s = c.args.source in
-    let does = rw (c.spot.ensures, c.in_ok-leave.ensures.frames) at c.giving.ensures.does in
-    runs_listing (spot_of (source_spot s)) (map arg_tree (drop c.args.argument (source_args s))) does
+    let does = rw (c.position.ensures, c.in_ok-leave.ensures.frames) at c.giving.ensures.does in
+    runs_listing (position_of (source_position s)) (map arg_tree (drop c.args.argument (source_args s))) does

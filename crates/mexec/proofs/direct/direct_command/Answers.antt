@@ -4,9 +4,9 @@ use Rattle.mspec.specs.Act.{give}
 use Rattle.mmeaning.specs.LineMeaning as meaning
 use Rattle.mmeaning.specs.LineMeaning.{context, effect}
 use Rattle.mtree.specs.Tree.{keyword_tree, arg_tree}
-use Rattle.mexec.specs.declared.signal.Signal.TheVariants as signal
+use Rattle.mexec.specs.declared.completion.Completion.TheVariants as completion
 use Rattle.mexec.specs.Direct.{is_direct_word, are_direct}
-use Rattle.mexec.specs.Frames.{signal_of, spot_of}
+use Rattle.mexec.specs.Frames.{completion_of, position_of}
 use Rattle.mexec.proofs.Calls.{at_then, at_stopped, at_gives, at_as}
 use Rattle.mexec.proofs.Effects.{first_none, first_some}
 use Rattle.mexec.proofs.DirectRuns.{both_true, direct_effect}
@@ -14,12 +14,12 @@ use Rattle.mexec.proofs.direct.direct_command.Goals as goal
 
 pub returns-in_err-applies-clause-does : goal.returns-in_err-applies-clause-does
 returns-in_err-applies-clause-does g c rest =
-    at_stopped (λ a n b. cond b (effect (context a n (spot_of c.args.spot.now)) (keyword_tree c.args.command.now.keyword) (map arg_tree c.args.command.now.args.items) rest) (give meaning.Go_on)) c.in_err-applies.ensures.does c.from_residual.ensures
+    at_stopped (λ a n b. cond b (effect (context a n (position_of c.args.position.now)) (keyword_tree c.args.command.now.keyword) (map arg_tree c.args.command.now.args.items) rest) (give meaning.Go_on)) c.in_err-applies.ensures.does c.from_residual.ensures
 
 pub returns-then-not-applies-clause-does : goal.returns-then-not-applies-clause-does
 returns-then-not-applies-clause-does g c rest =
     let applies = rw c.if-not-applies.true at c.in_ok-applies.ensures.does in
-    at_then (λ a n b. cond b (effect (context a n (spot_of c.args.spot.now)) (keyword_tree c.args.command.now.keyword) (map arg_tree c.args.command.now.args.items) rest) (give meaning.Go_on)) applies (at_gives meaning.Go_on signal_of signal.GoOn refl)
+    at_then (λ a n b. cond b (effect (context a n (position_of c.args.position.now)) (keyword_tree c.args.command.now.keyword) (map arg_tree c.args.command.now.args.items) rest) (give meaning.Go_on)) applies (at_gives meaning.Go_on completion_of completion.GoOn refl)
 
 pub direct_word-requires : goal.direct_word-requires
 direct_word-requires g c =
@@ -37,7 +37,7 @@ returns-in-None-clause-does g c rest =
     let none = first_none c.args.command.now.args.items (sym first) in
     let applies = rw c.if-not-applies.false at c.in_ok-applies.ensures.does in
     rw none
-    (at_then (λ a n b. cond b (effect (context a n (spot_of c.args.spot.now)) (keyword_tree c.args.command.now.keyword) [] rest) (give meaning.Go_on)) applies (c.direct_word.ensures.does (spot_of c.args.spot.now) rest))
+    (at_then (λ a n b. cond b (effect (context a n (position_of c.args.position.now)) (keyword_tree c.args.command.now.keyword) [] rest) (give meaning.Go_on)) applies (c.direct_word.ensures.does (position_of c.args.position.now) rest))
 
 pub returns-in-Some-clause-does : goal.returns-in-Some-clause-does
 returns-in-Some-clause-does g c rest =
@@ -49,5 +49,5 @@ returns-in-Some-clause-does g c rest =
     let does = rw (c.deref-in-Some.ensures.value, some.1) at c.direct_arguments.ensures.does in
     let k = keyword_tree c.args.command.now.keyword in
     rw some.1
-    (at_then (λ a n b. cond b (effect (context a n (spot_of c.args.spot.now)) k (map arg_tree (c.in-Some.field-0.now ∷ some.0)) rest) (give meaning.Go_on)) applies
-    (at_as (λ a n. direct_effect (context a n (spot_of c.args.spot.now)) k c.in-Some.field-0.now some.0 rest direct) does))
+    (at_then (λ a n b. cond b (effect (context a n (position_of c.args.position.now)) k (map arg_tree (c.in-Some.field-0.now ∷ some.0)) rest) (give meaning.Go_on)) applies
+    (at_as (λ a n. direct_effect (context a n (position_of c.args.position.now)) k c.in-Some.field-0.now some.0 rest direct) does))

@@ -4,9 +4,9 @@ use Rattle.mspec.proofs.ListPlaces.{next_item, none_left}
 use Rattle.mmeaning.specs.LineMeaning as meaning
 use Rattle.mmeaning.specs.LineMeaning.{context}
 use Rattle.mcommand.proofs.Calls.{keeps_itself, keeps_on}
-use Rattle.mexec.specs.declared.signal.Signal.TheVariants as signal
+use Rattle.mexec.specs.declared.completion.Completion.TheVariants as completion
 use Rattle.mexec.specs.Direct.{is_direct_command, is_direct_from}
-use Rattle.mexec.specs.Frames.{commands_from, signal_of, spot_of}
+use Rattle.mexec.specs.Frames.{commands_from, completion_of, position_of}
 use Rattle.mexec.proofs.Calls.{at_gives}
 use Rattle.mexec.proofs.DirectRuns.{both_true, from, command_goes, command_failed, charge_failed, passed}
 use Rattle.mexec.proofs.direct.direct_commands.Goals as goal
@@ -27,7 +27,7 @@ returns-in_err-charge-clause-does g c =
     let v = c.args.line.now.commands in
     let test = rw c.len.ensures at c.loop-at-test.true in
     let less : c.loop-at.at < length v.items = omega (arith, test, v.ok) in
-    c.loop-at.invariant.leads _ _ (charge_failed (spot_of c.args.spot.now) v.items c.loop-at.at less c.in_err-charge.ensures.does c.from_residual.ensures)
+    c.loop-at.invariant.leads _ _ (charge_failed (position_of c.args.position.now) v.items c.loop-at.at less c.in_err-charge.ensures.does c.from_residual.ensures)
 
 pub direct_command-requires : goal.direct_command-requires
 direct_command-requires g c =
@@ -45,7 +45,7 @@ returns-in_err-other-clause-does g c =
     let v = c.args.line.now.commands in
     let test = rw c.len.ensures at c.loop-at-test.true in
     let less : c.loop-at.at < length v.items = omega (arith, test, v.ok) in
-    let p = spot_of c.args.spot.now in
+    let p = position_of c.args.position.now in
     let x = c.index.result.now in
     c.loop-at.invariant.leads _ _
     (command_failed p v.items c.loop-at.at x less c.index.ensures c.in_ok-charge.ensures.does
@@ -56,7 +56,7 @@ loop-at-preserved g c =
     let v = c.args.line.now.commands in
     let test = rw c.len.ensures at c.loop-at-test.true in
     let less : c.loop-at.at < length v.items = omega (arith, test, v.ok) in
-    let p = spot_of c.args.spot.now in
+    let p = position_of c.args.position.now in
     let x = c.index.result.now in
     let next = next_item v.items c.loop-at.at x less c.index.ensures in
     let direct = rw next at c.loop-at.invariant.direct in
@@ -76,7 +76,7 @@ returns-in_default-clause-does g c =
     let v = c.args.line.now.commands in
     let test = rw c.len.ensures at c.loop-at-test.true in
     let less : c.loop-at.at < length v.items = omega (arith, test, v.ok) in
-    let p = spot_of c.args.spot.now in
+    let p = position_of c.args.position.now in
     let x = c.index.result.now in
     let s = c.in_ok-other.other in
     let behind_it = commands_from c.args.line.now (c.loop-at.at + 1) in
@@ -90,4 +90,4 @@ returns-clause-does g c =
     let test = rw c.len.ensures at c.loop-at-test.false in
     let past : length v.items ≤ c.loop-at.at = omega (arith, test, v.ok) in
     let leads = rw (none_left c.loop-at.at v.items past) at c.loop-at.invariant.leads in
-    leads _ _ (at_gives meaning.Go_on signal_of signal.GoOn refl)
+    leads _ _ (at_gives meaning.Go_on completion_of completion.GoOn refl)

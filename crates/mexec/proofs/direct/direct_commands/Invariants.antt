@@ -5,9 +5,9 @@ use Rattle.mmeaning.specs.LineMeaning.{context}
 use Rattle.moperator.specs.declared.code.Code.{Code}
 use Rattle.mcommand.specs.declared.parts.Parts.{Parts}
 use Rattle.mcommand.specs.Does.{DoesAt, KeepsLoans}
-use Rattle.mexec.specs.declared.signal.Signal.{Signal}
+use Rattle.mexec.specs.declared.completion.Completion.{Completion}
 use Rattle.mexec.specs.Direct.{is_direct_from}
-use Rattle.mexec.specs.Frames.{commands_from, signal_of, spot_of}
+use Rattle.mexec.specs.Frames.{commands_from, completion_of, position_of}
 use Rattle.mexec.proofs.direct.direct_commands.Given as goal
 
 abbrev pub invariant-loop-at : goal.invariant-loop-at
@@ -15,8 +15,8 @@ invariant-loop-at g l = record {
   direct : is_direct_from l.line l.at ≡ true;
   loans : KeepsLoans l.fn.parts l.parts;
   fewer : l.parts.eval.steps ≤ l.fn.parts.eval.steps;
-  leads : (r : Result Signal Code) (p : Parts _) → DoesAt g.S.NodeStore (λ a n. meaning.commands (context a n (spot_of l.spot)) (commands_from l.line l.at)) signal_of l.parts r p
-      → DoesAt g.S.NodeStore (λ a n. meaning.commands (context a n (spot_of l.spot)) (commands_from l.line l.from)) signal_of l.fn.parts r p;
+  leads : (r : Result Completion Code) (p : Parts _) → DoesAt g.S.NodeStore (λ a n. meaning.commands (context a n (position_of l.position)) (commands_from l.line l.at)) completion_of l.parts r p
+      → DoesAt g.S.NodeStore (λ a n. meaning.commands (context a n (position_of l.position)) (commands_from l.line l.from)) completion_of l.fn.parts r p;
 }
 
 abbrev pub decreases-loop-at : goal.decreases-loop-at

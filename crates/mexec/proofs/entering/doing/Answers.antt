@@ -2,17 +2,17 @@
 use Rattle.std.proofs.Common.{Some, refl}
 use Rattle.mspec.specs.Act.{◌>>=◌, Act}
 use Rattle.mtree.specs.Tree.{entry_tree}
-use Rattle.mmeaning.specs.Levels.{Target, Level, Spot, leaves, deeper, target}
-use Rattle.mmeaning.specs.LineMeaning.{Signal, Context, context, closed, in_level, lines_next}
+use Rattle.mmeaning.specs.Levels.{Target, Level, Position, leaves, deeper, target}
+use Rattle.mmeaning.specs.LineMeaning.{Completion, Context, context, closed, in_level, lines_next}
 use Rattle.meval.specs.Evaluates.{depth_of}
 use Rattle.mcommand.specs.Targets.{target_view}
-use Rattle.mexec.specs.Frames.{spot_of}
+use Rattle.mexec.specs.Frames.{position_of}
 use Rattle.mexec.proofs.Calls.{runs_as, runs_then, runs_stopped}
 use Rattle.mexec.proofs.LevelRuns.{at_any, at_plain, is_within, target_entered, lines_opened}
 use Rattle.mexec.proofs.entering.doing.Goals as goal
 
 -- once the line is known
-abbrev there : Context → Target → Act Signal
+abbrev there : Context → Target → Act Completion
 there x t = in_level x (record { copy = t.copy; next = Some t.line; dots = 0 }) leaves lines_next
 
 pub returns-in_err-depth-clause-does : goal.returns-in_err-depth-clause-does
@@ -20,14 +20,14 @@ returns-in_err-depth-clause-does g c = runs_stopped _ c.in_err-depth.ensures.doe
 
 pub returns-in_err-target-clause-does : goal.returns-in_err-target-clause-does
 returns-in_err-target-clause-does g c =
-    let p = spot_of c.args.spot.now in
+    let p = position_of c.args.position.now in
     let e = entry_tree c.args.entry.now in
     runs_then (λ a n _. target p.level.copy 0 e >>= there (context a n p)) c.in_ok-depth.ensures.does c.in_ok-depth.ensures.fewer
     (runs_stopped (λ a n. there (context a n p)) (at_any c.in_err-target.ensures.does) c.in_err-target.ensures.fewer c.from_residual-in_err-target.ensures)
 
 pub returns-in_err-open_level-clause-does : goal.returns-in_err-open_level-clause-does
 returns-in_err-open_level-clause-does g c =
-    let p = spot_of c.args.spot.now in
+    let p = position_of c.args.position.now in
     let e = entry_tree c.args.entry.now in
     let l : Level = record { copy = (target_view c.in_ok-target.target).copy; next = Some c.in_ok-target.target.line; dots = 0 } in
     runs_then (λ a n _. target p.level.copy 0 e >>= there (context a n p)) c.in_ok-depth.ensures.does c.in_ok-depth.ensures.fewer
@@ -36,10 +36,10 @@ returns-in_err-open_level-clause-does g c =
 
 pub returns-clause-does : goal.returns-clause-does
 returns-clause-does g c =
-    let p = spot_of c.args.spot.now in
+    let p = position_of c.args.position.now in
     let e = entry_tree c.args.entry.now in
     let l : Level = record { copy = (target_view c.in_ok-target.target).copy; next = Some c.in_ok-target.target.line; dots = 0 } in
-    let inner : Spot = record { depth = depth_of c.in_ok-depth.depth; level = l } in
+    let inner : Position = record { depth = depth_of c.in_ok-depth.depth; level = l } in
     runs_then (λ a n _. target p.level.copy 0 e >>= there (context a n p)) c.in_ok-depth.ensures.does c.in_ok-depth.ensures.fewer
     (runs_then (λ a n. there (context a n p)) (at_any c.in_ok-target.ensures.does) c.in_ok-target.ensures.fewer
     (runs_then (λ a n _. lines_next (context a n (deeper p l)) >>= closed leaves) (at_plain c.in_ok-open_level.ensures.does) c.in_ok-open_level.ensures.fewer

@@ -1,31 +1,31 @@
 -- SPDX-License-Identifier: Apache-2.0
 use Rattle.std.proofs.Common.{◌≡◌, Bool, ◌+◌, arith}
 use Rattle.mspec.specs.Act.{Act, ◌>>=◌, test_is}
-use Rattle.mmeaning.specs.Levels.{Spot, Level, deeper, restores}
-use Rattle.mmeaning.specs.LineMeaning.{Signal, Context, context, closed, in_level, lines_next}
+use Rattle.mmeaning.specs.Levels.{Position, Level, deeper, restores}
+use Rattle.mmeaning.specs.LineMeaning.{Completion, Context, context, closed, in_level, lines_next}
 use Rattle.meval.specs.Evaluates.{depth_of}
-use Rattle.mexec.specs.Frames.{spot_of}
+use Rattle.mexec.specs.Frames.{position_of}
 use Rattle.mexec.proofs.Calls.{runs_then, runs_stopped, runs_lost, runs_wanting}
 use Rattle.mexec.proofs.LevelRuns.{at_plain, lines_opened_as}
 use Rattle.mexec.proofs.entering.doing_block.Goals as goal
 
 -- its lines
-abbrev block : Spot → Level
+abbrev block : Position → Level
 block p = record p.level { dots = p.level.dots + 1 }
 
 -- once $TEST is known
-abbrev there : Context → Bool → Act Signal
-there x b = in_level x (block x.spot) (restores b) lines_next
+abbrev there : Context → Bool → Act Completion
+there x b = in_level x (block x.position) (restores b) lines_next
 
 pub returns-in_err-depth-clause-does : goal.returns-in_err-depth-clause-does
-returns-in_err-depth-clause-does g c = runs_stopped (λ a n _. test_is >>= there (context a n (spot_of c.args.spot.now))) c.in_err-depth.ensures.does c.in_err-depth.ensures.fewer c.from_residual.ensures
+returns-in_err-depth-clause-does g c = runs_stopped (λ a n _. test_is >>= there (context a n (position_of c.args.position.now))) c.in_err-depth.ensures.does c.in_err-depth.ensures.fewer c.from_residual.ensures
 
 pub returns-in_err-copy-clause-does : goal.returns-in_err-copy-clause-does
-returns-in_err-copy-clause-does g c = runs_then (λ a n _. test_is >>= there (context a n (spot_of c.args.spot.now))) c.in_ok-depth.ensures.does c.in_ok-depth.ensures.fewer (runs_wanting _ _ c.from_residual-in_err-copy.ensures)
+returns-in_err-copy-clause-does g c = runs_then (λ a n _. test_is >>= there (context a n (position_of c.args.position.now))) c.in_ok-depth.ensures.does c.in_ok-depth.ensures.fewer (runs_wanting _ _ c.from_residual-in_err-copy.ensures)
 
 pub returns-in_err-open_level-clause-does : goal.returns-in_err-open_level-clause-does
 returns-in_err-open_level-clause-does g c =
-    let p = spot_of c.args.spot.now in
+    let p = position_of c.args.position.now in
     let test = c.test-test.result in
     runs_then (λ a n _. test_is >>= there (context a n p)) c.in_ok-depth.ensures.does c.in_ok-depth.ensures.fewer
     (runs_then (λ a n. there (context a n p)) (at_plain c.test-test.ensures) (omega arith)
@@ -33,7 +33,7 @@ returns-in_err-open_level-clause-does g c =
 
 pub returns-clause-does : goal.returns-clause-does
 returns-clause-does g c =
-    let p = spot_of c.args.spot.now in
+    let p = position_of c.args.position.now in
     let test = c.test-test.result in
     let level : Level = record { copy = c.in_ok-copy.copy.value.items; next = p.level.next; dots = p.level.dots + 1 } in
     let same : level ≡ block p = λ i. record { copy = (c.in_ok-copy.ensures.cases i).items; next = p.level.next; dots = p.level.dots + 1 } in

@@ -5,4 +5,4 @@ use Rattle.mexec.proofs.entering.enter_text.Goals as goal
 
 pub returns-clause-frames : goal.returns-clause-frames
 returns-clause-frames c =
-    rw (c.in_ok-push-2.ensures.items, stack_push, c.in_ok-push.ensures.items, stack_push, c.in_ok-clone-2.ensures.cases, c.in_ok-spot.ensures.ok, c.in_ok-clone.ensures.cases) refl
+    rw (c.in_ok-push-2.ensures.items, stack_push, c.in_ok-push.ensures.items, stack_push, c.in_ok-clone-2.ensures.cases, c.in_ok-position.ensures.ok, c.in_ok-clone.ensures.cases) refl

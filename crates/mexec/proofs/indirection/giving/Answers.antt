@@ -7,66 +7,66 @@ use Rattle.mgrammar.specs.Commands.{form_of}
 use Rattle.mgrammar.specs.IndirectTexts.{args_of}
 use Rattle.mtree.specs.Tree.{keyword_tree}
 use Rattle.mmeaning.specs.Levels.{within_indirection}
-use Rattle.mmeaning.specs.LineMeaning.{Signal, Context, context, given_by}
+use Rattle.mmeaning.specs.LineMeaning.{Completion, Context, context, given_by}
 use Rattle.meval.specs.Evaluates.{depth_of}
 use Rattle.mcommand.proofs.Calls.{at_evaluated}
-use Rattle.mexec.specs.Frames.{spot_of}
+use Rattle.mexec.specs.Frames.{position_of}
 use Rattle.mexec.proofs.Calls.{runs_then, runs_spent, runs_stopped, runs_wanting}
 use Rattle.mexec.proofs.LevelRuns.{at_yielded, list_opened}
 use Rattle.mexec.proofs.indirection.giving.Goals as goal
 
 -- once the arguments are known
-abbrev listed : Context → List ArgTree → Act Signal
-listed x args = x.texts.list (within_indirection x.spot) args
+abbrev listed : Context → List ArgTree → Act Completion
+listed x args = x.texts.list (within_indirection x.position) args
 
 -- once an indirection is free
-abbrev read : Context → FormTree → Text → Act Signal
+abbrev read : Context → FormTree → Text → Act Completion
 read x f text = give_some Zsyntax (args_of f text) >>= listed x
 
 pub returns-in_err-text-clause-does : goal.returns-in_err-text-clause-does
 returns-in_err-text-clause-does g c =
     let f = form_of (keyword_tree c.args.keyword) in
-    runs_stopped (λ a n. given_by (context a n (spot_of c.args.spot.now)) f) (at_evaluated c.args.spot.now.depth c.in_err-text.ensures.does) c.in_err-text.ensures.fewer c.from_residual.ensures
+    runs_stopped (λ a n. given_by (context a n (position_of c.args.position.now)) f) (at_evaluated c.args.position.now.depth c.in_err-text.ensures.does) c.in_err-text.ensures.fewer c.from_residual.ensures
 
 pub returns-in_err-depth-clause-does : goal.returns-in_err-depth-clause-does
 returns-in_err-depth-clause-does g c =
-    let p = spot_of c.args.spot.now in
+    let p = position_of c.args.position.now in
     let f = form_of (keyword_tree c.args.keyword) in
-    runs_then (λ a n. given_by (context a n p) f) (at_evaluated c.args.spot.now.depth c.in_ok-text.ensures.does) c.in_ok-text.ensures.fewer
+    runs_then (λ a n. given_by (context a n p) f) (at_evaluated c.args.position.now.depth c.in_ok-text.ensures.does) c.in_ok-text.ensures.fewer
     (runs_stopped (λ a n _. read (context a n p) f c.in_ok-text.text) (at_yielded c.in_err-depth.ensures.does) (omega arith) c.from_residual-in_err-depth.ensures)
 
 pub returns-in_err-text-2-clause-does : goal.returns-in_err-text-2-clause-does
 returns-in_err-text-2-clause-does g c =
-    let p = spot_of c.args.spot.now in
+    let p = position_of c.args.position.now in
     let f = form_of (keyword_tree c.args.keyword) in
-    runs_then (λ a n. given_by (context a n p) f) (at_evaluated c.args.spot.now.depth c.in_ok-text.ensures.does) c.in_ok-text.ensures.fewer
+    runs_then (λ a n. given_by (context a n p) f) (at_evaluated c.args.position.now.depth c.in_ok-text.ensures.does) c.in_ok-text.ensures.fewer
     (runs_then (λ a n _. read (context a n p) f c.in_ok-text.text) (at_yielded c.in_ok-depth.ensures.does) (omega arith) (runs_wanting _ _ c.from_residual-in_err-text-2.ensures))
 
 pub returns-in_err-args-clause-does : goal.returns-in_err-args-clause-does
 returns-in_err-args-clause-does g c =
-    let p = spot_of c.args.spot.now in
+    let p = position_of c.args.position.now in
     let f = form_of (keyword_tree c.args.keyword) in
     let tree = rw (c.as_bytes.ensures.bytes, c.in_ok-text-2.ensures) at c.in_err-args.ensures in
-    runs_then (λ a n. given_by (context a n p) f) (at_evaluated c.args.spot.now.depth c.in_ok-text.ensures.does) c.in_ok-text.ensures.fewer
+    runs_then (λ a n. given_by (context a n p) f) (at_evaluated c.args.position.now.depth c.in_ok-text.ensures.does) c.in_ok-text.ensures.fewer
     (runs_then (λ a n _. read (context a n p) f c.in_ok-text.text) (at_yielded c.in_ok-depth.ensures.does) (omega arith)
     (runs_stopped (λ a n. listed (context a n p)) (at_yielded tree) (omega arith) c.from_residual-in_err-args.ensures))
 
 pub returns-in_err-leave_given-clause-does : goal.returns-in_err-leave_given-clause-does
 returns-in_err-leave_given-clause-does g c =
-    let p = spot_of c.args.spot.now in
+    let p = position_of c.args.position.now in
     let f = form_of (keyword_tree c.args.keyword) in
     let tree = rw (c.as_bytes.ensures.bytes, c.in_ok-text-2.ensures) at c.in_ok-args.ensures in
-    runs_then (λ a n. given_by (context a n p) f) (at_evaluated c.args.spot.now.depth c.in_ok-text.ensures.does) c.in_ok-text.ensures.fewer
+    runs_then (λ a n. given_by (context a n p) f) (at_evaluated c.args.position.now.depth c.in_ok-text.ensures.does) c.in_ok-text.ensures.fewer
     (runs_then (λ a n _. read (context a n p) f c.in_ok-text.text) (at_yielded c.in_ok-depth.ensures.does) (omega arith)
     (runs_then (λ a n. listed (context a n p)) (at_yielded tree) (omega arith) (runs_wanting _ _ c.from_residual-in_err-leave_given.ensures)))
 
 pub returns-clause-does : goal.returns-clause-does
 returns-clause-does g c =
-    let p = spot_of c.args.spot.now in
+    let p = position_of c.args.position.now in
     let f = form_of (keyword_tree c.args.keyword) in
     let tree = rw (c.as_bytes.ensures.bytes, c.in_ok-text-2.ensures) at c.in_ok-args.ensures in
     rw c.in_ok-leave_given.ensures.frames
-    (runs_spent (λ a n. given_by (context a n p) f) (at_evaluated c.args.spot.now.depth c.in_ok-text.ensures.does) c.in_ok-text.ensures.spent
+    (runs_spent (λ a n. given_by (context a n p) f) (at_evaluated c.args.position.now.depth c.in_ok-text.ensures.does) c.in_ok-text.ensures.spent
     (runs_then (λ a n _. read (context a (suc n) p) f c.in_ok-text.text) (at_yielded c.in_ok-depth.ensures.does) (omega arith)
     (runs_then (λ a n. listed (context a (suc n) p)) (at_yielded tree) (omega arith)
     (list_opened p (depth_of c.in_ok-depth.depth) c.in_ok-depth.ensures.deeper _))))

@@ -1,9 +1,9 @@
 -- SPDX-License-Identifier: Apache-2.0
 use Rattle.std.proofs.Common.{refl}
 use Rattle.mspec.specs.Act.{give}
-use Rattle.mexec.specs.Frames.{signal_of}
+use Rattle.mexec.specs.Frames.{completion_of}
 use Rattle.mexec.proofs.Calls.{at_then, at_gives}
 use Rattle.mexec.proofs.levels.ended.Goals as goal
 
 pub returns-clause-does : goal.returns-clause-does
-returns-clause-does g c = at_then (λ a n _. give (signal_of c.args.signal)) c.close.ensures.does (at_gives _ signal_of c.args.signal refl)
+returns-clause-does g c = at_then (λ a n _. give (completion_of c.args.completion)) c.close.ensures.does (at_gives _ completion_of c.args.completion refl)

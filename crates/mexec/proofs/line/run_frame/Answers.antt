@@ -2,46 +2,46 @@
 use Rattle.std.proofs.Common.{map, drop, arith}
 use Rattle.mtree.specs.Tree.{arg_tree}
 use Rattle.mcommand.proofs.Calls.{keeps_itself}
-use Rattle.mexec.specs.Frames.{spot_of, rest_tree, args_before}
+use Rattle.mexec.specs.Frames.{position_of, rest_tree, args_before}
 use Rattle.mexec.proofs.Lines.{rest_passes, list_passes}
 use Rattle.mexec.proofs.line.run_frame.Goals as goal
 
 pub returns-in-GoOn-clause-does : goal.returns-in-GoOn-clause-does
-returns-in-GoOn-clause-does g c = rw (c.in-Rest.is, c.in-GoOn.is) c.next_command.ensures.does
+returns-in-GoOn-clause-does g c = rw (c.in-Continuation.is, c.in-GoOn.is) c.next_command.ensures.does
 
-pub returns-in-Rest : goal.returns-in-Rest
-returns-in-Rest g c = record {
+pub returns-in-Continuation : goal.returns-in-Continuation
+returns-in-Continuation g c = record {
   loans = keeps_itself c.args.parts.now;
   falls = omega arith;
-  does = rw c.in-Rest.is (rest_passes (spot_of c.in-Rest.rest.spot.value) (rest_tree c.in-Rest.rest) c.args.signal c.in_default.not-GoOn);
+  does = rw c.in-Continuation.is (rest_passes (position_of c.in-Continuation.rest.position.value) (rest_tree c.in-Continuation.rest) c.args.completion c.in_default.not-GoOn);
 }
 
-pub returns-in-GoOn-signal-clause-does : goal.returns-in-GoOn-signal-clause-does
-returns-in-GoOn-signal-clause-does g c = rw (c.in-List.is, c.in-GoOn-signal.is) c.arguments.ensures.does
+pub returns-in-GoOn-completion-clause-does : goal.returns-in-GoOn-completion-clause-does
+returns-in-GoOn-completion-clause-does g c = rw (c.in-PendingArguments.is, c.in-GoOn-completion.is) c.arguments.ensures.does
 
-pub returns-in-List : goal.returns-in-List
-returns-in-List g c =
-    let l = c.in-List.list in
+pub returns-in-PendingArguments : goal.returns-in-PendingArguments
+returns-in-PendingArguments g c =
+    let l = c.in-PendingArguments.list in
     record {
       loans = keeps_itself c.args.parts.now;
       falls = omega arith;
-      does = rw c.in-List.is (list_passes (spot_of l.behind.spot.value) (map arg_tree (drop l.argument (args_before l.behind.line.value l.behind.at))) c.args.signal c.in_default-signal.not-GoOn);
+      does = rw c.in-PendingArguments.is (list_passes (position_of l.behind.position.value) (map arg_tree (drop l.argument (args_before l.behind.line.value l.behind.at))) c.args.completion c.in_default-completion.not-GoOn);
     }
 
-pub returns-in-GoOn-signal-2-clause-does : goal.returns-in-GoOn-signal-2-clause-does
-returns-in-GoOn-signal-2-clause-does g c = rw (c.in-Given.is, c.in-GoOn-signal-2.is) c.arguments-in-GoOn-signal-2.ensures.does
+pub returns-in-GoOn-completion-2-clause-does : goal.returns-in-GoOn-completion-2-clause-does
+returns-in-GoOn-completion-2-clause-does g c = rw (c.in-IndirectArguments.is, c.in-GoOn-completion-2.is) c.arguments-in-GoOn-completion-2.ensures.does
 
-pub returns-in-Given : goal.returns-in-Given
-returns-in-Given g c =
-    let given = c.in-Given.given.value in
+pub returns-in-IndirectArguments : goal.returns-in-IndirectArguments
+returns-in-IndirectArguments g c =
+    let given = c.in-IndirectArguments.given.value in
     record {
       loans = keeps_itself c.args.parts.now;
       falls = omega arith;
-      does = rw c.in-Given.is (list_passes (spot_of given.spot) (map arg_tree (drop c.in-Given.argument given.args.items)) c.args.signal c.in_default-signal-2.not-GoOn);
+      does = rw c.in-IndirectArguments.is (list_passes (position_of given.position) (map arg_tree (drop c.in-IndirectArguments.argument given.args.items)) c.args.completion c.in_default-completion-2.not-GoOn);
     }
 
-pub returns-in-Turns-clause-does : goal.returns-in-Turns-clause-does
-returns-in-Turns-clause-does g c = rw c.in-Turns.is c.after_turn.ensures.does
+pub returns-in-ForLoop-clause-does : goal.returns-in-ForLoop-clause-does
+returns-in-ForLoop-clause-does g c = rw c.in-ForLoop.is c.after_turn.ensures.does
 
 pub returns-clause-does : goal.returns-clause-does
 returns-clause-does g c =

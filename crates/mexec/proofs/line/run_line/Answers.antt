@@ -8,28 +8,28 @@ use Rattle.mexec.proofs.Calls.{stack_push}
 use Rattle.mexec.proofs.Lines.{leads_first, leads_on, leads_stopped, leads_ends}
 use Rattle.mexec.proofs.line.run_line.Goals as goal
 
-pub returns-in_err-signal-clause-does : goal.returns-in_err-signal-clause-does
-returns-in_err-signal-clause-does g c =
-    leads_stopped _ _ _ (leads_first (commands_of (line_tree c.args.line.value)) c.args.parts.now) c.in_err-signal.ensures.does c.from_residual.ensures
+pub returns-in_err-completion-clause-does : goal.returns-in_err-completion-clause-does
+returns-in_err-completion-clause-does g c =
+    leads_stopped _ _ _ (leads_first (commands_of (line_tree c.args.line.value)) c.args.parts.now) c.in_err-completion.ensures.does c.from_residual.ensures
 
 pub loop-frame-init : goal.loop-frame-init
 loop-frame-init g c = record {
-  loans = c.in_ok-signal.ensures.loans;
-  leads = leads_on _ _ _ (leads_first (commands_of (line_tree c.args.line.value)) c.args.parts.now) c.in_ok-signal.ensures.does;
+  loans = c.in_ok-completion.ensures.loans;
+  leads = leads_on _ _ _ (leads_first (commands_of (line_tree c.args.line.value)) c.args.parts.now) c.in_ok-completion.ensures.does;
 }
 
 pub loop-frame-preserved : goal.loop-frame-preserved
 loop-frame-preserved g c =
     let leads = rw (c.in-Some.ensures.items, stack_push) at c.loop-frame.invariant.leads in
     record {
-      loans = keeps_on c.loop-frame.invariant.loans c.in_ok-signal-2.ensures.loans;
-      leads = leads_on _ _ _ leads c.in_ok-signal-2.ensures.does;
+      loans = keeps_on c.loop-frame.invariant.loans c.in_ok-completion-2.ensures.loans;
+      leads = leads_on _ _ _ leads c.in_ok-completion-2.ensures.does;
     }
 
-pub returns-in_err-signal-2-clause-does : goal.returns-in_err-signal-2-clause-does
-returns-in_err-signal-2-clause-does g c =
+pub returns-in_err-completion-2-clause-does : goal.returns-in_err-completion-2-clause-does
+returns-in_err-completion-2-clause-does g c =
     let leads = rw (c.in-Some.ensures.items, stack_push) at c.loop-frame.invariant.leads in
-    leads_stopped _ _ _ leads c.in_err-signal-2.ensures.does c.from_residual-in_err-signal-2.ensures
+    leads_stopped _ _ _ leads c.in_err-completion-2.ensures.does c.from_residual-in_err-completion-2.ensures
 
 none_is : {A : Type 0} (r : Option A) → ((x : A) → r ≡ Some x → ⊥) → r ≡ None
 none_is None h = refl
@@ -37,9 +37,9 @@ none_is (Some x) h = absurd (h x refl)
 
 pub returns-clause-does : goal.returns-clause-does
 returns-clause-does g c =
-    let v = c.loop-frame.machine.frames in
+    let v = c.loop-frame.scratch.frames in
     let r : c.pop.result ≡ None = none_is c.pop.result (λ x e. c.in_default.not-Some x e) in
     let n = rw r at c.pop.ensures.cases in
     let few : length v.items ≤ 0 = omega (arith, v.ok, n) in
     let leads = rw (none_left 0 v.items few) at c.loop-frame.invariant.leads in
-    leads_ends _ c.loop-frame.signal leads
+    leads_ends _ c.loop-frame.completion leads

@@ -4,14 +4,14 @@ use Rattle.mmeaning.specs.Levels.{commands_of}
 use Rattle.mmeaning.specs.LineMeaning.{run_within}
 use Rattle.mtree.specs.Tree.{line_tree}
 use Rattle.mcommand.specs.Does.{KeepsLoans}
-use Rattle.mexec.specs.Frames.{Leads, stack, signal_of}
+use Rattle.mexec.specs.Frames.{Leads, stack, completion_of}
 use Rattle.mexec.proofs.line.run_line.Given as goal
 
 abbrev pub invariant-loop-frame : goal.invariant-loop-frame
 invariant-loop-frame g l = record {
   loans : KeepsLoans l.fn.parts l.parts;
-  leads : Leads g.S.NodeStore (λ a n. run_within a n (commands_of (line_tree l.fn.line.value))) l.fn.parts (stack l.machine.frames.items) (signal_of l.signal) l.parts;
+  leads : Leads g.S.NodeStore (λ a n. run_within a n (commands_of (line_tree l.fn.line.value))) l.fn.parts (stack l.scratch.frames.items) (completion_of l.completion) l.parts;
 }
 
 abbrev pub decreases-loop-frame : goal.decreases-loop-frame
-decreases-loop-frame g l = 6 * l.parts.eval.steps + length l.machine.frames.items
+decreases-loop-frame g l = 6 * l.parts.eval.steps + length l.scratch.frames.items

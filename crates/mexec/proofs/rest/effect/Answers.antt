@@ -3,7 +3,7 @@ use Rattle.std.proofs.Common.{Some, map, ap, sym, ◌∙◌}
 use Rattle.mmeaning.specs.LineMeaning.{context}
 use Rattle.mtree.specs.Tree.{keyword_tree, arg_tree}
 use Rattle.mtree.specs.declared.tree.Arg.TheVariants as arg
-use Rattle.mexec.specs.Frames.{spot_of, rest_tree, loop_in}
+use Rattle.mexec.specs.Frames.{position_of, rest_tree, loop_in}
 use Rattle.mexec.proofs.Calls.{runs_wanting, runs_as}
 use Rattle.mexec.proofs.Effects.{first_none, first_some, other_effect}
 use Rattle.mexec.proofs.rest.effect.Goals as goal
@@ -27,7 +27,7 @@ pub returns-in_ok-copy-in-Loop-clause-does : goal.returns-in_ok-copy-in-Loop-cla
 returns-in_ok-copy-in-Loop-clause-does g c =
     let first = rw (c.in-Some.is, c.deref.ensures.value) at c.first.ensures.value in
     let some = first_some c.args.command.now.args.items (arg.Loop c.in-Loop.index c.in-Loop.parameters) (sym first ∙ ap Some c.in-Loop.is) in
-    let does = rw (c.deref-in-Loop.ensures.value, c.in_ok-copy-in-Loop.ensures.spot, c.in_ok-copy-in-Loop.ensures.line, c.in_ok-copy-in-Loop.ensures.at) at c.next_parameter.ensures.does in
+    let does = rw (c.deref-in-Loop.ensures.value, c.in_ok-copy-in-Loop.ensures.position, c.in_ok-copy-in-Loop.ensures.line, c.in_ok-copy-in-Loop.ensures.at) at c.next_parameter.ensures.does in
     rw some.1 does
 
 pub next_parameter-requires-clause-found : goal.next_parameter-requires-clause-found
@@ -46,5 +46,5 @@ returns-in_default g c =
       falls = c.arguments.ensures.falls;
       does =
           rw some.1
-          (runs_as (λ a n. other_effect (context a n (spot_of c.args.behind.now.spot.value)) (keyword_tree c.args.command.now.keyword) c.in-Some.first.now (map arg_tree some.0) (rest_tree c.args.behind.now) c.in_default.not-Loop) does);
+          (runs_as (λ a n. other_effect (context a n (position_of c.args.behind.now.position.value)) (keyword_tree c.args.command.now.keyword) c.in-Some.first.now (map arg_tree some.0) (rest_tree c.args.behind.now) c.in_default.not-Loop) does);
     }

@@ -2,8 +2,8 @@
 use Rattle.std.proofs.Common.{ap, sym, refl}
 use Rattle.mmeaning.specs.LineMeaning.{context, begin_turn}
 use Rattle.mcommand.specs.declared.turn.Course.TheVariants.{Forever}
-use Rattle.mexec.specs.declared.frames.Turns.{Turns}
-use Rattle.mexec.specs.Frames.{loop_in, spot_of}
+use Rattle.mexec.specs.declared.frames.ForLoop.{ForLoop}
+use Rattle.mexec.specs.Frames.{loop_in, position_of}
 use Rattle.mexec.proofs.Calls.{runs_wanting, runs_as}
 use Rattle.mexec.proofs.Loops.{turning_of_none}
 use Rattle.mexec.proofs.rest.forever.Goals as goal
@@ -16,6 +16,6 @@ returns-in_err-new-clause-does g c = runs_wanting _ _ c.from_residual-in_err-new
 
 pub returns-clause-does : goal.returns-clause-does
 returns-clause-does g c =
-    let does = rw (c.in_ok-new.ensures.ok, c.in_ok-copy.ensures.spot, c.in_ok-copy.ensures.line, c.in_ok-copy.ensures.at) at c.begin_turn.ensures.does in
-    let t : Turns = record { body = c.args.behind.now; parameter = 0; course = Forever; indexed = refl } in
-    runs_as (λ a n. ap (begin_turn (context a n (spot_of c.args.behind.now.spot.value))) (sym (turning_of_none t (ap loop_in c.requires)))) does
+    let does = rw (c.in_ok-new.ensures.ok, c.in_ok-copy.ensures.position, c.in_ok-copy.ensures.line, c.in_ok-copy.ensures.at) at c.begin_turn.ensures.does in
+    let t : ForLoop = record { body = c.args.behind.now; parameter = 0; course = Forever; indexed = refl } in
+    runs_as (λ a n. ap (begin_turn (context a n (position_of c.args.behind.now.position.value))) (sym (turning_of_none t (ap loop_in c.requires)))) does

@@ -17,4 +17,4 @@ returns-clause-frames c =
     let h = rw (c.len.ensures, c.deref.ensures) at c.if-rest-len.false in
     let less : c.args.rest.now.at < length v.items = omega (arith, h, v.ok) in
     let some = some_item c.args.rest.now.at v.items less in
-    rw (c.in_ok-push.ensures.items, stack_push, c.in_ok-rest.ensures.spot, c.in_ok-rest.ensures.line, c.in_ok-rest.ensures.at, some.1) refl
+    rw (c.in_ok-push.ensures.items, stack_push, c.in_ok-rest.ensures.position, c.in_ok-rest.ensures.line, c.in_ok-rest.ensures.at, some.1) refl

@@ -1,9 +1,9 @@
 -- SPDX-License-Identifier: Apache-2.0
 use Rattle.std.proofs.Common.{◌≤◌, ◌<◌, ◌+◌, length, sym, ◌∙◌, arith}
 use Rattle.mspec.proofs.ListPlaces.{next_item, none_left}
-use Rattle.mexec.specs.declared.signal.Signal.TheVariants as signal
-use Rattle.mexec.specs.Frames.{spot_of, commands_from}
-use Rattle.mexec.proofs.Calls.{runs_then, runs_stopped, runs_wanting, runs_signal, runs_done, runs_resting, some_item}
+use Rattle.mexec.specs.declared.completion.Completion.TheVariants as completion
+use Rattle.mexec.specs.Frames.{position_of, commands_from}
+use Rattle.mexec.proofs.Calls.{runs_then, runs_stopped, runs_wanting, runs_completion, runs_done, runs_resting, some_item}
 use Rattle.mexec.proofs.rest.next_command.Goals as goal
 
 pub returns-then-at-len-clause-does : goal.returns-then-at-len-clause-does
@@ -11,7 +11,7 @@ returns-then-at-len-clause-does g c =
     let v = c.args.rest.line.value.commands in
     let h = rw (c.len.ensures, c.deref.ensures) at c.if-at-len.true in
     let past : length v.items ≤ c.args.rest.at = omega (arith, h, v.ok) in
-    rw (none_left c.args.rest.at v.items past) (runs_signal signal.GoOn)
+    rw (none_left c.args.rest.at v.items past) (runs_completion completion.GoOn)
 
 pub direct_commands-requires : goal.direct_commands-requires
 direct_commands-requires g c =
@@ -47,4 +47,4 @@ returns-clause-does g c =
     let i = rw c.deref-3.ensures at c.index.ensures in
     let next = next_item v.items c.args.rest.at c.index.result.now less i in
     let does = rw c.in_ok-leave.ensures.frames at c.conditional.ensures.does in
-    rw next (runs_then _ c.in_ok-charge.ensures.does c.in_ok-charge.ensures.fewer (runs_resting (spot_of c.args.rest.spot.value) (commands_from c.args.rest.line.value (c.args.rest.at + 1)) does))
+    rw next (runs_then _ c.in_ok-charge.ensures.does c.in_ok-charge.ensures.fewer (runs_resting (position_of c.args.rest.position.value) (commands_from c.args.rest.line.value (c.args.rest.at + 1)) does))

@@ -20,4 +20,4 @@ returns-in-Err-clause-steady g c =
 
 pub returns-in-Ok-run_line-clause-does : goal.returns-in-Ok-run_line-clause-does
 returns-in-Ok-run_line-clause-does g c =
-    done (line_at c.args.text.now) (line_tree c.in-Ok.line.value) _ _ _ c.in-Ok-run_line.signal c.in-Ok.ensures.tree c.ending.ensures c.in-Ok-run_line.ensures.does c.in-Ok-run_line.ensures.fewer
+    done (line_at c.args.text.now) (line_tree c.in-Ok.line.value) _ _ _ c.in-Ok-run_line.completion c.in-Ok.ensures.tree c.ending.ensures c.in-Ok-run_line.ensures.does c.in-Ok-run_line.ensures.fewer

@@ -2,10 +2,10 @@
 use Rattle.std.proofs.Common.{◌+◌, ◌≤◌, length, refl, arith}
 use Rattle.mspec.proofs.ListPlaces.{none_left}
 use Rattle.mcommand.proofs.Calls.{keeps_itself, keeps_on}
-use Rattle.mexec.specs.declared.signal.Signal.TheVariants as signal
-use Rattle.mexec.specs.declared.frames.Turns.{Turns}
-use Rattle.mexec.specs.Frames.{commands_from, spot_of}
-use Rattle.mexec.proofs.Calls.{runs_signal, runs_wanting}
+use Rattle.mexec.specs.declared.completion.Completion.TheVariants as completion
+use Rattle.mexec.specs.declared.frames.ForLoop.{ForLoop}
+use Rattle.mexec.specs.Frames.{commands_from, position_of}
+use Rattle.mexec.proofs.Calls.{runs_completion, runs_wanting}
 use Rattle.mexec.proofs.Indexes.{any_course}
 use Rattle.mexec.proofs.Loops.{parameter_runs, parameter_stopped, begun_runs}
 use Rattle.mexec.proofs.turns.next_parameter.Goals as goal
@@ -14,7 +14,7 @@ pub loop-next-init : goal.loop-next-init
 loop-next-init g c = record {
   loans = keeps_itself c.args.parts.now;
   fewer = omega arith;
-  machine = refl;
+  scratch = refl;
   leads = λ r fs p k. k;
 }
 
@@ -25,10 +25,10 @@ loop-next-preserved g c =
     record {
       loans = keeps_on c.loop-next.invariant.loans c.in_ok-start.ensures.loans;
       fewer = omega arith;
-      machine = c.loop-next.invariant.machine;
+      scratch = c.loop-next.invariant.scratch;
       leads = λ r fs p k.
           c.loop-next.invariant.leads r fs p
-          (parameter_runs (spot_of t.body.spot.value) c.args.index.now (commands_from t.body.line.value t.body.at) c.args.parameters.now c.loop-next.next c.index-parameters-next.result c.loop-next-test.true c.index-parameters-next.is here c.in_ok-start.ensures.fewer k);
+          (parameter_runs (position_of t.body.position.value) c.args.index.now (commands_from t.body.line.value t.body.at) c.args.parameters.now c.loop-next.next c.index-parameters-next.result c.loop-next-test.true c.index-parameters-next.is here c.in_ok-start.ensures.fewer k);
     }
 
 pub returns-in_err-start-clause-loans : goal.returns-in_err-start-clause-loans
@@ -39,9 +39,9 @@ returns-in_err-start-clause-does g c =
     let t = c.args.turns in
     let failed = rw c.deref.ensures at c.in_err-start.ensures.does in
     let here =
-    parameter_stopped (spot_of t.body.spot.value) c.args.index.now (commands_from t.body.line.value t.body.at) c.args.parameters.now c.loop-next.next c.index-parameters-next.result c.loop-next-test.true c.index-parameters-next.is failed c.in_err-start.ensures.fewer c.from_residual.ensures
+    parameter_stopped (position_of t.body.position.value) c.args.index.now (commands_from t.body.line.value t.body.at) c.args.parameters.now c.loop-next.next c.index-parameters-next.result c.loop-next-test.true c.index-parameters-next.is failed c.in_err-start.ensures.fewer c.from_residual.ensures
     in
-    rw c.loop-next.invariant.machine (c.loop-next.invariant.leads _ _ _ here)
+    rw c.loop-next.invariant.scratch (c.loop-next.invariant.leads _ _ _ here)
 
 pub returns-in-Some-clause-loans : goal.returns-in-Some-clause-loans
 returns-in-Some-clause-loans g c = keeps_on c.loop-next.invariant.loans (keeps_on c.in_ok-start.ensures.loans c.begin_turn.ensures.loans)
@@ -51,7 +51,7 @@ returns-in_err-turns-in-Some-clause-does g c =
     let t = c.args.turns in
     let here = rw (c.in-Some.is, c.deref.ensures) at c.in_ok-start.ensures.does in
     c.loop-next.invariant.leads _ _ _
-    (parameter_runs (spot_of t.body.spot.value) c.args.index.now (commands_from t.body.line.value t.body.at) c.args.parameters.now c.loop-next.next c.index-parameters-next.result c.loop-next-test.true c.index-parameters-next.is here c.in_ok-start.ensures.fewer
+    (parameter_runs (position_of t.body.position.value) c.args.index.now (commands_from t.body.line.value t.body.at) c.args.parameters.now c.loop-next.next c.index-parameters-next.result c.loop-next-test.true c.index-parameters-next.is here c.in_ok-start.ensures.fewer
     (runs_wanting _ _ c.from_residual-in_err-turns-in-Some.ensures))
 
 pub returns-in-Some-clause-does : goal.returns-in-Some-clause-does
@@ -59,9 +59,9 @@ returns-in-Some-clause-does g c =
     let t = c.args.turns in
     let turn : Turns = record { body = t.body; parameter = c.loop-next.next + 1; course = c.in-Some.course; indexed = any_course t.body.line.value t.body.at c.in-Some.course c.requires.indexed } in
     let here = rw (c.in-Some.is, c.deref.ensures) at c.in_ok-start.ensures.does in
-    let begun = rw (c.in_ok-turns-in-Some.ensures.ok, c.loop-next.invariant.machine) at c.begin_turn.ensures.does in
+    let begun = rw (c.in_ok-turns-in-Some.ensures.ok, c.loop-next.invariant.scratch) at c.begin_turn.ensures.does in
     c.loop-next.invariant.leads _ _ _
-    (parameter_runs (spot_of t.body.spot.value) c.args.index.now (commands_from t.body.line.value t.body.at) c.args.parameters.now c.loop-next.next c.index-parameters-next.result c.loop-next-test.true c.index-parameters-next.is here c.in_ok-start.ensures.fewer
+    (parameter_runs (position_of t.body.position.value) c.args.index.now (commands_from t.body.line.value t.body.at) c.args.parameters.now c.loop-next.next c.index-parameters-next.result c.loop-next-test.true c.index-parameters-next.is here c.in_ok-start.ensures.fewer
     (begun_runs turn c.args.index.now c.args.parameters.now c.requires.found begun))
 
 pub returns-clause-loans : goal.returns-clause-loans
@@ -71,4 +71,4 @@ pub returns-clause-does : goal.returns-clause-does
 returns-clause-does g c =
     let past : length c.args.parameters.now ≤ c.loop-next.next = let h = c.loop-next-test.false in omega (arith, h) in
     let leads = rw (none_left c.loop-next.next c.args.parameters.now past) at c.loop-next.invariant.leads in
-    rw c.loop-next.invariant.machine (leads _ _ _ (runs_signal signal.Skips))
+    rw c.loop-next.invariant.scratch (leads _ _ _ (runs_completion completion.Skips))

@@ -7,17 +7,17 @@ use Rattle.moperator.specs.declared.code.Code.{Code}
 use Rattle.mcommand.specs.declared.parts.Parts.{Parts}
 use Rattle.mcommand.specs.Does.{KeepsLoans}
 use Rattle.mcommand.specs.Turns.{course_view}
-use Rattle.mexec.specs.declared.signal.Signal.{Signal}
-use Rattle.mexec.specs.Frames.{Runs, stack, spot_of, turning}
+use Rattle.mexec.specs.declared.completion.Completion.{Completion}
+use Rattle.mexec.specs.Frames.{Runs, stack, position_of, turning}
 use Rattle.mexec.proofs.turns.turns_at_once.Given as goal
 
 abbrev pub invariant-turns : goal.invariant-turns
 invariant-turns g l = record {
   loans : KeepsLoans l.fn.parts l.parts;
   fewer : l.parts.eval.steps ≤ l.fn.parts.eval.steps;
-  machine : l.machine ≡ l.fn.machine;
-  leads : (r : Result Signal Code) (fs : List View) (p : Parts _) → Runs g.S.NodeStore (λ a n. meaning.after_course (context a n (spot_of l.turns.value.body.spot.value)) (turning l.turns.value) (course_view l.turns.value.course)) (stack l.fn.machine.frames.items) l.parts r fs p
-      → Runs g.S.NodeStore (λ a n. meaning.after_course (context a n (spot_of l.turns.value.body.spot.value)) (turning l.turns.value) (course_view l.turns.value.course)) (stack l.fn.machine.frames.items) l.fn.parts r fs p;
+  scratch : l.scratch ≡ l.fn.scratch;
+  leads : (r : Result Completion Code) (fs : List View) (p : Parts _) → Runs g.S.NodeStore (λ a n. meaning.after_course (context a n (position_of l.turns.value.body.position.value)) (turning l.turns.value) (course_view l.turns.value.course)) (stack l.fn.scratch.frames.items) l.parts r fs p
+      → Runs g.S.NodeStore (λ a n. meaning.after_course (context a n (position_of l.turns.value.body.position.value)) (turning l.turns.value) (course_view l.turns.value.course)) (stack l.fn.scratch.frames.items) l.fn.parts r fs p;
 }
 
 abbrev pub decreases-turns : goal.decreases-turns

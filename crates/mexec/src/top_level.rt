@@ -2,9 +2,9 @@
 // Where lines from outside stand.
 ghost use Rattle.std.specs.Prelude.{◌≡◌, IfOk};
 ghost use Rattle.mmeaning.specs.LineMeaning as meaning;
-ghost use Rattle.mexec.specs.Frames.{spot_of};
+ghost use Rattle.mexec.specs.Frames.{position_of};
 
-use crate::frames::{Level, Spot};
+use crate::frames::{Level, Position};
 use meval::Depth;
 use std::alloc::{AllocError, Global};
 use std::marker::Model;
@@ -12,25 +12,25 @@ use std::rc::Rc;
 
 // Where each line from outside stands: at the only level that is open, which has no lines. It is made once, and lines share it.
 #[derive(Drop)]
-pub(crate) struct Outset {
-    spot: Rc<Spot>,
+pub(crate) struct TopLevel {
+    position: Rc<Position>,
 }
 
-impl Model for Outset {
+impl Model for TopLevel {
     ghost use Rattle.std.specs.Prelude.{◌≡◌};
     ghost use Rattle.mmeaning.specs.LineMeaning as meaning;
-    ghost use Rattle.mexec.specs.Frames.{spot_of};
+    ghost use Rattle.mexec.specs.Frames.{position_of};
 
-    ghost Value = { meaning.Spot };
+    ghost Value = { meaning.Position };
 
-    ghost view = { λ outset. spot_of outset.spot.value };
+    ghost view = { λ top_level. position_of top_level.position.value };
 
-    ghost invariant = { λ outset. spot_of outset.spot.value ≡ meaning.outset };
+    ghost invariant = { λ top_level. position_of top_level.position.value ≡ meaning.top_level };
 }
 
-impl Outset {
+impl TopLevel {
     // Takes memory for the lines that share it.
-    pub(crate) fn new(alloc: Global) -> Result<Outset, AllocError> {
+    pub(crate) fn new(alloc: Global) -> Result<TopLevel, AllocError> {
         let depth = Depth {
             levels: 0,
             indirections: 0,
@@ -40,14 +40,14 @@ impl Outset {
             next: None,
             dots: 0,
         };
-        let spot = Rc::new(alloc, Spot { depth, level })?;
-        Ok(Outset { spot })
+        let position = Rc::new(alloc, Position { depth, level })?;
+        Ok(TopLevel { position })
     }
 
     // The same for a line.
-    pub(crate) fn spot(&self) -> Result<Rc<Spot>, AllocError>
-        ensures { IfOk result (λ spot. spot_of spot.value ≡ meaning.outset) }
+    pub(crate) fn position(&self) -> Result<Rc<Position>, AllocError>
+        ensures { IfOk result (λ position. position_of position.value ≡ meaning.top_level) }
     {
-        Ok(self.spot.clone()?)
+        Ok(self.position.clone()?)
     }
 }

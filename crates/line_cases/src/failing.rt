@@ -2,7 +2,7 @@
 // Lines over the plain store, of which a call may fail, with texts of nodes and copies of routines in front of it.
 use crate::lines::{answer_of, line_bytes};
 use mcache::Cached;
-use mglobal::Kept;
+use mglobal::RoutineCache;
 use mgrant::Settings;
 use mstore::{Failing, NodeStore, Plain, StoreCall};
 use mtranscript::{play, print_result, print_results, words_of};
@@ -13,7 +13,7 @@ use std::alloc::Global;
 pub(crate) const ENTRIES: usize = 1024;
 
 // A world whose stores stand one in front of the other as the program's do, over the plain store.
-pub(crate) type FailingWorld = World<Kept<Cached<Failing<Plain>>>>;
+pub(crate) type FailingWorld = World<RoutineCache<Cached<Failing<Plain>>>>;
 
 // A new one of any store, with so many texts in front of it.
 pub(crate) fn world_over<S: NodeStore + Drop>(
@@ -21,7 +21,7 @@ pub(crate) fn world_over<S: NodeStore + Drop>(
     document: &[u8],
     entries: usize,
     store: S,
-) -> anyhow::Result<World<Kept<Cached<S>>>> {
+) -> anyhow::Result<World<RoutineCache<Cached<S>>>> {
     if entries == 0 {
         anyhow::bail!("entries are counted from 1");
     }
@@ -29,7 +29,7 @@ pub(crate) fn world_over<S: NodeStore + Drop>(
     let Ok(cached) = Cached::new(alloc, store, entries) else {
         anyhow::bail!("no memory for texts");
     };
-    match World::with_entries(alloc, settings, Kept::new(alloc, cached), 1) {
+    match World::with_entries(alloc, settings, RoutineCache::new(alloc, cached), 1) {
         Ok(world) => Ok(world),
         Err(_) => anyhow::bail!("no memory for a world"),
     }

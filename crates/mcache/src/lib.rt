@@ -2,10 +2,10 @@
 //! What is kept for the next time: trees of texts that were parsed, and texts of nodes that were read.
 #![tactic(auto)]
 
-mod arrivals;
+mod doorkeeper;
 mod cached;
 mod entries;
-mod shelf;
+mod tree_cache;
 mod trees;
 
 pub use cached::Cached;

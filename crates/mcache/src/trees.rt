@@ -6,8 +6,8 @@ ghost use Rattle.mgrammar.specs.RoutineLine.{routine_line_at};
 ghost use Rattle.mtree.specs.Tree.{line_tree, routine_line_tree};
 ghost use Rattle.mcache.specs.Kept.{IsWithin};
 
-use crate::arrivals::Arrivals;
-use crate::shelf::{Shelf, find, keep, let_go};
+use crate::doorkeeper::Doorkeeper;
+use crate::tree_cache::{TreeCache, find, keep, let_go};
 use lru::LruCache;
 use mparse::{ParseFault, parse_line, parse_routine_line};
 use mtree::{Line, RoutineLine};
@@ -25,9 +25,9 @@ use std::rc::Rc;
 #[derive(Drop)]
 pub struct Trees {
     entries: usize,
-    lines: Shelf<Line>,
-    routine_lines: Shelf<RoutineLine>,
-    arrivals: Arrivals,
+    lines: TreeCache<Line>,
+    routine_lines: TreeCache<RoutineLine>,
+    doorkeeper: Doorkeeper,
 }
 
 impl Model for Trees {
@@ -42,7 +42,7 @@ impl Model for Trees {
 }
 
 // Whether all entries are taken.
-fn is_full(lines: &Shelf<Line>, routine_lines: &Shelf<RoutineLine>, entries: usize) -> bool
+fn is_full(lines: &TreeCache<Line>, routine_lines: &TreeCache<RoutineLine>, entries: usize) -> bool
     requires { length lines.now.entries + length routine_lines.now.entries ≤ entries }
     ensures { IsTrue result ↔ entries ≤ length lines.now.entries + length routine_lines.now.entries }
 {
@@ -50,7 +50,7 @@ fn is_full(lines: &Shelf<Line>, routine_lines: &Shelf<RoutineLine>, entries: usi
 }
 
 // Makes room for one more tree: of the kind of which more are kept, that goes which was used the longest ago.
-fn make_room(lines: &mut Shelf<Line>, routine_lines: &mut Shelf<RoutineLine>, entries: usize)
+fn make_room(lines: &mut TreeCache<Line>, routine_lines: &mut TreeCache<RoutineLine>, entries: usize)
     requires some { 0 < entries }
     requires fit { length lines.old.entries + length routine_lines.old.entries ≤ entries }
     ensures lines { IsWithin lines.new.entries lines.old.entries }
@@ -68,8 +68,8 @@ fn make_room(lines: &mut Shelf<Line>, routine_lines: &mut Shelf<RoutineLine>, en
 }
 
 // Whether the tree of a text is to be kept: where an entry is free, and otherwise where the text came lately.
-fn is_wanted(arrivals: &mut Arrivals, is_full: bool, text: &[u8]) -> bool {
-    !is_full || arrivals.note(text)
+fn is_wanted(doorkeeper: &mut Doorkeeper, is_full: bool, text: &[u8]) -> bool {
+    !is_full || doorkeeper.note(text)
 }
 
 impl Trees {
@@ -86,7 +86,7 @@ impl Trees {
             entries,
             lines: LruCache::unbounded(alloc)?,
             routine_lines: LruCache::unbounded(alloc)?,
-            arrivals: Arrivals::new(alloc)?,
+            doorkeeper: Doorkeeper::new(alloc)?,
         })
     }
 
@@ -113,7 +113,7 @@ impl Trees {
         }
         let line = Rc::new(alloc, parse_line(alloc, text)?)?;
         let is_full = is_full(&self.lines, &self.routine_lines, self.entries);
-        if !is_wanted(&mut self.arrivals, is_full, text) {
+        if !is_wanted(&mut self.doorkeeper, is_full, text) {
             return Ok(line);
         }
         make_room(&mut self.lines, &mut self.routine_lines, self.entries);
@@ -140,7 +140,7 @@ impl Trees {
         }
         let line = Rc::new(alloc, parse_routine_line(alloc, text)?)?;
         let is_full = is_full(&self.lines, &self.routine_lines, self.entries);
-        if !is_wanted(&mut self.arrivals, is_full, text) {
+        if !is_wanted(&mut self.doorkeeper, is_full, text) {
             return Ok(line);
         }
         make_room(&mut self.lines, &mut self.routine_lines, self.entries);

@@ -7,9 +7,9 @@
 mod ask;
 mod bounds;
 mod copies;
-mod kept;
+mod routine_cache;
 mod lines;
 
 pub use ask::{neighbour, status};
-pub use kept::Kept;
+pub use routine_cache::RoutineCache;
 pub use lines::{routine, shared_routine};

@@ -8,7 +8,7 @@ use crate::document::{read_document, read_settings};
 use crate::fault::RunFault;
 use crate::worlds::{close_file, file_world, memory_world};
 use mcache::Cached;
-use mglobal::Kept;
+use mglobal::RoutineCache;
 use mgrant::AccountId;
 use mjob::jobs::Store;
 use mstore::{NodeStore, Table};
@@ -39,7 +39,7 @@ pub fn run_only_job<I: Read, O: Write>(
 ) -> Result<(), RunFault>
     requires input_works { failed_of input.old ≡ false }
     requires output_works { failed_of output.old ≡ false }
-    ensures { OnlyBy ⟦<Kept<Cached<Table<MemStore>>> as NodeStore>⟧ ⟦<Kept<Cached<Table<FileStore<File>>>> as NodeStore>⟧ I.remaining O.contents
+    ensures { OnlyBy ⟦<RoutineCache<Cached<Table<MemStore>>> as NodeStore>⟧ ⟦<RoutineCache<Cached<Table<FileStore<File>>>> as NodeStore>⟧ I.remaining O.contents
         store.now name.now input.old input.new output.old output.new result }
 {
     match read_document(rt, settings) {
@@ -66,7 +66,7 @@ fn run_only<I: Read, O: Write>(
 ) -> Result<(), RunFault>
     requires input_works { failed_of input.old ≡ false }
     requires output_works { failed_of output.old ≡ false }
-    ensures { OnlyOver ⟦<Kept<Cached<Table<MemStore>>> as NodeStore>⟧ ⟦<Kept<Cached<Table<FileStore<File>>>> as NodeStore>⟧ I.remaining O.contents
+    ensures { OnlyOver ⟦<RoutineCache<Cached<Table<MemStore>>> as NodeStore>⟧ ⟦<RoutineCache<Cached<Table<FileStore<File>>>> as NodeStore>⟧ I.remaining O.contents
         store.now name.now document.now input.old input.new output.old output.new result }
 {
     let settings = match read_settings(rt.alloc(), document) {

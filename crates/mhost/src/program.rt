@@ -10,7 +10,7 @@ use crate::fault::RunFault;
 use crate::jobs::{run_job, serve_job};
 use crate::only::run_only_job;
 use mcache::Cached;
-use mglobal::Kept;
+use mglobal::RoutineCache;
 use mjob::command_line::job;
 use mjob::jobs::{Job, JobFault};
 use mstore::{NodeStore, Table};
@@ -40,7 +40,7 @@ pub fn program<I: Read, O: Write, E: Write>(
 ) -> u8
     requires input_works { failed_of input.old ≡ false }
     requires output_works { failed_of output.old ≡ false }
-    ensures { Ends ⟦<Kept<Cached<Table<MemStore>>> as NodeStore>⟧ ⟦<Kept<Cached<Table<FileStore<File>>>> as NodeStore>⟧ I.remaining O.contents
+    ensures { Ends ⟦<RoutineCache<Cached<Table<MemStore>>> as NodeStore>⟧ ⟦<RoutineCache<Cached<Table<FileStore<File>>>> as NodeStore>⟧ I.remaining O.contents
         (map string_bytes words.now) input.old input.new output.old output.new result }
 {
     let job = match job(rt.alloc(), words) {
@@ -64,7 +64,7 @@ fn carry_out<I: Read, O: Write, E: Write>(
 ) -> Result<(), RunFault>
     requires input_works { failed_of input.old ≡ false }
     requires output_works { failed_of output.old ≡ false }
-    ensures { CarriesOut ⟦<Kept<Cached<Table<MemStore>>> as NodeStore>⟧ ⟦<Kept<Cached<Table<FileStore<File>>>> as NodeStore>⟧ I.remaining O.contents
+    ensures { CarriesOut ⟦<RoutineCache<Cached<Table<MemStore>>> as NodeStore>⟧ ⟦<RoutineCache<Cached<Table<FileStore<File>>>> as NodeStore>⟧ I.remaining O.contents
         job.now input.old input.new output.old output.new result }
 {
     match job {

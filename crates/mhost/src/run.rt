@@ -11,7 +11,7 @@ use crate::document::read_settings;
 use crate::fault::RunFault;
 use crate::worlds::{close_file, file_world, memory_world, table_of};
 use mcache::Cached;
-use mglobal::Kept;
+use mglobal::RoutineCache;
 use mstore::{NodeStore, Table};
 use mwire::{Watched, WireFault, serve};
 use mworld::World;
@@ -38,7 +38,7 @@ pub fn run<I: Read, O: Write>(
     requires output_works { failed_of output.old ≡ false }
     ensures answered { IfOk result (λ table. StreamAnswered document.now (I.remaining (inner_of input.old)) (I.remaining (inner_of input.new))
         (O.contents (inner_of output.old)) (O.contents (inner_of output.new)) (stored over_memory table)) }
-    ensures early { IfErr result (EndsEarly ⟦<Kept<Cached<Table<MemStore>>> as NodeStore>⟧ I.remaining O.contents document.now input.old input.new output.old output.new) }
+    ensures early { IfErr result (EndsEarly ⟦<RoutineCache<Cached<Table<MemStore>>> as NodeStore>⟧ I.remaining O.contents document.now input.old input.new output.old output.new) }
 {
     let settings = match read_settings(alloc, document) {
         Ok(settings) => settings,
@@ -71,7 +71,7 @@ pub fn run_file<I: Read, O: Write>(
     requires output_works { failed_of output.old ≡ false }
     ensures answered { OnOk result (Followed document.now (I.remaining (inner_of input.old)) (I.remaining (inner_of input.new))
         (O.contents (inner_of output.old)) (O.contents (inner_of output.new))) }
-    ensures early { IfErr result (EndsEarlyOverFile ⟦<Kept<Cached<Table<FileStore<File>>>> as NodeStore>⟧ I.remaining O.contents document.now input.old input.new output.old output.new) }
+    ensures early { IfErr result (EndsEarlyOverFile ⟦<RoutineCache<Cached<Table<FileStore<File>>>> as NodeStore>⟧ I.remaining O.contents document.now input.old input.new output.old output.new) }
 {
     let settings = match read_settings(rt.alloc(), document) {
         Ok(settings) => settings,

@@ -10,7 +10,7 @@ ghost use Rattle.mhost.specs.Runs.{IsMemoryFault, IsStoreFault};
 
 use crate::fault::RunFault;
 use mcache::Cached;
-use mglobal::Kept;
+use mglobal::RoutineCache;
 use mgrant::Settings;
 use mstore::{NodeStore, OpenFault, Table};
 use mworld::World;
@@ -23,22 +23,22 @@ use std::alloc::Global;
 const ENTRIES: usize = 1024;
 
 /// A world over a table in memory.
-pub type MemoryWorld = World<Kept<Cached<Table<MemStore>>>>;
+pub type MemoryWorld = World<RoutineCache<Cached<Table<MemStore>>>>;
 
 /// A world over a table in a file.
-pub type FileWorld = World<Kept<Cached<Table<FileStore<File>>>>>;
+pub type FileWorld = World<RoutineCache<Cached<Table<FileStore<File>>>>>;
 
 // A store with texts of so many nodes and copies of routines in front of it, if there is memory for them.
 fn kept_over<S: NodeStore + Drop>(
     alloc: Global,
     store: S,
     entries: usize,
-) -> Option<Kept<Cached<S>>>
+) -> Option<RoutineCache<Cached<S>>>
     requires { 0 < entries }
     ensures { IfSome result (λ kept. kept ≡ cached_store store entries) }
 {
     match Cached::new(alloc, store, entries) {
-        Ok(cached) => Some(Kept::new(alloc, cached)),
+        Ok(cached) => Some(RoutineCache::new(alloc, cached)),
         Err(_) => None,
     }
 }
@@ -50,8 +50,8 @@ fn kept_over<S: NodeStore + Drop>(
 /// `Store`, which is `Memory`, of the world and of what is kept in front of the table too, or `Store`.
 pub fn memory_world(alloc: Global, settings: Settings) -> Result<MemoryWorld, RunFault>
     ensures settings { IfOk result (λ world. settings_of world ≡ settings) }
-    ensures world { IfOk result (λ world. world_of ⟦<Kept<Cached<Table<MemStore>>> as NodeStore>⟧ world ≡ opening empty) }
-    ensures sound { IfOk result (λ _. ⟦<Kept<Cached<Table<MemStore>>> as NodeStore>⟧.sound) }
+    ensures world { IfOk result (λ world. world_of ⟦<RoutineCache<Cached<Table<MemStore>>> as NodeStore>⟧ world ≡ opening empty) }
+    ensures sound { IfOk result (λ _. ⟦<RoutineCache<Cached<Table<MemStore>>> as NodeStore>⟧.sound) }
     ensures early { IfErr result IsMemoryFault }
 {
     let table = match Table::open_memory(alloc) {
@@ -74,7 +74,7 @@ pub fn memory_world(alloc: Global, settings: Settings) -> Result<MemoryWorld, Ru
 /// `Store`, with the faults of `Table::open_file`; `Memory` of the world and of what is kept in front of the table too.
 pub fn file_world(rt: &HostRuntime, path: &str, settings: Settings) -> Result<FileWorld, RunFault>
     ensures settings { IfOk result (λ world. settings_of world ≡ settings) }
-    ensures world { IfOk result (λ world. (globals : Globals) × (world_of ⟦<Kept<Cached<Table<FileStore<File>>>> as NodeStore>⟧ world ≡ opening globals)) }
+    ensures world { IfOk result (λ world. (globals : Globals) × (world_of ⟦<RoutineCache<Cached<Table<FileStore<File>>>> as NodeStore>⟧ world ≡ opening globals)) }
     ensures early { IfErr result IsStoreFault }
 {
     let table = match Table::open_file(rt, path) {
@@ -91,7 +91,7 @@ pub fn file_world(rt: &HostRuntime, path: &str, settings: Settings) -> Result<Fi
 }
 
 /// The table, without the texts and the copies of routines in front of it. Takes no memory.
-pub fn table_of<S: Alter>(kept: Kept<Cached<Table<S>>>) -> Table<S>
+pub fn table_of<S: Alter>(kept: RoutineCache<Cached<Table<S>>>) -> Table<S>
     ensures { result ≡ kept.store }
 {
     kept.into_store().into_store()
@@ -99,6 +99,6 @@ pub fn table_of<S: Alter>(kept: Kept<Cached<Table<S>>>) -> Table<S>
 
 /// Ends a table over a file: the log of its database is copied into the file. Where that fails, the log beside the file has what the
 /// file lacks, and the next opening finds it.
-pub fn close_file(kept: Kept<Cached<Table<FileStore<File>>>>) {
+pub fn close_file(kept: RoutineCache<Cached<Table<FileStore<File>>>>) {
     let _ = table_of(kept).into_connection().close();
 }

@@ -2,7 +2,7 @@
 // Copies of routines that a store keeps.
 use crate::stores::{ACCOUNT, call};
 use anyhow::Context;
-use mglobal::{Kept, shared_routine};
+use mglobal::{RoutineCache, shared_routine};
 use mkey::{is_account_name, is_name};
 use mnum::Bytes7;
 use mstore::Plain;
@@ -20,7 +20,7 @@ type Copy = Rc<Vec<Bytes7>>;
 ///
 /// If a case is no such call or a store fails, and out of memory.
 pub fn play_copies(alloc: Global, cases: &[&str], out: &mut Vec<u8>) -> anyhow::Result<()> {
-    let mut store = Kept::new(alloc, Plain::new(alloc));
+    let mut store = RoutineCache::new(alloc, Plain::new(alloc));
     let mut answered = Vec::new(alloc);
     play(cases, out, |case, out| {
         match case.strip_prefix("copy ") {
@@ -35,7 +35,7 @@ pub fn play_copies(alloc: Global, cases: &[&str], out: &mut Vec<u8>) -> anyhow::
 
 fn tell(
     alloc: Global,
-    store: &mut Kept<Plain>,
+    store: &mut RoutineCache<Plain>,
     name: &str,
     answered: &mut Vec<Copy>,
     out: &mut Vec<u8>,

@@ -17,7 +17,7 @@ tree_is : (c : goal.After-keep) → line_at c.args.text.now ≡ Some (line_tree 
 tree_is c = rw c.in_ok-line.ensures.ok (line_is c.args.text.now (line_tree c.in_ok-parse_line.field-0) c.in_ok-parse_line.ensures.tree)
 
 pub invariant_of-self-2 : goal.invariant_of-self-2
-invariant_of-self-2 c = with_line c.self.invariant c.args.text.now c.in_ok-line.line.value c.find.new.shelf.entries c.make_room.new.lines.entries c.keep.new.shelf.entries c.make_room.new.routine_lines.entries c.find.ensures.within c.make_room.ensures.lines c.make_room.ensures.routine_lines c.make_room.ensures.room c.keep.ensures.within c.keep.ensures.count (tree_is c)
+invariant_of-self-2 c = with_line c.self.invariant c.args.text.now c.in_ok-line.line.value c.find.new.tree_cache.entries c.make_room.new.lines.entries c.keep.new.tree_cache.entries c.make_room.new.routine_lines.entries c.find.ensures.within c.make_room.ensures.lines c.make_room.ensures.routine_lines c.make_room.ensures.room c.keep.ensures.within c.keep.ensures.count (tree_is c)
 
 pub returns-clause-tree : goal.returns-clause-tree
 returns-clause-tree c = tree_is c

@@ -17,7 +17,7 @@ tree_is : (c : goal.After-keep) → routine_line_at c.args.text.now ≡ Some (ro
 tree_is c = rw c.in_ok-line.ensures.ok (routine_line_is c.args.text.now (routine_line_tree c.in_ok-parse_routine_line.field-0) c.in_ok-parse_routine_line.ensures.tree)
 
 pub invariant_of-self-2 : goal.invariant_of-self-2
-invariant_of-self-2 c = with_routine_line c.self.invariant c.args.text.now c.in_ok-line.line.value c.find.new.shelf.entries c.make_room.new.routine_lines.entries c.keep.new.shelf.entries c.make_room.new.lines.entries c.find.ensures.within c.make_room.ensures.routine_lines c.make_room.ensures.lines c.make_room.ensures.room c.keep.ensures.within c.keep.ensures.count (tree_is c)
+invariant_of-self-2 c = with_routine_line c.self.invariant c.args.text.now c.in_ok-line.line.value c.find.new.tree_cache.entries c.make_room.new.routine_lines.entries c.keep.new.tree_cache.entries c.make_room.new.lines.entries c.find.ensures.within c.make_room.ensures.routine_lines c.make_room.ensures.lines c.make_room.ensures.room c.keep.ensures.within c.keep.ensures.count (tree_is c)
 
 pub returns-clause-tree : goal.returns-clause-tree
 returns-clause-tree c = tree_is c

@@ -1,7 +1,7 @@
 -- SPDX-License-Identifier: Apache-2.0
 use Rattle.mspec.specs.Globals.{without_subtree}
 use Rattle.mglobal.proofs.CopyLaws.{copies_killed, copies_after}
-use Rattle.mglobal.proofs.kept.KeptNodeStore.kill.Goals as goal
+use Rattle.mglobal.proofs.routine_cache.RoutineCacheNodeStore.kill.Goals as goal
 
 pub invariant_of-self : goal.invariant_of-self
 invariant_of-self g c sound =

@@ -10,18 +10,18 @@ const PLACES: usize = 1024;
 // Marks of texts that came lately and were not kept, each at the place that its hash gives: so a text that comes again is told from one
 // that comes once. A later text may take its place, and two texts may have one mark; that costs time, and shows in no answer.
 #[derive(Drop)]
-pub(crate) struct Arrivals {
+pub(crate) struct Doorkeeper {
     marks: Vec<u32>,
 }
 
-impl Arrivals {
+impl Doorkeeper {
     // With no text yet.
-    pub(crate) fn new(alloc: Global) -> Result<Arrivals, AllocError> {
+    pub(crate) fn new(alloc: Global) -> Result<Doorkeeper, AllocError> {
         let mut marks = Vec::with_capacity(alloc, PLACES)?;
         for _ in 0..PLACES {
             marks.push(0)?;
         }
-        Ok(Arrivals { marks })
+        Ok(Doorkeeper { marks })
     }
 
     // Whether the text came lately. From now on it did. Takes no memory.

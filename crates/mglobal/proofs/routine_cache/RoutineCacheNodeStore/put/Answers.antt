@@ -1,7 +1,7 @@
 -- SPDX-License-Identifier: Apache-2.0
 use Rattle.std.specs.FinMap.{insert}
 use Rattle.mglobal.proofs.CopyLaws.{copies_put, copies_after}
-use Rattle.mglobal.proofs.kept.KeptNodeStore.put.Goals as goal
+use Rattle.mglobal.proofs.routine_cache.RoutineCacheNodeStore.put.Goals as goal
 
 pub invariant_of-self : goal.invariant_of-self
 invariant_of-self g c sound =

@@ -13,13 +13,13 @@ use std::rc::Rc;
 /// A store with copies of routines that were read of it, so that a routine is read once and not at each DO. A call that may change a
 /// routine lets go of its copy first. It has what the store has, and is as sound and as steady.
 #[derive(Drop)]
-pub struct Kept<S: NodeStore> {
+pub struct RoutineCache<S: NodeStore> {
     store: S,
     copies: Vec<RoutineCopy>,
     alloc: Global,
 }
 
-impl<S: NodeStore> Model for Kept<S> {
+impl<S: NodeStore> Model for RoutineCache<S> {
     ghost use Rattle.mglobal.specs.Copies.{AreCopiesIn};
 
     ghost Value = { S };
@@ -31,12 +31,12 @@ impl<S: NodeStore> Model for Kept<S> {
     ghost invariant = { λ kept. S.sound → AreCopiesIn (S.content kept.store) kept.copies.items };
 }
 
-impl<S: NodeStore> Kept<S> {
+impl<S: NodeStore> RoutineCache<S> {
     /// A store with no copies yet. Takes no memory.
-    pub fn new(alloc: Global, store: S) -> Kept<S>
+    pub fn new(alloc: Global, store: S) -> RoutineCache<S>
         ensures { result ≡ store }
     {
-        Kept {
+        RoutineCache {
             store,
             copies: Vec::new(alloc),
             alloc,
@@ -54,12 +54,12 @@ impl<S: NodeStore> Kept<S> {
     pub fn into_store(self) -> S
         ensures { result ≡ self }
     {
-        let Kept { store, .. } = self;
+        let RoutineCache { store, .. } = self;
         store
     }
 }
 
-impl<S: NodeStore> NodeStore for Kept<S> {
+impl<S: NodeStore> NodeStore for RoutineCache<S> {
     ghost content = { λ kept. S.content kept };
 
     ghost sound = { S.sound };

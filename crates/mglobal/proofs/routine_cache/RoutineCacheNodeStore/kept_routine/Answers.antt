@@ -1,7 +1,7 @@
 -- SPDX-License-Identifier: Apache-2.0
 use Rattle.std.proofs.Common.{subst, sym}
 use Rattle.mglobal.specs.Copies.{AreCopiesIn}
-use Rattle.mglobal.proofs.kept.KeptNodeStore.kept_routine.Goals as goal
+use Rattle.mglobal.proofs.routine_cache.RoutineCacheNodeStore.kept_routine.Goals as goal
 
 pub returns-clause-lines : goal.returns-clause-lines
 returns-clause-lines g c sound =

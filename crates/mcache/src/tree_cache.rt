@@ -1,0 +1,44 @@
+// SPDX-License-Identifier: Apache-2.0
+// Trees of one kind by their texts, the most recently used first.
+ghost use Rattle.std.specs.Prelude.{◌≡◌, ◌+◌, ◌-◌, ◌≤◌, length, IfSome};
+ghost use Rattle.mcache.specs.Kept.{IsKept, IsWithin, IsWithinOr};
+
+use lru::LruCache;
+use std::alloc::Global;
+use std::rc::Rc;
+
+pub(crate) type TreeCache<T> = LruCache<Vec<u8>, Rc<T>>;
+
+// The tree of a text that is kept, held once more.
+pub(crate) fn find<T: Drop>(tree_cache: &mut TreeCache<T>, text: &[u8]) -> Option<Rc<T>>
+    ensures found { IfSome result (λ tree. IsKept tree_cache.old.entries text.now tree.value) }
+    ensures within { IsWithin tree_cache.new.entries tree_cache.old.entries }
+    ensures count { length tree_cache.new.entries ≤ length tree_cache.old.entries }
+{
+    match tree_cache.get(text) {
+        Some(tree) => tree.clone().ok(),
+        None => None,
+    }
+}
+
+// Lets go of the tree that was used the longest ago.
+pub(crate) fn let_go<T: Drop>(tree_cache: &mut TreeCache<T>)
+    ensures within { IsWithin tree_cache.new.entries tree_cache.old.entries }
+    ensures count { length tree_cache.new.entries ≡ length tree_cache.old.entries - 1 }
+{
+    drop(tree_cache.pop_lru());
+}
+
+// Keeps the tree of a text, where there is memory for it.
+pub(crate) fn keep<T: Drop>(alloc: Global, tree_cache: &mut TreeCache<T>, text: &[u8], tree: &Rc<T>)
+    ensures within { IsWithinOr tree_cache.new.entries tree_cache.old.entries text.now tree.now.value }
+    ensures count { length tree_cache.new.entries ≤ length tree_cache.old.entries + 1 }
+{
+    let Ok(text) = text.to_vec(alloc) else {
+        return;
+    };
+    let Ok(tree) = tree.clone() else {
+        return;
+    };
+    drop(tree_cache.put(text, tree));
+}

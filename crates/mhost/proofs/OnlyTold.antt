@@ -24,12 +24,12 @@ use Rattle.mworld.specs.View.{settings_of, world_of}
 use Rattle.mworld.specs.Isolated.{IsToldEach}
 use Rattle.mwire.specs.Wire.{events_of}
 use Rattle.mwire.specs.Only.{told_text, RanOnly, ServesOnly}
-use Rattle.mwire.specs.Watched.{inner_of, ReadBroke, WriteBroke}
+use Rattle.mwire.specs.Watched.{inner_of, ReadFailed, WriteFailed}
 use Rattle.mwire.specs.declared.watched.Watched.{Watched}
 use Rattle.mwire.specs.declared.fault.WireFault.{WireFault}
 use Rattle.mwire.specs.declared.fault.WireFault.TheVariants.{Read, Write, Memory}
 use Rattle.mgrant.specs.Reading.{IsRead}
-use Rattle.mhost.specs.Runs.{AreUntouched, DeviceBroke, IsMemoryFault, IsStoreFault, NoSettings}
+use Rattle.mhost.specs.Runs.{AreUntouched, DeviceFailed, IsMemoryFault, IsStoreFault, NoSettings}
 use Rattle.mhost.specs.Only.{HasAccount, ToldAlone, ToldInForm, BeginsEmpty, BeginsSomehow, OnlyEndsEarly, FitsMemory, ServesAs, OnlyOver}
 use Rattle.mhost.specs.declared.fault.RunFault.{RunFault}
 use Rattle.mhost.specs.declared.fault.RunFault.TheVariants as early
@@ -61,11 +61,11 @@ module _ (settings : Settings) (name : Text) (place : ℕ) (same : account_at se
 -- ---- how a run in a world ends
 
 -- the device of a fault broke
-pub device_broke : {I O : Type 0} (input input' : Watched I) (output output' : Watched O) (fault : WireFault)
-    → (fault ≡ Read → ReadBroke input input') → (fault ≡ Write → WriteBroke output output') → DeviceBroke input input' output output' fault
-device_broke input input' output output' Read r w = r refl
-device_broke input input' output output' Write r w = w refl
-device_broke input input' output output' Memory r w = tt
+pub device_failed : {I O : Type 0} (input input' : Watched I) (output output' : Watched O) (fault : WireFault)
+    → (fault ≡ Read → ReadFailed input input') → (fault ≡ Write → WriteFailed output output') → DeviceFailed input input' output output' fault
+device_failed input input' output output' Read r w = r refl
+device_failed input input' output output' Write r w = w refl
+device_failed input input' output output' Memory r w = tt
 
 -- a run that ends early does so whatever its store
 pub ends_early : {M F I O : Type 0} (memory : Ghosts M) (file : Ghosts F) (left : I → Option Text) (held : O → Option Text) (store : Store) (name document : Text)

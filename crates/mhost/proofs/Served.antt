@@ -10,7 +10,7 @@ use Rattle.mgrant.specs.Reading.{IsRead}
 use Rattle.mstore.specs.declared.store.NodeStore.{Ghosts}
 use Rattle.mwire.specs.Serves.{Serves}
 use Rattle.mwire.specs.declared.fault.WireFault.{WireFault}
-use Rattle.mhost.specs.Runs.{StreamAnswered, Broken, Followed, ServedOver}
+use Rattle.mhost.specs.Runs.{StreamAnswered, RunCutShort, Followed, ServedOver}
 
 module _ {S V : Type 0} (g : Ghosts S) {settings settings' : Settings} {world : World} {globals : Globals} {content : V → Globals} {document : Text} {left left' held held' : Option Text}
     (reads : IsRead document settings) (same : settings' ≡ settings) (begins : world ≡ opening globals) where
@@ -44,5 +44,5 @@ module _ {S V : Type 0} (g : Ghosts S) {settings settings' : Settings} {world : 
   }
 
   -- one that a fault broke off
-  pub broken : {fault : WireFault} → ServedOver g settings' world content left left' held held' (Err fault) → Broken g document globals left left' held held' fault
+  pub broken : {fault : WireFault} → ServedOver g settings' world content left left' held held' (Err fault) → RunCutShort g document globals left left' held held' fault
   broken s = record { settings = settings; of_document = reads; after = s.after; serves = let t = s.serves in let u = rw same at t in rw begins at u }

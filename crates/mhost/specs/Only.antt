@@ -25,7 +25,7 @@ use Rattle.mwire.specs.Only.{told_text, ServesOnly}
 use Rattle.mwire.specs.Watched.{inner_of}
 use Rattle.mwire.specs.declared.watched.Watched.{Watched}
 use Rattle.mwire.specs.declared.fault.WireFault.{WireFault}
-use Rattle.mhost.specs.Runs.{AreUntouched, DeviceBroke, IsMemoryFault, NoDocument}
+use Rattle.mhost.specs.Runs.{AreUntouched, DeviceFailed, IsMemoryFault, NoDocument}
 use Rattle.mhost.specs.declared.fault.RunFault.{RunFault}
 use Rattle.mhost.specs.declared.fault.RunFault.TheVariants as early
 
@@ -69,7 +69,7 @@ pub record ToldInForm (document name : Text) (left left' held held' : Option Tex
 -- ---- and one that ended early
 
 -- A stream was served to the account of this name alone, by the document's settings and from these globals, up to a fault.
-pub record BrokeOff {S : Type 0} (g : Ghosts S) (document name : Text) (globals : Globals) (left left' held held' : Option Text) (fault : WireFault) : Type 0 where
+pub record RunOnlyCutShort {S : Type 0} (g : Ghosts S) (document name : Text) (globals : Globals) (left left' held held' : Option Text) (fault : WireFault) : Type 0 where
   pub known : HasAccount document name
   pub old : World S g
   pub new : World S g
@@ -102,8 +102,8 @@ OnlyEndsEarly g begins left held document name input input' output output' early
 OnlyEndsEarly g begins left held document name input input' output output' early.Accept = ⊥
 OnlyEndsEarly g begins left held document name input input' output output' (early.Wire fault) =
     ((globals : Globals) × begins globals
-    × BrokeOff g document name globals (left (inner_of input)) (left (inner_of input')) (held (inner_of output)) (held (inner_of output')) fault)
-    × DeviceBroke input input' output output' fault
+    × RunOnlyCutShort g document name globals (left (inner_of input)) (left (inner_of input')) (held (inner_of output)) (held (inner_of output')) fault)
+    × DeviceFailed input input' output output' fault
 
 -- a fault of a store in memory is none of rows that another program wrote
 abbrev pub FitsMemory : RunFault → Type 0
@@ -128,7 +128,7 @@ ServesAs g left held old place input input' output output' (Err early.Listen) ne
 ServesAs g left held old place input input' output output' (Err early.Accept) new = ⊥
 ServesAs g left held old place input input' output output' (Err (early.Wire fault)) new =
     ServesOnly g old place (left (inner_of input)) (left (inner_of input')) (held (inner_of output)) (held (inner_of output')) (Err fault) new
-    × DeviceBroke input input' output output' fault
+    × DeviceFailed input input' output output' fault
 
 abbrev pub OnlyOver : {M F I O : Type 0} → Ghosts M → Ghosts F → (I → Option Text) → (O → Option Text)
     → Store → Text → Text → Watched I → Watched I → Watched O → Watched O → Result (Unit {0}) RunFault → Type 0

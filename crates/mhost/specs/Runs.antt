@@ -15,7 +15,7 @@ use Rattle.mstore.specs.declared.open_fault.OpenFault.TheVariants as opening_fau
 use Rattle.mwire.specs.Wire.{events_of}
 use Rattle.mwire.specs.Answers.{answer_text}
 use Rattle.mwire.specs.Serves.{Serves}
-use Rattle.mwire.specs.Watched.{inner_of, ReadBroke, WriteBroke}
+use Rattle.mwire.specs.Watched.{inner_of, ReadFailed, WriteFailed}
 use Rattle.mwire.specs.declared.watched.Watched.{Watched}
 use Rattle.mwire.specs.declared.fault.WireFault.{WireFault}
 use Rattle.mwire.specs.declared.fault.WireFault.TheVariants.{Read, Write, Memory}
@@ -50,17 +50,17 @@ pub record Followed (document : Text) (left left' held held' : Option Text) : Ty
   pub appended : Appends held held' (answer_text (lines read) (map (λ e. e.1) trace))
 
 -- A stream was answered up to a fault, by the document's settings and from these globals.
-pub record Broken {S : Type 0} (g : Ghosts S) (document : Text) (globals : Globals) (left left' held held' : Option Text) (fault : WireFault) : Type 0 where
+pub record RunCutShort {S : Type 0} (g : Ghosts S) (document : Text) (globals : Globals) (left left' held held' : Option Text) (fault : WireFault) : Type 0 where
   pub settings : Settings
   pub of_document : IsRead document settings
   pub after : World
   pub serves : Serves g settings (opening globals) after left left' held held' (Err fault)
 
 -- the device that a fault tells of broke between these two moments
-abbrev pub DeviceBroke : {I O : Type 0} → Watched I → Watched I → Watched O → Watched O → WireFault → Type 0
-DeviceBroke input input' output output' Read = ReadBroke input input'
-DeviceBroke input input' output output' Write = WriteBroke output output'
-DeviceBroke input input' output output' Memory = Unit {0}
+abbrev pub DeviceFailed : {I O : Type 0} → Watched I → Watched I → Watched O → Watched O → WireFault → Type 0
+DeviceFailed input input' output output' Read = ReadFailed input input'
+DeviceFailed input input' output output' Write = WriteFailed output output'
+DeviceFailed input input' output output' Memory = Unit {0}
 
 -- nothing was asked of the devices
 abbrev pub AreUntouched : {I O : Type 0} → Watched I → Watched I → Watched O → Watched O → Type 0
@@ -120,8 +120,8 @@ EndsEarly g left held document input input' output output' early.Listen = ⊥
 EndsEarly g left held document input input' output output' early.Accept = ⊥
 EndsEarly g left held document input input' output output' (early.Wire fault) =
     g.sound
-    × Broken g document empty (left (inner_of input)) (left (inner_of input')) (held (inner_of output)) (held (inner_of output')) fault
-    × DeviceBroke input input' output output' fault
+    × RunCutShort g document empty (left (inner_of input)) (left (inner_of input')) (held (inner_of output)) (held (inner_of output')) fault
+    × DeviceFailed input input' output output' fault
 
 -- the same over a store in a file, which begins with some globals
 abbrev pub EndsEarlyOverFile : {S I O : Type 0} → Ghosts S → (I → Option Text) → (O → Option Text) → Text → Watched I → Watched I → Watched O → Watched O → RunFault → Type 0
@@ -134,8 +134,8 @@ EndsEarlyOverFile g left held document input input' output output' (early.Store 
 EndsEarlyOverFile g left held document input input' output output' early.Listen = ⊥
 EndsEarlyOverFile g left held document input input' output output' early.Accept = ⊥
 EndsEarlyOverFile g left held document input input' output output' (early.Wire fault) =
-    ((globals : Globals) × Broken g document globals (left (inner_of input)) (left (inner_of input')) (held (inner_of output)) (held (inner_of output')) fault)
-    × DeviceBroke input input' output output' fault
+    ((globals : Globals) × RunCutShort g document globals (left (inner_of input)) (left (inner_of input')) (held (inner_of output)) (held (inner_of output')) fault)
+    × DeviceFailed input input' output output' fault
 
 abbrev pub without_value : {V : Type 0} → Result V WireFault → Result (Unit {0}) WireFault
 without_value (Ok v) = Ok tt

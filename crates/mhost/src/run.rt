@@ -5,7 +5,7 @@ ghost use Rattle.sqlite.specs.Steps.{over_memory};
 ghost use Rattle.mstore.specs.Database.{stored};
 ghost use Rattle.mworld.specs.View.{settings_of, world_of};
 ghost use Rattle.mwire.specs.Watched.{inner_of, failed_of};
-ghost use Rattle.mhost.specs.Runs.{StreamAnswered, EndsEarly, EndsEarlyOverFile, Followed, ServedOver, DeviceBroke};
+ghost use Rattle.mhost.specs.Runs.{StreamAnswered, EndsEarly, EndsEarlyOverFile, Followed, ServedOver, DeviceFailed};
 
 use crate::document::read_settings;
 use crate::fault::RunFault;
@@ -101,7 +101,7 @@ fn serve_over<S: NodeStore + Drop, I: Read, O: Write>(
     requires output_works { failed_of output.old ≡ false }
     ensures served { ServedOver S.NodeStore (settings_of world) (world_of S.NodeStore world) S.content (I.remaining (inner_of input.old)) (I.remaining (inner_of input.new))
         (O.contents (inner_of output.old)) (O.contents (inner_of output.new)) result }
-    ensures broke { IfErr result (DeviceBroke input.old input.new output.old output.new) }
+    ensures broke { IfErr result (DeviceFailed input.old input.new output.old output.new) }
 {
     match serve(alloc, &mut world, input, output) {
         Ok(()) => Ok(world.into_store()),

@@ -8,7 +8,7 @@ use Rattle.std.proofs.lemmas.List.Concat.{flat_map-append}
 use Rattle.std.proofs.lemmas.List.Elements.{All-push, All-nil}
 use Rattle.std.proofs.lemmas.List.Splits.{slice_split_at, slice_split_none, length-slice_split}
 use Rattle.std.proofs.lemmas.Bool.{lt-ltb, cases_lt}
-use Rattle.mwire.specs.Wire.{TooLong, fate_of, parts_of, but_last, finished_lines}
+use Rattle.mwire.specs.Wire.{TooLong, classify, parts_of, but_last, finished_lines}
 use Rattle.mwire.specs.Progress.{IsOpen, AreOpen, IsCut}
 use Rattle.mwire.proofs.Fronts.{take-take_push}
 
@@ -22,32 +22,32 @@ length-strip l =
       | false ↦ omega arith
     ]
 
-fate_of-long : (l : List ℕ) → 260 < length l → fate_of l ≡ TooLong
-fate_of-long l h =
+classify-long : (l : List ℕ) → 260 < length l → classify l ≡ TooLong
+classify-long l h =
     let some : (length l == 0) ≡ false = grind arith in
     let long = lt-ltb 260 (length l) h in
     rw (some, long) refl
 
-pub fate_of-kept : (n : ℕ) (rest : List ℕ) → 261 < n → fate_of (strip_carriage_return (take n rest)) ≡ fate_of (strip_carriage_return rest)
-fate_of-kept n rest h =
+pub classify-kept : (n : ℕ) (rest : List ℕ) → 261 < n → classify (strip_carriage_return (take n rest)) ≡ classify (strip_carriage_return rest)
+classify-kept n rest h =
     elim (cases_lt n (length rest)) [
       | inl long ↦
           let front_long : length (take n rest) ≡ n = length-take-le n rest (omega arith) in
           let a : 260 < length (strip_carriage_return (take n rest)) = omega (arith, length-strip (take n rest)) in
           let b : 260 < length (strip_carriage_return rest) = omega (arith, length-strip rest) in
-          fate_of-long (strip_carriage_return (take n rest)) a ∙ sym (fate_of-long (strip_carriage_return rest) b)
-      | inr short ↦ ap (λ l. fate_of (strip_carriage_return l)) (take_all n rest short)
+          classify-long (strip_carriage_return (take n rest)) a ∙ sym (classify-long (strip_carriage_return rest) b)
+      | inr short ↦ ap (λ l. classify (strip_carriage_return l)) (take_all n rest short)
     ]
 
-pub fate_of-kept_end : (n : ℕ) (rest : List ℕ) → 261 < n → fate_of (take n rest) ≡ fate_of rest
-fate_of-kept_end n rest h =
+pub classify-kept_end : (n : ℕ) (rest : List ℕ) → 261 < n → classify (take n rest) ≡ classify rest
+classify-kept_end n rest h =
     elim (cases_lt n (length rest)) [
       | inl long ↦
           let front_long : length (take n rest) ≡ n = length-take-le n rest (omega arith) in
           let a : 260 < length (take n rest) = omega arith in
           let b : 260 < length rest = omega arith in
-          fate_of-long (take n rest) a ∙ sym (fate_of-long rest b)
-      | inr short ↦ ap fate_of (take_all n rest short)
+          classify-long (take n rest) a ∙ sym (classify-long rest b)
+      | inr short ↦ ap classify (take_all n rest short)
     ]
 
 -- a further byte

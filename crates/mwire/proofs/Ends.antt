@@ -8,20 +8,20 @@ use Rattle.std.specs.Io.KnownBytes.{Keeps, Consumes, IsAtEnd}
 use Rattle.mspec.specs.Act.{Text}
 use Rattle.mmeaning.specs.Transition.{Settings, World}
 use Rattle.mstore.specs.declared.store.NodeStore.{Ghosts}
-use Rattle.mwire.specs.Wire.{fate_of}
-use Rattle.mwire.specs.Answers.{LinesAnswered, LineAnswered, Breaks}
+use Rattle.mwire.specs.Wire.{classify}
+use Rattle.mwire.specs.Answers.{LinesAnswered, LineAnswered, AnswersCutShort}
 use Rattle.mwire.specs.Progress.{EachAnswered, TakesOn, LineSent, HasServed}
-use Rattle.mwire.specs.Serves.{BreaksOff, EndsBy, Serves}
+use Rattle.mwire.specs.Serves.{ServeCutShort, EndsBy, Serves}
 use Rattle.mwire.specs.declared.fault.WireFault.{WireFault}
 use Rattle.mwire.specs.declared.fault.WireFault.TheVariants.{Read, Write, Memory}
-use Rattle.mwire.proofs.Cuts.{fate_of-kept_end, lines-cut, finished_lines-cut, last_part}
+use Rattle.mwire.proofs.Cuts.{classify-kept_end, lines-cut, finished_lines-cut, last_part}
 use Rattle.mwire.proofs.LineAnswers.{LineAnswered-same, EachAnswered-more, LinesAnswered-each}
 use Rattle.mwire.proofs.Progresses.{Stands-start}
 
 LineAnswered-kept_end : {S : Type 0} (g : Ghosts S) (settings : Settings) (old : World) (kept rest answer : Text) (new : World)
     → kept ≡ take 262 rest → LineAnswered g settings old kept answer new → LineAnswered g settings old rest answer new
 LineAnswered-kept_end g settings old kept rest answer new e t =
-    LineAnswered-same g settings old kept rest answer new (ap fate_of e ∙ fate_of-kept_end 262 rest (omega arith)) t
+    LineAnswered-same g settings old kept rest answer new (ap classify e ∙ classify-kept_end 262 rest (omega arith)) t
 
 -- ---- how far `serve` has come
 
@@ -71,14 +71,14 @@ EachAnswered-end : {S : Type 0} (g : Ghosts S) (settings : Settings) (first : Wo
     → EachAnswered g settings first done text now → LineAnswered g settings now rest answer new → EachAnswered g settings first (done ++ lines_of_parts (rest ∷ [])) (text ++ answer) new
 EachAnswered-end g settings first done [] now text new answer h t =
     let P : Text → World → Type 0 = λ x m. EachAnswered g settings first done x m in
-    rw (append-nil, t.by_fate.0, append-nil) (subst (P text) (sym t.by_fate.1) h)
+    rw (append-nil, t.by_wire_line.0, append-nil) (subst (P text) (sym t.by_wire_line.1) h)
 EachAnswered-end g settings first done (x ∷ xs) now text new answer h t = rw (last_part x xs) (EachAnswered-more g settings first done text now (x ∷ xs) answer new h t)
 
-Breaks-end : {S : Type 0} (g : Ghosts S) (settings : Settings) (first : World) (done : List Text) (rest : Text) (now : World) (text : Text) (new : World) (answer part unsent : Text)
+AnswersCutShort-end : {S : Type 0} (g : Ghosts S) (settings : Settings) (first : World) (done : List Text) (rest : Text) (now : World) (text : Text) (new : World) (answer part unsent : Text)
     → (rest ≡ [] → ⊥) → EachAnswered g settings first done text now → LineAnswered g settings now rest answer new → answer ≡ part ++ unsent
-    → Breaks g settings first (done ++ lines_of_parts (rest ∷ [])) (text ++ part) new
-Breaks-end g settings first done [] now text new answer part unsent ne h t e = absurd (ne refl)
-Breaks-end g settings first done (x ∷ xs) now text new answer part unsent ne h t e = record {
+    → AnswersCutShort g settings first (done ++ lines_of_parts (rest ∷ [])) (text ++ part) new
+AnswersCutShort-end g settings first done [] now text new answer part unsent ne h t e = absurd (ne refl)
+AnswersCutShort-end g settings first done (x ∷ xs) now text new answer part unsent ne h t e = record {
   done = done;
   last = x ∷ xs;
   others = [];
@@ -95,7 +95,7 @@ Breaks-end g settings first done (x ∷ xs) now text new answer part unsent ne h
 }
 
 EndsBy-break : {S : Type 0} (g : Ghosts S) (settings : Settings) (old : World) (left : Option Text) (read sent : Text) (new : World) (e : WireFault)
-    → e ≢ Read → BreaksOff g settings old left read sent new → EndsBy g settings old left read sent new e
+    → e ≢ Read → ServeCutShort g settings old left read sent new → EndsBy g settings old left read sent new e
 EndsBy-break g settings old left read sent new Read ne b = absurd (ne refl)
 EndsBy-break g settings old left read sent new Write ne b = b
 EndsBy-break g settings old left read sent new Memory ne b = b
@@ -133,7 +133,7 @@ serves_end X g settings first now new left left' held held' held'' kept (Err e) 
       let s = h.stands in
       let taken = LineAnswered-kept_end g settings now kept s.cut.rest p.answer new s.cut.kept_is p.answered in
       let some : s.cut.rest ≡ [] → ⊥ = λ empty. let bad = idle (s.cut.kept_is ∙ ap (take 262) empty) in cc in
-      let breaks = Breaks-end g settings first (map strip_carriage_return s.finished) s.cut.rest now h.sent new p.answer p.sent.part p.sent.unsent some s.answered taken p.sent.of_bytes in
+      let breaks = AnswersCutShort-end g settings first (map strip_carriage_return s.finished) s.cut.rest now h.sent new p.answer p.sent.part p.sent.unsent some s.answered taken p.sent.of_bytes in
       EndsBy-break g settings first left' h.read (h.sent ++ p.sent.part) new e f.0 (inr (z, rw (lines-cut h.read s.finished kept s.cut) breaks));
 }
 

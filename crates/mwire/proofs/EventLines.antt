@@ -15,7 +15,7 @@ use Rattle.mspec.specs.Act.{Text}
 use Rattle.mspec.specs.Literal.{is_digit, digits_after}
 use Rattle.mspec.proofs.TextLaws.{Digit, decimal_reads}
 use Rattle.mmeaning.specs.Transition.{Event, line_limit}
-use Rattle.mwire.specs.Wire.{Ignored, TooLong, Unreadable, Runs, is_space, is_terminal, is_event, event_of, fate_of, before_events, events_of}
+use Rattle.mwire.specs.Wire.{Ignored, TooLong, Unreadable, Runs, is_space, is_terminal, is_event, event_of, classify, before_events, events_of}
 use Rattle.mwire.specs.Progress.{IsOpen, AreOpen, IsCut}
 use Rattle.mwire.specs.WireLaws.{line_of, HasLine, EventsHaveStream}
 use Rattle.mwire.proofs.Cuts.{lines-cut}
@@ -32,9 +32,9 @@ space_at : (ds text : List ℕ) → All Digit ds → position_or_len is_space (d
 space_at [] text all = refl
 space_at (c ∷ cs) text all = grind (arith, digit_is_no_space c (All-head Digit c cs all), space_at cs text (All-tail Digit c cs all))
 
-fate_by : (empty long event : Bool) (e given : Event) → empty ≡ false → long ≡ false → event ≡ true → e ≡ given
+wire_line_by : (empty long event : Bool) (e given : Event) → empty ≡ false → long ≡ false → event ≡ true → e ≡ given
     → (if empty then Ignored else if long then TooLong else if event then Runs e else Unreadable) ≡ Runs given
-fate_by empty long event e given filled short is_one same =
+wire_line_by empty long event e given filled short is_one same =
     ap (λ b. if b then Ignored else if long then TooLong else if event then Runs e else Unreadable) filled
     ∙ ap (λ b. if b then TooLong else if event then Runs e else Unreadable) short
     ∙ ap (λ b. if b then Runs e else Unreadable) is_one
@@ -43,8 +43,8 @@ fate_by empty long event e given filled short is_one same =
 abbrev event_as : ℕ → Text → Event
 event_as terminal text = record { terminal = terminal; text = text }
 
-fate_of_line : (terminal : ℕ) (text : Text) → 0 < terminal → terminal ≤ 9999 → length text ≤ line_limit → fate_of (decimal terminal ++ 32 ∷ text) ≡ Runs (event_as terminal text)
-fate_of_line terminal text some most short =
+classify_line : (terminal : ℕ) (text : Text) → 0 < terminal → terminal ≤ 9999 → length text ≤ line_limit → classify (decimal terminal ++ 32 ∷ text) ≡ Runs (event_as terminal text)
+classify_line terminal text some most short =
     let below : terminal < 2 ^ 64 = omega arith in
     let digits = decimal terminal in
     let reads = decimal_reads terminal below in
@@ -59,7 +59,7 @@ fate_of_line terminal text some most short =
     let value : digits_after 0 (before_first is_space (digits ++ 32 ∷ text)) ≡ terminal = ap (digits_after 0) head ∙ reads.1 in
     let same : event_of (digits ++ 32 ∷ text) ≡ event_as terminal text =
     ap (λ n. event_as n (after_first is_space (digits ++ 32 ∷ text))) value ∙ ap (event_as terminal) tail in
-    fate_by _ _ _ (event_of (digits ++ 32 ∷ text)) (event_as terminal text) (grind (arith, nat_tests, size)) (grind (arith, nat_tests, size, at_most, short)) event same
+    wire_line_by _ _ _ (event_of (digits ++ 32 ∷ text)) (event_as terminal text) (grind (arith, nat_tests, size)) (grind (arith, nat_tests, size, at_most, short)) event same
 
 -- a text that keeps its end keeps it behind a space too
 
@@ -111,13 +111,13 @@ each_open (e ∷ es) all = (line_open e (All-head HasLine e es all), each_open e
 stream_cut : (events : List Event) → All HasLine events → IsCut (flat_map (λ e. line_of e ++ 10 ∷ []) events) (map line_of events) []
 stream_cut events all = record { rest = []; whole = sym (append-nil _ ∙ flat_map-map (λ l. l ++ 10 ∷ []) line_of events); each = each_open events all; open_rest = All-nil (λ b. (b == 10) ≡ false); kept_is = refl }
 
-fate_of_event : (e : Event) → HasLine e → fate_of (strip_carriage_return (line_of e)) ≡ Runs e
-fate_of_event e h = ap fate_of (strip-behind (decimal e.terminal) e.text h.no_return) ∙ fate_of_line e.terminal e.text h.positive h.at_most h.short
+classify_event : (e : Event) → HasLine e → classify (strip_carriage_return (line_of e)) ≡ Runs e
+classify_event e h = ap classify (strip-behind (decimal e.terminal) e.text h.no_return) ∙ classify_line e.terminal e.text h.positive h.at_most h.short
 
 events_of_stream : (events : List Event) → All HasLine events → events_of (map strip_carriage_return (map line_of events)) ≡ events
 events_of_stream [] all = refl
 events_of_stream (e ∷ es) all =
-    ap (λ f. before_events f (events_of (map strip_carriage_return (map line_of es)))) (fate_of_event e (All-head HasLine e es all))
+    ap (λ f. before_events f (events_of (map strip_carriage_return (map line_of es)))) (classify_event e (All-head HasLine e es all))
     ∙ ap (λ l. e ∷ l) (events_of_stream es (All-tail HasLine e es all))
 
 pub events_have_stream : EventsHaveStream

@@ -8,11 +8,11 @@ use Rattle.std.specs.Str.Lines.{lines, lines_of_parts, strip_carriage_return}
 use Rattle.std.proofs.lemmas.List.{map-append, take_all, take_more}
 use Rattle.mspec.specs.Act.{Text}
 use Rattle.mmeaning.specs.Transition.{Event}
-use Rattle.mwire.specs.Wire.{Fate, Ignored, TooLong, Unreadable, Runs, fate_of, before_events, events_of}
+use Rattle.mwire.specs.Wire.{WireLine, Ignored, TooLong, Unreadable, Runs, classify, before_events, events_of}
 use Rattle.mwire.specs.Progress.{Gathered, HasGathered}
-use Rattle.mwire.proofs.Cuts.{fate_of-kept, fate_of-kept_end, IsCut-nil, IsCut-byte, IsCut-line, lines-cut, last_part}
+use Rattle.mwire.proofs.Cuts.{classify-kept, classify-kept_end, IsCut-nil, IsCut-byte, IsCut-line, lines-cut, last_part}
 
-before_events-append : (fate : Fate) (xs ys : List Event) → before_events fate (xs ++ ys) ≡ before_events fate xs ++ ys
+before_events-append : (wire_line : WireLine) (xs ys : List Event) → before_events wire_line (xs ++ ys) ≡ before_events wire_line xs ++ ys
 before_events-append Ignored xs ys = refl
 before_events-append TooLong xs ys = refl
 before_events-append Unreadable xs ys = refl
@@ -20,7 +20,7 @@ before_events-append (Runs e) xs ys = refl
 
 events_of-append : (ls ms : List Text) → events_of (ls ++ ms) ≡ events_of ls ++ events_of ms
 events_of-append [] ms = refl
-events_of-append (l ∷ ls) ms = ap (before_events (fate_of l)) (events_of-append ls ms) ∙ before_events-append (fate_of l) (events_of ls) (events_of ms)
+events_of-append (l ∷ ls) ms = ap (before_events (classify l)) (events_of-append ls ms) ∙ before_events-append (classify l) (events_of ls) (events_of ms)
 
 -- where the stream begins
 pub Gathered-start : Gathered [] [] []
@@ -36,11 +36,11 @@ pub Gathered-line : (past kept kept' line : Text) (byte : ℕ) (events events' :
     → events' ≡ events ++ events_of (line ∷ []) → Gathered past kept events → Gathered (past ++ byte ∷ []) kept' events'
 Gathered-line past kept kept' line byte events events' eb ek el added s =
     let rest = s.cut.rest in
-    let fate : fate_of line ≡ fate_of (strip_carriage_return rest) =
-    ap fate_of el ∙ (ap (λ l. fate_of (strip_carriage_return l)) s.cut.kept_is ∙ fate_of-kept 262 rest (omega arith)) in
+    let wire_line : classify line ≡ classify (strip_carriage_return rest) =
+    ap classify el ∙ (ap (λ l. classify (strip_carriage_return l)) s.cut.kept_is ∙ classify-kept 262 rest (omega arith)) in
     let events_are : events' ≡ events_of (map strip_carriage_return (s.finished ++ rest ∷ [])) =
     added ∙ (ap (λ es. es ++ events_of (line ∷ [])) s.events_are
-    ∙ (ap (λ f. events_of (map strip_carriage_return s.finished) ++ before_events f []) fate
+    ∙ (ap (λ f. events_of (map strip_carriage_return s.finished) ++ before_events f []) wire_line
     ∙ (sym (events_of-append (map strip_carriage_return s.finished) (strip_carriage_return rest ∷ []))
     ∙ ap events_of (sym (map-append strip_carriage_return s.finished (rest ∷ [])))))) in
     let cut = IsCut-line past s.finished kept s.cut in
@@ -66,9 +66,9 @@ last_events (x ∷ xs) = ap events_of (sym (last_part x xs))
 pub Gathered-end : (bytes kept : Text) (events events' : List Event) → events' ≡ events ++ events_of (kept ∷ []) → Gathered bytes kept events → events' ≡ events_of (lines bytes)
 Gathered-end bytes kept events events' added s =
     let rest = s.cut.rest in
-    let fate : fate_of kept ≡ fate_of rest = ap fate_of s.cut.kept_is ∙ fate_of-kept_end 262 rest (omega arith) in
+    let wire_line : classify kept ≡ classify rest = ap classify s.cut.kept_is ∙ classify-kept_end 262 rest (omega arith) in
     added ∙ (ap (λ es. es ++ events_of (kept ∷ [])) s.events_are
-    ∙ (ap (λ f. events_of (map strip_carriage_return s.finished) ++ before_events f []) fate
+    ∙ (ap (λ f. events_of (map strip_carriage_return s.finished) ++ before_events f []) wire_line
     ∙ (ap (λ es. events_of (map strip_carriage_return s.finished) ++ es) (last_events rest)
     ∙ (sym (events_of-append (map strip_carriage_return s.finished) (lines_of_parts (rest ∷ [])))
     ∙ ap events_of (sym (lines-cut bytes s.finished kept s.cut))))))

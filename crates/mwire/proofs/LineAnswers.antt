@@ -11,15 +11,15 @@ use Rattle.mexec.specs.declared.run.Ended.{Ended}
 use Rattle.mexec.specs.declared.run.Ended.TheVariants.{Fault}
 use Rattle.mworld.specs.declared.reply.Reply.{Reply as CodeReply}
 use Rattle.mworld.specs.View.{reply_of}
-use Rattle.mwire.specs.Wire.{Fate, Ignored, TooLong, Unreadable, Runs, fate_of, before_events, events_of, too_long_text, unreadable_text, reply_text}
-use Rattle.mwire.specs.Answers.{line_text, replies_behind, answer_text, LinesAnswered, RunAnswered, FateAnswered, LineAnswered}
+use Rattle.mwire.specs.Wire.{WireLine, Ignored, TooLong, Unreadable, Runs, classify, before_events, events_of, too_long_text, unreadable_text, reply_text}
+use Rattle.mwire.specs.Answers.{line_text, replies_behind, answer_text, LinesAnswered, RunAnswered, WireLineAnswered, LineAnswered}
 use Rattle.mwire.specs.Progress.{EachAnswered}
 use Rattle.mwire.proofs.StoreFaults.{store_sufficed}
 
-pub LineAnswered-at : {S : Type 0} (g : Ghosts S) (settings : Settings) (old : World) (line answer : Text) (new : World) (fate : Fate)
-    → fate_of line ≡ fate → FateAnswered g settings old fate answer new → LineAnswered g settings old line answer new
-LineAnswered-at g settings old line answer new fate e h =
-    let P : Fate → Type 0 = λ f. FateAnswered g settings old f answer new in record { by_fate = subst P (sym e) h }
+pub LineAnswered-at : {S : Type 0} (g : Ghosts S) (settings : Settings) (old : World) (line answer : Text) (new : World) (wire_line : WireLine)
+    → classify line ≡ wire_line → WireLineAnswered g settings old wire_line answer new → LineAnswered g settings old line answer new
+LineAnswered-at g settings old line answer new wire_line e h =
+    let P : WireLine → Type 0 = λ f. WireLineAnswered g settings old f answer new in record { by_wire_line = subst P (sym e) h }
 
 -- a line that was run, and its reply
 pub replied : {S : Type 0} {g : Ghosts S} {settings : Settings} {old new : World} {e : Event} (answer : Text) (reply : CodeReply)
@@ -27,10 +27,10 @@ pub replied : {S : Type 0} {g : Ghosts S} {settings : Settings} {old new : World
     → RunAnswered g settings old e answer new
 replied answer reply shown transition steady = record { reply = reply_of reply; text = shown; transition = transition; steady = λ holds. store_sufficed reply.ending (steady holds) }
 
--- lines of one fate are answered alike
+-- lines of one wire_line are answered alike
 pub LineAnswered-same : {S : Type 0} (g : Ghosts S) (settings : Settings) (old : World) (line line' answer : Text) (new : World)
-    → fate_of line ≡ fate_of line' → LineAnswered g settings old line answer new → LineAnswered g settings old line' answer new
-LineAnswered-same g settings old line line' answer new e h = LineAnswered-at g settings old line' answer new (fate_of line) (sym e) h.by_fate
+    → classify line ≡ classify line' → LineAnswered g settings old line answer new → LineAnswered g settings old line' answer new
+LineAnswered-same g settings old line line' answer new e h = LineAnswered-at g settings old line' answer new (classify line) (sym e) h.by_wire_line
 
 -- a further line
 pub EachAnswered-more : {S : Type 0} (g : Ghosts S) (settings : Settings) (old : World) (lines : List Text) (text : Text) (mid : World) (line answer : Text) (new : World)
@@ -43,11 +43,11 @@ EachAnswered-more g settings old (l ∷ ls) text mid line answer new h t =
 
 -- the history of lines that are answered
 
-abbrev both_texts : List Text → Fate → List Reply → Text
-both_texts more fate replies = line_text fate replies ++ answer_text more (replies_behind fate replies)
+abbrev both_texts : List Text → WireLine → List Reply → Text
+both_texts more wire_line replies = line_text wire_line replies ++ answer_text more (replies_behind wire_line replies)
 
-LinesAnswered-line : {S : Type 0} (g : Ghosts S) (settings : Settings) (old : World) (line : Text) (more : List Text) (fate : Fate) (answer : Text) (mid : World) (rest : Text) (new : World)
-    → fate_of line ≡ fate → FateAnswered g settings old fate answer mid → LinesAnswered g settings mid more rest new → LinesAnswered g settings old (line ∷ more) (answer ++ rest) new
+LinesAnswered-line : {S : Type 0} (g : Ghosts S) (settings : Settings) (old : World) (line : Text) (more : List Text) (wire_line : WireLine) (answer : Text) (mid : World) (rest : Text) (new : World)
+    → classify line ≡ wire_line → WireLineAnswered g settings old wire_line answer mid → LinesAnswered g settings mid more rest new → LinesAnswered g settings old (line ∷ more) (answer ++ rest) new
 LinesAnswered-line g settings old line more Ignored answer mid rest new e h a =
     let P : World → Type 0 = λ s. History settings s a.trace new in
     record {
@@ -89,4 +89,4 @@ pub LinesAnswered-each : {S : Type 0} (g : Ghosts S) (settings : Settings) (old 
 LinesAnswered-each g settings old [] text new h = record { trace = []; events = refl; text = h.0; history = λ sound. h.1; steady = λ steady. tt }
 LinesAnswered-each g settings old (line ∷ more) text new h =
     let P : Text → Type 0 = λ t. LinesAnswered g settings old (line ∷ more) t new in
-    subst P (sym h.5) (LinesAnswered-line g settings old line more (fate_of line) h.0 h.1 h.2 new refl h.3.by_fate (LinesAnswered-each g settings h.1 more h.2 new h.4))
+    subst P (sym h.5) (LinesAnswered-line g settings old line more (classify line) h.0 h.1 h.2 new refl h.3.by_wire_line (LinesAnswered-each g settings h.1 more h.2 new h.4))

@@ -8,10 +8,10 @@ use Rattle.std.proofs.lemmas.List.{take_more, map-append}
 use Rattle.mspec.specs.Act.{Text}
 use Rattle.mmeaning.specs.Transition.{Settings, World}
 use Rattle.mstore.specs.declared.store.NodeStore.{Ghosts}
-use Rattle.mwire.specs.Wire.{fate_of, finished_lines}
-use Rattle.mwire.specs.Answers.{LineAnswered, Breaks}
+use Rattle.mwire.specs.Wire.{classify, finished_lines}
+use Rattle.mwire.specs.Answers.{LineAnswered, AnswersCutShort}
 use Rattle.mwire.specs.Progress.{EachAnswered, Stands, TakesOn, LineSent}
-use Rattle.mwire.proofs.Cuts.{fate_of-kept, IsCut-nil, IsCut-byte, IsCut-line, finished_lines-cut_more}
+use Rattle.mwire.proofs.Cuts.{classify-kept, IsCut-nil, IsCut-byte, IsCut-line, finished_lines-cut_more}
 use Rattle.mwire.proofs.LineAnswers.{LineAnswered-same, EachAnswered-more, LinesAnswered-each}
 
 -- where the stream begins
@@ -22,7 +22,7 @@ Stands-start g settings first = record { finished = []; cut = IsCut-nil; answere
 LineAnswered-kept : {S : Type 0} (g : Ghosts S) (settings : Settings) (old : World) (kept rest answer : Text) (new : World)
     → kept ≡ take 262 rest → LineAnswered g settings old (strip_carriage_return kept) answer new → LineAnswered g settings old (strip_carriage_return rest) answer new
 LineAnswered-kept g settings old kept rest answer new e t =
-    LineAnswered-same g settings old _ _ answer new (ap (λ l. fate_of (strip_carriage_return l)) e ∙ fate_of-kept 262 rest (omega arith)) t
+    LineAnswered-same g settings old _ _ answer new (ap (λ l. classify (strip_carriage_return l)) e ∙ classify-kept 262 rest (omega arith)) t
 
 -- a line's end, whose answer was sent
 pub Stands-line : {S : Type 0} (g : Ghosts S) (settings : Settings) (first : World) (past : Text) (old : World) (kept text : Text) (new : World) (answer : Text)
@@ -38,10 +38,10 @@ Stands-line g settings first past old kept text new answer s t = record {
 }
 
 -- a line's end, of whose answer a front was sent
-Breaks-line : {S : Type 0} (g : Ghosts S) (settings : Settings) (first : World) (past : Text) (old : World) (kept text : Text) (new : World) (answer part unsent : Text)
+AnswersCutShort-line : {S : Type 0} (g : Ghosts S) (settings : Settings) (first : World) (past : Text) (old : World) (kept text : Text) (new : World) (answer part unsent : Text)
     → Stands g settings first past old kept text → LineAnswered g settings old (strip_carriage_return kept) answer new → answer ≡ part ++ unsent
-    → (more : Text) → Breaks g settings first (finished_lines ((past ++ 10 ∷ []) ++ more)) (text ++ part) new
-Breaks-line g settings first past old kept text new answer part unsent s t e more = record {
+    → (more : Text) → AnswersCutShort g settings first (finished_lines ((past ++ 10 ∷ []) ++ more)) (text ++ part) new
+AnswersCutShort-line g settings first past old kept text new answer part unsent s t e more = record {
   done = map strip_carriage_return s.finished;
   last = strip_carriage_return s.cut.rest;
   others = finished_lines more;
@@ -75,7 +75,7 @@ TakesOn-line g settings old kept line byte new kept' before after (Err e) eb ek 
   appended = p.sent.appended;
   outcome = λ first past text s more.
       let P : Text → Type 0 = λ l. LineAnswered g settings old l p.answer new in
-      rw eb (Breaks-line g settings first past old kept text new p.answer p.sent.part p.sent.unsent s (subst P el p.answered) p.sent.of_bytes more);
+      rw eb (AnswersCutShort-line g settings first past old kept text new p.answer p.sent.part p.sent.unsent s (subst P el p.answered) p.sent.of_bytes more);
 }
 
 -- another byte

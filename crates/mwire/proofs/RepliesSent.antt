@@ -18,7 +18,7 @@ use Rattle.mworld.specs.View.{settings_of, world_of}
 use Rattle.mworld.specs.Isolated.{IsTold, IsEquallyTold, IsToldEach, RanFirst}
 use Rattle.mworld.proofs.Tellings.{take_on}
 use Rattle.mwire.specs.Wire.{events_of, reply_text}
-use Rattle.mwire.specs.Only.{told_text, RanOnly, CutOff, OnlyBroke, ServesOnly}
+use Rattle.mwire.specs.Only.{told_text, RanOnly, RepliesCutShort, ServeOnlyCutShort, ServesOnly}
 use Rattle.mwire.specs.Progress.{FrontSent}
 use Rattle.mwire.specs.declared.fault.WireFault.{WireFault}
 use Rattle.mwire.specs.declared.fault.WireFault.TheVariants.{Read, Write, Memory}
@@ -78,7 +78,7 @@ module _ {S : Type 0} (g : Ghosts S) (old new : World S g) (account : ℕ) (left
     outcome = broke fault other;
   }
     where
-      broke : (e : WireFault) → e ≢ Write → OnlyBroke g old account left' (events_of (lines read)) [] new e
+      broke : (e : WireFault) → e ≢ Write → ServeOnlyCutShort g old account left' (events_of (lines read)) [] new e
       broke Read o = (refl, same)
       broke Write o = absurd (o refl)
       broke Memory o = inl (refl, λ sound. record { count = 0; lines = []; sent = refl; history = ap (world_of g) same })
@@ -98,10 +98,10 @@ module _ {S : Type 0} (g : Ghosts S) (old new : World S g) (account : ℕ) (left
     pub unwritten : (fault : WireFault) → fault ≢ Read → (b : Bool) → FrontSent bytes held held' b → ServesOnly g old account left left' held held' (Err fault) new
     unwritten fault other b s = record { read = read; consumed = consumed; sent = s.part; appended = s.appended; outcome = broke fault other }
       where
-        cut : CutOff g old account (events_of (lines read)) s.part new
+        cut : RepliesCutShort g old account (events_of (lines read)) s.part new
         cut = record { bytes = bytes; whole = whole; ran = ran; unsent = s.unsent; of_bytes = s.of_bytes }
 
-        broke : (e : WireFault) → e ≢ Read → OnlyBroke g old account left' (events_of (lines read)) s.part new e
+        broke : (e : WireFault) → e ≢ Read → ServeOnlyCutShort g old account left' (events_of (lines read)) s.part new e
         broke Read o = absurd (o refl)
         broke Write o = (at_end, cut)
         broke Memory o = inr (at_end, cut)

@@ -8,14 +8,14 @@ use Rattle.mmeaning.specs.Transition.{Settings, World, Event, Reply, normal, is_
 use Rattle.mmeaning.specs.History.{replies, world_after, answered, opening}
 use Rattle.mmeaning.proofs.Histories.{normal_never_fails, normal_transitions_are_history, history_is_normal}
 use Rattle.mstore.specs.declared.store.NodeStore.{Ghosts}
-use Rattle.mwire.specs.Wire.{Fate, Ignored, TooLong, Unreadable, Runs, fate_of, before_events, events_of, line_served, lines_served, reply_text, too_long_text, unreadable_text}
+use Rattle.mwire.specs.Wire.{WireLine, Ignored, TooLong, Unreadable, Runs, classify, before_events, events_of, line_served, lines_served, reply_text, too_long_text, unreadable_text}
 use Rattle.mwire.specs.Answers.{StoreSufficed, StoreSufficedForEach, line_text, replies_behind, answer_text}
 use Rattle.mwire.specs.WireLaws.{NormalAnswersAreServed, NormalStreamsAreServed, LinesHaveAnswers}
 
-line_is_served : (settings : Settings) (world : World) (more : List Text) (fate : Fate)
+line_is_served : (settings : Settings) (world : World) (more : List Text) (wire_line : WireLine)
     → ((s : World) → answer_text more (replies settings s (events_of more)) ≡ lines_served settings s more)
-    → line_text fate (replies settings world (before_events fate (events_of more))) ++ answer_text more (replies_behind fate (replies settings world (before_events fate (events_of more))))
-    ≡ (line_served settings world fate).0 ++ lines_served settings (line_served settings world fate).1 more
+    → line_text wire_line (replies settings world (before_events wire_line (events_of more))) ++ answer_text more (replies_behind wire_line (replies settings world (before_events wire_line (events_of more))))
+    ≡ (line_served settings world wire_line).0 ++ lines_served settings (line_served settings world wire_line).1 more
 line_is_served settings world more Ignored rest = rest world
 line_is_served settings world more TooLong rest = ap (λ t. too_long_text ++ t) (rest world)
 line_is_served settings world more Unreadable rest = ap (λ t. unreadable_text ++ t) (rest world)
@@ -24,7 +24,7 @@ line_is_served settings world more (Runs e) rest = ap (λ t. reply_text e.termin
 -- the replies of normal steps make the bytes of the definitional interpreter
 lines_are_served : (settings : Settings) (world : World) (all : List Text) → answer_text all (replies settings world (events_of all)) ≡ lines_served settings world all
 lines_are_served settings world [] = refl
-lines_are_served settings world (line ∷ more) = line_is_served settings world more (fate_of line) (λ s. lines_are_served settings s more)
+lines_are_served settings world (line ∷ more) = line_is_served settings world more (classify line) (λ s. lines_are_served settings s more)
 
 pub normal_answers_are_served : {S : Type 0} {g : Ghosts S} → g.sound → NormalAnswersAreServed g
 normal_answers_are_served sound settings world after all bytes answers none =

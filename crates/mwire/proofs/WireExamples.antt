@@ -19,29 +19,29 @@ use Rattle.mmeaning.specs.Transition.{Settings, World, Reply, Finished, Halted, 
 use Rattle.mmeaning.specs.History.{opening}
 use Rattle.mmeaning.proofs.ExampleAccount.{alice}
 use Rattle.mmeaning.proofs.LineRuns.{shut_step, step_is_shut}
-use Rattle.mwire.specs.Wire.{Fate, Ignored, TooLong, Unreadable, Runs, fate_of, shown, reply_text, too_long_text, unreadable_text, line_served, lines_served, stream_served}
+use Rattle.mwire.specs.Wire.{WireLine, Ignored, TooLong, Unreadable, Runs, classify, shown, reply_text, too_long_text, unreadable_text, line_served, lines_served, stream_served}
 
-abbrev runs : ℕ → Text → Fate
+abbrev runs : ℕ → Text → WireLine
 runs terminal text = Runs (record { terminal = terminal; text = text })
 
 -- a terminal of one digit and of four, and an empty text
-terminals : (fate_of (codes "1 W 1") ≡ runs 1 (codes "W 1")) × (fate_of (codes "9999 W 1") ≡ runs 9999 (codes "W 1")) × (fate_of (codes "2 ") ≡ runs 2 [])
+terminals : (classify (codes "1 W 1") ≡ runs 1 (codes "W 1")) × (classify (codes "9999 W 1") ≡ runs 9999 (codes "W 1")) × (classify (codes "2 ") ≡ runs 2 [])
 terminals = (refl, refl, refl)
 
 -- a leading zero, the terminal 0, five digits, no space, no terminal, a space before it, a word
-unreadable : (fate_of (codes "01 W 1") ≡ Unreadable) × (fate_of (codes "0 W 1") ≡ Unreadable) × (fate_of (codes "10000 W 1") ≡ Unreadable)
-    × (fate_of (codes "1") ≡ Unreadable) × (fate_of (codes " W 1") ≡ Unreadable) × (fate_of (codes " 1 W 1") ≡ Unreadable) × (fate_of (codes "A W 1") ≡ Unreadable)
+unreadable : (classify (codes "01 W 1") ≡ Unreadable) × (classify (codes "0 W 1") ≡ Unreadable) × (classify (codes "10000 W 1") ≡ Unreadable)
+    × (classify (codes "1") ≡ Unreadable) × (classify (codes " W 1") ≡ Unreadable) × (classify (codes " 1 W 1") ≡ Unreadable) × (classify (codes "A W 1") ≡ Unreadable)
 unreadable = (refl, refl, refl, refl, refl, refl, refl)
 
 -- only the first space ends the terminal
-further_spaces : fate_of (codes "12   W 1") ≡ runs 12 (codes "  W 1")
+further_spaces : classify (codes "12   W 1") ≡ runs 12 (codes "  W 1")
 further_spaces = refl
 
-empty_line : fate_of [] ≡ Ignored
+empty_line : classify [] ≡ Ignored
 empty_line = refl
 
 -- 260 bytes are taken, and one more is not, whatever they are
-longest : (fate_of (codes "1 ;" ++ replicate 257 65) ≡ runs 1 (59 ∷ replicate 257 65)) × (fate_of (codes "1 ;" ++ replicate 258 65) ≡ TooLong) × (fate_of (replicate 261 32) ≡ TooLong)
+longest : (classify (codes "1 ;" ++ replicate 257 65) ≡ runs 1 (59 ∷ replicate 257 65)) × (classify (codes "1 ;" ++ replicate 258 65) ≡ TooLong) × (classify (replicate 261 32) ≡ TooLong)
 longest = (refl, refl, refl)
 
 -- a carriage return goes with the line feed behind it, one at a time, and not from an unfinished line
@@ -69,7 +69,7 @@ reply_endings = (refl, refl)
 
 -- ---- streams, by steps whose turns are shut
 
-abbrev line_by_shut : Settings → World → Fate → Text × World
+abbrev line_by_shut : Settings → World → WireLine → Text × World
 line_by_shut settings world Ignored = ([], world)
 line_by_shut settings world TooLong = (too_long_text, world)
 line_by_shut settings world Unreadable = (unreadable_text, world)
@@ -78,9 +78,9 @@ line_by_shut settings world (Runs e) = (reply_text e.terminal (shut_step setting
 abbrev lines_by_shut : Settings → World → List Text → Text
 lines_by_shut settings world [] = []
 lines_by_shut settings world (line ∷ more) =
-    (line_by_shut settings world (fate_of line)).0 ++ lines_by_shut settings (line_by_shut settings world (fate_of line)).1 more
+    (line_by_shut settings world (classify line)).0 ++ lines_by_shut settings (line_by_shut settings world (classify line)).1 more
 
-line_is_shut : (settings : Settings) (world : World) (f : Fate) → line_served settings world f ≡ line_by_shut settings world f
+line_is_shut : (settings : Settings) (world : World) (f : WireLine) → line_served settings world f ≡ line_by_shut settings world f
 line_is_shut settings world Ignored = refl
 line_is_shut settings world TooLong = refl
 line_is_shut settings world Unreadable = refl
@@ -89,8 +89,8 @@ line_is_shut settings world (Runs e) = ap (λ (r : Reply × World). (reply_text 
 lines_are_shut : (settings : Settings) (world : World) (ls : List Text) → lines_served settings world ls ≡ lines_by_shut settings world ls
 lines_are_shut settings world [] = refl
 lines_are_shut settings world (line ∷ more) =
-    ap (λ (r : Text × World). r.0 ++ lines_served settings r.1 more) (line_is_shut settings world (fate_of line))
-    ∙ (let r = line_by_shut settings world (fate_of line) in ap (λ (t : Text). r.0 ++ t) (lines_are_shut settings r.1 more))
+    ap (λ (r : Text × World). r.0 ++ lines_served settings r.1 more) (line_is_shut settings world (classify line))
+    ∙ (let r = line_by_shut settings world (classify line) in ap (λ (t : Text). r.0 ++ t) (lines_are_shut settings r.1 more))
 
 served : (bytes : Text) {answer : Text} → lines_by_shut alice (opening empty) (lines bytes) ≡ answer → stream_served alice empty bytes ≡ answer
 served bytes is = lines_are_shut alice (opening empty) (lines bytes) ∙ is
@@ -109,7 +109,7 @@ faults : stream_served alice empty (fed (codes "1 W \"x\",!,B" ∷ [])) ≡ fed 
 unfolding reads digits canonical_value no_locals level_begun value_of assigned_to
 faults = served (fed (codes "1 W \"x\",!,B" ∷ [])) (simp (gets, computed_maps, computed_numbers))
 
--- lines of each fate, and an account without the terminal
+-- lines of each wire_line, and an account without the terminal
 stream : stream_served alice empty (fed ([] ∷ codes "1 W 1+" ∷ codes "hello" ∷ (codes "1 ;" ++ replicate 258 65) ∷ (codes "2 W 1" ++ 13 ∷ []) ∷ codes "1 W 2" ∷ [])) ≡ fed (codes "1!ZSYNTAX" ∷ codes "?!ZWIRE" ∷ codes "?!ZLINE" ∷ codes "2!ZTERM" ∷ codes "1-2" ∷ codes "1." ∷ [])
 unfolding reads digits canonical_value no_locals level_begun value_of assigned_to
 stream = served (fed ([] ∷ codes "1 W 1+" ∷ codes "hello" ∷ (codes "1 ;" ++ replicate 258 65) ∷ (codes "2 W 1" ++ 13 ∷ []) ∷ codes "1 W 2" ∷ [])) (simp (gets, computed_maps, computed_numbers))

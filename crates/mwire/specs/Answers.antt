@@ -7,10 +7,10 @@ use Rattle.mspec.specs.Code.{Lost, Store}
 use Rattle.mmeaning.specs.Transition.{Settings, World, Event, Faulted, Reply, Transition}
 use Rattle.mmeaning.specs.History.{History}
 use Rattle.mstore.specs.declared.store.NodeStore.{Ghosts}
-use Rattle.mwire.specs.Wire.{Fate, Ignored, TooLong, Unreadable, Runs, fate_of, reply_text, too_long_text, unreadable_text, events_of}
+use Rattle.mwire.specs.Wire.{WireLine, Ignored, TooLong, Unreadable, Runs, classify, reply_text, too_long_text, unreadable_text, events_of}
 
--- the bytes that answer a line of this fate, whose reply is the first of these where it is run
-abbrev pub line_text : Fate → List Reply → Text
+-- the bytes that answer a line of this wire_line, whose reply is the first of these where it is run
+abbrev pub line_text : WireLine → List Reply → Text
 line_text Ignored replies = []
 line_text TooLong replies = too_long_text
 line_text Unreadable replies = unreadable_text
@@ -18,7 +18,7 @@ line_text (Runs e) [] = []
 line_text (Runs e) (reply ∷ more) = reply_text e.terminal reply
 
 -- the replies of the lines behind it
-abbrev pub replies_behind : Fate → List Reply → List Reply
+abbrev pub replies_behind : WireLine → List Reply → List Reply
 replies_behind Ignored replies = replies
 replies_behind TooLong replies = replies
 replies_behind Unreadable replies = replies
@@ -28,7 +28,7 @@ replies_behind (Runs e) (reply ∷ more) = more
 -- the bytes that answer lines, in their order, given the replies of those that are run
 abbrev pub answer_text : List Text → List Reply → Text
 answer_text [] replies = []
-answer_text (line ∷ more) replies = line_text (fate_of line) replies ++ answer_text more (replies_behind (fate_of line) replies)
+answer_text (line ∷ more) replies = line_text (classify line) replies ++ answer_text more (replies_behind (classify line) replies)
 
 -- the reply does not say that the store failed
 abbrev pub StoreSufficed : Reply → Type 0
@@ -53,19 +53,19 @@ pub record RunAnswered {S : Type 0} (g : Ghosts S) (settings : Settings) (world 
   pub transition : g.sound → Transition settings e reply world after
   pub steady : g.steady → StoreSufficed reply
 
--- a line of this fate is answered by these bytes
-abbrev pub FateAnswered : {S : Type 0} → Ghosts S → Settings → World → Fate → Text → World → Type 0
-FateAnswered g settings world Ignored bytes after = (bytes ≡ []) × (after ≡ world)
-FateAnswered g settings world TooLong bytes after = (bytes ≡ too_long_text) × (after ≡ world)
-FateAnswered g settings world Unreadable bytes after = (bytes ≡ unreadable_text) × (after ≡ world)
-FateAnswered g settings world (Runs e) bytes after = RunAnswered g settings world e bytes after
+-- a line of this wire_line is answered by these bytes
+abbrev pub WireLineAnswered : {S : Type 0} → Ghosts S → Settings → World → WireLine → Text → World → Type 0
+WireLineAnswered g settings world Ignored bytes after = (bytes ≡ []) × (after ≡ world)
+WireLineAnswered g settings world TooLong bytes after = (bytes ≡ too_long_text) × (after ≡ world)
+WireLineAnswered g settings world Unreadable bytes after = (bytes ≡ unreadable_text) × (after ≡ world)
+WireLineAnswered g settings world (Runs e) bytes after = RunAnswered g settings world e bytes after
 
 pub record LineAnswered {S : Type 0} (g : Ghosts S) (settings : Settings) (world : World) (line bytes : Text) (after : World) : Type 0 where
-  pub by_fate : FateAnswered g settings world (fate_of line) bytes after
+  pub by_wire_line : WireLineAnswered g settings world (classify line) bytes after
 
 -- The lines are answered up to a last one. This one was answered too, but of its bytes only a front, perhaps the whole, went
 -- out; the others were not run.
-pub record Breaks {S : Type 0} (g : Ghosts S) (settings : Settings) (world : World) (all : List Text) (bytes : Text) (after : World) : Type 0 where
+pub record AnswersCutShort {S : Type 0} (g : Ghosts S) (settings : Settings) (world : World) (all : List Text) (bytes : Text) (after : World) : Type 0 where
   pub done : List Text
   pub last : Text
   pub others : List Text

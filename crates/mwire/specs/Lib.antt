@@ -1,7 +1,7 @@
 -- SPDX-License-Identifier: Apache-2.0
 pub mod Wire
 pub mod WireLaws
-pub mod Fates
+pub mod WireLines
 pub mod Answers
 pub mod Watched
 pub mod Serves

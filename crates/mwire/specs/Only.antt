@@ -31,7 +31,7 @@ pub record RanOnly {S : Type 0} (g : Ghosts S) (old : World S g) (account : ℕ)
   pub alone : g.sound → IsEquallyTold g old account events replies whole
 
 -- all events were run, and of the bytes a front was sent
-pub record CutOff {S : Type 0} (g : Ghosts S) (old : World S g) (account : ℕ) (events : List Event) (sent : Text) (new : World S g) : Type 0 where
+pub record RepliesCutShort {S : Type 0} (g : Ghosts S) (old : World S g) (account : ℕ) (events : List Event) (sent : Text) (new : World S g) : Type 0 where
   pub bytes : Text
   pub whole : Bool
   pub ran : RanOnly g old account events bytes whole new
@@ -43,10 +43,10 @@ abbrev pub Unsent : {S : Type 0} (g : Ghosts S) → World S g → List Event →
 Unsent g old events sent new = (sent ≡ []) × (g.sound → RanFirst (settings_of old) (world_of g old) events (world_of g new))
 
 -- how far it came where there was a fault
-abbrev pub OnlyBroke : {S : Type 0} (g : Ghosts S) → World S g → ℕ → Option Text → List Event → Text → World S g → WireFault → Type 0
-OnlyBroke g old account left events sent new Read = (sent ≡ []) × (new ≡ old)
-OnlyBroke g old account left events sent new Write = IsAtEnd left × CutOff g old account events sent new
-OnlyBroke g old account left events sent new Memory = Unsent g old events sent new ⊎ (IsAtEnd left × CutOff g old account events sent new)
+abbrev pub ServeOnlyCutShort : {S : Type 0} (g : Ghosts S) → World S g → ℕ → Option Text → List Event → Text → World S g → WireFault → Type 0
+ServeOnlyCutShort g old account left events sent new Read = (sent ≡ []) × (new ≡ old)
+ServeOnlyCutShort g old account left events sent new Write = IsAtEnd left × RepliesCutShort g old account events sent new
+ServeOnlyCutShort g old account left events sent new Memory = Unsent g old events sent new ⊎ (IsAtEnd left × RepliesCutShort g old account events sent new)
 
 -- so many bytes were read, and so many sent; at the stream's end those of the replies
 pub record ServesOnly {S : Type 0} (g : Ghosts S) (old : World S g) (account : ℕ) (left left' held held' : Option Text) (result : Result Bool WireFault) (new : World S g) : Type 0 where
@@ -54,4 +54,4 @@ pub record ServesOnly {S : Type 0} (g : Ghosts S) (old : World S g) (account : �
   pub consumed : Consumes left left' read
   pub sent : Text
   pub appended : Appends held held' sent
-  pub outcome : MatchResult result (λ whole. IsAtEnd left' × RanOnly g old account (events_of (lines read)) sent whole new) (OnlyBroke g old account left' (events_of (lines read)) sent new)
+  pub outcome : MatchResult result (λ whole. IsAtEnd left' × RanOnly g old account (events_of (lines read)) sent whole new) (ServeOnlyCutShort g old account left' (events_of (lines read)) sent new)

@@ -8,7 +8,7 @@ use Rattle.mspec.specs.Act.{Text}
 use Rattle.mmeaning.specs.Transition.{Settings, World, Event}
 use Rattle.mstore.specs.declared.store.NodeStore.{Ghosts}
 use Rattle.mwire.specs.Wire.{finished_lines, events_of}
-use Rattle.mwire.specs.Answers.{LineAnswered, Breaks}
+use Rattle.mwire.specs.Answers.{LineAnswered, AnswersCutShort}
 
 -- no line feed is among the bytes
 abbrev pub IsOpen : Text → Type 0
@@ -45,7 +45,7 @@ pub record TakesOn {S E : Type 0} (g : Ghosts S) (settings : Settings) (old : Wo
   pub appended : Appends before after sent
   pub outcome : (first : World) (past text : Text) → Stands g settings first past old kept text
       → MatchResult result (λ _. Stands g settings first (past ++ bytes) new kept' (text ++ sent))
-      (λ _. (more : Text) → Breaks g settings first (finished_lines ((past ++ bytes) ++ more)) (text ++ sent) new)
+      (λ _. (more : Text) → AnswersCutShort g settings first (finished_lines ((past ++ bytes) ++ more)) (text ++ sent) new)
 
 -- of the bytes all but this rest were sent
 pub record SentUpTo (bytes rest : Text) (before after : Option Text) : Type 0 where

@@ -7,21 +7,21 @@ use Rattle.mspec.specs.Act.{Text}
 use Rattle.mmeaning.specs.Transition.{Settings, World, Event}
 use Rattle.mstore.specs.declared.store.NodeStore.{Ghosts}
 use Rattle.mwire.specs.Wire.{finished_lines, events_of}
-use Rattle.mwire.specs.Answers.{LinesAnswered, Breaks}
+use Rattle.mwire.specs.Answers.{LinesAnswered, AnswersCutShort}
 use Rattle.mwire.specs.declared.fault.WireFault.{WireFault}
 use Rattle.mwire.specs.declared.fault.WireFault.TheVariants.{Read, Write, Memory}
 
 -- the answer of a finished line is cut off, or, where the reader is at its end, that of any line
-abbrev pub BreaksOff : {S : Type 0} → Ghosts S → Settings → World → Option Text → Text → Text → World → Type 0
-BreaksOff g settings world left read sent after =
-    Breaks g settings world (finished_lines read) sent after ⊎ (IsAtEnd left × Breaks g settings world (lines read) sent after)
+abbrev pub ServeCutShort : {S : Type 0} → Ghosts S → Settings → World → Option Text → Text → Text → World → Type 0
+ServeCutShort g settings world left read sent after =
+    AnswersCutShort g settings world (finished_lines read) sent after ⊎ (IsAtEnd left × AnswersCutShort g settings world (lines read) sent after)
 
 -- how far the bytes read are answered after a fault: after one of a read exactly the finished lines are, and after another
 -- one the answer of one line is cut off
 abbrev pub EndsBy : {S : Type 0} → Ghosts S → Settings → World → Option Text → Text → Text → World → WireFault → Type 0
 EndsBy g settings world left read sent after Read = LinesAnswered g settings world (finished_lines read) sent after
-EndsBy g settings world left read sent after Write = BreaksOff g settings world left read sent after
-EndsBy g settings world left read sent after Memory = BreaksOff g settings world left read sent after
+EndsBy g settings world left read sent after Write = ServeCutShort g settings world left read sent after
+EndsBy g settings world left read sent after Memory = ServeCutShort g settings world left read sent after
 
 -- So many bytes were read, and so many were sent, where the reader tells what it has left and the writer what it holds. At
 -- the stream's end all its lines are answered.

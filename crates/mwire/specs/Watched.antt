@@ -29,9 +29,9 @@ is_stall bytes (Ok n) = nat_lt 0 (length bytes) && n == 0
 is_stall bytes (Err e) = false
 
 -- why a `Read` is answered: a read failed, or there were as many reads as there may be
-abbrev pub ReadBroke : {T : Type 0} → Watched T → Watched T → Type 0
-ReadBroke old new = (failed_of new ≡ true) ⊎ (calls_of new ≡ counted_on (calls_of old) 1000000000)
+abbrev pub ReadFailed : {T : Type 0} → Watched T → Watched T → Type 0
+ReadFailed old new = (failed_of new ≡ true) ⊎ (calls_of new ≡ counted_on (calls_of old) 1000000000)
 
 -- why a `Write` is answered: a write failed, or one took nothing
-abbrev pub WriteBroke : {T : Type 0} → Watched T → Watched T → Type 0
-WriteBroke old new = (failed_of new ≡ true) ⊎ (stalls_of new ≡ counted_on (stalls_of old) 1)
+abbrev pub WriteFailed : {T : Type 0} → Watched T → Watched T → Type 0
+WriteFailed old new = (failed_of new ≡ true) ⊎ (stalls_of new ≡ counted_on (stalls_of old) 1)

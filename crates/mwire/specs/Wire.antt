@@ -14,11 +14,11 @@ use Rattle.mmeaning.specs.Transition.{Settings, World, Event, Ending, Finished, 
 use Rattle.mmeaning.specs.History.{opening}
 
 -- what becomes of a line
-pub data Fate : Type 0 where
-  Ignored : Fate
-  TooLong : Fate
-  Unreadable : Fate
-  Runs : Event → Fate
+pub data WireLine : Type 0 where
+  Ignored : WireLine
+  TooLong : WireLine
+  Unreadable : WireLine
+  Runs : Event → WireLine
 
 -- the most bytes of a line: four digits, a space and a text of 255 characters
 abbrev pub wire_limit : ℕ
@@ -38,8 +38,8 @@ is_event line = nat_lt (position_or_len is_space line) (length line) && is_termi
 abbrev pub event_of : Text → Event
 event_of line = record { terminal = digits_after 0 (before_first is_space line); text = after_first is_space line }
 
-abbrev pub fate_of : Text → Fate
-fate_of line =
+abbrev pub classify : Text → WireLine
+classify line =
     if length line == 0 then Ignored else
     if nat_lt wire_limit (length line) then TooLong else
     if is_event line then Runs (event_of line) else Unreadable
@@ -85,7 +85,7 @@ abbrev pub unreadable_text : Text
 unreadable_text = codes "?!ZWIRE" ++ 10 ∷ []
 
 -- the bytes that answer a line, and the world after it, by a normal transition
-abbrev pub line_served : Settings → World → Fate → Text × World
+abbrev pub line_served : Settings → World → WireLine → Text × World
 line_served settings world Ignored = ([], world)
 line_served settings world TooLong = (too_long_text, world)
 line_served settings world Unreadable = (unreadable_text, world)
@@ -94,14 +94,14 @@ line_served settings world (Runs e) = (reply_text e.terminal (normal settings e 
 abbrev pub lines_served : Settings → World → List Text → Text
 lines_served settings world [] = []
 lines_served settings world (line ∷ more) =
-    (line_served settings world (fate_of line)).0 ++ lines_served settings (line_served settings world (fate_of line)).1 more
+    (line_served settings world (classify line)).0 ++ lines_served settings (line_served settings world (classify line)).1 more
 
 -- The bytes that answer a stream over some globals, by normal steps. A line feed ends a line and takes a carriage return just before it with it;
 -- an unfinished last line counts, and keeps its carriage return.
 abbrev pub stream_served : Settings → Globals → Text → Text
 stream_served settings globals bytes = lines_served settings (opening globals) (lines bytes)
 
-abbrev pub before_events : Fate → List Event → List Event
+abbrev pub before_events : WireLine → List Event → List Event
 before_events Ignored events = events
 before_events TooLong events = events
 before_events Unreadable events = events
@@ -110,7 +110,7 @@ before_events (Runs e) events = e ∷ events
 -- the events of a stream's lines
 abbrev pub events_of : List Text → List Event
 events_of [] = []
-events_of (line ∷ more) = before_events (fate_of line) (events_of more)
+events_of (line ∷ more) = before_events (classify line) (events_of more)
 
 -- the texts between the line feeds, of which no line feed ends the last
 abbrev pub parts_of : Text → List Text

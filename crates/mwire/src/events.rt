@@ -3,11 +3,11 @@
 ghost use Rattle.std.specs.Prelude.{◌≡◌, ◌≢◌, ◌+◌, ◌≤◌, ℕ, List, [], ◌∷◌, ◌++◌, false, OnOk, IfErr, Err, map};
 ghost use Rattle.mworld.specs.View.{event_of};
 ghost use Rattle.mwire.specs.Wire.{events_of};
-ghost use Rattle.mwire.specs.Watched.{inner_of, failed_of, calls_of, ReadBroke};
+ghost use Rattle.mwire.specs.Watched.{inner_of, failed_of, calls_of, ReadFailed};
 ghost use Rattle.mwire.specs.Serves.{ReadsEvents};
 ghost use Rattle.mwire.specs.Progress.{Gathered};
 
-use crate::fate::{Fate, fate_of};
+use crate::wire_line::{WireLine, classify};
 use crate::fault::WireFault;
 use crate::line_buffer::LineBuffer;
 use crate::watched::Watched;
@@ -24,7 +24,7 @@ pub fn read_events<R: Read>(alloc: Global, reader: &mut Watched<R>) -> Result<Ve
     requires { failed_of reader.old ≡ false }
     ensures reads { ReadsEvents (λ events. map event_of events.items) (R.remaining (inner_of reader.old)) (R.remaining (inner_of reader.new)) result }
     ensures most { calls_of reader.new ≤ calls_of reader.old + 1000000000 }
-    ensures read { result ≡ Err WireFault.Read → ReadBroke reader.old reader.new }
+    ensures read { result ≡ Err WireFault.Read → ReadFailed reader.old reader.new }
     ensures reader_works { result ≢ Err WireFault.Read → failed_of reader.new ≡ false }
 {
     let mut events = Vec::new(alloc);
@@ -88,7 +88,7 @@ fn gather_byte(
 fn gather_line(alloc: Global, events: &mut Vec<Event>, line: &[u8]) -> Result<(), AllocError>
     ensures { OnOk result (map event_of events.new.items ≡ map event_of events.old.items ++ events_of (line.now ∷ [])) }
 {
-    if let Fate::Runs(terminal, text) = fate_of(line) {
+    if let WireLine::Runs(terminal, text) = classify(line) {
         let text = Vec::from_slice(alloc, text)?;
         events.push(Event { terminal, text })?;
     }

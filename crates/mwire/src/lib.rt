@@ -9,7 +9,7 @@
 mod connections;
 mod ending;
 mod events;
-mod fate;
+mod wire_line;
 mod fault;
 mod line_buffer;
 mod listener;

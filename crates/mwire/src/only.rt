@@ -4,7 +4,7 @@ ghost use Rattle.std.specs.Prelude.{◌≡◌, ◌≢◌, ◌+◌, ◌≤◌, fa
 ghost use Rattle.mworld.specs.View.{settings_of, reply_of};
 ghost use Rattle.mworld.specs.Isolated.{told_of};
 ghost use Rattle.mwire.specs.Wire.{reply_text};
-ghost use Rattle.mwire.specs.Watched.{inner_of, failed_of, calls_of, stalls_of, ReadBroke, WriteBroke};
+ghost use Rattle.mwire.specs.Watched.{inner_of, failed_of, calls_of, stalls_of, ReadFailed, WriteFailed};
 ghost use Rattle.mwire.specs.Only.{told_text, ServesOnly};
 ghost use Rattle.mwire.specs.Progress.{FrontSent};
 
@@ -45,8 +45,8 @@ pub fn serve_only<S: NodeStore, R: Read, W: Write>(
     ensures most { calls_of reader.new ≤ calls_of reader.old + 1000000000 }
 
     // A fault of a device is answered only where the device failed in this call.
-    ensures read { result ≡ Err WireFault.Read → ReadBroke reader.old reader.new }
-    ensures write { result ≡ Err WireFault.Write → WriteBroke writer.old writer.new }
+    ensures read { result ≡ Err WireFault.Read → ReadFailed reader.old reader.new }
+    ensures write { result ≡ Err WireFault.Write → WriteFailed writer.old writer.new }
     ensures reader_works { result ≢ Err WireFault.Read → failed_of reader.new ≡ false }
     ensures writer_works { result ≢ Err WireFault.Write → failed_of writer.new ≡ false }
     ensures no_stall { result ≢ Err WireFault.Write → stalls_of writer.new ≡ stalls_of writer.old }
@@ -71,7 +71,7 @@ fn write_replies<W: Write>(
     writer: &mut Watched<W>,
 ) -> Result<(), WireFault>
     ensures sent { FrontSent (told_text (map told_of replies.now)) (W.contents (inner_of writer.old)) (W.contents (inner_of writer.new)) (is_ok result) }
-    ensures fault { IfErr result (λ e. (e ≢ WireFault.Read) × (e ≡ WireFault.Write → WriteBroke writer.old writer.new)) }
+    ensures fault { IfErr result (λ e. (e ≢ WireFault.Read) × (e ≡ WireFault.Write → WriteFailed writer.old writer.new)) }
     ensures works { result ≢ Err WireFault.Write → failed_of writer.new ≡ failed_of writer.old }
     ensures no_stall { result ≢ Err WireFault.Write → stalls_of writer.new ≡ stalls_of writer.old }
 {
@@ -89,7 +89,7 @@ fn write_reply<W: Write>(
     writer: &mut Watched<W>,
 ) -> Result<(), WireFault>
     ensures sent { FrontSent (reply_text told.now.terminal (reply_of told.now.reply)) (W.contents (inner_of writer.old)) (W.contents (inner_of writer.new)) (is_ok result) }
-    ensures fault { IfErr result (λ e. (e ≢ WireFault.Read) × (e ≡ WireFault.Write → WriteBroke writer.old writer.new)) }
+    ensures fault { IfErr result (λ e. (e ≢ WireFault.Read) × (e ≡ WireFault.Write → WriteFailed writer.old writer.new)) }
     ensures works { result ≢ Err WireFault.Write → failed_of writer.new ≡ failed_of writer.old }
     ensures no_stall { result ≢ Err WireFault.Write → stalls_of writer.new ≡ stalls_of writer.old }
 {

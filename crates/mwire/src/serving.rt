@@ -3,11 +3,11 @@
 ghost use Rattle.std.specs.Prelude.{◌≡◌, ◌≢◌, ◌+◌, ◌≤◌, ℕ, List, [], ◌∷◌, ◌++◌, false, OnOk, IfOk, IfErr, is_ok, Ok, Err};
 ghost use Rattle.mworld.specs.View.{settings_of, world_of, reply_of};
 ghost use Rattle.mwire.specs.Wire.{reply_text};
-ghost use Rattle.mwire.specs.Watched.{inner_of, failed_of, calls_of, stalls_of, ReadBroke, WriteBroke};
+ghost use Rattle.mwire.specs.Watched.{inner_of, failed_of, calls_of, stalls_of, ReadFailed, WriteFailed};
 ghost use Rattle.mwire.specs.Serves.{Serves};
 ghost use Rattle.mwire.specs.Progress.{TakesOn, LineSent, FrontSent};
 
-use crate::fate::{Fate, fate_of};
+use crate::wire_line::{WireLine, classify};
 use crate::fault::WireFault;
 use crate::line_buffer::LineBuffer;
 use crate::reply::push_bytes;
@@ -45,8 +45,8 @@ pub fn serve<S: NodeStore, R: Read, W: Write>(
     ensures most { calls_of reader.new ≤ calls_of reader.old + 1000000000 }
 
     // A fault of a device is answered only where the device failed in this call.
-    ensures read { result ≡ Err WireFault.Read → ReadBroke reader.old reader.new }
-    ensures write { result ≡ Err WireFault.Write → WriteBroke writer.old writer.new }
+    ensures read { result ≡ Err WireFault.Read → ReadFailed reader.old reader.new }
+    ensures write { result ≡ Err WireFault.Write → WriteFailed writer.old writer.new }
     ensures reader_works { result ≢ Err WireFault.Read → failed_of reader.new ≡ false }
     ensures writer_works { result ≢ Err WireFault.Write → failed_of writer.new ≡ false }
     ensures no_stall { result ≢ Err WireFault.Write → stalls_of writer.new ≡ stalls_of writer.old }
@@ -79,7 +79,7 @@ fn take_piece<S: NodeStore, W: Write>(
     ensures passes { TakesOn S.NodeStore (settings_of world.old) (world_of S.NodeStore world.old) line.old piece.now (world_of S.NodeStore world.new) line.new
         (W.contents (inner_of writer.old)) (W.contents (inner_of writer.new)) result }
     ensures settings { settings_of world.new ≡ settings_of world.old }
-    ensures fault { IfErr result (λ e. (e ≢ WireFault.Read) × (e ≡ WireFault.Write → WriteBroke writer.old writer.new)) }
+    ensures fault { IfErr result (λ e. (e ≢ WireFault.Read) × (e ≡ WireFault.Write → WriteFailed writer.old writer.new)) }
     ensures works { result ≢ Err WireFault.Write → failed_of writer.new ≡ failed_of writer.old }
     ensures no_stall { result ≢ Err WireFault.Write → stalls_of writer.new ≡ stalls_of writer.old }
 {
@@ -100,7 +100,7 @@ fn take_byte<S: NodeStore, W: Write>(
     ensures passes { TakesOn S.NodeStore (settings_of world.old) (world_of S.NodeStore world.old) line.old (byte ∷ []) (world_of S.NodeStore world.new) line.new
         (W.contents (inner_of writer.old)) (W.contents (inner_of writer.new)) result }
     ensures settings { settings_of world.new ≡ settings_of world.old }
-    ensures fault { IfErr result (λ e. (e ≢ WireFault.Read) × (e ≡ WireFault.Write → WriteBroke writer.old writer.new)) }
+    ensures fault { IfErr result (λ e. (e ≢ WireFault.Read) × (e ≡ WireFault.Write → WriteFailed writer.old writer.new)) }
     ensures works { result ≢ Err WireFault.Write → failed_of writer.new ≡ failed_of writer.old }
     ensures no_stall { result ≢ Err WireFault.Write → stalls_of writer.new ≡ stalls_of writer.old }
 {
@@ -123,16 +123,16 @@ fn answer_line<S: NodeStore, W: Write>(
     ensures sent { LineSent S.NodeStore (settings_of world.old) (world_of S.NodeStore world.old) line.now (world_of S.NodeStore world.new)
         (W.contents (inner_of writer.old)) (W.contents (inner_of writer.new)) (is_ok result) }
     ensures settings { settings_of world.new ≡ settings_of world.old }
-    ensures fault { IfErr result (λ e. (e ≢ WireFault.Read) × (e ≡ WireFault.Write → WriteBroke writer.old writer.new)) }
+    ensures fault { IfErr result (λ e. (e ≢ WireFault.Read) × (e ≡ WireFault.Write → WriteFailed writer.old writer.new)) }
     ensures works { result ≢ Err WireFault.Write → failed_of writer.new ≡ failed_of writer.old }
     ensures no_stall { result ≢ Err WireFault.Write → stalls_of writer.new ≡ stalls_of writer.old }
     ensures idle { line.now ≡ [] → result ≡ Ok tt }
 {
-    match fate_of(line) {
-        Fate::Ignored => Ok(()),
-        Fate::TooLong => write_whole(writer, b"?!ZLINE\n"),
-        Fate::Unreadable => write_whole(writer, b"?!ZWIRE\n"),
-        Fate::Runs(terminal, text) => {
+    match classify(line) {
+        WireLine::Ignored => Ok(()),
+        WireLine::TooLong => write_whole(writer, b"?!ZLINE\n"),
+        WireLine::Unreadable => write_whole(writer, b"?!ZWIRE\n"),
+        WireLine::Runs(terminal, text) => {
             let reply = world.line(terminal, text);
             show_reply(room, terminal, &reply)?;
             world.reuse(reply);
@@ -156,7 +156,7 @@ pub(crate) fn show_reply(room: &mut Vec<u8>, terminal: u32, reply: &Reply) -> Re
 // Writes all of these bytes, or a front of them.
 pub(crate) fn write_whole<W: Write>(writer: &mut Watched<W>, bytes: &[u8]) -> Result<(), WireFault>
     ensures sent { FrontSent bytes.now (W.contents (inner_of writer.old)) (W.contents (inner_of writer.new)) (is_ok result) }
-    ensures fault { IfErr result (λ e. (e ≡ WireFault.Write) × WriteBroke writer.old writer.new) }
+    ensures fault { IfErr result (λ e. (e ≡ WireFault.Write) × WriteFailed writer.old writer.new) }
     ensures works { OnOk result (failed_of writer.new ≡ failed_of writer.old) }
     ensures no_stall { OnOk result (stalls_of writer.new ≡ stalls_of writer.old) }
 {

@@ -1,6 +1,6 @@
 -- SPDX-License-Identifier: Apache-2.0
 use Rattle.std.proofs.Common.{refl, sym, ◌∙◌, ap, []}
-use Rattle.mwire.specs.Fates.{fate_in}
+use Rattle.mwire.specs.WireLines.{wire_line_in}
 use Rattle.mwire.proofs.LineAnswers.{LineAnswered-at, replied}
 use Rattle.mwire.proofs.Results.{not_ok}
 use Rattle.mwire.proofs.Sends.{FrontSent-none}
@@ -8,7 +8,7 @@ use Rattle.mwire.proofs.serving.answer_line.Goals as goal
 
 pub returns-in_err-show_reply-in-Runs-clause-sent : goal.returns-in_err-show_reply-in-Runs-clause-sent
 returns-in_err-show_reply-in-Runs-clause-sent g c =
-    let is = sym c.fate_of.ensures ∙ ap fate_in c.in-Runs.is in
+    let is = sym c.classify.ensures ∙ ap wire_line_in c.in-Runs.is in
     record {
       answer = _;
       answered = LineAnswered-at _ _ _ _ _ _ _ is (replied _ c.line-reply.result refl c.line-reply.ensures.transition c.line-reply.ensures.steady);
@@ -17,22 +17,22 @@ returns-in_err-show_reply-in-Runs-clause-sent g c =
 
 pub returns-in-Ignored-clause-sent : goal.returns-in-Ignored-clause-sent
 returns-in-Ignored-clause-sent g c =
-    let is = sym c.fate_of.ensures ∙ ap fate_in c.in-Ignored.is in
+    let is = sym c.classify.ensures ∙ ap wire_line_in c.in-Ignored.is in
     record { answer = []; answered = LineAnswered-at _ _ _ _ _ _ _ is (refl, refl); sent = FrontSent-none _ _ _ (λ _. refl) }
 
 pub returns-in-TooLong-clause-sent : goal.returns-in-TooLong-clause-sent
 returns-in-TooLong-clause-sent g c =
-    let is = sym c.fate_of.ensures ∙ ap fate_in c.in-TooLong.is in
+    let is = sym c.classify.ensures ∙ ap wire_line_in c.in-TooLong.is in
     record { answer = _; answered = LineAnswered-at _ _ _ _ _ _ _ is (refl, refl); sent = c.write_whole.ensures.sent }
 
 pub returns-in-Unreadable-clause-sent : goal.returns-in-Unreadable-clause-sent
 returns-in-Unreadable-clause-sent g c =
-    let is = sym c.fate_of.ensures ∙ ap fate_in c.in-Unreadable.is in
+    let is = sym c.classify.ensures ∙ ap wire_line_in c.in-Unreadable.is in
     record { answer = _; answered = LineAnswered-at _ _ _ _ _ _ _ is (refl, refl); sent = c.write_whole-in-Unreadable.ensures.sent }
 
 pub returns-in_ok-show_reply-in-Runs-clause-sent : goal.returns-in_ok-show_reply-in-Runs-clause-sent
 returns-in_ok-show_reply-in-Runs-clause-sent g c =
-    let is = sym c.fate_of.ensures ∙ ap fate_in c.in-Runs.is in
+    let is = sym c.classify.ensures ∙ ap wire_line_in c.in-Runs.is in
     let same = c.deref.ensures.value ∙ c.in_ok-show_reply-in-Runs.ensures.ok in
     rw c.reuse.ensures.world (record {
       answer = c.deref.result.now;

@@ -4,15 +4,15 @@ use Rattle.std.specs.Prelude.{ℕ, nat_lt, length, Option, Some, None, if◌then
 use Rattle.std.specs.List.{position_or_len}
 use Rattle.mspec.specs.Act.{Text}
 use Rattle.mspec.specs.Literal.{digits_after}
-use Rattle.mwire.specs.declared.fate.Fate.{Fate as CodeFate}
-use Rattle.mwire.specs.declared.fate.Fate.TheVariants.{Ignored as CodeIgnored, TooLong as CodeTooLong, Unreadable as CodeUnreadable, Runs as CodeRuns}
-use Rattle.mwire.specs.Wire.{Fate, Ignored, TooLong, Unreadable, Runs, is_space, is_terminal}
+use Rattle.mwire.specs.declared.wire_line.WireLine.{WireLine as CodeFate}
+use Rattle.mwire.specs.declared.wire_line.WireLine.TheVariants.{Ignored as CodeIgnored, TooLong as CodeTooLong, Unreadable as CodeUnreadable, Runs as CodeRuns}
+use Rattle.mwire.specs.Wire.{WireLine, Ignored, TooLong, Unreadable, Runs, is_space, is_terminal}
 
-abbrev pub fate_in : CodeFate → Fate
-fate_in CodeIgnored = Ignored
-fate_in CodeTooLong = TooLong
-fate_in CodeUnreadable = Unreadable
-fate_in (CodeRuns terminal text) = Runs (record { terminal = terminal; text = text.now })
+abbrev pub wire_line_in : CodeFate → WireLine
+wire_line_in CodeIgnored = Ignored
+wire_line_in CodeTooLong = TooLong
+wire_line_in CodeUnreadable = Unreadable
+wire_line_in (CodeRuns terminal text) = Runs (record { terminal = terminal; text = text.now })
 
 -- the terminal that a text names
 abbrev pub terminal_read : Text → Option ℕ

@@ -3,7 +3,7 @@ use Rattle.std.proofs.Common.{◌≡◌, ◌^◌, ◌<◌, true}
 use Rattle.std.specs.Prelude.{take}
 use Rattle.std.specs.List.{list_all}
 use Rattle.mspec.specs.Literal.{is_digit, digits_after}
-use Rattle.mwire.proofs.fate.terminal_of.Given as goal
+use Rattle.mwire.proofs.wire_line.terminal_of.Given as goal
 
 abbrev pub invariant-loop-c : goal.invariant-loop-c
 invariant-loop-c l = record {

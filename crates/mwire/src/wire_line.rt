@@ -1,15 +1,15 @@
 // SPDX-License-Identifier: Apache-2.0
 //! What becomes of a line of the wire.
 ghost use Rattle.std.specs.Prelude.{◌≡◌};
-ghost use Rattle.mwire.specs.Wire.{fate_of};
-ghost use Rattle.mwire.specs.Fates.{space_read, terminal_read, fate_in};
+ghost use Rattle.mwire.specs.Wire.{classify};
+ghost use Rattle.mwire.specs.WireLines.{space_read, terminal_read, wire_line_in};
 
 /// The most bytes that a line of the wire has.
 pub const WIRE_LIMIT: usize = 260;
 
 /// What becomes of a line.
 #[derive(Clone, Copy)]
-pub enum Fate<'a> {
+pub enum WireLine<'a> {
     /// It is empty, and nothing answers it.
     Ignored,
     /// It has more than 260 bytes, and is answered `?!ZLINE`.
@@ -21,21 +21,21 @@ pub enum Fate<'a> {
 }
 
 /// What becomes of a line, which comes without its line feed and the carriage return before that.
-pub fn fate_of(line: &[u8]) -> Fate<'_>
-    ensures { fate_in result ≡ fate_of line.now }
+pub fn classify(line: &[u8]) -> WireLine<'_>
+    ensures { wire_line_in result ≡ classify line.now }
 {
     if line.is_empty() {
-        return Fate::Ignored;
+        return WireLine::Ignored;
     }
     if line.len() > WIRE_LIMIT {
-        return Fate::TooLong;
+        return WireLine::TooLong;
     }
     let Some(space) = first_space(line) else {
-        return Fate::Unreadable;
+        return WireLine::Unreadable;
     };
     match terminal_of(&line[..space]) {
-        Some(terminal) => Fate::Runs(terminal, &line[space + 1..]),
-        None => Fate::Unreadable,
+        Some(terminal) => WireLine::Runs(terminal, &line[space + 1..]),
+        None => WireLine::Unreadable,
     }
 }
 

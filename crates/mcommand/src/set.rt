@@ -219,7 +219,7 @@ impl<'a, S: NodeStore> Parts<'a, S> {
             Destination::One(target) => match plain_target(target) {
                 Some(name) => {
                     let value = self.eval.eval(alloc, e)?;
-                    self.eval.set_index(name, value)
+                    self.eval.set_variable(name, value)
                 }
                 None => self.setting_one(alloc, target, e),
             },

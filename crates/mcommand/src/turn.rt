@@ -69,7 +69,7 @@ impl<'a, S: NodeStore> Parts<'a, S> {
     {
         let number = self.eval.number(alloc, e)?;
         let by = self.eval.number(alloc, by)?;
-        self.eval.set_index(index, Value::of_number(number))?;
+        self.eval.set_variable(index, Value::of_number(number))?;
         Ok(Some(Course::Endless(by)))
     }
 
@@ -89,7 +89,7 @@ impl<'a, S: NodeStore> Parts<'a, S> {
         let number = self.eval.number(alloc, e)?;
         let by = self.eval.number(alloc, by)?;
         let limit = self.eval.number(alloc, limit)?;
-        self.eval.set_index(index, Value::of_number(number))?;
+        self.eval.set_variable(index, Value::of_number(number))?;
         if starts_past(by, number, limit) {
             return Ok(None);
         }
@@ -115,7 +115,7 @@ impl<'a, S: NodeStore> Parts<'a, S> {
         match parameter {
             Parameter::Once(e) => {
                 let value = self.eval.eval(alloc, e)?;
-                self.eval.set_index(index, value)?;
+                self.eval.set_variable(index, value)?;
                 Ok(Some(Course::LastTurn))
             }
             Parameter::Onward(e, by) => self.start_endless(alloc, index, e, by),
@@ -130,7 +130,7 @@ impl<'a, S: NodeStore> Parts<'a, S> {
         ensures does { Does S.NodeStore (λ i. added index.now (units number) (units by)) (λ goes_on. goes_on) self.old result self.new }
     {
         let next = computed(number.add(by))?;
-        self.eval.set_index(index, next)?;
+        self.eval.set_variable(index, next)?;
         Ok(true)
     }
 

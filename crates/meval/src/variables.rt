@@ -153,7 +153,7 @@ impl<'a, S: NodeStore> Eval<'a, S> {
     ///
     /// `Zmem` for want of memory; the variable is then as it was.
     #[tactic(auto, unfolding(mspec::specs::Act::assigned_to))]
-    pub fn set_index(&mut self, name: &Name, value: Value) -> Result<(), Code>
+    pub fn set_variable(&mut self, name: &Name, value: Value) -> Result<(), Code>
         ensures loans { KeepsEval self.old self.new }
         ensures fewer { self.new.steps ≤ self.old.steps }
         ensures does { Evaluates S.NodeStore (λ i. variables.put_at (variables.at_local name.now []) value) (λ u. u) self.old result self.new }

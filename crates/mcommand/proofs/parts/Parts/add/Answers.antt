@@ -11,12 +11,12 @@ returns-in_err-next-clause-does g c =
     let next = rw (sum_units (units c.args.number) (units c.args.by) c.add.result c.add.ensures) at c.in_err-next.ensures.value in
     does_stopped _ (does_yielded next) c.from_residual.ensures
 
-pub returns-in_err-set_index-clause-does : goal.returns-in_err-set_index-clause-does
-returns-in_err-set_index-clause-does g c =
+pub returns-in_err-set_variable-clause-does : goal.returns-in_err-set_variable-clause-does
+returns-in_err-set_variable-clause-does g c =
     let next = rw (sum_units (units c.args.number) (units c.args.by) c.add.result c.add.ensures) at c.in_ok-next.ensures.value in
-    does_then _ (does_yielded next) (does_stopped (λ i _. give true) (does_evaluated c.in_err-set_index.ensures.does) c.from_residual-in_err-set_index.ensures)
+    does_then _ (does_yielded next) (does_stopped (λ i _. give true) (does_evaluated c.in_err-set_variable.ensures.does) c.from_residual-in_err-set_variable.ensures)
 
 pub returns-clause-does : goal.returns-clause-does
 returns-clause-does g c =
     let next = rw (sum_units (units c.args.number) (units c.args.by) c.add.result c.add.ensures) at c.in_ok-next.ensures.value in
-    does_then _ (does_yielded next) (does_then (λ i _. give true) (does_evaluated c.in_ok-set_index.ensures.does) (does_gives true (λ (b : Bool). b) true refl))
+    does_then _ (does_yielded next) (does_then (λ i _. give true) (does_evaluated c.in_ok-set_variable.ensures.does) (does_gives true (λ (b : Bool). b) true refl))

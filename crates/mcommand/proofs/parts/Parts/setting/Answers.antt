@@ -15,7 +15,7 @@ returns-in_err-value-in-Some-clause-does g c =
 pub returns-in_ok-value-in-Some-clause-does : goal.returns-in_ok-value-in-Some-clause-does
 returns-in_ok-value-in-Some-clause-does g c =
     rw (c.in-One.is, c.in-Some.ensures)
-    (plain_assigned c.in-Some.name.now (expr_tree c.args.e.now) c.in_ok-value-in-Some.value c.set_index.result (does_evaluated c.in_ok-value-in-Some.ensures.does) (does_evaluated c.set_index.ensures.does))
+    (plain_assigned c.in-Some.name.now (expr_tree c.args.e.now) c.in_ok-value-in-Some.value c.set_variable.result (does_evaluated c.in_ok-value-in-Some.ensures.does) (does_evaluated c.set_variable.ensures.does))
 
 pub returns-in-None-clause-does : goal.returns-in-None-clause-does
 returns-in-None-clause-does g c = rw c.in-One.is c.setting_one.ensures.does

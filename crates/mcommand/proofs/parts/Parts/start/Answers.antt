@@ -9,15 +9,15 @@ use Rattle.mcommand.proofs.parts.Parts.start.Goals as goal
 pub returns-in_err-value-in-Once-clause-does : goal.returns-in_err-value-in-Once-clause-does
 returns-in_err-value-in-Once-clause-does g c = rw c.in-Once.is (does_stopped _ (does_evaluated c.in_err-value-in-Once.ensures.does) c.from_residual.ensures)
 
-pub returns-in_err-set_index-in-Once-clause-does : goal.returns-in_err-set_index-in-Once-clause-does
-returns-in_err-set_index-in-Once-clause-does g c =
+pub returns-in_err-set_variable-in-Once-clause-does : goal.returns-in_err-set_variable-in-Once-clause-does
+returns-in_err-set_variable-in-Once-clause-does g c =
     rw c.in-Once.is
-    (does_then _ (does_evaluated c.in_ok-value-in-Once.ensures.does) (does_stopped (λ i _. give (Some last_turn)) (does_evaluated c.in_err-set_index-in-Once.ensures.does) c.from_residual-in_err-set_index-in-Once.ensures))
+    (does_then _ (does_evaluated c.in_ok-value-in-Once.ensures.does) (does_stopped (λ i _. give (Some last_turn)) (does_evaluated c.in_err-set_variable-in-Once.ensures.does) c.from_residual-in_err-set_variable-in-Once.ensures))
 
-pub returns-in_ok-set_index-in-Once-clause-does : goal.returns-in_ok-set_index-in-Once-clause-does
-returns-in_ok-set_index-in-Once-clause-does g c =
+pub returns-in_ok-set_variable-in-Once-clause-does : goal.returns-in_ok-set_variable-in-Once-clause-does
+returns-in_ok-set_variable-in-Once-clause-does g c =
     rw c.in-Once.is
-    (does_then _ (does_evaluated c.in_ok-value-in-Once.ensures.does) (does_then (λ i _. give (Some last_turn)) (does_evaluated c.in_ok-set_index-in-Once.ensures.does) (does_gives (Some last_turn) (option_map course_view) _ refl)))
+    (does_then _ (does_evaluated c.in_ok-value-in-Once.ensures.does) (does_then (λ i _. give (Some last_turn)) (does_evaluated c.in_ok-set_variable-in-Once.ensures.does) (does_gives (Some last_turn) (option_map course_view) _ refl)))
 
 pub returns-in-Onward-clause-does : goal.returns-in-Onward-clause-does
 returns-in-Onward-clause-does g c = rw c.in-Onward.is c.start_endless.ensures.does

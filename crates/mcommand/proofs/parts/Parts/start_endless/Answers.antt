@@ -13,15 +13,15 @@ returns-in_err-number-clause-does g c = does_stopped _ (does_evaluated c.in_err-
 pub returns-in_err-by-clause-does : goal.returns-in_err-by-clause-does
 returns-in_err-by-clause-does g c = does_then _ (does_evaluated c.in_ok-number.ensures.does) (does_stopped _ (does_evaluated c.in_err-by.ensures.does) c.from_residual-in_err-by.ensures)
 
-pub returns-in_err-set_index-clause-does : goal.returns-in_err-set_index-clause-does
-returns-in_err-set_index-clause-does g c =
-    let set = rw c.of_number.ensures at c.in_err-set_index.ensures.does in
+pub returns-in_err-set_variable-clause-does : goal.returns-in_err-set_variable-clause-does
+returns-in_err-set_variable-clause-does g c =
+    let set = rw c.of_number.ensures at c.in_err-set_variable.ensures.does in
     does_then _ (does_evaluated c.in_ok-number.ensures.does)
-    (does_then _ (does_evaluated c.in_ok-by.ensures.does) (does_stopped (λ i _. give (Some (endless (units c.in_ok-by.by)))) (does_evaluated set) c.from_residual-in_err-set_index.ensures))
+    (does_then _ (does_evaluated c.in_ok-by.ensures.does) (does_stopped (λ i _. give (Some (endless (units c.in_ok-by.by)))) (does_evaluated set) c.from_residual-in_err-set_variable.ensures))
 
 pub returns-clause-does : goal.returns-clause-does
 returns-clause-does g c =
-    let set = rw c.of_number.ensures at c.in_ok-set_index.ensures.does in
+    let set = rw c.of_number.ensures at c.in_ok-set_variable.ensures.does in
     does_then _ (does_evaluated c.in_ok-number.ensures.does)
     (does_then _ (does_evaluated c.in_ok-by.ensures.does)
     (does_then (λ i _. give (Some (endless (units c.in_ok-by.by)))) (does_evaluated set) (does_gives (Some (endless (units c.in_ok-by.by))) (option_map course_view) _ refl)))

@@ -18,19 +18,19 @@ pub returns-in_err-limit-clause-does : goal.returns-in_err-limit-clause-does
 returns-in_err-limit-clause-does g c =
     does_then _ (does_evaluated c.in_ok-number.ensures.does) (does_then _ (does_evaluated c.in_ok-by.ensures.does) (does_stopped _ (does_evaluated c.in_err-limit.ensures.does) c.from_residual-in_err-limit.ensures))
 
-pub returns-in_err-set_index-clause-does : goal.returns-in_err-set_index-clause-does
-returns-in_err-set_index-clause-does g c =
-    let set = rw c.of_number.ensures at c.in_err-set_index.ensures.does in
+pub returns-in_err-set_variable-clause-does : goal.returns-in_err-set_variable-clause-does
+returns-in_err-set_variable-clause-does g c =
+    let set = rw c.of_number.ensures at c.in_err-set_variable.ensures.does in
     let b = units c.in_ok-by.by in
     let limit = units c.in_ok-limit.limit in
     does_then _ (does_evaluated c.in_ok-number.ensures.does)
     (does_then _ (does_evaluated c.in_ok-by.ensures.does)
     (does_then _ (does_evaluated c.in_ok-limit.ensures.does)
-    (does_stopped (λ i _. give (cond (is_past b (units c.in_ok-number.number) limit) None (Some (limited b limit)))) (does_evaluated set) c.from_residual-in_err-set_index.ensures)))
+    (does_stopped (λ i _. give (cond (is_past b (units c.in_ok-number.number) limit) None (Some (limited b limit)))) (does_evaluated set) c.from_residual-in_err-set_variable.ensures)))
 
 pub returns-then-starts_past-clause-does : goal.returns-then-starts_past-clause-does
 returns-then-starts_past-clause-does g c =
-    let set = rw c.of_number.ensures at c.in_ok-set_index.ensures.does in
+    let set = rw c.of_number.ensures at c.in_ok-set_variable.ensures.does in
     let b = units c.in_ok-by.by in
     let limit = units c.in_ok-limit.limit in
     let past : is_past b (units c.in_ok-number.number) limit ≡ true = sym c.starts_past.ensures ∙ c.if-starts_past.true in
@@ -42,7 +42,7 @@ returns-then-starts_past-clause-does g c =
 
 pub returns-clause-does : goal.returns-clause-does
 returns-clause-does g c =
-    let set = rw c.of_number.ensures at c.in_ok-set_index.ensures.does in
+    let set = rw c.of_number.ensures at c.in_ok-set_variable.ensures.does in
     let b = units c.in_ok-by.by in
     let limit = units c.in_ok-limit.limit in
     let past : is_past b (units c.in_ok-number.number) limit ≡ false = sym c.starts_past.ensures ∙ c.if-starts_past.false in

@@ -2,7 +2,7 @@
 -- Indirection on examples, as proved equations: texts with their trees, and texts that have none.
 use Rattle.std.proofs.Common.{◌≡◌, ℕ, zero, suc, ◌≢◌, List, [], ◌∷◌, ◌++◌, Some, None, refl, rules}
 use Rattle.std.specs.Prelude.{codes, replicate}
-use Rattle.mgrammar.specs.Grammar.{plus, add, apply, expr, no_tails, tail, operand, PrimaryTree, number, text, reference, bracket, ReferenceTree, local, naked, indirect, no_exprs, exprs, variable, one, several, at_label_in, assignment, removal, hiding, condition, output, entrance, leap, execution, assign, breaks, shown, kill_one, do_one, executed, indirect_args, set_word, kill_word, new_word, if_word, write_word, do_word, goto_word, execute_word}
+use Rattle.mgrammar.specs.Grammar.{plus, add, apply, expr, no_tails, tail, operand, PrimaryTree, number, text, reference, bracket, ReferenceTree, local, naked, indirect, no_exprs, exprs, variable, one, several, at_label_in, set_argument, kill_argument, new_argument, if_argument, write_argument, do_argument, goto_argument, xecute_argument, assign, breaks, shown, kill_one, do_one, executed, indirect_args, set_word, kill_word, new_word, if_word, write_word, do_word, goto_word, execute_word}
 use Rattle.mgrammar.specs.Reading.{line_at}
 use Rattle.mgrammar.specs.IndirectTexts.{ref_at, args_of}
 use Rattle.mgrammar.proofs.Computing.{reads}
@@ -40,23 +40,23 @@ names = search rules
 
 record Arguments : Type 0 where
   -- WRITE: beside other arguments
-  output_given : IsRead (codes "W @A,1,@@A,@\"A\"") (of_one write_word (codes "W") (indirect_args output a ∷ shown (only (number (codes "1"))) ∷ indirect_args output (reference (at a)) ∷ indirect_args output (text (codes "A")) ∷ []))
+  write_argument_given : IsRead (codes "W @A,1,@@A,@\"A\"") (of_one write_word (codes "W") (indirect_args write_argument a ∷ shown (only (number (codes "1"))) ∷ indirect_args write_argument (reference (at a)) ∷ indirect_args write_argument (text (codes "A")) ∷ []))
   -- SET
-  assignment_given : IsRead (codes "S @A,@@A") (of_one set_word (codes "S") (indirect_args assignment a ∷ indirect_args assignment (reference (at a)) ∷ []))
+  set_argument_given : IsRead (codes "S @A,@@A") (of_one set_word (codes "S") (indirect_args set_argument a ∷ indirect_args set_argument (reference (at a)) ∷ []))
   -- KILL
-  removal_given : IsRead (codes "K @A,@@A") (of_one kill_word (codes "K") (indirect_args removal a ∷ indirect_args removal (reference (at a)) ∷ []))
+  kill_argument_given : IsRead (codes "K @A,@@A") (of_one kill_word (codes "K") (indirect_args kill_argument a ∷ indirect_args kill_argument (reference (at a)) ∷ []))
   -- NEW
-  hiding_given : IsRead (codes "N @A,@@A") (of_one new_word (codes "N") (indirect_args hiding a ∷ indirect_args hiding (reference (at a)) ∷ []))
+  new_argument_given : IsRead (codes "N @A,@@A") (of_one new_word (codes "N") (indirect_args new_argument a ∷ indirect_args new_argument (reference (at a)) ∷ []))
   -- IF
-  condition_given : IsRead (codes "I @A,@@A") (of_one if_word (codes "I") (indirect_args condition a ∷ indirect_args condition (reference (at a)) ∷ []))
+  if_argument_given : IsRead (codes "I @A,@@A") (of_one if_word (codes "I") (indirect_args if_argument a ∷ indirect_args if_argument (reference (at a)) ∷ []))
   -- DO
-  entrance_given : IsRead (codes "D @A,@@A") (of_one do_word (codes "D") (indirect_args entrance a ∷ indirect_args entrance (reference (at a)) ∷ []))
+  do_argument_given : IsRead (codes "D @A,@@A") (of_one do_word (codes "D") (indirect_args do_argument a ∷ indirect_args do_argument (reference (at a)) ∷ []))
   -- GOTO
-  leap_given : IsRead (codes "G @A,@@A") (of_one goto_word (codes "G") (indirect_args leap a ∷ indirect_args leap (reference (at a)) ∷ []))
+  goto_argument_given : IsRead (codes "G @A,@@A") (of_one goto_word (codes "G") (indirect_args goto_argument a ∷ indirect_args goto_argument (reference (at a)) ∷ []))
   -- XECUTE
-  execution_given : IsRead (codes "X @A,@@A") (of_one execute_word (codes "X") (indirect_args execution a ∷ indirect_args execution (reference (at a)) ∷ []))
+  xecute_argument_given : IsRead (codes "X @A,@@A") (of_one execute_word (codes "X") (indirect_args xecute_argument a ∷ indirect_args xecute_argument (reference (at a)) ∷ []))
   -- subscripts behind a further `@` make it a variable
-  removal_named : IsRead (codes "K @A@(1),@(A)") (of_one kill_word (codes "K") (kill_one (at_digit a (codes "1")) ∷ indirect_args removal (bracket (only a)) ∷ []))
+  removal_named : IsRead (codes "K @A@(1),@(A)") (of_one kill_word (codes "K") (kill_one (at_digit a (codes "1")) ∷ indirect_args kill_argument (bracket (only a)) ∷ []))
 
 arguments : Arguments
 unfolding reads
@@ -86,7 +86,7 @@ abbrev deep : ℕ → PrimaryTree → PrimaryTree
 deep zero p = p
 deep (suc n) p = reference (at (deep n p))
 
-forty_deep : IsRead (signs 40) (of_one write_word (codes "W") (indirect_args output (deep 39 a) ∷ []))
+forty_deep : IsRead (signs 40) (of_one write_word (codes "W") (indirect_args write_argument (deep 39 a) ∷ []))
 unfolding reads
 forty_deep = (refl, refl)
 
@@ -112,12 +112,12 @@ no_references : (ref_at [] ≡ None) × (ref_at (codes "B C") ≡ None) × (ref_
 unfolding reads
 no_references = (refl, refl, refl, refl, refl, refl)
 
-argument_lists : (args_of output (codes "1,!!,@A") ≡ Some (shown (only (number (codes "1"))) ∷ breaks 2 ∷ indirect_args output a ∷ []))
-    × (args_of assignment (codes "B=4,@A") ≡ Some (assign (one (variable (named (codes "B")))) (only (number (codes "4"))) ∷ indirect_args assignment a ∷ []))
-    × (args_of entrance (codes "U^T:1") ≡ Some (do_one (at_label_in (codes "U") (codes "T")) (Some (only (number (codes "1")))) ∷ []))
+argument_lists : (args_of write_argument (codes "1,!!,@A") ≡ Some (shown (only (number (codes "1"))) ∷ breaks 2 ∷ indirect_args write_argument a ∷ []))
+    × (args_of set_argument (codes "B=4,@A") ≡ Some (assign (one (variable (named (codes "B")))) (only (number (codes "4"))) ∷ indirect_args set_argument a ∷ []))
+    × (args_of do_argument (codes "U^T:1") ≡ Some (do_one (at_label_in (codes "U") (codes "T")) (Some (only (number (codes "1")))) ∷ []))
 unfolding reads
 argument_lists = (refl, refl, refl)
 
-no_argument_lists : (args_of output [] ≡ None) × (args_of output (codes "1 1") ≡ None) × (args_of output (codes "1,") ≡ None) × (args_of removal (codes "1") ≡ None) × (args_of assignment (codes "B") ≡ None) × (args_of entrance (codes " A") ≡ None)
+no_argument_lists : (args_of write_argument [] ≡ None) × (args_of write_argument (codes "1 1") ≡ None) × (args_of write_argument (codes "1,") ≡ None) × (args_of kill_argument (codes "1") ≡ None) × (args_of set_argument (codes "B") ≡ None) × (args_of do_argument (codes " A") ≡ None)
 unfolding reads
 no_argument_lists = (refl, refl, refl, refl, refl, refl)

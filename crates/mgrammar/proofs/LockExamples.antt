@@ -2,7 +2,7 @@
 -- Environments, LOCK and HALT on examples, as proved equations: texts with their trees, and texts that have none.
 use Rattle.std.proofs.Common.{◌≡◌, ◌≢◌, ℕ, List, [], ◌∷◌, ◌++◌, Option, Some, None, refl, rules}
 use Rattle.std.specs.Prelude.{codes, replicate}
-use Rattle.mgrammar.specs.Grammar.{ExprTree, text, reference, global, indirect, extended, no_exprs, exprs, anew, adding, giving_back, lock_one, lock_several, locking, ArgTree, shown, locked, indirect_args, KeywordTree, write_word, lock_word, halt_word, SpacedTree}
+use Rattle.mgrammar.specs.Grammar.{ExprTree, text, reference, global, indirect, extended, no_exprs, exprs, anew, adding, giving_back, lock_one, lock_several, lock_argument, ArgTree, shown, locked, indirect_args, KeywordTree, write_word, lock_word, halt_word, SpacedTree}
 use Rattle.mgrammar.specs.Reading.{line_at}
 use Rattle.mgrammar.specs.IndirectTexts.{ref_at, args_of}
 use Rattle.mgrammar.proofs.Computing.{reads}
@@ -39,7 +39,7 @@ bars_deep = (λ e. cc, refl)
 
 record LocksRead : Type 0 where
   -- with a sign or none, one name or some in brackets, with a timeout or none
-  locks : IsRead (codes "L A,+^X(1):1,-(A,^X):1,@A") (of_one lock_word (codes "L") (locked anew (lock_one (named (codes "A"))) None ∷ locked adding (lock_one (global (codes "X") (exprs the_one no_exprs))) (Some the_one) ∷ locked giving_back (lock_several (named (codes "A") ∷ global (codes "X") no_exprs ∷ [])) (Some the_one) ∷ indirect_args locking (reference (named (codes "A"))) ∷ []))
+  locks : IsRead (codes "L A,+^X(1):1,-(A,^X):1,@A") (of_one lock_word (codes "L") (locked anew (lock_one (named (codes "A"))) None ∷ locked adding (lock_one (global (codes "X") (exprs the_one no_exprs))) (Some the_one) ∷ locked giving_back (lock_several (named (codes "A") ∷ global (codes "X") no_exprs ∷ [])) (Some the_one) ∷ indirect_args lock_argument (reference (named (codes "A"))) ∷ []))
   -- an `@` with a sign, a bracket or a timeout is a name
   locks_named : IsRead (codes "Lock +@A,@A:1,(@A)") (of_one lock_word (codes "Lock") (locked adding (lock_one (indirect (reference (named (codes "A"))) no_exprs)) None ∷ locked anew (lock_one (indirect (reference (named (codes "A"))) no_exprs)) (Some the_one) ∷ locked anew (lock_several (indirect (reference (named (codes "A"))) no_exprs ∷ [])) None ∷ []))
   -- without arguments, and with a condition
@@ -70,6 +70,6 @@ no_halts = refl
 
 -- ---- texts of argument indirection
 
-given_locks : (args_of locking (codes "^X,+^Y:1") ≡ Some (locked anew (lock_one (global (codes "X") no_exprs)) None ∷ locked adding (lock_one (global (codes "Y") no_exprs)) (Some the_one) ∷ [])) × (args_of locking (codes "^(1)") ≡ None) × (ref_at (codes "^|1|X") ≡ Some (extended the_one (codes "X") no_exprs))
+given_locks : (args_of lock_argument (codes "^X,+^Y:1") ≡ Some (locked anew (lock_one (global (codes "X") no_exprs)) None ∷ locked adding (lock_one (global (codes "Y") no_exprs)) (Some the_one) ∷ [])) × (args_of lock_argument (codes "^(1)") ≡ None) × (ref_at (codes "^|1|X") ≡ Some (extended the_one (codes "X") no_exprs))
 unfolding reads
 given_locks = (refl, refl, refl)

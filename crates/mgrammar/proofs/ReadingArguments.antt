@@ -5,9 +5,9 @@ use Rattle.std.proofs.lemmas.Bool.{eqb-true}
 use Rattle.std.proofs.lemmas.Bool.Decides.{nat_tests}
 use Rattle.std.proofs.lemmas.List.{length-replicate}
 use Rattle.mspec.specs.Names.{is_name_rest, AllAre, IsName}
-use Rattle.mgrammar.specs.Grammar.{ExprTree, ReferenceTree, ParameterTree, once, onward, until, ArgTree, breaks, shown, kill_one, kill_others, new_one, new_others, tested, loop, removal, hiding, condition, repetition, output, spell_expr, spell_reference, spell_list, spell_names, spell_parameter, spell_arg}
+use Rattle.mgrammar.specs.Grammar.{ExprTree, ReferenceTree, ParameterTree, once, onward, until, ArgTree, breaks, shown, kill_one, kill_others, new_one, new_others, tested, loop, kill_argument, new_argument, if_argument, for_argument, write_argument, spell_expr, spell_reference, spell_list, spell_names, spell_parameter, spell_arg}
 use Rattle.mgrammar.specs.WellFormed.{max_depth, WellExpr, WellReference, WellList, WellParameter, WellPlain}
-use Rattle.mgrammar.specs.Reading.{◌>>=◌, run_of, after_run, name_at, past, list_at, expr_at, readers_at, reference_with, is_bang, output_by, output_at, names_at, removal_at, hiding_at, condition_at, limit_by, increment_by, parameter_at, repetition_at}
+use Rattle.mgrammar.specs.Reading.{◌>>=◌, run_of, after_run, name_at, past, list_at, expr_at, readers_at, reference_with, is_bang, write_argument_by, write_argument_at, names_at, kill_argument_at, new_argument_at, if_argument_at, limit_by, increment_by, parameter_at, for_argument_at}
 use Rattle.mgrammar.proofs.ReadingBasics.{Takes, Again, Stops, Begins, Begins-stops, Begins-append, Begins-weaker, bind_some, chosen, some_is, run_parts, run_again, past_takes, not_past, name_takes, name_again}
 use Rattle.mgrammar.proofs.ReadingLists.{joined_by, enclosed, is_comma, list_takes, list_again}
 use Rattle.mgrammar.proofs.ReadingReferences.{OperandEnds, Ends, begins_reference, name_begins_reference, reference_takes, reference_again, reference_begins}
@@ -56,33 +56,33 @@ pub copies_are : (a n : ℕ) → eqb a a ≡ true → AllAre (λ c. eqb c a) (re
 copies_are a zero h = tt
 copies_are a (suc n) h = (h, copies_are a n h)
 
--- as output_takes, where this run of `!` is in front
-output_takes_by : (r cs : List ℕ) (x : ArgTree × List ℕ) → run_of is_bang cs ≡ r → output_by r cs ≡ Some x → (cs ≡ spell_arg x.0 ++ x.1) × WellPlain output x.0
-output_takes_by [] cs x h e =
+-- as write_argument_takes, where this run of `!` is in front
+write_argument_takes_by : (r cs : List ℕ) (x : ArgTree × List ℕ) → run_of is_bang cs ≡ r → write_argument_by r cs ≡ Some x → (cs ≡ spell_arg x.0 ++ x.1) × WellPlain write_argument x.0
+write_argument_takes_by [] cs x h e =
     let b = bind_some (expr_at max_depth cs) (λ y. Some (shown y.0, y.1)) x e in
     let t = whole_takes cs b.0 b.1 in
-    subst (λ (y : ArgTree × List ℕ). (cs ≡ spell_arg y.0 ++ y.1) × WellPlain output y.0) (some_is (shown b.0.0, b.0.1) x b.2) t
-output_takes_by (b ∷ bs) cs x h e =
+    subst (λ (y : ArgTree × List ℕ). (cs ≡ spell_arg y.0 ++ y.1) × WellPlain write_argument y.0) (some_is (shown b.0.0, b.0.1) x b.2) t
+write_argument_takes_by (b ∷ bs) cs x h e =
     let r = run_parts is_bang cs in
     let copies : b ∷ bs ≡ replicate (length (b ∷ bs)) 33 = all_copies 33 (b ∷ bs) (subst (AllAre is_bang) h r.1) in
     let parts : cs ≡ replicate (length (b ∷ bs)) 33 ++ after_run is_bang cs = r.0 ∙ ap (λ (y : List ℕ). y ++ after_run is_bang cs) (h ∙ copies) in
     let long : 0 < length (b ∷ bs) = omega arith in
-    subst (λ (y : ArgTree × List ℕ). (cs ≡ spell_arg y.0 ++ y.1) × WellPlain output y.0) (some_is (breaks (length (b ∷ bs)), after_run is_bang cs) x e) (parts, long)
+    subst (λ (y : ArgTree × List ℕ). (cs ≡ spell_arg y.0 ++ y.1) × WellPlain write_argument y.0) (some_is (breaks (length (b ∷ bs)), after_run is_bang cs) x e) (parts, long)
 
-pub output_takes : Takes spell_arg (WellPlain output) output_at
-unfolding output_at
-output_takes cs x e = output_takes_by (run_of is_bang cs) cs x refl e
+pub write_argument_takes : Takes spell_arg (WellPlain write_argument) write_argument_at
+unfolding write_argument_at
+write_argument_takes cs x e = write_argument_takes_by (run_of is_bang cs) cs x refl e
 
-pub output_again : Again spell_arg (WellPlain output) Follows output_at
-unfolding output_at
-output_again (breaks zero) rest w s = absurd (omega arith)
-output_again (breaks (suc n)) rest w s =
+pub write_argument_again : Again spell_arg (WellPlain write_argument) Follows write_argument_at
+unfolding write_argument_at
+write_argument_again (breaks zero) rest w s = absurd (omega arith)
+write_argument_again (breaks (suc n)) rest w s =
     let r = run_again is_bang (replicate n 33) rest (copies_are 33 n refl) s.1 in
     rw (r.0, r.1, length-replicate {A = ℕ} n 33) refl
-output_again (shown e) rest w s =
+write_argument_again (shown e) rest w s =
     let none : run_of is_bang (spell_expr e ++ rest) ≡ [] = no_run is_bang (spell_expr e ++ rest) (Begins-stops begins_operand is_bang (spell_expr e ++ rest) not_bang (Begins-append begins_operand (spell_expr e) rest (expr_begins max_depth e w))) in
     rw (none, whole_again e rest w s.0) refl
-output_again a rest w s = absurd w
+write_argument_again a rest w s = absurd w
 
 -- ---- names in brackets
 
@@ -102,77 +102,77 @@ names_again names rest w = rw (list_again (λ n. n) IsName name_at (Stops is_nam
 
 -- ---- KILL and NEW
 
-pub removal_takes : Takes spell_arg (WellPlain removal) removal_at
-unfolding removal_at
-removal_takes [] x e = absurd cc
-removal_takes (c ∷ cs) x e =
+pub kill_argument_takes : Takes spell_arg (WellPlain kill_argument) kill_argument_at
+unfolding kill_argument_at
+kill_argument_takes [] x e = absurd cc
+kill_argument_takes (c ∷ cs) x e =
     elim (chosen (eqb c 40) (names_at cs >>= λ x. Some (kill_others x.0, x.1)) (reference_with (readers_at max_depth) (c ∷ cs) >>= λ v. Some (kill_one v.0, v.1)) (Some x) e) [
       | inl p ↦
           let b = bind_some (names_at cs) (λ x. Some (kill_others x.0, x.1)) x p.1 in
-          subst (λ (y : ArgTree × List ℕ). (c ∷ cs ≡ spell_arg y.0 ++ y.1) × WellPlain removal y.0) {x = (kill_others b.0.0, b.0.1)} (some_is (kill_others b.0.0, b.0.1) x b.2) (names_take c cs b.0 (eqb-true _ _ p.0) b.1)
+          subst (λ (y : ArgTree × List ℕ). (c ∷ cs ≡ spell_arg y.0 ++ y.1) × WellPlain kill_argument y.0) {x = (kill_others b.0.0, b.0.1)} (some_is (kill_others b.0.0, b.0.1) x b.2) (names_take c cs b.0 (eqb-true _ _ p.0) b.1)
       | inr p ↦
           let b = bind_some (reference_with (readers_at max_depth) (c ∷ cs)) (λ v. Some (kill_one v.0, v.1)) x p.1 in
-          subst (λ (y : ArgTree × List ℕ). (c ∷ cs ≡ spell_arg y.0 ++ y.1) × WellPlain removal y.0) {x = (kill_one b.0.0, b.0.1)} (some_is (kill_one b.0.0, b.0.1) x b.2) (variable_takes (c ∷ cs) b.0 b.1)
+          subst (λ (y : ArgTree × List ℕ). (c ∷ cs ≡ spell_arg y.0 ++ y.1) × WellPlain kill_argument y.0) {x = (kill_one b.0.0, b.0.1)} (some_is (kill_one b.0.0, b.0.1) x b.2) (variable_takes (c ∷ cs) b.0 b.1)
     ]
 
-kill_one_step : (cs : List ℕ) (v : ReferenceTree) (rest : List ℕ) → Begins begins_reference cs → reference_with (readers_at max_depth) cs ≡ Some (v, rest) → removal_at cs ≡ Some (kill_one v, rest)
-unfolding removal_at
+kill_one_step : (cs : List ℕ) (v : ReferenceTree) (rest : List ℕ) → Begins begins_reference cs → reference_with (readers_at max_depth) cs ≡ Some (v, rest) → kill_argument_at cs ≡ Some (kill_one v, rest)
+unfolding kill_argument_at
 kill_one_step [] v rest b h = absurd b
 kill_one_step (c ∷ cs) v rest b h = rw ((reference_tests c b).2, h) refl
 
-kill_others_step : (cs : List ℕ) (names : List (List ℕ)) (rest : List ℕ) → names_at cs ≡ Some (names, rest) → removal_at (40 ∷ cs) ≡ Some (kill_others names, rest)
-unfolding removal_at
+kill_others_step : (cs : List ℕ) (names : List (List ℕ)) (rest : List ℕ) → names_at cs ≡ Some (names, rest) → kill_argument_at (40 ∷ cs) ≡ Some (kill_others names, rest)
+unfolding kill_argument_at
 kill_others_step cs names rest h = rw h refl
 
-pub removal_again : Again spell_arg (WellPlain removal) OperandEnds removal_at
-removal_again (kill_one v) rest w s =
+pub kill_argument_again : Again spell_arg (WellPlain kill_argument) OperandEnds kill_argument_at
+kill_argument_again (kill_one v) rest w s =
     kill_one_step (spell_reference v ++ rest) v rest (Begins-append begins_reference (spell_reference v) rest (reference_begins max_depth v w)) (variable_again v rest w s)
-removal_again (kill_others names) rest w s =
-    ap (λ (y : List ℕ). removal_at (40 ∷ y)) (append_assoc (spell_list (λ n. n) names) (41 ∷ []) rest)
+kill_argument_again (kill_others names) rest w s =
+    ap (λ (y : List ℕ). kill_argument_at (40 ∷ y)) (append_assoc (spell_list (λ n. n) names) (41 ∷ []) rest)
     ∙ kill_others_step (spell_list (λ n. n) names ++ 41 ∷ rest) names rest (names_again names rest w)
-removal_again a rest w s = absurd w
+kill_argument_again a rest w s = absurd w
 
-pub hiding_takes : Takes spell_arg (WellPlain hiding) hiding_at
-unfolding hiding_at
-hiding_takes [] x e = absurd cc
-hiding_takes (c ∷ cs) x e =
+pub new_argument_takes : Takes spell_arg (WellPlain new_argument) new_argument_at
+unfolding new_argument_at
+new_argument_takes [] x e = absurd cc
+new_argument_takes (c ∷ cs) x e =
     elim (chosen (eqb c 40) (names_at cs >>= λ x. Some (new_others x.0, x.1)) (name_at (c ∷ cs) >>= λ n. Some (new_one n.0, n.1)) (Some x) e) [
       | inl p ↦
           let b = bind_some (names_at cs) (λ x. Some (new_others x.0, x.1)) x p.1 in
-          subst (λ (y : ArgTree × List ℕ). (c ∷ cs ≡ spell_arg y.0 ++ y.1) × WellPlain hiding y.0) {x = (new_others b.0.0, b.0.1)} (some_is (new_others b.0.0, b.0.1) x b.2) (names_take c cs b.0 (eqb-true _ _ p.0) b.1)
+          subst (λ (y : ArgTree × List ℕ). (c ∷ cs ≡ spell_arg y.0 ++ y.1) × WellPlain new_argument y.0) {x = (new_others b.0.0, b.0.1)} (some_is (new_others b.0.0, b.0.1) x b.2) (names_take c cs b.0 (eqb-true _ _ p.0) b.1)
       | inr p ↦
           let b = bind_some (name_at (c ∷ cs)) (λ n. Some (new_one n.0, n.1)) x p.1 in
-          subst (λ (y : ArgTree × List ℕ). (c ∷ cs ≡ spell_arg y.0 ++ y.1) × WellPlain hiding y.0) {x = (new_one b.0.0, b.0.1)} (some_is (new_one b.0.0, b.0.1) x b.2) (name_takes (c ∷ cs) b.0 b.1)
+          subst (λ (y : ArgTree × List ℕ). (c ∷ cs ≡ spell_arg y.0 ++ y.1) × WellPlain new_argument y.0) {x = (new_one b.0.0, b.0.1)} (some_is (new_one b.0.0, b.0.1) x b.2) (name_takes (c ∷ cs) b.0 b.1)
     ]
 
-new_one_step : (n rest : List ℕ) → IsName n → Stops is_name_rest rest → hiding_at (n ++ rest) ≡ Some (new_one n, rest)
-unfolding hiding_at
+new_one_step : (n rest : List ℕ) → IsName n → Stops is_name_rest rest → new_argument_at (n ++ rest) ≡ Some (new_one n, rest)
+unfolding new_argument_at
 new_one_step [] rest w s = absurd w
 new_one_step (c ∷ n) rest w s = rw ((reference_tests c (name_begins_reference c w.0)).2, name_again (c ∷ n) rest w s) refl
 
-new_others_step : (cs : List ℕ) (names : List (List ℕ)) (rest : List ℕ) → names_at cs ≡ Some (names, rest) → hiding_at (40 ∷ cs) ≡ Some (new_others names, rest)
-unfolding hiding_at
+new_others_step : (cs : List ℕ) (names : List (List ℕ)) (rest : List ℕ) → names_at cs ≡ Some (names, rest) → new_argument_at (40 ∷ cs) ≡ Some (new_others names, rest)
+unfolding new_argument_at
 new_others_step cs names rest h = rw h refl
 
-pub hiding_again : Again spell_arg (WellPlain hiding) (Stops is_name_rest) hiding_at
-hiding_again (new_one n) rest w s = new_one_step n rest w s
-hiding_again (new_others names) rest w s =
-    ap (λ (y : List ℕ). hiding_at (40 ∷ y)) (append_assoc (spell_list (λ n. n) names) (41 ∷ []) rest)
+pub new_argument_again : Again spell_arg (WellPlain new_argument) (Stops is_name_rest) new_argument_at
+new_argument_again (new_one n) rest w s = new_one_step n rest w s
+new_argument_again (new_others names) rest w s =
+    ap (λ (y : List ℕ). new_argument_at (40 ∷ y)) (append_assoc (spell_list (λ n. n) names) (41 ∷ []) rest)
     ∙ new_others_step (spell_list (λ n. n) names ++ 41 ∷ rest) names rest (names_again names rest w)
-hiding_again a rest w s = absurd w
+new_argument_again a rest w s = absurd w
 
 -- ---- conditions of IF
 
-pub condition_takes : Takes spell_arg (WellPlain condition) condition_at
-unfolding condition_at
-condition_takes cs x e =
+pub if_argument_takes : Takes spell_arg (WellPlain if_argument) if_argument_at
+unfolding if_argument_at
+if_argument_takes cs x e =
     let b = bind_some (expr_at max_depth cs) (λ y. Some (tested y.0, y.1)) x e in
-    subst (λ (y : ArgTree × List ℕ). (cs ≡ spell_arg y.0 ++ y.1) × WellPlain condition y.0) (some_is (tested b.0.0, b.0.1) x b.2) (whole_takes cs b.0 b.1)
+    subst (λ (y : ArgTree × List ℕ). (cs ≡ spell_arg y.0 ++ y.1) × WellPlain if_argument y.0) (some_is (tested b.0.0, b.0.1) x b.2) (whole_takes cs b.0 b.1)
 
-pub condition_again : Again spell_arg (WellPlain condition) Ends condition_at
-unfolding condition_at
-condition_again (tested e) rest w s = rw (whole_again e rest w s) refl
-condition_again a rest w s = absurd w
+pub if_argument_again : Again spell_arg (WellPlain if_argument) Ends if_argument_at
+unfolding if_argument_at
+if_argument_again (tested e) rest w s = rw (whole_again e rest w s) refl
+if_argument_again a rest w s = absurd w
 
 -- ---- parameters of FOR
 
@@ -235,9 +235,9 @@ parameter_again (until e by to) rest w s =
     ap parameter_at parts
     ∙ until_step (spell_expr e ++ 58 ∷ u) u (spell_expr to ++ rest) e by to rest (whole_again e (58 ∷ u) w.0 (refl, refl)) (whole_again by (58 ∷ (spell_expr to ++ rest)) w.1 (refl, refl)) (whole_again to rest w.2 s.0)
 
-pub repetition_takes : Takes spell_arg (WellPlain repetition) repetition_at
-unfolding repetition_at
-repetition_takes cs x e =
+pub for_argument_takes : Takes spell_arg (WellPlain for_argument) for_argument_at
+unfolding for_argument_at
+for_argument_takes cs x e =
     let n = bind_some (name_at cs) (λ n. past 61 n.1 >>= λ rest. list_at parameter_at rest >>= λ x. Some (loop n.0 x.0, x.1)) x e in
     let k = bind_some (past 61 n.0.1) (λ rest. list_at parameter_at rest >>= λ x. Some (loop n.0.0 x.0, x.1)) x n.2 in
     let b = bind_some (list_at parameter_at k.0) (λ x. Some (loop n.0.0 x.0, x.1)) x k.2 in
@@ -245,21 +245,21 @@ repetition_takes cs x e =
     let equals = past_takes 61 n.0.1 k.0 k.1 in
     let all = list_takes spell_parameter WellParameter parameter_at parameter_takes k.0 b.0 b.1 in
     let made : ArgTree × List ℕ = (loop n.0.0 b.0.0, b.0.1) in
-    subst (λ (y : ArgTree × List ℕ). (cs ≡ spell_arg y.0 ++ y.1) × WellPlain repetition y.0) {x = made} (some_is made x b.2)
+    subst (λ (y : ArgTree × List ℕ). (cs ≡ spell_arg y.0 ++ y.1) × WellPlain for_argument y.0) {x = made} (some_is made x b.2)
     (joined_by 61 cs n.0.0 n.0.1 k.0 (spell_list spell_parameter b.0.0) b.0.1 name.0 equals all.0, (name.1, all.1))
 
-loop_step : (cs n t u : List ℕ) (ps : List ParameterTree) (rest : List ℕ) → name_at cs ≡ Some (n, t) → past 61 t ≡ Some u → list_at parameter_at u ≡ Some (ps, rest) → repetition_at cs ≡ Some (loop n ps, rest)
-unfolding repetition_at
+loop_step : (cs n t u : List ℕ) (ps : List ParameterTree) (rest : List ℕ) → name_at cs ≡ Some (n, t) → past 61 t ≡ Some u → list_at parameter_at u ≡ Some (ps, rest) → for_argument_at cs ≡ Some (loop n ps, rest)
+unfolding for_argument_at
 loop_step cs n t u ps rest h k l = rw (h, k, l) refl
 
 -- a comma would go on with the parameters
-pub repetition_again : Again spell_arg (WellPlain repetition) (λ rest. ParameterEnds rest × Stops is_comma rest) repetition_at
-repetition_again (loop index parameters) rest w s =
+pub for_argument_again : Again spell_arg (WellPlain for_argument) (λ rest. ParameterEnds rest × Stops is_comma rest) for_argument_at
+for_argument_again (loop index parameters) rest w s =
     let u : List ℕ = spell_list spell_parameter parameters ++ rest in
-    ap repetition_at (append_assoc index (61 ∷ spell_list spell_parameter parameters) rest)
+    ap for_argument_at (append_assoc index (61 ∷ spell_list spell_parameter parameters) rest)
     ∙ loop_step (index ++ 61 ∷ u) index (61 ∷ u) u parameters rest (name_again index (61 ∷ u) w.0 refl) refl
     (list_again spell_parameter WellParameter parameter_at ParameterEnds (λ cs. ((refl, refl), refl)) parameter_again parameters rest w.1 s)
-repetition_again a rest w s = absurd w
+for_argument_again a rest w s = absurd w
 
 -- ---- where an argument begins
 
@@ -267,20 +267,20 @@ pub names_begin : (n : List ℕ) → IsName n → Begins begins_operand n
 names_begin [] w = absurd w
 names_begin (c ∷ n) w = variable_begins c (name_begins_reference c w.0)
 
-pub removal_begins : (a : ArgTree) → WellPlain removal a → Begins begins_operand (spell_arg a)
-removal_begins (kill_one v) w = Begins-weaker begins_reference begins_operand (spell_reference v) variable_begins (reference_begins max_depth v w)
-removal_begins (kill_others names) w = refl
-removal_begins a w = absurd w
+pub kill_argument_begins : (a : ArgTree) → WellPlain kill_argument a → Begins begins_operand (spell_arg a)
+kill_argument_begins (kill_one v) w = Begins-weaker begins_reference begins_operand (spell_reference v) variable_begins (reference_begins max_depth v w)
+kill_argument_begins (kill_others names) w = refl
+kill_argument_begins a w = absurd w
 
-pub hiding_begins : (a : ArgTree) → WellPlain hiding a → Begins begins_operand (spell_arg a)
-hiding_begins (new_one n) w = names_begin n w
-hiding_begins (new_others names) w = refl
-hiding_begins a w = absurd w
+pub new_argument_begins : (a : ArgTree) → WellPlain new_argument a → Begins begins_operand (spell_arg a)
+new_argument_begins (new_one n) w = names_begin n w
+new_argument_begins (new_others names) w = refl
+new_argument_begins a w = absurd w
 
-pub condition_begins : (a : ArgTree) → WellPlain condition a → Begins begins_operand (spell_arg a)
-condition_begins (tested e) w = expr_begins max_depth e w
-condition_begins a w = absurd w
+pub if_argument_begins : (a : ArgTree) → WellPlain if_argument a → Begins begins_operand (spell_arg a)
+if_argument_begins (tested e) w = expr_begins max_depth e w
+if_argument_begins a w = absurd w
 
-pub repetition_begins : (a : ArgTree) → WellPlain repetition a → Begins begins_operand (spell_arg a)
-repetition_begins (loop index parameters) w = Begins-append begins_operand index (61 ∷ spell_list spell_parameter parameters) (names_begin index w.0)
-repetition_begins a w = absurd w
+pub for_argument_begins : (a : ArgTree) → WellPlain for_argument a → Begins begins_operand (spell_arg a)
+for_argument_begins (loop index parameters) w = Begins-append begins_operand index (61 ∷ spell_list spell_parameter parameters) (names_begin index w.0)
+for_argument_begins a w = absurd w

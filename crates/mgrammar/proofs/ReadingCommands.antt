@@ -5,20 +5,20 @@ use Rattle.std.specs.Prelude.{◌||◌}
 use Rattle.std.proofs.lemmas.Bool.{eqb-true, and_parts}
 use Rattle.std.proofs.lemmas.Bool.Decides.{nat_tests}
 use Rattle.mspec.specs.Names.{is_letter, is_name_rest, AllAre}
-use Rattle.mgrammar.specs.Grammar.{ExprTree, expr, no_tails, operand, PrimaryTree, reference, indirect, no_exprs, ArgTree, breaks, shown, kill_one, tested, loop, executed, locked, indirect_args, anew, lock_one, CommandTree, KeywordTree, set_word, kill_word, new_word, if_word, else_word, for_word, quit_word, write_word, do_word, goto_word, execute_word, lock_word, halt_word, FormTree, assignment, removal, hiding, condition, repetition, output, entrance, leap, execution, locking, nothing, spell_expr, spell_arg, spell_args, spell_condition, spell_list, spell_more, spell_command}
+use Rattle.mgrammar.specs.Grammar.{ExprTree, expr, no_tails, operand, PrimaryTree, reference, indirect, no_exprs, ArgTree, breaks, shown, kill_one, tested, loop, executed, locked, indirect_args, anew, lock_one, CommandTree, KeywordTree, set_word, kill_word, new_word, if_word, else_word, for_word, quit_word, write_word, do_word, goto_word, execute_word, lock_word, halt_word, FormTree, set_argument, kill_argument, new_argument, if_argument, for_argument, write_argument, do_argument, goto_argument, xecute_argument, lock_argument, no_argument, spell_expr, spell_arg, spell_args, spell_condition, spell_list, spell_more, spell_command}
 use Rattle.mgrammar.specs.Commands.{keyword_of, form_of, takes_args, takes_condition}
 use Rattle.mgrammar.specs.WellFormed.{max_depth, bare_arg, WellAll, WellList, WellExpr, WellBelow, WellOptional, WellPlain, WellArg, WellCondition, WellCommand}
-use Rattle.mgrammar.specs.Reading.{◌>>=◌, run_of, after_run, past, list_at, is_bang, removal_at, hiding_at, condition_at, output_at, entrance_at, leap_at, execution_at, locking_at, arg_at, has_args, args_at, postcondition_by, postcondition_at, command_by, command_at}
+use Rattle.mgrammar.specs.Reading.{◌>>=◌, run_of, after_run, past, list_at, is_bang, kill_argument_at, new_argument_at, if_argument_at, write_argument_at, do_argument_at, goto_argument_at, xecute_argument_at, lock_argument_at, arg_at, has_args, args_at, postcondition_by, postcondition_at, command_by, command_at}
 use Rattle.mgrammar.proofs.ReadingBasics.{Takes, Again, Stops, Stops-weaker, Begins, Begins-append, Begins-weaker, goes_on, bind_some, chosen, some_is, run_parts, run_again, not_past}
 use Rattle.mgrammar.proofs.ReadingLists.{is_comma, one_again, list_takes, list_again}
 use Rattle.mgrammar.proofs.ReadingReferences.{Ends, operand_ends, name_or_open, bare_well}
 use Rattle.mgrammar.proofs.ReadingPrimaries.{not_on}
 use Rattle.mgrammar.proofs.ReadingExprs.{begins_operand, expr_begins}
-use Rattle.mgrammar.proofs.ReadingTargets.{assignment_takes, assignment_again, assignment_begins}
-use Rattle.mgrammar.proofs.ReadingArguments.{is_colon, Follows, output_takes, output_again, removal_takes, removal_again, removal_begins, hiding_takes, hiding_again, hiding_begins, condition_takes, condition_again, condition_begins, repetition_takes, repetition_again, repetition_begins}
-use Rattle.mgrammar.proofs.ReadingLocks.{locking_takes, locking_again, locking_begins}
-use Rattle.mgrammar.proofs.ReadingIndirection.{plain_well, which, settled_takes, settled_again, operand_takes, operand_again, hiding_plain, hiding_stops, entrance_plain, entrance_stops, leap_plain, leap_stops}
-use Rattle.mgrammar.proofs.ReadingEntries.{condition_read, condition_spelled, entrance_takes, entrance_again, entrance_begins, leap_takes, leap_again, leap_begins, execution_takes, execution_again, execution_begins}
+use Rattle.mgrammar.proofs.ReadingTargets.{set_argument_takes, set_argument_again, set_argument_begins}
+use Rattle.mgrammar.proofs.ReadingArguments.{is_colon, Follows, write_argument_takes, write_argument_again, kill_argument_takes, kill_argument_again, kill_argument_begins, new_argument_takes, new_argument_again, new_argument_begins, if_argument_takes, if_argument_again, if_argument_begins, for_argument_takes, for_argument_again, for_argument_begins}
+use Rattle.mgrammar.proofs.ReadingLocks.{lock_argument_takes, lock_argument_again, lock_argument_begins}
+use Rattle.mgrammar.proofs.ReadingIndirection.{plain_well, which, settled_takes, settled_again, operand_takes, operand_again, new_argument_plain, hiding_stops, do_argument_plain, entrance_stops, goto_argument_plain, leap_stops}
+use Rattle.mgrammar.proofs.ReadingEntries.{condition_read, condition_spelled, do_argument_takes, do_argument_again, do_argument_begins, goto_argument_takes, goto_argument_again, goto_argument_begins, xecute_argument_takes, xecute_argument_again, xecute_argument_begins}
 
 -- ---- the laws of each form
 
@@ -29,11 +29,11 @@ begins_arg c = begins_operand c || is_bang c
 operand_or_bang : (c : ℕ) → begins_operand c ≡ true → begins_arg c ≡ true
 operand_or_bang c h = rw h refl
 
-output_begins : (a : ArgTree) → WellPlain output a → Begins begins_arg (spell_arg a)
-output_begins (breaks zero) w = absurd (omega arith)
-output_begins (breaks (suc n)) w = refl
-output_begins (shown e) w = Begins-weaker begins_operand begins_arg (spell_expr e) operand_or_bang (expr_begins max_depth e w)
-output_begins a w = absurd w
+write_argument_begins : (a : ArgTree) → WellPlain write_argument a → Begins begins_arg (spell_arg a)
+write_argument_begins (breaks zero) w = absurd (omega arith)
+write_argument_begins (breaks (suc n)) w = refl
+write_argument_begins (shown e) w = Begins-weaker begins_operand begins_arg (spell_expr e) operand_or_bang (expr_begins max_depth e w)
+write_argument_begins a w = absurd w
 
 as_arg : (a : ArgTree) → Begins begins_operand (spell_arg a) → Begins begins_arg (spell_arg a)
 as_arg a b = Begins-weaker begins_operand begins_arg (spell_arg a) operand_or_bang b
@@ -44,7 +44,7 @@ Closes rest = Follows rest × Stops is_comma rest
 
 -- so many arguments of this form: one of FOR has the commas behind it
 abbrev pub IsCounted : FormTree → ℕ → Type 0
-IsCounted f n = f ≡ repetition → n ≤ 1
+IsCounted f n = f ≡ for_argument → n ≤ 1
 
 pub record IsForm (f : FormTree) : Type 0 where
   pub takes : Takes spell_arg (WellArg f) (arg_at f)
@@ -56,24 +56,24 @@ several_again : (f : FormTree) → Again spell_arg (WellArg f) Follows (arg_at f
     → list_at (arg_at f) (spell_list spell_arg args ++ rest) ≡ Some (args, rest)
 several_again f again args rest w n s = list_again spell_arg (WellArg f) (arg_at f) Follows (λ cs. ((refl, refl), refl, refl, refl, refl)) again args rest w s
 
-repetition_plain : (a : ArgTree) → WellPlain repetition a → bare_arg a ≡ None
-repetition_plain (loop index parameters) w = refl
-repetition_plain a w = absurd w
+for_argument_plain : (a : ArgTree) → WellPlain for_argument a → bare_arg a ≡ None
+for_argument_plain (loop index parameters) w = refl
+for_argument_plain a w = absurd w
 
 -- FOR takes none that a text gives
-written_loop : (a : ArgTree) → WellArg repetition a → WellPlain repetition a
+written_loop : (a : ArgTree) → WellArg for_argument a → WellPlain for_argument a
 written_loop (loop index parameters) w = w.0
 written_loop (indirect_args f p) w = absurd (let no_text : false ≡ true = w.1 in cc)
 written_loop a w = absurd w.0
 
-no_nothing : (a : ArgTree) → WellArg nothing a → ⊥
+no_nothing : (a : ArgTree) → WellArg no_argument a → ⊥
 no_nothing (indirect_args f p) w = let no_text : false ≡ true = w.1 in absurd cc
 no_nothing a w = w.0
 
-single_again : (args : List ArgTree) (rest : List ℕ) → WellList (WellArg repetition) args → IsCounted repetition (length args) → Closes rest
-    → list_at (arg_at repetition) (spell_list spell_arg args ++ rest) ≡ Some (args, rest)
+single_again : (args : List ArgTree) (rest : List ℕ) → WellList (WellArg for_argument) args → IsCounted for_argument (length args) → Closes rest
+    → list_at (arg_at for_argument) (spell_list spell_arg args ++ rest) ≡ Some (args, rest)
 single_again [] rest w n s = absurd w
-single_again (a ∷ []) rest w n s = one_again spell_arg (WellArg repetition) (arg_at repetition) a rest (repetition_again a rest (written_loop a w.0) ((s.0.0, s.0.2), s.1)) s.1
+single_again (a ∷ []) rest w n s = one_again spell_arg (WellArg for_argument) (arg_at for_argument) a rest (for_argument_again a rest (written_loop a w.0) ((s.0.0, s.0.2), s.1)) s.1
 single_again (a ∷ b ∷ more) rest w n s = absurd (let le = n refl in omega (arith, le))
 
 -- where arguments that are written begin so
@@ -95,59 +95,59 @@ name_ends : (rest : List ℕ) → Follows rest → Stops is_name_rest rest
 name_ends rest s = Stops-weaker goes_on is_name_rest rest (λ c h. (name_or_open c h).0) (operand_ends rest s.0.0)
 
 pub is_form : (f : FormTree) → IsForm f
-is_form assignment = record {
-  takes = assignment_takes;
-  again = several_again assignment (λ a rest w s. assignment_again a rest w (s.0, s.4));
-  begins = λ a w. as_arg a (assignment_begins a w);
+is_form set_argument = record {
+  takes = set_argument_takes;
+  again = several_again set_argument (λ a rest w s. set_argument_again a rest w (s.0, s.4));
+  begins = λ a w. as_arg a (set_argument_begins a w);
 }
-is_form removal = record {
-  takes = settled_takes removal removal_at refl removal_takes;
-  again = several_again removal (settled_again removal removal_at (λ p. kill_one (indirect p no_exprs)) (λ p. refl) (bare_well max_depth) (λ a rest w s. removal_again a rest w s.0.0));
-  begins = form_begins removal (λ a w. as_arg a (removal_begins a w));
+is_form kill_argument = record {
+  takes = settled_takes kill_argument kill_argument_at refl kill_argument_takes;
+  again = several_again kill_argument (settled_again kill_argument kill_argument_at (λ p. kill_one (indirect p no_exprs)) (λ p. refl) (bare_well max_depth) (λ a rest w s. kill_argument_again a rest w s.0.0));
+  begins = form_begins kill_argument (λ a w. as_arg a (kill_argument_begins a w));
 }
-is_form hiding = record {
-  takes = operand_takes hiding hiding_at hiding_plain refl hiding_takes;
-  again = several_again hiding (operand_again hiding hiding_at hiding_plain hiding_stops (λ a rest w s. hiding_again a rest w (name_ends rest s)));
-  begins = form_begins hiding (λ a w. as_arg a (hiding_begins a w));
+is_form new_argument = record {
+  takes = operand_takes new_argument new_argument_at new_argument_plain refl new_argument_takes;
+  again = several_again new_argument (operand_again new_argument new_argument_at new_argument_plain hiding_stops (λ a rest w s. new_argument_again a rest w (name_ends rest s)));
+  begins = form_begins new_argument (λ a w. as_arg a (new_argument_begins a w));
 }
-is_form condition = record {
-  takes = settled_takes condition condition_at refl condition_takes;
-  again = several_again condition (settled_again condition condition_at (λ p. tested (bare p)) (λ p. refl) bare_expr_well (λ a rest w s. condition_again a rest w s.0));
-  begins = form_begins condition (λ a w. as_arg a (condition_begins a w));
+is_form if_argument = record {
+  takes = settled_takes if_argument if_argument_at refl if_argument_takes;
+  again = several_again if_argument (settled_again if_argument if_argument_at (λ p. tested (bare p)) (λ p. refl) bare_expr_well (λ a rest w s. if_argument_again a rest w s.0));
+  begins = form_begins if_argument (λ a w. as_arg a (if_argument_begins a w));
 }
-is_form repetition = record {
-  takes = λ cs x e. let t = repetition_takes cs x e in (t.0, plain_well repetition x.0 t.1 (repetition_plain x.0 t.1));
+is_form for_argument = record {
+  takes = λ cs x e. let t = for_argument_takes cs x e in (t.0, plain_well for_argument x.0 t.1 (for_argument_plain x.0 t.1));
   again = single_again;
-  begins = form_begins repetition (λ a w. as_arg a (repetition_begins a w));
+  begins = form_begins for_argument (λ a w. as_arg a (for_argument_begins a w));
 }
-is_form output = record {
-  takes = settled_takes output output_at refl output_takes;
-  again = several_again output (settled_again output output_at (λ p. shown (bare p)) (λ p. refl) bare_expr_well output_again);
-  begins = form_begins output output_begins;
+is_form write_argument = record {
+  takes = settled_takes write_argument write_argument_at refl write_argument_takes;
+  again = several_again write_argument (settled_again write_argument write_argument_at (λ p. shown (bare p)) (λ p. refl) bare_expr_well write_argument_again);
+  begins = form_begins write_argument write_argument_begins;
 }
-is_form entrance = record {
-  takes = operand_takes entrance entrance_at entrance_plain refl entrance_takes;
-  again = several_again entrance (operand_again entrance entrance_at entrance_plain entrance_stops entrance_again);
-  begins = form_begins entrance (λ a w. as_arg a (entrance_begins a w));
+is_form do_argument = record {
+  takes = operand_takes do_argument do_argument_at do_argument_plain refl do_argument_takes;
+  again = several_again do_argument (operand_again do_argument do_argument_at do_argument_plain entrance_stops do_argument_again);
+  begins = form_begins do_argument (λ a w. as_arg a (do_argument_begins a w));
 }
-is_form leap = record {
-  takes = operand_takes leap leap_at leap_plain refl leap_takes;
-  again = several_again leap (operand_again leap leap_at leap_plain leap_stops leap_again);
-  begins = form_begins leap (λ a w. as_arg a (leap_begins a w));
+is_form goto_argument = record {
+  takes = operand_takes goto_argument goto_argument_at goto_argument_plain refl goto_argument_takes;
+  again = several_again goto_argument (operand_again goto_argument goto_argument_at goto_argument_plain leap_stops goto_argument_again);
+  begins = form_begins goto_argument (λ a w. as_arg a (goto_argument_begins a w));
 }
-is_form execution = record {
-  takes = settled_takes execution execution_at refl execution_takes;
-  again = several_again execution (settled_again execution execution_at (λ p. executed (bare p) None) (λ p. refl) (λ p w. (bare_expr_well p w, tt)) execution_again);
-  begins = form_begins execution (λ a w. as_arg a (execution_begins a w));
+is_form xecute_argument = record {
+  takes = settled_takes xecute_argument xecute_argument_at refl xecute_argument_takes;
+  again = several_again xecute_argument (settled_again xecute_argument xecute_argument_at (λ p. executed (bare p) None) (λ p. refl) (λ p w. (bare_expr_well p w, tt)) xecute_argument_again);
+  begins = form_begins xecute_argument (λ a w. as_arg a (xecute_argument_begins a w));
 }
-is_form locking = record {
-  takes = settled_takes locking locking_at refl locking_takes;
-  again = several_again locking (settled_again locking locking_at (λ p. locked anew (lock_one (indirect p no_exprs)) None) (λ p. refl) (λ p w. ((bare_well max_depth p w, refl), tt)) locking_again);
-  begins = form_begins locking (λ a w. as_arg a (locking_begins a w));
+is_form lock_argument = record {
+  takes = settled_takes lock_argument lock_argument_at refl lock_argument_takes;
+  again = several_again lock_argument (settled_again lock_argument lock_argument_at (λ p. locked anew (lock_one (indirect p no_exprs)) None) (λ p. refl) (λ p w. ((bare_well max_depth p w, refl), tt)) lock_argument_again);
+  begins = form_begins lock_argument (λ a w. as_arg a (lock_argument_begins a w));
 }
-is_form nothing = record {
+is_form no_argument = record {
   takes = λ cs x e. absurd cc;
-  again = several_again nothing (λ a rest w s. absurd (no_nothing a w));
+  again = several_again no_argument (λ a rest w s. absurd (no_nothing a w));
   begins = λ a w. absurd (no_nothing a w);
 }
 

@@ -2,9 +2,9 @@
 -- What is read of an argument of DO, GOTO or XECUTE is spelled so, and what is spelled so is read.
 use Rattle.std.proofs.Common.{◌≡◌, ℕ, List, ◌∷◌, ◌++◌, Option, Some, None, refl, ap, subst, ◌∙◌, append_assoc}
 use Rattle.mspec.specs.Names.{is_name_start, is_name_rest, IsName}
-use Rattle.mgrammar.specs.Grammar.{ExprTree, EntryTree, at_label, at_label_in, at_routine, ArgTree, do_one, go_to, executed, entrance, leap, execution, spell_expr, spell_condition, spell_entry, spell_arg}
+use Rattle.mgrammar.specs.Grammar.{ExprTree, EntryTree, at_label, at_label_in, at_routine, ArgTree, do_one, go_to, executed, do_argument, goto_argument, xecute_argument, spell_expr, spell_condition, spell_entry, spell_arg}
 use Rattle.mgrammar.specs.WellFormed.{max_depth, WellExpr, WellOptional, WellEntry, WellPlain}
-use Rattle.mgrammar.specs.Reading.{Read, ◌>>=◌, name_at, past, expr_at, postcondition_by, label_by, entry_by, entry_at, conditioned, entrance_at, leap_at, execution_at}
+use Rattle.mgrammar.specs.Reading.{Read, ◌>>=◌, name_at, past, expr_at, postcondition_by, label_by, entry_by, entry_at, conditioned, do_argument_at, goto_argument_at, xecute_argument_at}
 use Rattle.mgrammar.proofs.ReadingBasics.{Takes, Again, Stops, Stops-weaker, Begins, Begins-append, goes_on, bind_some, some_is, past_takes, not_past, name_takes, name_again}
 use Rattle.mgrammar.proofs.ReadingLists.{joined, joined_by}
 use Rattle.mgrammar.proofs.ReadingReferences.{Ends, operand_ends, name_or_open, named, name_in_front}
@@ -98,36 +98,36 @@ expr_stops (Some e) rest s = (refl, refl)
 
 -- ---- the arguments
 
-pub entrance_takes : Takes spell_arg (WellPlain entrance) entrance_at
-unfolding entrance_at
-entrance_takes cs x e =
-    conditioned_takes spell_entry WellEntry entry_at do_one (λ y. (cs ≡ spell_arg y.0 ++ y.1) × WellPlain entrance y.0) cs x entry_takes e (λ a c rest p w v. (p, (w, v)))
+pub do_argument_takes : Takes spell_arg (WellPlain do_argument) do_argument_at
+unfolding do_argument_at
+do_argument_takes cs x e =
+    conditioned_takes spell_entry WellEntry entry_at do_one (λ y. (cs ≡ spell_arg y.0 ++ y.1) × WellPlain do_argument y.0) cs x entry_takes e (λ a c rest p w v. (p, (w, v)))
 
-pub entrance_again : Again spell_arg (WellPlain entrance) Follows entrance_at
-unfolding entrance_at
-entrance_again (do_one a c) rest w s = conditioned_again spell_entry WellEntry entry_at do_one a c rest w.1 s (entry_again a (spell_condition c ++ rest) w.0 (entry_stops c rest s))
-entrance_again a rest w s = absurd w
+pub do_argument_again : Again spell_arg (WellPlain do_argument) Follows do_argument_at
+unfolding do_argument_at
+do_argument_again (do_one a c) rest w s = conditioned_again spell_entry WellEntry entry_at do_one a c rest w.1 s (entry_again a (spell_condition c ++ rest) w.0 (entry_stops c rest s))
+do_argument_again a rest w s = absurd w
 
-pub leap_takes : Takes spell_arg (WellPlain leap) leap_at
-unfolding leap_at
-leap_takes cs x e =
-    conditioned_takes spell_entry WellEntry entry_at go_to (λ y. (cs ≡ spell_arg y.0 ++ y.1) × WellPlain leap y.0) cs x entry_takes e (λ a c rest p w v. (p, (w, v)))
+pub goto_argument_takes : Takes spell_arg (WellPlain goto_argument) goto_argument_at
+unfolding goto_argument_at
+goto_argument_takes cs x e =
+    conditioned_takes spell_entry WellEntry entry_at go_to (λ y. (cs ≡ spell_arg y.0 ++ y.1) × WellPlain goto_argument y.0) cs x entry_takes e (λ a c rest p w v. (p, (w, v)))
 
-pub leap_again : Again spell_arg (WellPlain leap) Follows leap_at
-unfolding leap_at
-leap_again (go_to a c) rest w s = conditioned_again spell_entry WellEntry entry_at go_to a c rest w.1 s (entry_again a (spell_condition c ++ rest) w.0 (entry_stops c rest s))
-leap_again a rest w s = absurd w
+pub goto_argument_again : Again spell_arg (WellPlain goto_argument) Follows goto_argument_at
+unfolding goto_argument_at
+goto_argument_again (go_to a c) rest w s = conditioned_again spell_entry WellEntry entry_at go_to a c rest w.1 s (entry_again a (spell_condition c ++ rest) w.0 (entry_stops c rest s))
+goto_argument_again a rest w s = absurd w
 
-pub execution_takes : Takes spell_arg (WellPlain execution) execution_at
-unfolding execution_at
-execution_takes cs x e =
-    conditioned_takes spell_expr (WellExpr max_depth) (expr_at max_depth) executed (λ y. (cs ≡ spell_arg y.0 ++ y.1) × WellPlain execution y.0) cs x whole_takes e (λ a c rest p w v. (p, (w, v)))
+pub xecute_argument_takes : Takes spell_arg (WellPlain xecute_argument) xecute_argument_at
+unfolding xecute_argument_at
+xecute_argument_takes cs x e =
+    conditioned_takes spell_expr (WellExpr max_depth) (expr_at max_depth) executed (λ y. (cs ≡ spell_arg y.0 ++ y.1) × WellPlain xecute_argument y.0) cs x whole_takes e (λ a c rest p w v. (p, (w, v)))
 
-pub execution_again : Again spell_arg (WellPlain execution) Follows execution_at
-unfolding execution_at
-execution_again (executed e c) rest w s =
+pub xecute_argument_again : Again spell_arg (WellPlain xecute_argument) Follows xecute_argument_at
+unfolding xecute_argument_at
+xecute_argument_again (executed e c) rest w s =
     conditioned_again spell_expr (WellExpr max_depth) (expr_at max_depth) executed e c rest w.1 s (whole_again e (spell_condition c ++ rest) w.0 (expr_stops c rest s))
-execution_again a rest w s = absurd w
+xecute_argument_again a rest w s = absurd w
 
 -- ---- where an argument begins
 
@@ -136,14 +136,14 @@ entry_begins (at_label label) w = names_begin label w
 entry_begins (at_label_in label routine) w = Begins-append begins_operand label (94 ∷ routine) (names_begin label w.0)
 entry_begins (at_routine routine) w = refl
 
-pub entrance_begins : (a : ArgTree) → WellPlain entrance a → Begins begins_operand (spell_arg a)
-entrance_begins (do_one a c) w = Begins-append begins_operand (spell_entry a) (spell_condition c) (entry_begins a w.0)
-entrance_begins a w = absurd w
+pub do_argument_begins : (a : ArgTree) → WellPlain do_argument a → Begins begins_operand (spell_arg a)
+do_argument_begins (do_one a c) w = Begins-append begins_operand (spell_entry a) (spell_condition c) (entry_begins a w.0)
+do_argument_begins a w = absurd w
 
-pub leap_begins : (a : ArgTree) → WellPlain leap a → Begins begins_operand (spell_arg a)
-leap_begins (go_to a c) w = Begins-append begins_operand (spell_entry a) (spell_condition c) (entry_begins a w.0)
-leap_begins a w = absurd w
+pub goto_argument_begins : (a : ArgTree) → WellPlain goto_argument a → Begins begins_operand (spell_arg a)
+goto_argument_begins (go_to a c) w = Begins-append begins_operand (spell_entry a) (spell_condition c) (entry_begins a w.0)
+goto_argument_begins a w = absurd w
 
-pub execution_begins : (a : ArgTree) → WellPlain execution a → Begins begins_operand (spell_arg a)
-execution_begins (executed e c) w = Begins-append begins_operand (spell_expr e) (spell_condition c) (expr_begins max_depth e w.0)
-execution_begins a w = absurd w
+pub xecute_argument_begins : (a : ArgTree) → WellPlain xecute_argument a → Begins begins_operand (spell_arg a)
+xecute_argument_begins (executed e c) w = Begins-append begins_operand (spell_expr e) (spell_condition c) (expr_begins max_depth e w.0)
+xecute_argument_begins a w = absurd w

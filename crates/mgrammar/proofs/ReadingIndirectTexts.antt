@@ -2,7 +2,7 @@
 -- What is read of a whole text of indirection is spelled so, and what is spelled so is read.
 use Rattle.std.proofs.Common.{◌≡◌, ◌↔◌, ℕ, true, false, List, [], ◌∷◌, ◌++◌, length, Some, refl, sym, ap, subst, ◌∙◌}
 use Rattle.std.proofs.lemmas.List.{append-nil}
-use Rattle.mgrammar.specs.Grammar.{ReferenceTree, ArgTree, FormTree, repetition, may_be_indirect, spell_reference, spell_list, spell_arg}
+use Rattle.mgrammar.specs.Grammar.{ReferenceTree, ArgTree, FormTree, for_argument, may_be_indirect, spell_reference, spell_list, spell_arg}
 use Rattle.mgrammar.specs.WellFormed.{max_depth, WellReference, WellList, WellArg}
 use Rattle.mgrammar.specs.Reading.{Read, ◌>>=◌, list_at, readers_at, reference_with, arg_at}
 use Rattle.mgrammar.specs.IndirectTexts.{whole_by, ref_at, args_of}
@@ -49,7 +49,7 @@ one_reference = unique spell_reference (WellReference max_depth) ref_at referenc
 -- ---- arguments
 
 not_counted : (f : FormTree) (n : ℕ) → may_be_indirect f ≡ true → IsCounted f n
-not_counted f n m = λ e. absurd (let clash : may_be_indirect repetition ≡ true = ap may_be_indirect (sym e) ∙ m in let no : false ≡ true = clash in cc)
+not_counted f n m = λ e. absurd (let clash : may_be_indirect for_argument ≡ true = ap may_be_indirect (sym e) ∙ m in let no : false ≡ true = clash in cc)
 
 arguments_again : (f : FormTree) (args : List ArgTree) → may_be_indirect f ≡ true → WellList (WellArg f) args → args_of f (spell_list spell_arg args) ≡ Some args
 unfolding args_of

@@ -4,7 +4,7 @@ use Rattle.std.proofs.Common.{◌≡◌, ℕ, true, false, eqb, List, [], ◌∷
 use Rattle.std.proofs.lemmas.Bool.Decides.{nat_tests}
 use Rattle.std.proofs.lemmas.List.{append-nil}
 use Rattle.mspec.specs.Names.{is_name_start, IsName}
-use Rattle.mgrammar.specs.Grammar.{ExprTree, expr, no_tails, tail, operand, PrimaryTree, number, text, special, reference, bracket, call, select, refer, EntryTree, at_label, at_label_in, at_routine, FormTree, assignment, removal, hiding, condition, repetition, output, entrance, leap, execution, locking, nothing, ArgTree, assign, breaks, shown, kill_one, kill_others, new_one, new_others, tested, loop, do_one, go_to, executed, locked, indirect_args, anew, adding, giving_back, lock_one, lock_several, may_be_indirect, spell_expr, spell_reference, spell_primary, spell_entry, spell_condition, spell_arg}
+use Rattle.mgrammar.specs.Grammar.{ExprTree, expr, no_tails, tail, operand, PrimaryTree, number, text, special, reference, bracket, call, select, refer, EntryTree, at_label, at_label_in, at_routine, FormTree, set_argument, kill_argument, new_argument, if_argument, for_argument, write_argument, do_argument, goto_argument, xecute_argument, lock_argument, no_argument, ArgTree, assign, breaks, shown, kill_one, kill_others, new_one, new_others, tested, loop, do_one, go_to, executed, locked, indirect_args, anew, adding, giving_back, lock_one, lock_several, may_be_indirect, spell_expr, spell_reference, spell_primary, spell_entry, spell_condition, spell_arg}
 use Rattle.mgrammar.specs.WellFormed.{bare_primary, bare_expr, bare_arg, settled, max_depth, WellExpr, WellBelow, WellEntry, WellPlain, WellArg}
 use Rattle.mgrammar.specs.Reading.{Read, past, readers_at, settled_with, operand_by, operand_or}
 use Rattle.mgrammar.proofs.ReadingBasics.{Takes, Again, Stops, Begins-stops, Begins-append, bind_some, some_is, past_takes, not_past}
@@ -24,34 +24,34 @@ bare_expr_is d (expr o (tail s rest)) p e w = absurd cc
 
 -- an argument as it is written
 bare_arg_is : (f : FormTree) (a : ArgTree) (p : PrimaryTree) → bare_arg a ≡ Some p → WellPlain f a → (spell_arg a ≡ 64 ∷ spell_primary p) × WellBelow max_depth p
-bare_arg_is assignment (assign d e) p h w = absurd cc
-bare_arg_is removal (kill_one v) p h w = bare_reference_is max_depth v p h w
-bare_arg_is removal (kill_others names) p h w = absurd cc
-bare_arg_is hiding (new_one name) p h w = absurd cc
-bare_arg_is hiding (new_others names) p h w = absurd cc
-bare_arg_is condition (tested e) p h w = bare_expr_is max_depth e p h w
-bare_arg_is repetition (loop index parameters) p h w = absurd cc
-bare_arg_is output (breaks n) p h w = absurd cc
-bare_arg_is output (shown e) p h w = bare_expr_is max_depth e p h w
-bare_arg_is entrance (do_one e c) p h w = absurd cc
-bare_arg_is leap (go_to e c) p h w = absurd cc
-bare_arg_is execution (executed e None) p h w =
+bare_arg_is set_argument (assign d e) p h w = absurd cc
+bare_arg_is kill_argument (kill_one v) p h w = bare_reference_is max_depth v p h w
+bare_arg_is kill_argument (kill_others names) p h w = absurd cc
+bare_arg_is new_argument (new_one name) p h w = absurd cc
+bare_arg_is new_argument (new_others names) p h w = absurd cc
+bare_arg_is if_argument (tested e) p h w = bare_expr_is max_depth e p h w
+bare_arg_is for_argument (loop index parameters) p h w = absurd cc
+bare_arg_is write_argument (breaks n) p h w = absurd cc
+bare_arg_is write_argument (shown e) p h w = bare_expr_is max_depth e p h w
+bare_arg_is do_argument (do_one e c) p h w = absurd cc
+bare_arg_is goto_argument (go_to e c) p h w = absurd cc
+bare_arg_is xecute_argument (executed e None) p h w =
     let is = bare_expr_is max_depth e p h w.0 in
     (append-nil (spell_expr e) ∙ is.0, is.1)
-bare_arg_is execution (executed e (Some c)) p h w = absurd cc
-bare_arg_is locking (locked anew (lock_one v) None) p h w =
+bare_arg_is xecute_argument (executed e (Some c)) p h w = absurd cc
+bare_arg_is lock_argument (locked anew (lock_one v) None) p h w =
     let is = bare_reference_is max_depth v p h w.0.0 in
     (append-nil (spell_reference v) ∙ is.0, is.1)
-bare_arg_is locking (locked anew (lock_one v) (Some t)) p h w = absurd cc
-bare_arg_is locking (locked anew (lock_several vs) t) p h w = absurd cc
-bare_arg_is locking (locked adding names t) p h w = absurd cc
-bare_arg_is locking (locked giving_back names t) p h w = absurd cc
+bare_arg_is lock_argument (locked anew (lock_one v) (Some t)) p h w = absurd cc
+bare_arg_is lock_argument (locked anew (lock_several vs) t) p h w = absurd cc
+bare_arg_is lock_argument (locked adding names t) p h w = absurd cc
+bare_arg_is lock_argument (locked giving_back names t) p h w = absurd cc
 bare_arg_is f a p h w = absurd w
 
 -- ---- arguments that are written, and those that a text gives
 
 no_plain : (f g : FormTree) (p : PrimaryTree) → WellPlain f (indirect_args g p) → ⊥
-no_plain assignment g p w = w
+no_plain set_argument g p w = w
 no_plain f g p w = w
 
 pub plain_well : (f : FormTree) (a : ArgTree) → WellPlain f a → bare_arg a ≡ None → WellArg f a
@@ -128,12 +128,12 @@ name_no_at c h = grind (arith, nat_tests)
 name_stops : (name rest : List ℕ) → IsName name → Stops (λ c. eqb c 64) (name ++ rest)
 name_stops name rest w = Begins-stops is_name_start (λ c. eqb c 64) (name ++ rest) name_no_at (Begins-append is_name_start name rest (named name w))
 
-pub hiding_plain : (a : ArgTree) → WellPlain hiding a → bare_arg a ≡ None
-hiding_plain (new_one name) w = refl
-hiding_plain (new_others names) w = refl
-hiding_plain a w = absurd w
+pub new_argument_plain : (a : ArgTree) → WellPlain new_argument a → bare_arg a ≡ None
+new_argument_plain (new_one name) w = refl
+new_argument_plain (new_others names) w = refl
+new_argument_plain a w = absurd w
 
-pub hiding_stops : (a : ArgTree) (rest : List ℕ) → WellPlain hiding a → Stops (λ c. eqb c 64) (spell_arg a ++ rest)
+pub hiding_stops : (a : ArgTree) (rest : List ℕ) → WellPlain new_argument a → Stops (λ c. eqb c 64) (spell_arg a ++ rest)
 hiding_stops (new_one name) rest w = name_stops name rest w
 hiding_stops (new_others names) rest w = refl
 hiding_stops a rest w = absurd w
@@ -145,18 +145,18 @@ entry_stops (at_label_in label routine) c rest w =
     (Begins-append is_name_start ((label ++ 94 ∷ routine) ++ c) rest (Begins-append is_name_start (label ++ 94 ∷ routine) c (Begins-append is_name_start label (94 ∷ routine) (named label w.0))))
 entry_stops (at_routine routine) c rest w = refl
 
-pub entrance_plain : (a : ArgTree) → WellPlain entrance a → bare_arg a ≡ None
-entrance_plain (do_one e c) w = refl
-entrance_plain a w = absurd w
+pub do_argument_plain : (a : ArgTree) → WellPlain do_argument a → bare_arg a ≡ None
+do_argument_plain (do_one e c) w = refl
+do_argument_plain a w = absurd w
 
-pub entrance_stops : (a : ArgTree) (rest : List ℕ) → WellPlain entrance a → Stops (λ c. eqb c 64) (spell_arg a ++ rest)
+pub entrance_stops : (a : ArgTree) (rest : List ℕ) → WellPlain do_argument a → Stops (λ c. eqb c 64) (spell_arg a ++ rest)
 entrance_stops (do_one e c) rest w = entry_stops e (spell_condition c) rest w.0
 entrance_stops a rest w = absurd w
 
-pub leap_plain : (a : ArgTree) → WellPlain leap a → bare_arg a ≡ None
-leap_plain (go_to e c) w = refl
-leap_plain a w = absurd w
+pub goto_argument_plain : (a : ArgTree) → WellPlain goto_argument a → bare_arg a ≡ None
+goto_argument_plain (go_to e c) w = refl
+goto_argument_plain a w = absurd w
 
-pub leap_stops : (a : ArgTree) (rest : List ℕ) → WellPlain leap a → Stops (λ c. eqb c 64) (spell_arg a ++ rest)
+pub leap_stops : (a : ArgTree) (rest : List ℕ) → WellPlain goto_argument a → Stops (λ c. eqb c 64) (spell_arg a ++ rest)
 leap_stops (go_to e c) rest w = entry_stops e (spell_condition c) rest w.0
 leap_stops a rest w = absurd w

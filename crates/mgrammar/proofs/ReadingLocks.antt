@@ -4,9 +4,9 @@ use Rattle.std.proofs.Common.{◌≡◌, ℕ, ◌-◌, Bool, true, false, cond, 
 use Rattle.std.specs.Prelude.{◌||◌}
 use Rattle.std.proofs.lemmas.Bool.{eqb-true}
 use Rattle.std.proofs.lemmas.Bool.Decides.{nat_tests}
-use Rattle.mgrammar.specs.Grammar.{ExprTree, ReferenceTree, LockKindTree, anew, adding, giving_back, LockedTree, lock_one, lock_several, ArgTree, locked, locking, spell_reference, spell_list, spell_kind, spell_locked, spell_condition, spell_arg}
+use Rattle.mgrammar.specs.Grammar.{ExprTree, ReferenceTree, LockKindTree, anew, adding, giving_back, LockedTree, lock_one, lock_several, ArgTree, locked, lock_argument, spell_reference, spell_list, spell_kind, spell_locked, spell_condition, spell_arg}
 use Rattle.mgrammar.specs.WellFormed.{max_depth, is_named, WellLockRef, WellLocked, WellPlain}
-use Rattle.mgrammar.specs.Reading.{Read, ◌>>=◌, past, list_at, readers_at, reference_with, after_sign, conditioned, lock_ref_with, locked_at, kind_of, locking_at}
+use Rattle.mgrammar.specs.Reading.{Read, ◌>>=◌, past, list_at, readers_at, reference_with, after_sign, conditioned, lock_ref_with, locked_at, kind_of, lock_argument_at}
 use Rattle.mgrammar.proofs.ReadingBasics.{Takes, Again, Begins, Begins-append, Begins-weaker, bind_some, chosen, some_is}
 use Rattle.mgrammar.proofs.ReadingLists.{bracketed_takes, list_again}
 use Rattle.mgrammar.proofs.ReadingReferences.{OperandEnds, begins_reference, reference_takes, reference_again, reference_begins}
@@ -97,10 +97,10 @@ kind_again k names rest w = (refl, refl)
 
 -- ---- arguments
 
-pub locking_takes : Takes spell_arg (WellPlain locking) locking_at
-unfolding locking_at
-locking_takes cs x e =
-    let Is : ArgTree × List ℕ → Type 0 = λ y. (cs ≡ spell_arg y.0 ++ y.1) × WellPlain locking y.0 in
+pub lock_argument_takes : Takes spell_arg (WellPlain lock_argument) lock_argument_at
+unfolding lock_argument_at
+lock_argument_takes cs x e =
+    let Is : ArgTree × List ℕ → Type 0 = λ y. (cs ≡ spell_arg y.0 ++ y.1) × WellPlain lock_argument y.0 in
     conditioned_takes spell_locked WellLocked locked_at (locked (kind_of cs)) Is (after_sign cs) x locked_takes e
     (λ a c rest p w v. (kind_parts cs ∙ ap (λ (y : List ℕ). spell_kind (kind_of cs) ++ y) p ∙ regroup (spell_kind (kind_of cs)) (spell_locked a) (spell_condition c) rest, (w, v)))
   where
@@ -111,23 +111,23 @@ condition_ends : (t : Option ExprTree) (rest : List ℕ) → Follows rest → Op
 condition_ends None rest s = s.0.0
 condition_ends (Some e) rest s = refl
 
-pub locking_again : Again spell_arg (WellPlain locking) Follows locking_at
-unfolding locking_at
-locking_again (locked k names t) rest w s =
+pub lock_argument_again : Again spell_arg (WellPlain lock_argument) Follows lock_argument_at
+unfolding lock_argument_at
+lock_argument_again (locked k names t) rest w s =
     let cs : List ℕ = spell_condition t ++ rest in
     let i = kind_again k names cs w.0 in
     let parts : ((spell_kind k ++ spell_locked names) ++ spell_condition t) ++ rest ≡ spell_kind k ++ (spell_locked names ++ cs) = simp append_assoc in
     let again = conditioned_again spell_locked WellLocked locked_at (locked k) names t rest w.1 s (locked_again names cs w.0 (condition_ends t rest s)) in
     let same : (spell_locked names ++ spell_condition t) ++ rest ≡ spell_locked names ++ cs = append_assoc (spell_locked names) (spell_condition t) rest in
-    ap locking_at parts ∙ rw (i.0, i.1) (ap (λ (y : List ℕ). locked_at y >>= conditioned (locked k)) (sym same) ∙ again)
-locking_again a rest w s = absurd w
+    ap lock_argument_at parts ∙ rw (i.0, i.1) (ap (λ (y : List ℕ). locked_at y >>= conditioned (locked k)) (sym same) ∙ again)
+lock_argument_again a rest w s = absurd w
 
-pub locking_begins : (a : ArgTree) → WellPlain locking a → Begins begins_operand (spell_arg a)
-locking_begins (locked k names t) w = Begins-append begins_operand (spell_kind k ++ spell_locked names) (spell_condition t) (begins k names w.0)
+pub lock_argument_begins : (a : ArgTree) → WellPlain lock_argument a → Begins begins_operand (spell_arg a)
+lock_argument_begins (locked k names t) w = Begins-append begins_operand (spell_kind k ++ spell_locked names) (spell_condition t) (begins k names w.0)
   where
     begins : (k : LockKindTree) (names : LockedTree) → WellLocked names → Begins begins_operand (spell_kind k ++ spell_locked names)
     begins anew (lock_one v) w = Begins-weaker begins_reference begins_operand (spell_reference v) variable_begins (reference_begins max_depth v w.0)
     begins anew (lock_several rs) w = refl
     begins adding names w = refl
     begins giving_back names w = refl
-locking_begins a w = absurd w
+lock_argument_begins a w = absurd w

@@ -1,13 +1,13 @@
 -- SPDX-License-Identifier: Apache-2.0
--- What is read of the left side of an assignment is spelled so, and what is spelled so is read.
+-- What is read of the left side of an set_argument is spelled so, and what is spelled so is read.
 use Rattle.std.proofs.Common.{◌≡◌, ℕ, ◌<◌, ◌-◌, Bool, true, eqb, List, [], ◌∷◌, ◌++◌, Option, Some, None, inl, inr, refl, sym, ap, subst, ◌∙◌, append_assoc, arith}
 use Rattle.std.proofs.lemmas.Bool.{eqb-true}
 use Rattle.std.proofs.lemmas.Bool.Decides.{nat_tests}
 use Rattle.mspec.specs.Names.{is_letter, AllAre}
-use Rattle.mgrammar.specs.Grammar.{ExprTree, PrimaryTree, no_exprs, ReferenceTree, indirect, TargetTree, variable, piece, DestinationTree, one, several, ArgTree, assign, indirect_args, FormTree, spell_expr, spell_primary, spell_reference, spell_list, spell_place, spell_target, spell_destination, spell_arg, assignment}
+use Rattle.mgrammar.specs.Grammar.{ExprTree, PrimaryTree, no_exprs, ReferenceTree, indirect, TargetTree, variable, piece, DestinationTree, one, several, ArgTree, assign, indirect_args, FormTree, spell_expr, spell_primary, spell_reference, spell_list, spell_place, spell_target, spell_destination, spell_arg, set_argument}
 use Rattle.mgrammar.specs.Functions.{is_piece}
 use Rattle.mgrammar.specs.WellFormed.{max_depth, bare_primary, bare_destination, WellBelow, WellReference, WellOptional, WellTarget, WellDestination, WellArg}
-use Rattle.mgrammar.specs.Reading.{Read, ◌>>=◌, run_of, after_run, past, list_at, Readers, reference_with, expr_at, readers_at, place_with, piece_with, piece_by, target_with, destination_at, given_by, assignment_by, assignment_at}
+use Rattle.mgrammar.specs.Reading.{Read, ◌>>=◌, run_of, after_run, past, list_at, Readers, reference_with, expr_at, readers_at, place_with, piece_with, piece_by, target_with, destination_at, given_by, set_argument_by, set_argument_at}
 use Rattle.mgrammar.proofs.ReadingBasics.{Takes, Again, Stops, Begins, Begins-append, Begins-stops, Begins-weaker, bind_some, chosen, some_is, both_are, run_parts, run_again, past_takes, not_past}
 use Rattle.mgrammar.proofs.ReadingLists.{joined_by, bracketed_takes, is_comma, list_again}
 use Rattle.mgrammar.proofs.ReadingTrees.{WellInner}
@@ -113,7 +113,7 @@ destination_takes (c ∷ cs) x e =
 
 -- what was read of an argument of SET
 abbrev AssignmentIs : List ℕ → ArgTree × List ℕ → Type 0
-AssignmentIs cs x = (cs ≡ spell_arg x.0 ++ x.1) × WellArg assignment x.0
+AssignmentIs cs x = (cs ≡ spell_arg x.0 ++ x.1) × WellArg set_argument x.0
 
 -- a destination that is an `@` with its operand alone
 bare_is : (d : DestinationTree) (p : PrimaryTree) → bare_destination d ≡ Some p → WellDestination d → (spell_destination d ≡ 64 ∷ spell_primary p) × WellBelow max_depth p
@@ -121,26 +121,26 @@ bare_is (one (variable v)) p e w = bare_reference_is max_depth v p e w
 bare_is (one (piece word v delimiter place)) p e w = absurd cc
 bare_is (several ts) p e w = absurd cc
 
-given_takes : (cs : List ℕ) (d : DestinationTree) (t : List ℕ) (o : Option PrimaryTree) (x : ArgTree × List ℕ) → cs ≡ spell_destination d ++ t → WellDestination d → bare_destination d ≡ o → given_by assignment t o ≡ Some x → AssignmentIs cs x
+given_takes : (cs : List ℕ) (d : DestinationTree) (t : List ℕ) (o : Option PrimaryTree) (x : ArgTree × List ℕ) → cs ≡ spell_destination d ++ t → WellDestination d → bare_destination d ≡ o → given_by set_argument t o ≡ Some x → AssignmentIs cs x
 given_takes cs d t None x p w h e = absurd cc
 given_takes cs d t (Some q) x p w h e =
     let is = bare_is d q h w in
-    subst (AssignmentIs cs) {x = (indirect_args assignment q, t)} (some_is (indirect_args assignment q, t) x e) (p ∙ ap (λ (y : List ℕ). y ++ t) is.0, (refl, refl, is.1))
+    subst (AssignmentIs cs) {x = (indirect_args set_argument q, t)} (some_is (indirect_args set_argument q, t) x e) (p ∙ ap (λ (y : List ℕ). y ++ t) is.0, (refl, refl, is.1))
 
-assignment_takes_by : (cs : List ℕ) (d : DestinationTree) (t : List ℕ) (o : Option (List ℕ)) (x : ArgTree × List ℕ) → cs ≡ spell_destination d ++ t → WellDestination d → past 61 t ≡ o → assignment_by d t o ≡ Some x → AssignmentIs cs x
-assignment_takes_by cs d t None x p w h e = given_takes cs d t (bare_destination d) x p w refl e
-assignment_takes_by cs d t (Some rest) x p w h e =
+set_argument_takes_by : (cs : List ℕ) (d : DestinationTree) (t : List ℕ) (o : Option (List ℕ)) (x : ArgTree × List ℕ) → cs ≡ spell_destination d ++ t → WellDestination d → past 61 t ≡ o → set_argument_by d t o ≡ Some x → AssignmentIs cs x
+set_argument_takes_by cs d t None x p w h e = given_takes cs d t (bare_destination d) x p w refl e
+set_argument_takes_by cs d t (Some rest) x p w h e =
     let v = bind_some (expr_at max_depth rest) (λ v. Some (assign d v.0, v.1)) x e in
     let value = expr_takes max_depth (readers_at max_depth) (inner_takes max_depth) (within_takes max_depth) (below_takes max_depth) rest v.0 v.1 in
     subst (AssignmentIs cs) {x = (assign d v.0.0, v.0.1)} (some_is (assign d v.0.0, v.0.1) x v.2)
     (joined_by 61 cs (spell_destination d) t rest (spell_expr v.0.0) v.0.1 p (past_takes 61 t rest h) value.0, ((w, value.1), refl))
 
-pub assignment_takes : Takes spell_arg (WellArg assignment) assignment_at
-unfolding assignment_at
-assignment_takes cs x e =
-    let t = bind_some (destination_at cs) (λ t. assignment_by t.0 t.1 (past 61 t.1)) x e in
+pub set_argument_takes : Takes spell_arg (WellArg set_argument) set_argument_at
+unfolding set_argument_at
+set_argument_takes cs x e =
+    let t = bind_some (destination_at cs) (λ t. set_argument_by t.0 t.1 (past 61 t.1)) x e in
     let destination = destination_takes cs t.0 t.1 in
-    assignment_takes_by cs t.0.0 t.0.1 (past 61 t.0.1) x destination.0 destination.1 refl t.2
+    set_argument_takes_by cs t.0.0 t.0.1 (past 61 t.0.1) x destination.0 destination.1 refl t.2
 
 -- ---- what is spelled so is read
 
@@ -219,29 +219,29 @@ destination_again (several ts) rest w s =
     ap destination_at (ap (λ (y : List ℕ). 40 ∷ y) (append_assoc (spell_list spell_target ts) (41 ∷ []) rest)) ∙ list_step (spell_list spell_target ts ++ 41 ∷ rest) ts rest l
 
 assignment_step : (cs t u : List ℕ) (destination : DestinationTree) (value : ExprTree) (rest : List ℕ) → destination_at cs ≡ Some (destination, t) → past 61 t ≡ Some u → expr_at max_depth u ≡ Some (value, rest)
-    → assignment_at cs ≡ Some (assign destination value, rest)
-unfolding assignment_at
+    → set_argument_at cs ≡ Some (assign destination value, rest)
+unfolding set_argument_at
 assignment_step cs t u destination value rest h k l = rw (h, k, l) refl
 
-given_step : (cs t : List ℕ) (d : DestinationTree) (p : PrimaryTree) → destination_at cs ≡ Some (d, t) → past 61 t ≡ None → bare_destination d ≡ Some p → assignment_at cs ≡ Some (indirect_args assignment p, t)
-unfolding assignment_at
+given_step : (cs t : List ℕ) (d : DestinationTree) (p : PrimaryTree) → destination_at cs ≡ Some (d, t) → past 61 t ≡ None → bare_destination d ≡ Some p → set_argument_at cs ≡ Some (indirect_args set_argument p, t)
+unfolding set_argument_at
 given_step cs t d p h k b = rw (h, k, b) refl
 
 abbrev pub is_equals : ℕ → Bool
 is_equals c = eqb c 61
 
-pub assignment_again : Again spell_arg (WellArg assignment) (λ rest. Ends rest × Stops is_equals rest) assignment_at
-assignment_again (assign destination value) rest w s =
+pub set_argument_again : Again spell_arg (WellArg set_argument) (λ rest. Ends rest × Stops is_equals rest) set_argument_at
+set_argument_again (assign destination value) rest w s =
     let u : List ℕ = spell_expr value ++ rest in
-    ap assignment_at (append_assoc (spell_destination destination) (61 ∷ spell_expr value) rest)
+    ap set_argument_at (append_assoc (spell_destination destination) (61 ∷ spell_expr value) rest)
     ∙ assignment_step (spell_destination destination ++ 61 ∷ u) (61 ∷ u) u destination value rest (destination_again destination (61 ∷ u) w.0.0 refl) refl (expr_again max_depth (readers_at max_depth) (inner_again max_depth) (within_again max_depth) (below_again max_depth) value rest w.0.1 s.0)
-assignment_again (indirect_args f p) rest w s =
+set_argument_again (indirect_args f p) rest w s =
     let v : ReferenceTree = indirect p no_exprs in
     let well : WellReference max_depth v = bare_well max_depth p w.2 in
-    ap (λ (y : List ℕ). assignment_at (y ++ rest)) (sym (bare_spelled p))
+    ap (λ (y : List ℕ). set_argument_at (y ++ rest)) (sym (bare_spelled p))
     ∙ given_step (spell_reference v ++ rest) rest (one (variable v)) p (destination_again (one (variable v)) rest well s.0.0) (not_past 61 rest s.1) refl
     ∙ ap (λ (g : FormTree). Some (indirect_args g p, rest)) (sym w.0)
-assignment_again a rest w s = absurd w.0
+set_argument_again a rest w s = absurd w.0
 
 -- a variable begins an argument of SET, or a `$`, or a bracket
 pub variable_begins : (c : ℕ) → begins_reference c ≡ true → begins_operand c ≡ true
@@ -255,7 +255,7 @@ destination_begins : (d : DestinationTree) → WellDestination d → Begins begi
 destination_begins (one t) w = target_begins max_depth t w
 destination_begins (several ts) w = refl
 
-pub assignment_begins : (a : ArgTree) → WellArg assignment a → Begins begins_operand (spell_arg a)
-assignment_begins (assign d e) w = Begins-append begins_operand (spell_destination d) (61 ∷ spell_expr e) (destination_begins d w.0.0)
-assignment_begins (indirect_args f p) w = refl
-assignment_begins a w = absurd w.0
+pub set_argument_begins : (a : ArgTree) → WellArg set_argument a → Begins begins_operand (spell_arg a)
+set_argument_begins (assign d e) w = Begins-append begins_operand (spell_destination d) (61 ∷ spell_expr e) (destination_begins d w.0.0)
+set_argument_begins (indirect_args f p) w = refl
+set_argument_begins a w = absurd w.0

@@ -5,7 +5,7 @@
 -- Restates "Command definitions" of ISO/IEC 11756:1999, of those that the language has.
 use Rattle.std.specs.Prelude.{ℕ, Bool, true, false, ◌&&◌, nat_le, if◌then◌else◌, Option, Some, None, List, [], ◌∷◌, codes}
 use Rattle.mgrammar.specs.Grammar.{is_at_most, is_either, KeywordTree, set_word, kill_word, new_word, if_word, else_word, for_word, quit_word, write_word, do_word, goto_word, execute_word, lock_word, halt_word}
-use Rattle.mgrammar.specs.Grammar.{FormTree, assignment, removal, hiding, condition, repetition, output, entrance, leap, execution, locking, nothing}
+use Rattle.mgrammar.specs.Grammar.{FormTree, set_argument, kill_argument, new_argument, if_argument, for_argument, write_argument, do_argument, goto_argument, xecute_argument, lock_argument, no_argument}
 
 pub record CommandRow : Type 0 where
   pub short : List ℕ
@@ -19,19 +19,19 @@ abbrev row : List ℕ → List ℕ → FormTree → ℕ → Option ℕ → Bool 
 row short whole form least most is_conditioned = record { short = short; whole = whole; form = form; least = least; most = most; is_conditioned = is_conditioned }
 
 abbrev pub command_row : KeywordTree → CommandRow
-command_row set_word = row (codes "s") (codes "set") assignment 1 None true
-command_row kill_word = row (codes "k") (codes "kill") removal 0 None true
-command_row new_word = row (codes "n") (codes "new") hiding 0 None true
-command_row if_word = row (codes "i") (codes "if") condition 0 None false
-command_row else_word = row (codes "e") (codes "else") nothing 0 (Some 0) false
-command_row for_word = row (codes "f") (codes "for") repetition 0 (Some 1) false
-command_row quit_word = row (codes "q") (codes "quit") nothing 0 (Some 0) true
-command_row write_word = row (codes "w") (codes "write") output 1 None true
-command_row do_word = row (codes "d") (codes "do") entrance 0 None true
-command_row goto_word = row (codes "g") (codes "goto") leap 1 None true
-command_row execute_word = row (codes "x") (codes "xecute") execution 1 None true
-command_row lock_word = row (codes "l") (codes "lock") locking 0 None true
-command_row halt_word = row (codes "h") (codes "halt") nothing 0 (Some 0) true
+command_row set_word = row (codes "s") (codes "set") set_argument 1 None true
+command_row kill_word = row (codes "k") (codes "kill") kill_argument 0 None true
+command_row new_word = row (codes "n") (codes "new") new_argument 0 None true
+command_row if_word = row (codes "i") (codes "if") if_argument 0 None false
+command_row else_word = row (codes "e") (codes "else") no_argument 0 (Some 0) false
+command_row for_word = row (codes "f") (codes "for") for_argument 0 (Some 1) false
+command_row quit_word = row (codes "q") (codes "quit") no_argument 0 (Some 0) true
+command_row write_word = row (codes "w") (codes "write") write_argument 1 None true
+command_row do_word = row (codes "d") (codes "do") do_argument 0 None true
+command_row goto_word = row (codes "g") (codes "goto") goto_argument 1 None true
+command_row execute_word = row (codes "x") (codes "xecute") xecute_argument 1 None true
+command_row lock_word = row (codes "l") (codes "lock") lock_argument 0 None true
+command_row halt_word = row (codes "h") (codes "halt") no_argument 0 (Some 0) true
 
 -- those that there are
 abbrev pub keywords : List KeywordTree

@@ -151,17 +151,17 @@ pub data LockedTree : Type 0 where
 
 -- what a command's arguments look like; no text is one of the form `nothing`, that of commands that take none
 pub data FormTree : Type 0 where
-  assignment : FormTree
-  removal : FormTree
-  hiding : FormTree
-  condition : FormTree
-  repetition : FormTree
-  output : FormTree
-  entrance : FormTree
-  leap : FormTree
-  execution : FormTree
-  locking : FormTree
-  nothing : FormTree
+  set_argument : FormTree
+  kill_argument : FormTree
+  new_argument : FormTree
+  if_argument : FormTree
+  for_argument : FormTree
+  write_argument : FormTree
+  do_argument : FormTree
+  goto_argument : FormTree
+  xecute_argument : FormTree
+  lock_argument : FormTree
+  no_argument : FormTree
 
 -- an argument of any command: `setargument`, a destination and a value; `writeargument`, a run of the format `!`, or a value;
 -- `killargument`, a variable, or the names that are spared; `newargument`, a name, or the names that are spared; the condition
@@ -433,17 +433,17 @@ is_either short long w = str_eq_ignore_ascii_case w short || str_eq_ignore_ascii
 
 -- whether arguments of a form may be given by a text
 abbrev pub may_be_indirect : FormTree → Bool
-may_be_indirect assignment = true
-may_be_indirect removal = true
-may_be_indirect hiding = true
-may_be_indirect condition = true
-may_be_indirect repetition = false
-may_be_indirect output = true
-may_be_indirect entrance = true
-may_be_indirect leap = true
-may_be_indirect execution = true
-may_be_indirect locking = true
-may_be_indirect nothing = false
+may_be_indirect set_argument = true
+may_be_indirect kill_argument = true
+may_be_indirect new_argument = true
+may_be_indirect if_argument = true
+may_be_indirect for_argument = false
+may_be_indirect write_argument = true
+may_be_indirect do_argument = true
+may_be_indirect goto_argument = true
+may_be_indirect xecute_argument = true
+may_be_indirect lock_argument = true
+may_be_indirect no_argument = false
 
 pub data SpecialTree : Type 0 where
   test_special : SpecialTree

@@ -4,7 +4,7 @@
 use Rattle.std.specs.Prelude.{ℕ, zero, suc, ◌-◌, Bool, true, false, not, ◌&&◌, ◌||◌, ◌==◌, nat_le, nat_lt, if◌then◌else◌, List, [], ◌∷◌, ◌++◌, length, drop, Option, Some, None}
 use Rattle.mspec.specs.Literal.{is_digit}
 use Rattle.mspec.specs.Names.{is_letter, is_name_start, is_name_rest, is_character}
-use Rattle.mgrammar.specs.Grammar.{SignTree, plus, minus, negate, TruthTree, equals, less, greater, contains, follows, sorts_after, both, either, BinaryTree, add, subtract, multiply, divide, divide_whole, remainder, join, is, is_not, CountTree, RepeatedTree, classes, copies, AtomTree, ExprTree, expr, TailTree, apply, matches, matches_not, tails_of, OperandTree, operand, PrimaryTree, number, text, special, reference, bracket, call, select, refer, ReferenceTree, local, global, naked, indirect, extended, ExprsTree, no_exprs, exprs_of, choices_of, TargetTree, variable, piece, DestinationTree, one, several, ParameterTree, once, onward, until, EntryTree, at_label, at_label_in, at_routine, ArgTree, assign, breaks, shown, kill_one, kill_others, new_one, new_others, tested, loop, do_one, go_to, executed, locked, indirect_args, LockKindTree, anew, adding, giving_back, LockedTree, lock_one, lock_several, CommandTree, SpacedTree, LineTree, KeywordTree, FormTree, assignment, removal, hiding, condition, repetition, output, entrance, leap, execution, locking, nothing, SpecialTree, special_of, is_pattern_letter}
+use Rattle.mgrammar.specs.Grammar.{SignTree, plus, minus, negate, TruthTree, equals, less, greater, contains, follows, sorts_after, both, either, BinaryTree, add, subtract, multiply, divide, divide_whole, remainder, join, is, is_not, CountTree, RepeatedTree, classes, copies, AtomTree, ExprTree, expr, TailTree, apply, matches, matches_not, tails_of, OperandTree, operand, PrimaryTree, number, text, special, reference, bracket, call, select, refer, ReferenceTree, local, global, naked, indirect, extended, ExprsTree, no_exprs, exprs_of, choices_of, TargetTree, variable, piece, DestinationTree, one, several, ParameterTree, once, onward, until, EntryTree, at_label, at_label_in, at_routine, ArgTree, assign, breaks, shown, kill_one, kill_others, new_one, new_others, tested, loop, do_one, go_to, executed, locked, indirect_args, LockKindTree, anew, adding, giving_back, LockedTree, lock_one, lock_several, CommandTree, SpacedTree, LineTree, KeywordTree, FormTree, set_argument, kill_argument, new_argument, if_argument, for_argument, write_argument, do_argument, goto_argument, xecute_argument, lock_argument, no_argument, SpecialTree, special_of, is_pattern_letter}
 use Rattle.mgrammar.specs.Commands.{keyword_of, form_of, takes_args, takes_condition}
 use Rattle.mgrammar.specs.Functions.{FunctionTree, of_values, of_variable, of_choices, function_of, takes, is_piece}
 use Rattle.mgrammar.specs.WellFormed.{bare_destination, is_named, bare_arg, settled, least_gap, max_depth}
@@ -419,42 +419,42 @@ given_by f cs None = None
 given_by f cs (Some p) = Some (indirect_args f p, cs)
 
 -- a destination is read, and this text stands behind a `=`, or none does
-abbrev pub assignment_by : DestinationTree → List ℕ → Option (List ℕ) → Read ArgTree
-assignment_by d cs None = given_by assignment cs (bare_destination d)
-assignment_by d cs (Some rest) = expr_at max_depth rest >>= λ e. Some (assign d e.0, e.1)
+abbrev pub set_argument_by : DestinationTree → List ℕ → Option (List ℕ) → Read ArgTree
+set_argument_by d cs None = given_by set_argument cs (bare_destination d)
+set_argument_by d cs (Some rest) = expr_at max_depth rest >>= λ e. Some (assign d e.0, e.1)
 
-unfoldable pub assignment_at : List ℕ → Read ArgTree
-assignment_at cs = destination_at cs >>= λ d. assignment_by d.0 d.1 (past 61 d.1)
+unfoldable pub set_argument_at : List ℕ → Read ArgTree
+set_argument_at cs = destination_at cs >>= λ d. set_argument_by d.0 d.1 (past 61 d.1)
 
 abbrev pub is_bang : ℕ → Bool
 is_bang c = c == 33
 
 -- where this run of `!` is in front
-abbrev pub output_by : List ℕ → List ℕ → Read ArgTree
-output_by [] cs = expr_at max_depth cs >>= λ e. Some (shown e.0, e.1)
-output_by (b ∷ bs) cs = Some (breaks (length (b ∷ bs)), after_run is_bang cs)
+abbrev pub write_argument_by : List ℕ → List ℕ → Read ArgTree
+write_argument_by [] cs = expr_at max_depth cs >>= λ e. Some (shown e.0, e.1)
+write_argument_by (b ∷ bs) cs = Some (breaks (length (b ∷ bs)), after_run is_bang cs)
 
-unfoldable pub output_at : List ℕ → Read ArgTree
-output_at cs = output_by (run_of is_bang cs) cs
+unfoldable pub write_argument_at : List ℕ → Read ArgTree
+write_argument_at cs = write_argument_by (run_of is_bang cs) cs
 
 -- names, where the bracket in front of them is past
 unfoldable pub names_at : List ℕ → Read (List (List ℕ))
 names_at cs = list_at name_at cs >>= λ x. past 41 x.1 >>= λ rest. Some (x.0, rest)
 
-unfoldable pub removal_at : List ℕ → Read ArgTree
-removal_at [] = None
-removal_at (c ∷ cs) =
+unfoldable pub kill_argument_at : List ℕ → Read ArgTree
+kill_argument_at [] = None
+kill_argument_at (c ∷ cs) =
     if c == 40 then (names_at cs >>= λ x. Some (kill_others x.0, x.1))
     else (reference_with (readers_at max_depth) (c ∷ cs) >>= λ v. Some (kill_one v.0, v.1))
 
-unfoldable pub hiding_at : List ℕ → Read ArgTree
-hiding_at [] = None
-hiding_at (c ∷ cs) =
+unfoldable pub new_argument_at : List ℕ → Read ArgTree
+new_argument_at [] = None
+new_argument_at (c ∷ cs) =
     if c == 40 then (names_at cs >>= λ x. Some (new_others x.0, x.1))
     else (name_at (c ∷ cs) >>= λ n. Some (new_one n.0, n.1))
 
-unfoldable pub condition_at : List ℕ → Read ArgTree
-condition_at cs = expr_at max_depth cs >>= λ e. Some (tested e.0, e.1)
+unfoldable pub if_argument_at : List ℕ → Read ArgTree
+if_argument_at cs = expr_at max_depth cs >>= λ e. Some (tested e.0, e.1)
 
 -- a parameter of which the expressions in front are read, with what stands behind a colon
 abbrev pub limit_by : ExprTree → ExprTree → List ℕ → Option (List ℕ) → Read ParameterTree
@@ -468,8 +468,8 @@ increment_by e cs (Some rest) = expr_at max_depth rest >>= λ by. limit_by e by.
 unfoldable pub parameter_at : List ℕ → Read ParameterTree
 parameter_at cs = expr_at max_depth cs >>= λ e. increment_by e.0 e.1 (past 58 e.1)
 
-unfoldable pub repetition_at : List ℕ → Read ArgTree
-repetition_at cs =
+unfoldable pub for_argument_at : List ℕ → Read ArgTree
+for_argument_at cs =
     name_at cs >>= λ n. past 61 n.1 >>= λ rest. list_at parameter_at rest >>= λ x. Some (loop n.0 x.0, x.1)
 
 -- an expression, where the colon in front of it is past, or none
@@ -493,14 +493,14 @@ entry_at cs = entry_by cs (past 94 cs)
 abbrev pub conditioned : {A : Type 0} → (A → Option ExprTree → ArgTree) → A × List ℕ → Read ArgTree
 conditioned made x = postcondition_by x.1 (past 58 x.1) >>= λ c. Some (made x.0 c.0, c.1)
 
-unfoldable pub entrance_at : List ℕ → Read ArgTree
-entrance_at cs = entry_at cs >>= conditioned do_one
+unfoldable pub do_argument_at : List ℕ → Read ArgTree
+do_argument_at cs = entry_at cs >>= conditioned do_one
 
-unfoldable pub leap_at : List ℕ → Read ArgTree
-leap_at cs = entry_at cs >>= conditioned go_to
+unfoldable pub goto_argument_at : List ℕ → Read ArgTree
+goto_argument_at cs = entry_at cs >>= conditioned go_to
 
-unfoldable pub execution_at : List ℕ → Read ArgTree
-execution_at cs = expr_at max_depth cs >>= conditioned executed
+unfoldable pub xecute_argument_at : List ℕ → Read ArgTree
+xecute_argument_at cs = expr_at max_depth cs >>= conditioned executed
 
 unfoldable pub lock_ref_with : Readers → List ℕ → Read ReferenceTree
 lock_ref_with r cs = reference_with r cs >>= λ v. if is_named v.0 then Some v else None
@@ -515,8 +515,8 @@ abbrev pub kind_of : List ℕ → LockKindTree
 kind_of [] = anew
 kind_of (c ∷ cs) = if c == 43 then adding else (if c == 45 then giving_back else anew)
 
-unfoldable pub locking_at : List ℕ → Read ArgTree
-locking_at cs = locked_at (after_sign cs) >>= conditioned (locked (kind_of cs))
+unfoldable pub lock_argument_at : List ℕ → Read ArgTree
+lock_argument_at cs = locked_at (after_sign cs) >>= conditioned (locked (kind_of cs))
 
 -- ---- argument indirection
 
@@ -533,17 +533,17 @@ abbrev pub operand_or : (List ℕ → Read ArgTree) → FormTree → List ℕ �
 operand_or read f cs = operand_by read f cs (past 64 cs)
 
 abbrev pub arg_at : FormTree → List ℕ → Read ArgTree
-arg_at assignment = assignment_at
-arg_at removal = settled_with removal_at removal
-arg_at hiding = operand_or hiding_at hiding
-arg_at condition = settled_with condition_at condition
-arg_at repetition = repetition_at
-arg_at output = settled_with output_at output
-arg_at entrance = operand_or entrance_at entrance
-arg_at leap = operand_or leap_at leap
-arg_at execution = settled_with execution_at execution
-arg_at locking = settled_with locking_at locking
-arg_at nothing = λ cs. None
+arg_at set_argument = set_argument_at
+arg_at kill_argument = settled_with kill_argument_at kill_argument
+arg_at new_argument = operand_or new_argument_at new_argument
+arg_at if_argument = settled_with if_argument_at if_argument
+arg_at for_argument = for_argument_at
+arg_at write_argument = settled_with write_argument_at write_argument
+arg_at do_argument = operand_or do_argument_at do_argument
+arg_at goto_argument = operand_or goto_argument_at goto_argument
+arg_at xecute_argument = settled_with xecute_argument_at xecute_argument
+arg_at lock_argument = settled_with lock_argument_at lock_argument
+arg_at no_argument = λ cs. None
 
 -- ---- commands and lines
 

@@ -4,7 +4,7 @@
 use Rattle.std.specs.Prelude.{◌≡◌, ℕ, suc, ◌-◌, ◌<◌, ◌≤◌, Bool, true, false, nat_le, List, [], ◌∷◌, length, Option, Some, None}
 use Rattle.mspec.specs.Literal.{is_digit, Literal, IsLiteral, spell_literal}
 use Rattle.mspec.specs.Names.{is_letter, is_character, AllAre, IsName}
-use Rattle.mgrammar.specs.Grammar.{RepeatedTree, classes, copies, AtomTree, ExprTree, expr, TailsTree, no_tails, tail, TailTree, apply, matches, matches_not, OperandTree, operand, PrimaryTree, number, text, special, reference, bracket, call, select, refer, ReferenceTree, local, global, naked, indirect, extended, ExprsTree, no_exprs, exprs, ChoicesTree, no_choices, choice, TargetTree, variable, piece, DestinationTree, one, several, ParameterTree, once, onward, until, EntryTree, at_label, at_label_in, at_routine, ArgTree, assign, breaks, shown, kill_one, kill_others, new_one, new_others, tested, loop, do_one, go_to, executed, locked, indirect_args, LockedTree, lock_one, lock_several, anew, adding, giving_back, KeywordTree, CommandTree, SpacedTree, LineTree, FormTree, assignment, removal, hiding, condition, repetition, output, entrance, leap, execution, locking, may_be_indirect, SpecialTree, special_of, is_pattern_letter}
+use Rattle.mgrammar.specs.Grammar.{RepeatedTree, classes, copies, AtomTree, ExprTree, expr, TailsTree, no_tails, tail, TailTree, apply, matches, matches_not, OperandTree, operand, PrimaryTree, number, text, special, reference, bracket, call, select, refer, ReferenceTree, local, global, naked, indirect, extended, ExprsTree, no_exprs, exprs, ChoicesTree, no_choices, choice, TargetTree, variable, piece, DestinationTree, one, several, ParameterTree, once, onward, until, EntryTree, at_label, at_label_in, at_routine, ArgTree, assign, breaks, shown, kill_one, kill_others, new_one, new_others, tested, loop, do_one, go_to, executed, locked, indirect_args, LockedTree, lock_one, lock_several, anew, adding, giving_back, KeywordTree, CommandTree, SpacedTree, LineTree, FormTree, set_argument, kill_argument, new_argument, if_argument, for_argument, write_argument, do_argument, goto_argument, xecute_argument, lock_argument, may_be_indirect, SpecialTree, special_of, is_pattern_letter}
 use Rattle.mgrammar.specs.Commands.{keyword_of, form_of, takes_args, takes_condition}
 use Rattle.mgrammar.specs.Functions.{ValueFunctionTree, VariableFunctionTree, of_values, of_variable, of_choices, function_of, takes, is_piece}
 
@@ -198,19 +198,19 @@ WellLocked (lock_several rs) = WellList (WellLockRef (max_depth - 1)) rs
 
 -- an argument of this form as it is written; any other is none
 abbrev pub WellPlain : FormTree → ArgTree → Type 0
-WellPlain assignment (assign d e) = WellDestination d × WellExpr max_depth e
-WellPlain removal (kill_one r) = WellReference max_depth r
-WellPlain removal (kill_others names) = WellList IsName names
-WellPlain hiding (new_one name) = IsName name
-WellPlain hiding (new_others names) = WellList IsName names
-WellPlain condition (tested e) = WellExpr max_depth e
-WellPlain repetition (loop index parameters) = IsName index × WellList WellParameter parameters
-WellPlain output (breaks n) = 0 < n
-WellPlain output (shown e) = WellExpr max_depth e
-WellPlain entrance (do_one entry c) = WellEntry entry × WellOptional max_depth c
-WellPlain leap (go_to entry c) = WellEntry entry × WellOptional max_depth c
-WellPlain execution (executed e c) = WellExpr max_depth e × WellOptional max_depth c
-WellPlain locking (locked k names t) = WellLocked names × WellOptional max_depth t
+WellPlain set_argument (assign d e) = WellDestination d × WellExpr max_depth e
+WellPlain kill_argument (kill_one r) = WellReference max_depth r
+WellPlain kill_argument (kill_others names) = WellList IsName names
+WellPlain new_argument (new_one name) = IsName name
+WellPlain new_argument (new_others names) = WellList IsName names
+WellPlain if_argument (tested e) = WellExpr max_depth e
+WellPlain for_argument (loop index parameters) = IsName index × WellList WellParameter parameters
+WellPlain write_argument (breaks n) = 0 < n
+WellPlain write_argument (shown e) = WellExpr max_depth e
+WellPlain do_argument (do_one entry c) = WellEntry entry × WellOptional max_depth c
+WellPlain goto_argument (go_to entry c) = WellEntry entry × WellOptional max_depth c
+WellPlain xecute_argument (executed e c) = WellExpr max_depth e × WellOptional max_depth c
+WellPlain lock_argument (locked k names t) = WellLocked names × WellOptional max_depth t
 WellPlain f a = ⊥
 
 -- the operand, where an argument is an `@` with it and nothing more

@@ -2,7 +2,7 @@
 -- Indirection on examples, as proved equations. What is read of the texts that stand for an `@` stands beside the lines.
 use Rattle.mmeaning.proofs.MeaningWords.{ℕ, ◌++◌, rules, replicate, M6, M9, Zsteps, Zsyntax, Zdepth}
 use Rattle.mspec.specs.Act.{no_locals, assigned_to}
-use Rattle.mgrammar.specs.Grammar.{divide, ExprTree, number, text, reference, local, exprs, no_exprs, assignment, removal, hiding, condition, output, execution, breaks, shown, kill_one, new_one, tested, executed, indirect_args}
+use Rattle.mgrammar.specs.Grammar.{divide, ExprTree, number, text, reference, local, exprs, no_exprs, set_argument, kill_argument, new_argument, if_argument, write_argument, xecute_argument, breaks, shown, kill_one, new_one, tested, executed, indirect_args}
 use Rattle.mgrammar.specs.IndirectTexts.{ref_at, args_of}
 use Rattle.mgrammar.proofs.Computing.{reads}
 use Rattle.mmeaning.specs.LineMeaning.{line_end}
@@ -25,18 +25,18 @@ record TextsRead : Type 0 where
   indexed_a : ref_at (codes "A(1)") ≡ Some (local (codes "A") (exprs (digit (codes "1")) no_exprs))
   two_names : ref_at (codes "B C") ≡ None
   two_strings : ref_at (codes "\"W 5\",\"W 6\"") ≡ None
-  shown_b : args_of output (codes "B") ≡ Some (shown (variable (codes "B")) ∷ [])
-  shown_i : args_of output (codes "I") ≡ Some (shown (variable (codes "I")) ∷ [])
-  shown_1 : args_of output (codes "1") ≡ Some (shown (digit (codes "1")) ∷ [])
-  shown_a : args_of output (codes "A") ≡ Some (shown (variable (codes "A")) ∷ [])
-  nothing_shown : args_of output [] ≡ None
-  shown_until_error : args_of output (codes "1,!,2,1/0") ≡ Some (shown (digit (codes "1")) ∷ breaks 1 ∷ shown (digit (codes "2")) ∷ shown (with_operator (number (codes "1")) divide (number (codes "0"))) ∷ [])
-  two_assignments : args_of assignment (codes "B=4,C=5") ≡ Some (set_to (named (codes "B")) (digit (codes "4")) ∷ set_to (named (codes "C")) (digit (codes "5")) ∷ [])
-  two_texts : args_of execution (codes "\"W 5\",\"W 6\"") ≡ Some (executed (only (text (codes "W 5"))) None ∷ executed (only (text (codes "W 6"))) None ∷ [])
-  two_removals : args_of removal (codes "A,B") ≡ Some (kill_one (named (codes "A")) ∷ kill_one (named (codes "B")) ∷ [])
-  hidden_a : args_of hiding (codes "A") ≡ Some (new_one (codes "A") ∷ [])
-  two_conditions : args_of condition (codes "1,0") ≡ Some (tested (digit (codes "1")) ∷ tested (digit (codes "0")) ∷ [])
-  itself_shown : args_of output (codes "@A") ≡ Some (indirect_args output (reference (named (codes "A"))) ∷ [])
+  shown_b : args_of write_argument (codes "B") ≡ Some (shown (variable (codes "B")) ∷ [])
+  shown_i : args_of write_argument (codes "I") ≡ Some (shown (variable (codes "I")) ∷ [])
+  shown_1 : args_of write_argument (codes "1") ≡ Some (shown (digit (codes "1")) ∷ [])
+  shown_a : args_of write_argument (codes "A") ≡ Some (shown (variable (codes "A")) ∷ [])
+  nothing_shown : args_of write_argument [] ≡ None
+  shown_until_error : args_of write_argument (codes "1,!,2,1/0") ≡ Some (shown (digit (codes "1")) ∷ breaks 1 ∷ shown (digit (codes "2")) ∷ shown (with_operator (number (codes "1")) divide (number (codes "0"))) ∷ [])
+  two_assignments : args_of set_argument (codes "B=4,C=5") ≡ Some (set_to (named (codes "B")) (digit (codes "4")) ∷ set_to (named (codes "C")) (digit (codes "5")) ∷ [])
+  two_texts : args_of xecute_argument (codes "\"W 5\",\"W 6\"") ≡ Some (executed (only (text (codes "W 5"))) None ∷ executed (only (text (codes "W 6"))) None ∷ [])
+  two_removals : args_of kill_argument (codes "A,B") ≡ Some (kill_one (named (codes "A")) ∷ kill_one (named (codes "B")) ∷ [])
+  hidden_a : args_of new_argument (codes "A") ≡ Some (new_one (codes "A") ∷ [])
+  two_conditions : args_of if_argument (codes "1,0") ≡ Some (tested (digit (codes "1")) ∷ tested (digit (codes "0")) ∷ [])
+  itself_shown : args_of write_argument (codes "@A") ≡ Some (indirect_args write_argument (reference (named (codes "A"))) ∷ [])
 
 texts_read : TextsRead
 unfolding reads

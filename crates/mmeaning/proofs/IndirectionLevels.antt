@@ -3,8 +3,8 @@
 use Rattle.mmeaning.proofs.MeaningWords.{◌≡◌, ℕ, zero, suc, ◌+◌, ◌≤◌, Bool, true, false, List, [], ◌∷◌, Option, Some, None, refl, arith, rules, codes, nat_lt, M9, Zdepth, Zsyntax, Done}
 use Rattle.std.proofs.lemmas.Bool.Decides.{nat_tests}
 use Rattle.mspec.specs.Act.{Text, Node, Locals, level_begun, State, Gives, Fails, value_of, assigned_to}
-use Rattle.mgrammar.specs.Grammar.{divide, number, PrimaryTree, text, bracket, reference, ReferenceTree, indirect, exprs, no_exprs, variable, one, output, at_label, entrance, do_one, indirect_args, do_word, CommandTree}
-use Rattle.mgrammar.specs.Reading.{many, list_at, name_at, subscripts_with, attached_with, indirect_with, reference_with, primary_with, readers_at, entry_at, entrance_at}
+use Rattle.mgrammar.specs.Grammar.{divide, number, PrimaryTree, text, bracket, reference, ReferenceTree, indirect, exprs, no_exprs, variable, one, write_argument, at_label, do_argument, do_one, indirect_args, do_word, CommandTree}
+use Rattle.mgrammar.specs.Reading.{many, list_at, name_at, subscripts_with, attached_with, indirect_with, reference_with, primary_with, readers_at, entry_at, do_argument_at}
 use Rattle.mgrammar.specs.IndirectTexts.{ref_at, args_of}
 use Rattle.mgrammar.specs.RoutineLine.{RoutineLineTree, spaced_out, dots_of, label_at, routine_line_at}
 use Rattle.mgrammar.proofs.Computing.{reads}
@@ -43,8 +43,8 @@ module _ (naked : Option Node) (test : Bool) (out : Text) where
     level_before_text : (locals : Locals) (steps : ℕ) → evaluated (within 256 0) (at_text (codes "B C")) (state locals (suc steps)) ≡ Done (Fails Zdepth (state locals steps))
     text_read : (locals : Locals) (steps : ℕ) → evaluated (within 255 0) (at_text (codes "B C")) (state locals (suc steps)) ≡ Done (Fails Zsyntax (state locals steps))
     -- the same of arguments
-    argument_level_before_text : (locals : Locals) (steps : ℕ) → given (at 256 0) output (text (codes "1 1")) (state locals (suc steps)) ≡ Done (Fails Zdepth (state locals steps))
-    argument_text_read : (locals : Locals) (steps : ℕ) → given (at 255 0) output (text (codes "1 1")) (state locals (suc steps)) ≡ Done (Fails Zsyntax (state locals steps))
+    argument_level_before_text : (locals : Locals) (steps : ℕ) → given (at 256 0) write_argument (text (codes "1 1")) (state locals (suc steps)) ≡ Done (Fails Zdepth (state locals steps))
+    argument_text_read : (locals : Locals) (steps : ℕ) → given (at 255 0) write_argument (text (codes "1 1")) (state locals (suc steps)) ≡ Done (Fails Zsyntax (state locals steps))
 
   in_order : InOrder
   unfolding reads computes
@@ -60,7 +60,7 @@ module _ (naked : Option Node) (test : Bool) (out : Text) where
     -- 256 levels, of which 32 are indirections
     last_level : (locals : Locals) (steps : ℕ) → evaluated (within 255 31) (at_text (codes "B")) (state locals (suc steps)) ≡ Done (Gives (of_local (codes "B") []) (state locals steps))
     one_indirection_more : (locals : Locals) (steps : ℕ) → evaluated (within 32 32) (at_text (codes "B")) (state locals (suc steps)) ≡ Done (Fails Zdepth (state locals steps))
-    one_argument_more : (locals : Locals) (steps : ℕ) → given (at 32 32) output (text (codes "1")) (state locals (suc steps)) ≡ Done (Fails Zdepth (state locals steps))
+    one_argument_more : (locals : Locals) (steps : ℕ) → given (at 32 32) write_argument (text (codes "1")) (state locals (suc steps)) ≡ Done (Fails Zdepth (state locals steps))
 
   named : Named
   unfolding reads finds
@@ -98,17 +98,17 @@ abbrev itself_line : Text
 itself_line = codes "T D @\"T\""
 
 abbrev itself_commands : List CommandTree
-itself_commands = command do_word 68 (indirect_args entrance (text (codes "T")) ∷ []) ∷ []
+itself_commands = command do_word 68 (indirect_args do_argument (text (codes "T")) ∷ []) ∷ []
 
 abbrev itself : RoutineLineTree
-itself = record { label = Some (codes "T"); body = spaced_out [] (line ((command do_word 68 (indirect_args entrance (text (codes "T")) ∷ []), 0) ∷ [])) }
+itself = record { label = Some (codes "T"); body = spaced_out [] (line ((command do_word 68 (indirect_args do_argument (text (codes "T")) ∷ []), 0) ∷ [])) }
 
 itself_read : routine_line_at itself_line ≡ Some itself
 unfolding reads
 itself_read = refl
 
-entry_read : args_of entrance (codes "T") ≡ Some (do_one (at_label (codes "T")) None ∷ [])
-unfolding args_of many list_at name_at entry_at entrance_at
+entry_read : args_of do_argument (codes "T") ≡ Some (do_one (at_label (codes "T")) None ∷ [])
+unfolding args_of many list_at name_at entry_at do_argument_at
 entry_read = refl
 
 entry_found : (s : State) → target (itself_line ∷ []) 0 (at_label (codes "T")) s ≡ Done (Gives (record { copy = itself_line ∷ []; line = 0 }) s)

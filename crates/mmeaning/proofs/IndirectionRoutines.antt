@@ -1,7 +1,7 @@
 -- SPDX-License-Identifier: Apache-2.0
 -- Argument indirection of DO and GOTO on examples, as proved equations.
 use Rattle.std.proofs.Common.{rules}
-use Rattle.mgrammar.specs.Grammar.{at_label_in, entrance, leap, do_one, go_to}
+use Rattle.mgrammar.specs.Grammar.{at_label_in, do_argument, goto_argument, do_one, go_to}
 use Rattle.mgrammar.specs.IndirectTexts.{args_of}
 use Rattle.mgrammar.proofs.Computing.{reads}
 use Rattle.mmeaning.proofs.Running.{◌≡◌, List, [], ◌∷◌, Some, None, refl, codes, Text, done, at_last, asked, With, runs, running}
@@ -9,9 +9,9 @@ use Rattle.mmeaning.proofs.Running.{◌≡◌, List, [], ◌∷◌, Some, None, 
 -- ---- what is read of the texts
 
 record TextsRead : Type 0 where
-  entries_t_u : args_of entrance (codes "T^T,U^T") ≡ Some (do_one (at_label_in (codes "T") (codes "T")) None ∷ do_one (at_label_in (codes "U") (codes "T")) None ∷ [])
-  entry_t : args_of entrance (codes "T^T") ≡ Some (do_one (at_label_in (codes "T") (codes "T")) None ∷ [])
-  leap_u : args_of leap (codes "U^T") ≡ Some (go_to (at_label_in (codes "U") (codes "T")) None ∷ [])
+  entries_t_u : args_of do_argument (codes "T^T,U^T") ≡ Some (do_one (at_label_in (codes "T") (codes "T")) None ∷ do_one (at_label_in (codes "U") (codes "T")) None ∷ [])
+  entry_t : args_of do_argument (codes "T^T") ≡ Some (do_one (at_label_in (codes "T") (codes "T")) None ∷ [])
+  leap_u : args_of goto_argument (codes "U^T") ≡ Some (go_to (at_label_in (codes "U") (codes "T")) None ∷ [])
 
 texts_read : TextsRead
 unfolding reads

@@ -3,7 +3,7 @@
 use Rattle.mmeaning.proofs.MeaningWords.{rules, nat_cmp, M6, M9, Zlocked, Zsyntax, Session, World, Halted}
 use Rattle.std.specs.FinMap.{FinMap, insert, remove}
 use Rattle.mspec.specs.LockConflict.{LockName, Locks, held}
-use Rattle.mgrammar.specs.Grammar.{divide, number, global, naked, exprs, no_exprs, anew, adding, lock_one, locking, locked}
+use Rattle.mgrammar.specs.Grammar.{divide, number, global, naked, exprs, no_exprs, anew, adding, lock_one, lock_argument, locked}
 use Rattle.mgrammar.specs.IndirectTexts.{ref_at, args_of}
 use Rattle.mgrammar.proofs.Computing.{reads}
 use Rattle.mmeaning.proofs.LineTrees.{only, with_operator}
@@ -86,8 +86,8 @@ record TextsRead : Type 0 where
   naked_1 : ref_at (codes "^(1)") ≡ Some (naked (exprs (only (number (codes "1"))) no_exprs))
   naked_error : ref_at (codes "^(1/0)") ≡ Some (naked (exprs (with_operator (number (codes "1")) divide (number (codes "0"))) no_exprs))
   two_globals : ref_at (codes "^X,^Y") ≡ None
-  no_naked_lock : args_of locking (codes "^(1)") ≡ None
-  two_locks : args_of locking (codes "^X,+^Y:0") ≡ Some (locked anew (lock_one (global (codes "X") no_exprs)) None ∷ locked adding (lock_one (global (codes "Y") no_exprs)) (Some (only (number (codes "0")))) ∷ [])
+  no_naked_lock : args_of lock_argument (codes "^(1)") ≡ None
+  two_locks : args_of lock_argument (codes "^X,+^Y:0") ≡ Some (locked anew (lock_one (global (codes "X") no_exprs)) None ∷ locked adding (lock_one (global (codes "Y") no_exprs)) (Some (only (number (codes "0")))) ∷ [])
 
 texts_read : TextsRead
 unfolding reads

@@ -8,7 +8,7 @@ pub use Rattle.mspec.specs.Act.{Outcome, Gives, Fails, Act, on_gives, ◌>>=◌,
 pub use Rattle.mspec.specs.Code.{M9, M13, Zsyntax, Zlevel, Zsteps, Memory, Store, Fault, Own, Lost, Zover, Zarg, Zgrant, Zsub, Code, M6, Zdepth, Zterm, Zline, Zchar, Zlocked}
 pub use Rattle.mspec.specs.LockConflict.{LockName, taken, Locks, released}
 pub use Rattle.mspec.specs.Plan.{Op, Answer, Plan, Done, Ask, then_plan, perform, Ops, Take, Give_back, Release, May, Value, Status, Routine, Put, Kill}
-pub use Rattle.mgrammar.specs.Grammar.{ExprTree, divide, number, text, reference, ReferenceTree, naked, extended, ExprsTree, exprs, no_exprs, variable, one, LineTree, at_label, at_label_in, shown, do_one, go_to, do_word, CommandTree, SpacedTree, local, output, executed, indirect_args, PrimaryTree, indirect, entrance, ArgTree, global, anew, adding, lock_one}
+pub use Rattle.mgrammar.specs.Grammar.{ExprTree, divide, number, text, reference, ReferenceTree, naked, extended, ExprsTree, exprs, no_exprs, variable, one, LineTree, at_label, at_label_in, shown, do_one, go_to, do_word, CommandTree, SpacedTree, local, write_argument, executed, indirect_args, PrimaryTree, indirect, do_argument, ArgTree, global, anew, adding, lock_one}
 pub use Rattle.mgrammar.specs.Reading.{line_at}
 pub use Rattle.mmeaning.specs.Calls.{Standing, Here, FailedBy, Ends, Did, MayLose, Follows, ops_of}
 pub use Rattle.mmeaning.specs.History.{replies, opening}

@@ -1,29 +1,29 @@
 // SPDX-License-Identifier: Apache-2.0
 // Commands and their arguments.
 ghost use Rattle.std.specs.Prelude.{◌≡◌, map};
-ghost use Rattle.mgrammar.specs.Grammar.{ArgTree, output};
+ghost use Rattle.mgrammar.specs.Grammar.{ArgTree, write_argument};
 ghost use Rattle.mgrammar.specs.Commands.{form_of};
-ghost use Rattle.mgrammar.specs.Reading.{output_at, settled_with, arg_at, has_args, args_at, command_at};
+ghost use Rattle.mgrammar.specs.Reading.{write_argument_at, settled_with, arg_at, has_args, args_at, command_at};
 ghost use Rattle.mtree.specs.Tree.{arg_tree, keyword_tree, command_tree};
 ghost use Rattle.mscan.specs.Gives.{Gives};
 
 use crate::arity::takes_args;
-use crate::control::{condition, postcondition, repetition};
-use crate::entry::{entrance, execution, leap};
+use crate::control::{if_argument, postcondition, for_argument};
+use crate::entry::{do_argument, xecute_argument, goto_argument};
 use crate::expr::{MAX_DEPTH, expr};
 use crate::list::{Items, list};
-use crate::lock::locking;
+use crate::lock::lock_argument;
 use crate::operand::expr_operand;
-use crate::scope::{hiding, removal};
-use crate::set::assignment;
+use crate::scope::{new_argument, kill_argument};
+use crate::set::set_argument;
 use mnum::Bytes7;
 use mscan::{Class, ParseFault, run};
 use mtree::{Arg, Command, Keyword, keyword_of};
 use std::alloc::Global;
 
-#[tactic(auto, unfolding(mgrammar::specs::Reading::output_at))]
-fn output(alloc: Global, bytes: &[u8]) -> Result<(Arg, &[u8]), ParseFault>
-    ensures { Gives (λ x. (arg_tree x.0, x.1.now)) result (settled_with output_at output bytes.now) }
+#[tactic(auto, unfolding(mgrammar::specs::Reading::write_argument_at))]
+fn write_argument(alloc: Global, bytes: &[u8]) -> Result<(Arg, &[u8]), ParseFault>
+    ensures { Gives (λ x. (arg_tree x.0, x.1.now)) result (settled_with write_argument_at write_argument bytes.now) }
 {
     let (bangs, rest) = run(Class::Bang, bytes);
     if !bangs.is_empty() {
@@ -48,16 +48,16 @@ impl Items for Keyword {
 
     fn item(self, alloc: Global, bytes: &[u8]) -> Result<(Arg, &[u8]), ParseFault> {
         match self {
-            Keyword::Set => assignment(alloc, bytes),
-            Keyword::Kill => removal(alloc, bytes),
-            Keyword::New => hiding(alloc, bytes),
-            Keyword::If => condition(alloc, bytes),
-            Keyword::For => repetition(alloc, bytes),
-            Keyword::Write => output(alloc, bytes),
-            Keyword::Do => entrance(alloc, bytes),
-            Keyword::Goto => leap(alloc, bytes),
-            Keyword::Execute => execution(alloc, bytes),
-            Keyword::Lock => locking(alloc, bytes),
+            Keyword::Set => set_argument(alloc, bytes),
+            Keyword::Kill => kill_argument(alloc, bytes),
+            Keyword::New => new_argument(alloc, bytes),
+            Keyword::If => if_argument(alloc, bytes),
+            Keyword::For => for_argument(alloc, bytes),
+            Keyword::Write => write_argument(alloc, bytes),
+            Keyword::Do => do_argument(alloc, bytes),
+            Keyword::Goto => goto_argument(alloc, bytes),
+            Keyword::Execute => xecute_argument(alloc, bytes),
+            Keyword::Lock => lock_argument(alloc, bytes),
             Keyword::Else | Keyword::Quit | Keyword::Halt => Err(ParseFault::Syntax),
         }
     }

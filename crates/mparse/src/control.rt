@@ -1,8 +1,8 @@
 // SPDX-License-Identifier: Apache-2.0
 // The arguments of IF and FOR, and postconditionals.
 ghost use Rattle.std.specs.Prelude.{option_map};
-ghost use Rattle.mgrammar.specs.Grammar.{ParameterTree, condition};
-ghost use Rattle.mgrammar.specs.Reading.{condition_at, settled_with, parameter_at, repetition_at, past, postcondition_by, postcondition_at};
+ghost use Rattle.mgrammar.specs.Grammar.{ParameterTree, if_argument};
+ghost use Rattle.mgrammar.specs.Reading.{if_argument_at, settled_with, parameter_at, for_argument_at, past, postcondition_by, postcondition_at};
 ghost use Rattle.mtree.specs.Tree.{expr_tree, parameter_tree, keyword_tree, arg_tree, condition_tree};
 ghost use Rattle.mscan.specs.Gives.{Gives};
 
@@ -15,9 +15,9 @@ use mscan::{ParseFault, expect, name, past};
 use mtree::{Arg, Expr, Keyword, Parameter};
 use std::alloc::Global;
 
-#[tactic(auto, unfolding(mgrammar::specs::Reading::condition_at))]
-pub fn condition(alloc: Global, bytes: &[u8]) -> Result<(Arg, &[u8]), ParseFault>
-    ensures { Gives (λ x. (arg_tree x.0, x.1.now)) result (settled_with condition_at condition bytes.now) }
+#[tactic(auto, unfolding(mgrammar::specs::Reading::if_argument_at))]
+pub fn if_argument(alloc: Global, bytes: &[u8]) -> Result<(Arg, &[u8]), ParseFault>
+    ensures { Gives (λ x. (arg_tree x.0, x.1.now)) result (settled_with if_argument_at if_argument bytes.now) }
 {
     let (condition, rest) = expr(alloc, bytes, MAX_DEPTH)?;
     match expr_operand(condition) {
@@ -64,9 +64,9 @@ impl Items for Parameters {
     }
 }
 
-#[tactic(auto, unfolding(mgrammar::specs::Reading::repetition_at))]
-pub fn repetition(alloc: Global, bytes: &[u8]) -> Result<(Arg, &[u8]), ParseFault>
-    ensures { Gives (λ x. (arg_tree x.0, x.1.now)) result (repetition_at bytes.now) }
+#[tactic(auto, unfolding(mgrammar::specs::Reading::for_argument_at))]
+pub fn for_argument(alloc: Global, bytes: &[u8]) -> Result<(Arg, &[u8]), ParseFault>
+    ensures { Gives (λ x. (arg_tree x.0, x.1.now)) result (for_argument_at bytes.now) }
 {
     let (index, rest) = name(alloc, bytes)?;
     let rest = expect(b'=', rest)?;

@@ -1,8 +1,8 @@
 // SPDX-License-Identifier: Apache-2.0
 // The arguments of DO, GOTO and XECUTE: where they lead or a text, each with a postconditional of its own; or an `@` with its
 // operand and nothing more.
-ghost use Rattle.mgrammar.specs.Reading.{entry_at, entrance_at, leap_at, execution_at, settled_with, operand_or};
-ghost use Rattle.mgrammar.specs.Grammar.{entrance, leap, execution};
+ghost use Rattle.mgrammar.specs.Reading.{entry_at, do_argument_at, goto_argument_at, xecute_argument_at, settled_with, operand_or};
+ghost use Rattle.mgrammar.specs.Grammar.{do_argument, goto_argument, xecute_argument};
 ghost use Rattle.mtree.specs.Tree.{entry_tree, arg_tree};
 ghost use Rattle.mscan.specs.Gives.{Gives};
 
@@ -30,9 +30,9 @@ fn entry(alloc: Global, bytes: &[u8]) -> Result<(Entry, &[u8]), ParseFault>
     Ok((Entry::LabelIn(label, routine), rest))
 }
 
-#[tactic(auto, unfolding(mgrammar::specs::Reading::entrance_at))]
-pub fn entrance(alloc: Global, bytes: &[u8]) -> Result<(Arg, &[u8]), ParseFault>
-    ensures { Gives (λ x. (arg_tree x.0, x.1.now)) result (operand_or entrance_at entrance bytes.now) }
+#[tactic(auto, unfolding(mgrammar::specs::Reading::do_argument_at))]
+pub fn do_argument(alloc: Global, bytes: &[u8]) -> Result<(Arg, &[u8]), ParseFault>
+    ensures { Gives (λ x. (arg_tree x.0, x.1.now)) result (operand_or do_argument_at do_argument bytes.now) }
 {
     if let Some(behind) = past(b'@', bytes) {
         let (operand, rest) = below(alloc, behind, MAX_DEPTH)?;
@@ -43,9 +43,9 @@ pub fn entrance(alloc: Global, bytes: &[u8]) -> Result<(Arg, &[u8]), ParseFault>
     Ok((Arg::DoOne(entry, condition), rest))
 }
 
-#[tactic(auto, unfolding(mgrammar::specs::Reading::leap_at))]
-pub fn leap(alloc: Global, bytes: &[u8]) -> Result<(Arg, &[u8]), ParseFault>
-    ensures { Gives (λ x. (arg_tree x.0, x.1.now)) result (operand_or leap_at leap bytes.now) }
+#[tactic(auto, unfolding(mgrammar::specs::Reading::goto_argument_at))]
+pub fn goto_argument(alloc: Global, bytes: &[u8]) -> Result<(Arg, &[u8]), ParseFault>
+    ensures { Gives (λ x. (arg_tree x.0, x.1.now)) result (operand_or goto_argument_at goto_argument bytes.now) }
 {
     if let Some(behind) = past(b'@', bytes) {
         let (operand, rest) = below(alloc, behind, MAX_DEPTH)?;
@@ -56,9 +56,9 @@ pub fn leap(alloc: Global, bytes: &[u8]) -> Result<(Arg, &[u8]), ParseFault>
     Ok((Arg::GoTo(entry, condition), rest))
 }
 
-#[tactic(auto, unfolding(mgrammar::specs::Reading::execution_at))]
-pub fn execution(alloc: Global, bytes: &[u8]) -> Result<(Arg, &[u8]), ParseFault>
-    ensures { Gives (λ x. (arg_tree x.0, x.1.now)) result (settled_with execution_at execution bytes.now) }
+#[tactic(auto, unfolding(mgrammar::specs::Reading::xecute_argument_at))]
+pub fn xecute_argument(alloc: Global, bytes: &[u8]) -> Result<(Arg, &[u8]), ParseFault>
+    ensures { Gives (λ x. (arg_tree x.0, x.1.now)) result (settled_with xecute_argument_at xecute_argument bytes.now) }
 {
     let (text, rest) = expr(alloc, bytes, MAX_DEPTH)?;
     let (condition, rest) = behind_colon(alloc, rest)?;

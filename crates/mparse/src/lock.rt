@@ -2,9 +2,9 @@
 // The arguments of LOCK: a sign or none, a variable or variables in brackets, and a timeout or none; or an `@` with its operand and
 // nothing more.
 ghost use Rattle.std.specs.Prelude.{◌≡◌, ◌-◌};
-ghost use Rattle.mgrammar.specs.Grammar.{ReferenceTree, locking};
+ghost use Rattle.mgrammar.specs.Grammar.{ReferenceTree, lock_argument};
 ghost use Rattle.mgrammar.specs.WellFormed.{max_depth, is_named};
-ghost use Rattle.mgrammar.specs.Reading.{readers_at, after_sign, kind_of, lock_ref_with, locked_at, locking_at, settled_with};
+ghost use Rattle.mgrammar.specs.Reading.{readers_at, after_sign, kind_of, lock_ref_with, locked_at, lock_argument_at, settled_with};
 ghost use Rattle.mtree.specs.Tree.{reference_tree, kind_tree, locked_tree, arg_tree};
 ghost use Rattle.mscan.specs.Gives.{Gives};
 
@@ -89,9 +89,9 @@ fn locked(alloc: Global, bytes: &[u8]) -> Result<(Locked, &[u8]), ParseFault>
     Ok((Locked::One(reference), rest))
 }
 
-#[tactic(auto, unfolding(mgrammar::specs::Reading::locking_at))]
-pub fn locking(alloc: Global, bytes: &[u8]) -> Result<(Arg, &[u8]), ParseFault>
-    ensures { Gives (λ x. (arg_tree x.0, x.1.now)) result (settled_with locking_at locking bytes.now) }
+#[tactic(auto, unfolding(mgrammar::specs::Reading::lock_argument_at))]
+pub fn lock_argument(alloc: Global, bytes: &[u8]) -> Result<(Arg, &[u8]), ParseFault>
+    ensures { Gives (λ x. (arg_tree x.0, x.1.now)) result (settled_with lock_argument_at lock_argument bytes.now) }
 {
     let (kind, rest) = kind(bytes);
     let (names, rest) = locked(alloc, rest)?;

@@ -1,8 +1,8 @@
 // SPDX-License-Identifier: Apache-2.0
 // The arguments of KILL and NEW: a variable or a name, or names in brackets; or an `@` with its operand and nothing more.
 ghost use Rattle.std.specs.Prelude.{ℕ, List};
-ghost use Rattle.mgrammar.specs.Reading.{name_at, names_at, removal_at, hiding_at, settled_with, operand_or};
-ghost use Rattle.mgrammar.specs.Grammar.{removal, hiding};
+ghost use Rattle.mgrammar.specs.Reading.{name_at, names_at, kill_argument_at, new_argument_at, settled_with, operand_or};
+ghost use Rattle.mgrammar.specs.Grammar.{kill_argument, new_argument};
 ghost use Rattle.mtree.specs.Tree.{arg_tree};
 ghost use Rattle.mscan.specs.Gives.{Gives};
 
@@ -42,9 +42,9 @@ fn names(alloc: Global, bytes: &[u8]) -> Result<(Vec<Name>, &[u8]), ParseFault>
     Ok((names, rest))
 }
 
-#[tactic(auto, unfolding(mgrammar::specs::Reading::removal_at))]
-pub fn removal(alloc: Global, bytes: &[u8]) -> Result<(Arg, &[u8]), ParseFault>
-    ensures { Gives (λ x. (arg_tree x.0, x.1.now)) result (settled_with removal_at removal bytes.now) }
+#[tactic(auto, unfolding(mgrammar::specs::Reading::kill_argument_at))]
+pub fn kill_argument(alloc: Global, bytes: &[u8]) -> Result<(Arg, &[u8]), ParseFault>
+    ensures { Gives (λ x. (arg_tree x.0, x.1.now)) result (settled_with kill_argument_at kill_argument bytes.now) }
 {
     let Some((first, behind)) = bytes.split_first() else {
         return Err(ParseFault::Syntax);
@@ -60,9 +60,9 @@ pub fn removal(alloc: Global, bytes: &[u8]) -> Result<(Arg, &[u8]), ParseFault>
     }
 }
 
-#[tactic(auto, unfolding(mgrammar::specs::Reading::hiding_at))]
-pub fn hiding(alloc: Global, bytes: &[u8]) -> Result<(Arg, &[u8]), ParseFault>
-    ensures { Gives (λ x. (arg_tree x.0, x.1.now)) result (operand_or hiding_at hiding bytes.now) }
+#[tactic(auto, unfolding(mgrammar::specs::Reading::new_argument_at))]
+pub fn new_argument(alloc: Global, bytes: &[u8]) -> Result<(Arg, &[u8]), ParseFault>
+    ensures { Gives (λ x. (arg_tree x.0, x.1.now)) result (operand_or new_argument_at new_argument bytes.now) }
 {
     let Some((first, behind)) = bytes.split_first() else {
         return Err(ParseFault::Syntax);

@@ -1,7 +1,7 @@
 // SPDX-License-Identifier: Apache-2.0
 // What SET assigns to.
 ghost use Rattle.std.specs.Prelude.{◌-◌, option_map};
-ghost use Rattle.mgrammar.specs.Reading.{readers_at, place_with, piece_with, target_with, destination_at, assignment_at};
+ghost use Rattle.mgrammar.specs.Reading.{readers_at, place_with, piece_with, target_with, destination_at, set_argument_at};
 ghost use Rattle.mgrammar.specs.Grammar.{TargetTree};
 ghost use Rattle.mgrammar.specs.WellFormed.{max_depth};
 ghost use Rattle.mtree.specs.Tree.{expr_tree, target_tree, destination_tree, arg_tree};
@@ -109,9 +109,9 @@ fn destination(alloc: Global, bytes: &[u8]) -> Result<(Destination, &[u8]), Pars
 }
 
 // A destination and its value; or an `@` with its operand and nothing more, behind which no `=` comes.
-#[tactic(auto, unfolding(mgrammar::specs::Reading::assignment_at))]
-pub fn assignment(alloc: Global, bytes: &[u8]) -> Result<(Arg, &[u8]), ParseFault>
-    ensures { Gives (λ x. (arg_tree x.0, x.1.now)) result (assignment_at bytes.now) }
+#[tactic(auto, unfolding(mgrammar::specs::Reading::set_argument_at))]
+pub fn set_argument(alloc: Global, bytes: &[u8]) -> Result<(Arg, &[u8]), ParseFault>
+    ensures { Gives (λ x. (arg_tree x.0, x.1.now)) result (set_argument_at bytes.now) }
 {
     let (destination, rest) = destination(alloc, bytes)?;
     let Some(behind) = past(b'=', rest) else {

@@ -7,7 +7,9 @@ use Rattle.std.proofs.lemmas.List.{length-replicate}
 use Rattle.mspec.specs.Names.{is_name_rest, AllAre, IsName}
 use Rattle.mgrammar.specs.Grammar.{ExprTree, ReferenceTree, ParameterTree, once, onward, until, ArgTree, breaks, shown, kill_one, kill_others, new_one, new_others, tested, loop, kill_argument, new_argument, if_argument, for_argument, write_argument, spell_expr, spell_reference, spell_list, spell_names, spell_parameter, spell_arg}
 use Rattle.mgrammar.specs.WellFormed.{max_depth, WellExpr, WellReference, WellList, WellParameter, WellPlain}
-use Rattle.mgrammar.specs.Reading.{◌>>=◌, run_of, after_run, name_at, past, list_at, expr_at, readers_at, reference_with, is_bang, write_argument_by, write_argument_at, names_at, kill_argument_at, new_argument_at, if_argument_at, limit_by, increment_by, parameter_at, for_argument_at}
+use Rattle.mgrammar.specs.ReadingWords.{◌>>=◌, run_of, after_run, name_at, past, list_at}
+use Rattle.mgrammar.specs.ReadingExpressions.{expr_at, readers_at, reference_with}
+use Rattle.mgrammar.specs.Reading.{is_bang, write_argument_by, write_argument_at, names_at, kill_argument_at, new_argument_at, if_argument_at, limit_by, increment_by, parameter_at, for_argument_at}
 use Rattle.mgrammar.proofs.ReadingBasics.{Takes, Again, Stops, Begins, Begins-stops, Begins-append, Begins-weaker, bind_some, chosen, some_is, run_parts, run_again, past_takes, not_past, name_takes, name_again}
 use Rattle.mgrammar.proofs.ReadingLists.{joined_by, enclosed, is_comma, list_takes, list_again}
 use Rattle.mgrammar.proofs.ReadingReferences.{OperandEnds, Ends, begins_reference, name_begins_reference, reference_takes, reference_again, reference_begins}

@@ -6,7 +6,7 @@ use Rattle.std.proofs.lemmas.Bool.{eqb-true}
 use Rattle.std.proofs.lemmas.Bool.Decides.{nat_tests}
 use Rattle.mspec.specs.Names.{is_name_start, is_name_rest, is_character, AllAre, IsName}
 use Rattle.mgrammar.specs.Grammar.{quoted}
-use Rattle.mgrammar.specs.Reading.{Read, ◌>>=◌, run_of, after_run, name_at, with_front, text_from, past}
+use Rattle.mgrammar.specs.ReadingWords.{Read, ◌>>=◌, run_of, after_run, name_at, with_front, text_from, past}
 
 -- ---- the two laws of a reader
 

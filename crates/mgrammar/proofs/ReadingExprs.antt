@@ -6,7 +6,8 @@ use Rattle.std.proofs.lemmas.Bool.Decides.{nat_tests}
 use Rattle.std.proofs.lemmas.List.{append-nil}
 use Rattle.mgrammar.specs.Grammar.{plus, minus, negate, BinaryTree, AtomTree, ExprTree, expr, TailTree, apply, matches, matches_not, TailsTree, no_tails, tail, tails_of, OperandTree, operand, spell_signs, spell_binary, spell_atoms, spell_expr, spell_tails, spell_tail, spell_operand, spell_primary, spell_reference}
 use Rattle.mgrammar.specs.WellFormed.{bare_primary, WellExpr, WellTails, WellTail, WellOperand, WellPrimary, WellReference, WellBelow}
-use Rattle.mgrammar.specs.Reading.{◌>>=◌, many, pattern_at, signs_of, after_signs, OperatorTree, between, matching, matching_not, operator_at, Readers, primary_with, operand_with, tail_by, tail_behind, tail_with, expr_with, readers_at, inner_at}
+use Rattle.mgrammar.specs.ReadingWords.{◌>>=◌, many, pattern_at, signs_of, after_signs, OperatorTree, between, matching, matching_not, operator_at}
+use Rattle.mgrammar.specs.ReadingExpressions.{Readers, primary_with, operand_with, tail_by, tail_behind, tail_with, expr_with, readers_at, inner_at}
 use Rattle.mgrammar.proofs.ReadingBasics.{Takes, Again, Begins, Begins-stops, Begins-append, Begins-weaker, Begins-long, goes_further, bind_some, some_is}
 use Rattle.mgrammar.proofs.ReadingLists.{each, ItemTakes, many_takes, many_again, count_le, joined}
 use Rattle.mgrammar.proofs.ReadingPatterns.{pattern_takes, pattern_again}

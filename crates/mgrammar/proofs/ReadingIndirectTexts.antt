@@ -4,7 +4,9 @@ use Rattle.std.proofs.Common.{◌≡◌, ◌↔◌, ℕ, true, false, List, [], 
 use Rattle.std.proofs.lemmas.List.{append-nil}
 use Rattle.mgrammar.specs.Grammar.{ReferenceTree, ArgTree, FormTree, for_argument, may_be_indirect, spell_reference, spell_list, spell_arg}
 use Rattle.mgrammar.specs.WellFormed.{max_depth, WellReference, WellList, WellArg}
-use Rattle.mgrammar.specs.Reading.{Read, ◌>>=◌, list_at, readers_at, reference_with, arg_at}
+use Rattle.mgrammar.specs.ReadingWords.{Read, ◌>>=◌, list_at}
+use Rattle.mgrammar.specs.ReadingExpressions.{readers_at, reference_with}
+use Rattle.mgrammar.specs.Reading.{arg_at}
 use Rattle.mgrammar.specs.IndirectTexts.{whole_by, ref_at, args_of}
 use Rattle.mgrammar.proofs.ReadingBasics.{Takes, bind_some, some_is, unique, told}
 use Rattle.mgrammar.proofs.ReadingLists.{list_takes}

@@ -8,7 +8,8 @@ use Rattle.std.proofs.lemmas.List.{append-nil, length-replicate}
 use Rattle.mspec.specs.Names.{is_letter, is_character, AllAre}
 use Rattle.mgrammar.specs.Grammar.{ArgTree, CommandTree, SpacedTree, LineTree, spell_command, spell_commands, spell_comment, spell}
 use Rattle.mgrammar.specs.WellFormed.{least_gap, WellCommand, WellCommands, WellComment, well}
-use Rattle.mgrammar.specs.Reading.{◌>>=◌, run_of, after_run, many, more_by, has_args, command_at, is_space, at_end, spaced, spaced_at, comment_by, comment_at, line_at}
+use Rattle.mgrammar.specs.ReadingWords.{◌>>=◌, run_of, after_run, many, more_by}
+use Rattle.mgrammar.specs.Reading.{has_args, command_at, is_space, at_end, spaced, spaced_at, comment_by, comment_at, line_at}
 use Rattle.mgrammar.proofs.ReadingBasics.{Stops, Begins, Begins-append, Begins-long, bind_some, chosen, some_is, run_parts, run_again, unique, told}
 use Rattle.mgrammar.proofs.ReadingArguments.{all_copies, copies_are}
 use Rattle.mgrammar.proofs.ReadingCommands.{Closes, After, command_takes, command_again, command_letter}

@@ -3,7 +3,7 @@
 use Rattle.std.proofs.Common.{◌≡◌, ℕ, zero, suc, ◌<◌, ◌≤◌, Bool, eqb, List, [], ◌∷◌, ◌++◌, length, Option, Some, None, refl, sym, ap, subst, ◌∙◌, append_assoc, arith, length-append}
 use Rattle.mgrammar.specs.Grammar.{spell_more, spell_list}
 use Rattle.mgrammar.specs.WellFormed.{WellAll, WellList}
-use Rattle.mgrammar.specs.Reading.{Read, ◌>>=◌, past, many, more_by, comma_by, after_comma, list_at}
+use Rattle.mgrammar.specs.ReadingWords.{Read, ◌>>=◌, past, many, more_by, comma_by, after_comma, list_at}
 use Rattle.mgrammar.proofs.ReadingBasics.{Takes, Again, Stops, bind_some, some_is, past_takes}
 
 -- the texts of the items, one after another

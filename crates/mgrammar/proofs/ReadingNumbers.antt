@@ -8,7 +8,7 @@ use Rattle.std.proofs.lemmas.List.Elements.{All-from_recursion, All-head, All-ta
 use Rattle.mspec.specs.Literal.{is_digit, ExponentSign, Unsigned, Plus, Minus, Exponent, Literal, spell_sign, spell_fraction, spell_exponent, spell_literal, IsDigits, IsFraction, IsExponent, IsMantissa, IsLiteral}
 use Rattle.mspec.specs.Names.{AllAre}
 use Rattle.mgrammar.specs.WellFormed.{SpellsNumber}
-use Rattle.mgrammar.specs.Reading.{run_of, after_run, is_plus_or_minus, one_sign, after_sign, point_by, point_at, exponent_by, exponent_at, number_by, number_at, is_digit_or_point}
+use Rattle.mgrammar.specs.ReadingWords.{run_of, after_run, is_plus_or_minus, one_sign, after_sign, point_by, point_at, exponent_by, exponent_at, number_by, number_at, is_digit_or_point}
 use Rattle.mgrammar.proofs.ReadingBasics.{Takes, Again, Stops, Stops-weaker, Begins, some_is, run_parts, run_again}
 
 -- ---- digits

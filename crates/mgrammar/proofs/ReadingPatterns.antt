@@ -9,7 +9,7 @@ use Rattle.mspec.specs.Literal.{is_digit}
 use Rattle.mspec.specs.Names.{is_letter, AllAre}
 use Rattle.mgrammar.specs.Grammar.{CountTree, RepeatedTree, classes, copies, AtomTree, quoted, spell_string, spell_behind, spell_repeated, spell_atom, spell_atoms, is_pattern_letter}
 use Rattle.mgrammar.specs.WellFormed.{IsCount, WellRepeated, WellAtom, WellAll, WellList}
-use Rattle.mgrammar.specs.Reading.{◌>>=◌, run_of, after_run, text_from, many, behind_of, after_behind, is_count, count_at, classes_by, repeated_at, is_digit_or_point, atom_at, pattern_by, pattern_at}
+use Rattle.mgrammar.specs.ReadingWords.{◌>>=◌, run_of, after_run, text_from, many, behind_of, after_behind, is_count, count_at, classes_by, repeated_at, is_digit_or_point, atom_at, pattern_by, pattern_at}
 use Rattle.mgrammar.proofs.ReadingBasics.{Takes, Again, Stops, Stops-weaker, Begins, Begins-stops, Begins-long, goes_on, bind_some, chosen, some_is, run_parts, run_again, text_takes, text_again}
 use Rattle.mgrammar.proofs.ReadingLists.{each, ItemTakes, many_takes, many_again, count_le}
 use Rattle.mgrammar.proofs.ReadingNumbers.{digit_first}

@@ -8,7 +8,8 @@ use Rattle.std.proofs.lemmas.List.{length-replicate}
 use Rattle.mspec.specs.Names.{is_letter, is_name_rest, IsName}
 use Rattle.mgrammar.specs.Grammar.{SpacedTree, LineTree, spell_command, spell_commands, spell_comment, spell}
 use Rattle.mgrammar.specs.WellFormed.{WellCommands, WellAll, well}
-use Rattle.mgrammar.specs.Reading.{◌>>=◌, run_of, after_run, name_at, past, is_space, at_end, comment_at, line_at}
+use Rattle.mgrammar.specs.ReadingWords.{◌>>=◌, run_of, after_run, name_at, past}
+use Rattle.mgrammar.specs.Reading.{is_space, at_end, comment_at, line_at}
 use Rattle.mgrammar.specs.RoutineLine.{BodyTree, short, spaced_out, RoutineLineTree, dots_of_body, spell_dot, spell_dots, spell_body, spell_label, spell_routine_line, WellLabel, WellBody, well_routine_line, label_ends, label_by, label_at, is_dot, is_space_or_dot, dots_in, dot_by, dot_at, dots_at, body_by, body_at, routine_line_at}
 use Rattle.mgrammar.specs.GrammarLaws.{TellsRoutineLine}
 use Rattle.mgrammar.proofs.ReadingBasics.{Stops, Stops-weaker, Begins-stops, Begins-append, bind_some, some_is, run_parts, run_again, past_takes, not_past, name_takes, name_again, unique, told}

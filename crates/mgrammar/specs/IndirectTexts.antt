@@ -6,7 +6,9 @@
 use Rattle.std.specs.Prelude.{ℕ, List, [], ◌∷◌, Option, Some, None}
 use Rattle.mgrammar.specs.Grammar.{ReferenceTree, ArgTree, FormTree}
 use Rattle.mgrammar.specs.WellFormed.{max_depth}
-use Rattle.mgrammar.specs.Reading.{◌>>=◌, list_at, readers_at, reference_with, arg_at}
+use Rattle.mgrammar.specs.ReadingWords.{◌>>=◌, list_at}
+use Rattle.mgrammar.specs.ReadingExpressions.{readers_at, reference_with}
+use Rattle.mgrammar.specs.Reading.{arg_at}
 
 -- what was read, unless something is left behind it
 abbrev pub whole_by : {A : Type 0} → A → List ℕ → Option A

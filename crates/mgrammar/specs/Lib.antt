@@ -4,6 +4,8 @@ pub mod Functions
 pub mod Commands
 pub mod WellFormed
 pub mod Reading
+pub mod ReadingExpressions
+pub mod ReadingWords
 pub mod IndirectTexts
 pub mod RoutineLine
 pub mod GrammarLaws

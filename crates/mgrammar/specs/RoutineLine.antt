@@ -8,7 +8,8 @@ use Rattle.std.specs.List.{filter}
 use Rattle.mspec.specs.Names.{IsName}
 use Rattle.mgrammar.specs.Grammar.{LineTree, spell_comment, spell}
 use Rattle.mgrammar.specs.WellFormed.{WellComment, well}
-use Rattle.mgrammar.specs.Reading.{Read, ◌>>=◌, run_of, after_run, name_at, past, many, is_space, comment_at, line_at}
+use Rattle.mgrammar.specs.ReadingWords.{Read, ◌>>=◌, run_of, after_run, name_at, past, many}
+use Rattle.mgrammar.specs.Reading.{is_space, comment_at, line_at}
 
 -- ---- trees
 

@@ -5,7 +5,8 @@ use Rattle.std.specs.Fmt.{digits}
 use Rattle.mspec.specs.NodeOrder.{canonical_value}
 use Rattle.mspec.specs.NumberText.{size_text}
 use Rattle.mspec.specs.Act.{no_locals, level_begun, value_of, assigned_to}
-use Rattle.mgrammar.specs.Reading.{name_at, line_at}
+use Rattle.mgrammar.specs.ReadingWords.{name_at}
+use Rattle.mgrammar.specs.Reading.{line_at}
 use Rattle.mgrammar.specs.RoutineLine.{label_at, routine_line_at}
 use Rattle.mspec.proofs.ComputedMaps.{tree_none, tree_put, tree_again, text_none, text_put, text_again}
 use Rattle.mspec.proofs.ComputedNumbers.{value_some, round_pos, text_1, text_2, text_3, text_4, text_8, text_16}

@@ -4,7 +4,9 @@ use Rattle.mmeaning.proofs.MeaningWords.{◌≡◌, ℕ, zero, suc, ◌+◌, ◌
 use Rattle.std.proofs.lemmas.Bool.Decides.{nat_tests}
 use Rattle.mspec.specs.Act.{Text, Node, Locals, level_begun, State, Gives, Fails, value_of, assigned_to}
 use Rattle.mgrammar.specs.Grammar.{divide, number, PrimaryTree, text, bracket, reference, ReferenceTree, indirect, exprs, no_exprs, variable, one, write_argument, at_label, do_argument, do_one, indirect_args, do_word, CommandTree}
-use Rattle.mgrammar.specs.Reading.{many, list_at, name_at, subscripts_with, attached_with, indirect_with, reference_with, primary_with, readers_at, entry_at, do_argument_at}
+use Rattle.mgrammar.specs.ReadingWords.{many, list_at, name_at}
+use Rattle.mgrammar.specs.ReadingExpressions.{subscripts_with, attached_with, indirect_with, reference_with, primary_with, readers_at}
+use Rattle.mgrammar.specs.Reading.{entry_at, do_argument_at}
 use Rattle.mgrammar.specs.IndirectTexts.{ref_at, args_of}
 use Rattle.mgrammar.specs.RoutineLine.{RoutineLineTree, spaced_out, dots_of, label_at, routine_line_at}
 use Rattle.mgrammar.proofs.Computing.{reads}

@@ -2,7 +2,7 @@
 // A value at hand while more of the text is read. If that fails, the value is let go here. A caller that lets go of a tree at an
 // exit of its own has a goal there for each part of each variant of it, at every such exit.
 ghost use Rattle.std.specs.Prelude.{◌≡◌, IfOk, IfErr, Ok, Err};
-ghost use Rattle.mgrammar.specs.Reading.{past};
+ghost use Rattle.mgrammar.specs.ReadingWords.{past};
 ghost use Rattle.mscan.specs.Gives.{Gives};
 
 use mscan::{ParseFault, expect};

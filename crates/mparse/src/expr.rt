@@ -2,7 +2,8 @@
 // Expressions.
 ghost use Rattle.std.specs.Prelude.{◌≡◌, ◌<◌, length, map, option_map};
 ghost use Rattle.mgrammar.specs.Grammar.{exprs_of, choices_of};
-ghost use Rattle.mgrammar.specs.Reading.{past, with_front, many, after_comma, list_at, subscripts_with, attached_at, attached_with, indirect_with, local_by, extended_with, owned_by, reference_with, bracket_with, choice_with, select_with, call_with, refer_with, dollar_with, primary_with, operand_with, tail_by, tail_with, expr_with, readers_at, inner_at};
+ghost use Rattle.mgrammar.specs.ReadingWords.{past, with_front, many, after_comma, list_at};
+ghost use Rattle.mgrammar.specs.ReadingExpressions.{subscripts_with, attached_at, attached_with, indirect_with, local_by, extended_with, owned_by, reference_with, bracket_with, choice_with, select_with, call_with, refer_with, dollar_with, primary_with, operand_with, tail_by, tail_with, expr_with, readers_at, inner_at};
 ghost use Rattle.mtree.specs.Tree.{expr_tree, operand_tree, primary_tree, reference_tree, tail_tree, choice_tree};
 ghost use Rattle.mscan.specs.Gives.{Gives};
 ghost use Rattle.mscan.specs.Operators.{operator_tree};
@@ -24,7 +25,7 @@ pub const MAX_DEPTH: u32 = 40;
 
 // An expression within which so many brackets may be open.
 #[cycle(expr)]
-#[tactic(auto, unfolding(mgrammar::specs::Reading::expr_with))]
+#[tactic(auto, unfolding(mgrammar::specs::ReadingExpressions::expr_with))]
 pub fn expr(alloc: Global, bytes: &[u8], depth: u32) -> Result<(Expr, &[u8]), ParseFault>
     ensures { Gives (λ x. (expr_tree x.0, x.1.now)) result (expr_with (readers_at depth) bytes.now) }
 {
@@ -51,7 +52,7 @@ fn tails(alloc: Global, bytes: &[u8], depth: u32) -> Result<(Vec<Tail>, &[u8]), 
 
 // The next step, where an operator begins.
 #[cycle(expr)]
-#[tactic(auto, unfolding(mgrammar::specs::Reading::tail_with))]
+#[tactic(auto, unfolding(mgrammar::specs::ReadingExpressions::tail_with))]
 fn tail(alloc: Global, bytes: &[u8], depth: u32) -> Result<Option<(Tail, &[u8])>, ParseFault>
     ensures { Gives (λ o. option_map (λ x. (tail_tree x.0, x.1.now)) o) result (tail_with (readers_at depth) bytes.now) }
 {
@@ -63,7 +64,7 @@ fn tail(alloc: Global, bytes: &[u8], depth: u32) -> Result<Option<(Tail, &[u8])>
 
 // The step of this operator.
 #[cycle(expr)]
-#[tactic(auto, unfolding(mgrammar::specs::Reading::tail_by))]
+#[tactic(auto, unfolding(mgrammar::specs::ReadingExpressions::tail_by))]
 fn tail_by(
     alloc: Global,
     operator: Operator,
@@ -89,7 +90,7 @@ fn tail_by(
 }
 
 #[cycle(expr)]
-#[tactic(auto, unfolding(mgrammar::specs::Reading::operand_with))]
+#[tactic(auto, unfolding(mgrammar::specs::ReadingExpressions::operand_with))]
 fn operand(alloc: Global, bytes: &[u8], depth: u32) -> Result<(Operand, &[u8]), ParseFault>
     ensures { Gives (λ x. (operand_tree x.0, x.1.now)) result (operand_with (readers_at depth) bytes.now) }
 {
@@ -99,7 +100,7 @@ fn operand(alloc: Global, bytes: &[u8], depth: u32) -> Result<(Operand, &[u8]), 
 }
 
 #[cycle(expr)]
-#[tactic(auto, unfolding(mgrammar::specs::Reading::primary_with))]
+#[tactic(auto, unfolding(mgrammar::specs::ReadingExpressions::primary_with))]
 fn primary(alloc: Global, bytes: &[u8], depth: u32) -> Result<(Primary, &[u8]), ParseFault>
     ensures { Gives (λ x. (primary_tree x.0, x.1.now)) result (primary_with (readers_at depth) bytes.now) }
 {
@@ -126,7 +127,7 @@ fn primary(alloc: Global, bytes: &[u8], depth: u32) -> Result<(Primary, &[u8]), 
 
 // A variable. Behind a `^` stand subscripts alone where a bracket opens there, and otherwise a name in front of them.
 #[cycle(expr)]
-#[tactic(auto, unfolding(mgrammar::specs::Reading::reference_with))]
+#[tactic(auto, unfolding(mgrammar::specs::ReadingExpressions::reference_with))]
 pub fn reference(alloc: Global, bytes: &[u8], depth: u32) -> Result<(Reference, &[u8]), ParseFault>
     ensures { Gives (λ x. (reference_tree x.0, x.1.now)) result (reference_with (readers_at depth) bytes.now) }
 {
@@ -155,7 +156,7 @@ fn global(alloc: Global, bytes: &[u8], depth: u32) -> Result<(Reference, &[u8]),
 
 // The rest of a global variable of an environment, behind the bar that opens that.
 #[cycle(expr)]
-#[tactic(auto, unfolding(mgrammar::specs::Reading::extended_with))]
+#[tactic(auto, unfolding(mgrammar::specs::ReadingExpressions::extended_with))]
 fn extended(alloc: Global, bytes: &[u8], depth: u32) -> Result<(Reference, &[u8]), ParseFault>
     ensures { Gives (λ x. (reference_tree x.0, x.1.now)) result (extended_with (readers_at depth) bytes.now) }
 {
@@ -182,7 +183,7 @@ fn local(alloc: Global, bytes: &[u8], depth: u32) -> Result<(Reference, &[u8]), 
 
 // The rest of a name indirection, behind its `@`.
 #[cycle(expr)]
-#[tactic(auto, unfolding(mgrammar::specs::Reading::indirect_with))]
+#[tactic(auto, unfolding(mgrammar::specs::ReadingExpressions::indirect_with))]
 fn indirect(alloc: Global, bytes: &[u8], depth: u32) -> Result<(Reference, &[u8]), ParseFault>
     ensures { Gives (λ x. (reference_tree x.0, x.1.now)) result (indirect_with (readers_at depth) bytes.now) }
 {
@@ -194,7 +195,7 @@ fn indirect(alloc: Global, bytes: &[u8], depth: u32) -> Result<(Reference, &[u8]
 
 // The subscripts behind an operand, where an `@` with a bracket behind it comes.
 #[cycle(expr)]
-#[tactic(auto, unfolding(mgrammar::specs::Reading::attached_with))]
+#[tactic(auto, unfolding(mgrammar::specs::ReadingExpressions::attached_with))]
 fn attached(alloc: Global, bytes: &[u8], depth: u32) -> Result<(Vec<Expr>, &[u8]), ParseFault>
     ensures { Gives (λ x. (exprs_of (map expr_tree x.0.items), x.1.now)) result (attached_with (readers_at depth) bytes.now) }
 {
@@ -215,7 +216,7 @@ fn attached_at(bytes: &[u8]) -> Option<&[u8]>
 
 // Subscripts, where a bracket opens.
 #[cycle(expr)]
-#[tactic(auto, unfolding(mgrammar::specs::Reading::subscripts_with))]
+#[tactic(auto, unfolding(mgrammar::specs::ReadingExpressions::subscripts_with))]
 fn subscripts(alloc: Global, bytes: &[u8], depth: u32) -> Result<(Vec<Expr>, &[u8]), ParseFault>
     ensures { Gives (λ x. (exprs_of (map expr_tree x.0.items), x.1.now)) result (subscripts_with (readers_at depth) bytes.now) }
 {
@@ -229,7 +230,7 @@ fn subscripts(alloc: Global, bytes: &[u8], depth: u32) -> Result<(Vec<Expr>, &[u
 
 // The expression behind an opening bracket, where one bracket fewer may open.
 #[cycle(expr)]
-#[tactic(auto, unfolding(mgrammar::specs::Reading::readers_at))]
+#[tactic(auto, unfolding(mgrammar::specs::ReadingExpressions::readers_at))]
 pub fn inner(alloc: Global, bytes: &[u8], depth: u32) -> Result<(Expr, &[u8]), ParseFault>
     ensures { Gives (λ x. (expr_tree x.0, x.1.now)) result (inner_at depth bytes.now) }
 {
@@ -241,7 +242,7 @@ pub fn inner(alloc: Global, bytes: &[u8], depth: u32) -> Result<(Expr, &[u8]), P
 
 // The variable behind an opening bracket, where one bracket fewer may open.
 #[cycle(expr)]
-#[tactic(auto, unfolding(mgrammar::specs::Reading::readers_at))]
+#[tactic(auto, unfolding(mgrammar::specs::ReadingExpressions::readers_at))]
 pub fn within(alloc: Global, bytes: &[u8], depth: u32) -> Result<(Reference, &[u8]), ParseFault>
     ensures { Gives (λ x. (reference_tree x.0, x.1.now)) result ((readers_at depth).within bytes.now) }
 {
@@ -253,7 +254,7 @@ pub fn within(alloc: Global, bytes: &[u8], depth: u32) -> Result<(Reference, &[u
 
 // The operand behind an `@`, where one bracket fewer may open.
 #[cycle(expr)]
-#[tactic(auto, unfolding(mgrammar::specs::Reading::readers_at))]
+#[tactic(auto, unfolding(mgrammar::specs::ReadingExpressions::readers_at))]
 pub fn below(alloc: Global, bytes: &[u8], depth: u32) -> Result<(Primary, &[u8]), ParseFault>
     ensures { Gives (λ x. (primary_tree x.0, x.1.now)) result ((readers_at depth).below bytes.now) }
 {
@@ -265,7 +266,7 @@ pub fn below(alloc: Global, bytes: &[u8], depth: u32) -> Result<(Primary, &[u8])
 
 // The rest of an expression in brackets, behind the bracket that opens it.
 #[cycle(expr)]
-#[tactic(auto, unfolding(mgrammar::specs::Reading::bracket_with))]
+#[tactic(auto, unfolding(mgrammar::specs::ReadingExpressions::bracket_with))]
 fn bracket(alloc: Global, bytes: &[u8], depth: u32) -> Result<(Primary, &[u8]), ParseFault>
     ensures { Gives (λ x. (primary_tree x.0, x.1.now)) result (bracket_with (readers_at depth) bytes.now) }
 {
@@ -277,7 +278,7 @@ fn bracket(alloc: Global, bytes: &[u8], depth: u32) -> Result<(Primary, &[u8]), 
 // The rest of what begins with a `$`, behind it: a function where a bracket opens behind its word, and otherwise a special
 // variable.
 #[cycle(expr)]
-#[tactic(auto, unfolding(mgrammar::specs::Reading::dollar_with))]
+#[tactic(auto, unfolding(mgrammar::specs::ReadingExpressions::dollar_with))]
 fn dollar(alloc: Global, bytes: &[u8], depth: u32) -> Result<(Primary, &[u8]), ParseFault>
     ensures { Gives (λ x. (primary_tree x.0, x.1.now)) result (dollar_with (readers_at depth) bytes.now) }
 {
@@ -301,7 +302,7 @@ fn dollar(alloc: Global, bytes: &[u8], depth: u32) -> Result<(Primary, &[u8]), P
 
 // The rest of a function of a variable and at most so many values, behind its bracket.
 #[cycle(expr)]
-#[tactic(auto, unfolding(mgrammar::specs::Reading::refer_with))]
+#[tactic(auto, unfolding(mgrammar::specs::ReadingExpressions::refer_with))]
 fn refer(
     alloc: Global,
     word: VariableWord,
@@ -327,7 +328,7 @@ fn refer(
 
 // The rest of a call of a function of at least and at most so many values, behind its bracket.
 #[cycle(expr)]
-#[tactic(auto, unfolding(mgrammar::specs::Reading::call_with))]
+#[tactic(auto, unfolding(mgrammar::specs::ReadingExpressions::call_with))]
 fn call(
     alloc: Global,
     word: ValueWord,
@@ -348,7 +349,7 @@ fn call(
 
 // The rest of a `$SELECT`, behind its bracket.
 #[cycle(expr)]
-#[tactic(auto, unfolding(mgrammar::specs::Reading::select_with))]
+#[tactic(auto, unfolding(mgrammar::specs::ReadingExpressions::select_with))]
 fn select(
     alloc: Global,
     word: Bytes7,
@@ -363,7 +364,7 @@ fn select(
 }
 
 #[cycle(expr)]
-#[tactic(auto, unfolding(mgrammar::specs::Reading::choice_with))]
+#[tactic(auto, unfolding(mgrammar::specs::ReadingExpressions::choice_with))]
 fn choice(alloc: Global, bytes: &[u8], depth: u32) -> Result<(Choice, &[u8]), ParseFault>
     ensures { Gives (λ x. (choice_tree x.0, x.1.now)) result (choice_with (readers_at depth) bytes.now) }
 {

@@ -3,7 +3,8 @@
 ghost use Rattle.std.specs.Prelude.{◌≡◌, length, map, IfOk, Err, option_map};
 ghost use Rattle.mgrammar.specs.Grammar.{LineTree, spell};
 ghost use Rattle.mgrammar.specs.WellFormed.{least_gap, well};
-ghost use Rattle.mgrammar.specs.Reading.{many, at_end, spaced_at, comment_at, line_at};
+ghost use Rattle.mgrammar.specs.ReadingWords.{many};
+ghost use Rattle.mgrammar.specs.Reading.{at_end, spaced_at, comment_at, line_at};
 ghost use Rattle.mtree.specs.Tree.{arg_tree, spaced_tree, line_tree};
 ghost use Rattle.mscan.specs.Gives.{Gives};
 

@@ -1,7 +1,7 @@
 // SPDX-License-Identifier: Apache-2.0
 // Lists with commas between.
 ghost use Rattle.std.specs.Prelude.{ℕ, List, length, map};
-ghost use Rattle.mgrammar.specs.Reading.{Read, with_front, many, after_comma, list_at};
+ghost use Rattle.mgrammar.specs.ReadingWords.{Read, with_front, many, after_comma, list_at};
 ghost use Rattle.mscan.specs.Gives.{Gives};
 
 use mscan::{ParseFault, past};

@@ -4,7 +4,9 @@
 ghost use Rattle.std.specs.Prelude.{◌≡◌, ◌-◌};
 ghost use Rattle.mgrammar.specs.Grammar.{ReferenceTree, lock_argument};
 ghost use Rattle.mgrammar.specs.WellFormed.{max_depth, is_named};
-ghost use Rattle.mgrammar.specs.Reading.{readers_at, after_sign, kind_of, lock_ref_with, locked_at, lock_argument_at, settled_with};
+ghost use Rattle.mgrammar.specs.ReadingExpressions.{readers_at};
+ghost use Rattle.mgrammar.specs.ReadingWords.{after_sign};
+ghost use Rattle.mgrammar.specs.Reading.{kind_of, lock_ref_with, locked_at, lock_argument_at, settled_with};
 ghost use Rattle.mtree.specs.Tree.{reference_tree, kind_tree, locked_tree, arg_tree};
 ghost use Rattle.mscan.specs.Gives.{Gives};
 

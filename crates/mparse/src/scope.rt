@@ -1,7 +1,8 @@
 // SPDX-License-Identifier: Apache-2.0
 // The arguments of KILL and NEW: a variable or a name, or names in brackets; or an `@` with its operand and nothing more.
 ghost use Rattle.std.specs.Prelude.{ℕ, List};
-ghost use Rattle.mgrammar.specs.Reading.{name_at, names_at, kill_argument_at, new_argument_at, settled_with, operand_or};
+ghost use Rattle.mgrammar.specs.ReadingWords.{name_at};
+ghost use Rattle.mgrammar.specs.Reading.{names_at, kill_argument_at, new_argument_at, settled_with, operand_or};
 ghost use Rattle.mgrammar.specs.Grammar.{kill_argument, new_argument};
 ghost use Rattle.mtree.specs.Tree.{arg_tree};
 ghost use Rattle.mscan.specs.Gives.{Gives};

@@ -1,7 +1,8 @@
 // SPDX-License-Identifier: Apache-2.0
 // What SET assigns to.
 ghost use Rattle.std.specs.Prelude.{◌-◌, option_map};
-ghost use Rattle.mgrammar.specs.Reading.{readers_at, place_with, piece_with, target_with, destination_at, set_argument_at};
+ghost use Rattle.mgrammar.specs.ReadingExpressions.{readers_at};
+ghost use Rattle.mgrammar.specs.Reading.{place_with, piece_with, target_with, destination_at, set_argument_at};
 ghost use Rattle.mgrammar.specs.Grammar.{TargetTree};
 ghost use Rattle.mgrammar.specs.WellFormed.{max_depth};
 ghost use Rattle.mtree.specs.Tree.{expr_tree, target_tree, destination_tree, arg_tree};

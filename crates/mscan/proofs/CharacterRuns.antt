@@ -6,7 +6,7 @@ use Rattle.std.proofs.lemmas.Bool.Decides.{nat_tests}
 use Rattle.std.specs.List.{AllByRecursion}
 use Rattle.mscan.specs.declared.runs.Class.{Class}
 use Rattle.mscan.specs.declared.runs.Class.TheVariants as class
-use Rattle.mgrammar.specs.Reading.{run_of}
+use Rattle.mgrammar.specs.ReadingWords.{run_of}
 use Rattle.mscan.specs.Classes.{in_class}
 
 class_below : (k : Class) (c : ℕ) → in_class k c ≡ true → c < 128

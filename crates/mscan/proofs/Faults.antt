@@ -1,7 +1,7 @@
 -- SPDX-License-Identifier: Apache-2.0
 -- What fails where an item of a loop or of a list fails, fails alike.
 use Rattle.std.proofs.Common.{◌≡◌, ℕ, ◌-◌, ◌<◌, List, Option, Some, refl}
-use Rattle.mgrammar.specs.Reading.{Read, with_front, past, many, after_comma, list_at}
+use Rattle.mgrammar.specs.ReadingWords.{Read, with_front, past, many, after_comma, list_at}
 use Rattle.mgrammar.proofs.ReadingLoops.{fails_none}
 use Rattle.mscan.specs.Gives.{Fails}
 use Rattle.mscan.specs.declared.fault.ParseFault.{ParseFault}

@@ -5,7 +5,7 @@ use Rattle.std.specs.Prelude.{◌&&◌, nat_le}
 use Rattle.std.proofs.Math.Seq.{take-append_seam}
 use Rattle.std.proofs.lemmas.Bool.Decides.{nat_tests}
 use Rattle.mspec.specs.Names.{IsName, is_name_start, is_name_rest}
-use Rattle.mgrammar.specs.Reading.{run_of, after_run, name_at}
+use Rattle.mgrammar.specs.ReadingWords.{run_of, after_run, name_at}
 use Rattle.mgrammar.proofs.ReadingBasics.{run_parts, name_takes}
 
 -- a first character, and the run behind it

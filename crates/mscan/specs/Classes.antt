@@ -4,7 +4,8 @@ use Rattle.std.specs.Prelude.{ℕ, Bool}
 use Rattle.mspec.specs.Names.{is_letter, is_name_start, is_name_rest, is_character}
 use Rattle.mgrammar.specs.Grammar.{is_pattern_letter}
 use Rattle.mspec.specs.Literal.{is_digit}
-use Rattle.mgrammar.specs.Reading.{is_space, is_bang, is_digit_or_point}
+use Rattle.mgrammar.specs.Reading.{is_space, is_bang}
+use Rattle.mgrammar.specs.ReadingWords.{is_digit_or_point}
 use Rattle.mscan.specs.declared.runs.Class.{Class}
 use Rattle.mscan.specs.declared.runs.Class.TheVariants as class
 

@@ -1,7 +1,7 @@
 -- SPDX-License-Identifier: Apache-2.0
 -- An operator of the parser, as what is read.
-use Rattle.mgrammar.specs.Reading as reading
-use Rattle.mgrammar.specs.Reading.{OperatorTree}
+use Rattle.mgrammar.specs.ReadingWords as reading
+use Rattle.mgrammar.specs.ReadingWords.{OperatorTree}
 use Rattle.mtree.specs.Tree.{binary_tree}
 use Rattle.mscan.specs.declared.operator.Operator.{Operator}
 use Rattle.mscan.specs.declared.operator.Operator.TheVariants as operator

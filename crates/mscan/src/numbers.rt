@@ -1,7 +1,7 @@
 // SPDX-License-Identifier: Apache-2.0
 // Numbers.
 ghost use Rattle.std.specs.Prelude.{◌≡◌, ◌<◌, All};
-ghost use Rattle.mgrammar.specs.Reading.{one_sign, after_sign, with_point, with_exponent, number_at};
+ghost use Rattle.mgrammar.specs.ReadingWords.{one_sign, after_sign, with_point, with_exponent, number_at};
 ghost use Rattle.mscan.specs.Gives.{Gives};
 
 use crate::fault::ParseFault;
@@ -10,7 +10,7 @@ use mnum::Bytes7;
 use std::alloc::Global;
 
 // Adds the point and the digits behind it that the text begins with, where it does, and gives what follows.
-#[tactic(auto, unfolding(mgrammar::specs::Reading::point_at))]
+#[tactic(auto, unfolding(mgrammar::specs::ReadingWords::point_at))]
 fn fraction<'a>(bytes: &'a [u8], number: &mut Bytes7) -> Result<&'a [u8], ParseFault>
     ensures { Gives (λ rest. (number.new, rest.now)) result (with_point number.old bytes.now) }
 {
@@ -39,7 +39,7 @@ fn sign(bytes: &[u8]) -> (&[u8], &[u8])
 }
 
 // Adds the exponent that the text begins with, where it does, and gives what follows.
-#[tactic(auto, unfolding(mgrammar::specs::Reading::exponent_at))]
+#[tactic(auto, unfolding(mgrammar::specs::ReadingWords::exponent_at))]
 fn exponent<'a>(bytes: &'a [u8], number: &mut Bytes7) -> Result<&'a [u8], ParseFault>
     ensures { Gives (λ rest. (number.new, rest.now)) result (with_exponent number.old bytes.now) }
 {
@@ -58,7 +58,7 @@ fn exponent<'a>(bytes: &'a [u8], number: &mut Bytes7) -> Result<&'a [u8], ParseF
 }
 
 /// The longest number that the text begins with, and what follows it. `Syntax` where it begins with none, `Memory` for want of memory.
-#[tactic(auto, unfolding(mgrammar::specs::Reading::number_at))]
+#[tactic(auto, unfolding(mgrammar::specs::ReadingWords::number_at))]
 pub fn number(alloc: Global, bytes: &[u8]) -> Result<(Bytes7, &[u8]), ParseFault>
     ensures { Gives (λ x. (x.0, x.1.now)) result (number_at bytes.now) }
 {

@@ -1,7 +1,7 @@
 // SPDX-License-Identifier: Apache-2.0
 // Signs and operators.
 ghost use Rattle.std.specs.Prelude.{◌≡◌, map, option_map};
-ghost use Rattle.mgrammar.specs.Reading.{signs_at, found, truths, follows_at, truth_at, arithmetic, negated_at, plain_at, operator_at};
+ghost use Rattle.mgrammar.specs.ReadingWords.{signs_at, found, truths, follows_at, truth_at, arithmetic, negated_at, plain_at, operator_at};
 ghost use Rattle.mtree.specs.Tree.{sign_tree, truth_tree, binary_tree};
 ghost use Rattle.mscan.specs.Gives.{Gives};
 ghost use Rattle.mscan.specs.Operators.{operator_tree};
@@ -60,7 +60,7 @@ fn one_truth(byte: u8) -> Option<Truth>
     }
 }
 
-#[tactic(auto, unfolding(mgrammar::specs::Reading::truth_at))]
+#[tactic(auto, unfolding(mgrammar::specs::ReadingWords::truth_at))]
 fn truth(bytes: &[u8]) -> Option<(Truth, &[u8])>
     ensures { option_map (λ x. (truth_tree x.0, x.1.now)) result ≡ truth_at bytes.now }
 {
@@ -112,7 +112,7 @@ fn plain(bytes: &[u8]) -> Option<(Operator, &[u8])>
 }
 
 /// The operator that the text begins with, where one does, and what follows it.
-#[tactic(auto, unfolding(mgrammar::specs::Reading::operator_at))]
+#[tactic(auto, unfolding(mgrammar::specs::ReadingWords::operator_at))]
 pub fn next_operator(bytes: &[u8]) -> Option<(Operator, &[u8])>
     ensures { option_map (λ x. (operator_tree x.0, x.1.now)) result ≡ operator_at bytes.now }
 {

@@ -1,7 +1,7 @@
 // SPDX-License-Identifier: Apache-2.0
 // Patterns.
 ghost use Rattle.std.specs.Prelude.{◌≡◌, length, map, option_map};
-ghost use Rattle.mgrammar.specs.Reading.{behind_at, is_count, count_at, repeated_at, atom_at, many, pattern_at};
+ghost use Rattle.mgrammar.specs.ReadingWords.{behind_at, is_count, count_at, repeated_at, atom_at, many, pattern_at};
 ghost use Rattle.mtree.specs.Tree.{count_tree, repeated_tree, atom_tree};
 ghost use Rattle.mscan.specs.Gives.{Gives};
 
@@ -35,7 +35,7 @@ fn is_count(count: &Count) -> bool
     }
 }
 
-#[tactic(auto, unfolding(mgrammar::specs::Reading::count_at))]
+#[tactic(auto, unfolding(mgrammar::specs::ReadingWords::count_at))]
 fn count(alloc: Global, bytes: &[u8]) -> Result<(Count, &[u8]), ParseFault>
     ensures { Gives (λ x. (count_tree x.0, x.1.now)) result (count_at bytes.now) }
 {
@@ -49,7 +49,7 @@ fn count(alloc: Global, bytes: &[u8]) -> Result<(Count, &[u8]), ParseFault>
     Ok((count, rest))
 }
 
-#[tactic(auto, unfolding(mgrammar::specs::Reading::repeated_at))]
+#[tactic(auto, unfolding(mgrammar::specs::ReadingWords::repeated_at))]
 fn repeated(alloc: Global, bytes: &[u8]) -> Result<(Repeated, &[u8]), ParseFault>
     ensures { Gives (λ x. (repeated_tree x.0, x.1.now)) result (repeated_at bytes.now) }
 {
@@ -68,7 +68,7 @@ fn repeated(alloc: Global, bytes: &[u8]) -> Result<(Repeated, &[u8]), ParseFault
 }
 
 // The next atom of a pattern, where one begins.
-#[tactic(auto, unfolding(mgrammar::specs::Reading::atom_at))]
+#[tactic(auto, unfolding(mgrammar::specs::ReadingWords::atom_at))]
 fn atom(alloc: Global, bytes: &[u8]) -> Result<Option<(Atom, &[u8])>, ParseFault>
     ensures { Gives (λ o. option_map (λ x. (atom_tree x.0, x.1.now)) o) result (atom_at bytes.now) }
 {
@@ -100,7 +100,7 @@ fn atoms(alloc: Global, bytes: &[u8]) -> Result<(Vec<Atom>, &[u8]), ParseFault>
 
 /// The pattern that the text begins with, one atom or more, and what follows it. `Syntax` where it begins with none, `Memory` for want of
 /// memory.
-#[tactic(auto, unfolding(mgrammar::specs::Reading::pattern_at))]
+#[tactic(auto, unfolding(mgrammar::specs::ReadingWords::pattern_at))]
 pub fn pattern(alloc: Global, bytes: &[u8]) -> Result<(Vec<Atom>, &[u8]), ParseFault>
     ensures { Gives (λ x. (map atom_tree x.0.items, x.1.now)) result (pattern_at bytes.now) }
 {

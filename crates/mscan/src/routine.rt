@@ -3,7 +3,7 @@
 ghost use Rattle.std.specs.Prelude.{◌≡◌, length, option_map, IfSome};
 ghost use Rattle.std.specs.List.{filter};
 ghost use Rattle.mspec.specs.Names.{IsName};
-ghost use Rattle.mgrammar.specs.Reading.{run_of};
+ghost use Rattle.mgrammar.specs.ReadingWords.{run_of};
 ghost use Rattle.mgrammar.specs.RoutineLine.{label_ends, label_at, label_of, is_dot, is_space_or_dot, dots_of};
 
 use crate::runs::name_bytes;

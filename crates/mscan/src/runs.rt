@@ -3,7 +3,7 @@
 ghost use Rattle.std.specs.Prelude.{◌≡◌, ◌<◌, All, false, option_map, IfSome};
 ghost use Rattle.mspec.specs.Names.{IsName};
 ghost use Rattle.mgrammar.specs.Grammar.{is_pattern_letter};
-ghost use Rattle.mgrammar.specs.Reading.{run_of, after_run, name_at, text_from, past};
+ghost use Rattle.mgrammar.specs.ReadingWords.{run_of, after_run, name_at, text_from, past};
 ghost use Rattle.mscan.specs.Classes.{in_class};
 ghost use Rattle.mscan.specs.Gives.{Gives};
 
@@ -97,7 +97,7 @@ pub fn expect(byte: u8, bytes: &[u8]) -> Result<&[u8], ParseFault>
 const MAX_TAIL: usize = LONGEST_NAME - 1;
 
 /// The bytes of the name that a text begins with, of at most 31 characters, and what follows it. Takes no memory.
-#[tactic(auto, unfolding(mgrammar::specs::Reading::name_at))]
+#[tactic(auto, unfolding(mgrammar::specs::ReadingWords::name_at))]
 pub fn name_bytes(bytes: &[u8]) -> Option<(&[u8], &[u8])>
     ensures name { option_map (λ x. (x.0.now, x.1.now)) result ≡ name_at bytes.now }
     ensures is_name { IfSome result (λ x. IsName x.0.now) }

@@ -13,7 +13,9 @@ use Rattle.mspec.proofs.ComputedNumbers.{computed_numbers}
 use Rattle.mgrammar.specs.Grammar.{special_of}
 use Rattle.mgrammar.specs.Commands.{keyword_of}
 use Rattle.mgrammar.specs.Functions.{function_of}
-use Rattle.mgrammar.specs.Reading.{many, list_at, point_at, exponent_at, number_at, name_at, operator_at, truth_at, bracket_with, refer_with, dollar_with, subscripts_with, reference_with, primary_with, operand_with, tail_by, tail_with, expr_with, readers_at, target_with, destination_at, set_argument_at, names_at, kill_argument_at, new_argument_at, if_argument_at, parameter_at, for_argument_at, write_argument_at, args_at, postcondition_at, command_at, spaced_at, comment_at, line_at}
+use Rattle.mgrammar.specs.ReadingWords.{many, list_at, point_at, exponent_at, number_at, name_at, operator_at, truth_at}
+use Rattle.mgrammar.specs.ReadingExpressions.{bracket_with, refer_with, dollar_with, subscripts_with, reference_with, primary_with, operand_with, tail_by, tail_with, expr_with, readers_at}
+use Rattle.mgrammar.specs.Reading.{target_with, destination_at, set_argument_at, names_at, kill_argument_at, new_argument_at, if_argument_at, parameter_at, for_argument_at, write_argument_at, args_at, postcondition_at, command_at, spaced_at, comment_at, line_at}
 use Rattle.mgrammar.proofs.Computing.{reads}
 use Rattle.mmeaning.specs.Transition.{Settings, World, Reply, Finished, Halted, Faulted}
 use Rattle.mmeaning.specs.History.{opening}

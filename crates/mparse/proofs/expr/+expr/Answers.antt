@@ -3,7 +3,8 @@ use Rattle.std.proofs.Common.{◌≡◌, ◌++◌, ◌∷◌, [], length, map, r
 use Rattle.std.proofs.lemmas.Result.{err_from_is_err_and}
 use Rattle.std.proofs.lemmas.List.{map_push}
 use Rattle.mtree.specs.Tree.{expr_tree, tail_tree, choice_tree}
-use Rattle.mgrammar.specs.Reading.{with_front, many, after_comma, list_at, choice_with, tail_with, readers_at, inner_at}
+use Rattle.mgrammar.specs.ReadingWords.{with_front, many, after_comma, list_at}
+use Rattle.mgrammar.specs.ReadingExpressions.{choice_with, tail_with, readers_at, inner_at}
 use Rattle.mgrammar.proofs.ReadingLoops.{goes_on, stops, is_done, list_begins, comma_goes_on, comma_stops}
 use Rattle.mscan.proofs.Faults.{fails, list_fails, comma_fails}
 use Rattle.mparse.proofs.Lists.{list_goes_on}

@@ -3,7 +3,8 @@ use Rattle.std.proofs.Common.{◌≡◌, ◌++◌, ◌∷◌, [], length, map, r
 use Rattle.std.proofs.lemmas.Result.{err_from_is_err_and}
 use Rattle.std.proofs.lemmas.List.{map_push}
 use Rattle.mtree.specs.Tree.{spaced_tree}
-use Rattle.mgrammar.specs.Reading.{many, spaced_at}
+use Rattle.mgrammar.specs.ReadingWords.{many}
+use Rattle.mgrammar.specs.Reading.{spaced_at}
 use Rattle.mgrammar.proofs.ReadingLoops.{goes_on, stops, is_done}
 use Rattle.mscan.proofs.Faults.{fails}
 use Rattle.mparse.proofs.line.commands.Goals as goal

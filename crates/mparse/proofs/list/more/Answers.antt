@@ -2,7 +2,7 @@
 use Rattle.std.proofs.Common.{◌≡◌, ◌-◌, ◌++◌, ◌∷◌, [], length, map, refl, arith, rules}
 use Rattle.std.proofs.lemmas.Result.{err_from_is_err_and}
 use Rattle.std.proofs.lemmas.List.{map_push}
-use Rattle.mgrammar.specs.Reading.{with_front, many, after_comma}
+use Rattle.mgrammar.specs.ReadingWords.{with_front, many, after_comma}
 use Rattle.mgrammar.proofs.ReadingLoops.{is_done, comma_goes_on, comma_stops}
 use Rattle.mscan.proofs.Faults.{comma_fails}
 use Rattle.mparse.proofs.list.more.Goals as goal

@@ -1,6 +1,6 @@
 -- SPDX-License-Identifier: Apache-2.0
 use Rattle.std.proofs.Common.{length, sym, rules}
-use Rattle.mgrammar.specs.Reading.{many}
+use Rattle.mgrammar.specs.ReadingWords.{many}
 use Rattle.mgrammar.specs.RoutineLine.{dot_at, dots_at}
 use Rattle.mgrammar.proofs.ReadingLoops.{goes_on, stops, is_done}
 use Rattle.mparse.proofs.routine_line.dots.Goals as goal

@@ -1,6 +1,6 @@
 -- SPDX-License-Identifier: Apache-2.0
 use Rattle.std.proofs.Common.{◌≡◌, ◌-◌, length}
-use Rattle.mgrammar.specs.Reading.{with_front, many}
+use Rattle.mgrammar.specs.ReadingWords.{with_front, many}
 use Rattle.mgrammar.specs.RoutineLine.{dot_at}
 use Rattle.mparse.proofs.routine_line.dots.Given as goal
 

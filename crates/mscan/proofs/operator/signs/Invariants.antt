@@ -1,6 +1,6 @@
 -- SPDX-License-Identifier: Apache-2.0
 use Rattle.std.proofs.Common.{◌≡◌, ◌++◌, drop, map}
-use Rattle.mgrammar.specs.Reading.{signs_of, after_signs}
+use Rattle.mgrammar.specs.ReadingWords.{signs_of, after_signs}
 use Rattle.mtree.specs.Tree.{sign_tree}
 use Rattle.mscan.proofs.operator.signs.Given as goal
 

@@ -3,7 +3,7 @@ use Rattle.std.proofs.Common.{◌≡◌, ◌++◌, ◌∷◌, [], length, map, r
 use Rattle.std.proofs.lemmas.Result.{err_from_is_err_and}
 use Rattle.std.proofs.lemmas.List.{map_push}
 use Rattle.mtree.specs.Tree.{atom_tree}
-use Rattle.mgrammar.specs.Reading.{many, atom_at}
+use Rattle.mgrammar.specs.ReadingWords.{many, atom_at}
 use Rattle.mgrammar.proofs.ReadingLoops.{goes_on, stops, is_done}
 use Rattle.mscan.proofs.Faults.{fails}
 use Rattle.mscan.proofs.patterns.atoms.Goals as goal

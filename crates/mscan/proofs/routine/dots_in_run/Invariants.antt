@@ -1,7 +1,7 @@
 -- SPDX-License-Identifier: Apache-2.0
 use Rattle.std.proofs.Common.{◌≡◌, ◌+◌, ◌≤◌, length, drop}
 use Rattle.std.specs.List.{filter}
-use Rattle.mgrammar.specs.Reading.{run_of}
+use Rattle.mgrammar.specs.ReadingWords.{run_of}
 use Rattle.mgrammar.specs.RoutineLine.{is_dot, is_space_or_dot}
 use Rattle.mscan.proofs.routine.dots_in_run.Given as goal
 

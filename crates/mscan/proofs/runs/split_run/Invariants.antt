@@ -1,6 +1,6 @@
 -- SPDX-License-Identifier: Apache-2.0
 use Rattle.std.proofs.Common.{◌≡◌, ◌++◌, take, drop}
-use Rattle.mgrammar.specs.Reading.{run_of, after_run}
+use Rattle.mgrammar.specs.ReadingWords.{run_of, after_run}
 use Rattle.mscan.specs.Classes.{in_class}
 use Rattle.mscan.proofs.runs.split_run.Given as goal
 

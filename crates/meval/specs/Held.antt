@@ -2,8 +2,8 @@
 -- Values and accounts as they are held, by their texts.
 use Rattle.std.specs.Prelude.{List, [], ◌∷◌}
 use Rattle.mspec.specs.Node.{Text}
-use Rattle.meval.specs.declared.values.Held.{Held}
-use Rattle.meval.specs.declared.values.Held.TheVariants as held
+use Rattle.meval.specs.declared.value_list.Held.{Held}
+use Rattle.meval.specs.declared.value_list.Held.TheVariants as held
 use Rattle.meval.specs.declared.owner.Owner.{Owner}
 use Rattle.meval.specs.declared.owner.Owner.TheVariants.{Account, Other}
 

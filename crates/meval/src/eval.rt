@@ -21,9 +21,9 @@ use crate::place::{
     LocalName, Pending, Place, extended_parts, indirect_parts, local_node, plain_name,
     subscripts_of,
 };
-use crate::reading::read_reference;
+use crate::reading_reference::read_reference;
 use crate::session::Session;
-use crate::values::Values;
+use crate::value_list::Values;
 use mgrant::{AccountId, Mode, Settings};
 use mnum::{Name, Num};
 use moperator::{Code, binary, call, computed, matching, number_of, truth_of, unaries};

@@ -12,7 +12,7 @@ ghost use Rattle.moperator.specs.Codes.{fault_of};
 ghost use Rattle.meval.specs.Held.{owner_text};
 
 use crate::owner::Owner;
-use crate::values::Values;
+use crate::value_list::Values;
 use mkey::{KeyFault, NodeKey, front};
 use mnum::{Bytes7, Name};
 use moperator::Code;

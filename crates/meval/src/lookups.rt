@@ -19,7 +19,7 @@ ghost use Rattle.meval.specs.Holds.{Holds};
 
 use crate::eval::Eval;
 use crate::place::{Pending, Place, Walk, plain_name, undefined};
-use crate::values::Values;
+use crate::value_list::Values;
 use crate::walk::{data_value, first_or_empty, next_value};
 use mgrant::Mode;
 use mkey::{Data, Direction, values_ok};

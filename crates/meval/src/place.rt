@@ -14,7 +14,7 @@ ghost use Rattle.moperator.specs.Codes.{fault_of};
 ghost use Rattle.meval.specs.Places.{name_view, pending_view, place_view, subscripts_tree, undefined_at, IsDirect, NamesNoAccount};
 
 use crate::global_node::GlobalNode;
-use crate::values::Values;
+use crate::value_list::Values;
 use mkey::{NodeKey, order_values_ok, values_ok};
 use mnum::Name;
 use moperator::Code;

@@ -14,7 +14,7 @@ use crate::eval::Eval;
 use crate::global_node::GlobalNode;
 use crate::owner::Owner;
 use crate::place::{LocalName, Pending, Place, Walk, check_walk, local_place};
-use crate::values::Values;
+use crate::value_list::Values;
 use mgrant::Mode;
 use mnum::Name;
 use moperator::Code;

@@ -7,7 +7,7 @@ ghost use Rattle.mmeaning.specs.Yields.{Yields};
 ghost use Rattle.mkey.specs.Way.{way};
 ghost use Rattle.moperator.specs.Codes.{fault_of};
 
-use crate::values::Values;
+use crate::value_list::Values;
 use mkey::{Data, Direction};
 use mnum::Bytes7;
 use moperator::{Code, whole_of};

@@ -17,8 +17,8 @@ use Rattle.mcommand.specs.declared.parts.Parts.{Parts}
 use Rattle.mcommand.specs.Does.{DoesAt, here_of}
 use Rattle.mexec.specs.declared.completion.Completion.{Completion}
 use Rattle.mexec.specs.declared.completion.Completion.TheVariants as completion
-use Rattle.mexec.specs.declared.run.Ended.{Ended}
-use Rattle.mexec.specs.declared.run.Ended.TheVariants.{Done, Halt, Fault}
+use Rattle.mexec.specs.declared.text.Ended.{Ended}
+use Rattle.mexec.specs.declared.text.Ended.TheVariants.{Done, Halt, Fault}
 use Rattle.mexec.specs.Frames.{completion_of}
 use Rattle.mexec.specs.Runs.{RunsText, EndsBy, ending_of}
 

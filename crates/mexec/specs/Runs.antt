@@ -12,8 +12,8 @@ use Rattle.moperator.specs.Codes.{fault_of}
 use Rattle.meval.specs.Evaluates.{standing_of}
 use Rattle.mcommand.specs.declared.parts.Parts.{Parts}
 use Rattle.mcommand.specs.Does.{here_of}
-use Rattle.mexec.specs.declared.run.Ended.{Ended}
-use Rattle.mexec.specs.declared.run.Ended.TheVariants as ended
+use Rattle.mexec.specs.declared.text.Ended.{Ended}
+use Rattle.mexec.specs.declared.text.Ended.TheVariants as ended
 
 abbrev pub ending_of : Ended → Ending
 ending_of ended.Done = Finished

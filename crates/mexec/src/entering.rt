@@ -14,7 +14,7 @@ ghost use Rattle.mexec.specs.Entering.{text_position};
 use crate::frames::{Closing, Frame, Level, Continuation, Position};
 use crate::levels::{enter_line, lines_next};
 use crate::scratch::Scratch;
-use crate::reading::read_line;
+use crate::reading_trees::read_line;
 use crate::completion::Completion;
 use mcommand::Parts;
 use meval::Depth;

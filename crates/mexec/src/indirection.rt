@@ -19,7 +19,7 @@ ghost use Rattle.mexec.specs.Entering.{so_deep};
 
 use crate::frames::{Frame, IndirectArguments, Level, Position};
 use crate::scratch::Scratch;
-use crate::reading::read_arguments;
+use crate::reading_trees::read_arguments;
 use crate::completion::Completion;
 use mcommand::Parts;
 use meval::Depth;

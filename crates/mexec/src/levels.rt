@@ -14,7 +14,7 @@ ghost use Rattle.mexec.specs.Entering.{reached as first_reached, next_reached, e
 use crate::commands::charge;
 use crate::frames::{Closing, Frame, Level, Continuation, Position};
 use crate::scratch::Scratch;
-use crate::reading::read_routine_line;
+use crate::reading_trees::read_routine_line;
 use crate::completion::Completion;
 use mcommand::{Parts, Target};
 use moperator::Code;

@@ -12,13 +12,13 @@ mod levels;
 mod line;
 mod scratch;
 mod top_level;
-mod reading;
-mod rest;
-mod run;
+mod reading_trees;
+mod continuation;
+mod text;
 mod completion;
 mod source;
 mod turns;
 
 pub use scratch::Scratch;
 pub use mcommand::{LINE_END, Parts};
-pub use run::{Ended, run_text};
+pub use text::{Ended, run_text};

@@ -13,7 +13,7 @@ use crate::arguments::arguments;
 use crate::frames::{Closing, Frame, Continuation};
 use crate::levels::after_level;
 use crate::scratch::Scratch;
-use crate::rest::next_command;
+use crate::continuation::next_command;
 use crate::completion::Completion;
 use crate::source::Source;
 use crate::turns::after_turn;

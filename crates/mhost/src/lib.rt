@@ -6,16 +6,16 @@
 //! after another (`serving`), a job carried out (`jobs`), and the program (`program`).
 #![tactic(auto)]
 
-mod document;
+mod settings_document;
 mod fault;
-mod jobs;
-mod only;
+mod carrying_out;
+mod only_job;
 pub mod program;
 pub mod run;
-mod serving;
+mod port;
 mod worlds;
 
 pub use fault::RunFault;
 pub use mwire::AcceptFault;
-pub use only::run_only_job;
-pub use serving::serve_connections;
+pub use only_job::run_only_job;
+pub use port::serve_connections;

@@ -7,8 +7,8 @@ ghost use Rattle.mhost.specs.Jobs.{status_of, CarriesOut};
 ghost use Rattle.mhost.specs.Programs.{Ends};
 
 use crate::fault::RunFault;
-use crate::jobs::{run_job, serve_job};
-use crate::only::run_only_job;
+use crate::carrying_out::{run_job, serve_job};
+use crate::only_job::run_only_job;
 use mcache::Cached;
 use mglobal::RoutineCache;
 use mjob::command_line::job;

@@ -52,13 +52,13 @@ fn job_of(alloc: Global, matches: &ArgMatches<'_>) -> Result<Job, JobFault>
     ensures err { IfErr result (λ e. e ≡ JobFault.Memory) }
 {
     match matches.subcommand() {
-        Some(("run", options)) => run_job(alloc, options),
-        Some(("serve", options)) => serve_job(alloc, options),
+        Some(("run", options)) => job_of_run(alloc, options),
+        Some(("serve", options)) => job_of_serve(alloc, options),
         _ => Err(JobFault::Memory),
     }
 }
 
-fn run_job(alloc: Global, options: &ArgMatches<'_>) -> Result<Job, JobFault>
+fn job_of_run(alloc: Global, options: &ArgMatches<'_>) -> Result<Job, JobFault>
     ensures ok { IfOk result (HasRun (rows_of (found_of options.now))) }
     ensures err { IfErr result (λ e. e ≡ JobFault.Memory) }
 {
@@ -75,7 +75,7 @@ fn run_job(alloc: Global, options: &ArgMatches<'_>) -> Result<Job, JobFault>
     })
 }
 
-fn serve_job(alloc: Global, options: &ArgMatches<'_>) -> Result<Job, JobFault>
+fn job_of_serve(alloc: Global, options: &ArgMatches<'_>) -> Result<Job, JobFault>
     ensures ok { IfOk result (HasServe (rows_of (found_of options.now))) }
     ensures err { IfErr result (λ e. e ≡ JobFault.Memory) }
 {

@@ -6,7 +6,7 @@ ghost use Rattle.mmeaning.specs.Yields.{Yields};
 ghost use Rattle.moperator.specs.Codes.{fault_of};
 
 use crate::code::Code;
-use crate::values::whole_of;
+use crate::conversions::whole_of;
 use mnum::Bytes7;
 use mvalue::{Shown, Value};
 use std::alloc::{AllocError, Global};

@@ -11,7 +11,7 @@ ghost use Rattle.moperator.specs.Outcomes.{IsDone};
 ghost use Rattle.mspec.specs.Code as spec;
 
 use crate::code::Code;
-use crate::values::whole_of;
+use crate::conversions::whole_of;
 use mnum::{Bytes7, LONGEST_TEXT};
 use mvalue::Value;
 use std::alloc::Global;

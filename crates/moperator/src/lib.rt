@@ -9,14 +9,14 @@
 mod arguments;
 mod characters;
 mod code;
-mod functions;
+mod function_calls;
 mod operators;
 mod patterns;
 mod relations;
-mod values;
+mod conversions;
 
 pub use code::Code;
-pub use functions::call;
+pub use function_calls::call;
 pub use operators::{binary, computed, unaries};
 pub use patterns::matching;
-pub use values::{number_of, truth_of, whole_number, whole_of};
+pub use conversions::{number_of, truth_of, whole_number, whole_of};

@@ -15,7 +15,7 @@ ghost use Rattle.mtree.specs.declared.tree.Binary.TheVariants.{Join};
 
 use crate::code::Code;
 use crate::relations::relation;
-use crate::values::{number_of, truth_of};
+use crate::conversions::{number_of, truth_of};
 use mnum::{ArithFault, LONGEST_TEXT, Num, Over};
 use mtree::{Binary, Sign};
 use mvalue::Value;

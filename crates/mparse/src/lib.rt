@@ -12,11 +12,11 @@ mod expr;
 mod indirect;
 mod line;
 mod list;
-mod lock;
+mod lock_arguments;
 mod operand;
 mod routine_line;
 mod scope;
-mod set;
+mod set_arguments;
 
 pub use indirect::{parse_args, parse_ref};
 pub use line::parse_line;

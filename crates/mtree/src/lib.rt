@@ -10,7 +10,7 @@
 mod brackets;
 mod expression;
 mod function_word;
-mod list;
+mod put_list;
 mod literal;
 mod pieces;
 pub mod tree;

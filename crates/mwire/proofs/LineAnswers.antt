@@ -7,8 +7,8 @@ use Rattle.mmeaning.specs.Transition.{Settings, World, Event, Reply, Transition}
 use Rattle.mmeaning.specs.History.{History}
 use Rattle.mstore.specs.declared.store.NodeStore.{Ghosts}
 use Rattle.moperator.specs.declared.code.Code.TheVariants.{Zstore}
-use Rattle.mexec.specs.declared.run.Ended.{Ended}
-use Rattle.mexec.specs.declared.run.Ended.TheVariants.{Fault}
+use Rattle.mexec.specs.declared.text.Ended.{Ended}
+use Rattle.mexec.specs.declared.text.Ended.TheVariants.{Fault}
 use Rattle.mworld.specs.declared.reply.Reply.{Reply as CodeReply}
 use Rattle.mworld.specs.View.{reply_of}
 use Rattle.mwire.specs.Wire.{WireLine, Ignored, TooLong, Unreadable, Runs, classify, before_events, events_of, too_long_text, unreadable_text, reply_text}

@@ -6,8 +6,8 @@ use Rattle.mmeaning.specs.Transition.{Faulted}
 use Rattle.moperator.specs.Codes.{fault_of}
 use Rattle.moperator.specs.declared.code.Code.{Code}
 use Rattle.moperator.specs.declared.code.Code.TheVariants.{M1, M4, M6, M7, M9, M10, M13, M15, Zlong, Zsyntax, Zover, Zarg, Zsub, Zgrant, Zlocked, Zsteps, Zdepth, Zlevel, Zchar, Zline, Zterm, Zmem, Zstore}
-use Rattle.mexec.specs.declared.run.Ended.{Ended}
-use Rattle.mexec.specs.declared.run.Ended.TheVariants.{Done, Halt, Fault}
+use Rattle.mexec.specs.declared.text.Ended.{Ended}
+use Rattle.mexec.specs.declared.text.Ended.TheVariants.{Done, Halt, Fault}
 use Rattle.mexec.specs.Runs.{ending_of}
 
 -- one code alone stands for it

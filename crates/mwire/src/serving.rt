@@ -10,7 +10,7 @@ ghost use Rattle.mwire.specs.Progress.{TakesOn, LineSent, FrontSent};
 use crate::wire_line::{WireLine, classify};
 use crate::fault::WireFault;
 use crate::line_buffer::LineBuffer;
-use crate::reply::push_bytes;
+use crate::reply_bytes::push_bytes;
 use crate::watched::Watched;
 use mstore::NodeStore;
 use mworld::{Reply, World};

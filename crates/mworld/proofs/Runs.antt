@@ -29,8 +29,8 @@ use Rattle.meval.specs.declared.session.Session.{Session}
 use Rattle.meval.specs.Sessions.{session_of}
 use Rattle.meval.specs.Evaluates.{standing_of}
 use Rattle.mcommand.specs.declared.parts.Parts.{Parts}
-use Rattle.mexec.specs.declared.run.Ended.{Ended}
-use Rattle.mexec.specs.declared.run.Ended.TheVariants.{Done, Halt, Fault}
+use Rattle.mexec.specs.declared.text.Ended.{Ended}
+use Rattle.mexec.specs.declared.text.Ended.TheVariants.{Done, Halt, Fault}
 use Rattle.mexec.specs.Runs.{RunsText, EndsBy, GaveEnding, ending_of}
 use Rattle.mworld.specs.declared.reply.Reply.{Reply}
 use Rattle.mworld.specs.View.{reply_of, shared}

@@ -5,7 +5,7 @@
 mod admission;
 mod isolated;
 mod reply;
-mod run;
+mod session_run;
 mod terminals;
 mod world;
 

@@ -7,7 +7,7 @@ ghost use Rattle.misolation.specs.Cut.{AreFit};
 
 use crate::admission::admitted;
 use crate::reply::Reply;
-use crate::run::run_over;
+use crate::session_run::run_over;
 use crate::terminals::{begin_session, end_session};
 use meval::Session;
 use mexec::{Ended, Scratch};

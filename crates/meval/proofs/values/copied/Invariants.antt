@@ -1,6 +1,0 @@
--- SPDX-License-Identifier: Apache-2.0
-use Rattle.std.proofs.Common.{◌≡◌, take}
-use Rattle.meval.proofs.values.copied.Given as goal
-
-abbrev pub invariant-loop-value : goal.invariant-loop-value
-invariant-loop-value l = l.copies.items ≡ take l.value-index l.values

@@ -1,0 +1,76 @@
+// SPDX-License-Identifier: Apache-2.0
+// The locks that references name.
+ghost use Rattle.std.specs.Prelude.{◌≡◌, ◌≤◌, true, IfOk};
+ghost use Rattle.mmeaning.specs.Variables as variables;
+ghost use Rattle.mmeaning.specs.Shared.{may_lock};
+ghost use Rattle.mtree.specs.Tree.{reference_tree};
+ghost use Rattle.meval.specs.Acts as acts;
+ghost use Rattle.meval.specs.Evaluates.{Evaluates, KeepsEval, standing_of};
+ghost use Rattle.meval.specs.Places.{pending_view};
+
+use crate::eval::Eval;
+use crate::global_node::GlobalNode;
+use crate::place::Pending;
+use crate::value_list::Values;
+use mgrant::Mode;
+use mlock::LockName;
+use mnum::Name;
+use moperator::Code;
+use mstore::NodeStore;
+use mtree::Reference;
+use std::alloc::Global;
+
+impl<'a, S: NodeStore> Eval<'a, S> {
+    /// The lock that a reference names. It refers to no node: the naked indicator stays, but for what the reference has to evaluate.
+    ///
+    /// # Errors
+    ///
+    /// Those of the values that the reference has to evaluate, and then `Zgrant` for a global that the account may not write, `Zsub` where
+    /// there are more than 15 subscripts, or one is empty or has more than 255 characters, and `Zsyntax` for a naked reference, which a
+    /// text may give; `Zmem` if memory is refused, and if the account is none of the settings', which no world hands in.
+    pub fn lock_name(&mut self, alloc: Global, reference: &Reference) -> Result<LockName, Code>
+        ensures loans { KeepsEval self.old self.new }
+        ensures fewer { self.new.steps ≤ self.old.steps }
+        ensures open { IfOk result (λ name. may_lock (standing_of self.new).settings (standing_of self.new).account name ≡ true) }
+        ensures does { Evaluates S.NodeStore (λ i. acts.lock_name_act i (reference_tree reference.now)) (λ name. name) self.old result self.new }
+    {
+        let pending = self.evaluated(alloc, reference)?;
+        self.named_lock(alloc, pending)
+    }
+
+    // The lock that is named by a reference of which all is evaluated.
+    fn named_lock(&self, alloc: Global, pending: Pending) -> Result<LockName, Code>
+        ensures open { IfOk result (λ name. may_lock (standing_of self.now).settings (standing_of self.now).account name ≡ true) }
+        ensures does { Evaluates S.NodeStore (λ i. variables.named_lock i.account (pending_view pending.entry)) (λ name. name) self.now result self.now }
+    {
+        match pending {
+            Pending::Local(name, values) => self.local_lock(alloc, name.as_name(), values),
+            Pending::Global(node) => self.global_lock(alloc, &node),
+            Pending::Naked(_) => Err(Code::Zsyntax),
+        }
+    }
+
+    // The lock of a name without `^`, which is the account's own.
+    fn local_lock(&self, alloc: Global, name: &Name, values: Values) -> Result<LockName, Code>
+        ensures open { IfOk result (λ name. may_lock (standing_of self.now).settings (standing_of self.now).account name ≡ true) }
+        ensures does { Evaluates S.NodeStore (λ i. variables.named_lock i.account (variables.of_local name.now values)) (λ name. name) self.now result self.now }
+    {
+        let node = self.own_node(alloc, name, values)?;
+        if !node.is_of_account() {
+            // the id is of other settings, which a world never hands in
+            return Err(Code::Zmem);
+        }
+        let key = node.key(alloc)?;
+        Ok(LockName { key, global: false })
+    }
+
+    // The lock of a global, which whoever may write it may take.
+    fn global_lock(&self, alloc: Global, node: &GlobalNode) -> Result<LockName, Code>
+        ensures open { IfOk result (λ name. may_lock (standing_of self.now).settings (standing_of self.now).account name ≡ true) }
+        ensures does { Evaluates S.NodeStore (λ i. variables.named_lock i.account (variables.of_global node.now)) (λ name. name) self.now result self.now }
+    {
+        self.check(Mode::Write, node)?;
+        let key = node.key(alloc)?;
+        Ok(LockName { key, global: true })
+    }
+}

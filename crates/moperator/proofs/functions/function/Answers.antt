@@ -1,8 +1,0 @@
--- SPDX-License-Identifier: Apache-2.0
-use Rattle.moperator.proofs.functions.function.Goals as goal
-
-pub returns-in-Length-clause-value : goal.returns-in-Length-clause-value
-returns-in-Length-clause-value c = rw c.in-Length.is c.length.ensures
-
-pub returns-in-Translate-clause-value : goal.returns-in-Translate-clause-value
-returns-in-Translate-clause-value c = rw c.in-Translate.is c.translated.ensures

@@ -1,0 +1,139 @@
+// SPDX-License-Identifier: Apache-2.0
+// The functions, of arguments that are values already.
+ghost use Rattle.std.specs.Prelude.{◌≡◌, map, IsErrAnd};
+ghost use Rattle.mgrammar.specs.Functions as grammar;
+ghost use Rattle.mspec.specs.Act.{State};
+ghost use Rattle.mspec.specs.Code as spec;
+ghost use Rattle.mmeaning.specs.Functions as meaning;
+ghost use Rattle.mtree.specs.Functions.{IsValueWord, value_function_tree};
+ghost use Rattle.mmeaning.specs.Yields.{Yields};
+ghost use Rattle.moperator.specs.Codes.{fault_of};
+ghost use Rattle.moperator.specs.Outcomes.{FailsBy};
+
+use crate::arguments::{text_at, whole_at, wholes};
+use crate::characters::{characters, code_at, refuse_characters};
+use crate::code::Code;
+use crate::conversions::answered;
+use mtext::{extract, find, justify, piece, pieces, translate};
+use mtree::{ValueFunction, ValueWord};
+use mvalue::Value;
+use std::alloc::Global;
+
+// ---- functions, by their names
+
+fn ascii(alloc: Global, arguments: &[Value]) -> Result<Value, Code>
+    ensures { Yields fault_of (meaning.function_value grammar.ascii_function arguments.now) (λ value. value) result }
+{
+    let place = whole_at(arguments, 1)?;
+    let text = text_at(alloc, arguments, 0)?;
+    Ok(Value::of_whole(code_at(text.as_text().as_bytes(), place)))
+}
+
+fn char(alloc: Global, arguments: &[Value]) -> Result<Value, Code>
+    ensures value { Yields fault_of (meaning.function_value grammar.char_function arguments.now) (λ value. value) result }
+    ensures refused { (code : spec.Code) → (s : State) → FailsBy (meaning.function_value grammar.char_function arguments.now) code s → IsErrAnd result (λ given. fault_of given ≡ spec.Own code) }
+{
+    refuse_characters(arguments)?;
+    let codes = wholes(alloc, arguments)?;
+    characters(alloc, &codes)
+}
+
+fn extracted(alloc: Global, arguments: &[Value]) -> Result<Value, Code>
+    ensures { Yields fault_of (meaning.function_value grammar.extract_function arguments.now) (λ value. value) result }
+{
+    let from = whole_at(arguments, 1)?;
+    let to = whole_at(arguments, 2)?;
+    let text = text_at(alloc, arguments, 0)?;
+    let part = extract(text.as_text().as_bytes(), from, to);
+    Ok(Value::of_bytes(alloc, part)?)
+}
+
+fn found(alloc: Global, arguments: &[Value]) -> Result<Value, Code>
+    ensures { Yields fault_of (meaning.function_value grammar.find_function arguments.now) (λ value. value) result }
+{
+    let from = whole_at(arguments, 2)?;
+    let text = text_at(alloc, arguments, 0)?;
+    let what = text_at(alloc, arguments, 1)?;
+    let place = find(text.as_text().as_bytes(), what.as_text().as_bytes(), from);
+    Ok(Value::of_count(alloc, place)?)
+}
+
+fn justified(alloc: Global, arguments: &[Value]) -> Result<Value, Code>
+    ensures { Yields fault_of (meaning.function_value grammar.justify_function arguments.now) (λ value. value) result }
+{
+    let width = whole_at(arguments, 1)?;
+    let text = text_at(alloc, arguments, 0)?;
+    answered(justify(alloc, text.as_text(), width.unwrap_or(0)))
+}
+
+// Of characters, and of pieces where there is a delimiter.
+fn length(alloc: Global, arguments: &[Value]) -> Result<Value, Code>
+    ensures { Yields fault_of (meaning.function_value grammar.length_function arguments.now) (λ value. value) result }
+{
+    let text = text_at(alloc, arguments, 0)?;
+    let bytes = text.as_text().as_bytes();
+    match arguments.get(1) {
+        None => Ok(Value::of_count(alloc, bytes.len() as u64)?),
+        Some(value) => {
+            let delimiter = value.shown(alloc)?;
+            let count = pieces(bytes, delimiter.as_text().as_bytes());
+            Ok(Value::of_count(alloc, count as u64)?)
+        }
+    }
+}
+
+fn pieces_from_to(alloc: Global, arguments: &[Value]) -> Result<Value, Code>
+    ensures { Yields fault_of (meaning.function_value grammar.piece_function arguments.now) (λ value. value) result }
+{
+    let from = whole_at(arguments, 2)?;
+    let to = whole_at(arguments, 3)?;
+    let text = text_at(alloc, arguments, 0)?;
+    let delimiter = text_at(alloc, arguments, 1)?;
+    let part = piece(
+        text.as_text().as_bytes(),
+        delimiter.as_text().as_bytes(),
+        from,
+        to,
+    );
+    Ok(Value::of_bytes(alloc, part)?)
+}
+
+fn translated(alloc: Global, arguments: &[Value]) -> Result<Value, Code>
+    ensures { Yields fault_of (meaning.function_value grammar.translate_function arguments.now) (λ value. value) result }
+{
+    let text = text_at(alloc, arguments, 0)?;
+    let from = text_at(alloc, arguments, 1)?;
+    let to = text_at(alloc, arguments, 2)?;
+    answered(translate(alloc, text.as_text(), from.as_text(), to.as_text()))
+}
+
+// What a function gives of its arguments.
+fn function(alloc: Global, function: ValueFunction, arguments: &[Value]) -> Result<Value, Code>
+    ensures value { Yields fault_of (meaning.function_value (value_function_tree function) arguments.now) (λ value. value) result }
+    ensures characters { value_function_tree function ≡ grammar.char_function
+        → (code : spec.Code) → (s : State) → FailsBy (meaning.function_value grammar.char_function arguments.now) code s → IsErrAnd result (λ given. fault_of given ≡ spec.Own code) }
+{
+    match function {
+        ValueFunction::Ascii => ascii(alloc, arguments),
+        ValueFunction::Char => char(alloc, arguments),
+        ValueFunction::Extract => extracted(alloc, arguments),
+        ValueFunction::Find => found(alloc, arguments),
+        ValueFunction::Justify => justified(alloc, arguments),
+        ValueFunction::Length => length(alloc, arguments),
+        ValueFunction::Piece => pieces_from_to(alloc, arguments),
+        ValueFunction::Translate => translated(alloc, arguments),
+    }
+}
+
+/// What the function of a word gives of its arguments.
+///
+/// # Errors
+///
+/// The function's code in place of its value, by which $CHAR is refused before memory is asked for; `Zmem` if out of memory.
+pub fn call(alloc: Global, word: &ValueWord, arguments: &[Value]) -> Result<Value, Code>
+    ensures value { Yields fault_of (meaning.call_value word.now arguments.now) (λ value. value) result }
+    ensures characters { IsValueWord word.now grammar.char_function
+        → (code : spec.Code) → (s : State) → FailsBy (meaning.function_value grammar.char_function arguments.now) code s → IsErrAnd result (λ given. fault_of given ≡ spec.Own code) }
+{
+    function(alloc, word.function(), arguments)
+}

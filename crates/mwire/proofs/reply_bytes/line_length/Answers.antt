@@ -1,0 +1,11 @@
+-- SPDX-License-Identifier: Apache-2.0
+use Rattle.std.proofs.Common.{sym, ap, arith}
+use Rattle.std.proofs.lemmas.List.Sums.{position_or_len_is}
+use Rattle.mwire.specs.Wire.{is_line_end}
+use Rattle.mwire.proofs.reply_bytes.line_length.Goals as goal
+
+pub returns-then-b : goal.returns-then-b
+returns-then-b c = sym (position_or_len_is is_line_end c.args.output.now c.loop-i.i 0 (omega arith) c.loop-i.invariant (λ h. ap is_line_end c.if-b.true))
+
+pub returns : goal.returns
+returns c = sym (position_or_len_is is_line_end c.args.output.now _ 0 (omega arith) (λ k lt. c.loop-i.invariant k (omega arith)) (λ h. absurd (omega arith)))

@@ -1,0 +1,19 @@
+-- SPDX-License-Identifier: Apache-2.0
+use Rattle.std.proofs.Common.{refl, rules, sym, ap}
+use Rattle.mspec.specs.Act.{level_begun}
+use Rattle.mworld.proofs.Runs.{ran_over, not_run}
+use Rattle.mworld.proofs.session_run.run_over.Goals as goal
+
+pub returns-in_default-clause-ran : goal.returns-in_default-clause-ran
+returns-in_default-clause-ran g c = not_run refl refl refl
+
+pub returns-clause-ran : goal.returns-clause-ran
+unfolding level_begun
+returns-clause-ran g c =
+    let loans = c.run_text-ending.ensures.loans in
+    let session = sym loans.eval.session in
+    let store = sym loans.eval.store in
+    let locks = sym loans.locks in
+    let out = sym loans.out in
+    ran_over c.run_text-ending.ensures.does c.steps_of-steps.ensures c.taken-out.ensures
+    (ap (λ locals. record { locals = locals; naked = c.args.session.now.naked; test = c.args.session.now.test }) c.in-Ok.ensures.ok) (search rules) (search rules) (search rules) (search rules)

@@ -2,8 +2,8 @@
 //! What is kept for the next time: trees of texts that were parsed, and texts of nodes that were read.
 #![tactic(auto)]
 
-mod doorkeeper;
 mod cached;
+mod doorkeeper;
 mod entries;
 mod tree_cache;
 mod trees;

@@ -50,7 +50,11 @@ fn is_full(lines: &TreeCache<Line>, routine_lines: &TreeCache<RoutineLine>, entr
 }
 
 // Makes room for one more tree: of the kind of which more are kept, that goes which was used the longest ago.
-fn make_room(lines: &mut TreeCache<Line>, routine_lines: &mut TreeCache<RoutineLine>, entries: usize)
+fn make_room(
+    lines: &mut TreeCache<Line>,
+    routine_lines: &mut TreeCache<RoutineLine>,
+    entries: usize,
+)
     requires some { 0 < entries }
     requires fit { length lines.old.entries + length routine_lines.old.entries ≤ entries }
     ensures lines { IsWithin lines.new.entries lines.old.entries }

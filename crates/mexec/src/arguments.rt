@@ -10,12 +10,12 @@ ghost use Rattle.mexec.specs.Frames.{Runs, source_args, source_position, positio
 ghost use Rattle.mexec.specs.Arguments.{started, start_of, given, where_applies, lines_then, text_then, given_then};
 
 use crate::commands::holds;
+use crate::completion::Completion;
 use crate::direct::direct_argument;
 use crate::entering::{doing, executing};
 use crate::frames::Position;
 use crate::indirection::giving;
 use crate::scratch::Scratch;
-use crate::completion::Completion;
 use crate::source::Source;
 use mcommand::Parts;
 use moperator::Code;
@@ -74,7 +74,10 @@ fn argument<'t, S: NodeStore>(
             )
         }
         Arg::Executed(e, condition) => {
-            enters(holds(alloc, parts, position.depth, condition), Begun::Text(e))
+            enters(
+                holds(alloc, parts, position.depth, condition),
+                Begun::Text(e),
+            )
         }
         Arg::Indirect(keyword, operand) => Ok(Begun::Indirect(*keyword, operand)),
         _ => gave(direct_argument(alloc, parts, position, arg)),

@@ -47,7 +47,11 @@ pub(crate) fn holds<S: NodeStore>(
 pub(crate) fn where_true(is_true: bool) -> Completion
     ensures { completion_of result ≡ meaning.where_true is_true }
 {
-    if is_true { Completion::GoOn } else { Completion::Skips }
+    if is_true {
+        Completion::GoOn
+    } else {
+        Completion::Skips
+    }
 }
 
 // What is next, once this is done.

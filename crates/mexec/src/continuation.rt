@@ -9,11 +9,11 @@ ghost use Rattle.mexec.specs.Frames.{Runs, args_before, rest_tree, resting, stac
 
 use crate::arguments::arguments;
 use crate::commands::{charge, holds};
+use crate::completion::Completion;
 use crate::direct::{direct_commands, direct_word, is_direct_from};
 use crate::entering::doing_block;
-use crate::frames::{Frame, Continuation, ForLoop};
+use crate::frames::{Continuation, ForLoop, Frame};
 use crate::scratch::Scratch;
-use crate::completion::Completion;
 use crate::source::Source;
 use crate::turns::{begin_turn, next_parameter};
 use mcommand::{Course, Parts};

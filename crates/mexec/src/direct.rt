@@ -10,8 +10,8 @@ ghost use Rattle.mexec.specs.Frames.{commands_from, completion_of, position_of};
 ghost use Rattle.mexec.specs.Direct as direct;
 
 use crate::commands::{charge, holds, went_on, where_true};
-use crate::frames::Position;
 use crate::completion::Completion;
+use crate::frames::Position;
 use mcommand::Parts;
 use moperator::Code;
 use mstore::NodeStore;

@@ -11,11 +11,11 @@ ghost use Rattle.mcommand.specs.Does.{DoesAt, KeepsLoans};
 ghost use Rattle.mexec.specs.Frames.{Runs, stack, position_of, commands_from};
 ghost use Rattle.mexec.specs.Entering.{text_position};
 
-use crate::frames::{Closing, Frame, Level, Continuation, Position};
-use crate::levels::{enter_line, lines_next};
-use crate::scratch::Scratch;
-use crate::reading_trees::read_line;
 use crate::completion::Completion;
+use crate::frames::{Closing, Continuation, Frame, Level, Position};
+use crate::levels::{enter_line, lines_next};
+use crate::reading_trees::read_line;
+use crate::scratch::Scratch;
 use mcommand::Parts;
 use meval::Depth;
 use moperator::Code;
@@ -107,9 +107,11 @@ fn enter_text(
     let position = Rc::new(alloc, Position { depth, level })?;
     let level = Frame::Level(position.clone()?, Closing::Leaves);
     scratch.frames.push(level)?;
-    scratch
-        .frames
-        .push(Frame::Continuation(Continuation { position, line, at: 0 }))?;
+    scratch.frames.push(Frame::Continuation(Continuation {
+        position,
+        line,
+        at: 0,
+    }))?;
     Ok(())
 }
 

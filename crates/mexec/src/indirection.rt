@@ -17,10 +17,10 @@ ghost use Rattle.mcommand.specs.Does.{KeepsLoans};
 ghost use Rattle.mexec.specs.Frames.{Runs, position_of, stack};
 ghost use Rattle.mexec.specs.Entering.{so_deep};
 
-use crate::frames::{Frame, IndirectArguments, Level, Position};
-use crate::scratch::Scratch;
-use crate::reading_trees::read_arguments;
 use crate::completion::Completion;
+use crate::frames::{Frame, IndirectArguments, Level, Position};
+use crate::reading_trees::read_arguments;
+use crate::scratch::Scratch;
 use mcommand::Parts;
 use meval::Depth;
 use moperator::Code;

@@ -12,10 +12,10 @@ ghost use Rattle.mexec.specs.Frames.{Runs, stack, completion_of, position_of, cl
 ghost use Rattle.mexec.specs.Entering.{reached as first_reached, next_reached, entering, at_next, at_target, on_body};
 
 use crate::commands::charge;
-use crate::frames::{Closing, Frame, Level, Continuation, Position};
-use crate::scratch::Scratch;
-use crate::reading_trees::read_routine_line;
 use crate::completion::Completion;
+use crate::frames::{Closing, Continuation, Frame, Level, Position};
+use crate::reading_trees::read_routine_line;
+use crate::scratch::Scratch;
 use mcommand::{Parts, Target};
 use moperator::Code;
 use mparse::dots_of;
@@ -127,9 +127,11 @@ fn enter_body(
         Body::Short(_) => Ok(()),
         Body::Spaced(_, line) => {
             let line = line.clone()?;
-            scratch
-                .frames
-                .push(Frame::Continuation(Continuation { position, line, at: 0 }))?;
+            scratch.frames.push(Frame::Continuation(Continuation {
+                position,
+                line,
+                at: 0,
+            }))?;
             Ok(())
         }
     }

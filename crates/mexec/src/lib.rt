@@ -4,21 +4,21 @@
 
 mod arguments;
 mod commands;
+mod completion;
+mod continuation;
 mod direct;
 mod entering;
 mod frames;
 mod indirection;
 mod levels;
 mod line;
-mod scratch;
-mod top_level;
 mod reading_trees;
-mod continuation;
-mod text;
-mod completion;
+mod scratch;
 mod source;
+mod text;
+mod top_level;
 mod turns;
 
-pub use scratch::Scratch;
 pub use mcommand::{LINE_END, Parts};
+pub use scratch::Scratch;
 pub use text::{Ended, run_text};

@@ -10,11 +10,11 @@ ghost use Rattle.mcommand.specs.Does.{DoesAt, KeepsLoans};
 ghost use Rattle.mexec.specs.Frames.{Runs, view, stack, completion_of, commands_from};
 
 use crate::arguments::arguments;
-use crate::frames::{Closing, Frame, Continuation};
+use crate::completion::Completion;
+use crate::continuation::next_command;
+use crate::frames::{Closing, Continuation, Frame};
 use crate::levels::after_level;
 use crate::scratch::Scratch;
-use crate::continuation::next_command;
-use crate::completion::Completion;
 use crate::source::Source;
 use crate::turns::after_turn;
 use mcommand::Parts;
@@ -74,7 +74,16 @@ fn begin<S: NodeStore>(
     let position = scratch.top_level.position()?;
     let level = Frame::Level(position.clone()?, Closing::Stays);
     scratch.frames.push(level)?;
-    next_command(alloc, parts, Continuation { position, line, at: 0 }, scratch)
+    next_command(
+        alloc,
+        parts,
+        Continuation {
+            position,
+            line,
+            at: 0,
+        },
+        scratch,
+    )
 }
 
 // A line, from its first command to its end.

@@ -6,7 +6,7 @@ ghost use Rattle.mtree.specs.Tree.{arg_tree};
 ghost use Rattle.mexec.specs.Frames.{args_before as the_args_before, position_of, stack, source_position, source_args, view};
 ghost use Rattle.mexec.specs.Arguments.{listing};
 
-use crate::frames::{Frame, IndirectArguments, PendingArguments, Continuation, Position};
+use crate::frames::{Continuation, Frame, IndirectArguments, PendingArguments, Position};
 use crate::scratch::Scratch;
 use mtree::{Arg, Line};
 use std::alloc::AllocError;

@@ -8,9 +8,9 @@ ghost use Rattle.mcommand.specs.Does.{KeepsLoans};
 ghost use Rattle.mexec.specs.Frames.{completion_of};
 ghost use Rattle.mexec.specs.Runs.{RunsText, ending_of};
 
+use crate::completion::Completion;
 use crate::line::run_line;
 use crate::scratch::Scratch;
-use crate::completion::Completion;
 use mcommand::Parts;
 use moperator::Code;
 use mparse::ParseFault;

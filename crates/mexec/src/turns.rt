@@ -15,10 +15,10 @@ ghost use Rattle.mexec.specs.Frames.{Runs, commands_from, turning, stack, view, 
 ghost use Rattle.mexec.specs.Loops.{has_index, loop_before as the_loop_before};
 
 use crate::commands::charge;
-use crate::direct::{direct_commands, is_direct_from};
-use crate::frames::{Frame, Continuation, ForLoop};
-use crate::scratch::Scratch;
 use crate::completion::Completion;
+use crate::direct::{direct_commands, is_direct_from};
+use crate::frames::{Continuation, ForLoop, Frame};
+use crate::scratch::Scratch;
 use crate::source::args_before;
 use mcommand::{Course, Parts};
 use meval::Depth;

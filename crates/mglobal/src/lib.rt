@@ -7,9 +7,9 @@
 mod ask;
 mod bounds;
 mod copies;
-mod routine_cache;
 mod lines;
+mod routine_cache;
 
 pub use ask::{neighbour, status};
-pub use routine_cache::RoutineCache;
 pub use lines::{routine, shared_routine};
+pub use routine_cache::RoutineCache;

@@ -4,10 +4,10 @@ ghost use Rattle.std.specs.Prelude.{◌≡◌, false, IfErr};
 ghost use Rattle.mwire.specs.Watched.{failed_of};
 ghost use Rattle.mhost.specs.Jobs.{IsServeFault, RunsBy, RunsOver};
 
-use crate::settings_document::{read_document, read_settings};
 use crate::fault::RunFault;
-use crate::run::{run, run_file};
 use crate::port::serve_connections;
+use crate::run::{run, run_file};
+use crate::settings_document::{read_document, read_settings};
 use crate::worlds::{close_file, file_world, memory_world};
 use mcache::Cached;
 use mglobal::RoutineCache;

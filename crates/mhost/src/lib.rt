@@ -6,13 +6,13 @@
 //! after another (`serving`), a job carried out (`jobs`), and the program (`program`).
 #![tactic(auto)]
 
-mod settings_document;
-mod fault;
 mod carrying_out;
+mod fault;
 mod only_job;
+mod port;
 pub mod program;
 pub mod run;
-mod port;
+mod settings_document;
 mod worlds;
 
 pub use fault::RunFault;

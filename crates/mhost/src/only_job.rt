@@ -4,8 +4,8 @@ ghost use Rattle.std.specs.Prelude.{◌≡◌, false};
 ghost use Rattle.mwire.specs.Watched.{inner_of, failed_of};
 ghost use Rattle.mhost.specs.Only.{OnlyBy, OnlyOver, ServesAs};
 
-use crate::settings_document::{read_document, read_settings};
 use crate::fault::RunFault;
+use crate::settings_document::{read_document, read_settings};
 use crate::worlds::{close_file, file_world, memory_world};
 use mcache::Cached;
 use mglobal::RoutineCache;

@@ -6,8 +6,8 @@ ghost use Rattle.mwire.specs.Watched.{failed_of};
 ghost use Rattle.mhost.specs.Jobs.{status_of, CarriesOut};
 ghost use Rattle.mhost.specs.Programs.{Ends};
 
-use crate::fault::RunFault;
 use crate::carrying_out::{run_job, serve_job};
+use crate::fault::RunFault;
 use crate::only_job::run_only_job;
 use mcache::Cached;
 use mglobal::RoutineCache;

@@ -7,8 +7,8 @@ ghost use Rattle.mworld.specs.View.{settings_of, world_of};
 ghost use Rattle.mwire.specs.Watched.{inner_of, failed_of};
 ghost use Rattle.mhost.specs.Runs.{StreamAnswered, EndsEarly, EndsEarlyOverFile, Followed, ServedOver, DeviceFailed};
 
-use crate::settings_document::read_settings;
 use crate::fault::RunFault;
+use crate::settings_document::read_settings;
 use crate::worlds::{close_file, file_world, memory_world, table_of};
 use mcache::Cached;
 use mglobal::RoutineCache;

@@ -105,20 +105,20 @@ module _ (above below : LockName) (next : IsAbove above below) where
         → (n : LockName) → new n ≡ cond (is_under n below) (f (old n)) (old n)
     all_counted first rest n = elim (cases_Bool (name_eq above n)) [
       | inl e ↦
-            let is = next_is n e in
-            rest n ∙ ap (λ b. cond b (f (mid n)) (mid n)) is.0 ∙ first n ∙ ap (λ b. cond b (f (old n)) (old n)) e ∙ sym (ap (λ b. cond b (f (old n)) (old n)) is.1)
+          let is = next_is n e in
+          rest n ∙ ap (λ b. cond b (f (mid n)) (mid n)) is.0 ∙ first n ∙ ap (λ b. cond b (f (old n)) (old n)) e ∙ sym (ap (λ b. cond b (f (old n)) (old n)) is.1)
       | inr e ↦
-            let same : mid n ≡ old n = first n ∙ ap (λ b. cond b (f (old n)) (old n)) e in
-            rest n ∙ ap (λ x. cond (is_under n above) (f x) x) same ∙ ap (λ b. cond b (f (old n)) (old n)) (sym (others_above above below next n e))
+          let same : mid n ≡ old n = first n ∙ ap (λ b. cond b (f (old n)) (old n)) e in
+          rest n ∙ ap (λ x. cond (is_under n above) (f x) x) same ∙ ap (λ b. cond b (f (old n)) (old n)) (sym (others_above above below next n e))
     ]
 
     pub all_taken_off : ((n : LockName) → old n ≡ cond (name_eq above n) (f (mid n)) (mid n)) → ((n : LockName) → mid n ≡ cond (is_under n above) (f (new n)) (new n))
         → (n : LockName) → old n ≡ cond (is_under n below) (f (new n)) (new n)
     all_taken_off first rest n = elim (cases_Bool (name_eq above n)) [
       | inl e ↦
-            let is = next_is n e in
-            let same : mid n ≡ new n = rest n ∙ ap (λ b. cond b (f (new n)) (new n)) is.0 in
-            first n ∙ ap (λ b. cond b (f (mid n)) (mid n)) e ∙ ap f same ∙ sym (ap (λ b. cond b (f (new n)) (new n)) is.1)
+          let is = next_is n e in
+          let same : mid n ≡ new n = rest n ∙ ap (λ b. cond b (f (new n)) (new n)) is.0 in
+          first n ∙ ap (λ b. cond b (f (mid n)) (mid n)) e ∙ ap f same ∙ sym (ap (λ b. cond b (f (new n)) (new n)) is.1)
       | inr e ↦ first n ∙ ap (λ b. cond b (f (mid n)) (mid n)) e ∙ rest n ∙ ap (λ b. cond b (f (new n)) (new n)) (sym (others_above above below next n e))
     ]
 

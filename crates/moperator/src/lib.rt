@@ -9,14 +9,14 @@
 mod arguments;
 mod characters;
 mod code;
+mod conversions;
 mod function_calls;
 mod operators;
 mod patterns;
 mod relations;
-mod conversions;
 
 pub use code::Code;
+pub use conversions::{number_of, truth_of, whole_number, whole_of};
 pub use function_calls::call;
 pub use operators::{binary, computed, unaries};
 pub use patterns::matching;
-pub use conversions::{number_of, truth_of, whole_number, whole_of};

@@ -14,8 +14,8 @@ ghost use Rattle.moperator.specs.declared.code.Code.TheVariants.{Zlong, Zover};
 ghost use Rattle.mtree.specs.declared.tree.Binary.TheVariants.{Join};
 
 use crate::code::Code;
-use crate::relations::relation;
 use crate::conversions::{number_of, truth_of};
+use crate::relations::relation;
 use mnum::{ArithFault, LONGEST_TEXT, Num, Over};
 use mtree::{Binary, Sign};
 use mvalue::Value;

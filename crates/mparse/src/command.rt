@@ -8,13 +8,13 @@ ghost use Rattle.mtree.specs.Tree.{arg_tree, keyword_tree, command_tree};
 ghost use Rattle.mscan.specs.Gives.{Gives};
 
 use crate::arity::takes_args;
-use crate::control::{if_argument, postcondition, for_argument};
-use crate::entry::{do_argument, xecute_argument, goto_argument};
+use crate::control::{for_argument, if_argument, postcondition};
+use crate::entry::{do_argument, goto_argument, xecute_argument};
 use crate::expr::{MAX_DEPTH, expr};
 use crate::list::{Items, list};
 use crate::lock_arguments::lock_argument;
 use crate::operand::expr_operand;
-use crate::scope::{new_argument, kill_argument};
+use crate::scope::{kill_argument, new_argument};
 use crate::set_arguments::set_argument;
 use mnum::Bytes7;
 use mscan::{Class, ParseFault, run};

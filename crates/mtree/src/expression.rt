@@ -5,8 +5,8 @@ ghost use Rattle.mgrammar.specs.Grammar.{sign_char, spell_truth, spell_binary, s
 ghost use Rattle.mtree.specs.Tree.{sign_tree, truth_tree, binary_tree, repeated_tree, atom_tree, expr_tree, tail_tree, operand_tree, primary_tree, reference_tree, referring_tree, choice_tree};
 
 use crate::function_word::ValueWord;
-use crate::put_list::{Listed, put_list};
 use crate::pieces::{put_string, put_text};
+use crate::put_list::{Listed, put_list};
 use crate::tree::{
     Atom, Binary, Choice, Expr, Operand, Primary, Reference, Referring, Repeated, Sign, Tail, Truth,
 };

@@ -10,9 +10,9 @@
 mod brackets;
 mod expression;
 mod function_word;
-mod put_list;
 mod literal;
 mod pieces;
+mod put_list;
 pub mod tree;
 pub mod words;
 pub mod write;

@@ -7,8 +7,8 @@ ghost use Rattle.mgrammar.specs.RoutineLine.{spell_dots, spell_label, spell_body
 ghost use Rattle.mtree.specs.Tree.{expr_tree, primary_tree, piece_tree, target_tree, destination_tree, parameter_tree, entry_tree, kind_tree, locked_tree, reference_tree, arg_tree, command_tree, spaced_tree, line_tree, condition_tree, body_tree, routine_line_tree};
 
 use crate::expression::{put_expr, put_primary, put_reference, put_word};
-use crate::put_list::{Listed, put_list};
 use crate::pieces::{put_run, put_text};
+use crate::put_list::{Listed, put_list};
 use crate::tree::{
     Arg, Body, Command, Destination, Entry, Expr, Line, LockKind, Locked, Parameter, PieceTarget,
     Primary, Reference, RoutineLine, Spaced, Target,

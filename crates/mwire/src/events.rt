@@ -7,10 +7,10 @@ ghost use Rattle.mwire.specs.Watched.{inner_of, failed_of, calls_of, ReadFailed}
 ghost use Rattle.mwire.specs.Serves.{ReadsEvents};
 ghost use Rattle.mwire.specs.Progress.{Gathered};
 
-use crate::wire_line::{WireLine, classify};
 use crate::fault::WireFault;
 use crate::line_buffer::LineBuffer;
 use crate::watched::Watched;
+use crate::wire_line::{WireLine, classify};
 use mworld::Event;
 use std::alloc::{AllocError, Global};
 use std::io::Read;

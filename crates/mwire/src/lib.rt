@@ -9,7 +9,6 @@
 mod connections;
 mod ending;
 mod events;
-mod wire_line;
 mod fault;
 mod line_buffer;
 mod listener;
@@ -19,6 +18,7 @@ mod reply_bytes;
 mod serving;
 mod watched;
 pub mod wire_laws;
+mod wire_line;
 
 pub use connections::serve_each;
 pub use events::read_events;

@@ -7,11 +7,11 @@ ghost use Rattle.mwire.specs.Watched.{inner_of, failed_of, calls_of, stalls_of, 
 ghost use Rattle.mwire.specs.Serves.{Serves};
 ghost use Rattle.mwire.specs.Progress.{TakesOn, LineSent, FrontSent};
 
-use crate::wire_line::{WireLine, classify};
 use crate::fault::WireFault;
 use crate::line_buffer::LineBuffer;
 use crate::reply_bytes::push_bytes;
 use crate::watched::Watched;
+use crate::wire_line::{WireLine, classify};
 use mstore::NodeStore;
 use mworld::{Reply, World};
 use std::alloc::Global;

@@ -6,7 +6,7 @@ ghost use Rattle.mworld.specs.Ran.{Ran};
 
 use crate::reply::Reply;
 use meval::{Depth, Eval, Session};
-use mexec::{Ended, Scratch, Parts, run_text};
+use mexec::{Ended, Parts, Scratch, run_text};
 use mgrant::{AccountId, Settings};
 use mlock::Locks;
 use moperator::Code;

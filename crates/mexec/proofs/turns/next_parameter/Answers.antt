@@ -57,7 +57,7 @@ returns-in_err-turns-in-Some-clause-does g c =
 pub returns-in-Some-clause-does : goal.returns-in-Some-clause-does
 returns-in-Some-clause-does g c =
     let t = c.args.turns in
-    let turn : Turns = record { body = t.body; parameter = c.loop-next.next + 1; course = c.in-Some.course; indexed = any_course t.body.line.value t.body.at c.in-Some.course c.requires.indexed } in
+    let turn : ForLoop = record { body = t.body; parameter = c.loop-next.next + 1; course = c.in-Some.course; indexed = any_course t.body.line.value t.body.at c.in-Some.course c.requires.indexed } in
     let here = rw (c.in-Some.is, c.deref.ensures) at c.in_ok-start.ensures.does in
     let begun = rw (c.in_ok-turns-in-Some.ensures.ok, c.loop-next.invariant.scratch) at c.begin_turn.ensures.does in
     c.loop-next.invariant.leads _ _ _

@@ -131,9 +131,9 @@ module _ {S : Type 0} (g : Ghosts S) (settings : Settings) (e : Event) (place : 
         ascii = passes.ascii;
         operations = cut.0;
         globals =
-            ap (λ (s : World). s.world.globals) gone ∙ sym (ap (λ (w : Shared). w.globals) cut.1)
+            ap (λ (s : World). s.shared.globals) gone ∙ sym (ap (λ (w : Shared). w.globals) cut.1)
             ∙ (λ i. (cut_short (act settings e.terminal (sym passes.name i)) cut.0 (text_run (sym passes.name i) (line_at e.text) (sym begins i)) world.shared).globals);
-        locks = ap (λ (s : World). s.world.locks) gone ∙ sym (ap (λ (w : Shared). released w.locks e.terminal) cut.1) ∙ others.short cut.0;
+        locks = ap (λ (s : World). s.shared.locks) gone ∙ sym (ap (λ (w : Shared). released w.locks e.terminal) cut.1) ∙ others.short cut.0;
         sessions = ap (λ (s : World). s.sessions) gone;
       }
 
@@ -163,8 +163,8 @@ unrun_transition g settings e place sessions store locks passes after answer los
     short = passes.short;
     ascii = passes.ascii;
     operations = 0;
-    globals = ap (λ (s : World). s.world.globals) gone;
-    locks = ap (λ (s : World). s.world.locks) gone;
+    globals = ap (λ (s : World). s.shared.globals) gone;
+    locks = ap (λ (s : World). s.shared.locks) gone;
     sessions = ap (λ (s : World). s.sessions) gone;
   },
 )

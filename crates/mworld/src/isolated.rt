@@ -75,9 +75,9 @@ fn tell<S: NodeStore>(
     account: AccountId,
     isolated: &mut Isolated,
 ) -> Result<(), AllocError>
-    ensures told { S.sound → OnOk result ((world : transition.World) (events : List transition.Event) →
-        Tells (name_at (settings_of world.old) account) (settings_of world.old) world events (replies_of isolated.old) isolated.old.whole (world_of S.NodeStore world.old) →
-        Tells (name_at (settings_of world.old) account) (settings_of world.old) world (events ++ event_of event.now ∷ []) (replies_of isolated.new) isolated.new.whole (world_of S.NodeStore world.new)) }
+    ensures told { S.sound → OnOk result ((first : transition.World) (events : List transition.Event) →
+        Tells (name_at (settings_of world.old) account) (settings_of world.old) first events (replies_of isolated.old) isolated.old.whole (world_of S.NodeStore world.old) →
+        Tells (name_at (settings_of world.old) account) (settings_of world.old) first (events ++ event_of event.now ∷ []) (replies_of isolated.new) isolated.new.whole (world_of S.NodeStore world.new)) }
     ensures each { OnOk result ((events : List transition.Event) →
         IsToldEach (name_at (settings_of world.old) account) (settings_of world.old) events (replies_of isolated.old) →
         IsToldEach (name_at (settings_of world.old) account) (settings_of world.old) (events ++ event_of event.now ∷ []) (replies_of isolated.new)) }

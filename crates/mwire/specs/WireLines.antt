@@ -4,11 +4,11 @@ use Rattle.std.specs.Prelude.{ℕ, nat_lt, length, Option, Some, None, if◌then
 use Rattle.std.specs.List.{position_or_len}
 use Rattle.mspec.specs.Act.{Text}
 use Rattle.mspec.specs.Literal.{digits_after}
-use Rattle.mwire.specs.declared.wire_line.WireLine.{WireLine as CodeFate}
+use Rattle.mwire.specs.declared.wire_line.WireLine.{WireLine as CodeWireLine}
 use Rattle.mwire.specs.declared.wire_line.WireLine.TheVariants.{Ignored as CodeIgnored, TooLong as CodeTooLong, Unreadable as CodeUnreadable, Runs as CodeRuns}
 use Rattle.mwire.specs.Wire.{WireLine, Ignored, TooLong, Unreadable, Runs, is_space, is_terminal}
 
-abbrev pub wire_line_in : CodeFate → WireLine
+abbrev pub wire_line_in : CodeWireLine → WireLine
 wire_line_in CodeIgnored = Ignored
 wire_line_in CodeTooLong = TooLong
 wire_line_in CodeUnreadable = Unreadable

@@ -10,6 +10,8 @@ do the same work beside it if they are installed.
         --growth                    times ten times the lines too, and tells by what each time grew
         --write                     puts the table into docs/PERFORMANCE.md
         --workloads FILE            reads others
+        --twins                     times the workloads that have a twin, and the twins (benchmarks/twins.txt), over a
+                                    store in memory and GT.M alone, and prints GT.M's time beside the program's of both
 
 The loop is the reference since it is there wherever the script runs, asks for no memory, and is bound
 as the program is: by the clock of the processor and the branches of an interpreter. Python's version
@@ -37,8 +39,9 @@ from dataclasses import dataclass, field
 from running import PROGRAM, TOP, require_program, run_words
 
 WORKLOADS = os.path.join(TOP, "benchmarks", "workloads.txt")
+TWINS = os.path.join(TOP, "benchmarks", "twins.txt")
 PAGE = os.path.join(TOP, "docs", "PERFORMANCE.md")
-BEGIN, END = "<!-- bench.py -->\n", "<!-- end -->\n"
+BEGIN, TWINS_BEGIN, END = "<!-- bench.py -->\n", "<!-- bench.py --twins -->\n", "<!-- end -->\n"
 ACCOUNTS = 1000
 TURNS = 2_000_000
 GROWTH = 10
@@ -242,14 +245,33 @@ def cell(one: Measured | None, more: Measured | None, operations: int) -> str:
     return f"{told}, {min(more.ratios(operations)) / min(ratios):.1f} times"
 
 
-def write_page(table: str) -> None:
-    """Puts the table between its marks."""
+def speeds(found: dict[str, Measured]) -> tuple[float, float]:
+    """GT.M's time beside the program's over a store in memory: of the best passes, and of the medians."""
+    gtm, ours = found[GTM].passes, found["memory"].passes
+    return min(gtm) / min(ours), statistics.median(gtm) / statistics.median(ours)
+
+
+def twin_rows(subjects: Subjects, asked: argparse.Namespace) -> Iterator[tuple[str, list[str]]]:
+    """A row of the table of twins for each workload that has one, and what is wrong with the replies."""
+    subjects.names = ["memory", GTM]
+    twins = {twin.name: twin for twin in workloads(TWINS)}
+    for work in workloads(asked.workloads):
+        twin = twins.get(work.name)
+        if twin is None or asked.names and not any(name in work.name for name in asked.names):
+            continue
+        own, other = (measured(subjects, one, asked.passes, 1) for one in (work, twin))
+        cells = (f"{best:.2f} ({median:.2f})" for best, median in map(speeds, (own, other)))
+        yield f"| {work.name} | {' | '.join(cells)} |", [*faults(work, own, 1), *faults(twin, other, 1)]
+
+
+def write_page(begin: str, table: str) -> None:
+    """Puts a table between its marks."""
     with open(PAGE, encoding="utf-8") as file:
         page = file.read()
-    if BEGIN not in page:
+    if begin not in page:
         sys.exit("bench: docs/PERFORMANCE.md has no place for the table")
-    place = re.escape(BEGIN) + ".*?" + re.escape(END)
-    made = re.sub(place, lambda _: BEGIN + table + END, page, count=1, flags=re.DOTALL)
+    place = re.escape(begin) + ".*?" + re.escape(END)
+    made = re.sub(place, lambda _: begin + table + END, page, count=1, flags=re.DOTALL)
     with open(PAGE, "w", encoding="utf-8") as file:
         file.write(made)
 
@@ -262,7 +284,23 @@ def asked_for() -> argparse.Namespace:
     read.add_argument("--growth", action="store_true")
     read.add_argument("--write", action="store_true")
     read.add_argument("--workloads", default=WORKLOADS)
+    read.add_argument("--twins", action="store_true")
     return read.parse_args()
+
+
+def rows(subjects: Subjects, asked: argparse.Namespace) -> Iterator[tuple[str, list[str]]]:
+    """A row of the table for each workload, and what is wrong with the replies."""
+    for work in workloads(asked.workloads):
+        if asked.names and not any(name in work.name for name in asked.names):
+            continue
+        found = measured(subjects, work, asked.passes, 1)
+        wrong = [*faults(work, found, 1)]
+        larger: dict[str, Measured] = {}
+        if asked.growth:
+            larger = measured(subjects, work, asked.passes, GROWTH)
+            wrong += faults(work, larger, GROWTH)
+        cells = [cell(found.get(name), larger.get(name), work.operations) for name in subjects.names]
+        yield f"| {work.name}, {work.unit} | {' | '.join(cells)} |", wrong
 
 
 def main() -> int:
@@ -272,26 +310,21 @@ def main() -> int:
     wrong: list[str] = []
     with tempfile.TemporaryDirectory() as folder:
         subjects = Subjects(folder)
-        names = subjects.names
-        table = [f"| Workload, an operation | {' | '.join(names)} |", "|---" * (len(names) + 1) + "|"]
-        for work in workloads(asked.workloads):
-            if asked.names and not any(name in work.name for name in asked.names):
-                continue
-            found = measured(subjects, work, asked.passes, 1)
-            wrong += faults(work, found, 1)
-            larger: dict[str, Measured] = {}
-            if asked.growth:
-                larger = measured(subjects, work, asked.passes, GROWTH)
-                wrong += faults(work, larger, GROWTH)
-            cells = [cell(found.get(name), larger.get(name), work.operations) for name in names]
-            table.append(f"| {work.name}, {work.unit} | {' | '.join(cells)} |")
-            print(table[-1], file=sys.stderr, flush=True)
+        if asked.twins and not subjects.dist:
+            sys.exit("bench: twins are compared with GT.M, which is not installed")
+        names = ["GT.M's time / the program's", "of its twin"] if asked.twins else subjects.names
+        first = "Workload" if asked.twins else "Workload, an operation"
+        table = [f"| {first} | {' | '.join(names)} |", "|---" * (len(names) + 1) + "|"]
+        for row, told in (twin_rows if asked.twins else rows)(subjects, asked):
+            wrong += told
+            table.append(row)
+            print(row, file=sys.stderr, flush=True)
     table += ["", f"{time.strftime('%Y-%m-%d')}, {os.cpu_count()} processors, {asked.passes} passes, "
                   f"turns of Python {platform.python_version()}."]
     text = "\n".join(table) + "\n"
     print(text, end="")
     if asked.write:
-        write_page(text)
+        write_page(TWINS_BEGIN if asked.twins else BEGIN, text)
     for told in wrong[:20]:
         print(f"bench: {told}", file=sys.stderr)
     return 1 if wrong else 0

@@ -101,17 +101,17 @@ module _ (head tail : List Row) where
   abbrev pub halves : List (List Row) → ℕ → List (List Row)
   halves n k = insert (set n k head) (suc k) tail
 
-  first_half : (n : List (List Row)) (k : ℕ) → k < length n → get_or (halves n k) k [] ≡ head
+  pub first_half : (n : List (List Row)) (k : ℕ) → k < length n → get_or (halves n k) k [] ≡ head
   first_half [] k within = absurd (omega arith)
   first_half (x ∷ n) zero within = refl
   first_half (x ∷ n) (suc k) within = first_half n k (omega arith)
 
-  second_half : (n : List (List Row)) (k : ℕ) → k < length n → get_or (halves n k) (suc k) [] ≡ tail
+  pub second_half : (n : List (List Row)) (k : ℕ) → k < length n → get_or (halves n k) (suc k) [] ≡ tail
   second_half [] k within = absurd (omega arith)
   second_half (x ∷ n) zero within = refl
   second_half (x ∷ n) (suc k) within = second_half n k (omega arith)
 
-  halves_length : (n : List (List Row)) (k : ℕ) → k < length n → length (halves n k) ≡ length n + 1
+  pub halves_length : (n : List (List Row)) (k : ℕ) → k < length n → length (halves n k) ≡ length n + 1
   halves_length [] k within = absurd (omega arith)
   halves_length (x ∷ n) zero within = omega arith
   halves_length (x ∷ n) (suc k) within = omega (arith, halves_length n k (omega arith))

@@ -9,4 +9,5 @@ pub mod Finds
 pub mod Steps
 pub mod Words
 pub mod Logs
+pub mod Moved
 pub mod Views

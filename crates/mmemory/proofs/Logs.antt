@@ -1,7 +1,7 @@
 -- SPDX-License-Identifier: Apache-2.0
 -- A log with one more change.
 use Rattle.std.specs.Prelude.{if◌then◌else◌, slice_index}
-use Rattle.std.proofs.Common.{Result, Ok, Err, OnErr, IsOk, is_ok, All, ◌≡◌, ◌⊎◌, ℕ, zero, suc, ◌+◌, ◌<◌, ◌≤◌, true, false, cond, eqb, List, [], ◌∷◌, ◌++◌, length, map, drop, set, get_or, refl, sym, ap, subst, ◌∙◌, arith, inl, inr, eq-or-lt_of_le, eq-eqb, ne_eqb}
+use Rattle.std.proofs.Common.{Result, Ok, Err, OnOk, OnErr, IsOk, is_ok, All, ◌≡◌, ◌⊎◌, ℕ, zero, suc, ◌+◌, ◌<◌, ◌≤◌, true, false, cond, eqb, List, [], ◌∷◌, ◌++◌, length, map, drop, set, get_or, refl, sym, ap, subst, ◌∙◌, arith, inl, inr, eq-or-lt_of_le, eq-eqb, ne_eqb}
 use Rattle.std.proofs.lemmas.Bool.{cases_eq}
 use Rattle.std.proofs.lemmas.List.{drop-append-le, map-set, set-get_or, get_or-set_same, length-map, length-append}
 use Rattle.std.proofs.Math.Seq.{map-set_same}
@@ -208,3 +208,33 @@ halved h t y x at low is two =
     let made : (get_or (map plain (set h.trees.items t x)) t no_plain).chunks ≡ nest x.chunks.items =
     ap (λ (ps : List Plain). (get_or ps t no_plain).chunks) (map-set plain h.trees.items t x) ∙ ap (λ (p : Plain). p.chunks) (get_or-set_same (map plain h.trees.items) t (plain x) no_plain (omega (arith, low, length-map h.trees.items plain))) in
     subst (λ n. HalvedAt n ((get_or (map plain (set h.trees.items t x)) t no_plain).chunks) at) (sym was) (subst (λ n. HalvedAt (nest y.chunks.items) n at) (sym made) two)
+
+-- ---- one change after another
+
+pub ok_weaker : {X E : Type 0} {P Q : Type 0} (r : Result X E) → (P → Q) → OnOk r P → OnOk r Q
+ok_weaker (Ok x) f h = f h
+ok_weaker (Err e) f h = tt
+
+heading_at : (trees : List Plain) (t : ℕ) → heading (get_or trees t no_plain) ≡ get_or (map heading trees) t (heading no_plain)
+heading_at [] t = refl
+heading_at (x ∷ trees) zero = refl
+heading_at (x ∷ trees) (suc t) = heading_at trees t
+
+module _ (old mid : Held) (same : headings (now mid) ≡ headings (now old)) where
+  pub same_shape : (t : ℕ) → shape_at mid t ≡ shape_at old t
+  same_shape t = ap (λ (h : Heading). h.0) (heading_at (now mid).trees t ∙ ap (λ hs. get_or hs t (heading no_plain)) same ∙ sym (heading_at (now old).trees t))
+
+  pub same_count : length mid.trees.items ≡ length old.trees.items
+  same_count = omega (arith, ap length same, length-map (now mid).trees heading, length-map (now old).trees heading, length-map mid.trees.items plain, length-map old.trees.items plain)
+
+pub then_wrote : (old mid new : Held) (t : ℕ) (rows : List Row) → Keeps old mid → Writes mid new t rows → Writes old new t rows
+then_wrote old mid new t rows k w = record {
+  keeps = record {
+    past = λ n low. w.keeps.past n (omega (arith, k.keeps.longer, low)) ∙ k.keeps.past n low;
+    longer = omega (arith, k.keeps.longer, w.keeps.longer);
+    marks = w.keeps.marks ∙ k.keeps.marks;
+  };
+  headings_are = w.headings_are ∙ k.headings_are;
+  rows_are = w.rows_are ∙ ap (λ trees. with_tree trees t rows) k.rows_are;
+  version_is = w.version_is ∙ k.version_is;
+}

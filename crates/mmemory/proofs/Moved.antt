@@ -6,8 +6,15 @@ use Rattle.std.proofs.lemmas.List.{take-append-le, drop-append-le, length-append
 use Rattle.std.proofs.Math.Seq.{take-append-add, drop-append-add}
 use Rattle.sqlite_value.specs.Order.{Row}
 use Rattle.mmemory.specs.Lists.{joined}
-use Rattle.mmemory.specs.Nest.{front, back}
+use Rattle.mmemory.specs.declared.held.Held.{Held}
+use Rattle.mmemory.specs.declared.place.Place.{Place}
+use Rattle.mmemory.specs.declared.tree.Tree.{Tree}
+use Rattle.mmemory.specs.Nest.{front, back, rows_at}
+use Rattle.mmemory.specs.Plain.{Plain, plain, no_plain, tree_nest}
 use Rattle.mmemory.specs.Changes.{HalvedAt, is_moved}
+use Rattle.mmemory.specs.Held.{Keeps, nest_at}
+use Rattle.mmemory.proofs.Shown.{shown_at}
+use Rattle.mmemory.proofs.Logs.{same_count}
 use Rattle.mmemory.proofs.Nests.{from_place, up_to_place}
 use Rattle.mmemory.proofs.Backs.{halves, first_half, second_half, halves_length}
 
@@ -70,3 +77,13 @@ module _ (old new : List (List Row)) (k row : ℕ) (two : HalvedAt old new k) (l
       go : (b : Bool) → leb row (length two.head) ≡ b → IsMoved old new k row (cond b (k, row) (k + 1, row - length two.head))
       go true e = in_head (leb-true row (length two.head) e)
       go false e = in_tail (row - length two.head) (let more : length two.head < row = leb-false row (length two.head) e in omega arith)
+
+-- the rows around a place of a tree of which a chunk was made two
+pub moved_at : (old new : Held) (t : ℕ) (p q : Place) (found : Tree) (rows : List Row) → Keeps old new → HalvedAt (nest_at old t) (nest_at new t) p.chunk → t < length old.trees.items
+    → p.chunk < length (nest_at old t) → p.row ≤ length (rows_at (nest_at old t) p) → found ≡ get_or new.trees.items t found → rows ≡ rows_at (tree_nest found) p
+    → (q.chunk, q.row) ≡ is_moved p.chunk p.row (length rows) → IsMoved (nest_at old t) (nest_at new t) p.chunk p.row (q.chunk, q.row)
+moved_at old new t p q found rows keeps two within low small is are at =
+    let there : t < length new.trees.items = omega (arith, same_count old new keeps.headings_are, within) in
+    let here : nest_at new t ≡ tree_nest found = ap (λ (it : Plain). it.chunks) (shown_at plain new.trees.items t no_plain found there is) in
+    let head : length rows ≡ length two.head = ap length (are ∙ ap (λ n. get_or n p.chunk []) (sym here) ∙ head_is (nest_at old t) (nest_at new t) p.chunk p.row two low small) in
+    place_moved (nest_at old t) (nest_at new t) p.chunk p.row two low small _ (at ∙ ap (is_moved p.chunk p.row) head)

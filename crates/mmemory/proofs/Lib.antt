@@ -10,4 +10,5 @@ pub mod Steps
 pub mod Words
 pub mod Logs
 pub mod Moved
+pub mod Wrote
 pub mod Views

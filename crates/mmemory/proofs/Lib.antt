@@ -12,3 +12,4 @@ pub mod Logs
 pub mod Moved
 pub mod Wrote
 pub mod Views
+pub mod Others

@@ -13,3 +13,4 @@ pub mod Moved
 pub mod Wrote
 pub mod Views
 pub mod Others
+pub mod Seen

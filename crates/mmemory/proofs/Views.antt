@@ -132,7 +132,7 @@ module _ (old new : State) (tree : ℕ) (it : Plain) (low : tree < 2 ^ 32) (h : 
 
 -- ---- what stands beside the transaction
 
-map_same : {X : Type 0} (f g : ℕ → X) (bound : ℕ) (xs : List ℕ) → All (λ m. m ≤ bound) xs → ((m : ℕ) → m ≤ bound → f m ≡ g m) → map f xs ≡ map g xs
+pub map_same : {X : Type 0} (f g : ℕ → X) (bound : ℕ) (xs : List ℕ) → All (λ m. m ≤ bound) xs → ((m : ℕ) → m ≤ bound → f m ≡ g m) → map f xs ≡ map g xs
 map_same f g bound [] all same = refl
 map_same f g bound (x ∷ xs) all same = (λ i. same x (all 0 0 (omega arith)) i ∷ map_same f g bound xs (λ k d low. all (suc k) d (omega arith)) same i)
 

@@ -11,6 +11,7 @@ pub mod Words
 pub mod Logs
 pub mod Moved
 pub mod Wrote
+pub mod Relisted
 pub mod Views
 pub mod Others
 pub mod Seen

@@ -16,6 +16,7 @@ impl Held {
         ensures past { (k : ℕ) → k ≤ len → moment self.new k ≡ moment self.old k }
         ensures now { now self.new ≡ moment self.old len }
         ensures marks { self.new.marks.items ≡ self.old.marks.items }
+        ensures log { len ≤ length self.old.log.items → len ≤ length self.new.log.items }
     {
         while self.log.len() > len {
             let change = self.log.pop().unwrap();

@@ -32,4 +32,5 @@ loop-self-preserved c =
     record {
       past = λ k low. moment_less log u (now h) (state_of c.undo.new.trees.items c.undo.new.version) c.undo.ensures k (omega (arith, low, more)) ∙ ap (λ l. undone (drop k l) (now h)) (sym popped) ∙ was.past k low;
       marks = was.marks;
+      log = λ _. more;
     }

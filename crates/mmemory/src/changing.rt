@@ -20,7 +20,7 @@ impl Tree {
         requires chunk { place.chunk < length (tree_nest self.old) }
         requires row { place.row ≤ length (rows_at (tree_nest self.old) place) }
         requires room { length (rows_at (tree_nest self.old) place) < 64 }
-        ensures { Makes (plain self.old) (plain self.new) result (before (tree_nest self.old) place ++ row ∷ after (tree_nest self.old) place) }
+        ensures { let n = tree_nest self.old in Makes (plain self.old) (plain self.new) result (before n place ++ row ∷ after n place) }
     {
         self.chunks[place.chunk].put(place.row, row);
         Step::DropRow(place.chunk, place.row)
@@ -30,7 +30,7 @@ impl Tree {
     pub(crate) fn set_at(&mut self, place: Place, row: Row) -> Step
         requires chunk { place.chunk < length (tree_nest self.old) }
         requires row { place.row < length (rows_at (tree_nest self.old) place) }
-        ensures { Makes (plain self.old) (plain self.new) result (before (tree_nest self.old) place ++ row ∷ after_row (tree_nest self.old) place (place.row + 1)) }
+        ensures { let n = tree_nest self.old in Makes (plain self.old) (plain self.new) result (before n place ++ row ∷ after_row n place (place.row + 1)) }
     {
         let old = self.chunks[place.chunk].set(place.row, row);
         Step::SetRow(place.chunk, place.row, old)
@@ -40,7 +40,7 @@ impl Tree {
     pub(crate) fn take_at(&mut self, place: Place) -> Step
         requires chunk { place.chunk < length (tree_nest self.old) }
         requires row { place.row < length (rows_at (tree_nest self.old) place) }
-        ensures { Makes (plain self.old) (plain self.new) result (before (tree_nest self.old) place ++ after_row (tree_nest self.old) place (place.row + 1)) }
+        ensures { let n = tree_nest self.old in Makes (plain self.old) (plain self.new) result (before n place ++ after_row n place (place.row + 1)) }
     {
         if self.chunks[place.chunk].rows.len() == 1 {
             let old = self.chunks.remove(place.chunk);
@@ -59,7 +59,7 @@ impl Tree {
         row: Row,
     ) -> Result<Step, AllocError>
         requires { at ≤ length (tree_nest self.old) }
-        ensures ok { IfOk result (λ step. Makes (plain self.old) (plain self.new) step (joined (take at (tree_nest self.old)) ++ row ∷ joined (drop at (tree_nest self.old)))) }
+        ensures ok { let n = tree_nest self.old in IfOk result (λ step. Makes (plain self.old) (plain self.new) step (joined (take at n) ++ row ∷ joined (drop at n))) }
         ensures err { OnErr result (plain self.new ≡ plain self.old) }
     {
         let chunk = Chunk::of_row(alloc, row)?;

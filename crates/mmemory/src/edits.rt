@@ -43,7 +43,12 @@ impl Held {
         self.take_at(tree, place)
     }
 
-    pub(crate) fn insert(&mut self, tree: usize, order: Order, entry: &Row) -> Result<(), AllocError>
+    pub(crate) fn insert(
+        &mut self,
+        tree: usize,
+        order: Order,
+        entry: &Row,
+    ) -> Result<(), AllocError>
         requires tree { tree < length self.old.trees.items }
         requires index { shape_at self.old tree ≡ Shape.Index order }
         ensures ok { OnOk result (Writes self.old self.new tree (insert_entry order entry.now (rows_of (now self.old) tree))) }
@@ -57,7 +62,12 @@ impl Held {
         self.add(tree, place, new)
     }
 
-    pub(crate) fn remove(&mut self, tree: usize, order: Order, entry: &Row) -> Result<(), AllocError>
+    pub(crate) fn remove(
+        &mut self,
+        tree: usize,
+        order: Order,
+        entry: &Row,
+    ) -> Result<(), AllocError>
         requires tree { tree < length self.old.trees.items }
         requires index { shape_at self.old tree ≡ Shape.Index order }
         ensures ok { OnOk result (Writes self.old self.new tree (remove_entry order entry.now (rows_of (now self.old) tree))) }

@@ -44,7 +44,7 @@ impl Tree {
     // The first row from a place on, and its place.
     pub(crate) fn next_row(&self, place: Place) -> Option<(Place, &Row)>
         ensures none { IfNone result (after (tree_nest self.now) place ≡ []) }
-        ensures some { IfSome result (λ found. ComesNext (tree_nest self.now) found.0 (before (tree_nest self.now) place) (after (tree_nest self.now) place) found.1.now) }
+        ensures some { let n = tree_nest self.now in IfSome result (λ found. ComesNext n found.0 (before n place) (after n place) found.1.now) }
     {
         if let Some(row) = self.rows_at(place).get(place.row) {
             return Some((place, row));

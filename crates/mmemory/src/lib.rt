@@ -14,7 +14,6 @@ mod held;
 mod making;
 pub mod memory;
 mod moments;
-
 mod place;
 mod probe;
 mod step;

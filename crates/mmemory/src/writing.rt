@@ -34,8 +34,8 @@ impl Held {
         requires chunk { place.chunk < length (nest_at self.old tree) }
         requires row { place.row ≤ length (rows_at (nest_at self.old tree) place) }
         requires room { length (rows_at (nest_at self.old tree) place) < 64 }
-        requires shaped { IsShaped (shape_at self.old tree) (before (nest_at self.old tree) place ++ row ∷ after (nest_at self.old tree) place) }
-        ensures ok { OnOk result (Writes self.old self.new tree (before (nest_at self.old tree) place ++ row ∷ after (nest_at self.old tree) place)) }
+        requires shaped { let n = nest_at self.old tree in IsShaped (shape_at self.old tree) (before n place ++ row ∷ after n place) }
+        ensures ok { let n = nest_at self.old tree in OnOk result (Writes self.old self.new tree (before n place ++ row ∷ after n place)) }
         ensures err { OnErr result (Keeps self.old self.new) }
     {
         self.log.reserve(1)?;
@@ -45,17 +45,12 @@ impl Held {
     }
 
     // Puts a row in place of another.
-    pub(crate) fn set_at(
-        &mut self,
-        tree: usize,
-        place: Place,
-        row: Row,
-    ) -> Result<(), AllocError>
+    pub(crate) fn set_at(&mut self, tree: usize, place: Place, row: Row) -> Result<(), AllocError>
         requires tree { tree < length self.old.trees.items }
         requires chunk { place.chunk < length (nest_at self.old tree) }
         requires row { place.row < length (rows_at (nest_at self.old tree) place) }
-        requires shaped { IsShaped (shape_at self.old tree) (before (nest_at self.old tree) place ++ row ∷ after_row (nest_at self.old tree) place (place.row + 1)) }
-        ensures ok { OnOk result (Writes self.old self.new tree (before (nest_at self.old tree) place ++ row ∷ after_row (nest_at self.old tree) place (place.row + 1))) }
+        requires shaped { let n = nest_at self.old tree in IsShaped (shape_at self.old tree) (before n place ++ row ∷ after_row n place (place.row + 1)) }
+        ensures ok { let n = nest_at self.old tree in OnOk result (Writes self.old self.new tree (before n place ++ row ∷ after_row n place (place.row + 1))) }
         ensures err { OnErr result (Keeps self.old self.new) }
     {
         self.log.reserve(1)?;
@@ -69,8 +64,8 @@ impl Held {
         requires tree { tree < length self.old.trees.items }
         requires chunk { place.chunk < length (nest_at self.old tree) }
         requires row { place.row < length (rows_at (nest_at self.old tree) place) }
-        requires shaped { IsShaped (shape_at self.old tree) (before (nest_at self.old tree) place ++ after_row (nest_at self.old tree) place (place.row + 1)) }
-        ensures ok { OnOk result (Writes self.old self.new tree (before (nest_at self.old tree) place ++ after_row (nest_at self.old tree) place (place.row + 1))) }
+        requires shaped { let n = nest_at self.old tree in IsShaped (shape_at self.old tree) (before n place ++ after_row n place (place.row + 1)) }
+        ensures ok { let n = nest_at self.old tree in OnOk result (Writes self.old self.new tree (before n place ++ after_row n place (place.row + 1))) }
         ensures err { OnErr result (Keeps self.old self.new) }
     {
         self.log.reserve(1)?;
@@ -82,8 +77,8 @@ impl Held {
     fn add_chunk(&mut self, tree: usize, at: usize, row: Row) -> Result<(), AllocError>
         requires tree { tree < length self.old.trees.items }
         requires at { at ≤ length (nest_at self.old tree) }
-        requires shaped { IsShaped (shape_at self.old tree) (joined (take at (nest_at self.old tree)) ++ row ∷ joined (drop at (nest_at self.old tree))) }
-        ensures ok { OnOk result (Writes self.old self.new tree (joined (take at (nest_at self.old tree)) ++ row ∷ joined (drop at (nest_at self.old tree)))) }
+        requires shaped { let n = nest_at self.old tree in IsShaped (shape_at self.old tree) (joined (take at n) ++ row ∷ joined (drop at n)) }
+        ensures ok { let n = nest_at self.old tree in OnOk result (Writes self.old self.new tree (joined (take at n) ++ row ∷ joined (drop at n))) }
         ensures err { OnErr result (Keeps self.old self.new) }
     {
         self.log.reserve(1)?;
@@ -112,8 +107,8 @@ impl Held {
         requires chunk { place.chunk < length (nest_at self.old tree) }
         requires row { place.row ≤ length (rows_at (nest_at self.old tree) place) }
         requires full { length (rows_at (nest_at self.old tree) place) ≡ 64 }
-        requires shaped { IsShaped (shape_at self.old tree) (before (nest_at self.old tree) place ++ row ∷ after (nest_at self.old tree) place) }
-        ensures ok { OnOk result (Writes self.old self.new tree (before (nest_at self.old tree) place ++ row ∷ after (nest_at self.old tree) place)) }
+        requires shaped { let n = nest_at self.old tree in IsShaped (shape_at self.old tree) (before n place ++ row ∷ after n place) }
+        ensures ok { let n = nest_at self.old tree in OnOk result (Writes self.old self.new tree (before n place ++ row ∷ after n place)) }
         ensures err { OnErr result (Keeps self.old self.new) }
     {
         if place.row == 0 {
@@ -132,8 +127,8 @@ impl Held {
         requires tree { tree < length self.old.trees.items }
         requires chunk { (place.chunk < length (nest_at self.old tree)) ⊎ (nest_at self.old tree ≡ []) }
         requires row { place.row ≤ length (rows_at (nest_at self.old tree) place) }
-        requires shaped { IsShaped (shape_at self.old tree) (before (nest_at self.old tree) place ++ row ∷ after (nest_at self.old tree) place) }
-        ensures ok { OnOk result (Writes self.old self.new tree (before (nest_at self.old tree) place ++ row ∷ after (nest_at self.old tree) place)) }
+        requires shaped { let n = nest_at self.old tree in IsShaped (shape_at self.old tree) (before n place ++ row ∷ after n place) }
+        ensures ok { let n = nest_at self.old tree in OnOk result (Writes self.old self.new tree (before n place ++ row ∷ after n place)) }
         ensures err { OnErr result (Keeps self.old self.new) }
     {
         if self.trees[tree].chunks.is_empty() {

@@ -42,7 +42,7 @@ returns-in_ok-copy_from-in-Some-clause-ok c _ =
     let splits = simp to_z-of_z at c.find.ensures.splits in
     let met = simp to_z-of_z at c.meets.ensures in
     let found = row_found c.args.id (tree_rows y) (before n p) (after n p) _ c.in-Some.found.now was.0 (whole n p) splits c.in-Some.ensures.some.is (sym met ∙ c.if-meets.true)
-        ∙ ap (λ r. r ∷ []) (sym c.in_ok-copy_from-in-Some.ensures.ok) in
+    ∙ ap (λ r. r ∷ []) (sym c.in_ok-copy_from-in-Some.ensures.ok) in
     rw (unnumbered t (omega arith), named t (omega arith), nest_seen s.held t y low c.index-tree.ensures) found
 
 pub returns-in_default-clause-ok : goal.returns-in_default-clause-ok
@@ -60,7 +60,7 @@ returns-in_default-clause-ok c _ =
     let met = simp to_z-of_z at c.meets.ensures in
     let next = c.in-Some.ensures.some in
     let none = row_missing c.args.id (tree_rows y) (before n p) (after n p) was.0 (whole n p) splits
-        (λ found more at. let same : found ≡ c.in-Some.found.now = ap (λ l. get_or l 0 found) (sym at ∙ next.is) in rw same (sym met ∙ c.if-meets.false)) in
+    (λ found more at. let same : found ≡ c.in-Some.found.now = ap (λ l. get_or l 0 found) (sym at ∙ next.is) in rw same (sym met ∙ c.if-meets.false)) in
     rw (unnumbered t (omega arith), named t (omega arith), nest_seen s.held t y low c.index-tree.ensures) none
 
 pub returns-in_default-2-clause-ok : goal.returns-in_default-2-clause-ok

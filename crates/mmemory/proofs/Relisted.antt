@@ -23,16 +23,6 @@ each_at P [] at d all within = absurd (omega arith)
 each_at P (x ∷ xs) zero d all within = all.0
 each_at P (x ∷ xs) (suc at) d all within = each_at P xs at d all.1 (omega arith)
 
-pub past_on : (a b c : Held) → KeepsPast a b → KeepsPast b c → KeepsPast a c
-past_on a b c h k = record {
-  past = λ n low. k.past n (omega (arith, h.longer, low)) ∙ h.past n low;
-  longer = omega (arith, h.longer, k.longer);
-  marks = k.marks ∙ h.marks;
-}
-
-pub past_same : (a b : Held) → now b ≡ now a → b.log.items ≡ a.log.items → b.marks.items ≡ a.marks.items → KeepsPast a b
-past_same a b is log marks = record { past = λ n low. (λ i. undone (drop n (log i)) (is i)); longer = omega (arith, ap length log); marks = marks }
-
 module _ (s m : Memory) (done : List (ℕ × Object)) (change : ℕ × Object) (h : Relists (memory_view s) (memory_view m) done) (may : MayRelist (memory_view s) change) where
   -- a tree that may be listed anew has its object's shape still, after some others were
   pub still_shaped : shape_in (headings (current m)) change.0 ≡ change.1.shape

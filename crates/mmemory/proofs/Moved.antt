@@ -1,0 +1,89 @@
+-- SPDX-License-Identifier: Apache-2.0
+-- A place of a chunk that is made two.
+use Rattle.std.proofs.Common.{◌≡◌, ℕ, zero, suc, ◌+◌, ◌-◌, ◌<◌, ◌≤◌, Bool, true, false, leb, cond, List, [], ◌∷◌, ◌++◌, length, take, drop, set, get_or, refl, sym, ap, subst, ◌∙◌, arith, add-one, append_assoc}
+use Rattle.std.proofs.lemmas.Bool.{leb-true, leb-false}
+use Rattle.std.proofs.lemmas.List.{take-append-le, drop-append-le, length-append}
+use Rattle.std.proofs.Math.Seq.{take-append-add, drop-append-add}
+use Rattle.sqlite_value.specs.Order.{Row}
+use Rattle.mmemory.specs.Lists.{joined}
+use Rattle.mmemory.specs.declared.held.Held.{Held}
+use Rattle.mmemory.specs.declared.place.Place.{Place}
+use Rattle.mmemory.specs.declared.tree.Tree.{Tree}
+use Rattle.mmemory.specs.Nest.{front, back, rows_at}
+use Rattle.mmemory.specs.Plain.{Plain, plain, no_plain, tree_nest}
+use Rattle.mmemory.specs.Changes.{HalvedAt, is_moved}
+use Rattle.mmemory.specs.Held.{Keeps, nest_at}
+use Rattle.mmemory.proofs.Shown.{shown_at}
+use Rattle.mmemory.proofs.Logs.{same_count}
+use Rattle.mmemory.proofs.Nests.{from_place, up_to_place}
+use Rattle.mmemory.proofs.Backs.{halves, first_half, second_half, halves_length}
+
+module _ (head tail : List Row) where
+  halves_before : (n : List (List Row)) (k : ℕ) → k < length n → take k (halves head tail n k) ≡ take k n
+  halves_before [] k within = absurd (omega arith)
+  halves_before (x ∷ n) zero within = refl
+  halves_before (x ∷ n) (suc k) within = ap (λ l. x ∷ l) (halves_before n k (omega arith))
+
+  halves_behind : (n : List (List Row)) (k : ℕ) → k < length n → drop (suc (suc k)) (halves head tail n k) ≡ drop (suc k) n
+  halves_behind [] k within = absurd (omega arith)
+  halves_behind (x ∷ n) zero within = refl
+  halves_behind (x ∷ n) (suc k) within = halves_behind n k (omega arith)
+
+-- the rows around a place of two chunks that were one
+pub record IsMoved (old new : List (List Row)) (k row : ℕ) (at : ℕ × ℕ) : Type 0 where
+  pub front_is : front new at.0 at.1 ≡ front old k row
+  pub back_is : back new at.0 at.1 ≡ back old k row
+  pub inside : at.1 ≤ length (get_or new at.0 [])
+
+module _ (old new : List (List Row)) (k row : ℕ) (two : HalvedAt old new k) (low : k < length old) (within : row ≤ length (get_or old k [])) where
+  now_is : new ≡ halves two.head two.tail old k
+  now_is = rw (← add-one k) two.are
+
+  pub head_is : get_or new k [] ≡ two.head
+  head_is = ap (λ n. get_or n k []) now_is ∙ first_half two.head two.tail old k low
+
+  tail_is : get_or new (k + 1) [] ≡ two.tail
+  tail_is = ap (λ n. get_or n (k + 1) []) now_is ∙ rw (add-one k) (second_half two.head two.tail old k low)
+
+  before_is : joined (take k new) ≡ joined (take k old)
+  before_is = ap (λ n. joined (take k n)) now_is ∙ ap joined (halves_before two.head two.tail old k low)
+
+  behind_is : joined (drop (k + 1 + 1) new) ≡ joined (drop (k + 1) old)
+  behind_is = ap (λ n. joined (drop (k + 1 + 1) n)) now_is ∙ rw (add-one (k + 1), add-one k) (ap joined (halves_behind two.head two.tail old k low))
+
+  in_head : row ≤ length two.head → IsMoved old new k row (k, row)
+  in_head less = record {
+    front_is = (λ i. before_is i ++ take row (head_is i)) ∙ ap (λ r. joined (take k old) ++ r) (sym (take-append-le row two.head two.tail less) ∙ ap (take row) (sym two.both));
+    back_is =
+        (λ i. drop row (head_is i) ++ (from_place (λ r. r) [] refl new (k + 1) ∙ (λ j. tail_is j ++ behind_is j)) i)
+        ∙ sym (append_assoc (drop row two.head) two.tail (joined (drop (k + 1) old)))
+        ∙ ap (λ r. r ++ joined (drop (k + 1) old)) (sym (drop-append-le row two.head two.tail less) ∙ ap (drop row) (sym two.both));
+    inside = rw head_is less;
+  }
+
+  in_tail : (left : ℕ) → row ≡ length two.head + left → IsMoved old new k row (k + 1, left)
+  in_tail left is = record {
+    front_is =
+        (λ i. (up_to_place (λ r. r) [] refl new k ∙ (λ j. before_is j ++ head_is j)) i ++ take left (tail_is i))
+        ∙ append_assoc (joined (take k old)) two.head (take left two.tail)
+        ∙ ap (λ r. joined (take k old) ++ r) (sym (take-append-add two.head two.tail left) ∙ (λ i. take (sym is i) (sym two.both i)));
+    back_is = (λ i. drop left (tail_is i) ++ behind_is i) ∙ ap (λ r. r ++ joined (drop (k + 1) old)) (sym (drop-append-add two.head two.tail left) ∙ (λ i. drop (sym is i) (sym two.both i)));
+    inside = rw tail_is (omega (arith, ap length two.both, length-append two.head two.tail));
+  }
+
+  pub place_moved : (at : ℕ × ℕ) → at ≡ is_moved k row (length two.head) → IsMoved old new k row at
+  place_moved at is = subst (IsMoved old new k row) (sym is) (go (leb row (length two.head)) refl)
+    where
+      go : (b : Bool) → leb row (length two.head) ≡ b → IsMoved old new k row (cond b (k, row) (k + 1, row - length two.head))
+      go true e = in_head (leb-true row (length two.head) e)
+      go false e = in_tail (row - length two.head) (let more : length two.head < row = leb-false row (length two.head) e in omega arith)
+
+-- the rows around a place of a tree of which a chunk was made two
+pub moved_at : (old new : Held) (t : ℕ) (p q : Place) (found : Tree) (rows : List Row) → Keeps old new → HalvedAt (nest_at old t) (nest_at new t) p.chunk → t < length old.trees.items
+    → p.chunk < length (nest_at old t) → p.row ≤ length (rows_at (nest_at old t) p) → found ≡ get_or new.trees.items t found → rows ≡ rows_at (tree_nest found) p
+    → (q.chunk, q.row) ≡ is_moved p.chunk p.row (length rows) → IsMoved (nest_at old t) (nest_at new t) p.chunk p.row (q.chunk, q.row)
+moved_at old new t p q found rows keeps two within low small is are at =
+    let there : t < length new.trees.items = omega (arith, same_count old new keeps.headings_are, within) in
+    let here : nest_at new t ≡ tree_nest found = ap (λ (it : Plain). it.chunks) (shown_at plain new.trees.items t no_plain found there is) in
+    let head : length rows ≡ length two.head = ap length (are ∙ ap (λ n. get_or n p.chunk []) (sym here) ∙ head_is (nest_at old t) (nest_at new t) p.chunk p.row two low small) in
+    place_moved (nest_at old t) (nest_at new t) p.chunk p.row two low small _ (at ∙ ap (is_moved p.chunk p.row) head)

@@ -1,0 +1,18 @@
+-- SPDX-License-Identifier: Apache-2.0
+use Rattle.std.proofs.Common.{ap, arith}
+use Rattle.mmemory.specs.declared.memory.Memory.{Memory}
+use Rattle.mmemory.specs.Plain.{plain, heading, plain_rows}
+use Rattle.mmemory.proofs.Logs.{after_error}
+use Rattle.mmemory.proofs.Views.{destroyed, fails}
+use Rattle.mmemory.proofs.alter.MemoryAlter.destroy.Goals as goal
+
+pub returns-in_err-replace-clause-err : goal.returns-in_err-replace-clause-err
+returns-in_err-replace-clause-err c =
+    let new : Memory = record { held = c.replace.new.self; cursors = c.clear.new.self } in
+    fails c.args.self.now new c.from_residual.result (after_error _ c.in_err-replace.ensures.err)
+
+pub returns-clause-ok : goal.returns-clause-ok
+returns-clause-ok c _ =
+    let new : Memory = record { held = c.replace.new.self; cursors = c.clear.new.self } in
+    let none = c.absent-absent.ensures in
+    destroyed c.args.self.now new c.args.tree (plain c.absent-absent.result) (omega arith) c.in_ok-replace.ensures.ok (ap heading none) (ap plain_rows none)

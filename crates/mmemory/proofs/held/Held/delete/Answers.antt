@@ -1,0 +1,44 @@
+-- SPDX-License-Identifier: Apache-2.0
+use Rattle.std.proofs.Common.{OnOk, not, subst, to_z-of_z}
+use Rattle.sqlite_value.specs.declared.value.Value.TheVariants.{Int}
+use Rattle.sqlite_trees.specs.Tree.{has_rowid}
+use Rattle.sqlite_trees.proofs.TreeLemmas.{IsShaped-filter}
+use Rattle.mmemory.specs.Plain.{tree_rows}
+use Rattle.mmemory.specs.States.{rows_of}
+use Rattle.mmemory.specs.Held.{now, Writes, shape_at}
+use Rattle.mmemory.proofs.Words.{falls_below_rowid}
+use Rattle.mmemory.proofs.Logs.{shaped_now}
+use Rattle.mmemory.proofs.Wrote.{wrote_none, shaped_rows, row_cut, row_not}
+use Rattle.mmemory.proofs.held.Held.delete.Goals as goal
+
+pub seek-hit-requires : goal.seek-hit-requires
+seek-hit-requires c =
+    let fits = c.ranges.id in
+    let was = rw c.requires.table at (shaped_rows c.args.self.now c.args.tree c.index.result.now c.requires.tree c.index.ensures) in
+    simp to_z-of_z (falls_below_rowid (Int c.args.id) (tree_rows c.index.result.now) was.0)
+
+pub returns-then-not-hit-clause-ok : goal.returns-then-not-hit-clause-ok
+returns-then-not-hit-clause-ok c =
+    let fits = c.ranges.id in
+    let h = c.args.self.now in
+    let was = rw c.requires.table at (shaped_rows h c.args.tree c.index.result.now c.requires.tree c.index.ensures) in
+    let it = rw c.if-not-hit.true at (simp to_z-of_z at c.seek-hit.ensures) in
+    wrote_none h c.args.tree _ (row_not h c.args.tree c.index.result.now c.requires.tree c.index.ensures c.seek-hit.result.0 c.args.id was.0 it)
+
+pub take_at-requires-clause-shaped : goal.take_at-requires-clause-shaped
+take_at-requires-clause-shaped c =
+    let fits = c.ranges.id in
+    let h = c.args.self.now in
+    let was = rw c.requires.table at (shaped_rows h c.args.tree c.index.result.now c.requires.tree c.index.ensures) in
+    let it = rw c.if-not-hit.false at (simp to_z-of_z at c.seek-hit.ensures) in
+    let made = row_cut h c.args.tree c.index.result.now c.requires.tree c.index.ensures c.seek-hit.result.0 c.args.id was.0 it in
+    rw made (IsShaped-filter (shape_at h c.args.tree) (λ r. not (has_rowid c.args.id r)) (rows_of (now h) c.args.tree) (shaped_now h c.args.tree))
+
+pub returns-clause-ok : goal.returns-clause-ok
+returns-clause-ok c =
+    let fits = c.ranges.id in
+    let h = c.args.self.now in
+    let was = rw c.requires.table at (shaped_rows h c.args.tree c.index.result.now c.requires.tree c.index.ensures) in
+    let it = rw c.if-not-hit.false at (simp to_z-of_z at c.seek-hit.ensures) in
+    let made = row_cut h c.args.tree c.index.result.now c.requires.tree c.index.ensures c.seek-hit.result.0 c.args.id was.0 it in
+    subst (λ rows. OnOk c.take_at.result (Writes h c.take_at.new.self c.args.tree rows)) made c.take_at.ensures.ok

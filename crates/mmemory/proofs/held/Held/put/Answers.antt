@@ -1,0 +1,46 @@
+-- SPDX-License-Identifier: Apache-2.0
+use Rattle.std.proofs.Common.{OnOk, subst}
+use Rattle.sqlite_value.specs.Value.{owned}
+use Rattle.sqlite_trees.proofs.TreeLemmas.{IsShaped-put_row}
+use Rattle.mmemory.specs.Plain.{tree_rows}
+use Rattle.mmemory.specs.States.{rows_of}
+use Rattle.mmemory.specs.Held.{now, Writes}
+use Rattle.mmemory.proofs.Words.{falls_below_rowid}
+use Rattle.mmemory.proofs.Logs.{shaped_now}
+use Rattle.mmemory.proofs.Wrote.{shaped_rows, put_over, put_new}
+use Rattle.mmemory.proofs.held.Held.put.Goals as goal
+
+pub seek-hit-requires : goal.seek-hit-requires
+seek-hit-requires c =
+    let was = rw c.requires.table at (shaped_rows c.args.self.now c.args.tree c.index.result.now c.requires.tree c.index.ensures) in
+    falls_below_rowid (owned c.get.result) (tree_rows c.index.result.now) was.0
+
+pub set_at-requires-clause-shaped : goal.set_at-requires-clause-shaped
+set_at-requires-clause-shaped c =
+    let h = c.args.self.now in
+    let it = rw c.if-hit.true at c.seek-hit.ensures in
+    let made = put_over h c.args.tree c.index.result.now c.requires.tree c.index.ensures c.seek-hit.result.0 c.get.result c.in_ok-new.new c.args.row.now c.in_ok-new.ensures c.get.ensures it in
+    let was = rw c.requires.table at (shaped_now h c.args.tree) in
+    rw (c.requires.table, made) (IsShaped-put_row c.args.row.now (rows_of (now h) c.args.tree) c.requires.keyed was)
+
+pub returns-then-hit-clause-ok : goal.returns-then-hit-clause-ok
+returns-then-hit-clause-ok c =
+    let h = c.args.self.now in
+    let it = rw c.if-hit.true at c.seek-hit.ensures in
+    let made = put_over h c.args.tree c.index.result.now c.requires.tree c.index.ensures c.seek-hit.result.0 c.get.result c.in_ok-new.new c.args.row.now c.in_ok-new.ensures c.get.ensures it in
+    subst (λ rows. OnOk c.set_at.result (Writes h c.set_at.new.self c.args.tree rows)) made c.set_at.ensures.ok
+
+pub add-requires-clause-shaped : goal.add-requires-clause-shaped
+add-requires-clause-shaped c =
+    let h = c.args.self.now in
+    let it = rw c.if-hit.false at c.seek-hit.ensures in
+    let made = put_new h c.args.tree c.index.result.now c.requires.tree c.index.ensures c.seek-hit.result.0 c.get.result c.in_ok-new.new c.args.row.now c.in_ok-new.ensures c.get.ensures it in
+    let was = rw c.requires.table at (shaped_now h c.args.tree) in
+    rw (c.requires.table, made) (IsShaped-put_row c.args.row.now (rows_of (now h) c.args.tree) c.requires.keyed was)
+
+pub returns-clause-ok : goal.returns-clause-ok
+returns-clause-ok c =
+    let h = c.args.self.now in
+    let it = rw c.if-hit.false at c.seek-hit.ensures in
+    let made = put_new h c.args.tree c.index.result.now c.requires.tree c.index.ensures c.seek-hit.result.0 c.get.result c.in_ok-new.new c.args.row.now c.in_ok-new.ensures c.get.ensures it in
+    subst (λ rows. OnOk c.add.result (Writes h c.add.new.self c.args.tree rows)) made c.add.ensures.ok

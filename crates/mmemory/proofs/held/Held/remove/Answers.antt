@@ -1,0 +1,39 @@
+-- SPDX-License-Identifier: Apache-2.0
+use Rattle.std.proofs.Common.{OnOk, not, is_eq, subst}
+use Rattle.sqlite_value.specs.Keys.{entry_cmp}
+use Rattle.sqlite_trees.proofs.TreeLemmas.{IsShaped-filter}
+use Rattle.mmemory.specs.Plain.{tree_rows}
+use Rattle.mmemory.specs.States.{rows_of}
+use Rattle.mmemory.specs.Held.{now, Writes, shape_at}
+use Rattle.mmemory.proofs.Words.{falls_below_entry}
+use Rattle.mmemory.proofs.Logs.{shaped_now}
+use Rattle.mmemory.proofs.Wrote.{wrote_none, shaped_rows, entry_cut, entry_not}
+use Rattle.mmemory.proofs.held.Held.remove.Goals as goal
+
+pub seek-hit-requires : goal.seek-hit-requires
+seek-hit-requires c =
+    let was = rw c.requires.index at (shaped_rows c.args.self.now c.args.tree c.index.result.now c.requires.tree c.index.ensures) in
+    falls_below_entry c.args.order c.args.entry.now (tree_rows c.index.result.now) was
+
+pub returns-then-not-hit-clause-ok : goal.returns-then-not-hit-clause-ok
+returns-then-not-hit-clause-ok c =
+    let h = c.args.self.now in
+    let was = rw c.requires.index at (shaped_rows h c.args.tree c.index.result.now c.requires.tree c.index.ensures) in
+    let it = rw c.if-not-hit.true at c.seek-hit.ensures in
+    wrote_none h c.args.tree _ (entry_not h c.args.tree c.index.result.now c.requires.tree c.index.ensures c.seek-hit.result.0 c.args.order c.args.entry was it)
+
+pub take_at-requires-clause-shaped : goal.take_at-requires-clause-shaped
+take_at-requires-clause-shaped c =
+    let h = c.args.self.now in
+    let was = rw c.requires.index at (shaped_rows h c.args.tree c.index.result.now c.requires.tree c.index.ensures) in
+    let it = rw c.if-not-hit.false at c.seek-hit.ensures in
+    let made = entry_cut h c.args.tree c.index.result.now c.requires.tree c.index.ensures c.seek-hit.result.0 c.args.order c.args.entry was it in
+    rw made (IsShaped-filter (shape_at h c.args.tree) (λ e. not (is_eq (entry_cmp c.args.order e c.args.entry.now))) (rows_of (now h) c.args.tree) (shaped_now h c.args.tree))
+
+pub returns-clause-ok : goal.returns-clause-ok
+returns-clause-ok c =
+    let h = c.args.self.now in
+    let was = rw c.requires.index at (shaped_rows h c.args.tree c.index.result.now c.requires.tree c.index.ensures) in
+    let it = rw c.if-not-hit.false at c.seek-hit.ensures in
+    let made = entry_cut h c.args.tree c.index.result.now c.requires.tree c.index.ensures c.seek-hit.result.0 c.args.order c.args.entry was it in
+    subst (λ rows. OnOk c.take_at.result (Writes h c.take_at.new.self c.args.tree rows)) made c.take_at.ensures.ok

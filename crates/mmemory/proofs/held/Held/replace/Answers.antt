@@ -1,0 +1,51 @@
+-- SPDX-License-Identifier: Apache-2.0
+use Rattle.std.proofs.Common.{◌≡◌, ◌<◌, ◌++◌, ◌∷◌, [], length, set, get_or, refl, sym, ap, subst, ◌∙◌, arith}
+use Rattle.mmemory.specs.declared.tree.Tree.{Tree}
+use Rattle.mmemory.specs.declared.undo.Undo.TheVariants.{Put}
+use Rattle.mmemory.specs.States.{state_of}
+use Rattle.mmemory.proofs.Logs.{order_same, within_same, within_more, when_ok, after_error}
+use Rattle.mmemory.proofs.Others.{order_by, put_undone, put_order, empty_fits, puts_in, padded_shown, shown_kept}
+use Rattle.mmemory.proofs.held.Held.replace.Goals as goal
+
+pub invariant_of-self : goal.invariant_of-self
+invariant_of-self c =
+    let h = c.make_room.new.self in
+    record { ordered = order_same h c.reserve.new.self.items c.reserve.ensures.items; within = within_same h c.reserve.new.self.items c.reserve.ensures.items; rising = h.rising }
+
+pub returns-in_err-reserve-clause-err : goal.returns-in_err-reserve-clause-err
+returns-in_err-reserve-clause-err c =
+    let h = c.make_room.new.self in
+    after_error _ (shown_kept c.args.self.now h _ (padded_shown c.args.self.now h c.args.tree c.in_ok-make_room.ensures.ok) refl c.reserve.ensures.items refl)
+
+pub invariant_of-self-2 : goal.invariant_of-self-2
+invariant_of-self-2 c =
+    let h = c.make_room.new.self in
+    let t = c.args.tree in
+    let trees = h.trees.items in
+    let y = c.replace-old.result in
+    let x = c.replace-old.new.dest in
+    let u = Put t y in
+    let low : t < length trees = c.in_ok-make_room.ensures.room in
+    let is : y ≡ get_or trees t y = subst (λ (w : Tree). w ≡ get_or trees t w) (sym c.replace-old.ensures.value) c.index_mut.ensures.value in
+    let logged : c.push.new.self.items ≡ h.log.items ++ u ∷ [] =
+    c.push.ensures.items ∙ when_ok c.push.result _ _ (c.push.ensures.succeeds (omega (arith, c.in_ok-reserve.ensures.ok))) ∙ ap (λ l. l ++ u ∷ []) c.reserve.ensures.items in
+    let none : x.chunks.items ≡ [] = ap (λ (w : Tree). w.chunks.items) c.replace-old.ensures.after ∙ c.requires in
+    record {
+      ordered = order_by h c.push.new.self.items u (state_of (set trees t x) h.version) logged (put_undone trees h.version t y x low is) (put_order trees h.version t y x low (empty_fits x none));
+      within = within_more h.marks.items h.log.items c.push.new.self.items u logged h.within;
+      rising = h.rising;
+    }
+
+pub returns-clause-ok : goal.returns-clause-ok
+returns-clause-ok c =
+    let old = c.args.self.now in
+    let h = c.make_room.new.self in
+    let t = c.args.tree in
+    let trees = h.trees.items in
+    let y = c.replace-old.result in
+    let x = c.replace-old.new.dest in
+    let u = Put t y in
+    let room = c.in_ok-make_room.ensures in
+    let is : y ≡ get_or trees t y = subst (λ (w : Tree). w ≡ get_or trees t w) (sym c.replace-old.ensures.value) c.index_mut.ensures.value in
+    let logged : c.push.new.self.items ≡ h.log.items ++ u ∷ [] = (rw c.unwrap.ensures at c.push.ensures.items) ∙ ap (λ l. l ++ u ∷ []) c.reserve.ensures.items in
+    puts_in old h _ t y x c.args.new c.replace-old.ensures.after room.ok room.room is refl refl logged refl

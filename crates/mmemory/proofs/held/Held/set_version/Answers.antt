@@ -1,0 +1,34 @@
+-- SPDX-License-Identifier: Apache-2.0
+use Rattle.std.proofs.Common.{◌≡◌, ◌++◌, ◌∷◌, [], refl, ap, ◌∙◌, arith}
+use Rattle.mmemory.specs.declared.undo.Undo.TheVariants.{Version}
+use Rattle.mmemory.specs.States.{state_of, undone_one}
+use Rattle.mmemory.specs.Held.{now}
+use Rattle.mmemory.proofs.Logs.{order_same, within_same, within_more, when_ok}
+use Rattle.mmemory.proofs.Others.{order_by, kept_by}
+use Rattle.mmemory.proofs.held.Held.set_version.Goals as goal
+
+pub invariant_of-self : goal.invariant_of-self
+invariant_of-self c =
+    let h = c.args.self.now in
+    record { ordered = order_same h c.reserve.new.self.items c.reserve.ensures.items; within = within_same h c.reserve.new.self.items c.reserve.ensures.items; rising = h.rising }
+
+pub invariant_of-self-2 : goal.invariant_of-self-2
+invariant_of-self-2 c =
+    let h = c.args.self.now in
+    let u = Version c.replace-old.result in
+    let logged : c.push.new.self.items ≡ h.log.items ++ u ∷ [] =
+    c.push.ensures.items ∙ when_ok c.push.result _ _ (c.push.ensures.succeeds (omega (arith, c.in_ok-reserve.ensures.ok))) ∙ ap (λ l. l ++ u ∷ []) c.reserve.ensures.items in
+    let back : undone_one u (state_of h.trees.items c.replace-old.new.dest) ≡ now h = λ i. state_of h.trees.items (c.replace-old.ensures.value i) in
+    record {
+      ordered = order_by h c.push.new.self.items u (state_of h.trees.items c.replace-old.new.dest) logged back (λ all. all);
+      within = within_more h.marks.items h.log.items c.push.new.self.items u logged h.within;
+      rising = h.rising;
+    }
+
+pub returns-clause-past : goal.returns-clause-past
+returns-clause-past c =
+    let h = c.args.self.now in
+    let u = Version c.replace-old.result in
+    let logged : c.push.new.self.items ≡ h.log.items ++ u ∷ [] = (rw c.unwrap.ensures at c.push.ensures.items) ∙ ap (λ l. l ++ u ∷ []) c.reserve.ensures.items in
+    let back : undone_one u (state_of h.trees.items c.replace-old.new.dest) ≡ now h = λ i. state_of h.trees.items (c.replace-old.ensures.value i) in
+    kept_by h _ u logged back refl

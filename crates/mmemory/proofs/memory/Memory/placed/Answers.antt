@@ -1,0 +1,45 @@
+-- SPDX-License-Identifier: Apache-2.0
+use Rattle.std.proofs.Common.{◌≡◌, [], sym, ap, subst, ◌∙◌}
+use Rattle.sqlite_trees.specs.Tree.{order_of}
+use Rattle.sqlite_trees.specs.Listing.{Heading, no_heading, shape_in}
+use Rattle.sqlite_trees.specs.View.{IsShaped}
+use Rattle.sqlite_trees.proofs.TreeLemmas.{sorted_shape}
+use Rattle.mmemory.specs.Plain.{tree_nest, tree_rows}
+use Rattle.mmemory.specs.States.{headings}
+use Rattle.mmemory.specs.Held.{nest_at}
+use Rattle.mmemory.specs.Memory.{current}
+use Rattle.mmemory.proofs.Words.{falls_below_key, falls_up_to_key, sought_forward, sought_backward}
+use Rattle.mmemory.proofs.Seen.{nest_seen, kind_seen, rows_shaped}
+use Rattle.mmemory.proofs.memory.Memory.placed.Goals as goal
+
+pub find-place-requires : goal.find-place-requires
+find-place-requires c =
+    let it = c.in-Some.found.now in
+    let found = rw c.deref.ensures.value at c.in-Some.ensures.lookup in
+    rw c.order-order.ensures (falls_below_key (order_of it.shape) c.args.key.now (tree_rows it) (sorted_shape _ _ (rows_shaped c.args.self.now.held c.args.tree it found.3.0 found.1)))
+
+pub find-place-requires-in-Backward : goal.find-place-requires-in-Backward
+find-place-requires-in-Backward c =
+    let it = c.in-Some.found.now in
+    let found = rw c.deref.ensures.value at c.in-Some.ensures.lookup in
+    rw c.order-order.ensures (falls_up_to_key (order_of it.shape) c.args.key.now (tree_rows it) (sorted_shape _ _ (rows_shaped c.args.self.now.held c.args.tree it found.3.0 found.1)))
+
+pub returns-in-Forward : goal.returns-in-Forward
+returns-in-Forward c =
+    let h = c.args.self.now.held in
+    let it = c.in-Some.found.now in
+    let found = rw c.deref.ensures.value at c.in-Some.ensures.lookup in
+    let nests : nest_at h c.args.tree ≡ tree_nest it = nest_seen h c.args.tree it found.3.0 found.1 in
+    let kind : shape_in (headings (current c.args.self.now)) c.args.tree ≡ it.shape = kind_seen h c.args.tree it found.3.0 found.1 in
+    let splits = rw c.order-order.ensures at c.find-place.ensures.splits in
+    rw (c.in-Forward.is, nests, kind) (sought_forward (order_of it.shape) c.args.key.now (tree_nest it) c.find-place.result splits)
+
+pub returns-in-Backward : goal.returns-in-Backward
+returns-in-Backward c =
+    let h = c.args.self.now.held in
+    let it = c.in-Some.found.now in
+    let found = rw c.deref.ensures.value at c.in-Some.ensures.lookup in
+    let nests : nest_at h c.args.tree ≡ tree_nest it = nest_seen h c.args.tree it found.3.0 found.1 in
+    let kind : shape_in (headings (current c.args.self.now)) c.args.tree ≡ it.shape = kind_seen h c.args.tree it found.3.0 found.1 in
+    let splits = rw c.order-order.ensures at c.find-place-in-Backward.ensures.splits in
+    rw (c.in-Backward.is, nests, kind) (sought_backward (order_of it.shape) c.args.key.now (tree_nest it) c.find-place-in-Backward.result splits)

@@ -1,0 +1,16 @@
+-- SPDX-License-Identifier: Apache-2.0
+use Rattle.std.proofs.Common.{◌≡◌, ℕ, ◌+◌, ◌-◌, ◌≤◌, true, false, [], length, get_or, slice_get, Some}
+use Rattle.mmemory.specs.Plain.{chunk_rows}
+use Rattle.mmemory.specs.Probe.{passes}
+use Rattle.mmemory.proofs.probe.chunk_edge.Given as goal
+
+abbrev pub invariant-loop-low : goal.invariant-loop-low
+invariant-loop-low l = record {
+  low : l.low ≤ l.high;
+  high : l.high ≤ length l.chunks;
+  last : (k : ℕ) (part : _) → k + 1 ≡ l.low → slice_get l.chunks k ≡ Some part → passes l.probe (get_or (chunk_rows part) 0 []) ≡ true;
+  first : (part : _) → slice_get l.chunks l.high ≡ Some part → passes l.probe (get_or (chunk_rows part) 0 []) ≡ false;
+}
+
+abbrev pub decreases-loop-low : goal.decreases-loop-low
+decreases-loop-low l = l.high - l.low

@@ -1,0 +1,19 @@
+-- SPDX-License-Identifier: Apache-2.0
+use Rattle.std.proofs.Common.{◌≡◌, true, false, refl, sym, ◌∙◌, inl, subst, arith}
+use Rattle.mmemory.specs.Nest.{before, after}
+use Rattle.mmemory.specs.Plain.{tree_nest}
+use Rattle.mmemory.specs.Probe.{passes, Splits}
+use Rattle.mmemory.proofs.Steps.{within_chunks}
+use Rattle.mmemory.proofs.tree.Tree.seek.Goals as goal
+
+pub returns-in-Some : goal.returns-in-Some
+returns-in-Some c =
+    let n = tree_nest c.args.self.now in
+    let next = c.in-Some.ensures.some in
+    record {
+      splits = rw (next.same, next.from_it) c.find-place.ensures.splits;
+      skips = (c.in-Some.row.now, next.from_it ∙ next.is, sym c.meets.ensures ∙ c.if-meets.true);
+      chunk = inl (within_chunks n c.in-Some.at.chunk (omega (arith, next.within)));
+      row = omega (arith, next.within);
+      there = λ _. next.within;
+    }

@@ -1,0 +1,38 @@
+-- SPDX-License-Identifier: Apache-2.0
+use Rattle.std.proofs.Common.{◌≡◌, ◌<◌, ◌≤◌, ◌+◌, ◌++◌, [], length, get_or, set, sym, ap, subst, ◌∙◌, arith}
+use Rattle.std.specs.List.{remove as removed}
+use Rattle.std.proofs.lemmas.List.{length-map}
+use Rattle.mmemory.specs.declared.step.Step.TheVariants.{PutRow, PutChunk}
+use Rattle.mmemory.specs.Nest.{before, after_row, rows_at}
+use Rattle.mmemory.specs.Plain.{plain, chunk_rows, nest, tree_nest, with_chunks}
+use Rattle.mmemory.specs.Changes.{Makes}
+use Rattle.mmemory.proofs.Shown.{shown_at}
+use Rattle.mmemory.proofs.Made.{changed, made_cut, made_none, nest_removed, short_at}
+use Rattle.mmemory.proofs.tree.Tree.take_at.Goals as goal
+
+pub returns-then-len-eq1 : goal.returns-then-len-eq1
+returns-then-len-eq1 c =
+    let t = c.args.self.now in
+    let p = c.args.place in
+    let n = tree_nest t in
+    let low : p.chunk < length t.chunks.items = omega (arith, c.requires.chunk, length-map t.chunks.items chunk_rows) in
+    let here : rows_at n p ≡ chunk_rows c.index.result.now = shown_at chunk_rows t.chunks.items p.chunk [] c.index.result.now low c.index.ensures in
+    let one : length (rows_at n p) ≡ 1 = ap length here ∙ sym c.index.result.now.rows.ok.0 ∙ sym c.len.ensures ∙ c.if-len-eq1.true in
+    let first : p.row ≡ 0 = omega (arith, c.requires.row) in
+    let it : chunk_rows c.remove-old.result ≡ rows_at n p = sym (shown_at chunk_rows t.chunks.items p.chunk [] c.remove-old.result low c.remove-old.ensures.value) in
+    let is : nest c.remove-old.new.self.items ≡ removed n p.chunk = ap nest c.remove-old.ensures.items ∙ nest_removed t.chunks.items p.chunk in
+    subst (λ chunks. Makes (plain t) (record { shape = t.shape; reals = t.reals; described = t.described; chunks = chunks; spare = t.spare + 1 }) (PutChunk p.chunk c.remove-old.result) (before n p ++ after_row n p (p.row + 1))) (sym is)
+    (made_none (plain t) p.chunk p.row c.remove-old.result c.requires.chunk first one it)
+
+pub returns : goal.returns
+returns c =
+    let t = c.args.self.now in
+    let p = c.args.place in
+    let n = tree_nest t in
+    let rows = before n p ++ after_row n p (p.row + 1) in
+    let low : p.chunk < length t.chunks.items = omega (arith, c.requires.chunk, length-map t.chunks.items chunk_rows) in
+    let is = changed (λ r. removed r p.row) t.chunks.items p.chunk c.index_mut.result.now c.take-old.new.self low c.index_mut.ensures.value c.take-old.ensures.rows in
+    let old : get_or (rows_at n p) p.row [] ≡ c.take-old.result = ap (λ r. get_or r p.row []) (shown_at chunk_rows t.chunks.items p.chunk [] c.index_mut.result.now low c.index_mut.ensures.value) ∙ sym c.take-old.ensures.row in
+    subst (λ row. Makes (plain t) (with_chunks (plain t) (nest (set t.chunks.items p.chunk c.take-old.new.self))) (PutRow p.chunk p.row row) rows) old
+    (subst (λ chunks. Makes (plain t) (with_chunks (plain t) chunks) (PutRow p.chunk p.row (get_or (rows_at n p) p.row [])) rows) (sym is)
+    (made_cut (plain t) p.chunk p.row c.requires.chunk c.requires.row (short_at t.chunks.items p.chunk)))

@@ -1,0 +1,10 @@
+-- SPDX-License-Identifier: Apache-2.0
+pub mod Lists
+pub mod Nest
+pub mod Probe
+pub mod Sought
+pub mod Plain
+pub mod Changes
+pub mod States
+pub mod Held
+pub mod Memory

@@ -1,0 +1,84 @@
+// SPDX-License-Identifier: Apache-2.0
+// Changes of one tree. Each gives what takes it back.
+ghost use Rattle.std.specs.Prelude.{◌≡◌, ◌+◌, ◌<◌, ◌≤◌, ◌++◌, [], ◌∷◌, length, get_or, IfOk, OnErr};
+ghost use Rattle.mmemory.specs.Nest.{rows_at, before, after, after_row};
+ghost use Rattle.mmemory.specs.Lists.{joined};
+ghost use Rattle.mmemory.specs.Plain.{plain, tree_nest, heading, tree_rows};
+ghost use Rattle.mmemory.specs.Changes.{Makes, HalvedAt};
+ghost use Rattle.std.specs.Prelude.{take, drop};
+
+use crate::chunk::Chunk;
+use crate::place::Place;
+use crate::step::Step;
+use crate::tree::Tree;
+use sqlite_value::row::Row;
+use std::alloc::{AllocError, Global};
+
+impl Tree {
+    // Puts a row in at a place of a chunk that is not full.
+    pub(crate) fn put_at(&mut self, place: Place, row: Row) -> Step
+        requires chunk { place.chunk < length (tree_nest self.old) }
+        requires row { place.row ≤ length (rows_at (tree_nest self.old) place) }
+        requires room { length (rows_at (tree_nest self.old) place) < 64 }
+        ensures { let n = tree_nest self.old in Makes (plain self.old) (plain self.new) result (before n place ++ row ∷ after n place) }
+    {
+        self.chunks[place.chunk].put(place.row, row);
+        Step::DropRow(place.chunk, place.row)
+    }
+
+    // Puts a row in place of another.
+    pub(crate) fn set_at(&mut self, place: Place, row: Row) -> Step
+        requires chunk { place.chunk < length (tree_nest self.old) }
+        requires row { place.row < length (rows_at (tree_nest self.old) place) }
+        ensures { let n = tree_nest self.old in Makes (plain self.old) (plain self.new) result (before n place ++ row ∷ after_row n place (place.row + 1)) }
+    {
+        let old = self.chunks[place.chunk].set(place.row, row);
+        Step::SetRow(place.chunk, place.row, old)
+    }
+
+    // Takes a row out.
+    pub(crate) fn take_at(&mut self, place: Place) -> Step
+        requires chunk { place.chunk < length (tree_nest self.old) }
+        requires row { place.row < length (rows_at (tree_nest self.old) place) }
+        ensures { let n = tree_nest self.old in Makes (plain self.old) (plain self.new) result (before n place ++ after_row n place (place.row + 1)) }
+    {
+        if self.chunks[place.chunk].rows.len() == 1 {
+            let old = self.chunks.remove(place.chunk);
+            self.spare += 1;
+            return Step::PutChunk(place.chunk, old);
+        }
+        let old = self.chunks[place.chunk].take(place.row);
+        Step::PutRow(place.chunk, place.row, old)
+    }
+
+    // Puts a row in as a chunk of its own.
+    pub(crate) fn add_chunk(
+        &mut self,
+        alloc: Global,
+        at: usize,
+        row: Row,
+    ) -> Result<Step, AllocError>
+        requires { at ≤ length (tree_nest self.old) }
+        ensures ok { let n = tree_nest self.old in IfOk result (λ step. Makes (plain self.old) (plain self.new) step (joined (take at n) ++ row ∷ joined (drop at n))) }
+        ensures err { OnErr result (plain self.new ≡ plain self.old) }
+    {
+        let chunk = Chunk::of_row(alloc, row)?;
+        self.chunks.reserve(self.spare + 1)?;
+        self.chunks.insert(at, chunk).unwrap();
+        Ok(Step::DropChunk(at))
+    }
+
+    // Makes two chunks of one.
+    pub(crate) fn split(&mut self, alloc: Global, at: usize) -> Result<Step, AllocError>
+        requires chunk { at < length (tree_nest self.old) }
+        requires rows { 1 < length (get_or (tree_nest self.old) at []) }
+        ensures ok { IfOk result (λ step. Makes (plain self.old) (plain self.new) step (tree_rows self.old)) }
+        ensures halves { IfOk result (λ _. HalvedAt (tree_nest self.old) (tree_nest self.new) at) }
+        ensures err { OnErr result (plain self.new ≡ plain self.old) }
+    {
+        self.chunks.reserve(self.spare + 1)?;
+        let tail = self.chunks[at].split(alloc)?;
+        self.chunks.insert(at + 1, tail).unwrap();
+        Ok(Step::Join(at))
+    }
+}

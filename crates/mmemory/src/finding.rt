@@ -1,0 +1,112 @@
+// SPDX-License-Identifier: Apache-2.0
+// Where the rows of a tree stand.
+ghost use Rattle.std.specs.Prelude.{◌≡◌, ◌⊎◌, ◌+◌, ◌^◌, ◌<◌, ◌≤◌, [], ◌∷◌, ◌++◌, length, take, drop, IfSome, IfNone, OnSome, MatchOption, List, slice_get, get_or, Some, None};
+ghost use Rattle.sqlite_value.specs.Order.{Row as Entry};
+ghost use Rattle.mmemory.specs.Lists.{joined};
+ghost use Rattle.mmemory.specs.Nest.{before, after, after_row, rows_at, ComesNext};
+ghost use Rattle.mmemory.specs.Plain.{tree_nest, tree_rows};
+ghost use Rattle.mmemory.specs.Probe.{passes, meets, Falls, Splits, Skips};
+ghost use Rattle.mmemory.specs.Sought.{IsSought};
+
+use crate::place::Place;
+use crate::probe::{Probe, chunk_edge, row_edge};
+use crate::tree::Tree;
+use sqlite_value::row::Row;
+
+impl Tree {
+    // Where the rows cease to pass.
+    pub(crate) fn find(&self, probe: Probe<'_>) -> Place
+        requires { Falls (passes probe) (tree_rows self.now) }
+        ensures splits { Splits (passes probe.entry) (before (tree_nest self.now) result) (after (tree_nest self.now) result) }
+        ensures row { result.row ≤ length (rows_at (tree_nest self.now) result) }
+        ensures chunk { result.chunk < length (tree_nest self.now) ⊎ (tree_nest self.now ≡ []) }
+    {
+        let past = chunk_edge(self.chunks.as_slice(), probe);
+        let chunk = past.max(1) - 1;
+        let Some(found) = self.chunks.get(chunk) else {
+            return Place { chunk, row: 0 };
+        };
+        let row = row_edge(found.rows.as_slice(), probe);
+        Place { chunk, row }
+    }
+
+    // The rows of the chunk of a place.
+    pub(crate) fn rows_at(&self, place: Place) -> &[Row]
+        ensures rows { result.now ≡ rows_at (tree_nest self.now) place }
+        ensures small { length result.now ≤ 64 }
+    {
+        match self.chunks.get(place.chunk) {
+            Some(chunk) => chunk.rows.as_slice(),
+            None => &[],
+        }
+    }
+
+    // The first row from a place on, and its place.
+    pub(crate) fn next_row(&self, place: Place) -> Option<(Place, &Row)>
+        ensures none { IfNone result (after (tree_nest self.now) place ≡ []) }
+        ensures some { let n = tree_nest self.now in IfSome result (λ found. ComesNext n found.0 (before n place) (after n place) found.1.now) }
+    {
+        if let Some(row) = self.rows_at(place).get(place.row) {
+            return Some((place, row));
+        }
+        if place.chunk >= self.chunks.len() {
+            return None;
+        }
+        let next = Place {
+            chunk: place.chunk + 1,
+            row: 0,
+        };
+        match self.rows_at(next).get(0) {
+            Some(row) => Some((next, row)),
+            None => None,
+        }
+    }
+
+    // The last row of its chunk before a place.
+    fn row_before(&self, place: Place) -> Option<(Place, &Row)>
+        ensures none { IfNone result (take place.row (rows_at (tree_nest self.now) place) ≡ []) }
+        ensures some { IfSome result (λ found. before (tree_nest self.now) place ≡ before (tree_nest self.now) found.0 ++ found.1.now ∷ []) }
+    {
+        let rows = self.rows_at(place);
+        let at = place.row.min(rows.len());
+        if at == 0 {
+            return None;
+        }
+        let last = Place {
+            chunk: place.chunk,
+            row: at - 1,
+        };
+        Some((last, &rows[at - 1]))
+    }
+
+    // The last row before a place, and its place.
+    pub(crate) fn last_row(&self, place: Place) -> Option<(Place, &Row)>
+        ensures none { IfNone result (before (tree_nest self.now) place ≡ []) }
+        ensures some { IfSome result (λ found. before (tree_nest self.now) place ≡ before (tree_nest self.now) found.0 ++ found.1.now ∷ []) }
+    {
+        if let Some(found) = self.row_before(place) {
+            return Some(found);
+        }
+        let at = place.chunk.min(self.chunks.len());
+        if at == 0 {
+            return None;
+        }
+        let end = Place {
+            chunk: at - 1,
+            row: self.chunks[at - 1].rows.len(),
+        };
+        self.row_before(end)
+    }
+
+    // Where what is sought stands or would stand, and whether it stands there.
+    pub(crate) fn seek(&self, probe: Probe<'_>) -> (Place, bool)
+        requires { Falls (passes probe) (tree_rows self.now) }
+        ensures { IsSought self.now probe.entry result.0 result.1 }
+    {
+        let place = self.find(probe);
+        match self.next_row(place) {
+            Some((at, row)) if probe.meets(row) => (at, true),
+            _ => (place, false),
+        }
+    }
+}

@@ -1,0 +1,80 @@
+// SPDX-License-Identifier: Apache-2.0
+// A search by halves.
+ghost use Rattle.std.specs.Prelude.{◌≡◌, ◌≤◌, ◌<◌, ◌^◌, [], length, get_or};
+ghost use Rattle.mmemory.specs.Plain.{chunk_rows};
+ghost use Rattle.mmemory.specs.Probe.{passes, meets, IsEdge};
+
+use crate::chunk::Chunk;
+use sqlite_value::keys::Order;
+use sqlite_value::order::compare;
+use sqlite_value::row::Row;
+use sqlite_value::value::ValueRef;
+
+/// A test that the rows of a tree pass up to some place, and fail from there on.
+#[derive(Clone, Copy, Debug)]
+pub(crate) enum Probe<'a> {
+    BelowKey(Order, &'a Row),
+    UpToKey(Order, &'a Row),
+    BelowRowid(ValueRef<'a>),
+    BelowEntry(Order, &'a Row),
+}
+
+impl Probe<'_> {
+    fn passes(self, row: &Row) -> bool
+        ensures { result ≡ passes self.entry row.now }
+    {
+        match self {
+            Probe::BelowKey(order, key) => row.cmp_prefix(order, key).is_lt(),
+            Probe::UpToKey(order, key) => !row.cmp_prefix(order, key).is_gt(),
+            Probe::BelowRowid(id) => compare(row.get(0), id).is_lt(),
+            Probe::BelowEntry(order, entry) => row.cmp_entry(order, entry).is_lt(),
+        }
+    }
+
+    // Whether the row is what is sought.
+    pub(crate) fn meets(self, row: &Row) -> bool
+        ensures { result ≡ meets self.entry row.now }
+    {
+        match self {
+            Probe::BelowKey(..) | Probe::UpToKey(..) => false,
+            Probe::BelowRowid(id) => compare(row.get(0), id).is_eq(),
+            Probe::BelowEntry(order, entry) => row.cmp_entry(order, entry).is_eq(),
+        }
+    }
+}
+
+// How many chunks the test passes by their first rows, up to one that fails.
+pub(crate) fn chunk_edge(chunks: &[Chunk], probe: Probe<'_>) -> usize
+    ensures within { result ≤ length chunks.now }
+    ensures edge { IsEdge (λ c. passes probe.entry (get_or (chunk_rows c) 0 [])) chunks.now result }
+{
+    let mut low = 0;
+    let mut high = chunks.len();
+    while low < high {
+        let middle = low + (high - low) / 2;
+        if probe.passes(&chunks[middle].rows[0]) {
+            low = middle + 1;
+        } else {
+            high = middle;
+        }
+    }
+    low
+}
+
+// How many rows the test passes, up to one that fails.
+pub(crate) fn row_edge(rows: &[Row], probe: Probe<'_>) -> usize
+    ensures within { result ≤ length rows.now }
+    ensures edge { IsEdge (passes probe.entry) rows.now result }
+{
+    let mut low = 0;
+    let mut high = rows.len();
+    while low < high {
+        let middle = low + (high - low) / 2;
+        if probe.passes(&rows[middle]) {
+            low = middle + 1;
+        } else {
+            high = middle;
+        }
+    }
+    low
+}

@@ -1,10 +1,6 @@
 -- SPDX-License-Identifier: Apache-2.0
 -- DO, GOTO, XECUTE and the lines of routines on examples, as proved equations: texts with their trees, and texts that have none.
-use Rattle.std.proofs.Common.{◌≡◌, ℕ, List, [], ◌∷◌, Some, None, refl, replicate, rules}
-use Rattle.std.specs.Prelude.{codes}
-use Rattle.mgrammar.specs.Grammar.{ExprTree, text, reference, at_label, at_label_in, at_routine, ArgTree, shown, do_one, go_to, executed, KeywordTree, do_word, goto_word, execute_word, write_word, SpacedTree, LineTree}
-use Rattle.mgrammar.specs.ReadingWords.{name_at}
-use Rattle.mgrammar.specs.RoutineLine.{RoutineLineTree, short, spaced_out, spell_routine_line, label_at, label_of, dots_of, routine_line_at}
+use Rattle.mgrammar.proofs.GrammarWords.{◌≡◌, ℕ, List, [], ◌∷◌, Some, None, refl, replicate, rules, codes, ExprTree, text, reference, at_label, at_label_in, at_routine, ArgTree, shown, do_one, go_to, executed, KeywordTree, do_word, goto_word, execute_word, write_word, SpacedTree, LineTree, name_at, RoutineLineTree, short, spaced_out, spell_routine_line, label_at, label_of, dots_of, routine_line_at}
 use Rattle.mgrammar.proofs.Computing.{reads}
 use Rattle.mgrammar.proofs.ShortTrees.{IsRead, HaveNone, only, the_one, named, command, conditional, of_commands, of_one}
 

@@ -1,11 +1,6 @@
 -- SPDX-License-Identifier: Apache-2.0
 -- Indirection on examples, as proved equations. What is read of the texts that stand for an `@` stands beside the lines.
-use Rattle.mmeaning.proofs.MeaningWords.{ℕ, ◌++◌, rules, replicate, M6, M9, Zsteps, Zsyntax, Zdepth}
-use Rattle.mspec.specs.Act.{no_locals, assigned_to}
-use Rattle.mgrammar.specs.Grammar.{divide, ExprTree, number, text, reference, local, exprs, no_exprs, set_argument, kill_argument, new_argument, if_argument, write_argument, xecute_argument, breaks, shown, kill_one, new_one, tested, executed, indirect_args}
-use Rattle.mgrammar.specs.IndirectTexts.{ref_at, args_of}
-use Rattle.mgrammar.proofs.Computing.{reads}
-use Rattle.mmeaning.specs.LineMeaning.{line_end}
+use Rattle.mmeaning.proofs.MeaningWords.{ℕ, ◌++◌, rules, replicate, M6, M9, Zsteps, Zsyntax, Zdepth, no_locals, assigned_to, divide, ExprTree, number, text, reference, local, exprs, no_exprs, set_argument, kill_argument, new_argument, if_argument, write_argument, xecute_argument, breaks, shown, kill_one, new_one, tested, executed, indirect_args, ref_at, args_of, reads, line_end}
 use Rattle.mmeaning.proofs.LineTrees.{only, with_operator, named, set_to}
 use Rattle.mmeaning.proofs.Running.{◌≡◌, List, [], ◌∷◌, Some, None, true, false, refl, codes, empty, Text, opening, with_steps, done, failed, AreAnswered, Answered, serving, holding, at_first, at_last, Each, at_case, no_more, runs, running}
 

@@ -1,12 +1,8 @@
 -- SPDX-License-Identifier: Apache-2.0
 -- The interpreter on examples, as proved equations.
-use Rattle.mmeaning.proofs.MeaningWords.{ℕ, ◌*◌, ◌++◌, Option, rules, ◌^◌, map, replicate, line_at, Done, perform, State, Outcome, Gives, Fails, Completion, replies}
-use Rattle.mspec.proofs.ComputedNumbers.{computes}
-use Rattle.mspec.specs.NumberText.{size_text}
-use Rattle.mgrammar.specs.Grammar.{join}
-use Rattle.mspec.specs.Code.{Code, M4, M6, M9, M10, Zlong, Zsyntax, Zover, Zarg, Zchar, Zline, Zterm, Zsteps}
+use Rattle.mmeaning.proofs.MeaningWords.{ℕ, ◌*◌, ◌++◌, Option, rules, ◌^◌, map, replicate, line_at, Done, perform, State, Outcome, Gives, Fails, Completion, replies, computes, size_text, join, Code, M4, M6, M9, M10, Zlong, Zsyntax, Zover, Zarg, Zchar, Zline, Zterm, Zsteps, Event, Reply, begun, text_run}
 use Rattle.mmeaning.specs.Operators.{binary}
-use Rattle.mmeaning.specs.Transition.{Event, Reply, act, begun, text_run}
+use Rattle.mmeaning.specs.Transition.{act}
 use Rattle.mmeaning.proofs.ExampleAccount.{alice}
 use Rattle.mmeaning.proofs.Running.{◌≡◌, List, [], ◌∷◌, Some, None, refl, codes, empty, gets, Text, new_session, opening, account, with_steps, done, failed, AreAnswered, Answered, holding, at_first, at_last, Each, at_case, no_more, runs, running, numbers}
 

@@ -1,10 +1,6 @@
 -- SPDX-License-Identifier: Apache-2.0
 -- Variables on examples, as proved equations.
-use Rattle.mmeaning.proofs.MeaningWords.{◌*◌, ◌^◌, M9, Zsub, Zarg}
-use Rattle.std.specs.Fmt.{digits}
-use Rattle.mspec.proofs.ComputedNumbers.{computes}
-use Rattle.mspec.specs.NumberText.{size_text}
-use Rattle.mgrammar.proofs.Computing.{reads}
+use Rattle.mmeaning.proofs.MeaningWords.{◌*◌, ◌^◌, M9, Zsub, Zarg, digits, computes, size_text, reads}
 use Rattle.mmeaning.proofs.Running.{◌≡◌, [], ◌∷◌, refl, codes, gets, done, failed, Answered, holding, at_first, at_last, Each, at_case, no_more, runs, running, numbers}
 
 values : Each (

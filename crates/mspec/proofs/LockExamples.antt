@@ -1,10 +1,8 @@
 -- SPDX-License-Identifier: Apache-2.0
 -- Which names of locks exclude each other, on examples, as proved equations.
-use Rattle.std.proofs.Common.{◌≡◌, ℕ, Bool, true, false, List, [], ◌∷◌, not, ◌&&◌, ◌||◌, ap, refl, rules}
-use Rattle.std.specs.Prelude.{codes, T}
+use Rattle.mspec.proofs.SpecWords.{◌≡◌, ℕ, Bool, true, false, List, [], ◌∷◌, not, ◌&&◌, ◌||◌, ap, refl, rules, codes, T, Text, LockName, held, is_conflict}
 use Rattle.std.proofs.Math.Facts.{yes_eqb}
-use Rattle.mspec.specs.Node.{Text}
-use Rattle.mspec.specs.LockConflict.{LockName, held, is_within, is_conflict}
+use Rattle.mspec.specs.LockConflict.{is_within}
 
 -- names of an account
 abbrev global : Text → List Text → LockName

@@ -1,10 +1,8 @@
 -- SPDX-License-Identifier: Apache-2.0
 -- The definitions of pieces and of the text functions on examples, as proved equations.
-use Rattle.std.proofs.Common.{◌≡◌, [], ◌∷◌, Some, None, rules}
-use Rattle.std.specs.Prelude.{pos, negsuc, true, false, codes, Ok, Err}
+use Rattle.mspec.proofs.SpecWords.{◌≡◌, [], ◌∷◌, Some, None, rules, pos, negsuc, codes, Ok, Err, pieces_of, piece_of, extract_of, find_of, piece_count, contains, follows, translate_of, justify_of, set_piece_of, first_place, with_piece}
+use Rattle.std.specs.Prelude.{true, false}
 use Rattle.mspec.specs.Code.{Zarg}
-use Rattle.mspec.specs.Pieces.{pieces_of}
-use Rattle.mspec.specs.TextFunctions.{piece_of, extract_of, find_of, piece_count, contains, follows, translate_of, justify_of, set_piece_of, first_place, with_piece}
 
 -- ---- pieces
 

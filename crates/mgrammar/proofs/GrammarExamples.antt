@@ -43,9 +43,26 @@ naked_digit t = naked (exprs_of (one_digit t ∷ []))
 abbrev one_global : List ℕ → ReferenceTree
 one_global t = global (codes "X") (exprs_of (one_digit t ∷ []))
 
--- ---- texts with their trees
+-- ---- how deep brackets may lie
 
-record EachRead : Type 0 where
+-- a number in so many brackets
+abbrev in_brackets : ℕ → List ℕ
+in_brackets n = replicate n 40 ++ (49 ∷ replicate n 41)
+
+abbrev IsSome : {A : Type 0} → Option A → Type 0
+IsSome None = ⊥
+IsSome (Some a) = Unit {0}
+
+-- a number in the subscripts of so many variables, one within another
+abbrev subscripts_opened : ℕ → List ℕ
+subscripts_opened zero = []
+subscripts_opened (suc n) = 65 ∷ 40 ∷ subscripts_opened n
+
+abbrev in_subscripts : ℕ → List ℕ
+in_subscripts n = subscripts_opened n ++ (49 ∷ replicate n 41)
+
+record Read : Type 0 where
+  -- texts with their trees
   -- `W 1+2*3`: operators have no ranks, so it is a run of steps
   sum_and_product : IsRead (codes "W 1+2*3") (written (taken (digits (codes "1")) (apply add (digits (codes "2")) ∷ apply multiply (digits (codes "3")) ∷ [])))
   -- a quote within a string, two spaces between commands, and a comment
@@ -112,13 +129,7 @@ record EachRead : Type 0 where
   several_set : IsRead (codes "S (A,$PIECE(B,1))=3") (
       assigned (several (variable (named (codes "A")) ∷ piece (codes "PIECE") (named (codes "B")) (alone (digits (codes "1"))) None ∷ []))
       (alone (digits (codes "3"))))
-
-each_read : EachRead
-unfolding reads
-each_read = search rules
-
--- variables with subscripts, functions of them, and control of flow
-record EachMoreRead : Type 0 where
+  -- variables with subscripts, functions of them, and control of flow
   subscripts : IsRead (codes "S L(10,A(\"\"))=L(1)") (
       assigned (one (variable (local (codes "L") (exprs_of (one_digit (codes "10")
       ∷ alone (plain (reference (local (codes "A") (exprs_of (alone (plain (text [])) ∷ []))))) ∷ [])))))
@@ -168,13 +179,7 @@ record EachMoreRead : Type 0 where
       )
       ∷ (command for_word (codes "for") [], 2)
       ∷ (command quit_word (codes "Q") [], 0) ∷ []))
-
-each_more_read : EachMoreRead
-unfolding reads
-each_more_read = search rules
-
--- globals and naked references
-record EachGlobalRead : Type 0 where
+  -- globals and naked references
   -- `^X` and `^X(1,"a")`, and `^(2)`
   globals : IsRead (codes "W ^X_^X(1,\"a\")_^(2)") (
       written (taken (plain (reference (global (codes "X") no_exprs)))
@@ -196,35 +201,11 @@ record EachGlobalRead : Type 0 where
   globals_within : IsRead (codes "W ^(^(^%))") (
       written (alone (plain (reference (naked (exprs_of (alone (plain (reference (naked (exprs_of (alone (plain
       (reference (global (codes "%") no_exprs))) ∷ []))))) ∷ [])))))))
-
-each_global_read : EachGlobalRead
-unfolding reads
-each_global_read = search rules
-
--- ---- how deep brackets may lie
-
--- a number in so many brackets
-abbrev in_brackets : ℕ → List ℕ
-in_brackets n = replicate n 40 ++ (49 ∷ replicate n 41)
-
-abbrev IsSome : {A : Type 0} → Option A → Type 0
-IsSome None = ⊥
-IsSome (Some a) = Unit {0}
-
--- a number in the subscripts of so many variables, one within another
-abbrev subscripts_opened : ℕ → List ℕ
-subscripts_opened zero = []
-subscripts_opened (suc n) = 65 ∷ 40 ∷ subscripts_opened n
-
-abbrev in_subscripts : ℕ → List ℕ
-in_subscripts n = subscripts_opened n ++ (49 ∷ replicate n 41)
-
-record Depths : Type 0 where
   forty_open : IsSome (line_at (codes "W " ++ in_brackets 40))
   forty_one_open : HaveNone ((codes "W " ++ in_brackets 41) ∷ [])
   forty_subscripts : IsSome (line_at (codes "K " ++ in_subscripts 40))
   forty_one_subscripts : HaveNone ((codes "K " ++ in_subscripts 41) ∷ [])
 
-depths : Depths
+all_read : Read
 unfolding reads
-depths = search rules
+all_read = search rules

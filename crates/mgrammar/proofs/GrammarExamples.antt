@@ -1,9 +1,7 @@
 -- SPDX-License-Identifier: Apache-2.0
 -- The grammar on examples, as proved equations: texts with their trees, and how deep brackets may lie.
-use Rattle.std.proofs.Common.{ℕ, zero, suc, List, [], ◌∷◌, ◌++◌, Option, Some, None, rules}
-use Rattle.std.specs.Prelude.{codes, replicate}
-use Rattle.mgrammar.specs.Grammar.{plus, minus, negate, equals, less, greater, contains, follows, sorts_after, both, either, add, subtract, multiply, divide, divide_whole, remainder, join, is, is_not, CountTree, RepeatedTree, classes, copies, AtomTree, OperandTree, ExprTree, expr, TailTree, tails_of, apply, matches, matches_not, operand, number, text, special, reference, bracket, call, select, refer, ReferenceTree, local, global, naked, no_exprs, exprs_of, choices_of, variable, piece, DestinationTree, one, several, once, onward, until, assign, breaks, shown, kill_one, kill_others, new_one, new_others, tested, loop, set_word, kill_word, new_word, if_word, else_word, for_word, quit_word, write_word, LineTree}
-use Rattle.mgrammar.specs.Reading.{line_at}
+use Rattle.mgrammar.proofs.GrammarWords.{ℕ, zero, suc, List, [], ◌∷◌, ◌++◌, Option, Some, None, rules, codes, plus, minus, negate, equals, less, greater, contains, follows, sorts_after, both, either, add, subtract, multiply, divide, divide_whole, remainder, join, is, is_not, CountTree, RepeatedTree, classes, copies, AtomTree, OperandTree, ExprTree, expr, TailTree, tails_of, apply, matches, matches_not, operand, number, text, special, reference, bracket, call, select, refer, ReferenceTree, local, global, naked, no_exprs, exprs_of, choices_of, variable, piece, DestinationTree, one, several, once, onward, until, assign, breaks, shown, kill_one, kill_others, new_one, new_others, tested, loop, set_word, kill_word, new_word, if_word, else_word, for_word, quit_word, write_word, LineTree, line_at}
+use Rattle.std.specs.Prelude.{replicate}
 use Rattle.mgrammar.proofs.Computing.{reads}
 use Rattle.mgrammar.proofs.ShortTrees.{IsRead, HaveNone, plain, named, command, conditional, of_commands}
 
@@ -45,9 +43,26 @@ naked_digit t = naked (exprs_of (one_digit t ∷ []))
 abbrev one_global : List ℕ → ReferenceTree
 one_global t = global (codes "X") (exprs_of (one_digit t ∷ []))
 
--- ---- texts with their trees
+-- ---- how deep brackets may lie
 
-record EachRead : Type 0 where
+-- a number in so many brackets
+abbrev in_brackets : ℕ → List ℕ
+in_brackets n = replicate n 40 ++ (49 ∷ replicate n 41)
+
+abbrev IsSome : {A : Type 0} → Option A → Type 0
+IsSome None = ⊥
+IsSome (Some a) = Unit {0}
+
+-- a number in the subscripts of so many variables, one within another
+abbrev subscripts_opened : ℕ → List ℕ
+subscripts_opened zero = []
+subscripts_opened (suc n) = 65 ∷ 40 ∷ subscripts_opened n
+
+abbrev in_subscripts : ℕ → List ℕ
+in_subscripts n = subscripts_opened n ++ (49 ∷ replicate n 41)
+
+record Read : Type 0 where
+  -- texts with their trees
   -- `W 1+2*3`: operators have no ranks, so it is a run of steps
   sum_and_product : IsRead (codes "W 1+2*3") (written (taken (digits (codes "1")) (apply add (digits (codes "2")) ∷ apply multiply (digits (codes "3")) ∷ [])))
   -- a quote within a string, two spaces between commands, and a comment
@@ -114,13 +129,7 @@ record EachRead : Type 0 where
   several_set : IsRead (codes "S (A,$PIECE(B,1))=3") (
       assigned (several (variable (named (codes "A")) ∷ piece (codes "PIECE") (named (codes "B")) (alone (digits (codes "1"))) None ∷ []))
       (alone (digits (codes "3"))))
-
-each_read : EachRead
-unfolding reads
-each_read = search rules
-
--- variables with subscripts, functions of them, and control of flow
-record EachMoreRead : Type 0 where
+  -- variables with subscripts, functions of them, and control of flow
   subscripts : IsRead (codes "S L(10,A(\"\"))=L(1)") (
       assigned (one (variable (local (codes "L") (exprs_of (one_digit (codes "10")
       ∷ alone (plain (reference (local (codes "A") (exprs_of (alone (plain (text [])) ∷ []))))) ∷ [])))))
@@ -170,13 +179,7 @@ record EachMoreRead : Type 0 where
       )
       ∷ (command for_word (codes "for") [], 2)
       ∷ (command quit_word (codes "Q") [], 0) ∷ []))
-
-each_more_read : EachMoreRead
-unfolding reads
-each_more_read = search rules
-
--- globals and naked references
-record EachGlobalRead : Type 0 where
+  -- globals and naked references
   -- `^X` and `^X(1,"a")`, and `^(2)`
   globals : IsRead (codes "W ^X_^X(1,\"a\")_^(2)") (
       written (taken (plain (reference (global (codes "X") no_exprs)))
@@ -198,35 +201,11 @@ record EachGlobalRead : Type 0 where
   globals_within : IsRead (codes "W ^(^(^%))") (
       written (alone (plain (reference (naked (exprs_of (alone (plain (reference (naked (exprs_of (alone (plain
       (reference (global (codes "%") no_exprs))) ∷ []))))) ∷ [])))))))
-
-each_global_read : EachGlobalRead
-unfolding reads
-each_global_read = search rules
-
--- ---- how deep brackets may lie
-
--- a number in so many brackets
-abbrev in_brackets : ℕ → List ℕ
-in_brackets n = replicate n 40 ++ (49 ∷ replicate n 41)
-
-abbrev IsSome : {A : Type 0} → Option A → Type 0
-IsSome None = ⊥
-IsSome (Some a) = Unit {0}
-
--- a number in the subscripts of so many variables, one within another
-abbrev subscripts_opened : ℕ → List ℕ
-subscripts_opened zero = []
-subscripts_opened (suc n) = 65 ∷ 40 ∷ subscripts_opened n
-
-abbrev in_subscripts : ℕ → List ℕ
-in_subscripts n = subscripts_opened n ++ (49 ∷ replicate n 41)
-
-record Depths : Type 0 where
   forty_open : IsSome (line_at (codes "W " ++ in_brackets 40))
   forty_one_open : HaveNone ((codes "W " ++ in_brackets 41) ∷ [])
   forty_subscripts : IsSome (line_at (codes "K " ++ in_subscripts 40))
   forty_one_subscripts : HaveNone ((codes "K " ++ in_subscripts 41) ∷ [])
 
-depths : Depths
+all_read : Read
 unfolding reads
-depths = search rules
+all_read = search rules

@@ -1,7 +1,6 @@
 -- SPDX-License-Identifier: Apache-2.0
 -- The grammar on examples, as proved equations: texts that have no tree.
-use Rattle.std.proofs.Common.{[], ◌∷◌, rules}
-use Rattle.std.specs.Prelude.{codes}
+use Rattle.mgrammar.proofs.GrammarWords.{[], ◌∷◌, rules, codes}
 use Rattle.mgrammar.proofs.Computing.{reads}
 use Rattle.mgrammar.proofs.ShortTrees.{HaveNone}
 

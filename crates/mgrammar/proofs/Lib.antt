@@ -1,4 +1,5 @@
 -- SPDX-License-Identifier: Apache-2.0
+pub mod GrammarWords
 pub mod ReadingBasics
 pub mod ReadingNumbers
 pub mod ReadingLists

@@ -1,12 +1,6 @@
 -- SPDX-License-Identifier: Apache-2.0
 -- What is read of a run, a name or a string is spelled so, and what is spelled so is read.
-use Rattle.std.proofs.Common.{◌≡◌, ℕ, ◌<◌, ◌≤◌, Bool, true, false, cond, eqb, List, [], ◌∷◌, ◌++◌, length, Option, Some, None, ◌⊎◌, inl, inr, refl, sym, ◌∙◌, ap, subst, arith, ◌↔◌}
-use Rattle.std.specs.Prelude.{nat_le, ◌&&◌, ◌||◌}
-use Rattle.std.proofs.lemmas.Bool.{eqb-true}
-use Rattle.std.proofs.lemmas.Bool.Decides.{nat_tests}
-use Rattle.mspec.specs.Names.{is_name_start, is_name_rest, is_character, AllAre, IsName}
-use Rattle.mgrammar.specs.Grammar.{quoted}
-use Rattle.mgrammar.specs.ReadingWords.{Read, ◌>>=◌, run_of, after_run, name_at, with_front, text_from, past}
+use Rattle.mgrammar.proofs.GrammarWords.{◌≡◌, ℕ, ◌<◌, ◌≤◌, Bool, true, false, cond, eqb, List, [], ◌∷◌, ◌++◌, length, Option, Some, None, ◌⊎◌, inl, inr, refl, sym, ◌∙◌, ap, subst, arith, ◌↔◌, nat_le, ◌&&◌, ◌||◌, eqb-true, nat_tests, is_name_start, is_name_rest, is_character, AllAre, IsName, quoted, Read, ◌>>=◌, run_of, after_run, name_at, with_front, text_from, past}
 
 -- ---- the two laws of a reader
 

@@ -1,12 +1,7 @@
 -- SPDX-License-Identifier: Apache-2.0
 -- What is read of an argument of DO, GOTO or XECUTE is spelled so, and what is spelled so is read.
-use Rattle.std.proofs.Common.{◌≡◌, ℕ, List, ◌∷◌, ◌++◌, Option, Some, None, refl, ap, subst, ◌∙◌, append_assoc}
-use Rattle.mspec.specs.Names.{is_name_start, is_name_rest, IsName}
-use Rattle.mgrammar.specs.Grammar.{ExprTree, EntryTree, at_label, at_label_in, at_routine, ArgTree, do_one, go_to, executed, do_argument, goto_argument, xecute_argument, spell_expr, spell_condition, spell_entry, spell_arg}
-use Rattle.mgrammar.specs.WellFormed.{max_depth, WellExpr, WellOptional, WellEntry, WellPlain}
-use Rattle.mgrammar.specs.ReadingWords.{Read, ◌>>=◌, name_at, past}
-use Rattle.mgrammar.specs.ReadingExpressions.{expr_at}
-use Rattle.mgrammar.specs.Reading.{postcondition_by, label_by, entry_by, entry_at, conditioned, do_argument_at, goto_argument_at, xecute_argument_at}
+use Rattle.mgrammar.proofs.GrammarWords.{◌≡◌, ℕ, List, ◌∷◌, ◌++◌, Option, Some, None, refl, ap, subst, ◌∙◌, append_assoc, is_name_start, is_name_rest, IsName, ExprTree, EntryTree, at_label, at_label_in, at_routine, ArgTree, do_one, go_to, executed, do_argument, goto_argument, xecute_argument, spell_expr, spell_condition, spell_entry, spell_arg, max_depth, WellExpr, WellOptional, WellEntry, WellPlain, Read, ◌>>=◌, name_at, past, expr_at, postcondition_by, entry_by, entry_at, conditioned, do_argument_at, goto_argument_at, xecute_argument_at}
+use Rattle.mgrammar.specs.Reading.{label_by}
 use Rattle.mgrammar.proofs.ReadingBasics.{Takes, Again, Stops, Stops-weaker, Begins, Begins-append, goes_on, bind_some, some_is, past_takes, not_past, name_takes, name_again}
 use Rattle.mgrammar.proofs.ReadingLists.{joined, joined_by}
 use Rattle.mgrammar.proofs.ReadingReferences.{Ends, operand_ends, name_or_open, named, name_in_front}

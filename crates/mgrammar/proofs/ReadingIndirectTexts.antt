@@ -1,13 +1,6 @@
 -- SPDX-License-Identifier: Apache-2.0
 -- What is read of a whole text of indirection is spelled so, and what is spelled so is read.
-use Rattle.std.proofs.Common.{◌≡◌, ◌↔◌, ℕ, true, false, List, [], ◌∷◌, ◌++◌, length, Some, refl, sym, ap, subst, ◌∙◌}
-use Rattle.std.proofs.lemmas.List.{append-nil}
-use Rattle.mgrammar.specs.Grammar.{ReferenceTree, ArgTree, FormTree, for_argument, may_be_indirect, spell_reference, spell_list, spell_arg}
-use Rattle.mgrammar.specs.WellFormed.{max_depth, WellReference, WellList, WellArg}
-use Rattle.mgrammar.specs.ReadingWords.{Read, ◌>>=◌, list_at}
-use Rattle.mgrammar.specs.ReadingExpressions.{readers_at, reference_with}
-use Rattle.mgrammar.specs.Reading.{arg_at}
-use Rattle.mgrammar.specs.IndirectTexts.{whole_by, ref_at, args_of}
+use Rattle.mgrammar.proofs.GrammarWords.{◌≡◌, ◌↔◌, ℕ, true, false, List, [], ◌∷◌, ◌++◌, length, Some, refl, sym, ap, subst, ◌∙◌, append-nil, ReferenceTree, ArgTree, FormTree, for_argument, may_be_indirect, spell_reference, spell_list, spell_arg, max_depth, WellReference, WellList, WellArg, Read, ◌>>=◌, list_at, readers_at, reference_with, arg_at, whole_by, ref_at, args_of}
 use Rattle.mgrammar.proofs.ReadingBasics.{Takes, bind_some, some_is, unique, told}
 use Rattle.mgrammar.proofs.ReadingLists.{list_takes}
 use Rattle.mgrammar.proofs.ReadingArguments.{variable_takes, variable_again}

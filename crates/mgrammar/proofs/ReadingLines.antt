@@ -1,15 +1,6 @@
 -- SPDX-License-Identifier: Apache-2.0
 -- What is read as a line is spelled so, and what is spelled so is read.
-use Rattle.std.proofs.Common.{◌≡◌, ◌↔◌, ℕ, zero, suc, ◌≤◌, Bool, true, false, eqb, List, [], ◌∷◌, ◌++◌, length, Option, Some, None, inl, inr, refl, sym, ap, subst, ◌∙◌, append_assoc, arith, replicate, length-append}
-use Rattle.std.specs.Prelude.{nat_le, ◌||◌}
-use Rattle.std.proofs.lemmas.Bool.{eqb-true}
-use Rattle.std.proofs.lemmas.Bool.Decides.{nat_tests}
-use Rattle.std.proofs.lemmas.List.{append-nil, length-replicate}
-use Rattle.mspec.specs.Names.{is_letter, is_character, AllAre}
-use Rattle.mgrammar.specs.Grammar.{ArgTree, CommandTree, SpacedTree, LineTree, spell_command, spell_commands, spell_comment, spell}
-use Rattle.mgrammar.specs.WellFormed.{least_gap, WellCommand, WellCommands, WellComment, well}
-use Rattle.mgrammar.specs.ReadingWords.{◌>>=◌, run_of, after_run, many, more_by}
-use Rattle.mgrammar.specs.Reading.{has_args, command_at, is_space, at_end, spaced, spaced_at, comment_by, comment_at, line_at}
+use Rattle.mgrammar.proofs.GrammarWords.{◌≡◌, ◌↔◌, ℕ, zero, suc, ◌≤◌, Bool, true, false, eqb, List, [], ◌∷◌, ◌++◌, length, Option, Some, None, inl, inr, refl, sym, ap, subst, ◌∙◌, append_assoc, arith, replicate, length-append, nat_le, ◌||◌, eqb-true, nat_tests, append-nil, length-replicate, is_letter, is_character, AllAre, ArgTree, CommandTree, SpacedTree, LineTree, spell_command, spell_commands, spell_comment, spell, least_gap, WellCommand, WellCommands, WellComment, well, ◌>>=◌, run_of, after_run, many, more_by, has_args, command_at, is_space, at_end, spaced, spaced_at, comment_by, comment_at, line_at}
 use Rattle.mgrammar.proofs.ReadingBasics.{Stops, Begins, Begins-append, Begins-long, bind_some, chosen, some_is, run_parts, run_again, unique, told}
 use Rattle.mgrammar.proofs.ReadingArguments.{all_copies, copies_are}
 use Rattle.mgrammar.proofs.ReadingCommands.{Closes, After, command_takes, command_again, command_letter}

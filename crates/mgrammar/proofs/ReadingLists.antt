@@ -1,9 +1,6 @@
 -- SPDX-License-Identifier: Apache-2.0
 -- The laws of reading a list of items.
-use Rattle.std.proofs.Common.{◌≡◌, ℕ, zero, suc, ◌<◌, ◌≤◌, Bool, eqb, List, [], ◌∷◌, ◌++◌, length, Option, Some, None, refl, sym, ap, subst, ◌∙◌, append_assoc, arith, length-append}
-use Rattle.mgrammar.specs.Grammar.{spell_more, spell_list}
-use Rattle.mgrammar.specs.WellFormed.{WellAll, WellList}
-use Rattle.mgrammar.specs.ReadingWords.{Read, ◌>>=◌, past, many, more_by, comma_by, after_comma, list_at}
+use Rattle.mgrammar.proofs.GrammarWords.{◌≡◌, ℕ, zero, suc, ◌<◌, ◌≤◌, Bool, eqb, List, [], ◌∷◌, ◌++◌, length, Option, Some, None, refl, sym, ap, subst, ◌∙◌, append_assoc, arith, length-append, spell_more, spell_list, WellAll, WellList, Read, ◌>>=◌, past, many, more_by, comma_by, after_comma, list_at}
 use Rattle.mgrammar.proofs.ReadingBasics.{Takes, Again, Stops, bind_some, some_is, past_takes}
 
 -- the texts of the items, one after another

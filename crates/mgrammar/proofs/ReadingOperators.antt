@@ -1,12 +1,6 @@
 -- SPDX-License-Identifier: Apache-2.0
 -- What is read of signs and of an operator is spelled so, and what is spelled so is read.
-use Rattle.std.proofs.Common.{◌≡◌, ℕ, Bool, true, false, cond, eqb, List, [], ◌∷◌, ◌++◌, Option, Some, None, inl, inr, refl, sym, ap, subst, ◌∙◌, arith}
-use Rattle.std.specs.Prelude.{◌||◌}
-use Rattle.std.specs.List.{list_any}
-use Rattle.std.proofs.lemmas.Bool.{eqb-true}
-use Rattle.std.proofs.lemmas.Bool.Decides.{nat_tests}
-use Rattle.mgrammar.specs.Grammar.{SignTree, plus, minus, negate, TruthTree, equals, less, greater, contains, follows, sorts_after, both, either, BinaryTree, add, subtract, multiply, divide, divide_whole, remainder, join, is, is_not, spell_signs, spell_truth, spell_binary}
-use Rattle.mgrammar.specs.ReadingWords.{◌>>=◌, signs_of, after_signs, found, truths, arithmetic, follows_at, truth_at, OperatorTree, between, matching, matching_not, negated_at, plain_by, operator_at}
+use Rattle.mgrammar.proofs.GrammarWords.{◌≡◌, ℕ, Bool, true, false, cond, eqb, List, [], ◌∷◌, ◌++◌, Option, Some, None, inl, inr, refl, sym, ap, subst, ◌∙◌, arith, ◌||◌, list_any, eqb-true, nat_tests, SignTree, plus, minus, negate, TruthTree, equals, follows, sorts_after, BinaryTree, is, is_not, spell_signs, spell_truth, spell_binary, ◌>>=◌, signs_of, after_signs, found, truths, arithmetic, follows_at, truth_at, OperatorTree, between, matching, matching_not, negated_at, plain_by, operator_at}
 use Rattle.mgrammar.proofs.ReadingBasics.{Stops, Begins, bind_some, chosen, some_is}
 
 -- ---- signs

@@ -1,15 +1,6 @@
 -- SPDX-License-Identifier: Apache-2.0
 -- What is read of a pattern is spelled so, and what is spelled so is read.
-use Rattle.std.proofs.Common.{◌≡◌, ℕ, ◌<◌, ◌≤◌, Bool, true, false, cond, eqb, List, [], ◌∷◌, ◌++◌, length, Option, Some, None, inl, inr, refl, sym, ap, subst, ◌∙◌, append_assoc, arith}
-use Rattle.std.specs.Prelude.{◌||◌}
-use Rattle.std.proofs.lemmas.Bool.{eqb-true}
-use Rattle.std.proofs.lemmas.Bool.Decides.{nat_tests}
-use Rattle.std.proofs.lemmas.List.{append-nil}
-use Rattle.mspec.specs.Literal.{is_digit}
-use Rattle.mspec.specs.Names.{is_letter, AllAre}
-use Rattle.mgrammar.specs.Grammar.{CountTree, RepeatedTree, classes, copies, AtomTree, quoted, spell_string, spell_behind, spell_repeated, spell_atom, spell_atoms, is_pattern_letter}
-use Rattle.mgrammar.specs.WellFormed.{IsCount, WellRepeated, WellAtom, WellAll, WellList}
-use Rattle.mgrammar.specs.ReadingWords.{◌>>=◌, run_of, after_run, text_from, many, behind_of, after_behind, is_count, count_at, classes_by, repeated_at, is_digit_or_point, atom_at, pattern_by, pattern_at}
+use Rattle.mgrammar.proofs.GrammarWords.{◌≡◌, ℕ, ◌<◌, ◌≤◌, Bool, true, false, cond, eqb, List, [], ◌∷◌, ◌++◌, length, Option, Some, None, inl, inr, refl, sym, ap, subst, ◌∙◌, append_assoc, arith, ◌||◌, eqb-true, nat_tests, append-nil, is_digit, is_letter, AllAre, CountTree, RepeatedTree, classes, copies, AtomTree, quoted, spell_string, spell_behind, spell_repeated, spell_atom, spell_atoms, is_pattern_letter, IsCount, WellRepeated, WellAtom, WellAll, WellList, ◌>>=◌, run_of, after_run, text_from, many, behind_of, after_behind, is_count, count_at, classes_by, repeated_at, is_digit_or_point, atom_at, pattern_by, pattern_at}
 use Rattle.mgrammar.proofs.ReadingBasics.{Takes, Again, Stops, Stops-weaker, Begins, Begins-stops, Begins-long, goes_on, bind_some, chosen, some_is, run_parts, run_again, text_takes, text_again}
 use Rattle.mgrammar.proofs.ReadingLists.{each, ItemTakes, many_takes, many_again, count_le}
 use Rattle.mgrammar.proofs.ReadingNumbers.{digit_first}

@@ -1,16 +1,6 @@
 -- SPDX-License-Identifier: Apache-2.0
 -- What is read as a line of a routine is spelled so, and what is spelled so is read.
-use Rattle.std.proofs.Common.{◌≡◌, ◌↔◌, ℕ, zero, suc, ◌<◌, Bool, true, false, cond, eqb, List, [], ◌∷◌, ◌++◌, length, Option, Some, None, refl, sym, ap, subst, ◌∙◌, append_assoc, arith, replicate, length-append}
-use Rattle.std.specs.List.{filter}
-use Rattle.std.proofs.lemmas.Bool.{eqb-true}
-use Rattle.std.proofs.lemmas.Bool.Decides.{nat_tests}
-use Rattle.std.proofs.lemmas.List.{length-replicate}
-use Rattle.mspec.specs.Names.{is_letter, is_name_rest, IsName}
-use Rattle.mgrammar.specs.Grammar.{SpacedTree, LineTree, spell_command, spell_commands, spell_comment, spell}
-use Rattle.mgrammar.specs.WellFormed.{WellCommands, WellAll, well}
-use Rattle.mgrammar.specs.ReadingWords.{◌>>=◌, run_of, after_run, name_at, past}
-use Rattle.mgrammar.specs.Reading.{is_space, at_end, comment_at, line_at}
-use Rattle.mgrammar.specs.RoutineLine.{BodyTree, short, spaced_out, RoutineLineTree, dots_of_body, spell_dot, spell_dots, spell_body, spell_label, spell_routine_line, WellLabel, WellBody, well_routine_line, label_ends, label_by, label_at, is_dot, is_space_or_dot, dots_in, dot_by, dot_at, dots_at, body_by, body_at, routine_line_at}
+use Rattle.mgrammar.proofs.GrammarWords.{◌≡◌, ◌↔◌, ℕ, zero, suc, ◌<◌, Bool, true, false, cond, eqb, List, [], ◌∷◌, ◌++◌, length, Option, Some, None, refl, sym, ap, subst, ◌∙◌, append_assoc, arith, replicate, length-append, filter, eqb-true, nat_tests, length-replicate, is_letter, is_name_rest, IsName, SpacedTree, LineTree, spell_command, spell_commands, spell_comment, spell, WellCommands, WellAll, well, ◌>>=◌, run_of, after_run, name_at, past, is_space, at_end, comment_at, line_at, BodyTree, short, spaced_out, RoutineLineTree, dots_of_body, spell_dot, spell_dots, spell_body, spell_label, spell_routine_line, WellLabel, WellBody, well_routine_line, label_ends, label_by, label_at, is_dot, is_space_or_dot, dots_in, dot_by, dot_at, dots_at, body_by, body_at, routine_line_at}
 use Rattle.mgrammar.specs.GrammarLaws.{TellsRoutineLine}
 use Rattle.mgrammar.proofs.ReadingBasics.{Stops, Stops-weaker, Begins-stops, Begins-append, bind_some, some_is, run_parts, run_again, past_takes, not_past, name_takes, name_again, unique, told}
 use Rattle.mgrammar.proofs.ReadingLists.{each, many_takes, many_again, count_le}

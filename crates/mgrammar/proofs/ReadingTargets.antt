@@ -1,15 +1,6 @@
 -- SPDX-License-Identifier: Apache-2.0
 -- What is read of the left side of an set_argument is spelled so, and what is spelled so is read.
-use Rattle.std.proofs.Common.{◌≡◌, ℕ, ◌<◌, ◌-◌, Bool, true, eqb, List, [], ◌∷◌, ◌++◌, Option, Some, None, inl, inr, refl, sym, ap, subst, ◌∙◌, append_assoc, arith}
-use Rattle.std.proofs.lemmas.Bool.{eqb-true}
-use Rattle.std.proofs.lemmas.Bool.Decides.{nat_tests}
-use Rattle.mspec.specs.Names.{is_letter, AllAre}
-use Rattle.mgrammar.specs.Grammar.{ExprTree, PrimaryTree, no_exprs, ReferenceTree, indirect, TargetTree, variable, piece, DestinationTree, one, several, ArgTree, assign, indirect_args, FormTree, spell_expr, spell_primary, spell_reference, spell_list, spell_place, spell_target, spell_destination, spell_arg, set_argument}
-use Rattle.mgrammar.specs.Functions.{is_piece}
-use Rattle.mgrammar.specs.WellFormed.{max_depth, bare_primary, bare_destination, WellBelow, WellReference, WellOptional, WellTarget, WellDestination, WellArg}
-use Rattle.mgrammar.specs.ReadingWords.{Read, ◌>>=◌, run_of, after_run, past, list_at}
-use Rattle.mgrammar.specs.ReadingExpressions.{Readers, reference_with, expr_at, readers_at}
-use Rattle.mgrammar.specs.Reading.{place_with, piece_with, piece_by, target_with, destination_at, given_by, set_argument_by, set_argument_at}
+use Rattle.mgrammar.proofs.GrammarWords.{◌≡◌, ℕ, ◌<◌, ◌-◌, Bool, true, eqb, List, [], ◌∷◌, ◌++◌, Option, Some, None, inl, inr, refl, sym, ap, subst, ◌∙◌, append_assoc, arith, eqb-true, nat_tests, is_letter, AllAre, ExprTree, PrimaryTree, no_exprs, ReferenceTree, indirect, TargetTree, variable, piece, DestinationTree, one, several, ArgTree, assign, indirect_args, FormTree, spell_expr, spell_primary, spell_reference, spell_list, spell_place, spell_target, spell_destination, spell_arg, set_argument, is_piece, max_depth, bare_primary, bare_destination, WellBelow, WellReference, WellOptional, WellTarget, WellDestination, WellArg, Read, ◌>>=◌, run_of, after_run, past, list_at, Readers, reference_with, expr_at, readers_at, place_with, piece_with, piece_by, target_with, destination_at, given_by, set_argument_by, set_argument_at}
 use Rattle.mgrammar.proofs.ReadingBasics.{Takes, Again, Stops, Begins, Begins-append, Begins-stops, Begins-weaker, bind_some, chosen, some_is, both_are, run_parts, run_again, past_takes, not_past}
 use Rattle.mgrammar.proofs.ReadingLists.{joined_by, bracketed_takes, is_comma, list_again}
 use Rattle.mgrammar.proofs.ReadingTrees.{WellInner}

@@ -1,8 +1,6 @@
 -- SPDX-License-Identifier: Apache-2.0
 -- Runs of steps, of arguments and of choices, as lists.
-use Rattle.std.proofs.Common.{◌≡◌, ℕ, suc, ◌<◌, ◌-◌, List, [], ◌∷◌, ◌++◌, length, refl, sym, ap, ◌∙◌, append_assoc}
-use Rattle.mgrammar.specs.Grammar.{ExprTree, TailTree, TailsTree, no_tails, tail, tails_of, ExprsTree, no_exprs, exprs, exprs_of, ChoicesTree, no_choices, choice, choices_of, spell_tail, spell_tails, spell_expr, spell_exprs, spell_more_exprs, spell_choices, spell_more_choices, spell_list, spell_more}
-use Rattle.mgrammar.specs.WellFormed.{exprs_count, HasChoice, WellExpr, WellTail, WellTails, WellExprs, WellChoices, WellAll, WellList}
+use Rattle.mgrammar.proofs.GrammarWords.{◌≡◌, ℕ, suc, ◌<◌, ◌-◌, List, [], ◌∷◌, ◌++◌, length, refl, sym, ap, ◌∙◌, append_assoc, ExprTree, TailTree, TailsTree, no_tails, tail, tails_of, ExprsTree, no_exprs, exprs, exprs_of, ChoicesTree, no_choices, choice, choices_of, spell_tail, spell_tails, spell_expr, spell_exprs, spell_more_exprs, spell_choices, spell_more_choices, spell_list, spell_more, exprs_count, HasChoice, WellExpr, WellTail, WellTails, WellExprs, WellChoices, WellAll, WellList}
 use Rattle.mgrammar.proofs.ReadingLists.{each}
 
 -- ---- steps

@@ -1,10 +1,6 @@
 -- SPDX-License-Identifier: Apache-2.0
 -- DO, GOTO, XECUTE and the lines of routines on examples, as proved equations: texts with their trees, and texts that have none.
-use Rattle.std.proofs.Common.{◌≡◌, ℕ, List, [], ◌∷◌, Some, None, refl, replicate, rules}
-use Rattle.std.specs.Prelude.{codes}
-use Rattle.mgrammar.specs.Grammar.{ExprTree, text, reference, at_label, at_label_in, at_routine, ArgTree, shown, do_one, go_to, executed, KeywordTree, do_word, goto_word, execute_word, write_word, SpacedTree, LineTree}
-use Rattle.mgrammar.specs.ReadingWords.{name_at}
-use Rattle.mgrammar.specs.RoutineLine.{RoutineLineTree, short, spaced_out, spell_routine_line, label_at, label_of, dots_of, routine_line_at}
+use Rattle.mgrammar.proofs.GrammarWords.{◌≡◌, ℕ, List, [], ◌∷◌, Some, None, replicate, rules, codes, ExprTree, text, reference, at_label, at_label_in, at_routine, ArgTree, shown, do_one, go_to, executed, KeywordTree, do_word, goto_word, execute_word, write_word, SpacedTree, LineTree, name_at, RoutineLineTree, short, spaced_out, spell_routine_line, label_at, label_of, dots_of, routine_line_at}
 use Rattle.mgrammar.proofs.Computing.{reads}
 use Rattle.mgrammar.proofs.ShortTrees.{IsRead, HaveNone, only, the_one, named, command, conditional, of_commands, of_one}
 
@@ -21,28 +17,6 @@ spaced k word args n = (command k word args, n)
 abbrev write_one : LineTree
 write_one = of_one write_word (codes "W") (shown the_one ∷ [])
 
--- ---- commands
-
-record Commands : Type 0 where
-  -- each form of an entry, with a postconditional of its own or none
-  entries : IsRead (codes "D A,%1^R:1,^R") (of_commands (spaced do_word (codes "D") (do_one (at_label (codes "A")) None ∷ do_one (at_label_in (codes "%1") (codes "R")) (Some the_one) ∷ do_one (at_routine (codes "R")) None ∷ []) 0 ∷ []))
-  -- beside one of the command
-  conditions : IsRead (codes "goto:1 A:A,B") (of_commands ((conditional goto_word (codes "goto") the_one (go_to (at_label (codes "A")) (Some (variable (codes "A"))) ∷ go_to (at_label (codes "B")) None ∷ []), 0) ∷ []))
-  -- texts, and an argumentless DO, behind which two spaces stand
-  texts : IsRead (codes "X \"W 1\":A,A D  W 1") (of_commands (spaced execute_word (codes "X") (executed (only (text (codes "W 1"))) (Some (variable (codes "A"))) ∷ executed (variable (codes "A")) None ∷ []) 1 ∷ spaced do_word (codes "D") [] 2 ∷ spaced write_word (codes "W") (shown the_one ∷ []) 0 ∷ []))
-
-commands : Commands
-unfolding reads
-commands = search rules
-
--- an entry is names alone; GOTO and XECUTE have some argument
-none_of_commands : HaveNone (
-    codes "G" ∷ codes "X" ∷ codes "G:1" ∷ codes "D  A" ∷ codes "D A B" ∷ codes "D A^" ∷ codes "D ^" ∷ codes "D ^1" ∷ codes "D 1" ∷ codes "D A(1)" ∷
-    codes "D ^R(1)" ∷ codes "D A^B^C" ∷ codes "D \"A\"" ∷ codes "D A:" ∷ codes "D A," ∷ codes "G A+1" ∷ codes "X 1:2:3" ∷ codes "XE 1" ∷
-    codes "D W 1" ∷ codes ". W 1" ∷ [])
-unfolding reads
-none_of_commands = refl
-
 -- ---- lines of routines
 
 abbrev IsRoutineLine : List ℕ → RoutineLineTree → Type 0
@@ -51,62 +25,64 @@ IsRoutineLine t l = (spell_routine_line l ≡ t) × (routine_line_at t ≡ Some 
 abbrev HasNoLine : List ℕ → Type 0
 HasNoLine t = routine_line_at t ≡ None
 
--- with a label and without, and with nothing or a comment behind it
-short_lines :
-    IsRoutineLine [] (record { label = None; body = short None })
-    × IsRoutineLine (codes ";c") (record { label = None; body = short (Some (codes "c")) })
-    × IsRoutineLine (codes "L") (record { label = Some (codes "L"); body = short None })
-    × IsRoutineLine (codes "L;c") (record { label = Some (codes "L"); body = short (Some (codes "c")) })
-    × IsRoutineLine (codes " ") (record { label = None; body = spaced_out [] (of_commands []) })
-unfolding reads
-short_lines = ((refl, refl), (refl, refl), (refl, refl), (refl, refl), (refl, refl))
+record Read : Type 0 where
+  -- commands
+  -- each form of an entry, with a postconditional of its own or none
+  entries : IsRead (codes "D A,%1^R:1,^R") (of_commands (spaced do_word (codes "D") (do_one (at_label (codes "A")) None ∷ do_one (at_label_in (codes "%1") (codes "R")) (Some the_one) ∷ do_one (at_routine (codes "R")) None ∷ []) 0 ∷ []))
+  -- beside one of the command
+  conditions : IsRead (codes "goto:1 A:A,B") (of_commands ((conditional goto_word (codes "goto") the_one (go_to (at_label (codes "A")) (Some (variable (codes "A"))) ∷ go_to (at_label (codes "B")) None ∷ []), 0) ∷ []))
+  -- texts, and an argumentless DO, behind which two spaces stand
+  texts : IsRead (codes "X \"W 1\":A,A D  W 1") (of_commands (spaced execute_word (codes "X") (executed (only (text (codes "W 1"))) (Some (variable (codes "A"))) ∷ executed (variable (codes "A")) None ∷ []) 1 ∷ spaced do_word (codes "D") [] 2 ∷ spaced write_word (codes "W") (shown the_one ∷ []) 0 ∷ []))
+  -- an entry is names alone; GOTO and XECUTE have some argument
+  none_of_commands : HaveNone (
+      codes "G" ∷ codes "X" ∷ codes "G:1" ∷ codes "D  A" ∷ codes "D A B" ∷ codes "D A^" ∷ codes "D ^" ∷ codes "D ^1" ∷ codes "D 1" ∷ codes "D A(1)" ∷
+      codes "D ^R(1)" ∷ codes "D A^B^C" ∷ codes "D \"A\"" ∷ codes "D A:" ∷ codes "D A," ∷ codes "G A+1" ∷ codes "X 1:2:3" ∷ codes "XE 1" ∷
+      codes "D W 1" ∷ codes ". W 1" ∷ [])
+  -- with a label and without, and with nothing or a comment behind it
+  short_lines :
+      IsRoutineLine [] (record { label = None; body = short None })
+      × IsRoutineLine (codes ";c") (record { label = None; body = short (Some (codes "c")) })
+      × IsRoutineLine (codes "L") (record { label = Some (codes "L"); body = short None })
+      × IsRoutineLine (codes "L;c") (record { label = Some (codes "L"); body = short (Some (codes "c")) })
+      × IsRoutineLine (codes " ") (record { label = None; body = spaced_out [] (of_commands []) })
+  -- with commands, behind dots or none: each dot with the spaces in front of it, the first space of all apart
+  dotted_lines :
+      IsRoutineLine (codes "L W 1") (record { label = Some (codes "L"); body = spaced_out [] write_one })
+      × IsRoutineLine (codes "  W 1") (record { label = None; body = spaced_out [] (record write_one { lead = 1 }) })
+      × IsRoutineLine (codes " .W 1") (record { label = None; body = spaced_out (0 ∷ []) write_one })
+      × IsRoutineLine (codes "L  . . W 1") (record { label = Some (codes "L"); body = spaced_out (1 ∷ 1 ∷ []) (record write_one { lead = 1 }) })
+      × IsRoutineLine (codes " ..;c") (record { label = None; body = spaced_out (0 ∷ 0 ∷ []) (record { lead = 0; commands = []; comment = Some (codes "c") }) })
+  -- behind a label the end, a space or a comment comes, and a command stands behind a space
+  none_of_lines :
+      HasNoLine (codes "L. W 1")
+      × HasNoLine (codes "W 1")
+      × HasNoLine (codes "1 W 1")
+      × HasNoLine (codes "L(A) W 1")
+      × HasNoLine (codes ". W 1")
+      × HasNoLine (codes " .5")
+      × HasNoLine (codes " W 1 . W 1")
+      × HasNoLine (codes "L )")
+  -- labels and dots of texts that have a tree or none
+  labels :
+      (label_of (codes "L )") ≡ Some (codes "L"))
+      × (label_of (codes "%A1;") ≡ Some (codes "%A1"))
+      × (label_of (codes "L") ≡ Some (codes "L"))
+      × (label_of (codes "L. W 1") ≡ None)
+      × (label_of (codes "V(") ≡ None)
+      × (label_of (codes " L") ≡ None)
+      × (label_of (codes "1") ≡ None)
+      × (label_of [] ≡ None)
+      × (label_of (replicate 31 65) ≡ Some (replicate 31 65))
+      × (label_of (replicate 32 65) ≡ None)
+  dots :
+      (dots_of (codes " .5") ≡ 1)
+      × (dots_of (codes "L. W 1") ≡ 0)
+      × (dots_of (codes "M ..;x") ≡ 2)
+      × (dots_of (codes "L . .  . )") ≡ 3)
+      × (dots_of (codes ". W 1") ≡ 0)
+      × (dots_of (codes " W . .") ≡ 0)
+      × (dots_of (codes "L") ≡ 0)
 
--- with commands, behind dots or none: each dot with the spaces in front of it, the first space of all apart
-dotted_lines :
-    IsRoutineLine (codes "L W 1") (record { label = Some (codes "L"); body = spaced_out [] write_one })
-    × IsRoutineLine (codes "  W 1") (record { label = None; body = spaced_out [] (record write_one { lead = 1 }) })
-    × IsRoutineLine (codes " .W 1") (record { label = None; body = spaced_out (0 ∷ []) write_one })
-    × IsRoutineLine (codes "L  . . W 1") (record { label = Some (codes "L"); body = spaced_out (1 ∷ 1 ∷ []) (record write_one { lead = 1 }) })
-    × IsRoutineLine (codes " ..;c") (record { label = None; body = spaced_out (0 ∷ 0 ∷ []) (record { lead = 0; commands = []; comment = Some (codes "c") }) })
-unfolding reads
-dotted_lines = ((refl, refl), (refl, refl), (refl, refl), (refl, refl), (refl, refl))
-
--- behind a label the end, a space or a comment comes, and a command stands behind a space
-none_of_lines :
-    HasNoLine (codes "L. W 1")
-    × HasNoLine (codes "W 1")
-    × HasNoLine (codes "1 W 1")
-    × HasNoLine (codes "L(A) W 1")
-    × HasNoLine (codes ". W 1")
-    × HasNoLine (codes " .5")
-    × HasNoLine (codes " W 1 . W 1")
-    × HasNoLine (codes "L )")
-unfolding reads
-none_of_lines = (refl, refl, refl, refl, refl, refl, refl, refl)
-
--- ---- labels and dots of texts that have a tree or none
-
-labels :
-    (label_of (codes "L )") ≡ Some (codes "L"))
-    × (label_of (codes "%A1;") ≡ Some (codes "%A1"))
-    × (label_of (codes "L") ≡ Some (codes "L"))
-    × (label_of (codes "L. W 1") ≡ None)
-    × (label_of (codes "V(") ≡ None)
-    × (label_of (codes " L") ≡ None)
-    × (label_of (codes "1") ≡ None)
-    × (label_of [] ≡ None)
-    × (label_of (replicate 31 65) ≡ Some (replicate 31 65))
-    × (label_of (replicate 32 65) ≡ None)
-unfolding name_at label_at
-labels = (refl, refl, refl, refl, refl, refl, refl, refl, refl, refl)
-
-dots :
-    (dots_of (codes " .5") ≡ 1)
-    × (dots_of (codes "L. W 1") ≡ 0)
-    × (dots_of (codes "M ..;x") ≡ 2)
-    × (dots_of (codes "L . .  . )") ≡ 3)
-    × (dots_of (codes ". W 1") ≡ 0)
-    × (dots_of (codes " W . .") ≡ 0)
-    × (dots_of (codes "L") ≡ 0)
-unfolding name_at label_at
-dots = (refl, refl, refl, refl, refl, refl, refl)
+all_read : Read
+unfolding reads name_at label_at
+all_read = search rules

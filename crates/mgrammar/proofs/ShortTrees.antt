@@ -1,9 +1,6 @@
 -- SPDX-License-Identifier: Apache-2.0
 -- Trees written shortly, and what examples say of texts: that they have a tree, or none.
-use Rattle.std.proofs.Common.{◌≡◌, ℕ, List, [], ◌∷◌, Some, None, map}
-use Rattle.std.specs.Prelude.{codes}
-use Rattle.mgrammar.specs.Grammar.{OperandTree, operand, PrimaryTree, ExprTree, expr, no_tails, number, ReferenceTree, local, no_exprs, KeywordTree, ArgTree, CommandTree, SpacedTree, LineTree, spell}
-use Rattle.mgrammar.specs.Reading.{line_at}
+use Rattle.mgrammar.proofs.GrammarWords.{◌≡◌, ℕ, List, [], ◌∷◌, Some, None, map, codes, OperandTree, operand, PrimaryTree, ExprTree, expr, no_tails, number, ReferenceTree, local, no_exprs, KeywordTree, ArgTree, CommandTree, SpacedTree, LineTree, spell, line_at}
 
 -- the text has this tree
 abbrev pub IsRead : List ℕ → LineTree → Type 0

@@ -1,11 +1,7 @@
 -- SPDX-License-Identifier: Apache-2.0
 -- Locks that fit stay so, whatever is done for a terminal of the settings.
-use Rattle.std.proofs.Common.{◌≡◌, ℕ, ◌+◌, ◌-◌, Bool, true, false, cond, List, [], ◌∷◌, Option, Some, None, refl, sym, ap, ◌∙◌, subst}
-use Rattle.std.specs.Prelude.{unwrap_or, nat_lt, nat_eq, not, if◌then◌else◌}
-use Rattle.misolation.proofs.IsolationWords.{and_parts, get, insert, remove, retain_keys, get-insert, get-remove, list_all, list_any, eq_by_cmp, Account, Settings, held_cmp_total, held_cmp_exact, may_lock}
-use Rattle.mspec.specs.LockConflict.{LockName, Held, held_cmp, Locks, held, count, most_counts, has_conflict, one_more, counted, taken, given_back, released}
-use Rattle.mspec.proofs.Basics.{by_test, unopposed}
-use Rattle.misolation.specs.Cut.{holds_by, may_hold, AreFit}
+use Rattle.misolation.proofs.IsolationWords.{◌≡◌, ℕ, ◌+◌, ◌-◌, Bool, true, false, cond, List, [], ◌∷◌, Option, Some, None, refl, sym, ap, ◌∙◌, subst, unwrap_or, nat_lt, nat_eq, if◌then◌else◌, and_parts, get, insert, remove, retain_keys, get-insert, get-remove, list_all, list_any, eq_by_cmp, Account, Settings, held_cmp_total, held_cmp_exact, may_lock, LockName, Held, held_cmp, Locks, held, count, most_counts, has_conflict, one_more, counted, taken, given_back, released, by_test, unopposed, holds_by, may_hold, AreFit}
+use Rattle.std.specs.Prelude.{not}
 use Rattle.misolation.proofs.CutMaps.{tied_true, had}
 
 module _ (settings : Settings) where

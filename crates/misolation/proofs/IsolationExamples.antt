@@ -2,17 +2,8 @@
 -- The laws on a host of three customers, as proved equations: they are not empty, and they claim no more than is so.
 --
 -- The laboratory lets the clinic read its results. The bank has no tie to either, or else the clinic lets it write its bills.
-use Rattle.misolation.proofs.IsolationWords.{◌≡◌, ℕ, Bool, true, false, cond, List, [], ◌∷◌, Option, Some, None, refl, sym, ap, ◌∙◌, subst, subst₂, nat_cmp, eq_by_cmp, nat_cmp_total, Text, Node, significant_digits, LockName, held, held_cmp, released, Read, Write, Account, Grant, Settings, cut_drops, held_cmp_total, held_cmp_exact, node_cmp_total, node_cmp_exact, Put, Take, Value, Shared, act, History, NoneFailed, Accounts, IsClosed, reach, IsLeastClosed, is_member, is_inside, cut_settings, cut_shared, cut_world, cut_events, part, holds_by, IsFit, only}
-use Rattle.std.specs.Prelude.{codes}
-use Rattle.std.specs.FinMap.{FinMap, get, insert, remove, retain_keys, empty, entries, from_sorted, same_map, get-empty, get-insert, get-from_sorted, entries-from_sorted, entries-insert, gets, nat_cmp-IsAntisymmetric}
-use Rattle.std.specs.FinMap.Entries.{put}
+use Rattle.misolation.proofs.IsolationWords.{◌≡◌, ℕ, Bool, true, false, cond, List, [], ◌∷◌, Option, Some, None, refl, sym, ap, ◌∙◌, subst, subst₂, nat_cmp, eq_by_cmp, nat_cmp_total, Text, Node, significant_digits, LockName, held, held_cmp, released, Read, Write, Account, Grant, Settings, cut_drops, held_cmp_total, held_cmp_exact, node_cmp_total, node_cmp_exact, Put, Take, Value, Shared, act, History, NoneFailed, Accounts, IsClosed, reach, IsLeastClosed, is_member, is_inside, cut_settings, cut_shared, cut_world, cut_events, part, holds_by, IsFit, only, codes, FinMap, get, insert, remove, retain_keys, empty, entries, from_sorted, same_map, get-empty, get-insert, get-from_sorted, entries-from_sorted, entries-insert, gets, nat_cmp-IsAntisymmetric, put, Session, new_session, session_or_new, World, Event, Reply, Faulted, is_too_long, is_ascii, normal, FailedTransition, lost, TransitionBy, Transition, normal_never_fails, Actor, ops_of, cut_ops, InsideOperation, AlikeWorlds, SameEntries, Run, Agree, Answered, SameReplies, rules}
 use Rattle.mspec.specs.Code.{Lost, Memory, Store}
-use Rattle.mmeaning.specs.Transition.{Session, new_session, session_or_new, World, Event, Reply, Faulted, is_too_long, is_ascii, normal, FailedTransition, lost, TransitionBy, Transition}
-use Rattle.mmeaning.proofs.Histories.{normal_never_fails}
-use Rattle.misolation.specs.PlanLaws.{Actor, ops_of, cut_ops, InsideOperation}
-use Rattle.misolation.specs.Alike.{AlikeWorlds, SameEntries}
-use Rattle.misolation.specs.Agreement.{Run, Agree}
-use Rattle.misolation.specs.HistoryLaws.{Answered, SameReplies}
 use Rattle.misolation.proofs.CutMaps.{get_kept}
 use Rattle.misolation.proofs.FittingLocks.{fit_insert}
 use Rattle.misolation.proofs.Operations.{inside_operations}
@@ -20,7 +11,6 @@ use Rattle.misolation.proofs.Reaching.{reach_is_least_closed}
 use Rattle.misolation.proofs.TransitionsAlike.{alike_worlds}
 use Rattle.misolation.proofs.EntriesAlike.{same_entries_agree}
 use Rattle.misolation.proofs.PartsAlone.{part_is_history, opening_is_fit, agreeing_replies}
-use Rattle.std.proofs.Common.{rules}
 
 abbrev pub account : Text → Account
 account name = record { name = name; steps = 2000 }

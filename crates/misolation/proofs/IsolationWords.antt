@@ -1,36 +1,48 @@
 -- SPDX-License-Identifier: Apache-2.0
 -- The words that most proofs of this crate have, in one place.
-pub use Rattle.std.proofs.Common.{◌≡◌, Bool, true, false, cond, ◌&&◌, ◌||◌, List, [], ◌∷◌, sym, ap, ◌∙◌, ⊎_elim, Option, Some, None, map, refl, ℕ, subst, not, subst₂, ◌++◌}
-pub use Rattle.std.proofs.lemmas.Bool.{or_cases, and_parts, and_from, or_left, or_right, false_from_ne_true}
+pub use Rattle.std.proofs.Common.{Bool, List, None, Option, Some, [], ap, append_assoc, cond, false, is_some, map, not, refl, rules, subst, subst₂, suc, sym, true, zero, ℕ, ⊎_elim, ◌&&◌, ◌++◌, ◌+◌, ◌-◌, ◌||◌, ◌∙◌, ◌∷◌, ◌≡◌}
+pub use Rattle.std.proofs.lemmas.Bool.{and_from, and_parts, eq-eqb, eqb-true, false_from_ne_true, or_cases, or_left, or_right}
 pub use Rattle.std.proofs.lemmas.Cmp.{nat_cmp_total}
+pub use Rattle.std.proofs.lemmas.List.{append-nil, map-append}
+pub use Rattle.std.proofs.lemmas.List.Elements.{filter-append, filter_agree}
 pub use Rattle.std.proofs.lemmas.Map.Views.{any-filter_same}
+pub use Rattle.std.specs.Cmp.{IsTotalOrder}
+pub use Rattle.std.specs.Cmp.Derive.{one_truth}
 pub use Rattle.std.specs.Cmp.Lexicographic.{bytes_decides}
-pub use Rattle.std.specs.FinMap.{FinMap, get, insert, remove, retain_keys, entries, keys, get-insert, get-remove, same_map, nat_cmp-IsAntisymmetric}
-pub use Rattle.std.specs.List.{list_any, filter, list_all}
+pub use Rattle.std.specs.FinMap.{FinMap, IsAntisymmetric, empty, entries, entries-from_sorted, entries-insert, entries_sorted, from_sorted, get, get-empty, get-entries, get-from_sorted, get-insert, get-remove, gets, insert, keys, nat_cmp-IsAntisymmetric, remove, retain_keys, same_map}
+pub use Rattle.std.specs.FinMap.Entries.{find-where_key, is_sorted-where_key, put, where_key}
+pub use Rattle.std.specs.List.{filter, flat_map, list_all, list_any}
 pub use Rattle.std.specs.Ordering.{eq_by_cmp, nat_cmp}
-pub use Rattle.std.specs.Prelude.{nat_eq, if◌then◌else◌}
-pub use Rattle.mspec.proofs.Basics.{by_test}
-pub use Rattle.mspec.proofs.LockOrders.{held_cmp_total, held_cmp_exact}
-pub use Rattle.mspec.proofs.MapCuts.{get_cut, cut_drops}
-pub use Rattle.mspec.proofs.NodeOrders.{node_cmp_total, node_cmp_exact}
-pub use Rattle.mspec.specs.Access.{Mode, Write, Grant, Settings, allows, Read, Account}
-pub use Rattle.mspec.specs.Act.{State, Outcome}
-pub use Rattle.mspec.specs.Flow.{carries, Reaches, itself, through}
-pub use Rattle.mspec.specs.LockConflict.{LockName, Held, held_cmp, Locks, held, taken, given_back, released}
-pub use Rattle.mspec.specs.Node.{Text, Node}
+pub use Rattle.std.specs.Prelude.{IsTrue, codes, if◌then◌else◌, nat_eq, nat_lt, option_map, unwrap_or, ◌↔◌}
+pub use Rattle.std.specs.declared.cmp.Ordering.{Ordering}
+pub use Rattle.mspec.proofs.Basics.{by_test, unopposed}
+pub use Rattle.mspec.proofs.LockOrders.{held_cmp_exact, held_cmp_total}
+pub use Rattle.mspec.proofs.MapCuts.{cut_drops, cut_removed, equal_of, get_cut}
+pub use Rattle.mspec.proofs.NodeOrders.{node_cmp_exact, node_cmp_total}
+pub use Rattle.mspec.specs.Access.{Account, Grant, Mode, Read, Settings, Write, allows, lets, may}
+pub use Rattle.mspec.specs.Act.{Outcome, State}
+pub use Rattle.mspec.specs.Flow.{IsIsland, Reaches, carries, itself, through}
+pub use Rattle.mspec.specs.Globals.{Globals, is_beside, is_line_of, is_node_within, lines_of, order_at, routines_of, status, subscripts_under, without_subtree}
+pub use Rattle.mspec.specs.LockConflict.{Held, LockName, Locks, count, counted, given_back, has_conflict, held, held_cmp, is_conflict, is_within, most_counts, one_more, released, taken}
+pub use Rattle.mspec.specs.Node.{Node, Text}
 pub use Rattle.mspec.specs.Number.{significant_digits}
-pub use Rattle.mspec.specs.Plan.{Plan, cut_short, Put, Take, Value, Op, May, Status, Neighbour, Routine, Kill, Give_back, Release, Ops, perform}
-pub use Rattle.mspec.specs.Trees.{text_eq}
-pub use Rattle.mgrammar.specs.Reading.{line_at}
-pub use Rattle.mmeaning.specs.History.{History, world_after, answered, NoneFailed}
+pub use Rattle.mspec.specs.Plan.{Ask, Done, Give_back, Kill, May, Neighbour, Op, Ops, Plan, Put, Release, Routine, Status, Take, Value, cut_short, perform}
+pub use Rattle.mspec.specs.Trees.{Direction, children_in, front, is_below, last, neighbour, text_eq}
+unfoldable pub use Rattle.mgrammar.specs.Reading.{line_at}
+pub use Rattle.mmeaning.proofs.Histories.{history_is_normal, normal_never_fails, normal_transitions_are_history}
+pub use Rattle.mmeaning.specs.History.{History, NoneFailed, answered, opening, replies, world_after}
 pub use Rattle.mmeaning.specs.LineMeaning.{Completion}
-pub use Rattle.mmeaning.specs.Transition.{Session, World, Ending, Finished, Halted, Faulted, settled, ended, state_of, reply_of, session_or_new, Event, Reply, plan_of, at_account, normal, FailedTransition, is_failure, TransitionBy, is_too_long, is_ascii, checked}
-pub use Rattle.mmeaning.specs.Shared.{may_write, may_lock, Shared, act, guarded, took}
-pub use Rattle.misolation.specs.Alike.{AlikeWorlds}
-pub use Rattle.misolation.specs.Alone.{only}
-pub use Rattle.misolation.specs.Cut.{is_between, cut_settings, is_inside, cut_shared, cut_world, IsFit, is_member, cut_events, holds_by, AreFit, part, cut_locks}
-pub use Rattle.misolation.specs.HistoryLaws.{IsAlone, SameReplies}
-pub use Rattle.misolation.specs.PlanLaws.{Actor, ops_of, cut_ops, InsidePlan, exchanges}
-pub use Rattle.misolation.specs.Reach.{Accounts, IsClosed, reach}
-pub use Rattle.misolation.specs.ReachLaws.{IsLeastClosed}
-pub use Rattle.misolation.specs.TransitionLaws.{OutsideTransition}
+pub use Rattle.mmeaning.specs.Shared.{Shared, act, guarded, may_lock, may_read, may_write, took}
+pub use Rattle.mmeaning.specs.Transition.{Ending, Event, FailedTransition, Faulted, Finished, Halted, Reply, Session, Transition, TransitionBy, World, at_account, at_tree, checked, ended, is_ascii, is_failure, is_too_long, kept, lost, new_session, normal, plan_of, reply_of, session_or_new, settled, state_of}
+pub use Rattle.misolation.specs.Agreement.{Agree, Run}
+pub use Rattle.misolation.specs.Alike.{AlikeSettings, AlikeTransitions, AlikeWorlds, AllowsAll, SameEntries}
+pub use Rattle.misolation.specs.AlikeLaws.{SameEntriesAgree, TransitionsByAllowed, TransitionsBySessions}
+pub use Rattle.misolation.specs.Alone.{alone, only}
+pub use Rattle.misolation.specs.Cut.{AreFit, IsFit, cut_events, cut_locks, cut_settings, cut_shared, cut_world, holds_by, is_between, is_inside, is_member, may_hold, part}
+pub use Rattle.misolation.specs.HistoryLaws.{AgreeingReplies, Answered, HistoriesKeepFit, HistoryHasTrace, InterpreterIsolates, IsAlone, Isolation, OpeningIsCut, OpeningIsFit, PartIsAlone, PartIsHistory, PartIsTrace, PartOfTrace, PromiseIsKept, SameReplies, events_of, sent_to}
+pub use Rattle.misolation.specs.Islands.{KeepsTies, LaidTogether, Placement, StrangersRefused, on, refusal}
+pub use Rattle.misolation.specs.PlanLaws.{Actor, CutIsFit, Exchange, InsideOperation, InsideOperations, InsidePlan, InsidePlans, OutsideOperations, OutsidePlan, OutsidePlans, PlansKeepFit, cut_ops, exchanges, ops_of}
+pub use Rattle.misolation.specs.Reach.{Accounts, IsClosed, Link, leads, link, links, links_by, reach}
+pub use Rattle.misolation.specs.ReachLaws.{IsLeastClosed, ReachIsChains, ReachIsKept, ReachIsLeastClosed}
+pub use Rattle.misolation.specs.TransitionLaws.{InsideTransition, InsideTransitions, OutsideTransition, OutsideTransitions, TransitionWrites, TransitionsAreIsolated, TransitionsKeepFit, TransitionsWrite, exchanges_by, line_exchanges, line_writes, writes_by}
+pub use Rattle.misolation.specs.Writes.{GlobalWrite, Kills, Puts, write_of, writes, written, written_by}

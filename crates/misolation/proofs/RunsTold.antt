@@ -1,10 +1,6 @@
 -- SPDX-License-Identifier: Apache-2.0
 -- What a run of lines tells an account, transition by transition, apart, and alone.
-use Rattle.misolation.proofs.IsolationWords.{◌≡◌, List, [], ◌∷◌, ◌++◌, map, refl, sym, ap, ◌∙◌, subst, Settings, World, Event, Reply, History, NoneFailed, reach, is_inside, cut_settings, cut_events, part, IsLeastClosed, IsAlone, SameReplies}
-use Rattle.std.proofs.lemmas.List.{map-append}
-use Rattle.std.proofs.lemmas.List.Elements.{filter-append}
-use Rattle.std.specs.Prelude.{IsTrue, ◌↔◌}
-use Rattle.misolation.specs.Alone.{alone, only}
+use Rattle.misolation.proofs.IsolationWords.{◌≡◌, List, [], ◌∷◌, ◌++◌, map, refl, sym, ap, ◌∙◌, subst, Settings, World, Event, Reply, History, NoneFailed, reach, is_inside, cut_settings, cut_events, part, IsLeastClosed, IsAlone, SameReplies, map-append, filter-append, IsTrue, ◌↔◌, alone, only}
 use Rattle.misolation.specs.Telling.{told_by, told_to}
 use Rattle.misolation.specs.RunLaws.{NothingIsTold, TellsOn, ToldApart, EquallyTold, ToldTheSame}
 use Rattle.misolation.proofs.PartsOfParts.{part_of_part, part_kept, only_among, same_part}

@@ -1,10 +1,6 @@
 -- SPDX-License-Identifier: Apache-2.0
 -- What a normal transition cannot tell apart.
-use Rattle.misolation.proofs.IsolationWords.{◌≡◌, ℕ, Bool, true, false, cond, List, [], ◌∷◌, Option, Some, None, refl, sym, ap, ◌∙◌, subst, get, insert, remove, get-insert, get-remove, nat_cmp, eq_by_cmp, list_all, nat_cmp_total, Text, text_eq, Account, Settings, Read, Write, LockName, taken, Op, May, Value, Status, Neighbour, Routine, Put, Kill, Take, Give_back, Release, Ops, perform, State, Outcome, line_at, Completion, Shared, act, guarded, may_lock, took, answered, world_after}
-use Rattle.mspec.specs.Globals.{status, order_at, without_subtree}
-use Rattle.mmeaning.specs.Transition.{Session, session_or_new, World, Event, Reply, Ending, Finished, Halted, Faulted, kept, plan_of, reply_of, state_of, settled, ended, is_too_long, is_ascii, at_tree, checked, at_account, normal}
-use Rattle.misolation.specs.Alike.{AlikeSettings, AlikeWorlds, AlikeTransitions}
-use Rattle.misolation.specs.AlikeLaws.{TransitionsByAllowed, TransitionsBySessions}
+use Rattle.misolation.proofs.IsolationWords.{◌≡◌, ℕ, Bool, true, false, cond, List, [], ◌∷◌, Option, Some, None, refl, sym, ap, ◌∙◌, subst, get, insert, remove, get-insert, get-remove, nat_cmp, eq_by_cmp, list_all, nat_cmp_total, Text, text_eq, Account, Settings, Read, Write, LockName, taken, Op, May, Value, Status, Neighbour, Routine, Put, Kill, Take, Give_back, Release, Ops, perform, State, Outcome, line_at, Completion, Shared, act, guarded, may_lock, took, answered, world_after, status, order_at, without_subtree, Session, session_or_new, World, Event, Reply, Ending, Finished, Halted, Faulted, kept, plan_of, reply_of, state_of, settled, ended, is_too_long, is_ascii, at_tree, checked, at_account, normal, AlikeSettings, AlikeWorlds, AlikeTransitions, TransitionsByAllowed, TransitionsBySessions}
 
 -- ---- settings that allow the same
 

@@ -1,14 +1,6 @@
 -- SPDX-License-Identifier: Apache-2.0
 -- What plans and steps leave of globals, by their writes.
-use Rattle.std.proofs.Common.{◌≡◌, ℕ, zero, suc, Bool, true, false, List, [], ◌∷◌, ◌++◌, Option, Some, None, refl, sym, ap, ◌∙◌, append_assoc}
-use Rattle.misolation.proofs.IsolationWords.{not, ◌||◌, if◌then◌else◌, get, insert, list_all, Text, Node, Account, Settings, State, Outcome, Locks, taken, line_at, Completion, session_or_new, World, Event, Reply, Ending, Finished, Halted, Faulted, reply_of, state_of, settled, plan_of, is_too_long, is_ascii, checked, at_account, FailedTransition, is_failure, TransitionBy}
-use Rattle.std.proofs.lemmas.List.{append-nil}
-use Rattle.mspec.specs.Globals.{Globals, without_subtree}
-use Rattle.mspec.specs.Plan.{Op, May, Value, Status, Neighbour, Routine, Put, Kill, Take, Give_back, Release, Plan, Done, Ask, Ops, perform, cut_short}
-use Rattle.mmeaning.specs.Shared.{Shared, act, guarded, may_read, may_write, may_lock, took}
-use Rattle.misolation.specs.PlanLaws.{Exchange, exchanges}
-use Rattle.misolation.specs.Writes.{GlobalWrite, Puts, Kills, written_by, written, write_of, writes}
-use Rattle.misolation.specs.TransitionLaws.{line_writes, writes_by, TransitionWrites, TransitionsWrite}
+use Rattle.misolation.proofs.IsolationWords.{◌≡◌, ℕ, zero, suc, Bool, true, false, List, [], ◌∷◌, ◌++◌, Option, Some, None, refl, sym, ap, ◌∙◌, append_assoc, not, ◌||◌, if◌then◌else◌, get, insert, list_all, Text, Node, Account, Settings, State, Outcome, Locks, taken, line_at, Completion, session_or_new, World, Event, Reply, Ending, Halted, reply_of, state_of, settled, plan_of, is_too_long, is_ascii, checked, at_account, FailedTransition, is_failure, TransitionBy, append-nil, Globals, without_subtree, Op, Value, Status, Neighbour, Put, Kill, Take, Plan, Done, Ask, Ops, perform, cut_short, Shared, act, guarded, may_read, may_write, may_lock, took, Exchange, exchanges, GlobalWrite, Puts, Kills, written_by, written, write_of, writes, line_writes, writes_by, TransitionWrites, TransitionsWrite}
 
 -- writes one after another
 written-append : (xs ys : List GlobalWrite) (globals : Globals) → written (xs ++ ys) globals ≡ written ys (written xs globals)

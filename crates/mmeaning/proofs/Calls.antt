@@ -1,12 +1,7 @@
 -- SPDX-License-Identifier: Apache-2.0
 -- How calls are put together.
-use Rattle.std.proofs.Common.{◌≡◌, ℕ, zero, suc, ◌≤◌, ◌<◌, Result, Ok, Err, refl, sym, ap, ◌∙◌, arith}
-use Rattle.mspec.specs.Code.{Memory, Store, Fault, Own, Lost}
-use Rattle.mspec.specs.Plan.{Op, Answer, Plan, Done, Ask, then_plan, perform, cut_short}
-use Rattle.mspec.specs.Act.{Outcome, Gives, Fails, Act, on_gives, ◌>>=◌, give, ask}
-use Rattle.mspec.proofs.Plans.{perform-then, cut_first, cut_second, cut_whole}
+use Rattle.mmeaning.proofs.MeaningWords.{◌≡◌, ℕ, zero, suc, ◌≤◌, ◌<◌, Result, Ok, Err, refl, sym, ap, ◌∙◌, arith, Memory, Store, Fault, Own, Lost, Op, Answer, Plan, Done, Ask, then_plan, perform, cut_short, Outcome, Gives, Fails, Act, on_gives, ◌>>=◌, give, ask, perform-then, cut_first, cut_second, cut_whole, Standing, Here, Gave, IsCut, FailedBy, Ends, Did, MayLose, Follows, ops_of}
 use Rattle.mmeaning.specs.Transition.{Shared}
-use Rattle.mmeaning.specs.Calls.{Standing, Here, Gave, IsCut, FailedBy, Ends, Did, MayLose, Follows, ops_of}
 pub use Rattle.mspec.proofs.Basics.{residual_is}
 
 -- after what an act gives, the rest is left

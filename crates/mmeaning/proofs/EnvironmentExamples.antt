@@ -1,14 +1,9 @@
 -- SPDX-License-Identifier: Apache-2.0
 -- Globals of other accounts on examples, as proved equations over any world: what is asked in which order, and what is refused.
-use Rattle.mmeaning.proofs.MeaningWords.{◌≡◌, ℕ, suc, Bool, [], ◌∷◌, Option, Some, refl, rules, codes, get, M9, Zarg, Zgrant, Zsub, perform, setting}
-use Rattle.mspec.specs.Act.{Text, Node, Locals, State, Gives, Fails}
-use Rattle.mgrammar.specs.Grammar.{ExprTree, divide, number, text, reference, refer, ReferenceTree, naked, extended, ExprsTree, exprs, no_exprs, variable, one}
+use Rattle.mmeaning.proofs.MeaningWords.{◌≡◌, ℕ, suc, Bool, [], ◌∷◌, Option, Some, refl, rules, codes, get, M9, Zarg, Zgrant, Zsub, perform, setting, Text, Node, Locals, State, Gives, Fails, ExprTree, divide, number, text, reference, refer, ReferenceTree, naked, extended, ExprsTree, exprs, no_exprs, variable, one, value, Shared, computes}
 use Rattle.mgrammar.specs.Functions.{function_of}
-use Rattle.mmeaning.specs.Expression.{value}
-use Rattle.mmeaning.specs.Shared.{Shared}
 use Rattle.mmeaning.proofs.LineTrees.{only, with_operator}
 use Rattle.mmeaning.proofs.LockRuns.{hers, his, her_line, his_line}
-use Rattle.mspec.proofs.ComputedNumbers.{computes}
 
 -- of ALICE's, and of what is no account
 abbrev of_alice : Text → ExprsTree → ReferenceTree

@@ -1,8 +1,6 @@
 -- SPDX-License-Identifier: Apache-2.0
 -- The account of the examples, and replies to its lines.
-use Rattle.mmeaning.proofs.MeaningWords.{ℕ, [], ◌∷◌, codes, empty, insert, Code, Own}
-use Rattle.mspec.specs.Act.{Text}
-use Rattle.mmeaning.specs.Transition.{Account, Settings, Reply, Finished, Faulted}
+use Rattle.mmeaning.proofs.MeaningWords.{ℕ, [], ◌∷◌, codes, empty, insert, Code, Own, Text, Account, Settings, Reply, Finished, Faulted}
 
 -- ALICE with so many steps a line
 abbrev pub with_steps : ℕ → Account

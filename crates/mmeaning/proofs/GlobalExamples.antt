@@ -1,16 +1,7 @@
 -- SPDX-License-Identifier: Apache-2.0
 -- Globals on examples, as proved equations. What a line asks of the world is followed one operation after another.
-use Rattle.mmeaning.proofs.MeaningWords.{Bool, cond, Option, ap, ◌∙◌, eq_by_cmp, nat_cmp, get, insert, retain_keys, get-insert, get-empty, Op, Answer, Plan, Done, Ask, Ops, perform, Outcome, Fails, State, LineTree, line_at, Completion, Reply, World, Session, normal, kept, ended, begun, is_too_long, is_ascii}
-use Rattle.std.specs.Prelude.{not, option_map}
-use Rattle.mspec.proofs.MapCuts.{get_cut}
-use Rattle.mspec.proofs.NodeOrders.{node_cmp_total, node_cmp_exact}
-use Rattle.mspec.proofs.ComputedNumbers.{computes}
-use Rattle.mspec.specs.Code.{Code, M1, M7, Zsub}
+use Rattle.mmeaning.proofs.MeaningWords.{Bool, cond, Option, ap, ◌∙◌, eq_by_cmp, nat_cmp, get, insert, retain_keys, get-insert, get-empty, Op, Answer, Plan, Done, Ask, Ops, perform, Outcome, Fails, State, LineTree, line_at, Completion, Reply, World, Session, normal, kept, ended, begun, is_too_long, is_ascii, not, option_map, get_cut, node_cmp_total, node_cmp_exact, computes, Code, M1, M7, Zsub, node_cmp, significant_digits, is_node_within, status, Shared, act}
 use Rattle.mspec.specs.Node.{Text, Node}
-use Rattle.mspec.specs.NodeOrder.{node_cmp}
-use Rattle.mspec.specs.Number.{significant_digits}
-use Rattle.mspec.specs.Globals.{is_node_within, status}
-use Rattle.mmeaning.specs.Shared.{Shared, act}
 use Rattle.mmeaning.proofs.ExampleAccount.{alice}
 use Rattle.mmeaning.proofs.LineRuns.{event, shut, shut_run, shut_step, step_is_shut}
 use Rattle.mmeaning.proofs.Running.{◌≡◌, List, [], ◌∷◌, Some, None, true, false, refl, codes, empty, gets, Globals, new_session, opening, account, done, failed, AreAnswered, at_last, Anywhere, runs}

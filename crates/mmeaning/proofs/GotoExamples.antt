@@ -1,21 +1,6 @@
 -- SPDX-License-Identifier: Apache-2.0
 -- GOTO on examples, as proved equations: a loop of six turns, each in an equation of its own.
-use Rattle.mmeaning.proofs.MeaningWords.{sym, zero, ◌*◌, ℕ, ◌^◌, suc, ap, ◌∙◌, insert, Plan, then_plan, perform, Gives, give, Locals, State, Outcome, Act, on_gives, Completion, Go_on, Position}
-use Rattle.std.specs.Fmt.{digits}
-use Rattle.mspec.specs.NodeOrder.{canonical_value}
-use Rattle.mspec.specs.NumberText.{size_text}
-use Rattle.mspec.specs.Act.{no_locals, level_begun, value_of, assigned_to}
-use Rattle.mgrammar.specs.ReadingWords.{name_at}
-use Rattle.mgrammar.specs.Reading.{line_at}
-use Rattle.mgrammar.specs.RoutineLine.{label_at, routine_line_at}
-use Rattle.mspec.proofs.ComputedMaps.{tree_none, tree_put, tree_again, text_none, text_put, text_again}
-use Rattle.mspec.proofs.ComputedNumbers.{value_some, round_pos, text_1, text_2, text_3, text_4, text_8, text_16}
-use Rattle.mspec.specs.Scopes.{bottom}
-use Rattle.mgrammar.specs.Grammar.{multiply, loop, until, for_word, is, less, number, text, reference, at_label, at_label_in, shown, do_one, go_to, set_word, quit_word, write_word, do_word, goto_word, CommandTree, LineTree, SpacedTree}
-use Rattle.mgrammar.specs.RoutineLine.{RoutineLineTree, spaced_out}
-use Rattle.mgrammar.proofs.Computing.{reads}
-use Rattle.mmeaning.specs.Shared.{Shared, act}
-use Rattle.mmeaning.specs.Levels.{commands_in}
+use Rattle.mmeaning.proofs.MeaningWords.{sym, zero, ◌*◌, ℕ, ◌^◌, suc, ap, ◌∙◌, insert, Plan, then_plan, perform, Gives, give, Locals, State, Outcome, Act, on_gives, Completion, Go_on, Position, digits, canonical_value, size_text, no_locals, level_begun, value_of, assigned_to, name_at, line_at, label_at, routine_line_at, tree_none, tree_put, tree_again, text_none, text_put, text_again, value_some, round_pos, text_1, text_2, text_3, text_4, text_8, text_16, bottom, multiply, loop, until, for_word, is, less, number, text, reference, at_label, at_label_in, shown, do_one, go_to, set_word, quit_word, write_word, do_word, goto_word, CommandTree, LineTree, SpacedTree, RoutineLineTree, spaced_out, reads, Shared, act, commands_in}
 use Rattle.mmeaning.proofs.Calls.{assoc_plan, then_give}
 use Rattle.mmeaning.proofs.ExampleAccount.{alice}
 use Rattle.mmeaning.proofs.LineRuns.{shut, entered, opened, text_opened}

@@ -1,11 +1,6 @@
 -- SPDX-License-Identifier: Apache-2.0
 -- Indirection on examples, as proved equations. What is read of the texts that stand for an `@` stands beside the lines.
-use Rattle.mmeaning.proofs.MeaningWords.{ℕ, ◌++◌, rules, replicate, M6, M9, Zsteps, Zsyntax, Zdepth}
-use Rattle.mspec.specs.Act.{no_locals, assigned_to}
-use Rattle.mgrammar.specs.Grammar.{divide, ExprTree, number, text, reference, local, exprs, no_exprs, set_argument, kill_argument, new_argument, if_argument, write_argument, xecute_argument, breaks, shown, kill_one, new_one, tested, executed, indirect_args}
-use Rattle.mgrammar.specs.IndirectTexts.{ref_at, args_of}
-use Rattle.mgrammar.proofs.Computing.{reads}
-use Rattle.mmeaning.specs.LineMeaning.{line_end}
+use Rattle.mmeaning.proofs.MeaningWords.{ℕ, ◌++◌, rules, replicate, M6, M9, Zsteps, Zsyntax, Zdepth, no_locals, assigned_to, divide, ExprTree, number, text, reference, local, exprs, no_exprs, set_argument, kill_argument, new_argument, if_argument, write_argument, xecute_argument, breaks, shown, kill_one, new_one, tested, executed, indirect_args, ref_at, args_of, reads, line_end}
 use Rattle.mmeaning.proofs.LineTrees.{only, with_operator, named, set_to}
 use Rattle.mmeaning.proofs.Running.{◌≡◌, List, [], ◌∷◌, Some, None, true, false, refl, codes, empty, Text, opening, with_steps, done, failed, AreAnswered, Answered, serving, holding, at_first, at_last, Each, at_case, no_more, runs, running}
 
@@ -42,55 +37,6 @@ texts_read : TextsRead
 unfolding reads
 texts_read = search rules
 
--- ---- name indirection
-
-names : Each (
-    -- arguments that a text gives, and a variable that it names with subscripts behind it
-    (codes "S A=\"B\",B=7 W @A,@\"A\"@(1)", failed (codes "7") M6) ∷
-    -- what a text names is set, with or without subscripts behind it
-    (codes "S A=\"B\",@A=1,@A@(2)=3 W B,B(2)", done (codes "13")) ∷
-    -- a text's own parts are evaluated before the subscripts behind it
-    (codes "W @\"B(C)\"@(1/0)", failed [] M6) ∷
-    -- and the text is read before that
-    (codes "W @\"B C\"@(1/0)", failed [] Zsyntax) ∷
-    -- then the subscripts are evaluated
-    (codes "W @\"B\"@(1/0)", failed [] M9) ∷
-    -- subscripts belong to the innermost indirection, whose value is a text again
-    (codes "S C(1)=\"B\",B=5 W @@\"C\"@(1)", done (codes "5")) ∷
-    -- and so do others to the one around it
-    (codes "S C(1)=\"B\",B(2)=6 W @@\"C\"@(1)@(2)", done (codes "6")) ∷ [])
-unfolding runs
-names =
-    at_case _ refl (simp running) (at_case _ refl (simp running) (at_case _ refl (simp running) (at_case _ refl (simp running)
-    (at_case _ refl (simp running) (at_case _ refl (simp running) (at_case _ refl (simp running) no_more))))))
-
--- ---- argument indirection
-
-arguments_given : Each (
-    -- SET
-    (codes "S A=\"B=4,C=5\" S @A W B+C", done (codes "9")) ∷
-    -- XECUTE
-    (codes "S A=\"\"\"W 5\"\",\"\"W 6\"\"\" X @A", done (codes "56")) ∷
-    -- with a postconditional it is a name that the text has to give
-    (codes "S A=\"\"\"W 5\"\",\"\"W 6\"\"\" X @A:1", failed [] Zsyntax) ∷
-    (codes "S A=\"B\",B=\"W 5\" X @A:1", done (codes "5")) ∷
-    -- and DO takes none
-    (codes "W 1 D @\"U^T\":1", failed [] Zsyntax) ∷
-    -- KILL and NEW
-    (codes "S A=1,B=2 K @\"A,B\" W $D(A),$D(B)", done (codes "00")) ∷
-    (codes "S A=1 N @\"A\" W $D(A)", done (codes "0")) ∷
-    -- WRITE, at each turn of a FOR anew
-    (codes "F I=1:1:2 W @\"I\"", done (codes "12")) ∷
-    -- what stands before an error in the text is written
-    (codes "W @\"1,!,2,1/0\"", failed (codes "1" ++ line_end ∷ codes "2") M9) ∷
-    -- a text gives one argument at least
-    (codes "W @\"\"", failed [] Zsyntax) ∷ [])
-unfolding runs
-arguments_given =
-    at_case _ refl (simp running) (at_case _ refl (simp running) (at_case _ refl (simp running) (at_case _ refl (simp running)
-    (at_case _ refl (simp running) (at_case _ refl (simp running) (at_case _ refl (simp running) (at_case _ refl (simp running)
-    (at_case _ refl (simp running) (at_case _ refl (simp running) no_more)))))))))
-
 -- lines one after another
 record Sessions : Type 0 where
   -- the variable that a text names costs no step of its own: of ten steps eight are used before the turns
@@ -117,7 +63,41 @@ operands n = codes "W " ++ (replicate n 64 ++ codes "A")
 abbrev in_brackets : ℕ → Text → Text
 in_brackets n t = replicate n 40 ++ (t ++ replicate n 41)
 
-depths : Each (
+lines : Each (
+    -- name indirection
+    -- arguments that a text gives, and a variable that it names with subscripts behind it
+    (codes "S A=\"B\",B=7 W @A,@\"A\"@(1)", failed (codes "7") M6) ∷
+    -- what a text names is set, with or without subscripts behind it
+    (codes "S A=\"B\",@A=1,@A@(2)=3 W B,B(2)", done (codes "13")) ∷
+    -- a text's own parts are evaluated before the subscripts behind it
+    (codes "W @\"B(C)\"@(1/0)", failed [] M6) ∷
+    -- and the text is read before that
+    (codes "W @\"B C\"@(1/0)", failed [] Zsyntax) ∷
+    -- then the subscripts are evaluated
+    (codes "W @\"B\"@(1/0)", failed [] M9) ∷
+    -- subscripts belong to the innermost indirection, whose value is a text again
+    (codes "S C(1)=\"B\",B=5 W @@\"C\"@(1)", done (codes "5")) ∷
+    -- and so do others to the one around it
+    (codes "S C(1)=\"B\",B(2)=6 W @@\"C\"@(1)@(2)", done (codes "6")) ∷
+    -- argument indirection
+    -- SET
+    (codes "S A=\"B=4,C=5\" S @A W B+C", done (codes "9")) ∷
+    -- XECUTE
+    (codes "S A=\"\"\"W 5\"\",\"\"W 6\"\"\" X @A", done (codes "56")) ∷
+    -- with a postconditional it is a name that the text has to give
+    (codes "S A=\"\"\"W 5\"\",\"\"W 6\"\"\" X @A:1", failed [] Zsyntax) ∷
+    (codes "S A=\"B\",B=\"W 5\" X @A:1", done (codes "5")) ∷
+    -- and DO takes none
+    (codes "W 1 D @\"U^T\":1", failed [] Zsyntax) ∷
+    -- KILL and NEW
+    (codes "S A=1,B=2 K @\"A,B\" W $D(A),$D(B)", done (codes "00")) ∷
+    (codes "S A=1 N @\"A\" W $D(A)", done (codes "0")) ∷
+    -- WRITE, at each turn of a FOR anew
+    (codes "F I=1:1:2 W @\"I\"", done (codes "12")) ∷
+    -- what stands before an error in the text is written
+    (codes "W @\"1,!,2,1/0\"", failed (codes "1" ++ line_end ∷ codes "2") M9) ∷
+    -- a text gives one argument at least
+    (codes "W @\"\"", failed [] Zsyntax) ∷
     (operands 40, failed [] M6) ∷
     (operands 41, failed [] Zsyntax) ∷
     ((codes "S A=1 W " ++ in_brackets 39 (codes "@\"A\"")), done (codes "1")) ∷
@@ -126,6 +106,11 @@ depths : Each (
     -- a text that stands for itself: 32 indirections are under evaluation where it is refused
     (codes "S A=\"@A\" W @A", failed [] Zdepth) ∷ [])
 unfolding runs
-depths =
-    at_case _ refl (simp (running, running)) (at_case _ refl (simp (running, running)) (at_case _ refl (simp (running, running))
-    (at_case _ refl (simp (running, running)) (at_case _ refl (simp (running, running)) (at_case _ refl (simp (running, running)) no_more)))))
+lines =
+    at_case _ refl (simp running) (at_case _ refl (simp running) (at_case _ refl (simp running) (at_case _ refl (simp running)
+    (at_case _ refl (simp running) (at_case _ refl (simp running) (at_case _ refl (simp running) (at_case _ refl (simp running)
+    (at_case _ refl (simp running) (at_case _ refl (simp running) (at_case _ refl (simp running) (at_case _ refl (simp running)
+    (at_case _ refl (simp running) (at_case _ refl (simp running) (at_case _ refl (simp running) (at_case _ refl (simp running)
+    (at_case _ refl (simp running) (at_case _ refl (simp (running, running)) (at_case _ refl (simp (running, running)) (at_case _ refl (simp (running, running))
+    (at_case _ refl (simp (running, running)) (at_case _ refl (simp (running, running)) (at_case _ refl (simp (running, running)) no_more))))))))))))))))))))))
+

@@ -1,21 +1,8 @@
 -- SPDX-License-Identifier: Apache-2.0
 -- How deep indirections may stand, on examples, as proved equations: which are levels at once, and in which order they are refused.
-use Rattle.mmeaning.proofs.MeaningWords.{◌≡◌, ℕ, zero, suc, ◌+◌, ◌≤◌, Bool, true, false, List, [], ◌∷◌, Option, Some, None, refl, arith, rules, codes, nat_lt, M9, Zdepth, Zsyntax, Done}
-use Rattle.std.proofs.lemmas.Bool.Decides.{nat_tests}
-use Rattle.mspec.specs.Act.{Text, Node, Locals, level_begun, State, Gives, Fails, value_of, assigned_to}
-use Rattle.mgrammar.specs.Grammar.{divide, number, PrimaryTree, text, bracket, reference, ReferenceTree, indirect, exprs, no_exprs, variable, one, write_argument, at_label, do_argument, do_one, indirect_args, do_word, CommandTree}
-use Rattle.mgrammar.specs.ReadingWords.{many, list_at, name_at}
+use Rattle.mmeaning.proofs.MeaningWords.{◌≡◌, ℕ, zero, suc, ◌+◌, ◌≤◌, Bool, true, false, List, [], ◌∷◌, Option, Some, None, refl, arith, rules, codes, nat_lt, M9, Zdepth, Zsyntax, Done, nat_tests, Text, Node, Locals, level_begun, State, Gives, Fails, value_of, assigned_to, divide, number, PrimaryTree, text, bracket, reference, ReferenceTree, indirect, exprs, no_exprs, variable, one, write_argument, at_label, do_argument, do_one, indirect_args, do_word, CommandTree, many, list_at, name_at, entry_at, do_argument_at, ref_at, args_of, RoutineLineTree, spaced_out, dots_of, label_at, routine_line_at, reads, of_global, of_naked, of_local, Inside, inside, evaluated, finds, is_indirection_free, Context, context, given, setting, Position, commands, target, computes}
 use Rattle.mgrammar.specs.ReadingExpressions.{subscripts_with, attached_with, indirect_with, reference_with, primary_with, readers_at}
-use Rattle.mgrammar.specs.Reading.{entry_at, do_argument_at}
-use Rattle.mgrammar.specs.IndirectTexts.{ref_at, args_of}
-use Rattle.mgrammar.specs.RoutineLine.{RoutineLineTree, spaced_out, dots_of, label_at, routine_line_at}
-use Rattle.mgrammar.proofs.Computing.{reads}
-use Rattle.mmeaning.specs.Variables.{of_global, of_naked, of_local}
-use Rattle.mmeaning.specs.Expression.{Inside, inside, evaluated, finds, is_indirection_free}
-use Rattle.mmeaning.specs.LineMeaning.{Context, context, given, setting, Position, commands}
-use Rattle.mmeaning.specs.Levels.{target}
 use Rattle.mmeaning.proofs.LineTrees.{only, with_operator, command, line}
-use Rattle.mspec.proofs.ComputedNumbers.{computes}
 
 -- where so many levels are open, of which so many are indirections
 abbrev within : ℕ → ℕ → Inside

@@ -1,9 +1,6 @@
 -- SPDX-License-Identifier: Apache-2.0
 -- Argument indirection of DO and GOTO on examples, as proved equations.
-use Rattle.std.proofs.Common.{rules}
-use Rattle.mgrammar.specs.Grammar.{at_label_in, do_argument, goto_argument, do_one, go_to}
-use Rattle.mgrammar.specs.IndirectTexts.{args_of}
-use Rattle.mgrammar.proofs.Computing.{reads}
+use Rattle.mmeaning.proofs.MeaningWords.{rules, at_label_in, do_argument, goto_argument, do_one, go_to, args_of, reads}
 use Rattle.mmeaning.proofs.Running.{◌≡◌, List, [], ◌∷◌, Some, None, refl, codes, Text, done, at_last, asked, With, runs, running}
 
 -- ---- what is read of the texts

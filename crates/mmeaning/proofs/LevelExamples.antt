@@ -1,15 +1,7 @@
 -- SPDX-License-Identifier: Apache-2.0
 -- Levels on examples, as proved equations: how many may be open, and in which order DO, GOTO and XECUTE are refused.
-use Rattle.mmeaning.proofs.MeaningWords.{◌≡◌, ℕ, zero, suc, ◌+◌, ◌≤◌, Bool, true, false, List, [], ◌∷◌, Option, Some, None, refl, ap, subst, ◌∙◌, arith, rules, codes, nat_lt, M9, M13, Zdepth, Zlevel, Zsyntax, Plan, Done, then_plan, line_at, text_run}
-use Rattle.std.proofs.lemmas.Bool.Decides.{nat_tests}
-use Rattle.mspec.specs.Scopes.{Scope}
-use Rattle.mspec.specs.Act.{Text, Node, Locals, State, Outcome, Gives, Fails, on_gives, level_begun, value_of}
-use Rattle.mgrammar.specs.Grammar.{divide, number, text, reference, at_label, executed, execute_word, LineTree}
-use Rattle.mgrammar.proofs.Computing.{reads}
-use Rattle.mmeaning.specs.LineMeaning.{Completion, Position, top_level, after_level, run_within, Context, Go_on, Goes, context, commands, doing, doing_block, executing, going}
-use Rattle.mmeaning.specs.Levels.{commands_of}
+use Rattle.mmeaning.proofs.MeaningWords.{◌≡◌, ℕ, zero, suc, ◌+◌, ◌≤◌, Bool, true, false, List, [], ◌∷◌, Option, Some, None, refl, ap, subst, ◌∙◌, arith, rules, codes, nat_lt, M9, M13, Zdepth, Zlevel, Zsyntax, Plan, Done, then_plan, line_at, text_run, nat_tests, Scope, Text, Node, Locals, State, Outcome, Gives, Fails, on_gives, level_begun, value_of, divide, number, text, reference, at_label, executed, execute_word, LineTree, reads, Completion, Position, top_level, after_level, run_within, Context, Go_on, Goes, context, commands, doing, doing_block, executing, going, commands_of, computes}
 use Rattle.mmeaning.proofs.LineTrees.{only, with_operator, named, command, line}
-use Rattle.mspec.proofs.ComputedNumbers.{computes}
 
 -- a level of this many dots, of a routine of three lines, where so many levels are open
 abbrev lines : List Text
@@ -20,7 +12,7 @@ within levels dots = context (codes "ALICE") 9 (record { depth = record { levels
 
 -- ---- the 257th level is refused
 
-record LevelsRefused : Type 0 where
+record Refused : Type 0 where
   -- before the line of a DO is sought
   level_before_line : (s : State) → doing (within 256 0) (at_label (codes "NO")) s ≡ Done (Fails Zdepth s)
   line_sought : (s : State) → doing (within 255 0) (at_label (codes "NO")) s ≡ Done (Fails M13 s)
@@ -39,23 +31,16 @@ record LevelsRefused : Type 0 where
   value_before_level : (locals : Locals) (naked : Option Node) (test : Bool) (out : Text) (steps : ℕ)
       → executing (within 256 0) (with_operator (number (codes "1")) divide (number (codes "0"))) (record { locals = locals; naked = naked; test = test; out = out; steps = suc (suc steps) })
       ≡ Done (Fails M9 (record { locals = locals; naked = naked; test = test; out = out; steps = steps }))
-
-levels_refused : LevelsRefused
-unfolding reads level_begun computes
-levels_refused = search rules
-
--- ---- lines with dots
-
-record Dots : Type 0 where
+  -- lines with dots
   -- GOTO keeps to the dots of its level, and opens none
   goto_dots : (s : State) → going (within 256 1) (at_label (codes "U")) s ≡ Done (Gives (Goes (record { copy = lines; line = 1 })) s)
   goto_other_dots : (s : State) → going (within 256 1) (at_label (codes "T")) s ≡ Done (Fails Zlevel s)
   -- the level of a DO with an argument has none
   do_dots : (s : State) → doing (within 0 1) (at_label (codes "U")) s ≡ Done (Fails Zlevel s)
 
-dots : Dots
-unfolding reads
-dots = search rules
+refused_levels : Refused
+unfolding reads level_begun computes
+refused_levels = search rules
 
 -- ---- a text that runs itself: 256 levels are open where it is refused
 

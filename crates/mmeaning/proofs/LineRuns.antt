@@ -1,13 +1,8 @@
 -- SPDX-License-Identifier: Apache-2.0
 -- Lines of a terminal, one after another, in a form that `simp` computes: a turn is opened only where its state is known, since what
 -- runs a turn holds what runs the next one, and so on for all the fuel.
-use Rattle.mmeaning.proofs.MeaningWords.{◌≡◌, ℕ, zero, suc, Bool, true, false, List, [], ◌∷◌, Option, Some, None, refl, ap, ◌∙◌, map, empty, get, insert, Plan, perform, Zsyntax, Zsteps, Zterm, Zline, Zchar, ReferenceTree, ExprsTree, ArgTree, CommandTree, LineTree, line_at, opening, replies}
-use Rattle.mspec.specs.Act.{Text, Node, Locals, no_locals, assigned_to, State, Outcome, Act, ◌>>=◌, fail}
-use Rattle.mmeaning.specs.Variables.{Evaluated}
-use Rattle.mmeaning.specs.Expression.{Depth, through, finds, inside}
-use Rattle.mmeaning.specs.LineMeaning.{Completion, Position, top_level, Turning, Texts, Context, texts, arguments, commands, after_turn, after_level}
-use Rattle.mmeaning.specs.Levels.{commands_of}
-use Rattle.mmeaning.specs.Transition.{Account, Settings, Session, World, Event, Reply, act, plan_of, begun, session_or_new, ended, refused, is_too_long, is_ascii, checked, at_account, normal}
+use Rattle.mmeaning.proofs.MeaningWords.{◌≡◌, ℕ, zero, suc, Bool, true, false, List, [], ◌∷◌, Option, Some, None, refl, ap, ◌∙◌, map, empty, get, insert, Plan, perform, Zsyntax, Zsteps, Zterm, Zline, Zchar, ReferenceTree, ExprsTree, ArgTree, CommandTree, LineTree, line_at, opening, replies, Text, Node, Locals, no_locals, assigned_to, State, Outcome, Act, ◌>>=◌, fail, Evaluated, Depth, through, finds, inside, Completion, Position, top_level, Turning, Texts, Context, texts, arguments, commands, after_turn, after_level, commands_of, Account, Settings, Session, World, Event, Reply, plan_of, begun, session_or_new, ended, refused, is_too_long, is_ascii, checked, at_account, normal}
+use Rattle.mmeaning.specs.Transition.{act}
 use Rattle.mmeaning.proofs.ExampleAccount.{account, settings_of}
 
 -- ---- what lines are answered

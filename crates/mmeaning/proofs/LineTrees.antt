@@ -1,8 +1,6 @@
 -- SPDX-License-Identifier: Apache-2.0
 -- Trees of lines, written shortly: for examples of lines whose text takes long to read by `simp`.
-use Rattle.std.proofs.Common.{ℕ, List, [], ◌∷◌, Some, None}
-use Rattle.mspec.specs.Act.{Text}
-use Rattle.mgrammar.specs.Grammar.{ExprTree, expr, no_tails, tail, BinaryTree, apply, OperandTree, operand, PrimaryTree, minus, ReferenceTree, local, no_exprs, variable, one, KeywordTree, ArgTree, assign, CommandTree, SpacedTree, LineTree}
+use Rattle.mmeaning.proofs.MeaningWords.{ℕ, List, [], ◌∷◌, Some, None, Text, ExprTree, expr, no_tails, tail, BinaryTree, apply, OperandTree, operand, PrimaryTree, minus, ReferenceTree, local, no_exprs, variable, one, KeywordTree, ArgTree, assign, CommandTree, SpacedTree, LineTree}
 
 abbrev pub plain : PrimaryTree → OperandTree
 plain p = operand [] p

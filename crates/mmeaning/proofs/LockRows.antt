@@ -1,11 +1,6 @@
 -- SPDX-License-Identifier: Apache-2.0
 -- LOCK and HALT of several terminals on examples, as proved equations.
-use Rattle.mmeaning.proofs.MeaningWords.{rules, nat_cmp, M6, M9, Zlocked, Zsyntax, Session, World, Halted}
-use Rattle.std.specs.FinMap.{FinMap, insert, remove}
-use Rattle.mspec.specs.LockConflict.{LockName, Locks, held}
-use Rattle.mgrammar.specs.Grammar.{divide, number, global, naked, exprs, no_exprs, anew, adding, lock_one, lock_argument, locked}
-use Rattle.mgrammar.specs.IndirectTexts.{ref_at, args_of}
-use Rattle.mgrammar.proofs.Computing.{reads}
+use Rattle.mmeaning.proofs.MeaningWords.{rules, nat_cmp, M6, M9, Zlocked, Zsyntax, Session, World, Halted, FinMap, insert, remove, LockName, Locks, held, divide, number, global, naked, exprs, no_exprs, anew, adding, lock_one, lock_argument, locked, ref_at, args_of, reads}
 use Rattle.mmeaning.proofs.LineTrees.{only, with_operator}
 use Rattle.mmeaning.proofs.LockRuns.{AreReplied, replied_first, replied_last, plain_session, halted, computed_locks}
 use Rattle.mmeaning.proofs.Running.{◌≡◌, List, [], ◌∷◌, Some, None, true, false, refl, codes, empty, Text, opening, done, failed, computed_operations, runs, running}

@@ -1,16 +1,9 @@
 -- SPDX-License-Identifier: Apache-2.0
 -- Lines of several terminals, one after another, and the maps of locks and sessions that they leave: for examples of LOCK and HALT.
-use Rattle.mmeaning.proofs.MeaningWords.{◌≡◌, ℕ, Bool, true, false, cond, List, [], ◌∷◌, Option, Some, None, refl, sym, ap, ◌∙◌, codes, not, map, eq_by_cmp, Plan, Ask, Take, Give_back, Release, perform, Ops, LineTree, line_at, Completion, Session, World, Event, Reply, Halted, normal, replies}
-use Rattle.std.specs.FinMap.{get, insert, empty, entries, remove, retain_keys, get-insert, get-remove, get-empty, entries-insert, same_map}
+use Rattle.mmeaning.proofs.MeaningWords.{◌≡◌, ℕ, Bool, true, false, cond, List, [], ◌∷◌, Option, Some, None, refl, sym, ap, ◌∙◌, codes, not, map, eq_by_cmp, Plan, Ask, Take, Give_back, Release, perform, Ops, LineTree, line_at, Completion, Session, World, Event, Reply, Halted, normal, replies, get, insert, empty, entries, remove, retain_keys, get-insert, get-remove, get-empty, entries-insert, same_map, LockName, Locks, Held, held_cmp, Read, Text, Outcome, no_locals, equal_of, get_cut, cut_drops, entries_none, Shared, act, Inside, inside}
 use Rattle.std.specs.FinMap.Entries.{put}
-use Rattle.mspec.specs.LockConflict.{LockName, Locks, Held, held_cmp}
-use Rattle.mspec.specs.Access.{Account, Settings, Read}
-use Rattle.mspec.specs.Act.{Text, Outcome, no_locals}
+use Rattle.mspec.specs.Access.{Account, Settings}
 use Rattle.mspec.proofs.LockOrders.{held_cmp_total, held_cmp_exact}
-use Rattle.mspec.proofs.MapCuts.{equal_of, get_cut, cut_drops}
-use Rattle.mspec.proofs.ComputedMaps.{entries_none}
-use Rattle.mmeaning.specs.Shared.{Shared, act}
-use Rattle.mmeaning.specs.Expression.{Inside, inside}
 use Rattle.mmeaning.proofs.LineRuns.{shut_step, step_is_shut}
 
 abbrev pub account : Text → Account

@@ -1,17 +1,10 @@
 -- SPDX-License-Identifier: Apache-2.0
 -- LOCK on examples, as proved equations over any world: what is asked in which order, and what is refused.
-use Rattle.mmeaning.proofs.MeaningWords.{◌≡◌, ℕ, suc, Bool, true, false, [], ◌∷◌, Option, Some, None, refl, rules, codes, empty, get, M9, Zgrant, Zlocked, Zsub, Zsyntax, perform}
-use Rattle.mspec.specs.LockConflict.{LockName, Locks, taken, given_back, released}
-use Rattle.mspec.specs.Access.{Settings, Read}
-use Rattle.mspec.specs.Act.{Text, Node, Locals, State, Gives, Fails}
-use Rattle.mgrammar.specs.Grammar.{ExprTree, divide, number, text, ReferenceTree, local, global, indirect, extended, exprs, no_exprs, anew, adding, giving_back, lock_one, lock_several, reference}
-use Rattle.mgrammar.proofs.Computing.{reads}
-use Rattle.mmeaning.specs.Expression.{finds}
+use Rattle.mmeaning.proofs.MeaningWords.{◌≡◌, ℕ, suc, Bool, true, false, [], ◌∷◌, Option, Some, None, refl, rules, codes, empty, get, M9, Zgrant, Zlocked, Zsub, Zsyntax, perform, LockName, Locks, taken, given_back, released, Read, Text, Node, Locals, State, Gives, Fails, ExprTree, divide, number, text, ReferenceTree, local, global, indirect, extended, exprs, no_exprs, anew, adding, giving_back, lock_one, lock_several, reference, reads, finds, Shared, computes}
+use Rattle.mspec.specs.Access.{Settings}
 use Rattle.mmeaning.specs.Locking.{locking}
-use Rattle.mmeaning.specs.Shared.{Shared}
 use Rattle.mmeaning.proofs.LineTrees.{only, with_operator}
 use Rattle.mmeaning.proofs.LockRuns.{hers, his, her_line, his_line}
-use Rattle.mspec.proofs.ComputedNumbers.{computes}
 
 -- ALICE lets BOB read her global X
 abbrev lending : Settings

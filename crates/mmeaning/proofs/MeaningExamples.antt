@@ -1,12 +1,8 @@
 -- SPDX-License-Identifier: Apache-2.0
 -- The interpreter on examples, as proved equations.
-use Rattle.mmeaning.proofs.MeaningWords.{ℕ, ◌*◌, ◌++◌, Option, rules, ◌^◌, map, replicate, line_at, Done, perform, State, Outcome, Gives, Fails, Completion, replies}
-use Rattle.mspec.proofs.ComputedNumbers.{computes}
-use Rattle.mspec.specs.NumberText.{size_text}
-use Rattle.mgrammar.specs.Grammar.{join}
-use Rattle.mspec.specs.Code.{Code, M4, M6, M9, M10, Zlong, Zsyntax, Zover, Zarg, Zchar, Zline, Zterm, Zsteps}
+use Rattle.mmeaning.proofs.MeaningWords.{ℕ, ◌*◌, ◌++◌, Option, rules, ◌^◌, map, replicate, line_at, Done, perform, State, Outcome, Gives, Fails, Completion, replies, computes, size_text, join, Code, M4, M6, M9, M10, Zlong, Zsyntax, Zover, Zarg, Zchar, Zline, Zterm, Zsteps, Event, Reply, begun, text_run}
 use Rattle.mmeaning.specs.Operators.{binary}
-use Rattle.mmeaning.specs.Transition.{Event, Reply, act, begun, text_run}
+use Rattle.mmeaning.specs.Transition.{act}
 use Rattle.mmeaning.proofs.ExampleAccount.{alice}
 use Rattle.mmeaning.proofs.Running.{◌≡◌, List, [], ◌∷◌, Some, None, refl, codes, empty, gets, Text, new_session, opening, account, with_steps, done, failed, AreAnswered, Answered, holding, at_first, at_last, Each, at_case, no_more, runs, running, numbers}
 
@@ -81,7 +77,7 @@ shown_by_lines : AreShown (
 unfolding runs computes
 shown_by_lines = refl
 
-targets : Each (
+cases : Each (
     -- targets of SET, from left to right
     (codes "S (A,B)=3 W A+B", done (codes "6")) ∷
     (codes "S P=\"a\" S $P(P,\"-\",3)=\"z\" W P", done (codes "a--z")) ∷
@@ -89,20 +85,17 @@ targets : Each (
     (codes "S $P(A,\"\",\"1E30\")=1", failed [] Zover) ∷
     (codes "S $P(A,\"\",1)=1", failed [] Zarg) ∷
     (codes "S $P(A,\",\",2.9)=1 W A", done (codes ",1")) ∷
-    (codes "S $P(A,1/0)=B", failed [] M9) ∷ [])
-unfolding runs
-targets =
-    at_case _ refl (simp running) (at_case _ refl (simp running) (at_case _ refl (simp running) (at_case _ refl (simp running)
-    (at_case _ refl (simp running) (at_case _ refl (simp (running, numbers.of_2_point_9)) (at_case _ refl (simp running) no_more))))))
-
-lines_run : Each (
+    (codes "S $P(A,1/0)=B", failed [] M9) ∷
     -- a line end is the byte 255
     (codes "SET A=\"x\" W A_1,!,A-1*2", done (codes "x1" ++ (255 ∷ codes "-2"))) ∷
     (codes "W 1,\"a\"_B", failed (codes "1") M6) ∷
     -- both operands are evaluated before they become numbers
     (codes "W \"1E30\"+B", failed [] M6) ∷ [])
 unfolding runs
-lines_run = at_case _ refl (simp running) (at_case _ refl (simp running) (at_case _ refl (simp running) no_more))
+cases =
+    at_case _ refl (simp running) (at_case _ refl (simp running) (at_case _ refl (simp running) (at_case _ refl (simp running)
+    (at_case _ refl (simp running) (at_case _ refl (simp (running, numbers.of_2_point_9)) (at_case _ refl (simp running) (at_case _ refl (simp running)
+    (at_case _ refl (simp running) (at_case _ refl (simp running) no_more)))))))))
 
 -- lines one after another
 record Sessions : Type 0 where

@@ -1,16 +1,45 @@
 -- SPDX-License-Identifier: Apache-2.0
 -- The words that most proofs of this crate have, in one place.
-pub use Rattle.std.proofs.Common.{◌≡◌, ℕ, zero, suc, ◌≤◌, Result, Ok, Err, refl, sym, ap, ◌∙◌, arith, ◌*◌, rules, Bool, [], ◌∷◌, Option, Some, cond, true, false, None, subst, ◌++◌, ◌+◌, List}
-pub use Rattle.std.specs.FinMap.{get, empty, insert, retain_keys, get-insert, get-empty, remove, entries, entries-insert}
+pub use Rattle.std.proofs.Common.{Bool, Err, List, None, Ok, Option, Result, Some, [], ap, arith, cond, false, refl, rules, subst, suc, sym, true, zero, ℕ, ◌*◌, ◌++◌, ◌+◌, ◌<◌, ◌∙◌, ◌∷◌, ◌≡◌, ◌≤◌}
+pub use Rattle.std.proofs.lemmas.Bool.Decides.{nat_tests}
+pub use Rattle.std.specs.FinMap.{FinMap, empty, entries, entries-insert, get, get-empty, get-insert, get-remove, insert, remove, retain_keys, same_map}
+unfoldable pub use Rattle.std.specs.Fmt.{digits}
+pub use Rattle.std.specs.List.{list_all}
 pub use Rattle.std.specs.Ordering.{eq_by_cmp, nat_cmp}
-pub use Rattle.std.specs.Prelude.{◌^◌, codes, not, map, replicate, nat_lt}
-pub use Rattle.mspec.specs.Act.{Outcome, Gives, Fails, Act, on_gives, ◌>>=◌, give, Locals, State, fail}
-pub use Rattle.mspec.specs.Code.{M9, M13, Zsyntax, Zlevel, Zsteps, Memory, Store, Fault, Own, Lost, Zover, Zarg, Zgrant, Zsub, Code, M6, Zdepth, Zterm, Zline, Zchar, Zlocked}
-pub use Rattle.mspec.specs.LockConflict.{LockName, taken, Locks, released}
-pub use Rattle.mspec.specs.Plan.{Op, Answer, Plan, Done, Ask, then_plan, perform, Ops, Take, Give_back, Release, May, Value, Status, Routine, Put, Kill}
-pub use Rattle.mgrammar.specs.Grammar.{ExprTree, divide, number, text, reference, ReferenceTree, naked, extended, ExprsTree, exprs, no_exprs, variable, one, LineTree, at_label, at_label_in, shown, do_one, go_to, do_word, CommandTree, SpacedTree, local, write_argument, executed, indirect_args, PrimaryTree, indirect, do_argument, ArgTree, global, anew, adding, lock_one}
-pub use Rattle.mgrammar.specs.Reading.{line_at}
-pub use Rattle.mmeaning.specs.Calls.{Standing, Here, FailedBy, Ends, Did, MayLose, Follows, ops_of}
-pub use Rattle.mmeaning.specs.History.{replies, opening}
-pub use Rattle.mmeaning.specs.LineMeaning.{setting, Completion, Go_on, Position, Quits, Goes, Halts, Context, context, commands, top_level, after_level, run_within, texts}
-pub use Rattle.mmeaning.specs.Transition.{World, Reply, Finished, Session, normal, kept, ended, begun, is_too_long, is_ascii, Event, at_account, checked, text_run, Halted}
+pub use Rattle.std.specs.Prelude.{codes, map, nat_lt, not, option_map, replicate, ◌^◌}
+pub use Rattle.mspec.proofs.ComputedMaps.{computed_maps, entries_none, text_again, text_none, text_put, tree_again, tree_none, tree_put}
+pub use Rattle.mspec.proofs.ComputedNumbers.{computed_numbers, round_pos, text_1, text_16, text_2, text_3, text_4, text_8, value_some}
+unfoldable pub use Rattle.mspec.proofs.ComputedNumbers.{computes}
+pub use Rattle.mspec.proofs.MapCuts.{cut_drops, equal_of, get_cut}
+pub use Rattle.mspec.proofs.NodeOrders.{node_cmp_exact, node_cmp_total}
+pub use Rattle.mspec.proofs.Plans.{cut_first, cut_second, cut_whole, keeps, keeps_short, perform-then}
+pub use Rattle.mspec.specs.Access.{Mode, Read, Write, may}
+pub use Rattle.mspec.specs.Act.{Act, Fails, Gives, Locals, Node, Outcome, State, Text, ask, fail, give, on_gives, ◌>>=◌}
+unfoldable pub use Rattle.mspec.specs.Act.{assigned_to, level_begun, no_locals, value_of}
+pub use Rattle.mspec.specs.Code.{Code, Fault, Lost, M1, M10, M13, M15, M4, M6, M7, M9, Memory, Own, Store, Zarg, Zchar, Zdepth, Zgrant, Zlevel, Zline, Zlocked, Zlong, Zover, Zsteps, Zsub, Zsyntax, Zterm}
+pub use Rattle.mspec.specs.Globals.{Globals, is_node_within, lines_of, status}
+pub use Rattle.mspec.specs.LockConflict.{Held, LockName, Locks, given_back, held, held_cmp, released, taken}
+pub use Rattle.mspec.specs.NodeOrder.{node_cmp}
+unfoldable pub use Rattle.mspec.specs.NodeOrder.{canonical_value}
+pub use Rattle.mspec.specs.Number.{significant_digits}
+unfoldable pub use Rattle.mspec.specs.NumberText.{size_text}
+pub use Rattle.mspec.specs.Plan.{Answer, Ask, Done, Give_back, Kill, May, Neighbour, Op, Ops, Plan, Put, Release, Routine, Status, Take, Value, cut_short, perform, then_plan}
+pub use Rattle.mspec.specs.Scopes.{Scope, bottom}
+unfoldable pub use Rattle.mgrammar.proofs.Computing.{reads}
+pub use Rattle.mgrammar.specs.Grammar.{ArgTree, BinaryTree, CommandTree, ExprTree, ExprsTree, KeywordTree, LineTree, OperandTree, PrimaryTree, ReferenceTree, SpacedTree, adding, anew, apply, assign, at_label, at_label_in, bracket, breaks, divide, do_argument, do_one, do_word, execute_word, executed, expr, exprs, extended, for_word, giving_back, global, go_to, goto_argument, goto_word, if_argument, indirect, indirect_args, is, join, kill_argument, kill_one, less, local, lock_argument, lock_one, lock_several, locked, loop, minus, multiply, naked, new_argument, new_one, no_exprs, no_tails, number, one, operand, quit_word, refer, reference, set_argument, set_word, shown, tail, tested, text, until, variable, write_argument, write_word, xecute_argument}
+unfoldable pub use Rattle.mgrammar.specs.IndirectTexts.{args_of, ref_at}
+unfoldable pub use Rattle.mgrammar.specs.Reading.{do_argument_at, entry_at, line_at}
+unfoldable pub use Rattle.mgrammar.specs.ReadingWords.{list_at, many, name_at}
+pub use Rattle.mgrammar.specs.RoutineLine.{RoutineLineTree, dots_of, spaced_out}
+unfoldable pub use Rattle.mgrammar.specs.RoutineLine.{label_at, routine_line_at}
+pub use Rattle.mmeaning.specs.Calls.{Did, Ends, FailedBy, Follows, Gave, Here, IsCut, MayLose, Standing, ops_of}
+pub use Rattle.mmeaning.specs.Expression.{Depth, Inside, evaluated, inside, is_indirection_free, through, value}
+unfoldable pub use Rattle.mmeaning.specs.Expression.{finds}
+pub use Rattle.mmeaning.specs.Frames.{Enough, Levels, MovedAs, MovedOn, Rests, View, frame, left}
+pub use Rattle.mmeaning.specs.History.{opening, replies, world_after}
+pub use Rattle.mmeaning.specs.Levels.{commands_in, commands_of, stays, target}
+pub use Rattle.mmeaning.specs.LineMeaning.{Closing, Completion, Context, Go_on, Goes, Halts, Position, Quits, Skips, Texts, Turning, after_level, after_turn, arguments, closed, commands, context, doing, doing_block, executing, given, going, line_end, run_within, setting, texts, top_level}
+pub use Rattle.mmeaning.specs.Shared.{Shared, act, guarded, may_lock, may_read, may_write, took}
+pub use Rattle.mmeaning.specs.Transition.{Account, Event, Faulted, Finished, Halted, Reply, Session, Settings, Transition, TransitionBy, World, at_account, begun, checked, ended, ending_of, is_ascii, is_failure, is_too_long, kept, normal, plan_of, refused, reply_of, session_or_new, text_run}
+pub use Rattle.mmeaning.specs.TransitionLaws.{HistoryIsNormal, NormalNeverFails, NormalTransitionsAreHistory, PlanKeepsOthersLocks}
+pub use Rattle.mmeaning.specs.Variables.{Evaluated, of_global, of_local, of_naked}

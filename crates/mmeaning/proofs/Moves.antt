@@ -1,7 +1,6 @@
 -- SPDX-License-Identifier: Apache-2.0
 -- What is left of a line, a step of it at a time.
-use Rattle.mmeaning.proofs.MeaningWords.{◌≡◌, ℕ, ◌≤◌, List, [], ◌∷◌, Result, Ok, Err, sym, subst, arith, Fault, Act, ◌>>=◌, give, Completion, Standing, Here, Did, MayLose, Follows}
-use Rattle.mmeaning.specs.Frames.{View, frame, left, Enough, MovedAs, MovedOn}
+use Rattle.mmeaning.proofs.MeaningWords.{◌≡◌, ℕ, ◌≤◌, List, [], ◌∷◌, Result, Ok, Err, sym, subst, arith, Fault, Act, ◌>>=◌, give, Completion, Standing, Here, Did, MayLose, Follows, View, frame, left, Enough, MovedAs, MovedOn}
 use Rattle.mmeaning.proofs.Calls.{then_follows, then_failed, follows_itself, follows_on, failed_after, assoc, did_lost}
 
 moved_after : {X E : Type 0} (b : Standing) (steady : Type 0) (fault_of : E → Fault) (completion_of : X → Completion) (p q : Act Completion) (h h1 : Here) (r : Result X E) (fs : List View) (h2 : Here)

@@ -1,15 +1,8 @@
 -- SPDX-License-Identifier: Apache-2.0
 -- No operation changes the locks of another terminal.
-use Rattle.mmeaning.proofs.MeaningWords.{◌≡◌, ℕ, Bool, true, false, List, Option, Some, None, refl, ◌∙◌, LockName, Locks, taken, released, Completion}
-use Rattle.std.specs.List.{list_all}
-use Rattle.mspec.specs.Plan.{Op, May, Value, Status, Neighbour, Routine, Put, Kill, Take, Give_back, Release, Plan}
+use Rattle.mmeaning.proofs.MeaningWords.{◌≡◌, ℕ, Bool, true, false, List, Option, Some, None, refl, ◌∙◌, LockName, Locks, taken, released, Completion, list_all, Op, May, Value, Status, Neighbour, Routine, Put, Kill, Take, Give_back, Release, Plan, Text, Outcome, keeps, keeps_short, Settings, Shared, act, guarded, may_read, may_write, may_lock, took, PlanKeepsOthersLocks}
 use Rattle.mspec.specs.LockLaws as laws
-use Rattle.mspec.specs.Act.{Text, Outcome}
 use Rattle.mspec.proofs.LockFacts.{others_keep_locks}
-use Rattle.mspec.proofs.Plans.{keeps, keeps_short}
-use Rattle.mmeaning.specs.Transition.{Settings}
-use Rattle.mmeaning.specs.Shared.{Shared, act, guarded, may_read, may_write, may_lock, took}
-use Rattle.mmeaning.specs.TransitionLaws.{PlanKeepsOthersLocks}
 
 module _ (settings : Settings) (terminal : ℕ) (me : Text) where
   abbrev IsKept : Shared → Shared → Type 0

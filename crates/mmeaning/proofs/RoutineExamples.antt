@@ -1,7 +1,6 @@
 -- SPDX-License-Identifier: Apache-2.0
 -- Routines, DO, GOTO and XECUTE on examples, as proved equations.
-use Rattle.mspec.specs.Code.{M13, Zsyntax, Zsteps}
-use Rattle.mspec.specs.Act.{no_locals, assigned_to}
+use Rattle.mmeaning.proofs.MeaningWords.{M13, Zsyntax, Zsteps, no_locals, assigned_to}
 use Rattle.mmeaning.proofs.Running.{[], ◌∷◌, None, false, refl, codes, done, failed, at_first, at_last, asked, serving_in, holding_in, With, WithSteps, Anywhere, computed_operations, WithEach, at_case, no_more, runs, running}
 
 record Routines : Type 0 where

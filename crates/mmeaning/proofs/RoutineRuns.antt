@@ -1,11 +1,7 @@
 -- SPDX-License-Identifier: Apache-2.0
 -- Lines that lead to routines: for examples in a world whose store has a routine of ALICE.
-use Rattle.mmeaning.proofs.MeaningWords.{◌≡◌, ℕ, Bool, false, List, [], None, refl, ap, codes, empty, insert, Locks, May, Put, Kill, Routine, Plan, Ask, perform, Completion, opening}
-use Rattle.mspec.specs.Globals.{Globals, lines_of}
-use Rattle.mspec.specs.Access.{Mode, may}
-use Rattle.mspec.specs.Act.{Text, Node, Outcome, no_locals, assigned_to}
-use Rattle.mmeaning.specs.Shared.{act}
-use Rattle.mmeaning.specs.Transition.{Settings, Shared, Session, World, Reply}
+use Rattle.mmeaning.proofs.MeaningWords.{◌≡◌, ℕ, Bool, false, List, [], None, refl, ap, codes, empty, insert, Locks, May, Put, Kill, Routine, Plan, Ask, perform, Completion, opening, Globals, lines_of, Mode, may, Text, Node, Outcome, no_locals, assigned_to, act, Settings, Session, World, Reply}
+use Rattle.mmeaning.specs.Transition.{Shared}
 use Rattle.mmeaning.proofs.Calls.{assoc_plan}
 use Rattle.mmeaning.proofs.LineRuns.{opened, text_opened, list_opened, name_found, AreAnswered, Cases, AreAnsweredEach}
 use Rattle.mmeaning.proofs.ExampleAccount.{with_steps, account}

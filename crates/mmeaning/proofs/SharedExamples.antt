@@ -1,10 +1,8 @@
 -- SPDX-License-Identifier: Apache-2.0
 -- What operations do on examples, as proved equations: an account does what its settings let it, and nothing else.
-use Rattle.mmeaning.proofs.MeaningWords.{◌≡◌, [], ◌∷◌, None, true, false, rules, codes, empty, get, insert, remove, LockName, taken, released, May, Value, Status, Put, Kill, Take, State, Gives, Halts, Quits, World, Finished, Halted, ended, kept}
+use Rattle.mmeaning.proofs.MeaningWords.{◌≡◌, [], ◌∷◌, None, true, false, rules, codes, empty, get, insert, remove, LockName, taken, released, May, Value, Status, Put, Kill, Take, State, Gives, Halts, Quits, World, Finished, Halted, ended, kept, Read, Write, status, Shared, act, took}
 use Rattle.mspec.specs.Node.{Text, Node}
-use Rattle.mspec.specs.Access.{Settings, Read, Write}
-use Rattle.mspec.specs.Globals.{status}
-use Rattle.mmeaning.specs.Shared.{Shared, act, took}
+use Rattle.mspec.specs.Access.{Settings}
 
 -- ALICE lets BOB read her global X
 abbrev lending : Settings

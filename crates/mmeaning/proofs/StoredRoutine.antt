@@ -1,16 +1,8 @@
 -- SPDX-License-Identifier: Apache-2.0
 -- A routine from its first line on, as a proved equation: its lines are set, and then it is run.
-use Rattle.mspec.proofs.ComputedMaps.{computed_maps}
-use Rattle.mspec.proofs.ComputedNumbers.{computed_numbers, computes}
-use Rattle.mspec.specs.NodeOrder.{canonical_value}
-use Rattle.mspec.specs.Act.{no_locals}
-use Rattle.mmeaning.proofs.MeaningWords.{Session, ◌∙◌, insert, entries, entries-insert}
+use Rattle.mmeaning.proofs.MeaningWords.{computed_maps, computed_numbers, computes, canonical_value, no_locals, Session, ◌∙◌, insert, entries, entries-insert, significant_digits, node_cmp, node_cmp_total, entries_none}
 use Rattle.mmeaning.proofs.RoutineRuns.{lines_in, computed_levels}
 use Rattle.mspec.specs.Node.{Node}
-use Rattle.mspec.specs.Number.{significant_digits}
-use Rattle.mspec.specs.NodeOrder.{node_cmp}
-use Rattle.mspec.proofs.NodeOrders.{node_cmp_total}
-use Rattle.mspec.proofs.ComputedMaps.{entries_none}
 use Rattle.mmeaning.proofs.Running.{◌≡◌, [], ◌∷◌, Some, false, refl, codes, empty, gets, Globals, Text, done, Answered, at_first, at_last, asked, serving_in, computed_operations, runs}
 
 -- where ALICE keeps this line of R

@@ -1,11 +1,17 @@
 -- SPDX-License-Identifier: Apache-2.0
 -- Variables on examples, as proved equations.
-use Rattle.mmeaning.proofs.MeaningWords.{◌*◌, ◌^◌, M9, Zsub, Zarg}
-use Rattle.std.specs.Fmt.{digits}
-use Rattle.mspec.proofs.ComputedNumbers.{computes}
-use Rattle.mspec.specs.NumberText.{size_text}
-use Rattle.mgrammar.proofs.Computing.{reads}
+use Rattle.mmeaning.proofs.MeaningWords.{◌*◌, ◌^◌, M9, Zsub, Zarg, digits, computes, size_text, reads}
 use Rattle.mmeaning.proofs.Running.{◌≡◌, [], ◌∷◌, refl, codes, gets, done, failed, Answered, holding, at_first, at_last, Each, at_case, no_more, runs, running, numbers}
+
+refusals : Each (
+    -- and none but 1 and -1
+    (codes "W $O(A(1),.9)", failed [] Zarg) ∷
+    -- a subscript that is empty
+    (codes "S L(\"\")=1", failed [] Zsub) ∷
+    -- $ORDER without a subscript
+    (codes "W $O(L)", failed [] Zarg) ∷ [])
+unfolding reads computes
+refusals = at_case _ refl (simp gets) (at_case _ refl (simp gets) (at_case _ refl (simp gets) no_more))
 
 values : Each (
     -- a variable has its own text and texts at subscripts
@@ -21,23 +27,7 @@ values : Each (
     -- among the subscripts that stand below the same ones, each once
     (codes "S L(1,5)=1,L(1,7,2)=1,L(1,7,3)=1,L(2)=1 W $O(L(1,5)),$O(L(\"\")),$O(L(1,7,\"\"),-1),$O(L(2))", done (codes "713")) ∷
     -- a direction is a number without its fraction
-    (codes "S A(1)=1,A(2)=2 W $O(A(1),1.9),$O(A(2),-1.9)", done (codes "21")) ∷ [])
-unfolding runs
-values =
-    at_case _ refl (simp running) (at_case _ refl (simp running) (at_case _ refl (simp running) (at_case _ refl (simp running)
-    (at_case _ refl (simp running) (at_case _ refl (simp running) (at_case _ refl (simp (running, numbers.of_1_point_9)) no_more))))))
-
-refusals : Each (
-    -- and none but 1 and -1
-    (codes "W $O(A(1),.9)", failed [] Zarg) ∷
-    -- a subscript that is empty
-    (codes "S L(\"\")=1", failed [] Zsub) ∷
-    -- $ORDER without a subscript
-    (codes "W $O(L)", failed [] Zarg) ∷ [])
-unfolding reads computes
-refusals = at_case _ refl (simp gets) (at_case _ refl (simp gets) (at_case _ refl (simp gets) no_more))
-
-killed : Each (
+    (codes "S A(1)=1,A(2)=2 W $O(A(1),1.9),$O(A(2),-1.9)", done (codes "21")) ∷
     -- KILL takes a node with what stands below it, and nothing beside it
     (codes "S A=1,A(1)=2,A(1,1)=3,A(2)=4 K A(1) W $D(A),A,A(2),$D(A(1)) K A W $D(A)", done (codes "111400")) ∷
     -- of all variables those named in brackets are spared
@@ -45,7 +35,10 @@ killed : Each (
     -- and none where no name is given
     (codes "S A=1,B(1)=2 K  W $D(A),$D(B)", done (codes "00")) ∷ [])
 unfolding runs
-killed = at_case _ refl (simp running) (at_case _ refl (simp running) (at_case _ refl (simp running) no_more))
+values =
+    at_case _ refl (simp running) (at_case _ refl (simp running) (at_case _ refl (simp running) (at_case _ refl (simp running)
+    (at_case _ refl (simp running) (at_case _ refl (simp running) (at_case _ refl (simp (running, numbers.of_1_point_9)) (at_case _ refl (simp running)
+    (at_case _ refl (simp running) (at_case _ refl (simp running) no_more)))))))))
 
 record Hidden : Type 0 where
   -- what NEW hides comes back behind the line

@@ -1,17 +1,6 @@
 -- SPDX-License-Identifier: Apache-2.0
 -- What proofs of several crates need of tests, orders, results and characters, and std does not have.
-use Rattle.std.proofs.Common.{◌≡◌, ℕ, zero, suc, ◌^◌, ◌<◌, ◌≤◌, Bool, true, false, ◌&&◌, Option, None, Some, List, [], ◌∷◌, length, length-append, refl, ap, arith}
-use Rattle.std.specs.Prelude.{if◌then◌else◌, T, Result, Ok, Err, IsErr, IsErrAnd, is_some, option_map}
-use Rattle.std.specs.declared.cmp.Ordering.{Ordering}
-use Rattle.std.specs.declared.cmp.Ordering.TheVariants.{Less, Equal, Greater}
-use Rattle.std.specs.Ordering.{nat_cmp, is_lt}
-use Rattle.std.specs.Cmp.Lexicographic.{slice_cmp}
-use Rattle.std.specs.FinMap.{IsAntisymmetric, nat_cmp-IsAntisymmetric, slice_cmp-IsAntisymmetric}
-use Rattle.std.proofs.lemmas.Bool.{and_from}
-use Rattle.std.proofs.lemmas.Bool.Decides.{nat_tests}
-use Rattle.std.proofs.Math.Nat.{one-le-pow}
-use Rattle.mspec.specs.Names.{is_name_start, is_name_rest}
-use Rattle.mspec.specs.Pattern.{copied}
+use Rattle.mspec.proofs.SpecWords.{◌≡◌, ℕ, zero, suc, ◌^◌, ◌<◌, ◌≤◌, Bool, true, false, ◌&&◌, Option, None, Some, List, [], ◌∷◌, length, length-append, refl, ap, arith, if◌then◌else◌, T, Result, Ok, Err, IsErr, IsErrAnd, is_some, option_map, Ordering, Less, Equal, Greater, nat_cmp, is_lt, slice_cmp, IsAntisymmetric, nat_cmp-IsAntisymmetric, slice_cmp-IsAntisymmetric, and_from, nat_tests, one-le-pow, is_name_start, is_name_rest, copied}
 
 -- ---- tests
 

@@ -1,18 +1,6 @@
 -- SPDX-License-Identifier: Apache-2.0
 -- Maps of examples: what was put into an empty map, as rules by which `simp` computes what is asked of it.
-use Rattle.std.proofs.Common.{◌≡◌, ℕ, Bool, true, false, cond, List, [], Option, Some, None, refl, sym, ap, ◌∙◌}
-use Rattle.std.specs.declared.cmp.Ordering.{Ordering}
-use Rattle.std.specs.Ordering.{nat_cmp, eq_by_cmp}
-use Rattle.std.specs.Cmp.{IsTotalOrder}
-use Rattle.std.proofs.lemmas.Cmp.{nat_cmp_total}
-use Rattle.std.proofs.lemmas.List.{nil_from_length}
-use Rattle.std.specs.Cmp.Lexicographic.{slice_cmp, nat_list_cmp_total}
-use Rattle.std.specs.FinMap.{FinMap, get, insert, empty, retain_keys, entries, get-insert, get-empty, entries-insert, len-empty, len-entries, same_map, IsAntisymmetric, nat_cmp-IsAntisymmetric}
-use Rattle.std.specs.FinMap.Entries.{put}
-use Rattle.mspec.specs.Node.{Text}
-use Rattle.mspec.specs.Number.{significant_digits}
-use Rattle.mspec.specs.NodeOrder.{subscripts_cmp}
-use Rattle.mspec.specs.Trees.{Tree}
+use Rattle.mspec.proofs.SpecWords.{◌≡◌, ℕ, Bool, true, false, cond, List, [], Option, Some, None, refl, sym, ap, ◌∙◌, Ordering, nat_cmp, eq_by_cmp, IsTotalOrder, nat_cmp_total, nil_from_length, slice_cmp, nat_list_cmp_total, FinMap, get, insert, empty, retain_keys, entries, get-insert, get-empty, entries-insert, len-empty, len-entries, same_map, IsAntisymmetric, nat_cmp-IsAntisymmetric, put, Text, significant_digits, subscripts_cmp, Tree}
 use Rattle.mspec.proofs.MapCuts.{equal_of, get_cut, cut_drops}
 use Rattle.mspec.proofs.NodeOrders.{subscripts_cmp_total, subscripts_cmp_exact}
 use Rattle.mspec.proofs.Basics.{texts_exact}

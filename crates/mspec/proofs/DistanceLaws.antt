@@ -1,13 +1,7 @@
 -- SPDX-License-Identifier: Apache-2.0
 -- What is rounded is the nearest multiple of its unit, there is one such multiple, and each fraction has digits.
-use Rattle.std.proofs.Common.{ℕ, zero, suc, ◌≡◌, ◌+◌, ◌*◌, ◌-◌, ◌/◌, ◌^◌, ◌<◌, ◌≤◌, ◌⊎◌, Bool, true, false, Option, refl, sym, ◌∙◌, ap, subst, arith, inl, inr, ⊎_elim}
-use Rattle.std.specs.Prelude.{ℤ, pos, negsuc, ◌-ℤ◌, ◌*ℤ◌, neg_ℤ, option_map, unsigned_abs, MatchOption}
+use Rattle.mspec.proofs.SpecWords.{ℕ, zero, suc, ◌≡◌, ◌+◌, ◌*◌, ◌-◌, ◌/◌, ◌^◌, ◌<◌, ◌≤◌, ◌⊎◌, Bool, true, false, Option, refl, sym, ◌∙◌, ap, subst, arith, inl, inr, ⊎_elim, ℤ, pos, negsuc, ◌-ℤ◌, ◌*ℤ◌, neg_ℤ, option_map, unsigned_abs, MatchOption, mul-pos, zero-mul, mul-le-mul_left, mul-le-mul_right, mul-lt-mul_of_pos_right, le_of_mul-le-mul_right, lt_of_mul-lt-mul_right, div-mul-le_self, lt-div-mul-add, pow-suc, cases_lt, nat_tests, digits_before, nearest, rounding_unit, round_size, round, signed, HasDigits, IsMultiple, IsNearest, distance, RoundingIsNearest, NearestIsUnique, EachHasDigits}
 use Rattle.std.proofs.lemmas.Int.{ints}
-use Rattle.std.proofs.Math.Nat.{mul-pos, zero-mul, mul-le-mul_left, mul-le-mul_right, mul-lt-mul_of_pos_right, le_of_mul-le-mul_right, lt_of_mul-lt-mul_right, div-mul-le_self, lt-div-mul-add, pow-suc}
-use Rattle.std.proofs.lemmas.Bool.{cases_lt}
-use Rattle.std.proofs.lemmas.Bool.Decides.{nat_tests}
-use Rattle.mspec.specs.Number.{digits_before, nearest, rounding_unit, round_size, round, signed}
-use Rattle.mspec.specs.NumberLaws.{HasDigits, IsMultiple, IsNearest, distance, RoundingIsNearest, NearestIsUnique, EachHasDigits}
 use Rattle.mspec.proofs.Powers.{ten_pos, ten_add, ten_monotone}
 use Rattle.mspec.proofs.Rounding.{digits_before_is, rounding_unit_is, round_none, round_up_none, round_some}
 use Rattle.mspec.proofs.NearestLaws.{digits_before_high}

@@ -1,14 +1,7 @@
 -- SPDX-License-Identifier: Apache-2.0
 -- What is asked of globals on examples, as proved equations.
-use Rattle.std.proofs.Common.{◌≡◌, List, [], ◌∷◌, map, ap}
-use Rattle.std.specs.Prelude.{◌&&◌, codes}
-use Rattle.std.specs.List.{filter}
-use Rattle.std.specs.Prelude.{T}
-use Rattle.std.specs.FinMap.{from_sorted, is_sorted, entries-from_sorted}
-use Rattle.mspec.specs.Node.{Text, Node}
-use Rattle.mspec.specs.Number.{significant_digits}
-use Rattle.mspec.specs.NodeOrder.{node_cmp}
-use Rattle.mspec.specs.Globals.{is_beside, is_line_of, routines_of, lines_of}
+use Rattle.mspec.proofs.SpecWords.{◌≡◌, List, [], ◌∷◌, map, ap, codes, filter, T, from_sorted, is_sorted, entries-from_sorted, Text, Node, significant_digits, node_cmp, is_beside, is_line_of, routines_of, lines_of}
+use Rattle.std.specs.Prelude.{◌&&◌}
 use Rattle.mspec.proofs.ComputedNumbers.{computes}
 
 abbrev Rows : Type 0

@@ -1,17 +1,8 @@
 -- SPDX-License-Identifier: Apache-2.0
 -- What calls of a map without an order do to the finite map that it stands for.
-use Rattle.std.proofs.Common.{◌≡◌, Bool, true, false, cond, List, [], ◌∷◌, Option, Some, None, map, refl, sym, ap, ◌∙◌}
-use Rattle.std.specs.Prelude.{option_map}
-use Rattle.std.specs.Map.{lookup}
+use Rattle.mspec.proofs.SpecWords.{◌≡◌, Bool, true, false, cond, List, [], ◌∷◌, Option, Some, None, map, refl, sym, ap, ◌∙◌, option_map, lookup, Ordering, is_eq, IsTotalOrder, eq_by_cmp_equiv, get, insert, remove, get-insert, get-remove, get-from_entries, same_map, IsAntisymmetric, find, hash_map_of}
 use Rattle.std.specs.HashMap as hash
 use Rattle.std.specs.HashMap.{HashMap}
-use Rattle.std.specs.declared.cmp.Ordering.{Ordering}
-use Rattle.std.specs.Ordering.{is_eq}
-use Rattle.std.specs.Cmp.{IsTotalOrder}
-use Rattle.std.proofs.lemmas.Cmp.{eq_by_cmp_equiv}
-use Rattle.std.specs.FinMap.{get, insert, remove, get-insert, get-remove, get-from_entries, same_map, IsAntisymmetric}
-use Rattle.std.specs.FinMap.Entries.{find}
-use Rattle.mspec.specs.Maps.{hash_map_of}
 
 -- keys that the map takes as equal are those that tie
 module _ {K X V : Type 0} {R : K → K → Ordering} (total : IsTotalOrder R) (eq : K → K → Bool) (ties : (x y : K) → eq x y ≡ is_eq (R x y)) (view : X → V) where

@@ -1,12 +1,7 @@
 -- SPDX-License-Identifier: Apache-2.0
 -- The order of nodes and the bytes of keys on examples, as proved equations.
-use Rattle.std.proofs.Common.{◌≡◌, ℕ, List, [], ◌∷◌, refl, replicate, rules}
-use Rattle.std.specs.Prelude.{codes}
-use Rattle.std.specs.declared.cmp.Ordering.{Ordering}
-use Rattle.std.specs.declared.cmp.Ordering.TheVariants.{Less, Greater}
-use Rattle.mspec.specs.Number.{significant_digits}
-use Rattle.mspec.specs.NodeOrder.{text_cmp, node_cmp}
-use Rattle.mspec.specs.KeyBytes.{key_bytes, number_bytes}
+use Rattle.mspec.proofs.SpecWords.{◌≡◌, ℕ, List, [], ◌∷◌, refl, rules, codes, Ordering, Less, Greater, significant_digits, text_cmp, node_cmp, key_bytes, number_bytes}
+use Rattle.std.proofs.Common.{replicate}
 use Rattle.mspec.proofs.ComputedNumbers.{computes}
 
 -- the key of account A, global B and one subscript, behind its two names

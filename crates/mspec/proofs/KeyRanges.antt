@@ -1,18 +1,10 @@
 -- SPDX-License-Identifier: Apache-2.0
 -- A key begins with the keys of its node's ancestors and with no others, and ranges of keys are subtrees.
-use Rattle.std.proofs.Common.{ℕ, ◌≡◌, ◌⊎◌, inl, inr, ◌<◌, true, false, List, [], ◌∷◌, ◌++◌, length, refl, sym, ◌∙◌, ap, subst, arith, append_assoc, append-nil}
-use Rattle.std.specs.Cmp.Lexicographic.{slice_cmp, nat_list_cmp_total}
-use Rattle.std.specs.Cmp.{nat_cmp_is}
-use Rattle.std.specs.declared.cmp.Ordering.TheVariants.{Less, Equal, Greater}
-use Rattle.std.specs.Ordering.{nat_cmp, ordering_then, is_le}
-use Rattle.std.proofs.lemmas.Bool.{cases_order}
-use Rattle.std.proofs.lemmas.Cmp.{tied_itself, nat_cmp_total}
+use Rattle.mspec.proofs.SpecWords.{ℕ, ◌≡◌, ◌⊎◌, inl, inr, ◌<◌, true, false, List, [], ◌∷◌, ◌++◌, length, refl, sym, ◌∙◌, ap, subst, arith, append_assoc, slice_cmp, nat_list_cmp_total, nat_cmp_is, Less, Equal, Greater, nat_cmp, ordering_then, is_le, cases_order, tied_itself, nat_cmp_total, All-head, All-tail, canonical_value, text_cmp, IsAncestor, text_bytes, subscript_bytes, subscripts_bytes, local_bytes, key_bytes, children_start, subtree_end, NoneEmpty, IsWithin, IsBetween, KeysAreInjective, KeysOfSubtreesBeginAlike, SubtreesAreRanges, DescendantsAreRanges, IsLocalWithin, LocalSubtreesAreRanges, LocalDescendantsAreRanges}
+use Rattle.std.proofs.Common.{append-nil}
 use Rattle.std.proofs.lemmas.List.Concat.{flat_map-append}
-use Rattle.std.proofs.lemmas.List.Elements.{All-head, All-tail}
 use Rattle.mspec.specs.Act.{Text, Node}
-use Rattle.mspec.specs.NodeOrder.{canonical_value, text_cmp, IsAncestor}
-use Rattle.mspec.specs.KeyBytes.{text_bytes, subscript_bytes, subscripts_bytes, local_bytes, key_bytes, children_start, subtree_end}
-use Rattle.mspec.specs.KeyLaws.{NoneEmpty, BeginsWith, IsWithin, IsBetween, KeysAreInjective, KeysOfSubtreesBeginAlike, SubtreesAreRanges, DescendantsAreRanges, IsLocalWithin, LocalSubtreesAreRanges, LocalDescendantsAreRanges}
+use Rattle.mspec.specs.KeyLaws.{BeginsWith}
 use Rattle.mspec.proofs.NodeOrders.{text_cmp_exact, node_cmp_exact, both_Equal, same_node}
 use Rattle.mspec.proofs.KeyOrders.{text_order, subscript_order, HasTag, tag_of, key_order}
 use Rattle.mspec.proofs.Basics.{texts_exact}

@@ -1,15 +1,8 @@
 -- SPDX-License-Identifier: Apache-2.0
 -- The node of a node's key is the node.
-use Rattle.std.proofs.Common.{ℕ, zero, suc, ◌≡◌, ◌+◌, ◌*◌, ◌/◌, ◌%◌, ◌^◌, ◌<◌, ◌≤◌, Option, Some, None, List, [], ◌∷◌, ◌++◌, length, take, drop, refl, sym, ◌∙◌, ap, ap₂, subst, arith, add-one}
-use Rattle.std.specs.Prelude.{ℤ, pos, negsuc, unsigned_abs}
+use Rattle.mspec.proofs.SpecWords.{ℕ, zero, suc, ◌≡◌, ◌+◌, ◌*◌, ◌/◌, ◌%◌, ◌^◌, ◌<◌, ◌≤◌, Option, Some, None, List, [], ◌∷◌, ◌++◌, length, take, drop, refl, sym, ◌∙◌, ap, ap₂, subst, arith, add-one, ℤ, pos, negsuc, unsigned_abs, div-add-mod', pow-suc, mod_below, Text, number_text, canonical_value, text_bytes, raised, number_bytes, subscript_by, subscript_bytes, subscripts_bytes, local_bytes, key_bytes}
 use Rattle.std.specs.Slice.Scan.{big_endian}
-use Rattle.std.proofs.Math.Nat.{div-add-mod', pow-suc}
-use Rattle.std.proofs.lemmas.Nat.{mod_below}
 use Rattle.std.proofs.lemmas.List.{length-append}
-use Rattle.mspec.specs.Node.{Text}
-use Rattle.mspec.specs.NumberText.{number_text}
-use Rattle.mspec.specs.NodeOrder.{canonical_value}
-use Rattle.mspec.specs.KeyBytes.{text_bytes, raised, number_bytes, subscript_by, subscript_bytes, subscripts_bytes, local_bytes, key_bytes}
 use Rattle.mspec.specs.KeyBytes as Bytes
 use Rattle.mspec.specs.KeyReading.{text_of, behind_text, lowered, text_of_number, subscripts_of, node_of, KeysAreRead}
 use Rattle.mspec.proofs.NodeOrders.{canonical_of_value}

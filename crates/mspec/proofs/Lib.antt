@@ -1,4 +1,5 @@
 -- SPDX-License-Identifier: Apache-2.0
+pub mod SpecWords
 pub mod Basics
 pub mod NodesWithin
 pub mod Powers

@@ -1,10 +1,8 @@
 -- SPDX-License-Identifier: Apache-2.0
 -- Which names of locks exclude each other, on examples, as proved equations.
-use Rattle.std.proofs.Common.{◌≡◌, ℕ, Bool, true, false, List, [], ◌∷◌, not, ◌&&◌, ◌||◌, ap, refl, rules}
-use Rattle.std.specs.Prelude.{codes, T}
+use Rattle.mspec.proofs.SpecWords.{◌≡◌, ℕ, Bool, true, false, List, [], ◌∷◌, not, ◌&&◌, ◌||◌, ap, refl, rules, codes, T, Text, LockName, held, is_conflict}
 use Rattle.std.proofs.Math.Facts.{yes_eqb}
-use Rattle.mspec.specs.Node.{Text}
-use Rattle.mspec.specs.LockConflict.{LockName, held, is_within, is_conflict}
+use Rattle.mspec.specs.LockConflict.{is_within}
 
 -- names of an account
 abbrev global : Text → List Text → LockName
@@ -24,6 +22,8 @@ record Conflicts : Type 0 where
   same_name_conflicts : is_conflict (held 2 (alice (codes "1" ∷ []))) (held 1 (alice (codes "1" ∷ []))) ≡ true
   siblings_do_not : is_conflict (held 2 (alice (codes "1" ∷ []))) (held 1 (alice (codes "2" ∷ []))) ≡ false
   longer_text_does_not : is_conflict (held 2 (alice (codes "1" ∷ []))) (held 1 (alice (codes "15" ∷ []))) ≡ false
+  accounts_never : is_conflict (held 2 (global (codes "BOB") [])) (held 1 (alice [])) ≡ false
+  kinds_never : is_conflict (held 2 (local [])) (held 1 (alice [])) ≡ false
 
 conflicts : Conflicts
 conflicts = search rules
@@ -34,10 +34,3 @@ own_never t a b = ap (λ same. not same && (is_within a b || is_within b a)) (T_
     T_true : (b : Bool) → T b → b ≡ true
     T_true true h = refl
     T_true false h = absurd h
-
-record NoneBetween : Type 0 where
-  accounts_never : is_conflict (held 2 (global (codes "BOB") [])) (held 1 (alice [])) ≡ false
-  kinds_never : is_conflict (held 2 (local [])) (held 1 (alice [])) ≡ false
-
-none_between : NoneBetween
-none_between = search rules

@@ -1,14 +1,6 @@
 -- SPDX-License-Identifier: Apache-2.0
 -- What taking, giving back and releasing do to counts, and what they leave to other terminals.
-use Rattle.std.proofs.Common.{◌≡◌, ℕ, ◌+◌, ◌-◌, Bool, true, false, cond, not, List, [], ◌∷◌, length, Option, Some, None, refl, sym, ap, ◌∙◌, arith}
-use Rattle.std.specs.Prelude.{nat_eq, nat_lt, unwrap_or, if◌then◌else◌}
-use Rattle.std.proofs.lemmas.Bool.Decides.{nat_tests}
-use Rattle.std.specs.List.{list_any, filter}
-use Rattle.std.specs.declared.cmp.Ordering.{Ordering}
-use Rattle.std.specs.declared.cmp.Ordering.TheVariants.{Less, Equal, Greater}
-use Rattle.std.specs.Ordering.{nat_cmp, is_eq, eq_by_cmp, ordering_then}
-use Rattle.std.specs.FinMap.{get, insert, remove, get-insert}
-use Rattle.mspec.specs.LockConflict.{LockName, lock_name_cmp, Locks, held, count, most_counts, has_conflict, one_more, counted, released}
+use Rattle.mspec.proofs.SpecWords.{◌≡◌, ℕ, ◌+◌, ◌-◌, Bool, true, false, cond, not, List, [], ◌∷◌, length, Option, Some, None, refl, sym, ap, ◌∙◌, arith, nat_eq, nat_lt, unwrap_or, if◌then◌else◌, nat_tests, list_any, filter, Ordering, Less, Equal, Greater, nat_cmp, is_eq, eq_by_cmp, ordering_then, get, insert, remove, get-insert, LockName, lock_name_cmp, Locks, held, count, most_counts, has_conflict, one_more, counted, released}
 use Rattle.mspec.specs.LockLaws.{times, CountsGoUp, OthersKeepLocks}
 use Rattle.mspec.proofs.LockOrders.{lock_name_cmp_exact, held_cmp_total, held_cmp_exact}
 use Rattle.mspec.proofs.MapCuts.{equal_of, cut_drops, cut_removed, cut_twice}

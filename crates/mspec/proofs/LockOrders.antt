@@ -1,12 +1,6 @@
 -- SPDX-License-Identifier: Apache-2.0
 -- The orders of names of locks and of locks are total, and in them only equal values tie.
-use Rattle.std.proofs.Common.{true, false, refl}
-use Rattle.std.specs.Cmp.{IsTotalOrder, bool_cmp_total}
-use Rattle.std.specs.FinMap.{IsAntisymmetric, nat_cmp-IsAntisymmetric}
-use Rattle.std.specs.Ordering.{bool_cmp}
-use Rattle.std.proofs.lemmas.Cmp.{nat_cmp_total, on_total, then_total}
-use Rattle.mspec.specs.LockConflict.{lock_name_cmp, held_cmp}
-use Rattle.mspec.specs.Number.{significant_digits}
+use Rattle.mspec.proofs.SpecWords.{true, false, refl, IsTotalOrder, bool_cmp_total, IsAntisymmetric, nat_cmp-IsAntisymmetric, bool_cmp, nat_cmp_total, on_total, then_total, lock_name_cmp, held_cmp, significant_digits}
 use Rattle.mspec.proofs.NodeOrders.{node_cmp_total, node_cmp_exact, both_Equal}
 
 pub lock_name_cmp_total : IsTotalOrder lock_name_cmp

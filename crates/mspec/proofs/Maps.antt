@@ -1,17 +1,8 @@
 -- SPDX-License-Identifier: Apache-2.0
 -- What calls of an ordered map do to the finite map that it stands for.
-use Rattle.std.proofs.Common.{◌≡◌, Bool, true, false, cond, List, [], ◌∷◌, Option, Some, None, map, refl, sym, ap, ◌∙◌}
-use Rattle.std.specs.Prelude.{option_map}
-use Rattle.std.specs.Map.{lookup}
+use Rattle.mspec.proofs.SpecWords.{◌≡◌, Bool, true, false, cond, List, [], ◌∷◌, Option, Some, None, map, refl, sym, ap, ◌∙◌, option_map, lookup, Ordering, is_eq, IsTotalOrder, eq_by_cmp_equiv, FinMap, get, insert, remove, get-insert, get-remove, get-from_entries, same_map, IsAntisymmetric, find, map_of}
 use Rattle.std.specs.BTreeMap as tree
 use Rattle.std.specs.BTreeMap.{BTreeMap}
-use Rattle.std.specs.declared.cmp.Ordering.{Ordering}
-use Rattle.std.specs.Ordering.{is_eq}
-use Rattle.std.specs.Cmp.{IsTotalOrder}
-use Rattle.std.proofs.lemmas.Cmp.{eq_by_cmp_equiv}
-use Rattle.std.specs.FinMap.{FinMap, get, insert, remove, get-insert, get-remove, get-from_entries, same_map, IsAntisymmetric}
-use Rattle.std.specs.FinMap.Entries.{find}
-use Rattle.mspec.specs.Maps.{map_of}
 
 module _ {K X V : Type 0} {R : K → K → Ordering} (total : IsTotalOrder R) (view : X → V) where
   found_some : (b : Bool) (x : X) (o : Option V) (r : Option X) → o ≡ option_map view r → cond b (Some (view x)) o ≡ option_map view (cond b (Some x) r)

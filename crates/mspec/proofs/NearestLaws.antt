@@ -1,12 +1,6 @@
 -- SPDX-License-Identifier: Apache-2.0
 -- A number is rounded to itself, and what is rounded is a number.
-use Rattle.std.proofs.Common.{ℕ, zero, suc, ◌≡◌, ◌+◌, ◌*◌, ◌-◌, ◌/◌, ◌^◌, ◌<◌, ◌≤◌, Bool, true, false, Option, Some, None, refl, sym, ◌∙◌, ap, subst, arith, inl, inr, ⊎_elim}
-use Rattle.std.specs.Prelude.{ℤ, pos, negsuc, option_map, unsigned_abs}
-use Rattle.std.proofs.Math.Nat.{mul_assoc, mul-pos, mul-lt-mul_of_pos_right, lt_of_mul-lt-mul_right, div-mul-le_self}
-use Rattle.std.proofs.lemmas.Bool.{cases_lt}
-use Rattle.std.proofs.lemmas.Bool.Decides.{nat_tests}
-use Rattle.mspec.specs.Number.{digits_before, nearest, rounding_unit, round_size, round, signed, is_below_zero, IsNumber}
-use Rattle.mspec.specs.NumberLaws.{NumberRoundsToItself, RoundedIsNumber, ZeroRoundsToZero}
+use Rattle.mspec.proofs.SpecWords.{ℕ, zero, suc, ◌≡◌, ◌+◌, ◌*◌, ◌-◌, ◌/◌, ◌^◌, ◌<◌, ◌≤◌, Bool, true, false, Option, Some, None, refl, sym, ◌∙◌, ap, subst, arith, inl, inr, ⊎_elim, ℤ, pos, negsuc, option_map, unsigned_abs, mul_assoc, mul-pos, mul-lt-mul_of_pos_right, lt_of_mul-lt-mul_right, div-mul-le_self, cases_lt, nat_tests, digits_before, nearest, rounding_unit, round_size, round, signed, is_below_zero, IsNumber, NumberRoundsToItself, RoundedIsNumber, ZeroRoundsToZero}
 use Rattle.mspec.proofs.Powers.{ten_pos, ten_add, ten_monotone}
 use Rattle.mspec.proofs.Rounding.{digits_before_le, rounding_unit_is, nearest_exact, round_none, round_up_none, round_some, round_zero, round_is}
 

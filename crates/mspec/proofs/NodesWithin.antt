@@ -1,13 +1,8 @@
 -- SPDX-License-Identifier: Apache-2.0
 -- The test of what is within a node tells it.
-use Rattle.std.proofs.Common.{◌≡◌, true, ◌&&◌, [], ◌∷◌, length, drop, inl, inr, refl, sym, subst, append-nil}
-use Rattle.std.specs.Cmp.Lexicographic.{bytes_decides}
-use Rattle.std.proofs.lemmas.Bool.{and_parts}
+use Rattle.mspec.proofs.SpecWords.{◌≡◌, true, ◌&&◌, [], ◌∷◌, length, drop, inl, inr, refl, sym, subst, bytes_decides, and_parts, is_node_within, IsWithin, Node, text_eq, is_within}
+use Rattle.std.proofs.Common.{append-nil}
 use Rattle.std.proofs.lemmas.Slice.Eq.{starts_is}
-use Rattle.mspec.specs.Globals.{is_node_within}
-use Rattle.mspec.specs.KeyLaws.{IsWithin}
-use Rattle.mspec.specs.Node.{Node}
-use Rattle.mspec.specs.Trees.{text_eq, is_within}
 use Rattle.mspec.proofs.Basics.{all_true}
 use Rattle.mspec.proofs.KeyRanges.{within}
 

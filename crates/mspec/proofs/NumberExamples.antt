@@ -1,11 +1,7 @@
 -- SPDX-License-Identifier: Apache-2.0
 -- The definitions of numbers on examples, as proved equations.
-use Rattle.std.proofs.Common.{◌≡◌, ℕ, ◌+◌, ◌*◌, ◌^◌, ◌≤◌, List, ◌∷◌, Some, None, ◌∙◌, ap, arith, lit≤, rules}
-use Rattle.std.proofs.Math.Nat.{pow-le-pow_right, zero-mul}
-use Rattle.std.specs.Prelude.{ℤ, pos, false, codes, Option, option_map, option_and_then, cond}
-use Rattle.mspec.specs.Number.{round, round_size, significant_digits, signed, sum_of, product_of, quotient_of, whole_quotient_of, remainder_of}
-use Rattle.mspec.specs.Literal.{digits_after}
-use Rattle.mspec.specs.NumberText.{front_digits, signed_digits, numeric_value, literal_size, number_text, size_text}
+use Rattle.mspec.proofs.SpecWords.{◌≡◌, ℕ, ◌+◌, ◌*◌, ◌^◌, ◌≤◌, List, ◌∷◌, Some, None, ◌∙◌, ap, arith, lit≤, rules, pow-le-pow_right, zero-mul, ℤ, pos, codes, option_map, option_and_then, round, round_size, significant_digits, signed, sum_of, product_of, quotient_of, whole_quotient_of, remainder_of, digits_after, front_digits, signed_digits, numeric_value, literal_size, number_text, size_text}
+use Rattle.std.specs.Prelude.{false, Option, cond}
 use Rattle.mspec.proofs.Powers.{ten_pos}
 use Rattle.mspec.proofs.Rounding.{round_zero, round_small}
 use Rattle.mspec.proofs.ComputedNumbers.{computes}
@@ -19,8 +15,8 @@ abbrev computed : (ℤ → ℤ → Option ℤ) → List ℕ → List ℕ → Opt
 computed f a b =
     option_and_then (λ x. option_and_then (λ y. option_map number_text (f x y)) (numeric_value significant_digits b)) (numeric_value significant_digits a)
 
--- division and remainder
-record Division : Type 0 where
+record Numbers : Type 0 where
+  -- division and remainder
   two_thirds : computed quotient_of (codes "2") (codes "3") ≡ Some (codes ".666666666666666667")
   minus_seven_by_two : computed whole_quotient_of (codes "-7") (codes "2") ≡ Some (codes "-3")
   minus_seven_modulo_three : computed remainder_of (codes "-7") (codes "3") ≡ Some (codes "2")
@@ -29,13 +25,7 @@ record Division : Type 0 where
   remainder_rounded_to_the_divisor_s_edge : computed remainder_of (codes "-1E-18") (codes "1") ≡ Some (codes ".999999999999999999")
   whole_quotient_too_large : computed whole_quotient_of (codes "1E17") (codes ".1") ≡ None
   quotient_of_halves : computed quotient_of (codes "-1") (codes "8") ≡ Some (codes "-.125")
-
-division : Division
-unfolding computes
-division = search rules
-
--- numeric values
-record Values : Type 0 where
+  -- numeric values
   signs_and_head : value (codes "--3X") ≡ Some (codes "3")
   raised : value (codes "1E3") ≡ Some (codes "1000")
   lowered : value (codes "25E-1") ≡ Some (codes "2.5")
@@ -54,13 +44,7 @@ record Values : Type 0 where
   large_power : value (codes "1E17") ≡ Some (codes "100000000000000000")
   too_large : value (codes "1E18") ≡ None
   too_large_below_zero : value (codes "-1E30") ≡ None
-
-values : Values
-unfolding computes
-values = search rules
-
--- rounding and overflow
-record Rounding : Type 0 where
+  -- rounding and overflow
   sixteen_digits : computed sum_of (codes "999999999999999") (codes "1") ≡ Some (codes "1000000000000000")
   sixteen_digits_read : value (codes "1234567890123456") ≡ Some (codes "1234567890123456")
   product_too_large : computed product_of (codes "999999999999999") (codes "10000") ≡ None
@@ -69,53 +53,29 @@ record Rounding : Type 0 where
   sum_below_zero_too_large : computed sum_of (codes "-999999999999999999") (codes "-1") ≡ None
   sum_within : computed sum_of (codes "999999999999999999") (codes "-1") ≡ Some (codes "999999999999999998")
   product_rounded : computed product_of (codes "1.00000000000000001") (codes "1.00000000000000001") ≡ Some (codes "1.00000000000000002")
-
-rounding : Rounding
-unfolding computes
-rounding = search rules
-
--- ties at the last place go away from zero, at both signs
-record Ties : Type 0 where
+  -- ties at the last place go away from zero, at both signs
   tie_up : value (codes "123456789012345678.5") ≡ Some (codes "123456789012345679")
   tie_down : value (codes "-123456789012345678.5") ≡ Some (codes "-123456789012345679")
   below_the_tie : value (codes "123456789012345678.49999") ≡ Some (codes "123456789012345678")
   tie_behind_the_point : value (codes "1.234567890123456785") ≡ Some (codes "1.23456789012345679")
   tie_behind_the_point_below_zero : value (codes "-1.234567890123456785") ≡ Some (codes "-1.23456789012345679")
-
-ties : Ties
-unfolding computes
-ties = search rules
-
--- at 10 ^ 18
-record Largest : Type 0 where
+  -- at 10 ^ 18
   tie_at_the_end : value (codes "999999999999999999.5") ≡ None
   tie_at_the_other_end : value (codes "-999999999999999999.5") ≡ None
   below_the_end : value (codes "999999999999999999.4") ≡ Some (codes "999999999999999999")
-
-largest : Largest
-unfolding computes
-largest = search rules
-
--- at 10 ^ -18
-record Smallest : Type 0 where
+  -- at 10 ^ -18
   tie_at_the_unit : value (codes "5E-19") ≡ Some (codes ".000000000000000001")
   tie_at_the_unit_below_zero : value (codes "-5E-19") ≡ Some (codes "-.000000000000000001")
   below_the_tie_at_the_unit : value (codes "4E-19") ≡ Some (codes "0")
   unit_divided : computed quotient_of (codes ".000000000000000001") (codes "2") ≡ Some (codes ".000000000000000001")
   unit_divided_further : computed quotient_of (codes ".000000000000000001") (codes "3") ≡ Some (codes "0")
-
-smallest : Smallest
-unfolding computes
-smallest = search rules
-
--- by fifteen digits
-record ByFifteen : Type 0 where
+  -- by fifteen digits
   two_thirds_by_fifteen : option_map number_text (round 15 (pos 2) 3) ≡ Some (codes ".666666666666667")
   sixteen_digits_by_fifteen : option_map number_text (numeric_value 15 (codes "1234567890123456")) ≡ Some (codes "1234567890123460")
 
-by_fifteen : ByFifteen
+numbers : Numbers
 unfolding computes
-by_fifteen = search rules
+numbers = search rules
 
 -- exponents that nothing computes: whatever digits follow, 0 stays 0
 zero_raised : (s : List ℕ) → literal_size significant_digits (48 ∷ 69 ∷ s) ≡ Some 0

@@ -1,14 +1,11 @@
 -- SPDX-License-Identifier: Apache-2.0
 -- The definitions of pieces and of the text functions on examples, as proved equations.
-use Rattle.std.proofs.Common.{◌≡◌, [], ◌∷◌, Some, None, rules}
-use Rattle.std.specs.Prelude.{pos, negsuc, true, false, codes, Ok, Err}
+use Rattle.mspec.proofs.SpecWords.{◌≡◌, [], ◌∷◌, Some, None, rules, pos, negsuc, codes, Ok, Err, pieces_of, piece_of, extract_of, find_of, piece_count, contains, follows, translate_of, justify_of, set_piece_of, first_place, with_piece}
+use Rattle.std.specs.Prelude.{true, false}
 use Rattle.mspec.specs.Code.{Zarg}
-use Rattle.mspec.specs.Pieces.{pieces_of}
-use Rattle.mspec.specs.TextFunctions.{piece_of, extract_of, find_of, piece_count, contains, follows, translate_of, justify_of, set_piece_of, first_place, with_piece}
 
--- ---- pieces
-
-record Pieces : Type 0 where
+record Texts : Type 0 where
+  -- pieces
   from_the_left : pieces_of (codes "aa") (codes "aaa") ≡ [] ∷ codes "a" ∷ []
   without_overlap : pieces_of (codes "aa") (codes "aaaa") ≡ [] ∷ [] ∷ [] ∷ []
   of_an_empty_text : pieces_of (codes ",") [] ≡ [] ∷ []
@@ -20,14 +17,7 @@ record Pieces : Type 0 where
   counted : piece_count (codes "a,b,,d") (codes ",") ≡ 4
   one_of_an_empty_text : piece_count [] (codes ",") ≡ 1
   none_by_nothing : piece_count (codes "a") [] ≡ 0
-
-pieces : Pieces
-unfolding pieces_of
-pieces = search rules
-
--- ---- characters
-
-record Characters : Type 0 where
+  -- characters
   two_characters : extract_of (codes "hello") (Some (pos 2)) (Some (pos 3)) ≡ codes "el"
   no_character_below_one : extract_of (codes "ab") (Some (negsuc 0)) None ≡ []
   characters_from_below_one : extract_of (codes "ab") (Some (negsuc 0)) (Some (pos 1)) ≡ codes "a"
@@ -41,14 +31,7 @@ record Characters : Type 0 where
   longer_follows : follows (codes "ab") (codes "a") ≡ true
   no_text_follows_itself : follows (codes "a") (codes "a") ≡ false
   lower_case_follows : follows (codes "a") (codes "B") ≡ true
-
-characters : Characters
-unfolding first_place
-characters = search rules
-
--- ---- made texts
-
-record MadeTexts : Type 0 where
+  -- made texts
   translated : translate_of (codes "banana") (codes "an") (codes "o") ≡ Ok (codes "booo")
   translated_by_the_first : translate_of (codes "a") (codes "aba") (codes "123") ≡ Ok (codes "1")
   justified : justify_of (codes "ab") (pos 4) ≡ Ok (codes "  ab")
@@ -60,6 +43,6 @@ record MadeTexts : Type 0 where
   place_past_the_last : set_piece_of [] (codes ",") (Some (pos 501)) [] ≡ Err Zarg
   no_delimiter : set_piece_of [] [] (Some (pos 1)) [] ≡ Err Zarg
 
-made_texts : MadeTexts
+texts : Texts
 unfolding first_place pieces_of with_piece
-made_texts = search rules
+texts = search rules

@@ -1,14 +1,8 @@
 -- SPDX-License-Identifier: Apache-2.0
 -- A text has one list of pieces, and the leftmost cut gives it.
-use Rattle.std.proofs.Common.{◌≡◌, ◌≢◌, ℕ, zero, suc, ◌-◌, ◌≤◌, ◌<◌, Bool, true, false, List, [], ◌∷◌, ◌++◌, length, drop, refl, sym, ap, subst, ◌∙◌, ◌⊎◌, inl, inr, arith}
+use Rattle.mspec.proofs.SpecWords.{◌≡◌, ◌≢◌, ℕ, zero, suc, ◌-◌, ◌≤◌, ◌<◌, Bool, true, false, List, [], ◌∷◌, ◌++◌, length, drop, refl, sym, ap, subst, ◌∙◌, ◌⊎◌, inl, inr, arith, onto_first, eqb, and_parts, eqb-true, eq-eqb, cases_lt, append_cancel_left, append_cancel_right, append-nil, drop-append_seam, join, Lacks, OnlyAtEnd, AreCut, ArePieces, begins_with, cut_after, pieces_of, OneList}
 use Rattle.std.specs.Prelude.{cond}
-use Rattle.std.specs.List.{onto_first}
-use Rattle.std.proofs.Common.{eqb}
-use Rattle.std.proofs.lemmas.Bool.{and_parts, eqb-true, eq-eqb, cases_lt}
-use Rattle.std.proofs.lemmas.List.{append_assoc, append_cancel_left, append_cancel_right, append-nil, length-append}
-use Rattle.std.proofs.Math.Seq.{drop-append_seam}
-use Rattle.mspec.specs.Pieces.{join, Lacks, OnlyAtEnd, AreCut, ArePieces, begins_with, cut_after, pieces_of}
-use Rattle.mspec.specs.PieceLaws.{OneList}
+use Rattle.std.proofs.lemmas.List.{append_assoc, length-append}
 
 -- ---- texts
 

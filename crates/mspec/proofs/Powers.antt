@@ -1,7 +1,6 @@
 -- SPDX-License-Identifier: Apache-2.0
 -- Powers of ten.
-use Rattle.std.proofs.Common.{ℕ, ◌≡◌, ◌+◌, ◌*◌, ◌^◌, ◌<◌, ◌≤◌, arith, pow-add}
-use Rattle.std.proofs.Math.Nat.{one-le-pow, mul-le-mul_right, pow-le-pow_right}
+use Rattle.mspec.proofs.SpecWords.{ℕ, ◌≡◌, ◌+◌, ◌*◌, ◌^◌, ◌<◌, ◌≤◌, arith, pow-add, one-le-pow, mul-le-mul_right, pow-le-pow_right}
 
 pub ten_pos : (k : ℕ) → 0 < 10 ^ k
 ten_pos k = one-le-pow k 10 (omega arith)

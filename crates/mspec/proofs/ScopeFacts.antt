@@ -1,16 +1,8 @@
 -- SPDX-License-Identifier: Apache-2.0
 -- What the calls leave of the scopes.
-use Rattle.std.proofs.Common.{ℕ, zero, suc, ◌≡◌, Bool, true, false, not, cond, ◌&&◌, ◌||◌, List, [], ◌∷◌, Option, Some, None, refl, sym, ap, ◌∙◌}
-use Rattle.std.specs.Prelude.{unwrap_or}
-use Rattle.std.specs.Cmp.Lexicographic.{slice_cmp, bytes_decides, nat_list_cmp_total}
-use Rattle.std.specs.FinMap.{get, insert, empty, retain_keys, get-insert, get-retain_keys}
-use Rattle.std.specs.List.{filter}
-use Rattle.std.specs.Ordering.{nat_cmp, is_eq}
+use Rattle.mspec.proofs.SpecWords.{ℕ, zero, suc, ◌≡◌, Bool, true, false, not, cond, ◌&&◌, ◌||◌, List, [], ◌∷◌, Option, Some, None, refl, sym, ap, ◌∙◌, unwrap_or, slice_cmp, bytes_decides, nat_list_cmp_total, get, insert, empty, retain_keys, get-insert, get-retain_keys, filter, nat_cmp, is_eq, or_right, Text, Tree, text_eq, without}
 use Rattle.std.proofs.lemmas.List.Folds.{list_any-append}
-use Rattle.std.proofs.lemmas.Bool.{or_right}
 use Rattle.std.proofs.Math.Bool.{and-true, or-true}
-use Rattle.mspec.specs.Node.{Text}
-use Rattle.mspec.specs.Trees.{Tree, text_eq, without}
 use Rattle.mspec.specs.Scopes.{Scope, Scopes, has, is_among, is_other, tree_in, tree_of, with_tree, at_home, is_bare, kill_in, killed_but, on_top, hide, hide_others, common, without_level}
 use Rattle.mspec.specs.ScopeLaws.{LeavingRestores, TopVariablesStandAlone, NewKeepsBelow, NewHides, NewExceptHides, HiddenVariablesComeBack, Call, Assign, Kill, KillExcept, New, NewExcept, Enter, Leave, after_all, is_nested}
 use Rattle.mspec.proofs.Basics.{texts_exact}

@@ -1,15 +1,7 @@
 -- SPDX-License-Identifier: Apache-2.0
 -- The tests of names and subscripts decide what can be the account and the subscripts of a node.
-use Rattle.std.proofs.Common.{◌≡◌, ◌-◌, Bool, true, false, List, length, All, refl, sym, arith}
-use Rattle.std.specs.Prelude.{◌↔◌, IsTrue, nat_lt, nat_le, ◌&&◌}
-use Rattle.std.specs.List.{list_all}
-use Rattle.std.proofs.lemmas.Bool.{and_parts, and_from, ltb-true, leb-true, lt-ltb, le-leb}
-use Rattle.std.proofs.lemmas.List.Sums.{AllPass-from_list_all, list_all-from_AllPass}
-use Rattle.std.proofs.lemmas.List.{length-take-le}
-use Rattle.mspec.specs.Node.{Text}
-use Rattle.mspec.specs.Names.{is_name_rest}
-use Rattle.mspec.specs.KeyBytes.{IsAccountName, IsSubscript, AreSubscripts}
-use Rattle.mspec.specs.Trees.{front, last, AreOrderSubscripts}
+use Rattle.mspec.proofs.SpecWords.{◌≡◌, ◌-◌, Bool, true, false, List, length, All, refl, sym, arith, ◌↔◌, IsTrue, nat_lt, nat_le, list_all, and_parts, and_from, ltb-true, leb-true, lt-ltb, le-leb, AllPass-from_list_all, list_all-from_AllPass, length-take-le, Text, is_name_rest, IsAccountName, IsSubscript, AreSubscripts, front, last, AreOrderSubscripts}
+use Rattle.std.specs.Prelude.{◌&&◌}
 use Rattle.mspec.specs.Subscripts.{is_account_name, is_subscript, are_subscripts, are_order_subscripts}
 
 pub account_name_is : (t : Text) → is_account_name t ≡ true → IsAccountName t

@@ -1,21 +1,6 @@
 -- SPDX-License-Identifier: Apache-2.0
 -- The text of a number has that number as its value, and it is the one canonical text.
-use Rattle.std.proofs.Common.{ℕ, zero, suc, ◌≡◌, ◌+◌, ◌*◌, ◌/◌, ◌%◌, ◌^◌, ◌<◌, ◌≤◌, Bool, true, false, cond, not, Option, Some, List, [], ◌∷◌, ◌++◌, take, drop, length, All, refl, sym, ◌∙◌, ap, subst, arith, one-add}
-use Rattle.std.specs.Prelude.{◌==◌, option_map, ℤ, pos, negsuc, decimal}
-use Rattle.std.specs.List.{prefix_len}
-use Rattle.std.proofs.Math.Nat.{div-add-mod'}
-use Rattle.std.proofs.Math.Seq.{take-append_seam, drop-append_seam, drop-length}
-use Rattle.std.proofs.lemmas.Nat.{mod_below, div_below}
-use Rattle.std.proofs.lemmas.Bool.{cond-true, cond-false}
-use Rattle.std.proofs.lemmas.Bool.Decides.{nat_tests}
-use Rattle.std.proofs.lemmas.List.{append-nil}
-use Rattle.std.proofs.lemmas.List.Elements.{All-nil, All-cons, All-head, All-tail, All-push}
-use Rattle.std.proofs.lemmas.List.Sums.{fold-append, fold_push}
-use Rattle.std.proofs.lemmas.Fmt.{decimal_by_steps}
-use Rattle.mspec.specs.Number.{round_size, signed, IsNumber}
-use Rattle.mspec.specs.Literal.{is_digit, with_digit, digits_after}
-use Rattle.mspec.specs.NumberText.{is_sign, front_digits, after_digits, fraction_digits, after_fraction, front_exponent, literal_size, is_negated, after_signs, numeric_value, fraction_text, whole_text, point_text, size_text, number_text}
-use Rattle.mspec.specs.NumberLaws.{TextHasValue, CanonicalIsText, CanonicalByMoreDigits}
+use Rattle.mspec.proofs.SpecWords.{ℕ, zero, suc, ◌≡◌, ◌+◌, ◌*◌, ◌/◌, ◌%◌, ◌^◌, ◌<◌, ◌≤◌, Bool, true, false, cond, not, Option, Some, List, [], ◌∷◌, ◌++◌, take, drop, length, All, refl, sym, ◌∙◌, ap, subst, arith, one-add, ◌==◌, option_map, ℤ, pos, negsuc, decimal, prefix_len, div-add-mod', take-append_seam, drop-append_seam, drop-length, mod_below, div_below, cond-true, cond-false, nat_tests, append-nil, All-nil, All-cons, All-head, All-tail, All-push, fold-append, fold_push, decimal_by_steps, round_size, signed, IsNumber, is_digit, with_digit, digits_after, is_sign, front_digits, after_digits, fraction_digits, after_fraction, front_exponent, literal_size, is_negated, after_signs, numeric_value, fraction_text, whole_text, point_text, size_text, number_text, TextHasValue, CanonicalIsText, CanonicalByMoreDigits}
 use Rattle.mspec.proofs.Powers.{ten_pos, ten_add, ten_monotone}
 use Rattle.mspec.proofs.Rounding.{round_is}
 use Rattle.mspec.proofs.NearestLaws.{exact_number, rounded_is_number}

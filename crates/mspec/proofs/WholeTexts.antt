@@ -1,14 +1,6 @@
 -- SPDX-License-Identifier: Apache-2.0
 -- Texts of at most eighteen digits and nothing else.
-use Rattle.std.proofs.Common.{ℕ, zero, suc, ◌≡◌, ◌≢◌, ◌+◌, ◌*◌, ◌/◌, ◌%◌, ◌^◌, ◌<◌, ◌≤◌, ◌⊎◌, false, Some, List, [], ◌∷◌, ◌++◌, length, All, refl, sym, ◌∙◌, ap, subst, arith, inl, inr}
-use Rattle.std.specs.Prelude.{option_map, pos, decimal}
-use Rattle.std.proofs.Math.Nat.{pow-le-pow_right}
-use Rattle.std.proofs.lemmas.List.{append-nil}
-use Rattle.std.proofs.lemmas.List.Elements.{All-nil, All-cons, All-head}
-use Rattle.mspec.specs.Number.{signed}
-use Rattle.mspec.specs.Literal.{digits_after}
-use Rattle.mspec.specs.NumberText.{numeric_value, whole_text, point_text, number_text, size_text, IsCanonical}
-use Rattle.mspec.specs.NumberLaws.{NoZeroInFront}
+use Rattle.mspec.proofs.SpecWords.{ℕ, zero, suc, ◌≡◌, ◌≢◌, ◌+◌, ◌*◌, ◌/◌, ◌%◌, ◌^◌, ◌<◌, ◌≤◌, ◌⊎◌, false, Some, List, [], ◌∷◌, ◌++◌, length, All, refl, sym, ◌∙◌, ap, subst, arith, inl, inr, option_map, pos, decimal, pow-le-pow_right, append-nil, All-nil, All-cons, All-head, signed, digits_after, numeric_value, whole_text, point_text, number_text, size_text, IsCanonical, NoZeroInFront}
 use Rattle.mspec.proofs.Powers.{ten_pos}
 use Rattle.mspec.proofs.NearestLaws.{exact_number}
 use Rattle.mspec.proofs.TextLaws.{Digit, whole_some, whole_all, whole_value, size_some, size_of_whole, IsUnsigned, digits_unsigned, unsigned_value}

@@ -1,6 +1,3 @@
 -- SPDX-License-Identifier: Apache-2.0
-use Rattle.misolation.proofs.PartsAlone.{agreeing_replies}
-use Rattle.misolation.proofs.history_laws.agreeing_replies.Goals as goal
-
-pub returns : goal.returns
-returns c = agreeing_replies
+pub returns : Rattle.misolation.proofs.history_laws.agreeing_replies.Goals.returns
+returns c = Rattle.misolation.proofs.PartsAlone.agreeing_replies

@@ -1,6 +1,3 @@
 -- SPDX-License-Identifier: Apache-2.0
-use Rattle.misolation.proofs.PartsAlone.{history_has_trace}
-use Rattle.misolation.proofs.history_laws.history_has_trace.Goals as goal
-
-pub returns : goal.returns
-returns c = history_has_trace
+pub returns : Rattle.misolation.proofs.history_laws.history_has_trace.Goals.returns
+returns c = Rattle.misolation.proofs.PartsAlone.history_has_trace

@@ -1,6 +1,3 @@
 -- SPDX-License-Identifier: Apache-2.0
-use Rattle.misolation.proofs.PartsAlone.{opening_is_fit}
-use Rattle.misolation.proofs.history_laws.opening_is_fit.Goals as goal
-
-pub returns : goal.returns
-returns c = opening_is_fit
+pub returns : Rattle.misolation.proofs.history_laws.opening_is_fit.Goals.returns
+returns c = Rattle.misolation.proofs.PartsAlone.opening_is_fit

@@ -1,6 +1,3 @@
 -- SPDX-License-Identifier: Apache-2.0
-use Rattle.misolation.proofs.PartsAlone.{part_is_history}
-use Rattle.misolation.proofs.history_laws.part_is_history.Goals as goal
-
-pub returns : goal.returns
-returns c = part_is_history
+pub returns : Rattle.misolation.proofs.history_laws.part_is_history.Goals.returns
+returns c = Rattle.misolation.proofs.PartsAlone.part_is_history

@@ -1,6 +1,3 @@
 -- SPDX-License-Identifier: Apache-2.0
-use Rattle.misolation.proofs.PartsAlone.{part_is_trace}
-use Rattle.misolation.proofs.history_laws.part_is_trace.Goals as goal
-
-pub returns : goal.returns
-returns c = part_is_trace
+pub returns : Rattle.misolation.proofs.history_laws.part_is_trace.Goals.returns
+returns c = Rattle.misolation.proofs.PartsAlone.part_is_trace

@@ -1,6 +1,3 @@
 -- SPDX-License-Identifier: Apache-2.0
-use Rattle.misolation.proofs.Reaching.{reach_is_least_closed}
-use Rattle.misolation.proofs.reach_laws.reach_is_least_closed.Goals as goal
-
-pub returns : goal.returns
-returns c = reach_is_least_closed
+pub returns : Rattle.misolation.proofs.reach_laws.reach_is_least_closed.Goals.returns
+returns c = Rattle.misolation.proofs.Reaching.reach_is_least_closed

@@ -1,6 +1,3 @@
 -- SPDX-License-Identifier: Apache-2.0
-use Rattle.mspec.proofs.KeyRanges.{local_descendants_are_ranges}
-use Rattle.mspec.proofs.key_laws.local_descendants_are_ranges.Goals as goal
-
-pub returns : goal.returns
-returns c = local_descendants_are_ranges
+pub returns : Rattle.mspec.proofs.key_laws.local_descendants_are_ranges.Goals.returns
+returns c = Rattle.mspec.proofs.KeyRanges.local_descendants_are_ranges

@@ -1,6 +1,3 @@
 -- SPDX-License-Identifier: Apache-2.0
-use Rattle.mspec.proofs.LockFacts.{others_keep_locks}
-use Rattle.mspec.proofs.lock_laws.others_keep_locks.Goals as goal
-
-pub returns : goal.returns
-returns c = others_keep_locks
+pub returns : Rattle.mspec.proofs.lock_laws.others_keep_locks.Goals.returns
+returns c = Rattle.mspec.proofs.LockFacts.others_keep_locks

@@ -1,22 +1,11 @@
 -- SPDX-License-Identifier: Apache-2.0
 -- What a map of permits allows, beside the list of grants.
-use Rattle.std.proofs.Common.{◌≡◌, ℕ, ◌==◌, ◌<◌, Bool, true, false, cond, List, ◌∷◌, ◌++◌, length, map, get_or, Some, All, refl, sym, ap, subst, ◌∙◌, arith, eqb-true, eq-eqb, inl, inr, length-append, slice_get, unwrap_or, ◌&&◌, ◌||◌, []}
+use Rattle.mgrant.proofs.GrantWords.{◌≡◌, ℕ, ◌==◌, ◌<◌, Bool, true, false, cond, List, ◌∷◌, ◌++◌, length, map, get_or, Some, All, refl, sym, ap, subst, ◌∙◌, arith, inl, inr, length-append, slice_get, unwrap_or, ◌&&◌, ◌||◌, [], list_any, bytes_decides, cases_Bool, and_parts, false≢true, ne_eqb, false_from_ne_true, map-append, All-head, All-tail, All-append, All-cons, All-nil, list_any-append, list_any_at, slice_get_within, slice_get-get_or, unwrap_or-slice_get, Text, text_eq, text_in, IsPlaceOf, mode_of, placed, lets_at, same_permit, Allowed, allows_so, IsAllowance, IsInterned, Permit}
+use Rattle.std.proofs.Common.{eqb-true, eq-eqb}
 use Rattle.std.proofs.Math.Bool.{or-false}
-use Rattle.std.specs.List.{list_any}
 use Rattle.std.specs.HashMap as hash
-use Rattle.std.specs.Cmp.Lexicographic.{bytes_decides}
-use Rattle.std.proofs.lemmas.Bool.{cases_Bool, and_parts, false≢true, ne_eqb, false_from_ne_true}
-use Rattle.std.proofs.lemmas.List.{map-append}
-use Rattle.std.proofs.lemmas.List.Elements.{All-head, All-tail, All-append, All-cons, All-nil}
-use Rattle.std.proofs.lemmas.List.Folds.{list_any-append, list_any_at}
-use Rattle.std.proofs.lemmas.Option.{slice_get_within, slice_get-get_or, unwrap_or-slice_get}
-use Rattle.mspec.specs.Node.{Text}
-use Rattle.mspec.specs.Trees.{text_eq}
 use Rattle.mspec.specs.Access as access
-use Rattle.mgrant.specs.Words.{text_in, IsPlaceOf}
-use Rattle.mgrant.specs.Placed.{mode_of, placed, lets_at, same_permit, Allowed, allows_so, IsAllowance, IsInterned}
 use Rattle.mgrant.specs.declared.mode.Mode.{Mode}
-use Rattle.mgrant.specs.declared.grants.Permit.{Permit}
 use Rattle.mgrant.specs.declared.grants.Given.{Given}
 use Rattle.mgrant.proofs.Places.{slice_get_front, slice_get_last}
 

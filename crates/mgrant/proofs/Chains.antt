@@ -1,21 +1,7 @@
 -- SPDX-License-Identifier: Apache-2.0
 -- Chains of grants, by names and by places.
-use Rattle.std.proofs.Common.{◌≡◌, inl, inr, ℕ, ◌==◌, ◌<◌, true, List, ◌∷◌, length, map, get_or, Some, All, refl, sym, ap, subst, ◌∙◌, ◌&&◌, Bool, ◌||◌, [], Option, subst₂}
-use Rattle.std.specs.List.{list_any}
-use Rattle.std.specs.Cmp.Lexicographic.{bytes_decides}
-use Rattle.std.proofs.lemmas.Bool.{and_parts, and_from, or_cases, eqb-true, eq-eqb, false≢true, or_left, or_right}
-use Rattle.std.proofs.lemmas.List.Elements.{All-head, All-tail}
-use Rattle.std.proofs.lemmas.List.Folds.{list_any_at, Any-from_list_any}
-use Rattle.mspec.specs.Node.{Text}
-use Rattle.mspec.specs.Trees.{text_eq}
+use Rattle.mgrant.proofs.GrantWords.{◌≡◌, inl, inr, ℕ, ◌==◌, ◌<◌, true, List, ◌∷◌, length, map, get_or, Some, All, refl, sym, ap, subst, ◌∙◌, ◌&&◌, Bool, ◌||◌, [], Option, subst₂, list_any, bytes_decides, and_parts, and_from, or_cases, eqb-true, eq-eqb, false≢true, or_left, or_right, All-head, All-tail, list_any_at, Any-from_list_any, Text, text_eq, carries, flows, Reaches, itself, through, are_names, is_account_name, leads, Leads, stays, goes, Placed, carries_at, ties_at, named, IsAmong, settings_view, AreSettings, text_in, Edge}
 use Rattle.mspec.specs.Access as access
-use Rattle.mspec.specs.Flow.{carries, flows, Reaches, itself, through}
-use Rattle.mgrant.specs.Document.{are_names, is_account_name}
-use Rattle.mgrant.specs.Edges.{leads, Leads, stays, goes}
-use Rattle.mgrant.specs.Placed.{Placed, carries_at, ties_at}
-use Rattle.mgrant.specs.View.{named, IsAmong, settings_view, AreSettings}
-use Rattle.mgrant.specs.Words.{text_in}
-use Rattle.mgrant.specs.declared.flow.Edge.{Edge}
 use Rattle.mgrant.proofs.Seen.{me_test, place_is, name_good, name_seen}
 
 -- a test that passes more than another

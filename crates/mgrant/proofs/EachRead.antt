@@ -1,12 +1,7 @@
 -- SPDX-License-Identifier: Apache-2.0
 -- The values of a list, read one after another.
-use Rattle.std.proofs.Common.{◌≡◌, ◌+◌, ◌<◌, ◌++◌, ap, refl, sym, ℕ, suc, ◌≤◌, List, [], ◌∷◌, Option, Some, None, length, get_or, drop, append_assoc, option_map, append-nil, ◌∙◌}
-use Rattle.std.proofs.lemmas.List.{drop_more, drop_all}
-use Rattle.std.proofs.lemmas.Bool.{lt-leb, le-leb}
-use Rattle.toml.specs.Data.{Data}
-use Rattle.toml.specs.View.{view, items_view}
+use Rattle.mgrant.proofs.GrantWords.{◌≡◌, ◌+◌, ◌<◌, ◌++◌, ap, refl, sym, ℕ, suc, ◌≤◌, List, [], ◌∷◌, Option, Some, None, length, get_or, drop, append_assoc, option_map, append-nil, ◌∙◌, drop_more, drop_all, lt-leb, le-leb, Data, view, items_view, each_read, entries_of, entry_limit, count_items}
 use Rattle.toml.specs.declared.value.Value.{Value}
-use Rattle.mgrant.specs.Document.{each_read, entries_of, entry_limit, count_items}
 
 count_view : (vs : List Value) → count_items (items_view vs) ≡ length vs
 count_view [] = refl

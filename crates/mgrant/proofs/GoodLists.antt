@@ -1,10 +1,6 @@
 -- SPDX-License-Identifier: Apache-2.0
 -- Lists of which each element passes a test and none is there twice: one more element, and those that do not.
-use Rattle.std.proofs.Common.{◌≡◌, inl, inr, Bool, true, false, List, [], ◌∷◌, ◌++◌, refl, sym, ap, ◌∙◌, append_assoc, not, ◌&&◌, ◌||◌}
-use Rattle.std.specs.List.{list_any, list_all}
-use Rattle.std.proofs.lemmas.Bool.{false≢true, cases_Bool, and_left, and_right}
-use Rattle.std.proofs.lemmas.List.Folds.{list_any-append, list_all-append}
-use Rattle.mgrant.specs.Document.{are_distinct}
+use Rattle.mgrant.proofs.GrantWords.{◌≡◌, inl, inr, Bool, true, false, List, [], ◌∷◌, ◌++◌, refl, sym, ap, ◌∙◌, append_assoc, not, ◌&&◌, ◌||◌, list_any, list_all, false≢true, cases_Bool, and_left, and_right, list_any-append, list_all-append, are_distinct}
 
 -- each passes, and none is there twice
 abbrev pub are_good : {X : Type 0} → (X → Bool) → (X → X → Bool) → List X → Bool

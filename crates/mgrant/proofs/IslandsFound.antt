@@ -1,25 +1,8 @@
 -- SPDX-License-Identifier: Apache-2.0
 -- The island of an account: the names at the places that chains of ties lead to.
-use Rattle.std.proofs.Common.{◌≡◌, ◌↔◌, ◌⊎◌, inl, inr, ℕ, zero, suc, ◌+◌, ◌==◌, ◌<◌, ◌≤◌, Bool, true, false, List, ◌∷◌, ◌++◌, length, map, get_or, Option, Some, All, refl, sym, ap, subst, subst₂, ◌∙◌, arith, ◌&&◌, ◌||◌, unwrap_or, []}
-use Rattle.std.proofs.lemmas.List.Folds.{Any-from_list_any, list_any_at}
-use Rattle.std.specs.Cmp.{both_ways}
-use Rattle.std.specs.List.{list_any, filter, range_with_len}
-use Rattle.std.specs.Cmp.Lexicographic.{bytes_decides}
-use Rattle.std.proofs.lemmas.Bool.{cases_lt, and_parts, and_from, or_cases, or_left, or_right, false≢true, false_from_ne_true}
-use Rattle.std.proofs.lemmas.List.{get_or_past, append-nil}
-use Rattle.std.proofs.lemmas.List.Elements.{filter_agree, filter-append}
-use Rattle.std.proofs.lemmas.Option.{slice_get_past}
-use Rattle.mspec.specs.Node.{Text}
-use Rattle.mspec.specs.Trees.{text_eq}
+use Rattle.mgrant.proofs.GrantWords.{◌≡◌, ◌↔◌, ◌⊎◌, inl, inr, ℕ, zero, suc, ◌+◌, ◌==◌, ◌<◌, ◌≤◌, Bool, true, false, List, ◌∷◌, ◌++◌, length, map, get_or, Option, Some, All, refl, sym, ap, subst, subst₂, ◌∙◌, arith, ◌&&◌, ◌||◌, unwrap_or, [], Any-from_list_any, list_any_at, both_ways, list_any, filter, range_with_len, bytes_decides, cases_lt, and_parts, and_from, or_cases, or_left, or_right, false≢true, false_from_ne_true, get_or_past, filter_agree, filter-append, slice_get_past, Text, text_eq, carries, flows, are_names, leads, Leads, stays, IsIslandOf, IsIslandAt, Placed, carries_at, ties_at, settings_view, named, IsAmong, AreSettings, text_in, Edge}
+use Rattle.std.proofs.lemmas.List.{append-nil}
 use Rattle.mspec.specs.Access as access
-use Rattle.mspec.specs.Flow.{carries, flows}
-use Rattle.mgrant.specs.Document.{are_names}
-use Rattle.mgrant.specs.Edges.{leads, Leads, stays}
-use Rattle.mgrant.specs.Islands.{IsIslandOf, IsIslandAt}
-use Rattle.mgrant.specs.Placed.{Placed, carries_at, ties_at}
-use Rattle.mgrant.specs.View.{settings_view, named, IsAmong, AreSettings}
-use Rattle.mgrant.specs.Words.{text_in}
-use Rattle.mgrant.specs.declared.flow.Edge.{Edge}
 use Rattle.mgrant.proofs.Chains.{flows_seen, none_empty, carried_between, any_more, targets_within, tied_on, tied_within}
 use Rattle.mgrant.proofs.Marks.{leads_on, closed_under}
 use Rattle.mgrant.proofs.Seen.{place_is, name_seen, length_seen}

@@ -1,14 +1,6 @@
 -- SPDX-License-Identifier: Apache-2.0
 -- The keys of a table, against those that it may have.
-use Rattle.std.proofs.Common.{◌≡◌, ap, Bool, true, List, [], ◌∷◌, String, Global, Bor, string_bytes, refl, ◌&&◌, ◌||◌}
-use Rattle.std.specs.List.{list_any}
-use Rattle.std.specs.Map.{keys_of}
-use Rattle.mspec.specs.Node.{Text}
-use Rattle.mspec.specs.Trees.{text_eq}
-use Rattle.toml.specs.View.{members_view}
-use Rattle.toml.proofs.Views.{Entry}
-use Rattle.mgrant.specs.Document.{has_only}
-use Rattle.mgrant.specs.Reading.{keys_view}
+use Rattle.mgrant.proofs.GrantWords.{◌≡◌, ap, Bool, true, List, [], ◌∷◌, String, Global, Bor, string_bytes, refl, ◌&&◌, ◌||◌, list_any, keys_of, Text, text_eq, members_view, Entry, has_only, keys_view}
 
 -- each key is among these
 abbrev pub keys_only : List Text → List (String Global) → Bool

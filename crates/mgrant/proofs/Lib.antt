@@ -1,4 +1,5 @@
 -- SPDX-License-Identifier: Apache-2.0
+pub mod GrantWords
 mod NameTests
 mod GoodLists
 mod Places

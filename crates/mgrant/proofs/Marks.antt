@@ -1,17 +1,7 @@
 -- SPDX-License-Identifier: Apache-2.0
 -- Marked places: one more, those that are led to from a place, and what is reached when there are no more.
-use Rattle.std.proofs.Common.{◌≡◌, ◌↔◌, inl, inr, ℕ, zero, suc, ◌+◌, ◌-◌, ◌==◌, ◌<◌, ◌≤◌, Bool, true, false, cond, List, ◌∷◌, ◌++◌, length, get_or, set, take, drop, All, refl, sym, ap, subst, ◌∙◌, arith, length-append, length-drop, length-take-le, add-zero, Any, sum_by, count_by, nat_lt, nat_le, replicate, []}
-use Rattle.std.specs.List.{list_any}
-use Rattle.std.specs.List.Sorted.{IsPartitionPoint, IsPermutation}
-use Rattle.std.proofs.lemmas.Bool.{cases_Bool, cases_eq, cases_lt, false≢true, and_parts, and_from, ltb-true, ltb-false, leb-true, leb-false, eqb-true, eq-eqb}
-use Rattle.std.proofs.lemmas.List.{set-get_or, get_or-set_same, get_or-set_other, get_or-take, get_or-drop, length-replicate, get_or_default}
+use Rattle.mgrant.proofs.GrantWords.{◌≡◌, ◌↔◌, inl, inr, ℕ, zero, suc, ◌+◌, ◌-◌, ◌==◌, ◌<◌, ◌≤◌, Bool, true, false, cond, List, ◌∷◌, ◌++◌, length, get_or, set, take, drop, All, refl, sym, ap, subst, ◌∙◌, arith, length-append, length-drop, length-take-le, add-zero, Any, sum_by, count_by, nat_lt, nat_le, replicate, [], list_any, IsPartitionPoint, IsPermutation, cases_Bool, cases_eq, cases_lt, false≢true, and_parts, and_from, ltb-true, ltb-false, leb-true, leb-false, eqb-true, eq-eqb, set-get_or, get_or-set_same, get_or-set_other, get_or-take, get_or-drop, length-replicate, get_or_default, All-append, All-cons, All-nil, Contains-append_left, Contains-append_right, Any-from_list_any, list_any_at, list_any-IsPermutation, sum_by-set, leads, Leads, stays, goes, IsRun, IsStage, IsMore, Edge}
 use Rattle.std.proofs.Math.ListN.{get_or-append}
-use Rattle.std.proofs.lemmas.List.Elements.{All-append, All-cons, All-nil, Contains-append_left, Contains-append_right}
-use Rattle.std.proofs.lemmas.List.Folds.{Any-from_list_any, list_any_at}
-use Rattle.std.proofs.lemmas.List.Sorted.{list_any-IsPermutation}
-use Rattle.std.proofs.lemmas.List.Sums.{sum_by-set}
-use Rattle.mgrant.specs.Edges.{leads, Leads, stays, goes, IsRun, IsStage, IsMore}
-use Rattle.mgrant.specs.declared.flow.Edge.{Edge}
 
 -- ---- chains
 

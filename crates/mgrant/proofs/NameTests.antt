@@ -1,11 +1,6 @@
 -- SPDX-License-Identifier: Apache-2.0
 -- When a text is a name.
-use Rattle.std.proofs.Common.{◌≡◌, ℕ, Bool, true, [], ◌∷◌, length, refl, nat_le, ◌&&◌}
-use Rattle.std.specs.List.{list_all}
-use Rattle.std.proofs.lemmas.Bool.{false≢true, and_parts, and_from, leb-true, le-leb}
-use Rattle.mspec.specs.Node.{Text}
-use Rattle.mspec.specs.Names.{AllAre, IsName, is_name_start, is_name_rest}
-use Rattle.mgrant.specs.Document.{is_name}
+use Rattle.mgrant.proofs.GrantWords.{◌≡◌, ℕ, Bool, true, [], ◌∷◌, length, refl, nat_le, ◌&&◌, list_all, false≢true, and_parts, and_from, leb-true, le-leb, Text, AllAre, IsName, is_name_start, is_name_rest, is_name}
 
 all_are : (p : ℕ → Bool) (cs : Text) → list_all p cs ≡ true → AllAre p cs
 all_are p [] e = tt

@@ -1,23 +1,8 @@
 -- SPDX-License-Identifier: Apache-2.0
 -- The parts of settings, entry by entry.
-use Rattle.std.proofs.Common.{◌≡◌, inl, inr, ℕ, zero, suc, ◌+◌, ◌<◌, ℤ, pos, Bool, true, false, List, ◌∷◌, ◌++◌, length, map, take, drop, get_or, set, Option, Some, None, refl, sym, ap, subst, ◌∙◌, arith, append_assoc, append-nil, length-take-le, add-one, add-zero, take-append-drop, is_some, not, ◌&&◌, unwrap_or, unsigned_abs, if◌then◌else◌, int_eq, []}
-use Rattle.std.specs.List.{list_any, list_all}
-use Rattle.std.specs.Cmp.Lexicographic.{nat_list_eq_equiv}
+use Rattle.mgrant.proofs.GrantWords.{◌≡◌, inl, inr, ℕ, zero, suc, ◌+◌, ◌<◌, ℤ, pos, Bool, true, false, List, ◌∷◌, ◌++◌, length, map, take, drop, get_or, set, Option, Some, None, refl, sym, ap, subst, ◌∙◌, arith, append_assoc, append-nil, length-take-le, add-one, add-zero, take-append-drop, is_some, not, ◌&&◌, unwrap_or, unsigned_abs, if◌then◌else◌, int_eq, [], list_any, list_all, nat_list_eq_equiv, cases_eq, cases_Bool, and_right, false≢true, false_from_ne_true, Decides-int_eq, map-append, take_more, length-map, get_or-set_same, get_or-set_other, list_all-append, none-some, slice_get_within, Text, text_eq, WrittenAccount, WrittenGrant, names_of, terminals_of, are_names, are_terminals, is_account_name, is_name, mode_named, is_grant, is_within, grant_of, Mode, Read, Placed, mode_of, account_view, grant_view, entries_seen, grants_seen, Claim, claims_at, claims, numbers, claimed, HasTerminals, AreGranted, IsNumberWithin, IsPlacing, named, IsAmong, All-append, All-cons, All-nil}
 use Rattle.std.proofs.lemmas.Cmp.{int_eq_equiv}
-use Rattle.std.proofs.lemmas.Bool.{cases_eq, cases_Bool, and_right, false≢true, false_from_ne_true}
-use Rattle.std.proofs.lemmas.Bool.Decides.{Decides-int_eq}
-use Rattle.std.proofs.lemmas.List.{map-append, take_more, length-map, get_or-set_same, get_or-set_other}
-use Rattle.std.proofs.lemmas.List.Folds.{list_all-append}
-use Rattle.std.proofs.lemmas.Option.{none-some, slice_get_within}
-use Rattle.mspec.specs.Node.{Text}
-use Rattle.mspec.specs.Trees.{text_eq}
-use Rattle.mgrant.specs.Document.{WrittenAccount, WrittenGrant, names_of, terminals_of, are_names, are_terminals, is_account_name, is_name, mode_named, is_grant, is_within, grant_of}
-use Rattle.mspec.specs.Access.{Mode, Read}
-use Rattle.mgrant.specs.Placed.{Placed, mode_of}
-use Rattle.mgrant.specs.Reading.{account_view, grant_view, entries_seen, grants_seen, Claim, claims_at, claims, numbers, claimed, HasTerminals, AreGranted, IsNumberWithin, IsPlacing}
-use Rattle.mgrant.specs.View.{named, IsAmong}
 use Rattle.mgrant.specs.declared.checks.Placing.{Placing}
-use Rattle.std.proofs.lemmas.List.Elements.{All-append, All-cons, All-nil}
 use Rattle.mgrant.specs.declared.document.AccountEntry.{AccountEntry}
 use Rattle.mgrant.specs.declared.document.GrantEntry.{GrantEntry}
 use Rattle.mgrant.proofs.GoodLists.{good_push, good_front, good_fails}

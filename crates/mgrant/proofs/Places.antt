@@ -1,16 +1,7 @@
 -- SPDX-License-Identifier: Apache-2.0
 -- Texts with their places.
-use Rattle.std.proofs.Common.{◌≡◌, ◌⊎◌, ℕ, zero, suc, ◌<◌, Bool, true, false, cond, List, ◌∷◌, ◌++◌, length, get_or, Option, Some, None, IfSome, IfNone, refl, sym, ap, subst, ◌∙◌, inl, inr, arith, slice_get, is_some, bytes_eq, []}
-use Rattle.std.specs.List.{list_any}
+use Rattle.mgrant.proofs.GrantWords.{◌≡◌, ◌⊎◌, ℕ, zero, suc, ◌<◌, Bool, true, false, cond, List, ◌∷◌, ◌++◌, length, get_or, Option, Some, None, IfSome, IfNone, refl, sym, ap, subst, ◌∙◌, inl, inr, arith, slice_get, is_some, bytes_eq, [], list_any, lookup, KeepsOthers, IsKeyTest, AreApart, bytes_decides, nat_list_eq_equiv, cases_Bool, cond-true, cond-false, false≢true, false_from_ne_true, list_any_none, list_any_at, none-some, same_Some, slice_get-get_or, slice_get_within, get_or_from_slice_get, Text, text_eq, Bytes, Places, found_at, IsIndex, IsPlaceOf}
 use Rattle.std.specs.HashMap as hash
-use Rattle.std.specs.Map.{lookup, KeepsOthers, IsKeyTest, AreApart}
-use Rattle.std.specs.Cmp.Lexicographic.{bytes_decides, nat_list_eq_equiv}
-use Rattle.std.proofs.lemmas.Bool.{cases_Bool, cond-true, cond-false, false≢true, false_from_ne_true}
-use Rattle.std.proofs.lemmas.List.Folds.{list_any_none, list_any_at}
-use Rattle.std.proofs.lemmas.Option.{none-some, same_Some, slice_get-get_or, slice_get_within, get_or_from_slice_get}
-use Rattle.mspec.specs.Node.{Text}
-use Rattle.mspec.specs.Trees.{text_eq}
-use Rattle.mgrant.specs.Words.{Bytes, Places, found_at, IsIndex, IsPlaceOf}
 
 pub place_told : (texts : List Text) (places : Places) → IsIndex texts places → (text : Text) (r : Option ℕ) → r ≡ found_at places text → IfSome r (IsPlaceOf texts text)
 place_told texts places index text None e = tt

@@ -1,29 +1,10 @@
 -- SPDX-License-Identifier: Apache-2.0
 -- The settings of the definitions, beside the parts that the code keeps.
-use Rattle.std.proofs.Common.{◌≡◌, inl, inr, ℕ, zero, suc, ◌+◌, ◌==◌, ◌<◌, Bool, true, false, List, ◌∷◌, length, map, get_or, Option, Some, None, All, refl, sym, subst, ap, ◌∙◌, arith, add-zero, zero-add, not, ◌&&◌, ◌||◌, nat_le, slice_get, option_map, option_and_then, unwrap_or, []}
-use Rattle.std.specs.List.{list_any, list_all, find as first_of}
+use Rattle.mgrant.proofs.GrantWords.{◌≡◌, inl, inr, ℕ, zero, suc, ◌+◌, ◌==◌, ◌<◌, Bool, true, false, List, ◌∷◌, length, map, get_or, Option, Some, None, All, refl, sym, subst, ap, ◌∙◌, arith, add-zero, zero-add, not, ◌&&◌, ◌||◌, nat_le, slice_get, option_map, option_and_then, unwrap_or, [], list_any, list_all, get, from_entries, get-from_entries, find, nat_cmp_total, bytes_decides, cases_Bool, cases_lt, and_parts, or_cases, leb-true, false≢true, ne_eqb, eq-eqb, not-true, false_from_ne_true, nat_tests, All-head, All-tail, list_any_at, AllPass-from_list_all, none-some, same_Some, slice_get-get_or, slice_get_within, slice_get_past, get_or_from_slice_get, unwrap_or-slice_get, Text, text_eq, is_letter, is_name_rest, account_name_is, Account, are_names, are_distinct, is_account_name, Placed, lets_at, accounts_of, terminals_from, with_terminal, named, IsAmong, settings_view, AreSettings, text_in, IsPlaceOf}
+use Rattle.std.specs.List.{find as first_of}
 use Rattle.std.specs.Ordering.{nat_cmp, eq_by_cmp}
-use Rattle.std.specs.FinMap.{get, from_entries, get-from_entries}
-use Rattle.std.specs.FinMap.Entries.{find}
-use Rattle.std.specs.Cmp.{nat_cmp_total}
-use Rattle.std.specs.Cmp.Lexicographic.{bytes_decides}
-use Rattle.std.proofs.lemmas.Bool.{cases_Bool, cases_lt, and_parts, or_cases, leb-true, false≢true, ne_eqb, eq-eqb, not-true, false_from_ne_true}
-use Rattle.std.proofs.lemmas.Bool.Decides.{nat_tests}
-use Rattle.std.proofs.lemmas.List.Elements.{All-head, All-tail}
-use Rattle.std.proofs.lemmas.List.Folds.{list_any_at}
-use Rattle.std.proofs.lemmas.List.Sums.{AllPass-from_list_all}
-use Rattle.std.proofs.lemmas.Option.{none-some, same_Some, slice_get-get_or, slice_get_within, slice_get_past, get_or_from_slice_get, unwrap_or-slice_get}
-use Rattle.mspec.specs.Node.{Text}
-use Rattle.mspec.specs.Trees.{text_eq}
 use Rattle.mspec.specs.Literal.{is_digit}
-use Rattle.mspec.specs.Names.{is_letter, is_name_rest}
-use Rattle.mspec.proofs.SubscriptTests.{account_name_is}
 use Rattle.mspec.specs.Access as access
-use Rattle.mspec.specs.Access.{Account}
-use Rattle.mgrant.specs.Document.{are_names, are_distinct, is_account_name}
-use Rattle.mgrant.specs.Placed.{Placed, lets_at}
-use Rattle.mgrant.specs.View.{accounts_of, terminals_from, with_terminal, named, IsAmong, settings_view, AreSettings}
-use Rattle.mgrant.specs.Words.{text_in, IsPlaceOf}
 use Rattle.mgrant.proofs.Allowances.{place_test}
 
 -- ---- accounts

@@ -1,14 +1,6 @@
 -- SPDX-License-Identifier: Apache-2.0
 -- Names above a name.
-use Rattle.std.proofs.Common.{◌≡◌, ◌<◌, ◌+◌, ℕ, true, List, [], ◌∷◌, ◌++◌, length, take, drop, ◌⊎◌, inl, inr, refl, sym, ap, ◌∙◌, arith, append-nil, append_assoc, length-append, take-append-drop}
-use Rattle.std.proofs.lemmas.Bool.{and_parts, and_from}
-use Rattle.std.proofs.Math.Seq.{take-append_seam}
-use mathlib.Core.Bool.{beq}
-use Rattle.mspec.specs.Globals.{is_node_within}
-use Rattle.mspec.specs.LockConflict.{LockName, is_within}
-use Rattle.mspec.specs.Node.{Text}
-use Rattle.mspec.proofs.KeyRanges.{within}
-use Rattle.mlock.specs.Above.{IsAbove, name_above}
+use Rattle.mlock.proofs.LockWords.{◌≡◌, ◌<◌, ◌+◌, ℕ, true, List, [], ◌∷◌, ◌++◌, length, take, drop, ◌⊎◌, inl, inr, refl, sym, ap, ◌∙◌, arith, append-nil, append_assoc, length-append, take-append-drop, and_parts, and_from, take-append_seam, beq, is_node_within, LockName, is_within, Text, within, IsAbove, name_above}
 use Rattle.mlock.proofs.Names.{of_within, within_of, parts, beq_same, same_beq}
 
 -- ---- the name that is looked up

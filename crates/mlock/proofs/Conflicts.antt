@@ -1,25 +1,8 @@
 -- SPDX-License-Identifier: Apache-2.0
 -- Whether a name conflicts with those that are held, by the holdings.
-use Rattle.std.proofs.Common.{◌≡◌, ◌<◌, ℕ, Bool, true, false, not, nat_eq, ◌&&◌, ◌||◌, List, [], ◌∷◌, map, length, Option, Some, None, ◌⊎◌, inl, inr, refl, sym, ap, ◌∙◌, subst, is_some, slice_get, true≢false}
-use Rattle.std.proofs.lemmas.Option.{slice_get_within, get_or_from_slice_get, slice_get-get_or}
-use Rattle.std.proofs.lemmas.List.Folds.{Any-from_list_any, list_any_at}
-use Rattle.std.proofs.lemmas.Bool.{and_parts, and_from, false_from_ne_true, or_left, or_right, or_cases}
-use Rattle.std.specs.FinMap.{get, keys, contains_key-keys, get-from_entries}
-use Rattle.std.specs.FinMap.Entries.{is_some-find}
-use Rattle.std.specs.List.{list_any}
-use Rattle.std.specs.Ordering.{eq_by_cmp}
-use Rattle.std.specs.Cmp.{eq_by_cmp_equiv, both_ways}
-use Rattle.std.proofs.lemmas.Map.Entries.{place_from_lookup, lookup_from_place}
+use Rattle.mlock.proofs.LockWords.{◌≡◌, ◌<◌, ℕ, Bool, true, false, not, nat_eq, ◌&&◌, ◌||◌, List, [], ◌∷◌, map, length, Option, Some, None, ◌⊎◌, inl, inr, refl, sym, ap, ◌∙◌, subst, is_some, slice_get, true≢false, slice_get_within, get_or_from_slice_get, slice_get-get_or, Any-from_list_any, list_any_at, and_parts, and_from, false_from_ne_true, or_left, or_right, or_cases, keys, contains_key-keys, get-from_entries, is_some-find, list_any, eq_by_cmp, eq_by_cmp_equiv, both_ways, place_from_lookup, lookup_from_place, IndexMap, IsUnique, beq, is_node_within, LockName, Held, held, held_cmp, is_within, is_conflict, has_conflict, Locks, held_cmp_total, lock_name_cmp_total, name_above, is_other, Holding, lock_of, locks_of, IsFree, name_eq, is_under}
+use Rattle.std.specs.FinMap.{get}
 use Rattle.indexmap.specs.IndexMap as index
-use Rattle.indexmap.specs.IndexMap.{IndexMap, IsUnique}
-use mathlib.Core.Bool.{beq}
-use Rattle.mspec.specs.Globals.{is_node_within}
-use Rattle.mspec.specs.LockConflict.{LockName, Held, held, held_cmp, is_within, is_conflict, has_conflict, Locks}
-use Rattle.mspec.proofs.LockOrders.{held_cmp_total, lock_name_cmp_total}
-use Rattle.mlock.specs.Above.{name_above, is_other}
-use Rattle.mlock.specs.declared.locks.Holding.{Holding}
-use Rattle.mlock.specs.Holdings.{lock_of, locks_of, IsFree}
-use Rattle.mlock.specs.Tallies.{name_eq, is_under}
 use Rattle.mlock.proofs.Above.{above_within, above_or_same}
 use Rattle.mlock.proofs.Names.{of_within}
 use Rattle.mlock.proofs.Steps.{same_lock, tied_itself}

@@ -1,13 +1,6 @@
 -- SPDX-License-Identifier: Apache-2.0
 -- Tallies of one name, and of all the names above one.
-use Rattle.std.proofs.Common.{◌≡◌, ◌+◌, ◌*◌, ℕ, Bool, true, false, cond, ◌&&◌, nat_eq, Option, Some, None, refl, sym, ap, ◌∙◌, subst, arith, unwrap_or, is_some, IsSome, true≢false, inl, inr}
-use Rattle.std.proofs.lemmas.Bool.{and_parts, false_from_ne_true, cases_Bool}
-use Rattle.std.proofs.lemmas.Bool.Decides.{nat_tests}
-use Rattle.indexmap.specs.IndexMap.{IndexMap, get, Updates}
-use Rattle.mspec.specs.LockConflict.{LockName}
-use Rattle.mlock.specs.Above.{IsAbove}
-use Rattle.mlock.specs.declared.tally.Tally.{Tally}
-use Rattle.mlock.specs.Tallies.{name_eq, is_under, no_names, with_one, is_none, tally_at, HasEntry}
+use Rattle.mlock.proofs.LockWords.{◌≡◌, ◌+◌, ◌*◌, ℕ, Bool, true, false, cond, ◌&&◌, nat_eq, Option, Some, None, refl, sym, ap, ◌∙◌, subst, arith, unwrap_or, is_some, IsSome, true≢false, inl, inr, and_parts, false_from_ne_true, cases_Bool, nat_tests, IndexMap, get, Updates, LockName, IsAbove, Tally, name_eq, is_under, no_names, with_one, is_none, tally_at, HasEntry}
 use Rattle.mlock.proofs.Under.{is_same, same_is, above_is, not_itself, others_above, from_above}
 
 -- ---- the entry of one name

@@ -1,4 +1,5 @@
 -- SPDX-License-Identifier: Apache-2.0
+pub mod LockWords
 pub mod Names
 pub mod Under
 pub mod Above

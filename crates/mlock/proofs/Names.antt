@@ -1,15 +1,10 @@
 -- SPDX-License-Identifier: Apache-2.0
 -- Names within other names.
-use Rattle.std.proofs.Common.{◌≡◌, Bool, true, false, ◌&&◌, List, [], ◌∷◌, ◌++◌, length, drop, inl, inr, refl, sym, ap, ◌∙◌, append-nil}
-use Rattle.std.proofs.lemmas.Bool.{and_parts, and_from}
+use Rattle.mlock.proofs.LockWords.{◌≡◌, Bool, true, false, ◌&&◌, List, [], ◌∷◌, ◌++◌, length, drop, inl, inr, refl, sym, ap, ◌∙◌, append-nil, and_parts, and_from, beq, is_node_within, Text, Node, within}
 use Rattle.std.specs.Cmp.Lexicographic.{bytes_decides}
 use Rattle.std.proofs.lemmas.Slice.Eq.{starts_is}
-use mathlib.Core.Bool.{beq}
-use Rattle.mspec.specs.Globals.{is_node_within}
 use Rattle.mspec.specs.KeyLaws.{IsWithin}
-use Rattle.mspec.specs.Node.{Text, Node}
 use Rattle.mspec.specs.Trees.{text_eq, is_within}
-use Rattle.mspec.proofs.KeyRanges.{within}
 
 -- the parts of a node within another
 pub record Parts (n m : Node) : Type 0 where

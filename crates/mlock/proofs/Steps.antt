@@ -1,19 +1,9 @@
 -- SPDX-License-Identifier: Apache-2.0
 -- What each way through a call does to the locks.
-use Rattle.std.proofs.Common.{◌≡◌, ◌+◌, ◌-◌, ◌<◌, ◌≤◌, ℕ, zero, suc, Bool, true, false, cond, List, ◌∷◌, Option, Some, None, All, ◌⊎◌, inl, inr, refl, sym, ap, ◌∙◌, subst, arith, slice_index_or, unwrap_or, nat_lt}
-use Rattle.std.specs.FinMap.{get, insert, remove, get-insert, get-remove, same_map}
-use Rattle.std.specs.Ordering.{eq_by_cmp}
-use Rattle.std.specs.Cmp.{Equal-is, eq_by_cmp_equiv}
-use Rattle.std.proofs.lemmas.Bool.{cases_eq}
-use Rattle.std.proofs.lemmas.Bool.Decides.{nat_tests}
+use Rattle.mlock.proofs.LockWords.{◌≡◌, ◌+◌, ◌-◌, ◌<◌, ◌≤◌, ℕ, zero, suc, Bool, true, false, cond, List, ◌∷◌, Option, Some, None, All, ◌⊎◌, inl, inr, refl, sym, ap, ◌∙◌, subst, arith, slice_index_or, unwrap_or, nat_lt, insert, remove, get-insert, get-remove, same_map, eq_by_cmp, Equal-is, eq_by_cmp_equiv, cases_eq, nat_tests, IndexMap, IsUnique, LockName, Held, held, Locks, held_cmp, count, most_counts, one_more, given_back, held_cmp_total, held_cmp_exact, Holding, locks_of, own_count, IsFree, AreCounts, name_eq}
+use Rattle.std.specs.FinMap.{get}
 use Rattle.std.proofs.lemmas.List.Elements.{All-head, All-tail}
 use Rattle.indexmap.specs.IndexMap as index
-use Rattle.indexmap.specs.IndexMap.{IndexMap, IsUnique}
-use Rattle.mspec.specs.LockConflict.{LockName, Held, held, Locks, held_cmp, count, most_counts, one_more, given_back}
-use Rattle.mspec.proofs.LockOrders.{held_cmp_total, held_cmp_exact}
-use Rattle.mlock.specs.declared.locks.Holding.{Holding}
-use Rattle.mlock.specs.Holdings.{locks_of, own_count, IsFree, AreCounts}
-use Rattle.mlock.specs.Tallies.{name_eq}
 use Rattle.mlock.proofs.Views.{got, own_is, other_is, counts_insert, counts_remove, count_few}
 
 -- ---- of the locks alone

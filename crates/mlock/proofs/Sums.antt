@@ -1,16 +1,8 @@
 -- SPDX-License-Identifier: Apache-2.0
 -- What is counted below a name, when the holdings change, and what it tells.
-use Rattle.std.proofs.Common.{◌≡◌, ◌<◌, ◌≤◌, ◌+◌, ◌-◌, ◌*◌, ◌^◌, ℕ, zero, suc, Bool, true, false, cond, not, ◌&&◌, ◌||◌, nat_eq, List, [], ◌∷◌, ◌++◌, length, Some, refl, sym, ap, ◌∙◌, subst, arith, nat_lt, slice_get, unwrap_or, mul-le-mul_left, mul-le-mul_right}
-use Rattle.std.proofs.lemmas.Bool.{and_parts, and_from, or_parts}
-use Rattle.std.specs.List.{sum_by, list_any, swap_remove}
-use Rattle.std.proofs.lemmas.Bool.Decides.{nat_tests}
+use Rattle.mlock.proofs.LockWords.{◌≡◌, ◌<◌, ◌≤◌, ◌+◌, ◌-◌, ◌*◌, ◌^◌, ℕ, zero, suc, Bool, true, false, cond, not, ◌&&◌, ◌||◌, nat_eq, List, [], ◌∷◌, ◌++◌, length, Some, refl, sym, ap, ◌∙◌, subst, arith, nat_lt, slice_get, unwrap_or, mul-le-mul_left, mul-le-mul_right, and_parts, and_from, or_parts, sum_by, list_any, swap_remove, nat_tests, slice_get_within, get_or_from_slice_get, LockName, Holding, Tally, is_under, with_one, is_only, below_sum, tally_of, too_large, HasRoom}
 use Rattle.std.proofs.lemmas.List.Sums.{sum_by-cons, sum_by_push, sum_by-swap_remove}
-use Rattle.std.proofs.lemmas.Option.{slice_get_within, get_or_from_slice_get}
 use Rattle.indexmap.specs.Layout.{set_value_at}
-use Rattle.mspec.specs.LockConflict.{LockName}
-use Rattle.mlock.specs.declared.locks.Holding.{Holding}
-use Rattle.mlock.specs.declared.tally.Tally.{Tally}
-use Rattle.mlock.specs.Tallies.{is_under, with_one, is_only, below_sum, tally_of, too_large, HasRoom}
 
 abbrev Entry : Type 0
 Entry = LockName × Holding

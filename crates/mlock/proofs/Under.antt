@@ -1,17 +1,6 @@
 -- SPDX-License-Identifier: Apache-2.0
 -- Names below other names, and the name next above one.
-use Rattle.std.proofs.Common.{◌≡◌, ◌<◌, ◌≤◌, ◌+◌, ◌-◌, ℕ, true, false, not, List, [], ◌∷◌, ◌++◌, length, take, ◌⊎◌, inl, inr, refl, sym, ap, ◌∙◌, subst, arith, append-nil, append_assoc, length-append, true≢false}
-use Rattle.std.specs.Cmp.{Equal-is, eq_by_cmp_equiv, both_ways}
-use Rattle.std.proofs.Math.Seq.{take-append_seam, take-append-add}
-use Rattle.std.proofs.lemmas.Bool.{cases_eq, and_parts, and_from, false_from_ne_true}
-use mathlib.Core.Bool.{beq}
-use Rattle.mspec.specs.Globals.{is_node_within}
-use Rattle.mspec.specs.LockConflict.{LockName, lock_name_cmp, is_within}
-use Rattle.mspec.specs.Node.{Text}
-use Rattle.mspec.proofs.KeyRanges.{within}
-use Rattle.mspec.proofs.LockOrders.{lock_name_cmp_total, lock_name_cmp_exact}
-use Rattle.mlock.specs.Above.{IsAbove}
-use Rattle.mlock.specs.Tallies.{name_eq, is_under}
+use Rattle.mlock.proofs.LockWords.{◌≡◌, ◌<◌, ◌≤◌, ◌+◌, ◌-◌, ℕ, true, false, not, List, [], ◌∷◌, ◌++◌, length, take, ◌⊎◌, inl, inr, refl, sym, ap, ◌∙◌, subst, arith, append-nil, append_assoc, length-append, true≢false, Equal-is, eq_by_cmp_equiv, both_ways, take-append_seam, take-append-add, cases_eq, and_parts, and_from, false_from_ne_true, beq, is_node_within, LockName, lock_name_cmp, is_within, Text, within, lock_name_cmp_total, lock_name_cmp_exact, IsAbove, name_eq, is_under}
 use Rattle.mlock.proofs.Names.{of_within, within_of, parts, beq_same, same_beq}
 
 -- the second name is the first with more subscripts

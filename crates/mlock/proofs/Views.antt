@@ -1,25 +1,10 @@
 -- SPDX-License-Identifier: Apache-2.0
 -- What calls of the map of holdings do to the locks that it holds.
-use Rattle.std.proofs.Common.{◌≡◌, ◌<◌, ◌≤◌, ℕ, Bool, true, false, cond, not, ◌&&◌, List, [], ◌∷◌, Option, Some, None, map, nat_eq, length, refl, sym, ap, ◌∙◌, subst, arith, Ordering, Less, Equal, Greater}
-use Rattle.std.proofs.lemmas.Bool.{and_right}
+use Rattle.mlock.proofs.LockWords.{◌≡◌, ◌<◌, ◌≤◌, ℕ, Bool, true, false, cond, not, ◌&&◌, List, [], ◌∷◌, Option, Some, None, map, nat_eq, length, refl, sym, ap, ◌∙◌, subst, arith, Ordering, Less, Equal, Greater, and_right, insert, remove, empty, retain_keys, get-insert, get-remove, get-from_entries, get-retain_keys, get-empty, same_map, find, AllByRecursion, IsDistinct, lookup, keys_of, is_eq, nat_cmp, ordering_then, eq_by_cmp, eq_by_cmp_equiv, nat_tests, place_from_lookup, slice_get_within, none-some, IndexMap, IsUnique, Updates, LockName, Held, held, Locks, lock_name_cmp, held_cmp, released, count, most_counts, lock_name_cmp_total, held_cmp_total, held_cmp_exact, Holding, lock_of, locks_of, own_count, AreCounts, name_eq}
 use Rattle.std.specs.Prelude.{option_map, unwrap_or, slice_get, ⊤}
-use Rattle.std.specs.FinMap.{get, insert, remove, empty, retain_keys, get-insert, get-remove, get-from_entries, get-retain_keys, get-empty, same_map}
-use Rattle.std.specs.FinMap.Entries.{find}
-use Rattle.std.specs.List.{AllByRecursion, IsDistinct}
-use Rattle.std.specs.Map.{lookup, keys_of}
-use Rattle.std.specs.Ordering.{is_eq, nat_cmp, ordering_then, eq_by_cmp}
-use Rattle.std.specs.Cmp.{eq_by_cmp_equiv}
-use Rattle.std.proofs.lemmas.Bool.Decides.{nat_tests}
+use Rattle.std.specs.FinMap.{get}
 use Rattle.std.proofs.lemmas.Map.Keys.{IsDistinct-head, IsDistinct-tail}
-use Rattle.std.proofs.lemmas.Map.Entries.{place_from_lookup}
-use Rattle.std.proofs.lemmas.Option.{slice_get_within, none-some}
 use Rattle.indexmap.specs.IndexMap as index
-use Rattle.indexmap.specs.IndexMap.{IndexMap, IsUnique, Updates}
-use Rattle.mspec.specs.LockConflict.{LockName, Held, held, Locks, lock_name_cmp, held_cmp, released, count, most_counts}
-use Rattle.mspec.proofs.LockOrders.{lock_name_cmp_total, held_cmp_total, held_cmp_exact}
-use Rattle.mlock.specs.declared.locks.Holding.{Holding}
-use Rattle.mlock.specs.Holdings.{lock_of, locks_of, own_count, AreCounts}
-use Rattle.mlock.specs.Tallies.{name_eq}
 use Rattle.mlock.proofs.Under.{is_same}
 
 abbrev Entry : Type 0

@@ -1,19 +1,7 @@
 -- SPDX-License-Identifier: Apache-2.0
 -- How far `serve` comes, and how it ends.
-use Rattle.std.proofs.Common.{◌≡◌, ◌≢◌, ◌++◌, List, [], ◌∷◌, ℕ, refl, sym, ◌∙◌, ap, subst, Ok, Err, Result, Option, append-nil, take, IfErr, is_ok, inl, inr, arith}
+use Rattle.mwire.proofs.WireWords.{◌≡◌, ◌≢◌, ◌++◌, List, [], ◌∷◌, ℕ, refl, sym, ◌∙◌, ap, subst, Ok, Err, Result, Option, append-nil, take, IfErr, is_ok, inl, inr, arith, Appends-nil, Appends-trans, Consumes-nil, Consumes-trans, Consumes-kept, lines_of_parts, strip_carriage_return, Keeps, Consumes, IsAtEnd, Text, Settings, World, Ghosts, classify, LinesAnswered, LineAnswered, AnswersCutShort, EachAnswered, TakesOn, LineSent, HasServed, ServeCutShort, EndsBy, Serves, WireFault, Read, Write, Memory}
 use Rattle.std.specs.Prelude.{map}
-use Rattle.std.proofs.KnownBytes.{Appends-nil, Appends-trans, Consumes-nil, Consumes-trans, Consumes-kept}
-use Rattle.std.specs.Str.Lines.{lines_of_parts, strip_carriage_return}
-use Rattle.std.specs.Io.KnownBytes.{Keeps, Consumes, IsAtEnd}
-use Rattle.mspec.specs.Act.{Text}
-use Rattle.mmeaning.specs.Transition.{Settings, World}
-use Rattle.mstore.specs.declared.store.NodeStore.{Ghosts}
-use Rattle.mwire.specs.Wire.{classify}
-use Rattle.mwire.specs.Answers.{LinesAnswered, LineAnswered, AnswersCutShort}
-use Rattle.mwire.specs.Progress.{EachAnswered, TakesOn, LineSent, HasServed}
-use Rattle.mwire.specs.Serves.{ServeCutShort, EndsBy, Serves}
-use Rattle.mwire.specs.declared.fault.WireFault.{WireFault}
-use Rattle.mwire.specs.declared.fault.WireFault.TheVariants.{Read, Write, Memory}
 use Rattle.mwire.proofs.Cuts.{classify-kept_end, lines-cut, finished_lines-cut, last_part}
 use Rattle.mwire.proofs.LineAnswers.{LineAnswered-same, EachAnswered-more, LinesAnswered-each}
 use Rattle.mwire.proofs.Progresses.{Stands-start}

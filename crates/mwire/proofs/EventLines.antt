@@ -1,23 +1,13 @@
 -- SPDX-License-Identifier: Apache-2.0
 -- Events have a stream.
-use Rattle.std.proofs.Common.{◌≡◌, ℕ, suc, ◌+◌, ◌^◌, ◌<◌, ◌≤◌, Bool, true, false, List, [], ◌∷◌, ◌++◌, length, get_or, slice_index, map, ◌-◌, ◌==◌, All, append-nil, length-append, refl, sym, ap, ◌∙◌, arith}
-use Rattle.std.specs.Prelude.{take, drop, if◌then◌else◌}
-use Rattle.std.specs.List.{list_all, before_first, after_first, position_or_len, flat_map}
-use Rattle.std.specs.Fmt.{decimal}
-use Rattle.std.specs.Str.Lines.{strip_carriage_return}
-use Rattle.std.proofs.lemmas.List.{length-take-le, get_or-append-add}
+use Rattle.mwire.proofs.WireWords.{◌≡◌, ℕ, suc, ◌+◌, ◌^◌, ◌<◌, ◌≤◌, Bool, true, false, List, [], ◌∷◌, ◌++◌, length, get_or, slice_index, map, ◌-◌, ◌==◌, append-nil, length-append, refl, sym, ap, ◌∙◌, arith, if◌then◌else◌, list_all, before_first, after_first, position_or_len, flat_map, decimal, strip_carriage_return, length-take-le, get_or-append-add, All-head, All-tail, All-nil, All-push, All-append, nat_tests, Text, is_digit, digits_after, Event, line_limit, Ignored, TooLong, Unreadable, Runs, is_space, is_terminal, is_event, classify, before_events, events_of, IsOpen, AreOpen, IsCut, line_of, HasLine, EventsHaveStream}
+use Rattle.std.proofs.Common.{All}
+use Rattle.std.specs.Prelude.{take, drop}
 use Rattle.std.proofs.lemmas.List.Folds.{flat_map-map}
-use Rattle.std.proofs.lemmas.List.Elements.{All-head, All-tail, All-nil, All-push, All-append}
-use Rattle.std.proofs.lemmas.Bool.Decides.{nat_tests}
 use Rattle.std.proofs.Math.Seq.{take-append_seam, drop-append-add}
 use Rattle.std.proofs.lemmas.Fmt.{first_decimal, decimal_nonempty, length-decimal-le}
-use Rattle.mspec.specs.Act.{Text}
-use Rattle.mspec.specs.Literal.{is_digit, digits_after}
 use Rattle.mspec.proofs.TextLaws.{Digit, decimal_reads}
-use Rattle.mmeaning.specs.Transition.{Event, line_limit}
-use Rattle.mwire.specs.Wire.{Ignored, TooLong, Unreadable, Runs, is_space, is_terminal, is_event, event_of, classify, before_events, events_of}
-use Rattle.mwire.specs.Progress.{IsOpen, AreOpen, IsCut}
-use Rattle.mwire.specs.WireLaws.{line_of, HasLine, EventsHaveStream}
+use Rattle.mwire.specs.Wire.{event_of}
 use Rattle.mwire.proofs.Cuts.{lines-cut}
 
 digit_is_no_space : (c : ℕ) → Digit c → is_space c ≡ false

@@ -1,15 +1,7 @@
 -- SPDX-License-Identifier: Apache-2.0
 -- The events of the lines of a stream, gathered as its bytes come.
-use Rattle.std.proofs.Common.{◌≡◌, ◌++◌, ◌+◌, ◌<◌, ◌≤◌, ◌==◌, List, [], ◌∷◌, ℕ, false, refl, sym, ◌∙◌, ap, subst, Option, append_assoc, length, get_or, take, arith}
+use Rattle.mwire.proofs.WireWords.{◌≡◌, ◌++◌, ◌+◌, ◌<◌, ◌≤◌, ◌==◌, List, [], ◌∷◌, ℕ, false, refl, sym, ◌∙◌, ap, subst, Option, append_assoc, length, get_or, take, arith, Consumes-nil, Consumes-trans, Consumes, lines, lines_of_parts, strip_carriage_return, map-append, take_all, take_more, Text, Event, WireLine, Ignored, TooLong, Unreadable, Runs, classify, before_events, events_of, Gathered, HasGathered}
 use Rattle.std.specs.Prelude.{map}
-use Rattle.std.proofs.KnownBytes.{Consumes-nil, Consumes-trans}
-use Rattle.std.specs.Io.KnownBytes.{Consumes}
-use Rattle.std.specs.Str.Lines.{lines, lines_of_parts, strip_carriage_return}
-use Rattle.std.proofs.lemmas.List.{map-append, take_all, take_more}
-use Rattle.mspec.specs.Act.{Text}
-use Rattle.mmeaning.specs.Transition.{Event}
-use Rattle.mwire.specs.Wire.{WireLine, Ignored, TooLong, Unreadable, Runs, classify, before_events, events_of}
-use Rattle.mwire.specs.Progress.{Gathered, HasGathered}
 use Rattle.mwire.proofs.Cuts.{classify-kept, classify-kept_end, IsCut-nil, IsCut-byte, IsCut-line, lines-cut, last_part}
 
 before_events-append : (wire_line : WireLine) (xs ys : List Event) → before_events wire_line (xs ++ ys) ≡ before_events wire_line xs ++ ys

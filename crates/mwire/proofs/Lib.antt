@@ -1,4 +1,5 @@
 -- SPDX-License-Identifier: Apache-2.0
+pub mod WireWords
 pub mod WireExamples
 pub mod EventLines
 pub mod Spaces

@@ -1,19 +1,8 @@
 -- SPDX-License-Identifier: Apache-2.0
 -- How lines are answered, one after another.
-use Rattle.std.proofs.Common.{◌≡◌, ◌≢◌, ◌++◌, List, [], ◌∷◌, refl, sym, ◌∙◌, ap, subst, append_assoc, append-nil}
+use Rattle.mwire.proofs.WireWords.{◌≡◌, ◌≢◌, ◌++◌, List, [], ◌∷◌, refl, sym, ◌∙◌, ap, subst, append_assoc, append-nil, Text, Settings, World, Event, Reply, Transition, History, Ghosts, Zstore, Ended, Fault, reply_of, WireLine, Ignored, TooLong, Unreadable, Runs, classify, before_events, events_of, too_long_text, unreadable_text, reply_text, line_text, replies_behind, answer_text, LinesAnswered, RunAnswered, WireLineAnswered, LineAnswered, EachAnswered}
 use Rattle.std.specs.Prelude.{map}
-use Rattle.mspec.specs.Act.{Text}
-use Rattle.mmeaning.specs.Transition.{Settings, World, Event, Reply, Transition}
-use Rattle.mmeaning.specs.History.{History}
-use Rattle.mstore.specs.declared.store.NodeStore.{Ghosts}
-use Rattle.moperator.specs.declared.code.Code.TheVariants.{Zstore}
-use Rattle.mexec.specs.declared.text.Ended.{Ended}
-use Rattle.mexec.specs.declared.text.Ended.TheVariants.{Fault}
 use Rattle.mworld.specs.declared.reply.Reply.{Reply as CodeReply}
-use Rattle.mworld.specs.View.{reply_of}
-use Rattle.mwire.specs.Wire.{WireLine, Ignored, TooLong, Unreadable, Runs, classify, before_events, events_of, too_long_text, unreadable_text, reply_text}
-use Rattle.mwire.specs.Answers.{line_text, replies_behind, answer_text, LinesAnswered, RunAnswered, WireLineAnswered, LineAnswered}
-use Rattle.mwire.specs.Progress.{EachAnswered}
 use Rattle.mwire.proofs.StoreFaults.{store_sufficed}
 
 pub LineAnswered-at : {S : Type 0} (g : Ghosts S) (settings : Settings) (old : World) (line answer : Text) (new : World) (wire_line : WireLine)

@@ -1,11 +1,6 @@
 -- SPDX-License-Identifier: Apache-2.0
 -- How an output is shown, one line after another.
-use Rattle.std.proofs.Common.{◌≡◌, ◌++◌, ◌+◌, ◌<◌, ◌≤◌, List, [], ◌∷◌, ℕ, sym, refl, ap, ◌∙◌, append_assoc, append-nil, length, take, drop, Result, OnOk, arith}
-use Rattle.std.specs.List.{slice_split, position_or_len}
-use Rattle.std.proofs.lemmas.List.Splits.{slice_split_first, slice_split_none, length-slice_split}
-use Rattle.std.proofs.lemmas.List.Sums.{fails_before_first}
-use Rattle.mspec.specs.Act.{Text}
-use Rattle.mwire.specs.Wire.{shown, output_text, is_line_end}
+use Rattle.mwire.proofs.WireWords.{◌≡◌, ◌++◌, ◌+◌, ◌<◌, ◌≤◌, List, [], ◌∷◌, ℕ, sym, refl, ap, ◌∙◌, append_assoc, append-nil, length, take, drop, Result, OnOk, arith, slice_split, position_or_len, slice_split_first, slice_split_none, length-slice_split, fails_before_first, Text, shown, output_text, is_line_end}
 use Rattle.mwire.proofs.Results.{on_ok_then}
 
 output_text-line : (digits line : Text) (parts : List Text) (n : ℕ) → length parts ≡ n + 1

@@ -1,16 +1,8 @@
 -- SPDX-License-Identifier: Apache-2.0
 -- How the lines of a stream are answered as its bytes come.
-use Rattle.std.proofs.Common.{◌≡◌, ◌++◌, ◌+◌, ◌<◌, ◌==◌, List, [], ◌∷◌, ℕ, refl, sym, ◌∙◌, ap, subst, Bool, false, Ok, Err, Result, Option, append_assoc, append-nil, length, take, drop, get_or, is_ok, take-append-drop, arith}
+use Rattle.mwire.proofs.WireWords.{◌≡◌, ◌++◌, ◌+◌, ◌<◌, ◌==◌, List, [], ◌∷◌, ℕ, refl, sym, ◌∙◌, ap, subst, Bool, false, Ok, Err, Result, Option, append_assoc, append-nil, length, take, drop, get_or, is_ok, arith, Appends-nil, Appends-trans, strip_carriage_return, take_more, map-append, Text, Settings, World, Ghosts, classify, finished_lines, LineAnswered, AnswersCutShort, EachAnswered, Stands, TakesOn, LineSent}
+use Rattle.std.proofs.Common.{take-append-drop}
 use Rattle.std.specs.Prelude.{map}
-use Rattle.std.proofs.KnownBytes.{Appends-nil, Appends-trans}
-use Rattle.std.specs.Str.Lines.{strip_carriage_return}
-use Rattle.std.proofs.lemmas.List.{take_more, map-append}
-use Rattle.mspec.specs.Act.{Text}
-use Rattle.mmeaning.specs.Transition.{Settings, World}
-use Rattle.mstore.specs.declared.store.NodeStore.{Ghosts}
-use Rattle.mwire.specs.Wire.{classify, finished_lines}
-use Rattle.mwire.specs.Answers.{LineAnswered, AnswersCutShort}
-use Rattle.mwire.specs.Progress.{EachAnswered, Stands, TakesOn, LineSent}
 use Rattle.mwire.proofs.Cuts.{classify-kept, IsCut-nil, IsCut-byte, IsCut-line, finished_lines-cut_more}
 use Rattle.mwire.proofs.LineAnswers.{LineAnswered-same, EachAnswered-more, LinesAnswered-each}
 

@@ -1,27 +1,13 @@
 -- SPDX-License-Identifier: Apache-2.0
 -- The replies that one account is told, sent one after another.
-use Rattle.std.proofs.Common.{◌≡◌, ℕ, ◌+◌, ◌<◌, Bool, true, List, [], ◌∷◌, ◌++◌, Option, map, take, drop, length, get_or, refl, sym, ap, ◌∙◌, subst, append_assoc}
+use Rattle.mwire.proofs.WireWords.{◌≡◌, ℕ, ◌+◌, ◌<◌, Bool, true, List, [], ◌∷◌, ◌++◌, Option, map, take, drop, length, get_or, refl, sym, ap, ◌∙◌, subst, append_assoc, inl, inr, map-append, take-append-drop, Appends-trans, Appends-nil, Appends, Consumes, IsAtEnd, lines, Text, Event, Ghosts, settings_of, world_of, IsTold, IsEquallyTold, IsToldEach, RanFirst, events_of, reply_text, told_text, RanOnly, RepliesCutShort, ServeOnlyCutShort, ServesOnly, FrontSent, WireFault, Read, Write, Memory}
 use Rattle.std.specs.Prelude.{◌≢◌, Ok, Err}
-use Rattle.std.proofs.Common.{inl, inr}
-use Rattle.std.proofs.lemmas.List.{append-nil, map-append, take-append-drop}
+use Rattle.std.proofs.lemmas.List.{append-nil}
 use Rattle.std.proofs.lemmas.Grind.{flat_map-append}
-use Rattle.std.proofs.KnownBytes.{Appends-trans, Appends-nil}
-use Rattle.std.specs.Io.KnownBytes.{Appends, Consumes, IsAtEnd}
-use Rattle.std.specs.Str.Lines.{lines}
-use Rattle.mspec.specs.Act.{Text}
 use Rattle.mspec.specs.Access.{name_at}
-use Rattle.mmeaning.specs.Transition.{Event}
 use Rattle.misolation.specs.Telling.{Told}
-use Rattle.mstore.specs.declared.store.NodeStore.{Ghosts}
 use Rattle.mworld.specs.declared.world.World.{World}
-use Rattle.mworld.specs.View.{settings_of, world_of}
-use Rattle.mworld.specs.Isolated.{IsTold, IsEquallyTold, IsToldEach, RanFirst}
 use Rattle.mworld.proofs.Tellings.{take_on}
-use Rattle.mwire.specs.Wire.{events_of, reply_text}
-use Rattle.mwire.specs.Only.{told_text, RanOnly, RepliesCutShort, ServeOnlyCutShort, ServesOnly}
-use Rattle.mwire.specs.Progress.{FrontSent}
-use Rattle.mwire.specs.declared.fault.WireFault.{WireFault}
-use Rattle.mwire.specs.declared.fault.WireFault.TheVariants.{Read, Write, Memory}
 
 abbrev shown : Told → Text
 shown t = reply_text t.terminal t.reply

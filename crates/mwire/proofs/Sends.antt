@@ -1,10 +1,6 @@
 -- SPDX-License-Identifier: Apache-2.0
 -- Bytes that are sent bit by bit.
-use Rattle.std.proofs.Common.{◌≡◌, ◌++◌, ◌-◌, [], ◌∷◌, ℕ, refl, Bool, true, Option, length, take, drop, arith}
-use Rattle.std.proofs.KnownBytes.{Appends-nil, Appends-trans, Appends-kept}
-use Rattle.std.specs.Io.KnownBytes.{Appends, Keeps}
-use Rattle.mspec.specs.Act.{Text}
-use Rattle.mwire.specs.Progress.{SentUpTo, FrontSent}
+use Rattle.mwire.proofs.WireWords.{◌≡◌, ◌++◌, ◌-◌, [], ◌∷◌, ℕ, refl, Bool, true, Option, length, take, drop, arith, Appends-nil, Appends-trans, Appends-kept, Appends, Keeps, Text, SentUpTo, FrontSent}
 use Rattle.mwire.proofs.Fronts.{rest_after}
 
 pub SentUpTo-start : (bytes : Text) (before : Option Text) → SentUpTo bytes bytes before before

@@ -1,16 +1,8 @@
 -- SPDX-License-Identifier: Apache-2.0
 -- The answers of a history of normal steps.
-use Rattle.std.proofs.Common.{◌≡◌, ◌++◌, List, [], ◌∷◌, true, false, refl, sym, ap, ◌∙◌}
+use Rattle.mwire.proofs.WireWords.{◌≡◌, ◌++◌, List, [], ◌∷◌, true, false, refl, sym, ap, ◌∙◌, lines, Text, Settings, World, Event, Reply, normal, is_failure, replies, world_after, answered, opening, Ghosts, WireLine, Ignored, TooLong, Unreadable, Runs, classify, before_events, events_of, line_served, lines_served, reply_text, too_long_text, unreadable_text, StoreSufficed, StoreSufficedForEach, line_text, replies_behind, answer_text, NormalAnswersAreServed, NormalStreamsAreServed, LinesHaveAnswers}
 use Rattle.std.specs.Prelude.{map}
-use Rattle.std.specs.Str.Lines.{lines}
-use Rattle.mspec.specs.Act.{Text}
-use Rattle.mmeaning.specs.Transition.{Settings, World, Event, Reply, normal, is_failure}
-use Rattle.mmeaning.specs.History.{replies, world_after, answered, opening}
 use Rattle.mmeaning.proofs.Histories.{normal_never_fails, normal_transitions_are_history, history_is_normal}
-use Rattle.mstore.specs.declared.store.NodeStore.{Ghosts}
-use Rattle.mwire.specs.Wire.{WireLine, Ignored, TooLong, Unreadable, Runs, classify, before_events, events_of, line_served, lines_served, reply_text, too_long_text, unreadable_text}
-use Rattle.mwire.specs.Answers.{StoreSufficed, StoreSufficedForEach, line_text, replies_behind, answer_text}
-use Rattle.mwire.specs.WireLaws.{NormalAnswersAreServed, NormalStreamsAreServed, LinesHaveAnswers}
 
 line_is_served : (settings : Settings) (world : World) (more : List Text) (wire_line : WireLine)
     → ((s : World) → answer_text more (replies settings s (events_of more)) ≡ lines_served settings s more)

@@ -1,11 +1,7 @@
 -- SPDX-License-Identifier: Apache-2.0
 -- Where the first space of a line stands.
-use Rattle.std.proofs.Common.{◌≡◌, ℕ, ◌<◌, ◌≤◌, Bool, true, false, List, length, get_or, sym, ap, ◌∙◌, arith}
-use Rattle.std.specs.Prelude.{nat_lt, Some, None, if◌then◌else◌}
-use Rattle.std.proofs.lemmas.Bool.Decides.{nat_tests}
-use Rattle.std.proofs.lemmas.List.Sums.{position_or_len_is}
-use Rattle.mwire.specs.Wire.{is_space}
-use Rattle.mwire.specs.WireLines.{space_read}
+use Rattle.mwire.proofs.WireWords.{◌≡◌, ℕ, ◌<◌, ◌≤◌, Bool, true, false, List, length, get_or, sym, ap, ◌∙◌, arith, nat_lt, None, if◌then◌else◌, nat_tests, position_or_len_is, is_space, space_read}
+use Rattle.std.specs.Prelude.{Some}
 
 read_at : (line : List ℕ) (i : ℕ) (b : Bool) → i ≤ length line → ((k : ℕ) → k < i → is_space (get_or line k 0) ≡ false)
     → (i < length line → is_space (get_or line i 0) ≡ true) → nat_lt i (length line) ≡ b → space_read line ≡ (if b then Some i else None)

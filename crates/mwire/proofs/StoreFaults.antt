@@ -1,13 +1,9 @@
 -- SPDX-License-Identifier: Apache-2.0
 -- When a reply tells of the store's failure.
-use Rattle.std.proofs.Common.{◌≡◌, ◌≢◌, refl}
-use Rattle.mspec.specs.Code.{Lost, Store}
-use Rattle.mmeaning.specs.Transition.{Faulted}
+use Rattle.mwire.proofs.WireWords.{◌≡◌, ◌≢◌, refl, Lost, Store, Faulted, M1, M4, M6, M7, M9, M10, M13, M15, Zsyntax, Zover, Zarg, Zsub, Zgrant, Zlocked, Zsteps, Zdepth, Zlevel, Zchar, Zline, Zterm, Zmem, Zstore, Ended, Done, Halt, Fault}
 use Rattle.moperator.specs.Codes.{fault_of}
 use Rattle.moperator.specs.declared.code.Code.{Code}
-use Rattle.moperator.specs.declared.code.Code.TheVariants.{M1, M4, M6, M7, M9, M10, M13, M15, Zlong, Zsyntax, Zover, Zarg, Zsub, Zgrant, Zlocked, Zsteps, Zdepth, Zlevel, Zchar, Zline, Zterm, Zmem, Zstore}
-use Rattle.mexec.specs.declared.text.Ended.{Ended}
-use Rattle.mexec.specs.declared.text.Ended.TheVariants.{Done, Halt, Fault}
+use Rattle.moperator.specs.declared.code.Code.TheVariants.{Zlong}
 use Rattle.mexec.specs.Runs.{ending_of}
 
 -- one code alone stands for it

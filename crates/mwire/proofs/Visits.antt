@@ -1,16 +1,8 @@
 -- SPDX-License-Identifier: Apache-2.0
 -- Connections after connections.
-use Rattle.std.proofs.Common.{◌≡◌, ◌++◌, ◌+◌, ℕ, List, [], ◌∷◌, length, refl, sym, ap, subst, ◌∙◌, Option, Some, Result, Err, arith}
+use Rattle.mwire.proofs.WireWords.{◌≡◌, ◌++◌, ◌+◌, ℕ, List, [], ◌∷◌, length, refl, sym, ap, subst, ◌∙◌, Option, Some, Result, Err, arith, All, map-append, All-append, All-cons, All-nil, Text, Settings, World, Ghosts, Serves, Visit, AreServed, AreOfPeers, HasServedEach, ServesEach, WireFault}
 use Rattle.std.specs.Prelude.{map}
-use Rattle.std.specs.List.{All}
-use Rattle.std.proofs.lemmas.List.{append_assoc, append-nil, length-append, map-append}
-use Rattle.std.proofs.lemmas.List.Elements.{All-append, All-cons, All-nil}
-use Rattle.mspec.specs.Act.{Text}
-use Rattle.mmeaning.specs.Transition.{Settings, World}
-use Rattle.mstore.specs.declared.store.NodeStore.{Ghosts}
-use Rattle.mwire.specs.Serves.{Serves}
-use Rattle.mwire.specs.Connections.{Visit, AreServed, AreOfPeers, HasServedEach, ServesEach}
-use Rattle.mwire.specs.declared.fault.WireFault.{WireFault}
+use Rattle.std.proofs.lemmas.List.{append_assoc, append-nil, length-append}
 use Rattle.mwire.specs.declared.fault.AcceptFault.{AcceptFault}
 
 -- one batch after another

@@ -1,12 +1,7 @@
 -- SPDX-License-Identifier: Apache-2.0
 -- The wire form and the replies of the definitional interpreter on examples, as proved equations.
-use Rattle.std.proofs.Common.{◌≡◌, ℕ, List, [], ◌∷◌, ◌++◌, refl, ap, ◌∙◌}
-use Rattle.std.specs.Prelude.{codes, replicate}
+use Rattle.mwire.proofs.WireWords.{◌≡◌, ℕ, List, [], ◌∷◌, ◌++◌, refl, ap, ◌∙◌, codes, replicate, digits, lines, Text, no_locals, level_begun, value_of, assigned_to, Zlong, Own, Settings, World, Reply, Finished, Halted, Faulted, opening, WireLine, Ignored, TooLong, Unreadable, Runs, classify, shown, reply_text, too_long_text, unreadable_text, line_served, lines_served, stream_served}
 use Rattle.std.specs.FinMap.{empty, gets}
-use Rattle.std.specs.Fmt.{digits}
-use Rattle.std.specs.Str.Lines.{lines}
-use Rattle.mspec.specs.Act.{Text, no_locals, level_begun, value_of, assigned_to}
-use Rattle.mspec.specs.Code.{Zlong, Own}
 use Rattle.mspec.specs.NodeOrder.{canonical_value}
 use Rattle.mspec.proofs.ComputedMaps.{computed_maps}
 use Rattle.mspec.proofs.ComputedNumbers.{computed_numbers}
@@ -17,11 +12,8 @@ use Rattle.mgrammar.specs.ReadingWords.{many, list_at, point_at, exponent_at, nu
 use Rattle.mgrammar.specs.ReadingExpressions.{bracket_with, refer_with, dollar_with, subscripts_with, reference_with, primary_with, operand_with, tail_by, tail_with, expr_with, readers_at}
 use Rattle.mgrammar.specs.Reading.{target_with, destination_at, set_argument_at, names_at, kill_argument_at, new_argument_at, if_argument_at, parameter_at, for_argument_at, write_argument_at, args_at, postcondition_at, command_at, spaced_at, comment_at, line_at}
 use Rattle.mgrammar.proofs.Computing.{reads}
-use Rattle.mmeaning.specs.Transition.{Settings, World, Reply, Finished, Halted, Faulted}
-use Rattle.mmeaning.specs.History.{opening}
 use Rattle.mmeaning.proofs.ExampleAccount.{alice}
 use Rattle.mmeaning.proofs.LineRuns.{shut_step, step_is_shut}
-use Rattle.mwire.specs.Wire.{WireLine, Ignored, TooLong, Unreadable, Runs, classify, shown, reply_text, too_long_text, unreadable_text, line_served, lines_served, stream_served}
 
 abbrev runs : ℕ → Text → WireLine
 runs terminal text = Runs (record { terminal = terminal; text = text })

@@ -1,8 +1,5 @@
 -- SPDX-License-Identifier: Apache-2.0
-use Rattle.std.proofs.Common.{◌≡◌, ◌++◌, [], ◌∷◌, ◌<◌, false, Some, pos, get_or, set, take, length, sym, ap, subst, ◌∙◌, arith, rules}
-use Rattle.std.proofs.lemmas.Bool.{and_left}
-use Rattle.mgrant.specs.Document.{is_within}
-use Rattle.mgrant.specs.Reading.{HasTerminals, IsNumberWithin, claims_at}
+use Rattle.mgrant.proofs.GrantWords.{◌≡◌, ◌++◌, [], ◌∷◌, ◌<◌, false, Some, pos, get_or, set, take, length, sym, ap, subst, ◌∙◌, arith, rules, and_left, is_within, HasTerminals, IsNumberWithin, claims_at}
 use Rattle.mgrant.proofs.Parts.{claim_more, claim_step, claim_fails, claimed_twice, free_there}
 use Rattle.mgrant.proofs.checks.claim.Goals as goal
 

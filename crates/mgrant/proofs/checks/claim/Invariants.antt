@@ -1,9 +1,7 @@
 -- SPDX-License-Identifier: Apache-2.0
-use Rattle.std.proofs.Common.{◌≡◌, List, take, vec_len}
-use Rattle.mgrant.specs.Reading.{Claim, HasTerminals, claims_at}
-use Rattle.mgrant.proofs.checks.claim.Given as goal
+use Rattle.mgrant.proofs.GrantWords.{◌≡◌, List, take, vec_len, Claim, HasTerminals, claims_at}
 
-abbrev pub invariant-loop-terminal : goal.invariant-loop-terminal
+abbrev pub invariant-loop-terminal : Rattle.mgrant.proofs.checks.claim.Given.invariant-loop-terminal
 invariant-loop-terminal l =
     ((seen : List Claim) → HasTerminals seen l.initial.terminals.items → HasTerminals (claims_at l.place (take l.terminal-index l.listed) seen) l.terminals.items)
     × (vec_len l.terminals ≡ 10000)

@@ -1,9 +1,5 @@
 -- SPDX-License-Identifier: Apache-2.0
-use Rattle.std.proofs.Common.{◌≡◌, ◌+◌, ◌++◌, [], ◌∷◌, inr, false, get_or, take, refl, sym, ap, subst, ◌∙◌, arith, rules}
-use Rattle.std.proofs.lemmas.Grind.{common_steps}
-use Rattle.mgrant.specs.Document.{is_grant}
-use Rattle.mgrant.specs.Placed.{mode_of}
-use Rattle.mgrant.specs.Reading.{grants_seen, grant_view, AreGranted, IsPlacing}
+use Rattle.mgrant.proofs.GrantWords.{◌≡◌, ◌+◌, ◌++◌, [], ◌∷◌, inr, false, get_or, take, refl, sym, ap, subst, ◌∙◌, arith, rules, common_steps, is_grant, mode_of, grants_seen, grant_view, AreGranted, IsPlacing}
 use Rattle.mgrant.proofs.Parts.{all_more, all_fails, grants_more}
 use Rattle.mgrant.proofs.checks.grants_of.Goals as goal
 

@@ -1,9 +1,6 @@
 -- SPDX-License-Identifier: Apache-2.0
-use Rattle.std.proofs.Common.{◌≡◌, true, take}
-use Rattle.mgrant.specs.Document.{are_grants}
-use Rattle.mgrant.specs.Reading.{AreGranted, grants_seen}
-use Rattle.mgrant.proofs.checks.grants_of.Given as goal
+use Rattle.mgrant.proofs.GrantWords.{◌≡◌, true, take, are_grants, AreGranted, grants_seen}
 
-abbrev pub invariant-loop-entry : goal.invariant-loop-entry
+abbrev pub invariant-loop-entry : Rattle.mgrant.proofs.checks.grants_of.Given.invariant-loop-entry
 invariant-loop-entry l =
     AreGranted l.names (grants_seen (take l.entry-index l.entries)) l.grants × (are_grants l.names (grants_seen (take l.entry-index l.entries)) ≡ true)

@@ -1,11 +1,5 @@
 -- SPDX-License-Identifier: Apache-2.0
-use Rattle.std.proofs.Common.{◌≡◌, ◌++◌, [], ◌∷◌, inr, true, false, get_or, take, refl, sym, ap, ◌∙◌, arith, rules, not}
-use Rattle.std.specs.List.{list_any}
-use Rattle.std.proofs.lemmas.Bool.{and_right}
-use Rattle.std.proofs.lemmas.Grind.{common_steps}
-use Rattle.mspec.specs.Trees.{text_eq}
-use Rattle.mgrant.specs.Document.{are_names, is_account_name, names_of}
-use Rattle.mgrant.specs.Reading.{entries_seen}
+use Rattle.mgrant.proofs.GrantWords.{◌≡◌, ◌++◌, [], ◌∷◌, inr, true, false, get_or, take, refl, sym, ap, ◌∙◌, arith, rules, not, list_any, and_right, common_steps, text_eq, are_names, is_account_name, names_of, entries_seen}
 use Rattle.mgrant.proofs.Places.{found_any, found_none}
 use Rattle.mgrant.proofs.Parts.{names_more, names_good, names_fail}
 use Rattle.mgrant.proofs.checks.names_of.Goals as goal

@@ -1,16 +1,9 @@
 -- SPDX-License-Identifier: Apache-2.0
-use Rattle.std.proofs.Common.{◌≡◌, true, false, Some, arith, rules}
-use Rattle.std.proofs.lemmas.Grind.{common_steps}
-use Rattle.mspec.specs.Trees.{text_eq}
-use Rattle.mgrant.specs.Document.{is_name, mode_named}
-use Rattle.mgrant.specs.Placed.{mode_of}
-use Rattle.mgrant.specs.Reading.{grant_view}
-use Rattle.mgrant.specs.Words.{IsPlaceOf}
+use Rattle.mgrant.proofs.GrantWords.{◌≡◌, true, false, Some, arith, rules, common_steps, text_eq, is_name, mode_named, mode_of, grant_view, IsPlaceOf}
 use Rattle.mgrant.proofs.Places.{place_any}
 use Rattle.mgrant.proofs.Parts.{granted}
-use Rattle.mgrant.proofs.checks.places_of.Goals as goal
 
-pub returns : goal.returns
+pub returns : Rattle.mgrant.proofs.checks.places_of.Goals.returns
 returns c =
     let e = c.args.entry.now in
     let from : IsPlaceOf c.args.names.now e.from.items c.in_ok-from.from = search rules in

@@ -1,8 +1,5 @@
 -- SPDX-License-Identifier: Apache-2.0
-use Rattle.std.proofs.Common.{◌≡◌, ◌++◌, [], ◌∷◌, inr, false, get_or, unsigned_abs, refl, sym, ap, ◌∙◌, arith, rules}
-use Rattle.std.proofs.lemmas.Grind.{common_steps}
-use Rattle.mgrant.specs.Document.{is_within}
-use Rattle.mgrant.specs.Reading.{account_view, IsNumberWithin}
+use Rattle.mgrant.proofs.GrantWords.{◌≡◌, ◌++◌, [], ◌∷◌, inr, false, get_or, unsigned_abs, refl, sym, ap, ◌∙◌, arith, rules, common_steps, is_within, account_view, IsNumberWithin}
 use Rattle.mgrant.proofs.Parts.{all_more, all_fails, steps_more}
 use Rattle.mgrant.proofs.checks.steps_of.Goals as goal
 

@@ -1,6 +1,5 @@
 -- SPDX-License-Identifier: Apache-2.0
-use Rattle.std.proofs.Common.{◌≡◌, ◌++◌, [], ◌∷◌, None, sym, subst, rules}
-use Rattle.mgrant.specs.Reading.{HasTerminals}
+use Rattle.mgrant.proofs.GrantWords.{◌≡◌, ◌++◌, [], ◌∷◌, None, sym, subst, rules, HasTerminals}
 use Rattle.mgrant.proofs.Parts.{no_terminals, none_more}
 use Rattle.mgrant.proofs.checks.unclaimed.Goals as goal
 

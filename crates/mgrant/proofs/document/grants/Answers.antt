@@ -1,7 +1,5 @@
 -- SPDX-License-Identifier: Apache-2.0
-use Rattle.std.proofs.Common.{sym, arith}
-use Rattle.mgrant.specs.Document.{written_grant}
-use Rattle.mgrant.specs.Reading.{grants_view}
+use Rattle.mgrant.proofs.GrantWords.{sym, arith, written_grant, grants_view}
 use Rattle.mgrant.proofs.EachRead.{too_long, all_read}
 use Rattle.mgrant.proofs.document.grants.Goals as goal
 

@@ -1,10 +1,5 @@
 -- SPDX-License-Identifier: Apache-2.0
-use Rattle.std.proofs.Common.{◌≡◌, ◌∷◌, ◌∙◌, true, false, String, Global, string_bytes, sym, ap, arith, ◌&&◌}
-use Rattle.std.specs.List.{list_any}
-use Rattle.std.proofs.lemmas.Bool.{and_left}
-use Rattle.std.proofs.lemmas.Grind.{common_steps}
-use Rattle.mspec.specs.Trees.{text_eq}
-use Rattle.mgrant.specs.Reading.{keys_view}
+use Rattle.mgrant.proofs.GrantWords.{◌≡◌, ◌∷◌, ◌∙◌, true, false, String, Global, string_bytes, sym, ap, arith, ◌&&◌, list_any, and_left, common_steps, text_eq, keys_view}
 use Rattle.mgrant.proofs.Keys.{keys_only, has_only-keys, among_view}
 use Rattle.mgrant.proofs.document.has_only.Goals as goal
 

@@ -1,8 +1,5 @@
 -- SPDX-License-Identifier: Apache-2.0
-use Rattle.std.proofs.Common.{◌≡◌}
-use Rattle.toml.specs.View.{table_view}
-use Rattle.mgrant.specs.Document.{has_only}
-use Rattle.mgrant.specs.Reading.{keys_view}
+use Rattle.mgrant.proofs.GrantWords.{◌≡◌, table_view, has_only, keys_view}
 use Rattle.mgrant.proofs.Keys.{keys_only}
 use Rattle.mgrant.proofs.document.has_only.Given as goal
 

@@ -1,11 +1,8 @@
 -- SPDX-License-Identifier: Apache-2.0
-use Rattle.std.proofs.Common.{◌∙◌, ◌<◌, ◌++◌, ap, sym, length, arith, option_map}
-use Rattle.toml.specs.Data.{as_integer}
-use Rattle.toml.specs.View.{view}
+use Rattle.mgrant.proofs.GrantWords.{◌∙◌, ◌<◌, ◌++◌, ap, sym, length, arith, option_map, as_integer, view}
 use Rattle.mgrant.proofs.EachRead.{none_read}
-use Rattle.mgrant.proofs.document.integers.Goals as goal
 
-pub returns-in-None : goal.returns-in-None
+pub returns-in-None : Rattle.mgrant.proofs.document.integers.Goals.returns-in-None
 returns-in-None c =
     let lt : c.loop-value.value-index < length c.deref-value-items.result.now = omega arith in
     let none = none_read as_integer c.deref-value-items.result.now c.loop-value.value-index c.value-item.result lt

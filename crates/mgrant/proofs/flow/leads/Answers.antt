@@ -1,9 +1,7 @@
 -- SPDX-License-Identifier: Apache-2.0
-use Rattle.std.proofs.Common.{◌≡◌, ◌<◌, false, length, get_or, sym, ◌∙◌, arith}
-use Rattle.std.proofs.lemmas.List.{get_or_default}
-use Rattle.mgrant.proofs.flow.leads.Goals as goal
+use Rattle.mgrant.proofs.GrantWords.{◌≡◌, ◌<◌, false, length, get_or, sym, ◌∙◌, arith, get_or_default}
 
-pub returns : goal.returns
+pub returns : Rattle.mgrant.proofs.flow.leads.Goals.returns
 returns c =
     let marks = c.in_ok-marks.marks.items in
     let told = c.in_ok-marks.ensures.reached c.args.to in

@@ -1,9 +1,6 @@
 -- SPDX-License-Identifier: Apache-2.0
-use Rattle.std.proofs.Common.{◌≡◌, ◌<◌, ◌++◌, [], ◌∷◌, true, false, cond, All, length, get_or, take, set, sym, ap, subst, ◌∙◌, arith, vec_len}
-use Rattle.std.proofs.lemmas.List.{take_all, take_more, get_or-set_same}
-use Rattle.std.proofs.lemmas.List.Elements.{All-append, All-cons, All-nil}
-use Rattle.mgrant.specs.Edges.{IsStage, IsMore}
-use Rattle.mgrant.specs.declared.flow.Edge.{Edge}
+use Rattle.mgrant.proofs.GrantWords.{◌≡◌, ◌<◌, ◌++◌, [], ◌∷◌, true, false, cond, All, length, get_or, take, set, sym, ap, subst, ◌∙◌, arith, vec_len, take_more, get_or-set_same, All-append, All-cons, All-nil, IsStage, IsMore, Edge}
+use Rattle.std.proofs.lemmas.List.{take_all}
 use Rattle.mgrant.proofs.Marks.{stage_mark, more_mark, more_on}
 use Rattle.mgrant.proofs.flow.mark_targets.Goals as goal
 

@@ -1,10 +1,7 @@
 -- SPDX-License-Identifier: Apache-2.0
-use Rattle.std.proofs.Common.{◌≡◌, ℕ, List, All, true, false, take, get_or, vec_len}
-use Rattle.mgrant.specs.Edges.{Leads, IsStage, IsMore}
-use Rattle.mgrant.specs.declared.flow.Edge.{Edge}
-use Rattle.mgrant.proofs.flow.mark_targets.Given as goal
+use Rattle.mgrant.proofs.GrantWords.{◌≡◌, ℕ, List, All, true, false, take, get_or, vec_len, Leads, IsStage, IsMore, Edge}
 
-abbrev pub invariant-loop-step : goal.invariant-loop-step
+abbrev pub invariant-loop-step : Rattle.mgrant.proofs.flow.mark_targets.Given.invariant-loop-step
 invariant-loop-step l = record {
   stage : (edges : List Edge) (start : ℕ) → IsStage edges start l.initial.marks.items l.initial.order.items → All (λ e. Leads edges start e.target) l.steps → IsStage edges start l.marks.items l.order.items;
   more : IsMore l.initial.marks.items l.initial.order.items l.marks.items l.order.items;

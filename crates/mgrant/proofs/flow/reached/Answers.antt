@@ -1,9 +1,5 @@
 -- SPDX-License-Identifier: Apache-2.0
-use Rattle.std.proofs.Common.{◌≡◌, ◌<◌, ◌++◌, [], ◌∷◌, true, false, cond, All, get_or, set, sym, ap, subst, ◌∙◌, arith, rules, vec_len, replicate}
-use Rattle.std.specs.List.Sorted.{IsNonDecreasingBy}
-use Rattle.std.proofs.lemmas.List.Sorted.{IsNonDecreasingBy-from_sort_by_key, IsPermutation-sym, All-permutation}
-use Rattle.mgrant.specs.Edges.{Leads, IsStage}
-use Rattle.mgrant.specs.declared.flow.Edge.{Edge}
+use Rattle.mgrant.proofs.GrantWords.{◌≡◌, ◌<◌, ◌++◌, [], ◌∷◌, true, false, cond, All, get_or, set, sym, ap, subst, ◌∙◌, arith, rules, vec_len, replicate, IsNonDecreasingBy, IsNonDecreasingBy-from_sort_by_key, IsPermutation-sym, All-permutation, Leads, IsStage, Edge}
 use Rattle.mgrant.proofs.Marks.{stage_begun, leads_among}
 use Rattle.mgrant.proofs.flow.reached.Goals as goal
 

@@ -1,8 +1,5 @@
 -- SPDX-License-Identifier: Apache-2.0
-use Rattle.std.proofs.Common.{◌≡◌, ◌<◌, ◌≤◌, length, get_or, sym, subst, ◌∙◌, arith}
-use Rattle.std.proofs.lemmas.List.{get_or_default}
-use Rattle.std.proofs.lemmas.List.Sums.{count_by-le-length}
-use Rattle.mgrant.specs.Edges.{Leads}
+use Rattle.mgrant.proofs.GrantWords.{◌≡◌, ◌<◌, ◌≤◌, length, get_or, sym, subst, ◌∙◌, arith, get_or_default, count_by-le-length, Leads}
 use Rattle.mgrant.proofs.Marks.{leads_on, turn_closed, spread_all}
 use Rattle.mgrant.proofs.flow.spread.Goals as goal
 

@@ -1,13 +1,8 @@
 -- SPDX-License-Identifier: Apache-2.0
-use Rattle.std.proofs.Common.{◌≡◌, ◌-◌, ◌≤◌, true, false, length, take, drop, sym, subst, arith, length-drop, rules, nat_lt, nat_le, take_all}
-use Rattle.std.specs.List.Sorted.{IsPartitionPoint}
-use Rattle.std.proofs.lemmas.List.Sorted.{IsPartitionPoint-from_clause, IsPartitionedBy-ltb, IsPartitionedBy-leb, IsNonDecreasingBy-take, IsNonDecreasingBy-drop}
-use Rattle.mgrant.specs.Edges.{IsRun}
-use Rattle.mgrant.specs.declared.flow.Edge.{Edge}
+use Rattle.mgrant.proofs.GrantWords.{◌≡◌, ◌-◌, ◌≤◌, true, false, length, take, drop, sym, subst, arith, length-drop, rules, nat_lt, nat_le, take_all, IsPartitionPoint, IsPartitionPoint-from_clause, IsPartitionedBy-ltb, IsPartitionedBy-leb, IsNonDecreasingBy-take, IsNonDecreasingBy-drop, IsRun, Edge}
 use Rattle.mgrant.proofs.Marks.{run_is}
-use Rattle.mgrant.proofs.flow.steps_from.Goals as goal
 
-pub returns : goal.returns
+pub returns : Rattle.mgrant.proofs.flow.steps_from.Goals.returns
 returns c =
     let es = c.args.edges.now in
     let place = c.args.place in

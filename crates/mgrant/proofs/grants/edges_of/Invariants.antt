@@ -1,10 +1,5 @@
 -- SPDX-License-Identifier: Apache-2.0
-use Rattle.std.proofs.Common.{◌≡◌, ℕ, List, take, map}
-use Rattle.std.specs.List.{list_any}
-use Rattle.mspec.specs.Node.{Text}
-use Rattle.mgrant.specs.Edges.{leads}
-use Rattle.mgrant.specs.Placed.{placed, carries_at}
-use Rattle.mgrant.proofs.grants.edges_of.Given as goal
+use Rattle.mgrant.proofs.GrantWords.{◌≡◌, ℕ, List, take, map, list_any, Text, leads, placed, carries_at}
 
-abbrev pub invariant-loop-given : goal.invariant-loop-given
+abbrev pub invariant-loop-given : Rattle.mgrant.proofs.grants.edges_of.Given.invariant-loop-given
 invariant-loop-given l = (globals : List Text) (x y : ℕ) → list_any (leads x y) l.edges.items ≡ list_any (carries_at x y) (map (placed globals) (take l.given-index l.list))

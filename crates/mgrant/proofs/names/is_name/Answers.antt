@@ -1,7 +1,5 @@
 -- SPDX-License-Identifier: Apache-2.0
-use Rattle.std.proofs.Common.{◌≡◌, length, sym, ◌∙◌, arith, nat_le}
-use Rattle.std.proofs.lemmas.Grind.{common_steps}
-use Rattle.mgrant.specs.Document.{is_name}
+use Rattle.mgrant.proofs.GrantWords.{◌≡◌, length, sym, ◌∙◌, arith, nat_le, common_steps, is_name}
 use Rattle.mgrant.proofs.NameTests.{name_is, name_test}
 use Rattle.mgrant.proofs.names.is_name.Goals as goal
 

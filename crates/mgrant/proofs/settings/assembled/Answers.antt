@@ -1,8 +1,5 @@
 -- SPDX-License-Identifier: Apache-2.0
-use Rattle.std.proofs.Common.{◌≡◌, ◌<◌, length, map, sym, ap, subst, ◌∙◌, unsigned_abs}
-use Rattle.mgrant.specs.Document.{names_of, are_names}
-use Rattle.mgrant.specs.Reading.{entries_view, entries_seen, grants_seen, claims, HasTerminals, AreGranted}
-use Rattle.mgrant.specs.View.{settings_view}
+use Rattle.mgrant.proofs.GrantWords.{◌≡◌, ◌<◌, length, map, sym, ap, subst, ◌∙◌, unsigned_abs, names_of, are_names, entries_view, entries_seen, grants_seen, claims, HasTerminals, AreGranted, settings_view}
 use Rattle.mgrant.proofs.Assembled.{assembled_is, placed_within, steps_count}
 use Rattle.mgrant.proofs.settings.assembled.Goals as goal
 

@@ -1,10 +1,9 @@
 -- SPDX-License-Identifier: Apache-2.0
 use Rattle.std.proofs.Common.{◌≡◌, ◌++◌, [], ◌∷◌, true, false, get_or, sym, ap, ◌∙◌, rules}
 use Rattle.mgrant.proofs.IslandsFound.{marked_more, unmarked_more}
-use Rattle.mgrant.proofs.settings.marked.Goals as goal
 use Rattle.mgrant.proofs.settings.marked.Goals.{then-marks-place+in_ok-push, else-marks-place}
 
-pub loop-place-preserved : goal.loop-place-preserved
+pub loop-place-preserved : Rattle.mgrant.proofs.settings.marked.Goals.loop-place-preserved
 loop-place-preserved c =
     let marks = c.args.marks.now in
     let k = c.loop-place.place in

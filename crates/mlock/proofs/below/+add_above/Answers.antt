@@ -1,6 +1,5 @@
 -- SPDX-License-Identifier: Apache-2.0
-use Rattle.std.proofs.Common.{cond, ap, sym, subst, ◌∙◌, arith}
-use Rattle.mlock.specs.Tallies.{with_one, tally_at, HasRoom, HasEntry}
+use Rattle.mlock.proofs.LockWords.{cond, ap, sym, subst, ◌∙◌, arith, with_one, tally_at, HasRoom, HasEntry}
 use Rattle.mlock.proofs.Levels.{all_counted, levels_left, not_next}
 use Rattle.mlock.proofs.Under.{above_is, none_above, one_more}
 use Rattle.mlock.proofs.below.+add_above.Goals as goal

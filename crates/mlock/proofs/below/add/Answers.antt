@@ -1,10 +1,8 @@
 -- SPDX-License-Identifier: Apache-2.0
-use Rattle.std.proofs.Common.{Some, cond, ap, refl, subst, ◌∙◌, unwrap_or, IsSome}
-use Rattle.mlock.specs.Tallies.{name_eq, no_names, with_one, tally_at}
+use Rattle.mlock.proofs.LockWords.{Some, cond, ap, refl, subst, ◌∙◌, unwrap_or, IsSome, name_eq, no_names, with_one, tally_at}
 use Rattle.mlock.proofs.Levels.{written, counted}
-use Rattle.mlock.proofs.below.add.Goals as goal
 
-pub returns-in-Some-clause-counted : goal.returns-in-Some-clause-counted
+pub returns-in-Some-clause-counted : Rattle.mlock.proofs.below.add.Goals.returns-in-Some-clause-counted
 returns-in-Some-clause-counted c =
     let n = c.get_mut.follows.lender c.with_one.result in
     counted c.args.below.now n c.args.name.now c.args.terminal (λ q.

@@ -1,6 +1,5 @@
 -- SPDX-License-Identifier: Apache-2.0
-use Rattle.std.proofs.Common.{Some, None, cond, ap, sym, refl, subst, ◌∙◌, unwrap_or, IsSome}
-use Rattle.mlock.specs.Tallies.{name_eq, no_names, tally_at}
+use Rattle.mlock.proofs.LockWords.{Some, None, cond, ap, sym, refl, subst, ◌∙◌, unwrap_or, IsSome, name_eq, no_names, tally_at}
 use Rattle.mlock.proofs.Levels.{written, taken_off, twice_written, none_is}
 use Rattle.mlock.proofs.below.take_off.Goals as goal
 

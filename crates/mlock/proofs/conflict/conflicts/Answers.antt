@@ -1,12 +1,5 @@
 -- SPDX-License-Identifier: Apache-2.0
-use Rattle.std.proofs.Common.{◌≡◌, ◌<◌, ℕ, Bool, true, false, Result, Ok, Err, not, length, refl, sym, ap, ◌∙◌, IfOk}
-use Rattle.std.specs.List.{list_any}
-use Rattle.indexmap.specs.IndexMap.{IndexMap, IsUnique, get}
-use Rattle.mspec.specs.LockConflict.{LockName, held, has_conflict}
-use Rattle.mlock.specs.declared.locks.Holding.{Holding}
-use Rattle.mlock.specs.Above.{name_above, is_other}
-use Rattle.mlock.specs.Holdings.{locks_of}
-use Rattle.mlock.specs.Tallies.{name_eq, is_only}
+use Rattle.mlock.proofs.LockWords.{◌≡◌, ◌<◌, ℕ, Bool, true, false, Result, Ok, Err, not, length, refl, sym, ap, ◌∙◌, IfOk, list_any, IndexMap, IsUnique, get, LockName, held, has_conflict, Holding, name_above, is_other, locks_of, name_eq, is_only}
 use Rattle.mlock.proofs.Conflicts.{by_below, by_above, by_itself, by_none}
 use Rattle.mlock.proofs.Sums.{under_other, only_is}
 use Rattle.mlock.proofs.conflict.conflicts.Goals as goal

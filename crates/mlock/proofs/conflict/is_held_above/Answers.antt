@@ -1,9 +1,5 @@
 -- SPDX-License-Identifier: Apache-2.0
-use Rattle.std.proofs.Common.{◌≡◌, ◌+◌, ◌<◌, ◌≤◌, ◌⊎◌, inl, inr, ℕ, false, length, ap, sym, ◌∙◌, subst, arith}
-use Rattle.indexmap.specs.IndexMap.{get}
-use Rattle.std.proofs.lemmas.Bool.{cases_eq}
-use Rattle.mlock.specs.Tallies.{name_eq}
-use Rattle.mlock.specs.Above.{name_above, is_other}
+use Rattle.mlock.proofs.LockWords.{◌≡◌, ◌+◌, ◌<◌, ◌≤◌, ◌⊎◌, inl, inr, ℕ, false, length, ap, sym, ◌∙◌, subst, arith, get, cases_eq, name_eq, name_above, is_other}
 use Rattle.mlock.proofs.Above.{above_next}
 use Rattle.mlock.proofs.conflict.is_held_above.Goals as goal
 

@@ -1,8 +1,5 @@
 -- SPDX-License-Identifier: Apache-2.0
-use Rattle.std.proofs.Common.{◌≡◌, ◌<◌, ◌≤◌, ℕ, false, length}
-use Rattle.indexmap.specs.IndexMap.{get}
-use Rattle.mlock.specs.Tallies.{name_eq}
-use Rattle.mlock.specs.Above.{name_above, is_other}
+use Rattle.mlock.proofs.LockWords.{◌≡◌, ◌<◌, ◌≤◌, ℕ, false, length, get, name_eq, name_above, is_other}
 use Rattle.mlock.proofs.conflict.is_held_above.Given as goal
 
 abbrev pub invariant-loop-above : goal.invariant-loop-above

@@ -1,11 +1,5 @@
 -- SPDX-License-Identifier: Apache-2.0
-use Rattle.std.proofs.Common.{◌<◌, ◌^◌, cond, ap, sym, subst, refl, ◌∙◌, arith}
-use Rattle.indexmap.specs.IndexMap.{get}
-use Rattle.indexmap.proofs.CallerLemmas.{insert_entry-new}
-use Rattle.mspec.specs.LockConflict.{held, one_more}
-use Rattle.mlock.specs.declared.locks.Holding.{Holding}
-use Rattle.mlock.specs.Holdings.{locks_of}
-use Rattle.mlock.specs.Tallies.{name_eq, is_under, with_one, tally_at}
+use Rattle.mlock.proofs.LockWords.{◌<◌, ◌^◌, cond, ap, sym, subst, refl, ◌∙◌, arith, get, insert_entry-new, held, one_more, Holding, locks_of, name_eq, is_under, with_one, tally_at}
 use Rattle.mlock.proofs.Moves.{room_of, kept_held, held_locks}
 use Rattle.mlock.proofs.holdings.hold.Goals as goal
 

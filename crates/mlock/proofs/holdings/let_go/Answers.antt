@@ -1,9 +1,5 @@
 -- SPDX-License-Identifier: Apache-2.0
-use Rattle.std.proofs.Common.{◌≡◌, None, ap, sym, subst, ◌∙◌, unwrap_or}
-use Rattle.indexmap.specs.IndexMap.{Updates}
-use Rattle.mspec.specs.LockConflict.{LockName}
-use Rattle.mlock.specs.declared.locks.Holding.{Holding}
-use Rattle.mlock.specs.Tallies.{name_eq}
+use Rattle.mlock.proofs.LockWords.{◌≡◌, None, ap, sym, subst, ◌∙◌, unwrap_or, Updates, LockName, Holding, name_eq}
 use Rattle.mlock.proofs.Moves.{one_there, kept_gone, gone_locks}
 use Rattle.mlock.proofs.holdings.let_go.Goals as goal
 

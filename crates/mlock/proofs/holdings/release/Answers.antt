@@ -1,8 +1,5 @@
 -- SPDX-License-Identifier: Apache-2.0
-use Rattle.std.proofs.Common.{◌≡◌, ◌-◌, ◌<◌, ◌≤◌, length, ap, sym, subst, ◌∙◌, arith}
-use Rattle.std.specs.FinMap.{remove}
-use Rattle.mspec.specs.LockConflict.{held, released}
-use Rattle.mlock.specs.Holdings.{locks_of}
+use Rattle.mlock.proofs.LockWords.{◌≡◌, ◌-◌, ◌<◌, ◌≤◌, length, ap, sym, subst, ◌∙◌, arith, remove, held, released, locks_of}
 use Rattle.mlock.proofs.Moves.{place, swap_length, none_swapped, one_released}
 use Rattle.mlock.proofs.Views.{released_none}
 use Rattle.mlock.proofs.holdings.release.Goals as goal

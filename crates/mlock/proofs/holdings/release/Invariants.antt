@@ -1,8 +1,5 @@
 -- SPDX-License-Identifier: Apache-2.0
-use Rattle.std.proofs.Common.{◌≡◌, ◌-◌, ◌≤◌, length}
-use Rattle.mspec.specs.LockConflict.{released}
-use Rattle.mlock.specs.Holdings.{locks_of}
-use Rattle.mlock.specs.Tallies.{Kept}
+use Rattle.mlock.proofs.LockWords.{◌≡◌, ◌-◌, ◌≤◌, length, released, locks_of, Kept}
 use Rattle.mlock.proofs.Moves.{NoneBefore}
 use Rattle.mlock.proofs.holdings.release.Given as goal
 

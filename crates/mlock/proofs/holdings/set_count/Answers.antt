@@ -1,10 +1,5 @@
 -- SPDX-License-Identifier: Apache-2.0
-use Rattle.std.proofs.Common.{◌≡◌, ◌<◌, ℕ, List, [], ◌∷◌, Option, Some, None, length, get_or, refl, sym, subst, ◌∙◌, arith, IfSome, slice_get}
-use Rattle.std.proofs.lemmas.Option.{slice_get-get_or}
-use Rattle.indexmap.specs.IndexMap.{IndexMap, IsUnique, with_value_at}
-use Rattle.mspec.specs.LockConflict.{LockName}
-use Rattle.mlock.specs.declared.locks.Holding.{Holding}
-use Rattle.mlock.specs.Tallies.{name_eq, IsRecounted}
+use Rattle.mlock.proofs.LockWords.{◌≡◌, ◌<◌, ℕ, List, [], ◌∷◌, Option, Some, None, length, get_or, refl, sym, subst, ◌∙◌, arith, IfSome, slice_get, slice_get-get_or, IndexMap, IsUnique, with_value_at, LockName, Holding, name_eq, IsRecounted}
 use Rattle.mlock.proofs.Moves.{recounted, recounted_locks}
 use Rattle.mlock.proofs.holdings.set_count.Goals as goal
 

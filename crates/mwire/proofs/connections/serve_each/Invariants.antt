@@ -1,11 +1,8 @@
 -- SPDX-License-Identifier: Apache-2.0
-use Rattle.std.proofs.Common.{◌≡◌}
-use Rattle.mworld.specs.View.{settings_of, world_of}
-use Rattle.mwire.specs.Connections.{HasServedEach}
-use Rattle.mwire.proofs.connections.serve_each.Given as goal
+use Rattle.mwire.proofs.WireWords.{◌≡◌, settings_of, world_of, HasServedEach}
 
 -- so many connections were served, by the same settings
-abbrev pub invariant-loop-number : goal.invariant-loop-number
+abbrev pub invariant-loop-number : Rattle.mwire.proofs.connections.serve_each.Given.invariant-loop-number
 invariant-loop-number g l = record {
   settings : settings_of l.world ≡ settings_of l.initial.world;
   served : HasServedEach g.S.NodeStore (settings_of l.initial.world) l.number (world_of g.S.NodeStore l.initial.world) (world_of g.S.NodeStore l.world)

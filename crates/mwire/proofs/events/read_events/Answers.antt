@@ -1,7 +1,5 @@
 -- SPDX-License-Identifier: Apache-2.0
-use Rattle.std.proofs.Common.{◌++◌, false, ap, sym, ◌∙◌, take, rules, arith}
-use Rattle.std.specs.Prelude.{◌||◌}
-use Rattle.std.proofs.KnownBytes.{Consumes-trans, Consumes-kept}
+use Rattle.mwire.proofs.WireWords.{◌++◌, false, ap, sym, ◌∙◌, take, rules, arith, ◌||◌, Consumes-trans, Consumes-kept}
 use Rattle.mwire.proofs.Ends.{Consumes-none}
 use Rattle.mwire.proofs.Gathers.{HasGathered-start, HasGathered-more, Gathered-end}
 use Rattle.mwire.proofs.Results.{on_ok_unless}

@@ -1,8 +1,5 @@
 -- SPDX-License-Identifier: Apache-2.0
-use Rattle.std.proofs.Common.{refl, ap, ◌∙◌, map}
-use Rattle.mworld.specs.View.{event_of}
-use Rattle.mworld.specs.Isolated.{told_of, replies_of}
-use Rattle.mwire.specs.Only.{told_text}
+use Rattle.mwire.proofs.WireWords.{refl, ap, ◌∙◌, map, event_of, told_of, replies_of, told_text}
 use Rattle.mwire.proofs.RepliesSent.{unread, unwritten, written, ran_only}
 use Rattle.mwire.proofs.only.serve_only.Goals as goal
 

@@ -1,11 +1,5 @@
 -- SPDX-License-Identifier: Apache-2.0
-use Rattle.std.proofs.Common.{refl, subst, ◌∙◌, map}
-use Rattle.std.proofs.lemmas.List.{take_all}
-use Rattle.std.proofs.KnownBytes.{Appends-nil}
-use Rattle.std.specs.Io.KnownBytes.{Appends}
-use Rattle.mworld.specs.Isolated.{told_of}
-use Rattle.mwire.specs.Watched.{inner_of}
-use Rattle.mwire.specs.Only.{told_text}
+use Rattle.mwire.proofs.WireWords.{refl, subst, ◌∙◌, map, take_all, Appends-nil, Appends, told_of, inner_of, told_text}
 use Rattle.mwire.proofs.Results.{not_ok}
 use Rattle.mwire.proofs.RepliesSent.{sent_on, sent_until, sent_all}
 use Rattle.mwire.proofs.only.write_replies.Goals as goal

@@ -1,7 +1,5 @@
 -- SPDX-License-Identifier: Apache-2.0
-use Rattle.std.proofs.Common.{sym, ap, arith}
-use Rattle.std.proofs.lemmas.List.Sums.{position_or_len_is}
-use Rattle.mwire.specs.Wire.{is_line_end}
+use Rattle.mwire.proofs.WireWords.{sym, ap, arith, position_or_len_is, is_line_end}
 use Rattle.mwire.proofs.reply_bytes.line_length.Goals as goal
 
 pub returns-then-b : goal.returns-then-b

@@ -1,6 +1,5 @@
 -- SPDX-License-Identifier: Apache-2.0
-use Rattle.std.proofs.Common.{arith}
-use Rattle.std.proofs.lemmas.Bool.Decides.{nat_tests}
+use Rattle.mwire.proofs.WireWords.{arith, nat_tests}
 use Rattle.mwire.proofs.Outputs.{output_more, output_last}
 use Rattle.mwire.proofs.reply_bytes.push_output.Goals as goal
 

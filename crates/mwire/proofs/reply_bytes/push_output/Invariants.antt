@@ -1,7 +1,5 @@
 -- SPDX-License-Identifier: Apache-2.0
-use Rattle.std.proofs.Common.{◌≡◌, ◌++◌, length}
-use Rattle.std.specs.List.{slice_split, position_or_len}
-use Rattle.mwire.specs.Wire.{output_text, is_line_end}
+use Rattle.mwire.proofs.WireWords.{◌≡◌, ◌++◌, length, slice_split, position_or_len, output_text, is_line_end}
 use Rattle.mwire.proofs.reply_bytes.push_output.Given as goal
 
 -- what is appended and what the rest is shown as are together what the output is

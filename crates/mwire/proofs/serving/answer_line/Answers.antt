@@ -1,6 +1,5 @@
 -- SPDX-License-Identifier: Apache-2.0
-use Rattle.std.proofs.Common.{refl, sym, ◌∙◌, ap, []}
-use Rattle.mwire.specs.WireLines.{wire_line_in}
+use Rattle.mwire.proofs.WireWords.{refl, sym, ◌∙◌, ap, [], wire_line_in}
 use Rattle.mwire.proofs.LineAnswers.{LineAnswered-at, replied}
 use Rattle.mwire.proofs.Results.{not_ok}
 use Rattle.mwire.proofs.Sends.{FrontSent-none}

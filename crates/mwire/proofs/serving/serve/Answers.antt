@@ -1,6 +1,5 @@
 -- SPDX-License-Identifier: Apache-2.0
-use Rattle.std.proofs.Common.{false, ap, ◌∙◌, take, rules, arith}
-use Rattle.std.specs.Prelude.{◌||◌}
+use Rattle.mwire.proofs.WireWords.{false, ap, ◌∙◌, take, rules, arith, ◌||◌}
 use Rattle.mwire.proofs.Ends.{HasServed-start, HasServed-kept, HasServed-more, Serves-read, Serves-end, Serves-piece}
 use Rattle.mwire.proofs.Progresses.{TakesOn-under, LineSent-under}
 use Rattle.mwire.proofs.serving.serve.Goals as goal

@@ -1,11 +1,7 @@
 -- SPDX-License-Identifier: Apache-2.0
-use Rattle.std.proofs.Common.{◌≡◌, false}
-use Rattle.mworld.specs.View.{settings_of, world_of}
-use Rattle.mwire.specs.Watched.{inner_of, calls_of, failed_of, stalls_of, counted_on}
-use Rattle.mwire.specs.Progress.{HasServed}
-use Rattle.mwire.proofs.serving.serve.Given as goal
+use Rattle.mwire.proofs.WireWords.{◌≡◌, false, settings_of, world_of, inner_of, calls_of, failed_of, stalls_of, counted_on, HasServed}
 
-abbrev pub invariant-loop-turn : goal.invariant-loop-turn
+abbrev pub invariant-loop-turn : Rattle.mwire.proofs.serving.serve.Given.invariant-loop-turn
 invariant-loop-turn g l = record {
   served : HasServed g.S.NodeStore (settings_of l.initial.world) (world_of g.S.NodeStore l.initial.world) (world_of g.S.NodeStore l.world)
       (g.R.Read.remaining (inner_of l.initial.reader)) (g.R.Read.remaining (inner_of l.reader))

@@ -1,7 +1,6 @@
 -- SPDX-License-Identifier: Apache-2.0
-use Rattle.std.proofs.Common.{◌<◌, length, sym, ◌∙◌, arith, rules}
+use Rattle.mwire.proofs.WireWords.{◌<◌, length, sym, ◌∙◌, arith, rules, take_all}
 use Rattle.std.proofs.lemmas.Result.{err_from_is_err_and}
-use Rattle.std.proofs.lemmas.List.{take_all}
 use Rattle.mwire.proofs.Progresses.{TakesOn-nil, TakesOn-under, TakesOn-more, TakesOn-stop}
 use Rattle.mwire.proofs.serving.take_piece.Goals as goal
 

@@ -1,12 +1,7 @@
 -- SPDX-License-Identifier: Apache-2.0
-use Rattle.std.proofs.Common.{◌≡◌, take, Ok}
-use Rattle.mworld.specs.View.{settings_of, world_of}
-use Rattle.mwire.specs.Watched.{inner_of, failed_of, stalls_of}
-use Rattle.mwire.specs.Progress.{TakesOn}
-use Rattle.mwire.specs.declared.fault.WireFault.{WireFault}
-use Rattle.mwire.proofs.serving.take_piece.Given as goal
+use Rattle.mwire.proofs.WireWords.{◌≡◌, take, Ok, settings_of, world_of, inner_of, failed_of, stalls_of, TakesOn, WireFault}
 
-abbrev pub invariant-loop-byte : goal.invariant-loop-byte
+abbrev pub invariant-loop-byte : Rattle.mwire.proofs.serving.take_piece.Given.invariant-loop-byte
 invariant-loop-byte g l = record {
   passes : TakesOn {E = WireFault} g.S.NodeStore (settings_of l.initial.world) (world_of g.S.NodeStore l.initial.world) l.initial.line (take l.byte-index l.piece) (world_of g.S.NodeStore l.world) l.line
       (g.W.Write.contents (inner_of l.initial.writer)) (g.W.Write.contents (inner_of l.writer)) (Ok tt);

@@ -1,7 +1,5 @@
 -- SPDX-License-Identifier: Apache-2.0
-use Rattle.std.proofs.Common.{◌≡◌, length}
-use Rattle.mwire.specs.Watched.{inner_of, failed_of, stalls_of}
-use Rattle.mwire.specs.Progress.{SentUpTo}
+use Rattle.mwire.proofs.WireWords.{◌≡◌, length, inner_of, failed_of, stalls_of, SentUpTo}
 use Rattle.mwire.proofs.serving.write_whole.Given as goal
 
 abbrev pub invariant-loop-rest : goal.invariant-loop-rest

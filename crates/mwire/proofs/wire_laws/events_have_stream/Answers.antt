@@ -1,6 +1,5 @@
 -- SPDX-License-Identifier: Apache-2.0
 use Rattle.mwire.proofs.EventLines.{events_have_stream}
-use Rattle.mwire.proofs.wire_laws.events_have_stream.Goals as goal
 
-pub returns : goal.returns
+pub returns : Rattle.mwire.proofs.wire_laws.events_have_stream.Goals.returns
 returns c = events_have_stream

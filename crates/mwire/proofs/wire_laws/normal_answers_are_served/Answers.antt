@@ -1,6 +1,5 @@
 -- SPDX-License-Identifier: Apache-2.0
 use Rattle.mwire.proofs.ServedLines.{normal_answers_are_served}
-use Rattle.mwire.proofs.wire_laws.normal_answers_are_served.Goals as goal
 
-pub returns : goal.returns
+pub returns : Rattle.mwire.proofs.wire_laws.normal_answers_are_served.Goals.returns
 returns g c = normal_answers_are_served

@@ -1,9 +1,6 @@
 -- SPDX-License-Identifier: Apache-2.0
-use Rattle.std.proofs.Common.{◌≡◌, ap, sym, ◌∙◌}
-use Rattle.std.specs.List.{list_any}
+use Rattle.mgrant.proofs.GrantWords.{◌≡◌, ap, sym, ◌∙◌, list_any, lets_at, mode_of, allows_so, same_permit, Permit}
 use Rattle.std.specs.HashMap as hash
-use Rattle.mgrant.specs.Placed.{lets_at, mode_of, allows_so, same_permit}
-use Rattle.mgrant.specs.declared.grants.Permit.{Permit}
 use Rattle.mgrant.proofs.Allowances.{lets_by_places, lets_none}
 use Rattle.mgrant.proofs.grants.Grants.allow.Goals as goal
 

@@ -1,9 +1,7 @@
 -- SPDX-License-Identifier: Apache-2.0
-use Rattle.std.proofs.Common.{◌≡◌, ◌<◌, ◌++◌, [], ◌∷◌, length, All, map, refl, ap, sym, subst, ◌∙◌, rules, ◌||◌}
+use Rattle.mgrant.proofs.GrantWords.{◌≡◌, ◌<◌, ◌++◌, [], ◌∷◌, length, All, map, refl, ap, sym, subst, ◌∙◌, rules, ◌||◌, IsAllowance, IsInterned, placed, mode_of, same_permit, allows_so, Permit}
 use Rattle.std.specs.HashMap as hash
 use Rattle.mspec.specs.Access as access
-use Rattle.mgrant.specs.Placed.{IsAllowance, IsInterned, placed, mode_of, same_permit, allows_so}
-use Rattle.mgrant.specs.declared.grants.Permit.{Permit}
 use Rattle.mgrant.proofs.Allowances.{allowance_more, within_more, placed_more}
 use Rattle.mgrant.proofs.grants.Grants.with.Goals as goal
 

@@ -1,8 +1,6 @@
 -- SPDX-License-Identifier: Apache-2.0
-use Rattle.std.proofs.Common.{◌<◌, length, sym, ap, subst, ◌∙◌, slice_get}
-use Rattle.std.proofs.lemmas.Option.{slice_get_within}
+use Rattle.mgrant.proofs.GrantWords.{◌<◌, length, sym, ap, subst, ◌∙◌, slice_get, slice_get_within, accounts_of}
 use Rattle.mspec.specs.Access as access
-use Rattle.mgrant.specs.View.{accounts_of}
 use Rattle.mgrant.proofs.Seen.{named_seen, unnamed_seen, length_seen}
 use Rattle.mgrant.proofs.settings.Settings.account_named.Goals as goal
 

@@ -1,7 +1,6 @@
 -- SPDX-License-Identifier: Apache-2.0
-use Rattle.std.proofs.Common.{◌≡◌, ◌<◌, Some, None, length, get_or, sym, ap, subst, ◌∙◌, slice_get, option_and_then}
+use Rattle.mgrant.proofs.GrantWords.{◌≡◌, ◌<◌, Some, None, length, get_or, sym, ap, subst, ◌∙◌, slice_get, option_and_then, accounts_of}
 use Rattle.mspec.specs.Access as access
-use Rattle.mgrant.specs.View.{accounts_of}
 use Rattle.mgrant.proofs.Seen.{terminal_seen, length_seen, there}
 use Rattle.mgrant.proofs.settings.Settings.account_of.Goals as goal
 

@@ -1,10 +1,6 @@
 -- SPDX-License-Identifier: Apache-2.0
-use Rattle.std.proofs.Common.{◌≡◌, ◌↔◌, ◌<◌, false, true, All, length, get_or, sym, ap, subst, ◌∙◌, arith}
-use Rattle.std.specs.List.{filter, range_with_len}
+use Rattle.mgrant.proofs.GrantWords.{◌≡◌, ◌↔◌, ◌<◌, false, true, All, length, get_or, sym, ap, subst, ◌∙◌, arith, filter, range_with_len, Leads, IsIslandAt, settings_view}
 use Rattle.mspec.specs.Access as access
-use Rattle.mgrant.specs.Edges.{Leads}
-use Rattle.mgrant.specs.Islands.{IsIslandAt}
-use Rattle.mgrant.specs.View.{settings_view}
 use Rattle.mgrant.proofs.IslandsFound.{ties_within, found_at, none_at}
 use Rattle.mgrant.proofs.settings.Settings.island_of.Goals as goal
 

@@ -1,10 +1,5 @@
 -- SPDX-License-Identifier: Apache-2.0
-use Rattle.std.proofs.Common.{◌≡◌, true, false, sym, ap, ◌∙◌}
-use Rattle.std.specs.List.{list_any}
-use Rattle.std.proofs.lemmas.Bool.{or_left}
-use Rattle.mspec.specs.Trees.{text_eq}
-use Rattle.mgrant.specs.Placed.{mode_of, lets_at}
-use Rattle.mgrant.specs.Words.{text_in}
+use Rattle.mgrant.proofs.GrantWords.{◌≡◌, true, false, sym, ap, ◌∙◌, list_any, or_left, text_eq, mode_of, lets_at, text_in}
 use Rattle.mgrant.proofs.Seen.{may_seen, lets_seen, lets_unknown, either}
 use Rattle.mgrant.proofs.settings.Settings.may.Goals as goal
 

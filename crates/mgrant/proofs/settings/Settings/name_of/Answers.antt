@@ -1,9 +1,7 @@
 -- SPDX-License-Identifier: Apache-2.0
-use Rattle.std.proofs.Common.{◌<◌, All, length, sym, ap, subst, ◌∙◌}
+use Rattle.mgrant.proofs.GrantWords.{◌<◌, All, length, sym, ap, subst, ◌∙◌, text_in, account_name_is}
 use Rattle.mspec.specs.Access as access
 use Rattle.mspec.specs.KeyBytes.{IsAccountName}
-use Rattle.mgrant.specs.Words.{text_in}
-use Rattle.mspec.proofs.SubscriptTests.{account_name_is}
 use Rattle.mgrant.proofs.Seen.{name_seen, name_good, name_small, length_seen}
 use Rattle.mgrant.proofs.settings.Settings.name_of.Goals as goal
 

@@ -1,12 +1,5 @@
 -- SPDX-License-Identifier: Apache-2.0
-use Rattle.std.proofs.Common.{◌≡◌, ◌<◌, [], All, length, refl, sym, ap, subst, ◌∙◌, arith, unwrap_or}
-use Rattle.std.specs.Cmp.Lexicographic.{bytes_decides}
-use Rattle.std.proofs.lemmas.Bool.{false≢true}
-use Rattle.std.proofs.lemmas.Option.{slice_get_past}
-use Rattle.mspec.specs.Flow.{Reaches, itself}
-use Rattle.mgrant.specs.Edges.{Leads}
-use Rattle.mgrant.specs.View.{settings_view}
-use Rattle.mgrant.specs.Words.{text_in}
+use Rattle.mgrant.proofs.GrantWords.{◌≡◌, ◌<◌, [], All, length, refl, sym, ap, subst, ◌∙◌, arith, unwrap_or, bytes_decides, false≢true, slice_get_past, Reaches, itself, Leads, settings_view, text_in}
 use Rattle.mgrant.proofs.Chains.{edges_within, reached_by, led_by, empty_start, empty_end, chain_at, chain_of}
 use Rattle.mgrant.proofs.settings.Settings.reaches.Goals as goal
 

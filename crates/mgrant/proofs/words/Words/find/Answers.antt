@@ -1,8 +1,5 @@
 -- SPDX-License-Identifier: Apache-2.0
-use Rattle.std.proofs.Common.{◌≡◌, IfSome, IfNone, subst, ◌∙◌, false}
-use Rattle.std.specs.List.{list_any}
-use Rattle.mspec.specs.Trees.{text_eq}
-use Rattle.mgrant.specs.Words.{IsPlaceOf}
+use Rattle.mgrant.proofs.GrantWords.{◌≡◌, IfSome, IfNone, subst, ◌∙◌, false, list_any, text_eq, IsPlaceOf}
 use Rattle.mgrant.proofs.Places.{place_told, absence_told}
 use Rattle.mgrant.proofs.words.Words.find.Goals as goal
 

@@ -1,14 +1,9 @@
 -- SPDX-License-Identifier: Apache-2.0
-use Rattle.std.proofs.Common.{◌≡◌, ◌++◌, [], ◌∷◌, Some, ap, sym, subst, ◌∙◌, length, false, rules, arith, vec_len}
-use Rattle.std.specs.List.{list_any}
+use Rattle.mgrant.proofs.GrantWords.{◌≡◌, ◌++◌, [], ◌∷◌, Some, ap, sym, subst, ◌∙◌, length, false, rules, arith, vec_len, list_any, map-append, length-map, text_eq, IsIndex, Bytes, texts_of}
 use Rattle.std.specs.HashMap as hash
-use Rattle.std.proofs.lemmas.List.{map-append, length-map}
-use Rattle.mspec.specs.Trees.{text_eq}
-use Rattle.mgrant.specs.Words.{IsIndex, Bytes, texts_of}
 use Rattle.mgrant.proofs.Places.{index_more, same_bytes}
-use Rattle.mgrant.proofs.words.Words.with.Goals as goal
 
-pub invariant_of-result : goal.invariant_of-result
+pub invariant_of-result : Rattle.mgrant.proofs.words.Words.with.Goals.invariant_of-result
 invariant_of-result c =
     let items = c.self.inside.list.items in
     let key : Bytes = c.in_ok-key.key in

@@ -1,6 +1,5 @@
 -- SPDX-License-Identifier: Apache-2.0
-use Rattle.std.proofs.Common.{ap, ◌∙◌, cond, arith}
-use Rattle.mspec.specs.LockConflict.{held, one_more}
+use Rattle.mlock.proofs.LockWords.{ap, ◌∙◌, cond, arith, held, one_more}
 use Rattle.mlock.proofs.Steps.{free_first, free_rest, undone}
 use Rattle.mlock.proofs.locks.Locks.+count_all.Goals as goal
 

@@ -1,14 +1,6 @@
 -- SPDX-License-Identifier: Apache-2.0
-use Rattle.std.proofs.Common.{◌≡◌, ◌+◌, ◌<◌, ◌≤◌, ℕ, true, false, Some, None, ap, sym, ◌∙◌, subst, arith, IfSome, nat_lt, slice_get}
-use Rattle.std.specs.FinMap.{insert}
-use Rattle.std.proofs.lemmas.Bool.Decides.{nat_tests}
-use Rattle.std.proofs.lemmas.Option.{slice_get_within}
+use Rattle.mlock.proofs.LockWords.{◌≡◌, ◌+◌, ◌<◌, ◌≤◌, ℕ, true, false, Some, None, ap, sym, ◌∙◌, subst, arith, IfSome, nat_lt, slice_get, insert, nat_tests, slice_get_within, IndexMap, IsUnique, LockName, Locks, held, count, one_more, most_counts, Holding, locks_of, AreCounts, IsFree, name_eq}
 use Rattle.indexmap.specs.IndexMap as index
-use Rattle.indexmap.specs.IndexMap.{IndexMap, IsUnique}
-use Rattle.mspec.specs.LockConflict.{LockName, Locks, held, count, one_more, most_counts}
-use Rattle.mlock.specs.declared.locks.Holding.{Holding}
-use Rattle.mlock.specs.Holdings.{locks_of, AreCounts, IsFree}
-use Rattle.mlock.specs.Tallies.{name_eq}
 use Rattle.mlock.proofs.Moves.{there, kept_recounted}
 use Rattle.mlock.proofs.Steps.{own_of_free, count_own, count_none, counts_one_more}
 use Rattle.mlock.proofs.locks.Locks.count_one.Goals as goal

@@ -1,12 +1,5 @@
 -- SPDX-License-Identifier: Apache-2.0
-use Rattle.std.proofs.Common.{◌≡◌, ◌-◌, ◌<◌, ◌≤◌, ℕ, Some, ap, sym, ◌∙◌, subst, slice_get}
-use Rattle.std.specs.FinMap.{insert, remove}
-use Rattle.std.proofs.lemmas.Option.{slice_get_within}
-use Rattle.indexmap.specs.IndexMap.{IndexMap, IsUnique}
-use Rattle.mspec.specs.LockConflict.{LockName, held, given_back}
-use Rattle.mlock.specs.declared.locks.Holding.{Holding}
-use Rattle.mlock.specs.Holdings.{locks_of, AreCounts}
-use Rattle.mlock.specs.Tallies.{name_eq}
+use Rattle.mlock.proofs.LockWords.{◌≡◌, ◌-◌, ◌<◌, ◌≤◌, ℕ, Some, ap, sym, ◌∙◌, subst, slice_get, insert, remove, slice_get_within, IndexMap, IsUnique, LockName, held, given_back, Holding, locks_of, AreCounts, name_eq}
 use Rattle.mlock.proofs.Moves.{there, kept_recounted}
 use Rattle.mlock.proofs.Steps.{get_other, get_none, give_none, less_own, last_own, counts_given_back}
 use Rattle.mlock.proofs.locks.Locks.give_back.Goals as goal

@@ -1,6 +1,5 @@
 -- SPDX-License-Identifier: Apache-2.0
-use Rattle.std.proofs.Common.{ap, sym, ◌∙◌, unwrap_or}
-use Rattle.mspec.specs.LockConflict.{held, count}
+use Rattle.mlock.proofs.LockWords.{ap, sym, ◌∙◌, unwrap_or, held, count}
 use Rattle.mlock.proofs.Steps.{get_own, get_other, get_none}
 use Rattle.mlock.proofs.locks.Locks.held.Goals as goal
 

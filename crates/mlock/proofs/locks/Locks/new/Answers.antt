@@ -1,12 +1,8 @@
 -- SPDX-License-Identifier: Apache-2.0
-use Rattle.std.proofs.Common.{ap, sym, subst, ◌∙◌, unwrap_or}
-use Rattle.std.specs.Map.{lookup}
-use Rattle.mlock.specs.Holdings.{locks_in, AreCounts}
-use Rattle.mlock.specs.Tallies.{name_eq, no_names, tally_of, too_large}
+use Rattle.mlock.proofs.LockWords.{ap, sym, subst, ◌∙◌, unwrap_or, lookup, locks_in, AreCounts, name_eq, no_names, tally_of, too_large}
 use Rattle.mlock.proofs.Views.{counts_empty}
-use Rattle.mlock.proofs.locks.Locks.new.Goals as goal
 
-pub invariant_of-result : goal.invariant_of-result
+pub invariant_of-result : Rattle.mlock.proofs.locks.Locks.new.Goals.invariant_of-result
 invariant_of-result c = (
   record {
     unique = c.new.ensures.unique;

@@ -1,7 +1,5 @@
 -- SPDX-License-Identifier: Apache-2.0
-use Rattle.std.proofs.Common.{ap, sym, subst, ◌∙◌}
-use Rattle.mspec.specs.LockConflict.{released}
-use Rattle.mlock.specs.Holdings.{locks_of, AreCounts}
+use Rattle.mlock.proofs.LockWords.{ap, sym, subst, ◌∙◌, released, locks_of, AreCounts}
 use Rattle.mlock.proofs.Views.{counts_released}
 use Rattle.mlock.proofs.locks.Locks.release_all.Goals as goal
 

@@ -1,7 +1,5 @@
 -- SPDX-License-Identifier: Apache-2.0
-use Rattle.std.proofs.Common.{◌≡◌, false, Some, None, cond, All, ap, sym, subst, IfOk, take_all}
-use Rattle.std.proofs.lemmas.List.Folds.{list_any_none}
-use Rattle.mspec.specs.LockConflict.{held, has_conflict, counted, taken}
+use Rattle.mlock.proofs.LockWords.{◌≡◌, false, Some, None, cond, All, ap, sym, subst, IfOk, take_all, list_any_none, held, has_conflict, counted, taken}
 use Rattle.mlock.proofs.Conflicts.{free_of}
 use Rattle.mlock.proofs.locks.Locks.take.Goals as goal
 

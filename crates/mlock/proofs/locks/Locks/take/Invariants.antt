@@ -1,7 +1,5 @@
 -- SPDX-License-Identifier: Apache-2.0
-use Rattle.std.proofs.Common.{◌≡◌, false, All, take}
-use Rattle.mspec.specs.LockConflict.{has_conflict, held}
-use Rattle.mlock.proofs.locks.Locks.take.Given as goal
+use Rattle.mlock.proofs.LockWords.{◌≡◌, false, All, take, has_conflict, held}
 
-abbrev pub invariant-loop-name : goal.invariant-loop-name
+abbrev pub invariant-loop-name : Rattle.mlock.proofs.locks.Locks.take.Given.invariant-loop-name
 invariant-loop-name l = All (λ n. has_conflict l.self (held l.terminal n) ≡ false) (take l.name-index l.names)

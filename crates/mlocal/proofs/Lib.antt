@@ -9,3 +9,4 @@ pub mod Own
 pub mod Steps
 pub mod Removals
 pub mod Bare
+pub mod Tables

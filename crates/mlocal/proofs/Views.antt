@@ -1,20 +1,17 @@
 -- SPDX-License-Identifier: Apache-2.0
 -- Scopes of the code as scopes of the definitions.
-use Rattle.std.proofs.Common.{◌≡◌, Bool, true, false, cond, ◌||◌, Option, Some, None, List, [], ◌∷◌, Bor, Result, Ok, Err, map, refl, sym, ap, subst, ◌∙◌, option_map, unwrap_or, nat_eq, option_copied, IfOk, OnOk, OnErr, HashMap, filter, nat_cmp, Ordering, Equal, subst₂}
-use Rattle.std.specs.Map.{lookup, set_value}
-use Rattle.std.specs.HashMap as hash
-use Rattle.std.specs.Cmp.Lexicographic.{slice_cmp, pointwise, texts_ties, nat_list_cmp_total}
-use Rattle.std.specs.FinMap.{IsAntisymmetric, from_entries, empty, retain_keys, same_map, get-from_entries, get-retain_keys, nat_cmp-IsAntisymmetric, slice_cmp-IsAntisymmetric, insert}
+use Rattle.std.proofs.Common.{◌≡◌, Bool, true, false, not, cond, ◌||◌, Option, Some, None, List, [], ◌∷◌, Bor, Result, Ok, Err, map, refl, sym, ap, subst, ◌∙◌, option_map, unwrap_or, option_copied, IfOk, OnOk, OnErr, HashMap, filter, nat_cmp, Ordering, Equal}
+use Rattle.std.specs.Cmp.Lexicographic.{slice_cmp}
+use Rattle.std.specs.FinMap.{IsAntisymmetric, from_entries, get, empty, retain_keys, same_map, get-from_entries, get-retain_keys, nat_cmp-IsAntisymmetric, slice_cmp-IsAntisymmetric, insert}
 use Rattle.std.specs.FinMap.Entries.{where_key, find-where_key}
 use Rattle.std.specs.Cmp.{IsTotalOrder}
 use Rattle.std.specs.Map.Calls.{RetainsPairs}
 use Rattle.std.proofs.lemmas.Map.Entries.{filter_from_retain_pairs}
-use Rattle.std.proofs.lemmas.Map.Steps.{set_value_same}
 use Rattle.mspec.specs.Maps.{hash_map_of}
 use Rattle.mspec.specs.Node.{Text}
-use Rattle.mspec.specs.Scopes.{Scope, with_tree, tree_in}
-use Rattle.mspec.specs.Trees.{Tree}
-use Rattle.mspec.proofs.HashMaps.{hash_found_is_had, insert-hash_map_of}
+use Rattle.mspec.specs.Scopes.{Scope, with_tree, tree_in, is_bare, kill_in}
+use Rattle.mspec.specs.Trees.{Tree, text_eq, without}
+use Rattle.mlocal.specs.Table.{NamedTrees, tree_at, kill_at}
 
 pub shown : {X : Type 0} (r : Option (Bor X)) → option_map (λ x. x.now) r ≡ option_copied r
 shown None = refl
@@ -46,34 +43,32 @@ pub names_exact : IsAntisymmetric (slice_cmp nat_cmp)
 names_exact = slice_cmp-IsAntisymmetric nat_cmp-IsAntisymmetric
 
 -- the scope of these names and trees
-abbrev pub scope_of : {S : Type 0} → List Text → Option (List Text) → HashMap Text Tree S → Scope
-scope_of ns o m = record { names = ns; others = o; trees = hash_map_of (λ t. t) m }
+abbrev pub scope_of : List Text → Option (List Text) → NamedTrees → Scope
+scope_of ns o ts = record { names = ns; others = o; trees = ts }
 
-module _ {S : Type 0} (ns : List Text) (o : Option (List Text)) (m : HashMap Text Tree S) where
-  -- the tree of a name, by what the map has
-  pub tree_is : (n : Text) (r : Option Tree) → r ≡ hash.get (pointwise nat_eq) m n → unwrap_or r empty ≡ tree_in (scope_of ns o m) n
-  tree_is n r e = ap (λ q. unwrap_or q empty) (e ∙ hash_found_is_had nat_list_cmp_total (pointwise nat_eq) texts_ties m n)
+module _ (ns : List Text) (o : Option (List Text)) (ts : NamedTrees) where
+  -- the tree of a name, by what the table has
+  pub tree_seen : (n : Text) (r : Option Tree) → r ≡ get ts n → (s : Scope) → scope_of ns o ts ≡ s → unwrap_or r empty ≡ tree_in s n
+  tree_seen n r e s seen = ap (λ q. unwrap_or q empty) e ∙ ap (λ s. tree_in s n) seen
 
-  pub tree_seen : (n : Text) (r : Option Tree) → r ≡ hash.get (pointwise nat_eq) m n → (s : Scope) → scope_of ns o m ≡ s → unwrap_or r empty ≡ tree_in s n
-  tree_seen n r e s seen = tree_is n r e ∙ ap (λ s. tree_in s n) seen
+  -- a value that a node was given
+  pub put_seen : (us : NamedTrees) (n : Text) (k : List Text) (v : Text) → us ≡ insert ts n (insert (tree_at ts n) k v) → (s : Scope) → scope_of ns o ts ≡ s
+      → scope_of ns o us ≡ with_tree n (insert (tree_in s n) k v) s
+  put_seen us n k v e s seen = ap (scope_of ns o) e ∙ ap (λ s. with_tree n (insert (tree_in s n) k v) s) seen
 
-  pub tree_put : (m' : HashMap Text Tree S) (n : Text) (t : Tree) → hash.Updates (pointwise nat_eq) m m' n (Some t) → scope_of ns o m' ≡ with_tree n t (scope_of ns o m)
-  tree_put m' n t u = ap (λ ts. record { names = ns; others = o; trees = ts }) (insert-hash_map_of nat_list_cmp_total (pointwise nat_eq) texts_ties (λ t. t) names_exact m m' n t u)
+  -- a node whose text was taken, with those below it
+  pub kill_seen : (us : NamedTrees) (n : Text) (k : List Text) → us ≡ kill_at n k (get ts n) ts → (s : Scope) → scope_of ns o ts ≡ s → scope_of ns o us ≡ kill_in n k (get s.trees n) s
+  kill_seen us n k e s seen = ap (scope_of ns o) e ∙ here (get ts n) ∙ ap (λ s. kill_in n k (get s.trees n) s) seen
+    where
+      either : (b : Bool) (us vs : NamedTrees) → scope_of ns o (cond b us vs) ≡ cond b (scope_of ns o us) (scope_of ns o vs)
+      either true us vs = refl
+      either false us vs = refl
 
-  -- a value that a node was given, in a tree that was there or is new
-  pub put_at : (m' : HashMap Text Tree S) (n : Text) (k : List Text) (v : Text) (t w : Tree) (r : Option Tree) → hash.Updates (pointwise nat_eq) m m' n (Some w) → w ≡ insert t k v → r ≡ hash.get (pointwise nat_eq) m n → t ≡ unwrap_or r empty
-      → (s : Scope) → scope_of ns o m ≡ s → scope_of ns o m' ≡ with_tree n (insert (tree_in s n) k v) s
-  put_at m' n k v t w r u is found was s seen =
-      tree_put m' n w u ∙ ap (λ t. with_tree n t (scope_of ns o m)) (is ∙ ap (λ t. insert t k v) (was ∙ tree_is n r found)) ∙ ap (λ s. with_tree n (insert (tree_in s n) k v) s) seen
-
-  pub put_new : (m0 m' : HashMap Text Tree S) (j n : Text) (k : List Text) (v : Text) (t w : Tree) → hash.Updates (pointwise nat_eq) m0 m' j (Some w) → m0 ≡ m → j ≡ n → w ≡ insert t k v → t ≡ empty → None ≡ hash.get (pointwise nat_eq) m n
-      → (s : Scope) → scope_of ns o m ≡ s → scope_of ns o m' ≡ with_tree n (insert (tree_in s n) k v) s
-  put_new m0 m' j n k v t w u same name is new none s seen = put_at m' n k v t w None (subst₂ (λ x y. hash.Updates (pointwise nat_eq) x m' y (Some w)) same name u) is none new s seen
-
-  -- what was there is written back
-  pub tree_kept : (m' : HashMap Text Tree S) (test : Text → Bool) (t v : Tree) → m'.entries ≡ set_value test m.entries t → t ≡ v → lookup test m.entries ≡ Some v → scope_of ns o m' ≡ scope_of ns o m
-  tree_kept m' test t v e same found =
-      ap (λ es. record { names = ns; others = o; trees = from_entries (map (λ p. (p.0, p.1)) es) }) (e ∙ ap (set_value test m.entries) same ∙ set_value_same test m.entries v found)
+      here : (t : Option Tree) → scope_of ns o (kill_at n k t ts) ≡ kill_in n k t (scope_of ns o ts)
+      here None = refl
+      here (Some t) =
+          let us = insert ts n (without t k) in
+          either (is_bare (tree_at us n)) (retain_keys us (λ m. not (text_eq n m))) us
 
 -- ---- `retain` by the key
 

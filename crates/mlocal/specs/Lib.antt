@@ -3,3 +3,4 @@ pub mod Home
 pub mod ScopeCode
 pub mod Way
 pub mod Own
+pub mod Table

@@ -6,6 +6,7 @@ mod level;
 mod scope;
 mod scopes;
 mod subtree;
+mod table;
 mod variable;
 
 pub use mkey::{Data, Direction};

@@ -1,26 +1,22 @@
 // SPDX-License-Identifier: Apache-2.0
 // One scope.
-ghost use Rattle.std.specs.Prelude.{◌≡◌, [], IfOk, OnOk, OnErr, Option, option_map, not, ◌||◌};
-ghost use Rattle.std.specs.Cmp.Lexicographic.{slice_cmp};
-ghost use Rattle.std.specs.FinMap.{get, insert, retain_keys};
+ghost use Rattle.std.specs.Prelude.{◌≡◌, [], IfOk, OnOk, OnErr, option_map, not, ◌||◌};
+ghost use Rattle.std.specs.FinMap.{get, insert};
 ghost use Rattle.std.specs.List.{filter, list_any};
-ghost use Rattle.std.specs.Ordering.{nat_cmp};
 ghost use Rattle.mkey.specs.Front.{AreSubs};
 ghost use Rattle.mkey.specs.SubsKey.{behind_below};
-ghost use Rattle.mspec.specs.Maps.{hash_map_of};
-ghost use Rattle.mspec.specs.Scopes.{entered, bottom, has, tree_in, with_tree, is_among, hide, hide_others, is_bare, kill_in, tidied, emptied};
+ghost use Rattle.mspec.specs.Scopes.{entered, bottom, has, tree_in, with_tree, is_among, hide, hide_others, kill_in, emptied};
 ghost use Rattle.mspec.specs.KeyBytes.{AreSubscripts};
 ghost use Rattle.mspec.specs.Trees.{has_value, has_descendants, order_of, front, last, AreOrderSubscripts};
 ghost use Rattle.mlocal.specs.Home.{has_name};
 ghost use Rattle.mkey.specs.Way.{way};
 
-use crate::level::{Level, is_spared};
-use crate::variable::Variable;
+use crate::level::Level;
+use crate::table::Table;
 use mkey::{Data, Direction, SubsKey};
 use mnum::Name;
 use mvalue::Value;
 use std::alloc::{AllocError, Global};
-use std::collections::HashMap;
 use std::marker::Model;
 
 // The names that NEW gave a scope, the names that it has not where it has all but some, and its variables by their names.
@@ -29,20 +25,19 @@ use std::marker::Model;
 pub(crate) struct Scope {
     names: Vec<Name>,
     others: Option<Vec<Name>>,
-    trees: HashMap<Name, Variable>,
+    trees: Table,
 }
 
 impl Model for Scope {
     ghost use Rattle.std.specs.Prelude.{option_map};
     ghost use Rattle.mlocal.specs.ScopeCode.{scope_code};
-    ghost use Rattle.mspec.specs.Maps.{hash_map_of};
     ghost use Rattle.mspec.specs.Scopes.{Scope};
 
     ghost Value = { Scope };
 
     ghost coded = { scope_code };
 
-    ghost view = { λ s. record { names = s.names.items; others = option_map (λ names. names.items) s.others; trees = hash_map_of (λ tree. tree) s.trees } };
+    ghost view = { λ s. record { names = s.names.items; others = option_map (λ names. names.items) s.others; trees = s.trees } };
 }
 
 // Whether a name is one of these.
@@ -60,7 +55,7 @@ impl Scope {
         Scope {
             names: Vec::new(alloc),
             others: None,
-            trees: HashMap::new(alloc),
+            trees: Table::new(alloc),
         }
     }
 
@@ -71,7 +66,7 @@ impl Scope {
         Scope {
             names: Vec::new(alloc),
             others: Some(Vec::new(alloc)),
-            trees: HashMap::new(alloc),
+            trees: Table::new(alloc),
         }
     }
 
@@ -159,15 +154,7 @@ impl Scope {
         ensures err { OnErr result (self.new ≡ self.old) }
         ensures others { self.new.others ≡ self.old.others }
     {
-        match self.trees.get_mut(name) {
-            Some(variable) => variable.set(key, value),
-            None => {
-                let mut variable = Variable::new(alloc);
-                variable.set(key, value)?;
-                self.trees.insert(name.copy()?, variable)?;
-                Ok(())
-            }
-        }
+        self.trees.set(alloc, name, key, value)
     }
 
     // Gives a variable without subscripts a value. For want of memory the scope is as it was.
@@ -181,18 +168,7 @@ impl Scope {
         ensures err { OnErr result (self.new ≡ self.old) }
         ensures others { self.new.others ≡ self.old.others }
     {
-        match self.trees.get_mut(name) {
-            Some(variable) => {
-                variable.set_own(value);
-                Ok(())
-            }
-            None => {
-                let mut variable = Variable::new(alloc);
-                variable.set_own(value);
-                self.trees.insert(name.copy()?, variable)?;
-                Ok(())
-            }
-        }
+        self.trees.set_own(alloc, name, value)
     }
 
     // Takes the texts of a node and of the nodes below it away, where `end` is the bound behind them, and lets go of the name if no
@@ -208,42 +184,14 @@ impl Scope {
         ensures ok { OnOk result (self.new ≡ kill_in name.now key.now (get self.old.trees name.now) self.old) }
         ensures err { OnErr result (self.new ≡ self.old) }
     {
-        match self.trees.get_mut(name) {
-            None => return Ok(()),
-            Some(variable) => variable.kill(alloc, key, end)?,
-        }
-        self.tidy(name);
-        Ok(())
-    }
-
-    // Whether the variable of a name has no text.
-    fn is_bare(&self, name: &Name) -> bool
-        ensures { result ≡ is_bare (tree_in self.now name.now) }
-    {
-        match self.trees.get(name) {
-            None => true,
-            Some(variable) => variable.is_bare(),
-        }
-    }
-
-    // Lets go of a name whose variable has no text. Looks at no other name.
-    fn tidy(&mut self, name: &Name)
-        ensures { self.new ≡ tidied name.now self.old }
-    {
-        if self.is_bare(name) {
-            drop(self.trees.remove(name));
-        }
+        self.trees.kill(alloc, name, key, end)
     }
 
     // Takes the texts of all names away but these and those that a level above has. Takes no memory.
     pub(crate) fn keep_spared(&mut self, names: &[Name], above: &[Level])
         ensures { self.new ≡ emptied (λ n. is_among names.now n || list_any (has_name n) above.now) self.old }
     {
-        self.trees.retain(
-            |name: &Name, tree: &mut Variable| -> bool
-                ensures { (result ≡ (is_among names.entry.now name.now || list_any (has_name name.now) above.entry.now)) × (tree.new ≡ tree.old) }
-            { is_spared(names, above, name) },
-        );
+        self.trees.keep_spared(names, above);
     }
 
     // Those of the names that it has not yet.
@@ -267,7 +215,7 @@ impl Scope {
     {
         let mut fresh = self.new_names(alloc, names)?;
         self.names.append(&mut fresh)?;
-        drop_names(&mut self.trees, names);
+        self.trees.drop_names(names);
         Ok(())
     }
 
@@ -275,35 +223,13 @@ impl Scope {
     pub(crate) fn hide_others(&mut self, names: Vec<Name>)
         ensures { self.new ≡ hide_others names.items self.old }
     {
-        keep_names(&mut self.trees, names.as_slice());
+        self.trees.keep_names(names.as_slice());
         let others = match &self.others {
             None => names,
             Some(old) => common(names, old.as_slice()),
         };
         self.others = Some(others);
     }
-}
-
-// Takes the trees of these names away.
-fn drop_names(trees: &mut HashMap<Name, Variable>, names: &[Name])
-    ensures { hash_map_of (λ tree. tree) trees.new ≡ retain_keys {R = slice_cmp nat_cmp} (hash_map_of (λ tree. tree) trees.old) (λ n. not (is_among names.now n)) }
-{
-    trees.retain(
-        |name: &Name, tree: &mut Variable| -> bool
-            ensures { (result ≡ not (is_among names.entry.now name.now)) × (tree.new ≡ tree.old) }
-        { !is_among(name, names) },
-    );
-}
-
-// Takes the trees of all but these names away.
-fn keep_names(trees: &mut HashMap<Name, Variable>, names: &[Name])
-    ensures { hash_map_of (λ tree. tree) trees.new ≡ retain_keys {R = slice_cmp nat_cmp} (hash_map_of (λ tree. tree) trees.old) (is_among names.now) }
-{
-    trees.retain(
-        |name: &Name, tree: &mut Variable| -> bool
-            ensures { (result ≡ is_among names.entry.now name.now) × (tree.new ≡ tree.old) }
-        { is_among(name, names) },
-    );
 }
 
 // The names that are among the old ones too.

@@ -6,13 +6,13 @@ use Rattle.mlocal.proofs.Walks.{none_there, none_below}
 use Rattle.mlocal.proofs.scope.Scope.data.Goals as goal
 
 pub returns-in-None-clause-value : goal.returns-in-None-clause-value
-returns-in-None-clause-value c = none_there c.args.subs.now ∙ ap (λ t. has_value t c.args.subs.now) (tree_seen _ _ c.self.inside.trees c.args.name.now _ c.in-None.ensures.value _ c.self.view_is)
+returns-in-None-clause-value c = none_there c.args.subs.now ∙ ap (λ t. has_value t c.args.subs.now) (tree_seen _ _ c.self.inside.trees c.args.name.now _ c.in-None.ensures _ c.self.view_is)
 
 pub returns-in-None-clause-descendants : goal.returns-in-None-clause-descendants
-returns-in-None-clause-descendants c = none_below c.args.subs.now ∙ ap (λ t. has_descendants t c.args.subs.now) (tree_seen _ _ c.self.inside.trees c.args.name.now _ c.in-None.ensures.value _ c.self.view_is)
+returns-in-None-clause-descendants c = none_below c.args.subs.now ∙ ap (λ t. has_descendants t c.args.subs.now) (tree_seen _ _ c.self.inside.trees c.args.name.now _ c.in-None.ensures _ c.self.view_is)
 
 pub returns-in-Some-clause-value : goal.returns-in-Some-clause-value
-returns-in-Some-clause-value c = IfOk-map c.data.result (λ found is. is ∙ ap (λ t. has_value t c.args.subs.now) (tree_seen _ _ c.self.inside.trees c.args.name.now _ c.in-Some.ensures.value _ c.self.view_is)) c.data.ensures.value
+returns-in-Some-clause-value c = IfOk-map c.data.result (λ found is. is ∙ ap (λ t. has_value t c.args.subs.now) (tree_seen _ _ c.self.inside.trees c.args.name.now _ c.in-Some.ensures _ c.self.view_is)) c.data.ensures.value
 
 pub returns-in-Some-clause-descendants : goal.returns-in-Some-clause-descendants
-returns-in-Some-clause-descendants c = IfOk-map c.data.result (λ found is. is ∙ ap (λ t. has_descendants t c.args.subs.now) (tree_seen _ _ c.self.inside.trees c.args.name.now _ c.in-Some.ensures.value _ c.self.view_is)) c.data.ensures.descendants
+returns-in-Some-clause-descendants c = IfOk-map c.data.result (λ found is. is ∙ ap (λ t. has_descendants t c.args.subs.now) (tree_seen _ _ c.self.inside.trees c.args.name.now _ c.in-Some.ensures _ c.self.view_is)) c.data.ensures.descendants

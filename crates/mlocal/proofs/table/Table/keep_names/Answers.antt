@@ -1,0 +1,14 @@
+-- SPDX-License-Identifier: Apache-2.0
+use Rattle.std.proofs.Common.{Bool, rules, ap, ◌∙◌}
+use Rattle.std.specs.Cmp.Lexicographic.{nat_list_cmp_total}
+use Rattle.std.specs.FinMap.{retain_keys}
+use Rattle.mspec.specs.Node.{Text}
+use Rattle.mspec.specs.Scopes.{is_among}
+use Rattle.mlocal.proofs.Views.{names_exact, retain_same, retain-hash_map_of}
+use Rattle.mlocal.proofs.table.Table.keep_names.Goals as goal
+
+pub returns : goal.returns
+returns c =
+    let p : Text → Bool = is_among c.args.names.now in
+    retain-hash_map_of nat_list_cmp_total names_exact c.self.inside.variables c.retain.new.self p (retain_same _ _ (λ e. p e.0) (λ k v b w g call. search rules) _ _ c.retain.ensures.filtered)
+    ∙ ap (λ ts. retain_keys ts p) c.self.view_is

@@ -1,0 +1,242 @@
+// SPDX-License-Identifier: Apache-2.0
+// The variables of a scope by their names.
+ghost use Rattle.std.specs.Prelude.{◌≡◌, ◌<◌, ◌||◌, [], not, nat_eq, None, MatchOption, OnOk, OnErr, option_map};
+ghost use Rattle.std.specs.Cmp.Lexicographic.{pointwise};
+ghost use Rattle.std.specs.FinMap.{get, insert, retain_keys, empty};
+ghost use Rattle.std.specs.List.{list_any};
+ghost use Rattle.indexmap.specs.IndexMap.{get as find, IsUnique};
+ghost use Rattle.mkey.specs.Front.{AreSubs};
+ghost use Rattle.mkey.specs.SubsKey.{behind_below};
+ghost use Rattle.mlocal.specs.Home.{has_name};
+ghost use Rattle.mlocal.specs.Table.{tree_at, kill_at, StandsAt};
+ghost use Rattle.mspec.specs.Scopes.{is_among};
+
+use crate::level::{Level, is_spared};
+use crate::scope::is_among;
+use crate::variable::Variable;
+use indexmap::IndexMap;
+use mkey::SubsKey;
+use mnum::Name;
+use mvalue::Value;
+use std::alloc::{AllocError, Global};
+use std::marker::Model;
+
+// How many places there are for hints.
+const PLACES: usize = 64;
+
+// The variables of a scope by their names. Contracts see it as the finite map from names to trees.
+#[derive(Drop)]
+pub(crate) struct Table {
+    variables: IndexMap<Name, Variable>,
+    // by the place of a name: where in the map the name of that place stands that was put last. It is looked at first, and passed
+    // over if another name stands there, or none
+    hints: [u16; PLACES],
+}
+
+impl Model for Table {
+    ghost use Rattle.mlocal.specs.ScopeCode.{tree_code};
+    ghost use Rattle.std.specs.Cmp.Lexicographic.{slice_cmp};
+    ghost use Rattle.std.specs.Coded.{coded_ℕ, coded_list};
+    ghost use Rattle.std.specs.FinMap.{FinMap, code};
+    ghost use Rattle.std.specs.Ordering.{nat_cmp};
+    ghost use Rattle.mspec.specs.Maps.{hash_map_of};
+    ghost use Rattle.mspec.specs.Trees.{Tree};
+
+    ghost Value = { FinMap (slice_cmp nat_cmp) Tree };
+
+    ghost coded = { code (coded_list coded_ℕ) tree_code };
+
+    ghost view = { λ t. hash_map_of (λ tree. tree) t.variables };
+}
+
+impl Table {
+    // No variables. Takes no memory.
+    pub(crate) fn new(alloc: Global) -> Table
+        ensures { result ≡ empty }
+    {
+        Table {
+            variables: IndexMap::new(alloc),
+            hints: [0; PLACES],
+        }
+    }
+
+    // The variable of a name.
+    pub(crate) fn get(&self, name: &Name) -> Option<&Variable>
+        ensures { option_map (λ variable. variable.now) result ≡ get self.now name.now }
+    {
+        match index_of(&self.variables, self.hints[place_of(name)], name) {
+            None => None,
+            Some(index) => Some(&self.variables[index]),
+        }
+    }
+
+    // Gives a node a value. For want of memory the variables are as they were.
+    pub(crate) fn set(
+        &mut self,
+        alloc: Global,
+        name: &Name,
+        key: SubsKey,
+        value: Value,
+    ) -> Result<(), AllocError>
+        requires { AreSubs key }
+        ensures ok { OnOk result (self.new ≡ insert self.old name.now (insert (tree_at self.old name.now) key value)) }
+        ensures err { OnErr result (self.new ≡ self.old) }
+    {
+        let place = place_of(name);
+        match index_of(&self.variables, self.hints[place], name) {
+            Some(index) => {
+                self.hints[place] = hint_of(index);
+                self.variables[index].set(key, value)
+            }
+            None => {
+                let mut variable = Variable::new(alloc);
+                variable.set(key, value)?;
+                self.add(name, variable)
+            }
+        }
+    }
+
+    // Gives a variable without subscripts a value. For want of memory the variables are as they were.
+    pub(crate) fn set_own(
+        &mut self,
+        alloc: Global,
+        name: &Name,
+        value: Value,
+    ) -> Result<(), AllocError>
+        ensures ok { OnOk result (self.new ≡ insert self.old name.now (insert (tree_at self.old name.now) [] value)) }
+        ensures err { OnErr result (self.new ≡ self.old) }
+    {
+        let place = place_of(name);
+        match index_of(&self.variables, self.hints[place], name) {
+            Some(index) => {
+                self.hints[place] = hint_of(index);
+                self.variables[index].set_own(value);
+                Ok(())
+            }
+            None => {
+                let mut variable = Variable::new(alloc);
+                variable.set_own(value);
+                self.add(name, variable)
+            }
+        }
+    }
+
+    // Puts the variable of a name that has none. For want of memory the variables are as they were.
+    fn add(&mut self, name: &Name, variable: Variable) -> Result<(), AllocError>
+        ensures ok { OnOk result (self.new ≡ insert self.old name.now variable) }
+        ensures err { OnErr result (self.new ≡ self.old) }
+    {
+        let (index, _) = self.variables.insert_full(name.copy()?, variable)?;
+        self.hints[place_of(name)] = hint_of(index);
+        Ok(())
+    }
+
+    // Takes the texts of a node and of the nodes below it away, where `end` is the bound behind them, and lets go of the name if no
+    // text is left; the last name then stands where it stood. For want of memory the variables are as they were.
+    pub(crate) fn kill(
+        &mut self,
+        alloc: Global,
+        name: &Name,
+        key: &SubsKey,
+        end: &SubsKey,
+    ) -> Result<(), AllocError>
+        requires { end.now ≡ behind_below key.now }
+        ensures ok { OnOk result (self.new ≡ kill_at name.now key.now (get self.old name.now) self.old) }
+        ensures err { OnErr result (self.new ≡ self.old) }
+    {
+        let Some(index) = index_of(&self.variables, self.hints[place_of(name)], name) else {
+            return Ok(());
+        };
+        let variable = &mut self.variables[index];
+        variable.kill(alloc, key, end)?;
+        if variable.is_bare() {
+            drop(self.variables.swap_remove_index(index));
+            self.hint_at(index);
+        }
+        Ok(())
+    }
+
+    // Lets the hint of the name that stands here say so.
+    fn hint_at(&mut self, index: usize)
+        ensures { self.new ≡ self.old }
+    {
+        if let Some((name, _)) = self.variables.get_index(index) {
+            let place = place_of(name);
+            self.hints[place] = hint_of(index);
+        }
+    }
+
+    // Takes the variables of all names away but these and those that a level above has. Takes no memory.
+    pub(crate) fn keep_spared(&mut self, names: &[Name], above: &[Level])
+        ensures { self.new ≡ retain_keys self.old (λ n. is_among names.now n || list_any (has_name n) above.now) }
+    {
+        self.variables.retain(
+            |name: &Name, tree: &mut Variable| -> bool
+                ensures { (result ≡ (is_among names.entry.now name.now || list_any (has_name name.now) above.entry.now)) × (tree.new ≡ tree.old) }
+            { is_spared(names, above, name) },
+        );
+    }
+
+    // Takes the variables of these names away. Takes no memory.
+    pub(crate) fn drop_names(&mut self, names: &[Name])
+        ensures { self.new ≡ retain_keys self.old (λ n. not (is_among names.now n)) }
+    {
+        self.variables.retain(
+            |name: &Name, tree: &mut Variable| -> bool
+                ensures { (result ≡ not (is_among names.entry.now name.now)) × (tree.new ≡ tree.old) }
+            { !is_among(name, names) },
+        );
+    }
+
+    // Takes the variables of all but these names away. Takes no memory.
+    pub(crate) fn keep_names(&mut self, names: &[Name])
+        ensures { self.new ≡ retain_keys self.old (is_among names.now) }
+    {
+        self.variables.retain(
+            |name: &Name, tree: &mut Variable| -> bool
+                ensures { (result ≡ is_among names.entry.now name.now) × (tree.new ≡ tree.old) }
+            { is_among(name, names) },
+        );
+    }
+}
+
+// The place of a name's hint. Any would do; names of one letter have places of their own.
+fn place_of(name: &Name) -> usize
+    ensures { result < PLACES }
+{
+    let bytes = name.as_bytes();
+    let count = bytes.len();
+    let first = usize::from(bytes[0]);
+    let last = usize::from(bytes[count - 1]);
+    (first + 4 * last + count) % PLACES
+}
+
+// The hint that a name stands here. Where it stands past those that there are, any other does.
+fn hint_of(index: usize) -> u16 {
+    u16::try_from(index).unwrap_or(0)
+}
+
+// Where in the map a name stands: at the hint, or else where the map finds it.
+#[inline(always)]
+fn index_of(variables: &IndexMap<Name, Variable>, hint: u16, name: &Name) -> Option<usize>
+    ensures index { MatchOption result (find (pointwise nat_eq) variables.now name.now ≡ None) (StandsAt variables.now name.now) }
+    ensures unique { IsUnique (pointwise nat_eq) variables.now }
+{
+    let hinted = usize::from(hint);
+    // the length is what says that each name stands once
+    let _count = variables.len();
+    if let Some((key, _)) = variables.get_index(hinted) {
+        if key == name {
+            return Some(hinted);
+        }
+    }
+    index_by_hash(variables, name)
+}
+
+// Where the map finds a name. Not drawn in, so that a look-up by a hint stays short.
+#[inline(never)]
+fn index_by_hash(variables: &IndexMap<Name, Variable>, name: &Name) -> Option<usize>
+    ensures { MatchOption result (find (pointwise nat_eq) variables.now name.now ≡ None) (StandsAt variables.now name.now) }
+{
+    variables.get_index_of(name)
+}

@@ -13,9 +13,9 @@ use mcache::Cached;
 use mglobal::RoutineCache;
 use mjob::command_line::job;
 use mjob::jobs::{Job, JobFault};
+use mmemory::Memory;
 use mstore::{NodeStore, Table};
 use mwire::Watched;
-use sqlite::MemStore;
 use sqlite_std_file::File;
 use sqlite_store::FileStore;
 use std::io;
@@ -40,7 +40,7 @@ pub fn program<I: Read, O: Write, E: Write>(
 ) -> u8
     requires input_works { failed_of input.old ≡ false }
     requires output_works { failed_of output.old ≡ false }
-    ensures { Ends ⟦<RoutineCache<Cached<Table<MemStore>>> as NodeStore>⟧ ⟦<RoutineCache<Cached<Table<FileStore<File>>>> as NodeStore>⟧ I.remaining O.contents
+    ensures { Ends ⟦<RoutineCache<Cached<Table<Memory>>> as NodeStore>⟧ ⟦<RoutineCache<Cached<Table<FileStore<File>>>> as NodeStore>⟧ I.remaining O.contents
         (map string_bytes words.now) input.old input.new output.old output.new result }
 {
     let job = match job(rt.alloc(), words) {
@@ -64,7 +64,7 @@ fn carry_out<I: Read, O: Write, E: Write>(
 ) -> Result<(), RunFault>
     requires input_works { failed_of input.old ≡ false }
     requires output_works { failed_of output.old ≡ false }
-    ensures { CarriesOut ⟦<RoutineCache<Cached<Table<MemStore>>> as NodeStore>⟧ ⟦<RoutineCache<Cached<Table<FileStore<File>>>> as NodeStore>⟧ I.remaining O.contents
+    ensures { CarriesOut ⟦<RoutineCache<Cached<Table<Memory>>> as NodeStore>⟧ ⟦<RoutineCache<Cached<Table<FileStore<File>>>> as NodeStore>⟧ I.remaining O.contents
         job.now input.old input.new output.old output.new result }
 {
     match job {

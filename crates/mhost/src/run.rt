@@ -1,7 +1,7 @@
 // SPDX-License-Identifier: Apache-2.0
 // A run: from the settings' document and a stream to the replies.
 ghost use Rattle.std.specs.Prelude.{◌≡◌, false, IfOk, IfErr, OnOk};
-ghost use Rattle.sqlite.specs.Steps.{over_memory};
+ghost use Rattle.mstore.specs.InMemory.{over_memory};
 ghost use Rattle.mstore.specs.Database.{stored};
 ghost use Rattle.mworld.specs.View.{settings_of, world_of};
 ghost use Rattle.mwire.specs.Watched.{inner_of, failed_of};
@@ -12,10 +12,10 @@ use crate::settings_document::read_settings;
 use crate::worlds::{close_file, file_world, memory_world, table_of};
 use mcache::Cached;
 use mglobal::RoutineCache;
+use mmemory::Memory;
 use mstore::{NodeStore, Table};
 use mwire::{Watched, WireFault, serve};
 use mworld::World;
-use sqlite::MemStore;
 use sqlite_std_file::File;
 use sqlite_store::FileStore;
 use std::alloc::Global;
@@ -33,12 +33,12 @@ pub fn run<I: Read, O: Write>(
     document: &[u8],
     input: &mut Watched<I>,
     output: &mut Watched<O>,
-) -> Result<Table<MemStore>, RunFault>
+) -> Result<Table<Memory>, RunFault>
     requires input_works { failed_of input.old ≡ false }
     requires output_works { failed_of output.old ≡ false }
     ensures answered { IfOk result (λ table. StreamAnswered document.now (I.remaining (inner_of input.old)) (I.remaining (inner_of input.new))
         (O.contents (inner_of output.old)) (O.contents (inner_of output.new)) (stored over_memory table)) }
-    ensures early { IfErr result (EndsEarly ⟦<RoutineCache<Cached<Table<MemStore>>> as NodeStore>⟧ I.remaining O.contents document.now input.old input.new output.old output.new) }
+    ensures early { IfErr result (EndsEarly ⟦<RoutineCache<Cached<Table<Memory>>> as NodeStore>⟧ I.remaining O.contents document.now input.old input.new output.old output.new) }
 {
     let settings = match read_settings(alloc, document) {
         Ok(settings) => settings,

@@ -12,9 +12,10 @@ use crate::fault::RunFault;
 use mcache::Cached;
 use mglobal::RoutineCache;
 use mgrant::Settings;
+use mmemory::Memory;
 use mstore::{NodeStore, OpenFault, Table};
 use mworld::World;
-use sqlite::{Alter, MemStore};
+use sqlite::Alter;
 use sqlite_std_file::File;
 use sqlite_store::FileStore;
 use std::alloc::Global;
@@ -23,7 +24,7 @@ use std::alloc::Global;
 const ENTRIES: usize = 1024;
 
 /// A world over a table in memory.
-pub type MemoryWorld = World<RoutineCache<Cached<Table<MemStore>>>>;
+pub type MemoryWorld = World<RoutineCache<Cached<Table<Memory>>>>;
 
 /// A world over a table in a file.
 pub type FileWorld = World<RoutineCache<Cached<Table<FileStore<File>>>>>;
@@ -50,8 +51,8 @@ fn kept_over<S: NodeStore + Drop>(
 /// `Store`, which is `Memory`, of the world and of what is kept in front of the table too, or `Store`.
 pub fn memory_world(alloc: Global, settings: Settings) -> Result<MemoryWorld, RunFault>
     ensures settings { IfOk result (λ world. settings_of world ≡ settings) }
-    ensures world { IfOk result (λ world. world_of ⟦<RoutineCache<Cached<Table<MemStore>>> as NodeStore>⟧ world ≡ opening empty) }
-    ensures sound { IfOk result (λ _. ⟦<RoutineCache<Cached<Table<MemStore>>> as NodeStore>⟧.sound) }
+    ensures world { IfOk result (λ world. world_of ⟦<RoutineCache<Cached<Table<Memory>>> as NodeStore>⟧ world ≡ opening empty) }
+    ensures sound { IfOk result (λ _. ⟦<RoutineCache<Cached<Table<Memory>>> as NodeStore>⟧.sound) }
     ensures early { IfErr result IsMemoryFault }
 {
     let table = match Table::open_memory(alloc) {

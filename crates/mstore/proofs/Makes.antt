@@ -1,14 +1,15 @@
 -- SPDX-License-Identifier: Apache-2.0
 -- How the tables are made.
 use Rattle.std.proofs.Common.{◌≡◌, ℕ, pos, true, false, List, [], ◌∷◌, codes, None, Ok, refl, sym, ap, ap₂, subst, ◌∙◌, inl, arith}
-use Rattle.mstore.proofs.Words.{Null, Int, Row, lit, Source, CreateTable, Insert, Enforced, Chosen, Tally, Does, lacks_sequence, Written, Database, State, mode_of, Writes, Executes, IsPlain, command_of, statement_of, runs_as, one_step, over_memory, IsEmpty, put_all_adds, Has}
+use Rattle.mstore.proofs.Words.{Null, Int, Row, lit, Source, CreateTable, Insert, Enforced, Chosen, Tally, Does, lacks_sequence, Written, Database, State, mode_of, Opens, Writes, Executes, IsPlain, command_of, statement_of, runs_as, one_step, put_all_adds, Has}
 use Rattle.sqlite.specs.declared.types.Value.TheVariants.{Text}
 use Rattle.sqlite.specs.Source.TheVariants.{Values}
 use Rattle.sqlite.specs.Table.{Table}
 use Rattle.sqlite.specs.Tree.{Trees}
 use Rattle.sqlite.specs.Edit.{edit_of, numbered, next_rowid, put_all}
 use Rattle.sqlite.specs.Change.{created, next_tree}
-use Rattle.sqlite_trees.specs.Memory.{memory_is_listed, memory_is_ordered}
+use Rattle.mmemory.specs.Memory.{memory_is_listed, memory_is_ordered}
+use Rattle.mstore.specs.InMemory.{over_memory}
 use Rattle.sqlite_tied.specs.Compute.{everything}
 use Rattle.sqlite.specs.Listing.{understood}
 use Rattle.mstore.specs.Layout.{node, meta, schema, no_schema}
@@ -107,8 +108,8 @@ adds_version old new count bare h =
 pub bare_nodes : (rows : List Row) → rows ≡ [] → AreNodes rows
 bare_nodes rows none = subst AreNodes (sym none) (record { each = λ r h. absurd h; in_form = λ r h. absurd h; ids = λ r s h. absurd h; keys = λ r s h. absurd h })
 
-pub blank_from : (s : State) → IsEmpty s → IsBlank s
-blank_from s h = record { idle = record { autocommit = h.0.autocommit; settled = h.0.clean }; schema_is = h.2 }
+pub blank_from : (s : State) → Opens s → s.now.schema ≡ no_schema → IsBlank s
+blank_from s opens none = record { idle = record { autocommit = opens.autocommit; settled = opens.clean }; schema_is = none }
 
 pub memory_is : IsMemory over_memory
 memory_is = record { clean = λ s. no_doubt true refl; is_open = λ s. refl; listed = memory_is_listed; ordered = memory_is_ordered }

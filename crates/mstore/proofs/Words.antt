@@ -14,8 +14,8 @@ pub use Rattle.sqlite.specs.Program.{overlay}
 pub use Rattle.sqlite.specs.Query.{IsAnswer, Output, Query, end, inner, output, output_cmp}
 pub use Rattle.sqlite.specs.Rows.{Clears, Deletes, InsertsOr, Judged, Meets, Puts, Task, Tries, TriesEach, Updates, Upserts, Written, count_of, nothing}
 pub use Rattle.sqlite.specs.Source.{Source}
-pub use Rattle.sqlite.specs.State.{Executes, ExecutesInside, FailsToShow, HasCleanDisk, IsLive, IsRolledBack, IsUnchanged, RunsCommand, Shows, ShowsRows, State, Writes, mode_of, shows_rows, store_error}
-pub use Rattle.sqlite.specs.Steps.{FailsToCommit, IsEmpty, over_memory}
+pub use Rattle.sqlite.specs.State.{Executes, ExecutesInside, FailsToShow, HasCleanDisk, IsLive, IsRolledBack, IsUnchanged, Opens, RunsCommand, Shows, ShowsRows, State, Writes, mode_of, shows_rows, store_error}
+pub use Rattle.sqlite.specs.Steps.{FailsToCommit}
 pub use Rattle.sqlite.specs.Term.{col, lit, op2}
 pub use Rattle.sqlite.specs.declared.error.Error.{Error}
 pub use Rattle.sqlite.specs.declared.error.Error.TheVariants.{QueryReturnedNoRows, SqlInputError}

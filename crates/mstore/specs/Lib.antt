@@ -10,3 +10,4 @@ pub mod Statements
 pub mod Versions
 pub mod Moving
 pub mod Held
+pub mod InMemory

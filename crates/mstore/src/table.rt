@@ -7,13 +7,15 @@ ghost use Rattle.mspec.specs.TextFunctions.{longest_text};
 ghost use Rattle.mstore.specs.Layout.{schema};
 
 use crate::create::make_tables;
+use crate::layout::is_blank;
 use crate::open_fault::OpenFault;
 use crate::opening::open_tables;
 use crate::statements::{fault_of, find_first, find_last, find_value, remove_range, store_value};
 use crate::store::{NodeStore, StoreFault};
 use mkey::NodeKey;
+use mmemory::Memory;
 use mnum::{Bytes7, LONGEST_TEXT};
-use sqlite::{Alter, Connection, MemStore, Row};
+use sqlite::{Alter, Connection, Row};
 use sqlite_std_file::File;
 use sqlite_store::FileStore;
 use std::alloc::Global;
@@ -40,10 +42,10 @@ impl<S: Alter> Model for Table<S> {
     ghost invariant = { λ t. IsMemory S.Store → IsStore (state S.Store t.conn) };
 }
 
-impl Table<MemStore> {
+impl Table<Memory> {
     ghost use Rattle.std.specs.FinMap.{empty};
     ghost use Rattle.sqlite.specs.Held.{state};
-    ghost use Rattle.sqlite.specs.Steps.{over_memory};
+    ghost use Rattle.mstore.specs.InMemory.{over_memory};
     ghost use Rattle.mstore.specs.Database.{IsMemory, HasVersion, this_version, stored};
 
     /// An empty table in memory, of which holds what is said of a table's content.
@@ -51,16 +53,20 @@ impl Table<MemStore> {
     /// # Errors
     ///
     /// `Memory` and `Store`.
-    pub fn open_memory(alloc: Global) -> Result<Table<MemStore>, OpenFault>
+    pub fn open_memory(alloc: Global) -> Result<Table<Memory>, OpenFault>
         ensures empty { IfOk result (λ t. stored over_memory t ≡ empty) }
         ensures version { IfOk result (λ t. HasVersion (state over_memory t).now this_version) }
         ensures sound { IfOk result (λ _. IsMemory over_memory) }
         ensures key { result ≢ Err OpenFault.BadKey }
         ensures other_version { result ≢ Err OpenFault.BadVersion }
     {
-        let Ok(mut conn) = Connection::open_in_memory(alloc) else {
-            return Err(OpenFault::Memory);
+        let mut conn = match Connection::over(alloc, Memory::new(alloc)) {
+            Ok(conn) => conn,
+            Err((error, _)) => return Err(OpenFault::from(fault_of(&error))),
         };
+        if !is_blank(conn.schema()) {
+            return Err(OpenFault::Store);
+        }
         make_tables(&mut conn)?;
         Ok(Table { conn, alloc })
     }

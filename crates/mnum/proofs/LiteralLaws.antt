@@ -1,6 +1,6 @@
 -- SPDX-License-Identifier: Apache-2.0
 -- The parts of a literal.
-use Rattle.std.proofs.Common.{ℕ, ◌≡◌, ◌+◌, ◌*◌, ◌^◌, ◌<◌, ◌≤◌, ◌⊎◌, Bool, true, false, cond, not, eqb, Option, List, ◌++◌, drop, length, get_or, refl, sym, ◌∙◌, ap, subst, arith, inl, inr, ⊎_elim, add-one, drop-cons, option_map}
+use Rattle.std.proofs.Common.{ℕ, ◌≡◌, ◌+◌, ◌*◌, ◌^◌, ◌<◌, ◌≤◌, Bool, true, false, cond, not, eqb, Option, List, ◌++◌, drop, length, get_or, refl, sym, ◌∙◌, ap, subst, arith, inl, inr, ⊎_elim, add-one, drop-cons, option_map}
 use Rattle.std.proofs.lemmas.Bool.Decides.{nat_tests}
 use Rattle.std.proofs.lemmas.List.Sums.{fold-append, prefix_len_is}
 use Rattle.std.specs.List.{prefix_len}

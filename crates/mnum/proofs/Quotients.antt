@@ -71,15 +71,21 @@ quotient_rounded s t A B x some e = (
       ∙ with_sign 18 A B (not (beq s t)) x (over_size (signed s A) (signed t B)) some e (over_size_signed s t A B some),
 )
 
+pub some_digits : (b : ℕ) → (b ≡ 0 → ⊥) → 0 < b
+some_digits b h = omega arith
+
 pub some_units : (b sb : ℕ) → 0 < b → 0 < b * 10 ^ (18 - sb)
 some_units b sb some = mul-pos some (ten_pos (18 - sb))
 
--- an exact quotient of whole digits
-pub exact_quotient : (a b s : ℕ) → a < 10 ^ 18 → 0 < b → a % b ≡ 0 → Some (a / b * 10 ^ (18 - 0)) ≡ round_size 18 (a * 10 ^ (18 - s)) (b * 10 ^ (18 - s))
-exact_quotient a b s small some none =
-    let u : ℕ = 10 ^ (18 - s) in
-    let whole : b * (a / b) + a % b ≡ a = div-add-mod a b in
-    let scaled : (b * (a / b) + a % b) * u ≡ a * u = ap (λ x. x * u) whole in
-    let zero_part : a % b * u ≡ 0 = ap (λ x. x * u) none ∙ zero-mul u in
-    let exact : a / b * (b * u) ≡ a * u * 10 ^ 0 = omega arith in
-    sym (exact_some 18 0 (a / b) (a * u) (b * u) (omega arith) (omega arith) (mul-pos some (ten_pos (18 - s))) (omega (arith, div-le_self a b)) exact)
+-- an exact quotient of digits with zeros behind them
+pub exact_quotient : (a b sa sb k v : ℕ) → sa ≤ 18 → sb ≤ 18 → 0 < b → sb ≤ sa + k → sa + k - sb ≤ 18 → v ≡ a * 10 ^ k → v < 10 ^ 18 → v % b ≡ 0
+    → Some (v / b * 10 ^ (18 - (sa + k - sb))) ≡ round_size 18 (a * 10 ^ (18 - sa)) (b * 10 ^ (18 - sb))
+exact_quotient a b sa sb k v ha hb some near few value small none =
+    let t : ℕ = sa + k - sb in
+    let u : ℕ = 10 ^ (18 - sb) in
+    let whole : b * (v / b) + v % b ≡ v = div-add-mod v b in
+    let scaled : (b * (v / b) + v % b) * u ≡ v * u = ap (λ x. x * u) whole in
+    let zero_part : v % b * u ≡ 0 = ap (λ x. x * u) none ∙ zero-mul u in
+    let units : v / b * (b * u) ≡ v * u = omega arith in
+    let exact : v / b * (b * u) ≡ a * 10 ^ (18 - sa) * 10 ^ t = units ∙ ap (λ x. x * u) value ∙ sym (same_ratio a sa sb t k ha hb (omega arith)) in
+    sym (exact_some 18 t (v / b) (a * 10 ^ (18 - sa)) (b * u) (omega arith) few (some_units b sb some) (omega (arith, div-le_self v b)) exact)

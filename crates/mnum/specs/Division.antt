@@ -11,3 +11,9 @@ abbrev pub IsOutcome : ℤ → Option ℤ → Result Num ArithFault → Type 0
 IsOutcome divisor rounded (Ok n) = (0 < unsigned_abs divisor) × (rounded ≡ Some (units n))
 IsOutcome divisor rounded (Err Zero) = unsigned_abs divisor ≡ 0
 IsOutcome divisor rounded (Err Over) = (0 < unsigned_abs divisor) × (rounded ≡ None)
+
+-- the same of a division that leaves its value in the place of a number
+abbrev pub Leaves : ℤ → Option ℤ → Num → Result (Unit {0}) ArithFault → Type 0
+Leaves divisor rounded left (Ok done) = (0 < unsigned_abs divisor) × (rounded ≡ Some (units left))
+Leaves divisor rounded left (Err Zero) = unsigned_abs divisor ≡ 0
+Leaves divisor rounded left (Err Over) = (0 < unsigned_abs divisor) × (rounded ≡ None)

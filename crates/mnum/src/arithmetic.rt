@@ -1,8 +1,8 @@
 // SPDX-License-Identifier: Apache-2.0
 // The operations on numbers.
-ghost use Rattle.std.specs.Prelude.{◌≡◌, ℕ, ◌*◌, ◌^◌, ◌<◌, ◌≤◌, ◌≢◌, ◌-◌, ◌+◌, ◌/◌, ◌⊎◌, ◌+ℤ◌, neg_ℤ, Some, None, MatchResult, pos, unsigned_abs, IfErr};
+ghost use Rattle.std.specs.Prelude.{◌≡◌, ℕ, ◌*◌, ◌^◌, ◌<◌, ◌≤◌, ◌≢◌, ◌-◌, ◌+◌, ◌/◌, ◌⊎◌, ◌+ℤ◌, neg_ℤ, Some, None, MatchResult, pos, unsigned_abs, IfErr, Option, ℤ};
 ghost use Rattle.std.specs.Ordering.{int_cmp};
-ghost use Rattle.mnum.specs.Division.{IsOutcome};
+ghost use Rattle.mnum.specs.Division.{IsOutcome, Leaves};
 ghost use Rattle.mnum.specs.Floor.{floor_left};
 ghost use Rattle.mnum.specs.Num.{units};
 ghost use Rattle.mspec.specs.Number.{significant_digits, IsNumber, signed, sum_of, difference_of, product_of, quotient_of, whole_quotient_of, remainder_of};
@@ -15,6 +15,9 @@ use std::cmp::Ordering;
 
 // 10 ^ 18: a number has fewer digits than this, counted in its own places.
 const DIGITS_END: u64 = 1_000_000_000_000_000_000;
+
+// Below this, four zeros behind the digits leave them below 10 ^ 18.
+const SPREAD_END: u64 = 100_000_000_000_000;
 
 // `digits` with zeros after it: as many as are wanted, or until it has 38 digits.
 fn raised(digits: u64, want: u32) -> (u128, u32)
@@ -35,6 +38,39 @@ fn raised(digits: u64, want: u32) -> (u128, u32)
         zeros += 1;
     }
     (value, zeros)
+}
+
+// `digits` with four zeros after it, where it is below 10 ^ 18 then, and how many there are.
+fn spread(digits: u64) -> (u64, u32)
+    requires { digits < 10 ^ 18 }
+    ensures value { result.0 ≡ digits * 10 ^ result.1 }
+    ensures below { result.0 < 10 ^ 18 }
+    ensures few { result.1 ≤ 4 }
+{
+    if digits < SPREAD_END {
+        (digits * 10_000, 4)
+    } else {
+        (digits, 0)
+    }
+}
+
+// The number of these digits, without zeros behind its point.
+fn shortened(digits: u64, places: u32, negative: bool) -> Num
+    requires digits_below { digits < 10 ^ 18 }
+    requires places_at_most { places ≤ 18 }
+    ensures { units result ≡ signed negative (digits * 10 ^ (18 - places)) }
+{
+    let mut digits = digits;
+    let mut places = places;
+    while places > 0 && digits % 10 == 0 {
+        digits /= 10;
+        places -= 1;
+    }
+    Num {
+        digits,
+        places,
+        negative,
+    }
 }
 
 // The size of what a division with floor leaves, from what a division of the sizes leaves.
@@ -68,9 +104,26 @@ fn signed_sum(a_negative: bool, a: u128, b_negative: bool, b: u128) -> (bool, u1
     }
 }
 
+// Puts what was computed in the place of a number.
+fn put(place: &mut Num, outcome: Result<Num, Over>) -> Result<(), Over>
+    ensures { (x : Option ℤ) → MatchResult outcome (λ r. x ≡ Some (units r)) (λ _. x ≡ None) → MatchResult result (λ _. x ≡ Some (units place.new)) (λ _. x ≡ None) }
+{
+    *place = outcome?;
+    Ok(())
+}
+
+// The same of a division.
+fn put_quotient(place: &mut Num, outcome: Result<Num, ArithFault>) -> Result<(), ArithFault>
+    ensures value { (divisor : ℤ) (x : Option ℤ) → IsOutcome divisor x outcome → Leaves divisor x place.new result }
+    ensures never_over { IfErr outcome (λ e. e ≡ ArithFault.Zero) → IfErr result (λ e. e ≡ ArithFault.Zero) }
+{
+    *place = outcome?;
+    Ok(())
+}
+
 // The digits with their sign, as a machine's number.
-fn signed_digits(n: Num) -> i64
-    ensures value { result ≡ signed n.negative n.digits }
+fn signed_digits(n: &Num) -> i64
+    ensures value { result ≡ signed n.now.negative n.now.digits }
     ensures below { unsigned_abs result < 10 ^ 18 }
 {
     let digits = n.digits as i64;
@@ -117,7 +170,7 @@ impl Num {
         ensures { result ≡ int_cmp (units self) (units other) }
     {
         if self.places == other.places {
-            signed_digits(self).cmp(&signed_digits(other))
+            signed_digits(&self).cmp(&signed_digits(&other))
         } else {
             self.to_units().cmp(&other.to_units())
         }
@@ -138,27 +191,37 @@ impl Num {
         numbered(rounded(sum, places, 18), negative)
     }
 
-    /// The sum, rounded once.
+    /// Adds a number, and rounds once. A number that is changed where it stands need not be moved. What it is after an error is left open.
     ///
     /// # Errors
     ///
-    /// `Over` exactly where it reaches 10^18 in size, before or after rounding.
-    #[inline]
-    pub fn add(self, other: Num) -> Result<Num, Over>
-        ensures { MatchResult result (λ r. sum_of (units self) (units other) ≡ Some (units r)) (λ _. sum_of (units self) (units other) ≡ None) }
+    /// `Over` exactly where the sum reaches 10^18 in size, before or after rounding.
+    pub fn add_assign(&mut self, other: &Num) -> Result<(), Over>
+        ensures { MatchResult result (λ _. sum_of (units self.old) (units other.now) ≡ Some (units self.new)) (λ _. sum_of (units self.old) (units other.now) ≡ None) }
     {
         if self.places == other.places {
             let sum = signed_digits(self) + signed_digits(other);
             let digits = sum.unsigned_abs();
             if digits < DIGITS_END {
-                return Ok(Num {
-                    digits,
-                    places: self.places,
-                    negative: sum < 0,
-                });
+                self.digits = digits;
+                self.negative = sum < 0;
+                return Ok(());
             }
         }
-        self.add_at_places(other)
+        put(self, self.add_at_places(*other))
+    }
+
+    /// The sum, rounded once.
+    ///
+    /// # Errors
+    ///
+    /// `Over` exactly where it reaches 10^18 in size, before or after rounding.
+    pub fn add(self, other: Num) -> Result<Num, Over>
+        ensures { MatchResult result (λ r. sum_of (units self) (units other) ≡ Some (units r)) (λ _. sum_of (units self) (units other) ≡ None) }
+    {
+        let mut number = self;
+        number.add_assign(&other)?;
+        Ok(number)
     }
 
     /// The difference, rounded once.
@@ -166,11 +229,21 @@ impl Num {
     /// # Errors
     ///
     /// `Over` exactly where it reaches 10^18 in size, before or after rounding.
-    #[inline]
     pub fn sub(self, other: Num) -> Result<Num, Over>
         ensures { MatchResult result (λ r. difference_of (units self) (units other) ≡ Some (units r)) (λ _. difference_of (units self) (units other) ≡ None) }
     {
         self.add(other.neg())
+    }
+
+    /// Subtracts a number, and rounds once. What the number is after an error is left open.
+    ///
+    /// # Errors
+    ///
+    /// `Over` exactly where the difference reaches 10^18 in size, before or after rounding.
+    pub fn sub_assign(&mut self, other: &Num) -> Result<(), Over>
+        ensures { MatchResult result (λ _. difference_of (units self.old) (units other.now) ≡ Some (units self.new)) (λ _. difference_of (units self.old) (units other.now) ≡ None) }
+    {
+        self.add_assign(&other.neg())
     }
 
     // `quot` at places that differ; the divisor is not zero.
@@ -184,26 +257,38 @@ impl Num {
         divided(rounded(quotient, 0, 18), self.negative != other.negative)
     }
 
-    /// The quotient without its fraction, the operator `\`, rounded once.
+    /// Divides by a number, the operator `\`: the quotient without its fraction is left, rounded once. What the number is after an
+    /// error is left open.
     ///
     /// # Errors
     ///
     /// `Zero` exactly for a zero divisor; else `Over` exactly where the quotient reaches 10^18 in size.
-    #[inline]
-    pub fn quot(self, other: Num) -> Result<Num, ArithFault>
-        ensures { IsOutcome (units other) (whole_quotient_of (units self) (units other)) result }
+    pub fn quot_assign(&mut self, other: &Num) -> Result<(), ArithFault>
+        ensures { Leaves (units other.now) (whole_quotient_of (units self.old) (units other.now)) self.new result }
     {
         if other.digits == 0 {
             return Err(ArithFault::Zero);
         }
         if self.places == other.places {
-            return Ok(Num {
-                digits: self.digits / other.digits,
-                places: 0,
-                negative: self.negative != other.negative,
-            });
+            self.digits /= other.digits;
+            self.places = 0;
+            self.negative = self.negative != other.negative;
+            return Ok(());
         }
-        self.quot_at_places(other)
+        put_quotient(self, self.quot_at_places(*other))
+    }
+
+    /// The quotient without its fraction, the operator `\`, rounded once.
+    ///
+    /// # Errors
+    ///
+    /// `Zero` exactly for a zero divisor; else `Over` exactly where the quotient reaches 10^18 in size.
+    pub fn quot(self, other: Num) -> Result<Num, ArithFault>
+        ensures { IsOutcome (units other) (whole_quotient_of (units self) (units other)) result }
+    {
+        let mut number = self;
+        number.quot_assign(&other)?;
+        Ok(number)
     }
 
     // `rem` at places that differ; the divisor is not zero.
@@ -220,15 +305,14 @@ impl Num {
         divided(rounded(left, places, 18), other.negative)
     }
 
-    /// What is left of a division with floor, the operator `#`, rounded once: it has the sign of the divisor, and where it
-    /// is rounded it can equal the divisor.
+    /// Divides by a number with floor, the operator `#`: what is left stays, rounded once. It has the sign of the divisor, and where it
+    /// is rounded it can equal the divisor. What the number is after an error is left open.
     ///
     /// # Errors
     ///
     /// `Zero` exactly for a zero divisor, and never `Over`.
-    #[inline]
-    pub fn rem(self, other: Num) -> Result<Num, ArithFault>
-        ensures value { IsOutcome (units other) (remainder_of (units self) (units other)) result }
+    pub fn rem_assign(&mut self, other: &Num) -> Result<(), ArithFault>
+        ensures value { Leaves (units other.now) (remainder_of (units self.old) (units other.now)) self.new result }
         ensures never_over { IfErr result (λ e. e ≡ ArithFault.Zero) }
     {
         if other.digits == 0 {
@@ -240,13 +324,26 @@ impl Num {
                 other.digits as u128,
                 self.negative == other.negative,
             );
-            return Ok(Num {
-                digits: left as u64,
-                places: self.places,
-                negative: other.negative,
-            });
+            self.digits = left as u64;
+            self.negative = other.negative;
+            return Ok(());
         }
-        self.rem_at_places(other)
+        put_quotient(self, self.rem_at_places(*other))
+    }
+
+    /// What is left of a division with floor, the operator `#`, rounded once: it has the sign of the divisor, and where it
+    /// is rounded it can equal the divisor.
+    ///
+    /// # Errors
+    ///
+    /// `Zero` exactly for a zero divisor, and never `Over`.
+    pub fn rem(self, other: Num) -> Result<Num, ArithFault>
+        ensures value { IsOutcome (units other) (remainder_of (units self) (units other)) result }
+        ensures never_over { IfErr result (λ e. e ≡ ArithFault.Zero) }
+    {
+        let mut number = self;
+        number.rem_assign(&other)?;
+        Ok(number)
     }
 
     /// The number with its sign turned; zero stays zero.
@@ -261,13 +358,9 @@ impl Num {
         }
     }
 
-    /// The product, rounded once.
-    ///
-    /// # Errors
-    ///
-    /// `Over` exactly where it reaches 10^18 in size, before or after rounding.
-    #[inline]
-    pub fn mul(self, other: Num) -> Result<Num, Over>
+    // `mul` past the short way.
+    #[inline(never)]
+    fn mul_rounded(self, other: Num) -> Result<Num, Over>
         ensures { MatchResult result (λ r. product_of (units self) (units other) ≡ Some (units r)) (λ _. product_of (units self) (units other) ≡ None) }
     {
         let product = self.digits as u128 * other.digits as u128;
@@ -277,9 +370,41 @@ impl Num {
         )
     }
 
-    // `div` of digits that leave something; the divisor is not zero.
+    /// Multiplies by a number, and rounds once. What the number is after an error is left open.
+    ///
+    /// # Errors
+    ///
+    /// `Over` exactly where the product reaches 10^18 in size, before or after rounding.
+    pub fn mul_assign(&mut self, other: &Num) -> Result<(), Over>
+        ensures { MatchResult result (λ _. product_of (units self.old) (units other.now) ≡ Some (units self.new)) (λ _. product_of (units self.old) (units other.now) ≡ None) }
+    {
+        let product = self.digits as u128 * other.digits as u128;
+        let places = self.places + other.places;
+        if product < DIGITS_END as u128 && places <= 18 {
+            self.digits = product as u64;
+            self.places = places;
+            self.negative = self.negative != other.negative;
+            return Ok(());
+        }
+        put(self, self.mul_rounded(*other))
+    }
+
+    /// The product, rounded once.
+    ///
+    /// # Errors
+    ///
+    /// `Over` exactly where it reaches 10^18 in size, before or after rounding.
+    pub fn mul(self, other: Num) -> Result<Num, Over>
+        ensures { MatchResult result (λ r. product_of (units self) (units other) ≡ Some (units r)) (λ _. product_of (units self) (units other) ≡ None) }
+    {
+        let mut number = self;
+        number.mul_assign(&other)?;
+        Ok(number)
+    }
+
+    // `div` of digits that leave something, with zeros behind them too; the divisor is not zero.
     #[inline(never)]
-    fn div_at_places(self, other: Num) -> Result<Num, ArithFault>
+    fn div_rounded(self, other: Num) -> Result<Num, ArithFault>
         requires { 0 < other.digits }
         ensures { IsOutcome (units other) (quotient_of (units self) (units other)) result }
     {
@@ -292,26 +417,42 @@ impl Num {
         divided(size, self.negative != other.negative)
     }
 
+    /// Divides by a number, the operator `/`, and rounds once. What the number is after an error is left open.
+    ///
+    /// # Errors
+    ///
+    /// `Zero` exactly for a zero divisor; else `Over` exactly where the quotient reaches 10^18 in size, before or after
+    /// rounding.
+    pub fn div_assign(&mut self, other: &Num) -> Result<(), ArithFault>
+        ensures { Leaves (units other.now) (quotient_of (units self.old) (units other.now)) self.new result }
+    {
+        if other.digits == 0 {
+            return Err(ArithFault::Zero);
+        }
+        let (digits, zeros) = spread(self.digits);
+        let places = self.places + zeros;
+        if other.places <= places && places - other.places <= 18 && digits % other.digits == 0 {
+            *self = shortened(
+                digits / other.digits,
+                places - other.places,
+                self.negative != other.negative,
+            );
+            return Ok(());
+        }
+        put_quotient(self, self.div_rounded(*other))
+    }
+
     /// The quotient, the operator `/`, rounded once.
     ///
     /// # Errors
     ///
     /// `Zero` exactly for a zero divisor; else `Over` exactly where the quotient reaches 10^18 in size, before or after
     /// rounding.
-    #[inline]
     pub fn div(self, other: Num) -> Result<Num, ArithFault>
         ensures { IsOutcome (units other) (quotient_of (units self) (units other)) result }
     {
-        if other.digits == 0 {
-            return Err(ArithFault::Zero);
-        }
-        if self.places == other.places && self.digits % other.digits == 0 {
-            return Ok(Num {
-                digits: self.digits / other.digits,
-                places: 0,
-                negative: self.negative != other.negative,
-            });
-        }
-        self.div_at_places(other)
+        let mut number = self;
+        number.div_assign(&other)?;
+        Ok(number)
     }
 }

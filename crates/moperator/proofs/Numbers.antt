@@ -7,22 +7,24 @@ use Rattle.std.specs.Ordering.{int_eq}
 use Rattle.std.proofs.lemmas.Bool.Decides.{Decides-int_eq}
 use Rattle.std.proofs.lemmas.Int.{ints}
 use mir.Val.{to_z, of_z}
-use Rattle.mspec.specs.Code.{M9, Zover}
+use Rattle.mspec.specs.Code.{Zover}
 use Rattle.mspec.specs.Number.{significant_digits}
-use Rattle.mspec.specs.NumberText.{numeric_value}
+use Rattle.mspec.specs.NumberText.{numeric_value, number_text}
 use Rattle.mspec.specs.Interpretations.{is_true}
-use Rattle.mspec.specs.Act.{Text, Act, ◌>>◌, give_some, unless}
+use Rattle.mspec.specs.Act.{Text, Act, give_some}
 use Rattle.mmeaning.specs.Operators.{as_number, as_text}
 use Rattle.mmeaning.specs.Yields.{Yields}
 use Rattle.mmeaning.proofs.Yieldings.{yields_gives}
 use Rattle.mnum.specs.Num.{units}
-use Rattle.mnum.specs.Division.{IsOutcome}
 use Rattle.mnum.specs.declared.num.Num.{Num}
+use Rattle.mnum.specs.Division.{Leaves}
 use Rattle.mnum.specs.declared.num.Over.{Over}
 use Rattle.mnum.specs.declared.num.ArithFault.{ArithFault}
-use Rattle.mnum.specs.declared.num.ArithFault.TheVariants as fault
+use Rattle.mnum.specs.declared.num.ArithFault.TheVariants as arith
+use Rattle.moperator.specs.Faults.{division_code}
 use Rattle.moperator.specs.Codes.{fault_of}
-use Rattle.moperator.specs.Outcomes.{outcome_units, quotient_act}
+use Rattle.moperator.specs.Calculations.{division}
+use Rattle.moperator.specs.Outcomes.{outcome_units}
 use Rattle.moperator.specs.declared.code.Code.{Code}
 use Rattle.moperator.specs.declared.code.Code.TheVariants as codes
 
@@ -43,6 +45,14 @@ pub computed_outcome : (r : Result Num Over) (o : Option ℤ) {t : Result Text C
     → Yields fault_of (as_text (outcome_units r)) (λ (v : Text). v) t → Yields fault_of (as_text o) (λ (v : Text). v) t
 computed_outcome r o {t = t} h k = subst (λ (o : Option ℤ). Yields fault_of (as_text o) (λ (v : Text). v) t) (outcome_is r o h) k
 
+-- what an operation leaves in the place of a number
+pub number_left : (x : Option ℤ) (left : Num) → x ≡ Some (units left) → Yields {E = Code} fault_of (as_text x) (λ (u : Unit {0}). number_text (units left)) (Ok tt)
+number_left x left e =
+    subst (λ (o : Option ℤ). Yields {E = Code} fault_of (as_text o) (λ (u : Unit {0}). number_text (units left)) (Ok tt)) (sym e) (yields_gives (number_text (units left)) (λ (u : Unit {0}). number_text (units left)) tt refl)
+
+pub no_number_left : (x : Option ℤ) (left : Num) → x ≡ None → Yields fault_of (as_text x) (λ (u : Unit {0}). number_text (units left)) (Err codes.Zover)
+no_number_left x left e = subst (λ (o : Option ℤ). Yields fault_of (as_text o) (λ (u : Unit {0}). number_text (units left)) (Err codes.Zover)) (sym e) (record { ends = λ s. refl })
+
 -- ---- division
 
 some_is_true : (z : ℤ) → 0 < unsigned_abs z → is_true z ≡ true
@@ -59,15 +69,18 @@ none_is_false z none = ap not ((Decides-int_eq z (pos 0)).1 (is_zero z none))
     is_zero (pos n) e = ap pos e
     is_zero (negsuc n) e = absurd (omega (arith, e))
 
--- a division by a number, from its outcome
-division_is : (divisor : ℤ) (o : Option ℤ) (r : Result Num ArithFault) → IsOutcome divisor o r → ◌≡◌ {A = Act Text} (quotient_act r) (unless M9 (is_true divisor) >> as_text o)
-division_is divisor o (Ok n) h = rw (some_is_true divisor h.0, h.1) refl
-division_is divisor o (Err fault.Zero) h = rw (none_is_false divisor h) refl
-division_is divisor o (Err fault.Over) h = rw (some_is_true divisor h.0, h.1) refl
+division_by : (divisor : ℤ) (x : Option ℤ) (y : Option ℤ) → 0 < unsigned_abs divisor → x ≡ y → ◌≡◌ {A = Act Text} (division divisor x) (as_text y)
+division_by divisor x y some e = rw (some_is_true divisor some, e) refl
 
-pub divided_outcome : (divisor : ℤ) (o : Option ℤ) (r : Result Num ArithFault) {t : Result Text Code} → IsOutcome divisor o r
-    → Yields fault_of (quotient_act r) (λ (v : Text). v) t → Yields fault_of (unless M9 (is_true divisor) >> as_text o) (λ (v : Text). v) t
-divided_outcome divisor o r {t = t} h k = subst (λ (p : Act Text). Yields fault_of p (λ (v : Text). v) t) (division_is divisor o r h) k
+-- what a division leaves in the place of a number
+pub quotient_left : (divisor : ℤ) (x : Option ℤ) (left : Num) → (0 < unsigned_abs divisor) × (x ≡ Some (units left)) → Yields {E = Code} fault_of (division divisor x) (λ (u : Unit {0}). number_text (units left)) (Ok tt)
+quotient_left divisor x left h =
+    subst (λ (p : Act Text). Yields {E = Code} fault_of p (λ (u : Unit {0}). number_text (units left)) (Ok tt)) (sym (division_by divisor x (Some (units left)) h.0 h.1)) (number_left (Some (units left)) left refl)
+
+pub no_quotient : (divisor : ℤ) (x : Option ℤ) (left : Num) (fault : ArithFault) → Leaves divisor x left (Err fault) → Yields fault_of (division divisor x) (λ (u : Unit {0}). number_text (units left)) (Err (division_code fault))
+no_quotient divisor x left arith.Zero none = rw (none_is_false divisor none) (record { ends = λ s. refl })
+no_quotient divisor x left arith.Over h =
+    subst (λ (p : Act Text). Yields fault_of p (λ (u : Unit {0}). number_text (units left)) (Err codes.Zover)) (sym (division_by divisor x None h.0 h.1)) (no_number_left None left refl)
 
 -- ---- machine numbers
 

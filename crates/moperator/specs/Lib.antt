@@ -2,4 +2,5 @@
 pub mod Codes
 pub mod Faults
 pub mod Outcomes
+pub mod Calculations
 pub mod CappedCounts

@@ -1,26 +1,17 @@
 -- SPDX-License-Identifier: Apache-2.0
 -- The outcomes of operations on values, as acts.
 use Rattle.std.specs.Prelude.{◌≡◌, ℤ, Option, Some, None, Result, Ok, Err}
-use Rattle.mspec.specs.Code.{Code, M9, Zover}
+use Rattle.mspec.specs.Code.{Code}
 use Rattle.mspec.specs.Plan.{Done}
-use Rattle.mspec.specs.Act.{Text, State, Gives, Fails, Act, give, fail}
-use Rattle.mspec.specs.NumberText.{number_text}
+use Rattle.mspec.specs.Act.{State, Gives, Fails, Act}
 use Rattle.mnum.specs.Num.{units}
 use Rattle.mnum.specs.declared.num.Num.{Num}
 use Rattle.mnum.specs.declared.num.Over.{Over}
-use Rattle.mnum.specs.declared.num.ArithFault.{ArithFault}
-use Rattle.mnum.specs.declared.num.ArithFault.TheVariants as fault
 
 -- an operation's result in units; none where it is too large
 abbrev pub outcome_units : Result Num Over → Option ℤ
 outcome_units (Ok n) = Some (units n)
 outcome_units (Err over) = None
-
--- what a division is once its outcome is known
-abbrev pub quotient_act : Result Num ArithFault → Act Text
-quotient_act (Ok n) = give (number_text (units n))
-quotient_act (Err fault.Zero) = fail M9
-quotient_act (Err fault.Over) = fail Zover
 
 -- an act that gives one value, whatever the state
 abbrev pub IsDone : {A : Type 0} → Act A → Type 0

@@ -2,9 +2,9 @@
 // The codes that end a line.
 ghost use Rattle.std.specs.Prelude.{◌≡◌};
 ghost use Rattle.moperator.specs.declared.code.Code.TheVariants.{Zmem, Zover};
-ghost use Rattle.moperator.specs.Faults.{fault_code};
+ghost use Rattle.moperator.specs.Faults.{division_code, fault_code};
 
-use mnum::Over;
+use mnum::{ArithFault, Over};
 use mtext::TextFault;
 use std::alloc::{AllocError, AllocFailed};
 
@@ -80,6 +80,17 @@ impl From<Over> for Code {
 
     fn from(_over: Over) -> Code {
         Code::Zover
+    }
+}
+
+impl From<ArithFault> for Code {
+    ghost from_gives = { λ fault code. code ≡ division_code fault };
+
+    fn from(fault: ArithFault) -> Code {
+        match fault {
+            ArithFault::Zero => Code::M9,
+            ArithFault::Over => Code::Zover,
+        }
     }
 }
 

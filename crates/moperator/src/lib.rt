@@ -7,6 +7,7 @@
 #![tactic(auto)]
 
 mod arguments;
+mod arithmetic;
 mod characters;
 mod code;
 mod conversions;
@@ -15,6 +16,7 @@ mod operators;
 mod patterns;
 mod relations;
 
+pub use arithmetic::{Arithmetic, arithmetic_of, calculate};
 pub use code::Code;
 pub use conversions::{number_of, truth_of, whole_number, whole_of};
 pub use function_calls::call;

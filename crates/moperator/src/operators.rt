@@ -8,15 +8,17 @@ ghost use Rattle.mspec.specs.TextFunctions.{longest_text, made};
 ghost use Rattle.mtree.specs.Tree.{sign_tree, binary_tree};
 ghost use Rattle.mmeaning.specs.Yields.{Yields};
 ghost use Rattle.moperator.specs.Codes.{fault_of};
-ghost use Rattle.moperator.specs.Outcomes.{outcome_units, quotient_act};
+ghost use Rattle.moperator.specs.Calculations.{calculated_texts};
+ghost use Rattle.moperator.specs.Outcomes.{outcome_units};
 ghost use Rattle.moperator.specs.declared.code.Code.{Code};
 ghost use Rattle.moperator.specs.declared.code.Code.TheVariants.{Zlong, Zover};
 ghost use Rattle.mtree.specs.declared.tree.Binary.TheVariants.{Join};
 
+use crate::arithmetic::{Arithmetic, calculate};
 use crate::code::Code;
 use crate::conversions::{number_of, truth_of};
 use crate::relations::relation;
-use mnum::{ArithFault, LONGEST_TEXT, Num, Over};
+use mnum::{LONGEST_TEXT, Num, Over};
 use mtree::{Binary, Sign};
 use mvalue::Value;
 use std::alloc::Global;
@@ -35,18 +37,6 @@ pub fn computed(outcome: Result<Num, Over>) -> Result<Value, Code>
     match outcome {
         Ok(number) => Ok(Value::of_number(number)),
         Err(_) => Err(Code::Zover),
-    }
-}
-
-// What a division gives.
-#[inline]
-fn divided(outcome: Result<Num, ArithFault>) -> Result<Value, Code>
-    ensures { Yields fault_of (quotient_act outcome) (λ value. value) result }
-{
-    match outcome {
-        Ok(number) => Ok(Value::of_number(number)),
-        Err(ArithFault::Zero) => Err(Code::M9),
-        Err(ArithFault::Over) => Err(Code::Zover),
     }
 }
 
@@ -99,6 +89,17 @@ pub(crate) fn numbers(left: &Value, right: &Value) -> Result<(Num, Num), Code>
     Ok((a, b))
 }
 
+// Makes of the left value what an operator of arithmetic gives of the two as numbers.
+#[inline(never)]
+fn calculate_values(operator: Arithmetic, left: &mut Value, right: &Value) -> Result<(), Code>
+    ensures { Yields fault_of (calculated_texts operator left.old right.now) (λ _. left.new) result }
+{
+    let (mut number, other) = numbers(left, right)?;
+    let outcome = calculate(operator, &mut number, &other);
+    *left = Value::of_number(number);
+    outcome
+}
+
 // The left text with the right one behind it.
 fn joined(alloc: Global, left: Value, right: &Value) -> Result<Value, Code>
     ensures value { Yields fault_of (meaning.outcome (made (left ++ right.now))) (λ value. value) result }
@@ -147,29 +148,11 @@ pub fn binary(alloc: Global, operator: Binary, left: &mut Value, right: &Value) 
             let holds = relation(alloc, truth, left, right)?;
             put(left, Ok(Value::of_truth(!holds)))
         }
-        Binary::Add => {
-            let (a, b) = numbers(left, right)?;
-            put(left, computed(a.add(b)))
-        }
-        Binary::Subtract => {
-            let (a, b) = numbers(left, right)?;
-            put(left, computed(a.sub(b)))
-        }
-        Binary::Multiply => {
-            let (a, b) = numbers(left, right)?;
-            put(left, computed(a.mul(b)))
-        }
-        Binary::Divide => {
-            let (a, b) = numbers(left, right)?;
-            put(left, divided(a.div(b)))
-        }
-        Binary::DivideWhole => {
-            let (a, b) = numbers(left, right)?;
-            put(left, divided(a.quot(b)))
-        }
-        Binary::Remainder => {
-            let (a, b) = numbers(left, right)?;
-            put(left, divided(a.rem(b)))
-        }
+        Binary::Add => calculate_values(Arithmetic::Add, left, right),
+        Binary::Subtract => calculate_values(Arithmetic::Subtract, left, right),
+        Binary::Multiply => calculate_values(Arithmetic::Multiply, left, right),
+        Binary::Divide => calculate_values(Arithmetic::Divide, left, right),
+        Binary::DivideWhole => calculate_values(Arithmetic::DivideWhole, left, right),
+        Binary::Remainder => calculate_values(Arithmetic::Remainder, left, right),
     }
 }

@@ -1,6 +1,6 @@
 // SPDX-License-Identifier: Apache-2.0
 // Numbers as they are written.
-ghost use Rattle.std.specs.Prelude.{◌≡◌, None, Some, MatchResult};
+ghost use Rattle.std.specs.Prelude.{◌≡◌, None, Some, MatchOption, MatchResult};
 ghost use Rattle.mspec.specs.Number.{significant_digits};
 ghost use Rattle.mspec.specs.NumberText.{numeric_value};
 ghost use Rattle.mnum.specs.Num.{units};
@@ -54,5 +54,16 @@ impl Literal {
         ensures { MatchResult result (λ n. numeric_value significant_digits self.now ≡ Some (units n)) (λ _. numeric_value significant_digits self.now ≡ None) }
     {
         self.number
+    }
+
+    /// The number where it stands, or None exactly where it is 10^18 or more in size. Takes no memory.
+    #[inline]
+    pub fn as_number(&self) -> Option<&Num>
+        ensures { MatchOption result (numeric_value significant_digits self.now ≡ None) (λ n. numeric_value significant_digits self.now ≡ Some (units n.now)) }
+    {
+        match &self.number {
+            Ok(number) => Some(number),
+            Err(_) => None,
+        }
     }
 }

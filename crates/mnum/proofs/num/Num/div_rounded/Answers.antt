@@ -4,7 +4,7 @@ use Rattle.mnum.specs.Floor.{IsFloor, IsFine}
 use Rattle.mnum.specs.Num.{units}
 use Rattle.mnum.proofs.Outcomes.{outcome_is}
 use Rattle.mnum.proofs.Quotients.{quotient_floor, quotient_fine, quotient_over, quotient_rounded, some_units}
-use Rattle.mnum.proofs.num.Num.div_at_places.Goals as goal
+use Rattle.mnum.proofs.num.Num.div_rounded.Goals as goal
 
 pub returns-then-zeros-self : goal.returns-then-zeros-self
 returns-then-zeros-self c =

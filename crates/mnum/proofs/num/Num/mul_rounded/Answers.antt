@@ -3,7 +3,7 @@ use Rattle.std.proofs.Common.{◌≡◌, ℕ, ◌*◌, ◌+◌, ◌^◌, ◌-◌
 use Rattle.mnum.proofs.Outcomes.{same_number}
 use Rattle.mnum.proofs.SignLaws.{with_sign, signed_mul, product_units, exact_floor}
 use Rattle.mspec.proofs.Powers.{ten_pos}
-use Rattle.mnum.proofs.num.Num.mul.Goals as goal
+use Rattle.mnum.proofs.num.Num.mul_rounded.Goals as goal
 
 pub returns : goal.returns
 returns c =

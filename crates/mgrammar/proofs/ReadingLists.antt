@@ -1,7 +1,7 @@
 -- SPDX-License-Identifier: Apache-2.0
 -- The laws of reading a list of items.
-use Rattle.mgrammar.proofs.GrammarWords.{◌≡◌, ℕ, zero, suc, ◌<◌, ◌≤◌, Bool, eqb, List, [], ◌∷◌, ◌++◌, length, Option, Some, None, refl, sym, ap, subst, ◌∙◌, append_assoc, arith, length-append, spell_more, spell_list, WellAll, WellList, Read, ◌>>=◌, past, many, more_by, comma_by, after_comma, list_at}
-use Rattle.mgrammar.proofs.ReadingBasics.{Takes, Again, Stops, bind_some, some_is, past_takes}
+use Rattle.mgrammar.proofs.GrammarWords.{cond, inl, inr, eqb-true, ◌≡◌, ℕ, zero, suc, ◌<◌, ◌≤◌, Bool, eqb, List, [], ◌∷◌, ◌++◌, length, Option, Some, None, refl, sym, ap, subst, ◌∙◌, append_assoc, arith, length-append, spell_more, spell_list, WellAll, WellList, Read, ◌>>=◌, past, many, more_by, comma_by, after_comma, list_at}
+use Rattle.mgrammar.proofs.ReadingBasics.{chosen, Takes, Again, Stops, bind_some, some_is, past_takes}
 
 -- the texts of the items, one after another
 abbrev pub each : {A : Type 0} → (A → List ℕ) → List A → List ℕ
@@ -139,12 +139,22 @@ module _ {A : Type 0} (f : A → List ℕ) (P : A → Type 0) (item : List ℕ �
         ap (list_at item) (append_assoc (f x) (spell_more f xs) rest)
         ∙ rw (again x (spell_more f xs ++ rest) w.0 (more_follows xs rest s.0), more_again xs rest w.1 s.0 s.1) refl
 
--- a list in brackets, of which a tree is made
-pub bracketed_takes : {A B : Type 0} (spell : A → List ℕ) (P : A → Type 0) (item : List ℕ → Read A) (made : List A → B) (Q : B × List ℕ → Type 0) → Takes spell P item
-    → (c : ℕ) (cs : List ℕ) (x : B × List ℕ) → c ≡ 40 → (list_at item cs >>= λ y. past 41 y.1 >>= λ rest. Some (made y.0, rest)) ≡ Some x
-    → ((ys : List A) (rest : List ℕ) → c ∷ cs ≡ (40 ∷ (spell_list spell ys ++ 41 ∷ [])) ++ rest → WellList P ys → Q (made ys, rest)) → Q x
-bracketed_takes spell P item made Q takes c cs x at e is =
-    let b = bind_some (list_at item cs) (λ y. past 41 y.1 >>= λ rest. Some (made y.0, rest)) x e in
-    let k = bind_some (past 41 b.0.1) (λ rest. Some (made b.0.0, rest)) x b.2 in
-    let t = list_takes spell P item takes cs b.0 b.1 in
-    subst Q {x = (made b.0.0, k.0)} (some_is (made b.0.0, k.0) x k.2) (is b.0.0 k.0 (enclosed c cs (spell_list spell b.0.0) b.0.1 k.0 at t.0 (past_takes 41 b.0.1 k.0 k.1)) t.1)
+-- a list in brackets, or one item, of which a tree is made
+pub listed_or_one : {A B : Type 0} (spell : A → List ℕ) (P W : A → Type 0) (item single : List ℕ → Read A) (made : List A → B) (alone : A → B) (Q : B × List ℕ → Type 0)
+    → Takes spell P item → Takes spell W single → (c : ℕ) (cs : List ℕ) (x : B × List ℕ)
+    → cond (eqb c 40) (list_at item cs >>= λ y. past 41 y.1 >>= λ rest. Some (made y.0, rest)) (single (c ∷ cs) >>= λ v. Some (alone v.0, v.1)) ≡ Some x
+    → ((ys : List A) (rest : List ℕ) → c ∷ cs ≡ (40 ∷ (spell_list spell ys ++ 41 ∷ [])) ++ rest → WellList P ys → Q (made ys, rest))
+    → ((v : A) (rest : List ℕ) → c ∷ cs ≡ spell v ++ rest → W v → Q (alone v, rest)) → Q x
+listed_or_one spell P W item single made alone Q takes singly c cs x e listed is =
+    elim (chosen (eqb c 40) (list_at item cs >>= λ y. past 41 y.1 >>= λ rest. Some (made y.0, rest)) (single (c ∷ cs) >>= λ v. Some (alone v.0, v.1)) (Some x) e) [
+      | inl p ↦
+          let b = bind_some (list_at item cs) (λ y. past 41 y.1 >>= λ rest. Some (made y.0, rest)) x p.1 in
+          let k = bind_some (past 41 b.0.1) (λ rest. Some (made b.0.0, rest)) x b.2 in
+          let t = list_takes spell P item takes cs b.0 b.1 in
+          subst Q {x = (made b.0.0, k.0)} (some_is (made b.0.0, k.0) x k.2)
+          (listed b.0.0 k.0 (enclosed c cs (spell_list spell b.0.0) b.0.1 k.0 (eqb-true _ _ p.0) t.0 (past_takes 41 b.0.1 k.0 k.1)) t.1)
+      | inr p ↦
+          let b = bind_some (single (c ∷ cs)) (λ v. Some (alone v.0, v.1)) x p.1 in
+          let t = singly (c ∷ cs) b.0 b.1 in
+          subst Q {x = (alone b.0.0, b.0.1)} (some_is (alone b.0.0, b.0.1) x b.2) (is b.0.0 b.0.1 t.0 t.1)
+    ]

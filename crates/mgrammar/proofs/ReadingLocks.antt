@@ -2,7 +2,7 @@
 -- What is read of an argument of LOCK is spelled so, and what is spelled so is read.
 use Rattle.mgrammar.proofs.GrammarWords.{◌≡◌, ℕ, ◌-◌, Bool, true, false, cond, eqb, List, [], ◌∷◌, ◌++◌, Option, Some, None, inl, inr, refl, sym, ap, subst, ◌∙◌, append_assoc, arith, ◌||◌, eqb-true, nat_tests, ExprTree, ReferenceTree, LockKindTree, anew, adding, giving_back, LockedTree, lock_one, lock_several, ArgTree, locked, lock_argument, spell_reference, spell_list, spell_kind, spell_locked, spell_condition, spell_arg, max_depth, is_named, WellLockRef, WellLocked, WellPlain, Read, ◌>>=◌, past, list_at, after_sign, readers_at, reference_with, conditioned, lock_ref_with, locked_at, kind_of, lock_argument_at}
 use Rattle.mgrammar.proofs.ReadingBasics.{Takes, Again, Begins, Begins-append, Begins-weaker, bind_some, chosen, some_is}
-use Rattle.mgrammar.proofs.ReadingLists.{bracketed_takes, list_again}
+use Rattle.mgrammar.proofs.ReadingLists.{listed_or_one, list_again}
 use Rattle.mgrammar.proofs.ReadingReferences.{OperandEnds, begins_reference, reference_takes, reference_again, reference_begins}
 use Rattle.mgrammar.proofs.ReadingPrimaries.{reference_tests}
 use Rattle.mgrammar.proofs.ReadingExprs.{begins_operand, inner_takes, below_takes, inner_again, below_again}
@@ -42,12 +42,8 @@ locked_takes : Takes spell_locked WellLocked locked_at
 unfolding locked_at
 locked_takes [] x e = absurd cc
 locked_takes (c ∷ cs) x e =
-    elim (chosen (eqb c 40) (list_at listed cs >>= λ y. past 41 y.1 >>= λ rest. Some (lock_several y.0, rest)) (lock_ref_with (readers_at max_depth) (c ∷ cs) >>= λ v. Some (lock_one v.0, v.1)) (Some x) e) [
-      | inl p ↦ bracketed_takes spell_reference (WellLockRef (max_depth - 1)) listed lock_several (LockedIs (c ∷ cs)) (name_takes (max_depth - 1)) c cs x (eqb-true _ _ p.0) p.1 (λ ys rest q w. (q, w))
-      | inr p ↦
-          let b = bind_some (lock_ref_with (readers_at max_depth) (c ∷ cs)) (λ v. Some (lock_one v.0, v.1)) x p.1 in
-          subst (LockedIs (c ∷ cs)) {x = (lock_one b.0.0, b.0.1)} (some_is (lock_one b.0.0, b.0.1) x b.2) (name_takes max_depth (c ∷ cs) b.0 b.1)
-    ]
+    listed_or_one spell_reference (WellLockRef (max_depth - 1)) (WellLockRef max_depth) listed (lock_ref_with (readers_at max_depth)) lock_several lock_one (LockedIs (c ∷ cs))
+    (name_takes (max_depth - 1)) (name_takes max_depth) c cs x e (λ ys rest q w. (q, w)) (λ v rest q w. (q, w))
 
 list_step : (cs : List ℕ) (rs : List ReferenceTree) (rest : List ℕ) → list_at listed cs ≡ Some (rs, 41 ∷ rest) → locked_at (40 ∷ cs) ≡ Some (lock_several rs, rest)
 unfolding locked_at

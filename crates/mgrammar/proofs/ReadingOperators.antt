@@ -1,6 +1,6 @@
 -- SPDX-License-Identifier: Apache-2.0
 -- What is read of signs and of an operator is spelled so, and what is spelled so is read.
-use Rattle.mgrammar.proofs.GrammarWords.{◌≡◌, ℕ, Bool, true, false, cond, eqb, List, [], ◌∷◌, ◌++◌, Option, Some, None, inl, inr, refl, sym, ap, subst, ◌∙◌, arith, ◌||◌, list_any, eqb-true, nat_tests, SignTree, plus, minus, negate, TruthTree, equals, follows, sorts_after, BinaryTree, is, is_not, spell_signs, spell_truth, spell_binary, ◌>>=◌, signs_of, after_signs, found, truths, arithmetic, follows_at, truth_at, OperatorTree, between, matching, matching_not, negated_at, plain_by, operator_at}
+use Rattle.mgrammar.proofs.GrammarWords.{◌≡◌, ℕ, Bool, true, false, cond, eqb, List, [], ◌∷◌, ◌++◌, Option, Some, None, inl, inr, refl, sym, ap, subst, ◌∙◌, arith, ◌||◌, list_any, eqb-true, false_from_ne_true, nat_tests, SignTree, plus, minus, negate, TruthTree, equals, follows, sorts_after, BinaryTree, is, is_not, spell_signs, spell_truth, spell_binary, ◌>>=◌, signs_of, after_signs, found, truths, arithmetic, follows_at, truth_at, OperatorTree, between, matching, matching_not, negated_at, plain_by, operator_at}
 use Rattle.mgrammar.proofs.ReadingBasics.{Stops, Begins, bind_some, chosen, some_is}
 
 -- ---- signs
@@ -170,21 +170,12 @@ operator_begins o rest = refl
 
 not_operator : (c : ℕ) → is_operator c ≡ false → (eqb c 39 ≡ false) × (eqb c 63 ≡ false) × (found arithmetic c ≡ None) × (eqb c 93 ≡ false) × (found truths c ≡ None)
 not_operator c h =
-    let n : (a : ℕ) → Type 0 = λ a. eqb c a ≡ false in
-    let a0 : n 43 = grind (arith, nat_tests) in
-    let a1 : n 45 = grind (arith, nat_tests) in
-    let a2 : n 42 = grind (arith, nat_tests) in
-    let a3 : n 47 = grind (arith, nat_tests) in
-    let a4 : n 92 = grind (arith, nat_tests) in
-    let a5 : n 35 = grind (arith, nat_tests) in
-    let a6 : n 95 = grind (arith, nat_tests) in
-    let t0 : n 61 = grind (arith, nat_tests) in
-    let t1 : n 60 = grind (arith, nat_tests) in
-    let t2 : n 62 = grind (arith, nat_tests) in
-    let t3 : n 91 = grind (arith, nat_tests) in
-    let t4 : n 38 = grind (arith, nat_tests) in
-    let t5 : n 33 = grind (arith, nat_tests) in
-    (grind (arith, nat_tests), grind (arith, nat_tests), rw (a0, a1, a2, a3, a4, a5, a6) refl, grind (arith, nat_tests), rw (t0, t1, t2, t3, t4, t5) refl)
+    let n : (a : ℕ) → is_operator a ≡ true → eqb c a ≡ false =
+    λ a e. false_from_ne_true (eqb c a) (λ t. let no : ◌≡◌ {A = Bool} false true = sym h ∙ ap is_operator (eqb-true c a t) ∙ e in absurd cc) in
+    (
+      n 39 refl, n 63 refl, rw (n 43 refl, n 45 refl, n 42 refl, n 47 refl, n 92 refl, n 35 refl, n 95 refl) refl,
+      n 93 refl, rw (n 61 refl, n 60 refl, n 62 refl, n 91 refl, n 38 refl, n 33 refl) refl,
+    )
 
 pub no_operator : (rest : List ℕ) → Stops is_operator rest → operator_at rest ≡ None
 unfolding operator_at truth_at

@@ -2,7 +2,7 @@
 -- What is read of the left side of an set_argument is spelled so, and what is spelled so is read.
 use Rattle.mgrammar.proofs.GrammarWords.{◌≡◌, ℕ, ◌<◌, ◌-◌, Bool, true, eqb, List, [], ◌∷◌, ◌++◌, Option, Some, None, inl, inr, refl, sym, ap, subst, ◌∙◌, append_assoc, arith, eqb-true, nat_tests, is_letter, AllAre, ExprTree, PrimaryTree, no_exprs, ReferenceTree, indirect, TargetTree, variable, piece, DestinationTree, one, several, ArgTree, assign, indirect_args, FormTree, spell_expr, spell_primary, spell_reference, spell_list, spell_place, spell_target, spell_destination, spell_arg, set_argument, is_piece, max_depth, bare_primary, bare_destination, WellBelow, WellReference, WellOptional, WellTarget, WellDestination, WellArg, Read, ◌>>=◌, run_of, after_run, past, list_at, Readers, reference_with, expr_at, readers_at, place_with, piece_with, piece_by, target_with, destination_at, given_by, set_argument_by, set_argument_at}
 use Rattle.mgrammar.proofs.ReadingBasics.{Takes, Again, Stops, Begins, Begins-append, Begins-stops, Begins-weaker, bind_some, chosen, some_is, both_are, run_parts, run_again, past_takes, not_past}
-use Rattle.mgrammar.proofs.ReadingLists.{joined_by, bracketed_takes, is_comma, list_again}
+use Rattle.mgrammar.proofs.ReadingLists.{joined_by, listed_or_one, is_comma, list_again}
 use Rattle.mgrammar.proofs.ReadingTrees.{WellInner}
 use Rattle.mgrammar.proofs.ReadingReferences.{OperandEnds, Ends, TakesFree, AgainFree, WellWithin, begins_reference, reference_takes, reference_again, reference_begins, bare_spelled, bare_well, bare_reference_is}
 use Rattle.mgrammar.proofs.ReadingPrimaries.{reference_tests}
@@ -95,14 +95,9 @@ destination_takes : Takes spell_destination WellDestination destination_at
 unfolding destination_at
 destination_takes [] x e = absurd cc
 destination_takes (c ∷ cs) x e =
-    elim (chosen (eqb c 40) (list_at listed cs >>= λ y. past 41 y.1 >>= λ rest. Some (several y.0, rest)) (target_with (readers_at max_depth) (c ∷ cs) >>= λ t. Some (one t.0, t.1)) (Some x) e) [
-      | inl p ↦
-          bracketed_takes spell_target (WellTarget (max_depth - 1)) listed several (DestinationIs (c ∷ cs))
-          (target_takes (max_depth - 1) (readers_at (max_depth - 1)) (inner_takes (max_depth - 1)) (within_takes (max_depth - 1)) (below_takes (max_depth - 1))) c cs x (eqb-true _ _ p.0) p.1 (λ ys rest q w. (q, w))
-      | inr p ↦
-          let b = bind_some (target_with (readers_at max_depth) (c ∷ cs)) (λ t. Some (one t.0, t.1)) x p.1 in
-          subst (DestinationIs (c ∷ cs)) (some_is (one b.0.0, b.0.1) x b.2) (target_takes max_depth (readers_at max_depth) (inner_takes max_depth) (within_takes max_depth) (below_takes max_depth) (c ∷ cs) b.0 b.1)
-    ]
+    let takes = λ (d : ℕ). target_takes d (readers_at d) (inner_takes d) (within_takes d) (below_takes d) in
+    listed_or_one spell_target (WellTarget (max_depth - 1)) (WellTarget max_depth) listed (target_with (readers_at max_depth)) several one (DestinationIs (c ∷ cs))
+    (takes (max_depth - 1)) (takes max_depth) c cs x e (λ ys rest q w. (q, w)) (λ t rest q w. (q, w))
 
 -- what was read of an argument of SET
 abbrev AssignmentIs : List ℕ → ArgTree × List ℕ → Type 0

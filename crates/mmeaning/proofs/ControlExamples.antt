@@ -3,7 +3,11 @@
 use Rattle.mmeaning.proofs.MeaningWords.{◌*◌, rules, ◌^◌, World, computes, size_text, M9, M15, Zover, Zsteps, no_locals, assigned_to}
 use Rattle.mmeaning.proofs.Running.{◌≡◌, [], ◌∷◌, None, true, false, refl, codes, empty, new_session, opening, with_steps, done, failed, AreAnswered, Answered, serving, holding, at_first, at_last, Each, at_case, no_more, runs, running, numbers}
 
-loops : Each (
+-- what a line with so many steps leaves
+abbrev turned_out : World
+turned_out = serving (record { locals = assigned_to (assigned_to no_locals (codes "N") [] (codes "3")) (codes "I") [] (codes "4"); naked = None; test = false })
+
+lines : Each (
     -- a FOR turns down to its limit where the increment is below zero
     (codes "F I=3:-1:1 W I", done (codes "321")) ∷
     -- parameters one after another, texts among them
@@ -17,23 +21,13 @@ loops : Each (
     -- the start is a number before the increment is evaluated
     (codes "F I=\"1E30\":1/0:1", failed [] Zover) ∷
     -- the index grows from what it is behind the turn
-    (codes "F I=1:1:5 W I S I=I+1", done (codes "135")) ∷ [])
-unfolding runs
-loops =
-    at_case _ refl (simp running) (at_case _ refl (simp running) (at_case _ refl (simp running) (at_case _ refl (simp running)
-    (at_case _ refl (simp running) (at_case _ refl (simp running) (at_case _ refl (simp running) no_more))))))
-
-sums : Each (
+    (codes "F I=1:1:5 W I S I=I+1", done (codes "135")) ∷
     -- the limit is compared with the exact sum, not with the rounded one
     (codes "F I=999999999999999999:.1:999999999999999999 W 1", done (codes "1")) ∷
     -- a sum that is too large is an error where no limit ends the FOR before
     (codes "F I=9E17:9E17 W 1", failed (codes "1") Zover) ∷
     -- and none where one does
-    (codes "F I=9E17:9E17:9E17 W 1", done (codes "1")) ∷ [])
-unfolding runs
-sums = at_case _ refl (simp (running, numbers.of_tenth, numbers.of_largest)) (at_case _ refl (simp running) (at_case _ refl (simp running) no_more))
-
-turns_ended : Each (
+    (codes "F I=9E17:9E17:9E17 W 1", done (codes "1")) ∷
     -- a FOR in a FOR: QUIT ends the inner one
     (codes "F I=1:1:2 F J=1:1 Q:J=3  W J", done (codes "1212")) ∷
     -- QUIT ends the FOR with all its parameters
@@ -45,23 +39,18 @@ turns_ended : Each (
     -- a text as parameter reads no index
     (codes "F I=1,2 K I", done []) ∷
     -- an index that NEW hid is undefined
-    (codes "F I=1:1:3 N I", failed [] M15) ∷ [])
-unfolding runs
-turns_ended =
-    at_case _ refl (simp running) (at_case _ refl (simp running) (at_case _ refl (simp running) (at_case _ refl (simp running)
-    (at_case _ refl (simp running) (at_case _ refl (simp running) no_more)))))
-
--- what a line with so many steps leaves
-abbrev turned_out : World
-turned_out = serving (record { locals = assigned_to (assigned_to no_locals (codes "N") [] (codes "3")) (codes "I") [] (codes "4"); naked = None; test = false })
-
-tests : Each (
+    (codes "F I=1:1:3 N I", failed [] M15) ∷
     -- of a command whose condition is false nothing is evaluated
     (codes "S:0 A=1/0 W 1", done (codes "1")) ∷
     -- QUIT ends the line where there is no FOR
     (codes "W 1 Q  W 2", done (codes "1")) ∷ [])
 unfolding runs
-tests = at_case _ refl (simp running) (at_case _ refl (simp running) no_more)
+lines =
+    at_case _ refl (simp running) (at_case _ refl (simp running) (at_case _ refl (simp running) (at_case _ refl (simp running) (at_case _ refl (simp running)
+    (at_case _ refl (simp running) (at_case _ refl (simp running) (at_case _ refl (simp (running, numbers.of_tenth, numbers.of_largest))
+    (at_case _ refl (simp running) (at_case _ refl (simp running) (at_case _ refl (simp running) (at_case _ refl (simp running) (at_case _ refl (simp running)
+    (at_case _ refl (simp running) (at_case _ refl (simp running) (at_case _ refl (simp running) (at_case _ refl (simp running)
+    (at_case _ refl (simp running) no_more)))))))))))))))))
 
 -- lines one after another
 record Sessions : Type 0 where

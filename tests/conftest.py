@@ -97,25 +97,18 @@ def compiled(source: str, folder: Path) -> str:
     return str(library)
 
 
-@pytest.fixture(scope="session")
-def io_library(tmp_path_factory: pytest.TempPathFactory) -> str:
-    """The library that refuses reads, writes and accepts: tests/refuse_io.c."""
-    return compiled("refuse_io.c", tmp_path_factory.mktemp("io"))
+def library(source: str) -> Callable[[pytest.TempPathFactory], str]:
+    """A fixture: the path of such a library, which is made once."""
+    def made(tmp_path_factory: pytest.TempPathFactory) -> str:
+        return compiled(source, tmp_path_factory.mktemp("library"))
+    return pytest.fixture(scope="session")(made)
 
 
-@pytest.fixture(scope="session")
-def memory_library(tmp_path_factory: pytest.TempPathFactory) -> str:
-    """The library that refuses requests for memory: tests/refuse_memory.c."""
-    return compiled("refuse_memory.c", tmp_path_factory.mktemp("memory"))
-
-
-@pytest.fixture(scope="session")
-def disk_library(tmp_path_factory: pytest.TempPathFactory) -> str:
-    """The library that ends the program at a call that changes a file: tests/stop_disk.c."""
-    return compiled("stop_disk.c", tmp_path_factory.mktemp("disk"))
-
-
-@pytest.fixture(scope="session")
-def power_library(tmp_path_factory: pytest.TempPathFactory) -> str:
-    """The library in front of which the power goes: tests/lose_power.c."""
-    return compiled("lose_power.c", tmp_path_factory.mktemp("power"))
+# It refuses reads, writes and accepts.
+io_library = library("refuse_io.c")
+# It refuses requests for memory.
+memory_library = library("refuse_memory.c")
+# It ends the program at a call that changes a file.
+disk_library = library("stop_disk.c")
+# The power goes at such a call.
+power_library = library("lose_power.c")

@@ -5,11 +5,16 @@ from __future__ import annotations
 import itertools
 import os
 import re
+import tempfile
+from collections.abc import Callable, Iterator
+from contextlib import contextmanager
 from dataclasses import dataclass
 from random import Random
 
+from hypothesis import given, note, settings
+from hypothesis import strategies as st
 from running import run
-from support import Grant
+from support import IN_MEMORY, Grant
 
 NAMES = ["ALICE", "BOB", "CAROL", "DAVE", "EVE"]
 GLOBALS = ["X", "Y", "ROUTINE"]
@@ -92,6 +97,24 @@ def drawn_line(drawn: Random, setting: Setting) -> Line | None:
     return terminal, f"{terminal} {text}".encode() + drawn.choice([b"\n", b"\n", b"\r\n"])
 
 
+Case = tuple[Setting, list[Line]]
+
+
+@st.composite
+def cases(draw: st.DrawFn) -> Case:
+    """Settings and lines of all their terminals, which a failure shows."""
+    drawn = draw(st.randoms(use_true_random=False))
+    setting = drawn_setting(drawn)
+    lines = drawn_lines(drawn, setting)
+    note(setting.document() + "\n" + "".join(repr(line) + "\n" for _, line in lines))
+    return setting, lines
+
+
+def for_cases(times: int) -> Callable[[Callable[[Case], None]], Callable[[], None]]:
+    """Has a function called with so many of them."""
+    return lambda check: settings(max_examples=times)(given(cases())(check))
+
+
 class Runs:
     """Runs over new stores of a kind, in a folder."""
 
@@ -108,6 +131,13 @@ class Runs:
         status, output, told = run(b"".join(line for _, line in lines), f"{place}.toml", store, only)
         assert (status, told) == (0, b"")
         return output.splitlines(True)
+
+
+@contextmanager
+def runs_over(kind: str) -> Iterator[Runs]:
+    """Runs in a folder that is gone then."""
+    with tempfile.TemporaryDirectory(dir=IN_MEMORY) as folder:
+        yield Runs(kind, folder)
 
 
 def told(setting: Setting, account: str, answer: list[bytes]) -> list[bytes]:

@@ -11,13 +11,10 @@
 // What a call changes is done at once, and what stood there is kept until the file is synced. A file is known by its descriptor, so no two may be
 // open on one. Calls on folders go by: that a new file is in its folder is not lost.
 #define _GNU_SOURCE
+#include "in_front.h"
 #include <signal.h>
-#include <stdio.h>
-#include <stdlib.h>
 #include <string.h>
 #include <sys/stat.h>
-#include <sys/syscall.h>
-#include <unistd.h>
 
 #define MOST 100000
 
@@ -39,11 +36,6 @@ static long last = -1;
 // The last change that was synced: of those before it nothing is kept.
 static long last_synced = -1;
 
-static long number(const char *name) {
-    const char *text = getenv(name);
-    return text ? atol(text) : 0;
-}
-
 __attribute__((constructor)) static void begin(void) {
     losing_at = number("LOSE_AT");
     kept = number("LOSE_KEPT");
@@ -51,17 +43,7 @@ __attribute__((constructor)) static void begin(void) {
     synced_too = number("LOSE_SYNCED");
 }
 
-__attribute__((destructor)) static void end(void) {
-    if (getenv("LOSE_TOLD")) {
-        dprintf((int)number("LOSE_TOLD"), "%ld", calls);
-    }
-}
-
-static void stop_unless(int holds) {
-    if (!holds) {
-        _exit(98);
-    }
-}
+__attribute__((destructor)) static void end(void) { tell("LOSE_TOLD", calls); }
 
 static int is_file(int place) {
     struct stat found;

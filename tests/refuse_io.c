@@ -8,20 +8,13 @@
 //   REFUSE_ACCEPT=N                         the Nth accept fails with EMFILE
 //   REFUSE_READ_MOST=K, REFUSE_WRITE_MOST=K each read gives, each write takes at most K bytes
 #define _GNU_SOURCE
+#include "in_front.h"
 #include <errno.h>
-#include <stdlib.h>
 #include <sys/socket.h>
 #include <sys/stat.h>
-#include <sys/syscall.h>
-#include <unistd.h>
 
 static long read_failing, read_most, write_failing, write_stalling, write_most, accept_failing;
 static long reads, writes, accepts;
-
-static long number(const char *name) {
-    const char *text = getenv(name);
-    return text ? atol(text) : 0;
-}
 
 __attribute__((constructor)) static void begin(void) {
     read_failing = number("REFUSE_READ");

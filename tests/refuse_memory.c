@@ -10,25 +10,18 @@
 //
 // A copy reads on from where the process is, and begins with what that wrote, so the three standard streams must be files. Of another file that
 // is open both would move the place, so copies may be made only if there is none: in lines, over a store in memory.
+#define _GNU_SOURCE
+#include "in_front.h"
 #include <fcntl.h>
-#include <stdio.h>
-#include <stdlib.h>
 #include <sys/sendfile.h>
 #include <sys/types.h>
 #include <sys/wait.h>
-#include <unistd.h>
 
 extern void *__libc_malloc(size_t size);
 extern void *__libc_realloc(void *old, size_t size);
 
 static long requests, refused, copied_after = -1, copied_every = 1;
 static int is_copy;
-
-static void stop_unless(int holds) {
-    if (!holds) {
-        _exit(98);
-    }
-}
 
 // Has a descriptor read a file anew, from the place where it is, and move apart from the process's own.
 static void reopen(int descriptor) {
@@ -95,15 +88,10 @@ static int is_refused(void) {
     return requests == refused;
 }
 
-static long number(const char *name, long otherwise) {
-    const char *text = getenv(name);
-    return text ? atol(text) : otherwise;
-}
-
 __attribute__((constructor)) static void begin(void) {
-    refused = number("REFUSE", 0);
-    copied_after = number("REFUSE_AFTER", -1);
-    copied_every = number("REFUSE_EVERY", 1);
+    refused = number("REFUSE");
+    copied_after = number_or("REFUSE_AFTER", -1);
+    copied_every = number_or("REFUSE_EVERY", 1);
     requests = 0;
 }
 
@@ -112,10 +100,7 @@ void *malloc(size_t size) { return is_refused() ? NULL : __libc_malloc(size); }
 void *realloc(void *old, size_t size) { return is_refused() ? NULL : __libc_realloc(old, size); }
 
 __attribute__((destructor)) static void end(void) {
-    const char *to = getenv("REFUSE_TOLD");
-    char text[32];
-    int length = snprintf(text, sizeof text, "%ld", requests);
-    if (to && !is_copy && write(atoi(to), text, (size_t)length) != length) {
-        _exit(99);
+    if (!is_copy) {
+        tell("REFUSE_TOLD", requests);
     }
 }

@@ -6,18 +6,9 @@
 //   STOP_HALF=1  if that call writes, it writes the first half of its bytes before
 //   STOP_TOLD=D  the count of calls is written to the descriptor D as the program ends
 #define _GNU_SOURCE
-#include <stdio.h>
-#include <stdlib.h>
-#include <string.h>
-#include <sys/syscall.h>
-#include <unistd.h>
+#include "in_front.h"
 
 static long calls, stopping, halves;
-
-static long number(const char *name) {
-    const char *text = getenv(name);
-    return text ? atol(text) : 0;
-}
 
 __attribute__((constructor)) static void begin(void) {
     stopping = number("STOP");
@@ -72,11 +63,4 @@ int fdatasync(int place) {
     return (int)syscall(SYS_fdatasync, place);
 }
 
-__attribute__((destructor)) static void end(void) {
-    const char *to = getenv("STOP_TOLD");
-    char text[32];
-    int length = snprintf(text, sizeof text, "%ld", calls);
-    if (to && syscall(SYS_write, atoi(to), text, (size_t)length) != length) {
-        _exit(99);
-    }
-}
+__attribute__((destructor)) static void end(void) { tell("STOP_TOLD", calls); }

@@ -11,11 +11,8 @@ import sys
 import tempfile
 from collections import Counter
 from pathlib import Path
-from random import Random
 
-from drawn_settings import REPLY, Line, Runs, Setting, drawn_lines, drawn_setting, sent_by
-from hypothesis import given, note, settings
-from hypothesis import strategies as st
+from drawn_settings import REPLY, Case, Line, Setting, for_cases, runs_over, sent_by
 from running import TOP, run
 from support import IN_MEMORY
 
@@ -45,22 +42,13 @@ def at(setting: Setting, members: set[str], answer: list[bytes]) -> list[bytes]:
     return [line for line in answer if (found := REPLY.match(line)) and int(found[1]) in own]
 
 
-def described(setting: Setting, lines: list[Line]) -> str:
-    """Settings and lines, as a failure shows them."""
-    return setting.document() + "\n" + "".join(repr(line) + "\n" for _, line in lines)
-
-
 def test_an_island_is_answered_as_alone(count: int) -> None:
     seen: Counter[str] = Counter()
 
-    @settings(max_examples=count * SETTINGS)
-    @given(st.randoms(use_true_random=False))
-    def alone(drawn: Random) -> None:
-        setting = drawn_setting(drawn)
-        lines = drawn_lines(drawn, setting)
-        note(described(setting, lines))
-        with tempfile.TemporaryDirectory(dir=IN_MEMORY) as folder:
-            runs = Runs("memory", folder)
+    @for_cases(count * SETTINGS)
+    def alone(case: Case) -> None:
+        setting, lines = case
+        with runs_over("memory") as runs:
             answer = runs.answered(setting, lines)
             for island in islands_of(setting):
                 own = setting.cut(island)
@@ -90,12 +78,9 @@ def answered(place: Path, lines: list[Line]) -> list[bytes]:
 def test_islands_move_to_machines_of_their_own(count: int) -> None:
     seen: Counter[str] = Counter()
 
-    @settings(max_examples=count * SETTINGS)
-    @given(st.randoms(use_true_random=False))
-    def moved(drawn: Random) -> None:
-        setting = drawn_setting(drawn)
-        lines = drawn_lines(drawn, setting)
-        note(described(setting, lines))
+    @for_cases(count * SETTINGS)
+    def moved(case: Case) -> None:
+        setting, lines = case
         with tempfile.TemporaryDirectory(dir=IN_MEMORY) as folder:
             whole, parts = Path(folder) / "whole", Path(folder) / "parts"
             whole.mkdir()

@@ -12,16 +12,12 @@ on a grant, and in some settings if all accounts have all grants.
 Hypothesis draws, so that a difference is shown of the fewest lines that have it."""
 from __future__ import annotations
 
-import tempfile
 from collections import Counter
 from collections.abc import Iterator
-from random import Random
 
 import pytest
-from drawn_settings import LINES, Line, Runs, Setting, drawn_lines, drawn_setting, sent_by, told
-from hypothesis import given, note, settings
-from hypothesis import strategies as st
-from support import IN_MEMORY, reaching
+from drawn_settings import LINES, Case, Line, Runs, Setting, for_cases, runs_over, sent_by, told
+from support import reaching
 
 SETTINGS = 100
 
@@ -46,14 +42,11 @@ def judge(runs: Runs, setting: Setting, lines: list[Line]) -> Iterator[str]:
 def test_each_account_is_shown_the_same(kind: str, count: int) -> None:
     seen: Counter[str] = Counter()
 
-    @settings(max_examples=count * SETTINGS)
-    @given(st.randoms(use_true_random=False))
-    def isolated(drawn: Random) -> None:
-        setting = drawn_setting(drawn)
-        lines = drawn_lines(drawn, setting)
-        note(setting.document() + "\n" + "".join(repr(line) + "\n" for _, line in lines))
-        with tempfile.TemporaryDirectory(dir=IN_MEMORY) as folder:
-            seen.update(judge(Runs(kind, folder), setting, lines))
+    @for_cases(count * SETTINGS)
+    def isolated(case: Case) -> None:
+        setting, lines = case
+        with runs_over(kind) as runs:
+            seen.update(judge(runs, setting, lines))
         seen.update({"accounts": len(setting.accounts), "lines": len(lines)})
 
     isolated()

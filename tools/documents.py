@@ -10,7 +10,7 @@ from dataclasses import dataclass, field
 
 from sources import TOP, program_crates
 
-CODE = (".rt", ".antt", ".edit", ".py", ".c", ".toml")
+CODE = (".rt", ".antt", ".edit", ".py", ".c", ".h", ".toml")
 LONGEST_LINE = 100
 LONGEST_CELL = 200
 PHRASES = [
@@ -20,7 +20,7 @@ PHRASES = [
 ]
 PHRASE = re.compile(r"\b(?:" + "|".join(PHRASES) + r")\b", re.IGNORECASE)
 SPAN = re.compile(r"`([^`\n]+)`")
-PATH = re.compile(r"^[\w./*-]+\.(?:rt|antt|edit|py|c|md|txt|toml|service|bash|1)$|^(?:[A-Za-z][\w.-]*/)+[\w.-]*$")
+PATH = re.compile(r"^[\w./*-]+\.(?:rt|antt|edit|py|c|h|md|txt|toml|service|bash|1)$|^(?:[A-Za-z][\w.-]*/)+[\w.-]*$")
 NAME = re.compile(r"^[A-Za-z_]\w*(?:::[A-Za-z_]\w*)*(?:\(\))?$")
 # `<!-- gate_times.py -->` and `<!-- end -->`: what stands between is written by that script.
 MARK = re.compile(r"^<!-- (end|\w+\.py) -->$")

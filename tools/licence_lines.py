@@ -10,7 +10,7 @@ import sys
 from sources import TOP
 
 LINE = "SPDX-License-Identifier: Apache-2.0"
-ENDINGS = (".rt", ".antt", ".py", ".c", ".js", ".css")
+ENDINGS = (".rt", ".antt", ".py", ".c", ".h", ".js", ".css")
 # What is made, or is no source of ours: what was built and tested, the examples' data, patches.
 PASSED_OVER = {".git", "out", "__pycache__", ".hypothesis", ".pytest_cache", "unpacked", "wip", "examples", "pictures"}
 

@@ -62,12 +62,6 @@ def words() -> argparse.ArgumentParser:
     return reader
 
 
-def main(arguments: list[str] | None = None) -> int:
-    """The command: its status."""
-    chosen = words().parse_args(arguments)
-    return options.guarded(NAME, lambda: run(chosen))
-
-
 def run(chosen: argparse.Namespace) -> int:
     """Does what the words ask for."""
     try:
@@ -337,3 +331,4 @@ def count(found: Way, chosen: argparse.Namespace) -> int:
 
 
 ACTS = {"export": export, "import": take, "compare": compare, "count": count}
+main = options.command(NAME, words, run)

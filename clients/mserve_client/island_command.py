@@ -47,12 +47,6 @@ def words() -> argparse.ArgumentParser:
     return reader
 
 
-def main(arguments: list[str] | None = None) -> int:
-    """The command: its status."""
-    chosen = words().parse_args(arguments)
-    return options.guarded(NAME, lambda: run(chosen))
-
-
 def run(chosen: argparse.Namespace) -> int:
     """Does what the words ask for."""
     try:
@@ -125,3 +119,4 @@ def joined(chosen: argparse.Namespace) -> int:
 
 
 ACTS = {"list": shown, "split": cut, "join": joined}
+main = options.command(NAME, words, run)

@@ -54,6 +54,14 @@ def connected(options: argparse.Namespace) -> Connection:
     return Connection(options.port, options.terminal, host=options.host, timeout=options.timeout or None)
 
 
+def command(name: str, words: Callable[[], argparse.ArgumentParser], run: Callable[[argparse.Namespace], int]) -> Callable[..., int]:
+    """A command as its script calls it: it reads its words, does what they ask for, and gives its status."""
+    def main(arguments: list[str] | None = None) -> int:
+        chosen = words().parse_args(arguments)
+        return guarded(name, lambda: run(chosen))
+    return main
+
+
 def guarded(name: str, act: Callable[[], int]) -> int:
     """The status of a command; what keeps it from its end is written to the standard error."""
     try:

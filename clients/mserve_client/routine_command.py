@@ -46,12 +46,6 @@ def words() -> argparse.ArgumentParser:
     return reader
 
 
-def main(arguments: list[str] | None = None) -> int:
-    """The command: its status."""
-    chosen = words().parse_args(arguments)
-    return options.guarded(NAME, lambda: run(chosen))
-
-
 def run(chosen: argparse.Namespace) -> int:
     """Does what the words ask for."""
     try:
@@ -160,3 +154,4 @@ def counted(count: int, word: str) -> str:
 
 
 ACTS = {"check": check, "load": load, "diff": diff, "list": names, "save": save, "delete": delete}
+main = options.command(NAME, words, run)

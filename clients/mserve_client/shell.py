@@ -288,12 +288,6 @@ def words() -> argparse.ArgumentParser:
     return reader
 
 
-def main(arguments: list[str] | None = None) -> int:
-    """The command: its status."""
-    chosen = words().parse_args(arguments)
-    return options.guarded(NAME, lambda: run(chosen))
-
-
 def run(chosen: argparse.Namespace) -> int:
     """Runs lines until they end."""
     person = is_person() and not chosen.plain
@@ -320,3 +314,6 @@ def converse(shell: Shell, ask: Callable[[str], str]) -> None:
             return
         if not shell.obey(line):
             return
+
+
+main = options.command(NAME, words, run)

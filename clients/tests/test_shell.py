@@ -184,6 +184,18 @@ class Terminal:
         found, _, self.seen = self.seen.partition(text)
         return found
 
+    def answers(self, line: str, text: str) -> str:
+        """Types a line at the next prompt; what is shown then up to a text that has to come."""
+        self.wait(">")
+        self.type(line + "\r")
+        return self.wait(text)
+
+    def leave(self) -> None:
+        """Ends the input at the next prompt, and with it the shell."""
+        self.wait(">")
+        self.type("\x04")
+        assert self.process.wait(20) == 0
+
 
 @contextmanager
 def terminal(server: Server, folder: Path, *words: str, rows: int = 24, without: str = "") -> Iterator[Terminal]:
@@ -208,32 +220,20 @@ WITHOUT = pytest.mark.parametrize("without", ["", "prompt_toolkit", "rich"])
 @WITHOUT
 def test_prompt(server: Server, tmp_path: Path, without: str) -> None:
     with terminal(server, tmp_path, without=without) as shell:
-        shell.wait(">")
-        shell.type("W 2/3\r")
-        shell.wait(".666666666666666667")
-        shell.type("W B\r")
-        shell.wait('M6: undefined local variable  (docs/LANGUAGE.md, "Variables")')
-        shell.type("W $C(27)_1\r")
-        shell.wait("\\1B1")
-        shell.wait(">")
-        shell.type("\x04")
-        assert shell.process.wait(20) == 0
+        shell.answers("W 2/3", ".666666666666666667")
+        shell.answers("W B", 'M6: undefined local variable  (docs/LANGUAGE.md, "Variables")')
+        shell.answers("W $C(27)_1", "\\1B1")
+        shell.leave()
     assert "W 2/3" in (tmp_path / "state" / "history").read_text()
 
 
 @WITHOUT
 def test_history_is_kept_between_runs(server: Server, tmp_path: Path, without: str) -> None:
     with terminal(server, tmp_path, without=without) as shell:
-        shell.wait(">")
-        shell.type("W 700+7\r")
-        shell.wait("707")
-        shell.wait(">")
-        shell.type("\x04")
-        assert shell.process.wait(20) == 0
+        shell.answers("W 700+7", "707")
+        shell.leave()
     with terminal(server, tmp_path, without=without) as shell:
-        shell.wait(">")
-        shell.type("\x1b[A\r")
-        shell.wait("707")
+        shell.answers("\x1b[A", "707")
 
 
 @pytest.mark.parametrize("without", ["", "prompt_toolkit"])
@@ -250,9 +250,7 @@ def test_pages(server: Server, tmp_path: Path) -> None:
     with server.connection() as connection:
         connection.send("F I=1:1:100 S ^X(I)=I")
     with terminal(server, tmp_path, rows=12) as shell:
-        shell.wait(">")
-        shell.type(".show ^X\r")
-        assert "^X(10)=10" in shell.wait("-- Enter for more, q to stop -- ")
+        assert "^X(10)=10" in shell.answers(".show ^X", "-- Enter for more, q to stop -- ")
         shell.type("\r")
         shell.wait("^X(20)=20")
         shell.wait("-- Enter for more, q to stop -- ")
@@ -264,18 +262,14 @@ def test_interrupt_at_the_prompt(server: Server, tmp_path: Path) -> None:
     with terminal(server, tmp_path) as shell:
         shell.wait(">")
         shell.type("W 1\x03")
-        shell.wait(">")
-        shell.type("W 6*7\r")
-        shell.wait("42")
+        shell.answers("W 6*7", "42")
 
 
 def test_interrupt_while_a_reply_is_waited_for(server: Server, tmp_path: Path) -> None:
     with server.connection() as other:
         other.send("S A=1")
         with terminal(server, tmp_path) as shell:
-            shell.wait(">")
-            shell.type("W A\r")
-            shell.wait("Ctrl-C gives up")
+            shell.answers("W A", "Ctrl-C gives up")
             shell.type("\x03")
             shell.wait("mshell: interrupted; the terminal's session could not be ended")
             assert shell.process.wait(20) == 130
@@ -285,9 +279,7 @@ def test_waiting_is_told(server: Server, tmp_path: Path) -> None:
     with server.connection() as other:
         other.send("S A=1")
         with terminal(server, tmp_path) as shell:
-            shell.wait(">")
-            shell.type("W 6*7\r")
-            shell.wait("Ctrl-C gives up")
+            shell.answers("W 6*7", "Ctrl-C gives up")
             other.close()
             shell.wait("42")
 

@@ -1,7 +1,6 @@
 // SPDX-License-Identifier: Apache-2.0
 // Peers, who connect one after another, and what each is answered.
-use crate::lines::plain_world;
-use mgrant::Settings;
+use crate::lines::{Lines, plain_world};
 use mstore::Plain;
 use mtranscript::{bytes_of, print_case, print_result, print_results};
 use mwire::{Peers, serve_each};
@@ -9,21 +8,16 @@ use mworld::World;
 use std::alloc::Global;
 use std::collections::VecDeque;
 
-/// Serves peers who send these bytes, each case a peer, in one world by the settings of a document, and prints below each what it was
+/// Serves peers who send these bytes, each case a peer, in one world by the settings of the document, and prints below each what it was
 /// answered; then what was told of faults of connections, and what comes where one more connection is asked for.
 ///
 /// # Errors
 ///
 /// If the document gives no settings, if not all peers are served, and out of memory.
-pub fn play_connections(
-    alloc: Global,
-    document: &[u8],
-    cases: &[&str],
-    out: &mut Vec<u8>,
-) -> anyhow::Result<()> {
-    let mut peers = peers_of(alloc, cases)?;
-    let mut world = plain_world(alloc, Settings::read(alloc, document)?)?;
-    connected(alloc, &mut world, &mut peers, cases, out)
+pub fn play_connections(alloc: Global, block: &Lines, out: &mut Vec<u8>) -> anyhow::Result<()> {
+    let mut peers = peers_of(alloc, block.cases)?;
+    let mut world = plain_world(alloc, block.document)?;
+    connected(alloc, &mut world, &mut peers, block.cases, out)
 }
 
 // Peers who send these bytes.

@@ -1,8 +1,7 @@
 // SPDX-License-Identifier: Apache-2.0
 // Devices that fail, and what is known of it afterwards.
-use crate::lines::{line_bytes, plain_world};
+use crate::lines::{Lines, line_bytes, plain_world};
 use anyhow::Context;
-use mgrant::Settings;
 use mtranscript::{play, print_result, print_results};
 use mwire::{Watched, WireFault, serve};
 use std::alloc::Global;
@@ -75,21 +74,16 @@ fn breaks(word: &str) -> anyhow::Result<bool> {
     }
 }
 
-/// Serves each line in the world that the lines before it left, by the settings of a document, over a reader and a writer that the words
+/// Serves each line in the world that the lines before it left, by the settings of the document, over a reader and a writer that the words
 /// before it name: a reader that `ends` or `breaks` after the line, a writer that takes `all`, or `nothing`, or `fails`. Prints below it what
 /// was written, the fault, and of which of the two a call failed.
 ///
 /// # Errors
 ///
 /// If the document gives no settings, if a case names no reader or writer, and out of memory.
-pub fn play_devices(
-    alloc: Global,
-    document: &[u8],
-    cases: &[&str],
-    out: &mut Vec<u8>,
-) -> anyhow::Result<()> {
-    let mut world = plain_world(alloc, Settings::read(alloc, document)?)?;
-    play(cases, out, |case, out| {
+pub fn play_devices(alloc: Global, block: &Lines, out: &mut Vec<u8>) -> anyhow::Result<()> {
+    let mut world = plain_world(alloc, block.document)?;
+    play(block.cases, out, |case, out| {
         let (reading, rest) = case.split_once(' ').context("no reader")?;
         let (writing, line) = rest.split_once(' ').context("no writer")?;
         let mut reader = Watched::new(Source {

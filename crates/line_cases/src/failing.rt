@@ -1,6 +1,6 @@
 // SPDX-License-Identifier: Apache-2.0
 // Lines over the plain store, of which a call may fail, with texts of nodes and copies of routines in front of it.
-use crate::lines::{answer_of, line_bytes};
+use crate::lines::{Lines, answer_of, line_bytes};
 use mcache::Cached;
 use mglobal::RoutineCache;
 use mgrant::Settings;
@@ -107,23 +107,18 @@ fn failures(world: &FailingWorld) -> u32 {
     world.store().store().store().failures()
 }
 
-/// Serves each line in the world that the lines before it left, by the settings of a document, and prints the replies below it, and whether a
+/// Serves each line in the world that the lines before it left, by the settings of the document, and prints the replies below it, and whether a
 /// call of the store failed in it. A case `cache N` makes a new world, with texts of N nodes in front of the store; `cache N put 2` one in
 /// which the second put of the store fails.
 ///
 /// # Errors
 ///
 /// If the document gives no settings, and out of memory.
-pub fn play_cached_lines(
-    alloc: Global,
-    document: &[u8],
-    cases: &[&str],
-    out: &mut Vec<u8>,
-) -> anyhow::Result<()> {
-    let mut world = ample_world(alloc, document)?;
-    play(cases, out, |case, out| {
+pub fn play_cached_lines(alloc: Global, block: &Lines, out: &mut Vec<u8>) -> anyhow::Result<()> {
+    let mut world = ample_world(alloc, block.document)?;
+    play(block.cases, out, |case, out| {
         if let Some(words) = case.strip_prefix("cache ") {
-            world = world_of(alloc, document, words)?;
+            world = world_of(alloc, block.document, words)?;
             return Ok(());
         }
         let (answer, failed) = served(alloc, &mut world, &line_bytes(alloc, case)?)?;

@@ -20,7 +20,7 @@ mod stops;
 pub use connections::play_connections;
 pub use devices::play_devices;
 pub use failing::play_cached_lines;
-pub use lines::{play_lines, play_told};
+pub use lines::{Lines, play_lines, play_told};
 pub use outsiders::play_outsiders;
 pub use references::play_references;
 pub use replies::play_replies;

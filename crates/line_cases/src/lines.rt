@@ -9,6 +9,17 @@ use mwire::{Watched, serve, serve_only};
 use mworld::World;
 use std::alloc::Global;
 
+/// The cases of a block of lines, and what they are played by.
+#[derive(Clone, Copy)]
+pub struct Lines<'a> {
+    /// The document of the settings.
+    pub document: &'a [u8],
+    /// The name of the account that is told, or in whose session references are resolved.
+    pub account: &'a [u8],
+    /// The cases.
+    pub cases: &'a [&'a str],
+}
+
 // The bytes of a line: a line feed ends it, but where `{end}` stands at its end.
 pub(crate) fn line_bytes(alloc: Global, case: &str) -> anyhow::Result<Vec<u8>> {
     match case.strip_suffix("{end}") {
@@ -21,8 +32,30 @@ pub(crate) fn line_bytes(alloc: Global, case: &str) -> anyhow::Result<Vec<u8>> {
     }
 }
 
-// A new world over the plain store that keeps one tree.
-pub(crate) fn plain_world(alloc: Global, settings: Settings) -> anyhow::Result<World<Plain>> {
+// Lines that are served again and again in new worlds, and the document of the settings.
+#[derive(Clone, Copy)]
+pub(crate) struct Stream<'a> {
+    pub document: &'a [u8],
+    pub lines: &'a [Vec<u8>],
+}
+
+// The lines of cases, which are printed.
+pub(crate) fn lines_of(
+    alloc: Global,
+    cases: &[&str],
+    out: &mut Vec<u8>,
+) -> anyhow::Result<Vec<Vec<u8>>> {
+    let mut lines = Vec::new(alloc);
+    play(cases, out, |case, _| {
+        lines.push(line_bytes(alloc, case)?)?;
+        Ok(())
+    })?;
+    Ok(lines)
+}
+
+// A new world over the plain store that keeps one tree, by the settings of the document.
+pub(crate) fn plain_world(alloc: Global, document: &[u8]) -> anyhow::Result<World<Plain>> {
+    let settings = Settings::read(alloc, document)?;
     match World::with_entries(alloc, settings, Plain::new(alloc), 1) {
         Ok(world) => Ok(world),
         Err(_) => anyhow::bail!("no memory for a world"),
@@ -41,61 +74,51 @@ pub(crate) fn answer_of<S: NodeStore>(
     Ok(answer)
 }
 
-/// Serves each line in the world that the lines before it left, by the settings of a document, and prints the replies below it.
+/// Serves each line in the world that the lines before it left, by the settings of the document, and prints the replies below it.
 ///
 /// # Errors
 ///
 /// If the document gives no settings, and out of memory.
-pub fn play_lines(
-    alloc: Global,
-    document: &[u8],
-    cases: &[&str],
-    out: &mut Vec<u8>,
-) -> anyhow::Result<()> {
-    let mut world = plain_world(alloc, Settings::read(alloc, document)?)?;
-    play(cases, out, |case, out| {
+pub fn play_lines(alloc: Global, block: &Lines, out: &mut Vec<u8>) -> anyhow::Result<()> {
+    let mut world = plain_world(alloc, block.document)?;
+    play(block.cases, out, |case, out| {
         let line = line_bytes(alloc, case)?;
         print_results(alloc, out, &answer_of(alloc, &mut world, &line)?)
     })
 }
 
-/// Serves all lines as one stream, by the settings of a document, and prints them, then what the account of this name is told, and whether
+/// Serves all lines as one stream, by the settings of the document, and prints them, then what the account is told, and whether
 /// no line of an account that reaches it was lost. A case `cache ..` says over which store, as of `play_cached_lines`.
 ///
 /// # Errors
 ///
 /// If the document gives no settings or has no such account, and out of memory.
-pub fn play_told(
-    alloc: Global,
-    document: &[u8],
-    name: &[u8],
-    cases: &[&str],
-    out: &mut Vec<u8>,
-) -> anyhow::Result<()> {
-    let account = account_of(alloc, document, name)?;
-    let mut world = ample_world(alloc, document)?;
-    told(alloc, document, &mut world, account, cases, out)
+pub fn play_told(alloc: Global, block: &Lines, out: &mut Vec<u8>) -> anyhow::Result<()> {
+    let account = account_of(alloc, block)?;
+    let mut world = ample_world(alloc, block.document)?;
+    told(alloc, block, &mut world, account, out)
 }
 
-// The account of this name.
-fn account_of(alloc: Global, document: &[u8], name: &[u8]) -> anyhow::Result<AccountId> {
-    let settings = Settings::read(alloc, document)?;
-    settings.account_named(name).context("no such account")
+// The account that is told.
+fn account_of(alloc: Global, block: &Lines) -> anyhow::Result<AccountId> {
+    let settings = Settings::read(alloc, block.document)?;
+    settings
+        .account_named(block.account)
+        .context("no such account")
 }
 
 // Plays the cases over a world that is lent, so that it is let go of in one place.
 fn told(
     alloc: Global,
-    document: &[u8],
+    block: &Lines,
     world: &mut FailingWorld,
     account: AccountId,
-    cases: &[&str],
     out: &mut Vec<u8>,
 ) -> anyhow::Result<()> {
     let mut lines = Vec::new(alloc);
-    play(cases, out, |case, _| {
+    play(block.cases, out, |case, _| {
         match case.strip_prefix("cache ") {
-            Some(words) => *world = world_of(alloc, document, words)?,
+            Some(words) => *world = world_of(alloc, block.document, words)?,
             None => lines.extend_from_slice(&line_bytes(alloc, case)?)?,
         }
         Ok(())

@@ -1,9 +1,9 @@
 // SPDX-License-Identifier: Apache-2.0
 // Lines of two accounts, of which each call of the store fails in turn.
 use crate::failing::{ENTRIES, FailingWorld, failing_world, served};
-use crate::lines::line_bytes;
+use crate::lines::{Lines, Stream, lines_of};
 use mstore::StoreCall;
-use mtranscript::{play, print_result};
+use mtranscript::print_result;
 use std::alloc::Global;
 
 const CALLS: [(&str, StoreCall); 5] = [
@@ -38,32 +38,27 @@ struct Counts {
     misplaced: u32,
 }
 
-/// Serves the lines by the settings of a document, and again for each call of the store that they make, which then fails. Of each kind of call
+/// Serves the lines by the settings of the document, and again for each call of the store that they make, which then fails. Of each kind of call
 /// it is told how many failed, how many of them in a line of another terminal than 1; in how many of the latter a reply at terminal 1 was
 /// another than without; and in how many runs ZSTORE stood elsewhere than in the line in which the call failed.
 ///
 /// # Errors
 ///
 /// If the document gives no settings, and out of memory.
-pub fn play_outsiders(
-    alloc: Global,
-    document: &[u8],
-    cases: &[&str],
-    out: &mut Vec<u8>,
-) -> anyhow::Result<()> {
-    let mut lines = Vec::new(alloc);
-    play(cases, out, |case, _| {
-        lines.push(line_bytes(alloc, case)?)?;
-        Ok(())
-    })?;
-    let wanted = run_failing(alloc, document, &lines, StoreCall::Get, u32::MAX)?;
+pub fn play_outsiders(alloc: Global, block: &Lines, out: &mut Vec<u8>) -> anyhow::Result<()> {
+    let lines = lines_of(alloc, block.cases, out)?;
+    let stream = Stream {
+        document: block.document,
+        lines: lines.as_slice(),
+    };
+    let wanted = run_failing(alloc, &stream, StoreCall::Get, u32::MAX)?;
     for (word, call) in CALLS {
         let Counts {
             runs,
             others,
             changed,
             misplaced,
-        } = count(alloc, document, &lines, &wanted.replies, call)?;
+        } = count(alloc, &stream, &wanted.replies, call)?;
         let told = format!(in alloc;
             "{word}: {runs} failed, {others} at another terminal; {changed} changed a reply at terminal 1, {misplaced} not in the line that ends by ZSTORE"
         )?;
@@ -72,15 +67,9 @@ pub fn play_outsiders(
     Ok(())
 }
 
-fn run_failing(
-    alloc: Global,
-    document: &[u8],
-    lines: &[Vec<u8>],
-    call: StoreCall,
-    n: u32,
-) -> anyhow::Result<Run> {
-    let mut world = failing_world(alloc, document, ENTRIES, call, n)?;
-    run_over(alloc, &mut world, lines)
+fn run_failing(alloc: Global, stream: &Stream, call: StoreCall, n: u32) -> anyhow::Result<Run> {
+    let mut world = failing_world(alloc, stream.document, ENTRIES, call, n)?;
+    run_over(alloc, &mut world, stream.lines)
 }
 
 // Serves the lines in a world that is lent, so that it is let go of in one place.
@@ -104,13 +93,7 @@ fn run_over(alloc: Global, world: &mut FailingWorld, lines: &[Vec<u8>]) -> anyho
     Ok(run)
 }
 
-fn count(
-    alloc: Global,
-    document: &[u8],
-    lines: &[Vec<u8>],
-    wanted: &[u8],
-    call: StoreCall,
-) -> anyhow::Result<Counts> {
+fn count(alloc: Global, stream: &Stream, wanted: &[u8], call: StoreCall) -> anyhow::Result<Counts> {
     let mut counts = Counts {
         runs: 0,
         others: 0,
@@ -118,7 +101,7 @@ fn count(
         misplaced: 0,
     };
     for n in 1..MOST {
-        let run = run_failing(alloc, document, lines, call, n)?;
+        let run = run_failing(alloc, stream, call, n)?;
         counts.misplaced = counts.misplaced.saturating_add(run.misplaced as u32);
         if !run.own && !run.other {
             return Ok(counts);

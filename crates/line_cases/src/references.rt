@@ -1,5 +1,6 @@
 // SPDX-License-Identifier: Apache-2.0
 // References, and the places that they name.
+use crate::lines::Lines;
 use anyhow::Context;
 use meval::{Depth, Eval, Place, Session};
 use mgrant::{AccountId, Settings};
@@ -22,27 +23,22 @@ struct Resolving<'a> {
     store: Plain,
 }
 
-/// Resolves each reference as one that is to be changed, in the session of terminal 1 of an account, and prints the place below it: the name
+/// Resolves each reference as one that is to be changed, in the session of terminal 1 of the account, and prints the place below it: the name
 /// and the subscripts of a local variable; the account, the name and the subscripts of a node; or the code that it has in its place.
 ///
 /// # Errors
 ///
 /// If the document gives no settings or has no such account, if a case is no reference, and out of memory.
-pub fn play_references(
-    alloc: Global,
-    document: &[u8],
-    name: &[u8],
-    cases: &[&str],
-    out: &mut Vec<u8>,
-) -> anyhow::Result<()> {
-    let settings = Settings::read(alloc, document)?;
+pub fn play_references(alloc: Global, block: &Lines, out: &mut Vec<u8>) -> anyhow::Result<()> {
+    let settings = Settings::read(alloc, block.document)?;
+    let account = settings.account_named(block.account);
     let mut there = Resolving {
         settings: &settings,
-        account: settings.account_named(name).context("no such account")?,
+        account: account.context("no such account")?,
         session: Session::new(alloc),
         store: Plain::new(alloc),
     };
-    play(cases, out, |case, out| {
+    play(block.cases, out, |case, out| {
         let told = resolved(alloc, &mut there, case)?;
         print_result(out, &told)
     })

@@ -2,9 +2,9 @@
 // Lines over a table in two files in memory, of which one stops after so many calls.
 use crate::failing::{ENTRIES, world_over};
 use crate::holding::held;
-use crate::lines::{answer_of, line_bytes};
+use crate::lines::{Lines, Stream, answer_of, lines_of};
 use mstore::{Failing, NodeStore, Plain, StoreCall, Table};
-use mtranscript::{play, print_result};
+use mtranscript::print_result;
 use mworld::World;
 use sqlite::{Connection, FileStore, Files, Options};
 use sqlite_disk::{Crash, Disk, Fuse, Memory};
@@ -21,7 +21,7 @@ const MOST: u64 = 10_000;
 // What a run may leave: how many lines were answered without ZSTORE, and what a store holds then, or after some writes of the next line.
 type Left = (usize, Vec<u8>);
 
-/// Serves the lines by the settings of a document over a table in two files, closes it, and again for each call of either file, which stops at
+/// Serves the lines by the settings of the document over a table in two files, closes it, and again for each call of either file, which stops at
 /// it. Of each file it is told how many stops there were, and how many of them lost anything: after it the files, with what was
 /// written since they were synced and without, hold something else than what the lines wrote that were answered without ZSTORE, and then
 /// some first writes of the one that was answered with it.
@@ -29,20 +29,15 @@ type Left = (usize, Vec<u8>);
 /// # Errors
 ///
 /// If the document gives no settings or there is no stop, and out of memory.
-pub fn play_stops(
-    alloc: Global,
-    document: &[u8],
-    cases: &[&str],
-    out: &mut Vec<u8>,
-) -> anyhow::Result<()> {
-    let mut lines = Vec::new(alloc);
-    play(cases, out, |case, _| {
-        lines.push(line_bytes(alloc, case)?)?;
-        Ok(())
-    })?;
-    let allowed = all_left(alloc, document, &lines)?;
+pub fn play_stops(alloc: Global, block: &Lines, out: &mut Vec<u8>) -> anyhow::Result<()> {
+    let lines = lines_of(alloc, block.cases, out)?;
+    let stream = Stream {
+        document: block.document,
+        lines: lines.as_slice(),
+    };
+    let allowed = all_left(alloc, &stream)?;
     for in_log in [true, false] {
-        let (stops, lost) = count(alloc, document, &lines, &allowed, in_log)?;
+        let (stops, lost) = count(alloc, &stream, &allowed, in_log)?;
         let file = if in_log { "log" } else { "database" };
         if stops == 0 {
             anyhow::bail!("no stop");
@@ -54,10 +49,14 @@ pub fn play_stops(
 }
 
 // All that a run may leave.
-fn all_left(alloc: Global, document: &[u8], lines: &[Vec<u8>]) -> anyhow::Result<Vec<Left>> {
+fn all_left(alloc: Global, stream: &Stream) -> anyhow::Result<Vec<Left>> {
     let mut left = Vec::new(alloc);
-    for count in 0..=lines.len() {
-        let run = plain_left(alloc, document, &lines[..count], StoreCall::Get, u32::MAX)?;
+    for count in 0..=stream.lines.len() {
+        let first = Stream {
+            document: stream.document,
+            lines: &stream.lines[..count],
+        };
+        let run = plain_left(alloc, &first, StoreCall::Get, u32::MAX)?;
         if count > 0 {
             // a line may have made all its writes and been answered with ZSTORE
             left.push((count - 1, run.1.to_vec(alloc)?))?;
@@ -65,7 +64,7 @@ fn all_left(alloc: Global, document: &[u8], lines: &[Vec<u8>]) -> anyhow::Result
         left.push(run)?;
     }
     for call in [StoreCall::Put, StoreCall::Kill] {
-        push_cut(alloc, document, lines, call, &mut left)?;
+        push_cut(alloc, stream, call, &mut left)?;
     }
     Ok(left)
 }
@@ -73,14 +72,13 @@ fn all_left(alloc: Global, document: &[u8], lines: &[Vec<u8>]) -> anyhow::Result
 // Adds what is left where a write of this kind is refused, for each of them.
 fn push_cut(
     alloc: Global,
-    document: &[u8],
-    lines: &[Vec<u8>],
+    stream: &Stream,
     call: StoreCall,
     left: &mut Vec<Left>,
 ) -> anyhow::Result<()> {
     for n in 1..1000 {
-        let run = plain_left(alloc, document, lines, call, n)?;
-        if run.0 == lines.len() {
+        let run = plain_left(alloc, stream, call, n)?;
+        if run.0 == stream.lines.len() {
             return Ok(());
         }
         left.push(run)?;
@@ -89,18 +87,12 @@ fn push_cut(
 }
 
 // What the lines leave in the plain store, of which a call fails.
-fn plain_left(
-    alloc: Global,
-    document: &[u8],
-    lines: &[Vec<u8>],
-    call: StoreCall,
-    n: u32,
-) -> anyhow::Result<Left> {
+fn plain_left(alloc: Global, stream: &Stream, call: StoreCall, n: u32) -> anyhow::Result<Left> {
     if n == 0 {
         anyhow::bail!("calls are counted from 1");
     }
     let store = Failing::new(Plain::new(alloc), call, n);
-    let (answered, mut store) = served_over(alloc, document, lines, store)?;
+    let (answered, mut store) = served_over(alloc, stream, store)?;
     let holds = held(alloc, &mut store)?;
     Ok((answered, holds))
 }
@@ -108,12 +100,11 @@ fn plain_left(
 // Serves the lines over a store, up to the first that ends by ZSTORE: how many come before it, and the store.
 fn served_over<S: NodeStore + Drop>(
     alloc: Global,
-    document: &[u8],
-    lines: &[Vec<u8>],
+    stream: &Stream,
     store: S,
 ) -> anyhow::Result<(usize, S)> {
-    let mut world = world_over(alloc, document, ENTRIES, store)?;
-    let answered = answered(alloc, &mut world, lines);
+    let mut world = world_over(alloc, stream.document, ENTRIES, store)?;
+    let answered = answered(alloc, &mut world, stream.lines);
     let store = world.into_store().into_store().into_store();
     Ok((answered?, store))
 }
@@ -137,8 +128,7 @@ fn answered<S: NodeStore>(
 // How many stops of a file there are, and how many of them lose anything. A file with just as many calls as are made of it stops in no run.
 fn count(
     alloc: Global,
-    document: &[u8],
-    lines: &[Vec<u8>],
+    stream: &Stream,
     allowed: &[Left],
     in_log: bool,
 ) -> anyhow::Result<(u64, u64)> {
@@ -149,7 +139,7 @@ fn count(
         } else {
             (u64::MAX, calls)
         };
-        let (answered, mut files) = stopped(alloc, document, lines, log, db)?;
+        let (answered, mut files) = stopped(alloc, stream, log, db)?;
         if !is_stopped(if in_log {
             &mut files.log
         } else {
@@ -172,19 +162,13 @@ fn is_stopped(file: &mut Fuse<Memory>) -> bool {
 }
 
 // Serves the lines over two files that stop after so many calls: how many are answered without ZSTORE, and the files then.
-fn stopped(
-    alloc: Global,
-    document: &[u8],
-    lines: &[Vec<u8>],
-    log: u64,
-    db: u64,
-) -> anyhow::Result<(usize, Stopping)> {
+fn stopped(alloc: Global, stream: &Stream, log: u64, db: u64) -> anyhow::Result<(usize, Stopping)> {
     let files = Files {
         log: Fuse::new(Memory::new(alloc), log),
         db: Fuse::new(Memory::new(alloc), db),
     };
     match table_over(alloc, files) {
-        Ok(table) => closed_over(alloc, document, lines, table),
+        Ok(table) => closed_over(alloc, stream, table),
         Err(files) => Ok((0, files)),
     }
 }
@@ -215,12 +199,11 @@ fn table_over(alloc: Global, files: Stopping) -> Result<StoppingTable, Stopping>
 // Serves the lines over a table, and closes it, unless one ends by ZSTORE.
 fn closed_over(
     alloc: Global,
-    document: &[u8],
-    lines: &[Vec<u8>],
+    stream: &Stream,
     table: StoppingTable,
 ) -> anyhow::Result<(usize, Stopping)> {
-    let (answered, table) = served_over(alloc, document, lines, table)?;
-    let files = left_by(table.into_connection(), answered == lines.len());
+    let (answered, table) = served_over(alloc, stream, table)?;
+    let files = left_by(table.into_connection(), answered == stream.lines.len());
     Ok((answered, files))
 }
 

@@ -25,34 +25,21 @@ pub fn play_database(alloc: Global, cases: &[&str], out: &mut Vec<u8>) -> anyhow
         Err((fault, conn)) => (fault.to_string(alloc)?, conn),
     };
     print_result(out, told.as_bytes())?;
-    print_rows(alloc, &mut conn, out)?;
-    print_version(alloc, &mut conn, out)
-}
-
-// Tells how many nodes there are, and nothing where there is no table of them.
-fn print_rows(
-    alloc: Global,
-    conn: &mut Connection<MemStore>,
-    out: &mut Vec<u8>,
-) -> anyhow::Result<()> {
-    if let Ok(row) = conn.query_row("SELECT count(*) FROM node", &[]) {
-        let count = row.get::<i64>(0)?;
-        let told = format!(in alloc; "{count} nodes")?;
-        print_result(out, told.as_bytes())?;
+    let count = "SELECT count(*) FROM node";
+    if let Some(count) = number(&mut conn, count)? {
+        print_result(out, format!(in alloc; "{count} nodes")?.as_bytes())?;
+    }
+    let version = "SELECT n FROM meta WHERE name = 'version'";
+    if let Some(version) = number(&mut conn, version)? {
+        print_result(out, format!(in alloc; "version {version}")?.as_bytes())?;
     }
     Ok(())
 }
 
-// Tells the version, and nothing where there is no row of it.
-fn print_version(
-    alloc: Global,
-    conn: &mut Connection<MemStore>,
-    out: &mut Vec<u8>,
-) -> anyhow::Result<()> {
-    if let Ok(row) = conn.query_row("SELECT n FROM meta WHERE name = 'version'", &[]) {
-        let version = row.get::<i64>(0)?;
-        let told = format!(in alloc; "version {version}")?;
-        print_result(out, told.as_bytes())?;
+// The number that a query finds, if there is such a table, and a row.
+fn number(conn: &mut Connection<MemStore>, query: &str) -> anyhow::Result<Option<i64>> {
+    match conn.query_row(query, &[]) {
+        Ok(row) => Ok(Some(row.get::<i64>(0)?)),
+        Err(_) => Ok(None),
     }
-    Ok(())
 }

@@ -81,10 +81,7 @@ fn differences<S: NodeStore, T: NodeStore>(
 ) -> anyhow::Result<u64> {
     let mut state = seed;
     for _ in 0..count {
-        put_drawn(first, second, alloc, &mut state)?;
-        if draw(&mut state) % 16 == 0 {
-            kill_drawn(first, second, alloc, &mut state)?;
-        }
+        change_both(first, second, alloc, &mut state)?;
     }
     let mut found = 0u64;
     for _ in 0..count {
@@ -95,7 +92,8 @@ fn differences<S: NodeStore, T: NodeStore>(
     Ok(found)
 }
 
-fn put_drawn<S: NodeStore, T: NodeStore>(
+// Puts a drawn text at a drawn node, and at times kills a drawn node of two subscripts.
+fn change_both<S: NodeStore, T: NodeStore>(
     first: &mut S,
     second: &mut T,
     alloc: Global,
@@ -104,16 +102,10 @@ fn put_drawn<S: NodeStore, T: NodeStore>(
     let key = drawn_key(alloc, state)?;
     let text = text_of(alloc, drawn_word(state))?;
     put(first, &key, &text)?;
-    put(second, &key, &text)
-}
-
-// Kills a drawn node of two subscripts.
-fn kill_drawn<S: NodeStore, T: NodeStore>(
-    first: &mut S,
-    second: &mut T,
-    alloc: Global,
-    state: &mut u64,
-) -> anyhow::Result<()> {
+    put(second, &key, &text)?;
+    if draw(state) % 16 != 0 {
+        return Ok(());
+    }
     let gone = node(alloc, "G", &[drawn_word(state), drawn_word(state)])?;
     first.kill(&gone).ok().context("not killed")?;
     second.kill(&gone).ok().context("not killed")

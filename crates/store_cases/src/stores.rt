@@ -80,13 +80,8 @@ pub const ACCOUNT: &str = "ALICE";
 
 /// The key of a global of ALICE.
 pub fn node(alloc: Global, name: &str, subs: &[&str]) -> anyhow::Result<NodeKey> {
-    let subs = texts_of(alloc, subs)?;
-    key_of(
-        alloc,
-        &text_of(alloc, ACCOUNT)?,
-        &text_of(alloc, name)?,
-        &subs,
-    )
+    let (account, name) = (text_of(alloc, ACCOUNT)?, text_of(alloc, name)?);
+    key_of(alloc, &account, &name, &texts_of(alloc, subs)?)
 }
 
 /// Puts a text at a node.
@@ -112,8 +107,14 @@ pub fn call<S: NodeStore>(store: &mut S, alloc: Global, case: &str) -> anyhow::R
                 .context("not killed")?;
         }
         ["get", name, subs @ ..] => push_text(store, &node(alloc, name, subs)?, &mut out)?,
-        ["walk", name, subs @ ..] => push_walk(store, alloc, &node(alloc, name, subs)?, &mut out)?,
-        ["back", name, subs @ ..] => push_back(store, alloc, &node(alloc, name, subs)?, &mut out)?,
+        ["walk", name, subs @ ..] => {
+            let key = node(alloc, name, subs)?;
+            push_walk(store, alloc, &key, Direction::Forward, &mut out)?;
+        }
+        ["back", name, subs @ ..] => {
+            let key = node(alloc, name, subs)?;
+            push_walk(store, alloc, &key, Direction::Backward, &mut out)?;
+        }
         [what, name, subs @ ..] => return asked(store, alloc, what, name, subs),
         _ => anyhow::bail!("no call on stores"),
     }
@@ -167,39 +168,31 @@ fn push_last(alloc: Global, bytes: &[u8], out: &mut Vec<u8>) -> anyhow::Result<(
     Ok(())
 }
 
-// Adds the last subscripts of the nodes below one, forward; what is below each is passed over.
+// Adds the last subscripts of the nodes below one: forward, where what is below each is passed over, or backward, with what is below each.
 fn push_walk<S: NodeStore>(
     store: &mut S,
     alloc: Global,
     key: &NodeKey,
+    direction: Direction,
     out: &mut Vec<u8>,
 ) -> anyhow::Result<()> {
-    let (mut low, high) = key.child_bounds(alloc)?;
+    let (mut low, mut high) = key.child_bounds(alloc)?;
     for _ in 0..100 {
-        let Some(found) = store.next(&low, &high).ok().context("not read")? else {
+        let found = match direction {
+            Direction::Forward => store.next(&low, &high),
+            Direction::Backward => store.prev(&low, &high),
+        };
+        let Some(found) = found.ok().context("not read")? else {
             return Ok(());
         };
         push_last(alloc, &found, out)?;
-        low = found;
-        low.push(b'\x03')?;
-    }
-    Ok(())
-}
-
-// The same backward, with what is below each.
-fn push_back<S: NodeStore>(
-    store: &mut S,
-    alloc: Global,
-    key: &NodeKey,
-    out: &mut Vec<u8>,
-) -> anyhow::Result<()> {
-    let (low, mut high) = key.child_bounds(alloc)?;
-    for _ in 0..100 {
-        let Some(found) = store.prev(&low, &high).ok().context("not read")? else {
-            return Ok(());
-        };
-        push_last(alloc, &found, out)?;
-        high = found;
+        match direction {
+            Direction::Forward => {
+                low = found;
+                low.push(b'\x03')?;
+            }
+            Direction::Backward => high = found,
+        }
     }
     Ok(())
 }

@@ -8,6 +8,7 @@
 #![tactic(auto)]
 
 use anyhow::Context;
+use line_cases::Lines;
 use mtranscript::{Block, blocks_of, print};
 use std::io::Write;
 use std::{env, fs, io};
@@ -72,31 +73,35 @@ fn play_lines(
     cases: &[&str],
     out: &mut Vec<u8>,
 ) -> anyhow::Result<()> {
-    let settings = match kind {
-        "lines" | "replies" | "references" | "devices" => "one_account.toml",
+    let (settings, account) = match kind {
+        "lines" | "replies" | "references" | "devices" => ("one_account.toml", "ALICE"),
         "terminals"
         | "told"
         | "connections"
         | "told_failing"
         | "cached_lines"
         | "outsiders"
-        | "stops" => { "three_terminals.toml" }
-        "accounts" => "four_accounts.toml",
+        | "stops" => { ("three_terminals.toml", "BOB") }
+        "accounts" => ("four_accounts.toml", "ALICE"),
         _ => anyhow::bail!("no such kind of block"),
     };
     let document = fs::read(rt, settings)?;
+    let alloc = rt.alloc();
+    let block = Lines {
+        document: document.as_slice(),
+        account: account.as_bytes(),
+        cases,
+    };
     match kind {
-        "told" | "told_failing" => {
-            line_cases::play_told(rt.alloc(), &document, b"BOB", cases, out)
-        }
-        "cached_lines" => line_cases::play_cached_lines(rt.alloc(), &document, cases, out),
-        "outsiders" => line_cases::play_outsiders(rt.alloc(), &document, cases, out),
-        "stops" => line_cases::play_stops(rt.alloc(), &document, cases, out),
-        "connections" => line_cases::play_connections(rt.alloc(), &document, cases, out),
-        "devices" => line_cases::play_devices(rt.alloc(), &document, cases, out),
-        "replies" => line_cases::play_replies(rt.alloc(), &document, cases, out),
-        "references" => line_cases::play_references(rt.alloc(), &document, b"ALICE", cases, out),
-        _ => line_cases::play_lines(rt.alloc(), &document, cases, out),
+        "told" | "told_failing" => line_cases::play_told(alloc, &block, out),
+        "cached_lines" => line_cases::play_cached_lines(alloc, &block, out),
+        "outsiders" => line_cases::play_outsiders(alloc, &block, out),
+        "stops" => line_cases::play_stops(alloc, &block, out),
+        "connections" => line_cases::play_connections(alloc, &block, out),
+        "devices" => line_cases::play_devices(alloc, &block, out),
+        "replies" => line_cases::play_replies(alloc, &block, out),
+        "references" => line_cases::play_references(alloc, &block, out),
+        _ => line_cases::play_lines(alloc, &block, out),
     }
 }
 

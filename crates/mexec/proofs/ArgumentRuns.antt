@@ -8,7 +8,6 @@ use Rattle.mgrammar.specs.Grammar.{ExprTree, ArgTree, assign, breaks, shown, kil
 use Rattle.mmeaning.specs.Expression.{inside}
 use Rattle.mmeaning.specs.LineMeaning as meaning
 use Rattle.mmeaning.specs.LineMeaning.{Position, Context, Go_on, after, argument, arguments, context, doing, executing, holds, inside_of}
-use Rattle.mmeaning.specs.Frames.{View}
 use Rattle.mmeaning.proofs.Calls.{assoc, ended}
 use Rattle.mtree.specs.Tree.{arg_tree}
 use Rattle.mtree.specs.declared.tree.Arg.{Arg}
@@ -20,9 +19,10 @@ use Rattle.mexec.specs.declared.arguments.Begun.{Begun}
 use Rattle.mexec.specs.declared.arguments.Begun.TheVariants as begun
 use Rattle.mexec.specs.declared.completion.Completion.{Completion}
 use Rattle.mexec.specs.declared.completion.Completion.TheVariants as completion
-use Rattle.mexec.specs.Frames.{Runs, completion_of}
+use Rattle.mexec.specs.Frames.{completion_of}
+use Rattle.mexec.specs.Fronts.{behind, args_started, begun_of}
 use Rattle.mexec.specs.Arguments.{Start, gave, into_lines, into_text, started, finished, start_of, given, where_applies}
-use Rattle.mexec.proofs.Calls.{at_then, at_failed, at_gives, runs_then, runs_stopped, runs_as}
+use Rattle.mexec.proofs.Calls.{at_then, at_failed, at_stopped, at_gives}
 
 -- ---- acts
 
@@ -40,7 +40,7 @@ module _ (x : Context) where
       either true = sym is
       either false = refl
 
-  argument_is : (a : ArgTree) → ◌≡◌ {A = Act meaning.Completion} (argument x a) (started x a >>= finished x)
+  pub argument_is : (a : ArgTree) → ◌≡◌ {A = Act meaning.Completion} (argument x a) (started x a >>= finished x)
   argument_is (assign d e) = plain (argument x (assign d e))
   argument_is (breaks n) = plain (argument x (breaks n))
   argument_is (shown e) = plain (argument x (shown e))
@@ -55,13 +55,6 @@ module _ (x : Context) where
   argument_is (executed e c) = entered c (into_text e) (executing x e) refl
   argument_is (locked k names t) = plain (argument x (locked k names t))
   argument_is (indirect_args f p) = refl
-
-  -- what follows, once it is known what an argument leaves to be done
-  abbrev pub then_more : List ArgTree → Start → Act meaning.Completion
-  then_more rest st = finished x st >>= (λ s. after s (arguments x rest))
-
-  next_is : (a : ArgTree) (rest : List ArgTree) → ◌≡◌ {A = Act meaning.Completion} (arguments x (a ∷ rest)) (started x a >>= then_more rest)
-  next_is a rest = ap (λ (q : Act meaning.Completion). q >>= (λ s. after s (arguments x rest))) (argument_is a) ∙ assoc (started x a) (finished x) (λ s. after s (arguments x rest))
 
 -- ---- calls
 
@@ -78,17 +71,15 @@ module _ {S : Type 0} {g : Ghosts S} where
 
   module _ (p : Position) (all : List Arg) (k : ℕ) (x : Arg) (less : k < length all) (is : x ≡ get_or all k x) where
     -- an argument is begun, and then those behind it go on
-    pub argument_runs : {o : Begun} {fs fs' : List View} {old mid new : Parts S} {r : Result Completion Code} → DoesAt g (λ a n. started (context a n p) (arg_tree x)) start_of old (Ok o) mid → mid.eval.steps ≤ old.eval.steps
-        → Runs g (λ a n. then_more (context a n p) (map arg_tree (drop (k + 1) all)) (start_of o)) fs mid r fs' new
-        → Runs g (λ a n. arguments (context a n p) (map arg_tree (drop k all))) fs old r fs' new
-    argument_runs {fs = fs} {fs' = fs'} {old = old} {new = new} {r = r} does few then_runs =
-        subst (λ (xs : List Arg). Runs g (λ a n. arguments (context a n p) (map arg_tree xs)) fs old r fs' new) (sym (next_item all k x less is))
-        (runs_as (λ a n. next_is (context a n p) (arg_tree x) (map arg_tree (drop (k + 1) all)))
-        (runs_then (λ a n. then_more (context a n p) (map arg_tree (drop (k + 1) all))) does few then_runs))
+    pub argument_begins : {o : Begun} {old mid new : Parts S} {r : Result (Begun × ℕ) Code} → DoesAt g (λ a n. started (context a n p) (arg_tree x)) start_of old (Ok o) mid
+        → DoesAt g (λ a n. behind (start_of o) (map arg_tree (drop (k + 1) all)) (args_started (context a n p) (map arg_tree (drop (k + 1) all)))) (begun_of all) mid r new
+        → DoesAt g (λ a n. args_started (context a n p) (map arg_tree (drop k all))) (begun_of all) old r new
+    argument_begins {old = old} {new = new} {r = r} does then_does =
+        subst (λ (xs : List Arg). DoesAt g (λ a n. args_started (context a n p) (map arg_tree xs)) (begun_of all) old r new) (sym (next_item all k x less is))
+        (at_then (λ a n st. behind st (map arg_tree (drop (k + 1) all)) (args_started (context a n p) (map arg_tree (drop (k + 1) all)))) does then_does)
 
-    pub argument_stopped : {fs fs' : List View} {old new : Parts S} {r : Result Completion Code} {e : Code} → DoesAt g (λ a n. started (context a n p) (arg_tree x)) start_of old (Err e) new → new.eval.steps ≤ old.eval.steps
-        → IsErr r × IsErrAnd r (λ x. x ≡ e) → Runs g (λ a n. arguments (context a n p) (map arg_tree (drop k all))) fs old r fs' new
-    argument_stopped {fs = fs} {fs' = fs'} {old = old} {new = new} {r = r} does few h =
-        subst (λ (xs : List Arg). Runs g (λ a n. arguments (context a n p) (map arg_tree xs)) fs old r fs' new) (sym (next_item all k x less is))
-        (runs_as (λ a n. next_is (context a n p) (arg_tree x) (map arg_tree (drop (k + 1) all)))
-        (runs_stopped (λ a n. then_more (context a n p) (map arg_tree (drop (k + 1) all))) does few h))
+    pub argument_stopped : {old new : Parts S} {r : Result (Begun × ℕ) Code} {e : Code} → DoesAt g (λ a n. started (context a n p) (arg_tree x)) start_of old (Err e) new → IsErr r × IsErrAnd r (λ x. x ≡ e)
+        → DoesAt g (λ a n. args_started (context a n p) (map arg_tree (drop k all))) (begun_of all) old r new
+    argument_stopped {old = old} {new = new} {r = r} does h =
+        subst (λ (xs : List Arg). DoesAt g (λ a n. args_started (context a n p) (map arg_tree xs)) (begun_of all) old r new) (sym (next_item all k x less is))
+        (at_stopped (λ a n st. behind st (map arg_tree (drop (k + 1) all)) (args_started (context a n p) (map arg_tree (drop (k + 1) all)))) does h)

@@ -1,0 +1,159 @@
+// SPDX-License-Identifier: Apache-2.0
+// The commands of a line, one after another, as far as they need no frame.
+ghost use Rattle.std.specs.Prelude.{◌≡◌, ◌≤◌, ◌<◌, [], map, IfOk};
+ghost use Rattle.mmeaning.specs.LineMeaning as meaning;
+ghost use Rattle.mmeaning.specs.LineMeaning.{context};
+ghost use Rattle.mtree.specs.Tree.{arg_tree, command_tree, keyword_tree};
+ghost use Rattle.mcommand.specs.Does.{DoesAt, KeepsLoans};
+ghost use Rattle.mexec.specs.Frames.{commands_from, position_of};
+ghost use Rattle.mexec.specs.Loops.{args_before};
+ghost use Rattle.mexec.specs.Fronts as fronts;
+ghost use Rattle.mexec.specs.Fronts.{StopsIn, UnlessOver, command_started, effect_started, ends, front_of, stop_of, stops_at, word_started};
+
+use crate::arguments::{Begun, arguments_begun};
+use crate::commands::{charge, holds, went_on, where_true};
+use crate::completion::Completion;
+use crate::frames::Position;
+use mcommand::Parts;
+use mnum::Name;
+use moperator::Code;
+use mstore::NodeStore;
+use mtree::{Arg, Command, Keyword, Line, Parameter};
+use std::alloc::Global;
+
+// Where a command stops: not at all, once it has given its completion; at an argument that has begun, before those from one on; at a FOR
+// with its index and its parameters; at one without an index; or at the block of a DO.
+#[derive(Drop)]
+pub(crate) enum Stop<'t> {
+    Over(Completion),
+    Argument(Begun<'t>, usize),
+    Loop(&'t Name, &'t [Parameter]),
+    Turns,
+    Block,
+}
+
+// A command that gave its completion.
+fn over<'t>(completion: Result<Completion, Code>) -> Result<Stop<'t>, Code>
+    ensures { result ≡ ends completion }
+{
+    match completion {
+        Ok(completion) => Ok(Stop::Over(completion)),
+        Err(code) => Err(code),
+    }
+}
+
+// A command that is at an argument.
+fn stopped<'t>(begun: Result<(Begun<'t>, usize), Code>) -> Result<Stop<'t>, Code>
+    ensures { result ≡ stops_at begun.entry }
+{
+    match begun {
+        Ok((begun, at)) => match begun {
+            Begun::Gave(completion) => Ok(Stop::Over(completion)),
+            begun => Ok(Stop::Argument(begun, at)),
+        },
+        Err(code) => Err(code),
+    }
+}
+
+// What a command does that has no arguments.
+fn bare<'t, S: NodeStore>(
+    alloc: Global,
+    parts: &mut Parts<S>,
+    keyword: Keyword,
+) -> Result<Stop<'t>, Code>
+    ensures loans { KeepsLoans parts.old parts.new }
+    ensures fewer { parts.new.eval.steps ≤ parts.old.eval.steps }
+    ensures turns { IfOk result (λ stop. StopsIn [] stop) }
+    ensures does { (p : meaning.Position) → DoesAt S.NodeStore (λ a n. word_started (context a n p) (keyword_tree keyword)) (stop_of []) parts.old result parts.new }
+{
+    match keyword {
+        Keyword::For => Ok(Stop::Turns),
+        Keyword::Do => Ok(Stop::Block),
+        Keyword::Set => over(Ok(Completion::GoOn)),
+        Keyword::Kill => {
+            parts.eval.kill_others(&[]);
+            over(Ok(Completion::GoOn))
+        }
+        Keyword::New => over(went_on(parts.eval.hide_others(alloc, &[]))),
+        Keyword::If => over(Ok(where_true(parts.eval.test()))),
+        Keyword::Else => over(Ok(where_true(!parts.eval.test()))),
+        Keyword::Quit => over(Ok(Completion::Quits)),
+        Keyword::Write => over(Ok(Completion::GoOn)),
+        Keyword::Goto => over(Ok(Completion::GoOn)),
+        Keyword::Execute => over(Ok(Completion::GoOn)),
+        Keyword::Lock => {
+            parts.release();
+            over(Ok(Completion::GoOn))
+        }
+        Keyword::Halt => over(Ok(Completion::Halts)),
+    }
+}
+
+// What a command does where its condition holds.
+fn effect<'t, S: NodeStore>(
+    alloc: Global,
+    parts: &mut Parts<S>,
+    position: &Position,
+    command: &'t Command,
+) -> Result<Stop<'t>, Code>
+    ensures loans { KeepsLoans parts.old parts.new }
+    ensures fewer { parts.new.eval.steps ≤ parts.old.eval.steps }
+    ensures stops { IfOk result (λ stop. StopsIn command.now.args.items stop) }
+    ensures does { DoesAt S.NodeStore (λ a n. effect_started (context a n (position_of position.now)) (keyword_tree command.now.keyword) (map arg_tree command.now.args.items)) (stop_of command.now.args.items) parts.old result parts.new }
+{
+    match command.args.first() {
+        None => bare(alloc, parts, command.keyword),
+        Some(first) => match first {
+            Arg::Loop(index, parameters) => Ok(Stop::Loop(index, parameters.as_slice())),
+            _ => stopped(arguments_begun(alloc, parts, position, &command.args, 0)),
+        },
+    }
+}
+
+// What a command does.
+fn command<'t, S: NodeStore>(
+    alloc: Global,
+    parts: &mut Parts<S>,
+    position: &Position,
+    command: &'t Command,
+) -> Result<Stop<'t>, Code>
+    ensures loans { KeepsLoans parts.old parts.new }
+    ensures fewer { parts.new.eval.steps ≤ parts.old.eval.steps }
+    ensures stops { IfOk result (λ stop. StopsIn command.now.args.items stop) }
+    ensures does { DoesAt S.NodeStore (λ a n. command_started (context a n (position_of position.now)) (command_tree command.now)) (stop_of command.now.args.items) parts.old result parts.new }
+{
+    let applies = holds(alloc, parts, position.depth, &command.condition)?;
+    if applies {
+        effect(alloc, parts, position, command)
+    } else {
+        Ok(Stop::Over(Completion::GoOn))
+    }
+}
+
+// The commands of a line from one on, as long as each goes on with the next: where the last of them stops, and the place behind it.
+pub(crate) fn front<'t, S: NodeStore>(
+    alloc: Global,
+    parts: &mut Parts<S>,
+    position: &Position,
+    line: &'t Line,
+    from: usize,
+) -> Result<(Stop<'t>, usize), Code>
+    ensures loans { KeepsLoans parts.old parts.new }
+    ensures fewer { parts.new.eval.steps ≤ parts.old.eval.steps }
+    ensures spent { IfOk result (λ x. UnlessOver x.0 (parts.new.eval.steps < parts.old.eval.steps)) }
+    ensures stops { IfOk result (λ x. StopsIn (args_before line.now x.1) x.0) }
+    ensures does { DoesAt S.NodeStore (λ a n. fronts.front (context a n (position_of position.now)) (commands_from line.now from)) (front_of line.now) parts.old result parts.new }
+{
+    let mut at = from;
+    while at < line.commands.len() {
+        charge(parts)?;
+        match command(alloc, parts, position, &line.commands[at].command)? {
+            Stop::Over(completion) => match completion {
+                Completion::GoOn => at += 1,
+                other => return Ok((Stop::Over(other), at + 1)),
+            },
+            stop => return Ok((stop, at + 1)),
+        }
+    }
+    Ok((Stop::Over(Completion::GoOn), at))
+}

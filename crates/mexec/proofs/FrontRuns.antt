@@ -4,10 +4,9 @@ use Rattle.std.proofs.Common.{◌≡◌, ℕ, zero, suc, ◌+◌, ◌*◌, ◌-�
 use Rattle.std.specs.Result.{IsErr, IsErrAnd, IfOk}
 use Rattle.mspec.specs.Act.{Text, Act, ◌>>=◌, ◌>>◌, give, charge}
 use Rattle.mspec.proofs.ListPlaces.{next_item}
-use Rattle.mgrammar.specs.Grammar.{KeywordTree, set_word, kill_word, new_word, if_word, else_word, for_word, quit_word, write_word, do_word, goto_word, execute_word, lock_word, halt_word, ArgTree, assign, breaks, shown, kill_one, kill_others, new_one, new_others, tested, loop, do_one, go_to, executed, locked, indirect_args, CommandTree}
+use Rattle.mgrammar.specs.Grammar.{KeywordTree, for_word, do_word, ArgTree, loop, CommandTree}
 use Rattle.mmeaning.specs.LineMeaning as meaning
-use Rattle.mmeaning.specs.LineMeaning.{Position, Context, Turning, Go_on, Skips, Quits, Goes, Halts, after, argument, arguments, bare, commands, conditional, context, effect, holds, inside_of}
-use Rattle.mmeaning.specs.Frames as frames
+use Rattle.mmeaning.specs.LineMeaning.{Position, Context, Turning, Go_on, after, arguments, bare, commands, conditional, context, effect, holds, inside_of}
 use Rattle.mmeaning.specs.Frames.{View}
 use Rattle.mmeaning.proofs.Calls.{assoc, ended}
 use Rattle.mtree.specs.Tree.{arg_tree, command_tree, spaced_tree}
@@ -21,16 +20,16 @@ use Rattle.mcommand.specs.declared.parts.Parts.{Parts}
 use Rattle.mcommand.specs.Does.{DoesAt}
 use Rattle.mexec.specs.declared.completion.Completion.{Completion}
 use Rattle.mexec.specs.declared.completion.Completion.TheVariants as completion
-use Rattle.mexec.specs.declared.front.Stop as stops
-use Rattle.mexec.specs.declared.front.Stop.TheVariants as stop
+use Rattle.mexec.specs.declared.front.Outcome as the_outcome
+use Rattle.mexec.specs.declared.front.Outcome.TheVariants as outcome
 use Rattle.mexec.specs.declared.arguments.Begun.{Begun}
 use Rattle.mexec.specs.declared.arguments.Begun.TheVariants as begun
-use Rattle.mexec.specs.Arguments.{Start, gave, into_lines, into_text, into_given, started, finished, start_of}
+use Rattle.mexec.specs.Arguments.{Start, gave, enters, started, finished, start_of}
 use Rattle.mexec.specs.Frames.{Runs, commands_from, completion_of}
-use Rattle.mexec.specs.Fronts.{Stop, over, at_argument, at_loop, at_turns, at_block, behind, args_started, args_left, stop_at, word_started, effect_started, command_started, finishes, behind_command, front, resumed, line_left, begun_of, stop_of, front_of, StopsIn, UnlessOver, ends, at_begun, stops_at, turn_ends, turn_left}
+use Rattle.mexec.specs.Fronts.{Outcome, over, behind, args_started, args_left, args_outcome, word_started, effect_started, command_started, finishes, behind_command, front, line_left, begun_of, outcome_of, front_of, StopsIn, IfStops, ends, at_begun, stops_at, turn_ends, turn_left}
 use Rattle.mexec.specs.Loops.{args_before}
 use Rattle.mexec.proofs.ArgumentRuns.{argument_is}
-use Rattle.mexec.proofs.Calls.{at_then, at_failed, at_stopped, at_gives, at_as, runs_then, runs_stopped, runs_as, runs_spent, runs_frame, some_item}
+use Rattle.mexec.proofs.Calls.{at_then, at_failed, at_stopped, at_gives, at_as, runs_then, runs_stopped, runs_as, some_item}
 
 -- ---- acts
 
@@ -38,13 +37,7 @@ module _ (x : Context) where
   behind_is : (st : Start) (more : List ArgTree) → ◌≡◌ {A = Act meaning.Completion} (arguments x more) (args_started x more >>= (λ w. args_left x w.0 w.1))
       → ◌≡◌ {A = Act meaning.Completion} (finished x st >>= (λ s. after s (arguments x more))) (behind st more (args_started x more) >>= (λ w. args_left x w.0 w.1))
   behind_is (gave Go_on) more e = e
-  behind_is (gave Skips) more e = refl
-  behind_is (gave Quits) more e = refl
-  behind_is (gave (Goes t)) more e = refl
-  behind_is (gave Halts) more e = refl
-  behind_is (into_lines e) more h = refl
-  behind_is (into_text e) more h = refl
-  behind_is (into_given f p) more h = refl
+  behind_is st more e = refl
 
   pub arguments_is : (args : List ArgTree) → ◌≡◌ {A = Act meaning.Completion} (arguments x args) (args_started x args >>= (λ w. args_left x w.0 w.1))
   arguments_is [] = refl
@@ -54,50 +47,22 @@ module _ (x : Context) where
       ∙ (λ i. started x a >>= (λ st. behind_is st more (arguments_is more) i))
       ∙ sym (assoc (started x a) (λ st. behind st more (args_started x more)) (λ w. args_left x w.0 w.1))
 
-  plain_word : (p : Act meaning.Completion) (rest : List CommandTree) → ◌≡◌ {A = Act meaning.Completion} p (p >>= (λ s. give (over s)) >>= finishes x rest)
-  plain_word p rest = sym (assoc p (λ s. give (over s)) (finishes x rest) ∙ ended p)
-
   word_is : (k : KeywordTree) (rest : List CommandTree) → ◌≡◌ {A = Act meaning.Completion} (bare x k rest) (word_started x k >>= finishes x rest)
-  word_is set_word rest = refl
-  word_is kill_word rest = plain_word (bare x kill_word rest) rest
-  word_is new_word rest = plain_word (bare x new_word rest) rest
-  word_is if_word rest = plain_word (bare x if_word rest) rest
-  word_is else_word rest = plain_word (bare x else_word rest) rest
   word_is for_word rest = refl
-  word_is quit_word rest = refl
-  word_is write_word rest = refl
   word_is do_word rest = refl
-  word_is goto_word rest = refl
-  word_is execute_word rest = refl
-  word_is lock_word rest = plain_word (bare x lock_word rest) rest
-  word_is halt_word rest = refl
+  word_is k rest = sym (assoc (bare x k []) (λ s. give (over s)) (finishes x rest) ∙ ended (bare x k []))
 
-  stop_is : (st : Start) (more : List ArgTree) (rest : List CommandTree) → ◌≡◌ {A = Act meaning.Completion} (args_left x st more) (finishes x rest (stop_at st more))
-  stop_is (gave s) more rest = refl
-  stop_is (into_lines e) more rest = refl
-  stop_is (into_text e) more rest = refl
-  stop_is (into_given f p) more rest = refl
-
-  some_args : (args : List ArgTree) (rest : List CommandTree) → ◌≡◌ {A = Act meaning.Completion} (arguments x args) (args_started x args >>= (λ w. give (stop_at w.0 w.1)) >>= finishes x rest)
-  some_args args rest =
-      arguments_is args ∙ (λ i. args_started x args >>= (λ w. stop_is w.0 w.1 rest i)) ∙ sym (assoc (args_started x args) (λ w. give (stop_at w.0 w.1)) (finishes x rest))
+  args_end : (st : Start) (more : List ArgTree) (rest : List CommandTree) → ◌≡◌ {A = Act meaning.Completion} (args_left x st more) (finishes x rest (args_outcome st more))
+  args_end (gave s) more rest = refl
+  args_end (enters e) more rest = refl
 
   effect_is : (k : KeywordTree) (args : List ArgTree) (rest : List CommandTree) → ◌≡◌ {A = Act meaning.Completion} (effect x k args rest) (effect_started x k args >>= finishes x rest)
   effect_is k [] rest = word_is k rest
-  effect_is k (assign d e ∷ more) rest = some_args (assign d e ∷ more) rest
-  effect_is k (breaks n ∷ more) rest = some_args (breaks n ∷ more) rest
-  effect_is k (shown e ∷ more) rest = some_args (shown e ∷ more) rest
-  effect_is k (kill_one r ∷ more) rest = some_args (kill_one r ∷ more) rest
-  effect_is k (kill_others names ∷ more) rest = some_args (kill_others names ∷ more) rest
-  effect_is k (new_one name ∷ more) rest = some_args (new_one name ∷ more) rest
-  effect_is k (new_others names ∷ more) rest = some_args (new_others names ∷ more) rest
-  effect_is k (tested e ∷ more) rest = some_args (tested e ∷ more) rest
   effect_is k (loop index parameters ∷ more) rest = refl
-  effect_is k (do_one e c ∷ more) rest = some_args (do_one e c ∷ more) rest
-  effect_is k (go_to e c ∷ more) rest = some_args (go_to e c ∷ more) rest
-  effect_is k (executed e c ∷ more) rest = some_args (executed e c ∷ more) rest
-  effect_is k (locked kind names t ∷ more) rest = some_args (locked kind names t ∷ more) rest
-  effect_is k (indirect_args f p ∷ more) rest = some_args (indirect_args f p ∷ more) rest
+  effect_is k (a ∷ more) rest =
+      arguments_is (a ∷ more)
+      ∙ (λ i. args_started x (a ∷ more) >>= (λ w. args_end w.0 w.1 rest i))
+      ∙ sym (assoc (args_started x (a ∷ more)) (λ w. give (args_outcome w.0 w.1)) (finishes x rest))
 
   conditional_is : (c : CommandTree) (rest : List CommandTree) → ◌≡◌ {A = Act meaning.Completion} (conditional x c rest) (command_started x c >>= finishes x rest)
   conditional_is c rest =
@@ -107,84 +72,41 @@ module _ (x : Context) where
       either true = sym (effect_is c.keyword c.args rest)
       either false = refl
 
-  behind_command_is : (st : Stop) (rest : List CommandTree) → ◌≡◌ {A = Act meaning.Completion} (commands x rest) (front x rest >>= (λ w. line_left x w.0 w.1))
-      → ◌≡◌ {A = Act meaning.Completion} (resumed x st rest) (behind_command st rest (front x rest) >>= (λ w. line_left x w.0 w.1))
+  behind_command_is : (o : Outcome) (rest : List CommandTree) → ◌≡◌ {A = Act meaning.Completion} (commands x rest) (front x rest >>= (λ w. line_left x w.0 w.1))
+      → ◌≡◌ {A = Act meaning.Completion} (finishes x rest o >>= (λ s. after s (commands x rest))) (behind_command o rest (front x rest) >>= (λ w. line_left x w.0 w.1))
   behind_command_is (over Go_on) rest e = e
-  behind_command_is (over Skips) rest e = refl
-  behind_command_is (over Quits) rest e = refl
-  behind_command_is (over (Goes t)) rest e = refl
-  behind_command_is (over Halts) rest e = refl
-  behind_command_is (at_argument st more) rest e = refl
-  behind_command_is (at_loop index parameters) rest e = refl
-  behind_command_is at_turns rest e = refl
-  behind_command_is at_block rest e = refl
+  behind_command_is o rest e = refl
 
   pub commands_is : (cs : List CommandTree) → ◌≡◌ {A = Act meaning.Completion} (commands x cs) (front x cs >>= (λ w. line_left x w.0 w.1))
   commands_is [] = refl
   commands_is (c ∷ rest) =
       (λ i. charge >> (conditional_is c rest i >>= (λ s. after s (commands x rest))))
       ∙ (λ i. charge >> assoc (command_started x c) (finishes x rest) (λ s. after s (commands x rest)) i)
-      ∙ (λ i. charge >> (command_started x c >>= (λ st. behind_command_is st rest (commands_is rest) i)))
-      ∙ (λ i. charge >> sym (assoc (command_started x c) (λ st. behind_command st rest (front x rest)) (λ w. line_left x w.0 w.1)) i)
-      ∙ sym (assoc charge (λ _. command_started x c >>= (λ st. behind_command st rest (front x rest))) (λ w. line_left x w.0 w.1))
+      ∙ (λ i. charge >> (command_started x c >>= (λ o. behind_command_is o rest (commands_is rest) i)))
+      ∙ (λ i. charge >> sym (assoc (command_started x c) (λ o. behind_command o rest (front x rest)) (λ w. line_left x w.0 w.1)) i)
+      ∙ sym (assoc charge (λ _. command_started x c >>= (λ o. behind_command o rest (front x rest))) (λ w. line_left x w.0 w.1))
 
 -- a command whose first argument is not that of a FOR
 pub other_started : (x : Context) (k : KeywordTree) (a : Arg) (more : List ArgTree) → ((index : _) (ps : _) → a ≡ arg.Loop index ps → ⊥)
-    → ◌≡◌ {A = Act Stop} (effect_started x k (arg_tree a ∷ more)) (args_started x (arg_tree a ∷ more) >>= (λ w. give (stop_at w.0 w.1)))
-other_started x k (arg.Assign d e) more h = refl
-other_started x k (arg.Breaks n) more h = refl
-other_started x k (arg.Value e) more h = refl
-other_started x k (arg.KillOne r) more h = refl
-other_started x k (arg.KillOthers names) more h = refl
-other_started x k (arg.NewOne name) more h = refl
-other_started x k (arg.NewOthers names) more h = refl
-other_started x k (arg.Tested e) more h = refl
+    → ◌≡◌ {A = Act Outcome} (effect_started x k (arg_tree a ∷ more)) (args_started x (arg_tree a ∷ more) >>= (λ w. give (args_outcome w.0 w.1)))
 other_started x k (arg.Loop index ps) more h = absurd (h index ps refl)
-other_started x k (arg.DoOne e c) more h = refl
-other_started x k (arg.GoTo e c) more h = refl
-other_started x k (arg.Executed e c) more h = refl
-other_started x k (arg.Lock kind names t) more h = refl
-other_started x k (arg.Indirect word p) more h = refl
+other_started x k a more h = refl
 
 -- a completion that passes what is next
 pub passes_argument : (s : Completion) (more : List ArgTree) (next : Act (Start × List ArgTree)) → (s ≡ completion.GoOn → ⊥)
     → ◌≡◌ {A = Act (Start × List ArgTree)} (behind (gave (completion_of s)) more next) (give (gave (completion_of s), more))
 passes_argument completion.GoOn more next h = absurd (h refl)
-passes_argument completion.Skips more next h = refl
-passes_argument completion.Quits more next h = refl
-passes_argument (completion.Goes t) more next h = refl
-passes_argument completion.Halts more next h = refl
+passes_argument s more next h = refl
 
--- and what an argument enters does
-pub begun_waits : (b : Begun) (more : List ArgTree) (next : Act (Start × List ArgTree)) → ((s : Completion) → b ≡ begun.Gave s → ⊥) → ◌≡◌ {A = Act (Start × List ArgTree)} (behind (start_of b) more next) (give (start_of b, more))
-begun_waits (begun.Gave s) more next h = absurd (h s refl)
-begun_waits (begun.Lines e) more next h = refl
-begun_waits (begun.Text e) more next h = refl
-begun_waits (begun.Indirect k p) more next h = refl
-
-pub stop_waits : (args : List Arg) (st : stops.Stop) (rest : List CommandTree) (next : Act (Stop × List CommandTree)) → ((s : Completion) → st ≡ stop.Over s → ⊥)
-    → ◌≡◌ {A = Act (Stop × List CommandTree)} (behind_command (stop_of args st) rest next) (give (stop_of args st, rest))
-stop_waits args (stop.Over s) rest next h = absurd (h s refl)
-stop_waits args (stop.Argument b at) rest next h = refl
-stop_waits args (stop.Loop index parameters) rest next h = refl
-stop_waits args stop.Turns rest next h = refl
-stop_waits args stop.Block rest next h = refl
-
-pub passes_command : (s : Completion) (rest : List CommandTree) (next : Act (Stop × List CommandTree)) → (s ≡ completion.GoOn → ⊥)
-    → ◌≡◌ {A = Act (Stop × List CommandTree)} (behind_command (over (completion_of s)) rest next) (give (over (completion_of s), rest))
+pub passes_command : (s : Completion) (rest : List CommandTree) (next : Act (Outcome × List CommandTree)) → (s ≡ completion.GoOn → ⊥)
+    → ◌≡◌ {A = Act (Outcome × List CommandTree)} (behind_command (over (completion_of s)) rest next) (give (over (completion_of s), rest))
 passes_command completion.GoOn rest next h = absurd (h refl)
-passes_command completion.Skips rest next h = refl
-passes_command completion.Quits rest next h = refl
-passes_command (completion.Goes t) rest next h = refl
-passes_command completion.Halts rest next h = refl
+passes_command s rest next h = refl
 
 -- what follows a turn
 after_turn_is : (x : Context) (t : Turning) (s : meaning.Completion) → ◌≡◌ {A = Act meaning.Completion} (meaning.after_turn x t s) (turn_left x t (turn_ends s))
 after_turn_is x t Go_on = refl
-after_turn_is x t Skips = refl
-after_turn_is x t Quits = refl
-after_turn_is x t (Goes g) = refl
-after_turn_is x t Halts = refl
+after_turn_is x t s = refl
 
 -- the FOR goes on
 pub turn_goes_on : (x : Context) (t : Turning) (s : meaning.Completion) → None ≡ turn_ends s → ◌≡◌ {A = Act meaning.Completion} (meaning.after_turn x t s) (meaning.after_course x t t.course)
@@ -201,91 +123,68 @@ item_there [] k x less is = absurd (omega arith)
 item_there (y ∷ xs) zero x less is = ap Some (sym is)
 item_there (y ∷ xs) (suc k) x less is = item_there xs k x (omega (arith, less)) is
 
-pub begun_stops : (args : List Arg) (r : Result (Begun × ℕ) Code) → IfOk (stops_at r) (λ st. StopsIn args st)
+-- the arguments before a place are those of the command there
+pub args_there : (l : Line) (k : ℕ) (x : Spaced) → k < length l.commands.items → x ≡ get_or l.commands.items k x → args_before l (k + 1) ≡ x.command.args.items
+args_there l k x less is = let at : (k + 1) - 1 ≡ k = omega arith in rw (at, item_there l.commands.items k x less is) refl
+
+pub begun_stops : (args : List Arg) (r : Result (Begun × ℕ) Code) → IfOk (stops_at r) (λ o. IfStops o (StopsIn args))
 begun_stops args (Ok (begun.Gave s, at)) = tt
-begun_stops args (Ok (begun.Lines e, at)) = tt
-begun_stops args (Ok (begun.Text e, at)) = tt
-begun_stops args (Ok (begun.Indirect k p, at)) = tt
-begun_stops args (Err c) = tt
-
-pub completion_stops : (args : List Arg) (r : Result Completion Code) → IfOk (ends r) (λ st. StopsIn args st)
-completion_stops args (Ok s) = tt
-completion_stops args (Err c) = tt
-
-pub unless_over : (st : stops.Stop) {P : Type 0} → P → UnlessOver st P
-unless_over (stop.Over s) p = tt
-unless_over (stop.Argument b at) p = p
-unless_over (stop.Loop index parameters) p = p
-unless_over stop.Turns p = p
-unless_over stop.Block p = p
-
-pub if_not_over : (st : stops.Stop) {P : Type 0} → UnlessOver st P → ((s : Completion) → st ≡ stop.Over s → ⊥) → P
-if_not_over (stop.Over s) p h = absurd (h s refl)
-if_not_over (stop.Argument b at) p h = p
-if_not_over (stop.Loop index parameters) p h = p
-if_not_over stop.Turns p h = p
-if_not_over stop.Block p h = p
+begun_stops args r = tt
 
 -- a step that was spent pays for the frames that are left
 pub falls_spent : {X E : Type 0} (k new mid old frames left : ℕ) (r : Result X E) → mid < old → k ≤ 6 → IfOk r (λ _. 6 * new + frames ≤ 6 * mid + left + k) → IfOk r (λ _. 6 * new + frames ≤ 6 * old + left)
 falls_spent k new mid old frames left (Ok x) less few h = omega (arith, less, few, h)
 falls_spent k new mid old frames left (Err e) less few h = tt
 
-begun_is : (args : List Arg) (b : Begun) (at : ℕ) → stop_of args (at_begun b at) ≡ stop_at (start_of b) (map arg_tree (drop at args))
+begun_is : (args : List Arg) (b : Begun) (at : ℕ) → outcome_of args (at_begun b at) ≡ args_outcome (start_of b) (map arg_tree (drop at args))
 begun_is args (begun.Gave s) at = refl
-begun_is args (begun.Lines e) at = refl
-begun_is args (begun.Text e) at = refl
-begun_is args (begun.Indirect k p) at = refl
+begun_is args (begun.Enters e) at = refl
 
 -- ---- calls
 
 module _ {S : Type 0} {g : Ghosts S} where
   -- a word that gives its completion
-  pub gives_over : {p : Text → ℕ → Act meaning.Completion} {old new : Parts S} (args : List Arg) (r : Result Completion Code) → DoesAt g p completion_of old r new → DoesAt g (λ a n. p a n >>= (λ s. give (over s))) (stop_of args) old (ends r) new
-  gives_over args (Ok s) d = at_then (λ a n s. give (over s)) d (at_gives (over (completion_of s)) (stop_of args) (stop.Over s) refl)
+  pub gives_over : {p : Text → ℕ → Act meaning.Completion} {old new : Parts S} (args : List Arg) (r : Result Completion Code) → DoesAt g p completion_of old r new → DoesAt g (λ a n. p a n >>= (λ s. give (over s))) (outcome_of args) old (ends r) new
+  gives_over args (Ok s) d = at_then (λ a n s. give (over s)) d (at_gives (over (completion_of s)) (outcome_of args) (outcome.Over s) refl)
   gives_over args (Err c) d = at_failed (λ a n s. give (over s)) d
 
   -- arguments that have begun
   pub gives_stop : {p : Text → ℕ → Act (Start × List ArgTree)} {old new : Parts S} (args : List Arg) (r : Result (Begun × ℕ) Code) → DoesAt g p (begun_of args) old r new
-      → DoesAt g (λ a n. p a n >>= (λ w. give (stop_at w.0 w.1))) (stop_of args) old (stops_at r) new
-  gives_stop args (Ok (b, at)) d = at_then (λ a n w. give (stop_at w.0 w.1)) d (at_gives (stop_at (start_of b) (map arg_tree (drop at args))) (stop_of args) (at_begun b at) (begun_is args b at))
-  gives_stop args (Err c) d = at_failed (λ a n w. give (stop_at w.0 w.1)) d
+      → DoesAt g (λ a n. p a n >>= (λ w. give (args_outcome w.0 w.1))) (outcome_of args) old (stops_at r) new
+  gives_stop args (Ok (b, at)) d = at_then (λ a n w. give (args_outcome w.0 w.1)) d (at_gives (args_outcome (start_of b) (map arg_tree (drop at args))) (outcome_of args) (at_begun b at) (begun_is args b at))
+  gives_stop args (Err c) d = at_failed (λ a n w. give (args_outcome w.0 w.1)) d
 
 module _ {S : Type 0} {g : Ghosts S} (p : Position) (l : Line) (k : ℕ) (x : Spaced) (less : k < length l.commands.items) (is : x ≡ get_or l.commands.items k x) where
   -- a command is done up to where it stops, and then those behind it go on
-  pub command_begins : {X : Type 0} {f : X → Unit {0}} {u : X} {st : stops.Stop} {old mid next new : Parts S} {r : Result (stops.Stop × ℕ) Code} → DoesAt g (λ a n. charge) f old (Ok u) mid
-      → DoesAt g (λ a n. command_started (context a n p) (command_tree x.command)) (stop_of x.command.args.items) mid (Ok st) next
-      → DoesAt g (λ a n. behind_command (stop_of x.command.args.items st) (commands_from l (k + 1)) (front (context a n p) (commands_from l (k + 1)))) (front_of l) next r new
+  pub command_begins : {X : Type 0} {f : X → Unit {0}} {u : X} {o : the_outcome.Outcome} {old mid next new : Parts S} {r : Result (the_outcome.Outcome × ℕ) Code} → DoesAt g (λ a n. charge) f old (Ok u) mid
+      → DoesAt g (λ a n. command_started (context a n p) (command_tree x.command)) (outcome_of x.command.args.items) mid (Ok o) next
+      → DoesAt g (λ a n. behind_command (outcome_of x.command.args.items o) (commands_from l (k + 1)) (front (context a n p) (commands_from l (k + 1)))) (front_of l) next r new
       → DoesAt g (λ a n. front (context a n p) (commands_from l k)) (front_of l) old r new
   command_begins {old = old} {new = new} {r = r} c does then_does =
       subst (λ (xs : List Spaced). DoesAt g (λ a n. front (context a n p) (map (λ c. c.0) (map spaced_tree xs))) (front_of l) old r new) (sym (next_item l.commands.items k x less is))
-      (at_then (λ a n _. command_started (context a n p) (command_tree x.command) >>= (λ st. behind_command st (commands_from l (k + 1)) (front (context a n p) (commands_from l (k + 1))))) c
-      (at_then (λ a n st. behind_command st (commands_from l (k + 1)) (front (context a n p) (commands_from l (k + 1)))) does then_does))
+      (at_then (λ a n _. command_started (context a n p) (command_tree x.command) >>= (λ o. behind_command o (commands_from l (k + 1)) (front (context a n p) (commands_from l (k + 1))))) c
+      (at_then (λ a n o. behind_command o (commands_from l (k + 1)) (front (context a n p) (commands_from l (k + 1)))) does then_does))
 
-  pub command_stopped : {X : Type 0} {f : X → Unit {0}} {u : X} {old mid new : Parts S} {r : Result (stops.Stop × ℕ) Code} {e : Code} → DoesAt g (λ a n. charge) f old (Ok u) mid
-      → DoesAt g (λ a n. command_started (context a n p) (command_tree x.command)) (stop_of x.command.args.items) mid (Err e) new → IsErr r × IsErrAnd r (λ x. x ≡ e)
+  pub command_stopped : {X : Type 0} {f : X → Unit {0}} {u : X} {old mid new : Parts S} {r : Result (the_outcome.Outcome × ℕ) Code} {e : Code} → DoesAt g (λ a n. charge) f old (Ok u) mid
+      → DoesAt g (λ a n. command_started (context a n p) (command_tree x.command)) (outcome_of x.command.args.items) mid (Err e) new → IsErr r × IsErrAnd r (λ x. x ≡ e)
       → DoesAt g (λ a n. front (context a n p) (commands_from l k)) (front_of l) old r new
   command_stopped {old = old} {new = new} {r = r} c does h =
       subst (λ (xs : List Spaced). DoesAt g (λ a n. front (context a n p) (map (λ c. c.0) (map spaced_tree xs))) (front_of l) old r new) (sym (next_item l.commands.items k x less is))
-      (at_then (λ a n _. command_started (context a n p) (command_tree x.command) >>= (λ st. behind_command st (commands_from l (k + 1)) (front (context a n p) (commands_from l (k + 1))))) c
-      (at_stopped (λ a n st. behind_command st (commands_from l (k + 1)) (front (context a n p) (commands_from l (k + 1)))) does h))
+      (at_then (λ a n _. command_started (context a n p) (command_tree x.command) >>= (λ o. behind_command o (commands_from l (k + 1)) (front (context a n p) (commands_from l (k + 1))))) c
+      (at_stopped (λ a n o. behind_command o (commands_from l (k + 1)) (front (context a n p) (commands_from l (k + 1)))) does h))
 
 -- want of a step for the next command
-pub charge_stopped : {S X : Type 0} {g : Ghosts S} (p : Position) (l : Line) (k : ℕ) {f : X → Unit {0}} {old new : Parts S} {r : Result (stops.Stop × ℕ) Code} {e : Code} → k < length l.commands.items → DoesAt g (λ a n. charge) f old (Err e) new → IsErr r × IsErrAnd r (λ x. x ≡ e)
+pub charge_stopped : {S X : Type 0} {g : Ghosts S} (p : Position) (l : Line) (k : ℕ) {f : X → Unit {0}} {old new : Parts S} {r : Result (the_outcome.Outcome × ℕ) Code} {e : Code} → k < length l.commands.items → DoesAt g (λ a n. charge) f old (Err e) new → IsErr r × IsErrAnd r (λ x. x ≡ e)
     → DoesAt g (λ a n. front (context a n p) (commands_from l k)) (front_of l) old r new
 charge_stopped {g = g} p l k {old = old} {new = new} {r = r} less c h =
     let some = some_item k l.commands.items less in
     subst (λ (xs : List Spaced). DoesAt g (λ a n. front (context a n p) (map (λ c. c.0) (map spaced_tree xs))) (front_of l) old r new) (sym some.1)
-    (at_stopped (λ a n _. command_started (context a n p) (command_tree some.0.command) >>= (λ st. behind_command st (commands_from l (k + 1)) (front (context a n p) (commands_from l (k + 1))))) c h)
-
--- the arguments before a place are those of the command there
-pub args_there : (l : Line) (k : ℕ) (x : Spaced) → k < length l.commands.items → x ≡ get_or l.commands.items k x → args_before l (k + 1) ≡ x.command.args.items
-args_there l k x less is = let at : (k + 1) - 1 ≡ k = omega arith in rw (at, item_there l.commands.items k x less is) refl
+    (at_stopped (λ a n _. command_started (context a n p) (command_tree some.0.command) >>= (λ o. behind_command o (commands_from l (k + 1)) (front (context a n p) (commands_from l (k + 1))))) c h)
 
 module _ {S : Type 0} {g : Ghosts S} (p : Position) (l : Line) where
   -- a line up to where it stops, and then what is left of it
-  pub front_runs : (from : ℕ) {at : ℕ} {st : stops.Stop} {fs fs' : List View} {old mid new : Parts S} {r : Result Completion Code} → DoesAt g (λ a n. front (context a n p) (commands_from l from)) (front_of l) old (Ok (st, at)) mid → mid.eval.steps ≤ old.eval.steps
-      → Runs g (λ a n. line_left (context a n p) (front_of l (st, at)).0 (commands_from l at)) fs mid r fs' new
+  pub front_runs : (from : ℕ) {at : ℕ} {o : the_outcome.Outcome} {fs fs' : List View} {old mid new : Parts S} {r : Result Completion Code} → DoesAt g (λ a n. front (context a n p) (commands_from l from)) (front_of l) old (Ok (o, at)) mid → mid.eval.steps ≤ old.eval.steps
+      → Runs g (λ a n. line_left (context a n p) (front_of l (o, at)).0 (commands_from l at)) fs mid r fs' new
       → Runs g (λ a n. commands (context a n p) (commands_from l from)) fs old r fs' new
   front_runs from does few k =
       runs_as (λ a n. commands_is (context a n p) (commands_from l from)) (runs_then (λ a n w. line_left (context a n p) w.0 w.1) does few k)
@@ -296,26 +195,7 @@ module _ {S : Type 0} {g : Ghosts S} (p : Position) (l : Line) where
       runs_as (λ a n. commands_is (context a n p) (commands_from l from)) (runs_stopped (λ a n w. line_left (context a n p) w.0 w.1) does few h)
 
   -- a line that is over
-  pub front_over : (from : ℕ) {at : ℕ} {s : Completion} {old mid : Parts S} → DoesAt g (λ a n. front (context a n p) (commands_from l from)) (front_of l) old (Ok (stop.Over s, at)) mid
+  pub front_over : (from : ℕ) {at : ℕ} {s : Completion} {old mid : Parts S} → DoesAt g (λ a n. front (context a n p) (commands_from l from)) (front_of l) old (Ok (outcome.Over s, at)) mid
       → DoesAt g (λ a n. commands (context a n p) (commands_from l from)) completion_of old (Ok s) mid
   front_over from {s = s} does =
       at_as (λ a n. commands_is (context a n p) (commands_from l from)) (at_then (λ a n w. line_left (context a n p) w.0 w.1) does (at_gives (completion_of s) completion_of s refl))
-
-  pub front_failed : (from : ℕ) {old new : Parts S} {e : Code} → DoesAt g (λ a n. front (context a n p) (commands_from l from)) (front_of l) old (Err e) new
-      → DoesAt g (λ a n. commands (context a n p) (commands_from l from)) completion_of old (Err e) new
-  front_failed from does = at_as (λ a n. commands_is (context a n p) (commands_from l from)) (at_failed (λ a n w. line_left (context a n p) w.0 w.1) does)
-
--- what is left where it is not over
-pub not_over : (x : Context) (args : List Arg) (st : stops.Stop) (rest : List CommandTree) → ((s : Completion) → st ≡ stop.Over s → ⊥)
-    → ◌≡◌ {A = Act meaning.Completion} (line_left x (stop_of args st) rest) (resumed x (stop_of args st) rest)
-not_over x args (stop.Over s) rest h = absurd (h s refl)
-not_over x args (stop.Argument b at) rest h = refl
-not_over x args (stop.Loop index parameters) rest h = refl
-not_over x args stop.Turns rest h = refl
-not_over x args stop.Block rest h = refl
-
--- a turn that stops in its body
-pub turn_stops : {S X : Type 0} {g : Ghosts S} {f : X → Unit {0}} {u : X} {fs fs' : List View} {old mid new : Parts S} {r : Result Completion Code} (d : Position) (t : Turning) → DoesAt g (λ a n. charge) f old (Ok u) mid → mid.eval.steps < old.eval.steps
-    → Runs g (λ a n. commands (context a n d) t.body) (frames.Turns d t ∷ fs) mid r fs' new
-    → Runs g (λ a n. meaning.begin_turn (context a n d) t) fs old r fs' new
-turn_stops d t c less k = runs_spent (λ a n _. (context a n d).texts.turn d t) c less (runs_frame (frames.Turns d t) k)

@@ -4,7 +4,7 @@ use Rattle.std.specs.Prelude.{◌≡◌, ℕ, cond, List, [], ◌∷◌, Option,
 use Rattle.mspec.specs.Act.{Text, Act, ◌>>=◌, ◌>>◌, give, charge}
 use Rattle.mgrammar.specs.Grammar.{KeywordTree, for_word, do_word, ParameterTree, ArgTree, loop, CommandTree}
 use Rattle.mmeaning.specs.LineMeaning as meaning
-use Rattle.mmeaning.specs.LineMeaning.{Go_on, Skips, Quits, Goes, Halts, Context, inside_of, holds, after, arguments, bare, commands, next_parameter, turns_forever, doing_block, Turning, after_course}
+use Rattle.mmeaning.specs.LineMeaning.{Go_on, Skips, Quits, Goes, Halts, Context, inside_of, holds, after, bare, commands, next_parameter, turns_forever, doing_block, Turning, after_course}
 use Rattle.mtree.specs.Tree.{arg_tree, parameter_tree}
 use Rattle.mtree.specs.declared.tree.Arg.{Arg}
 use Rattle.mtree.specs.declared.tree.Line.{Line}
@@ -12,20 +12,26 @@ use Rattle.moperator.specs.declared.code.Code.{Code}
 use Rattle.mexec.specs.declared.arguments.Begun.{Begun}
 use Rattle.mexec.specs.declared.arguments.Begun.TheVariants as begun
 use Rattle.mexec.specs.declared.completion.Completion.{Completion}
-use Rattle.mexec.specs.declared.front.Stop as stops
+use Rattle.mexec.specs.declared.front.Stop as the_stop
 use Rattle.mexec.specs.declared.front.Stop.TheVariants as stop
-use Rattle.mexec.specs.Arguments.{Start, gave, into_lines, into_text, into_given, started, finished, start_of}
+use Rattle.mexec.specs.declared.front.Outcome as the_outcome
+use Rattle.mexec.specs.declared.front.Outcome.TheVariants as outcome
+use Rattle.mexec.specs.Arguments.{Entrance, Start, gave, enters, started, entered_then, start_of, entrance_of}
 use Rattle.mexec.specs.Frames.{completion_of, commands_from}
 use Rattle.mexec.specs.Loops.{loop_in, is_loop, args_before}
 
--- where a command stops: not at all, once it has given its completion; at an argument, before those behind it; at a FOR with an index and
--- parameters; at one without arguments; or at the block of a DO without arguments
+-- where a command needs a frame: at what an argument enters, before those behind it; at a FOR with an index and parameters; at one without
+-- arguments; or at the block of a DO without arguments
 pub data Stop : Type 0 where
-  over : meaning.Completion → Stop
-  at_argument : Start → List ArgTree → Stop
+  at_argument : Entrance → List ArgTree → Stop
   at_loop : Text → List ParameterTree → Stop
   at_turns : Stop
   at_block : Stop
+
+-- how far it is done: to its end, with its completion, or up to where it stops
+pub data Outcome : Type 0 where
+  over : meaning.Completion → Outcome
+  stops : Stop → Outcome
 
 -- ---- arguments
 
@@ -41,53 +47,56 @@ args_started x (a ∷ more) = started x a >>= (λ st. behind st more (args_start
 -- what is then left of them
 abbrev pub args_left : Context → Start → List ArgTree → Act meaning.Completion
 args_left x (gave s) more = give s
-args_left x st more = finished x st >>= (λ s. after s (arguments x more))
+args_left x (enters e) more = entered_then x e more
 
 -- ---- a command
 
-abbrev pub stop_at : Start → List ArgTree → Stop
-stop_at (gave s) more = over s
-stop_at st more = at_argument st more
+abbrev pub args_outcome : Start → List ArgTree → Outcome
+args_outcome (gave s) more = over s
+args_outcome (enters e) more = stops (at_argument e more)
 
 -- a word without arguments
-abbrev pub word_started : Context → KeywordTree → Act Stop
-word_started x for_word = give at_turns
-word_started x do_word = give at_block
+abbrev pub word_started : Context → KeywordTree → Act Outcome
+word_started x for_word = give (stops at_turns)
+word_started x do_word = give (stops at_block)
 word_started x k = bare x k [] >>= (λ s. give (over s))
 
-abbrev pub effect_started : Context → KeywordTree → List ArgTree → Act Stop
+abbrev pub effect_started : Context → KeywordTree → List ArgTree → Act Outcome
 effect_started x k [] = word_started x k
-effect_started x k (loop index parameters ∷ more) = give (at_loop index parameters)
-effect_started x k (a ∷ more) = args_started x (a ∷ more) >>= (λ w. give (stop_at w.0 w.1))
+effect_started x k (loop index parameters ∷ more) = give (stops (at_loop index parameters))
+effect_started x k (a ∷ more) = args_started x (a ∷ more) >>= (λ w. give (args_outcome w.0 w.1))
 
-abbrev pub command_started : Context → CommandTree → Act Stop
+abbrev pub command_started : Context → CommandTree → Act Outcome
 command_started x c = holds (inside_of x) c.condition >>= (λ b. cond b (effect_started x c.keyword c.args) (give (over Go_on)))
 
--- what is then left of it, before the rest of its line
-abbrev pub finishes : Context → List CommandTree → Stop → Act meaning.Completion
+-- what is left of it where it stops, before the rest of its line
+abbrev pub stop_left : Context → List CommandTree → Stop → Act meaning.Completion
+stop_left x rest (at_argument e more) = entered_then x e more
+stop_left x rest (at_loop index parameters) = next_parameter x index rest parameters
+stop_left x rest at_turns = turns_forever x rest
+stop_left x rest at_block = doing_block x
+
+abbrev pub finishes : Context → List CommandTree → Outcome → Act meaning.Completion
 finishes x rest (over s) = give s
-finishes x rest (at_argument st more) = args_left x st more
-finishes x rest (at_loop index parameters) = next_parameter x index rest parameters
-finishes x rest at_turns = turns_forever x rest
-finishes x rest at_block = doing_block x
+finishes x rest (stops st) = stop_left x rest st
 
 -- ---- a line
 
-abbrev pub behind_command : Stop → List CommandTree → Act (Stop × List CommandTree) → Act (Stop × List CommandTree)
+abbrev pub behind_command : Outcome → List CommandTree → Act (Outcome × List CommandTree) → Act (Outcome × List CommandTree)
 behind_command (over Go_on) rest next = next
-behind_command st rest next = give (st, rest)
+behind_command o rest next = give (o, rest)
 
-abbrev pub front : Context → List CommandTree → Act (Stop × List CommandTree)
+abbrev pub front : Context → List CommandTree → Act (Outcome × List CommandTree)
 front x [] = give (over Go_on, [])
-front x (c ∷ rest) = charge >> (command_started x c >>= (λ st. behind_command st rest (front x rest)))
+front x (c ∷ rest) = charge >> (command_started x c >>= (λ o. behind_command o rest (front x rest)))
 
 -- what is left of a line that stops: the command, and the rest
 abbrev pub resumed : Context → Stop → List CommandTree → Act meaning.Completion
-resumed x st rest = finishes x rest st >>= (λ s. after s (commands x rest))
+resumed x st rest = stop_left x rest st >>= (λ s. after s (commands x rest))
 
-abbrev pub line_left : Context → Stop → List CommandTree → Act meaning.Completion
+abbrev pub line_left : Context → Outcome → List CommandTree → Act meaning.Completion
 line_left x (over s) rest = give s
-line_left x st rest = resumed x st rest
+line_left x (stops st) rest = resumed x st rest
 
 -- ---- a turn of a FOR
 
@@ -109,37 +118,40 @@ turn_left x t (Some s) = give s
 abbrev pub begun_of : List Arg → Begun × ℕ → Start × List ArgTree
 begun_of args w = (start_of w.0, map arg_tree (drop w.1 args))
 
-abbrev pub stop_of : List Arg → stops.Stop → Stop
-stop_of args (stop.Over s) = over (completion_of s)
-stop_of args (stop.Argument b at) = at_argument (start_of b) (map arg_tree (drop at args))
+abbrev pub stop_of : List Arg → the_stop.Stop → Stop
+stop_of args (stop.Argument e at) = at_argument (entrance_of e) (map arg_tree (drop at args))
 stop_of args (stop.Loop index parameters) = at_loop index.now (map parameter_tree parameters.now)
 stop_of args stop.Turns = at_turns
 stop_of args stop.Block = at_block
 
-abbrev pub front_of : Line → stops.Stop × ℕ → Stop × List CommandTree
-front_of l w = (stop_of (args_before l w.1) w.0, commands_from l w.1)
+abbrev pub outcome_of : List Arg → the_outcome.Outcome → Outcome
+outcome_of args (outcome.Over s) = over (completion_of s)
+outcome_of args (outcome.Stops st) = stops (stop_of args st)
+
+abbrev pub front_of : Line → the_outcome.Outcome × ℕ → Outcome × List CommandTree
+front_of l w = (outcome_of (args_before l w.1) w.0, commands_from l w.1)
 
 -- what a stop says of the arguments of its command
-abbrev pub StopsIn : List Arg → stops.Stop → Type 0
+abbrev pub StopsIn : List Arg → the_stop.Stop → Type 0
 StopsIn args (stop.Loop index parameters) = (loop_in args ≡ (index.now, parameters.now)) × (is_loop args ≡ true)
 StopsIn args stop.Turns = args ≡ []
 StopsIn args st = Unit {0}
 
--- what holds unless the line is over
-abbrev pub UnlessOver : stops.Stop → Type 0 → Type 0
-UnlessOver (stop.Over s) P = Unit {0}
-UnlessOver st P = P
+-- what holds where a command stops
+abbrev pub IfStops : the_outcome.Outcome → (the_stop.Stop → Type 0) → Type 0
+IfStops (outcome.Over s) P = Unit {0}
+IfStops (outcome.Stops st) P = P st
 
--- a completion as a stop
-abbrev pub ends : Result Completion Code → Result stops.Stop Code
-ends (Ok s) = Ok (stop.Over s)
+-- a completion as an outcome
+abbrev pub ends : Result Completion Code → Result the_outcome.Outcome Code
+ends (Ok s) = Ok (outcome.Over s)
 ends (Err c) = Err c
 
--- arguments as a stop
-abbrev pub at_begun : Begun → ℕ → stops.Stop
-at_begun (begun.Gave s) at = stop.Over s
-at_begun b at = stop.Argument b at
+-- arguments as an outcome
+abbrev pub at_begun : Begun → ℕ → the_outcome.Outcome
+at_begun (begun.Gave s) at = outcome.Over s
+at_begun (begun.Enters e) at = outcome.Stops (stop.Argument e at)
 
-abbrev pub stops_at : Result (Begun × ℕ) Code → Result stops.Stop Code
+abbrev pub stops_at : Result (Begun × ℕ) Code → Result the_outcome.Outcome Code
 stops_at (Ok w) = Ok (at_begun w.0 w.1)
 stops_at (Err c) = Err c

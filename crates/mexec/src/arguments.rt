@@ -1,20 +1,18 @@
 // SPDX-License-Identifier: Apache-2.0
 // The arguments of a command, one after another.
 ghost use Rattle.std.specs.Prelude.{◌≡◌, ◌≤◌, map, drop, IfOk};
-ghost use Rattle.mgrammar.specs.Commands.{form_of};
 ghost use Rattle.mmeaning.specs.LineMeaning as meaning;
 ghost use Rattle.mmeaning.specs.LineMeaning.{context};
-ghost use Rattle.mtree.specs.Tree.{arg_tree, condition_tree, entry_tree, expr_tree, keyword_tree, primary_tree};
+ghost use Rattle.mtree.specs.Tree.{arg_tree, condition_tree, entry_tree, expr_tree};
 ghost use Rattle.mmeaning.specs.Expression.{inside};
 ghost use Rattle.meval.specs.Evaluates.{depth_of};
 ghost use Rattle.mcommand.specs.Does.{DoesAt, KeepsLoans};
 ghost use Rattle.mexec.specs.Falls.{Falls};
 ghost use Rattle.mexec.specs.Frames.{Runs, completion_of, went, source_args, source_position, position_of, stack};
-ghost use Rattle.mexec.specs.Fronts.{args_started, args_left, begun_of};
-ghost use Rattle.mexec.specs.Arguments.{started, start_of, given, where_applies, lines_then, text_then, given_then};
+ghost use Rattle.mexec.specs.Fronts.{args_started, begun_of};
+ghost use Rattle.mexec.specs.Arguments.{started, start_of, given, where_applies, entrance_of, entered_then};
 
-use crate::commands::{holds, went_on, where_true};
-use crate::completion::Completion;
+use crate::completion::{Completion, went_on, where_true};
 use crate::entering::{doing, executing};
 use crate::frames::Position;
 use crate::indirection::giving;
@@ -26,14 +24,19 @@ use mstore::NodeStore;
 use mtree::{Arg, Entry, Expr, Keyword, Primary};
 use std::alloc::Global;
 
-// What an argument leaves to be done: nothing, once it has given its completion; the lines from one on; a text; or the arguments that
-// the value of an operand gives.
+// What an argument enters: the lines from one on; a text; or the arguments that the value of an operand gives.
 #[derive(Drop)]
-pub(crate) enum Begun<'t> {
-    Gave(Completion),
+pub(crate) enum Entrance<'t> {
     Lines(&'t Entry),
     Text(&'t Expr),
     Indirect(Keyword, &'t Primary),
+}
+
+// What an argument leaves to be done: nothing, once it has given its completion; or what it enters.
+#[derive(Drop)]
+pub(crate) enum Begun<'t> {
+    Gave(Completion),
+    Enters(Entrance<'t>),
 }
 
 // An argument that gave its completion.
@@ -54,11 +57,11 @@ fn done<'t>(done: Result<(), Code>) -> Result<Begun<'t>, Code>
 }
 
 // One that enters lines or a text where its condition holds.
-fn enters<'t>(applies: Result<bool, Code>, begun: Begun<'t>) -> Result<Begun<'t>, Code>
-    ensures { result ≡ where_applies applies begun.entry }
+fn enters<'t>(applies: Result<bool, Code>, entrance: Entrance<'t>) -> Result<Begun<'t>, Code>
+    ensures { result ≡ where_applies applies entrance.entry }
 {
     match applies {
-        Ok(true) => Ok(begun),
+        Ok(true) => Ok(Begun::Enters(entrance)),
         Ok(false) => Ok(Begun::Gave(Completion::GoOn)),
         Err(code) => Err(code),
     }
@@ -76,7 +79,8 @@ fn going<S: NodeStore>(
     ensures fewer { parts.new.eval.steps ≤ parts.old.eval.steps }
     ensures does { DoesAt S.NodeStore (λ a n. meaning.where_holds (context a n (position_of position.now)) (condition_tree condition.now) (meaning.going (context a n (position_of position.now)) (entry_tree entry.now))) completion_of parts.old result parts.new }
 {
-    let applies = holds(alloc, parts, position.depth, condition)?;
+    parts.eval.depth = position.depth;
+    let applies = parts.holds(alloc, condition)?;
     if applies {
         let target = parts.target(alloc, &position.level.copy, position.level.dots, entry)?;
         Ok(Completion::Goes(target))
@@ -127,20 +131,14 @@ fn argument<'t, S: NodeStore>(
         Arg::Tested(e) => gave(tested(alloc, parts, position, e)),
         Arg::Loop(_, _) => done(Ok(())),
         Arg::DoOne(entry, condition) => {
-            enters(
-                holds(alloc, parts, position.depth, condition),
-                Begun::Lines(entry),
-            )
+            enters(parts.holds(alloc, condition), Entrance::Lines(entry))
         }
         Arg::GoTo(entry, condition) => gave(going(alloc, parts, position, entry, condition)),
-        Arg::Executed(e, condition) => {
-            enters(
-                holds(alloc, parts, position.depth, condition),
-                Begun::Text(e),
-            )
-        }
+        Arg::Executed(e, condition) => enters(parts.holds(alloc, condition), Entrance::Text(e)),
         Arg::Lock(kind, names, timeout) => done(parts.locking(alloc, *kind, names, timeout)),
-        Arg::Indirect(keyword, operand) => Ok(Begun::Indirect(*keyword, operand)),
+        Arg::Indirect(keyword, operand) => {
+            Ok(Begun::Enters(Entrance::Indirect(*keyword, operand)))
+        }
     }
 }
 
@@ -163,84 +161,32 @@ pub(crate) fn arguments_begun<'t, S: NodeStore>(
                 Completion::GoOn => at += 1,
                 other => return Ok((Begun::Gave(other), at + 1)),
             },
-            begun => return Ok((begun, at + 1)),
+            Begun::Enters(entrance) => return Ok((Begun::Enters(entrance), at + 1)),
         }
     }
     Ok((Begun::Gave(Completion::GoOn), at))
 }
 
-// An argument that enters lines, before those from one on.
-fn enter_lines<S: NodeStore>(
-    alloc: Global,
-    parts: &mut Parts<S>,
-    source: Source,
-    entry: &Entry,
-    argument: usize,
-    scratch: &mut Scratch,
-) -> Result<Completion, Code>
-    ensures loans { KeepsLoans parts.old parts.new }
-    ensures falls { IfOk result (λ _. Falls parts.old scratch.old parts.new scratch.new) }
-    ensures does { Runs S.NodeStore (λ a n. lines_then (context a n (position_of (source_position source.entry))) (entry_tree entry.now) (map arg_tree (drop argument (source_args source.entry)))) (stack scratch.old.frames.items) parts.old result (stack scratch.new.frames.items) parts.new }
-{
-    source.leave(argument, scratch)?;
-    doing(alloc, parts, source.position(), entry, scratch)
-}
-
-// An argument that enters a text, before those from one on.
-fn enter_text<S: NodeStore>(
-    alloc: Global,
-    parts: &mut Parts<S>,
-    source: Source,
-    e: &Expr,
-    argument: usize,
-    scratch: &mut Scratch,
-) -> Result<Completion, Code>
-    ensures loans { KeepsLoans parts.old parts.new }
-    ensures falls { IfOk result (λ _. Falls parts.old scratch.old parts.new scratch.new) }
-    ensures does { Runs S.NodeStore (λ a n. text_then (context a n (position_of (source_position source.entry))) (expr_tree e.now) (map arg_tree (drop argument (source_args source.entry)))) (stack scratch.old.frames.items) parts.old result (stack scratch.new.frames.items) parts.new }
-{
-    source.leave(argument, scratch)?;
-    executing(alloc, parts, source.position(), e, scratch)
-}
-
-// An argument in whose place the value of an operand gives some, before those from one on.
-fn enter_given<S: NodeStore>(
-    alloc: Global,
-    parts: &mut Parts<S>,
-    source: Source,
-    keyword: Keyword,
-    operand: &Primary,
-    argument: usize,
-    scratch: &mut Scratch,
-) -> Result<Completion, Code>
-    ensures loans { KeepsLoans parts.old parts.new }
-    ensures falls { IfOk result (λ _. Falls parts.old scratch.old parts.new scratch.new) }
-    ensures does { Runs S.NodeStore (λ a n. given_then (context a n (position_of (source_position source.entry))) (form_of (keyword_tree keyword)) (primary_tree operand.now) (map arg_tree (drop argument (source_args source.entry)))) (stack scratch.old.frames.items) parts.old result (stack scratch.new.frames.items) parts.new }
-{
-    source.leave(argument, scratch)?;
-    giving(alloc, parts, source.position(), keyword, operand, scratch)
-}
-
-// An argument that has begun, before those from one on: where it enters lines or a text, or a text gives some in its place, those behind
-// it stay on the frames.
+// What an argument enters, before those from one on: these stay on the frames.
 pub(crate) fn enter_argument<S: NodeStore>(
     alloc: Global,
     parts: &mut Parts<S>,
-    begun: Begun,
+    entrance: Entrance,
     source: Source,
     argument: usize,
     scratch: &mut Scratch,
 ) -> Result<Completion, Code>
     ensures loans { KeepsLoans parts.old parts.new }
     ensures falls { IfOk result (λ _. Falls parts.old scratch.old parts.new scratch.new) }
-    ensures does { Runs S.NodeStore (λ a n. args_left (context a n (position_of (source_position source.entry))) (start_of begun.entry) (map arg_tree (drop argument (source_args source.entry)))) (stack scratch.old.frames.items) parts.old result (stack scratch.new.frames.items) parts.new }
+    ensures does { Runs S.NodeStore (λ a n. entered_then (context a n (position_of (source_position source.entry))) (entrance_of entrance.entry) (map arg_tree (drop argument (source_args source.entry)))) (stack scratch.old.frames.items) parts.old result (stack scratch.new.frames.items) parts.new }
 {
-    match begun {
-        Begun::Gave(completion) => Ok(completion),
-        Begun::Lines(entry) => enter_lines(alloc, parts, source, entry, argument, scratch),
-        Begun::Text(e) => enter_text(alloc, parts, source, e, argument, scratch),
-        Begun::Indirect(keyword, operand) => {
-            enter_given(alloc, parts, source, keyword, operand, argument, scratch)
+    source.leave(argument, scratch)?;
+    let position = source.position();
+    match entrance {
+        Entrance::Lines(entry) => doing(alloc, parts, position, entry, scratch),
+        Entrance::Text(e) => executing(alloc, parts, position, e, scratch),
+        Entrance::Indirect(keyword, operand) => {
+            giving(alloc, parts, position, keyword, operand, scratch)
         }
     }
 }
@@ -257,6 +203,11 @@ pub(crate) fn arguments<S: NodeStore>(
     ensures falls { IfOk result (λ _. Falls parts.old scratch.old parts.new scratch.new) }
     ensures does { Runs S.NodeStore (λ a n. meaning.arguments (context a n (position_of (source_position source.entry))) (map arg_tree (drop from (source_args source.entry)))) (stack scratch.old.frames.items) parts.old result (stack scratch.new.frames.items) parts.new }
 {
-    let (first, argument) = arguments_begun(alloc, parts, source.position(), source.all(), from)?;
-    enter_argument(alloc, parts, first, source, argument, scratch)
+    let (begun, argument) = arguments_begun(alloc, parts, source.position(), source.all(), from)?;
+    match begun {
+        Begun::Gave(completion) => Ok(completion),
+        Begun::Enters(entrance) => {
+            enter_argument(alloc, parts, entrance, source, argument, scratch)
+        }
+    }
 }

@@ -6,13 +6,13 @@ ghost use Rattle.mmeaning.specs.LineMeaning.{context};
 ghost use Rattle.mcommand.specs.Does.{KeepsLoans};
 ghost use Rattle.mexec.specs.Falls.{Falls};
 ghost use Rattle.mexec.specs.Frames.{Runs, args_before, rest_tree, resting, stack, position_of};
-ghost use Rattle.mexec.specs.Fronts.{StopsIn, finishes, resumed, stop_of};
+ghost use Rattle.mexec.specs.Fronts.{StopsIn, resumed, stop_left, stop_of};
 
 use crate::arguments::enter_argument;
 use crate::completion::Completion;
 use crate::entering::doing_block;
 use crate::frames::{Continuation, ForLoop, Frame};
-use crate::front::{Stop, front};
+use crate::front::{Outcome, Stop, front};
 use crate::scratch::Scratch;
 use crate::source::Source;
 use crate::turns::{begin_turn, next_parameter};
@@ -65,12 +65,18 @@ fn enter<S: NodeStore>(
     requires { StopsIn (args_before behind.now.line.value behind.now.at) stop }
     ensures loans { KeepsLoans parts.old parts.new }
     ensures falls { IfOk result (λ _. Falls parts.old scratch.old parts.new scratch.new) }
-    ensures does { Runs S.NodeStore (λ a n. finishes (context a n (position_of behind.now.position.value)) (rest_tree behind.now) (stop_of (args_before behind.now.line.value behind.now.at) stop.entry)) (stack scratch.old.frames.items) parts.old result (stack scratch.new.frames.items) parts.new }
+    ensures does { Runs S.NodeStore (λ a n. stop_left (context a n (position_of behind.now.position.value)) (rest_tree behind.now) (stop_of (args_before behind.now.line.value behind.now.at) stop.entry)) (stack scratch.old.frames.items) parts.old result (stack scratch.new.frames.items) parts.new }
 {
     match stop {
-        Stop::Over(completion) => Ok(completion),
-        Stop::Argument(begun, argument) => {
-            enter_argument(alloc, parts, begun, Source::Line(behind), argument, scratch)
+        Stop::Argument(entrance, argument) => {
+            enter_argument(
+                alloc,
+                parts,
+                entrance,
+                Source::Line(behind),
+                argument,
+                scratch,
+            )
         }
         Stop::Loop(index, parameters) => {
             let turns = ForLoop {
@@ -113,10 +119,10 @@ pub(crate) fn next_command<S: NodeStore>(
     ensures falls { IfOk result (λ _. Falls parts.old scratch.old parts.new scratch.new) }
     ensures does { Runs S.NodeStore (λ a n. meaning.commands (context a n (position_of rest.position.value)) (rest_tree rest)) (stack scratch.old.frames.items) parts.old result (stack scratch.new.frames.items) parts.new }
 {
-    let (stop, at) = front(alloc, parts, &rest.position, &rest.line, rest.at)?;
-    match stop {
-        Stop::Over(completion) => Ok(completion),
-        stop => {
+    let (outcome, at) = front(alloc, parts, &rest.position, &rest.line, rest.at)?;
+    match outcome {
+        Outcome::Over(completion) => Ok(completion),
+        Outcome::Stops(stop) => {
             let behind = Continuation { at, ..rest.copy()? };
             go_on(alloc, parts, stop, &behind, scratch)
         }

@@ -1,10 +1,7 @@
 // SPDX-License-Identifier: Apache-2.0
 // Argument indirection: arguments that the text of an operand's value gives.
 ghost use Rattle.std.specs.Prelude.{◌≡◌, ◌≤◌, ◌+◌, ◌∷◌, map, length, IfOk, OnOk};
-ghost use Rattle.mspec.specs.Act.{give_some};
-ghost use Rattle.mspec.specs.Code.{Zsyntax};
 ghost use Rattle.mgrammar.specs.Commands.{form_of};
-ghost use Rattle.mgrammar.specs.IndirectTexts.{args_of};
 ghost use Rattle.mmeaning.specs.Expression.{an_indirection_free, indirected};
 ghost use Rattle.mmeaning.specs.LineMeaning as meaning;
 ghost use Rattle.mmeaning.specs.LineMeaning.{context};

@@ -12,7 +12,6 @@ ghost use Rattle.mexec.specs.Falls.{FallsFurther, Falls};
 ghost use Rattle.mexec.specs.Frames.{Runs, stack, completion_of, position_of, closing_of};
 ghost use Rattle.mexec.specs.Entering.{reached as first_reached, next_reached, entering, at_next, at_target, on_body};
 
-use crate::commands::charge;
 use crate::completion::Completion;
 use crate::frames::{Closing, Continuation, Frame, Level, Position};
 use crate::reading_trees::read_routine_line;
@@ -79,7 +78,7 @@ fn reached<S: NodeStore>(
         if dots <= level.dots {
             return Ok(place_where(dots == level.dots, at));
         }
-        charge(parts)?;
+        parts.eval.charge()?;
         at += 1;
     }
     Ok(None)
@@ -152,7 +151,7 @@ pub(crate) fn enter_line<S: NodeStore>(
     ensures falls { IfOk result (λ _. FallsFurther parts.old scratch.old parts.new scratch.new) }
     ensures does { Runs S.NodeStore (λ a n. entering (context a n (position_of position.now)) (closing_of closing) at (get_or position.now.level.copy.value.items at [])) (stack scratch.old.frames.items) parts.old result (stack scratch.new.frames.items) parts.new }
 {
-    charge(parts)?;
+    parts.eval.charge()?;
     let text = position.level.copy[at].as_bytes();
     let line = read_routine_line(alloc, &mut scratch.trees, text)?;
     let entered = Rc::new(alloc, coming_next(position, at + 1)?)?;

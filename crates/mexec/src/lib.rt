@@ -3,7 +3,6 @@
 #![tactic(auto)]
 
 mod arguments;
-mod commands;
 mod completion;
 mod continuation;
 mod entering;

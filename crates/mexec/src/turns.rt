@@ -3,33 +3,28 @@
 ghost use Rattle.std.specs.Prelude.{◌≡◌, ◌≤◌, ◌+◌, ◌*◌, ◌∷◌, drop, is_some, length, map, option_map, true, IfOk, IfSome};
 ghost use Rattle.mmeaning.specs.LineMeaning as meaning;
 ghost use Rattle.mmeaning.specs.LineMeaning.{context};
-ghost use Rattle.mmeaning.specs.Expression.{inside};
 ghost use Rattle.mtree.specs.Tree.{parameter_tree};
-ghost use Rattle.meval.specs.Evaluates.{depth_of};
 ghost use Rattle.mcommand.specs.Does.{DoesAt, KeepsLoans};
-ghost use Rattle.mcommand.specs.Turns.{course_view, started, advanced};
-ghost use Rattle.mmeaning.specs.Frames.{Rests, Turns};
-ghost use Rattle.mexec.specs.declared.frames.Frame.TheVariants as frame;
+ghost use Rattle.mcommand.specs.Turns.{course_view, advanced};
+ghost use Rattle.mmeaning.specs.Frames.{Turns};
 ghost use Rattle.mexec.specs.Fronts as fronts;
 ghost use Rattle.mexec.specs.Fronts.{StopsIn, resumed, stop_of};
 ghost use Rattle.mexec.specs.Falls.{Falls};
-ghost use Rattle.mexec.specs.Frames.{Runs, args_before, commands_from, rest_tree, turning, stack, view, completion_of, position_of};
+ghost use Rattle.mexec.specs.Frames.{Runs, args_before, commands_from, rest_tree, turning, stack, completion_of, position_of};
 ghost use Rattle.mexec.specs.Loops.{has_index, loop_before as the_loop_before};
 
-use crate::commands::charge;
 use crate::completion::Completion;
 use crate::continuation::go_on;
 use crate::frames::{Continuation, ForLoop, Frame};
-use crate::front::{Stop, front};
+use crate::front::{Outcome, Stop, front};
 use crate::scratch::Scratch;
 use crate::source::args_before;
-use mcommand::{Course, Parts};
-use meval::Depth;
+use mcommand::Parts;
 use mnum::Name;
 use moperator::Code;
 use mstore::NodeStore;
 use mtree::{Arg, Line, Parameter};
-use std::alloc::{AllocError, Global};
+use std::alloc::Global;
 
 // The index and the parameters of the FOR before a place of a line, where it has an index.
 fn loop_before(line: &Line, at: usize) -> Option<(&Name, &[Parameter])>
@@ -45,38 +40,6 @@ fn loop_before(line: &Line, at: usize) -> Option<(&Name, &[Parameter])>
     }
 }
 
-// How the turns of a parameter begin.
-fn start<S: NodeStore>(
-    alloc: Global,
-    parts: &mut Parts<S>,
-    depth: Depth,
-    index: &Name,
-    parameter: &Parameter,
-) -> Result<Option<Course>, Code>
-    ensures loans { KeepsLoans parts.old parts.new }
-    ensures fewer { parts.new.eval.steps ≤ parts.old.eval.steps }
-    ensures does { DoesAt S.NodeStore (λ a n. started (inside a n (depth_of depth)) index.now (parameter_tree parameter.now)) (option_map course_view) parts.old result parts.new }
-{
-    parts.eval.depth = depth;
-    parts.start(alloc, index, parameter)
-}
-
-// Whether there is one turn more of a course.
-fn advance<S: NodeStore>(parts: &mut Parts<S>, index: &Name, course: Course) -> Result<bool, Code>
-    ensures loans { KeepsLoans parts.old parts.new }
-    ensures fewer { parts.new.eval.steps ≤ parts.old.eval.steps }
-    ensures does { DoesAt S.NodeStore (λ a n. advanced index.now (course_view course)) (λ goes_on. goes_on) parts.old result parts.new }
-{
-    parts.advance(index, course)
-}
-
-// The body of a turn.
-fn body(turns: &ForLoop) -> Result<Continuation, AllocError>
-    ensures { IfOk result (λ rest. view (frame.Continuation rest) ≡ Rests (position_of turns.now.body.position.value) (turning turns.now).body) }
-{
-    turns.body.copy()
-}
-
 // A turn, which costs a step.
 pub(crate) fn begin_turn<S: NodeStore>(
     parts: &mut Parts<S>,
@@ -87,8 +50,8 @@ pub(crate) fn begin_turn<S: NodeStore>(
     ensures falls { IfOk result (λ _. Falls parts.old scratch.old parts.new scratch.new) }
     ensures does { Runs S.NodeStore (λ a n. meaning.begin_turn (context a n (position_of turns.value.body.position.value)) (turning turns.value)) (stack scratch.old.frames.items) parts.old result (stack scratch.new.frames.items) parts.new }
 {
-    charge(parts)?;
-    let body = body(&turns)?;
+    parts.eval.charge()?;
+    let body = turns.body.copy()?;
     scratch.frames.push(Frame::ForLoop(turns))?;
     scratch.frames.push(Frame::Continuation(body))?;
     Ok(Completion::GoOn)
@@ -111,13 +74,8 @@ pub(crate) fn next_parameter<S: NodeStore>(
 {
     let mut next = turns.parameter;
     while next < parameters.len() {
-        match start(
-            alloc,
-            parts,
-            turns.body.position.depth,
-            index,
-            &parameters[next],
-        )? {
+        parts.eval.depth = turns.body.position.depth;
+        match parts.start(alloc, index, &parameters[next])? {
             None => next += 1,
             Some(course) => {
                 let turns = ForLoop {
@@ -153,18 +111,15 @@ fn further<S: NodeStore>(
     }
 }
 
-// Whether there is one turn more of this course of these turns.
+// Whether there is one turn more of this course of these turns. Without an index they have no end.
 fn goes_on<S: NodeStore>(parts: &mut Parts<S>, turns: &ForLoop) -> Result<bool, Code>
     ensures loans { KeepsLoans parts.old parts.new }
     ensures fewer { parts.new.eval.steps ≤ parts.old.eval.steps }
     ensures does { DoesAt S.NodeStore (λ a n. advanced (turning turns.now).index (course_view turns.now.course)) (λ goes_on. goes_on) parts.old result parts.new }
 {
-    if let Course::Forever = turns.course {
-        return Ok(true);
-    }
     match loop_before(&turns.body.line, turns.body.at) {
-        None => unreachable!(),
-        Some((index, _)) => advance(parts, index, turns.course),
+        None => Ok(true),
+        Some((index, _)) => parts.advance(index, turns.course),
     }
 }
 
@@ -216,14 +171,14 @@ fn after_course<S: NodeStore>(
         if !goes_on {
             return further(alloc, parts, Box::into_inner(turns), scratch);
         }
-        charge(parts)?;
-        let (stop, at) = front(alloc, parts, &body.position, &body.line, body.at)?;
-        match stop {
-            Stop::Over(completion) => match turn_ends(completion) {
+        parts.eval.charge()?;
+        let (outcome, at) = front(alloc, parts, &body.position, &body.line, body.at)?;
+        match outcome {
+            Outcome::Over(completion) => match turn_ends(completion) {
                 None => {}
                 Some(completion) => return Ok(completion),
             },
-            stop => {
+            Outcome::Stops(stop) => {
                 let behind = Continuation { at, ..body.copy()? };
                 return go_on_in(alloc, parts, turns, stop, &behind, scratch);
             }

@@ -6,9 +6,9 @@ use Rattle.mgrammar.specs.Commands.{form_of}
 use Rattle.mmeaning.specs.LineMeaning as meaning
 use Rattle.mmeaning.specs.Locking.{locking}
 use Rattle.mtree.specs.Tree.{destination_tree, expr_tree, reference_tree, condition_tree, kind_tree, locked_tree, keyword_tree, primary_tree}
-use Rattle.mcommand.proofs.Calls.{does_evaluated}
+use Rattle.mcommand.proofs.Calls.{does_evaluated, at_done}
 use Rattle.mexec.specs.declared.completion.Completion.TheVariants as completion
-use Rattle.mexec.specs.Arguments.{gave, into_given, start_of}
+use Rattle.mexec.specs.Arguments.{enters, into_given, start_of}
 use Rattle.mexec.specs.Frames.{completion_of, position_of}
 use Rattle.mexec.proofs.Calls.{at_gives, at_depth, goes_on}
 use Rattle.mexec.proofs.ArgumentRuns.{gives_start, enters_where}
@@ -51,14 +51,14 @@ pub returns-in-Loop-clause-does : goal.returns-in-Loop-clause-does
 returns-in-Loop-clause-does g c = rw (c.in-Loop.is, c.done-in-Loop.ensures) (at_depth c.args.position.now.depth (gives_start (Ok completion.GoOn) (at_gives meaning.Go_on completion_of completion.GoOn refl)))
 
 pub returns-in-DoOne-clause-does : goal.returns-in-DoOne-clause-does
-returns-in-DoOne-clause-does g c = rw (c.in-DoOne.is, c.enters.ensures) (at_depth c.args.position.now.depth (enters_where (position_of c.args.position.now) (condition_tree c.in-DoOne.condition) _ c.holds.result c.holds.ensures.does))
+returns-in-DoOne-clause-does g c = rw (c.in-DoOne.is, c.enters.ensures) (enters_where (position_of c.args.position.now) (condition_tree c.in-DoOne.condition) _ c.holds.result (at_done c.args.position.now.depth c.holds.ensures.does))
 
 pub returns-in-GoTo-clause-does : goal.returns-in-GoTo-clause-does
 returns-in-GoTo-clause-does g c = rw (c.in-GoTo.is, c.gave-in-GoTo.ensures) (gives_start c.going.result (at_depth c.args.position.now.depth c.going.ensures.does))
 
 pub returns-in-Executed-clause-does : goal.returns-in-Executed-clause-does
 returns-in-Executed-clause-does g c =
-    rw (c.in-Executed.is, c.enters-in-Executed.ensures) (at_depth c.args.position.now.depth (enters_where (position_of c.args.position.now) (condition_tree c.in-Executed.condition) _ c.holds-in-Executed.result c.holds-in-Executed.ensures.does))
+    rw (c.in-Executed.is, c.enters-in-Executed.ensures) (enters_where (position_of c.args.position.now) (condition_tree c.in-Executed.condition) _ c.holds-in-Executed.result (at_done c.args.position.now.depth c.holds-in-Executed.ensures.does))
 
 pub returns-in-Lock-clause-does : goal.returns-in-Lock-clause-does
 returns-in-Lock-clause-does g c =
@@ -67,5 +67,5 @@ returns-in-Lock-clause-does g c =
 
 pub returns-in-Indirect-clause-does : goal.returns-in-Indirect-clause-does
 returns-in-Indirect-clause-does g c =
-    let begun = into_given (form_of (keyword_tree c.in-Indirect.keyword)) (primary_tree c.in-Indirect.operand) in
+    let begun = enters (into_given (form_of (keyword_tree c.in-Indirect.keyword)) (primary_tree c.in-Indirect.operand)) in
     rw c.in-Indirect.is (at_depth c.args.position.now.depth (at_gives begun start_of _ refl))

@@ -1,9 +1,6 @@
 -- SPDX-License-Identifier: Apache-2.0
-use Rattle.mexec.proofs.Calls.{runs_completion, runs_wanting}
+use Rattle.mexec.proofs.Calls.{runs_wanting}
 use Rattle.mexec.proofs.continuation.enter.Goals as goal
-
-pub returns-in-Over-clause-does : goal.returns-in-Over-clause-does
-returns-in-Over-clause-does g c = rw c.in-Over.is (runs_completion c.in-Over.completion)
 
 pub returns-in-Argument-clause-does : goal.returns-in-Argument-clause-does
 returns-in-Argument-clause-does g c = rw c.in-Argument.is c.enter_argument.ensures.does

@@ -7,16 +7,16 @@ use Rattle.mmeaning.specs.LineMeaning as meaning
 use Rattle.mcommand.proofs.Calls.{at_evaluated, does_evaluated}
 use Rattle.mexec.specs.declared.completion.Completion.TheVariants as completion
 use Rattle.mexec.specs.Frames.{completion_of}
-use Rattle.mexec.specs.Fronts.{over, at_turns, at_block, stop_of}
+use Rattle.mexec.specs.Fronts.{stops, at_turns, at_block, outcome_of}
 use Rattle.mexec.proofs.Calls.{at_then, at_gives, goes_on}
-use Rattle.mexec.proofs.FrontRuns.{gives_over, completion_stops}
+use Rattle.mexec.proofs.FrontRuns.{gives_over}
 use Rattle.mexec.proofs.front.bare.Goals as goal
 
 pub returns-in-For-clause-does : goal.returns-in-For-clause-does
-returns-in-For-clause-does g c p = rw c.in-For.is (at_gives at_turns (stop_of []) _ refl)
+returns-in-For-clause-does g c p = rw c.in-For.is (at_gives (stops at_turns) (outcome_of []) _ refl)
 
 pub returns-in-Do-clause-does : goal.returns-in-Do-clause-does
-returns-in-Do-clause-does g c p = rw c.in-Do.is (at_gives at_block (stop_of []) _ refl)
+returns-in-Do-clause-does g c p = rw c.in-Do.is (at_gives (stops at_block) (outcome_of []) _ refl)
 
 pub returns-in-Kill-clause-does : goal.returns-in-Kill-clause-does
 returns-in-Kill-clause-does g c p = rw (c.in-Kill.is, c.over-in-Kill.ensures) (gives_over [] (Ok completion.GoOn) (goes_on (λ i. with_locals (killed_except [])) c.args.parts.now.eval.depth (Ok tt) (does_evaluated c.kill_others.ensures.does)))

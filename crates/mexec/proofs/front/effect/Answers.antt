@@ -4,7 +4,7 @@ use Rattle.mmeaning.specs.LineMeaning.{context}
 use Rattle.mtree.specs.Tree.{keyword_tree, arg_tree, parameter_tree}
 use Rattle.mtree.specs.declared.tree.Arg.TheVariants as arg
 use Rattle.mexec.specs.Frames.{position_of}
-use Rattle.mexec.specs.Fronts.{at_loop, stop_of}
+use Rattle.mexec.specs.Fronts.{stops, at_loop}
 use Rattle.mexec.proofs.Calls.{at_gives, at_as}
 use Rattle.mexec.proofs.Effects.{first_none, first_some}
 use Rattle.mexec.proofs.FrontRuns.{gives_stop, begun_stops, other_started}
@@ -30,7 +30,7 @@ pub returns-in-Loop-clause-does : goal.returns-in-Loop-clause-does
 returns-in-Loop-clause-does g c =
     let first = rw (c.in-Some.is, c.deref.ensures.value) at c.first.ensures.value in
     let some = first_some c.args.command.now.args.items (arg.Loop c.in-Loop.index c.in-Loop.parameters) (sym first ∙ ap Some c.in-Loop.is) in
-    rw some.1 (at_gives (at_loop c.in-Loop.index (map parameter_tree c.in-Loop.parameters.items)) _ _ (ap (λ ps. at_loop c.in-Loop.index (map parameter_tree ps)) c.as_slice.ensures.value))
+    rw some.1 (at_gives (stops (at_loop c.in-Loop.index (map parameter_tree c.in-Loop.parameters.items))) _ _ (ap (λ ps. stops (at_loop c.in-Loop.index (map parameter_tree ps))) c.as_slice.ensures.value))
 
 pub returns-in_default-clause-stops : goal.returns-in_default-clause-stops
 returns-in_default-clause-stops g c = rw c.stopped.ensures (begun_stops c.args.command.now.args.items c.arguments_begun.result)

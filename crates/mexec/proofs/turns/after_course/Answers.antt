@@ -1,11 +1,12 @@
 -- SPDX-License-Identifier: Apache-2.0
 use Rattle.std.proofs.Common.{refl, arith}
 use Rattle.mmeaning.specs.LineMeaning.{context}
-use Rattle.mcommand.proofs.Calls.{keeps_itself, keeps_on}
-use Rattle.mexec.specs.Frames.{args_before, commands_from, completion_of, position_of, turning}
+use Rattle.mcommand.proofs.Calls.{keeps_itself, keeps_on, keeps_evaluated}
+use Rattle.mexec.specs.Frames.{completion_of, position_of, turning}
 use Rattle.mexec.proofs.Calls.{runs_completion, runs_wanting, runs_as}
-use Rattle.mexec.proofs.Loops.{one_more, no_more, not_gone_on, turn_done, turn_failed, turn_charge_failed, falls_on}
-use Rattle.mexec.proofs.FrontRuns.{front_over, front_failed, front_runs, not_over, turn_stops, turn_goes_on, turn_is_over, falls_spent}
+use Rattle.mexec.proofs.LevelRuns.{at_plain}
+use Rattle.mexec.proofs.Loops.{one_more, no_more, not_gone_on, turn_begins, turn_done, turn_charge_failed, falls_on}
+use Rattle.mexec.proofs.FrontRuns.{front_over, front_runs, front_stopped, turn_goes_on, turn_is_over, falls_spent}
 use Rattle.mexec.proofs.turns.after_course.Goals as goal
 
 pub turns-init : goal.turns-init
@@ -43,17 +44,20 @@ returns-in_err-charge-clause-does g c =
     let gone = rw (c.deref-in-turns.ensures, c.if-not-goes_on.false) at c.in_ok-goes_on.ensures.does in
     rw c.turns.invariant.scratch
     (c.turns.invariant.leads _ _ _
-    (one_more t gone c.in_ok-goes_on.ensures.fewer (turn_charge_failed (position_of t.body.position.value) (turning t) c.in_err-charge.ensures.does c.in_err-charge.ensures.fewer c.from_residual-in_err-charge.ensures)))
+    (one_more t gone c.in_ok-goes_on.ensures.fewer
+    (turn_charge_failed (position_of t.body.position.value) (turning t) (at_plain c.in_err-charge.ensures.does) c.in_err-charge.ensures.fewer c.from_residual-in_err-charge.ensures)))
 
-pub returns-in_err-stop-clause-does : goal.returns-in_err-stop-clause-does
-returns-in_err-stop-clause-does g c =
+pub returns-in_err-outcome-clause-does : goal.returns-in_err-outcome-clause-does
+returns-in_err-outcome-clause-does g c =
     let t = c.args.turns.value in
+    let d = position_of t.body.position.value in
     let gone = rw (c.deref-in-turns.ensures, c.if-not-goes_on.false) at c.in_ok-goes_on.ensures.does in
-    let body = rw (c.deref-in-turns-2.ensures, c.deref-in-turns-3.ensures, c.in_ok-body.ensures.position, c.in_ok-body.ensures.line, c.in_ok-body.ensures.at, c.deref.ensures) at c.in_err-stop.ensures.does in
+    let body = rw (c.deref-in-turns-2.ensures, c.deref-in-turns-3.ensures, c.in_ok-body.ensures.position, c.in_ok-body.ensures.line, c.in_ok-body.ensures.at, c.deref.ensures) at c.in_err-outcome.ensures.does in
     rw c.turns.invariant.scratch
     (c.turns.invariant.leads _ _ _
     (one_more t gone c.in_ok-goes_on.ensures.fewer
-    (turn_failed (position_of t.body.position.value) (turning t) c.in_ok-charge.ensures.does c.in_ok-charge.ensures.spent (front_failed (position_of t.body.position.value) t.body.line.value t.body.at body) c.in_err-stop.ensures.fewer c.from_residual-in_err-stop.ensures)))
+    (turn_begins d (turning t) (at_plain c.in_ok-charge.ensures.does) c.in_ok-charge.ensures.spent
+    (front_stopped d t.body.line.value t.body.at body c.in_err-outcome.ensures.fewer c.from_residual-in_err-outcome.ensures))))
 
 pub turns-preserved : goal.turns-preserved
 turns-preserved g c =
@@ -62,18 +66,18 @@ turns-preserved g c =
     let before = c.turns.invariant.fewer in
     let fewer = c.in_ok-goes_on.ensures.fewer in
     let spent = c.in_ok-charge.ensures.fewer in
-    let done = c.in_ok-stop.ensures.fewer in
+    let done = c.in_ok-outcome.ensures.fewer in
     let gone = rw (c.deref-in-turns.ensures, c.if-not-goes_on.false) at c.in_ok-goes_on.ensures.does in
-    let body = rw (c.deref-in-turns-2.ensures, c.deref-in-turns-3.ensures, c.in_ok-body.ensures.position, c.in_ok-body.ensures.line, c.in_ok-body.ensures.at, c.deref.ensures, c.in-Over.is) at c.in_ok-stop.ensures.does in
+    let body = rw (c.deref-in-turns-2.ensures, c.deref-in-turns-3.ensures, c.in_ok-body.ensures.position, c.in_ok-body.ensures.line, c.in_ok-body.ensures.at, c.deref.ensures, c.in-Over.is) at c.in_ok-outcome.ensures.does in
     let ends = rw c.in-None.is at c.turn_ends.ensures in
     record {
-      loans = keeps_on c.turns.invariant.loans (keeps_on c.in_ok-goes_on.ensures.loans (keeps_on c.in_ok-charge.ensures.loans c.in_ok-stop.ensures.loans));
+      loans = keeps_on (keeps_evaluated (keeps_on c.turns.invariant.loans c.in_ok-goes_on.ensures.loans) c.in_ok-charge.ensures.loans) c.in_ok-outcome.ensures.loans;
       fewer = omega (arith, before, fewer, spent, done);
       scratch = c.turns.invariant.scratch;
       leads = λ r fs p k.
           c.turns.invariant.leads r fs p
           (one_more t gone fewer
-          (turn_done d (turning t) c.in_ok-charge.ensures.does c.in_ok-charge.ensures.spent (front_over d t.body.line.value t.body.at body) done
+          (turn_done d (turning t) (at_plain c.in_ok-charge.ensures.does) c.in_ok-charge.ensures.spent (front_over d t.body.line.value t.body.at body) done
           (runs_as (λ a n. turn_goes_on (context a n d) (turning t) (completion_of c.in-Over.completion) ends) k)));
     }
 
@@ -82,7 +86,7 @@ returns-in-Some-clause-falls g c =
     let before = c.turns.invariant.fewer in
     let gone = c.in_ok-goes_on.ensures.fewer in
     let spent = c.in_ok-charge.ensures.fewer in
-    let done = c.in_ok-stop.ensures.fewer in
+    let done = c.in_ok-outcome.ensures.fewer in
     rw c.turns.invariant.scratch (omega (arith, before, gone, spent, done))
 
 pub returns-in-Some-clause-does : goal.returns-in-Some-clause-does
@@ -90,50 +94,47 @@ returns-in-Some-clause-does g c =
     let t = c.args.turns.value in
     let d = position_of t.body.position.value in
     let gone = rw (c.deref-in-turns.ensures, c.if-not-goes_on.false) at c.in_ok-goes_on.ensures.does in
-    let body = rw (c.deref-in-turns-2.ensures, c.deref-in-turns-3.ensures, c.in_ok-body.ensures.position, c.in_ok-body.ensures.line, c.in_ok-body.ensures.at, c.deref.ensures, c.in-Over.is) at c.in_ok-stop.ensures.does in
+    let body = rw (c.deref-in-turns-2.ensures, c.deref-in-turns-3.ensures, c.in_ok-body.ensures.position, c.in_ok-body.ensures.line, c.in_ok-body.ensures.at, c.deref.ensures, c.in-Over.is) at c.in_ok-outcome.ensures.does in
     let ends = rw c.in-Some.is at c.turn_ends.ensures in
     rw c.turns.invariant.scratch
     (c.turns.invariant.leads _ _ _
     (one_more t gone c.in_ok-goes_on.ensures.fewer
-    (turn_done d (turning t) c.in_ok-charge.ensures.does c.in_ok-charge.ensures.spent (front_over d t.body.line.value t.body.at body) c.in_ok-stop.ensures.fewer
+    (turn_done d (turning t) (at_plain c.in_ok-charge.ensures.does) c.in_ok-charge.ensures.spent (front_over d t.body.line.value t.body.at body) c.in_ok-outcome.ensures.fewer
     (runs_as (λ a n. turn_is_over (context a n d) (turning t) (completion_of c.in-Over.completion) (completion_of c.in-Some.completion) ends) (runs_completion c.in-Some.completion)))))
 
-pub returns-in_default-clause-does : goal.returns-in_default-clause-does
-returns-in_default-clause-does g c =
-    let t = c.args.turns.value in
-    let d = position_of t.body.position.value in
-    let l = t.body.line.value in
-    let at = c.in_ok-stop.at in
-    let gone = rw (c.deref-in-turns.ensures, c.if-not-goes_on.false) at c.in_ok-goes_on.ensures.does in
-    let body = rw (c.deref-in-turns-2.ensures, c.deref-in-turns-3.ensures, c.in_ok-body.ensures.position, c.in_ok-body.ensures.line, c.in_ok-body.ensures.at, c.deref.ensures) at c.in_ok-stop.ensures.does in
-    let does = rw (c.in_ok-copy-in_default.ensures.position, c.in_ok-copy-in_default.ensures.line, c.in_ok-body.ensures.position, c.in_ok-body.ensures.line, c.deref.ensures, c.turns.invariant.scratch) at c.go_on_in.ensures.does in
-    c.turns.invariant.leads _ _ _
-    (one_more t gone c.in_ok-goes_on.ensures.fewer
-    (turn_stops d (turning t) c.in_ok-charge.ensures.does c.in_ok-charge.ensures.spent
-    (front_runs d l t.body.at body c.in_ok-stop.ensures.fewer
-    (runs_as (λ a n. not_over (context a n d) (args_before l at) c.in_ok-stop.stop (commands_from l at) c.in_default.not-Over) does))))
-
-pub returns-in_err-copy-in_default-clause-does : goal.returns-in_err-copy-in_default-clause-does
-returns-in_err-copy-in_default-clause-does g c =
+pub returns-in_err-copy-in-Stops-clause-does : goal.returns-in_err-copy-in-Stops-clause-does
+returns-in_err-copy-in-Stops-clause-does g c =
     let t = c.args.turns.value in
     let d = position_of t.body.position.value in
     let gone = rw (c.deref-in-turns.ensures, c.if-not-goes_on.false) at c.in_ok-goes_on.ensures.does in
-    let body = rw (c.deref-in-turns-2.ensures, c.deref-in-turns-3.ensures, c.in_ok-body.ensures.position, c.in_ok-body.ensures.line, c.in_ok-body.ensures.at, c.deref.ensures) at c.in_ok-stop.ensures.does in
+    let body = rw (c.deref-in-turns-2.ensures, c.deref-in-turns-3.ensures, c.in_ok-body.ensures.position, c.in_ok-body.ensures.line, c.in_ok-body.ensures.at, c.deref.ensures) at c.in_ok-outcome.ensures.does in
     c.turns.invariant.leads _ _ _
     (one_more t gone c.in_ok-goes_on.ensures.fewer
-    (turn_stops d (turning t) c.in_ok-charge.ensures.does c.in_ok-charge.ensures.spent
-    (front_runs d t.body.line.value t.body.at body c.in_ok-stop.ensures.fewer (runs_wanting _ _ c.from_residual-in_err-copy-in_default.ensures))))
+    (turn_begins d (turning t) (at_plain c.in_ok-charge.ensures.does) c.in_ok-charge.ensures.spent
+    (front_runs d t.body.line.value t.body.at body c.in_ok-outcome.ensures.fewer (runs_wanting _ _ c.from_residual-in_err-copy-in-Stops.ensures))))
 
 pub go_on_in-requires : goal.go_on_in-requires
 go_on_in-requires g c =
-    let stops = rw c.deref-in-turns-3.ensures at c.in_ok-stop.ensures.stops in
-    rw c.in_ok-copy-in_default.ensures.line stops
+    let stops = rw (c.deref-in-turns-3.ensures, c.in-Stops.is) at c.in_ok-outcome.ensures.stops in
+    rw c.in_ok-copy-in-Stops.ensures.line stops
 
-pub returns-in_default-clause-falls : goal.returns-in_default-clause-falls
-returns-in_default-clause-falls g c =
+pub returns-in-Stops-clause-falls : goal.returns-in-Stops-clause-falls
+returns-in-Stops-clause-falls g c =
     let before = c.turns.invariant.fewer in
     let gone = c.in_ok-goes_on.ensures.fewer in
     let spent = c.in_ok-charge.ensures.spent in
-    let done = c.in_ok-stop.ensures.fewer in
+    let done = c.in_ok-outcome.ensures.fewer in
     let falls = rw c.turns.invariant.scratch at c.go_on_in.ensures.falls in
     falls_spent 2 _ _ _ _ _ c.go_on_in.result (omega (arith, before, gone, spent, done)) (omega arith) falls
+
+pub returns-in-Stops-clause-does : goal.returns-in-Stops-clause-does
+returns-in-Stops-clause-does g c =
+    let t = c.args.turns.value in
+    let d = position_of t.body.position.value in
+    let gone = rw (c.deref-in-turns.ensures, c.if-not-goes_on.false) at c.in_ok-goes_on.ensures.does in
+    let body = rw (c.deref-in-turns-2.ensures, c.deref-in-turns-3.ensures, c.in_ok-body.ensures.position, c.in_ok-body.ensures.line, c.in_ok-body.ensures.at, c.deref.ensures, c.in-Stops.is) at c.in_ok-outcome.ensures.does in
+    let does = rw (c.in_ok-copy-in-Stops.ensures.position, c.in_ok-copy-in-Stops.ensures.line, c.in_ok-body.ensures.position, c.in_ok-body.ensures.line, c.deref.ensures, c.turns.invariant.scratch) at c.go_on_in.ensures.does in
+    c.turns.invariant.leads _ _ _
+    (one_more t gone c.in_ok-goes_on.ensures.fewer
+    (turn_begins d (turning t) (at_plain c.in_ok-charge.ensures.does) c.in_ok-charge.ensures.spent
+    (front_runs d t.body.line.value t.body.at body c.in_ok-outcome.ensures.fewer does)))

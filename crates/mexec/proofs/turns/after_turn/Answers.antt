@@ -1,5 +1,4 @@
 -- SPDX-License-Identifier: Apache-2.0
-use Rattle.std.proofs.Common.{option_map}
 use Rattle.mmeaning.specs.LineMeaning.{context}
 use Rattle.mexec.specs.Frames.{completion_of, position_of, turning}
 use Rattle.mexec.proofs.Calls.{runs_completion, runs_as}

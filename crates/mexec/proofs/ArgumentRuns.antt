@@ -1,14 +1,13 @@
 -- SPDX-License-Identifier: Apache-2.0
 -- Arguments, one after another: what the code does up to where lines or a text are entered, and then that, is what each does.
-use Rattle.std.proofs.Common.{◌≡◌, ℕ, ◌+◌, ◌≤◌, ◌<◌, Bool, true, false, cond, List, ◌∷◌, Option, Result, Ok, Err, length, get_or, map, drop, refl, sym, ap, ◌∙◌, subst}
+use Rattle.std.proofs.Common.{◌≡◌, ℕ, ◌+◌, ◌<◌, Bool, true, false, cond, List, Option, Result, Ok, Err, length, get_or, map, drop, refl, sym, ◌∙◌, subst}
 use Rattle.std.specs.Result.{IsErr, IsErrAnd}
 use Rattle.mspec.specs.Act.{Text, Act, ◌>>=◌, give}
 use Rattle.mspec.proofs.ListPlaces.{next_item}
-use Rattle.mgrammar.specs.Grammar.{ExprTree, ArgTree, assign, breaks, shown, kill_one, kill_others, new_one, new_others, tested, loop, do_one, go_to, executed, locked, indirect_args}
+use Rattle.mgrammar.specs.Grammar.{ExprTree, ArgTree, do_one, executed, indirect_args}
 use Rattle.mmeaning.specs.Expression.{inside}
 use Rattle.mmeaning.specs.LineMeaning as meaning
-use Rattle.mmeaning.specs.LineMeaning.{Position, Context, Go_on, after, argument, arguments, context, doing, executing, holds, inside_of}
-use Rattle.mmeaning.specs.Frames.{View}
+use Rattle.mmeaning.specs.LineMeaning.{Position, Context, Go_on, argument, context, holds, inside_of}
 use Rattle.mmeaning.proofs.Calls.{assoc, ended}
 use Rattle.mtree.specs.Tree.{arg_tree}
 use Rattle.mtree.specs.declared.tree.Arg.{Arg}
@@ -16,13 +15,15 @@ use Rattle.mstore.specs.declared.store.NodeStore.{Ghosts}
 use Rattle.moperator.specs.declared.code.Code.{Code}
 use Rattle.mcommand.specs.declared.parts.Parts.{Parts}
 use Rattle.mcommand.specs.Does.{DoesAt}
+use Rattle.mexec.specs.declared.arguments.Entrance as entrances
 use Rattle.mexec.specs.declared.arguments.Begun.{Begun}
 use Rattle.mexec.specs.declared.arguments.Begun.TheVariants as begun
 use Rattle.mexec.specs.declared.completion.Completion.{Completion}
 use Rattle.mexec.specs.declared.completion.Completion.TheVariants as completion
-use Rattle.mexec.specs.Frames.{Runs, completion_of}
-use Rattle.mexec.specs.Arguments.{Start, gave, into_lines, into_text, started, finished, start_of, given, where_applies}
-use Rattle.mexec.proofs.Calls.{at_then, at_failed, at_gives, runs_then, runs_stopped, runs_as}
+use Rattle.mexec.specs.Frames.{completion_of}
+use Rattle.mexec.specs.Fronts.{behind, args_started, begun_of}
+use Rattle.mexec.specs.Arguments.{Entrance, into_lines, into_text, gave, enters, started, entered, finished, start_of, entrance_of, given, where_applies}
+use Rattle.mexec.proofs.Calls.{at_then, at_failed, at_stopped, at_gives}
 
 -- ---- acts
 
@@ -30,38 +31,20 @@ module _ (x : Context) where
   plain : (p : Act meaning.Completion) → ◌≡◌ {A = Act meaning.Completion} p (p >>= (λ s. give (gave s)) >>= finished x)
   plain p = sym (assoc p (λ s. give (gave s)) (finished x) ∙ ended p)
 
-  entered : (c : Option ExprTree) (st : Start) (p : Act meaning.Completion) → ◌≡◌ {A = Act meaning.Completion} p (finished x st)
-      → ◌≡◌ {A = Act meaning.Completion} (meaning.where_holds x c p) (holds (inside_of x) c >>= (λ b. give (cond b st (gave Go_on))) >>= finished x)
-  entered c st p is = sym (
-      assoc (holds (inside_of x) c) (λ b. give (cond b st (gave Go_on))) (finished x)
+  where_entered : (c : Option ExprTree) (e : Entrance) → ◌≡◌ {A = Act meaning.Completion} (meaning.where_holds x c (entered x e)) (holds (inside_of x) c >>= (λ b. give (cond b (enters e) (gave Go_on))) >>= finished x)
+  where_entered c e = sym (
+      assoc (holds (inside_of x) c) (λ b. give (cond b (enters e) (gave Go_on))) (finished x)
       ∙ (λ i. holds (inside_of x) c >>= (λ b. either b i)))
     where
-      either : (b : Bool) → ◌≡◌ {A = Act meaning.Completion} (finished x (cond b st (gave Go_on))) (cond b p (give Go_on))
-      either true = sym is
+      either : (b : Bool) → ◌≡◌ {A = Act meaning.Completion} (finished x (cond b (enters e) (gave Go_on))) (cond b (entered x e) (give Go_on))
+      either true = refl
       either false = refl
 
-  argument_is : (a : ArgTree) → ◌≡◌ {A = Act meaning.Completion} (argument x a) (started x a >>= finished x)
-  argument_is (assign d e) = plain (argument x (assign d e))
-  argument_is (breaks n) = plain (argument x (breaks n))
-  argument_is (shown e) = plain (argument x (shown e))
-  argument_is (kill_one r) = plain (argument x (kill_one r))
-  argument_is (kill_others names) = plain (argument x (kill_others names))
-  argument_is (new_one name) = plain (argument x (new_one name))
-  argument_is (new_others names) = plain (argument x (new_others names))
-  argument_is (tested e) = plain (argument x (tested e))
-  argument_is (loop index parameters) = plain (argument x (loop index parameters))
-  argument_is (do_one e c) = entered c (into_lines e) (doing x e) refl
-  argument_is (go_to e c) = plain (argument x (go_to e c))
-  argument_is (executed e c) = entered c (into_text e) (executing x e) refl
-  argument_is (locked k names t) = plain (argument x (locked k names t))
+  pub argument_is : (a : ArgTree) → ◌≡◌ {A = Act meaning.Completion} (argument x a) (started x a >>= finished x)
+  argument_is (do_one e c) = where_entered c (into_lines e)
+  argument_is (executed e c) = where_entered c (into_text e)
   argument_is (indirect_args f p) = refl
-
-  -- what follows, once it is known what an argument leaves to be done
-  abbrev pub then_more : List ArgTree → Start → Act meaning.Completion
-  then_more rest st = finished x st >>= (λ s. after s (arguments x rest))
-
-  next_is : (a : ArgTree) (rest : List ArgTree) → ◌≡◌ {A = Act meaning.Completion} (arguments x (a ∷ rest)) (started x a >>= then_more rest)
-  next_is a rest = ap (λ (q : Act meaning.Completion). q >>= (λ s. after s (arguments x rest))) (argument_is a) ∙ assoc (started x a) (finished x) (λ s. after s (arguments x rest))
+  argument_is a = plain (argument x a)
 
 -- ---- calls
 
@@ -70,25 +53,23 @@ module _ {S : Type 0} {g : Ghosts S} where
   gives_start (Ok s) d = at_then (λ a n s. give (gave s)) d (at_gives (gave (completion_of s)) start_of (begun.Gave s) refl)
   gives_start (Err c) d = at_failed (λ a n s. give (gave s)) d
 
-  pub enters_where : (p : Position) (c : Option ExprTree) (b : Begun) {old new : Parts S} (r : Result Bool Code) → DoesAt g (λ a n. holds (inside a n p.depth) c) (λ (b : Bool). b) old r new
-      → DoesAt g (λ a n. holds (inside a n p.depth) c >>= (λ holds. give (cond holds (start_of b) (gave Go_on)))) start_of old (where_applies r b) new
-  enters_where p c b (Ok true) d = at_then (λ a n holds. give (cond holds (start_of b) (gave Go_on))) d (at_gives (start_of b) start_of b refl)
-  enters_where p c b (Ok false) d = at_then (λ a n holds. give (cond holds (start_of b) (gave Go_on))) d (at_gives (gave Go_on) start_of (begun.Gave completion.GoOn) refl)
-  enters_where p c b (Err e) d = at_failed (λ a n holds. give (cond holds (start_of b) (gave Go_on))) d
+  pub enters_where : (p : Position) (c : Option ExprTree) (e : entrances.Entrance) {old new : Parts S} (r : Result Bool Code) → DoesAt g (λ a n. holds (inside a n p.depth) c) (λ (b : Bool). b) old r new
+      → DoesAt g (λ a n. holds (inside a n p.depth) c >>= (λ holds. give (cond holds (enters (entrance_of e)) (gave Go_on)))) start_of old (where_applies r e) new
+  enters_where p c e (Ok true) d = at_then (λ a n holds. give (cond holds (enters (entrance_of e)) (gave Go_on))) d (at_gives (enters (entrance_of e)) start_of (begun.Enters e) refl)
+  enters_where p c e (Ok false) d = at_then (λ a n holds. give (cond holds (enters (entrance_of e)) (gave Go_on))) d (at_gives (gave Go_on) start_of (begun.Gave completion.GoOn) refl)
+  enters_where p c e (Err f) d = at_failed (λ a n holds. give (cond holds (enters (entrance_of e)) (gave Go_on))) d
 
   module _ (p : Position) (all : List Arg) (k : ℕ) (x : Arg) (less : k < length all) (is : x ≡ get_or all k x) where
     -- an argument is begun, and then those behind it go on
-    pub argument_runs : {o : Begun} {fs fs' : List View} {old mid new : Parts S} {r : Result Completion Code} → DoesAt g (λ a n. started (context a n p) (arg_tree x)) start_of old (Ok o) mid → mid.eval.steps ≤ old.eval.steps
-        → Runs g (λ a n. then_more (context a n p) (map arg_tree (drop (k + 1) all)) (start_of o)) fs mid r fs' new
-        → Runs g (λ a n. arguments (context a n p) (map arg_tree (drop k all))) fs old r fs' new
-    argument_runs {fs = fs} {fs' = fs'} {old = old} {new = new} {r = r} does few then_runs =
-        subst (λ (xs : List Arg). Runs g (λ a n. arguments (context a n p) (map arg_tree xs)) fs old r fs' new) (sym (next_item all k x less is))
-        (runs_as (λ a n. next_is (context a n p) (arg_tree x) (map arg_tree (drop (k + 1) all)))
-        (runs_then (λ a n. then_more (context a n p) (map arg_tree (drop (k + 1) all))) does few then_runs))
+    pub argument_begins : {o : Begun} {old mid new : Parts S} {r : Result (Begun × ℕ) Code} → DoesAt g (λ a n. started (context a n p) (arg_tree x)) start_of old (Ok o) mid
+        → DoesAt g (λ a n. behind (start_of o) (map arg_tree (drop (k + 1) all)) (args_started (context a n p) (map arg_tree (drop (k + 1) all)))) (begun_of all) mid r new
+        → DoesAt g (λ a n. args_started (context a n p) (map arg_tree (drop k all))) (begun_of all) old r new
+    argument_begins {old = old} {new = new} {r = r} does then_does =
+        subst (λ (xs : List Arg). DoesAt g (λ a n. args_started (context a n p) (map arg_tree xs)) (begun_of all) old r new) (sym (next_item all k x less is))
+        (at_then (λ a n st. behind st (map arg_tree (drop (k + 1) all)) (args_started (context a n p) (map arg_tree (drop (k + 1) all)))) does then_does)
 
-    pub argument_stopped : {fs fs' : List View} {old new : Parts S} {r : Result Completion Code} {e : Code} → DoesAt g (λ a n. started (context a n p) (arg_tree x)) start_of old (Err e) new → new.eval.steps ≤ old.eval.steps
-        → IsErr r × IsErrAnd r (λ x. x ≡ e) → Runs g (λ a n. arguments (context a n p) (map arg_tree (drop k all))) fs old r fs' new
-    argument_stopped {fs = fs} {fs' = fs'} {old = old} {new = new} {r = r} does few h =
-        subst (λ (xs : List Arg). Runs g (λ a n. arguments (context a n p) (map arg_tree xs)) fs old r fs' new) (sym (next_item all k x less is))
-        (runs_as (λ a n. next_is (context a n p) (arg_tree x) (map arg_tree (drop (k + 1) all)))
-        (runs_stopped (λ a n. then_more (context a n p) (map arg_tree (drop (k + 1) all))) does few h))
+    pub argument_stopped : {old new : Parts S} {r : Result (Begun × ℕ) Code} {e : Code} → DoesAt g (λ a n. started (context a n p) (arg_tree x)) start_of old (Err e) new → IsErr r × IsErrAnd r (λ x. x ≡ e)
+        → DoesAt g (λ a n. args_started (context a n p) (map arg_tree (drop k all))) (begun_of all) old r new
+    argument_stopped {old = old} {new = new} {r = r} does h =
+        subst (λ (xs : List Arg). DoesAt g (λ a n. args_started (context a n p) (map arg_tree xs)) (begun_of all) old r new) (sym (next_item all k x less is))
+        (at_stopped (λ a n st. behind st (map arg_tree (drop (k + 1) all)) (args_started (context a n p) (map arg_tree (drop (k + 1) all)))) does h)

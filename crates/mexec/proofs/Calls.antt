@@ -2,7 +2,7 @@
 -- How the calls of this crate are put together.
 use Rattle.std.proofs.Common.{◌≡◌, ℕ, zero, suc, ◌≤◌, ◌<◌, ◌+◌, ◌++◌, List, [], ◌∷◌, Result, Ok, Err, length, drop, get_or, refl, sym, ◌∙◌, subst, arith}
 use Rattle.std.proofs.lemmas.List.{drop_more}
-use Rattle.std.specs.Result.{IsErr, IsErrAnd, IfOk}
+use Rattle.std.specs.Result.{IsErr, IsErrAnd}
 use Rattle.mspec.specs.Act.{Text, Act, ◌>>=◌, ◌>>◌, give, set_test}
 use Rattle.mgrammar.specs.Grammar.{ExprTree, ArgTree, CommandTree}
 use Rattle.mmeaning.specs.Operators.{as_truth}
@@ -11,7 +11,7 @@ use Rattle.mmeaning.specs.LineMeaning as meaning
 use Rattle.mmeaning.specs.LineMeaning.{Context, Go_on, after, context}
 use Rattle.mmeaning.specs.Calls.{Standing, Here, Did}
 use Rattle.mmeaning.specs.Frames.{View, Rests, Lists, left, frame, Enough, MovedOn}
-use Rattle.mmeaning.proofs.Calls.{residual_is, did_then, did_failed, did_gives, did_lost, then_follows, then_failed, assoc, ended}
+use Rattle.mmeaning.proofs.Calls.{residual_is, did_then, did_failed, did_gives, then_follows, then_failed, assoc, ended}
 use Rattle.mmeaning.proofs.Moves.{on_then, on_failed, on_lost, on_completion, on_frame, on_top, enough}
 use Rattle.mstore.specs.declared.store.NodeStore.{Ghosts}
 use Rattle.moperator.specs.Codes.{fault_of}
@@ -20,7 +20,7 @@ use Rattle.moperator.specs.declared.code.Code.TheVariants.{Zmem}
 use Rattle.meval.specs.declared.depth.Depth.{Depth}
 use Rattle.meval.specs.Evaluates.{standing_of, depth_of}
 use Rattle.mcommand.specs.declared.parts.Parts.{Parts}
-use Rattle.mcommand.specs.Does.{Does, DoesAt, here_of}
+use Rattle.mcommand.specs.Does.{Does, DoesAt, KeepsLoans, here_of}
 use Rattle.mcommand.specs.Conditions.{tested}
 use Rattle.mexec.specs.declared.frames.Frame.{Frame}
 use Rattle.mexec.specs.declared.completion.Completion.{Completion}
@@ -57,13 +57,6 @@ at_gives a f x same = record {
   same = refl;
 }
 
--- want of memory
-pub at_lost : {S A X : Type 0} {g : Ghosts S} (p : Text → ℕ → Act A) (f : X → A) {parts : Parts S} → DoesAt g p f parts (Err Zmem) parts
-at_lost p f {parts = parts} = record {
-  at = λ sound. did_lost (p (standing_of parts.eval).account) f Zmem tt refl (omega arith);
-  same = refl;
-}
-
 -- a call at a depth of its own, which goes on with what is next
 module _ {S : Type 0} {g : Ghosts S} (p : Inside → Act (Unit {0})) (depth : Depth) {old new : Parts S} where
   there : {r : Result (Unit {0}) Code} → Does g p (λ (u : Unit {0}). u) (record old { eval = record old.eval { depth = depth } }) r new → DoesAt g (λ a n. p (inside a n (depth_of depth))) (λ (u : Unit {0}). u) old r new
@@ -82,23 +75,19 @@ testing_is i e = sym (
 -- a completion that passes what is next
 pub passes : (s : Completion) (p : Act meaning.Completion) → (s ≡ completion.GoOn → ⊥) → ◌≡◌ {A = Act meaning.Completion} (after (completion_of s) p) (give (completion_of s))
 passes completion.GoOn p not_go = absurd (not_go refl)
-passes completion.Skips p not_go = refl
-passes completion.Quits p not_go = refl
-passes (completion.Goes t) p not_go = refl
-passes completion.Halts p not_go = refl
+passes s p not_go = refl
 
 -- a call at a depth that plays no part
 pub at_depth : {S A X : Type 0} {g : Ghosts S} {p : Text → ℕ → Act A} {f : X → A} {old new : Parts S} {r : Result X Code} (d : Depth) → DoesAt g p f (record old { eval = record old.eval { depth = d } }) r new → DoesAt g p f old r new
 at_depth d k = record { at = λ sound. k.at sound; same = k.same }
 
+-- nor does it for what was lent
+pub keeps_at_depth : {S : Type 0} {a b : Parts S} (d : Depth) → KeepsLoans (record a { eval = record a.eval { depth = d } }) b → KeepsLoans a b
+keeps_at_depth d k = record { eval = record { session = k.eval.session; store = k.eval.store }; locks = k.locks; out = k.out }
+
 -- an act by another name
 pub at_as : {S A X : Type 0} {g : Ghosts S} {p q : Text → ℕ → Act A} {f : X → A} {old new : Parts S} {r : Result X Code} → ((a : Text) (n : ℕ) → ◌≡◌ {A = Act A} (p a n) (q a n)) → DoesAt g q f old r new → DoesAt g p f old r new
 at_as {g = g} {f = f} {old = old} {new = new} {r = r} same k = subst (λ p. DoesAt g p f old r new) (λ i a n. sym (same a n) i) k
-
--- a fact that no value changes
-pub in_any_case : {X E P : Type 0} (r : Result X E) → P → IfOk r (λ _. P)
-in_any_case (Ok x) h = h
-in_any_case (Err e) h = tt
 
 -- ---- acts before frames
 
@@ -151,14 +140,6 @@ runs_wanting {g = g} p {fs = fs} {fs' = fs'} {parts = parts} r h = subst (λ r. 
   same = refl;
 })
 
--- the same, by a code that the call itself gives
-pub runs_lost : {S : Type 0} {g : Ghosts S} (p : Text → ℕ → Act meaning.Completion) {fs fs' : List View} {parts : Parts S} → Runs g p fs parts (Err Zmem) fs' parts
-runs_lost p {fs = fs} {parts = parts} = record {
-  at = λ sound n ns le e. on_lost (p (standing_of parts.eval).account n) (left (standing_of parts.eval).account fs ns) Zmem tt refl (omega arith);
-  fewer = omega arith;
-  same = refl;
-}
-
 -- a completion is given to the frames
 pub runs_completion : {S : Type 0} {g : Ghosts S} {fs : List View} {parts : Parts S} (s : Completion) → Runs g (λ a n. give (completion_of s)) fs parts (Ok s) fs parts
 runs_completion s = record {
@@ -166,10 +147,6 @@ runs_completion s = record {
   fewer = omega arith;
   same = refl;
 }
-
--- the same completion, by another name
-pub runs_given : {S : Type 0} {g : Ghosts S} {fs : List View} {parts : Parts S} (s : Completion) (v : meaning.Completion) → completion_of s ≡ v → Runs g (λ a n. give v) fs parts (Ok s) fs parts
-runs_given {g = g} {fs = fs} {parts = parts} s v is = subst (λ v. Runs g (λ a n. give v) fs parts (Ok s) fs parts) is (runs_completion s)
 
 -- an act by another name
 pub runs_as : {S : Type 0} {g : Ghosts S} {p q : Text → ℕ → Act meaning.Completion} {fs fs' : List View} {old new : Parts S} {r : Result Completion Code} → ((a : Text) (n : ℕ) → ◌≡◌ {A = Act meaning.Completion} (p a n) (q a n)) → Runs g q fs old r fs' new → Runs g p fs old r fs' new
@@ -225,25 +202,15 @@ runs_list d args = record {
 -- the empty rest of a line gives the completion again, and so does that of a command's arguments
 nothing_left : (d : Context) (s : meaning.Completion) → ◌≡◌ {A = Act meaning.Completion} (after s (meaning.commands d [])) (give s)
 nothing_left d meaning.Go_on = refl
-nothing_left d meaning.Skips = refl
-nothing_left d meaning.Quits = refl
-nothing_left d meaning.Halts = refl
-nothing_left d (meaning.Goes l) = refl
+nothing_left d s = refl
 
 none_more : (d : Context) (s : meaning.Completion) → ◌≡◌ {A = Act meaning.Completion} (after s (meaning.arguments d [])) (give s)
 none_more d meaning.Go_on = refl
-none_more d meaning.Skips = refl
-none_more d meaning.Quits = refl
-none_more d meaning.Halts = refl
-none_more d (meaning.Goes l) = refl
-
--- an act before it
-runs_last : {S : Type 0} {g : Ghosts S} {p : Text → ℕ → Act meaning.Completion} (d : meaning.Position) {fs fs' : List View} {old new : Parts S} {r : Result Completion Code} → Runs g p fs old r fs' new → Runs g (λ a n. p a n >>= frame a n (Rests d [])) fs old r fs' new
-runs_last {p = p} d k = runs_as (λ a n. (λ i. p a n >>= (λ s. nothing_left (context a n d) s i)) ∙ ended (p a n)) k
+none_more d s = refl
 
 -- an act before the rest of a line that may be empty
 pub runs_resting : {S : Type 0} {g : Ghosts S} {p : Text → ℕ → Act meaning.Completion} (d : meaning.Position) (l : List CommandTree) {fs fs' : List View} {old new : Parts S} {r : Result Completion Code} → Runs g p (resting d l fs) old r fs' new → Runs g (λ a n. p a n >>= frame a n (Rests d l)) fs old r fs' new
-runs_resting d [] k = runs_last d k
+runs_resting {p = p} d [] k = runs_as (λ a n. (λ i. p a n >>= (λ s. nothing_left (context a n d) s i)) ∙ ended (p a n)) k
 runs_resting d (c ∷ l) k = runs_frame (Rests d (c ∷ l)) k
 
 -- an act before the rest of a command's arguments, of which there may be none

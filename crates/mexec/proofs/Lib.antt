@@ -6,5 +6,5 @@ pub mod Indexes
 pub mod LevelRuns
 pub mod ArgumentRuns
 pub mod Effects
-pub mod DirectRuns
+pub mod FrontRuns
 pub mod Texts

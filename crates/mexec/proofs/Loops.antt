@@ -14,7 +14,7 @@ use Rattle.mmeaning.specs.Expression.{value, inside}
 use Rattle.mmeaning.specs.LineMeaning as meaning
 use Rattle.mmeaning.specs.LineMeaning.{Context, Position, Turning, Skips, context, inside_of, index_number, number_of, next_parameter, after_course, begin_turn}
 use Rattle.mmeaning.specs.Frames as frames
-use Rattle.mmeaning.specs.Frames.{View, Rests}
+use Rattle.mmeaning.specs.Frames.{View}
 use Rattle.mmeaning.proofs.Calls.{assoc}
 use Rattle.mtree.specs.Tree.{parameter_tree}
 use Rattle.mtree.specs.declared.tree.Parameter.{Parameter}
@@ -27,7 +27,7 @@ use Rattle.mexec.specs.declared.completion.Completion.{Completion}
 use Rattle.mexec.specs.declared.completion.Completion.TheVariants as completion
 use Rattle.mexec.specs.declared.frames.ForLoop.{ForLoop}
 use Rattle.mexec.specs.Frames.{Runs, commands_from, loop_before, turning, completion_of, position_of}
-use Rattle.mexec.proofs.Calls.{runs_then, runs_stopped, runs_as, runs_spent, runs_frame, runs_rest, runs_completion}
+use Rattle.mexec.proofs.Calls.{runs_then, runs_stopped, runs_as, runs_spent, runs_frame, runs_completion}
 
 -- ---- acts
 
@@ -80,22 +80,15 @@ course_is x t forever = refl
 
 -- ---- a turn
 
--- once its step is spent
-pub turn_runs : {S X : Type 0} {g : Ghosts S} {f : X → Unit {0}} {u : X} {fs : List View} {old mid : Parts S} (d : Position) (t : Turning) → DoesAt g (λ a n. charge) f old (Ok u) mid → mid.eval.steps < old.eval.steps
-    → Runs g (λ a n. begin_turn (context a n d) t) fs old (Ok completion.GoOn) (Rests d t.body ∷ frames.Turns d t ∷ fs) mid
-turn_runs d t c less = runs_spent (λ a n _. (context a n d).texts.turn d t) c less (runs_frame (frames.Turns d t) (runs_rest d t.body))
+module _ {S X : Type 0} {g : Ghosts S} {f : X → Unit {0}} {u : X} {old mid : Parts S} (d : Position) (t : Turning) (c : DoesAt g (λ a n. charge) f old (Ok u) mid) (less : mid.eval.steps < old.eval.steps) where
+  -- once its step is spent its body is done, with the turns below it
+  pub turn_begins : {fs fs' : List View} {new : Parts S} {r : Result Completion Code} → Runs g (λ a n. meaning.commands (context a n d) t.body) (frames.Turns d t ∷ fs) mid r fs' new → Runs g (λ a n. begin_turn (context a n d) t) fs old r fs' new
+  turn_begins k = runs_spent (λ a n _. (context a n d).texts.turn d t) c less (runs_frame (frames.Turns d t) k)
 
--- with its body done at once
-pub turn_done : {S X : Type 0} {g : Ghosts S} {f : X → Unit {0}} {u : X} {s : Completion} {fs fs' : List View} {old mid next new : Parts S} {r : Result Completion Code} (d : Position) (t : Turning) → DoesAt g (λ a n. charge) f old (Ok u) mid → mid.eval.steps < old.eval.steps
-    → DoesAt g (λ a n. meaning.commands (context a n d) t.body) completion_of mid (Ok s) next → next.eval.steps ≤ mid.eval.steps → Runs g (λ a n. meaning.after_turn (context a n d) t (completion_of s)) fs next r fs' new
-    → Runs g (λ a n. begin_turn (context a n d) t) fs old r fs' new
-turn_done d t c less does few k = runs_spent (λ a n _. (context a n d).texts.turn d t) c less (runs_then (λ a n s. meaning.after_turn (context a n d) t s) does few k)
-
--- and where the body fails
-pub turn_failed : {S X : Type 0} {g : Ghosts S} {f : X → Unit {0}} {u : X} {fs fs' : List View} {old mid new : Parts S} {r : Result Completion Code} {e : Code} (d : Position) (t : Turning) → DoesAt g (λ a n. charge) f old (Ok u) mid → mid.eval.steps < old.eval.steps
-    → DoesAt g (λ a n. meaning.commands (context a n d) t.body) completion_of mid (Err e) new → new.eval.steps ≤ mid.eval.steps → IsErr r × IsErrAnd r (λ x. x ≡ e)
-    → Runs g (λ a n. begin_turn (context a n d) t) fs old r fs' new
-turn_failed d t c less does few h = runs_spent (λ a n _. (context a n d).texts.turn d t) c less (runs_stopped (λ a n s. meaning.after_turn (context a n d) t s) does few h)
+  -- the same at once
+  pub turn_done : {s : Completion} {fs fs' : List View} {next new : Parts S} {r : Result Completion Code} → DoesAt g (λ a n. meaning.commands (context a n d) t.body) completion_of mid (Ok s) next → next.eval.steps ≤ mid.eval.steps
+      → Runs g (λ a n. meaning.after_turn (context a n d) t (completion_of s)) fs next r fs' new → Runs g (λ a n. begin_turn (context a n d) t) fs old r fs' new
+  turn_done does few k = runs_spent (λ a n _. (context a n d).texts.turn d t) c less (runs_then (λ a n s. meaning.after_turn (context a n d) t s) does few k)
 
 -- and where there is no step for it
 pub turn_charge_failed : {S X : Type 0} {g : Ghosts S} {f : X → Unit {0}} {fs fs' : List View} {old new : Parts S} {r : Result Completion Code} {e : Code} (d : Position) (t : Turning) → DoesAt g (λ a n. charge) f old (Err e) new → new.eval.steps ≤ old.eval.steps

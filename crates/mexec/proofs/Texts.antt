@@ -18,22 +18,18 @@ use Rattle.mcommand.specs.Does.{DoesAt, here_of}
 use Rattle.mexec.specs.declared.completion.Completion.{Completion}
 use Rattle.mexec.specs.declared.completion.Completion.TheVariants as completion
 use Rattle.mexec.specs.declared.text.Ended.{Ended}
-use Rattle.mexec.specs.declared.text.Ended.TheVariants.{Done, Halt, Fault}
+use Rattle.mexec.specs.declared.text.Ended.TheVariants.{Fault}
 use Rattle.mexec.specs.Frames.{completion_of}
 use Rattle.mexec.specs.Runs.{RunsText, EndsBy, ending_of}
 
 -- no completion ends a line with a code
 no_fault : (c : Code) (s : Completion) → ending_of (Fault c) ≡ transition.ending_of (completion_of s) → ⊥
 no_fault c completion.GoOn e = cc
-no_fault c completion.Skips e = cc
-no_fault c completion.Quits e = cc
-no_fault c (completion.Goes t) e = cc
-no_fault c completion.Halts e = cc
+no_fault c s e = cc
 
 ends_by : (b : Standing) (steady : Type 0) (p : Act meaning.Completion) (h : Here) (e : Ended) (s : Completion) (h' : Here) → ending_of e ≡ transition.ending_of (completion_of s) → Gave b p h (completion_of s) h' → EndsBy b steady p h e h'
-ends_by b steady p h Done s h' is gave = (completion_of s, sym is, gave)
-ends_by b steady p h Halt s h' is gave = (completion_of s, sym is, gave)
 ends_by b steady p h (Fault c) s h' is gave = absurd (no_fault c s is)
+ends_by b steady p h e s h' is gave = (completion_of s, sym is, gave)
 
 module _ {S : Type 0} {g : Ghosts S} where
   pub refused : (o : Option LineTree) (parts : Parts S) → o ≡ None → RunsText g o parts (Fault Zsyntax) parts

@@ -9,38 +9,54 @@ use Rattle.mmeaning.specs.LineMeaning.{Position, Go_on, Context, inside_of, hold
 use Rattle.mmeaning.specs.Frames.{View, Lists}
 use Rattle.mtree.specs.Tree.{entry_tree, expr_tree, keyword_tree, primary_tree}
 use Rattle.moperator.specs.declared.code.Code.{Code}
+use Rattle.mexec.specs.declared.arguments.Entrance as entrances
+use Rattle.mexec.specs.declared.arguments.Entrance.TheVariants as entrance
 use Rattle.mexec.specs.declared.arguments.Begun.{Begun}
 use Rattle.mexec.specs.declared.arguments.Begun.TheVariants as begun
 use Rattle.mexec.specs.declared.completion.Completion.{Completion}
 use Rattle.mexec.specs.declared.completion.Completion.TheVariants as completion
 use Rattle.mexec.specs.Frames.{completion_of}
 
--- what an argument leaves to be done: nothing, once it has given its completion; the lines from one on; a text; or arguments of a form that
--- the value of an operand gives
+-- what an argument enters: the lines from one on; a text; or arguments of a form that the value of an operand gives
+pub data Entrance : Type 0 where
+  into_lines : EntryTree → Entrance
+  into_text : ExprTree → Entrance
+  into_given : FormTree → PrimaryTree → Entrance
+
+-- what an argument leaves to be done: nothing, once it has given its completion; or what it enters
 pub data Start : Type 0 where
   gave : meaning.Completion → Start
-  into_lines : EntryTree → Start
-  into_text : ExprTree → Start
-  into_given : FormTree → PrimaryTree → Start
+  enters : Entrance → Start
 
 abbrev pub started : Context → ArgTree → Act Start
-started x (do_one e c) = holds (inside_of x) c >>= (λ b. give (cond b (into_lines e) (gave Go_on)))
-started x (executed e c) = holds (inside_of x) c >>= (λ b. give (cond b (into_text e) (gave Go_on)))
-started x (indirect_args f p) = give (into_given f p)
+started x (do_one e c) = holds (inside_of x) c >>= (λ b. give (cond b (enters (into_lines e)) (gave Go_on)))
+started x (executed e c) = holds (inside_of x) c >>= (λ b. give (cond b (enters (into_text e)) (gave Go_on)))
+started x (indirect_args f p) = give (enters (into_given f p))
 started x a = argument x a >>= (λ s. give (gave s))
+
+-- what that does
+abbrev pub entered : Context → Entrance → Act meaning.Completion
+entered x (into_lines e) = doing x e
+entered x (into_text e) = executing x e
+entered x (into_given f p) = meaning.given x f p
 
 abbrev pub finished : Context → Start → Act meaning.Completion
 finished x (gave s) = give s
-finished x (into_lines e) = doing x e
-finished x (into_text e) = executing x e
-finished x (into_given f p) = meaning.given x f p
+finished x (enters e) = entered x e
+
+-- and then the arguments behind it
+abbrev pub entered_then : Context → Entrance → List ArgTree → Act meaning.Completion
+entered_then x e rest = entered x e >>= (λ s. after s (arguments x rest))
 
 -- the same of the program
+abbrev pub entrance_of : entrances.Entrance → Entrance
+entrance_of (entrance.Lines e) = into_lines (entry_tree e.now)
+entrance_of (entrance.Text e) = into_text (expr_tree e.now)
+entrance_of (entrance.Indirect k p) = into_given (form_of (keyword_tree k)) (primary_tree p.now)
+
 abbrev pub start_of : Begun → Start
 start_of (begun.Gave s) = gave (completion_of s)
-start_of (begun.Lines e) = into_lines (entry_tree e.now)
-start_of (begun.Text e) = into_text (expr_tree e.now)
-start_of (begun.Indirect k p) = into_given (form_of (keyword_tree k)) (primary_tree p.now)
+start_of (begun.Enters e) = enters (entrance_of e)
 
 -- an argument that gave its completion
 abbrev pub given : Result Completion Code → Result Begun Code
@@ -48,22 +64,12 @@ given (Ok s) = Ok (begun.Gave s)
 given (Err c) = Err c
 
 -- one that enters where its condition holds
-abbrev pub where_applies : Result Bool Code → Begun → Result Begun Code
-where_applies (Ok true) b = Ok b
-where_applies (Ok false) b = Ok (begun.Gave completion.GoOn)
-where_applies (Err c) b = Err c
+abbrev pub where_applies : Result Bool Code → entrances.Entrance → Result Begun Code
+where_applies (Ok true) e = Ok (begun.Enters e)
+where_applies (Ok false) e = Ok (begun.Gave completion.GoOn)
+where_applies (Err c) e = Err c
 
 -- the rest of a command's arguments on top of frames, where there are some
 abbrev pub listing : Position → List ArgTree → List View → List View
 listing p [] fs = fs
 listing p (a ∷ rest) fs = Lists p (a ∷ rest) ∷ fs
-
--- what is entered, and then the arguments behind it
-abbrev pub lines_then : Context → EntryTree → List ArgTree → Act meaning.Completion
-lines_then x e rest = doing x e >>= (λ s. after s (arguments x rest))
-
-abbrev pub text_then : Context → ExprTree → List ArgTree → Act meaning.Completion
-text_then x e rest = executing x e >>= (λ s. after s (arguments x rest))
-
-abbrev pub given_then : Context → FormTree → PrimaryTree → List ArgTree → Act meaning.Completion
-given_then x f p rest = meaning.given x f p >>= (λ s. after s (arguments x rest))

@@ -1,17 +1,18 @@
 // SPDX-License-Identifier: Apache-2.0
 // The arguments of a command, one after another.
-ghost use Rattle.std.specs.Prelude.{◌≡◌, ◌≤◌, ◌+◌, ◌*◌, map, drop, length, IfOk};
-ghost use Rattle.mgrammar.specs.Commands.{form_of};
+ghost use Rattle.std.specs.Prelude.{◌≡◌, ◌≤◌, map, drop, IfOk};
 ghost use Rattle.mmeaning.specs.LineMeaning as meaning;
 ghost use Rattle.mmeaning.specs.LineMeaning.{context};
-ghost use Rattle.mtree.specs.Tree.{arg_tree, entry_tree, expr_tree, keyword_tree, primary_tree};
+ghost use Rattle.mtree.specs.Tree.{arg_tree, condition_tree, entry_tree, expr_tree};
+ghost use Rattle.mmeaning.specs.Expression.{inside};
+ghost use Rattle.meval.specs.Evaluates.{depth_of};
 ghost use Rattle.mcommand.specs.Does.{DoesAt, KeepsLoans};
-ghost use Rattle.mexec.specs.Frames.{Runs, source_args, source_position, position_of, stack};
-ghost use Rattle.mexec.specs.Arguments.{started, start_of, given, where_applies, lines_then, text_then, given_then};
+ghost use Rattle.mexec.specs.Falls.{Falls};
+ghost use Rattle.mexec.specs.Frames.{Runs, completion_of, went, source_args, source_position, position_of, stack};
+ghost use Rattle.mexec.specs.Fronts.{args_started, begun_of};
+ghost use Rattle.mexec.specs.Arguments.{started, start_of, given, where_applies, entrance_of, entered_then};
 
-use crate::commands::holds;
-use crate::completion::Completion;
-use crate::direct::direct_argument;
+use crate::completion::{Completion, went_on, where_true};
 use crate::entering::{doing, executing};
 use crate::frames::Position;
 use crate::indirection::giving;
@@ -23,14 +24,19 @@ use mstore::NodeStore;
 use mtree::{Arg, Entry, Expr, Keyword, Primary};
 use std::alloc::Global;
 
-// What an argument leaves to be done: nothing, once it has given its completion; the lines from one on; a text; or the arguments that
-// the value of an operand gives.
+// What an argument enters: the lines from one on; a text; or the arguments that the value of an operand gives.
 #[derive(Drop)]
-pub(crate) enum Begun<'t> {
-    Gave(Completion),
+pub(crate) enum Entrance<'t> {
     Lines(&'t Entry),
     Text(&'t Expr),
     Indirect(Keyword, &'t Primary),
+}
+
+// What an argument leaves to be done: nothing, once it has given its completion; or what it enters.
+#[derive(Drop)]
+pub(crate) enum Begun<'t> {
+    Gave(Completion),
+    Enters(Entrance<'t>),
 }
 
 // An argument that gave its completion.
@@ -43,15 +49,60 @@ fn gave<'t>(completion: Result<Completion, Code>) -> Result<Begun<'t>, Code>
     }
 }
 
+// An argument that goes on with the next, once it is done.
+fn done<'t>(done: Result<(), Code>) -> Result<Begun<'t>, Code>
+    ensures { result ≡ given (went done) }
+{
+    gave(went_on(done))
+}
+
 // One that enters lines or a text where its condition holds.
-fn enters<'t>(applies: Result<bool, Code>, begun: Begun<'t>) -> Result<Begun<'t>, Code>
-    ensures { result ≡ where_applies applies begun.entry }
+fn enters<'t>(applies: Result<bool, Code>, entrance: Entrance<'t>) -> Result<Begun<'t>, Code>
+    ensures { result ≡ where_applies applies entrance.entry }
 {
     match applies {
-        Ok(true) => Ok(begun),
+        Ok(true) => Ok(Begun::Enters(entrance)),
         Ok(false) => Ok(Begun::Gave(Completion::GoOn)),
         Err(code) => Err(code),
     }
+}
+
+// GOTO, where its condition holds.
+fn going<S: NodeStore>(
+    alloc: Global,
+    parts: &mut Parts<S>,
+    position: &Position,
+    entry: &Entry,
+    condition: &Option<Box<Expr>>,
+) -> Result<Completion, Code>
+    ensures loans { KeepsLoans parts.old parts.new }
+    ensures fewer { parts.new.eval.steps ≤ parts.old.eval.steps }
+    ensures does { DoesAt S.NodeStore (λ a n. meaning.where_holds (context a n (position_of position.now)) (condition_tree condition.now) (meaning.going (context a n (position_of position.now)) (entry_tree entry.now))) completion_of parts.old result parts.new }
+{
+    parts.eval.depth = position.depth;
+    let applies = parts.holds(alloc, condition)?;
+    if applies {
+        let target = parts.target(alloc, &position.level.copy, position.level.dots, entry)?;
+        Ok(Completion::Goes(target))
+    } else {
+        Ok(Completion::GoOn)
+    }
+}
+
+// IF, whose argument is a condition.
+fn tested<S: NodeStore>(
+    alloc: Global,
+    parts: &mut Parts<S>,
+    position: &Position,
+    e: &Expr,
+) -> Result<Completion, Code>
+    ensures loans { KeepsLoans parts.old parts.new }
+    ensures fewer { parts.new.eval.steps ≤ parts.old.eval.steps }
+    ensures does { DoesAt S.NodeStore (λ a n. meaning.testing (inside a n (depth_of position.now.depth)) (expr_tree e.now)) completion_of parts.old result parts.new }
+{
+    parts.eval.depth = position.depth;
+    let is_true = parts.testing(alloc, e)?;
+    Ok(where_true(is_true))
 }
 
 // What an argument does, of whichever command but FOR, up to where it enters lines or a text, or a text gives arguments.
@@ -65,79 +116,82 @@ fn argument<'t, S: NodeStore>(
     ensures fewer { parts.new.eval.steps ≤ parts.old.eval.steps }
     ensures does { DoesAt S.NodeStore (λ a n. started (context a n (position_of position.now)) (arg_tree arg.now)) start_of parts.old result parts.new }
 {
+    parts.eval.depth = position.depth;
     match arg {
-        Arg::Loop(_, _) => Ok(Begun::Gave(Completion::GoOn)),
+        Arg::Assign(destination, e) => done(parts.setting(alloc, destination, e)),
+        Arg::Breaks(count) => done(parts.breaks(*count)),
+        Arg::Value(e) => done(parts.showing(alloc, e)),
+        Arg::KillOne(reference) => done(parts.killing(alloc, reference)),
+        Arg::KillOthers(names) => {
+            parts.eval.kill_others(names);
+            done(Ok(()))
+        }
+        Arg::NewOne(name) => done(parts.eval.hide_one(name)),
+        Arg::NewOthers(names) => done(parts.eval.hide_others(alloc, names)),
+        Arg::Tested(e) => gave(tested(alloc, parts, position, e)),
+        Arg::Loop(_, _) => done(Ok(())),
         Arg::DoOne(entry, condition) => {
-            enters(
-                holds(alloc, parts, position.depth, condition),
-                Begun::Lines(entry),
-            )
+            enters(parts.holds(alloc, condition), Entrance::Lines(entry))
         }
-        Arg::Executed(e, condition) => {
-            enters(
-                holds(alloc, parts, position.depth, condition),
-                Begun::Text(e),
-            )
+        Arg::GoTo(entry, condition) => gave(going(alloc, parts, position, entry, condition)),
+        Arg::Executed(e, condition) => enters(parts.holds(alloc, condition), Entrance::Text(e)),
+        Arg::Lock(kind, names, timeout) => done(parts.locking(alloc, *kind, names, timeout)),
+        Arg::Indirect(keyword, operand) => {
+            Ok(Begun::Enters(Entrance::Indirect(*keyword, operand)))
         }
-        Arg::Indirect(keyword, operand) => Ok(Begun::Indirect(*keyword, operand)),
-        _ => gave(direct_argument(alloc, parts, position, arg)),
     }
 }
 
-// An argument that enters lines, before those from one on.
-fn enter_lines<S: NodeStore>(
+// The arguments from one on, as long as each goes on with the next: what the last of them left, and the place behind it.
+pub(crate) fn arguments_begun<'t, S: NodeStore>(
     alloc: Global,
     parts: &mut Parts<S>,
+    position: &Position,
+    args: &'t [Arg],
+    from: usize,
+) -> Result<(Begun<'t>, usize), Code>
+    ensures loans { KeepsLoans parts.old parts.new }
+    ensures fewer { parts.new.eval.steps ≤ parts.old.eval.steps }
+    ensures does { DoesAt S.NodeStore (λ a n. args_started (context a n (position_of position.now)) (map arg_tree (drop from args.now))) (begun_of args.now) parts.old result parts.new }
+{
+    let mut at = from;
+    while at < args.len() {
+        match argument(alloc, parts, position, &args[at])? {
+            Begun::Gave(completion) => match completion {
+                Completion::GoOn => at += 1,
+                other => return Ok((Begun::Gave(other), at + 1)),
+            },
+            Begun::Enters(entrance) => return Ok((Begun::Enters(entrance), at + 1)),
+        }
+    }
+    Ok((Begun::Gave(Completion::GoOn), at))
+}
+
+// What an argument enters, before those from one on: these stay on the frames.
+pub(crate) fn enter_argument<S: NodeStore>(
+    alloc: Global,
+    parts: &mut Parts<S>,
+    entrance: Entrance,
     source: Source,
-    entry: &Entry,
     argument: usize,
     scratch: &mut Scratch,
 ) -> Result<Completion, Code>
     ensures loans { KeepsLoans parts.old parts.new }
-    ensures falls { IfOk result (λ _. 6 * parts.new.eval.steps + length scratch.new.frames.items ≤ 6 * parts.old.eval.steps + length scratch.old.frames.items) }
-    ensures does { Runs S.NodeStore (λ a n. lines_then (context a n (position_of (source_position source.entry))) (entry_tree entry.now) (map arg_tree (drop argument (source_args source.entry)))) (stack scratch.old.frames.items) parts.old result (stack scratch.new.frames.items) parts.new }
+    ensures falls { IfOk result (λ _. Falls parts.old scratch.old parts.new scratch.new) }
+    ensures does { Runs S.NodeStore (λ a n. entered_then (context a n (position_of (source_position source.entry))) (entrance_of entrance.entry) (map arg_tree (drop argument (source_args source.entry)))) (stack scratch.old.frames.items) parts.old result (stack scratch.new.frames.items) parts.new }
 {
     source.leave(argument, scratch)?;
-    doing(alloc, parts, source.position(), entry, scratch)
+    let position = source.position();
+    match entrance {
+        Entrance::Lines(entry) => doing(alloc, parts, position, entry, scratch),
+        Entrance::Text(e) => executing(alloc, parts, position, e, scratch),
+        Entrance::Indirect(keyword, operand) => {
+            giving(alloc, parts, position, keyword, operand, scratch)
+        }
+    }
 }
 
-// An argument that enters a text, before those from one on.
-fn enter_text<S: NodeStore>(
-    alloc: Global,
-    parts: &mut Parts<S>,
-    source: Source,
-    e: &Expr,
-    argument: usize,
-    scratch: &mut Scratch,
-) -> Result<Completion, Code>
-    ensures loans { KeepsLoans parts.old parts.new }
-    ensures falls { IfOk result (λ _. 6 * parts.new.eval.steps + length scratch.new.frames.items ≤ 6 * parts.old.eval.steps + length scratch.old.frames.items) }
-    ensures does { Runs S.NodeStore (λ a n. text_then (context a n (position_of (source_position source.entry))) (expr_tree e.now) (map arg_tree (drop argument (source_args source.entry)))) (stack scratch.old.frames.items) parts.old result (stack scratch.new.frames.items) parts.new }
-{
-    source.leave(argument, scratch)?;
-    executing(alloc, parts, source.position(), e, scratch)
-}
-
-// An argument in whose place the value of an operand gives some, before those from one on.
-fn enter_given<S: NodeStore>(
-    alloc: Global,
-    parts: &mut Parts<S>,
-    source: Source,
-    keyword: Keyword,
-    operand: &Primary,
-    argument: usize,
-    scratch: &mut Scratch,
-) -> Result<Completion, Code>
-    ensures loans { KeepsLoans parts.old parts.new }
-    ensures falls { IfOk result (λ _. 6 * parts.new.eval.steps + length scratch.new.frames.items ≤ 6 * parts.old.eval.steps + length scratch.old.frames.items) }
-    ensures does { Runs S.NodeStore (λ a n. given_then (context a n (position_of (source_position source.entry))) (form_of (keyword_tree keyword)) (primary_tree operand.now) (map arg_tree (drop argument (source_args source.entry)))) (stack scratch.old.frames.items) parts.old result (stack scratch.new.frames.items) parts.new }
-{
-    source.leave(argument, scratch)?;
-    giving(alloc, parts, source.position(), keyword, operand, scratch)
-}
-
-// What the arguments from one on do, as long as each goes on with the next. Where one enters lines or a text, or a text gives some in
-// its place, those behind it stay on the frames.
+// What the arguments from one on do.
 pub(crate) fn arguments<S: NodeStore>(
     alloc: Global,
     parts: &mut Parts<S>,
@@ -146,26 +200,14 @@ pub(crate) fn arguments<S: NodeStore>(
     scratch: &mut Scratch,
 ) -> Result<Completion, Code>
     ensures loans { KeepsLoans parts.old parts.new }
-    ensures falls { IfOk result (λ _. 6 * parts.new.eval.steps + length scratch.new.frames.items ≤ 6 * parts.old.eval.steps + length scratch.old.frames.items) }
+    ensures falls { IfOk result (λ _. Falls parts.old scratch.old parts.new scratch.new) }
     ensures does { Runs S.NodeStore (λ a n. meaning.arguments (context a n (position_of (source_position source.entry))) (map arg_tree (drop from (source_args source.entry)))) (stack scratch.old.frames.items) parts.old result (stack scratch.new.frames.items) parts.new }
 {
-    let args = source.all();
-    let position = source.position();
-    let mut at = from;
-    while at < args.len() {
-        match argument(alloc, parts, position, &args[at])? {
-            Begun::Gave(completion) => match completion {
-                Completion::GoOn => at += 1,
-                other => return Ok(other),
-            },
-            Begun::Lines(entry) => {
-                return enter_lines(alloc, parts, source, entry, at + 1, scratch);
-            }
-            Begun::Text(e) => return enter_text(alloc, parts, source, e, at + 1, scratch),
-            Begun::Indirect(keyword, operand) => {
-                return enter_given(alloc, parts, source, keyword, operand, at + 1, scratch);
-            }
+    let (begun, argument) = arguments_begun(alloc, parts, source.position(), source.all(), from)?;
+    match begun {
+        Begun::Gave(completion) => Ok(completion),
+        Begun::Enters(entrance) => {
+            enter_argument(alloc, parts, entrance, source, argument, scratch)
         }
     }
-    Ok(Completion::GoOn)
 }

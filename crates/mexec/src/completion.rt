@@ -1,6 +1,11 @@
 // SPDX-License-Identifier: Apache-2.0
 // How a line goes on.
+ghost use Rattle.std.specs.Prelude.{◌≡◌};
+ghost use Rattle.mmeaning.specs.LineMeaning as meaning;
+ghost use Rattle.mexec.specs.Frames.{completion_of, went};
+
 use mcommand::Target;
+use moperator::Code;
 
 // How a line goes on: with what is next, behind the rest of the line, out of its turn or its level, with another line, or not
 // at all.
@@ -11,4 +16,25 @@ pub(crate) enum Completion {
     Quits,
     Goes(Target),
     Halts,
+}
+
+// What is next where this is true, and otherwise what is behind the rest of the line.
+pub(crate) fn where_true(is_true: bool) -> Completion
+    ensures { completion_of result ≡ meaning.where_true is_true }
+{
+    if is_true {
+        Completion::GoOn
+    } else {
+        Completion::Skips
+    }
+}
+
+// What is next, once this is done.
+pub(crate) fn went_on(done: Result<(), Code>) -> Result<Completion, Code>
+    ensures { result ≡ went done }
+{
+    match done {
+        Ok(()) => Ok(Completion::GoOn),
+        Err(code) => Err(code),
+    }
 }

@@ -1,25 +1,24 @@
 // SPDX-License-Identifier: Apache-2.0
-// The rest of a line, a command at a time.
-ghost use Rattle.std.specs.Prelude.{◌≡◌, ◌≤◌, ◌+◌, ◌*◌, [], map, length, IfOk, OnOk};
+// The rest of a line, and where it stops.
+ghost use Rattle.std.specs.Prelude.{◌≡◌, ◌≤◌, ◌+◌, ◌*◌, [], length, IfOk, OnOk};
 ghost use Rattle.mmeaning.specs.LineMeaning as meaning;
 ghost use Rattle.mmeaning.specs.LineMeaning.{context};
-ghost use Rattle.mtree.specs.Tree.{keyword_tree, arg_tree, command_tree};
 ghost use Rattle.mcommand.specs.Does.{KeepsLoans};
+ghost use Rattle.mexec.specs.Falls.{Falls};
 ghost use Rattle.mexec.specs.Frames.{Runs, args_before, rest_tree, resting, stack, position_of};
+ghost use Rattle.mexec.specs.Fronts.{StopsIn, resumed, stop_left, stop_of};
 
-use crate::arguments::arguments;
-use crate::commands::{charge, holds};
+use crate::arguments::enter_argument;
 use crate::completion::Completion;
-use crate::direct::{direct_commands, direct_word, is_direct_from};
 use crate::entering::doing_block;
 use crate::frames::{Continuation, ForLoop, Frame};
+use crate::front::{Outcome, Stop, front};
 use crate::scratch::Scratch;
 use crate::source::Source;
 use crate::turns::{begin_turn, next_parameter};
 use mcommand::{Course, Parts};
 use moperator::Code;
 use mstore::NodeStore;
-use mtree::{Arg, Command, Keyword};
 use std::alloc::{AllocError, Global};
 
 // Turns of the rest of a line, without an index and without an end.
@@ -31,7 +30,7 @@ fn forever<S: NodeStore>(
 ) -> Result<Completion, Code>
     requires { args_before behind.now.line.value behind.now.at ≡ [] }
     ensures loans { KeepsLoans parts.old parts.new }
-    ensures falls { IfOk result (λ _. 6 * parts.new.eval.steps + length scratch.new.frames.items ≤ 6 * parts.old.eval.steps + length scratch.old.frames.items) }
+    ensures falls { IfOk result (λ _. Falls parts.old scratch.old parts.new scratch.new) }
     ensures does { Runs S.NodeStore (λ a n. meaning.turns_forever (context a n (position_of behind.now.position.value)) (rest_tree behind.now)) (stack scratch.old.frames.items) parts.old result (stack scratch.new.frames.items) parts.new }
 {
     let turns = ForLoop {
@@ -40,76 +39,6 @@ fn forever<S: NodeStore>(
         course: Course::Forever,
     };
     begin_turn(parts, Box::new(alloc, turns)?, scratch)
-}
-
-// What a command does that has no arguments.
-fn bare<S: NodeStore>(
-    alloc: Global,
-    parts: &mut Parts<S>,
-    keyword: Keyword,
-    behind: &Continuation,
-    scratch: &mut Scratch,
-) -> Result<Completion, Code>
-    requires { args_before behind.now.line.value behind.now.at ≡ [] }
-    ensures loans { KeepsLoans parts.old parts.new }
-    ensures falls { IfOk result (λ _. 6 * parts.new.eval.steps + length scratch.new.frames.items ≤ 6 * parts.old.eval.steps + length scratch.old.frames.items) }
-    ensures does { Runs S.NodeStore (λ a n. meaning.bare (context a n (position_of behind.now.position.value)) (keyword_tree keyword) (rest_tree behind.now)) (stack scratch.old.frames.items) parts.old result (stack scratch.new.frames.items) parts.new }
-{
-    match keyword {
-        Keyword::For => forever(alloc, parts, behind, scratch),
-        Keyword::Do => doing_block(alloc, parts, &behind.position, scratch),
-        _ => direct_word(alloc, parts, keyword),
-    }
-}
-
-// What a command does before the rest of its line, which FOR does in its turns.
-fn effect<S: NodeStore>(
-    alloc: Global,
-    parts: &mut Parts<S>,
-    command: &Command,
-    behind: &Continuation,
-    scratch: &mut Scratch,
-) -> Result<Completion, Code>
-    requires { args_before behind.now.line.value behind.now.at ≡ command.now.args.items }
-    ensures loans { KeepsLoans parts.old parts.new }
-    ensures falls { IfOk result (λ _. 6 * parts.new.eval.steps + length scratch.new.frames.items ≤ 6 * parts.old.eval.steps + length scratch.old.frames.items) }
-    ensures does { Runs S.NodeStore (λ a n. meaning.effect (context a n (position_of behind.now.position.value)) (keyword_tree command.now.keyword) (map arg_tree command.now.args.items) (rest_tree behind.now)) (stack scratch.old.frames.items) parts.old result (stack scratch.new.frames.items) parts.new }
-{
-    match command.args.first() {
-        None => bare(alloc, parts, command.keyword, behind, scratch),
-        Some(first) => match first {
-            Arg::Loop(index, parameters) => {
-                let turns = ForLoop {
-                    body: behind.copy()?,
-                    parameter: 0,
-                    course: Course::LastTurn,
-                };
-                next_parameter(alloc, parts, index, parameters, turns, scratch)
-            }
-            _ => arguments(alloc, parts, Source::Line(behind), 0, scratch),
-        },
-    }
-}
-
-// What a command does where its condition holds.
-fn conditional<S: NodeStore>(
-    alloc: Global,
-    parts: &mut Parts<S>,
-    command: &Command,
-    behind: &Continuation,
-    scratch: &mut Scratch,
-) -> Result<Completion, Code>
-    requires { args_before behind.now.line.value behind.now.at ≡ command.now.args.items }
-    ensures loans { KeepsLoans parts.old parts.new }
-    ensures falls { IfOk result (λ _. 6 * parts.new.eval.steps + length scratch.new.frames.items ≤ 6 * parts.old.eval.steps + length scratch.old.frames.items) }
-    ensures does { Runs S.NodeStore (λ a n. meaning.conditional (context a n (position_of behind.now.position.value)) (command_tree command.now) (rest_tree behind.now)) (stack scratch.old.frames.items) parts.old result (stack scratch.new.frames.items) parts.new }
-{
-    let applies = holds(alloc, parts, behind.position.depth, &command.condition)?;
-    if applies {
-        effect(alloc, parts, command, behind, scratch)
-    } else {
-        Ok(Completion::GoOn)
-    }
 }
 
 // Leaves the rest of a line on the frames, unless it is empty.
@@ -125,8 +54,61 @@ fn leave(rest: &Continuation, scratch: &mut Scratch) -> Result<(), AllocError>
     Ok(())
 }
 
-// The next command of a line, where one is left; the rest of the line stays on the frames, unless it is empty. Commands that are all
-// done at once are done here, and nothing is put on the frames for them.
+// Goes on where a command stops, whose rest of the line is left.
+fn enter<S: NodeStore>(
+    alloc: Global,
+    parts: &mut Parts<S>,
+    stop: Stop,
+    behind: &Continuation,
+    scratch: &mut Scratch,
+) -> Result<Completion, Code>
+    requires { StopsIn (args_before behind.now.line.value behind.now.at) stop }
+    ensures loans { KeepsLoans parts.old parts.new }
+    ensures falls { IfOk result (λ _. Falls parts.old scratch.old parts.new scratch.new) }
+    ensures does { Runs S.NodeStore (λ a n. stop_left (context a n (position_of behind.now.position.value)) (rest_tree behind.now) (stop_of (args_before behind.now.line.value behind.now.at) stop.entry)) (stack scratch.old.frames.items) parts.old result (stack scratch.new.frames.items) parts.new }
+{
+    match stop {
+        Stop::Argument(entrance, argument) => {
+            enter_argument(
+                alloc,
+                parts,
+                entrance,
+                Source::Line(behind),
+                argument,
+                scratch,
+            )
+        }
+        Stop::Loop(index, parameters) => {
+            let turns = ForLoop {
+                body: behind.copy()?,
+                parameter: 0,
+                course: Course::LastTurn,
+            };
+            next_parameter(alloc, parts, index, parameters, turns, scratch)
+        }
+        Stop::Turns => forever(alloc, parts, behind, scratch),
+        Stop::Block => doing_block(alloc, parts, &behind.position, scratch),
+    }
+}
+
+// Goes on where a line stops: the rest stays on the frames.
+pub(crate) fn go_on<S: NodeStore>(
+    alloc: Global,
+    parts: &mut Parts<S>,
+    stop: Stop,
+    behind: &Continuation,
+    scratch: &mut Scratch,
+) -> Result<Completion, Code>
+    requires { StopsIn (args_before behind.now.line.value behind.now.at) stop }
+    ensures loans { KeepsLoans parts.old parts.new }
+    ensures falls { IfOk result (λ _. 6 * parts.new.eval.steps + length scratch.new.frames.items ≤ 6 * parts.old.eval.steps + length scratch.old.frames.items + 1) }
+    ensures does { Runs S.NodeStore (λ a n. resumed (context a n (position_of behind.now.position.value)) (stop_of (args_before behind.now.line.value behind.now.at) stop.entry) (rest_tree behind.now)) (stack scratch.old.frames.items) parts.old result (stack scratch.new.frames.items) parts.new }
+{
+    leave(behind, scratch)?;
+    enter(alloc, parts, stop, behind, scratch)
+}
+
+// The commands of the rest of a line, up to where one needs frames: what is then left of the line stays on them.
 pub(crate) fn next_command<S: NodeStore>(
     alloc: Global,
     parts: &mut Parts<S>,
@@ -134,19 +116,15 @@ pub(crate) fn next_command<S: NodeStore>(
     scratch: &mut Scratch,
 ) -> Result<Completion, Code>
     ensures loans { KeepsLoans parts.old parts.new }
-    ensures falls { IfOk result (λ _. 6 * parts.new.eval.steps + length scratch.new.frames.items ≤ 6 * parts.old.eval.steps + length scratch.old.frames.items) }
+    ensures falls { IfOk result (λ _. Falls parts.old scratch.old parts.new scratch.new) }
     ensures does { Runs S.NodeStore (λ a n. meaning.commands (context a n (position_of rest.position.value)) (rest_tree rest)) (stack scratch.old.frames.items) parts.old result (stack scratch.new.frames.items) parts.new }
 {
-    let at = rest.at;
-    if at >= rest.line.commands.len() {
-        return Ok(Completion::GoOn);
+    let (outcome, at) = front(alloc, parts, &rest.position, &rest.line, rest.at)?;
+    match outcome {
+        Outcome::Over(completion) => Ok(completion),
+        Outcome::Stops(stop) => {
+            let behind = Continuation { at, ..rest.copy()? };
+            go_on(alloc, parts, stop, &behind, scratch)
+        }
     }
-    if is_direct_from(&rest.line, at) {
-        return direct_commands(alloc, parts, &rest.position, &rest.line, at);
-    }
-    charge(parts)?;
-    let behind = Continuation { at: at + 1, ..rest };
-    leave(&behind, scratch)?;
-    let command = &behind.line.commands[at].command;
-    conditional(alloc, parts, command, &behind, scratch)
 }

@@ -1,6 +1,6 @@
 // SPDX-License-Identifier: Apache-2.0
 // What opens a level: DO with an argument and without one, and XECUTE.
-ghost use Rattle.std.specs.Prelude.{◌≡◌, ◌≤◌, ◌+◌, ◌*◌, None, ◌∷◌, length, IfOk, OnOk};
+ghost use Rattle.std.specs.Prelude.{◌≡◌, ◌≤◌, ◌+◌, None, ◌∷◌, length, IfOk, OnOk};
 ghost use Rattle.mmeaning.specs.Levels.{a_level_free, leaves};
 ghost use Rattle.mmeaning.specs.LineMeaning as meaning;
 ghost use Rattle.mmeaning.specs.LineMeaning.{context};
@@ -8,6 +8,7 @@ ghost use Rattle.mmeaning.specs.Frames.{Rests, Levels};
 ghost use Rattle.mtree.specs.Tree.{entry_tree, expr_tree};
 ghost use Rattle.meval.specs.Evaluates.{depth_of};
 ghost use Rattle.mcommand.specs.Does.{DoesAt, KeepsLoans};
+ghost use Rattle.mexec.specs.Falls.{FallsFurther, Falls};
 ghost use Rattle.mexec.specs.Frames.{Runs, stack, position_of, commands_from};
 ghost use Rattle.mexec.specs.Entering.{text_position};
 
@@ -48,7 +49,7 @@ pub(crate) fn doing<S: NodeStore>(
     scratch: &mut Scratch,
 ) -> Result<Completion, Code>
     ensures loans { KeepsLoans parts.old parts.new }
-    ensures falls { IfOk result (λ _. 6 * parts.new.eval.steps + length scratch.new.frames.items + 1 ≤ 6 * parts.old.eval.steps + length scratch.old.frames.items) }
+    ensures falls { IfOk result (λ _. FallsFurther parts.old scratch.old parts.new scratch.new) }
     ensures does { Runs S.NodeStore (λ a n. meaning.doing (context a n (position_of position.now)) (entry_tree entry.now)) (stack scratch.old.frames.items) parts.old result (stack scratch.new.frames.items) parts.new }
 {
     let depth = one_deeper(parts, position.depth)?;
@@ -72,7 +73,7 @@ pub(crate) fn doing_block<S: NodeStore>(
     scratch: &mut Scratch,
 ) -> Result<Completion, Code>
     ensures loans { KeepsLoans parts.old parts.new }
-    ensures falls { IfOk result (λ _. 6 * parts.new.eval.steps + length scratch.new.frames.items ≤ 6 * parts.old.eval.steps + length scratch.old.frames.items) }
+    ensures falls { IfOk result (λ _. Falls parts.old scratch.old parts.new scratch.new) }
     ensures does { Runs S.NodeStore (λ a n. meaning.doing_block (context a n (position_of position.now))) (stack scratch.old.frames.items) parts.old result (stack scratch.new.frames.items) parts.new }
 {
     let depth = one_deeper(parts, position.depth)?;
@@ -124,7 +125,7 @@ pub(crate) fn executing<S: NodeStore>(
     scratch: &mut Scratch,
 ) -> Result<Completion, Code>
     ensures loans { KeepsLoans parts.old parts.new }
-    ensures falls { IfOk result (λ _. 6 * parts.new.eval.steps + length scratch.new.frames.items + 1 ≤ 6 * parts.old.eval.steps + length scratch.old.frames.items) }
+    ensures falls { IfOk result (λ _. FallsFurther parts.old scratch.old parts.new scratch.new) }
     ensures does { Runs S.NodeStore (λ a n. meaning.executing (context a n (position_of position.now)) (expr_tree e.now)) (stack scratch.old.frames.items) parts.old result (stack scratch.new.frames.items) parts.new }
 {
     parts.eval.depth = position.depth;

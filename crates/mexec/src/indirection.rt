@@ -1,10 +1,7 @@
 // SPDX-License-Identifier: Apache-2.0
 // Argument indirection: arguments that the text of an operand's value gives.
-ghost use Rattle.std.specs.Prelude.{◌≡◌, ◌≤◌, ◌+◌, ◌*◌, ◌∷◌, map, length, IfOk, OnOk};
-ghost use Rattle.mspec.specs.Act.{give_some};
-ghost use Rattle.mspec.specs.Code.{Zsyntax};
+ghost use Rattle.std.specs.Prelude.{◌≡◌, ◌≤◌, ◌+◌, ◌∷◌, map, length, IfOk, OnOk};
 ghost use Rattle.mgrammar.specs.Commands.{form_of};
-ghost use Rattle.mgrammar.specs.IndirectTexts.{args_of};
 ghost use Rattle.mmeaning.specs.Expression.{an_indirection_free, indirected};
 ghost use Rattle.mmeaning.specs.LineMeaning as meaning;
 ghost use Rattle.mmeaning.specs.LineMeaning.{context};
@@ -14,6 +11,7 @@ ghost use Rattle.mtree.specs.Tree.{arg_tree, keyword_tree, primary_tree};
 ghost use Rattle.moperator.specs.Codes.{fault_of};
 ghost use Rattle.meval.specs.Evaluates.{depth_of};
 ghost use Rattle.mcommand.specs.Does.{KeepsLoans};
+ghost use Rattle.mexec.specs.Falls.{FallsFurther};
 ghost use Rattle.mexec.specs.Frames.{Runs, position_of, stack};
 ghost use Rattle.mexec.specs.Entering.{so_deep};
 
@@ -74,7 +72,7 @@ pub(crate) fn giving<S: NodeStore>(
     scratch: &mut Scratch,
 ) -> Result<Completion, Code>
     ensures loans { KeepsLoans parts.old parts.new }
-    ensures falls { IfOk result (λ _. 6 * parts.new.eval.steps + length scratch.new.frames.items + 1 ≤ 6 * parts.old.eval.steps + length scratch.old.frames.items) }
+    ensures falls { IfOk result (λ _. FallsFurther parts.old scratch.old parts.new scratch.new) }
     ensures does { Runs S.NodeStore (λ a n. meaning.given (context a n (position_of position.now)) (form_of (keyword_tree keyword)) (primary_tree operand.now)) (stack scratch.old.frames.items) parts.old result (stack scratch.new.frames.items) parts.new }
 {
     parts.eval.depth = position.depth;

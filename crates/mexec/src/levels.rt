@@ -1,6 +1,6 @@
 // SPDX-License-Identifier: Apache-2.0
 // The lines of a level, one after another, until it closes.
-ghost use Rattle.std.specs.Prelude.{◌≡◌, ◌≤◌, ◌<◌, ◌+◌, ◌*◌, cond, Ok, Some, None, [], get_or, drop, length, IfOk, IfSome, OnOk};
+ghost use Rattle.std.specs.Prelude.{◌≡◌, ◌≤◌, ◌<◌, ◌+◌, cond, Ok, Some, None, [], get_or, drop, length, IfOk, IfSome, OnOk};
 ghost use Rattle.mmeaning.specs.Levels as levels;
 ghost use Rattle.mmeaning.specs.LineMeaning as meaning;
 ghost use Rattle.mmeaning.specs.Frames.{frame, Levels};
@@ -8,10 +8,10 @@ ghost use Rattle.mmeaning.specs.LineMeaning.{context, Go_on};
 ghost use Rattle.mtree.specs.Tree.{body_tree};
 ghost use Rattle.mcommand.specs.Targets.{target_view};
 ghost use Rattle.mcommand.specs.Does.{DoesAt, KeepsLoans};
+ghost use Rattle.mexec.specs.Falls.{FallsFurther, Falls};
 ghost use Rattle.mexec.specs.Frames.{Runs, stack, completion_of, position_of, closing_of};
 ghost use Rattle.mexec.specs.Entering.{reached as first_reached, next_reached, entering, at_next, at_target, on_body};
 
-use crate::commands::charge;
 use crate::completion::Completion;
 use crate::frames::{Closing, Continuation, Frame, Level, Position};
 use crate::reading_trees::read_routine_line;
@@ -78,7 +78,7 @@ fn reached<S: NodeStore>(
         if dots <= level.dots {
             return Ok(place_where(dots == level.dots, at));
         }
-        charge(parts)?;
+        parts.eval.charge()?;
         at += 1;
     }
     Ok(None)
@@ -148,10 +148,10 @@ pub(crate) fn enter_line<S: NodeStore>(
 ) -> Result<Completion, Code>
     requires { at < length position.now.level.copy.value.items }
     ensures loans { KeepsLoans parts.old parts.new }
-    ensures falls { IfOk result (λ _. 6 * parts.new.eval.steps + length scratch.new.frames.items + 1 ≤ 6 * parts.old.eval.steps + length scratch.old.frames.items) }
+    ensures falls { IfOk result (λ _. FallsFurther parts.old scratch.old parts.new scratch.new) }
     ensures does { Runs S.NodeStore (λ a n. entering (context a n (position_of position.now)) (closing_of closing) at (get_or position.now.level.copy.value.items at [])) (stack scratch.old.frames.items) parts.old result (stack scratch.new.frames.items) parts.new }
 {
-    charge(parts)?;
+    parts.eval.charge()?;
     let text = position.level.copy[at].as_bytes();
     let line = read_routine_line(alloc, &mut scratch.trees, text)?;
     let entered = Rc::new(alloc, coming_next(position, at + 1)?)?;
@@ -168,7 +168,7 @@ pub(crate) fn lines_next<S: NodeStore>(
     scratch: &mut Scratch,
 ) -> Result<Completion, Code>
     ensures loans { KeepsLoans parts.old parts.new }
-    ensures falls { IfOk result (λ _. 6 * parts.new.eval.steps + length scratch.new.frames.items ≤ 6 * parts.old.eval.steps + length scratch.old.frames.items) }
+    ensures falls { IfOk result (λ _. Falls parts.old scratch.old parts.new scratch.new) }
     ensures does { Runs S.NodeStore (λ a n. frame a n (Levels (position_of position.now) (closing_of closing)) Go_on) (stack scratch.old.frames.items) parts.old result (stack scratch.new.frames.items) parts.new }
 {
     match next_line(parts, &position.level)? {
@@ -187,7 +187,7 @@ fn go_to<S: NodeStore>(
     scratch: &mut Scratch,
 ) -> Result<Completion, Code>
     ensures loans { KeepsLoans parts.old parts.new }
-    ensures falls { IfOk result (λ _. 6 * parts.new.eval.steps + length scratch.new.frames.items ≤ 6 * parts.old.eval.steps + length scratch.old.frames.items) }
+    ensures falls { IfOk result (λ _. Falls parts.old scratch.old parts.new scratch.new) }
     ensures does { Runs S.NodeStore (λ a n. frame a n (Levels (at_target (position_of position.now) (target_view target)) (closing_of closing)) Go_on) (stack scratch.old.frames.items) parts.old result (stack scratch.new.frames.items) parts.new }
 {
     let there = Position {
@@ -211,7 +211,7 @@ pub(crate) fn after_level<S: NodeStore>(
     scratch: &mut Scratch,
 ) -> Result<Completion, Code>
     ensures loans { KeepsLoans parts.old parts.new }
-    ensures falls { IfOk result (λ _. 6 * parts.new.eval.steps + length scratch.new.frames.items ≤ 6 * parts.old.eval.steps + length scratch.old.frames.items) }
+    ensures falls { IfOk result (λ _. Falls parts.old scratch.old parts.new scratch.new) }
     ensures does { Runs S.NodeStore (λ a n. frame a n (Levels (position_of position.now) (closing_of closing)) (completion_of completion)) (stack scratch.old.frames.items) parts.old result (stack scratch.new.frames.items) parts.new }
 {
     match completion {

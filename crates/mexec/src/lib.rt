@@ -3,12 +3,11 @@
 #![tactic(auto)]
 
 mod arguments;
-mod commands;
 mod completion;
 mod continuation;
-mod direct;
 mod entering;
 mod frames;
+mod front;
 mod indirection;
 mod levels;
 mod line;

@@ -1,32 +1,30 @@
 // SPDX-License-Identifier: Apache-2.0
 // The turns of a FOR, frame by frame: a frame of turns means that the body of one is under way.
-ghost use Rattle.std.specs.Prelude.{◌≡◌, ◌≤◌, ◌+◌, ◌*◌, length, drop, is_some, map, option_map, true, IfOk, IfSome};
+ghost use Rattle.std.specs.Prelude.{◌≡◌, ◌≤◌, ◌+◌, ◌*◌, ◌∷◌, drop, is_some, length, map, option_map, true, IfOk, IfSome};
 ghost use Rattle.mmeaning.specs.LineMeaning as meaning;
 ghost use Rattle.mmeaning.specs.LineMeaning.{context};
-ghost use Rattle.mmeaning.specs.Expression.{inside};
 ghost use Rattle.mtree.specs.Tree.{parameter_tree};
-ghost use Rattle.meval.specs.Evaluates.{depth_of};
 ghost use Rattle.mcommand.specs.Does.{DoesAt, KeepsLoans};
-ghost use Rattle.mcommand.specs.Turns.{course_view, started, advanced};
-ghost use Rattle.mmeaning.specs.Frames.{Rests};
-ghost use Rattle.mexec.specs.declared.frames.Frame.TheVariants as frame;
-ghost use Rattle.mexec.specs.Direct as direct;
-ghost use Rattle.mexec.specs.Frames.{Runs, commands_from, turning, stack, view, completion_of, position_of};
+ghost use Rattle.mcommand.specs.Turns.{course_view, advanced};
+ghost use Rattle.mmeaning.specs.Frames.{Turns};
+ghost use Rattle.mexec.specs.Fronts as fronts;
+ghost use Rattle.mexec.specs.Fronts.{StopsIn, resumed, stop_of};
+ghost use Rattle.mexec.specs.Falls.{Falls};
+ghost use Rattle.mexec.specs.Frames.{Runs, args_before, commands_from, rest_tree, turning, stack, completion_of, position_of};
 ghost use Rattle.mexec.specs.Loops.{has_index, loop_before as the_loop_before};
 
-use crate::commands::charge;
 use crate::completion::Completion;
-use crate::direct::{direct_commands, is_direct_from};
+use crate::continuation::go_on;
 use crate::frames::{Continuation, ForLoop, Frame};
+use crate::front::{Outcome, Stop, front};
 use crate::scratch::Scratch;
 use crate::source::args_before;
-use mcommand::{Course, Parts};
-use meval::Depth;
+use mcommand::Parts;
 use mnum::Name;
 use moperator::Code;
 use mstore::NodeStore;
 use mtree::{Arg, Line, Parameter};
-use std::alloc::{AllocError, Global};
+use std::alloc::Global;
 
 // The index and the parameters of the FOR before a place of a line, where it has an index.
 fn loop_before(line: &Line, at: usize) -> Option<(&Name, &[Parameter])>
@@ -42,38 +40,6 @@ fn loop_before(line: &Line, at: usize) -> Option<(&Name, &[Parameter])>
     }
 }
 
-// How the turns of a parameter begin.
-fn start<S: NodeStore>(
-    alloc: Global,
-    parts: &mut Parts<S>,
-    depth: Depth,
-    index: &Name,
-    parameter: &Parameter,
-) -> Result<Option<Course>, Code>
-    ensures loans { KeepsLoans parts.old parts.new }
-    ensures fewer { parts.new.eval.steps ≤ parts.old.eval.steps }
-    ensures does { DoesAt S.NodeStore (λ a n. started (inside a n (depth_of depth)) index.now (parameter_tree parameter.now)) (option_map course_view) parts.old result parts.new }
-{
-    parts.eval.depth = depth;
-    parts.start(alloc, index, parameter)
-}
-
-// Whether there is one turn more of a course.
-fn advance<S: NodeStore>(parts: &mut Parts<S>, index: &Name, course: Course) -> Result<bool, Code>
-    ensures loans { KeepsLoans parts.old parts.new }
-    ensures fewer { parts.new.eval.steps ≤ parts.old.eval.steps }
-    ensures does { DoesAt S.NodeStore (λ a n. advanced index.now (course_view course)) (λ goes_on. goes_on) parts.old result parts.new }
-{
-    parts.advance(index, course)
-}
-
-// The body of a turn.
-fn body(turns: &ForLoop) -> Result<Continuation, AllocError>
-    ensures { IfOk result (λ rest. view (frame.Continuation rest) ≡ Rests (position_of turns.now.body.position.value) (turning turns.now).body) }
-{
-    turns.body.copy()
-}
-
 // A turn, which costs a step.
 pub(crate) fn begin_turn<S: NodeStore>(
     parts: &mut Parts<S>,
@@ -81,11 +47,11 @@ pub(crate) fn begin_turn<S: NodeStore>(
     scratch: &mut Scratch,
 ) -> Result<Completion, Code>
     ensures loans { KeepsLoans parts.old parts.new }
-    ensures falls { IfOk result (λ _. 6 * parts.new.eval.steps + length scratch.new.frames.items ≤ 6 * parts.old.eval.steps + length scratch.old.frames.items) }
+    ensures falls { IfOk result (λ _. Falls parts.old scratch.old parts.new scratch.new) }
     ensures does { Runs S.NodeStore (λ a n. meaning.begin_turn (context a n (position_of turns.value.body.position.value)) (turning turns.value)) (stack scratch.old.frames.items) parts.old result (stack scratch.new.frames.items) parts.new }
 {
-    charge(parts)?;
-    let body = body(&turns)?;
+    parts.eval.charge()?;
+    let body = turns.body.copy()?;
     scratch.frames.push(Frame::ForLoop(turns))?;
     scratch.frames.push(Frame::Continuation(body))?;
     Ok(Completion::GoOn)
@@ -103,18 +69,13 @@ pub(crate) fn next_parameter<S: NodeStore>(
     requires found { the_loop_before turns.body.line.value turns.body.at ≡ (index.now, parameters.now) }
     requires indexed { has_index turns.body.line.value turns.body.at ≡ true }
     ensures loans { KeepsLoans parts.old parts.new }
-    ensures falls { IfOk result (λ _. 6 * parts.new.eval.steps + length scratch.new.frames.items ≤ 6 * parts.old.eval.steps + length scratch.old.frames.items) }
+    ensures falls { IfOk result (λ _. Falls parts.old scratch.old parts.new scratch.new) }
     ensures does { Runs S.NodeStore (λ a n. meaning.next_parameter (context a n (position_of turns.body.position.value)) index.now (commands_from turns.body.line.value turns.body.at) (map parameter_tree (drop turns.parameter parameters.now))) (stack scratch.old.frames.items) parts.old result (stack scratch.new.frames.items) parts.new }
 {
     let mut next = turns.parameter;
     while next < parameters.len() {
-        match start(
-            alloc,
-            parts,
-            turns.body.position.depth,
-            index,
-            &parameters[next],
-        )? {
+        parts.eval.depth = turns.body.position.depth;
+        match parts.start(alloc, index, &parameters[next])? {
             None => next += 1,
             Some(course) => {
                 let turns = ForLoop {
@@ -138,7 +99,7 @@ fn further<S: NodeStore>(
     scratch: &mut Scratch,
 ) -> Result<Completion, Code>
     ensures loans { KeepsLoans parts.old parts.new }
-    ensures falls { IfOk result (λ _. 6 * parts.new.eval.steps + length scratch.new.frames.items ≤ 6 * parts.old.eval.steps + length scratch.old.frames.items) }
+    ensures falls { IfOk result (λ _. Falls parts.old scratch.old parts.new scratch.new) }
     ensures does { Runs S.NodeStore (λ a n. meaning.next_parameter (context a n (position_of turns.body.position.value)) (turning turns).index (turning turns).body (turning turns).parameters) (stack scratch.old.frames.items) parts.old result (stack scratch.new.frames.items) parts.new }
 {
     let line = turns.body.line.clone()?;
@@ -150,52 +111,50 @@ fn further<S: NodeStore>(
     }
 }
 
-// Whether there is one turn more of this course of these turns.
+// Whether there is one turn more of this course of these turns. Without an index they have no end.
 fn goes_on<S: NodeStore>(parts: &mut Parts<S>, turns: &ForLoop) -> Result<bool, Code>
     ensures loans { KeepsLoans parts.old parts.new }
     ensures fewer { parts.new.eval.steps ≤ parts.old.eval.steps }
     ensures does { DoesAt S.NodeStore (λ a n. advanced (turning turns.now).index (course_view turns.now.course)) (λ goes_on. goes_on) parts.old result parts.new }
 {
-    if let Course::Forever = turns.course {
-        return Ok(true);
-    }
     match loop_before(&turns.body.line, turns.body.at) {
-        None => unreachable!(),
-        Some((index, _)) => advance(parts, index, turns.course),
+        None => Ok(true),
+        Some((index, _)) => parts.advance(index, turns.course),
     }
 }
 
-// What follows a turn, where the body is done at once: turn after turn, and then the parameters that are left. Nothing is put on the
-// frames for them.
-fn turns_at_once<S: NodeStore>(
+// What a turn ends its FOR with, unless that goes on with its course: QUIT ends it, and the rest of its line was its body.
+fn turn_ends(completion: Completion) -> Option<Completion>
+    ensures { option_map completion_of result ≡ fronts.turn_ends (completion_of completion) }
+{
+    match completion {
+        Completion::GoOn => None,
+        Completion::Skips => None,
+        Completion::Quits => Some(Completion::Skips),
+        Completion::Goes(target) => Some(Completion::Goes(target)),
+        Completion::Halts => Some(Completion::Halts),
+    }
+}
+
+// Leaves the turns of a FOR on the frames, and goes on where the body of a turn stops.
+fn go_on_in<S: NodeStore>(
     alloc: Global,
     parts: &mut Parts<S>,
     turns: Box<ForLoop>,
+    stop: Stop,
+    behind: &Continuation,
     scratch: &mut Scratch,
 ) -> Result<Completion, Code>
-    requires { direct.is_direct_from turns.value.body.line.value turns.value.body.at ≡ true }
+    requires { StopsIn (args_before behind.now.line.value behind.now.at) stop }
     ensures loans { KeepsLoans parts.old parts.new }
-    ensures falls { IfOk result (λ _. 6 * parts.new.eval.steps + length scratch.new.frames.items ≤ 6 * parts.old.eval.steps + length scratch.old.frames.items) }
-    ensures does { Runs S.NodeStore (λ a n. meaning.after_course (context a n (position_of turns.value.body.position.value)) (turning turns.value) (course_view turns.value.course)) (stack scratch.old.frames.items) parts.old result (stack scratch.new.frames.items) parts.new }
+    ensures falls { IfOk result (λ _. 6 * parts.new.eval.steps + length scratch.new.frames.items ≤ 6 * parts.old.eval.steps + length scratch.old.frames.items + 2) }
+    ensures does { Runs S.NodeStore (λ a n. resumed (context a n (position_of behind.now.position.value)) (stop_of (args_before behind.now.line.value behind.now.at) stop.entry) (rest_tree behind.now)) (Turns (position_of turns.value.body.position.value) (turning turns.value) ∷ stack scratch.old.frames.items) parts.old result (stack scratch.new.frames.items) parts.new }
 {
-    'turns: loop {
-        let goes_on = goes_on(parts, &turns)?;
-        if !goes_on {
-            return further(alloc, parts, Box::into_inner(turns), scratch);
-        }
-        charge(parts)?;
-        let body = &turns.body;
-        match direct_commands(alloc, parts, &body.position, &body.line, body.at)? {
-            Completion::GoOn => {}
-            Completion::Skips => {}
-            Completion::Quits => return Ok(Completion::Skips),
-            Completion::Goes(target) => return Ok(Completion::Goes(target)),
-            Completion::Halts => return Ok(Completion::Halts),
-        }
-    }
+    scratch.frames.push(Frame::ForLoop(turns))?;
+    go_on(alloc, parts, stop, behind, scratch)
 }
 
-// What follows a turn.
+// What follows a turn: turn after turn, as far as the body needs no frames, and then the parameters that are left.
 fn after_course<S: NodeStore>(
     alloc: Global,
     parts: &mut Parts<S>,
@@ -203,21 +162,31 @@ fn after_course<S: NodeStore>(
     scratch: &mut Scratch,
 ) -> Result<Completion, Code>
     ensures loans { KeepsLoans parts.old parts.new }
-    ensures falls { IfOk result (λ _. 6 * parts.new.eval.steps + length scratch.new.frames.items ≤ 6 * parts.old.eval.steps + length scratch.old.frames.items) }
+    ensures falls { IfOk result (λ _. Falls parts.old scratch.old parts.new scratch.new) }
     ensures does { Runs S.NodeStore (λ a n. meaning.after_course (context a n (position_of turns.value.body.position.value)) (turning turns.value) (course_view turns.value.course)) (stack scratch.old.frames.items) parts.old result (stack scratch.new.frames.items) parts.new }
 {
-    if is_direct_from(&turns.body.line, turns.body.at) {
-        return turns_at_once(alloc, parts, turns, scratch);
-    }
-    let goes_on = goes_on(parts, &turns)?;
-    if goes_on {
-        begin_turn(parts, turns, scratch)
-    } else {
-        further(alloc, parts, Box::into_inner(turns), scratch)
+    let body = turns.body.copy()?;
+    'turns: loop {
+        let goes_on = goes_on(parts, &turns)?;
+        if !goes_on {
+            return further(alloc, parts, Box::into_inner(turns), scratch);
+        }
+        parts.eval.charge()?;
+        let (outcome, at) = front(alloc, parts, &body.position, &body.line, body.at)?;
+        match outcome {
+            Outcome::Over(completion) => match turn_ends(completion) {
+                None => {}
+                Some(completion) => return Ok(completion),
+            },
+            Outcome::Stops(stop) => {
+                let behind = Continuation { at, ..body.copy()? };
+                return go_on_in(alloc, parts, turns, stop, &behind, scratch);
+            }
+        }
     }
 }
 
-// What follows a turn that went on so: QUIT ends the FOR, and the rest of its line was its body.
+// What follows a turn that went on so.
 pub(crate) fn after_turn<S: NodeStore>(
     alloc: Global,
     parts: &mut Parts<S>,
@@ -226,14 +195,11 @@ pub(crate) fn after_turn<S: NodeStore>(
     scratch: &mut Scratch,
 ) -> Result<Completion, Code>
     ensures loans { KeepsLoans parts.old parts.new }
-    ensures falls { IfOk result (λ _. 6 * parts.new.eval.steps + length scratch.new.frames.items ≤ 6 * parts.old.eval.steps + length scratch.old.frames.items) }
+    ensures falls { IfOk result (λ _. Falls parts.old scratch.old parts.new scratch.new) }
     ensures does { Runs S.NodeStore (λ a n. meaning.after_turn (context a n (position_of turns.value.body.position.value)) (turning turns.value) (completion_of completion)) (stack scratch.old.frames.items) parts.old result (stack scratch.new.frames.items) parts.new }
 {
-    match completion {
-        Completion::GoOn => after_course(alloc, parts, turns, scratch),
-        Completion::Skips => after_course(alloc, parts, turns, scratch),
-        Completion::Quits => Ok(Completion::Skips),
-        Completion::Goes(target) => Ok(Completion::Goes(target)),
-        Completion::Halts => Ok(Completion::Halts),
+    match turn_ends(completion) {
+        None => after_course(alloc, parts, turns, scratch),
+        Some(completion) => Ok(completion),
     }
 }

@@ -5,7 +5,7 @@ use Rattle.mmeaning.specs.Levels.{Position, Level, deeper, restores}
 use Rattle.mmeaning.specs.LineMeaning.{Completion, Context, context, closed, in_level, lines_next}
 use Rattle.meval.specs.Evaluates.{depth_of}
 use Rattle.mexec.specs.Frames.{position_of}
-use Rattle.mexec.proofs.Calls.{runs_then, runs_stopped, runs_lost, runs_wanting}
+use Rattle.mexec.proofs.Calls.{runs_then, runs_stopped, runs_wanting}
 use Rattle.mexec.proofs.LevelRuns.{at_plain, lines_opened_as}
 use Rattle.mexec.proofs.entering.doing_block.Goals as goal
 

@@ -2,9 +2,9 @@
 use Rattle.std.proofs.Common.{◌≤◌, ◌<◌, length, None, refl, arith, lt-ltb, le-ltb}
 use Rattle.mspec.proofs.ListPlaces.{none_left}
 use Rattle.mgrammar.specs.RoutineLine.{dots_of}
-use Rattle.mcommand.proofs.Calls.{keeps_on}
+use Rattle.mcommand.proofs.Calls.{keeps_evaluated}
 use Rattle.mexec.proofs.Calls.{at_gives}
-use Rattle.mexec.proofs.LevelRuns.{passes_line, passing_failed, stops_at}
+use Rattle.mexec.proofs.LevelRuns.{at_plain, passes_line, passing_failed, stops_at}
 use Rattle.mexec.proofs.levels.reached.Goals as goal
 
 pub returns-then-dots-level-clause-does : goal.returns-then-dots-level-clause-does
@@ -26,7 +26,7 @@ returns-in_err-charge-clause-does g c =
     let is = rw c.deref-in-loop-at.ensures at c.index.ensures in
     let many = rw (c.dots_of-dots.ensures, c.as_bytes.ensures.bytes) at c.if-dots-level.false in
     let more = lt-ltb c.args.level.now.dots (dots_of c.index.result.now) (omega (arith, many)) in
-    c.loop-at.invariant.leads _ _ (passing_failed c.args.level.now.dots c.loop-at.at v.items c.index.result.now less is more c.in_err-charge.ensures.does c.from_residual.ensures)
+    c.loop-at.invariant.leads _ _ (passing_failed c.args.level.now.dots c.loop-at.at v.items c.index.result.now less is more (at_plain c.in_err-charge.ensures.does) c.from_residual.ensures)
 
 pub loop-at-preserved : goal.loop-at-preserved
 loop-at-preserved g c =
@@ -37,9 +37,9 @@ loop-at-preserved g c =
     let many = rw (c.dots_of-dots.ensures, c.as_bytes.ensures.bytes) at c.if-dots-level.false in
     let more = lt-ltb c.args.level.now.dots (dots_of c.index.result.now) (omega (arith, many)) in
     record {
-      loans = keeps_on c.loop-at.invariant.loans c.in_ok-charge.ensures.loans;
+      loans = keeps_evaluated c.loop-at.invariant.loans c.in_ok-charge.ensures.loans;
       fewer = omega arith;
-      leads = λ r p k. c.loop-at.invariant.leads r p (passes_line c.args.level.now.dots c.loop-at.at v.items c.index.result.now less is more c.in_ok-charge.ensures.does k);
+      leads = λ r p k. c.loop-at.invariant.leads r p (passes_line c.args.level.now.dots c.loop-at.at v.items c.index.result.now less is more (at_plain c.in_ok-charge.ensures.does) k);
     }
 
 pub returns-clause-does : goal.returns-clause-does

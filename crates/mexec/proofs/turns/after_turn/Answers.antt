@@ -1,19 +1,16 @@
 -- SPDX-License-Identifier: Apache-2.0
-use Rattle.mexec.specs.declared.completion.Completion.TheVariants as completion
-use Rattle.mexec.proofs.Calls.{runs_completion}
+use Rattle.mmeaning.specs.LineMeaning.{context}
+use Rattle.mexec.specs.Frames.{completion_of, position_of, turning}
+use Rattle.mexec.proofs.Calls.{runs_completion, runs_as}
+use Rattle.mexec.proofs.FrontRuns.{turn_goes_on, turn_is_over}
 use Rattle.mexec.proofs.turns.after_turn.Goals as goal
 
-pub returns-in-GoOn-clause-does : goal.returns-in-GoOn-clause-does
-returns-in-GoOn-clause-does g c = rw c.in-GoOn.is c.after_course.ensures.does
+pub returns-in-None-clause-does : goal.returns-in-None-clause-does
+returns-in-None-clause-does g c =
+    let ends = rw c.in-None.is at c.turn_ends.ensures in
+    runs_as (λ a n. turn_goes_on (context a n (position_of c.args.turns.value.body.position.value)) (turning c.args.turns.value) (completion_of c.args.completion) ends) c.after_course.ensures.does
 
-pub returns-in-Skips-clause-does : goal.returns-in-Skips-clause-does
-returns-in-Skips-clause-does g c = rw c.in-Skips.is c.after_course-in-Skips.ensures.does
-
-pub returns-in-Quits-clause-does : goal.returns-in-Quits-clause-does
-returns-in-Quits-clause-does g c = rw c.in-Quits.is (runs_completion completion.Skips)
-
-pub returns-in-Halts-clause-does : goal.returns-in-Halts-clause-does
-returns-in-Halts-clause-does g c = rw c.in-Halts.is (runs_completion completion.Halts)
-
-pub returns-in-Goes-clause-does : goal.returns-in-Goes-clause-does
-returns-in-Goes-clause-does g c = rw c.in-Goes.is (runs_completion (completion.Goes c.in-Goes.target))
+pub returns-in-Some-clause-does : goal.returns-in-Some-clause-does
+returns-in-Some-clause-does g c =
+    let ends = rw c.in-Some.is at c.turn_ends.ensures in
+    runs_as (λ a n. turn_is_over (context a n (position_of c.args.turns.value.body.position.value)) (turning c.args.turns.value) (completion_of c.args.completion) (completion_of c.in-Some.completion) ends) (runs_completion c.in-Some.completion)

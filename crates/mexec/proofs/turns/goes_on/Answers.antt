@@ -1,12 +1,17 @@
 -- SPDX-License-Identifier: Apache-2.0
 use Rattle.std.proofs.Common.{true, refl}
+use Rattle.mcommand.proofs.Calls.{at_done}
 use Rattle.mexec.proofs.Calls.{at_gives}
+use Rattle.mexec.proofs.Indexes.{no_course, not_found}
 use Rattle.mexec.proofs.turns.goes_on.Goals as goal
 
-pub returns-in-Forever-clause-does : goal.returns-in-Forever-clause-does
-returns-in-Forever-clause-does g c = rw c.in-Forever.is (at_gives true (λ b. b) true refl)
+pub returns-in-None-clause-does : goal.returns-in-None-clause-does
+returns-in-None-clause-does g c =
+    let t = c.args.turns.now in
+    let indexed = rw c.deref.ensures at c.loop_before.ensures.indexed in
+    rw (no_course t.body.line.value t.body.at t.course (not_found c.loop_before.result _ c.in-None.is indexed) t.indexed) (at_gives true (λ b. b) true refl)
 
-pub returns-clause-does : goal.returns-clause-does
-returns-clause-does g c =
+pub returns-in-Some-clause-does : goal.returns-in-Some-clause-does
+returns-in-Some-clause-does g c =
     let found = rw c.deref.ensures at c.in-Some.ensures.found in
-    rw found c.advance.ensures.does
+    rw found (at_done c.args.parts.now.eval.depth c.advance.ensures.does)

@@ -1,0 +1,201 @@
+-- SPDX-License-Identifier: Apache-2.0
+-- Arguments, commands and lines up to where they stop, and then what is left of them, is what they do.
+use Rattle.std.proofs.Common.{◌≡◌, ℕ, zero, suc, ◌+◌, ◌*◌, ◌-◌, ◌≤◌, ◌<◌, Bool, true, false, cond, List, [], ◌∷◌, None, Some, Result, Ok, Err, length, get_or, slice_get, map, drop, refl, sym, ap, ◌∙◌, subst, arith}
+use Rattle.std.specs.Result.{IsErr, IsErrAnd, IfOk}
+use Rattle.mspec.specs.Act.{Text, Act, ◌>>=◌, ◌>>◌, give, charge}
+use Rattle.mspec.proofs.ListPlaces.{next_item}
+use Rattle.mgrammar.specs.Grammar.{KeywordTree, for_word, do_word, ArgTree, loop, CommandTree}
+use Rattle.mmeaning.specs.LineMeaning as meaning
+use Rattle.mmeaning.specs.LineMeaning.{Position, Context, Turning, Go_on, after, arguments, bare, commands, conditional, context, effect, holds, inside_of}
+use Rattle.mmeaning.specs.Frames.{View}
+use Rattle.mmeaning.proofs.Calls.{assoc, ended}
+use Rattle.mtree.specs.Tree.{arg_tree, command_tree, spaced_tree}
+use Rattle.mtree.specs.declared.tree.Arg.{Arg}
+use Rattle.mtree.specs.declared.tree.Arg.TheVariants as arg
+use Rattle.mtree.specs.declared.tree.Spaced.{Spaced}
+use Rattle.mtree.specs.declared.tree.Line.{Line}
+use Rattle.mstore.specs.declared.store.NodeStore.{Ghosts}
+use Rattle.moperator.specs.declared.code.Code.{Code}
+use Rattle.mcommand.specs.declared.parts.Parts.{Parts}
+use Rattle.mcommand.specs.Does.{DoesAt}
+use Rattle.mexec.specs.declared.completion.Completion.{Completion}
+use Rattle.mexec.specs.declared.completion.Completion.TheVariants as completion
+use Rattle.mexec.specs.declared.front.Outcome as the_outcome
+use Rattle.mexec.specs.declared.front.Outcome.TheVariants as outcome
+use Rattle.mexec.specs.declared.arguments.Begun.{Begun}
+use Rattle.mexec.specs.declared.arguments.Begun.TheVariants as begun
+use Rattle.mexec.specs.Arguments.{Start, gave, enters, started, finished, start_of}
+use Rattle.mexec.specs.Frames.{Runs, commands_from, completion_of}
+use Rattle.mexec.specs.Fronts.{Outcome, over, behind, args_started, args_left, args_outcome, word_started, effect_started, command_started, finishes, behind_command, front, line_left, begun_of, outcome_of, front_of, StopsIn, IfStops, ends, at_begun, stops_at, turn_ends, turn_left}
+use Rattle.mexec.specs.Loops.{args_before}
+use Rattle.mexec.proofs.ArgumentRuns.{argument_is}
+use Rattle.mexec.proofs.Calls.{at_then, at_failed, at_stopped, at_gives, at_as, runs_then, runs_stopped, runs_as, some_item}
+
+-- ---- acts
+
+module _ (x : Context) where
+  behind_is : (st : Start) (more : List ArgTree) → ◌≡◌ {A = Act meaning.Completion} (arguments x more) (args_started x more >>= (λ w. args_left x w.0 w.1))
+      → ◌≡◌ {A = Act meaning.Completion} (finished x st >>= (λ s. after s (arguments x more))) (behind st more (args_started x more) >>= (λ w. args_left x w.0 w.1))
+  behind_is (gave Go_on) more e = e
+  behind_is st more e = refl
+
+  pub arguments_is : (args : List ArgTree) → ◌≡◌ {A = Act meaning.Completion} (arguments x args) (args_started x args >>= (λ w. args_left x w.0 w.1))
+  arguments_is [] = refl
+  arguments_is (a ∷ more) =
+      ap (λ (q : Act meaning.Completion). q >>= (λ s. after s (arguments x more))) (argument_is x a)
+      ∙ assoc (started x a) (finished x) (λ s. after s (arguments x more))
+      ∙ (λ i. started x a >>= (λ st. behind_is st more (arguments_is more) i))
+      ∙ sym (assoc (started x a) (λ st. behind st more (args_started x more)) (λ w. args_left x w.0 w.1))
+
+  word_is : (k : KeywordTree) (rest : List CommandTree) → ◌≡◌ {A = Act meaning.Completion} (bare x k rest) (word_started x k >>= finishes x rest)
+  word_is for_word rest = refl
+  word_is do_word rest = refl
+  word_is k rest = sym (assoc (bare x k []) (λ s. give (over s)) (finishes x rest) ∙ ended (bare x k []))
+
+  args_end : (st : Start) (more : List ArgTree) (rest : List CommandTree) → ◌≡◌ {A = Act meaning.Completion} (args_left x st more) (finishes x rest (args_outcome st more))
+  args_end (gave s) more rest = refl
+  args_end (enters e) more rest = refl
+
+  effect_is : (k : KeywordTree) (args : List ArgTree) (rest : List CommandTree) → ◌≡◌ {A = Act meaning.Completion} (effect x k args rest) (effect_started x k args >>= finishes x rest)
+  effect_is k [] rest = word_is k rest
+  effect_is k (loop index parameters ∷ more) rest = refl
+  effect_is k (a ∷ more) rest =
+      arguments_is (a ∷ more)
+      ∙ (λ i. args_started x (a ∷ more) >>= (λ w. args_end w.0 w.1 rest i))
+      ∙ sym (assoc (args_started x (a ∷ more)) (λ w. give (args_outcome w.0 w.1)) (finishes x rest))
+
+  conditional_is : (c : CommandTree) (rest : List CommandTree) → ◌≡◌ {A = Act meaning.Completion} (conditional x c rest) (command_started x c >>= finishes x rest)
+  conditional_is c rest =
+      sym (assoc (holds (inside_of x) c.condition) (λ b. cond b (effect_started x c.keyword c.args) (give (over Go_on))) (finishes x rest) ∙ (λ i. holds (inside_of x) c.condition >>= (λ b. either b i)))
+    where
+      either : (b : Bool) → ◌≡◌ {A = Act meaning.Completion} (cond b (effect_started x c.keyword c.args) (give (over Go_on)) >>= finishes x rest) (cond b (effect x c.keyword c.args rest) (give Go_on))
+      either true = sym (effect_is c.keyword c.args rest)
+      either false = refl
+
+  behind_command_is : (o : Outcome) (rest : List CommandTree) → ◌≡◌ {A = Act meaning.Completion} (commands x rest) (front x rest >>= (λ w. line_left x w.0 w.1))
+      → ◌≡◌ {A = Act meaning.Completion} (finishes x rest o >>= (λ s. after s (commands x rest))) (behind_command o rest (front x rest) >>= (λ w. line_left x w.0 w.1))
+  behind_command_is (over Go_on) rest e = e
+  behind_command_is o rest e = refl
+
+  pub commands_is : (cs : List CommandTree) → ◌≡◌ {A = Act meaning.Completion} (commands x cs) (front x cs >>= (λ w. line_left x w.0 w.1))
+  commands_is [] = refl
+  commands_is (c ∷ rest) =
+      (λ i. charge >> (conditional_is c rest i >>= (λ s. after s (commands x rest))))
+      ∙ (λ i. charge >> assoc (command_started x c) (finishes x rest) (λ s. after s (commands x rest)) i)
+      ∙ (λ i. charge >> (command_started x c >>= (λ o. behind_command_is o rest (commands_is rest) i)))
+      ∙ (λ i. charge >> sym (assoc (command_started x c) (λ o. behind_command o rest (front x rest)) (λ w. line_left x w.0 w.1)) i)
+      ∙ sym (assoc charge (λ _. command_started x c >>= (λ o. behind_command o rest (front x rest))) (λ w. line_left x w.0 w.1))
+
+-- a command whose first argument is not that of a FOR
+pub other_started : (x : Context) (k : KeywordTree) (a : Arg) (more : List ArgTree) → ((index : _) (ps : _) → a ≡ arg.Loop index ps → ⊥)
+    → ◌≡◌ {A = Act Outcome} (effect_started x k (arg_tree a ∷ more)) (args_started x (arg_tree a ∷ more) >>= (λ w. give (args_outcome w.0 w.1)))
+other_started x k (arg.Loop index ps) more h = absurd (h index ps refl)
+other_started x k a more h = refl
+
+-- a completion that passes what is next
+pub passes_argument : (s : Completion) (more : List ArgTree) (next : Act (Start × List ArgTree)) → (s ≡ completion.GoOn → ⊥)
+    → ◌≡◌ {A = Act (Start × List ArgTree)} (behind (gave (completion_of s)) more next) (give (gave (completion_of s), more))
+passes_argument completion.GoOn more next h = absurd (h refl)
+passes_argument s more next h = refl
+
+pub passes_command : (s : Completion) (rest : List CommandTree) (next : Act (Outcome × List CommandTree)) → (s ≡ completion.GoOn → ⊥)
+    → ◌≡◌ {A = Act (Outcome × List CommandTree)} (behind_command (over (completion_of s)) rest next) (give (over (completion_of s), rest))
+passes_command completion.GoOn rest next h = absurd (h refl)
+passes_command s rest next h = refl
+
+-- what follows a turn
+after_turn_is : (x : Context) (t : Turning) (s : meaning.Completion) → ◌≡◌ {A = Act meaning.Completion} (meaning.after_turn x t s) (turn_left x t (turn_ends s))
+after_turn_is x t Go_on = refl
+after_turn_is x t s = refl
+
+-- the FOR goes on
+pub turn_goes_on : (x : Context) (t : Turning) (s : meaning.Completion) → None ≡ turn_ends s → ◌≡◌ {A = Act meaning.Completion} (meaning.after_turn x t s) (meaning.after_course x t t.course)
+turn_goes_on x t s e = after_turn_is x t s ∙ ap (turn_left x t) (sym e)
+
+-- or not
+pub turn_is_over : (x : Context) (t : Turning) (s ended : meaning.Completion) → Some ended ≡ turn_ends s → ◌≡◌ {A = Act meaning.Completion} (meaning.after_turn x t s) (give ended)
+turn_is_over x t s ended e = after_turn_is x t s ∙ ap (turn_left x t) (sym e)
+
+-- ---- stops
+
+item_there : {A : Type 0} (xs : List A) (k : ℕ) (x : A) → k < length xs → x ≡ get_or xs k x → slice_get xs k ≡ Some x
+item_there [] k x less is = absurd (omega arith)
+item_there (y ∷ xs) zero x less is = ap Some (sym is)
+item_there (y ∷ xs) (suc k) x less is = item_there xs k x (omega (arith, less)) is
+
+-- the arguments before a place are those of the command there
+pub args_there : (l : Line) (k : ℕ) (x : Spaced) → k < length l.commands.items → x ≡ get_or l.commands.items k x → args_before l (k + 1) ≡ x.command.args.items
+args_there l k x less is = let at : (k + 1) - 1 ≡ k = omega arith in rw (at, item_there l.commands.items k x less is) refl
+
+pub begun_stops : (args : List Arg) (r : Result (Begun × ℕ) Code) → IfOk (stops_at r) (λ o. IfStops o (StopsIn args))
+begun_stops args (Ok (begun.Gave s, at)) = tt
+begun_stops args r = tt
+
+-- a step that was spent pays for the frames that are left
+pub falls_spent : {X E : Type 0} (k new mid old frames left : ℕ) (r : Result X E) → mid < old → k ≤ 6 → IfOk r (λ _. 6 * new + frames ≤ 6 * mid + left + k) → IfOk r (λ _. 6 * new + frames ≤ 6 * old + left)
+falls_spent k new mid old frames left (Ok x) less few h = omega (arith, less, few, h)
+falls_spent k new mid old frames left (Err e) less few h = tt
+
+begun_is : (args : List Arg) (b : Begun) (at : ℕ) → outcome_of args (at_begun b at) ≡ args_outcome (start_of b) (map arg_tree (drop at args))
+begun_is args (begun.Gave s) at = refl
+begun_is args (begun.Enters e) at = refl
+
+-- ---- calls
+
+module _ {S : Type 0} {g : Ghosts S} where
+  -- a word that gives its completion
+  pub gives_over : {p : Text → ℕ → Act meaning.Completion} {old new : Parts S} (args : List Arg) (r : Result Completion Code) → DoesAt g p completion_of old r new → DoesAt g (λ a n. p a n >>= (λ s. give (over s))) (outcome_of args) old (ends r) new
+  gives_over args (Ok s) d = at_then (λ a n s. give (over s)) d (at_gives (over (completion_of s)) (outcome_of args) (outcome.Over s) refl)
+  gives_over args (Err c) d = at_failed (λ a n s. give (over s)) d
+
+  -- arguments that have begun
+  pub gives_stop : {p : Text → ℕ → Act (Start × List ArgTree)} {old new : Parts S} (args : List Arg) (r : Result (Begun × ℕ) Code) → DoesAt g p (begun_of args) old r new
+      → DoesAt g (λ a n. p a n >>= (λ w. give (args_outcome w.0 w.1))) (outcome_of args) old (stops_at r) new
+  gives_stop args (Ok (b, at)) d = at_then (λ a n w. give (args_outcome w.0 w.1)) d (at_gives (args_outcome (start_of b) (map arg_tree (drop at args))) (outcome_of args) (at_begun b at) (begun_is args b at))
+  gives_stop args (Err c) d = at_failed (λ a n w. give (args_outcome w.0 w.1)) d
+
+module _ {S : Type 0} {g : Ghosts S} (p : Position) (l : Line) (k : ℕ) (x : Spaced) (less : k < length l.commands.items) (is : x ≡ get_or l.commands.items k x) where
+  -- a command is done up to where it stops, and then those behind it go on
+  pub command_begins : {X : Type 0} {f : X → Unit {0}} {u : X} {o : the_outcome.Outcome} {old mid next new : Parts S} {r : Result (the_outcome.Outcome × ℕ) Code} → DoesAt g (λ a n. charge) f old (Ok u) mid
+      → DoesAt g (λ a n. command_started (context a n p) (command_tree x.command)) (outcome_of x.command.args.items) mid (Ok o) next
+      → DoesAt g (λ a n. behind_command (outcome_of x.command.args.items o) (commands_from l (k + 1)) (front (context a n p) (commands_from l (k + 1)))) (front_of l) next r new
+      → DoesAt g (λ a n. front (context a n p) (commands_from l k)) (front_of l) old r new
+  command_begins {old = old} {new = new} {r = r} c does then_does =
+      subst (λ (xs : List Spaced). DoesAt g (λ a n. front (context a n p) (map (λ c. c.0) (map spaced_tree xs))) (front_of l) old r new) (sym (next_item l.commands.items k x less is))
+      (at_then (λ a n _. command_started (context a n p) (command_tree x.command) >>= (λ o. behind_command o (commands_from l (k + 1)) (front (context a n p) (commands_from l (k + 1))))) c
+      (at_then (λ a n o. behind_command o (commands_from l (k + 1)) (front (context a n p) (commands_from l (k + 1)))) does then_does))
+
+  pub command_stopped : {X : Type 0} {f : X → Unit {0}} {u : X} {old mid new : Parts S} {r : Result (the_outcome.Outcome × ℕ) Code} {e : Code} → DoesAt g (λ a n. charge) f old (Ok u) mid
+      → DoesAt g (λ a n. command_started (context a n p) (command_tree x.command)) (outcome_of x.command.args.items) mid (Err e) new → IsErr r × IsErrAnd r (λ x. x ≡ e)
+      → DoesAt g (λ a n. front (context a n p) (commands_from l k)) (front_of l) old r new
+  command_stopped {old = old} {new = new} {r = r} c does h =
+      subst (λ (xs : List Spaced). DoesAt g (λ a n. front (context a n p) (map (λ c. c.0) (map spaced_tree xs))) (front_of l) old r new) (sym (next_item l.commands.items k x less is))
+      (at_then (λ a n _. command_started (context a n p) (command_tree x.command) >>= (λ o. behind_command o (commands_from l (k + 1)) (front (context a n p) (commands_from l (k + 1))))) c
+      (at_stopped (λ a n o. behind_command o (commands_from l (k + 1)) (front (context a n p) (commands_from l (k + 1)))) does h))
+
+-- want of a step for the next command
+pub charge_stopped : {S X : Type 0} {g : Ghosts S} (p : Position) (l : Line) (k : ℕ) {f : X → Unit {0}} {old new : Parts S} {r : Result (the_outcome.Outcome × ℕ) Code} {e : Code} → k < length l.commands.items → DoesAt g (λ a n. charge) f old (Err e) new → IsErr r × IsErrAnd r (λ x. x ≡ e)
+    → DoesAt g (λ a n. front (context a n p) (commands_from l k)) (front_of l) old r new
+charge_stopped {g = g} p l k {old = old} {new = new} {r = r} less c h =
+    let some = some_item k l.commands.items less in
+    subst (λ (xs : List Spaced). DoesAt g (λ a n. front (context a n p) (map (λ c. c.0) (map spaced_tree xs))) (front_of l) old r new) (sym some.1)
+    (at_stopped (λ a n _. command_started (context a n p) (command_tree some.0.command) >>= (λ o. behind_command o (commands_from l (k + 1)) (front (context a n p) (commands_from l (k + 1))))) c h)
+
+module _ {S : Type 0} {g : Ghosts S} (p : Position) (l : Line) where
+  -- a line up to where it stops, and then what is left of it
+  pub front_runs : (from : ℕ) {at : ℕ} {o : the_outcome.Outcome} {fs fs' : List View} {old mid new : Parts S} {r : Result Completion Code} → DoesAt g (λ a n. front (context a n p) (commands_from l from)) (front_of l) old (Ok (o, at)) mid → mid.eval.steps ≤ old.eval.steps
+      → Runs g (λ a n. line_left (context a n p) (front_of l (o, at)).0 (commands_from l at)) fs mid r fs' new
+      → Runs g (λ a n. commands (context a n p) (commands_from l from)) fs old r fs' new
+  front_runs from does few k =
+      runs_as (λ a n. commands_is (context a n p) (commands_from l from)) (runs_then (λ a n w. line_left (context a n p) w.0 w.1) does few k)
+
+  pub front_stopped : (from : ℕ) {fs fs' : List View} {old new : Parts S} {r : Result Completion Code} {e : Code} → DoesAt g (λ a n. front (context a n p) (commands_from l from)) (front_of l) old (Err e) new → new.eval.steps ≤ old.eval.steps
+      → IsErr r × IsErrAnd r (λ x. x ≡ e) → Runs g (λ a n. commands (context a n p) (commands_from l from)) fs old r fs' new
+  front_stopped from does few h =
+      runs_as (λ a n. commands_is (context a n p) (commands_from l from)) (runs_stopped (λ a n w. line_left (context a n p) w.0 w.1) does few h)
+
+  -- a line that is over
+  pub front_over : (from : ℕ) {at : ℕ} {s : Completion} {old mid : Parts S} → DoesAt g (λ a n. front (context a n p) (commands_from l from)) (front_of l) old (Ok (outcome.Over s, at)) mid
+      → DoesAt g (λ a n. commands (context a n p) (commands_from l from)) completion_of old (Ok s) mid
+  front_over from {s = s} does =
+      at_as (λ a n. commands_is (context a n p) (commands_from l from)) (at_then (λ a n w. line_left (context a n p) w.0 w.1) does (at_gives (completion_of s) completion_of s refl))

@@ -1,0 +1,61 @@
+-- SPDX-License-Identifier: Apache-2.0
+use Rattle.std.proofs.Common.{◌+◌, [], map, drop, refl, arith}
+use Rattle.mspec.proofs.ListPlaces.{none_left}
+use Rattle.mmeaning.specs.LineMeaning as meaning
+use Rattle.mmeaning.specs.LineMeaning.{context}
+use Rattle.mtree.specs.Tree.{arg_tree}
+use Rattle.mcommand.proofs.Calls.{keeps_itself, keeps_on}
+use Rattle.mexec.specs.declared.arguments.Begun.TheVariants as begun
+use Rattle.mexec.specs.declared.completion.Completion.TheVariants as completion
+use Rattle.mexec.specs.Arguments.{gave, enters, entrance_of}
+use Rattle.mexec.specs.Fronts.{args_started, begun_of}
+use Rattle.mexec.specs.Frames.{completion_of, position_of}
+use Rattle.mexec.proofs.Calls.{at_gives, at_as}
+use Rattle.mexec.proofs.ArgumentRuns.{argument_begins, argument_stopped}
+use Rattle.mexec.proofs.FrontRuns.{passes_argument}
+use Rattle.mexec.proofs.arguments.arguments_begun.Goals as goal
+
+pub loop-at-init : goal.loop-at-init
+loop-at-init g c = record {
+  loans = keeps_itself c.args.parts.now;
+  fewer = omega arith;
+  leads = λ r p k. k;
+}
+
+pub returns-in_err-completion-clause-does : goal.returns-in_err-completion-clause-does
+returns-in_err-completion-clause-does g c =
+    c.loop-at.invariant.leads _ _ (argument_stopped (position_of c.args.position.now) c.args.args.now c.loop-at.at c.index-args-at.result c.loop-at-test.true c.index-args-at.is c.in_err-completion.ensures.does c.from_residual.ensures)
+
+pub loop-at-preserved : goal.loop-at-preserved
+loop-at-preserved g c =
+    let does = rw (c.in-Gave.is, c.in-GoOn.is) at c.in_ok-completion.ensures.does in
+    record {
+      loans = keeps_on c.loop-at.invariant.loans c.in_ok-completion.ensures.loans;
+      fewer = omega arith;
+      leads = λ r q k. c.loop-at.invariant.leads r q (argument_begins (position_of c.args.position.now) c.args.args.now c.loop-at.at c.index-args-at.result c.loop-at-test.true c.index-args-at.is does k);
+    }
+
+pub returns-clause-does : goal.returns-clause-does
+returns-clause-does g c =
+    let leads = rw (none_left c.loop-at.at c.args.args.now c.loop-at-test.false) at c.loop-at.invariant.leads in
+    leads _ _ (at_gives (gave meaning.Go_on, []) (begun_of c.args.args.now) (begun.Gave completion.GoOn, c.loop-at.at) (rw (none_left c.loop-at.at c.args.args.now c.loop-at-test.false) refl))
+
+pub returns-in_default-clause-does : goal.returns-in_default-clause-does
+returns-in_default-clause-does g c =
+    let all = c.args.args.now in
+    let p = position_of c.args.position.now in
+    let behind = map arg_tree (drop (c.loop-at.at + 1) all) in
+    let s = c.in-Gave.completion in
+    let does = rw c.in-Gave.is at c.in_ok-completion.ensures.does in
+    c.loop-at.invariant.leads _ _
+    (argument_begins p all c.loop-at.at c.index-args-at.result c.loop-at-test.true c.index-args-at.is does
+    (at_as (λ a n. passes_argument s behind (args_started (context a n p) behind) c.in_default.not-GoOn) (at_gives (gave (completion_of s), behind) (begun_of all) (begun.Gave s, c.loop-at.at + 1) refl)))
+
+pub returns-in-Enters-clause-does : goal.returns-in-Enters-clause-does
+returns-in-Enters-clause-does g c =
+    let all = c.args.args.now in
+    let e = c.in-Enters.entrance in
+    let does = rw c.in-Enters.is at c.in_ok-completion.ensures.does in
+    c.loop-at.invariant.leads _ _
+    (argument_begins (position_of c.args.position.now) all c.loop-at.at c.index-args-at.result c.loop-at-test.true c.index-args-at.is does
+    (at_gives (enters (entrance_of e), map arg_tree (drop (c.loop-at.at + 1) all)) (begun_of all) (begun.Enters e, c.loop-at.at + 1) refl))

@@ -1,0 +1,27 @@
+-- SPDX-License-Identifier: Apache-2.0
+use Rattle.std.proofs.Common.{map, drop}
+use Rattle.mtree.specs.Tree.{arg_tree}
+use Rattle.mexec.specs.Frames.{source_args, source_position, position_of}
+use Rattle.mexec.proofs.Calls.{runs_wanting, runs_listing}
+use Rattle.mexec.proofs.arguments.enter_argument.Goals as goal
+
+pub returns-in_err-leave-clause-does : goal.returns-in_err-leave-clause-does
+returns-in_err-leave-clause-does g c = runs_wanting _ _ c.from_residual.ensures
+
+pub returns-in-Lines-clause-does : goal.returns-in-Lines-clause-does
+returns-in-Lines-clause-does g c =
+    let s = c.args.source in
+    let does = rw (c.position-position.ensures, c.in_ok-leave.ensures.frames) at c.doing.ensures.does in
+    rw c.in-Lines.is (runs_listing (position_of (source_position s)) (map arg_tree (drop c.args.argument (source_args s))) does)
+
+pub returns-in-Text-clause-does : goal.returns-in-Text-clause-does
+returns-in-Text-clause-does g c =
+    let s = c.args.source in
+    let does = rw (c.position-position.ensures, c.in_ok-leave.ensures.frames) at c.executing.ensures.does in
+    rw c.in-Text.is (runs_listing (position_of (source_position s)) (map arg_tree (drop c.args.argument (source_args s))) does)
+
+pub returns-in-Indirect-clause-does : goal.returns-in-Indirect-clause-does
+returns-in-Indirect-clause-does g c =
+    let s = c.args.source in
+    let does = rw (c.position-position.ensures, c.in_ok-leave.ensures.frames) at c.giving.ensures.does in
+    rw c.in-Indirect.is (runs_listing (position_of (source_position s)) (map arg_tree (drop c.args.argument (source_args s))) does)

@@ -1,0 +1,29 @@
+-- SPDX-License-Identifier: Apache-2.0
+use Rattle.std.proofs.Common.{refl}
+use Rattle.mspec.specs.Act.{give}
+use Rattle.mmeaning.specs.LineMeaning as meaning
+use Rattle.mmeaning.specs.LineMeaning.{context}
+use Rattle.mcommand.proofs.Calls.{at_done}
+use Rattle.mexec.proofs.LevelRuns.{at_any}
+use Rattle.mexec.specs.declared.completion.Completion.TheVariants as completion
+use Rattle.mexec.specs.Frames.{completion_of}
+use Rattle.mexec.proofs.Calls.{at_then, at_stopped, at_gives}
+use Rattle.mexec.proofs.arguments.going.Goals as goal
+
+pub returns-in_err-applies-clause-does : goal.returns-in_err-applies-clause-does
+returns-in_err-applies-clause-does g c = at_stopped _ (at_done c.args.position.now.depth c.in_err-applies.ensures.does) c.from_residual.ensures
+
+pub returns-in_err-target-clause-does : goal.returns-in_err-target-clause-does
+returns-in_err-target-clause-does g c =
+    let applies = rw c.if-applies.true at c.in_ok-applies.ensures.does in
+    at_then _ (at_done c.args.position.now.depth applies) (at_stopped _ (at_any c.in_err-target.ensures.does) c.from_residual-in_err-target.ensures)
+
+pub returns-in_ok-target-clause-does : goal.returns-in_ok-target-clause-does
+returns-in_ok-target-clause-does g c =
+    let applies = rw c.if-applies.true at c.in_ok-applies.ensures.does in
+    at_then _ (at_done c.args.position.now.depth applies) (at_then (λ a n t. give (meaning.Goes t)) (at_any c.in_ok-target.ensures.does) (at_gives _ completion_of (completion.Goes c.in_ok-target.target) refl))
+
+pub returns-else-applies-clause-does : goal.returns-else-applies-clause-does
+returns-else-applies-clause-does g c =
+    let applies = rw c.if-applies.false at c.in_ok-applies.ensures.does in
+    at_then _ (at_done c.args.position.now.depth applies) (at_gives meaning.Go_on completion_of completion.GoOn refl)

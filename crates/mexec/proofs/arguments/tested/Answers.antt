@@ -1,0 +1,22 @@
+-- SPDX-License-Identifier: Apache-2.0
+use Rattle.mspec.specs.Act.{give}
+use Rattle.mmeaning.specs.LineMeaning as meaning
+use Rattle.mmeaning.specs.Expression.{inside}
+use Rattle.mtree.specs.Tree.{expr_tree}
+use Rattle.meval.specs.Evaluates.{depth_of}
+use Rattle.mmeaning.proofs.Calls.{residual_is}
+use Rattle.mcommand.proofs.Calls.{at_done}
+use Rattle.mexec.specs.Frames.{completion_of}
+use Rattle.mexec.proofs.Calls.{at_then, at_failed, at_gives, at_as, testing_is}
+use Rattle.mexec.proofs.arguments.tested.Goals as goal
+
+pub returns-in_err-is_true-clause-does : goal.returns-in_err-is_true-clause-does
+returns-in_err-is_true-clause-does g c =
+    rw (residual_is _ _ c.from_residual.ensures)
+    (at_as (λ a n. testing_is (inside a n (depth_of c.args.position.now.depth)) (expr_tree c.args.e.now))
+    (at_failed (λ a n b. give (meaning.where_true b)) (at_done c.args.position.now.depth c.in_err-is_true.ensures.does)))
+
+pub returns-clause-does : goal.returns-clause-does
+returns-clause-does g c =
+    at_as (λ a n. testing_is (inside a n (depth_of c.args.position.now.depth)) (expr_tree c.args.e.now))
+    (at_then (λ a n b. give (meaning.where_true b)) (at_done c.args.position.now.depth c.in_ok-is_true.ensures.does) (at_gives _ completion_of c.where_true.result c.where_true.ensures))

@@ -1,0 +1,12 @@
+-- SPDX-License-Identifier: Apache-2.0
+use Rattle.mexec.specs.Frames.{position_of, rest_tree}
+use Rattle.mexec.proofs.Calls.{runs_wanting, runs_resting}
+use Rattle.mexec.proofs.continuation.go_on.Goals as goal
+
+pub returns-in_err-leave-clause-does : goal.returns-in_err-leave-clause-does
+returns-in_err-leave-clause-does g c = runs_wanting _ _ c.from_residual.ensures
+
+pub returns-clause-does : goal.returns-clause-does
+returns-clause-does g c =
+    let does = rw c.in_ok-leave.ensures.frames at c.enter.ensures.does in
+    runs_resting (position_of c.args.behind.now.position.value) (rest_tree c.args.behind.now) does

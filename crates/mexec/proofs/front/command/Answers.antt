@@ -1,0 +1,29 @@
+-- SPDX-License-Identifier: Apache-2.0
+use Rattle.std.proofs.Common.{Bool, map, cond, refl}
+use Rattle.mspec.specs.Act.{Act, give}
+use Rattle.mmeaning.specs.LineMeaning.{Context, Go_on, context}
+use Rattle.mtree.specs.declared.tree.Command.{Command}
+use Rattle.mtree.specs.Tree.{keyword_tree, arg_tree}
+use Rattle.mcommand.proofs.Calls.{at_done}
+use Rattle.mexec.specs.Frames.{position_of}
+use Rattle.mexec.specs.Fronts.{Outcome, over, effect_started, outcome_of}
+use Rattle.mexec.proofs.Calls.{at_then, at_stopped, at_gives}
+use Rattle.mexec.proofs.front.command.Goals as goal
+
+-- once it is known whether its condition holds
+abbrev applied : Context → Command → Bool → Act Outcome
+applied x command b = cond b (effect_started x (keyword_tree command.keyword) (map arg_tree command.args.items)) (give (over Go_on))
+
+pub returns-in_err-applies-clause-does : goal.returns-in_err-applies-clause-does
+returns-in_err-applies-clause-does g c =
+    at_stopped (λ a n. applied (context a n (position_of c.args.position.now)) c.args.command.now) (at_done c.args.position.now.depth c.in_err-applies.ensures.does) c.from_residual.ensures
+
+pub returns-then-applies-clause-does : goal.returns-then-applies-clause-does
+returns-then-applies-clause-does g c =
+    let applies = rw c.if-applies.true at c.in_ok-applies.ensures.does in
+    at_then (λ a n. applied (context a n (position_of c.args.position.now)) c.args.command.now) (at_done c.args.position.now.depth applies) c.effect.ensures.does
+
+pub returns-else-applies-clause-does : goal.returns-else-applies-clause-does
+returns-else-applies-clause-does g c =
+    let applies = rw c.if-applies.false at c.in_ok-applies.ensures.does in
+    at_then (λ a n. applied (context a n (position_of c.args.position.now)) c.args.command.now) (at_done c.args.position.now.depth applies) (at_gives (over Go_on) (outcome_of c.args.command.now.args.items) _ refl)

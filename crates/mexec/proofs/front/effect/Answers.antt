@@ -1,0 +1,45 @@
+-- SPDX-License-Identifier: Apache-2.0
+use Rattle.std.proofs.Common.{Some, map, ap, sym, refl, ◌∙◌, ◌∷◌}
+use Rattle.mmeaning.specs.LineMeaning.{context}
+use Rattle.mtree.specs.Tree.{keyword_tree, arg_tree, parameter_tree}
+use Rattle.mtree.specs.declared.tree.Arg.TheVariants as arg
+use Rattle.mexec.specs.Frames.{position_of}
+use Rattle.mexec.specs.Fronts.{stops, at_loop}
+use Rattle.mexec.proofs.Calls.{at_gives, at_as}
+use Rattle.mexec.proofs.Effects.{first_none, first_some}
+use Rattle.mexec.proofs.FrontRuns.{gives_stop, begun_stops, other_started}
+use Rattle.mexec.proofs.front.effect.Goals as goal
+
+pub returns-in-None-clause-stops : goal.returns-in-None-clause-stops
+returns-in-None-clause-stops g c =
+    let first = rw (c.in-None.is, c.deref.ensures.value) at c.first.ensures.value in
+    rw (first_none c.args.command.now.args.items (sym first)) c.bare.ensures.turns
+
+pub returns-in-None-clause-does : goal.returns-in-None-clause-does
+returns-in-None-clause-does g c =
+    let first = rw (c.in-None.is, c.deref.ensures.value) at c.first.ensures.value in
+    rw (first_none c.args.command.now.args.items (sym first)) (c.bare.ensures.does (position_of c.args.position.now))
+
+pub returns-in-Loop-clause-stops : goal.returns-in-Loop-clause-stops
+returns-in-Loop-clause-stops g c =
+    let first = rw (c.in-Some.is, c.deref.ensures.value) at c.first.ensures.value in
+    let some = first_some c.args.command.now.args.items (arg.Loop c.in-Loop.index c.in-Loop.parameters) (sym first ∙ ap Some c.in-Loop.is) in
+    rw some.1 (ap (λ ps. (c.in-Loop.index, ps)) (sym c.as_slice.ensures.value), refl)
+
+pub returns-in-Loop-clause-does : goal.returns-in-Loop-clause-does
+returns-in-Loop-clause-does g c =
+    let first = rw (c.in-Some.is, c.deref.ensures.value) at c.first.ensures.value in
+    let some = first_some c.args.command.now.args.items (arg.Loop c.in-Loop.index c.in-Loop.parameters) (sym first ∙ ap Some c.in-Loop.is) in
+    rw some.1 (at_gives (stops (at_loop c.in-Loop.index (map parameter_tree c.in-Loop.parameters.items))) _ _ (ap (λ ps. stops (at_loop c.in-Loop.index (map parameter_tree ps))) c.as_slice.ensures.value))
+
+pub returns-in_default-clause-stops : goal.returns-in_default-clause-stops
+returns-in_default-clause-stops g c = rw c.stopped.ensures (begun_stops c.args.command.now.args.items c.arguments_begun.result)
+
+pub returns-in_default-clause-does : goal.returns-in_default-clause-does
+returns-in_default-clause-does g c =
+    let first = rw (c.in-Some.is, c.deref.ensures.value) at c.first.ensures.value in
+    let some = first_some c.args.command.now.args.items c.in-Some.first.now (sym first) in
+    let does = rw (c.deref-in_default.ensures.value, some.1) at c.arguments_begun.ensures.does in
+    rw (c.stopped.ensures, some.1)
+    (at_as (λ a n. other_started (context a n (position_of c.args.position.now)) (keyword_tree c.args.command.now.keyword) c.in-Some.first.now (map arg_tree some.0) c.in_default.not-Loop)
+    (gives_stop (c.in-Some.first.now ∷ some.0) c.arguments_begun.result does))

@@ -1,0 +1,21 @@
+-- SPDX-License-Identifier: Apache-2.0
+use Rattle.std.proofs.Common.{◌≤◌, ◌-◌, ℕ, length, Result}
+use Rattle.mmeaning.specs.LineMeaning.{context}
+use Rattle.moperator.specs.declared.code.Code.{Code}
+use Rattle.mcommand.specs.declared.parts.Parts.{Parts}
+use Rattle.mcommand.specs.Does.{DoesAt, KeepsLoans}
+use Rattle.mexec.specs.declared.front.Outcome.{Outcome}
+use Rattle.mexec.specs.Frames.{commands_from, position_of}
+use Rattle.mexec.specs.Fronts.{front, front_of}
+use Rattle.mexec.proofs.front.front.Given as goal
+
+abbrev pub invariant-loop-at : goal.invariant-loop-at
+invariant-loop-at g l = record {
+  loans : KeepsLoans l.fn.parts l.parts;
+  fewer : l.parts.eval.steps ≤ l.fn.parts.eval.steps;
+  leads : (r : Result (Outcome × ℕ) Code) (p : Parts _) → DoesAt g.S.NodeStore (λ a n. front (context a n (position_of l.position)) (commands_from l.line l.at)) (front_of l.line) l.parts r p
+      → DoesAt g.S.NodeStore (λ a n. front (context a n (position_of l.position)) (commands_from l.line l.from)) (front_of l.line) l.fn.parts r p;
+}
+
+abbrev pub decreases-loop-at : goal.decreases-loop-at
+decreases-loop-at g l = length l.line.commands.items - l.at

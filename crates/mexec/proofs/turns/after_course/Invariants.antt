@@ -1,0 +1,24 @@
+-- SPDX-License-Identifier: Apache-2.0
+use Rattle.std.proofs.Common.{◌≡◌, ◌≤◌, List, Result}
+use Rattle.mmeaning.specs.LineMeaning as meaning
+use Rattle.mmeaning.specs.LineMeaning.{context}
+use Rattle.mmeaning.specs.Frames.{View}
+use Rattle.moperator.specs.declared.code.Code.{Code}
+use Rattle.mcommand.specs.declared.parts.Parts.{Parts}
+use Rattle.mcommand.specs.Does.{KeepsLoans}
+use Rattle.mcommand.specs.Turns.{course_view}
+use Rattle.mexec.specs.declared.completion.Completion.{Completion}
+use Rattle.mexec.specs.Frames.{Runs, stack, position_of, turning}
+use Rattle.mexec.proofs.turns.after_course.Given as goal
+
+abbrev pub invariant-turns : goal.invariant-turns
+invariant-turns g l = record {
+  loans : KeepsLoans l.fn.parts l.parts;
+  fewer : l.parts.eval.steps ≤ l.fn.parts.eval.steps;
+  scratch : l.scratch ≡ l.fn.scratch;
+  leads : (r : Result Completion Code) (fs : List View) (p : Parts _) → Runs g.S.NodeStore (λ a n. meaning.after_course (context a n (position_of l.turns.value.body.position.value)) (turning l.turns.value) (course_view l.turns.value.course)) (stack l.fn.scratch.frames.items) l.parts r fs p
+      → Runs g.S.NodeStore (λ a n. meaning.after_course (context a n (position_of l.turns.value.body.position.value)) (turning l.turns.value) (course_view l.turns.value.course)) (stack l.fn.scratch.frames.items) l.fn.parts r fs p;
+}
+
+abbrev pub decreases-turns : goal.decreases-turns
+decreases-turns g l = l.parts.eval.steps

@@ -1,0 +1,13 @@
+-- SPDX-License-Identifier: Apache-2.0
+-- Why the loop over frames ends. It stands apart from Frames: what a scratch keeps names that.
+use Rattle.std.specs.Prelude.{◌≤◌, ◌+◌, ◌*◌, length}
+use Rattle.mcommand.specs.declared.parts.Parts.{Parts}
+use Rattle.mexec.specs.declared.scratch.Scratch.{Scratch}
+
+-- what each call that may put frames lets fall: it takes a frame off, or spends a step
+abbrev pub Falls : {S : Type 0} → Parts S → Scratch → Parts S → Scratch → Type 0
+Falls old scratch new scratch' = 6 * new.eval.steps + length scratch'.frames.items ≤ 6 * old.eval.steps + length scratch.frames.items
+
+-- the same with a frame less
+abbrev pub FallsFurther : {S : Type 0} → Parts S → Scratch → Parts S → Scratch → Type 0
+FallsFurther old scratch new scratch' = 6 * new.eval.steps + length scratch'.frames.items + 1 ≤ 6 * old.eval.steps + length scratch.frames.items

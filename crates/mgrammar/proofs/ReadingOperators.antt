@@ -171,10 +171,12 @@ operator_begins o rest = refl
 not_operator : (c : ℕ) → is_operator c ≡ false → (eqb c 39 ≡ false) × (eqb c 63 ≡ false) × (found arithmetic c ≡ None) × (eqb c 93 ≡ false) × (found truths c ≡ None)
 not_operator c h =
     let n : (a : ℕ) → is_operator a ≡ true → eqb c a ≡ false =
-    λ a e. false_from_ne_true (eqb c a) (λ t. let no : ◌≡◌ {A = Bool} false true = sym h ∙ ap is_operator (eqb-true c a t) ∙ e in absurd cc) in
-    (
-      n 39 refl, n 63 refl, rw (n 43 refl, n 45 refl, n 42 refl, n 47 refl, n 92 refl, n 35 refl, n 95 refl) refl,
-      n 93 refl, rw (n 61 refl, n 60 refl, n 62 refl, n 91 refl, n 38 refl, n 33 refl) refl,
+    λ a e. false_from_ne_true (eqb c a) (λ t. let no : ◌≡◌ {A = Bool} false true = sym h ∙ ap is_operator (eqb-true c a t) ∙ e in absurd cc) in (
+      n 39 refl,
+      n 63 refl,
+      rw (n 43 refl, n 45 refl, n 42 refl, n 47 refl, n 92 refl, n 35 refl, n 95 refl) refl,
+      n 93 refl,
+      rw (n 61 refl, n 60 refl, n 62 refl, n 91 refl, n 38 refl, n 33 refl) refl,
     )
 
 pub no_operator : (rest : List ℕ) → Stops is_operator rest → operator_at rest ≡ None

@@ -113,4 +113,3 @@ lines =
     (at_case _ refl (simp running) (at_case _ refl (simp running) (at_case _ refl (simp running) (at_case _ refl (simp running)
     (at_case _ refl (simp running) (at_case _ refl (simp (running, running)) (at_case _ refl (simp (running, running)) (at_case _ refl (simp (running, running))
     (at_case _ refl (simp (running, running)) (at_case _ refl (simp (running, running)) (at_case _ refl (simp (running, running)) no_more))))))))))))))))))))))
-

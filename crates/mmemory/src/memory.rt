@@ -48,7 +48,7 @@ impl Memory {
 
     // A cursor at the first row that is not below a key, or behind the last that is not above it.
     fn placed(&self, tree: usize, key: &Row, direction: Direction) -> Cursor
-        ensures { left_of (current self.now) result ≡ sought (order_of (shape_in (headings (current self.now)) tree)) direction key.now (rows_of (current self.now) tree) }
+        ensures { let now = current self.now in left_of now result ≡ sought (order_of (shape_in (headings now) tree)) direction key.now (rows_of now tree) }
     {
         let Some(found) = self.held.trees.get(tree) else {
             return Cursor {

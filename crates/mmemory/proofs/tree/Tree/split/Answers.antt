@@ -1,9 +1,8 @@
 -- SPDX-License-Identifier: Apache-2.0
-use Rattle.std.proofs.Common.{◌≡◌, ◌<◌, ◌+◌, List, [], length, get_or, set, Result, Ok, Err, OnErr, sym, ap, subst, ◌∙◌, arith}
+use Rattle.std.proofs.Common.{◌≡◌, ◌<◌, [], length, set, Result, Ok, Err, OnErr, sym, ap, subst, ◌∙◌, arith}
 use Rattle.std.proofs.lemmas.List.{length-map, set-get_or}
-use Rattle.sqlite_value.specs.Order.{Row}
 use Rattle.mmemory.specs.declared.step.Step.TheVariants.{Join}
-use Rattle.mmemory.specs.Plain.{plain, chunk_rows, nest, tree_nest, tree_rows, with_chunks}
+use Rattle.mmemory.specs.Plain.{plain, chunk_rows, nest, tree_rows, with_chunks}
 use Rattle.mmemory.specs.Changes.{Makes}
 use Rattle.mmemory.proofs.Made.{changed, halves_made, halves_fit, made_two}
 use Rattle.mmemory.proofs.tree.Tree.split.Goals as goal

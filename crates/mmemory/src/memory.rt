@@ -1,6 +1,6 @@
 // SPDX-License-Identifier: Apache-2.0
 // The store.
-ghost use Rattle.std.specs.Prelude.{◌≡◌, ◌≢◌, ◌+◌, ◌^◌, ◌<◌, [], length, None, IfOk, OnOk};
+ghost use Rattle.std.specs.Prelude.{◌≡◌, ◌≢◌, [], IfOk, OnOk};
 ghost use Rattle.sqlite_trees.specs.Tree.{order_of, sought};
 ghost use Rattle.sqlite_trees.specs.Listing.{shape_in};
 ghost use Rattle.sqlite_trees.specs.Objects.{version_tree, version_rows};

@@ -1,14 +1,13 @@
 -- SPDX-License-Identifier: Apache-2.0
 -- A search over chunks and rows.
-use Rattle.std.proofs.Common.{◌≡◌, ℕ, ◌+◌, ◌-◌, ◌≤◌, max, Bool, List, [], ◌∷◌, ◌++◌, length, take, drop, get_or, refl, subst, arith}
+use Rattle.std.proofs.Common.{◌≡◌, ℕ, ◌+◌, ◌-◌, ◌≤◌, max, Bool, List, [], length, take, drop, get_or, refl, subst}
 use Rattle.std.proofs.Math.Seq.{take-nil, drop-nil}
 use Rattle.std.proofs.lemmas.List.{length-map}
 use Rattle.sqlite_value.specs.Order.{Row}
 use Rattle.sqlite_trees.proofs.ListLemmas.{all-append}
 use Rattle.mmemory.specs.declared.chunk.Chunk.{Chunk}
-use Rattle.mmemory.specs.declared.place.Place.{Place}
 use Rattle.mmemory.specs.Lists.{joined}
-use Rattle.mmemory.specs.Nest.{front, back, before, after}
+use Rattle.mmemory.specs.Nest.{front, back}
 use Rattle.mmemory.specs.Plain.{chunk_rows, nest}
 use Rattle.mmemory.specs.Probe.{IsEdge, Falls, Splits}
 use Rattle.mmemory.proofs.Nests.{around}

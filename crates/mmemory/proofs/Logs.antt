@@ -1,7 +1,7 @@
 -- SPDX-License-Identifier: Apache-2.0
 -- A log with one more change.
 use Rattle.std.specs.Prelude.{if◌then◌else◌, slice_index}
-use Rattle.std.proofs.Common.{Result, Ok, Err, OnOk, OnErr, IsOk, is_ok, All, ◌≡◌, ◌⊎◌, ℕ, zero, suc, ◌+◌, ◌<◌, ◌≤◌, true, false, cond, eqb, List, [], ◌∷◌, ◌++◌, length, map, drop, set, get_or, refl, sym, ap, subst, ◌∙◌, arith, inl, inr, eq-or-lt_of_le, eq-eqb, ne_eqb}
+use Rattle.std.proofs.Common.{Result, Ok, Err, OnOk, OnErr, IsOk, is_ok, All, ◌≡◌, ◌⊎◌, ℕ, zero, suc, ◌+◌, ◌<◌, ◌≤◌, true, false, cond, eqb, List, [], ◌∷◌, ◌++◌, length, map, drop, set, get_or, refl, sym, ap, subst, ◌∙◌, arith, inl, inr, eq-eqb, ne_eqb}
 use Rattle.std.proofs.lemmas.Bool.{cases_eq}
 use Rattle.std.proofs.lemmas.List.{drop-append-le, map-set, set-get_or, get_or-set_same, length-map, length-append}
 use Rattle.std.proofs.Math.Seq.{map-set_same}
@@ -19,8 +19,8 @@ use Rattle.mmemory.specs.declared.undo.Undo.TheVariants.{Step as OfTree}
 use Rattle.mmemory.specs.declared.held.Held.{Held}
 use Rattle.mmemory.specs.Plain.{Plain, nest, plain, no_plain, heading, plain_rows, undone_step}
 use Rattle.mmemory.specs.Changes.{Makes, HalvedAt}
-use Rattle.mmemory.specs.States.{State, state_of, undone_one, undone, tree_in, headings, rows_of, IsInOrder, AreInOrder}
-use Rattle.mmemory.specs.Held.{now, moment, KeepsPast, Keeps, Writes, shape_at, nest_at}
+use Rattle.mmemory.specs.States.{State, state_of, undone_one, undone, headings, rows_of, IsInOrder, AreInOrder}
+use Rattle.mmemory.specs.Held.{now, Keeps, Writes, shape_at, nest_at}
 use Rattle.sqlite_trees.specs.Listing.{Heading}
 use Rattle.mmemory.proofs.Shown.{drop_past, shown_at}
 

@@ -1,6 +1,6 @@
 -- SPDX-License-Identifier: Apache-2.0
 -- What each change makes of a tree.
-use Rattle.std.proofs.Common.{◌≡◌, ℕ, zero, suc, ◌+◌, ◌-◌, ◌<◌, ◌≤◌, min, List, [], ◌∷◌, ◌++◌, length, map, take, drop, set, get_or, refl, sym, ap, ◌∙◌, arith, add-one}
+use Rattle.std.proofs.Common.{◌≡◌, ℕ, zero, suc, ◌+◌, ◌<◌, ◌≤◌, min, List, [], ◌∷◌, ◌++◌, length, take, drop, set, get_or, refl, sym, ap, subst, ◌∙◌, arith, add-one}
 use Rattle.std.specs.List.{insert, remove}
 use Rattle.std.proofs.lemmas.List.{map-set, length-map, length-append, map-append, take-map, drop-map, take_min, drop_min}
 use Rattle.std.proofs.lemmas.Bool.{lt-ltb, le-leb}
@@ -10,7 +10,7 @@ use Rattle.mmemory.specs.declared.chunk.Chunk.{Chunk}
 use Rattle.mmemory.specs.declared.step.Step.TheVariants.{DropRow, PutRow, SetRow, DropChunk, PutChunk, Join}
 use Rattle.mmemory.specs.Lists.{joined, put_in, taken, over, joined_at}
 use Rattle.mmemory.specs.Nest.{front, back}
-use Rattle.mmemory.specs.Plain.{Plain, chunk_rows, nest, with_chunks, put_back, plain_rows}
+use Rattle.mmemory.specs.Plain.{Plain, chunk_rows, nest, with_chunks, plain_rows}
 use Rattle.mmemory.specs.Changes.{Makes, HalvedAt}
 use Rattle.mmemory.proofs.Shown.{shown_at}
 use Rattle.mmemory.proofs.Some.{some_length}
@@ -100,6 +100,9 @@ module _ (p : Plain) (k : ℕ) where
     heading_is = refl;
     rows_are = joined_rows head tail p.chunks k within is;
   }
+
+pub made_halves : (p : Plain) (k : ℕ) (new : List (List Row)) (two : HalvedAt p.chunks new k) → k < length p.chunks → length two.head + length two.tail ≤ 64 → Makes p (with_chunks p new) (Join k) (plain_rows p)
+made_halves p k new two low room = subst (λ chunks. Makes p (with_chunks p chunks) (Join k) (plain_rows p)) (sym two.are) (made_two p k two.head two.tail low two.both room)
 
 -- ---- a chunk that takes the rows of the next one
 

@@ -1,6 +1,6 @@
 -- SPDX-License-Identifier: Apache-2.0
 -- A place of a chunk that is made two.
-use Rattle.std.proofs.Common.{◌≡◌, ℕ, zero, suc, ◌+◌, ◌-◌, ◌<◌, ◌≤◌, Bool, true, false, leb, cond, List, [], ◌∷◌, ◌++◌, length, take, drop, set, get_or, refl, sym, ap, subst, ◌∙◌, arith, add-one, append_assoc}
+use Rattle.std.proofs.Common.{◌≡◌, ℕ, zero, suc, ◌+◌, ◌-◌, ◌<◌, ◌≤◌, Bool, true, false, leb, cond, List, [], ◌∷◌, ◌++◌, length, take, drop, get_or, refl, sym, ap, subst, ◌∙◌, arith, add-one, append_assoc}
 use Rattle.std.proofs.lemmas.Bool.{leb-true, leb-false}
 use Rattle.std.proofs.lemmas.List.{take-append-le, drop-append-le, length-append}
 use Rattle.std.proofs.Math.Seq.{take-append-add, drop-append-add}
@@ -16,7 +16,7 @@ use Rattle.mmemory.specs.Held.{Keeps, nest_at}
 use Rattle.mmemory.proofs.Shown.{shown_at}
 use Rattle.mmemory.proofs.Logs.{same_count}
 use Rattle.mmemory.proofs.Nests.{from_place, up_to_place}
-use Rattle.mmemory.proofs.Backs.{halves, first_half, second_half, halves_length}
+use Rattle.mmemory.proofs.Backs.{halves, first_half, second_half}
 
 module _ (head tail : List Row) where
   halves_before : (n : List (List Row)) (k : ℕ) → k < length n → take k (halves head tail n k) ≡ take k n

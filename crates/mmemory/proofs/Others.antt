@@ -9,7 +9,7 @@ use Rattle.sqlite_value.specs.Order.{Row}
 use Rattle.sqlite_trees.specs.declared.schema.Object.{Object}
 use Rattle.sqlite_trees.specs.declared.store.Shape.{Shape}
 use Rattle.sqlite_trees.specs.declared.store.Shape.TheVariants.{Absent, Table, Index, Pageless, FrozenTable, FrozenIndex}
-use Rattle.sqlite_trees.specs.Listing.{Heading, no_heading, shape_in, reals_in, reals_unless_absent, objects_from}
+use Rattle.sqlite_trees.specs.Listing.{Heading, no_heading, shape_in, reals_in, reals_unless_absent}
 use Rattle.sqlite_trees.specs.Log.{padded}
 use Rattle.sqlite_trees.specs.Memory.{snapshot_of}
 use Rattle.sqlite_trees.specs.Objects.{catalog_tree, version_tree, set_at, with_version, description}
@@ -22,8 +22,8 @@ use Rattle.mmemory.specs.declared.undo.Undo.TheVariants.{Step as OfTree, Put, Sh
 use Rattle.mmemory.specs.declared.held.Held.{Held}
 use Rattle.mmemory.specs.Plain.{Plain, plain, no_plain, heading, plain_rows}
 use Rattle.mmemory.specs.Changes.{Describes}
-use Rattle.mmemory.specs.States.{State, state_of, undone_one, undone, tree_in, headings, rows_of, shown, IsInOrder, AreInOrder, WithTree, Labels}
-use Rattle.mmemory.specs.Held.{now, moment, KeepsPast, KeepsShown, Pads, Puts, Relabels}
+use Rattle.mmemory.specs.States.{State, state_of, undone_one, undone, headings, rows_of, shown, IsInOrder, AreInOrder, Labels}
+use Rattle.mmemory.specs.Held.{now, moment, KeepsPast, KeepsShown, Pads, Puts}
 use Rattle.mmemory.proofs.Shown.{drop_past, shown_at}
 use Rattle.mmemory.proofs.Backs.{set_back}
 use Rattle.mmemory.proofs.Logs.{moment_more, order_more, step_back, in_order, other_rows}

@@ -1,10 +1,9 @@
 -- SPDX-License-Identifier: Apache-2.0
 -- Trees that are listed as other objects, one after another.
-use Rattle.std.proofs.Common.{◌≡◌, ◌≢◌, ℕ, zero, suc, ◌+◌, ◌^◌, ◌<◌, ◌≤◌, All, List, [], ◌∷◌, length, take, drop, get_or, Result, Ok, Err, OnOk, OnErr, is_err, true, false, true≢false, refl, sym, ap, ◌∙◌, arith}
+use Rattle.std.proofs.Common.{◌≡◌, ℕ, zero, suc, ◌+◌, ◌<◌, ◌≤◌, List, [], ◌∷◌, length, take, drop, get_or, Result, Ok, Err, OnOk, OnErr, is_err, true, false, true≢false, refl, sym, ap, ◌∙◌, arith}
 use Rattle.std.specs.List.{AllByRecursion}
 use Rattle.std.proofs.lemmas.List.{take_more, length-map}
 use Rattle.sqlite_trees.specs.declared.schema.Object.{Object}
-use Rattle.sqlite_trees.specs.declared.store.Shape.TheVariants.{Absent}
 use Rattle.sqlite_trees.specs.View.{View}
 use Rattle.sqlite_trees.specs.declared.error.StoreError.{StoreError}
 use Rattle.sqlite_trees.specs.Objects.{Relists, MayRelist, FailsToRelist}
@@ -14,7 +13,7 @@ use Rattle.mmemory.specs.declared.held.Held.{Held}
 use Rattle.mmemory.specs.declared.memory.Memory.{Memory}
 use Rattle.mmemory.specs.Plain.{plain, heading}
 use Rattle.mmemory.specs.States.{headings, shown, undone}
-use Rattle.mmemory.specs.Held.{now, moment, KeepsPast, Keeps, KeepsShown, Relabels}
+use Rattle.mmemory.specs.Held.{now, moment, KeepsPast, KeepsShown, Relabels}
 use Rattle.mmemory.specs.Memory.{memory_view, current, marks_of, all_kept}
 use Rattle.mmemory.proofs.Views.{shape_at, present_within, beside, relabelled, seen}
 

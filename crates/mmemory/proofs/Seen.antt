@@ -10,7 +10,7 @@ use Rattle.mmemory.specs.declared.held.Held.{Held}
 use Rattle.mmemory.specs.declared.memory.Memory.{Memory}
 use Rattle.mmemory.specs.Lists.{joined}
 use Rattle.mmemory.specs.Plain.{Plain, plain, no_plain, heading, tree_nest, tree_rows}
-use Rattle.mmemory.specs.States.{headings, rows_of}
+use Rattle.mmemory.specs.States.{headings}
 use Rattle.mmemory.specs.Held.{now, shape_at, nest_at}
 use Rattle.mmemory.specs.Memory.{memory_view}
 use Rattle.mmemory.proofs.Shown.{shown_at}

@@ -1,8 +1,8 @@
 -- SPDX-License-Identifier: Apache-2.0
 -- From the trees of a store to what it shows.
-use Rattle.std.proofs.Common.{All, ◌≡◌, ◌≢◌, ℕ, zero, suc, ◌+◌, ◌-◌, ◌^◌, ◌<◌, ◌≤◌, pos, true, false, cond, eqb, List, [], ◌∷◌, ◌++◌, length, map, replicate, get_or, set, slice_get, Option, Some, option_map, Result, Ok, Err, OnOk, OnErr, IfErr, refl, sym, ap, subst, ◌∙◌, arith, eq-eqb, ne_eqb, inl, inr}
+use Rattle.std.proofs.Common.{All, ◌≡◌, ◌≢◌, ℕ, zero, suc, ◌+◌, ◌-◌, ◌^◌, ◌<◌, ◌≤◌, pos, true, false, cond, eqb, List, [], ◌∷◌, ◌++◌, length, map, replicate, get_or, set, Option, Some, option_map, Result, Ok, Err, OnOk, OnErr, IfErr, refl, sym, ap, subst, ◌∙◌, arith, eq-eqb, ne_eqb, inl, inr}
 use Rattle.std.proofs.lemmas.Bool.{cases_eq}
-use Rattle.std.proofs.lemmas.List.{append-nil, set-get_or, length-append, length-replicate, length-map}
+use Rattle.std.proofs.lemmas.List.{length-append, length-replicate, length-map}
 use mathlib.Core.Path.{fun_ext}
 use Rattle.sqlite_value.specs.Order.{Row}
 use Rattle.sqlite_trees.specs.declared.error.StoreError.{StoreError}
@@ -19,9 +19,9 @@ use Rattle.mmemory.specs.declared.tree.Tree.{Tree}
 use Rattle.mmemory.specs.declared.memory.Memory.{Memory}
 use Rattle.sqlite_trees.specs.Memory.{snapshot_of}
 use Rattle.mmemory.proofs.Shown.{shown_at, not_shown}
-use Rattle.mmemory.specs.Plain.{Plain, plain, no_plain, heading, plain_rows}
-use Rattle.mmemory.specs.States.{State, headings, rows_of, shown, undone, WithTree, Labels}
-use Rattle.mmemory.specs.Held.{now, moment, KeepsPast, Keeps, KeepsShown, Writes, Puts, Relabels}
+use Rattle.mmemory.specs.Plain.{Plain, plain, heading, plain_rows}
+use Rattle.mmemory.specs.States.{State, headings, rows_of, shown, WithTree, Labels}
+use Rattle.mmemory.specs.Held.{now, moment, KeepsPast, Keeps, KeepsShown, Writes, Puts}
 use Rattle.mmemory.specs.declared.held.Held.{Held}
 use Rattle.mmemory.specs.Memory.{current, marks_of, view_of, memory_view}
 

@@ -1,6 +1,6 @@
 -- SPDX-License-Identifier: Apache-2.0
 -- What the writes make of a tree of the transaction.
-use Rattle.std.proofs.Common.{Result, OnOk, Bor, ◌≡◌, ℕ, ℤ, ◌+◌, ◌<◌, true, false, List, [], ◌∷◌, ◌++◌, length, get_or, refl, sym, ap, subst, ◌∙◌, inl, inr, eq-eqb, ne_eqb, arith}
+use Rattle.std.proofs.Common.{Bor, ◌≡◌, ℕ, ℤ, ◌+◌, ◌<◌, true, false, List, ◌∷◌, ◌++◌, length, get_or, refl, sym, ap, subst, ◌∙◌, inl, inr, eq-eqb, ne_eqb, arith}
 use Rattle.std.proofs.lemmas.Bool.{cases_eq}
 use mathlib.Core.Path.{fun_ext}
 use Rattle.sqlite_value.specs.declared.row.Row.{Row as Given}
@@ -9,7 +9,7 @@ use Rattle.sqlite_value.specs.declared.value.ValueRef.{ValueRef}
 use Rattle.sqlite_value.specs.declared.value.ValueRef.TheVariants.{Int}
 use Rattle.sqlite_value.specs.Value.{owned}
 use Rattle.sqlite_value.specs.Order.{Row}
-use Rattle.sqlite_trees.specs.Tree.{rowid, with_tree, IsTable, IsIndex, put_row, insert_entry, without_rowid, remove_entry}
+use Rattle.sqlite_trees.specs.Tree.{rowid, IsTable, IsIndex, put_row, insert_entry, without_rowid, remove_entry}
 use Rattle.sqlite_trees.specs.View.{IsShaped}
 use Rattle.mmemory.specs.declared.held.Held.{Held}
 use Rattle.mmemory.specs.declared.tree.Tree.{Tree}

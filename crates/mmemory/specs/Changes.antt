@@ -1,6 +1,6 @@
 -- SPDX-License-Identifier: Apache-2.0
 -- What a change makes of a tree.
-use Rattle.std.specs.Prelude.{◌≡◌, ℕ, ◌+◌, ◌-◌, ◌<◌, leb, if◌then◌else◌, List, [], ◌∷◌, ◌++◌, length, set, get_or}
+use Rattle.std.specs.Prelude.{◌≡◌, ℕ, ◌+◌, ◌-◌, ◌<◌, leb, if◌then◌else◌, List, [], ◌++◌, length, set, get_or}
 use Rattle.std.specs.List.{insert}
 use Rattle.sqlite_value.specs.Order.{Row}
 use Rattle.mmemory.specs.declared.step.Step.{Step}

@@ -1,6 +1,6 @@
 -- SPDX-License-Identifier: Apache-2.0
 -- The moments of a transaction.
-use Rattle.std.specs.Prelude.{◌≡◌, ℕ, ◌+◌, ◌-◌, ◌≤◌, List, ◌++◌, map, drop, length, replicate}
+use Rattle.std.specs.Prelude.{◌≡◌, ℕ, ◌+◌, ◌-◌, ◌≤◌, List, ◌++◌, drop, length, replicate}
 use Rattle.sqlite_value.specs.Order.{Row}
 use Rattle.sqlite_trees.specs.Tree.{with_tree}
 use Rattle.mmemory.specs.declared.held.Held.{Held}

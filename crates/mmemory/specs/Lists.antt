@@ -1,6 +1,6 @@
 -- SPDX-License-Identifier: Apache-2.0
 -- Rows in chunks, and what takes a change of them back.
-use Rattle.std.specs.Prelude.{ℕ, ◌+◌, ◌-◌, ◌&&◌, ◌==◌, ltb, leb, if◌then◌else◌, List, [], ◌++◌, length, set, get_or}
+use Rattle.std.specs.Prelude.{ℕ, ◌+◌, ◌&&◌, ltb, leb, if◌then◌else◌, List, [], ◌++◌, length, set, get_or}
 use Rattle.std.specs.List.{flat_map, insert, remove}
 use Rattle.sqlite_value.specs.Order.{Row}
 

@@ -16,7 +16,7 @@ use Rattle.mmemory.specs.declared.memory.Memory.{Memory}
 use Rattle.mmemory.specs.declared.place.Place.{Place}
 use Rattle.mmemory.specs.Nest.{before, after}
 use Rattle.mmemory.specs.Plain.{Plain, heading, no_plain}
-use Rattle.mmemory.specs.States.{State, headings, tree_in, rows_of, shown, undone, AreInOrder}
+use Rattle.mmemory.specs.States.{State, headings, tree_in, rows_of, shown, undone}
 use Rattle.mmemory.specs.Held.{now, moment}
 
 -- what the transaction sees

@@ -1,7 +1,6 @@
 -- SPDX-License-Identifier: Apache-2.0
 -- What a search for one row says.
-use Rattle.std.specs.Prelude.{◌≡◌, ◌⊎◌, ◌+◌, ◌<◌, ◌≤◌, Bool, true, false, cond, List, [], ◌∷◌, length}
-use Rattle.sqlite_value.specs.Order.{Row}
+use Rattle.std.specs.Prelude.{◌≡◌, ◌⊎◌, ◌+◌, ◌<◌, ◌≤◌, Bool, true, false, cond, [], length}
 use Rattle.mmemory.specs.declared.tree.Tree.{Tree}
 use Rattle.mmemory.specs.declared.place.Place.{Place}
 use Rattle.mmemory.specs.declared.probe.Probe.{Probe}

@@ -1,7 +1,6 @@
 -- SPDX-License-Identifier: Apache-2.0
 -- All trees, and what takes their changes back.
 use Rattle.std.specs.Prelude.{◌≡◌, ℕ, List, [], ◌∷◌, map, take, drop, set, get_or}
-use Rattle.sqlite_value.specs.Order.{Row}
 use Rattle.sqlite_trees.specs.Tree.{Trees, with_tree}
 use Rattle.sqlite_trees.specs.View.{Snapshot, IsShaped}
 use Rattle.sqlite_trees.specs.Listing.{Heading, shape_in}

@@ -1,6 +1,5 @@
 // SPDX-License-Identifier: Apache-2.0
 // Trees that are made and dropped.
-ghost use Rattle.std.specs.Prelude.{◌≡◌};
 
 use crate::memory::Memory;
 use crate::tree::Tree;

@@ -1,11 +1,10 @@
 // SPDX-License-Identifier: Apache-2.0
 // Changes of one tree. Each gives what takes it back.
-ghost use Rattle.std.specs.Prelude.{◌≡◌, ◌+◌, ◌<◌, ◌≤◌, ◌++◌, [], ◌∷◌, length, get_or, IfOk, OnErr};
+ghost use Rattle.std.specs.Prelude.{◌≡◌, ◌+◌, ◌<◌, ◌≤◌, ◌++◌, [], ◌∷◌, length, take, drop, get_or, IfOk, OnErr};
 ghost use Rattle.mmemory.specs.Nest.{rows_at, before, after, after_row};
 ghost use Rattle.mmemory.specs.Lists.{joined};
-ghost use Rattle.mmemory.specs.Plain.{plain, tree_nest, heading, tree_rows};
+ghost use Rattle.mmemory.specs.Plain.{plain, tree_nest, tree_rows};
 ghost use Rattle.mmemory.specs.Changes.{Makes, HalvedAt};
-ghost use Rattle.std.specs.Prelude.{take, drop};
 
 use crate::chunk::Chunk;
 use crate::place::Place;

@@ -1,7 +1,7 @@
 // SPDX-License-Identifier: Apache-2.0
 // Some rows that stand together.
 ghost use Rattle.std.specs.Prelude.{◌≡◌, ◌≢◌, ◌+◌, ◌<◌, ◌≤◌, [], ◌∷◌, ◌++◌, length, slice_set, slice_index_or, vec_capacity, IfOk, OnErr};
-ghost use Rattle.std.specs.List.{insert, remove};
+ghost use Rattle.std.specs.List.{remove};
 ghost use Rattle.mmemory.specs.Lists.{put_in, taken};
 
 use sqlite_value::row::Row;

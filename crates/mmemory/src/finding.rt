@@ -1,11 +1,9 @@
 // SPDX-License-Identifier: Apache-2.0
 // Where the rows of a tree stand.
-ghost use Rattle.std.specs.Prelude.{◌≡◌, ◌⊎◌, ◌+◌, ◌^◌, ◌<◌, ◌≤◌, [], ◌∷◌, ◌++◌, length, take, drop, IfSome, IfNone, OnSome, MatchOption, List, slice_get, get_or, Some, None};
-ghost use Rattle.sqlite_value.specs.Order.{Row as Entry};
-ghost use Rattle.mmemory.specs.Lists.{joined};
-ghost use Rattle.mmemory.specs.Nest.{before, after, after_row, rows_at, ComesNext};
+ghost use Rattle.std.specs.Prelude.{◌≡◌, ◌⊎◌, ◌<◌, ◌≤◌, [], ◌∷◌, ◌++◌, length, take, IfSome, IfNone};
+ghost use Rattle.mmemory.specs.Nest.{before, after, rows_at, ComesNext};
 ghost use Rattle.mmemory.specs.Plain.{tree_nest, tree_rows};
-ghost use Rattle.mmemory.specs.Probe.{passes, meets, Falls, Splits, Skips};
+ghost use Rattle.mmemory.specs.Probe.{passes, Falls, Splits};
 ghost use Rattle.mmemory.specs.Sought.{IsSought};
 
 use crate::place::Place;

@@ -7,8 +7,8 @@ use crate::tree::Tree;
 use crate::undo::Undo;
 use std::alloc::Global;
 
-/// The trees by their numbers, SQLite's user version, what takes the transaction's changes back, and the log's length at each
-/// savepoint.
+/// The trees by their numbers, SQLite's user version, what takes the transaction's changes back,
+/// and the log's length at each savepoint.
 #[derive(Drop)]
 pub(crate) struct Held {
     pub alloc: Global,

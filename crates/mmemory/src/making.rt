@@ -1,6 +1,6 @@
 // SPDX-License-Identifier: Apache-2.0
 // Trees that are made, dropped and described.
-ghost use Rattle.std.specs.Prelude.{◌≡◌, ◌+◌, ◌-◌, ◌^◌, ◌<◌, ◌≤◌, [], map, replicate, length, take, if◌then◌else◌, is_ok, IfOk, OnOk, OnErr};
+ghost use Rattle.std.specs.Prelude.{◌≡◌, ◌^◌, ◌<◌, [], map, replicate, length, take, if◌then◌else◌, is_ok, IfOk, OnOk, OnErr};
 ghost use Rattle.sqlite_trees.specs.Objects.{description, listing};
 ghost use Rattle.mmemory.specs.Plain.{plain, no_plain, heading};
 ghost use Rattle.mmemory.specs.Changes.{Describes};

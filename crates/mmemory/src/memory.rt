@@ -1,6 +1,6 @@
 // SPDX-License-Identifier: Apache-2.0
 // The store.
-ghost use Rattle.std.specs.Prelude.{◌≡◌, ◌≢◌, ◌+◌, ◌^◌, ◌<◌, [], length, None, IfOk, OnOk};
+ghost use Rattle.std.specs.Prelude.{◌≡◌, ◌≢◌, [], IfOk, OnOk};
 ghost use Rattle.sqlite_trees.specs.Tree.{order_of, sought};
 ghost use Rattle.sqlite_trees.specs.Listing.{shape_in};
 ghost use Rattle.sqlite_trees.specs.Objects.{version_tree, version_rows};
@@ -48,7 +48,7 @@ impl Memory {
 
     // A cursor at the first row that is not below a key, or behind the last that is not above it.
     fn placed(&self, tree: usize, key: &Row, direction: Direction) -> Cursor
-        ensures { left_of (current self.now) result ≡ sought (order_of (shape_in (headings (current self.now)) tree)) direction key.now (rows_of (current self.now) tree) }
+        ensures { let now = current self.now in left_of now result ≡ sought (order_of (shape_in (headings now) tree)) direction key.now (rows_of now tree) }
     {
         let Some(found) = self.held.trees.get(tree) else {
             return Cursor {

@@ -1,10 +1,9 @@
 // SPDX-License-Identifier: Apache-2.0
 // Changes taken back. What does not fit changes nothing, and none needs memory.
-ghost use Rattle.std.specs.Prelude.{◌≡◌, get_or};
+ghost use Rattle.std.specs.Prelude.{◌≡◌, set};
 ghost use Rattle.mmemory.specs.Lists.{put_in, taken, over, joined_at};
 ghost use Rattle.mmemory.specs.Plain.{plain, with_chunks, put_back, chunk_rows, tree_nest, undone_step};
 ghost use Rattle.mmemory.specs.States.{state_of, undone_one};
-ghost use Rattle.std.specs.Prelude.{set};
 
 use crate::chunk::{CHUNK_LIMIT, Chunk};
 use crate::step::Step;

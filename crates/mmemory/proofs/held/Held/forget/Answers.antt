@@ -1,5 +1,4 @@
 -- SPDX-License-Identifier: Apache-2.0
-use Rattle.std.proofs.Common.{All, ◌≡◌, [], length, sym, subst, arith, ap}
 use Rattle.mmemory.proofs.Logs.{order_forgotten, no_marks, no_rise}
 use Rattle.mmemory.proofs.held.Held.forget.Goals as goal
 

@@ -1,7 +1,6 @@
 -- SPDX-License-Identifier: Apache-2.0
-use Rattle.std.proofs.Common.{◌≡◌, ℕ, ◌+◌, ◌-◌, ◌++◌, ◌∷◌, [], length, map, replicate, refl, sym, ap, subst, ◌∙◌, arith}
+use Rattle.std.proofs.Common.{◌≡◌, ◌+◌, ◌-◌, ◌++◌, ◌∷◌, [], length, refl, sym, ap, subst, ◌∙◌, arith}
 use Rattle.mmemory.specs.declared.undo.Undo.TheVariants.{Shorten}
-use Rattle.mmemory.specs.Plain.{plain, no_plain}
 use Rattle.mmemory.specs.States.{state_of, undone_one, IsInOrder}
 use Rattle.mmemory.specs.Held.{now}
 use Rattle.mmemory.proofs.Logs.{order_same, within_same, within_more, when_ok, order_untouched}

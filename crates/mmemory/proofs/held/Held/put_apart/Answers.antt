@@ -1,5 +1,5 @@
 -- SPDX-License-Identifier: Apache-2.0
-use Rattle.std.proofs.Common.{◌≡◌, ◌++◌, ◌∷◌, sym, subst}
+use Rattle.std.proofs.Common.{◌++◌, ◌∷◌, sym, subst}
 use Rattle.sqlite_trees.specs.View.{IsShaped}
 use Rattle.mmemory.specs.Nest.{before, after}
 use Rattle.mmemory.specs.Held.{Writes, nest_at, shape_at}

@@ -1,5 +1,5 @@
 -- SPDX-License-Identifier: Apache-2.0
-use Rattle.std.proofs.Common.{◌≡◌, ◌++◌, ◌∷◌, [], set, refl, sym, ap, ◌∙◌, arith}
+use Rattle.std.proofs.Common.{◌≡◌, ◌++◌, ◌∷◌, [], set, refl, ap, ◌∙◌, arith}
 use Rattle.mmemory.specs.declared.undo.Undo.TheVariants.{Step}
 use Rattle.mmemory.specs.States.{state_of}
 use Rattle.mmemory.proofs.Logs.{order_same, within_same, within_more, when_ok}

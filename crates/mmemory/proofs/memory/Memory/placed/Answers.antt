@@ -1,8 +1,7 @@
 -- SPDX-License-Identifier: Apache-2.0
-use Rattle.std.proofs.Common.{◌≡◌, [], sym, ap, subst, ◌∙◌}
+use Rattle.std.proofs.Common.{◌≡◌}
 use Rattle.sqlite_trees.specs.Tree.{order_of}
-use Rattle.sqlite_trees.specs.Listing.{Heading, no_heading, shape_in}
-use Rattle.sqlite_trees.specs.View.{IsShaped}
+use Rattle.sqlite_trees.specs.Listing.{shape_in}
 use Rattle.sqlite_trees.proofs.TreeLemmas.{sorted_shape}
 use Rattle.mmemory.specs.Plain.{tree_nest, tree_rows}
 use Rattle.mmemory.specs.States.{headings}

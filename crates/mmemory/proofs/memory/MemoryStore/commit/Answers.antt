@@ -1,5 +1,5 @@
 -- SPDX-License-Identifier: Apache-2.0
-use Rattle.std.proofs.Common.{◌≡◌, true, None, map, drop, get_or, option_map, refl, sym, ap, ◌∙◌, inl}
+use Rattle.std.proofs.Common.{◌≡◌, true, None, map, drop, get_or, option_map, refl, ap, ◌∙◌, inl}
 use Rattle.sqlite_trees.specs.View.{View, Commits, OnlyCommits}
 use Rattle.sqlite_trees.proofs.Doubt.{no_doubt}
 use Rattle.mmemory.specs.States.{undone, shown}

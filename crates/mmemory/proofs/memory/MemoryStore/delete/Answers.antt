@@ -1,6 +1,5 @@
 -- SPDX-License-Identifier: Apache-2.0
-use Rattle.std.proofs.Common.{◌≡◌, true, refl, sym, ap, ◌∙◌, arith, to_z-of_z}
-use Rattle.sqlite_trees.specs.declared.store.Shape.TheVariants.{Table}
+use Rattle.std.proofs.Common.{true, refl, ◌∙◌, arith, to_z-of_z}
 use Rattle.sqlite_trees.specs.Tree.{without_rowid}
 use Rattle.sqlite_trees.proofs.Doubt.{no_doubt}
 use Rattle.mmemory.specs.declared.memory.Memory.{Memory}

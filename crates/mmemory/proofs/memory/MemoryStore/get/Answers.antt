@@ -1,16 +1,13 @@
 -- SPDX-License-Identifier: Apache-2.0
 use Rattle.std.proofs.Common.{◌≡◌, ◌<◌, [], ◌∷◌, length, true, get_or, refl, sym, ap, ◌∙◌, arith, to_z-of_z}
 use Rattle.sqlite_value.specs.declared.value.Value.TheVariants.{Int}
-use Rattle.sqlite_trees.specs.declared.store.Shape.TheVariants.{Table}
-use Rattle.sqlite_trees.specs.Tree.{IsTable}
-use Rattle.sqlite_trees.specs.View.{IsShaped}
 use Rattle.sqlite_trees.proofs.Doubt.{no_doubt}
 use Rattle.sqlite_trees.proofs.StoreLemmas.{named, unnumbered}
 use Rattle.mmemory.specs.Nest.{before, after}
 use Rattle.mmemory.specs.Plain.{tree_nest, tree_rows}
 use Rattle.mmemory.proofs.Nests.{whole}
 use Rattle.mmemory.proofs.Words.{falls_below_rowid, row_found, row_missing}
-use Rattle.mmemory.proofs.Seen.{nest_seen, shape_is, listed_within, table_shaped}
+use Rattle.mmemory.proofs.Seen.{nest_seen, listed_within, table_shaped}
 use Rattle.mmemory.proofs.memory.MemoryStore.get.Goals as goal
 
 pub index-tree-requires : goal.index-tree-requires

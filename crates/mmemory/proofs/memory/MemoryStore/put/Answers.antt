@@ -1,6 +1,5 @@
 -- SPDX-License-Identifier: Apache-2.0
-use Rattle.std.proofs.Common.{◌≡◌, true, refl, sym, ap, ◌∙◌, arith}
-use Rattle.sqlite_trees.specs.declared.store.Shape.TheVariants.{Table}
+use Rattle.std.proofs.Common.{true, refl, ◌∙◌, arith}
 use Rattle.sqlite_trees.specs.Tree.{put_row}
 use Rattle.sqlite_trees.proofs.Doubt.{no_doubt}
 use Rattle.mmemory.specs.declared.memory.Memory.{Memory}

@@ -3,7 +3,7 @@ use Rattle.std.proofs.Common.{All, ◌≡◌, ℕ, zero, suc, ◌-◌, ◌<◌, 
 use Rattle.sqlite_trees.specs.View.{newest, snapshot}
 use Rattle.mmemory.specs.declared.memory.Memory.{Memory}
 use Rattle.mmemory.specs.States.{shown}
-use Rattle.mmemory.specs.Held.{now, moment}
+use Rattle.mmemory.specs.Held.{moment}
 use Rattle.mmemory.specs.Memory.{memory_view, view_of, current, marks_of}
 use Rattle.mmemory.proofs.Views.{map_same, newest_mark}
 use Rattle.mmemory.proofs.memory.MemoryStore.rollback_to.Goals as goal

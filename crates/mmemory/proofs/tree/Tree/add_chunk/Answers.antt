@@ -1,5 +1,5 @@
 -- SPDX-License-Identifier: Apache-2.0
-use Rattle.std.proofs.Common.{◌≡◌, ◌++◌, ◌∷◌, [], take, drop, sym, ap, subst, ◌∙◌}
+use Rattle.std.proofs.Common.{◌≡◌, ◌++◌, ◌∷◌, take, drop, sym, ap, subst, ◌∙◌}
 use Rattle.std.specs.List.{insert as inserted}
 use Rattle.mmemory.specs.declared.step.Step.TheVariants.{DropChunk}
 use Rattle.mmemory.specs.Lists.{joined}

@@ -1,6 +1,5 @@
 -- SPDX-License-Identifier: Apache-2.0
-use Rattle.std.proofs.Common.{◌≡◌, ◌-◌, [], get_or, sym, ap, ◌∙◌, arith}
-use Rattle.sqlite_value.specs.Order.{Row}
+use Rattle.std.proofs.Common.{◌≡◌, ◌-◌, [], get_or, sym, ap, ◌∙◌}
 use Rattle.mmemory.specs.Plain.{chunk_rows, nest}
 use Rattle.mmemory.specs.Probe.{passes}
 use Rattle.mmemory.proofs.Shown.{shown_at}

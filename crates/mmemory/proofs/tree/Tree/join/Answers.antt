@@ -1,8 +1,6 @@
 -- SPDX-License-Identifier: Apache-2.0
-use Rattle.std.proofs.Common.{◌≡◌, ◌+◌, ◌-◌, ◌<◌, ◌≤◌, [], length, get_or, sym, ap, ◌∙◌, arith}
-use Rattle.std.proofs.lemmas.List.{length-map}
-use Rattle.mmemory.specs.Plain.{plain, chunk_rows, nest, tree_nest, with_chunks}
-use Rattle.mmemory.proofs.Shown.{shown_at}
+use Rattle.std.proofs.Common.{arith}
+use Rattle.mmemory.specs.Plain.{plain, with_chunks}
 use Rattle.mmemory.proofs.Made.{join_made}
 use Rattle.mmemory.proofs.tree.Tree.join.Goals as goal
 

@@ -3,8 +3,7 @@ use Rattle.std.proofs.Common.{◌≡◌, ◌≢◌, ℕ, zero, suc, ◌-◌, min
 use Rattle.std.specs.List.{insert}
 use Rattle.std.proofs.lemmas.List.{length-map}
 use Rattle.sqlite_value.specs.Order.{Row}
-use Rattle.mmemory.specs.declared.chunk.Chunk.{Chunk}
-use Rattle.mmemory.specs.Plain.{Plain, plain, chunk_rows, nest, tree_nest, put_back}
+use Rattle.mmemory.specs.Plain.{Plain, plain, chunk_rows, nest, put_back}
 use Rattle.mmemory.proofs.Made.{nest_inserted, insert_min}
 use Rattle.mmemory.proofs.tree.Tree.put_chunk.Goals as goal
 

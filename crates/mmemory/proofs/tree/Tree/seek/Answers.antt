@@ -1,8 +1,6 @@
 -- SPDX-License-Identifier: Apache-2.0
-use Rattle.std.proofs.Common.{◌≡◌, true, false, refl, sym, ◌∙◌, inl, subst, arith}
-use Rattle.mmemory.specs.Nest.{before, after}
+use Rattle.std.proofs.Common.{sym, ◌∙◌, inl, arith}
 use Rattle.mmemory.specs.Plain.{tree_nest}
-use Rattle.mmemory.specs.Probe.{passes, Splits}
 use Rattle.mmemory.proofs.Steps.{within_chunks}
 use Rattle.mmemory.proofs.tree.Tree.seek.Goals as goal
 

@@ -1,16 +1,10 @@
 -- SPDX-License-Identifier: Apache-2.0
-use Rattle.std.proofs.Common.{◌≡◌, ◌<◌, ◌+◌, List, [], length, get_or, set, Result, Ok, Err, OnErr, sym, ap, subst, ◌∙◌, arith}
+use Rattle.std.proofs.Common.{◌≡◌, ◌<◌, [], length, set, ap, ◌∙◌, arith}
 use Rattle.std.proofs.lemmas.List.{length-map, set-get_or}
-use Rattle.sqlite_value.specs.Order.{Row}
-use Rattle.mmemory.specs.declared.step.Step.TheVariants.{Join}
-use Rattle.mmemory.specs.Plain.{plain, chunk_rows, nest, tree_nest, tree_rows, with_chunks}
-use Rattle.mmemory.specs.Changes.{Makes}
-use Rattle.mmemory.proofs.Made.{changed, halves_made, halves_fit, made_two}
+use Rattle.mmemory.specs.Plain.{plain, chunk_rows, nest, with_chunks}
+use Rattle.mmemory.proofs.Logs.{after_error}
+use Rattle.mmemory.proofs.Made.{changed, halves_made, halves_fit, made_halves}
 use Rattle.mmemory.proofs.tree.Tree.split.Goals as goal
-
-after_error : {X E : Type 0} {P : Type 0} (r : Result X E) → P → OnErr r P
-after_error (Ok x) p = tt
-after_error (Err e) p = p
 
 pub returns-in_err-tail-clause-err : goal.returns-in_err-tail-clause-err
 returns-in_err-tail-clause-err c =
@@ -37,5 +31,4 @@ returns-clause-ok c =
     let low : c.args.at < length t.chunks.items = omega (arith, c.requires.chunk, length-map t.chunks.items chunk_rows) in
     let h = halves_made t.chunks.items c.reserve.new.self.items c.insert.new.self.items c.args.at c.index_mut.result.now c.split.new.self c.in_ok-tail.tail c.in_ok-reserve.ensures.items low c.index_mut.ensures.value c.in_ok-tail.ensures.rows
     (rw c.unwrap.ensures at c.insert.ensures.items) in
-    subst (λ chunks. Makes (plain t) (with_chunks (plain t) chunks) (Join c.args.at) (tree_rows t)) (sym h.are)
-    (made_two (plain t) c.args.at h.head h.tail c.requires.chunk h.both (halves_fit t.chunks.items c.args.at h.head h.tail h.both))
+    made_halves (plain t) c.args.at (nest c.insert.new.self.items) h c.requires.chunk (halves_fit t.chunks.items c.args.at h.head h.tail h.both)

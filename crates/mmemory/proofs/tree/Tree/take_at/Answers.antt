@@ -1,5 +1,5 @@
 -- SPDX-License-Identifier: Apache-2.0
-use Rattle.std.proofs.Common.{◌≡◌, ◌<◌, ◌≤◌, ◌+◌, ◌++◌, [], length, get_or, set, sym, ap, subst, ◌∙◌, arith}
+use Rattle.std.proofs.Common.{◌≡◌, ◌<◌, ◌+◌, ◌++◌, [], length, get_or, set, sym, ap, subst, ◌∙◌, arith}
 use Rattle.std.specs.List.{remove as removed}
 use Rattle.std.proofs.lemmas.List.{length-map}
 use Rattle.mmemory.specs.declared.step.Step.TheVariants.{PutRow, PutChunk}

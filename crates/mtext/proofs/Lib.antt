@@ -3,6 +3,7 @@ pub mod FoundPlaces
 pub mod PieceSteps
 pub mod CharacterOrder
 pub mod PieceSetting
+pub mod CharacterPieces
 pub mod MadeTexts
 pub mod PatternSlices
 pub mod PatternMembers

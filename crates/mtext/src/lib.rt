@@ -5,7 +5,9 @@
 //! 1, and are whole numbers of any size. An argument that the language lets a program leave out is an `Option`.
 #![tactic(auto)]
 
+mod by_character;
 mod cutting;
+mod delimiter;
 mod fault;
 mod functions;
 mod making;

@@ -9,3 +9,4 @@ pub mod PatternSlices
 pub mod PatternMembers
 pub mod PatternCopies
 pub mod PatternJoins
+pub mod PatternEndings

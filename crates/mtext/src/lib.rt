@@ -6,15 +6,19 @@
 #![tactic(auto)]
 
 mod by_character;
+mod classes;
 mod cutting;
 mod delimiter;
+mod ending;
 mod fault;
 mod functions;
 mod making;
 mod pattern;
 mod places;
 
+pub use classes::Classes;
 pub use cutting::{piece, pieces};
+pub use ending::{Ending, LentAtom, LentRepeated, segment_end};
 pub use fault::TextFault;
 pub use functions::{contains, extract, find, follows};
 pub use making::{justify, set_piece, translate};

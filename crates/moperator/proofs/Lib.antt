@@ -4,6 +4,7 @@ pub mod Truths
 pub mod PieceBytes
 pub mod GivenArguments
 pub mod PatternMatches
+pub mod PatternWalk
 pub mod Signs
 pub mod CharacterRefusals
 pub mod CalledWords

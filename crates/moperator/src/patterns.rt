@@ -1,20 +1,26 @@
 // SPDX-License-Identifier: Apache-2.0
 // Patterns of the tree, and the operator `?`.
-ghost use Rattle.std.specs.Prelude.{◌≡◌, ◌+◌, ◌-◌, ◌*◌, ◌<◌, ◌≤◌, nat_lt, true, map, take, length, option_map, IfOk};
+ghost use Rattle.std.specs.Prelude.{◌≡◌, ℕ, ◌+◌, ◌-◌, ◌*◌, ◌^◌, ◌<◌, ◌≤◌, nat_lt, true, map, take, drop, length, option_map, Decides, IfOk};
 ghost use Rattle.std.specs.List.{list_any};
 ghost use Rattle.mspec.specs.Literal.{digits_after};
 ghost use Rattle.mgrammar.specs.Matching.{pattern_code, bound_of, count_of as plain_count, repeated_of as plain_repeated, atom_of as plain_atom, is_reversed};
 ghost use Rattle.mmeaning.specs.Operators as meaning;
 ghost use Rattle.mtree.specs.Tree.{count_tree, repeated_tree, atom_tree};
+ghost use Rattle.mspec.specs.Pattern.{Matches, is_in_any};
+ghost use Rattle.mtext.specs.ClassSets.{is_in_set};
+ghost use Rattle.mtext.specs.Endings.{Repeats, IsFirstOf};
 ghost use Rattle.mtext.specs.PatternPlaces.{code_of, codes_of, count_of, repeated_of, atom_of, atoms_of};
-ghost use Rattle.moperator.specs.CappedCounts.{capped, capped_count, capped_atom};
+ghost use Rattle.moperator.specs.CappedCounts.{capped, capped_count, capped_atom, pattern_of};
 ghost use Rattle.mmeaning.specs.Yields.{Yields};
 ghost use Rattle.moperator.specs.Codes.{fault_of};
 
 use crate::code::Code;
 use mnum::Bytes7;
-use mtext::{Atom, Count, Pattern, PatternCode, Repeated, matches};
-use mvalue::Value;
+use mtext::{
+    Atom, Classes, Count, Ending, LentAtom, LentRepeated, Pattern, PatternCode, Repeated, matches,
+    segment_end,
+};
+use mvalue::{Kind, Value};
 use std::alloc::{AllocError, Global};
 
 // A number that is so far behind another stays so, whatever digits follow: nine times this is the most that a byte can stand for as
@@ -104,7 +110,7 @@ fn atom(alloc: Global, atom: &mtree::Atom) -> Result<Atom, AllocError>
 }
 
 fn pattern(alloc: Global, atoms: &[mtree::Atom]) -> Result<Pattern, AllocError>
-    ensures { IfOk result (λ pattern. atoms_of pattern.atoms.items ≡ map capped_atom (map plain_atom (map atom_tree atoms.now))) }
+    ensures { IfOk result (λ pattern. atoms_of pattern.atoms.items ≡ pattern_of atoms.now) }
 {
     let mut read = Vec::with_capacity(alloc, atoms.len())?;
     for one in atoms {
@@ -168,6 +174,75 @@ fn has_reversed(atoms: &[mtree::Atom]) -> bool
     false
 }
 
+// The classes that letters name.
+fn classes(letters: &[u8]) -> Classes
+    ensures { (c : ℕ) → is_in_set result c ≡ is_in_any (map pattern_code letters.now) c }
+{
+    let mut classes = Classes::none();
+    for letter in letters {
+        classes = classes.with(pattern_code(*letter));
+    }
+    classes
+}
+
+fn lent_repeated(repeated: &mtree::Repeated) -> LentRepeated<'_>
+    ensures { Repeats result (plain_repeated (repeated_tree repeated.now)) }
+{
+    match repeated {
+        mtree::Repeated::Classes(letters) => LentRepeated::Members(classes(letters.as_bytes())),
+        mtree::Repeated::Copies(text) => LentRepeated::Copies(text.as_bytes()),
+    }
+}
+
+// The atom at a place of a pattern, where there is one.
+fn lent_atom(atoms: &[mtree::Atom], index: usize) -> Option<LentAtom<'_>>
+    ensures { IsFirstOf result (drop index (pattern_of atoms.now)) }
+{
+    let atom = atoms.get(index)?;
+    Some(LentAtom {
+        count: count(&atom.count),
+        repeated: lent_repeated(&atom.repeated),
+    })
+}
+
+// The match of a pattern in general, which needs memory.
+fn general_match(alloc: Global, atoms: &[mtree::Atom], text: &[u8]) -> Result<bool, AllocError>
+    ensures { IfOk result (λ answer. Decides answer (Matches (pattern_of atoms.now) text.now)) }
+{
+    let pattern = pattern(alloc, atoms)?;
+    matches(alloc, &pattern, text)
+}
+
+// The match of a pattern: atom after atom, as long as each can end at one place only, and from there on in general.
+fn text_matches(alloc: Global, atoms: &[mtree::Atom], text: &[u8]) -> Result<bool, AllocError>
+    ensures { IfOk result (λ answer. Decides answer (Matches (pattern_of atoms.now) text.now)) }
+{
+    let mut at = 0;
+    let mut passed = 0;
+    let mut next = lent_atom(atoms, 0);
+    while let Some(atom) = next {
+        next = lent_atom(atoms, passed + 1);
+        match segment_end(&text[at..], atom, next) {
+            Ending::Behind(length) => at += length,
+            Ending::Nowhere => return Ok(false),
+            Ending::Open => return general_match(alloc, &atoms[passed..], &text[at..]),
+        }
+        passed += 1;
+    }
+    Ok(at == text.len())
+}
+
+// The match of a value's text, which of a number is printed on the stack.
+fn value_matches(alloc: Global, atoms: &[mtree::Atom], value: &Value) -> Result<bool, AllocError>
+    ensures answer { IfOk result (λ answer. Decides answer (Matches (pattern_of atoms.now) value.now)) }
+    ensures short { length value.now < 2 ^ 64 - 1 }
+{
+    match value.kind() {
+        Kind::Number(number) => text_matches(alloc, atoms, number.text().as_slice()),
+        Kind::Text(text) => text_matches(alloc, atoms, text.as_bytes()),
+    }
+}
+
 /// Whether a value matches a pattern.
 ///
 /// # Errors
@@ -180,8 +255,6 @@ pub fn matching(alloc: Global, atoms: &[mtree::Atom], value: &Value) -> Result<b
     if has_reversed(atoms) {
         return Err(Code::M10);
     }
-    let pattern = pattern(alloc, atoms)?;
-    let shown = value.shown(alloc)?;
-    let matches = matches(alloc, &pattern, shown.as_text().as_bytes())?;
+    let matches = value_matches(alloc, atoms, value)?;
     Ok(matches)
 }

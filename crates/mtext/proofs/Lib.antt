@@ -3,8 +3,10 @@ pub mod FoundPlaces
 pub mod PieceSteps
 pub mod CharacterOrder
 pub mod PieceSetting
+pub mod CharacterPieces
 pub mod MadeTexts
 pub mod PatternSlices
 pub mod PatternMembers
 pub mod PatternCopies
 pub mod PatternJoins
+pub mod PatternEndings

@@ -7,7 +7,7 @@ use Rattle.mspec.specs.Pattern.{Count, IsAtMost, copied, copies}
 use Rattle.mtext.proofs.PatternSlices.{part_split, joined_front, joined_rest}
 use Rattle.mtext.specs.PatternPlaces.{IsEnd, IsBefore, IsCopiedTo, IsFewest, AreEnds}
 
-copied_last : (n : ℕ) (string : List ℕ) → copied (suc n) string ≡ copied n string ++ string
+pub copied_last : (n : ℕ) (string : List ℕ) → copied (suc n) string ≡ copied n string ++ string
 copied_last zero string = append-nil string
 copied_last (suc n) string = ap (λ t. string ++ t) (copied_last n string) ∙ sym (append_assoc string (copied n string) string)
 

@@ -1,8 +1,15 @@
 -- SPDX-License-Identifier: Apache-2.0
 -- Places at which a text is cut into its pieces.
-use Rattle.std.specs.Prelude.{◌≡◌, ℕ, ◌≤◌, List, ◌++◌, length, take, drop}
+use Rattle.std.specs.Prelude.{◌≡◌, ℕ, ◌≤◌, List, [], ◌∷◌, ◌++◌, length, take, drop}
 use Rattle.std.specs.List.{flat_map}
 use Rattle.mspec.specs.Pieces.{pieces_of}
+use Rattle.mtext.specs.declared.delimiter.Delimiter.{Delimiter}
+use Rattle.mtext.specs.declared.delimiter.Delimiter.TheVariants as delimiter
+
+-- the text of a delimiter that was made ready to be sought
+abbrev pub delimiter_text : Delimiter → List ℕ
+delimiter_text (delimiter.Character c) = c ∷ []
+delimiter_text (delimiter.Text text) = text
 
 -- the texts in a row, with d behind each
 abbrev pub closed : List ℕ → List (List ℕ) → List ℕ

@@ -3,8 +3,10 @@
 ghost use Rattle.std.specs.Prelude.{◌≡◌, ◌≢◌, ◌+◌, ◌<◌, ◌≤◌, [], length, take, IfOk, IfErr};
 ghost use Rattle.mspec.specs.TextFunctions.{piece_of, piece_count};
 ghost use Rattle.mspec.specs.Pieces.{join, pieces_of};
-ghost use Rattle.mtext.specs.Cuts.{IsBehind};
+ghost use Rattle.mtext.specs.Cuts.{IsBehind, delimiter_text};
 
+use crate::by_character;
+use crate::delimiter::Delimiter;
 use crate::places::range;
 use memchr::memmem::Finder;
 
@@ -15,7 +17,10 @@ pub fn pieces(text: &[u8], delimiter: &[u8]) -> usize
     if delimiter.is_empty() {
         return 0;
     }
-    delimiters(&Finder::new(delimiter), text) + 1
+    match Delimiter::new(delimiter) {
+        Delimiter::Character(character) => by_character::delimiters(character, text) + 1,
+        Delimiter::Text(finder) => delimiters(&finder, text) + 1,
+    }
 }
 
 /// How many delimiters part the pieces of a text.
@@ -38,7 +43,7 @@ fn delimiters(finder: &Finder, text: &[u8]) -> usize
 /// # Errors
 ///
 /// How many delimiters the text has too few.
-pub(crate) fn skip(finder: &Finder, text: &[u8], count: usize) -> Result<usize, usize>
+fn skip_texts(finder: &Finder, text: &[u8], count: usize) -> Result<usize, usize>
     requires { finder.now ≢ [] }
     ensures behind { IfOk result (λ at. IsBehind finder.now text.now count at) }
     ensures missing { IfErr result (λ n. length (pieces_of finder.now text.now) + n ≡ count + 1) }
@@ -54,15 +59,32 @@ pub(crate) fn skip(finder: &Finder, text: &[u8], count: usize) -> Result<usize, 
     Ok(at)
 }
 
-/// The end of the first `count` pieces of a text and one more, or of the text where it has fewer.
-pub(crate) fn end_of(finder: &Finder, text: &[u8], count: usize) -> usize
-    requires { finder.now ≢ [] }
-    ensures within { result ≤ length text.now }
-    ensures end { take result text.now ≡ join finder.now (take (count + 1) (pieces_of finder.now text.now)) }
+/// The same by any delimiter.
+///
+/// # Errors
+///
+/// How many delimiters the text has too few.
+pub(crate) fn skip(delimiter: &Delimiter, text: &[u8], count: usize) -> Result<usize, usize>
+    requires { delimiter_text delimiter.now ≢ [] }
+    ensures behind { IfOk result (λ at. IsBehind (delimiter_text delimiter.now) text.now count at) }
+    ensures missing { IfErr result (λ n. length (pieces_of (delimiter_text delimiter.now) text.now) + n ≡ count + 1) }
+    ensures some { IfErr result (λ n. 0 < n) }
 {
-    match skip(finder, text, count) {
+    match delimiter {
+        Delimiter::Character(character) => by_character::skip(*character, text, count),
+        Delimiter::Text(finder) => skip_texts(finder, text, count),
+    }
+}
+
+/// The end of the first `count` pieces of a text and one more, or of the text where it has fewer.
+pub(crate) fn end_of(delimiter: &Delimiter, text: &[u8], count: usize) -> usize
+    requires { delimiter_text delimiter.now ≢ [] }
+    ensures within { result ≤ length text.now }
+    ensures end { take result text.now ≡ join (delimiter_text delimiter.now) (take (count + 1) (pieces_of (delimiter_text delimiter.now) text.now)) }
+{
+    match skip(delimiter, text, count) {
         Err(_) => text.len(),
-        Ok(at) => match finder.find(&text[at..]) {
+        Ok(at) => match delimiter.find(&text[at..]) {
             None => text.len(),
             Some(before) => at + before,
         },
@@ -81,12 +103,12 @@ pub fn piece<'t>(text: &'t [u8], delimiter: &[u8], from: Option<i64>, to: Option
     if delimiter.is_empty() || count == 0 {
         return &text[..0];
     }
-    let finder = Finder::new(delimiter);
-    match skip(&finder, text, before) {
+    let delimiter = Delimiter::new(delimiter);
+    match skip(&delimiter, text, before) {
         Err(_) => &text[..0],
         Ok(start) => {
             let rest = &text[start..];
-            &rest[..end_of(&finder, rest, count - 1)]
+            &rest[..end_of(&delimiter, rest, count - 1)]
         }
     }
 }

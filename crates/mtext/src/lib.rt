@@ -5,14 +5,20 @@
 //! 1, and are whole numbers of any size. An argument that the language lets a program leave out is an `Option`.
 #![tactic(auto)]
 
+mod by_character;
+mod classes;
 mod cutting;
+mod delimiter;
+mod ending;
 mod fault;
 mod functions;
 mod making;
 mod pattern;
 mod places;
 
+pub use classes::Classes;
 pub use cutting::{piece, pieces};
+pub use ending::{Ending, LentAtom, LentRepeated, segment_end};
 pub use fault::TextFault;
 pub use functions::{contains, extract, find, follows};
 pub use making::{justify, set_piece, translate};

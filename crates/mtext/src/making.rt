@@ -17,10 +17,10 @@ ghost use Rattle.mspec.specs.TextFunctions.{
 ghost use Rattle.mtext.specs.Made.{translation, Answers};
 
 use crate::cutting::skip;
+use crate::delimiter::Delimiter;
 use crate::fault::TextFault;
 use crate::places::end_at;
 use memchr::memchr;
-use memchr::memmem::Finder;
 use mnum::{Bytes7, LONGEST_TEXT};
 use std::alloc::{AllocError, Global};
 
@@ -203,10 +203,10 @@ fn replaced(
     requires some { delimiter.now ≢ [] }
     ensures { Answers (made (join delimiter.now (with_piece before value.now (pieces_of delimiter.now text.now)))) result }
 {
-    let finder = Finder::new(delimiter);
-    match skip(&finder, text, before) {
+    let sought = Delimiter::new(delimiter);
+    match skip(&sought, text, before) {
         Err(missing) => padded(alloc, text, delimiter, missing, value),
-        Ok(start) => match finder.find(&text[start..]) {
+        Ok(start) => match sought.find(&text[start..]) {
             None => spliced(alloc, text, start, text.len(), value),
             Some(length) => spliced(alloc, text, start, start + length, value),
         },

@@ -74,7 +74,7 @@ impl PatternCode {
 
 impl Count {
     // Is so much not above the greatest count.
-    fn is_at_most(self, number: usize) -> bool
+    pub(crate) fn is_at_most(self, number: usize) -> bool
         ensures { Decides result (IsAtMost self.most number) }
     {
         match self.most {

@@ -1,8 +1,8 @@
 -- SPDX-License-Identifier: Apache-2.0
-use Rattle.std.proofs.Common.{◌∙◌, arith, map}
+use Rattle.std.proofs.Common.{refl, map}
 use Rattle.mgrammar.specs.Matching.{atom_of}
 use Rattle.mtree.specs.Tree.{atom_tree}
-use Rattle.mtext.specs.PatternPlaces.{atoms_of}
+use Rattle.moperator.specs.CappedCounts.{pattern_of}
 use Rattle.moperator.proofs.PatternMatches.{reversed_fails, match_gives}
 use Rattle.moperator.proofs.patterns.matching.Goals as goal
 
@@ -11,5 +11,5 @@ returns-then-has_reversed-clause-value c = reversed_fails (map atom_of (map atom
 
 pub returns-clause-value : goal.returns-clause-value
 returns-clause-value c =
-    match_gives (atoms_of c.in_ok-pattern.pattern.atoms.items) (map atom_of (map atom_tree c.args.atoms.now)) c.args.value.now c.as_bytes.result.now c.has_reversed.result c.in_ok-matches.matches c.has_reversed.ensures c.if-has_reversed.false c.in_ok-pattern.ensures
-    (c.as_bytes.ensures.bytes ∙ c.as_text.ensures ∙ c.in_ok-shown.ensures) (omega arith) c.in_ok-matches.ensures
+    match_gives (pattern_of c.args.atoms.now) (map atom_of (map atom_tree c.args.atoms.now)) c.args.value.now c.args.value.now c.has_reversed.result c.in_ok-matches.matches
+    c.has_reversed.ensures c.if-has_reversed.false refl refl c.value_matches.ensures.short c.in_ok-matches.ensures.answer

@@ -3,7 +3,7 @@ use Rattle.std.proofs.Common.{◌≡◌, ◌+◌, subst, length, drop, Some, Non
 use Rattle.mspec.specs.Pieces.{pieces_of}
 use Rattle.mspec.specs.TextFunctions.{made}
 use Rattle.mtext.specs.Made.{Answers}
-use Rattle.mtext.specs.Cuts.{IsBehind}
+use Rattle.mtext.specs.Cuts.{IsBehind, delimiter_text}
 use Rattle.memchr.specs.Find.{FindsNeedle}
 use Rattle.mtext.proofs.FoundPlaces.{in_rest}
 use Rattle.mtext.proofs.PieceSetting.{set_found, set_last, set_past}
@@ -11,7 +11,7 @@ use Rattle.mtext.proofs.making.replaced.Goals as goal
 
 pub returns-in-Err : goal.returns-in-Err
 returns-in-Err c =
-    let missing = subst (λ needle. length (pieces_of needle c.args.text.now) + c.in-Err.missing ≡ c.args.before + 1) c.new-finder.ensures c.in-Err.ensures.missing in
+    let missing = subst (λ needle. length (pieces_of needle c.args.text.now) + c.in-Err.missing ≡ c.args.before + 1) c.new-sought.ensures c.in-Err.ensures.missing in
     subst (λ t. Answers (made t) c.padded.result) (set_past c.args.delimiter.now c.args.text.now c.args.value.now c.args.before c.in-Err.missing c.requires.some missing c.in-Err.ensures.some)
     c.padded.ensures
 
@@ -19,16 +19,16 @@ pub returns-in-None : goal.returns-in-None
 returns-in-None c =
     let s = c.args.text.now in
     let at = c.in-Ok.start in
-    let behind = subst (λ needle. IsBehind needle s c.args.before at) c.new-finder.ensures c.in-Ok.ensures.behind in
-    let finds = subst (λ needle. FindsNeedle (drop at s) needle 0 None) c.new-finder.ensures (in_rest s c.new-finder.result at None c.in-None.ensures) in
+    let behind = subst (λ needle. IsBehind needle s c.args.before at) c.new-sought.ensures c.in-Ok.ensures.behind in
+    let finds = subst (λ needle. FindsNeedle (drop at s) needle 0 None) c.new-sought.ensures (in_rest s (delimiter_text c.new-sought.result) at None c.in-None.ensures) in
     subst (λ t. Answers (made t) c.spliced.result) (set_last c.args.delimiter.now s c.args.value.now c.args.before at c.requires.some behind finds) c.spliced.ensures
 
 pub returns : goal.returns
 returns c =
     let s = c.args.text.now in
     let at = c.in-Ok.start in
-    let behind = subst (λ needle. IsBehind needle s c.args.before at) c.new-finder.ensures c.in-Ok.ensures.behind in
-    let finds = subst (λ needle. FindsNeedle (drop at s) needle 0 (Some c.in-Some.length)) c.new-finder.ensures
-    (in_rest s c.new-finder.result at (Some c.in-Some.length) c.in-Some.ensures) in
+    let behind = subst (λ needle. IsBehind needle s c.args.before at) c.new-sought.ensures c.in-Ok.ensures.behind in
+    let finds = subst (λ needle. FindsNeedle (drop at s) needle 0 (Some c.in-Some.length)) c.new-sought.ensures
+    (in_rest s (delimiter_text c.new-sought.result) at (Some c.in-Some.length) c.in-Some.ensures) in
     subst (λ t. Answers (made t) c.spliced-in-Some.result) (set_found c.args.delimiter.now s c.args.value.now c.args.before at c.in-Some.length c.requires.some behind finds)
     c.spliced-in-Some.ensures

@@ -1,6 +1,6 @@
 -- SPDX-License-Identifier: Apache-2.0
 use Rattle.mtext.specs.Cuts.{IsBehind}
-use Rattle.mtext.proofs.cutting.skip.Given as goal
+use Rattle.mtext.proofs.cutting.skip_texts.Given as goal
 
 abbrev pub invariant-loop-passed : goal.invariant-loop-passed
 invariant-loop-passed l = IsBehind l.finder l.text l.passed l.at

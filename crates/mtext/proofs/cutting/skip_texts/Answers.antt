@@ -3,7 +3,7 @@ use Rattle.std.proofs.Common.{arith, ◌+◌, sym, length, Some, None, subst}
 use Rattle.mtext.specs.Cuts.{IsBehind}
 use Rattle.mtext.proofs.PieceSteps.{behind_more, behind_last}
 use Rattle.mtext.proofs.FoundPlaces.{in_rest}
-use Rattle.mtext.proofs.cutting.skip.Goals as goal
+use Rattle.mtext.proofs.cutting.skip_texts.Goals as goal
 
 pub returns-in-None-clause-missing : goal.returns-in-None-clause-missing
 returns-in-None-clause-missing c =

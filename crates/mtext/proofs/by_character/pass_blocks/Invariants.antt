@@ -1,0 +1,15 @@
+-- SPDX-License-Identifier: Apache-2.0
+use Rattle.std.proofs.Common.{◌≡◌, ◌+◌, ◌≤◌, ◌<◌, ◌-◌, length, take}
+use Rattle.std.specs.Prelude.{count_by}
+use Rattle.memchr.specs.Find.{is_byte}
+use Rattle.mtext.proofs.by_character.pass_blocks.Given as goal
+
+abbrev pub invariant-loop-at : goal.invariant-loop-at
+invariant-loop-at l = record {
+  within : l.at ≤ length l.text;
+  counted : count_by (is_byte l.character) (take l.at l.text) + l.left ≡ l.count;
+  some : 0 < l.left;
+}
+
+abbrev pub decreases-loop-at : goal.decreases-loop-at
+decreases-loop-at l = length l.text - l.at

@@ -8,7 +8,7 @@ use Rattle.mgrammar.specs.Grammar.{ExprTree, ArgTree, CommandTree}
 use Rattle.mmeaning.specs.Operators.{as_truth}
 use Rattle.mmeaning.specs.Expression.{Inside, inside, value}
 use Rattle.mmeaning.specs.LineMeaning as meaning
-use Rattle.mmeaning.specs.LineMeaning.{Context, Go_on, after, context}
+use Rattle.mmeaning.specs.LineMeaning.{Go_on, after}
 use Rattle.mmeaning.specs.Calls.{Standing, Here, Did}
 use Rattle.mmeaning.specs.Frames.{View, Rests, Lists, left, frame, Enough, MovedOn}
 use Rattle.mmeaning.proofs.Calls.{residual_is, did_then, did_failed, did_gives, then_follows, then_failed, assoc, ended}
@@ -183,40 +183,28 @@ runs_frame f {fs = fs} k = record {
   same = k.same;
 }
 
--- the rest of a line is on top
-pub runs_rest : {S : Type 0} {g : Ghosts S} {fs : List View} {parts : Parts S} (d : meaning.Position) (l : List CommandTree) → Runs g (λ a n. meaning.commands (context a n d) l) fs parts (Ok completion.GoOn) (Rests d l ∷ fs) parts
-runs_rest d l = record {
-  at = λ sound n ns le e. on_top (Rests d l) completion.GoOn n ns le e;
+-- a frame is on top, and goes on with what is next
+pub runs_top : {S : Type 0} {g : Ghosts S} {fs : List View} {parts : Parts S} (f : View) → Runs g (λ a n. frame a n f Go_on) fs parts (Ok completion.GoOn) (f ∷ fs) parts
+runs_top f = record {
+  at = λ sound n ns le e. on_top f completion.GoOn n ns le e;
   fewer = omega arith;
   same = refl;
 }
 
--- arguments are on top
-pub runs_list : {S : Type 0} {g : Ghosts S} {fs : List View} {parts : Parts S} (d : meaning.Position) (args : List ArgTree) → Runs g (λ a n. meaning.arguments (context a n d) args) fs parts (Ok completion.GoOn) (Lists d args ∷ fs) parts
-runs_list d args = record {
-  at = λ sound n ns le e. on_top (Lists d args) completion.GoOn n ns le e;
-  fewer = omega arith;
-  same = refl;
-}
-
--- the empty rest of a line gives the completion again, and so does that of a command's arguments
-nothing_left : (d : Context) (s : meaning.Completion) → ◌≡◌ {A = Act meaning.Completion} (after s (meaning.commands d [])) (give s)
-nothing_left d meaning.Go_on = refl
-nothing_left d s = refl
-
-none_more : (d : Context) (s : meaning.Completion) → ◌≡◌ {A = Act meaning.Completion} (after s (meaning.arguments d [])) (give s)
-none_more d meaning.Go_on = refl
-none_more d s = refl
+-- where nothing is next, a completion is given again
+nothing_next : (s : meaning.Completion) → ◌≡◌ {A = Act meaning.Completion} (after s (give Go_on)) (give s)
+nothing_next Go_on = refl
+nothing_next s = refl
 
 -- an act before the rest of a line that may be empty
 pub runs_resting : {S : Type 0} {g : Ghosts S} {p : Text → ℕ → Act meaning.Completion} (d : meaning.Position) (l : List CommandTree) {fs fs' : List View} {old new : Parts S} {r : Result Completion Code} → Runs g p (resting d l fs) old r fs' new → Runs g (λ a n. p a n >>= frame a n (Rests d l)) fs old r fs' new
-runs_resting {p = p} d [] k = runs_as (λ a n. (λ i. p a n >>= (λ s. nothing_left (context a n d) s i)) ∙ ended (p a n)) k
+runs_resting {p = p} d [] k = runs_as (λ a n. (λ i. p a n >>= (λ s. nothing_next s i)) ∙ ended (p a n)) k
 runs_resting d (c ∷ l) k = runs_frame (Rests d (c ∷ l)) k
 
 -- an act before the rest of a command's arguments, of which there may be none
 pub runs_listing : {S : Type 0} {g : Ghosts S} {p : Text → ℕ → Act meaning.Completion} (d : meaning.Position) (args : List ArgTree) {fs fs' : List View} {old new : Parts S} {r : Result Completion Code}
     → Runs g p (listing d args fs) old r fs' new → Runs g (λ a n. p a n >>= frame a n (Lists d args)) fs old r fs' new
-runs_listing {p = p} d [] k = runs_as (λ a n. (λ i. p a n >>= (λ s. none_more (context a n d) s i)) ∙ ended (p a n)) k
+runs_listing {p = p} d [] k = runs_as (λ a n. (λ i. p a n >>= (λ s. nothing_next s i)) ∙ ended (p a n)) k
 runs_listing d (x ∷ args) k = runs_frame (Lists d (x ∷ args)) k
 
 -- ---- frames

@@ -1,6 +1,7 @@
 -- SPDX-License-Identifier: Apache-2.0
 -- Arguments, commands and lines up to where they stop, and then what is left of them, is what they do.
-use Rattle.std.proofs.Common.{◌≡◌, ℕ, zero, suc, ◌+◌, ◌*◌, ◌-◌, ◌≤◌, ◌<◌, Bool, true, false, cond, List, [], ◌∷◌, None, Some, Result, Ok, Err, length, get_or, slice_get, map, drop, refl, sym, ap, ◌∙◌, subst, arith}
+use Rattle.std.proofs.Common.{◌≡◌, ℕ, ◌+◌, ◌*◌, ◌-◌, ◌≤◌, ◌<◌, Bool, true, false, cond, List, [], ◌∷◌, None, Some, Result, Ok, Err, length, get_or, map, drop, refl, sym, ap, ◌∙◌, subst, arith}
+use Rattle.std.proofs.lemmas.Option.{slice_get_read}
 use Rattle.std.specs.Result.{IsErr, IsErrAnd, IfOk}
 use Rattle.mspec.specs.Act.{Text, Act, ◌>>=◌, ◌>>◌, give, charge}
 use Rattle.mspec.proofs.ListPlaces.{next_item}
@@ -118,14 +119,9 @@ turn_is_over x t s ended e = after_turn_is x t s ∙ ap (turn_left x t) (sym e)
 
 -- ---- stops
 
-item_there : {A : Type 0} (xs : List A) (k : ℕ) (x : A) → k < length xs → x ≡ get_or xs k x → slice_get xs k ≡ Some x
-item_there [] k x less is = absurd (omega arith)
-item_there (y ∷ xs) zero x less is = ap Some (sym is)
-item_there (y ∷ xs) (suc k) x less is = item_there xs k x (omega (arith, less)) is
-
 -- the arguments before a place are those of the command there
 pub args_there : (l : Line) (k : ℕ) (x : Spaced) → k < length l.commands.items → x ≡ get_or l.commands.items k x → args_before l (k + 1) ≡ x.command.args.items
-args_there l k x less is = let at : (k + 1) - 1 ≡ k = omega arith in rw (at, item_there l.commands.items k x less is) refl
+args_there l k x less is = let at : (k + 1) - 1 ≡ k = omega arith in rw (at, slice_get_read l.commands.items (length l.commands.items) k x refl less is) refl
 
 pub begun_stops : (args : List Arg) (r : Result (Begun × ℕ) Code) → IfOk (stops_at r) (λ o. IfStops o (StopsIn args))
 begun_stops args (Ok (begun.Gave s, at)) = tt

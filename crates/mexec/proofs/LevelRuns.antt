@@ -2,6 +2,7 @@
 -- Lines and texts that are entered, frame by frame.
 use Rattle.std.proofs.Common.{◌≡◌, ℕ, zero, suc, ◌<◌, ◌+◌, Bool, true, false, cond, List, [], ◌∷◌, Option, Some, None, Result, Ok, Err, length, drop, get_or, slice_get, refl, sym, ap, ◌∙◌, subst, eqb-true, le-ltb, arith}
 use Rattle.std.specs.Prelude.{nat_lt, ◌==◌}
+use Rattle.std.proofs.lemmas.List.{drop-drop, get_or-drop}
 use Rattle.std.specs.Result.{IsErr, IsErrAnd}
 use Rattle.mspec.specs.Code.{Zsyntax}
 use Rattle.mspec.specs.Act.{Text, Act, ◌>>=◌, ◌>>◌, give, give_some, charge}
@@ -27,30 +28,16 @@ use Rattle.mexec.specs.declared.completion.Completion.TheVariants as completion
 use Rattle.mexec.specs.Frames.{Runs}
 use Rattle.mexec.specs.Entering.{reached, next_reached, entering, so_deep, at_next, text_position, on_body}
 use Rattle.mspec.proofs.ListPlaces.{next_item}
-use Rattle.mexec.proofs.Calls.{at_then, at_stopped, at_gives, runs_then, runs_spent, runs_stopped, runs_wanting, runs_as, runs_frame, runs_list, runs_rest, runs_completion}
+use Rattle.mexec.proofs.Calls.{at_then, at_stopped, at_gives, runs_then, runs_spent, runs_stopped, runs_wanting, runs_as, runs_frame, runs_top, runs_completion}
 
 -- ---- lists
 
 -- a line and those behind it
 behind : (n : ℕ) (xs : List Text) (x : Text) (rest : List Text) → drop n xs ≡ x ∷ rest → drop (n + 1) xs ≡ rest
-behind zero [] x rest e = absurd cc
-behind zero (y ∷ ys) x rest e = cc
-behind (suc n) [] x rest e = absurd cc
-behind (suc n) (y ∷ ys) x rest e =
-    let one : suc n + 1 ≡ suc (n + 1) = omega arith in
-    ap (λ k. drop k (y ∷ ys)) one ∙ behind n ys x rest e
+behind n xs x rest e = sym (drop-drop 1 n xs) ∙ ap (drop 1) e
 
 there : (n : ℕ) (xs : List Text) (x : Text) (rest : List Text) → drop n xs ≡ x ∷ rest → get_or xs n [] ≡ x
-there zero [] x rest e = absurd cc
-there zero (y ∷ ys) x rest e = cc
-there (suc n) [] x rest e = absurd cc
-there (suc n) (y ∷ ys) x rest e = there n ys x rest e
-
--- an item, whatever stands for those past the end
-pub item_is : (lines : List Text) (k : ℕ) (x : Text) → k < length lines → x ≡ get_or lines k x → get_or lines k [] ≡ x
-item_is [] k x less is = absurd (omega (arith, less))
-item_is (y ∷ lines) zero x less is = sym is
-item_is (y ∷ lines) (suc k) x less is = item_is lines k x (omega (arith, less)) is
+there n xs x rest e = let same : n + 0 ≡ n = omega arith in ap (λ k. get_or xs k []) (sym same) ∙ sym (get_or-drop n xs 0 []) ∙ ap (λ (ys : List Text). get_or ys 0 []) e
 
 -- ---- the line that comes next
 
@@ -151,7 +138,7 @@ module _ {S : Type 0} {g : Ghosts S} where
   -- the commands of a text that is entered stand on top of its level
   pub text_runs : {fs : List View} {parts : Parts S} (p : Position) (c : Closing) (cs : List CommandTree)
       → Runs g (λ a n. (texts a (suc n)).enter p cs >>= closed c) fs parts (Ok completion.GoOn) (Rests p cs ∷ Levels p c ∷ fs) parts
-  text_runs p c cs = runs_as (λ a n. assoc (commands (context a n p) cs) (after_level (context a n p)) (closed c)) (runs_frame (Levels p c) (runs_rest p cs))
+  text_runs p c cs = runs_as (λ a n. assoc (commands (context a n p) cs) (after_level (context a n p)) (closed c)) (runs_frame (Levels p c) (runs_top (Rests p cs)))
 
   pub body_runs : {fs : List View} {parts : Parts S} (p : Position) (c : Closing) (b : BodyTree)
       → Runs g (λ a n. (texts a (suc n)).enter p (commands_in b) >>= closed c) fs parts (Ok completion.GoOn) (on_body p c b fs) parts
@@ -217,4 +204,4 @@ module _ {S : Type 0} {g : Ghosts S} where
       → Runs g (λ a n. (texts a (suc n)).list (within_indirection p) args) fs parts (Ok completion.GoOn) (Lists (so_deep d p) args ∷ fs) parts
   list_opened p d is {fs = fs} {parts = parts} args =
       subst (λ (d : Depth). Runs g (λ a n. (texts a (suc n)).list (within_indirection p) args) fs parts (Ok completion.GoOn) (Lists (so_deep d p) args ∷ fs) parts) (sym is)
-      (runs_list (within_indirection p) args)
+      (runs_top (Lists (within_indirection p) args))

@@ -5,6 +5,5 @@ pub mod Loops
 pub mod Indexes
 pub mod LevelRuns
 pub mod ArgumentRuns
-pub mod Effects
 pub mod FrontRuns
 pub mod Texts

@@ -102,16 +102,14 @@ falls_on new mid old frames left (Err e) few h = tt
 
 -- ---- turns as the frames have them
 
--- those of a FOR without an index
-pub turning_of_none : (t : ForLoop) → loop_before t.body.line.value t.body.at ≡ ([], []) → turning t ≡ record { index = []; course = course_view t.course; parameters = []; body = commands_from t.body.line.value t.body.at }
-turning_of_none t e =
-    (λ i. record { index = (e i).0; course = course_view t.course; parameters = map parameter_tree (drop t.parameter (e i).1); body = commands_from t.body.line.value t.body.at })
-    ∙ (λ i. record { index = []; course = course_view t.course; parameters = map parameter_tree (none_left t.parameter [] (omega arith) i); body = commands_from t.body.line.value t.body.at })
-
--- and of one with an index
+-- those of a FOR with an index
 pub turning_of : (t : ForLoop) (index : Text) (parameters : List Parameter) → loop_before t.body.line.value t.body.at ≡ (index, parameters)
     → turning t ≡ record { index = index; course = course_view t.course; parameters = map parameter_tree (drop t.parameter parameters); body = commands_from t.body.line.value t.body.at }
 turning_of t index parameters e = λ i. record { index = (e i).0; course = course_view t.course; parameters = map parameter_tree (drop t.parameter (e i).1); body = commands_from t.body.line.value t.body.at }
+
+-- and of one without an index
+pub turning_of_none : (t : ForLoop) → loop_before t.body.line.value t.body.at ≡ ([], []) → turning t ≡ record { index = []; course = course_view t.course; parameters = []; body = commands_from t.body.line.value t.body.at }
+turning_of_none t e = turning_of t [] [] e ∙ (λ i. record { index = []; course = course_view t.course; parameters = map parameter_tree (none_left t.parameter [] (omega arith) i); body = commands_from t.body.line.value t.body.at })
 
 -- ---- calls
 

@@ -1,14 +1,22 @@
 -- SPDX-License-Identifier: Apache-2.0
-use Rattle.std.proofs.Common.{Some, map, ap, sym, refl, ◌∙◌, ◌∷◌}
+use Rattle.std.proofs.Common.{◌≡◌, List, [], ◌∷◌, Some, None, slice_get, unwrap_or, map, ap, sym, refl, ◌∙◌}
 use Rattle.mmeaning.specs.LineMeaning.{context}
 use Rattle.mtree.specs.Tree.{keyword_tree, arg_tree, parameter_tree}
 use Rattle.mtree.specs.declared.tree.Arg.TheVariants as arg
 use Rattle.mexec.specs.Frames.{position_of}
 use Rattle.mexec.specs.Fronts.{stops, at_loop}
 use Rattle.mexec.proofs.Calls.{at_gives, at_as}
-use Rattle.mexec.proofs.Effects.{first_none, first_some}
 use Rattle.mexec.proofs.FrontRuns.{gives_stop, begun_stops, other_started}
 use Rattle.mexec.proofs.front.effect.Goals as goal
+
+-- the first of a list
+first_none : {A : Type 0} (xs : List A) → slice_get xs 0 ≡ None → xs ≡ []
+first_none [] e = refl
+first_none (x ∷ xs) e = cc
+
+first_some : {A : Type 0} (xs : List A) (x : A) → slice_get xs 0 ≡ Some x → (rest : List A) × (xs ≡ x ∷ rest)
+first_some [] x e = cc
+first_some (y ∷ xs) x e = (xs, ap (λ o. unwrap_or o x ∷ xs) e)
 
 pub returns-in-None-clause-stops : goal.returns-in-None-clause-stops
 returns-in-None-clause-stops g c =

@@ -1,8 +1,9 @@
 -- SPDX-License-Identifier: Apache-2.0
-use Rattle.std.proofs.Common.{get_or, [], sym}
+use Rattle.std.proofs.Common.{get_or, []}
+use Rattle.std.proofs.lemmas.List.{get_or_read}
 use Rattle.mexec.specs.Frames.{position_of, closing_of}
 use Rattle.mexec.proofs.Calls.{runs_stopped}
-use Rattle.mexec.proofs.LevelRuns.{at_plain, step_lost, line_refused, line_runs, item_is}
+use Rattle.mexec.proofs.LevelRuns.{at_plain, step_lost, line_refused, line_runs}
 use Rattle.mexec.proofs.levels.enter_line.Goals as goal
 
 pub returns-in_err-charge-clause-does : goal.returns-in_err-charge-clause-does
@@ -11,8 +12,8 @@ returns-in_err-charge-clause-does g c = runs_stopped _ (at_plain c.in_err-charge
 pub returns-in_err-line-clause-does : goal.returns-in_err-line-clause-does
 returns-in_err-line-clause-does g c =
     let lines = c.args.position.now.level.copy.value.items in
-    let text = item_is lines c.args.at c.index.result.now c.requires (rw c.deref.ensures at c.index.ensures) in
-    let read = rw (c.as_bytes-text.ensures.bytes, sym text) at c.in_err-line.ensures in
+    let text = get_or_read lines c.args.at c.index.result.now c.requires (rw c.deref.ensures at c.index.ensures) [] in
+    let read = rw (c.as_bytes-text.ensures.bytes, text) at c.in_err-line.ensures in
     line_refused (position_of c.args.position.now) (closing_of c.args.closing) c.args.at (get_or lines c.args.at []) (at_plain c.in_ok-charge.ensures.does) c.in_ok-charge.ensures.spent read c.from_residual-in_err-line.ensures
 
 pub returns-in_err-coming_next-clause-does : goal.returns-in_err-coming_next-clause-does
@@ -33,7 +34,7 @@ returns-in_err-enter_body-clause-does g c =
 pub returns-clause-does : goal.returns-clause-does
 returns-clause-does g c =
     let lines = c.args.position.now.level.copy.value.items in
-    let text = item_is lines c.args.at c.index.result.now c.requires (rw c.deref.ensures at c.index.ensures) in
-    let read = rw (c.as_bytes-text.ensures.bytes, sym text) at c.in_ok-line.ensures in
+    let text = get_or_read lines c.args.at c.index.result.now c.requires (rw c.deref.ensures at c.index.ensures) [] in
+    let read = rw (c.as_bytes-text.ensures.bytes, text) at c.in_ok-line.ensures in
     rw (c.in_ok-enter_body.ensures.frames, c.in_ok-entered.ensures.ok, c.in_ok-coming_next.ensures, c.deref-2.ensures)
     (line_runs (position_of c.args.position.now) (closing_of c.args.closing) c.args.at (get_or lines c.args.at []) (at_plain c.in_ok-charge.ensures.does) c.in_ok-charge.ensures.spent read)

@@ -1,6 +1,7 @@
 -- SPDX-License-Identifier: Apache-2.0
+use Rattle.mmeaning.specs.Frames.{Rests}
 use Rattle.mexec.specs.Frames.{position_of, turning}
-use Rattle.mexec.proofs.Calls.{runs_wanting, runs_rest, stack_push}
+use Rattle.mexec.proofs.Calls.{runs_wanting, runs_top, stack_push}
 use Rattle.mexec.proofs.LevelRuns.{at_plain}
 use Rattle.mexec.proofs.Loops.{turn_begins, turn_charge_failed}
 use Rattle.mexec.proofs.turns.begin_turn.Goals as goal
@@ -30,4 +31,4 @@ returns-clause-does g c =
     let t = c.args.turns.value in
     let d = position_of t.body.position.value in
     rw (c.in_ok-push-2.ensures.items, stack_push, c.in_ok-push.ensures.items, stack_push, c.in_ok-body.ensures.position, c.in_ok-body.ensures.line, c.in_ok-body.ensures.at, c.deref.ensures)
-    (turn_begins d (turning t) (at_plain c.in_ok-charge.ensures.does) c.in_ok-charge.ensures.spent (runs_rest d (turning t).body))
+    (turn_begins d (turning t) (at_plain c.in_ok-charge.ensures.does) c.in_ok-charge.ensures.spent (runs_top (Rests d (turning t).body)))

@@ -92,7 +92,7 @@ module _ {S : Type 0} {g : Ghosts S} where
       → Evaluates g (λ i. (p i >>= q i) >>= k i) f old r new → Evaluates g (λ i. p i >>= (λ a. q i a >>= k i)) f old r new
   regrouped {f = f} {old = old} {new = new} {r = r} p q k d = subst (λ act. Evaluates g act f old r new) (λ j i. assoc (p i) (q i) (k i) j) d
 
-  grouped : {A B C X : Type 0} {f : X → C} {old new : Eval S} {r : Result X Code} (p : Inside → Act A) (q : Inside → A → Act B) (k : Inside → B → Act C)
+  pub grouped : {A B C X : Type 0} {f : X → C} {old new : Eval S} {r : Result X Code} (p : Inside → Act A) (q : Inside → A → Act B) (k : Inside → B → Act C)
       → Evaluates g (λ i. p i >>= (λ a. q i a >>= k i)) f old r new → Evaluates g (λ i. (p i >>= q i) >>= k i) f old r new
   grouped {f = f} {old = old} {new = new} {r = r} p q k d = subst (λ act. Evaluates g act f old r new) (sym (λ j i. assoc (p i) (q i) (k i) j)) d
 

@@ -7,3 +7,4 @@ pub mod Asking
 pub mod Indirections
 pub mod Locks
 pub mod AtOnce
+pub mod Chains

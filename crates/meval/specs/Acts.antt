@@ -1,21 +1,27 @@
 -- SPDX-License-Identifier: Apache-2.0
 -- What calls of the evaluation do, where the meaning has it inside of more.
-use Rattle.std.specs.Prelude.{pos, Bool, [], slice_get}
+use Rattle.std.specs.Prelude.{ℤ, pos, Bool, [], slice_get}
 use Rattle.mspec.specs.Trees.{Direction}
 use Rattle.mspec.specs.Act.{Text, Act, ◌>>=◌, give}
-use Rattle.mgrammar.specs.Grammar.{ExprTree, ExprsTree, ReferenceTree}
+use Rattle.mgrammar.specs.Grammar.{ExprTree, ExprsTree, OperandTree, ReferenceTree}
 use Rattle.mgrammar.specs.Functions.{get_function, order_function}
-use Rattle.mmeaning.specs.Operators.{as_truth}
+use Rattle.mmeaning.specs.Operators.{as_number, as_truth}
 use Rattle.mmeaning.specs.Functions.{whole_text, call_value}
 use Rattle.mspec.specs.LockConflict.{LockName}
 use Rattle.mmeaning.specs.Variables.{Evaluated, Place, reading, writing, ordering, resolve, named_lock, read_at, put_at, status_at, next_at, data_number, direction_of, variable_function_value}
-use Rattle.mmeaning.specs.Expression.{Inside, value, values, evaluated}
+use Rattle.mmeaning.specs.Expression.{Inside, value, values, operand_value, evaluated}
 
 -- whether an expression is true
 abbrev pub truth : Inside → ExprTree → Act Bool
 truth i e = do
   x ← value i e
   as_truth x
+
+-- the number of an operand
+abbrev pub operand_number : Inside → OperandTree → Act ℤ
+operand_number i o = do
+  x ← operand_value i o
+  as_number x
 
 -- the place of a variable that is to be changed
 abbrev pub place_left : Inside → ReferenceTree → Act Place

@@ -38,3 +38,7 @@ pub record Evaluates {S A X : Type 0} (g : Ghosts S) (p : Inside → Act A) (f :
 pub record KeepsEval {S : Type 0} (old new : Eval S) : Type 0 where
   pub session : new.session.ghost_name ≡ old.session.ghost_name
   pub store : new.store.ghost_name ≡ old.store.ghost_name
+
+-- what an act does from one evaluation on, another one does from another
+pub record Leads {S : Type 0} (g : Ghosts S) (p : Inside → Act Text) (old : Eval S) (q : Inside → Act Text) (mid : Eval S) : Type 0 where
+  pub on : (r : Result Text Code) (new : Eval S) → Evaluates g q (λ (v : Text). v) mid r new → Evaluates g p (λ (v : Text). v) old r new

@@ -1,15 +1,16 @@
 // SPDX-License-Identifier: Apache-2.0
 // The evaluation of expressions.
-ghost use Rattle.std.specs.Prelude.{◌≡◌, ◌≢◌, ◌≤◌, ◌<◌, [], map, Some, Err, IfOk, IfErr, IsErr};
+ghost use Rattle.std.specs.Prelude.{◌≡◌, ◌≢◌, ◌≤◌, ◌<◌, [], drop, length, map, Some, Err, IfOk, IfErr, IsErr};
 ghost use Rattle.mgrammar.specs.Grammar.{local, no_exprs, exprs, indirect, extended, tails_of, exprs_of, choices_of};
 ghost use Rattle.mmeaning.specs.Expression as meaning;
 ghost use Rattle.mmeaning.specs.LineMeaning as line;
 ghost use Rattle.mmeaning.specs.Variables as variables;
 ghost use Rattle.mnum.specs.Num.{units};
-ghost use Rattle.mspec.specs.Act.{charge};
+ghost use Rattle.mspec.specs.Act.{Text, charge};
+ghost use Rattle.mspec.specs.NumberText.{number_text};
 ghost use Rattle.mtree.specs.Tree.{expr_tree, tail_tree, operand_tree, primary_tree, reference_tree, choice_tree};
 ghost use Rattle.moperator.specs.declared.code.Code.TheVariants.{Zsteps, Zstore};
-ghost use Rattle.meval.specs.Evaluates.{Evaluates, KeepsEval, standing_of};
+ghost use Rattle.meval.specs.Evaluates.{Evaluates, KeepsEval, Leads, standing_of};
 ghost use Rattle.meval.specs.Acts as acts;
 ghost use Rattle.meval.specs.Places.{pending_view, place_view, IsOpen};
 ghost use Rattle.mspec.specs.Access.{Write};
@@ -18,7 +19,7 @@ use crate::depth::Depth;
 use crate::global_node::GlobalNode;
 use crate::owner::Owner;
 use crate::place::{
-    LocalName, Pending, Place, extended_parts, indirect_parts, local_node, plain_name,
+    LocalName, Pending, Place, bracketed, extended_parts, indirect_parts, local_node, plain_name,
     subscripts_of,
 };
 use crate::reading_reference::read_reference;
@@ -26,10 +27,12 @@ use crate::session::Session;
 use crate::value_list::Values;
 use mgrant::{AccountId, Mode, Settings};
 use mnum::{Name, Num};
-use moperator::{Code, binary, call, computed, matching, number_of, truth_of, unaries};
+use moperator::{
+    Code, arithmetic_of, binary, calculate, call, computed, matching, number_of, truth_of, unaries,
+};
 use mstore::NodeStore;
 use mtree::{Choice, Expr, Operand, Primary, Reference, Tail, ValueWord};
-use mvalue::Value;
+use mvalue::{Kind, Value};
 use std::alloc::Global;
 
 /// What the evaluation of an expression is lent, and where it stands.
@@ -44,6 +47,14 @@ pub struct Eval<'a, S> {
     /// How many steps are left. Each primary costs one, before it is evaluated.
     pub steps: u32,
     pub depth: Depth,
+}
+
+// The tails behind so many.
+fn tails_behind(tails: &[Tail], count: usize) -> &[Tail]
+    requires { count ≤ length tails.now }
+    ensures { result.now ≡ drop count tails.now }
+{
+    &tails[count..]
 }
 
 impl<'a, S: NodeStore> Eval<'a, S> {
@@ -295,13 +306,14 @@ impl<'a, S: NodeStore> Eval<'a, S> {
         ensures does { Evaluates S.NodeStore (λ i. meaning.tail_value i left.old (tail_tree tail.now)) (λ _. left.new) self.old result self.new }
     {
         match tail {
-            Tail::Apply(operator, operand) => match self.number_at_once(operand) {
-                Some(number) => binary(alloc, *operator, left, &Value::of_number(number)),
-                None => {
-                    let right = self.operand(alloc, operand)?;
-                    binary(alloc, *operator, left, &right)
+            Tail::Apply(operator, operand) => {
+                let mut number = Num::from_whole(0);
+                if self.number_at_once(operand, &mut number) {
+                    return binary(alloc, *operator, left, &Value::of_number(number));
                 }
-            },
+                let right = self.operand(alloc, operand)?;
+                binary(alloc, *operator, left, &right)
+            }
             Tail::Matches(atoms) => {
                 let matches = matching(alloc, atoms, left)?;
                 *left = Value::of_truth(matches);
@@ -328,6 +340,86 @@ impl<'a, S: NodeStore> Eval<'a, S> {
         Ok(())
     }
 
+    // The number of an operand's value, put in a place.
+    #[cycle(eval)]
+    fn operand_number(
+        &mut self,
+        alloc: Global,
+        operand: &Operand,
+        place: &mut Num,
+    ) -> Result<(), Code>
+        ensures loans { KeepsEval self.old self.new }
+        ensures fewer { self.new.steps ≤ self.old.steps }
+        ensures spent { IfOk result (λ _. self.new.steps < self.old.steps) }
+        ensures does { Evaluates S.NodeStore (λ i. acts.operand_number i (operand_tree operand.now)) (λ _. units place.new) self.old result self.new }
+    {
+        if self.number_at_once(operand, place) {
+            return Ok(());
+        }
+        self.other_number(alloc, operand, place)
+    }
+
+    // The same of any operand. In brackets a number need not become a value.
+    #[cycle(eval)]
+    #[inline(never)]
+    fn other_number(
+        &mut self,
+        alloc: Global,
+        operand: &Operand,
+        place: &mut Num,
+    ) -> Result<(), Code>
+        ensures loans { KeepsEval self.old self.new }
+        ensures fewer { self.new.steps ≤ self.old.steps }
+        ensures spent { IfOk result (λ _. self.new.steps < self.old.steps) }
+        ensures does { Evaluates S.NodeStore (λ i. acts.operand_number i (operand_tree operand.now)) (λ _. units place.new) self.old result self.new }
+    {
+        if let Some(inner) = bracketed(operand) {
+            self.charge()?;
+            return self.expression_number(alloc, inner, place);
+        }
+        let value = self.operand(alloc, operand)?;
+        *place = number_of(&value)?;
+        Ok(())
+    }
+
+    // What operators of arithmetic do with the number to the left, up to the first operator of another kind, and how many there are. The
+    // number stays in its place.
+    #[cycle(eval)]
+    fn chain(&mut self, alloc: Global, left: &mut Num, tails: &[Tail]) -> Result<usize, Code>
+        ensures loans { KeepsEval self.old self.new }
+        ensures fewer { self.new.steps ≤ self.old.steps }
+        ensures within { IfOk result (λ count. count ≤ length tails.now) }
+        ensures leads { IfOk result (λ count. Leads S.NodeStore (λ i. meaning.tails_value i (number_text (units left.old)) (tails_of (map tail_tree tails.now))) self.old (λ i. meaning.tails_value i (number_text (units left.new)) (tails_of (map tail_tree (drop count tails.now)))) self.new) }
+        ensures stops { IfErr result (λ code. Evaluates S.NodeStore (λ i. meaning.tails_value i (number_text (units left.old)) (tails_of (map tail_tree tails.now))) (λ (v : Text). v) self.old (Err code) self.new) }
+    {
+        for (i, tail) in tails.iter().enumerate() {
+            let Tail::Apply(operator, operand) = tail else {
+                return Ok(i);
+            };
+            let Some(operator) = arithmetic_of(*operator) else {
+                return Ok(i);
+            };
+            let mut right = Num::from_whole(0);
+            self.operand_number(alloc, operand, &mut right)?;
+            calculate(operator, left, &right)?;
+        }
+        Ok(tails.len())
+    }
+
+    // What is done with a number to the left.
+    #[cycle(eval)]
+    fn with_number(&mut self, alloc: Global, left: Num, tails: &[Tail]) -> Result<Value, Code>
+        ensures loans { KeepsEval self.old self.new }
+        ensures fewer { self.new.steps ≤ self.old.steps }
+        ensures does { Evaluates S.NodeStore (λ i. meaning.tails_value i (number_text (units left)) (tails_of (map tail_tree tails.now))) (λ v. v) self.old result self.new }
+    {
+        let mut number = left;
+        let count = self.chain(alloc, &mut number, tails)?;
+        let mut value = Value::of_number(number);
+        self.with_tails(alloc, &mut value, tails_behind(tails, count))?;
+        Ok(value)
+    }
+
     // The value of an expression.
     #[cycle(eval)]
     pub(crate) fn value(&mut self, alloc: Global, e: &Expr) -> Result<Value, Code>
@@ -339,18 +431,41 @@ impl<'a, S: NodeStore> Eval<'a, S> {
         if e.rest.is_empty() {
             return self.operand(alloc, &e.first);
         }
-        match self.number_at_once(&e.first) {
-            Some(number) => {
-                let mut value = Value::of_number(number);
-                self.with_tails(alloc, &mut value, &e.rest)?;
-                Ok(value)
-            }
-            None => {
-                let mut value = self.operand(alloc, &e.first)?;
-                self.with_tails(alloc, &mut value, &e.rest)?;
-                Ok(value)
-            }
+        let mut number = Num::from_whole(0);
+        if self.number_at_once(&e.first, &mut number) {
+            return self.with_number(alloc, number, &e.rest);
         }
+        let mut value = self.operand(alloc, &e.first)?;
+        if let Kind::Number(number) = value.kind() {
+            return self.with_number(alloc, *number, &e.rest);
+        }
+        self.with_tails(alloc, &mut value, &e.rest)?;
+        Ok(value)
+    }
+
+    // The number of an expression's value, put in a place.
+    #[cycle(eval)]
+    fn expression_number(&mut self, alloc: Global, e: &Expr, place: &mut Num) -> Result<(), Code>
+        ensures loans { KeepsEval self.old self.new }
+        ensures fewer { self.new.steps ≤ self.old.steps }
+        ensures spent { IfOk result (λ _. self.new.steps < self.old.steps) }
+        ensures does { Evaluates S.NodeStore (λ i. line.number_of i (expr_tree e.now)) (λ _. units place.new) self.old result self.new }
+    {
+        if e.rest.is_empty() {
+            return self.operand_number(alloc, &e.first, place);
+        }
+        if !self.number_at_once(&e.first, place) {
+            let value = self.value(alloc, e)?;
+            *place = number_of(&value)?;
+            return Ok(());
+        }
+        let count = self.chain(alloc, place, &e.rest)?;
+        if count < e.rest.len() {
+            let mut value = Value::of_number(*place);
+            self.with_tails(alloc, &mut value, tails_behind(&e.rest, count))?;
+            *place = number_of(&value)?;
+        }
+        Ok(())
     }
 
     /// The value of an expression. It costs at least one step.
@@ -394,8 +509,9 @@ impl<'a, S: NodeStore> Eval<'a, S> {
         ensures spent { IfOk result (λ _. self.new.steps < self.old.steps) }
         ensures does { Evaluates S.NodeStore (λ i. line.number_of i (expr_tree e.now)) units self.old result self.new }
     {
-        let value = self.value(alloc, e)?;
-        number_of(&value)
+        let mut number = Num::from_whole(0);
+        self.expression_number(alloc, e, &mut number)?;
+        Ok(number)
     }
 
     /// Whether an expression's value is true. It costs at least one step.

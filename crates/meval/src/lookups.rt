@@ -1,7 +1,7 @@
 // SPDX-License-Identifier: Apache-2.0
 // What is asked of places that the checks let through, and what takes less than a place: a number that stands for itself or in a variable,
 // and a node of a local variable by one subscript.
-ghost use Rattle.std.specs.Prelude.{◌≡◌, ◌≤◌, ◌<◌, [], ◌∷◌, slice_get, unwrap_or, IsSome, IsNone, IfSome};
+ghost use Rattle.std.specs.Prelude.{◌≡◌, ◌≤◌, ◌<◌, true, false, [], ◌∷◌, slice_get, unwrap_or, IsNone, IfSome};
 ghost use Rattle.mkey.specs.Way.{way};
 ghost use Rattle.mmeaning.specs.Expression as meaning;
 ghost use Rattle.mmeaning.specs.Variables as variables;
@@ -32,16 +32,16 @@ use std::alloc::Global;
 use std::slice::from_ref;
 
 impl<'a, S: NodeStore> Eval<'a, S> {
-    // The number that a literal stands for, or that a local variable without subscripts holds as one.
-    fn held_number(&self, primary: &Primary) -> Option<Num>
-        ensures { IfSome result (λ number. Holds self.now.session.now.locals (primary_tree primary.now) (units number)) }
+    // The number that a literal stands for, or that a local variable without subscripts holds as one, where it stands.
+    fn held_number<'n>(&'n self, primary: &'n Primary) -> Option<&'n Num>
+        ensures { IfSome result (λ number. Holds self.now.session.now.locals (primary_tree primary.now) (units number.now)) }
     {
         match primary {
-            Primary::Number(literal) => literal.number().ok(),
+            Primary::Number(literal) => literal.as_number(),
             Primary::Reference(reference) => {
                 let name = plain_name(reference)?;
                 match self.session.locals.own(name)?.kind() {
-                    Kind::Number(number) => Some(*number),
+                    Kind::Number(number) => Some(number),
                     Kind::Text(_) => None,
                 }
             }
@@ -49,22 +49,25 @@ impl<'a, S: NodeStore> Eval<'a, S> {
         }
     }
 
-    // The number of an operand that is a literal or a variable that holds one, as most are, and then its step is spent; of another nothing
-    // is done. A number on its own need not be moved as a value.
-    pub(crate) fn number_at_once(&mut self, operand: &Operand) -> Option<Num>
+    // Whether an operand is a literal or a variable that holds a number, as most are: the number is then put in a place, and its step is
+    // spent; of another nothing is done. A number in a place of the caller's need not be moved.
+    pub(crate) fn number_at_once(&mut self, operand: &Operand, place: &mut Num) -> bool
         ensures loans { KeepsEval self.old self.new }
         ensures fewer { self.new.steps ≤ self.old.steps }
-        ensures spent { IsSome result → self.new.steps < self.old.steps }
-        ensures none { IsNone result → self.new ≡ self.old }
-        ensures does { IfSome result (λ number. Evaluates S.NodeStore (λ i. meaning.operand_value i (operand_tree operand.now)) (λ n. number_text (units n)) self.old (Ok number) self.new) }
+        ensures spent { result ≡ true → self.new.steps < self.old.steps }
+        ensures none { result ≡ false → self.new ≡ self.old }
+        ensures does { result ≡ true → Evaluates S.NodeStore (λ i. meaning.operand_value i (operand_tree operand.now)) (λ n. number_text (units n)) self.old (Ok place.new) self.new }
     {
         if !operand.signs.is_empty() {
-            return None;
+            return false;
         }
-        let number = self.held_number(&operand.primary)?;
+        match self.held_number(&operand.primary) {
+            Some(number) => *place = *number,
+            None => return false,
+        }
         match self.charge() {
-            Ok(()) => Some(number),
-            Err(_) => None,
+            Ok(()) => true,
+            Err(_) => false,
         }
     }
 
@@ -79,7 +82,12 @@ impl<'a, S: NodeStore> Eval<'a, S> {
         if !e.rest.is_empty() {
             return None;
         }
-        self.number_at_once(&e.first)
+        let mut number = Num::from_whole(0);
+        if self.number_at_once(&e.first, &mut number) {
+            Some(number)
+        } else {
+            None
+        }
     }
 
     // The value of a local variable without subscripts, which is asked for most often.

@@ -1,8 +1,9 @@
 // SPDX-License-Identifier: Apache-2.0
 // References of which all is evaluated, and places that the checks let through.
-ghost use Rattle.std.specs.Prelude.{◌≡◌, ◌↔◌, ◌++◌, IsTrue, IsSome, IsNone, IfSome, IfOk, map};
-ghost use Rattle.mgrammar.specs.Grammar.{local, indirect, extended, no_exprs, exprs, exprs_of};
-ghost use Rattle.mtree.specs.Tree.{expr_tree, primary_tree, reference_tree};
+ghost use Rattle.std.specs.Prelude.{◌≡◌, ◌↔◌, ◌++◌, IsTrue, IsSome, IsNone, IfSome, IfOk, [], map};
+ghost use Rattle.mgrammar.specs.Grammar as grammar;
+ghost use Rattle.mgrammar.specs.Grammar.{local, indirect, extended, bracket, no_exprs, exprs, exprs_of};
+ghost use Rattle.mtree.specs.Tree.{expr_tree, operand_tree, primary_tree, reference_tree};
 ghost use Rattle.mmeaning.specs.Variables.{checked, ordering};
 ghost use Rattle.mmeaning.specs.Variables as variables;
 ghost use Rattle.mmeaning.specs.Yields.{Yields};
@@ -18,7 +19,7 @@ use crate::value_list::Values;
 use mkey::{NodeKey, order_values_ok, values_ok};
 use mnum::Name;
 use moperator::Code;
-use mtree::{Expr, Primary, Reference};
+use mtree::{Expr, Operand, Primary, Reference};
 use mvalue::Value;
 use std::alloc::{AllocError, Global};
 use std::marker::Model;
@@ -139,6 +140,19 @@ pub fn plain_name(reference: &Reference) -> Option<&Name>
             [] => Some(name),
             [_, ..] => None,
         },
+        _ => None,
+    }
+}
+
+// The expression of an operand that is one in brackets, without signs.
+pub fn bracketed(operand: &Operand) -> Option<&Expr>
+    ensures { IfSome result (λ e. operand_tree operand.now ≡ grammar.operand [] (bracket (expr_tree e.now))) }
+{
+    if !operand.signs.is_empty() {
+        return None;
+    }
+    match &operand.primary {
+        Primary::Bracket(inner) => Some(inner),
         _ => None,
     }
 }

@@ -1,19 +1,23 @@
 -- SPDX-License-Identifier: Apache-2.0
-use Rattle.std.proofs.Common.{◌≡◌, ◌∙◌, ◌++◌, List, [], ◌∷◌, map, refl, ap, arith}
+use Rattle.std.proofs.Common.{◌≡◌, ◌≤◌, ◌∙◌, ◌++◌, length, List, [], ◌∷◌, map, refl, sym, ap, arith, rules}
 use Rattle.std.proofs.lemmas.Bool.Decides.{nat_tests}
 use Rattle.std.proofs.lemmas.List.{nil_from_length}
-use Rattle.mgrammar.specs.Grammar.{exprs_of}
-use Rattle.mmeaning.specs.Expression.{named_by, values}
+use Rattle.mgrammar.specs.Grammar.{apply, exprs_of, tails_of}
+use Rattle.mmeaning.specs.Expression.{named_by, values, tails_value}
 use Rattle.mmeaning.specs.Variables.{at_local, of_global, subscripts_of, with_subscripts, direction_of}
 use Rattle.mmeaning.proofs.Calls.{residual_is}
 use Rattle.std.specs.Prelude.{slice_get}
 use Rattle.mspec.specs.Act.{Text, ◌>>=◌, give}
-use Rattle.mtree.specs.Tree.{expr_tree, reference_tree}
+use Rattle.mtree.specs.Tree.{expr_tree, operand_tree, reference_tree, tail_tree}
+use Rattle.mnum.specs.Num.{units}
+use Rattle.mspec.specs.NumberText.{number_text}
+use Rattle.mvalue.specs.Texts.{kind_text}
 use Rattle.meval.specs.Acts.{read_act, order_from, order_behind}
 use Rattle.meval.specs.Places.{named, pending_view, walk_view}
 use Rattle.moperator.proofs.Numbers.{computed_outcome}
 use Rattle.meval.proofs.Calls.{evaluates_then, evaluates_whole, evaluates_failed, evaluates_gives, evaluates_seen, evaluates_refused, evaluates_stopped, evaluates_wanting, evaluates_yielded, keeps_itself, keeps_on}
 use Rattle.meval.proofs.AtOnce.{node_evaluated, node_failed, ordered_next, ordered_stopped, walk_through, walk_refused}
+use Rattle.meval.proofs.Chains.{step_leads, operand_refused, operator_refused, leads_itself, leads_on, leads_end, number_read, number_seen, alone, in_brackets, bracket_refused}
 use Rattle.meval.proofs.Indirections.{not_free, is_free, evaluates_behind, evaluates_deep, evaluates_unnamed, evaluates_entry}
 use Rattle.meval.proofs.References.{as_evaluated, gives_named, node_of}
 use Rattle.meval.proofs.TreeViews.{expr_is, operand_is, number_is, text_is, special_is, reference_is, refer_is, referring_is, bracket_is, call_is, select_is, apply_is, matches_is, matches_not_is}
@@ -348,21 +352,6 @@ order_of_place-returns-clause-does g t c =
 
 -- ---- steps
 
-pub tail-returns-in-Some-clause-does : goal.tail-returns-in-Some-clause-does
-tail-returns-in-Some-clause-does g t c =
-    let k = rw c.of_number.ensures at c.binary-in-Some.ensures.value in
-    rw (c.in-Apply.is, apply_is c.in-Apply.operator c.in-Apply.operand) (evaluates_then _ c.in-Some.ensures.does (evaluates_yielded k))
-
-pub tail-returns-in_err-right-in-None-clause-does : goal.tail-returns-in_err-right-in-None-clause-does
-tail-returns-in_err-right-in-None-clause-does g t c =
-    let k = rw (c.in-None.ensures.none refl) at c.in_err-right-in-None.ensures.does in
-    rw (c.in-Apply.is, apply_is c.in-Apply.operator c.in-Apply.operand) (evaluates_stopped _ k c.from_residual.ensures)
-
-pub tail-returns-in_ok-right-in-None-clause-does : goal.tail-returns-in_ok-right-in-None-clause-does
-tail-returns-in_ok-right-in-None-clause-does g t c =
-    let k = rw (c.in-None.ensures.none refl) at c.in_ok-right-in-None.ensures.does in
-    rw (c.in-Apply.is, apply_is c.in-Apply.operator c.in-Apply.operand) (evaluates_then _ k (evaluates_yielded c.binary-in-None.ensures.value))
-
 pub tail-returns-in_err-matches-in-Matches-clause-does : goal.tail-returns-in_err-matches-in-Matches-clause-does
 tail-returns-in_err-matches-in-Matches-clause-does g t c =
     let k = rw c.deref.ensures.value at c.in_err-matches-in-Matches.ensures.value in
@@ -392,31 +381,188 @@ value-returns-then-is_empty-clause-does g t c =
     let none : v.items ≡ [] = nil_from_length v.items (omega (arith, v.ok, zero)) in
     rw (expr_is c.args.e.now, none) (evaluates_whole _ c.operand.ensures.does)
 
-pub value-returns-in_err-with_tails-in-Some-clause-does : goal.value-returns-in_err-with_tails-in-Some-clause-does
-value-returns-in_err-with_tails-in-Some-clause-does g t c =
-    let rest = rw (c.of_number-value.ensures, c.deref.ensures.value) at c.in_err-with_tails-in-Some.ensures.does in
-    rw (residual_is _ _ c.from_residual.ensures, expr_is c.args.e.now) (evaluates_then _ c.in-Some.ensures.does (evaluates_refused _ rest))
+-- ---- numbers
 
-pub value-returns-in_ok-with_tails-in-Some-clause-does : goal.value-returns-in_ok-with_tails-in-Some-clause-does
-value-returns-in_ok-with_tails-in-Some-clause-does g t c =
-    let rest = rw (c.of_number-value.ensures, c.deref.ensures.value) at c.in_ok-with_tails-in-Some.ensures.does in
-    rw (expr_is c.args.e.now) (evaluates_then _ c.in-Some.ensures.does (evaluates_seen tt _ refl rest))
+pub operand_number-returns-then-number_at_once-clause-does : goal.operand_number-returns-then-number_at_once-clause-does
+operand_number-returns-then-number_at_once-clause-does g t c = number_seen c.number_at_once.new.place (c.number_at_once.ensures.does c.if-number_at_once.true)
 
-pub value-returns-in_err-value-in-None-clause-does : goal.value-returns-in_err-value-in-None-clause-does
-value-returns-in_err-value-in-None-clause-does g t c =
-    let k = rw (c.in-None.ensures.none refl) at c.in_err-value-in-None.ensures.does in
-    rw (expr_is c.args.e.now) (evaluates_stopped _ k c.from_residual-in_err-value-in-None.ensures)
+pub operand_number-returns-clause-does : goal.operand_number-returns-clause-does
+operand_number-returns-clause-does g t c = rw (c.number_at_once.ensures.none c.if-number_at_once.false) at c.other_number.ensures.does
 
-pub value-returns-in_err-with_tails-in-None-clause-does : goal.value-returns-in_err-with_tails-in-None-clause-does
-value-returns-in_err-with_tails-in-None-clause-does g t c =
-    let k = rw (c.in-None.ensures.none refl) at c.in_ok-value-in-None.ensures.does in
-    let rest = rw c.deref-in-None.ensures.value at c.in_err-with_tails-in-None.ensures.does in
-    rw (residual_is _ _ c.from_residual-in_err-with_tails-in-None.ensures, expr_is c.args.e.now) (evaluates_then _ k (evaluates_refused _ rest))
+pub other_number-returns-in_err-charge-clause-does : goal.other_number-returns-in_err-charge-clause-does
+other_number-returns-in_err-charge-clause-does g t c =
+    rw (residual_is _ _ c.from_residual.ensures, c.in-Some.ensures) (bracket_refused (expr_tree c.in-Some.inner.now) _ c.in_err-charge.ensures.does)
 
-pub value-returns-in_ok-with_tails-in-None-clause-does : goal.value-returns-in_ok-with_tails-in-None-clause-does
-value-returns-in_ok-with_tails-in-None-clause-does g t c =
-    let k = rw (c.in-None.ensures.none refl) at c.in_ok-value-in-None.ensures.does in
-    let rest = rw c.deref-in-None.ensures.value at c.in_ok-with_tails-in-None.ensures.does in
+pub other_number-returns-in-Some-clause-does : goal.other_number-returns-in-Some-clause-does
+other_number-returns-in-Some-clause-does g t c = rw c.in-Some.ensures (in_brackets (expr_tree c.in-Some.inner.now) c.in_ok-charge.ensures.does c.expression_number.ensures.does)
+
+pub other_number-returns-in_err-value-clause-does : goal.other_number-returns-in_err-value-clause-does
+other_number-returns-in_err-value-clause-does g t c = evaluates_stopped _ c.in_err-value.ensures.does c.from_residual-in_err-value.ensures
+
+pub other_number-returns-in_err-place-clause-does : goal.other_number-returns-in_err-place-clause-does
+other_number-returns-in_err-place-clause-does g t c =
+    rw (residual_is _ _ c.from_residual-in_err-place.ensures) (evaluates_then _ c.in_ok-value.ensures.does (evaluates_refused _ (evaluates_yielded c.in_err-place.ensures.number)))
+
+pub other_number-returns-clause-does : goal.other_number-returns-clause-does
+other_number-returns-clause-does g t c = evaluates_then _ c.in_ok-value.ensures.does (evaluates_seen c.in_ok-place.field-0 tt refl (evaluates_yielded c.in_ok-place.ensures.number))
+
+pub expression_number-returns-then-is_empty-clause-does : goal.expression_number-returns-then-is_empty-clause-does
+expression_number-returns-then-is_empty-clause-does g t c =
+    let v = c.args.e.now.rest in
+    let zero : v.len ≡ 0 = grind (arith, nat_tests, c.if-is_empty.ensures) in
+    let none : v.items ≡ [] = nil_from_length v.items (omega (arith, v.ok, zero)) in
+    rw (expr_is c.args.e.now, none) (alone (operand_tree c.args.e.now.first) c.operand_number.ensures.does)
+
+pub expression_number-returns-in_err-value-clause-does : goal.expression_number-returns-in_err-value-clause-does
+expression_number-returns-in_err-value-clause-does g t c =
+    let k = rw (c.number_at_once.ensures.none c.if-not-number_at_once.true) at c.in_err-value.ensures.does in
+    evaluates_stopped _ k c.from_residual.ensures
+
+pub expression_number-returns-in_err-place-clause-does : goal.expression_number-returns-in_err-place-clause-does
+expression_number-returns-in_err-place-clause-does g t c =
+    let k = rw (c.number_at_once.ensures.none c.if-not-number_at_once.true) at c.in_ok-value.ensures.does in
+    rw (residual_is _ _ c.from_residual-in_err-place.ensures) (evaluates_then _ k (evaluates_refused _ (evaluates_yielded c.in_err-place.ensures.number)))
+
+pub expression_number-returns-then-not-number_at_once-clause-does : goal.expression_number-returns-then-not-number_at_once-clause-does
+expression_number-returns-then-not-number_at_once-clause-does g t c =
+    let k = rw (c.number_at_once.ensures.none c.if-not-number_at_once.true) at c.in_ok-value.ensures.does in
+    evaluates_then _ k (evaluates_seen c.in_ok-place.field-0 tt refl (evaluates_yielded c.in_ok-place.ensures.number))
+
+pub expression_number-returns-in_err-count-clause-does : goal.expression_number-returns-in_err-count-clause-does
+expression_number-returns-in_err-count-clause-does g t c =
+    let stops = rw c.deref.ensures.value at c.in_err-count.ensures.stops in
+    rw (residual_is _ _ c.from_residual-in_err-count.ensures, expr_is c.args.e.now)
+    (evaluates_failed _ (evaluates_then (λ i x. tails_value i x (tails_of (map tail_tree c.args.e.now.rest.items))) (c.number_at_once.ensures.does c.if-not-number_at_once.false) stops))
+
+pub expression_number-returns-in_err-with_tails-clause-does : goal.expression_number-returns-in_err-with_tails-clause-does
+expression_number-returns-in_err-with_tails-clause-does g t c =
+    let leads = rw c.deref.ensures.value at c.in_ok-count.ensures.leads in
+    let same : c.of_number-value.result ≡ number_text (units c.chain.new.left) = first_of (search rules, cc) in
+    let rest = rw (same, c.tails_behind.ensures, c.deref-then-count-len.ensures.value) at c.in_err-with_tails.ensures.does in
+    rw (residual_is _ _ c.from_residual-in_err-with_tails.ensures, expr_is c.args.e.now)
+    (evaluates_failed _ (evaluates_then (λ i x. tails_value i x (tails_of (map tail_tree c.args.e.now.rest.items))) (c.number_at_once.ensures.does c.if-not-number_at_once.false) (leads.on _ _ (evaluates_refused (λ (v : Text). v) rest))))
+
+pub expression_number-returns-in_err-place-2-clause-does : goal.expression_number-returns-in_err-place-2-clause-does
+expression_number-returns-in_err-place-2-clause-does g t c =
+    let leads = rw c.deref.ensures.value at c.in_ok-count.ensures.leads in
+    let same : c.of_number-value.result ≡ number_text (units c.chain.new.left) = first_of (search rules, cc) in
+    let rest = rw (same, c.tails_behind.ensures, c.deref-then-count-len.ensures.value) at c.in_ok-with_tails.ensures.does in
+    rw (residual_is _ _ c.from_residual-in_err-place-2.ensures, expr_is c.args.e.now)
+    (evaluates_then _ (evaluates_then (λ i x. tails_value i x (tails_of (map tail_tree c.args.e.now.rest.items))) (c.number_at_once.ensures.does c.if-not-number_at_once.false) (leads.on _ _ (evaluates_seen tt _ refl rest))) (evaluates_refused _ (evaluates_yielded c.in_err-place-2.ensures.number)))
+
+pub expression_number-returns-in_ok-place-2-clause-does : goal.expression_number-returns-in_ok-place-2-clause-does
+expression_number-returns-in_ok-place-2-clause-does g t c =
+    let leads = rw c.deref.ensures.value at c.in_ok-count.ensures.leads in
+    let same : c.of_number-value.result ≡ number_text (units c.chain.new.left) = first_of (search rules, cc) in
+    let rest = rw (same, c.tails_behind.ensures, c.deref-then-count-len.ensures.value) at c.in_ok-with_tails.ensures.does in
+    rw (expr_is c.args.e.now)
+    (evaluates_then _ (evaluates_then (λ i x. tails_value i x (tails_of (map tail_tree c.args.e.now.rest.items))) (c.number_at_once.ensures.does c.if-not-number_at_once.false) (leads.on _ _ (evaluates_seen tt _ refl rest))) (evaluates_seen c.in_ok-place-2.field-0 tt refl (evaluates_yielded c.in_ok-place-2.ensures.number)))
+
+pub expression_number-returns-else-count-len-clause-does : goal.expression_number-returns-else-count-len-clause-does
+expression_number-returns-else-count-len-clause-does g t c =
+    let v = c.args.e.now.rest in
+    let leads = rw c.deref.ensures.value at c.in_ok-count.ensures.leads in
+    let past : length v.items ≤ c.in_ok-count.count = omega (arith, v.ok, c.len.ensures) in
+    rw (expr_is c.args.e.now) (number_read c.chain.new.left (evaluates_then (λ i x. tails_value i x (tails_of (map tail_tree c.args.e.now.rest.items))) (c.number_at_once.ensures.does c.if-not-number_at_once.false) (leads_end v.items c.in_ok-count.count _ past leads)))
+
+-- ---- a chain
+
+pub chain-loop-i-init : goal.chain-loop-i-init
+chain-loop-i-init g t c = record {
+  loans = keeps_itself c.args.self.now;
+  fewer = omega arith;
+  leads = leads_itself _ c.args.self.now;
+}
+
+pub chain-loop-i-preserved : goal.chain-loop-i-preserved
+chain-loop-i-preserved g t c = record {
+  loans = keeps_on c.loop-i.invariant.loans c.in_ok-operand_number.ensures.loans;
+  fewer = omega arith;
+  leads =
+      leads_on c.loop-i.invariant.leads
+      (step_leads c.args.tails.now c.loop-i.i c.index-tails-i.result c.in-Some.operator c.loop-i.left (operand_tree c.in-Apply.operand) (units c.operand_number.new.place) c.calculate.new.left (omega arith) c.index-tails-i.is
+      (ap tail_tree c.in-Apply.is ∙ apply_is c.in-Apply.operator c.in-Apply.operand ∙ ap (λ o. apply o (operand_tree c.in-Apply.operand)) (sym c.in-Some.ensures))
+      c.in_ok-operand_number.ensures.does c.in_ok-calculate.ensures);
+}
+
+pub chain-returns-in_err-operand_number-clause-stops : goal.chain-returns-in_err-operand_number-clause-stops
+chain-returns-in_err-operand_number-clause-stops g t c =
+    rw (residual_is _ _ c.from_residual.ensures)
+    (c.loop-i.invariant.leads.on _ _
+    (operand_refused c.args.tails.now c.loop-i.i c.index-tails-i.result c.in-Some.operator c.loop-i.left (operand_tree c.in-Apply.operand) _ (omega arith) c.index-tails-i.is
+    (ap tail_tree c.in-Apply.is ∙ apply_is c.in-Apply.operator c.in-Apply.operand ∙ ap (λ o. apply o (operand_tree c.in-Apply.operand)) (sym c.in-Some.ensures))
+    c.in_err-operand_number.ensures.does))
+
+pub chain-returns-in_err-calculate-clause-stops : goal.chain-returns-in_err-calculate-clause-stops
+chain-returns-in_err-calculate-clause-stops g t c =
+    rw (residual_is _ _ c.from_residual-in_err-calculate.ensures)
+    (c.loop-i.invariant.leads.on _ _
+    (operator_refused c.args.tails.now c.loop-i.i c.index-tails-i.result c.in-Some.operator c.loop-i.left (operand_tree c.in-Apply.operand) (units c.operand_number.new.place) _ (omega arith) c.index-tails-i.is
+    (ap tail_tree c.in-Apply.is ∙ apply_is c.in-Apply.operator c.in-Apply.operand ∙ ap (λ o. apply o (operand_tree c.in-Apply.operand)) (sym c.in-Some.ensures))
+    c.in_ok-operand_number.ensures.does c.in_err-calculate.ensures))
+
+pub chain-returns-clause-leads : goal.chain-returns-clause-leads
+chain-returns-clause-leads g t c =
+    let end : c.loop-i.i ≡ length c.args.tails.now = omega arith in
+    rw end at c.loop-i.invariant.leads
+
+pub with_number-returns-in_err-count-clause-does : goal.with_number-returns-in_err-count-clause-does
+with_number-returns-in_err-count-clause-does g t c = rw (residual_is _ _ c.from_residual.ensures) c.in_err-count.ensures.stops
+
+pub with_number-returns-in_err-with_tails-clause-does : goal.with_number-returns-in_err-with_tails-clause-does
+with_number-returns-in_err-with_tails-clause-does g t c =
+    let same : c.of_number-value.result ≡ number_text (units c.chain.new.left) = first_of (search rules, cc) in
+    let rest = rw (same, c.tails_behind.ensures) at c.in_err-with_tails.ensures.does in
+    rw (residual_is _ _ c.from_residual-in_err-with_tails.ensures) (c.in_ok-count.ensures.leads.on _ _ (evaluates_refused (λ (v : Text). v) rest))
+
+pub with_number-returns-clause-does : goal.with_number-returns-clause-does
+with_number-returns-clause-does g t c =
+    let same : c.of_number-value.result ≡ number_text (units c.chain.new.left) = first_of (search rules, cc) in
+    let rest = rw (same, c.tails_behind.ensures) at c.in_ok-with_tails.ensures.does in
+    c.in_ok-count.ensures.leads.on _ _ (evaluates_seen tt _ refl rest)
+
+pub tail-returns-then-number_at_once-clause-does : goal.tail-returns-then-number_at_once-clause-does
+tail-returns-then-number_at_once-clause-does g t c =
+    let k = rw c.of_number.ensures at c.binary-then-number_at_once.ensures.value in
+    rw (c.in-Apply.is, apply_is c.in-Apply.operator c.in-Apply.operand) (evaluates_then _ (c.number_at_once.ensures.does c.if-number_at_once.true) (evaluates_yielded k))
+
+pub tail-returns-in_err-right-in-Apply-clause-does : goal.tail-returns-in_err-right-in-Apply-clause-does
+tail-returns-in_err-right-in-Apply-clause-does g t c =
+    let k = rw (c.number_at_once.ensures.none c.if-number_at_once.false) at c.in_err-right-in-Apply.ensures.does in
+    rw (c.in-Apply.is, apply_is c.in-Apply.operator c.in-Apply.operand) (evaluates_stopped _ k c.from_residual.ensures)
+
+pub tail-returns-in_ok-right-in-Apply-clause-does : goal.tail-returns-in_ok-right-in-Apply-clause-does
+tail-returns-in_ok-right-in-Apply-clause-does g t c =
+    let k = rw (c.number_at_once.ensures.none c.if-number_at_once.false) at c.in_ok-right-in-Apply.ensures.does in
+    rw (c.in-Apply.is, apply_is c.in-Apply.operator c.in-Apply.operand) (evaluates_then _ k (evaluates_yielded c.binary-in-Apply.ensures.value))
+
+pub value-returns-then-number_at_once-clause-does : goal.value-returns-then-number_at_once-clause-does
+value-returns-then-number_at_once-clause-does g t c =
+    let rest = rw c.deref.ensures.value at c.with_number.ensures.does in
+    rw (expr_is c.args.e.now) (evaluates_then _ (c.number_at_once.ensures.does c.if-number_at_once.true) rest)
+
+pub value-returns-in_err-value-clause-does : goal.value-returns-in_err-value-clause-does
+value-returns-in_err-value-clause-does g t c =
+    let k = rw (c.number_at_once.ensures.none c.if-number_at_once.false) at c.in_err-value.ensures.does in
+    rw (expr_is c.args.e.now) (evaluates_stopped _ k c.from_residual.ensures)
+
+pub value-returns-in-Number-clause-does : goal.value-returns-in-Number-clause-does
+value-returns-in-Number-clause-does g t c =
+    let k = rw (c.number_at_once.ensures.none c.if-number_at_once.false) at c.in_ok-value.ensures.does in
+    let same = ap kind_text (sym c.in-Number.is) ∙ c.kind.ensures in
+    let rest = rw (c.deref-in-Number.ensures.value, same) at c.with_number-in-Number.ensures.does in
+    rw (expr_is c.args.e.now) (evaluates_then _ k rest)
+
+pub value-returns-in_err-with_tails-clause-does : goal.value-returns-in_err-with_tails-clause-does
+value-returns-in_err-with_tails-clause-does g t c =
+    let k = rw (c.number_at_once.ensures.none c.if-number_at_once.false) at c.in_ok-value.ensures.does in
+    let rest = rw c.deref-2.ensures.value at c.in_err-with_tails.ensures.does in
+    rw (residual_is _ _ c.from_residual-in_err-with_tails.ensures, expr_is c.args.e.now) (evaluates_then _ k (evaluates_refused _ rest))
+
+pub value-returns-clause-does : goal.value-returns-clause-does
+value-returns-clause-does g t c =
+    let k = rw (c.number_at_once.ensures.none c.if-number_at_once.false) at c.in_ok-value.ensures.does in
+    let rest = rw c.deref-2.ensures.value at c.in_ok-with_tails.ensures.does in
     rw (expr_is c.args.e.now) (evaluates_then _ k (evaluates_seen tt _ refl rest))
 
 pub with_tails-loop-tail-init : goal.with_tails-loop-tail-init

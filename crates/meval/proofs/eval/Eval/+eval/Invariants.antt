@@ -1,12 +1,14 @@
 -- SPDX-License-Identifier: Apache-2.0
 use Rattle.std.proofs.Common.{◌≤◌, ◌+◌, ◌*◌, [], map, drop, Result, List}
 use Rattle.mspec.specs.Act.{Text}
+use Rattle.mspec.specs.NumberText.{number_text}
+use Rattle.mnum.specs.Num.{units}
 use Rattle.mmeaning.specs.Expression as meaning
 use Rattle.mgrammar.specs.Grammar.{tails_of, exprs_of, choices_of}
 use Rattle.mtree.specs.Tree.{expr_tree, tail_tree, choice_tree}
 use Rattle.moperator.specs.declared.code.Code.{Code}
 use Rattle.meval.specs.declared.eval.Eval.{Eval}
-use Rattle.meval.specs.Evaluates.{Evaluates, KeepsEval}
+use Rattle.meval.specs.Evaluates.{Evaluates, KeepsEval, Leads}
 use Rattle.meval.proofs.eval.Eval.+eval.Given as goal
 
 -- Steps fall in number at `primary` alone, which charges one before it goes on; each other call leads to a lower rank.
@@ -26,59 +28,74 @@ decreases-tail g l = 16 * l.self.now.steps + 2
 abbrev pub decreases-with_tails : goal.decreases-with_tails
 decreases-with_tails g l = 16 * l.self.now.steps + 3
 
+abbrev pub decreases-other_number : goal.decreases-other_number
+decreases-other_number g l = 16 * l.self.now.steps + 2
+
+abbrev pub decreases-operand_number : goal.decreases-operand_number
+decreases-operand_number g l = 16 * l.self.now.steps + 3
+
+abbrev pub decreases-chain : goal.decreases-chain
+decreases-chain g l = 16 * l.self.now.steps + 4
+
+abbrev pub decreases-with_number : goal.decreases-with_number
+decreases-with_number g l = 16 * l.self.now.steps + 5
+
+abbrev pub decreases-expression_number : goal.decreases-expression_number
+decreases-expression_number g l = 16 * l.self.now.steps + 7
+
 abbrev pub decreases-value : goal.decreases-value
-decreases-value g l = 16 * l.self.now.steps + 4
+decreases-value g l = 16 * l.self.now.steps + 6
 
 abbrev pub decreases-values : goal.decreases-values
-decreases-values g l = 16 * l.self.now.steps + 5
+decreases-values g l = 16 * l.self.now.steps + 7
 
 abbrev pub decreases-chosen : goal.decreases-chosen
-decreases-chosen g l = 16 * l.self.now.steps + 5
+decreases-chosen g l = 16 * l.self.now.steps + 7
 
 abbrev pub decreases-called : goal.decreases-called
-decreases-called g l = 16 * l.self.now.steps + 6
+decreases-called g l = 16 * l.self.now.steps + 8
 
 abbrev pub decreases-extended : goal.decreases-extended
-decreases-extended g l = 16 * l.self.now.steps + 6
+decreases-extended g l = 16 * l.self.now.steps + 8
 
 abbrev pub decreases-direction : goal.decreases-direction
-decreases-direction g l = 16 * l.self.now.steps + 6
+decreases-direction g l = 16 * l.self.now.steps + 8
 
 abbrev pub decreases-evaluated : goal.decreases-evaluated
-decreases-evaluated g l = 16 * l.self.now.steps + 7
+decreases-evaluated g l = 16 * l.self.now.steps + 9
 
 abbrev pub decreases-order_behind : goal.decreases-order_behind
-decreases-order_behind g l = 16 * l.self.now.steps + 7
+decreases-order_behind g l = 16 * l.self.now.steps + 9
 
 abbrev pub decreases-order_of_node : goal.decreases-order_of_node
-decreases-order_of_node g l = 16 * l.self.now.steps + 8
+decreases-order_of_node g l = 16 * l.self.now.steps + 10
 
 abbrev pub decreases-order_of_place : goal.decreases-order_of_place
-decreases-order_of_place g l = 16 * l.self.now.steps + 8
+decreases-order_of_place g l = 16 * l.self.now.steps + 10
 
 abbrev pub decreases-data_of : goal.decreases-data_of
-decreases-data_of g l = 16 * l.self.now.steps + 8
+decreases-data_of g l = 16 * l.self.now.steps + 10
 
 abbrev pub decreases-get_of : goal.decreases-get_of
-decreases-get_of g l = 16 * l.self.now.steps + 8
+decreases-get_of g l = 16 * l.self.now.steps + 10
 
 abbrev pub decreases-order_of : goal.decreases-order_of
-decreases-order_of g l = 16 * l.self.now.steps + 9
+decreases-order_of g l = 16 * l.self.now.steps + 11
 
 abbrev pub decreases-place_value : goal.decreases-place_value
-decreases-place_value g l = 16 * l.self.now.steps + 8
+decreases-place_value g l = 16 * l.self.now.steps + 10
 
 abbrev pub decreases-node_value : goal.decreases-node_value
-decreases-node_value g l = 16 * l.self.now.steps + 5
+decreases-node_value g l = 16 * l.self.now.steps + 7
 
 abbrev pub decreases-variable : goal.decreases-variable
-decreases-variable g l = 16 * l.self.now.steps + 9
+decreases-variable g l = 16 * l.self.now.steps + 11
 
 abbrev pub decreases-through : goal.decreases-through
-decreases-through g l = 16 * l.self.now.steps + 9
+decreases-through g l = 16 * l.self.now.steps + 11
 
 abbrev pub decreases-referring : goal.decreases-referring
-decreases-referring g l = 16 * l.self.now.steps + 10
+decreases-referring g l = 16 * l.self.now.steps + 12
 
 abbrev pub invariant-chosen-loop-choice : goal.invariant-chosen-loop-choice
 invariant-chosen-loop-choice g l = record {
@@ -102,4 +119,11 @@ invariant-values-loop-e g l = record {
   fewer : l.self.steps ≤ l.fn.self.steps;
   leads : (r : Result (List Text) Code) (e : Eval _) → Evaluates g.S.NodeStore (λ a. meaning.values a l.values.items (exprs_of (map expr_tree (drop l.e-index l.exprs)))) (λ (v : List Text). v) l.self r e
       → Evaluates g.S.NodeStore (λ a. meaning.values a [] (exprs_of (map expr_tree l.exprs))) (λ (v : List Text). v) l.fn.self r e;
+}
+
+abbrev pub invariant-chain-loop-i : goal.invariant-chain-loop-i
+invariant-chain-loop-i g l = record {
+  loans : KeepsEval l.fn.self l.self;
+  fewer : l.self.steps ≤ l.fn.self.steps;
+  leads : Leads g.S.NodeStore (λ a. meaning.tails_value a (number_text (units l.fn.left)) (tails_of (map tail_tree l.tails))) l.fn.self (λ a. meaning.tails_value a (number_text (units l.left)) (tails_of (map tail_tree (drop l.i l.tails)))) l.self;
 }

@@ -1,9 +1,11 @@
 -- SPDX-License-Identifier: Apache-2.0
-use Rattle.meval.proofs.Calls.{evaluates_then, evaluates_stopped, evaluates_yielded}
+use Rattle.std.proofs.Common.{refl}
+use Rattle.mmeaning.proofs.Calls.{residual_is}
+use Rattle.meval.proofs.Calls.{evaluates_seen, evaluates_refused}
 use Rattle.meval.proofs.eval.Eval.number.Goals as goal
 
-pub returns-in_err-value-clause-does : goal.returns-in_err-value-clause-does
-returns-in_err-value-clause-does g c = evaluates_stopped _ c.in_err-value.ensures.does c.from_residual.ensures
+pub returns-in_err-expression_number-clause-does : goal.returns-in_err-expression_number-clause-does
+returns-in_err-expression_number-clause-does g c = rw (residual_is _ _ c.from_residual.ensures) (evaluates_refused _ c.in_err-expression_number.ensures.does)
 
 pub returns-clause-does : goal.returns-clause-does
-returns-clause-does g c = evaluates_then _ c.in_ok-value.ensures.does (evaluates_yielded c.number_of.ensures.number)
+returns-clause-does g c = evaluates_seen c.in_ok-expression_number.field-0 _ refl c.in_ok-expression_number.ensures.does

@@ -1,5 +1,7 @@
 // SPDX-License-Identifier: Apache-2.0
 // A store that notes which of its calls were made, in front of any other.
+ghost use Rattle.std.specs.Prelude.{◌≡◌};
+
 use sqlite_trees::error::StoreError;
 use sqlite_trees::schema::Object;
 use sqlite_trees::store::{Alter, Direction, Shape, Store};
@@ -75,7 +77,9 @@ pub(crate) struct Traced<S> {
 
 impl<S> Traced<S> {
     /// The store, whose calls are noted as bits of this number.
-    pub(crate) fn new(inner: S, calls: Rc<Cell<u32>>) -> Traced<S> {
+    pub(crate) fn new(inner: S, calls: Rc<Cell<u32>>) -> Traced<S>
+        ensures { result.inner ≡ inner }
+    {
         Traced { inner, calls }
     }
 

@@ -11,6 +11,7 @@ from collections.abc import Callable, Iterable, Iterator
 from pathlib import Path
 
 import aiohttp
+import database
 import pytest
 from database import Cluster
 from front import FRONT, PASSWORD, Record, in_loop, toml, tool
@@ -41,6 +42,7 @@ class Pair(Cluster):
 @pytest.fixture(scope="module")
 def cluster() -> Iterator[Pair]:
     """The database of this file's tests."""
+    database.required()
     made = Pair()
     yield made
     made.remove()

@@ -16,7 +16,7 @@ mod numbers;
 mod stores;
 mod texts;
 
-use crate::measuring::{Page, Plan};
+use crate::measuring::Plan;
 use mtranscript::play;
 
 /// The names of the pages, in their order.
@@ -30,7 +30,12 @@ pub const PAGES: [&str; 8] = [
 ///
 /// If a case is no page, and out of memory.
 pub fn checksums(rt: &HostRuntime, cases: &[&str], out: &mut Vec<u8>) -> anyhow::Result<()> {
-    play(cases, out, |name, out| add_page(rt, 1000, false, name, out))
+    let plan = Plan {
+        rounds: 1000,
+        passes: 5,
+        timed: false,
+    };
+    play(cases, out, |page, out| calls(rt, plan, page, out))
 }
 
 /// Times the calls of a page, so many rounds of each in each of five passes, of which the fastest counts.
@@ -38,44 +43,25 @@ pub fn checksums(rt: &HostRuntime, cases: &[&str], out: &mut Vec<u8>) -> anyhow:
 /// # Errors
 ///
 /// If there is no such page, and out of memory.
-pub fn times(rt: &HostRuntime, rounds: usize, name: &str, out: &mut Vec<u8>) -> anyhow::Result<()> {
-    add_page(rt, rounds, true, name, out)
-}
-
-// Adds a page, in whose calls so many rounds are made in a pass.
-fn add_page(
-    rt: &HostRuntime,
-    rounds: usize,
-    timed: bool,
-    name: &str,
-    out: &mut Vec<u8>,
-) -> anyhow::Result<()> {
+pub fn times(rt: &HostRuntime, rounds: usize, page: &str, out: &mut Vec<u8>) -> anyhow::Result<()> {
     let plan = Plan {
         rounds,
         passes: 5,
-        timed,
-        bytes: None,
+        timed: true,
     };
-    let mut page = Page {
-        rt,
-        plan,
-        out: Vec::new(rt.alloc()),
-    };
-    calls(&mut page, name)?;
-    out.extend_from_slice(&page.out)?;
-    Ok(())
+    calls(rt, plan, page, out)
 }
 
-fn calls(page: &mut Page, name: &str) -> anyhow::Result<()> {
-    match name {
-        "numbers" => numbers::numbers(page),
-        "texts" => texts::texts(page),
-        "keys" => keys::keys_and_orders(page),
-        "locals" => locals::locals(page),
-        "stores" => stores::stores(page),
-        "cached" => cached::cached(page),
-        "grants" => grants::grants(page),
-        "locks" => locks::locks(page),
+fn calls(rt: &HostRuntime, plan: Plan, page: &str, out: &mut Vec<u8>) -> anyhow::Result<()> {
+    match page {
+        "numbers" => numbers::numbers(rt, plan, out),
+        "texts" => texts::texts(rt, plan, out),
+        "keys" => keys::keys_and_orders(rt, plan, out),
+        "locals" => locals::locals(rt, plan, out),
+        "stores" => stores::stores(rt, plan, out),
+        "cached" => cached::cached(rt, plan, out),
+        "grants" => grants::grants(rt, plan, out),
+        "locks" => locks::locks(rt, plan, out),
         _ => anyhow::bail!("no such page"),
     }
 }

@@ -1,18 +1,13 @@
 -- SPDX-License-Identifier: Apache-2.0
 -- Texts that are kept, behind calls of the store.
-use Rattle.std.proofs.Common.{◌≡◌, ◌≢◌, ◌≤◌, ℕ, Bool, true, false, cond, not, List, length, All, Some, None, Contains, nat_eq, refl, sym, ap, ◌∙◌, subst, inl, inr, Ordering}
-use Rattle.std.proofs.lemmas.Bool.{false_from_ne_true}
+use Rattle.mcache.proofs.CacheWords.{◌≡◌, ◌≢◌, ◌≤◌, ℕ, Bool, true, false, cond, not, List, length, All, Some, None, Contains, nat_eq, refl, sym, ap, ◌∙◌, subst, inl, inr, Ordering, false_from_ne_true, All-filter, FinMap, get, insert, entries, retain_keys, entries-insert, entries_sorted, from_sorted, entries-from_sorted, get-entries, get-from_sorted, get-insert, same_map, IsAntisymmetric, starts_with, Text, Node, IsHeld, AreHeld, IsKeptAt, IsIn, IsInOr, AreOf}
 use Rattle.mstore.proofs.Holding.{put_held}
-use Rattle.std.proofs.lemmas.List.Elements.{All-filter}
 use Rattle.std.proofs.lemmas.Cmp.{eq_by_cmp_equiv}
 use Rattle.std.specs.Cmp.{IsTotalOrder}
-use Rattle.std.specs.FinMap.{FinMap, get, insert, entries, retain_keys, entries-insert, entries_sorted, from_sorted, entries-from_sorted, get-entries, get-from_sorted, get-insert, same_map, IsAntisymmetric}
 use Rattle.std.specs.FinMap.Entries.{where_key, is_sorted-where_key, find-where_key}
-use Rattle.std.specs.List.{starts_with}
 use Rattle.std.specs.Ordering.{eq_by_cmp}
 use Rattle.mspec.specs.Globals.{Globals, is_node_within, without_subtree}
 use Rattle.mspec.specs.KeyBytes.{key_bytes, IsStored}
-use Rattle.mspec.specs.Node.{Text, Node}
 use Rattle.mspec.specs.NodeOrder.{node_cmp}
 use Rattle.mspec.specs.Number.{significant_digits}
 use Rattle.mspec.specs.TextFunctions.{longest_text}
@@ -20,8 +15,7 @@ use Rattle.mspec.proofs.MapCuts.{get_cut, equal_of}
 use Rattle.mspec.proofs.NodeOrders.{node_cmp_total, node_cmp_exact}
 use Rattle.mkey.specs.Key.{none_empty, one_node}
 use Rattle.mkey.proofs.NodeFronts.{starts_node}
-use Rattle.mstore.specs.Held.{IsHeld, AreHeld}
-use Rattle.mcache.specs.NodeTexts.{Entry, IsKeptAt, IsIn, IsInOr, AreOf}
+use Rattle.mcache.specs.NodeTexts.{Entry}
 
 abbrev order : Node → Node → Ordering
 order = node_cmp significant_digits

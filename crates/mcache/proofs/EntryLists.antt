@@ -1,18 +1,9 @@
 -- SPDX-License-Identifier: Apache-2.0
 -- What the calls of a map leave of the texts that are kept.
-use Rattle.std.proofs.Common.{◌≡◌, ◌≢◌, ◌⊎◌, ℕ, ◌+◌, ◌<◌, length, slice_index_or, Bool, true, false, List, [], ◌∷◌, ◌++◌, Option, Some, Vec, Contains, Result, Ok, Err, IfOk, IfSome, nat_eq, refl, sym, ap, ◌∙◌, subst, inl, inr, Global}
-use Rattle.std.proofs.lemmas.Bool.{false_from_ne_true}
-use Rattle.std.proofs.lemmas.List.Elements.{Contains-push, Contains-append_left}
+use Rattle.mcache.proofs.CacheWords.{◌≡◌, ◌≢◌, ◌⊎◌, ℕ, ◌+◌, ◌<◌, length, slice_index_or, Bool, true, false, List, [], ◌∷◌, ◌++◌, Option, Some, Vec, Contains, Result, Ok, Err, IfOk, IfSome, nat_eq, refl, sym, ap, ◌∙◌, subst, inl, inr, Global, false_from_ne_true, Contains-push, Contains-append_left, pointwise, same_text, bytes_decides, IsDistinct, AllByRecursion, starts_with, keys_of, lookup, remove_entry, result_ok, LruCache, promoted, put_entries, Contains-lookup, Contains-promoted, Contains-put_entries, Contains-remove_entry, Text, IsAt, IsKeptAt, IsIn, IsInOr, IsAmong, AreKeysOf}
 use borrow.Author.Count.{below_more}
-use Rattle.std.specs.Cmp.Lexicographic.{pointwise, same_text, bytes_decides}
-use Rattle.std.specs.List.{IsDistinct, AllByRecursion, starts_with}
-use Rattle.std.specs.Map.{keys_of, lookup, remove_entry}
-use Rattle.std.specs.Result.{result_ok}
-use Rattle.lru.specs.LruCache.{LruCache, promoted, put_entries}
-use Rattle.lru.proofs.CallerLemmas.{Contains-lookup, Contains-promoted, Contains-put_entries, Contains-remove_entry}
 use Rattle.lru.proofs.Splits.{Contains-cons, Contains-nil}
-use Rattle.mspec.specs.Node.{Text}
-use Rattle.mcache.specs.NodeTexts.{Entry, IsAt, IsKeptAt, IsIn, IsInOr, IsAmong, AreKeysOf}
+use Rattle.mcache.specs.NodeTexts.{Entry}
 
 abbrev is_at : List ℕ → Vec ℕ Global → Bool
 is_at bytes k = pointwise nat_eq bytes k.items

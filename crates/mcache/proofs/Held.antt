@@ -1,13 +1,9 @@
 -- SPDX-License-Identifier: Apache-2.0
 -- A tree that is kept beside the others.
-use Rattle.std.proofs.Common.{◌≡◌, ◌<◌, ◌≤◌, ◌+◌, ◌∙◌, ℕ, List, length, Some, ap, sym, inl, inr, arith}
-use Rattle.mgrammar.specs.Reading.{line_at}
-use Rattle.mgrammar.specs.RoutineLine.{routine_line_at}
-use Rattle.mspec.specs.Node.{Text}
+use Rattle.mcache.proofs.CacheWords.{◌≡◌, ◌<◌, ◌≤◌, ◌+◌, ◌∙◌, ℕ, List, length, Some, ap, sym, inl, inr, arith, line_at, routine_line_at, Text, line_tree, routine_line_tree, IsWithin, IsWithinOr, AreTrees}
 use Rattle.mtree.specs.declared.tree.Line.{Line}
 use Rattle.mtree.specs.declared.tree.RoutineLine.{RoutineLine}
-use Rattle.mtree.specs.Tree.{line_tree, routine_line_tree}
-use Rattle.mcache.specs.Kept.{Entry, IsWithin, IsWithinOr, AreTrees}
+use Rattle.mcache.specs.Kept.{Entry}
 
 module _ {n : ℕ} {lines : List (Entry Line)} {routine_lines : List (Entry RoutineLine)} (were : AreTrees n lines routine_lines) (text : Text) where
   -- behind a look-up, the making of room, and the keeping

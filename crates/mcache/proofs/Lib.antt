@@ -1,4 +1,5 @@
 -- SPDX-License-Identifier: Apache-2.0
+mod CacheWords
 mod EntriesOf
 mod EntryLists
 mod Held

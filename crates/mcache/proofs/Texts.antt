@@ -1,10 +1,8 @@
 -- SPDX-License-Identifier: Apache-2.0
 -- A text by what the parser says of its tree.
-use Rattle.std.proofs.Common.{◌≡◌, ◌∙◌, List, ℕ, Option, Some, None, Result, Err, refl, sym, ap}
+use Rattle.mcache.proofs.CacheWords.{◌≡◌, ◌∙◌, List, ℕ, Option, Some, None, Result, Err, refl, sym, ap, line_at, RoutineLineTree, spell_routine_line, well_routine_line, routine_line_at}
 use Rattle.mgrammar.specs.Grammar.{LineTree, spell}
 use Rattle.mgrammar.specs.WellFormed.{well}
-use Rattle.mgrammar.specs.Reading.{line_at}
-use Rattle.mgrammar.specs.RoutineLine.{RoutineLineTree, spell_routine_line, well_routine_line, routine_line_at}
 use Rattle.mgrammar.proofs.ReadingLines as lines
 use Rattle.mgrammar.proofs.ReadingRoutines as routines
 

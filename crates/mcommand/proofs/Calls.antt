@@ -1,27 +1,11 @@
 -- SPDX-License-Identifier: Apache-2.0
 -- How the calls of this crate are put together.
-use Rattle.std.proofs.Common.{◌≡◌, Bool, true, false, cond, List, [], ◌∷◌, ◌++◌, Result, Ok, Err, refl, sym, ap, ◌∙◌, subst, arith}
-use Rattle.std.specs.Result.{IsErr, IsErrAnd}
+use Rattle.mcommand.proofs.CommandWords.{◌≡◌, Bool, true, false, cond, List, [], ◌∷◌, ◌++◌, Result, Ok, Err, refl, sym, ap, ◌∙◌, subst, arith, IsErr, IsErrAnd, into_iter_items, into_iter_steps, Text, Act, Gives, ◌>>=◌, give, write, ExprTree, as_truth, Inside, inside, value, Yields, did_then, did_failed, did_gives, did_lost, residual_is, assoc, Ghosts, fault_of, Code, Zmem, truth, Evaluates, KeepsEval, standing_of, eval_here, inside_at, depth_of, Parts, Does, DoesAt, KeepsLoans, here_of}
 use Rattle.std.specs.Iterator.{Yields as IterYields}
-use Rattle.std.specs.Vec.Iter.{into_iter_items, into_iter_steps}
 use Rattle.std.specs.declared.vec.IntoIter.{IntoIter}
-use Rattle.mspec.specs.Act.{Text, Act, Gives, ◌>>=◌, give, write}
-use Rattle.mgrammar.specs.Grammar.{ExprTree}
-use Rattle.mmeaning.specs.Operators.{as_truth}
-use Rattle.mmeaning.specs.Expression.{Inside, inside, value}
-use Rattle.mmeaning.specs.Yields.{Yields}
-use Rattle.mmeaning.proofs.Calls.{did_then, did_failed, did_gives, did_lost, residual_is, assoc}
 use Rattle.mmeaning.proofs.Yieldings.{yielded}
-use Rattle.mstore.specs.declared.store.NodeStore.{Ghosts}
-use Rattle.moperator.specs.Codes.{fault_of}
-use Rattle.moperator.specs.declared.code.Code.{Code}
-use Rattle.moperator.specs.declared.code.Code.TheVariants.{Zmem}
 use Rattle.meval.specs.declared.eval.Eval.{Eval}
-use Rattle.meval.specs.Acts.{truth}
-use Rattle.meval.specs.Evaluates.{Evaluates, KeepsEval, standing_of, eval_here, inside_at, depth_of}
 use Rattle.meval.proofs.Calls.{moved, keeps_itself as eval_keeps_itself, keeps_on as eval_keeps_on}
-use Rattle.mcommand.specs.declared.parts.Parts.{Parts}
-use Rattle.mcommand.specs.Does.{Does, DoesAt, KeepsLoans, here_of}
 
 pub does_then : {S A B X Y : Type 0} {g : Ghosts S} {p : Inside → Act A} (q : Inside → A → Act B) {f : X → A} {j : Y → B} {old mid new : Parts S} {x : X} {r : Result Y Code}
     → Does g p f old (Ok x) mid → Does g (λ i. q i (f x)) j mid r new → Does g (λ i. p i >>= q i) j old r new

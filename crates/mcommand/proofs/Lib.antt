@@ -1,4 +1,5 @@
 -- SPDX-License-Identifier: Apache-2.0
+mod CommandWords
 pub mod Calls
 pub mod Targets
 pub mod Sums

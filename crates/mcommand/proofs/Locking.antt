@@ -1,31 +1,14 @@
 -- SPDX-License-Identifier: Apache-2.0
 -- What LOCK asks of the locks.
-use Rattle.std.proofs.Common.{◌≡◌, ℕ, ◌+◌, ◌<◌, Bool, true, false, List, [], ◌∷◌, ◌++◌, Option, Some, None, MutBor, Result, Ok, Err, length, drop, get_or, map, refl, sym, ap, ◌∙◌, subst}
-use Rattle.std.specs.Prelude.{if◌then◌else◌, ◌&&◌}
+use Rattle.mcommand.proofs.CommandWords.{◌≡◌, ℕ, ◌+◌, ◌<◌, Bool, true, false, List, [], ◌∷◌, ◌++◌, Option, Some, None, MutBor, Result, Ok, Err, length, drop, get_or, map, refl, sym, ap, ◌∙◌, subst, if◌then◌else◌, ◌&&◌, IsErr, IsErrAnd, Op, Answer, Take, Give_back, Release, Text, Act, ◌>>=◌, ◌>>◌, give, ask, next_item, ReferenceTree, named_lock, Inside, evaluated, asked, assoc, reference_tree, Ghosts, Code, lock_name_act, standing_of, Parts, Does, here_of, MayTake}
 use Rattle.std.specs.List.{list_all}
-use Rattle.std.specs.Result.{IsErr, IsErrAnd}
 use Rattle.std.proofs.lemmas.List.Folds.{list_all-append}
 use Rattle.mspec.specs.LockConflict.{LockName, Locks, taken, given_back, released}
-use Rattle.mspec.specs.Plan.{Op, Answer, Take, Give_back, Release}
-use Rattle.mspec.specs.Act.{Text, Act, ◌>>=◌, ◌>>◌, give, ask}
-use Rattle.mspec.proofs.ListPlaces.{next_item}
 use Rattle.mmeaning.specs.Shared.{Shared, may_lock, took}
-use Rattle.mgrammar.specs.Grammar.{ReferenceTree}
-use Rattle.mmeaning.specs.Variables.{named_lock}
-use Rattle.mmeaning.specs.Expression.{Inside, evaluated}
 use Rattle.mmeaning.specs.Locking as meaning
 use Rattle.mmeaning.specs.Calls.{Standing, ops_of}
-use Rattle.mmeaning.proofs.Calls.{asked, assoc}
 use Rattle.mmeaning.proofs.LockMoves.{take_open}
-use Rattle.mtree.specs.Tree.{reference_tree}
 use Rattle.mtree.specs.declared.tree.Reference.{Reference}
-use Rattle.mstore.specs.declared.store.NodeStore.{Ghosts}
-use Rattle.moperator.specs.declared.code.Code.{Code}
-use Rattle.meval.specs.Acts.{lock_name_act}
-use Rattle.meval.specs.Evaluates.{standing_of}
-use Rattle.mcommand.specs.declared.parts.Parts.{Parts}
-use Rattle.mcommand.specs.Does.{Does, here_of}
-use Rattle.mcommand.specs.LockNames.{MayTake}
 use Rattle.mcommand.proofs.Calls.{does_then, does_failed, does_is}
 
 -- ---- names that may be taken

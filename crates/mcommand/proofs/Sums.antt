@@ -1,8 +1,8 @@
 -- SPDX-License-Identifier: Apache-2.0
 -- Sums of the machine's numbers.
-use Rattle.std.proofs.Common.{◌≡◌, ℤ, Some, None, Result, Ok, Err, sym, MatchResult}
+use Rattle.mcommand.proofs.CommandWords.{◌≡◌, Some, None, Result, Ok, Err, sym, MatchResult, units}
+use Rattle.std.proofs.Common.{ℤ}
 use Rattle.mspec.specs.Number.{sum_of}
-use Rattle.mnum.specs.Num.{units}
 use Rattle.mnum.specs.declared.num.Num.{Num}
 use Rattle.mnum.specs.declared.num.Over.{Over}
 use Rattle.moperator.specs.Outcomes.{outcome_units}

@@ -1,34 +1,14 @@
 -- SPDX-License-Identifier: Apache-2.0
 -- Targets of SET.
-use Rattle.std.proofs.Common.{◌≡◌, ℕ, ◌+◌, ◌<◌, List, [], ◌∷◌, ◌++◌, Option, Result, Ok, Err, length, drop, get_or, map, refl, sym, subst}
+use Rattle.mcommand.proofs.CommandWords.{◌≡◌, ℕ, ◌+◌, ◌<◌, List, [], ◌∷◌, ◌++◌, Option, Result, Ok, Err, length, drop, get_or, map, refl, sym, subst, IsErr, IsErrAnd, set_piece_of, Text, Act, ◌>>=◌, ◌>>◌, give, next_item, TargetTree, ExprTree, one, several, variable, local, exprs, no_exprs, outcome, Evaluated, Place, at_local, of_local, read_or, put_at, value, values, evaluated, Yields, Answers, target_tree, Ghosts, fault_of, Code, Zmem, put_act, Parts, Prepared, Does, prepared_view}
 use Rattle.std.specs.Prelude.{ℤ}
-use Rattle.std.specs.Result.{IsErr, IsErrAnd}
 use Rattle.mspec.specs.Code as spec
-use Rattle.mspec.specs.TextFunctions.{set_piece_of}
-use Rattle.mspec.specs.Act.{Text, Act, ◌>>=◌, ◌>>◌, give}
-use Rattle.mspec.proofs.ListPlaces.{next_item}
-use Rattle.mgrammar.specs.Grammar.{TargetTree, ExprTree, one, several, variable, local, exprs, no_exprs}
-use Rattle.mmeaning.specs.Operators.{outcome}
 use Rattle.mmeaning.specs.Functions.{as_whole_or_none}
-use Rattle.mmeaning.specs.Variables.{Evaluated, Place, at_local, of_local, read_or, put_at}
-use Rattle.mmeaning.specs.Expression.{value, values, evaluated}
 use Rattle.mmeaning.specs.LineMeaning as meaning
-use Rattle.mmeaning.specs.Yields.{Yields}
-use Rattle.mtext.specs.Made.{Answers}
 use Rattle.mtext.specs.declared.fault.TextFault.{TextFault}
 use Rattle.mtext.specs.declared.fault.TextFault.TheVariants as fault
-use Rattle.mtree.specs.Tree.{target_tree}
 use Rattle.mtree.specs.declared.tree.Target.{Target}
-use Rattle.mstore.specs.declared.store.NodeStore.{Ghosts}
-use Rattle.moperator.specs.Codes.{fault_of}
 use Rattle.moperator.specs.Faults.{fault_code}
-use Rattle.moperator.specs.declared.code.Code.{Code}
-use Rattle.moperator.specs.declared.code.Code.TheVariants.{Zmem}
-use Rattle.meval.specs.Acts.{put_act}
-use Rattle.mcommand.specs.declared.parts.Parts.{Parts}
-use Rattle.mcommand.specs.declared.set.Prepared.{Prepared}
-use Rattle.mcommand.specs.Does.{Does}
-use Rattle.mcommand.specs.Prepared.{prepared_view}
 use Rattle.mcommand.proofs.Calls.{does_then, does_failed, does_stopped, does_yielded, does_gives, does_wanting}
 
 -- a piece, once its place is a number

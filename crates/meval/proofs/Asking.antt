@@ -1,35 +1,17 @@
 -- SPDX-License-Identifier: Apache-2.0
 -- Calls that ask a store, and those that ask or set the session.
-use Rattle.std.proofs.Common.{◌≡◌, Bool, true, false, List, [], ◌∷◌, Option, Some, Result, Ok, Err, refl, sym, ap, ◌∙◌, subst, arith, ⊎_elim}
-use Rattle.std.specs.Prelude.{◌&&◌}
+use Rattle.meval.proofs.EvalWords.{◌≡◌, Bool, [], ◌∷◌, Some, Result, Ok, Err, refl, sym, ap, ◌∙◌, subst, arith, ⊎_elim, ◌&&◌, text_eq, false≢true, and_parts, and_from, or_cases, or_left, or_right, Own, Zgrant, Node, AreSubscripts, is_account_name, are_subscripts, Locks, Act, ◌>>◌, give, ask, unless, naked_is, set_naked, subscripts_test, Standing, Did, ops_of, Yields, Place, at_local, at_node, replaced, beside, allowed, node_place, resolve, of_local, asked, Ghosts, fault_of, Code, Eval, Evaluates, standing_of, eval_here, use_of, IsOpen}
+use Rattle.std.proofs.Common.{true, false, List, Option}
 use Rattle.std.specs.List.{list_any}
-use Rattle.mspec.specs.Trees.{text_eq}
-use Rattle.std.proofs.lemmas.Bool.{false≢true, and_parts, and_from, or_cases, or_left, or_right}
 use Rattle.mspec.specs.Code as spec
-use Rattle.mspec.specs.Code.{Own, Zgrant}
 use Rattle.mspec.specs.Access.{Mode, Read, Write, Grant, allows, lets, may}
-use Rattle.mspec.specs.Node.{Text, Node}
-use Rattle.mspec.specs.KeyBytes.{AreSubscripts}
-use Rattle.mspec.specs.Subscripts.{is_account_name, are_subscripts}
-use Rattle.mspec.specs.LockConflict.{Locks}
+use Rattle.mspec.specs.Node.{Text}
 use Rattle.mspec.specs.Plan.{Op, Answer, May}
-use Rattle.mspec.specs.Act.{Act, ◌>>◌, give, ask, unless, naked_is, set_naked}
-use Rattle.mspec.proofs.SubscriptTests.{subscripts_test}
 use Rattle.mgrant.specs.declared.mode.Mode as grant
 use Rattle.mgrant.specs.declared.mode.Mode.TheVariants as mode
 use Rattle.mgrant.specs.Placed as placed
 use Rattle.mmeaning.specs.Shared.{Shared}
-use Rattle.mmeaning.specs.Calls.{Standing, Did, ops_of}
-use Rattle.mmeaning.specs.Yields.{Yields}
-use Rattle.mmeaning.specs.Variables.{Place, at_local, at_node, replaced, beside, allowed, node_place, resolve, of_local}
-use Rattle.mmeaning.proofs.Calls.{asked}
-use Rattle.mstore.specs.declared.store.NodeStore.{Ghosts}
-use Rattle.moperator.specs.Codes.{fault_of}
-use Rattle.moperator.specs.declared.code.Code.{Code}
 use Rattle.moperator.specs.declared.code.Code.TheVariants as code
-use Rattle.meval.specs.declared.eval.Eval.{Eval}
-use Rattle.meval.specs.Evaluates.{Evaluates, standing_of, eval_here}
-use Rattle.meval.specs.Places.{use_of, IsOpen}
 use Rattle.meval.proofs.Calls.{evaluates_then, evaluates_gives, evaluates_fails, evaluates_yielded}
 
 -- ---- operations

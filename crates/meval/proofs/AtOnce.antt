@@ -1,30 +1,10 @@
 -- SPDX-License-Identifier: Apache-2.0
 -- Operands that stand for a number without more, and nodes of local variables by one subscript.
-use Rattle.std.proofs.Common.{◌≡◌, true, List, [], ◌∷◌, Option, None, Some, Result, Ok, Err, refl, sym, subst}
-use Rattle.std.specs.Prelude.{slice_get}
+use Rattle.meval.proofs.EvalWords.{◌≡◌, [], ◌∷◌, None, Some, Result, Ok, Err, refl, sym, subst, slice_get, IsErr, IsErrAnd, Direction, M6, are_subscripts, significant_digits, numeric_value, number_text, Act, ◌>>=◌, ◌>>◌, charge, get_local, give, give_some, unless, value_of, ExprTree, ExprsTree, PrimaryTree, number, text, special, reference, bracket, call, select, refer, ReferenceTree, local, global, naked, indirect, extended, no_exprs, exprs, as_text, Inside, value, values, evaluated, primary_value, Evaluated, Place, ordering, of_local, at_local, checked, resolve, direction_of, next_at, Yields, assoc, units, Num, Ghosts, fault_of, Code, Eval, Evaluates, direction_act, order_from, order_behind}
+use Rattle.std.proofs.Common.{true, List, Option}
 use Rattle.std.specs.Option.{IfSome}
-use Rattle.std.specs.Result.{IsErr, IsErrAnd}
-use Rattle.mspec.specs.Trees.{Direction}
 use Rattle.mspec.specs.Code as spec
-use Rattle.mspec.specs.Code.{M6}
-use Rattle.mspec.specs.Subscripts.{are_subscripts}
-use Rattle.mspec.specs.Number.{significant_digits}
-use Rattle.mspec.specs.NumberText.{numeric_value, number_text}
-use Rattle.mspec.specs.Act.{Text, Act, ◌>>=◌, ◌>>◌, charge, get_local, give, give_some, unless, value_of}
-use Rattle.mgrammar.specs.Grammar.{ExprTree, ExprsTree, PrimaryTree, number, text, special, reference, bracket, call, select, refer, ReferenceTree, local, global, naked, indirect, extended, no_exprs, exprs}
-use Rattle.mmeaning.specs.Operators.{as_text}
-use Rattle.mmeaning.specs.Expression.{Inside, value, values, evaluated, primary_value}
-use Rattle.mmeaning.specs.Variables.{Evaluated, Place, ordering, of_local, at_local, checked, resolve, direction_of, next_at}
-use Rattle.mmeaning.specs.Yields.{Yields}
-use Rattle.mmeaning.proofs.Calls.{assoc}
-use Rattle.mnum.specs.Num.{units}
-use Rattle.mnum.specs.declared.num.Num.{Num}
-use Rattle.mstore.specs.declared.store.NodeStore.{Ghosts}
-use Rattle.moperator.specs.Codes.{fault_of}
-use Rattle.moperator.specs.declared.code.Code.{Code}
-use Rattle.meval.specs.declared.eval.Eval.{Eval}
-use Rattle.meval.specs.Evaluates.{Evaluates}
-use Rattle.meval.specs.Acts.{direction_act, order_from, order_behind}
+use Rattle.mspec.specs.Act.{Text}
 use Rattle.meval.specs.Holds.{Holds, VariableHolds}
 use Rattle.meval.proofs.Calls.{evaluates_then, evaluates_failed, evaluates_stopped, evaluates_gives, evaluates_yielded, asks_locals}
 use Rattle.meval.proofs.Asking.{passes}

@@ -1,25 +1,9 @@
 -- SPDX-License-Identifier: Apache-2.0
 -- How the calls of this crate are put together.
-use Rattle.std.proofs.Common.{◌≡◌, ◌≢◌, ℕ, [], Result, Ok, Err, refl, sym, ap, ◌∙◌, subst, arith}
-use Rattle.std.specs.Result.{IsErr, IsErrAnd}
+use Rattle.meval.proofs.EvalWords.{◌≡◌, ◌≢◌, ℕ, [], Result, Ok, Err, refl, sym, ap, ◌∙◌, subst, arith, IsErr, IsErrAnd, Lost, Own, Act, Gives, Fails, ◌>>=◌, Locals, value_of, of_locals, give, fail, give_some, Place, at_local, at_node, read_at, found_at, Inside, inside, Standing, Here, Did, Ends, FailedBy, Yields, did_then, did_failed, did_gives, did_lost, residual_is, yielded, Ghosts, fault_of, Code, Zmem, Zstore, Depth, Eval, undefined_at, Evaluates, KeepsEval, standing_of, eval_here, depth_of}
 use Rattle.std.specs.FinMap.{empty}
 use Rattle.mspec.specs.Code as spec
-use Rattle.mspec.specs.Code.{Lost, Own}
-use Rattle.mspec.specs.Act.{Text, Act, Gives, Fails, ◌>>=◌, Locals, value_of, of_locals, give, fail, give_some}
-use Rattle.mmeaning.specs.Variables.{Place, at_local, at_node, read_at, found_at}
-use Rattle.mmeaning.specs.Expression.{Inside, inside}
-use Rattle.mmeaning.specs.Calls.{Standing, Here, Did, Ends, FailedBy}
-use Rattle.mmeaning.specs.Yields.{Yields}
-use Rattle.mmeaning.proofs.Calls.{did_then, did_failed, did_gives, did_lost, residual_is}
-use Rattle.mmeaning.proofs.Yieldings.{yielded}
-use Rattle.mstore.specs.declared.store.NodeStore.{Ghosts}
-use Rattle.moperator.specs.Codes.{fault_of}
-use Rattle.moperator.specs.declared.code.Code.{Code}
-use Rattle.moperator.specs.declared.code.Code.TheVariants.{Zmem, Zstore}
-use Rattle.meval.specs.declared.depth.Depth.{Depth}
-use Rattle.meval.specs.declared.eval.Eval.{Eval}
-use Rattle.meval.specs.Places.{undefined_at}
-use Rattle.meval.specs.Evaluates.{Evaluates, KeepsEval, standing_of, eval_here, depth_of}
+use Rattle.mspec.specs.Act.{Text}
 
 -- a call that began where another ended, told by where that one began
 pub moved : {A X : Type 0} {b b1 : Standing} {steady : Type 0} {d d1 : Depth} (p : Inside → Act A) {f : X → A} {h h1 : Here} {r : Result X Code} → b1 ≡ b → d1 ≡ d

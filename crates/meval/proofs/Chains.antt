@@ -1,31 +1,13 @@
 -- SPDX-License-Identifier: Apache-2.0
 -- Operators of arithmetic one after another, on a number to the left.
-use Rattle.std.proofs.Common.{◌≡◌, ℕ, ◌+◌, ◌<◌, ◌≤◌, List, [], length, drop, get_or, map, Option, Some, None, Result, Ok, Err, refl, sym, ap, ◌∙◌, subst}
-use Rattle.std.specs.Prelude.{ℤ}
-use Rattle.mspec.specs.Code.{Zover}
-use Rattle.mspec.specs.Number.{significant_digits}
-use Rattle.mspec.specs.NumberText.{numeric_value, number_text}
-use Rattle.mspec.specs.Act.{Text, Act, ◌>>=◌, charge, give, give_some}
-use Rattle.mgrammar.specs.Grammar.{ExprTree, expr, OperandTree, operand, bracket, TailTree, apply, tail, no_tails, tails_of}
-use Rattle.mmeaning.specs.Operators.{as_number, both_numbers, binary}
-use Rattle.mmeaning.specs.Expression.{Inside, value, primary_value, operand_value, tail_value, tails_value}
+use Rattle.meval.proofs.EvalWords.{◌≡◌, ℕ, ◌+◌, ◌<◌, ◌≤◌, [], length, drop, get_or, map, Some, None, Result, Ok, Err, refl, sym, ap, ◌∙◌, subst, ℤ, Zover, significant_digits, numeric_value, number_text, Act, ◌>>=◌, charge, give, give_some, ExprTree, expr, OperandTree, operand, bracket, TailTree, apply, tail, no_tails, tails_of, as_number, both_numbers, binary, Inside, value, primary_value, operand_value, tail_value, tails_value, tail_tree, Tail, Yields, yields_gives, units, Num, Ghosts, fault_of, Code, Eval, Evaluates, Leads, operand_number}
+use Rattle.std.proofs.Common.{List, Option}
+use Rattle.mspec.specs.Act.{Text}
 use Rattle.mmeaning.specs.LineMeaning.{number_of}
-use Rattle.mtree.specs.Tree.{tail_tree}
-use Rattle.mtree.specs.declared.tree.Tail.{Tail}
-use Rattle.mmeaning.specs.Yields.{Yields}
-use Rattle.mmeaning.proofs.Yieldings.{yields_gives}
-use Rattle.mnum.specs.Num.{units}
-use Rattle.mnum.specs.declared.num.Num.{Num}
 use Rattle.mvalue.proofs.Numbers.{number_again}
-use Rattle.mstore.specs.declared.store.NodeStore.{Ghosts}
 use Rattle.moperator.specs.Calculations.{operator_tree, calculated}
-use Rattle.moperator.specs.Codes.{fault_of}
 use Rattle.moperator.specs.declared.arithmetic.Arithmetic.{Arithmetic}
 use Rattle.moperator.specs.declared.arithmetic.Arithmetic.TheVariants.{Add, Subtract, Multiply, Divide, DivideWhole, Remainder}
-use Rattle.moperator.specs.declared.code.Code.{Code}
-use Rattle.meval.specs.declared.eval.Eval.{Eval}
-use Rattle.meval.specs.Evaluates.{Evaluates, Leads}
-use Rattle.meval.specs.Acts.{operand_number}
 use Rattle.meval.proofs.Calls.{evaluates_then, evaluates_failed, evaluates_yielded}
 use Rattle.meval.proofs.AtOnce.{written, regrouped, grouped}
 use Rattle.meval.proofs.Trees.{charge_failed, from_tail, from_end}

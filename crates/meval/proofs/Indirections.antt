@@ -1,29 +1,13 @@
 -- SPDX-License-Identifier: Apache-2.0
 -- Calls of an indirection: subscripts behind those that a reference has already, and what a text names, evaluated an indirection deeper.
-use Rattle.std.proofs.Common.{◌≡◌, suc, ◌<◌, Bool, true, false, List, [], ◌∷◌, ◌++◌, Option, Some, None, Result, Ok, Err, subst, refl, sym, ap, ◌∙◌}
-use Rattle.std.specs.Prelude.{◌↔◌, IsTrue, IsSome}
-use Rattle.std.proofs.lemmas.Bool.{false≢true, false_from_ne_true}
-use Rattle.std.specs.Result.{IsErr, IsErrAnd}
-use Rattle.std.proofs.lemmas.List.{append_assoc, append-nil}
+use Rattle.meval.proofs.EvalWords.{◌≡◌, suc, ◌<◌, Bool, [], ◌∷◌, ◌++◌, Some, None, Result, Ok, Err, subst, refl, sym, ap, ◌∙◌, ◌↔◌, IsTrue, IsSome, false≢true, false_from_ne_true, IsErr, IsErrAnd, append_assoc, append-nil, Act, ◌>>=◌, ◌>>◌, give, give_some, PrimaryTree, ReferenceTree, indirect, ExprsTree, no_exprs, exprs, Evaluated, subscripts_of, with_subscripts, Inside, inside, is_indirection_free, an_indirection_free, indirected, named_by, value, values, primary_value, evaluated, through, finds, Did, Yields, assoc, did_then, did_spent, yielded, Ghosts, fault_of, Code, Depth, Eval, Evaluates, standing_of, eval_here, depth_of}
+use Rattle.std.proofs.Common.{true, false, List, Option}
 use Rattle.mspec.specs.Code as spec
-use Rattle.mspec.specs.Act.{Text, Act, ◌>>=◌, ◌>>◌, give, give_some}
-use Rattle.mgrammar.specs.Grammar.{PrimaryTree, ReferenceTree, indirect, ExprsTree, no_exprs, exprs}
+use Rattle.mspec.specs.Act.{Text}
 use Rattle.mgrammar.specs.IndirectTexts.{ref_at}
-use Rattle.mmeaning.specs.Variables.{Evaluated, subscripts_of, with_subscripts}
-use Rattle.mmeaning.specs.Expression.{Inside, inside, is_indirection_free, an_indirection_free, indirected, named_by, value, values, primary_value, evaluated, through, finds}
 use Rattle.mmeaning.specs.Expression as meaning
-use Rattle.mmeaning.specs.Calls.{Did}
-use Rattle.mmeaning.specs.Yields.{Yields}
-use Rattle.mmeaning.proofs.Calls.{assoc, did_then, did_spent}
 use Rattle.mmeaning.proofs.Indirections.{did_fail}
-use Rattle.mmeaning.proofs.Yieldings.{yielded}
-use Rattle.mstore.specs.declared.store.NodeStore.{Ghosts}
-use Rattle.moperator.specs.Codes.{fault_of}
-use Rattle.moperator.specs.declared.code.Code.{Code}
 use Rattle.moperator.specs.declared.code.Code.TheVariants as code
-use Rattle.meval.specs.declared.depth.Depth.{Depth}
-use Rattle.meval.specs.declared.eval.Eval.{Eval}
-use Rattle.meval.specs.Evaluates.{Evaluates, standing_of, eval_here, depth_of}
 use Rattle.meval.proofs.Calls.{moved, evaluates_stopped, evaluates_yielded}
 
 -- ---- subscripts behind others

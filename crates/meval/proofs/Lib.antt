@@ -1,4 +1,5 @@
 -- SPDX-License-Identifier: Apache-2.0
+mod EvalWords
 pub mod Calls
 pub mod TreeViews
 pub mod References

@@ -2,8 +2,7 @@
 -- The names of locks, with and without a `^`.
 use Rattle.std.specs.Prelude.{true, false, List}
 use Rattle.mspec.specs.Act.{Text}
-use Rattle.mspec.specs.LockConflict.{LockName}
-use Rattle.mspec.specs.Node.{Node}
+use Rattle.meval.proofs.EvalWords.{LockName, Node}
 
 abbrev pub global_name : Node → LockName
 global_name n = record { global = true; node = n }

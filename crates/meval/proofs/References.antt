@@ -1,27 +1,10 @@
 -- SPDX-License-Identifier: Apache-2.0
 -- What is left of a reference behind the values of its subscripts, and what the checks let through as a walk.
-use Rattle.std.proofs.Common.{◌≡◌, ℕ, zero, suc, ◌<◌, false, List, [], ◌∷◌, length, Result, Ok, Err, subst, refl, sym, arith}
-use Rattle.std.specs.Prelude.{◌==◌}
-use Rattle.std.proofs.lemmas.Bool.{false≢true}
-use Rattle.mspec.specs.Act.{Text, ◌>>=◌, ◌>>◌, give, unless}
+use Rattle.meval.proofs.EvalWords.{◌≡◌, ℕ, zero, suc, ◌<◌, [], ◌∷◌, length, Result, Ok, Err, subst, refl, sym, arith, ◌==◌, false≢true, ◌>>=◌, ◌>>◌, give, unless, Node, AreOrderSubscripts, are_order_subscripts, order_subscripts_test, ReferenceTree, local, global, naked, indirect, extended, values, evaluated, Evaluated, checked, ordering, some_subscript, Yields, did_gives, Ghosts, fault_of, Code, Zsub, Eval, Evaluates, standing_of, pending_view, subscripts_tree, named, IsDirect, NamesNoAccount}
+use Rattle.std.proofs.Common.{false, List}
+use Rattle.mspec.specs.Act.{Text}
 use Rattle.mspec.specs.Code as spec
-use Rattle.mspec.specs.Node.{Node}
-use Rattle.mspec.specs.Trees.{AreOrderSubscripts}
-use Rattle.mspec.specs.Subscripts.{are_order_subscripts}
-use Rattle.mspec.proofs.SubscriptTests.{order_subscripts_test}
-use Rattle.mgrammar.specs.Grammar.{ReferenceTree, local, global, naked, indirect, extended}
-use Rattle.mmeaning.specs.Expression.{values, evaluated}
-use Rattle.mmeaning.specs.Variables.{Evaluated, checked, ordering, some_subscript}
-use Rattle.mmeaning.specs.Yields.{Yields}
-use Rattle.mmeaning.proofs.Calls.{did_gives}
-use Rattle.mstore.specs.declared.store.NodeStore.{Ghosts}
-use Rattle.moperator.specs.Codes.{fault_of}
-use Rattle.moperator.specs.declared.code.Code.{Code}
-use Rattle.moperator.specs.declared.code.Code.TheVariants.{Zsub}
-use Rattle.meval.specs.declared.eval.Eval.{Eval}
 use Rattle.meval.specs.declared.place.Pending.{Pending}
-use Rattle.meval.specs.Evaluates.{Evaluates, standing_of}
-use Rattle.meval.specs.Places.{pending_view, subscripts_tree, named, IsDirect, NamesNoAccount}
 
 -- ---- references
 

@@ -1,9 +1,8 @@
 -- SPDX-License-Identifier: Apache-2.0
 -- The views of trees, a level at a time.
-use Rattle.std.proofs.Common.{◌≡◌, ℕ, List, Vec, Box, Global, map, sym, ap, ◌∙◌}
+use Rattle.meval.proofs.EvalWords.{◌≡◌, ℕ, Vec, Box, Global, map, sym, ap, ◌∙◌, tails_of, exprs_of, choices_of, PrimaryTree, ReferenceTree, TailTree, ExprTree, OperandTree, ChoiceTree, expr_tree, tail_tree, operand_tree, primary_tree, reference_tree, referring_tree, choice_tree, sign_tree, binary_tree, atom_tree, primary_layer, reference_layer, tail_layer, choice_layer, expr_layer, operand_layer, referring_layer, Expr, Choice}
+use Rattle.std.proofs.Common.{List}
 use Rattle.mgrammar.specs.Grammar as grammar
-use Rattle.mgrammar.specs.Grammar.{tails_of, exprs_of, choices_of, PrimaryTree, ReferenceTree, TailTree, ExprTree, OperandTree}
-use Rattle.mtree.specs.Tree.{ChoiceTree, expr_tree, tail_tree, operand_tree, primary_tree, reference_tree, referring_tree, choice_tree, sign_tree, binary_tree, atom_tree, primary_layer, reference_layer, tail_layer, choice_layer, expr_layer, operand_layer, referring_layer}
 use Rattle.mtree.specs.declared.tree.Binary.{Binary}
 use Rattle.mtree.specs.declared.tree.Atom.{Atom}
 use Rattle.mtree.specs.declared.tree.Primary.{Primary}
@@ -12,9 +11,7 @@ use Rattle.mtree.specs.declared.tree.Reference.{Reference}
 use Rattle.mtree.specs.declared.tree.Reference.TheVariants as reference
 use Rattle.mtree.specs.declared.tree.Referring.{Referring, out-Referring}
 use Rattle.mtree.specs.declared.tree.Tail.TheVariants as tail
-use Rattle.mtree.specs.declared.tree.Expr.{Expr}
 use Rattle.mtree.specs.declared.tree.Operand.{Operand}
-use Rattle.mtree.specs.declared.tree.Choice.{Choice}
 use Rattle.mtree.specs.declared.tree.Primary.TheFolds.{fold_out-Expr, fold_out-Operand, fold_out-Choice, fold_out-Referring, fold-roll-Primary, fold-roll-Reference, fold-roll-Tail}
 
 pub expr_is : (e : Expr) → expr_tree e ≡ grammar.expr (operand_tree e.first) (tails_of (map tail_tree e.rest.items))

@@ -1,27 +1,12 @@
 -- SPDX-License-Identifier: Apache-2.0
 -- The parts of a tree, from a place on.
-use Rattle.std.proofs.Common.{◌≡◌, ℕ, ◌+◌, ◌<◌, ◌≤◌, List, [], ◌∷◌, ◌++◌, Bool, true, false, length, drop, get_or, map, Result, Ok, Err, subst, refl, sym, arith}
-use Rattle.std.specs.Prelude.{cond}
+use Rattle.meval.proofs.EvalWords.{◌≡◌, ℕ, ◌+◌, ◌<◌, ◌≤◌, [], ◌∷◌, ◌++◌, Bool, length, drop, get_or, map, Result, Ok, Err, subst, refl, sym, arith, cond, significant_digits, numeric_value, Act, ◌>>=◌, charge, give, PrimaryTree, ExprTree, tail, tails_of, exprs_of, choices_of, number, text, special, reference, bracket, call, select, refer, special_of, as_text, as_truth, Inside, value, tails_value, primary_value, evaluated, values, chosen, reading, resolve, read_at, referring, special_value, expr_tree, tail_tree, choice_tree, Expr, Tail, Choice, Ghosts, Code, M4, Eval, Evaluates}
+use Rattle.std.proofs.Common.{List, true, false}
 use Rattle.std.proofs.Math.ListN.{drop_of_length-le}
-use Rattle.mspec.specs.Number.{significant_digits}
-use Rattle.mspec.specs.NumberText.{numeric_value}
-use Rattle.mspec.specs.Act.{Text, Act, ◌>>=◌, charge, give}
+use Rattle.mspec.specs.Act.{Text}
 use Rattle.mspec.proofs.ListPlaces.{next_item}
-use Rattle.mgrammar.specs.Grammar.{PrimaryTree, ExprTree, tail, tails_of, exprs_of, choices_of, number, text, special, reference, bracket, call, select, refer, special_of}
 use Rattle.mgrammar.specs.Functions.{function_of}
-use Rattle.mmeaning.specs.Operators.{as_text, as_truth}
 use Rattle.mmeaning.specs.Functions.{call_value}
-use Rattle.mmeaning.specs.Expression.{Inside, value, tails_value, primary_value, evaluated, values, chosen}
-use Rattle.mmeaning.specs.Variables.{reading, resolve, read_at, referring, special_value}
-use Rattle.mtree.specs.Tree.{expr_tree, tail_tree, choice_tree}
-use Rattle.mtree.specs.declared.tree.Expr.{Expr}
-use Rattle.mtree.specs.declared.tree.Tail.{Tail}
-use Rattle.mtree.specs.declared.tree.Choice.{Choice}
-use Rattle.mstore.specs.declared.store.NodeStore.{Ghosts}
-use Rattle.moperator.specs.declared.code.Code.{Code}
-use Rattle.moperator.specs.declared.code.Code.TheVariants.{M4}
-use Rattle.meval.specs.declared.eval.Eval.{Eval}
-use Rattle.meval.specs.Evaluates.{Evaluates}
 use Rattle.meval.proofs.Calls.{evaluates_then, evaluates_failed, evaluates_gives}
 use Rattle.meval.proofs.TreeViews.{choice_is}
 

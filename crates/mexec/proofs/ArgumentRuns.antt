@@ -1,28 +1,13 @@
 -- SPDX-License-Identifier: Apache-2.0
 -- Arguments, one after another: what the code does up to where lines or a text are entered, and then that, is what each does.
-use Rattle.std.proofs.Common.{◌≡◌, ℕ, ◌+◌, ◌<◌, Bool, true, false, cond, List, Option, Result, Ok, Err, length, get_or, map, drop, refl, sym, ◌∙◌, subst}
-use Rattle.std.specs.Result.{IsErr, IsErrAnd}
-use Rattle.mspec.specs.Act.{Text, Act, ◌>>=◌, give}
-use Rattle.mspec.proofs.ListPlaces.{next_item}
-use Rattle.mgrammar.specs.Grammar.{ExprTree, ArgTree, do_one, executed, indirect_args}
-use Rattle.mmeaning.specs.Expression.{inside}
+use Rattle.mexec.proofs.ExecWords.{◌≡◌, ℕ, ◌+◌, ◌<◌, Bool, true, false, cond, List, Option, Result, Ok, Err, length, get_or, map, drop, refl, sym, ◌∙◌, subst, IsErr, IsErrAnd, Text, Act, ◌>>=◌, give, next_item, ExprTree, ArgTree, do_one, executed, indirect_args, inside, Context, Go_on, argument, context, holds, inside_of, assoc, ended, arg_tree, Arg, Ghosts, Code, Parts, DoesAt, Begun, completion_of, behind, args_started, begun_of, Entrance, into_lines, into_text, gave, enters, entered, finished, start_of, entrance_of, given, where_applies}
 use Rattle.mmeaning.specs.LineMeaning as meaning
-use Rattle.mmeaning.specs.LineMeaning.{Position, Context, Go_on, argument, context, holds, inside_of}
-use Rattle.mmeaning.proofs.Calls.{assoc, ended}
-use Rattle.mtree.specs.Tree.{arg_tree}
-use Rattle.mtree.specs.declared.tree.Arg.{Arg}
-use Rattle.mstore.specs.declared.store.NodeStore.{Ghosts}
-use Rattle.moperator.specs.declared.code.Code.{Code}
-use Rattle.mcommand.specs.declared.parts.Parts.{Parts}
-use Rattle.mcommand.specs.Does.{DoesAt}
+use Rattle.mmeaning.specs.LineMeaning.{Position}
 use Rattle.mexec.specs.declared.arguments.Entrance as entrances
-use Rattle.mexec.specs.declared.arguments.Begun.{Begun}
 use Rattle.mexec.specs.declared.arguments.Begun.TheVariants as begun
 use Rattle.mexec.specs.declared.completion.Completion.{Completion}
 use Rattle.mexec.specs.declared.completion.Completion.TheVariants as completion
-use Rattle.mexec.specs.Frames.{completion_of}
-use Rattle.mexec.specs.Fronts.{behind, args_started, begun_of}
-use Rattle.mexec.specs.Arguments.{Entrance, into_lines, into_text, gave, enters, started, entered, finished, start_of, entrance_of, given, where_applies}
+use Rattle.mexec.specs.Arguments.{started}
 use Rattle.mexec.proofs.Calls.{at_then, at_failed, at_stopped, at_gives}
 
 -- ---- acts

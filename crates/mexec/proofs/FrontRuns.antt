@@ -1,33 +1,18 @@
 -- SPDX-License-Identifier: Apache-2.0
 -- Arguments, commands and lines up to where they stop, and then what is left of them, is what they do.
-use Rattle.std.proofs.Common.{◌≡◌, ℕ, ◌+◌, ◌*◌, ◌-◌, ◌≤◌, ◌<◌, Bool, true, false, cond, List, [], ◌∷◌, None, Some, Result, Ok, Err, length, get_or, map, drop, refl, sym, ap, ◌∙◌, subst, arith}
+use Rattle.mexec.proofs.ExecWords.{◌≡◌, ℕ, ◌+◌, ◌*◌, ◌-◌, ◌≤◌, ◌<◌, Bool, true, false, cond, List, [], ◌∷◌, None, Some, Result, Ok, Err, length, get_or, map, drop, refl, sym, ap, ◌∙◌, subst, arith, IsErr, IsErrAnd, IfOk, Text, Act, ◌>>=◌, ◌>>◌, give, charge, next_item, KeywordTree, for_word, do_word, ArgTree, loop, CommandTree, Context, Turning, Go_on, after, arguments, bare, commands, conditional, context, effect, holds, inside_of, View, assoc, ended, arg_tree, command_tree, spaced_tree, Arg, Line, Ghosts, Code, Parts, DoesAt, Begun, Start, gave, enters, finished, start_of, Runs, commands_from, completion_of, over, behind, args_started, args_left, args_outcome, word_started, effect_started, command_started, finishes, behind_command, front, line_left, begun_of, outcome_of, front_of, StopsIn, IfStops, ends, at_begun, stops_at, turn_ends, turn_left}
 use Rattle.std.proofs.lemmas.Option.{slice_get_read}
-use Rattle.std.specs.Result.{IsErr, IsErrAnd, IfOk}
-use Rattle.mspec.specs.Act.{Text, Act, ◌>>=◌, ◌>>◌, give, charge}
-use Rattle.mspec.proofs.ListPlaces.{next_item}
-use Rattle.mgrammar.specs.Grammar.{KeywordTree, for_word, do_word, ArgTree, loop, CommandTree}
 use Rattle.mmeaning.specs.LineMeaning as meaning
-use Rattle.mmeaning.specs.LineMeaning.{Position, Context, Turning, Go_on, after, arguments, bare, commands, conditional, context, effect, holds, inside_of}
-use Rattle.mmeaning.specs.Frames.{View}
-use Rattle.mmeaning.proofs.Calls.{assoc, ended}
-use Rattle.mtree.specs.Tree.{arg_tree, command_tree, spaced_tree}
-use Rattle.mtree.specs.declared.tree.Arg.{Arg}
+use Rattle.mmeaning.specs.LineMeaning.{Position}
 use Rattle.mtree.specs.declared.tree.Arg.TheVariants as arg
 use Rattle.mtree.specs.declared.tree.Spaced.{Spaced}
-use Rattle.mtree.specs.declared.tree.Line.{Line}
-use Rattle.mstore.specs.declared.store.NodeStore.{Ghosts}
-use Rattle.moperator.specs.declared.code.Code.{Code}
-use Rattle.mcommand.specs.declared.parts.Parts.{Parts}
-use Rattle.mcommand.specs.Does.{DoesAt}
 use Rattle.mexec.specs.declared.completion.Completion.{Completion}
 use Rattle.mexec.specs.declared.completion.Completion.TheVariants as completion
 use Rattle.mexec.specs.declared.front.Outcome as the_outcome
 use Rattle.mexec.specs.declared.front.Outcome.TheVariants as outcome
-use Rattle.mexec.specs.declared.arguments.Begun.{Begun}
 use Rattle.mexec.specs.declared.arguments.Begun.TheVariants as begun
-use Rattle.mexec.specs.Arguments.{Start, gave, enters, started, finished, start_of}
-use Rattle.mexec.specs.Frames.{Runs, commands_from, completion_of}
-use Rattle.mexec.specs.Fronts.{Outcome, over, behind, args_started, args_left, args_outcome, word_started, effect_started, command_started, finishes, behind_command, front, line_left, begun_of, outcome_of, front_of, StopsIn, IfStops, ends, at_begun, stops_at, turn_ends, turn_left}
+use Rattle.mexec.specs.Arguments.{started}
+use Rattle.mexec.specs.Fronts.{Outcome}
 use Rattle.mexec.specs.Loops.{args_before}
 use Rattle.mexec.proofs.ArgumentRuns.{argument_is}
 use Rattle.mexec.proofs.Calls.{at_then, at_failed, at_stopped, at_gives, at_as, runs_then, runs_stopped, runs_as, some_item}

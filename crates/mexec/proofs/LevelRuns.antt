@@ -1,33 +1,15 @@
 -- SPDX-License-Identifier: Apache-2.0
 -- Lines and texts that are entered, frame by frame.
-use Rattle.std.proofs.Common.{◌≡◌, ℕ, zero, suc, ◌<◌, ◌+◌, Bool, true, false, cond, List, [], ◌∷◌, Option, Some, None, Result, Ok, Err, length, drop, get_or, slice_get, refl, sym, ap, ◌∙◌, subst, eqb-true, le-ltb, arith}
+use Rattle.mexec.proofs.ExecWords.{◌≡◌, ℕ, zero, suc, ◌<◌, ◌+◌, Bool, true, false, cond, List, [], ◌∷◌, Option, Some, None, Result, Ok, Err, length, drop, get_or, slice_get, refl, sym, ap, ◌∙◌, subst, eqb-true, le-ltb, arith, drop-drop, get_or-drop, IsErr, IsErrAnd, Text, Act, ◌>>=◌, ◌>>◌, give, give_some, charge, ArgTree, CommandTree, BodyTree, short, spaced_out, RoutineLineTree, dots_of, routine_line_at, indirected, Level, Closing, leaves, deeper, within_indirection, has_dots, commands_of, commands_in, Context, Go_on, texts, context, commands, lines_reached, lines_from, lines_next, line_entered, after_level, closed, View, Rests, Lists, Levels, frame, assoc, Ghosts, fault_of, Code, Zmem, Evaluates, Parts, Does, DoesAt, here_of, Runs, reached, next_reached, entering, so_deep, at_next, text_position, on_body, next_item}
 use Rattle.std.specs.Prelude.{nat_lt, ◌==◌}
-use Rattle.std.proofs.lemmas.List.{drop-drop, get_or-drop}
-use Rattle.std.specs.Result.{IsErr, IsErrAnd}
 use Rattle.mspec.specs.Code.{Zsyntax}
-use Rattle.mspec.specs.Act.{Text, Act, ◌>>=◌, ◌>>◌, give, give_some, charge}
-use Rattle.mgrammar.specs.Grammar.{ArgTree, CommandTree}
-use Rattle.mgrammar.specs.RoutineLine.{BodyTree, short, spaced_out, RoutineLineTree, dots_of, routine_line_at}
-use Rattle.mmeaning.specs.Expression.{Depth, indirected}
-use Rattle.mmeaning.specs.Levels.{Level, Closing, leaves, deeper, within_indirection, has_dots, commands_of, commands_in}
-use Rattle.mmeaning.specs.LineMeaning.{Position, Context, Completion, Go_on, texts, context, commands, lines_reached, lines_from, lines_next, line_entered, after_level, closed}
+use Rattle.mmeaning.specs.Expression.{Depth}
+use Rattle.mmeaning.specs.LineMeaning.{Position, Completion}
 use Rattle.mmeaning.specs.Yields.{Yields}
-use Rattle.mmeaning.specs.Frames.{View, Rests, Lists, Levels, frame}
-use Rattle.mmeaning.proofs.Calls.{assoc}
 use Rattle.mmeaning.proofs.Yieldings.{yielded}
-use Rattle.mstore.specs.declared.store.NodeStore.{Ghosts}
-use Rattle.moperator.specs.Codes.{fault_of}
-use Rattle.moperator.specs.declared.code.Code.{Code}
-use Rattle.moperator.specs.declared.code.Code.TheVariants.{Zmem}
 use Rattle.meval.specs.declared.eval.Eval.{Eval}
-use Rattle.meval.specs.Evaluates.{Evaluates}
-use Rattle.mcommand.specs.declared.parts.Parts.{Parts}
-use Rattle.mcommand.specs.Does.{Does, DoesAt, here_of}
 use Rattle.mexec.specs.declared.completion.Completion as completions
 use Rattle.mexec.specs.declared.completion.Completion.TheVariants as completion
-use Rattle.mexec.specs.Frames.{Runs}
-use Rattle.mexec.specs.Entering.{reached, next_reached, entering, so_deep, at_next, text_position, on_body}
-use Rattle.mspec.proofs.ListPlaces.{next_item}
 use Rattle.mexec.proofs.Calls.{at_then, at_stopped, at_gives, runs_then, runs_spent, runs_stopped, runs_wanting, runs_as, runs_frame, runs_top, runs_completion}
 
 -- ---- lists

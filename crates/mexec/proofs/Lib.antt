@@ -1,4 +1,5 @@
 -- SPDX-License-Identifier: Apache-2.0
+mod ExecWords
 pub mod Calls
 pub mod Lines
 pub mod Loops

@@ -1,25 +1,10 @@
 -- SPDX-License-Identifier: Apache-2.0
 -- Lines, frame by frame.
-use Rattle.std.proofs.Common.{◌≡◌, ℕ, ◌≤◌, List, [], ◌∷◌, Result, Ok, Err, refl, sym, ◌∙◌, subst, arith}
-use Rattle.std.specs.Result.{IsErr, IsErrAnd}
-use Rattle.mspec.specs.Act.{Text, Act}
-use Rattle.mgrammar.specs.Grammar.{ArgTree, CommandTree}
+use Rattle.mexec.proofs.ExecWords.{◌≡◌, ℕ, ◌≤◌, List, [], ◌∷◌, Result, Ok, Err, refl, sym, ◌∙◌, subst, arith, IsErr, IsErrAnd, Text, Act, ArgTree, CommandTree, stays, top_level, run_within, context, commands, arguments, after, Standing, Here, Follows, FailedBy, View, Rests, Lists, Levels, left, frame, Enough, MovedAs, MovedOn, residual_is, follows_itself, follows_on, failed_after, Ghosts, fault_of, Code, standing_of, Parts, DoesAt, here_of, Runs, Leads, completion_of}
 use Rattle.mmeaning.specs.LineMeaning as meaning
-use Rattle.mmeaning.specs.Levels.{stays}
-use Rattle.mmeaning.specs.LineMeaning.{top_level, run_within, context, commands, arguments, after}
-use Rattle.mmeaning.specs.Calls.{Standing, Here, Follows, FailedBy}
-use Rattle.mmeaning.specs.Frames.{View, Rests, Lists, Levels, left, frame, Enough, MovedAs, MovedOn}
 use Rattle.mmeaning.proofs.LevelMoves.{line_begins}
-use Rattle.mmeaning.proofs.Calls.{residual_is, follows_itself, follows_on, failed_after}
-use Rattle.mstore.specs.declared.store.NodeStore.{Ghosts}
-use Rattle.moperator.specs.Codes.{fault_of}
-use Rattle.moperator.specs.declared.code.Code.{Code}
-use Rattle.meval.specs.Evaluates.{standing_of}
-use Rattle.mcommand.specs.declared.parts.Parts.{Parts}
-use Rattle.mcommand.specs.Does.{DoesAt, here_of}
 use Rattle.mexec.specs.declared.completion.Completion.{Completion}
 use Rattle.mexec.specs.declared.completion.Completion.TheVariants as completion
-use Rattle.mexec.specs.Frames.{Runs, Leads, completion_of}
 use Rattle.mexec.proofs.Calls.{passes, runs_as, runs_completion}
 
 module _ {S : Type 0} {g : Ghosts S} where

@@ -1,25 +1,14 @@
 -- SPDX-License-Identifier: Apache-2.0
 -- A text by its tree.
-use Rattle.std.proofs.Common.{◌≡◌, ◌≢◌, ◌≤◌, Option, Some, None, Ok, Err, refl, sym, subst, arith}
-use Rattle.mspec.specs.Act.{Act}
-use Rattle.mgrammar.specs.Grammar.{LineTree}
-use Rattle.mmeaning.specs.Levels.{commands_of}
+use Rattle.mexec.proofs.ExecWords.{◌≡◌, ◌≢◌, ◌≤◌, Option, Some, None, Ok, Err, refl, sym, subst, arith, Act, LineTree, commands_of, run, run_within, Standing, Here, Gave, Ghosts, Code, Zstore, standing_of, Parts, DoesAt, here_of, completion_of}
 use Rattle.mmeaning.specs.LineMeaning as meaning
-use Rattle.mmeaning.specs.LineMeaning.{run, run_within}
 use Rattle.mmeaning.specs.Transition as transition
 use Rattle.mmeaning.specs.Transition.{Ending, Faulted}
-use Rattle.mmeaning.specs.Calls.{Standing, Here, Gave}
-use Rattle.mstore.specs.declared.store.NodeStore.{Ghosts}
-use Rattle.moperator.specs.declared.code.Code.{Code}
-use Rattle.moperator.specs.declared.code.Code.TheVariants.{Zsyntax, Zstore}
-use Rattle.meval.specs.Evaluates.{standing_of}
-use Rattle.mcommand.specs.declared.parts.Parts.{Parts}
-use Rattle.mcommand.specs.Does.{DoesAt, here_of}
+use Rattle.moperator.specs.declared.code.Code.TheVariants.{Zsyntax}
 use Rattle.mexec.specs.declared.completion.Completion.{Completion}
 use Rattle.mexec.specs.declared.completion.Completion.TheVariants as completion
 use Rattle.mexec.specs.declared.text.Ended.{Ended}
 use Rattle.mexec.specs.declared.text.Ended.TheVariants.{Fault}
-use Rattle.mexec.specs.Frames.{completion_of}
 use Rattle.mexec.specs.Runs.{RunsText, EndsBy, ending_of}
 
 -- no completion ends a line with a code

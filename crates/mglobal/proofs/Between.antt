@@ -1,27 +1,6 @@
 -- SPDX-License-Identifier: Apache-2.0
 -- Which keys stand between bounds that begin with a node's key.
-use Rattle.std.proofs.Common.{ℕ, ◌≡◌, ◌<◌, ◌⊎◌, inl, inr, Bool, true, false, nat_eq, ◌&&◌, Option, Some, None, List, [], ◌∷◌, ◌++◌, length, drop, refl, sym, ◌∙◌, ap, arith, append-nil}
-use Rattle.std.specs.Prelude.{ℤ, slice_get}
-use Rattle.std.specs.Cmp.{nat_cmp_is}
-use Rattle.std.specs.Cmp.Lexicographic.{slice_cmp}
-use Rattle.std.specs.List.{starts_with}
-use Rattle.std.specs.Ordering.{nat_cmp, is_le, is_lt, ordering_then}
-use Rattle.std.specs.declared.cmp.Ordering.{Ordering}
-use Rattle.std.specs.declared.cmp.Ordering.TheVariants.{Less, Equal, Greater}
-use Rattle.std.proofs.lemmas.Bool.{cases_order}
-use Rattle.std.proofs.lemmas.Bool.Decides.{nat_tests}
-use Rattle.std.proofs.lemmas.List.Elements.{All-head, All-drop}
-use Rattle.mspec.specs.Globals.{is_between, is_node_within}
-use Rattle.mspec.specs.KeyBytes.{number_bytes, subscript_by, subscript_bytes, subscripts_bytes, key_bytes}
-use Rattle.mspec.specs.KeyLaws.{NoneEmpty}
-use Rattle.mspec.specs.Node.{Text, Node}
-use Rattle.mspec.specs.NodeOrder.{canonical_value, text_cmp}
-use Rattle.mspec.specs.Number.{significant_digits}
-use Rattle.mspec.specs.Trees.{is_before}
-use Rattle.mspec.proofs.KeyOrders.{subscript_order}
-use Rattle.mkey.specs.Under.{passes, child_under}
-use Rattle.mkey.proofs.NodeFronts.{starts_node, key_behind, within_parts, child_within, child_without}
-use Rattle.mkey.proofs.SubsKeys.{child_is}
+use Rattle.mglobal.proofs.GlobalWords.{ℕ, ◌≡◌, ◌<◌, ◌⊎◌, inl, inr, Bool, true, false, nat_eq, ◌&&◌, Option, Some, None, List, [], ◌∷◌, ◌++◌, length, drop, refl, sym, ◌∙◌, ap, arith, append-nil, ℤ, slice_get, nat_cmp_is, slice_cmp, starts_with, nat_cmp, is_le, is_lt, ordering_then, Ordering, Less, Equal, Greater, cases_order, nat_tests, All-head, All-drop, is_between, is_node_within, number_bytes, subscript_by, subscript_bytes, subscripts_bytes, key_bytes, NoneEmpty, Text, Node, canonical_value, text_cmp, significant_digits, is_before, subscript_order, passes, child_under, starts_node, key_behind, within_parts, child_within, child_without, child_is}
 
 abbrev pub key : Node → List ℕ
 key = key_bytes significant_digits

@@ -1,11 +1,6 @@
 -- SPDX-License-Identifier: Apache-2.0
 -- Copies of routines, behind writes to the store.
-use Rattle.std.proofs.Common.{◌≡◌, Bool, true, false, ◌||◌, List, All, slice_index_or, Result, Ok, Err, OnOk, OnErr, sym, subst, ◌∙◌}
-use Rattle.std.specs.FinMap.{insert}
-use Rattle.mspec.specs.Globals.{Globals, is_node_within, without_subtree}
-use Rattle.mspec.specs.Node.{Text, Node}
-use Rattle.mglobal.specs.Copies.{AreCopiesIn, IsApart}
-use Rattle.mglobal.specs.Lines.{routine_at}
+use Rattle.mglobal.proofs.GlobalWords.{◌≡◌, Bool, true, false, ◌||◌, List, All, slice_index_or, Result, Ok, Err, OnOk, OnErr, sym, subst, ◌∙◌, insert, Globals, is_node_within, without_subtree, Text, Node, AreCopiesIn, IsApart, routine_at}
 use Rattle.mglobal.specs.declared.copies.RoutineCopy.{RoutineCopy}
 use Rattle.mglobal.proofs.LinesKept.{lines_put, lines_killed}
 

@@ -1,4 +1,5 @@
 -- SPDX-License-Identifier: Apache-2.0
+mod GlobalWords
 pub mod Between
 pub mod Sides
 pub mod Orders

@@ -1,30 +1,8 @@
 -- SPDX-License-Identifier: Apache-2.0
 -- From one line of a routine to the next.
-use Rattle.std.proofs.Common.{◌≡◌, ◌<◌, Bool, true, false, cond, ◌&&◌, List, [], ◌∷◌, ◌++◌, map, length, drop, All, Option, Some, None, is_some, refl, sym, ap, subst, ◌∙◌, arith}
-use Rattle.std.specs.Prelude.{option_and_then, if◌then◌else◌, codes, T, slice_get}
-use Rattle.std.specs.Cmp.Lexicographic.{bytes_decides, nat_list_cmp_total}
-use Rattle.std.specs.FinMap.{entries, get-entries, entries_sorted}
+use Rattle.mglobal.proofs.GlobalWords.{◌≡◌, ◌<◌, Bool, true, false, cond, ◌&&◌, List, [], ◌∷◌, ◌++◌, map, length, drop, All, Option, Some, None, is_some, refl, sym, ap, subst, ◌∙◌, arith, option_and_then, if◌then◌else◌, codes, T, slice_get, bytes_decides, nat_list_cmp_total, entries, get-entries, entries_sorted, find, filter, option_to_list, is_lt, is_eq, ordering_then, Ordering, Less, Equal, Greater, All-head, All-tail, All-cons, All-nil, Globals, is_beside, is_line_of, routines_of, lines_of, order_at, Text, Node, canonical_value, text_cmp, subscripts_cmp, node_cmp, significant_digits, Forward, text_eq, is_within, child_of, is_before, node_cmp_total, node_cmp_exact, text_cmp_total, passes, child_under, none_empty, empty_first, at_front, both_true, joined_node, child_within, within_parts, child_is, split_within, IsHeld, AreHeld, routine_at, line_at, is_line, is_line_behind, texts_behind, lines_behind, line_in}
 use Rattle.std.specs.FinMap.Entries as Entries
-use Rattle.std.specs.List.{find, filter}
-use Rattle.std.specs.Option.{option_to_list}
-use Rattle.std.specs.Ordering.{is_lt, is_eq, ordering_then}
-use Rattle.std.specs.declared.cmp.Ordering.{Ordering}
-use Rattle.std.specs.declared.cmp.Ordering.TheVariants.{Less, Equal, Greater}
 use Rattle.std.proofs.lemmas.Cmp.{tied_itself}
-use Rattle.std.proofs.lemmas.List.Elements.{All-head, All-tail, All-cons, All-nil}
-use Rattle.mspec.specs.Globals.{Globals, is_beside, is_line_of, routines_of, lines_of, order_at}
-use Rattle.mspec.specs.Node.{Text, Node}
-use Rattle.mspec.specs.NodeOrder.{canonical_value, text_cmp, subscripts_cmp, node_cmp}
-use Rattle.mspec.specs.Number.{significant_digits}
-use Rattle.mspec.specs.Trees.{Forward, text_eq, is_within, child_of, is_before}
-use Rattle.mspec.proofs.NodeOrders.{node_cmp_total, node_cmp_exact, text_cmp_total}
-use Rattle.mkey.specs.Under.{passes, child_under}
-use Rattle.mkey.specs.Key.{none_empty}
-use Rattle.mkey.proofs.Children.{empty_first, at_front}
-use Rattle.mkey.proofs.NodeFronts.{both_true, joined_node, child_within, within_parts}
-use Rattle.mkey.proofs.SubsKeys.{child_is, split_within}
-use Rattle.mstore.specs.Held.{IsHeld, AreHeld}
-use Rattle.mglobal.specs.Lines.{routine_at, line_at, is_line, is_line_behind, texts_behind, lines_behind, line_in}
 use Rattle.mglobal.proofs.Orders.{order_is}
 
 abbrev C : Text → Text → Ordering

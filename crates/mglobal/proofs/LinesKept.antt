@@ -1,20 +1,8 @@
 -- SPDX-License-Identifier: Apache-2.0
 -- The lines of a routine stay where neither its node, nor one above it or below it is written.
-use Rattle.std.proofs.Common.{◌≡◌, Bool, true, false, cond, not, ◌||◌, List, [], ◌∷◌, ◌++◌, map, Option, None, refl, sym, ap, ◌∙◌, drop, length}
-use Rattle.std.specs.Prelude.{codes}
-use Rattle.std.specs.Cmp.{IsTotalOrder}
-use Rattle.std.specs.Cmp.Lexicographic.{bytes_decides}
-use Rattle.std.specs.FinMap.{FinMap, get, insert, retain_keys, entries, entries_sorted, from_sorted, entries-from_sorted, get-from_sorted, get-entries, same_map, IsAntisymmetric}
+use Rattle.mglobal.proofs.GlobalWords.{◌≡◌, Bool, true, false, cond, not, ◌||◌, List, [], ◌∷◌, ◌++◌, map, Option, None, refl, sym, ap, ◌∙◌, drop, length, codes, IsTotalOrder, bytes_decides, FinMap, get, insert, retain_keys, entries, entries_sorted, from_sorted, entries-from_sorted, get-from_sorted, get-entries, same_map, IsAntisymmetric, Ordering, Globals, is_beside, is_line_of, is_node_within, routines_of, lines_of, without_subtree, Text, Node, significant_digits, text_eq, node_cmp_total, node_cmp_exact, both_true, IsSplit, split_node, joined_node, routine_at, is_line}
 use Rattle.std.specs.FinMap.Entries.{where_key, is_sorted-where_key, find-where_key}
-use Rattle.std.specs.declared.cmp.Ordering.{Ordering}
-use Rattle.mspec.specs.Globals.{Globals, is_beside, is_line_of, is_node_within, routines_of, lines_of, without_subtree}
-use Rattle.mspec.specs.Node.{Text, Node}
-use Rattle.mspec.specs.Number.{significant_digits}
-use Rattle.mspec.specs.Trees.{text_eq}
 use Rattle.mspec.proofs.MapCuts.{get_cut, cut_drops}
-use Rattle.mspec.proofs.NodeOrders.{node_cmp_total, node_cmp_exact}
-use Rattle.mkey.proofs.NodeFronts.{both_true, IsSplit, split_node, joined_node}
-use Rattle.mglobal.specs.Lines.{routine_at, is_line}
 
 -- ---- maps
 

@@ -1,22 +1,7 @@
 -- SPDX-License-Identifier: Apache-2.0
 -- What is found among the keys of globals, as what $DATA and $ORDER answer.
-use Rattle.std.proofs.Common.{ℕ, ◌≡◌, Bool, true, false, cond, ◌&&◌, ◌||◌, Option, Some, None, option_map, is_some, List, [], ◌∷◌, ◌++◌, map, reverse, All, refl, sym, ◌∙◌, ap, subst}
-use Rattle.std.specs.Prelude.{option_and_then, if◌then◌else◌, IsSome}
-use Rattle.std.specs.FinMap.{entries, keys}
-use Rattle.std.specs.List.{list_any, find, filter}
-use Rattle.std.specs.Option.{option_to_list}
-use Rattle.std.proofs.lemmas.List.Elements.{All-map, All-head, All-tail, All-nil, All-push}
+use Rattle.mglobal.proofs.GlobalWords.{ℕ, ◌≡◌, Bool, true, false, cond, ◌&&◌, ◌||◌, Option, Some, None, option_map, is_some, List, [], ◌∷◌, ◌++◌, map, reverse, All, refl, sym, ◌∙◌, ap, subst, option_and_then, if◌then◌else◌, IsSome, entries, keys, list_any, find, filter, option_to_list, All-map, All-head, All-tail, All-nil, All-push, Globals, is_between, is_beside, next_key, status, order_at, key_bytes, IsStored, Text, Node, significant_digits, Direction, Forward, Backward, is_before, is_empty, is_below, child_of, children_in, front, last, IsKeyOf, passes, child_under, children_by, find_child, find_last_child, AreHeld, is_onward, BoundsOnward, nearest_key}
 use Rattle.std.proofs.lemmas.List.{reverse-append, map-append}
-use Rattle.mspec.specs.Globals.{Globals, is_between, is_beside, next_key, status, order_at}
-use Rattle.mspec.specs.KeyBytes.{key_bytes, IsStored}
-use Rattle.mspec.specs.Node.{Text, Node}
-use Rattle.mspec.specs.Number.{significant_digits}
-use Rattle.mspec.specs.Trees.{Direction, Forward, Backward, is_before, is_empty, is_below, child_of, children_in, front, last}
-use Rattle.mkey.specs.Key.{IsKeyOf}
-use Rattle.mkey.specs.Under.{passes, child_under}
-use Rattle.mkey.proofs.Children.{children_by, find_child, find_last_child}
-use Rattle.mstore.specs.Held.{AreHeld}
-use Rattle.mglobal.specs.Next.{is_onward, BoundsOnward, nearest_key}
 
 abbrev key : Node → List ℕ
 key = key_bytes significant_digits

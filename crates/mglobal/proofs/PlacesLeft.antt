@@ -1,23 +1,8 @@
 -- SPDX-License-Identifier: Apache-2.0
 -- How many places are behind a place among the subscripts, at most: fewer behind each that is further on. So a walk to places further on
 -- ends, whatever a store holds.
-use Rattle.std.proofs.Common.{ℕ, zero, suc, ◌≡◌, ◌+◌, ◌*◌, ◌-◌, ◌^◌, ◌<◌, ◌≤◌, true, Option, Some, None, [], ◌∷◌, length, refl, ◌∙◌, ap, arith, ◌⊎◌, inl, inr}
-use Rattle.std.specs.Prelude.{ℤ, unsigned_abs}
-use Rattle.std.specs.Cmp.Lexicographic.{slice_cmp}
-use Rattle.std.specs.Cmp.{nat_cmp_is}
-use Rattle.std.specs.declared.cmp.Ordering.TheVariants.{Less, Equal, Greater}
-use Rattle.std.specs.Ordering.{nat_cmp, ordering_then}
-use Rattle.std.proofs.lemmas.Bool.{cases_order}
-use Rattle.std.proofs.lemmas.Bool.Decides.{nat_tests}
-use Rattle.std.proofs.lemmas.List.Elements.{All-head, All-tail}
+use Rattle.mglobal.proofs.GlobalWords.{ℕ, zero, suc, ◌≡◌, ◌+◌, ◌*◌, ◌-◌, ◌^◌, ◌<◌, ◌≤◌, true, Option, Some, None, [], ◌∷◌, length, refl, ◌∙◌, ap, arith, ◌⊎◌, inl, inr, ℤ, unsigned_abs, slice_cmp, nat_cmp_is, Less, Equal, Greater, nat_cmp, ordering_then, cases_order, nat_tests, All-head, All-tail, raised, IsAscii, Text, canonical_value, Place, Empty, Numeric, Other, place_by, place, place_cmp, text_cmp, significant_digits, is_before, value_in_range, raised_below, raised_order, canonical_of_value}
 use Rattle.std.proofs.Math.Nat.{mul-le-mul_right}
-use Rattle.mspec.specs.KeyBytes.{raised, IsAscii}
-use Rattle.mspec.specs.Node.{Text}
-use Rattle.mspec.specs.NodeOrder.{canonical_value, Place, Empty, Numeric, Other, place_by, place, place_cmp, text_cmp}
-use Rattle.mspec.specs.Number.{significant_digits}
-use Rattle.mspec.specs.Trees.{is_before}
-use Rattle.mspec.proofs.KeyOrders.{value_in_range, raised_below, raised_order}
-use Rattle.mspec.proofs.NodeOrders.{canonical_of_value}
 use Rattle.mglobal.proofs.LineWalks.{less}
 
 -- ---- texts of so many characters at most, by character codes

@@ -1,18 +1,7 @@
 -- SPDX-License-Identifier: Apache-2.0
 -- The bounds of the keys among which the next node of a walk is found.
-use Rattle.std.proofs.Common.{ℕ, ◌≡◌, ◌<◌, Bool, true, false, ◌&&◌, ◌||◌, None, List, [], ◌∷◌, ◌++◌, length, refl, sym, ◌∙◌, ap, append_assoc, append-nil}
-use Rattle.std.specs.Prelude.{if◌then◌else◌}
+use Rattle.mglobal.proofs.GlobalWords.{ℕ, ◌≡◌, ◌<◌, Bool, true, false, ◌&&◌, ◌||◌, None, List, [], ◌∷◌, ◌++◌, length, refl, sym, ◌∙◌, ap, append_assoc, append-nil, if◌then◌else◌, is_between, is_beside, text_bytes, subscript_bytes, local_bytes, children_start, subtree_end, AreSubscripts, IsStored, NoneEmpty, Text, Node, significant_digits, Direction, Forward, Backward, is_before, is_empty, is_below, child_of, front, last, none_empty, passes, child_under, below_is, empty_first, not_empty, split_last, is_onward, BoundsOnward}
 use Rattle.std.proofs.lemmas.List.Concat.{flat_map-append}
-use Rattle.mspec.specs.Globals.{is_between, is_beside}
-use Rattle.mspec.specs.KeyBytes.{text_bytes, subscript_bytes, local_bytes, children_start, subtree_end, AreSubscripts, IsStored}
-use Rattle.mspec.specs.KeyLaws.{NoneEmpty}
-use Rattle.mspec.specs.Node.{Text, Node}
-use Rattle.mspec.specs.Number.{significant_digits}
-use Rattle.mspec.specs.Trees.{Direction, Forward, Backward, is_before, is_empty, is_below, child_of, front, last}
-use Rattle.mkey.specs.Key.{none_empty}
-use Rattle.mkey.specs.Under.{passes, child_under}
-use Rattle.mkey.proofs.Children.{below_is, empty_first, not_empty, split_last}
-use Rattle.mglobal.specs.Next.{is_onward, BoundsOnward}
 use Rattle.mglobal.proofs.Between.{key, bytes, keys_between, all_between, behind_between, before_between}
 
 -- the node below n with one subscript more

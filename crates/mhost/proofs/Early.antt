@@ -1,13 +1,7 @@
 -- SPDX-License-Identifier: Apache-2.0
 -- From why there are no settings, or no store, to how a run ends early.
-use Rattle.std.proofs.Common.{Option}
-use Rattle.mspec.specs.Act.{Text}
+use Rattle.mhost.proofs.HostWords.{Option, Text, IsRead, Ghosts, Watched, AreUntouched, EndsEarly, EndsEarlyOverFile, IsMemoryFault, IsStoreFault, NoSettings, RunFault}
 use Rattle.mmeaning.specs.Transition.{Settings}
-use Rattle.mgrant.specs.Reading.{IsRead}
-use Rattle.mstore.specs.declared.store.NodeStore.{Ghosts}
-use Rattle.mwire.specs.declared.watched.Watched.{Watched}
-use Rattle.mhost.specs.Runs.{AreUntouched, EndsEarly, EndsEarlyOverFile, IsMemoryFault, IsStoreFault, NoSettings}
-use Rattle.mhost.specs.declared.fault.RunFault.{RunFault}
 use Rattle.mhost.specs.declared.fault.RunFault.TheVariants as early
 
 module _ {S I O : Type 0} (g : Ghosts S) (left : I → Option Text) (held : O → Option Text) (document : Text) (input input' : Watched I) (output output' : Watched O)

@@ -1,37 +1,25 @@
 -- SPDX-License-Identifier: Apache-2.0
 -- From what `serve_only` says of a world to what a run says of the account that it names.
-use Rattle.std.proofs.Common.{◌≡◌, ℕ, ◌<◌, Bool, true, false, List, [], ◌∷◌, Option, Some, None, Result, Ok, Err, length, zero, suc, arith, refl, sym, ap, subst, ◌∙◌, cond}
+use Rattle.mhost.proofs.HostWords.{◌≡◌, ℕ, ◌<◌, Bool, true, false, List, [], ◌∷◌, Option, Some, None, Result, Ok, Err, length, zero, suc, arith, refl, sym, ap, subst, ◌∙◌, cond, empty, Text, Globals, opening, Ghosts, settings_of, world_of, Watched, WireFault, IsRead, AreUntouched, DeviceFailed, IsMemoryFault, IsStoreFault, NoSettings, HasAccount, ToldAlone, ToldInForm, BeginsEmpty, BeginsSomehow, OnlyEndsEarly, FitsMemory, ServesAs, OnlyOver, RunFault}
 use Rattle.std.specs.Prelude.{slice_get, unwrap_or, option_map}
 use Rattle.std.specs.Cmp.Lexicographic.{bytes_decides}
 use Rattle.std.specs.List.{find}
-use Rattle.std.specs.FinMap.{empty}
 use Rattle.std.specs.Io.KnownBytes.{Appends}
 use Rattle.std.specs.Str.Lines.{lines}
-use Rattle.mspec.specs.Act.{Text}
-use Rattle.mspec.specs.Globals.{Globals}
 use Rattle.mspec.specs.Trees.{text_eq}
 use Rattle.mspec.specs.Access.{Account, Settings, account_at, account_named, name_at}
 use Rattle.mmeaning.specs.Transition as transition
-use Rattle.mmeaning.specs.History.{opening}
 use Rattle.misolation.specs.Reach.{reach}
 use Rattle.misolation.specs.Alone.{alone}
 use Rattle.misolation.specs.Telling.{Tells, told_to}
-use Rattle.mstore.specs.declared.store.NodeStore.{Ghosts}
 use Rattle.mjob.specs.declared.jobs.Store.{Store}
 use Rattle.mjob.specs.declared.jobs.Store.TheVariants as store
 use Rattle.mworld.specs.declared.world.World.{World}
-use Rattle.mworld.specs.View.{settings_of, world_of}
 use Rattle.mworld.specs.Isolated.{IsToldEach}
 use Rattle.mwire.specs.Wire.{events_of}
 use Rattle.mwire.specs.Only.{told_text, RanOnly, ServesOnly}
 use Rattle.mwire.specs.Watched.{inner_of, ReadFailed, WriteFailed}
-use Rattle.mwire.specs.declared.watched.Watched.{Watched}
-use Rattle.mwire.specs.declared.fault.WireFault.{WireFault}
 use Rattle.mwire.specs.declared.fault.WireFault.TheVariants.{Read, Write, Memory}
-use Rattle.mgrant.specs.Reading.{IsRead}
-use Rattle.mhost.specs.Runs.{AreUntouched, DeviceFailed, IsMemoryFault, IsStoreFault, NoSettings}
-use Rattle.mhost.specs.Only.{HasAccount, ToldAlone, ToldInForm, BeginsEmpty, BeginsSomehow, OnlyEndsEarly, FitsMemory, ServesAs, OnlyOver}
-use Rattle.mhost.specs.declared.fault.RunFault.{RunFault}
 use Rattle.mhost.specs.declared.fault.RunFault.TheVariants as early
 use Rattle.mspec.proofs.Basics.{by_test}
 

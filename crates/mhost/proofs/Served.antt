@@ -1,16 +1,8 @@
 -- SPDX-License-Identifier: Apache-2.0
 -- From what `serve` says of a world to what a run says of its store.
-use Rattle.std.proofs.Common.{◌≡◌, Option, Result, Ok, Err, ap, ◌∙◌}
-use Rattle.std.specs.FinMap.{empty}
-use Rattle.mspec.specs.Act.{Text}
-use Rattle.mspec.specs.Globals.{Globals}
+use Rattle.mhost.proofs.HostWords.{◌≡◌, Option, Result, Ok, Err, ap, ◌∙◌, empty, Text, Globals, opening, IsRead, Ghosts, WireFault, StreamAnswered, RunCutShort, Followed, ServedOver}
 use Rattle.mmeaning.specs.Transition.{Settings, World}
-use Rattle.mmeaning.specs.History.{opening}
-use Rattle.mgrant.specs.Reading.{IsRead}
-use Rattle.mstore.specs.declared.store.NodeStore.{Ghosts}
 use Rattle.mwire.specs.Serves.{Serves}
-use Rattle.mwire.specs.declared.fault.WireFault.{WireFault}
-use Rattle.mhost.specs.Runs.{StreamAnswered, RunCutShort, Followed, ServedOver}
 
 module _ {S V : Type 0} (g : Ghosts S) {settings settings' : Settings} {world : World} {globals : Globals} {content : V → Globals} {document : Text} {left left' held held' : Option Text}
     (reads : IsRead document settings) (same : settings' ≡ settings) (begins : world ≡ opening globals) where

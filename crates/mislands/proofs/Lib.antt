@@ -1,4 +1,5 @@
 -- SPDX-License-Identifier: Apache-2.0
+mod IslandWords
 mod NamesRead
 mod Lines
 mod Taken

@@ -1,16 +1,6 @@
 -- SPDX-License-Identifier: Apache-2.0
 -- An account by its name, and tests of what a list is mapped to.
-use Rattle.std.proofs.Common.{◌≡◌, inl, inr, ℕ, ◌+◌, ◌-◌, ◌<◌, Bool, true, false, List, ◌∷◌, length, map, get_or, take, Option, Some, None, refl, sym, ap, ◌∙◌, arith, option_map, unwrap_or, []}
-use Rattle.std.specs.List.{list_any, find, flat_map}
-use Rattle.std.specs.Cmp.Lexicographic.{bytes_decides}
-use Rattle.std.proofs.lemmas.Bool.{cases_Bool, false≢true}
-use Rattle.std.proofs.lemmas.List.{map_more, length-map, get_or-map}
-use Rattle.std.proofs.lemmas.List.Folds.{list_any_at, list_any-append}
-use Rattle.std.proofs.lemmas.Option.{none-some, same_Some}
-use Rattle.mspec.specs.Node.{Text}
-use Rattle.mspec.specs.Trees.{text_eq}
-use Rattle.mspec.specs.Access.{Settings, Account, account_at, account_named, name_at}
-use Rattle.mislands.specs.Listing.{names_of}
+use Rattle.mislands.proofs.IslandWords.{◌≡◌, inl, inr, ℕ, ◌+◌, ◌-◌, ◌<◌, Bool, true, false, List, ◌∷◌, length, map, get_or, take, Option, Some, None, refl, sym, ap, ◌∙◌, arith, option_map, unwrap_or, [], list_any, find, flat_map, bytes_decides, cases_Bool, false≢true, map_more, length-map, get_or-map, list_any_at, list_any-append, none-some, same_Some, Text, text_eq, Settings, Account, account_at, account_named, name_at, names_of}
 
 abbrev pub behind_spaces : List Text → Text
 behind_spaces names = flat_map (λ b. 32 ∷ b) names

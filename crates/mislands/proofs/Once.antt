@@ -1,19 +1,11 @@
 -- SPDX-License-Identifier: Apache-2.0
 -- Each account is in exactly one of the islands.
-use Rattle.std.proofs.Common.{◌≡◌, inl, inr, ℕ, ◌+◌, Bool, true, false, not, cond, List, ◌∷◌, ◌++◌, length, map, get_or, Some, refl, sym, ap, subst, ◌∙◌, append_assoc, length-append, arith, ◌&&◌, ◌||◌, slice_get, option_map, unwrap_or, count_by, ◌⊎◌, []}
+use Rattle.mislands.proofs.IslandWords.{◌≡◌, inl, inr, ℕ, ◌+◌, Bool, true, false, not, cond, List, ◌∷◌, ◌++◌, length, map, get_or, Some, refl, sym, ap, subst, ◌∙◌, append_assoc, length-append, arith, ◌&&◌, ◌||◌, slice_get, option_map, unwrap_or, count_by, ◌⊎◌, [], list_any, filter, range_with_len, bytes_decides, cases_Bool, or_cases, or_left, or_right, and_parts, and_from, false≢true, false_from_ne_true, list_any_at, list_any-append, Text, text_eq, Settings, Account, name_at, IsIslandOf, names_of, IsIslandBy, is_among, AreIslands, none, adds, has, EachInOne}
 use Rattle.std.proofs.Math.Bool.{or-false}
 use Rattle.std.specs.Cmp.{both_ways}
-use Rattle.std.specs.List.{list_any, filter, range_with_len}
-use Rattle.std.specs.Cmp.Lexicographic.{bytes_decides}
-use Rattle.std.proofs.lemmas.Bool.{cases_Bool, or_cases, or_left, or_right, and_parts, and_from, false≢true, false_from_ne_true}
-use Rattle.std.proofs.lemmas.List.Folds.{list_any_at, list_any-append}
 use Rattle.std.proofs.lemmas.List.Sums.{sum_by_push}
-use Rattle.mspec.specs.Node.{Text}
-use Rattle.mspec.specs.Trees.{text_eq}
-use Rattle.mspec.specs.Access.{Settings, Account, name_at}
 use Rattle.mspec.specs.Flow.{IsIsland}
-use Rattle.mgrant.specs.Islands.{IsIslandOf}
-use Rattle.mislands.specs.Listing.{names_of, names_at, IsIslandBy, is_among, AreIslands, none, adds, has, EachInOne}
+use Rattle.mislands.specs.Listing.{names_at}
 
 itself : (a : Text) → text_eq a a ≡ true
 itself a = (bytes_decides a a).1 refl

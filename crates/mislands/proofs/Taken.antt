@@ -1,6 +1,6 @@
 -- SPDX-License-Identifier: Apache-2.0
 -- Bytes that were read up to a bound.
-use Rattle.std.proofs.Common.{◌≡◌, ℕ, ◌+◌, ◌≤◌, List, length, take, Option, Some, None, ap, ◌∙◌, arith, option_map, IfSome, take_all, length-take}
+use Rattle.mislands.proofs.IslandWords.{◌≡◌, ℕ, ◌+◌, ◌≤◌, List, length, take, Option, Some, None, ap, ◌∙◌, arith, option_map, IfSome, take_all, length-take}
 
 -- fewer than the bound are all
 pub all_taken : (left : Option (List ℕ)) (n : ℕ) (bytes : List ℕ) → IfSome (option_map (take (n + 1)) left) (λ xs. bytes ≡ xs) → IfSome left (λ all. length bytes ≤ n → bytes ≡ all)

@@ -1,18 +1,9 @@
 -- SPDX-License-Identifier: Apache-2.0
 -- The number of the first bytes, and the order of lists by it.
-use Rattle.std.proofs.Common.{ℕ, zero, suc, Fits, w8, ◌≡◌, ◌+◌, ◌*◌, ◌/◌, ◌%◌, ◌^◌, ◌<◌, ◌≤◌, true, List, [], ◌∷◌, ◌++◌, get_or, drop, refl, sym, ◌∙◌, ap, arith, add-one, zero-add, inl, inr, ◌⊎◌}
+use Rattle.mkey.proofs.KeyWords.{ℕ, zero, suc, Fits, w8, ◌≡◌, ◌+◌, ◌*◌, ◌/◌, ◌%◌, ◌^◌, ◌<◌, ◌≤◌, true, List, [], ◌∷◌, ◌++◌, get_or, drop, refl, sym, ◌∙◌, ap, arith, add-one, zero-add, inl, inr, ◌⊎◌, slice_cmp, Ordering, Less, Equal, Greater, nat_cmp, ordering_then, ordering_reverse, is_ne, nat_list_cmp_total, mod_below, mul-add-lt, pow-add, div-add-mod', pow-suc, mul-le-mul_right, pow-le-pow_right, big_endian, head_number}
 use Rattle.std.proofs.Math.Facts.{Fits-lt-pow}
-use Rattle.std.specs.Cmp.Lexicographic.{slice_cmp}
 use Rattle.std.specs.Cmp.{nat_cmp_is, ranked}
-use Rattle.std.specs.declared.cmp.Ordering.{Ordering}
-use Rattle.std.specs.declared.cmp.Ordering.TheVariants.{Less, Equal, Greater}
-use Rattle.std.specs.Ordering.{nat_cmp, ordering_then, ordering_reverse, is_ne}
 use Rattle.std.proofs.lemmas.Bool.{cases_order}
-use Rattle.std.proofs.lemmas.Cmp.{nat_list_cmp_total}
-use Rattle.std.proofs.lemmas.Nat.{mod_below, mul-add-lt, pow-add}
-use Rattle.std.proofs.Math.Nat.{div-add-mod', pow-suc, mul-le-mul_right, pow-le-pow_right}
-use Rattle.mspec.specs.KeyBytes.{big_endian}
-use Rattle.mkey.specs.Head.{head_number}
 use Rattle.mkey.proofs.NumberBytes.{byte_pos}
 
 -- each is below 256

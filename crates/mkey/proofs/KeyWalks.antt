@@ -1,18 +1,8 @@
 -- SPDX-License-Identifier: Apache-2.0
 -- Where the subscripts of a key begin.
-use Rattle.std.proofs.Common.{ℕ, ◌≡◌, ◌==◌, ◌+◌, ◌-◌, ◌<◌, Bool, true, false, cond, not, nat_lt, Option, Some, None, MatchOption, List, [], ◌∷◌, ◌++◌, length, take, drop, All, refl, sym, ◌∙◌, ap, subst, arith, append_assoc, append-nil, length-append}
-use Rattle.std.proofs.Math.Seq.{take-append_seam, drop-append_seam}
-use Rattle.std.proofs.lemmas.Bool.Decides.{nat_tests}
-use Rattle.std.proofs.lemmas.List.Concat.{flat_map-append}
-use Rattle.std.proofs.lemmas.List.Elements.{All-head, All-tail, All-nil, All-cons}
-use Rattle.std.specs.List.{position, position_or_len}
+use Rattle.mkey.proofs.KeyWords.{ℕ, ◌≡◌, ◌+◌, ◌-◌, ◌<◌, Bool, true, cond, not, Option, Some, None, MatchOption, List, [], ◌∷◌, ◌++◌, length, take, drop, All, refl, sym, ◌∙◌, ap, subst, arith, append_assoc, append-nil, length-append, take-append_seam, drop-append_seam, nat_tests, flat_map-append, All-head, All-tail, All-nil, All-cons, position, position_or_len, text_bytes, subscript_bytes, subscripts_bytes, local_bytes, key_bytes, IsSubscript, IsAscii, IsAccountName, IsStored, IsName, canonical_value, significant_digits, tag_of, IsParent, IsLastAt}
+use Rattle.std.proofs.Common.{◌==◌, false, nat_lt}
 use Rattle.mspec.specs.Act.{Text, Node}
-use Rattle.mspec.specs.KeyBytes.{text_bytes, subscript_bytes, subscripts_bytes, local_bytes, key_bytes, IsSubscript, IsAscii, IsAccountName, IsStored}
-use Rattle.mspec.specs.Names.{IsName}
-use Rattle.mspec.specs.NodeOrder.{canonical_value}
-use Rattle.mspec.specs.Number.{significant_digits}
-use Rattle.mspec.proofs.KeyOrders.{tag_of}
-use Rattle.mkey.specs.Parent.{IsParent, IsLastAt}
 
 -- ---- texts
 

@@ -1,4 +1,5 @@
 -- SPDX-License-Identifier: Apache-2.0
+mod KeyWords
 pub mod NumberBytes
 pub mod Pushes
 pub mod ShortTexts

@@ -1,21 +1,9 @@
 -- SPDX-License-Identifier: Apache-2.0
 -- Keys of nodes that begin alike.
-use Rattle.std.proofs.Common.{ℕ, ◌≡◌, Bool, true, false, nat_eq, ◌&&◌, Option, None, List, [], ◌∷◌, ◌++◌, length, drop, refl, sym, ◌∙◌, ap, inl, inr, append_assoc, append-nil}
+use Rattle.mkey.proofs.KeyWords.{ℕ, ◌≡◌, Bool, true, nat_eq, ◌&&◌, Option, None, List, [], ◌∷◌, ◌++◌, length, drop, refl, sym, ◌∙◌, ap, inl, inr, append_assoc, append-nil, bytes_decides, starts_with, drop-append_seam, Decides-eqb, flat_map-append, starts_is, is_node_within, is_beside, text_bytes, subscript_bytes, subscripts_bytes, local_bytes, key_bytes, NoneEmpty, IsWithin, significant_digits, text_eq, is_within, child_of, keys_of_subtrees_begin_alike, child_under}
+use Rattle.std.proofs.Common.{false}
 use Rattle.std.specs.Prelude.{if◌then◌else◌}
-use Rattle.std.specs.Cmp.Lexicographic.{bytes_decides}
-use Rattle.std.specs.List.{starts_with}
-use Rattle.std.proofs.Math.Seq.{drop-append_seam}
-use Rattle.std.proofs.lemmas.Bool.Decides.{Decides-eqb}
-use Rattle.std.proofs.lemmas.List.Concat.{flat_map-append}
-use Rattle.std.proofs.lemmas.Slice.Eq.{starts_is}
-use Rattle.mspec.specs.Globals.{is_node_within, is_beside}
-use Rattle.mspec.specs.KeyBytes.{text_bytes, subscript_bytes, subscripts_bytes, local_bytes, key_bytes}
-use Rattle.mspec.specs.KeyLaws.{NoneEmpty, IsWithin}
 use Rattle.mspec.specs.Node.{Text, Node}
-use Rattle.mspec.specs.Number.{significant_digits}
-use Rattle.mspec.specs.Trees.{text_eq, is_within, child_of}
-use Rattle.mspec.proofs.KeyRanges.{keys_of_subtrees_begin_alike}
-use Rattle.mkey.specs.Under.{child_under}
 use Rattle.mkey.proofs.SubsKeys.{same_truth, split_within}
 
 abbrev key : Node → List ℕ

@@ -1,13 +1,7 @@
 -- SPDX-License-Identifier: Apache-2.0
 -- The bytes of a machine's number, high byte first.
-use Rattle.std.proofs.Common.{ℕ, zero, suc, ◌≡◌, ◌+◌, ◌*◌, ◌/◌, ◌%◌, ◌^◌, ◌<◌, List, [], ◌∷◌, ◌++◌, length, get_or, take, drop, refl, sym, ◌∙◌, ap, ap₂, arith, add-one, append_assoc}
-use Rattle.std.specs.Prelude.{ℤ}
+use Rattle.mkey.proofs.KeyWords.{ℕ, zero, suc, ◌≡◌, ◌+◌, ◌*◌, ◌/◌, ◌%◌, ◌^◌, ◌<◌, List, [], ◌∷◌, ◌++◌, length, get_or, take, drop, refl, sym, ◌∙◌, ap, ap₂, arith, add-one, append_assoc, ℤ, div-add-mod', one-le-pow, pow-suc, div-one, mod-eq_of_lt, mod_below, div-mul-add, mod-mul-add, mul-add-lt, pow-add, take_more, take-append_seam, big_endian, raised, number_bytes}
 use Rattle.std.specs.Int.{byte_at, bytes_high_first}
-use Rattle.std.proofs.Math.Nat.{div-add-mod', one-le-pow, pow-suc, div-one, mod-eq_of_lt}
-use Rattle.std.proofs.lemmas.Nat.{mod_below, div-mul-add, mod-mul-add, mul-add-lt, pow-add}
-use Rattle.std.proofs.lemmas.List.{take_more}
-use Rattle.std.proofs.Math.Seq.{take-append_seam}
-use Rattle.mspec.specs.KeyBytes.{big_endian, raised, number_bytes}
 
 pub byte_pos : (k : ℕ) → 0 < 256 ^ k
 byte_pos k = one-le-pow k 256 (omega arith)

@@ -1,15 +1,8 @@
 -- SPDX-License-Identifier: Apache-2.0
 -- Subscripts that are numbers.
-use Rattle.std.proofs.Common.{ℕ, ◌≡◌, ◌∷◌, List, Some, refl, ap, arith}
-use Rattle.mnum.specs.Num.{units}
+use Rattle.mkey.proofs.KeyWords.{ℕ, ◌≡◌, ◌∷◌, List, Some, refl, ap, arith, units, units_number, number_bytes, subscript_by, subscript_bytes, canonical_value, number_text, text_ascii, IsFront, BeginsWithNumber, IsSub}
 use Rattle.mnum.specs.declared.num.Num.{Num}
-use Rattle.mnum.proofs.Ranges.{units_number}
-use Rattle.mspec.specs.KeyBytes.{number_bytes, subscript_by, subscript_bytes}
-use Rattle.mspec.specs.NodeOrder.{canonical_value}
-use Rattle.mspec.specs.NumberText.{number_text}
-use Rattle.mvalue.proofs.AsciiNumbers.{text_ascii}
 use Rattle.mvalue.proofs.NumberLengths.{text_some, text_short}
-use Rattle.mkey.specs.Front.{IsFront, BeginsWithNumber, IsSub}
 use Rattle.mkey.proofs.SubscriptFronts.{text_of_number, number_begins}
 
 pub number_is_sub : (n : Num) → IsSub (number_text (units n))

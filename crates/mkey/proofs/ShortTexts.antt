@@ -1,12 +1,7 @@
 -- SPDX-License-Identifier: Apache-2.0
 -- The canonical value of a text, as code finds it.
-use Rattle.std.proofs.Common.{ℕ, ◌≡◌, ◌⊎◌, inl, inr, ◌*◌, ◌^◌, ◌<◌, ◌≤◌, true, Option, Some, None, List, [], ◌∷◌, length, get_or, All, refl, sym, ◌∙◌, subst, arith}
-use Rattle.std.specs.Prelude.{ℤ, pos, unsigned_abs, IfSome, OnSome}
+use Rattle.mkey.proofs.KeyWords.{ℕ, ◌≡◌, ◌⊎◌, inl, inr, ◌*◌, ◌^◌, ◌<◌, ◌≤◌, true, Option, Some, None, List, [], ◌∷◌, length, get_or, All, refl, sym, ◌∙◌, subst, arith, ℤ, pos, unsigned_abs, IfSome, OnSome, numeric_value, IsCanonical, canonical_value, canonical_of_value, value_of_canonical, value_in_range}
 use Rattle.mspec.specs.Literal.{is_digit, digits_after}
-use Rattle.mspec.specs.NumberText.{numeric_value, IsCanonical}
-use Rattle.mspec.specs.NodeOrder.{canonical_value}
-use Rattle.mspec.proofs.NodeOrders.{canonical_of_value, value_of_canonical}
-use Rattle.mspec.proofs.KeyOrders.{value_in_range}
 use Rattle.mspec.proofs.WholeTexts.{value_of_digits, zero_is_canonical, whole_is_canonical}
 
 -- a canonical text's value is the one that is read

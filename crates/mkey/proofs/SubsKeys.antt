@@ -1,29 +1,10 @@
 -- SPDX-License-Identifier: Apache-2.0
 -- Bytes of lists of subscripts that begin alike.
-use Rattle.std.proofs.Common.{ℕ, suc, ◌≡◌, ◌==◌, ◌<◌, ◌++◌, Bool, true, false, nat_eq, List, [], ◌∷◌, length, drop, Some, None, refl, sym, ◌∙◌, ap, ap₂, arith}
-use Rattle.std.specs.Prelude.{slice_get, if◌then◌else◌}
-use Rattle.std.specs.Cmp.Lexicographic.{bytes_decides, slice_cmp}
+use Rattle.mkey.proofs.KeyWords.{ℕ, suc, ◌≡◌, ◌<◌, ◌++◌, Bool, true, nat_eq, List, [], ◌∷◌, length, drop, Some, None, refl, sym, ◌∙◌, ap, ap₂, arith, slice_get, bytes_decides, slice_cmp, starts_with, nat_cmp, is_ne, Ordering, drop-append_seam, Decides-eqb, nat_tests, flat_map-append, All-push, starts_is, subscript_bytes, subscripts_bytes, NoneEmpty, canonical_value, subscripts_cmp, significant_digits, round, round_size, nearest, rounding_unit, digits_before, numeric_value, literal_size, size_text, is_within, child_of, tag_of, subscripts_order, subscripts_split, subscript_split, IsFront, BeginsWithNo, IsSub, AreSubs, head_number, IsSubsKeyOf, beyond, behind_below}
+use Rattle.std.proofs.Common.{◌==◌, false}
+use Rattle.std.specs.Prelude.{if◌then◌else◌}
 use Rattle.std.specs.Fmt.{digits}
-use Rattle.std.specs.List.{starts_with}
-use Rattle.std.specs.Ordering.{nat_cmp, is_ne}
-use Rattle.std.specs.declared.cmp.Ordering.{Ordering}
-use Rattle.std.proofs.Math.Seq.{drop-append_seam}
-use Rattle.std.proofs.lemmas.Bool.Decides.{Decides-eqb, nat_tests}
-use Rattle.std.proofs.lemmas.List.Concat.{flat_map-append}
-use Rattle.std.proofs.lemmas.List.Elements.{All-push}
-use Rattle.std.proofs.lemmas.Slice.Eq.{starts_is}
-use Rattle.mspec.specs.KeyBytes.{subscript_bytes, subscripts_bytes}
-use Rattle.mspec.specs.KeyLaws.{NoneEmpty}
 use Rattle.mspec.specs.Node.{Text}
-use Rattle.mspec.specs.NodeOrder.{canonical_value, subscripts_cmp}
-use Rattle.mspec.specs.Number.{significant_digits, round, round_size, nearest, rounding_unit, digits_before}
-use Rattle.mspec.specs.NumberText.{numeric_value, literal_size, size_text}
-use Rattle.mspec.specs.Trees.{is_within, child_of}
-use Rattle.mspec.proofs.KeyOrders.{tag_of, subscripts_order}
-use Rattle.mspec.proofs.KeyRanges.{subscripts_split, subscript_split}
-use Rattle.mkey.specs.Front.{IsFront, BeginsWithNo, IsSub, AreSubs}
-use Rattle.mkey.specs.Head.{head_number}
-use Rattle.mkey.specs.SubsKey.{IsSubsKeyOf, beyond, behind_below}
 use Rattle.mkey.proofs.Children.{at_front}
 use Rattle.mkey.proofs.Heads.{AreBytes, head_decides}
 use Rattle.mkey.proofs.SubscriptFronts.{nothing_begins}

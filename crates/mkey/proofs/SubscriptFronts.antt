@@ -1,22 +1,10 @@
 -- SPDX-License-Identifier: Apache-2.0
 -- The subscript that bytes begin with.
-use Rattle.std.proofs.Common.{ℕ, zero, suc, ◌≡◌, ◌≢◌, ◌+◌, ◌^◌, ◌<◌, ◌≤◌, Option, Some, None, List, [], ◌∷◌, ◌++◌, length, take, drop, refl, sym, ◌∙◌, ap, subst, arith, length-append, take-append-drop, add-one, ◌%◌}
-use Rattle.std.specs.Prelude.{ℤ, unsigned_abs}
+use Rattle.mkey.proofs.KeyWords.{ℕ, zero, suc, ◌≡◌, ◌≢◌, ◌+◌, ◌^◌, ◌<◌, ◌≤◌, Option, Some, None, List, [], ◌∷◌, ◌++◌, length, take, drop, refl, sym, ◌∙◌, ap, subst, arith, length-append, add-one, ◌%◌, ℤ, unsigned_abs, nat_cmp, Equal, take-append_seam, tied_itself, nat_cmp_total, big_endian, raised, number_bytes, text_bytes, subscript_by, subscript_bytes, IsAscii, IsNumber, numeric_value, number_text, IsCanonical, canonical_value, bytes_order, raised_below, raised_order, same_bytes, text_split, both_Equal, canonical_of_value, value_of_canonical, IsFront, BeginsWithNo, BeginsWithNumber, IsSub}
+use Rattle.std.proofs.Common.{take-append-drop}
 use Rattle.std.specs.FinMap.{nat_cmp-IsAntisymmetric, int_cmp-IsAntisymmetric}
-use Rattle.std.specs.Ordering.{nat_cmp}
-use Rattle.std.specs.declared.cmp.Ordering.TheVariants.{Equal}
-use Rattle.std.proofs.Math.Seq.{take-append_seam}
-use Rattle.std.proofs.lemmas.Cmp.{tied_itself, nat_cmp_total}
 use Rattle.mspec.specs.Act.{Text}
-use Rattle.mspec.specs.KeyBytes.{big_endian, raised, number_bytes, text_bytes, subscript_by, subscript_bytes, IsAscii}
-use Rattle.mspec.specs.Number.{IsNumber}
-use Rattle.mspec.specs.NumberText.{numeric_value, number_text, IsCanonical}
-use Rattle.mspec.specs.NodeOrder.{canonical_value}
-use Rattle.mspec.proofs.KeyOrders.{bytes_order, raised_below, raised_order}
-use Rattle.mspec.proofs.KeyRanges.{same_bytes, text_split}
-use Rattle.mspec.proofs.NodeOrders.{both_Equal, canonical_of_value, value_of_canonical}
 use Rattle.mspec.proofs.TextLaws.{text_has_value, value_is_number, canonical_by_more_digits}
-use Rattle.mkey.specs.Front.{IsFront, BeginsWithNo, BeginsWithNumber, IsSub}
 use Rattle.mkey.proofs.ShortTexts.{value_fits}
 
 abbrev NoSub : ℕ → List ℕ → Type 0

@@ -1,15 +1,7 @@
 -- SPDX-License-Identifier: Apache-2.0
 -- Lists of subscripts, and nodes, that bytes are.
-use Rattle.std.proofs.Common.{ℕ, ◌≡◌, ◌<◌, List, [], ◌∷◌, ◌++◌, length, drop, All, sym, ◌∙◌, ap, subst, arith, append_assoc, append-nil, length-append}
-use Rattle.std.proofs.lemmas.List.Concat.{flat_map-append}
-use Rattle.std.proofs.lemmas.List.Elements.{All-head, All-tail}
+use Rattle.mkey.proofs.KeyWords.{ℕ, ◌≡◌, ◌<◌, List, [], ◌∷◌, ◌++◌, length, drop, All, sym, ◌∙◌, ap, subst, arith, append_assoc, append-nil, length-append, flat_map-append, All-head, All-tail, IsName, text_bytes, subscript_bytes, subscripts_bytes, local_bytes, key_bytes, IsSubscript, IsAscii, IsAccountName, IsStored, NoneEmpty, IsBehind, subscripts_split, text_split, IsFront, BeginsWithNo, IsSub, AreSubs, IsKeyBy}
 use Rattle.mspec.specs.Act.{Text, Node}
-use Rattle.mspec.specs.Names.{IsName}
-use Rattle.mspec.specs.KeyBytes.{text_bytes, subscript_bytes, subscripts_bytes, local_bytes, key_bytes, IsSubscript, IsAscii, IsAccountName, IsStored}
-use Rattle.mspec.specs.KeyLaws.{NoneEmpty}
-use Rattle.mspec.proofs.KeyRanges.{IsBehind, subscripts_split, text_split}
-use Rattle.mkey.specs.Front.{IsFront, BeginsWithNo, IsSub, AreSubs}
-use Rattle.mkey.specs.Key.{IsKeyBy}
 
 -- ---- subscripts
 

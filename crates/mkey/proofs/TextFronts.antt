@@ -1,16 +1,9 @@
 -- SPDX-License-Identifier: Apache-2.0
 -- The text that bytes begin with.
-use Rattle.std.proofs.Common.{ℕ, ◌≡◌, ◌≢◌, ◌+◌, ◌-◌, ◌<◌, ◌≤◌, Option, Some, None, MatchOption, List, [], ◌∷◌, ◌++◌, map, length, get_or, drop, All, refl, sym, ◌∙◌, ap, subst, arith, append_assoc, append-nil, add-one, true, false, IsTrue}
-use Rattle.std.proofs.Math.Seq.{drop-cons}
+use Rattle.mkey.proofs.KeyWords.{ℕ, ◌≡◌, ◌≢◌, ◌+◌, ◌-◌, ◌<◌, ◌≤◌, Option, Some, None, MatchOption, List, [], ◌∷◌, ◌++◌, map, length, get_or, drop, All, refl, sym, ◌∙◌, ap, subst, arith, append_assoc, append-nil, add-one, true, drop-cons, map-append, nat_tests, All-nil, All-cons, AllAre, IsName, is_name_rest, is_name_start, text_bytes, IsAscii, text_split, IsFront, BeginsWithNo}
+use Rattle.std.proofs.Common.{false, IsTrue}
 use Rattle.std.proofs.Math.ListN.{drop_of_length-le}
-use Rattle.std.proofs.lemmas.List.{map-append}
-use Rattle.std.proofs.lemmas.Bool.Decides.{nat_tests}
-use Rattle.std.proofs.lemmas.List.Elements.{All-nil, All-cons}
 use Rattle.mspec.specs.Act.{Text}
-use Rattle.mspec.specs.Names.{AllAre, IsName, is_name_rest, is_name_start}
-use Rattle.mspec.specs.KeyBytes.{text_bytes, IsAscii}
-use Rattle.mspec.proofs.KeyRanges.{text_split}
-use Rattle.mkey.specs.Front.{IsFront, BeginsWithNo}
 
 -- each case of an option, told in other words
 pub match_map : {A : Type 0} {P P' : Type 0} {Q Q' : A → Type 0} (o : Option A) → (P → P') → ((a : A) → Q a → Q' a) → MatchOption o P Q → MatchOption o P' Q'

@@ -1,23 +1,10 @@
 -- SPDX-License-Identifier: Apache-2.0
 -- Variables that have no text left.
-use Rattle.std.proofs.Common.{◌≡◌, ℕ, suc, Bool, true, false, not, cond, ◌&&◌, List, [], ◌∷◌, length, map, Option, Some, None, refl, sym, ap, ◌∙◌, arith, is_none, nat_eq, BTreeMap, HashMap, Ordering, Less, Equal, Greater}
-use Rattle.std.specs.Cmp.Lexicographic.{slice_cmp, pointwise, texts_ties, nat_list_cmp_total}
-use Rattle.std.specs.FinMap.{get, insert, empty, entries, from_entries, retain_keys, entries-insert, len-empty, len-entries, get-remove, get-retain_keys, same_map}
-use Rattle.std.specs.FinMap.Entries.{by_order, put}
+use Rattle.mlocal.proofs.LocalWords.{◌≡◌, ℕ, suc, Bool, true, false, not, cond, ◌&&◌, List, [], ◌∷◌, length, map, Option, Some, None, refl, sym, ap, ◌∙◌, arith, is_none, nat_eq, HashMap, Ordering, Less, Equal, Greater, slice_cmp, pointwise, texts_ties, nat_list_cmp_total, insert, empty, entries, from_entries, retain_keys, entries-insert, len-empty, len-entries, get-remove, get-retain_keys, same_map, by_order, put, eq_by_cmp, nat_tests, eq_by_cmp_equiv, length-keys_of, map_of, hash_map_of, Text, subscripts_cmp, significant_digits, is_bare, Tree, text_eq, remove-hash_map_of, subscripts_cmp_total, with_own}
+use Rattle.std.proofs.Common.{BTreeMap}
+use Rattle.std.specs.FinMap.{get}
 use Rattle.std.specs.HashMap as hash
-use Rattle.std.specs.Ordering.{nat_cmp, eq_by_cmp}
-use Rattle.std.proofs.lemmas.Bool.Decides.{nat_tests}
-use Rattle.std.proofs.lemmas.Cmp.{eq_by_cmp_equiv}
-use Rattle.std.proofs.lemmas.Map.Entries.{length-keys_of}
-use Rattle.mspec.specs.Maps.{map_of, hash_map_of}
-use Rattle.mspec.specs.Node.{Text}
-use Rattle.mspec.specs.NodeOrder.{subscripts_cmp}
-use Rattle.mspec.specs.Number.{significant_digits}
-use Rattle.mspec.specs.Scopes.{is_bare}
-use Rattle.mspec.specs.Trees.{Tree, text_eq}
-use Rattle.mspec.proofs.HashMaps.{remove-hash_map_of}
-use Rattle.mspec.proofs.NodeOrders.{subscripts_cmp_total}
-use Rattle.mlocal.specs.Own.{with_own}
+use Rattle.std.specs.Ordering.{nat_cmp}
 use Rattle.mlocal.proofs.Views.{names_exact}
 
 abbrev R : List Text → List Text → Ordering

@@ -1,24 +1,10 @@
 -- SPDX-License-Identifier: Apache-2.0
 -- The lists of subscripts between two bounds.
-use Rattle.std.proofs.Common.{◌≡◌, ℕ, ◌<◌, Bool, true, false, not, ◌&&◌, List, [], ◌∷◌, ◌++◌, length, drop, All, Option, Some, None, refl, sym, ap, ◌∙◌, arith, append_assoc, append-nil, ℤ, slice_get, cond, Ordering, Less, Equal, Greater}
-use Rattle.std.proofs.lemmas.Bool.{false_from_ne_true}
-use Rattle.std.specs.Cmp.Lexicographic.{slice_cmp, bytes_decides}
+use Rattle.mlocal.proofs.LocalWords.{◌≡◌, ℕ, ◌<◌, Bool, true, false, not, ◌&&◌, List, [], ◌∷◌, ◌++◌, length, drop, All, Option, Some, None, refl, sym, ap, ◌∙◌, arith, append_assoc, append-nil, ℤ, slice_get, cond, Ordering, Less, Equal, Greater, false_from_ne_true, slice_cmp, bytes_decides, ordering_then, ordering_reverse, and-true, nat_tests, tied_itself, All-head, All-tail, All-drop, Text, canonical_value, Other, place, place_by, place_cmp, text_cmp, subscripts_cmp, significant_digits, round, round_size, nearest, rounding_unit, digits_before, text_eq, is_within, is_before, text_cmp_total, text_cmp_exact, IsSub, AreSubs, beyond, behind_below, is_between, is_from, passes, has_child}
 use Rattle.std.specs.Fmt.{digits}
-use Rattle.std.specs.Ordering.{nat_cmp, is_lt, is_le, ordering_then, ordering_reverse}
-use Rattle.std.proofs.Math.Bool.{and-true}
-use Rattle.std.proofs.lemmas.Bool.Decides.{nat_tests}
-use Rattle.std.proofs.lemmas.Cmp.{tied_itself}
-use Rattle.std.proofs.lemmas.List.Elements.{All-head, All-tail, All-drop}
-use Rattle.mspec.specs.Node.{Text}
-use Rattle.mspec.specs.NodeOrder.{canonical_value, Other, place, place_by, place_cmp, text_cmp, subscripts_cmp}
-use Rattle.mspec.specs.Number.{significant_digits, round, round_size, nearest, rounding_unit, digits_before}
+use Rattle.std.specs.Ordering.{nat_cmp, is_lt, is_le}
 use Rattle.mspec.specs.NumberText.{numeric_value, literal_size, size_text}
-use Rattle.mspec.specs.Trees.{text_eq, is_within, is_before}
-use Rattle.mspec.proofs.NodeOrders.{text_cmp_total, text_cmp_exact}
-use Rattle.mkey.specs.Front.{IsSub, AreSubs}
-use Rattle.mkey.specs.SubsKey.{beyond, behind_below}
 pub use Rattle.mkey.proofs.Children.{at_front, empty_first}
-use Rattle.mlocal.specs.Way.{is_between, is_from, passes, has_child}
 
 abbrev C : Text → Text → Ordering
 C = text_cmp significant_digits

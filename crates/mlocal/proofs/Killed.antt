@@ -1,12 +1,6 @@
 -- SPDX-License-Identifier: Apache-2.0
 -- KILL of all but some names, from the bottom up.
-use Rattle.std.proofs.Common.{◌≡◌, ℕ, ◌+◌, ◌<◌, Bool, true, false, ◌||◌, List, [], ◌∷◌, ◌++◌, length, reverse, take, drop, get_or, set, refl, sym, ap, ◌∙◌, append_assoc, ◌≤◌, arith, add-one, subst, drop-cons}
-use Rattle.std.proofs.Math.Bool.{or-false}
-use Rattle.std.specs.List.{list_any}
-use Rattle.std.proofs.lemmas.List.{reverse-append, take-append-drop, take_more_set, drop-set-lt, drop_all, take-set, length-set}
-use Rattle.mspec.specs.Node.{Text}
-use Rattle.mspec.specs.Scopes.{Scope, Scopes, has, emptied, killed_but}
-use Rattle.mlocal.specs.Home.{has_name, killed_up}
+use Rattle.mlocal.proofs.LocalWords.{◌≡◌, ℕ, ◌+◌, ◌<◌, Bool, true, false, ◌||◌, List, [], ◌∷◌, ◌++◌, length, reverse, take, drop, get_or, set, refl, sym, ap, ◌∙◌, append_assoc, ◌≤◌, arith, add-one, subst, drop-cons, or-false, list_any, reverse-append, take-append-drop, take_more_set, drop-set-lt, drop_all, take-set, length-set, Text, Scope, Scopes, has, emptied, killed_but, has_name, killed_up}
 use Rattle.mlocal.proofs.Stacks.{any-reverse}
 
 or_assoc : (a b c : Bool) → ((a || b) || c) ≡ (a || (b || c))

@@ -1,8 +1,6 @@
 -- SPDX-License-Identifier: Apache-2.0
 -- The scopes of levels above the one at the bottom.
-use Rattle.std.proofs.Common.{◌≡◌, Bool, List, [], ◌∷◌, ◌++◌, None, refl, sym, ap}
-use Rattle.mspec.specs.Node.{Text}
-use Rattle.mspec.specs.Scopes.{Scope, entered, emptied, outermost}
+use Rattle.mlocal.proofs.LocalWords.{◌≡◌, Bool, List, [], ◌∷◌, ◌++◌, None, refl, sym, ap, Text, Scope, entered, emptied, outermost}
 use Rattle.mspec.proofs.ComputedMaps.{no_trees_cut}
 
 -- all above the bottom go

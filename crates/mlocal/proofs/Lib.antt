@@ -1,4 +1,5 @@
 -- SPDX-License-Identifier: Apache-2.0
+mod LocalWords
 pub mod Views
 pub mod Stacks
 pub mod Levels

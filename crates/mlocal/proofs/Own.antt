@@ -1,27 +1,10 @@
 -- SPDX-License-Identifier: Apache-2.0
 -- The text of a variable beside those of its nodes with subscripts.
-use Rattle.std.proofs.Common.{◌≡◌, ◌<◌, Bool, true, false, not, ◌||◌, cond, List, [], ◌∷◌, ◌++◌, length, reverse, All, Option, Some, None, refl, sym, ap, ◌∙◌, arith, slice_get, is_eq, Ordering}
+use Rattle.mlocal.proofs.LocalWords.{◌≡◌, ◌<◌, Bool, true, false, not, ◌||◌, cond, List, [], ◌∷◌, ◌++◌, length, reverse, All, Option, Some, None, refl, sym, ap, ◌∙◌, arith, slice_get, is_eq, Ordering, IsOrdered, insert, empty, get-empty, get-insert, get-retain_keys, same_map, entries-insert, put, list_any, find, lookup, keys_of, option_or, reverse-append, All-head, All-tail, find-append, map_of, Text, subscripts_cmp, significant_digits, Tree, is_within, without, found_is_had, subscripts_cmp_total, subscripts_cmp_exact, AreSubs, with_own, AreSomeSubs, passes, has_child}
 use Rattle.std.specs.BTreeMap as tree
-use Rattle.std.specs.BTreeMap.{BTreeMap, IsOrdered}
+use Rattle.std.specs.BTreeMap.{BTreeMap}
 use Rattle.std.specs.FinMap as map
-use Rattle.std.specs.FinMap.{get, insert, empty, get-empty, get-insert, get-retain_keys, same_map, entries-insert}
-use Rattle.std.specs.FinMap.Entries.{put}
-use Rattle.std.specs.List.{list_any, find}
-use Rattle.std.specs.Map.{lookup, keys_of}
-use Rattle.std.specs.Option.{option_or}
-use Rattle.std.proofs.lemmas.List.{reverse-append}
-use Rattle.std.proofs.lemmas.List.Elements.{All-head, All-tail}
-use Rattle.std.proofs.lemmas.List.Folds.{find-append}
-use Rattle.mspec.specs.Maps.{map_of}
-use Rattle.mspec.specs.Node.{Text}
-use Rattle.mspec.specs.NodeOrder.{subscripts_cmp}
-use Rattle.mspec.specs.Number.{significant_digits}
-use Rattle.mspec.specs.Trees.{Tree, is_within, without}
-use Rattle.mspec.proofs.Maps.{found_is_had}
-use Rattle.mspec.proofs.NodeOrders.{subscripts_cmp_total, subscripts_cmp_exact}
-use Rattle.mkey.specs.Front.{AreSubs}
-use Rattle.mlocal.specs.Own.{with_own, AreSomeSubs}
-use Rattle.mlocal.specs.Way.{passes, has_child}
+use Rattle.std.specs.FinMap.{get}
 use Rattle.mlocal.proofs.Walks.{or_none, keys_are, entries_are_of}
 
 abbrev R : List Text → List Text → Ordering

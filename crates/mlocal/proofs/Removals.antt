@@ -1,22 +1,8 @@
 -- SPDX-License-Identifier: Apache-2.0
 -- A variable without the keys of a node and of the nodes below it.
-use Rattle.std.proofs.Common.{◌≡◌, Bool, true, false, not, cond, ◌||◌, List, [], ◌∷◌, map, All, Option, Some, None, refl, sym, ap, ◌∙◌, BTreeMap, filter, is_eq, Ordering, Less, Equal, Greater}
-use Rattle.std.proofs.Math.Bool.{or-true}
+use Rattle.mlocal.proofs.LocalWords.{◌≡◌, Bool, true, false, not, cond, ◌||◌, List, [], ◌∷◌, map, All, Option, Some, None, refl, sym, ap, ◌∙◌, is_eq, Ordering, Less, Equal, Greater, or-true, same_map, lookup, keys_of, tied_itself, All-head, All-tail, map_of, Text, subscripts_cmp, significant_digits, is_within, without, found_is_had, subscripts_cmp_total, subscripts_cmp_exact, behind_below, AreSomeSubs, is_from, is_one_of}
+use Rattle.std.proofs.Common.{BTreeMap, filter}
 use Rattle.std.specs.BTreeMap as tree
-use Rattle.std.specs.FinMap.{same_map}
-use Rattle.std.specs.Map.{lookup, keys_of}
-use Rattle.std.proofs.lemmas.Cmp.{tied_itself}
-use Rattle.std.proofs.lemmas.List.Elements.{All-head, All-tail}
-use Rattle.mspec.specs.Maps.{map_of}
-use Rattle.mspec.specs.Node.{Text}
-use Rattle.mspec.specs.NodeOrder.{subscripts_cmp}
-use Rattle.mspec.specs.Number.{significant_digits}
-use Rattle.mspec.specs.Trees.{is_within, without}
-use Rattle.mspec.proofs.Maps.{found_is_had}
-use Rattle.mspec.proofs.NodeOrders.{subscripts_cmp_total, subscripts_cmp_exact}
-use Rattle.mkey.specs.SubsKey.{behind_below}
-use Rattle.mlocal.specs.Own.{AreSomeSubs}
-use Rattle.mlocal.specs.Way.{is_from, is_one_of}
 use Rattle.mlocal.proofs.Bounds.{from_within}
 use Rattle.mlocal.proofs.Own.{retained}
 

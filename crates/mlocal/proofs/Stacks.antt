@@ -1,13 +1,6 @@
 -- SPDX-License-Identifier: Apache-2.0
 -- The scope where a name lives, by its place.
-use Rattle.std.proofs.Common.{◌≡◌, ℕ, ◌+◌, ◌<◌, Bool, true, false, cond, ◌||◌, List, [], ◌∷◌, ◌++◌, length, reverse, take, drop, get_or, set, Some, None, refl, sym, ap, ◌∙◌, append_assoc, add-one, arith, drop-cons}
-use Rattle.std.proofs.Math.Bool.{or-true}
-use Rattle.std.specs.List.{list_any}
-use Rattle.std.proofs.lemmas.List.{reverse-append, take-append-drop, set_split, drop_all}
-use Rattle.std.proofs.lemmas.List.Folds.{list_any-append}
-use Rattle.mspec.specs.Node.{Text}
-use Rattle.mspec.specs.Scopes.{Scope, Scopes, has, is_among, is_other, tree_in, tree_of, at_home, on_top, common}
-use Rattle.mlocal.specs.Home.{has_name, IsHome}
+use Rattle.mlocal.proofs.LocalWords.{◌≡◌, ℕ, ◌+◌, ◌<◌, Bool, true, false, cond, ◌||◌, List, [], ◌∷◌, ◌++◌, length, reverse, take, drop, get_or, set, Some, None, refl, sym, ap, ◌∙◌, append_assoc, add-one, arith, drop-cons, or-true, list_any, reverse-append, take-append-drop, set_split, drop_all, list_any-append, Text, Scope, Scopes, has, is_among, is_other, tree_in, tree_of, at_home, on_top, common, has_name, IsHome}
 
 flip-split : (xs : List Scope) (x : Scope) (ys bs : List Scope) → reverse (xs ++ x ∷ ys) ++ bs ≡ reverse ys ++ x ∷ (reverse xs ++ bs)
 flip-split xs x ys bs =

@@ -1,20 +1,10 @@
 -- SPDX-License-Identifier: Apache-2.0
 -- What a search in the map of a variable finds of its tree.
-use Rattle.std.proofs.Common.{◌≡◌, Bool, false, List, [], ◌++◌, reverse, All, Option, sym, ap, ◌∙◌, option_and_then, is_some}
+use Rattle.mlocal.proofs.LocalWords.{◌≡◌, Bool, false, List, [], ◌++◌, reverse, All, Option, sym, ap, ◌∙◌, option_and_then, is_some, IsOrdered, list_any, find, map_of, Text, subscripts_cmp, significant_digits, Tree, child_of, order_of, is_before, AreSubs, behind_below, with_own, AreSomeSubs, is_behind, is_between, has_child}
 use Rattle.std.specs.BTreeMap as tree
-use Rattle.std.specs.BTreeMap.{BTreeMap, IsOrdered}
+use Rattle.std.specs.BTreeMap.{BTreeMap}
 use Rattle.std.specs.FinMap as map
-use Rattle.std.specs.List.{list_any, find}
-use Rattle.mspec.specs.Maps.{map_of}
-use Rattle.mspec.specs.Node.{Text}
-use Rattle.mspec.specs.NodeOrder.{subscripts_cmp}
-use Rattle.mspec.specs.Number.{significant_digits}
 use Rattle.mspec.specs.Trees as trees
-use Rattle.mspec.specs.Trees.{Tree, child_of, order_of, is_before}
-use Rattle.mkey.specs.Front.{AreSubs}
-use Rattle.mkey.specs.SubsKey.{behind_below}
-use Rattle.mlocal.specs.Own.{with_own, AreSomeSubs}
-use Rattle.mlocal.specs.Way.{is_behind, is_between, has_child}
 use Rattle.mlocal.proofs.Own.{own_keys, subs_each, keys_with_own, not_child, first_of_others, last_of_others, any_of_others}
 use Rattle.mlocal.proofs.Walks.{find_alike, any_found, all_reversed, onward, order_forward}
 

@@ -1,17 +1,9 @@
 -- SPDX-License-Identifier: Apache-2.0
 -- Scopes of the code as scopes of the definitions.
-use Rattle.std.proofs.Common.{◌≡◌, Bool, true, false, not, cond, ◌||◌, Option, Some, None, List, [], ◌∷◌, Bor, Result, Ok, Err, map, refl, sym, ap, subst, ◌∙◌, option_map, unwrap_or, option_copied, IfOk, OnOk, OnErr, HashMap, filter, nat_cmp, Ordering, Equal}
-use Rattle.std.specs.Cmp.Lexicographic.{slice_cmp}
-use Rattle.std.specs.FinMap.{IsAntisymmetric, from_entries, get, empty, retain_keys, same_map, get-from_entries, get-retain_keys, nat_cmp-IsAntisymmetric, slice_cmp-IsAntisymmetric, insert}
-use Rattle.std.specs.FinMap.Entries.{where_key, find-where_key}
-use Rattle.std.specs.Cmp.{IsTotalOrder}
+use Rattle.mlocal.proofs.LocalWords.{◌≡◌, Bool, true, false, not, cond, ◌||◌, Option, Some, None, List, [], ◌∷◌, Bor, Result, Ok, Err, map, refl, sym, ap, subst, ◌∙◌, option_map, unwrap_or, option_copied, IfOk, OnOk, OnErr, HashMap, Ordering, Equal, slice_cmp, IsAntisymmetric, from_entries, empty, retain_keys, same_map, get-from_entries, get-retain_keys, nat_cmp-IsAntisymmetric, slice_cmp-IsAntisymmetric, insert, where_key, find-where_key, IsTotalOrder, filter_from_retain_pairs, hash_map_of, Text, Scope, with_tree, tree_in, is_bare, kill_in, Tree, text_eq, without, NamedTrees, tree_at, kill_at}
+use Rattle.std.proofs.Common.{filter, nat_cmp}
+use Rattle.std.specs.FinMap.{get}
 use Rattle.std.specs.Map.Calls.{RetainsPairs}
-use Rattle.std.proofs.lemmas.Map.Entries.{filter_from_retain_pairs}
-use Rattle.mspec.specs.Maps.{hash_map_of}
-use Rattle.mspec.specs.Node.{Text}
-use Rattle.mspec.specs.Scopes.{Scope, with_tree, tree_in, is_bare, kill_in}
-use Rattle.mspec.specs.Trees.{Tree, text_eq, without}
-use Rattle.mlocal.specs.Table.{NamedTrees, tree_at, kill_at}
 
 pub shown : {X : Type 0} (r : Option (Bor X)) → option_map (λ x. x.now) r ≡ option_copied r
 shown None = refl

@@ -1,32 +1,14 @@
 -- SPDX-License-Identifier: Apache-2.0
 -- The first and the last of the nodes that a test takes, as what $DATA and $ORDER ask.
-use Rattle.std.proofs.Common.{◌≡◌, Bool, true, false, not, ◌&&◌, ◌||◌, cond, List, [], ◌∷◌, ◌++◌, map, reverse, All, Option, Some, None, refl, sym, ap, ◌∙◌, subst, slice_get, option_and_then, option_map, is_some, T, is_lt, is_le, Ordering, Less, Equal, Greater}
-use Rattle.std.proofs.lemmas.Bool.{and_right}
+use Rattle.mlocal.proofs.LocalWords.{◌≡◌, Bool, true, false, not, ◌&&◌, ◌||◌, cond, List, [], ◌∷◌, ◌++◌, map, reverse, All, Option, Some, None, refl, sym, ap, ◌∙◌, subst, slice_get, option_and_then, option_map, is_some, T, Ordering, Less, Equal, Greater, and_right, IsOrdered, IsTotalOrder, IsAntisymmetric, from_entries, from_sorted, empty, entries, len-entries, len-empty, get-empty, same_map, get-from_entries, get-from_sorted, entries-from_sorted, is_sorted, below_all, list_any, find, flat_map, keys_of, option_to_list, option_or, reverse-append, map-id, find-append, All-after_first, All-head, All-tail, All-push, All-nil, map_of, Text, subscripts_cmp, significant_digits, Tree, is_below, child_of, order_of, is_before, is_empty, has_value, has_descendants, subscripts_cmp_total, AreSubs, behind_below, is_behind, is_between, passes, has_child}
+use Rattle.std.proofs.Common.{is_lt, is_le}
 use Rattle.std.specs.BTreeMap as tree
-use Rattle.std.specs.BTreeMap.{BTreeMap, IsOrdered}
-use Rattle.std.specs.Cmp.{IsTotalOrder}
+use Rattle.std.specs.BTreeMap.{BTreeMap}
 use Rattle.std.specs.FinMap as map
-use Rattle.std.specs.FinMap.{IsAntisymmetric, from_entries, from_sorted, empty, entries, len-entries, len-empty, get-empty, same_map, get-from_entries, get-from_sorted, entries-from_sorted}
-use Rattle.std.specs.FinMap.Entries.{is_sorted, below_all}
-use Rattle.std.specs.List.{list_any, find, filter, flat_map}
+use Rattle.std.specs.List.{filter}
 use Rattle.std.specs.List.Sorted.{IsStrictlySortedBy}
-use Rattle.std.specs.Map.{keys_of}
-use Rattle.std.specs.Option.{option_to_list, option_or}
-use Rattle.std.proofs.lemmas.List.{reverse-append, map-id}
-use Rattle.std.proofs.lemmas.List.Folds.{find-append}
 use Rattle.std.proofs.lemmas.Map.Keys.{sorted_tail}
-use Rattle.std.proofs.lemmas.Map.Views.{All-after_first}
-use Rattle.std.proofs.lemmas.List.Elements.{All-head, All-tail, All-push, All-nil}
-use Rattle.mspec.specs.Maps.{map_of}
-use Rattle.mspec.specs.Node.{Text}
-use Rattle.mspec.specs.NodeOrder.{subscripts_cmp}
-use Rattle.mspec.specs.Number.{significant_digits}
 use Rattle.mspec.specs.Trees as trees
-use Rattle.mspec.specs.Trees.{Tree, is_below, child_of, order_of, is_before, is_empty, has_value, has_descendants}
-use Rattle.mspec.proofs.NodeOrders.{subscripts_cmp_total}
-use Rattle.mkey.specs.Front.{AreSubs}
-use Rattle.mkey.specs.SubsKey.{behind_below}
-use Rattle.mlocal.specs.Way.{is_behind, is_between, passes, has_child}
 pub use Rattle.mkey.proofs.Children.{no_list, not_empty, split_last, whole, below_is}
 use Rattle.mkey.proofs.Children.{find_child, find_last_child}
 use Rattle.mlocal.proofs.Bounds.{below_all as each_below}

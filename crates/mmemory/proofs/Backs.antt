@@ -1,13 +1,6 @@
 -- SPDX-License-Identifier: Apache-2.0
 -- A change of chunks: its rows, and what takes it back.
-use Rattle.std.proofs.Common.{◌≡◌, ℕ, zero, suc, ◌+◌, ◌<◌, ◌≤◌, List, [], ◌∷◌, ◌++◌, length, take, drop, set, get_or, refl, sym, ap, ◌∙◌, arith, add-one, append_assoc}
-use Rattle.std.specs.List.{insert, remove}
-use Rattle.std.proofs.lemmas.Bool.{lt-ltb, le-leb}
-use Rattle.std.proofs.lemmas.List.{append-nil}
-use Rattle.std.proofs.lemmas.List.Edits.{length-insert, length-remove}
-use Rattle.std.proofs.lemmas.Grind.{flat_map-append}
-use Rattle.sqlite_value.specs.Order.{Row}
-use Rattle.mmemory.specs.Lists.{joined, put_in, taken, over, joined_at}
+use Rattle.mmemory.proofs.MemoryWords.{◌≡◌, ℕ, zero, suc, ◌+◌, ◌<◌, ◌≤◌, List, [], ◌∷◌, ◌++◌, length, take, drop, set, get_or, refl, sym, ap, ◌∙◌, arith, add-one, append_assoc, insert, remove, lt-ltb, le-leb, append-nil, length-insert, length-remove, flat_map-append, Row, joined, put_in, taken, over, joined_at}
 
 -- ---- one row
 

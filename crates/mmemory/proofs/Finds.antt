@@ -1,15 +1,6 @@
 -- SPDX-License-Identifier: Apache-2.0
 -- A search over chunks and rows.
-use Rattle.std.proofs.Common.{◌≡◌, ℕ, ◌+◌, ◌-◌, ◌≤◌, max, Bool, List, [], length, take, drop, get_or, refl, subst}
-use Rattle.std.proofs.Math.Seq.{take-nil, drop-nil}
-use Rattle.std.proofs.lemmas.List.{length-map}
-use Rattle.sqlite_value.specs.Order.{Row}
-use Rattle.sqlite_trees.proofs.ListLemmas.{all-append}
-use Rattle.mmemory.specs.declared.chunk.Chunk.{Chunk}
-use Rattle.mmemory.specs.Lists.{joined}
-use Rattle.mmemory.specs.Nest.{front, back}
-use Rattle.mmemory.specs.Plain.{chunk_rows, nest}
-use Rattle.mmemory.specs.Probe.{IsEdge, Falls, Splits}
+use Rattle.mmemory.proofs.MemoryWords.{◌≡◌, ℕ, ◌+◌, ◌-◌, ◌≤◌, max, Bool, List, [], length, take, drop, get_or, refl, subst, take-nil, drop-nil, length-map, Row, all-append, Chunk, joined, front, back, chunk_rows, nest, IsEdge, Falls, Splits}
 use Rattle.mmemory.proofs.Nests.{around}
 use Rattle.mmemory.proofs.Splits.{up_left, up_right, rows_passed, rows_failed, parts_passed, parts_failed, edge_map}
 use Rattle.mmemory.proofs.Some.{chunks_some}

@@ -1,4 +1,5 @@
 -- SPDX-License-Identifier: Apache-2.0
+mod MemoryWords
 pub mod Shown
 pub mod Nests
 pub mod Backs

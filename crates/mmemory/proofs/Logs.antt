@@ -1,27 +1,11 @@
 -- SPDX-License-Identifier: Apache-2.0
 -- A log with one more change.
-use Rattle.std.specs.Prelude.{if◌then◌else◌, slice_index}
-use Rattle.std.proofs.Common.{Result, Ok, Err, OnOk, OnErr, IsOk, is_ok, All, ◌≡◌, ◌⊎◌, ℕ, zero, suc, ◌+◌, ◌<◌, ◌≤◌, true, false, cond, eqb, List, [], ◌∷◌, ◌++◌, length, map, drop, set, get_or, refl, sym, ap, subst, ◌∙◌, arith, inl, inr, eq-eqb, ne_eqb}
-use Rattle.std.proofs.lemmas.Bool.{cases_eq}
-use Rattle.std.proofs.lemmas.List.{drop-append-le, map-set, set-get_or, get_or-set_same, length-map, length-append}
-use Rattle.std.proofs.Math.Seq.{map-set_same}
-use Rattle.std.proofs.Math.Logic.{∥∥₁_map, ∥∥₁_elim}
+use Rattle.mmemory.proofs.MemoryWords.{if◌then◌else◌, Result, Ok, Err, OnOk, OnErr, IsOk, is_ok, All, ◌≡◌, ◌⊎◌, ℕ, zero, suc, ◌+◌, ◌<◌, ◌≤◌, true, false, cond, eqb, List, [], ◌∷◌, ◌++◌, length, map, drop, set, get_or, refl, sym, ap, subst, ◌∙◌, arith, inl, inr, eq-eqb, ne_eqb, cases_eq, drop-append-le, map-set, set-get_or, get_or-set_same, length-map, length-append, map-set_same, ∥∥₁_map, ∥∥₁_elim, Row, with_tree, IsShaped, get_or-set_cases, Tree, Undo, Held, Plain, nest, plain, no_plain, heading, plain_rows, undone_step, Makes, HalvedAt, State, state_of, undone_one, undone, headings, rows_of, IsInOrder, AreInOrder, now, Keeps, Writes, shape_at, nest_at, Heading}
+use Rattle.std.specs.Prelude.{slice_index}
 use Rattle.sqlite_trees.specs.Props.{IsShaped-prop}
 use mathlib.Core.Path.{fun_ext}
-use Rattle.sqlite_value.specs.Order.{Row}
-use Rattle.sqlite_trees.specs.Tree.{with_tree}
-use Rattle.sqlite_trees.specs.View.{IsShaped}
-use Rattle.sqlite_trees.proofs.StoreLemmas.{get_or-set_cases}
-use Rattle.mmemory.specs.declared.tree.Tree.{Tree}
 use Rattle.mmemory.specs.declared.step.Step.{Step}
-use Rattle.mmemory.specs.declared.undo.Undo.{Undo}
 use Rattle.mmemory.specs.declared.undo.Undo.TheVariants.{Step as OfTree}
-use Rattle.mmemory.specs.declared.held.Held.{Held}
-use Rattle.mmemory.specs.Plain.{Plain, nest, plain, no_plain, heading, plain_rows, undone_step}
-use Rattle.mmemory.specs.Changes.{Makes, HalvedAt}
-use Rattle.mmemory.specs.States.{State, state_of, undone_one, undone, headings, rows_of, IsInOrder, AreInOrder}
-use Rattle.mmemory.specs.Held.{now, Keeps, Writes, shape_at, nest_at}
-use Rattle.sqlite_trees.specs.Listing.{Heading}
 use Rattle.mmemory.proofs.Shown.{drop_past, shown_at}
 
 pub undone_more : (log : List Undo) (u : Undo) (s : State) → undone (log ++ u ∷ []) s ≡ undone log (undone_one u s)

@@ -1,17 +1,6 @@
 -- SPDX-License-Identifier: Apache-2.0
 -- What each change makes of a tree.
-use Rattle.std.proofs.Common.{◌≡◌, ℕ, zero, suc, ◌+◌, ◌<◌, ◌≤◌, min, List, [], ◌∷◌, ◌++◌, length, take, drop, set, get_or, refl, sym, ap, subst, ◌∙◌, arith, add-one}
-use Rattle.std.specs.List.{insert, remove}
-use Rattle.std.proofs.lemmas.List.{map-set, length-map, length-append, map-append, take-map, drop-map, take_min, drop_min}
-use Rattle.std.proofs.lemmas.Bool.{lt-ltb, le-leb}
-use Rattle.std.proofs.lemmas.List.Edits.{length-remove}
-use Rattle.sqlite_value.specs.Order.{Row}
-use Rattle.mmemory.specs.declared.chunk.Chunk.{Chunk}
-use Rattle.mmemory.specs.declared.step.Step.TheVariants.{DropRow, PutRow, SetRow, DropChunk, PutChunk, Join}
-use Rattle.mmemory.specs.Lists.{joined, put_in, taken, over, joined_at}
-use Rattle.mmemory.specs.Nest.{front, back}
-use Rattle.mmemory.specs.Plain.{Plain, chunk_rows, nest, with_chunks, plain_rows}
-use Rattle.mmemory.specs.Changes.{Makes, HalvedAt}
+use Rattle.mmemory.proofs.MemoryWords.{◌≡◌, ℕ, zero, suc, ◌+◌, ◌<◌, ◌≤◌, min, List, [], ◌∷◌, ◌++◌, length, take, drop, set, get_or, refl, sym, ap, subst, ◌∙◌, arith, add-one, insert, remove, map-set, length-map, length-append, map-append, take-map, drop-map, take_min, drop_min, lt-ltb, le-leb, length-remove, Row, Chunk, DropRow, PutRow, SetRow, DropChunk, PutChunk, Join, joined, put_in, taken, over, joined_at, front, back, Plain, chunk_rows, nest, with_chunks, plain_rows, Makes, HalvedAt}
 use Rattle.mmemory.proofs.Shown.{shown_at}
 use Rattle.mmemory.proofs.Some.{some_length}
 use Rattle.mmemory.proofs.Backs.{put_fits, remove_inserted, insert_removed, set_back, put_taken, taken_put, over_back, over_rows, put_rows, cut_rows, changed_rows, inserted_rows, gone_rows, joined_back, joined_rows}

@@ -1,18 +1,6 @@
 -- SPDX-License-Identifier: Apache-2.0
 -- A place of a chunk that is made two.
-use Rattle.std.proofs.Common.{◌≡◌, ℕ, zero, suc, ◌+◌, ◌-◌, ◌<◌, ◌≤◌, Bool, true, false, leb, cond, List, [], ◌∷◌, ◌++◌, length, take, drop, get_or, refl, sym, ap, subst, ◌∙◌, arith, add-one, append_assoc}
-use Rattle.std.proofs.lemmas.Bool.{leb-true, leb-false}
-use Rattle.std.proofs.lemmas.List.{take-append-le, drop-append-le, length-append}
-use Rattle.std.proofs.Math.Seq.{take-append-add, drop-append-add}
-use Rattle.sqlite_value.specs.Order.{Row}
-use Rattle.mmemory.specs.Lists.{joined}
-use Rattle.mmemory.specs.declared.held.Held.{Held}
-use Rattle.mmemory.specs.declared.place.Place.{Place}
-use Rattle.mmemory.specs.declared.tree.Tree.{Tree}
-use Rattle.mmemory.specs.Nest.{front, back, rows_at}
-use Rattle.mmemory.specs.Plain.{Plain, plain, no_plain, tree_nest}
-use Rattle.mmemory.specs.Changes.{HalvedAt, is_moved}
-use Rattle.mmemory.specs.Held.{Keeps, nest_at}
+use Rattle.mmemory.proofs.MemoryWords.{◌≡◌, ℕ, zero, suc, ◌+◌, ◌-◌, ◌<◌, ◌≤◌, Bool, true, false, leb, cond, List, [], ◌∷◌, ◌++◌, length, take, drop, get_or, refl, sym, ap, subst, ◌∙◌, arith, add-one, append_assoc, leb-true, leb-false, take-append-le, drop-append-le, length-append, take-append-add, drop-append-add, Row, joined, Held, Place, Tree, front, back, rows_at, Plain, plain, no_plain, tree_nest, HalvedAt, is_moved, Keeps, nest_at}
 use Rattle.mmemory.proofs.Shown.{shown_at}
 use Rattle.mmemory.proofs.Logs.{same_count}
 use Rattle.mmemory.proofs.Nests.{from_place, up_to_place}

@@ -1,14 +1,6 @@
 -- SPDX-License-Identifier: Apache-2.0
 -- The rows around a place.
-use Rattle.std.proofs.Common.{◌≡◌, ℕ, zero, suc, ◌+◌, ◌-◌, ◌≤◌, min, List, [], ◌∷◌, ◌++◌, length, take, drop, get_or, slice_get, Some, None, refl, sym, ap, ◌∙◌, arith, add-one, append_assoc}
-use Rattle.std.specs.List.{flat_map}
-use Rattle.std.proofs.lemmas.List.{take-append-drop, append-nil, length-drop, drop_min}
-use Rattle.std.proofs.Math.Seq.{take-nil, drop-nil}
-use Rattle.std.proofs.lemmas.Grind.{flat_map-append}
-use Rattle.sqlite_value.specs.Order.{Row}
-use Rattle.mmemory.specs.declared.place.Place.{Place}
-use Rattle.mmemory.specs.Lists.{joined}
-use Rattle.mmemory.specs.Nest.{rows_at, before, after, after_row}
+use Rattle.mmemory.proofs.MemoryWords.{◌≡◌, ℕ, zero, suc, ◌+◌, ◌-◌, ◌≤◌, min, List, [], ◌∷◌, ◌++◌, length, take, drop, get_or, slice_get, Some, None, refl, sym, ap, ◌∙◌, arith, add-one, append_assoc, flat_map, take-append-drop, append-nil, length-drop, drop_min, take-nil, drop-nil, flat_map-append, Row, Place, joined, rows_at, before, after, after_row}
 
 module _ {A : Type 0} (f : A → List Row) (d : A) (none : f d ≡ []) where
   -- a list from a place on: what stands there, and the rest

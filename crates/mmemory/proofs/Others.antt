@@ -1,29 +1,9 @@
 -- SPDX-License-Identifier: Apache-2.0
 -- Trees that are made, replaced and described, with what the log has to take that back.
-use Rattle.std.proofs.Common.{◌≡◌, ℕ, zero, suc, ◌+◌, ◌-◌, ◌<◌, ◌≤◌, List, [], ◌∷◌, ◌++◌, length, map, take, drop, replicate, set, get_or, refl, sym, ap, subst, ◌∙◌, arith}
-use Rattle.std.proofs.Math.Logic.{∥∥₁_map}
-use Rattle.std.proofs.Math.Seq.{take-append_seam}
-use Rattle.std.proofs.lemmas.List.{append-nil, map-append, map-set, length-map, length-append}
+use Rattle.mmemory.proofs.MemoryWords.{◌≡◌, ℕ, zero, suc, ◌+◌, ◌-◌, ◌<◌, ◌≤◌, List, [], ◌∷◌, ◌++◌, length, map, take, drop, replicate, set, get_or, refl, sym, ap, subst, ◌∙◌, arith, ∥∥₁_map, take-append_seam, append-nil, map-append, map-set, length-map, length-append, Row, Object, Shape, Absent, Table, Index, Pageless, FrozenTable, FrozenIndex, Heading, no_heading, shape_in, reals_in, reals_unless_absent, padded, snapshot_of, catalog_tree, version_tree, set_at, with_version, description, Trees, with_tree, IsShaped, Tree, Undo, Put, Shorten, Held, Plain, plain, no_plain, heading, plain_rows, Describes, State, state_of, undone_one, undone, headings, rows_of, shown, IsInOrder, AreInOrder, Labels, now, moment, KeepsPast, KeepsShown, Pads, Puts}
 use mathlib.Core.Path.{fun_ext}
-use Rattle.sqlite_value.specs.Order.{Row}
-use Rattle.sqlite_trees.specs.declared.schema.Object.{Object}
-use Rattle.sqlite_trees.specs.declared.store.Shape.{Shape}
-use Rattle.sqlite_trees.specs.declared.store.Shape.TheVariants.{Absent, Table, Index, Pageless, FrozenTable, FrozenIndex}
-use Rattle.sqlite_trees.specs.Listing.{Heading, no_heading, shape_in, reals_in, reals_unless_absent}
-use Rattle.sqlite_trees.specs.Log.{padded}
-use Rattle.sqlite_trees.specs.Memory.{snapshot_of}
-use Rattle.sqlite_trees.specs.Objects.{catalog_tree, version_tree, set_at, with_version, description}
-use Rattle.sqlite_trees.specs.Tree.{Trees, with_tree}
-use Rattle.sqlite_trees.specs.View.{IsShaped}
-use Rattle.mmemory.specs.declared.tree.Tree.{Tree}
 use Rattle.mmemory.specs.declared.step.Step.{Step}
-use Rattle.mmemory.specs.declared.undo.Undo.{Undo}
-use Rattle.mmemory.specs.declared.undo.Undo.TheVariants.{Step as OfTree, Put, Shorten}
-use Rattle.mmemory.specs.declared.held.Held.{Held}
-use Rattle.mmemory.specs.Plain.{Plain, plain, no_plain, heading, plain_rows}
-use Rattle.mmemory.specs.Changes.{Describes}
-use Rattle.mmemory.specs.States.{State, state_of, undone_one, undone, headings, rows_of, shown, IsInOrder, AreInOrder, Labels}
-use Rattle.mmemory.specs.Held.{now, moment, KeepsPast, KeepsShown, Pads, Puts}
+use Rattle.mmemory.specs.declared.undo.Undo.TheVariants.{Step as OfTree}
 use Rattle.mmemory.proofs.Shown.{drop_past, shown_at}
 use Rattle.mmemory.proofs.Backs.{set_back}
 use Rattle.mmemory.proofs.Logs.{moment_more, order_more, step_back, in_order, other_rows}

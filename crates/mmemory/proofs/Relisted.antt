@@ -1,20 +1,6 @@
 -- SPDX-License-Identifier: Apache-2.0
 -- Trees that are listed as other objects, one after another.
-use Rattle.std.proofs.Common.{◌≡◌, ℕ, zero, suc, ◌+◌, ◌<◌, ◌≤◌, List, [], ◌∷◌, length, take, drop, get_or, Result, Ok, Err, OnOk, OnErr, is_err, true, false, true≢false, refl, sym, ap, ◌∙◌, arith}
-use Rattle.std.specs.List.{AllByRecursion}
-use Rattle.std.proofs.lemmas.List.{take_more, length-map}
-use Rattle.sqlite_trees.specs.declared.schema.Object.{Object}
-use Rattle.sqlite_trees.specs.View.{View}
-use Rattle.sqlite_trees.specs.declared.error.StoreError.{StoreError}
-use Rattle.sqlite_trees.specs.Objects.{Relists, MayRelist, FailsToRelist}
-use Rattle.sqlite_trees.specs.Listing.{shape_in}
-use Rattle.sqlite_trees.proofs.StoreLemmas.{relists_more}
-use Rattle.mmemory.specs.declared.held.Held.{Held}
-use Rattle.mmemory.specs.declared.memory.Memory.{Memory}
-use Rattle.mmemory.specs.Plain.{plain, heading}
-use Rattle.mmemory.specs.States.{headings, shown, undone}
-use Rattle.mmemory.specs.Held.{now, moment, KeepsPast, KeepsShown, Relabels}
-use Rattle.mmemory.specs.Memory.{memory_view, current, marks_of, all_kept}
+use Rattle.mmemory.proofs.MemoryWords.{◌≡◌, ℕ, zero, suc, ◌+◌, ◌<◌, ◌≤◌, List, [], ◌∷◌, length, take, drop, get_or, Result, Ok, Err, OnOk, OnErr, is_err, true, false, true≢false, refl, sym, ap, ◌∙◌, arith, AllByRecursion, take_more, length-map, Object, View, StoreError, Relists, MayRelist, FailsToRelist, shape_in, relists_more, Held, Memory, plain, heading, headings, shown, undone, now, moment, KeepsPast, KeepsShown, Relabels, memory_view, current, marks_of, all_kept}
 use Rattle.mmemory.proofs.Views.{shape_at, present_within, beside, relabelled, seen}
 
 pub each_at : {X : Type 0} (P : X → Type 0) (xs : List X) (at : ℕ) (d : X) → AllByRecursion P xs → at < length xs → P (get_or xs at d)

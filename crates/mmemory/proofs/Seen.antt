@@ -1,18 +1,6 @@
 -- SPDX-License-Identifier: Apache-2.0
 -- A tree of the list, and what the transaction sees of it.
-use Rattle.std.proofs.Common.{◌≡◌, ◌≢◌, ℕ, zero, suc, ◌^◌, ◌<◌, List, [], ◌∷◌, length, map, get_or, refl, sym, ap, subst, ◌∙◌, arith}
-use Rattle.std.proofs.lemmas.List.{length-map}
-use Rattle.sqlite_trees.specs.declared.store.Shape.TheVariants.{Absent, Table}
-use Rattle.sqlite_trees.specs.Listing.{Heading, no_heading, shape_in}
-use Rattle.sqlite_trees.specs.View.{IsShaped}
-use Rattle.mmemory.specs.declared.tree.Tree.{Tree}
-use Rattle.mmemory.specs.declared.held.Held.{Held}
-use Rattle.mmemory.specs.declared.memory.Memory.{Memory}
-use Rattle.mmemory.specs.Lists.{joined}
-use Rattle.mmemory.specs.Plain.{Plain, plain, no_plain, heading, tree_nest, tree_rows}
-use Rattle.mmemory.specs.States.{headings}
-use Rattle.mmemory.specs.Held.{now, shape_at, nest_at}
-use Rattle.mmemory.specs.Memory.{memory_view}
+use Rattle.mmemory.proofs.MemoryWords.{◌≡◌, ◌≢◌, ℕ, zero, suc, ◌^◌, ◌<◌, List, [], ◌∷◌, length, map, get_or, refl, sym, ap, subst, ◌∙◌, arith, length-map, Absent, Table, Heading, no_heading, shape_in, IsShaped, Tree, Held, Memory, joined, Plain, plain, no_plain, heading, tree_nest, tree_rows, headings, now, shape_at, nest_at, memory_view}
 use Rattle.mmemory.proofs.Shown.{shown_at}
 use Rattle.mmemory.proofs.Logs.{shaped_now}
 use Rattle.mmemory.proofs.Views.{present_within, shape_at as shape_named}

@@ -1,11 +1,6 @@
 -- SPDX-License-Identifier: Apache-2.0
 -- Each chunk of a tree has a row.
-use Rattle.std.proofs.Common.{◌≡◌, ◌≢◌, ℕ, zero, suc, ◌<◌, ◌≤◌, List, [], ◌∷◌, length, drop, get_or, refl, arith}
-use Rattle.std.specs.List.{AllByRecursion}
-use Rattle.sqlite_value.specs.Order.{Row}
-use Rattle.mmemory.specs.declared.chunk.Chunk.{Chunk}
-use Rattle.mmemory.specs.Lists.{joined}
-use Rattle.mmemory.specs.Plain.{nest}
+use Rattle.mmemory.proofs.MemoryWords.{◌≡◌, ◌≢◌, ℕ, zero, suc, ◌<◌, ◌≤◌, List, [], ◌∷◌, length, drop, get_or, refl, arith, AllByRecursion, Row, Chunk, joined, nest}
 
 abbrev pub AreSome : List (List Row) → Type 0
 AreSome = AllByRecursion (λ rows. rows ≢ [])

@@ -1,13 +1,6 @@
 -- SPDX-License-Identifier: Apache-2.0
 -- A search by halves finds where the rows cease to pass.
-use Rattle.std.proofs.Common.{◌≡◌, ◌≢◌, ℕ, zero, suc, ◌+◌, ◌-◌, ◌<◌, ◌≤◌, max, Bool, true, false, List, [], ◌∷◌, ◌++◌, length, map, take, drop, get_or, slice_get, Some, refl, sym, ap, subst, ◌∙◌, arith, add-one, true≢false, inl, inr, eq-or-lt_of_le}
-use Rattle.std.specs.List.{flat_map, AllByRecursion}
-use Rattle.std.proofs.lemmas.List.{take-append-drop}
-use Rattle.sqlite_value.specs.Order.{Row}
-use Rattle.sqlite_trees.specs.Tree.{IsAscending}
-use Rattle.sqlite_trees.proofs.ListLemmas.{all-append, all_weaker}
-use Rattle.sqlite_trees.proofs.TreeLemmas.{not_true}
-use Rattle.mmemory.specs.Probe.{IsEdge, Falls}
+use Rattle.mmemory.proofs.MemoryWords.{◌≡◌, ◌≢◌, ℕ, zero, suc, ◌+◌, ◌-◌, ◌<◌, ◌≤◌, max, Bool, true, false, List, [], ◌∷◌, ◌++◌, length, map, take, drop, get_or, slice_get, Some, refl, sym, ap, subst, ◌∙◌, arith, add-one, true≢false, inl, inr, eq-or-lt_of_le, flat_map, AllByRecursion, take-append-drop, Row, IsAscending, all-append, all_weaker, not_true, IsEdge, Falls}
 use Rattle.mmemory.proofs.Shown.{drop_past}
 use Rattle.mmemory.proofs.Nests.{around, from_place, drop_at, take_at}
 

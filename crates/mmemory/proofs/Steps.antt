@@ -1,12 +1,6 @@
 -- SPDX-License-Identifier: Apache-2.0
 -- The row that comes next at a place, and the one that comes before it.
-use Rattle.std.proofs.Common.{◌≡◌, ℕ, zero, suc, ◌+◌, ◌<◌, ◌≤◌, min, List, [], ◌∷◌, length, take, drop, get_or, Option, Some, None, refl, sym, ap, ◌∙◌, arith}
-use Rattle.std.specs.Prelude.{IfSome}
-use Rattle.std.proofs.lemmas.List.{append-nil, take_min}
-use Rattle.sqlite_value.specs.Order.{Row}
-use Rattle.mmemory.specs.declared.place.Place.{Place}
-use Rattle.mmemory.specs.Lists.{joined}
-use Rattle.mmemory.specs.Nest.{front, rows_at, before, after}
+use Rattle.mmemory.proofs.MemoryWords.{◌≡◌, ℕ, zero, suc, ◌+◌, ◌<◌, ◌≤◌, min, List, [], ◌∷◌, length, take, drop, get_or, Option, Some, None, refl, sym, ap, ◌∙◌, arith, IfSome, append-nil, take_min, Row, Place, joined, front, rows_at, before, after}
 use Rattle.mmemory.proofs.Shown.{drop_past}
 use Rattle.mmemory.proofs.Nests.{up_to_place, take_past}
 use Rattle.mmemory.proofs.Some.{AreSome, no_chunk}

@@ -1,29 +1,8 @@
 -- SPDX-License-Identifier: Apache-2.0
 -- From the trees of a store to what it shows.
-use Rattle.std.proofs.Common.{All, ◌≡◌, ◌≢◌, ℕ, zero, suc, ◌+◌, ◌-◌, ◌^◌, ◌<◌, ◌≤◌, pos, true, false, cond, eqb, List, [], ◌∷◌, ◌++◌, length, map, replicate, get_or, set, Option, Some, option_map, Result, Ok, Err, OnOk, OnErr, IfErr, refl, sym, ap, subst, ◌∙◌, arith, eq-eqb, ne_eqb, inl, inr}
-use Rattle.std.proofs.lemmas.Bool.{cases_eq}
-use Rattle.std.proofs.lemmas.List.{length-append, length-replicate, length-map}
+use Rattle.mmemory.proofs.MemoryWords.{All, ◌≡◌, ◌≢◌, ℕ, zero, suc, ◌+◌, ◌-◌, ◌^◌, ◌<◌, ◌≤◌, pos, true, false, cond, eqb, List, [], ◌∷◌, ◌++◌, length, map, replicate, get_or, set, Option, Some, option_map, Result, Ok, Err, OnOk, OnErr, IfErr, refl, sym, ap, subst, ◌∙◌, arith, eq-eqb, ne_eqb, inl, inr, cases_eq, length-append, length-replicate, length-map, Row, StoreError, Object, Shape, Absent, Table, with_tree, put_row, without_rowid, View, Snapshot, KeepsSchema, SetsTree, OnlyWrites, IsFailure, padded, catalog_tree, version_tree, with_version, description, object_row, set_at, SetsObject, Relists, Heading, no_heading, shape_in, reals_in, reals_unless_absent, objects_from, objects_from-set, objects_from-unset, named, unnumbered, under_version, versioned_edit, versioned_object, get_or-set_cases, present_reals, Tree, Memory, snapshot_of, Plain, plain, heading, plain_rows, State, headings, rows_of, shown, WithTree, Labels, now, moment, KeepsPast, Keeps, KeepsShown, Writes, Puts, Held, current, marks_of, view_of, memory_view}
 use mathlib.Core.Path.{fun_ext}
-use Rattle.sqlite_value.specs.Order.{Row}
-use Rattle.sqlite_trees.specs.declared.error.StoreError.{StoreError}
-use Rattle.sqlite_trees.specs.declared.schema.Object.{Object}
-use Rattle.sqlite_trees.specs.declared.store.Shape.{Shape}
-use Rattle.sqlite_trees.specs.declared.store.Shape.TheVariants.{Absent, Table}
-use Rattle.sqlite_trees.specs.Tree.{with_tree, put_row, without_rowid}
-use Rattle.sqlite_trees.specs.View.{View, Snapshot, KeepsSchema, SetsTree, OnlyWrites, IsFailure}
-use Rattle.sqlite_trees.specs.Log.{padded}
-use Rattle.sqlite_trees.specs.Objects.{catalog_tree, version_tree, with_version, description, object_row, set_at, SetsObject, Relists}
-use Rattle.sqlite_trees.specs.Listing.{Heading, no_heading, shape_in, reals_in, reals_unless_absent, objects_from, objects_from-set, objects_from-unset}
-use Rattle.sqlite_trees.proofs.StoreLemmas.{named, unnumbered, under_version, versioned_edit, versioned_object, get_or-set_cases, present_reals}
-use Rattle.mmemory.specs.declared.tree.Tree.{Tree}
-use Rattle.mmemory.specs.declared.memory.Memory.{Memory}
-use Rattle.sqlite_trees.specs.Memory.{snapshot_of}
 use Rattle.mmemory.proofs.Shown.{shown_at, not_shown}
-use Rattle.mmemory.specs.Plain.{Plain, plain, heading, plain_rows}
-use Rattle.mmemory.specs.States.{State, headings, rows_of, shown, WithTree, Labels}
-use Rattle.mmemory.specs.Held.{now, moment, KeepsPast, Keeps, KeepsShown, Writes, Puts}
-use Rattle.mmemory.specs.declared.held.Held.{Held}
-use Rattle.mmemory.specs.Memory.{current, marks_of, view_of, memory_view}
 
 -- ---- numbers that no tree has
 

@@ -1,23 +1,12 @@
 -- SPDX-License-Identifier: Apache-2.0
 -- What stands around the place of a search gives the words of the contracts.
-use Rattle.std.proofs.Common.{◌≡◌, ℤ, Bool, true, false, not, List, [], ◌∷◌, ◌++◌, filter, reverse, drop, get_or, refl, sym, ap, subst, ◌∙◌, Ordering, Less, Equal, Greater, is_lt, is_gt, is_eq, true≢false}
-use Rattle.std.specs.List.{AllByRecursion}
+use Rattle.mmemory.proofs.MemoryWords.{◌≡◌, ℤ, Bool, true, false, not, List, [], ◌∷◌, ◌++◌, filter, reverse, drop, get_or, refl, sym, ap, subst, ◌∙◌, Ordering, Less, Equal, Greater, is_lt, is_gt, is_eq, true≢false, AllByRecursion, Order, Row, value_cmp, entry_cmp, prefix_cmp, rowid, has_rowid, IsAscending, IsTable, IsIndex, from_key, up_to_key, put_row, insert_entry, without_rowid, remove_entry, ascending_weaker, all_weaker, filter_all, filter_none, AtMost, IsSortedTree, prefix_cmp_follows, not_true, Place, joined, before, after, Falls, Splits, Skips}
 use Rattle.std.specs.Cmp.{IsTotalOrder}
 use Rattle.std.proofs.lemmas.Cmp.{alike_right}
 use Rattle.sqlite_value.specs.declared.value.Value.{Value}
 use Rattle.sqlite_value.specs.declared.value.Value.TheVariants.{Int}
-use Rattle.sqlite_value.specs.declared.keys.Order.{Order}
-use Rattle.sqlite_value.specs.Order.{Row, value_cmp}
-use Rattle.sqlite_value.specs.Keys.{entry_cmp, prefix_cmp}
 use Rattle.sqlite_value.proofs.KeyLemmas.{entry_cmp_total}
 use Rattle.sqlite_value.proofs.OrderLemmas.{value_cmp_total}
-use Rattle.sqlite_trees.specs.Tree.{rowid, has_rowid, IsAscending, IsTable, IsIndex, from_key, up_to_key, put_row, insert_entry, without_rowid, remove_entry}
-use Rattle.sqlite_trees.proofs.ListLemmas.{ascending_weaker, all_weaker, filter_all, filter_none}
-use Rattle.sqlite_trees.proofs.TreeLemmas.{AtMost, IsSortedTree, prefix_cmp_follows, not_true}
-use Rattle.mmemory.specs.declared.place.Place.{Place}
-use Rattle.mmemory.specs.Lists.{joined}
-use Rattle.mmemory.specs.Nest.{before, after}
-use Rattle.mmemory.specs.Probe.{Falls, Splits, Skips}
 use Rattle.mmemory.proofs.Nests.{whole}
 use Rattle.mmemory.proofs.Splits.{up_right}
 

@@ -1,26 +1,12 @@
 -- SPDX-License-Identifier: Apache-2.0
 -- What the writes make of a tree of the transaction.
-use Rattle.std.proofs.Common.{Bor, ◌≡◌, ℕ, ℤ, ◌+◌, ◌<◌, true, false, List, ◌∷◌, ◌++◌, length, get_or, refl, sym, ap, subst, ◌∙◌, inl, inr, eq-eqb, ne_eqb, arith}
-use Rattle.std.proofs.lemmas.Bool.{cases_eq}
+use Rattle.mmemory.proofs.MemoryWords.{Bor, ◌≡◌, ℕ, ℤ, ◌+◌, ◌<◌, true, false, List, ◌∷◌, ◌++◌, length, get_or, refl, sym, ap, subst, ◌∙◌, inl, inr, eq-eqb, ne_eqb, arith, cases_eq, Order, owned, Row, rowid, IsTable, IsIndex, put_row, insert_entry, without_rowid, remove_entry, IsShaped, Held, Tree, Place, joined, before, after, after_row, Plain, plain, no_plain, tree_nest, tree_rows, rows_of, now, Writes, shape_at, nest_at}
 use mathlib.Core.Path.{fun_ext}
 use Rattle.sqlite_value.specs.declared.row.Row.{Row as Given}
-use Rattle.sqlite_value.specs.declared.keys.Order.{Order}
 use Rattle.sqlite_value.specs.declared.value.ValueRef.{ValueRef}
 use Rattle.sqlite_value.specs.declared.value.ValueRef.TheVariants.{Int}
-use Rattle.sqlite_value.specs.Value.{owned}
-use Rattle.sqlite_value.specs.Order.{Row}
-use Rattle.sqlite_trees.specs.Tree.{rowid, IsTable, IsIndex, put_row, insert_entry, without_rowid, remove_entry}
-use Rattle.sqlite_trees.specs.View.{IsShaped}
-use Rattle.mmemory.specs.declared.held.Held.{Held}
-use Rattle.mmemory.specs.declared.tree.Tree.{Tree}
-use Rattle.mmemory.specs.declared.place.Place.{Place}
 use Rattle.mmemory.specs.declared.probe.Probe.TheVariants.{BelowRowid, BelowEntry}
-use Rattle.mmemory.specs.Lists.{joined}
-use Rattle.mmemory.specs.Nest.{before, after, after_row}
-use Rattle.mmemory.specs.Plain.{Plain, plain, no_plain, tree_nest, tree_rows}
 use Rattle.mmemory.specs.Sought.{IsSought}
-use Rattle.mmemory.specs.States.{rows_of}
-use Rattle.mmemory.specs.Held.{now, Writes, shape_at, nest_at}
 use Rattle.mmemory.proofs.Shown.{shown_at}
 use Rattle.mmemory.proofs.Nests.{whole}
 use Rattle.mmemory.proofs.Logs.{shaped_now}

@@ -1,13 +1,10 @@
 -- SPDX-License-Identifier: Apache-2.0
 -- What `rounded` returns, on plain numbers.
-use Rattle.std.proofs.Common.{ℕ, suc, ◌≡◌, ◌+◌, ◌*◌, ◌-◌, ◌/◌, ◌^◌, ◌<◌, ◌≤◌, ◌⊎◌, ◌≢◌, Option, Some, None, refl, sym, ◌∙◌, ap, arith, inl, inr, ⊎_elim, MatchOption, option_map}
-use Rattle.std.proofs.Math.Nat.{mul-le-mul_right, pow-le-pow_right, mul_assoc, mul-lt-mul_of_pos_right, lt_of_mul-lt-mul_right, pow-suc, div-mul-le_self}
+use Rattle.mnum.proofs.NumWords.{ℕ, suc, ◌≡◌, ◌+◌, ◌*◌, ◌-◌, ◌/◌, ◌^◌, ◌<◌, ◌≤◌, ◌⊎◌, ◌≢◌, Option, Some, None, refl, sym, ◌∙◌, ap, arith, inl, inr, ⊎_elim, MatchOption, option_map, pow-le-pow_right, lt_of_mul-lt-mul_right, div-mul-le_self, IsFloor, IsFine, ten_pos, ten_add, round_size}
+use Rattle.std.proofs.Math.Nat.{mul-le-mul_right, mul_assoc, mul-lt-mul_of_pos_right, pow-suc}
 use Rattle.mnum.proofs.Rounds.{Drops, drops_some, drops_none, exact_some, over_none}
-use Rattle.mnum.specs.Floor.{IsFloor, IsFine}
 use Rattle.mnum.specs.Size.{size_units}
 use Rattle.mnum.specs.declared.size.Size.{Size}
-use Rattle.mspec.proofs.Powers.{ten_pos, ten_add}
-use Rattle.mspec.specs.Number.{round_size}
 
 -- d digits of n are to be dropped
 pub record Cut (kept n t d ten : ℕ) : Type 0 where

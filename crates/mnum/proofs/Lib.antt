@@ -1,4 +1,5 @@
 -- SPDX-License-Identifier: Apache-2.0
+mod NumWords
 pub mod Ranges
 pub mod ShortWholes
 pub mod Starts

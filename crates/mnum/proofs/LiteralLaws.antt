@@ -1,13 +1,6 @@
 -- SPDX-License-Identifier: Apache-2.0
 -- The parts of a literal.
-use Rattle.std.proofs.Common.{ℕ, ◌≡◌, ◌+◌, ◌*◌, ◌^◌, ◌<◌, ◌≤◌, Bool, true, false, cond, not, eqb, Option, List, ◌++◌, drop, length, get_or, refl, sym, ◌∙◌, ap, subst, arith, inl, inr, ⊎_elim, add-one, drop-cons, option_map}
-use Rattle.std.proofs.lemmas.Bool.Decides.{nat_tests}
-use Rattle.std.proofs.lemmas.List.Sums.{fold-append, prefix_len_is}
-use Rattle.std.specs.List.{prefix_len}
-use Rattle.mnum.specs.Head.{IsHead, IsCapped}
-use Rattle.mspec.specs.Literal.{is_digit, with_digit, digits_after}
-use Rattle.mspec.specs.Number.{round_size, signed}
-use Rattle.mspec.specs.NumberText.{is_sign, is_negated, front_digits, fraction_digits, after_digits, after_fraction, front_exponent, literal_size, numeric_value}
+use Rattle.mnum.proofs.NumWords.{ℕ, ◌≡◌, ◌+◌, ◌*◌, ◌^◌, ◌<◌, ◌≤◌, Bool, true, false, cond, not, eqb, Option, List, ◌++◌, drop, length, get_or, refl, sym, ◌∙◌, ap, subst, arith, inl, inr, ⊎_elim, add-one, drop-cons, option_map, nat_tests, fold-append, prefix_len_is, prefix_len, IsHead, IsCapped, is_digit, with_digit, digits_after, round_size, signed, is_sign, is_negated, front_digits, fraction_digits, after_digits, after_fraction, front_exponent, literal_size, numeric_value}
 
 negated_at : (s : List ℕ) (i : ℕ) → i < length s → is_negated (drop i s) ≡ cond (eqb (get_or s i 0) 45) (not (is_negated (drop (i + 1) s))) (cond (eqb (get_or s i 0) 43) (is_negated (drop (i + 1) s)) false)
 negated_at s i h = rw (add-one, drop-cons s i 0) refl

@@ -1,12 +1,9 @@
 -- SPDX-License-Identifier: Apache-2.0
 -- The order and the sum of two numbers in their own places, in a machine's numbers.
-use Rattle.std.proofs.Common.{ℕ, ◌≡◌, ◌*◌, ◌-◌, ◌^◌, ◌<◌, ◌≤◌, Bool, true, false, cond, refl, ◌∙◌, ap, arith, Less, Equal, Greater, ℤ, pos, negsuc, ◌+ℤ◌, unsigned_abs, w64, int_cmp, Ordering, mul-lt-mul_of_pos_right, mul-le-mul_right, mul-pos, le-ltb}
+use Rattle.mnum.proofs.NumWords.{ℕ, ◌≡◌, ◌*◌, ◌-◌, ◌^◌, ◌<◌, ◌≤◌, Bool, true, false, cond, refl, ◌∙◌, ap, arith, Less, Equal, Greater, ℤ, pos, negsuc, ◌+ℤ◌, unsigned_abs, w64, int_cmp, Ordering, le-ltb, nat_tests, ten_pos, ints, signed}
+use Rattle.std.proofs.Common.{mul-lt-mul_of_pos_right, mul-le-mul_right, mul-pos}
 use lib.Signed.{lt_z}
-use Rattle.std.proofs.lemmas.Bool.Decides.{nat_tests}
-use Rattle.mspec.proofs.Powers.{ten_pos}
 use mir.Val.{to_z, of_z}
-use Rattle.std.proofs.lemmas.Int.{ints}
-use Rattle.mspec.specs.Number.{signed}
 
 -- a number below 10 ^ 18 in size fits 64 bits
 fits_64 : (s : Bool) (n : ℕ) → n < 10 ^ 18 → to_z w64 (of_z w64 (signed s n)) ≡ signed s n

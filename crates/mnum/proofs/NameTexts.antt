@@ -1,9 +1,6 @@
 -- SPDX-License-Identifier: Apache-2.0
 -- When a text is a name, and that a name's characters are below 128.
-use Rattle.std.proofs.Common.{ℕ, ◌≡◌, ◌<◌, ◌≤◌, true, List, [], ◌∷◌, length, get_or, drop, All, sym, subst, arith}
-use Rattle.std.proofs.lemmas.List.Elements.{All-nil, All-cons, All-head, All-tail}
-use Rattle.std.proofs.lemmas.Bool.Decides.{nat_tests}
-use Rattle.mspec.specs.Names.{AllAre, IsName, is_name_start, is_name_rest}
+use Rattle.mnum.proofs.NumWords.{ℕ, ◌≡◌, ◌<◌, ◌≤◌, true, List, [], ◌∷◌, length, get_or, drop, All, sym, subst, arith, All-nil, All-cons, All-head, All-tail, nat_tests, AllAre, IsName, is_name_start, is_name_rest}
 
 abbrev AllPass : List ℕ → Type 0
 AllPass cs = All (λ c. is_name_rest c ≡ true) cs

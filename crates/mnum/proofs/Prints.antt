@@ -1,14 +1,8 @@
 -- SPDX-License-Identifier: Apache-2.0
 -- Texts of numbers.
-use Rattle.std.proofs.Common.{ℕ, zero, suc, ◌≡◌, ◌+◌, ◌*◌, ◌-◌, ◌/◌, ◌%◌, ◌^◌, ◌<◌, ◌≤◌, Bool, true, false, not, cond, eqb, List, [], ◌∷◌, ◌++◌, length, refl, sym, ◌∙◌, ap, subst, arith, append_assoc, decimal, append-nil}
-use Rattle.std.proofs.Math.Nat.{zero-mul, mul-div-mul_right, div-add-mod', mul-pos}
-use Rattle.std.proofs.lemmas.Nat.{mod_below}
+use Rattle.mnum.proofs.NumWords.{ℕ, zero, suc, ◌≡◌, ◌+◌, ◌*◌, ◌-◌, ◌/◌, ◌%◌, ◌^◌, ◌<◌, ◌≤◌, Bool, true, false, not, cond, eqb, List, [], ◌∷◌, ◌++◌, length, refl, sym, ◌∙◌, ap, subst, arith, append_assoc, decimal, append-nil, mul-div-mul_right, div-add-mod', mod_below, nat_tests, ten_pos, ten_add, signed, fraction_text, whole_text, point_text, size_text, number_text, text_of_whole}
+use Rattle.std.proofs.Math.Nat.{zero-mul, mul-pos}
 use Rattle.std.proofs.lemmas.Fmt.{length-decimal-le}
-use Rattle.std.proofs.lemmas.Bool.Decides.{nat_tests}
-use Rattle.mspec.proofs.Powers.{ten_pos, ten_add}
-use Rattle.mspec.specs.Number.{signed}
-use Rattle.mspec.specs.NumberText.{fraction_text, whole_text, point_text, size_text, number_text}
-use Rattle.mspec.proofs.WholeTexts.{text_of_whole}
 
 eqb_zero : (n : ℕ) → 0 < n → eqb n 0 ≡ false
 eqb_zero n h = grind (arith, nat_tests)

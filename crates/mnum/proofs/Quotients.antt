@@ -1,16 +1,10 @@
 -- SPDX-License-Identifier: Apache-2.0
 -- The quotient of two sizes.
-use Rattle.std.proofs.Common.{ℕ, zero, suc, ◌≡◌, ◌+◌, ◌*◌, ◌-◌, ◌/◌, ◌%◌, Some, ◌^◌, ◌<◌, ◌≤◌, ◌⊎◌, Bool, true, false, not, Option, None, refl, sym, ◌∙◌, ap, subst, arith, inl, inr, ⊎_elim, unsigned_abs, option_map}
-use Rattle.mspec.proofs.DistanceLaws.{abs_signed}
-use Rattle.std.proofs.Math.Nat.{div-add-mod, zero-mul, div-le_self, mul-le-mul_right, mul-le-mul_left, mul-pos, div-mul-le_self, lt-div-mul-add, mul-lt-mul_of_pos_right, mul_assoc}
-use Rattle.std.proofs.lemmas.Nat.{le-div}
+use Rattle.mnum.proofs.NumWords.{ℕ, zero, suc, ◌≡◌, ◌+◌, ◌*◌, ◌-◌, ◌/◌, ◌%◌, Some, ◌^◌, ◌<◌, ◌≤◌, ◌⊎◌, Bool, true, false, not, Option, None, refl, sym, ◌∙◌, ap, subst, arith, inl, inr, ⊎_elim, unsigned_abs, option_map, abs_signed, div-add-mod, div-mul-le_self, lt-div-mul-add, le-div, IsFloor, IsFine, ten_pos, ten_add, round_none, round_size, signed, over_size, round}
+use Rattle.std.proofs.Math.Nat.{zero-mul, div-le_self, mul-le-mul_right, mul-le-mul_left, mul-pos, mul-lt-mul_of_pos_right, mul_assoc}
 use mathlib.Core.Bool.{beq}
 use Rattle.mnum.proofs.Rounds.{exact_some}
 use Rattle.mnum.proofs.SignLaws.{with_sign}
-use Rattle.mnum.specs.Floor.{IsFloor, IsFine}
-use Rattle.mspec.proofs.Powers.{ten_pos, ten_add}
-use Rattle.mspec.proofs.Rounding.{round_none}
-use Rattle.mspec.specs.Number.{round_size, signed, over_size, round}
 
 pub over_size_signed : (s t : Bool) (m n : ℕ) → 0 < n → over_size (signed s m) (signed t n) ≡ signed (not (beq s t)) m
 over_size_signed s t m zero h = absurd (omega arith)

@@ -1,10 +1,6 @@
 -- SPDX-License-Identifier: Apache-2.0
 -- The range of a number.
-use Rattle.std.proofs.Common.{ℕ, ◌≡◌, ◌*◌, ◌-◌, ◌^◌, ◌<◌, refl, subst, sym, arith, unsigned_abs}
-use Rattle.mspec.proofs.DistanceLaws.{abs_signed}
-use Rattle.mspec.specs.Number.{IsNumber}
-use Rattle.mnum.specs.Num.{units}
-use Rattle.mnum.specs.declared.num.Num.{Num}
+use Rattle.mnum.proofs.NumWords.{ℕ, ◌≡◌, ◌*◌, ◌-◌, ◌^◌, ◌<◌, refl, subst, sym, arith, unsigned_abs, abs_signed, IsNumber, units, Num}
 use Rattle.mnum.proofs.Sums.{places_below}
 
 -- each value is a number of the language

@@ -1,19 +1,9 @@
 -- SPDX-License-Identifier: Apache-2.0
 -- What a division with floor leaves.
-use Rattle.std.proofs.Common.{ℕ, zero, suc, ◌≡◌, ◌+◌, ◌*◌, ◌-◌, ◌/◌, ◌%◌, ◌^◌, ◌<◌, ◌≤◌, Bool, true, false, cond, not, eqb, refl, sym, ◌∙◌, ap, subst, arith, inl, ⊎_elim, ℤ, pos, negsuc, ◌-ℤ◌, ◌*ℤ◌, neg_ℤ, unsigned_abs, Option, Some, None, option_map}
-use Rattle.mspec.proofs.DistanceLaws.{abs_signed}
-use Rattle.std.specs.Int.{int_div_euclid}
-use Rattle.std.proofs.lemmas.Int.{ints}
-use Rattle.std.proofs.lemmas.Nat.{mod_below}
-use Rattle.std.proofs.lemmas.Bool.{cases_eq}
-use Rattle.std.proofs.lemmas.Bool.Decides.{nat_tests}
-use Rattle.std.proofs.Math.Nat.{div-mul-le_self, pow-le-pow_right, mul-lt-mul_of_pos_right, mul-le-mul_right, zero-mul, mul-sub, mul-pos, mul_assoc, div-add-mod, div-eq_of_lt-le, mul_comm}
+use Rattle.mnum.proofs.NumWords.{ℕ, zero, suc, ◌≡◌, ◌+◌, ◌*◌, ◌-◌, ◌/◌, ◌%◌, ◌^◌, ◌<◌, ◌≤◌, Bool, true, false, cond, not, eqb, refl, sym, ◌∙◌, ap, subst, arith, inl, ⊎_elim, ℤ, pos, negsuc, ◌-ℤ◌, ◌*ℤ◌, neg_ℤ, unsigned_abs, Option, Some, None, option_map, abs_signed, int_div_euclid, ints, mod_below, cases_eq, nat_tests, div-mul-le_self, pow-le-pow_right, mul-sub, div-add-mod, div-eq_of_lt-le, mul_comm, IsFloor, IsFine, floor_left, ten_pos, ten_add, round_some, digits_before_le, rounding_unit_is, round_size, nearest, rounding_unit, digits_before, signed, round, floor_remainder}
+use Rattle.std.proofs.Math.Nat.{mul-lt-mul_of_pos_right, mul-le-mul_right, zero-mul, mul-pos, mul_assoc}
 use mathlib.Core.Bool.{beq}
 use Rattle.mnum.proofs.SignLaws.{with_sign, exact_floor}
-use Rattle.mnum.specs.Floor.{IsFloor, IsFine, floor_left}
-use Rattle.mspec.proofs.Powers.{ten_pos, ten_add}
-use Rattle.mspec.proofs.Rounding.{round_some, digits_before_le, rounding_unit_is}
-use Rattle.mspec.specs.Number.{round_size, nearest, rounding_unit, digits_before, signed, round, floor_remainder}
 use Rattle.mnum.proofs.Prints.{scaled_remainder}
 
 eqb_zero : (n : ℕ) → (n ≡ 0 → ⊥) → eqb n 0 ≡ false

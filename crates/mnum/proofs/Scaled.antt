@@ -1,12 +1,7 @@
 -- SPDX-License-Identifier: Apache-2.0
 -- The size of a number from its first digits.
-use Rattle.std.proofs.Common.{ℕ, ◌≡◌, ◌+◌, ◌*◌, ◌-◌, ◌^◌, ◌<◌, ◌≤◌, ◌⊎◌, Some, None, sym, ◌∙◌, ap, arith, inl, inr, ⊎_elim}
-use Rattle.std.proofs.Math.Nat.{mul-le-mul_right, mul-lt-mul_of_pos_right, mul_assoc, pow-le-pow_right}
-use Rattle.mnum.specs.Floor.{IsFloor, IsFine}
-use Rattle.mnum.specs.Head.{IsHead}
-use Rattle.mspec.proofs.Powers.{ten_pos, ten_add}
-use Rattle.mspec.proofs.Rounding.{round_none, round_small, round_zero}
-use Rattle.mspec.specs.Number.{round_size}
+use Rattle.mnum.proofs.NumWords.{ℕ, ◌≡◌, ◌+◌, ◌*◌, ◌-◌, ◌^◌, ◌<◌, ◌≤◌, ◌⊎◌, Some, None, sym, ◌∙◌, ap, arith, inl, inr, ⊎_elim, pow-le-pow_right, IsFloor, IsFine, IsHead, ten_pos, ten_add, round_none, round_small, round_zero, round_size}
+use Rattle.std.proofs.Math.Nat.{mul-le-mul_right, mul-lt-mul_of_pos_right, mul_assoc}
 
 -- the number with its exponent, between its first digits and the next
 head_low : (n d number a : ℕ) → IsHead n d number → n * 10 ^ (d + a) ≤ number * 10 ^ a

@@ -1,11 +1,6 @@
 -- SPDX-License-Identifier: Apache-2.0
 -- When one to eighteen digits are canonical.
-use Rattle.std.proofs.Common.{ℕ, suc, ◌≡◌, ◌<◌, ◌≤◌, true, not, List, [], ◌∷◌, length, get_or, All, sym, ap, subst, arith, ⊎_elim, IsTrue, nat_eq}
-use Rattle.std.proofs.lemmas.Bool.Decides.{nat_tests}
-use Rattle.mspec.specs.Literal.{is_digit}
-use Rattle.mspec.specs.NumberText.{IsCanonical}
-use Rattle.mspec.specs.NumberLaws.{NoZeroInFront}
-use Rattle.mspec.proofs.WholeTexts.{zero_is_canonical, whole_is_canonical, front_of_canonical}
+use Rattle.mnum.proofs.NumWords.{ℕ, suc, ◌≡◌, ◌<◌, ◌≤◌, true, not, List, [], ◌∷◌, length, get_or, All, sym, ap, subst, arith, ⊎_elim, IsTrue, nat_eq, nat_tests, is_digit, IsCanonical, NoZeroInFront, zero_is_canonical, whole_is_canonical, front_of_canonical}
 
 -- one to eighteen digits
 pub record IsShort (s : List ℕ) : Type 0 where

@@ -1,17 +1,10 @@
 -- SPDX-License-Identifier: Apache-2.0
 -- How a canonical text begins.
-use Rattle.std.proofs.Common.{ℕ, ◌≡◌, ◌<◌, Bool, true, false, cond, Option, Some, None, List, [], ◌∷◌, ◌++◌, refl, ap, sym, ◌∙◌, subst, arith, ⊎_elim, nat_eq}
+use Rattle.mnum.proofs.NumWords.{ℕ, ◌≡◌, ◌<◌, Bool, true, false, cond, Option, Some, None, List, [], ◌∷◌, ◌++◌, refl, ap, sym, ◌∙◌, subst, arith, ⊎_elim, nat_eq, nat_tests, All-head, is_digit, Literal, IsMantissa, spell_fraction, spell_exponent, spell_literal, IsCanonical, number_text, HasCanonicalForm, IsPlain, units, Num}
 use Rattle.std.specs.Cmp.Lexicographic.{pointwise, bytes_decides}
-use Rattle.std.proofs.lemmas.Bool.Decides.{nat_tests}
-use Rattle.std.proofs.lemmas.List.Elements.{All-head}
-use Rattle.mspec.specs.Literal.{is_digit, Literal, IsMantissa, spell_fraction, spell_exponent, spell_literal}
-use Rattle.mspec.specs.NumberText.{IsCanonical, number_text}
-use Rattle.mspec.specs.NumberLaws.{HasCanonicalForm, IsPlain}
 use Rattle.mspec.proofs.CanonicalForm.{text_has_canonical_form}
 use Rattle.mspec.proofs.TextLaws.{value_is_number}
-use Rattle.mnum.specs.Num.{units}
 use Rattle.mnum.specs.Start.{starts_number}
-use Rattle.mnum.specs.declared.num.Num.{Num}
 use Rattle.mnum.proofs.Ranges.{units_number}
 
 digit_starts : (c : ℕ) (s : List ℕ) → is_digit c ≡ true → starts_number (c ∷ s) ≡ true

@@ -1,17 +1,10 @@
 -- SPDX-License-Identifier: Apache-2.0
 -- Sums, whole quotients and remainders at one scale.
-use Rattle.std.proofs.Common.{ℕ, zero, suc, ◌≡◌, ◌+◌, ◌*◌, ◌-◌, ◌/◌, ◌^◌, ◌<◌, ◌≤◌, Bool, true, false, not, refl, sym, ◌∙◌, ap, subst, arith, inl, pos, ◌-ℤ◌, ◌+ℤ◌, neg_ℤ, int_div, unsigned_abs, Option, option_map}
-use Rattle.mspec.proofs.DistanceLaws.{abs_signed}
-use Rattle.std.specs.Int.{w128}
+use Rattle.mnum.proofs.NumWords.{ℕ, zero, suc, ◌≡◌, ◌+◌, ◌*◌, ◌-◌, ◌/◌, ◌^◌, ◌<◌, ◌≤◌, Bool, true, false, not, refl, sym, ◌∙◌, ap, subst, arith, inl, pos, ◌-ℤ◌, ◌+ℤ◌, neg_ℤ, int_div, unsigned_abs, Option, option_map, abs_signed, w128, ints, pow-le-pow_right, zero-div, mul-div-mul_right, IsFloor, IsFine, ten_pos, ten_add, round_size, signed, round}
 use mir.Val.{to_z, of_z, SFits}
-use Rattle.std.proofs.lemmas.Int.{ints}
-use Rattle.std.proofs.Math.Nat.{mul_assoc, mul-lt-mul_of_pos_right, pow-le-pow_right}
-use Rattle.std.proofs.Math.Nat.{zero-div, mul-div-mul_right}
+use Rattle.std.proofs.Math.Nat.{mul_assoc, mul-lt-mul_of_pos_right}
 use mathlib.Core.Bool.{beq}
 use Rattle.mnum.proofs.SignLaws.{with_sign, exact_floor}
-use Rattle.mnum.specs.Floor.{IsFloor, IsFine}
-use Rattle.mspec.proofs.Powers.{ten_pos, ten_add}
-use Rattle.mspec.specs.Number.{round_size, signed, round}
 
 pub places_value : (d s P : ℕ) → s ≤ P → P ≤ 18 → d * 10 ^ (P - s) * 10 ^ (18 - P) ≡ d * 10 ^ (18 - s)
 places_value d s P h k = mul_assoc d (10 ^ (P - s)) (10 ^ (18 - P)) ∙ ap (λ x. d * x) (sym (ten_add (P - s) (18 - P)) ∙ ap (λ x. 10 ^ x) (sum s P h k))

@@ -1,10 +1,7 @@
 -- SPDX-License-Identifier: Apache-2.0
 -- Units that no number has.
-use Rattle.std.proofs.Common.{ℕ, ◌≡◌, ◌≢◌, ◌⊎◌, inl, inr, ◌+◌, ◌-◌, ◌*◌, ◌/◌, ◌%◌, ◌^◌, ◌<◌, ◌≤◌, sym, ◌∙◌, ap, arith, ⊎_elim, ℤ, unsigned_abs, mul-le-mul_left}
-use Rattle.std.proofs.lemmas.Bool.{cases_lt}
-use Rattle.std.proofs.lemmas.Nat.{same_from_place}
-use Rattle.mspec.specs.Number.{IsNumber}
-use Rattle.mspec.proofs.Powers.{ten_pos, ten_add}
+use Rattle.mnum.proofs.NumWords.{ℕ, ◌≡◌, ◌≢◌, ◌⊎◌, inl, inr, ◌+◌, ◌-◌, ◌*◌, ◌/◌, ◌%◌, ◌^◌, ◌<◌, ◌≤◌, sym, ◌∙◌, ap, arith, ⊎_elim, ℤ, unsigned_abs, cases_lt, same_from_place, IsNumber, ten_pos, ten_add}
+use Rattle.std.proofs.Common.{mul-le-mul_left}
 
 -- a factor on both sides
 cancel : (a c w : ℕ) → 0 < w → a * w ≡ c * w → a ≡ c

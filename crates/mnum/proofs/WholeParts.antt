@@ -1,15 +1,10 @@
 -- SPDX-License-Identifier: Apache-2.0
 -- The whole part of a number, and whether it is 0.
-use Rattle.std.proofs.Common.{ℕ, zero, suc, ◌≡◌, ◌*◌, ◌-◌, ◌/◌, ◌^◌, ◌<◌, ◌≤◌, ◌+◌, Bool, true, false, not, refl, sym, ◌∙◌, ap, arith, lit<, pos, ◌-ℤ◌, ◌==◌, unsigned_abs, int_eq, w64}
-use Rattle.mspec.proofs.DistanceLaws.{abs_signed}
-use Rattle.std.proofs.Math.Nat.{mul-div-mul_right, mul-pos, zero-mul, div-le_self}
-use Rattle.std.proofs.lemmas.Bool.Decides.{Decides-eqb, Decides-int_eq, same_from_decides}
-use Rattle.std.proofs.lemmas.Int.{ints}
+use Rattle.mnum.proofs.NumWords.{ℕ, zero, suc, ◌≡◌, ◌*◌, ◌-◌, ◌/◌, ◌^◌, ◌<◌, ◌≤◌, ◌+◌, Bool, true, false, not, refl, sym, ◌∙◌, ap, arith, lit<, pos, ◌-ℤ◌, ◌==◌, unsigned_abs, int_eq, w64, abs_signed, mul-div-mul_right, Decides-eqb, Decides-int_eq, same_from_decides, ints, signed, ten_pos, ten_add}
+use Rattle.std.proofs.Math.Nat.{mul-pos, zero-mul, div-le_self}
 use mathlib.Core.Bool.{beq}
 use mir.Val.{to_z, of_z}
-use Rattle.mspec.specs.Number.{signed}
 use Rattle.mspec.specs.Interpretations.{whole_part, is_true}
-use Rattle.mspec.proofs.Powers.{ten_pos, ten_add}
 use Rattle.mnum.proofs.Sums.{quotient_signed}
 
 positive : (s : Bool) → not (beq s false) ≡ s

@@ -1,11 +1,6 @@
 -- SPDX-License-Identifier: Apache-2.0
 -- Whole numbers of at most eighteen digits.
-use Rattle.std.proofs.Common.{ℕ, ◌≡◌, ◌+◌, ◌*◌, ◌-◌, ◌^◌, ◌<◌, ◌≤◌, true, List, take, length, get_or, All, ◌∙◌, ap, sym, arith, take_all}
-use Rattle.std.proofs.Math.Nat.{pow-le-pow_right}
-use Rattle.std.proofs.lemmas.List.Elements.{All-from_get_or}
-use Rattle.std.proofs.lemmas.List.Sums.{fold_more}
-use Rattle.mspec.specs.Literal.{is_digit, with_digit, digits_after}
-use Rattle.mspec.proofs.Powers.{ten_add}
+use Rattle.mnum.proofs.NumWords.{ℕ, ◌≡◌, ◌+◌, ◌*◌, ◌-◌, ◌^◌, ◌<◌, ◌≤◌, true, List, take, length, get_or, All, ◌∙◌, ap, sym, arith, take_all, pow-le-pow_right, All-from_get_or, fold_more, is_digit, with_digit, digits_after, ten_add}
 
 -- one more digit
 pub digit_below : (n i c : ℕ) → n < 10 ^ i → c ≤ 57 → n * 10 + (c - 48) < 10 ^ (i + 1)

@@ -1,9 +1,7 @@
 -- SPDX-License-Identifier: Apache-2.0
 -- The function of values that a word names.
-use Rattle.std.proofs.Common.{◌≡◌, ℕ, List, Option, Some, None, sym, ap, ◌∙◌}
-use Rattle.mspec.specs.Act.{Text}
-use Rattle.mgrammar.specs.Functions.{ValueFunctionTree, ascii_function, FunctionTree, of_values, of_variable, of_choices}
-use Rattle.mmeaning.specs.Functions.{function_value, named_value, call_value}
+use Rattle.moperator.proofs.OperatorWords.{◌≡◌, ℕ, List, Some, None, sym, ap, ◌∙◌, Text, ValueFunctionTree, ascii_function, FunctionTree, of_values, of_variable, of_choices, function_value, named_value, call_value}
+use Rattle.std.proofs.Common.{Option}
 use Rattle.mtree.specs.Functions.{IsValueWord}
 
 -- the function of values, and any other where it is none

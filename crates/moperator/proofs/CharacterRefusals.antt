@@ -1,23 +1,11 @@
 -- SPDX-License-Identifier: Apache-2.0
 -- What $CHAR is refused for, of codes that are read one after another.
-use Rattle.std.proofs.Common.{◌≡◌, ◌<◌, ◌≤◌, ◌+◌, ℕ, Bool, true, false, List, [], ◌∷◌, ◌++◌, length, Ok, Err, refl, ap, ◌∙◌, arith, length-append}
-use Rattle.std.specs.Prelude.{ℤ, pos, negsuc, ◌||◌, nat_le}
-use Rattle.std.specs.List.{list_any, flat_map}
-use Rattle.std.proofs.lemmas.Bool.Decides.{nat_tests}
+use Rattle.moperator.proofs.OperatorWords.{◌≡◌, ◌<◌, ◌≤◌, ℕ, Bool, true, false, List, [], ◌∷◌, ◌++◌, length, Ok, Err, refl, ap, ◌∙◌, arith, pos, negsuc, ◌||◌, nat_le, list_any, flat_map, nat_tests, Text, char_of, character_of, is_over_ascii, longest_text, char_function, wholes, function_value, outcome, Yields, YieldsFault, yields_then, yields_failed, yields_gives, fault_of, IsDone, Code}
+use Rattle.std.proofs.Common.{◌+◌, length-append}
+use Rattle.std.specs.Prelude.{ℤ}
 use Rattle.std.proofs.lemmas.List.Folds.{list_any-append}
 use Rattle.std.proofs.lemmas.Grind.{flat_map-append}
 use Rattle.mspec.specs.Code as spec
-use Rattle.mspec.specs.Act.{Text}
-use Rattle.mspec.specs.CharacterFunctions.{char_of, character_of, is_over_ascii}
-use Rattle.mspec.specs.TextFunctions.{longest_text}
-use Rattle.mgrammar.specs.Functions.{char_function}
-use Rattle.mmeaning.specs.Functions.{wholes, function_value}
-use Rattle.mmeaning.specs.Operators.{outcome}
-use Rattle.mmeaning.specs.Yields.{Yields, YieldsFault}
-use Rattle.mmeaning.proofs.Yieldings.{yields_then, yields_failed, yields_gives}
-use Rattle.moperator.specs.Codes.{fault_of}
-use Rattle.moperator.specs.Outcomes.{IsDone}
-use Rattle.moperator.specs.declared.code.Code.{Code}
 use Rattle.moperator.specs.declared.code.Code.TheVariants as code
 
 -- ---- one code more

@@ -1,16 +1,11 @@
 -- SPDX-License-Identifier: Apache-2.0
 -- Arguments of functions at their places.
-use Rattle.std.proofs.Common.{◌≡◌, ℕ, ◌+◌, ◌<◌, ◌≤◌, List, [], ◌∷◌, ◌++◌, length, drop, get_or, Option, Some, None, Result, Ok, Err, refl, sym, ap, subst}
-use Rattle.std.specs.Prelude.{ℤ, slice_get}
+use Rattle.moperator.proofs.OperatorWords.{◌≡◌, ℕ, ◌<◌, ◌≤◌, List, [], ◌∷◌, ◌++◌, length, drop, get_or, Some, None, Result, Ok, Err, refl, sym, ap, subst, slice_get, Text, give, as_whole, as_whole_or_none, whole_at, wholes, Yields, yields_then, yields_failed, yields_gives, fault_of, Code}
+use Rattle.std.proofs.Common.{◌+◌, Option}
+use Rattle.std.specs.Prelude.{ℤ}
 use Rattle.std.proofs.Math.ListN.{drop_of_length-le}
 use Rattle.std.proofs.lemmas.Option.{slice_get_read, slice_get_past}
 use Rattle.mspec.proofs.ListPlaces.{next_item}
-use Rattle.mspec.specs.Act.{Text, give}
-use Rattle.mmeaning.specs.Functions.{as_whole, as_whole_or_none, whole_at, wholes}
-use Rattle.mmeaning.specs.Yields.{Yields}
-use Rattle.mmeaning.proofs.Yieldings.{yields_then, yields_failed, yields_gives}
-use Rattle.moperator.specs.Codes.{fault_of}
-use Rattle.moperator.specs.declared.code.Code.{Code}
 
 -- the argument at a place, which was read there
 pub argument_is : (args : List Text) (k : ℕ) (v : Text) → k < length args → v ≡ get_or args k v → slice_get args k ≡ Some v

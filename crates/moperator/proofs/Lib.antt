@@ -1,4 +1,5 @@
 -- SPDX-License-Identifier: Apache-2.0
+mod OperatorWords
 pub mod Numbers
 pub mod Truths
 pub mod PieceBytes

@@ -1,31 +1,20 @@
 -- SPDX-License-Identifier: Apache-2.0
 -- Numbers of values, and what an operation on numbers gives.
-use Rattle.std.proofs.Common.{◌≡◌, ◌<◌, ◌^◌, Bool, true, false, not, Option, Some, None, Result, Ok, Err, refl, sym, ap, subst, arith}
-use Rattle.std.specs.Prelude.{unwrap_or, IfSome, ℤ, pos, negsuc, unsigned_abs, MatchResult}
+use Rattle.moperator.proofs.OperatorWords.{◌≡◌, ◌<◌, ◌^◌, Bool, true, false, Some, None, Result, Ok, Err, refl, sym, ap, subst, arith, unwrap_or, IfSome, pos, negsuc, unsigned_abs, MatchResult, int_eq, Decides-int_eq, significant_digits, numeric_value, number_text, Text, Act, give_some, as_number, as_text, Yields, yields_gives, units, fault_of, outcome_units, Code}
+use Rattle.std.proofs.Common.{not, Option}
+use Rattle.std.specs.Prelude.{ℤ}
 use Rattle.std.specs.Int.{w64}
-use Rattle.std.specs.Ordering.{int_eq}
-use Rattle.std.proofs.lemmas.Bool.Decides.{Decides-int_eq}
 use Rattle.std.proofs.lemmas.Int.{ints}
 use mir.Val.{to_z, of_z}
 use Rattle.mspec.specs.Code.{Zover}
-use Rattle.mspec.specs.Number.{significant_digits}
-use Rattle.mspec.specs.NumberText.{numeric_value, number_text}
 use Rattle.mspec.specs.Interpretations.{is_true}
-use Rattle.mspec.specs.Act.{Text, Act, give_some}
-use Rattle.mmeaning.specs.Operators.{as_number, as_text}
-use Rattle.mmeaning.specs.Yields.{Yields}
-use Rattle.mmeaning.proofs.Yieldings.{yields_gives}
-use Rattle.mnum.specs.Num.{units}
 use Rattle.mnum.specs.declared.num.Num.{Num}
 use Rattle.mnum.specs.Division.{Leaves}
 use Rattle.mnum.specs.declared.num.Over.{Over}
 use Rattle.mnum.specs.declared.num.ArithFault.{ArithFault}
 use Rattle.mnum.specs.declared.num.ArithFault.TheVariants as arith
 use Rattle.moperator.specs.Faults.{division_code}
-use Rattle.moperator.specs.Codes.{fault_of}
 use Rattle.moperator.specs.Calculations.{division}
-use Rattle.moperator.specs.Outcomes.{outcome_units}
-use Rattle.moperator.specs.declared.code.Code.{Code}
 use Rattle.moperator.specs.declared.code.Code.TheVariants as codes
 
 -- the number of a text, where there is one

@@ -1,22 +1,12 @@
 -- SPDX-License-Identifier: Apache-2.0
 -- A pattern that was made with capped counts, and its match.
-use Rattle.std.proofs.Common.{◌≡◌, ℕ, zero, suc, ◌-◌, ◌<◌, ◌≤◌, ◌^◌, Bool, true, false, List, [], ◌∷◌, length, map, Option, Some, None, Ok, Err, refl, sym, ap, ◌∙◌, subst, arith}
-use Rattle.std.specs.Prelude.{not, ◌||◌, Decides}
-use Rattle.std.specs.List.{list_any}
+use Rattle.moperator.proofs.OperatorWords.{◌≡◌, ℕ, zero, suc, ◌-◌, ◌<◌, ◌≤◌, ◌^◌, Bool, true, false, List, [], ◌∷◌, length, map, Some, None, Ok, Err, refl, sym, ap, ◌∙◌, subst, arith, ◌||◌, list_any, same_from_decides, Atom, Count, Repeated, members, copies, copied, IsAtMost, IsPermitted, IsRepetition, Matches, is_at_most, is_reversed, is_match, Text, ◌>>◌, give, unless, matching, capped, capped_count, capped_atom, Yields, fault_of, M10, yields_gives}
+use Rattle.std.proofs.Common.{Option}
+use Rattle.std.specs.Prelude.{not, Decides}
 use Rattle.std.proofs.lemmas.Bool.{leb-true}
-use Rattle.std.proofs.lemmas.Bool.Decides.{same_from_decides}
 use Rattle.std.proofs.lemmas.List.{length-append}
 use Rattle.mspec.specs.Code as code
-use Rattle.mspec.specs.Pattern.{Atom, Count, Repeated, members, copies, copied, IsAtMost, IsPermitted, IsRepetition, Matches}
-use Rattle.mgrammar.specs.Matching.{is_at_most, is_reversed, is_match}
-use Rattle.mspec.specs.Act.{Text, ◌>>◌, give, unless}
 use Rattle.mgrammar.proofs.Matchings.{decides_match}
-use Rattle.mmeaning.specs.Operators.{matching}
-use Rattle.moperator.specs.CappedCounts.{capped, capped_count, capped_atom}
-use Rattle.mmeaning.specs.Yields.{Yields}
-use Rattle.moperator.specs.Codes.{fault_of}
-use Rattle.moperator.specs.declared.code.Code.TheVariants.{M10}
-use Rattle.mmeaning.proofs.Yieldings.{yields_gives}
 
 -- ---- capped counts permit what the counts do, of what a text can hold
 

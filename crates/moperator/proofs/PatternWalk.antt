@@ -1,19 +1,12 @@
 -- SPDX-License-Identifier: Apache-2.0
 -- A walk over the atoms of a pattern, of which each ends at one place only.
-use Rattle.std.proofs.Common.{◌≡◌, ℕ, zero, suc, ◌+◌, ◌-◌, ◌<◌, ◌≤◌, ◌↔◌, Bool, true, false, eqb, List, [], ◌∷◌, length, get_or, map, take, drop, Option, Some, None, Result, Ok, Err, IfOk, Decides, refl, sym, ap, subst, ◌∙◌, arith, drop-drop, length-drop}
-use Rattle.std.specs.Prelude.{◌||◌}
-use Rattle.std.proofs.lemmas.Bool.Decides.{Decides-eqb}
-use Rattle.std.proofs.lemmas.List.{take_rest}
+use Rattle.moperator.proofs.OperatorWords.{◌≡◌, ℕ, zero, suc, ◌-◌, ◌<◌, ◌≤◌, ◌↔◌, Bool, true, false, eqb, List, [], ◌∷◌, length, get_or, map, take, drop, Some, None, Result, Ok, Err, IfOk, refl, sym, ap, subst, ◌∙◌, arith, drop-drop, length-drop, ◌||◌, Decides-eqb, take_rest, Atom, Matches, is_in, is_in_any, pattern_code, atom_of, atom_tree, IsLent, IsFirstOf, IsEnding, capped_atom, pattern_of}
+use Rattle.std.proofs.Common.{◌+◌, Option, Decides}
 use Rattle.mspec.specs.Pattern as plain
-use Rattle.mspec.specs.Pattern.{Atom, Matches, is_in, is_in_any}
-use Rattle.mgrammar.specs.Matching.{pattern_code, atom_of}
-use Rattle.mtree.specs.Tree.{atom_tree}
 use Rattle.mtree.specs.declared.tree.Atom as tree
-use Rattle.mtext.specs.Endings.{IsLent, IsFirstOf, IsEnding}
 use Rattle.mtext.specs.declared.ending.LentAtom.{LentAtom}
 use Rattle.mtext.specs.declared.ending.Ending.{Ending}
 use Rattle.mtext.specs.declared.ending.Ending.TheVariants as ending
-use Rattle.moperator.specs.CappedCounts.{capped_atom, pattern_of}
 
 -- ---- the classes of letters
 

@@ -1,11 +1,9 @@
 -- SPDX-License-Identifier: Apache-2.0
 -- The characters of pieces are those of the text and of the delimiter.
-use Rattle.std.proofs.Common.{ℕ, zero, suc, ◌-◌, Bool, true, false, cond, List, [], ◌∷◌, ◌++◌, length, drop, All}
-use Rattle.std.specs.Prelude.{ℤ, Option, unwrap_or, pos, ◌+◌}
-use Rattle.std.specs.List.{onto_first}
+use Rattle.moperator.proofs.OperatorWords.{ℕ, zero, suc, ◌-◌, Bool, true, false, cond, List, [], ◌∷◌, ◌++◌, length, drop, All, unwrap_or, pos, onto_first, from_place, to_place, range_of, piece_of}
+use Rattle.std.specs.Prelude.{ℤ, Option, ◌+◌}
 use Rattle.std.proofs.lemmas.List.Elements.{All-nil, All-cons, All-head, All-tail, All-append, All-take, All-drop}
 use Rattle.mspec.specs.Pieces.{join, begins_with, cut_after, pieces_of}
-use Rattle.mspec.specs.TextFunctions.{from_place, to_place, range_of, piece_of}
 
 module _ (P : ℕ → Type 0) where
   onto_all : (x : ℕ) (ps : List (List ℕ)) → P x → All (All P) ps → All (All P) (onto_first x ps)

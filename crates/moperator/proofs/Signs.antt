@@ -1,18 +1,10 @@
 -- SPDX-License-Identifier: Apache-2.0
 -- The signs in front of an operand, of which the last one applies first.
-use Rattle.std.proofs.Common.{◌≡◌, ℕ, zero, suc, ◌+◌, ◌-◌, ◌<◌, ◌≤◌, length, take, map, get_or, arith, List, [], ◌∷◌, ◌++◌, Result, Ok, Err, refl, sym, ap, ◌∙◌, subst}
-use Rattle.std.proofs.lemmas.List.{take_more, map_push}
+use Rattle.moperator.proofs.OperatorWords.{◌≡◌, ℕ, zero, suc, ◌-◌, ◌<◌, ◌≤◌, length, take, map, get_or, arith, List, [], ◌∷◌, ◌++◌, Result, Ok, Err, refl, sym, ap, ◌∙◌, subst, take_more, map_push, Text, Outcome, Gives, Fails, Act, on_gives, ◌>>=◌, give, unary, unaries, assoc, sign_tree, Yields, fault_of, Code, yields_then, yields_failed, yields_gives}
+use Rattle.std.proofs.Common.{◌+◌}
 use Rattle.mspec.specs.Plan.{Plan, Done, Ask, then_plan}
 use Rattle.mgrammar.specs.Grammar.{SignTree}
-use Rattle.mspec.specs.Act.{Text, Outcome, Gives, Fails, Act, on_gives, ◌>>=◌, give}
-use Rattle.mmeaning.specs.Operators.{unary, unaries}
-use Rattle.mmeaning.proofs.Calls.{assoc}
-use Rattle.mtree.specs.Tree.{sign_tree}
 use Rattle.mtree.specs.declared.tree.Sign.{Sign}
-use Rattle.mmeaning.specs.Yields.{Yields}
-use Rattle.moperator.specs.Codes.{fault_of}
-use Rattle.moperator.specs.declared.code.Code.{Code}
-use Rattle.mmeaning.proofs.Yieldings.{yields_then, yields_failed, yields_gives}
 
 -- to give what an act gives changes nothing
 given_plan : {A : Type 0} (p : Plan (Outcome A)) → then_plan p (on_gives give) ≡ p

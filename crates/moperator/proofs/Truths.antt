@@ -1,7 +1,6 @@
 -- SPDX-License-Identifier: Apache-2.0
 -- What a test gives that looks at its second operand only where it has to.
-use Rattle.std.proofs.Common.{◌≡◌, Bool, true, false, sym, ap, ◌∙◌}
-use Rattle.std.specs.Prelude.{◌&&◌, ◌||◌}
+use Rattle.moperator.proofs.OperatorWords.{◌≡◌, Bool, true, false, sym, ap, ◌∙◌, ◌&&◌, ◌||◌}
 
 pub both_first : {p s : Bool} (t : Bool) → p ≡ s → p ≡ false → p ≡ (s && t)
 both_first t is e = e ∙ ap (λ b. b && t) (sym e ∙ is)

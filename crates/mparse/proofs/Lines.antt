@@ -1,16 +1,8 @@
 -- SPDX-License-Identifier: Apache-2.0
 -- What a parser that gives the reading of a line ensures.
-use Rattle.std.proofs.Common.{◌≡◌, ℕ, List, subst}
-use Rattle.std.specs.Prelude.{Result, Ok, Err, IfOk}
-use Rattle.mgrammar.specs.Grammar.{LineTree, spell}
-use Rattle.mgrammar.specs.WellFormed.{well}
-use Rattle.mgrammar.specs.Reading.{line_at}
+use Rattle.mparse.proofs.ParseWords.{◌≡◌, ℕ, List, subst, Result, Ok, Err, IfOk, LineTree, spell, well, line_at, line_tree, Gives, ParseFault, Syntax}
 use Rattle.mgrammar.proofs.ReadingLines.{line_takes, no_tree}
 use Rattle.mtree.specs.declared.tree.Line.{Line}
-use Rattle.mtree.specs.Tree.{line_tree}
-use Rattle.mscan.specs.Gives.{Gives}
-use Rattle.mscan.specs.declared.fault.ParseFault.{ParseFault}
-use Rattle.mscan.specs.declared.fault.ParseFault.TheVariants.{Syntax}
 
 pub is_tree : (cs : List ℕ) (r : Result Line ParseFault) → Gives line_tree r (line_at cs) → IfOk r (λ l. well (line_tree l) × (spell (line_tree l) ≡ cs))
 is_tree cs (Ok l) given = let t = line_takes cs (line_tree l) given in (t.1, t.0)

@@ -1,14 +1,8 @@
 -- SPDX-License-Identifier: Apache-2.0
 -- What a parser that gives the reading of a routine's line ensures.
-use Rattle.std.proofs.Common.{◌≡◌, ℕ, List, None, Some, sym, subst, ◌∙◌}
-use Rattle.std.specs.Prelude.{Result, Ok, Err, IfOk}
-use Rattle.mgrammar.specs.RoutineLine.{RoutineLineTree, spell_routine_line, well_routine_line, routine_line_at}
+use Rattle.mparse.proofs.ParseWords.{◌≡◌, ℕ, List, None, Some, sym, subst, ◌∙◌, Result, Ok, Err, IfOk, RoutineLineTree, spell_routine_line, well_routine_line, routine_line_at, routine_line_tree, Gives, ParseFault, Syntax}
 use Rattle.mgrammar.proofs.ReadingRoutines.{reads_its_routine_tree}
 use Rattle.mtree.specs.declared.tree.RoutineLine.{RoutineLine}
-use Rattle.mtree.specs.Tree.{routine_line_tree}
-use Rattle.mscan.specs.Gives.{Gives}
-use Rattle.mscan.specs.declared.fault.ParseFault.{ParseFault}
-use Rattle.mscan.specs.declared.fault.ParseFault.TheVariants.{Syntax}
 
 pub is_tree : (cs : List ℕ) (r : Result RoutineLine ParseFault) → Gives routine_line_tree r (routine_line_at cs)
     → IfOk r (λ l. well_routine_line (routine_line_tree l) × (spell_routine_line (routine_line_tree l) ≡ cs))

@@ -1,10 +1,6 @@
 -- SPDX-License-Identifier: Apache-2.0
 -- What a parser that gives the reading of a whole text ensures.
-use Rattle.std.proofs.Common.{◌≡◌, ◌↔◌, ℕ, List, Option, None, Some, sym, subst, ◌∙◌}
-use Rattle.std.specs.Prelude.{Result, Ok, Err, IfOk}
-use Rattle.mscan.specs.Gives.{Gives}
-use Rattle.mscan.specs.declared.fault.ParseFault.{ParseFault}
-use Rattle.mscan.specs.declared.fault.ParseFault.TheVariants.{Syntax}
+use Rattle.mparse.proofs.ParseWords.{◌≡◌, ◌↔◌, ℕ, List, Option, None, Some, sym, subst, ◌∙◌, Result, Ok, Err, IfOk, Gives, ParseFault, Syntax}
 
 -- a text is read as a tree exactly where that is the well-formed one that spells it
 module _ {X T : Type 0} (view : X → T) (read : List ℕ → Option T) (spell : T → List ℕ) (Well : T → Type 0) (reads : (cs : List ℕ) (t : T) → (read cs ≡ Some t) ↔ ((spell t ≡ cs) × Well t)) where

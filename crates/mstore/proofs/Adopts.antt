@@ -1,14 +1,8 @@
 -- SPDX-License-Identifier: Apache-2.0
 -- The rows of a database whose columns are blobs are a map.
-use Rattle.std.proofs.Common.{◌≡◌, ◌≢◌, ◌⊎◌, ℕ, ℤ, ◌<◌, Bool, cond, true, false, not, ◌&&◌, List, [], ◌∷◌, length, drop, Option, Some, None, Ok, Err, refl, sym, ap, ap₂, subst, ◌∙◌, inl, inr, arith, is_eq, int_eq, IsTrue}
-use Rattle.std.proofs.lemmas.Bool.{true≢false, and_parts, not-true, false_from_ne_true}
-use Rattle.std.proofs.lemmas.Int.{ints}
-use Rattle.std.proofs.lemmas.Cmp.{tied_itself}
-use Rattle.std.specs.List.{AllByRecursion, list_any}
-use Rattle.mstore.proofs.Words.{Int, Blob, Null, Row, column, Binary, Key, first_key-plain, value_cmp_total, is_true, Compare, Eq, Ne, Ghosts, rowid, Has, id_in, all_has, some_from, int_is, tied_same, at_ints, at_blobs, last_term, bytes_eq_refl, Database, IsDatabase, Held, state, col, State, IsLive, IsPlain, reads_as}
-use Rattle.sqlite_value.specs.Order.{bytes, value_cmp}
-use Rattle.sqlite_value.specs.Keys.{plain}
-use Rattle.sqlite_sql.specs.Ops.{binary}
+use Rattle.mstore.proofs.Words.{◌≡◌, ◌≢◌, ◌⊎◌, ℕ, ℤ, ◌<◌, Bool, cond, true, false, not, ◌&&◌, List, [], ◌∷◌, length, drop, Option, Some, None, Ok, Err, refl, sym, ap, ap₂, subst, ◌∙◌, inl, inr, arith, int_eq, IsTrue, and_parts, not-true, false_from_ne_true, ints, tied_itself, AllByRecursion, list_any, Int, Blob, Null, Row, column, Binary, Key, first_key-plain, value_cmp_total, is_true, Compare, Eq, Ne, Ghosts, rowid, Has, id_in, all_has, some_from, int_is, tied_same, at_ints, at_blobs, last_term, bytes_eq_refl, Database, IsDatabase, Held, state, col, State, IsLive, IsPlain, reads_as, bytes, value_cmp, plain, binary, node, schema, IsMemory, IsCalm, IsStore, Stays, ShowsAll, ShowsNodes, AreNodes, AreRows, IsNode, ShowsNodeBy, HasOtherBy, key_of, value_of, Shown, understood, all_text}
+use Rattle.std.proofs.Common.{is_eq}
+use Rattle.std.proofs.lemmas.Bool.{true≢false}
 use Rattle.sqlite_schema.specs.declared.schema.Constraint.TheVariants.{Datatype, Unique}
 use Rattle.sqlite_schema.specs.Rules.{are_typed, clashes, agree, differ}
 use Rattle.sqlite_trees.specs.declared.store.Shape.TheVariants.{Table}
@@ -17,13 +11,7 @@ use Rattle.sqlite_rules.proofs.RuleLemmas.{keeps_at}
 use Rattle.sqlite_rules.proofs.RowLemmas.{untyped}
 use Rattle.sqlite_catalog.specs.Listing.{IsSound}
 use Rattle.sqlite_catalog.proofs.LayoutLemmas.{laid_out, objects_rise}
-use Rattle.mstore.specs.Layout.{node, schema}
-use Rattle.mstore.specs.Database.{IsMemory, IsCalm, IsStore, Stays, ShowsAll, ShowsNodes}
-use Rattle.mstore.specs.Rows.{AreNodes, AreRows, IsNode, ShowsNodeBy, HasOtherBy, key_of, value_of}
-use Rattle.sqlite.specs.State.{Shown}
-use Rattle.sqlite.specs.Listing.{understood}
 use Rattle.mstore.proofs.Texts.{all_is, all_command}
-use Rattle.mstore.specs.Statements.{all_text}
 use Rattle.mstore.proofs.Answer.{rows_from, rows_to}
 use Rattle.mstore.proofs.States.{shown_stays, stays_calm}
 use Rattle.mstore.proofs.RowTests.{key_column}

@@ -1,9 +1,6 @@
 -- SPDX-License-Identifier: Apache-2.0
 -- What a query of one table answers: the rows that pass its tests.
-use Rattle.std.proofs.Common.{◌≡◌, ℕ, Bool, true, false, cond, List, [], ◌∷◌, map, flat_map, refl, sym, ap, subst, ◌∙◌, inl, inr, IsPermutation}
-use Rattle.std.specs.List.{list_all}
-use Rattle.std.proofs.lemmas.List.Sorted.{IsPermutation-sym, Contains-permutation}
-use Rattle.mstore.proofs.Words.{Null, Row, Key, Query, IsAnswer, output, Output, overlay, Has, has_either, has_left, has_right, has_contained, contains_had}
+use Rattle.mstore.proofs.Words.{◌≡◌, ℕ, Bool, true, false, cond, List, [], ◌∷◌, map, flat_map, refl, sym, ap, subst, ◌∙◌, inl, inr, IsPermutation, list_all, IsPermutation-sym, Contains-permutation, Null, Row, Key, Query, IsAnswer, output, Output, overlay, Has, has_either, has_left, has_right, has_contained, contains_had}
 use Rattle.sqlite_trees.specs.Tree.{Trees}
 use Rattle.sqlite_sql.specs.Term.{Term, Env, eval_all, holds}
 use Rattle.sqlite_sql.specs.Query.{matches_as}

@@ -1,7 +1,6 @@
 -- SPDX-License-Identifier: Apache-2.0
 -- What a column of numbers makes of a value.
-use Rattle.std.proofs.Common.{◌≡◌, ℤ, Bool, cond, true, false, refl}
-use Rattle.mstore.proofs.Words.{Value, Null, Int, Integer, cast}
+use Rattle.mstore.proofs.Words.{◌≡◌, ℤ, Bool, cond, true, false, refl, Value, Null, Int, Integer, cast}
 use Rattle.sqlite.specs.Ops.{unary}
 
 either : (b : Bool) (x : Value) → cond b x x ≡ x

@@ -1,12 +1,8 @@
 -- SPDX-License-Identifier: Apache-2.0
 -- What an edit leaves of the rows, as a map.
-use Rattle.std.proofs.Common.{◌≡◌, ℕ, ℤ, Bool, true, false, not, List, [], ◌∷◌, Option, Some, None, refl, sym, ap, subst, ◌∙◌, inl, inr, is_eq, int_cmp, arith}
-use Rattle.std.proofs.lemmas.Int.{ints}
-use Rattle.std.proofs.lemmas.Bool.{true≢false, not-true, false_from_ne_true}
-use Rattle.std.proofs.lemmas.Cmp.{tied_itself}
-use Rattle.mstore.proofs.Words.{Int, Row, value_cmp_total, value_cmp-Int, rowid, has_rowid, without_rowid, Has, id_in, without_all, is_taken, has_filtered, has_kept, some_from}
-use Rattle.sqlite_value.specs.Order.{value_cmp}
-use Rattle.mstore.specs.Rows.{IsNode, AreRows, lookup, key_of, value_of}
+use Rattle.mstore.proofs.Words.{◌≡◌, ℕ, ℤ, Bool, true, false, not, List, [], ◌∷◌, Option, Some, None, refl, sym, ap, subst, ◌∙◌, inl, inr, int_cmp, arith, ints, not-true, false_from_ne_true, tied_itself, Int, Row, value_cmp_total, value_cmp-Int, rowid, has_rowid, without_rowid, Has, id_in, without_all, is_taken, has_filtered, has_kept, some_from, value_cmp, IsNode, AreRows, lookup, key_of, value_of}
+use Rattle.std.proofs.Common.{is_eq}
+use Rattle.std.proofs.lemmas.Bool.{true≢false}
 use Rattle.mstore.proofs.Maps.{lookup_some, lookup_has, lookup_none}
 
 -- the rows that are left are those that do not pass

@@ -1,22 +1,12 @@
 -- SPDX-License-Identifier: Apache-2.0
 -- Where a search ends among entries in order, and what an edit there does.
-use Rattle.std.proofs.Common.{◌≡◌, ℕ, zero, suc, ◌+◌, ◌≤◌, Bool, true, false, cond, List, [], ◌∷◌, length, slice_index_or, slice_set, insert, take, drop, if◌then◌else◌, All, Some, None, Result, Ok, Err, IfOk, IfErr, refl, sym, ap, subst, ◌∙◌, inl, inr, arith, Less, Greater}
-use Rattle.std.specs.Cmp.Lexicographic.{slice_cmp, nat_list_cmp_total}
+use Rattle.mstore.proofs.Words.{◌≡◌, ℕ, zero, suc, ◌+◌, ◌≤◌, Bool, true, false, cond, List, [], ◌∷◌, length, slice_index_or, slice_set, take, drop, if◌then◌else◌, All, Some, None, Result, Ok, Err, IfOk, IfErr, refl, sym, ap, subst, ◌∙◌, inl, inr, arith, Less, Greater, slice_cmp, nat_list_cmp_total, put, by_order, ordering_reverse, cases_lt, tied_itself, All-append, All-cons, All-drop, All-set, All-take, searchable_from_sorted, IsStored, Node, significant_digits, longest_text, node_cmp_exact, Entry, entries_of, held, bytes_of, is_before, AreEntries, IsAt, IsGapFor, IsPlaceOf}
+use Rattle.std.proofs.Common.{insert}
 use Rattle.std.specs.FinMap as finite
-use Rattle.std.specs.FinMap.Entries.{find, put, by_order}
+use Rattle.std.specs.FinMap.Entries.{find}
 use Rattle.std.specs.List.Sorted.{IsSearchInRange, IsBinarySearchResult, IsPartitionedBy, IsSortedBy}
-use Rattle.std.specs.Ordering.{nat_cmp, is_lt, is_eq, ordering_reverse}
-use Rattle.std.proofs.lemmas.Bool.{cases_lt}
-use Rattle.std.proofs.lemmas.Cmp.{tied_itself}
-use Rattle.std.proofs.lemmas.List.Elements.{All-append, All-cons, All-drop, All-set, All-take}
-use Rattle.std.proofs.lemmas.List.Sorted.{searchable_from_sorted}
-use Rattle.mspec.specs.KeyBytes.{IsStored}
-use Rattle.mspec.specs.Node.{Text, Node}
-use Rattle.mspec.specs.Number.{significant_digits}
-use Rattle.mspec.specs.TextFunctions.{longest_text}
-use Rattle.mspec.proofs.NodeOrders.{node_cmp_exact}
-use Rattle.mstore.specs.declared.plain.Entry.{Entry}
-use Rattle.mstore.specs.Entries.{entries_of, held, bytes_of, is_before, AreEntries, IsAt, IsGapFor, IsPlaceOf}
+use Rattle.std.specs.Ordering.{nat_cmp, is_lt, is_eq}
+use Rattle.mspec.specs.Node.{Text}
 use Rattle.mstore.proofs.SortedEntries.{order, total, less, second, InOrder, nodes_rise, keys_rise, greater, order_put, held_put}
 
 -- ---- a binary search by nodes

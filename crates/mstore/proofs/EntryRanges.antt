@@ -1,15 +1,8 @@
 -- SPDX-License-Identifier: Apache-2.0
 -- The entries within bounds of bytes.
-use Rattle.std.proofs.Common.{◌≡◌, ℕ, zero, suc, ◌-◌, ◌<◌, Bool, true, false, cond, ◌&&◌, List, [], ◌∷◌, ◌++◌, map, reverse, length, slice_index_or, slice_get, take, drop, Option, Some, None, find, if◌then◌else◌, refl, sym, ap, ◌∙◌, arith, Ordering, Less, Equal, Greater}
-use Rattle.std.proofs.lemmas.Bool.{false_from_ne_true}
-use Rattle.std.specs.Cmp.Lexicographic.{slice_cmp, nat_list_cmp_total}
-use Rattle.std.specs.Option.{option_or}
-use Rattle.std.specs.Ordering.{nat_cmp, is_lt, is_le, ordering_reverse}
-use Rattle.std.proofs.lemmas.List.{length-drop, reverse-append, take_all}
-use Rattle.std.proofs.lemmas.List.Folds.{find-append}
-use Rattle.mspec.specs.Globals.{is_between, next_key, previous_key}
-use Rattle.mstore.specs.declared.plain.Entry.{Entry}
-use Rattle.mstore.specs.Entries.{held, bytes_of, is_before, key_within, AreEntries, IsPlaceOf}
+use Rattle.mstore.proofs.Words.{◌≡◌, ℕ, zero, suc, ◌-◌, ◌<◌, Bool, true, false, cond, ◌&&◌, List, [], ◌∷◌, ◌++◌, map, reverse, length, slice_index_or, slice_get, take, drop, Option, Some, None, if◌then◌else◌, refl, sym, ap, ◌∙◌, arith, Ordering, Less, Equal, Greater, false_from_ne_true, slice_cmp, nat_list_cmp_total, option_or, ordering_reverse, length-drop, reverse-append, take_all, find-append, is_between, next_key, previous_key, Entry, held, bytes_of, is_before, key_within, AreEntries, IsPlaceOf}
+use Rattle.std.proofs.Common.{find}
+use Rattle.std.specs.Ordering.{nat_cmp, is_lt, is_le}
 use Rattle.mstore.proofs.SortedEntries.{less, first, keys_held, keys_rise}
 
 -- ---- bytes in order

@@ -1,14 +1,7 @@
 -- SPDX-License-Identifier: Apache-2.0
 -- What `get` finds.
-use Rattle.std.proofs.Common.{◌≡◌, ℕ, List, [], ◌∷◌, Some, None, Ok, Err, refl, sym, ap, subst, ◌∙◌, inl}
-use Rattle.mstore.proofs.Words.{Null, Blob, Row, column, State, QueryReturnedNoRows, IsPlain, first_as, reads_as, same_bytes}
-use Rattle.sqlite.specs.State.{QueriesRow}
-use Rattle.sqlite.specs.Listing.{understood}
-use Rattle.mstore.specs.Layout.{schema}
-use Rattle.mstore.specs.Database.{IsStore, content}
-use Rattle.mstore.specs.Rows.{key_of, value_of}
+use Rattle.mstore.proofs.Words.{◌≡◌, ℕ, List, [], ◌∷◌, Some, None, Ok, Err, refl, sym, ap, subst, ◌∙◌, inl, Null, Blob, Row, column, State, QueryReturnedNoRows, IsPlain, first_as, reads_as, same_bytes, QueriesRow, understood, schema, IsStore, content, key_of, value_of, get_text}
 use Rattle.mstore.proofs.Texts.{get_is, get_command, at_key}
-use Rattle.mstore.specs.Statements.{get_text}
 use Rattle.mstore.proofs.Answer.{rows_from, rows_to}
 use Rattle.mstore.proofs.Maps.{lookup_has, lookup_none, at_itself}
 use Rattle.mstore.proofs.States.{no_row_is}

@@ -1,22 +1,8 @@
 -- SPDX-License-Identifier: Apache-2.0
 -- What entries and rows hold are nodes of a store, with texts that they may have.
-use Rattle.std.proofs.Common.{◌≡◌, List, [], ◌∷◌, length, All, refl, sym, ◌∙◌, subst, inl, inr, arith, Ordering, Less, Equal, Greater}
-use Rattle.std.specs.FinMap.{entries, empty, entries-insert, len-entries, len-empty}
-use Rattle.std.specs.FinMap.Entries.{put, by_order}
-use Rattle.std.proofs.lemmas.List.Elements.{All-map, All-nil, All-cons, All-head, All-tail}
-use Rattle.mspec.specs.KeyReading.{node_of}
-use Rattle.mspec.specs.Node.{Text, Node}
-use Rattle.mspec.specs.NodeOrder.{node_cmp}
-use Rattle.mspec.specs.Number.{significant_digits}
-use Rattle.mspec.specs.KeyBytes.{IsStored}
-use Rattle.mspec.proofs.NodeOrders.{node_cmp_total}
-use Rattle.mstore.proofs.Words.{Row, Has, Ghosts, Held, state}
-use Rattle.mstore.specs.declared.plain.Entry.{Entry}
-use Rattle.mstore.specs.Database.{IsSound, stored}
-use Rattle.mstore.specs.Entries.{entries_of, entry_of, held, AreEntries}
-use Rattle.mstore.specs.Held.{IsHeld, AreHeld}
-use Rattle.mstore.specs.Keyed.{globals_by}
-use Rattle.mstore.specs.Rows.{IsInForm, key_of, value_of}
+use Rattle.mstore.proofs.Words.{◌≡◌, List, [], ◌∷◌, length, All, refl, sym, ◌∙◌, subst, inl, inr, arith, Ordering, Less, Equal, Greater, entries, empty, entries-insert, len-entries, len-empty, put, by_order, All-map, All-nil, All-cons, All-head, All-tail, node_of, Node, node_cmp, significant_digits, IsStored, node_cmp_total, Row, Has, Ghosts, Held, state, Entry, stored, entries_of, entry_of, held, AreEntries, IsHeld, AreHeld, globals_by, IsInForm, key_of, value_of}
+use Rattle.mspec.specs.Node.{Text}
+use Rattle.mstore.specs.Database.{IsSound}
 use Rattle.mstore.proofs.KeyedRows.{node_at}
 use Rattle.mstore.proofs.SortedEntries.{entries_from}
 

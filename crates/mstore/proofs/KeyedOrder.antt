@@ -1,29 +1,12 @@
 -- SPDX-License-Identifier: Apache-2.0
 -- The first and the last key of rows within bounds, as those of the globals that the rows hold.
-use Rattle.std.proofs.Common.{ℕ, ◌≡◌, ◌⊎◌, inl, inr, Bool, true, false, cond, ◌&&◌, Option, Some, None, option_map, is_some, List, [], ◌∷◌, map, length, reverse, refl, sym, ◌∙◌, ap, subst, arith, Ordering, Less, Equal, Greater}
+use Rattle.mstore.proofs.Words.{ℕ, ◌≡◌, ◌⊎◌, inl, inr, Bool, true, false, cond, ◌&&◌, Option, Some, None, option_map, is_some, List, [], ◌∷◌, map, length, reverse, refl, sym, ◌∙◌, ap, subst, arith, Ordering, Less, Equal, Greater, and_parts, option_or, AllByRecursion, eq_by_cmp, ordering_reverse, eq_by_cmp_equiv, Equal-is, slice_cmp, nat_list_cmp_total, nat_cmp-IsAntisymmetric, slice_cmp-IsAntisymmetric, len-entries, len-empty, entries, entries_sorted, entries-insert, get-entries, empty, reverse-append, find-append, Node, significant_digits, node_cmp, NoneEmpty, node_of, Globals, keys_of, is_between, next_key, previous_key, node_cmp_total, key_order, IsKey, none_empty, ShowsBytes, is_below, is_nearer, lookup_by, globals_by, AreKeyed}
 use Rattle.mstore.proofs.SortedEntries.{from_T}
-use Rattle.std.proofs.lemmas.Bool.{and_parts}
 use Rattle.std.specs.Prelude.{⊤, T, IsSome}
-use Rattle.std.specs.Option.{option_or}
-use Rattle.std.specs.List.{find, AllByRecursion}
-use Rattle.std.specs.Ordering.{nat_cmp, is_eq, is_lt, eq_by_cmp, ordering_reverse}
-use Rattle.std.specs.Cmp.{eq_by_cmp_equiv, Equal-is}
-use Rattle.std.specs.Cmp.Lexicographic.{slice_cmp, nat_list_cmp_total}
-use Rattle.std.specs.FinMap.{nat_cmp-IsAntisymmetric, slice_cmp-IsAntisymmetric, len-entries, len-empty, entries, entries_sorted, entries-insert, get-entries, empty}
+use Rattle.std.specs.List.{find}
+use Rattle.std.specs.Ordering.{nat_cmp, is_eq, is_lt}
 use Rattle.std.specs.FinMap.Entries as Entries
-use Rattle.std.proofs.lemmas.List.{reverse-append}
-use Rattle.std.proofs.lemmas.List.Folds.{find-append}
-use Rattle.mspec.specs.Node.{Text, Node}
-use Rattle.mspec.specs.Number.{significant_digits}
-use Rattle.mspec.specs.NodeOrder.{node_cmp}
-use Rattle.mspec.specs.KeyLaws.{NoneEmpty}
-use Rattle.mspec.specs.KeyReading.{node_of}
-use Rattle.mspec.specs.Globals.{Globals, keys_of, is_between, next_key, previous_key}
-use Rattle.mspec.proofs.NodeOrders.{node_cmp_total}
-use Rattle.mspec.proofs.KeyOrders.{key_order}
-use Rattle.mkey.specs.Key.{IsKey, none_empty}
-use Rattle.mstore.specs.Map.{ShowsBytes, is_below, is_nearer}
-use Rattle.mstore.specs.Keyed.{lookup_by, globals_by, AreKeyed}
+use Rattle.mspec.specs.Node.{Text}
 use Rattle.mstore.proofs.KeyedRows.{key, node_at, same_of, gets}
 
 -- ---- keys in a list

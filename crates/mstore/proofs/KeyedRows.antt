@@ -1,29 +1,13 @@
 -- SPDX-License-Identifier: Apache-2.0
 -- What calls do to rows by their keys, they do to the globals that the rows hold.
-use Rattle.std.proofs.Common.{ℕ, ◌≡◌, ◌≢◌, ◌<◌, ◌⊎◌, inl, inr, Bool, true, false, cond, not, Some, None, option_map, List, [], ◌∷◌, map, length, refl, sym, ◌∙◌, ap, subst, arith, find}
+use Rattle.mstore.proofs.Words.{ℕ, ◌≡◌, ◌≢◌, ◌<◌, ◌⊎◌, inl, inr, Bool, true, false, cond, not, Some, None, option_map, List, [], ◌∷◌, map, length, refl, sym, ◌∙◌, ap, subst, arith, and_parts, and_from, eq_by_cmp, IsTotalOrder, eq_by_cmp_equiv, Equal-is, both_ways, slice_cmp, get, get-from_entries, get-insert, get-retain_keys, same_map, All-head, All-tail, All-cons, All-nil, Node, significant_digits, node_cmp, key_bytes, subtree_end, NoneEmpty, node_of, Globals, is_node_within, without_subtree, node_cmp_total, node_cmp_exact, key_order, keys_are_injective, subtrees_are_ranges, keys_are_read, IsKey, none_empty, PutsAt, RemovesWithin, in_bounds, lookup_by, globals_by, AreKeyed}
+use Rattle.std.proofs.Common.{find}
 use Rattle.mstore.proofs.SortedEntries.{less}
 use Rattle.mstore.proofs.Subtrees.{told_within, within_told}
-use Rattle.std.proofs.lemmas.Bool.{and_parts, and_from}
-use Rattle.std.specs.Ordering.{nat_cmp, is_eq, is_lt, is_le, eq_by_cmp}
-use Rattle.std.specs.Cmp.{IsTotalOrder, eq_by_cmp_equiv, Equal-is, both_ways}
-use Rattle.std.specs.Cmp.Lexicographic.{slice_cmp}
-use Rattle.std.specs.FinMap.{get, insert, get-from_entries, get-insert, get-retain_keys, same_map}
+use Rattle.std.specs.Ordering.{nat_cmp, is_eq, is_lt, is_le}
+use Rattle.std.specs.FinMap.{insert}
 use Rattle.std.specs.FinMap.Entries as Entries
-use Rattle.std.proofs.lemmas.List.Elements.{All-head, All-tail, All-cons, All-nil}
-use Rattle.mspec.specs.Node.{Text, Node}
-use Rattle.mspec.specs.Number.{significant_digits}
-use Rattle.mspec.specs.NodeOrder.{node_cmp}
-use Rattle.mspec.specs.KeyBytes.{key_bytes, subtree_end}
-use Rattle.mspec.specs.KeyLaws.{NoneEmpty}
-use Rattle.mspec.specs.KeyReading.{node_of}
-use Rattle.mspec.specs.Globals.{Globals, is_node_within, without_subtree}
-use Rattle.mspec.proofs.NodeOrders.{node_cmp_total, node_cmp_exact}
-use Rattle.mspec.proofs.KeyOrders.{key_order}
-use Rattle.mspec.proofs.KeyRanges.{keys_are_injective, subtrees_are_ranges}
-use Rattle.mspec.proofs.KeyReadings.{keys_are_read}
-use Rattle.mkey.specs.Key.{IsKey, none_empty}
-use Rattle.mstore.specs.Map.{PutsAt, RemovesWithin, in_bounds}
-use Rattle.mstore.specs.Keyed.{lookup_by, globals_by, AreKeyed}
+use Rattle.mspec.specs.Node.{Text}
 
 abbrev pub key : Node → List ℕ
 key = key_bytes significant_digits

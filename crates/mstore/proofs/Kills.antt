@@ -1,15 +1,10 @@
 -- SPDX-License-Identifier: Apache-2.0
 -- What `kill` takes out.
-use Rattle.std.proofs.Common.{◌≡◌, ℕ, ℤ, true, List, [], ◌∷◌, Ok, refl, sym, ap, subst, ◌∙◌, true≢false}
-use Rattle.mstore.proofs.Words.{Null, Blob, Row, col, Written, Database, IsAnswer, overlay, Enforced, Given, rowid, Has, id_in, without_all, ids_of, State, Executes, runs_as, one_step}
+use Rattle.mstore.proofs.Words.{◌≡◌, ℕ, ℤ, true, List, [], ◌∷◌, Ok, refl, sym, ap, subst, ◌∙◌, Null, Blob, Row, col, Written, Database, IsAnswer, overlay, Enforced, Given, rowid, Has, id_in, without_all, ids_of, State, Executes, runs_as, one_step, node, schema, IsIdle, in_bounds, RemovesWithin, AreRows, lookup, kill_text}
+use Rattle.std.proofs.Common.{true≢false}
 use Rattle.sqlite.specs.Tree.{Trees}
 use Rattle.sqlite_rules.specs.Edit.{edit_of}
-use Rattle.mstore.specs.Layout.{node, schema}
-use Rattle.mstore.specs.Database.{IsIdle}
-use Rattle.mstore.specs.Map.{in_bounds, RemovesWithin}
-use Rattle.mstore.specs.Rows.{AreRows, lookup}
 use Rattle.mstore.proofs.Texts.{kill_is, kill_command, kill_query, program, in_range}
-use Rattle.mstore.specs.Statements.{kill_text}
 use Rattle.mstore.proofs.Answer.{rows_from, rows_to, has_mapped, mapped_has}
 use Rattle.mstore.proofs.RowTests.{in_range_is, is_within}
 use Rattle.mstore.proofs.Edits.{IsLeft, left_is, left_nodes, lookup_same}

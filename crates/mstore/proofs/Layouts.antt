@@ -1,10 +1,8 @@
 -- SPDX-License-Identifier: Apache-2.0
 -- The schema of a store, written out.
-use Rattle.std.proofs.Common.{◌≡◌, true, false, [], ◌∷◌, codes, refl}
+use Rattle.mstore.proofs.Words.{◌≡◌, true, false, [], ◌∷◌, codes, refl, Integer, Any, column_of, table_of, index_of, schema}
 use Rattle.std.specs.Fmt.{digits}
-use Rattle.mstore.proofs.Words.{Integer, Any}
 use Rattle.sqlite.specs.Kind.TheVariants.{Text}
-use Rattle.mstore.specs.Layout.{column_of, table_of, index_of, schema}
 
 pub schema_is : schema ≡ record {
   tables = table_of (codes "node") 0 (column_of (codes "k") Any true ∷ column_of (codes "v") Any true ∷ [])

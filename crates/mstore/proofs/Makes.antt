@@ -1,25 +1,13 @@
 -- SPDX-License-Identifier: Apache-2.0
 -- How the tables are made.
-use Rattle.std.proofs.Common.{◌≡◌, ℕ, pos, true, false, List, [], ◌∷◌, codes, None, Ok, refl, sym, ap, ap₂, subst, ◌∙◌, inl, arith}
-use Rattle.mstore.proofs.Words.{Null, Int, Row, lit, Source, CreateTable, Insert, Enforced, Chosen, Tally, Does, lacks_sequence, Written, Database, State, mode_of, Opens, Writes, Executes, IsPlain, command_of, statement_of, runs_as, one_step, put_all_adds, Has}
+use Rattle.mstore.proofs.Words.{◌≡◌, ℕ, pos, true, false, List, [], ◌∷◌, codes, None, Ok, refl, sym, ap, ap₂, subst, ◌∙◌, inl, arith, Null, Int, Row, lit, Source, CreateTable, Insert, Enforced, Chosen, Tally, Does, lacks_sequence, Written, Database, State, mode_of, Opens, Writes, Executes, IsPlain, command_of, statement_of, runs_as, one_step, put_all_adds, Has, Values, over_memory, everything, understood, node, meta, schema, no_schema, version_name, this_version, IsIdle, IsStore, IsBare, IsBlank, IsMemory, AreNodes, key_of, value_of, globals_by, empty, no_doubt, node_text, meta_text, version_text}
 use Rattle.sqlite.specs.declared.types.Value.TheVariants.{Text}
-use Rattle.sqlite.specs.Source.TheVariants.{Values}
 use Rattle.sqlite.specs.Table.{Table}
 use Rattle.sqlite.specs.Tree.{Trees}
 use Rattle.sqlite.specs.Edit.{edit_of, numbered, next_rowid, put_all}
 use Rattle.sqlite.specs.Change.{created, next_tree}
 use Rattle.mmemory.specs.Memory.{memory_is_listed, memory_is_ordered}
-use Rattle.mstore.specs.InMemory.{over_memory}
-use Rattle.sqlite_tied.specs.Compute.{everything}
-use Rattle.sqlite.specs.Listing.{understood}
-use Rattle.mstore.specs.Layout.{node, meta, schema, no_schema}
-use Rattle.mstore.specs.Database.{version_name, this_version, IsIdle, IsStore, IsBare, IsBlank, IsMemory}
-use Rattle.mstore.specs.Rows.{AreNodes, key_of, value_of}
-use Rattle.mstore.specs.Keyed.{globals_by}
-use Rattle.std.specs.FinMap.{empty}
-use Rattle.sqlite_trees.proofs.Doubt.{no_doubt}
 use Rattle.mstore.proofs.Texts.{node_is, meta_is}
-use Rattle.mstore.specs.Statements.{node_text, meta_text, version_text}
 use Rattle.mstore.proofs.Casts.{cast_null, cast_int}
 use Rattle.mstore.proofs.Writes.{went, same_value}
 

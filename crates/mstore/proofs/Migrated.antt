@@ -1,16 +1,7 @@
 -- SPDX-License-Identifier: Apache-2.0
 -- A store of version 1 whose rows have all been moved.
-use Rattle.std.proofs.Common.{◌≡◌, ℕ, true, false, List, [], ◌∷◌, Option, Some, None, refl, sym, ap, ap₂, subst, ◌∙◌, inl, inr, true≢false, OnErr, Result, Ok, Err, IsTrue}
-use Rattle.mstore.proofs.Words.{Value, Blob, Row, column, Has, all_from, Ghosts, Database, Held, state, Error, State, Shows, IsRolledBack, FailsToCommit}
-use Rattle.mspec.specs.Node.{Node}
-use Rattle.mspec.specs.Number.{significant_digits}
-use Rattle.mspec.specs.KeyBytes.{key_bytes, IsStored}
-use Rattle.mkey.specs.Key.{IsKey, old_digits, none_empty}
-use Rattle.mstore.specs.Keyed.{globals_by, AreKeyed}
-use Rattle.mstore.specs.Versions.{HoldBy}
-use Rattle.mstore.specs.Rows.{AreRows, AreNodes, IsNode, IsInForm, IsInFormBy, IsValue, key_of, value_of, lookup, shown_of}
-use Rattle.mstore.specs.Database.{version_name, old_version, IsStore, IsUntouched, IsMigrated, HasVersion, this_version, ShowsAll, content}
-use Rattle.mstore.specs.Moving.{IsAny, IsWorking, IsMoving, IsOldStore, ShowContent}
+use Rattle.mstore.proofs.Words.{◌≡◌, ℕ, true, false, List, [], ◌∷◌, Option, Some, None, refl, sym, ap, ap₂, subst, ◌∙◌, inl, inr, OnErr, Result, Ok, Err, IsTrue, Value, Blob, Row, column, Has, all_from, Ghosts, Database, Held, state, Error, State, Shows, IsRolledBack, FailsToCommit, Node, significant_digits, key_bytes, IsStored, IsKey, old_digits, none_empty, globals_by, AreKeyed, HoldBy, AreRows, AreNodes, IsNode, IsInForm, IsInFormBy, IsValue, key_of, value_of, lookup, shown_of, version_name, old_version, IsStore, IsUntouched, IsMigrated, HasVersion, this_version, ShowsAll, content, IsAny, IsWorking, IsMoving, IsOldStore, ShowContent}
+use Rattle.std.proofs.Common.{true≢false}
 use Rattle.mstore.proofs.Holding.{rows_held}
 use Rattle.mstore.proofs.KeyedRows as keyed_rows
 use Rattle.mstore.proofs.Maps.{lookup_some, lookup_has}

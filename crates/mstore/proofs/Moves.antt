@@ -1,18 +1,8 @@
 -- SPDX-License-Identifier: Apache-2.0
 -- Rows that go from their keys by fifteen digits to those of this version.
-use Rattle.std.proofs.Common.{◌≡◌, ◌≢◌, ◌⊎◌, ℕ, suc, true, List, [], ◌∷◌, Option, Some, None, sym, ap, subst, ◌∙◌, inl, inr, is_eq, nat_cmp, drop-cons, ◌+◌, ◌<◌, length, drop, get_or, add-one}
-use Rattle.std.proofs.lemmas.Bool.{cases_Bool, true≢false}
-use Rattle.std.specs.Cmp.Lexicographic.{slice_cmp}
-use Rattle.mstore.proofs.Words.{Value, Blob, Row, column, Has, same_bytes, bytes_eq_refl, has_at, State}
-use Rattle.mspec.specs.Node.{Node}
-use Rattle.mspec.specs.Number.{significant_digits}
-use Rattle.mspec.specs.KeyBytes.{key_bytes, IsStored}
-use Rattle.mspec.specs.KeyReading.{node_of}
-use Rattle.mspec.proofs.KeyReadings.{keys_are_read}
-use Rattle.mkey.specs.Key.{IsKeyBy, old_digits}
-use Rattle.mstore.specs.Map.{Content}
-use Rattle.mstore.specs.Database.{content}
-use Rattle.mstore.specs.Moving.{MovesKey, MovesRow, IsMoving, ShowContent}
+use Rattle.mstore.proofs.Words.{◌≡◌, ◌≢◌, ◌⊎◌, ℕ, suc, true, List, [], ◌∷◌, Option, Some, None, sym, ap, subst, ◌∙◌, inl, inr, drop-cons, ◌+◌, ◌<◌, length, drop, get_or, add-one, cases_Bool, slice_cmp, Value, Blob, Row, column, Has, same_bytes, bytes_eq_refl, has_at, State, Node, significant_digits, key_bytes, IsStored, node_of, keys_are_read, IsKeyBy, old_digits, Content, content, MovesKey, MovesRow, IsMoving, ShowContent}
+use Rattle.std.proofs.Common.{is_eq, nat_cmp}
+use Rattle.std.proofs.lemmas.Bool.{true≢false}
 
 -- ---- keys of one node, or of two
 

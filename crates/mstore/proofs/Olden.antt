@@ -1,12 +1,6 @@
 -- SPDX-License-Identifier: Apache-2.0
 -- A store of version 1 whose rows were read.
-use Rattle.std.proofs.Common.{Result, Ok, Err, OnErr, List, ap, subst, sym, ◌∙◌}
-use Rattle.mstore.proofs.Words.{Row, column, Database, IsDatabase, Held, state, State, IsLive, Has, Ghosts}
-use Rattle.mkey.specs.Key.{old_digits}
-use Rattle.mstore.specs.Versions.{HoldBy}
-use Rattle.mstore.specs.Rows.{AreRows, IsInFormBy}
-use Rattle.mstore.specs.Database.{IsMemory, IsIdle, IsCalm, IsUntouched, IsMigrated, HasVersion, old_version, Stays, ShowsAll, ShowsNodesBy, globals_in}
-use Rattle.mstore.specs.Moving.{IsOldCalm, IsOldStore}
+use Rattle.mstore.proofs.Words.{Result, Ok, Err, OnErr, List, ap, subst, sym, ◌∙◌, Row, column, Database, IsDatabase, Held, state, State, IsLive, Has, Ghosts, old_digits, HoldBy, AreRows, IsInFormBy, IsMemory, IsIdle, IsCalm, IsUntouched, IsMigrated, HasVersion, old_version, Stays, ShowsAll, ShowsNodesBy, globals_in, IsOldCalm, IsOldStore}
 use Rattle.mstore.proofs.Adopts.{nodes_from}
 use Rattle.mstore.proofs.States.{stays_calm, untouched}
 

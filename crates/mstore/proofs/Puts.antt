@@ -1,20 +1,12 @@
 -- SPDX-License-Identifier: Apache-2.0
 -- What `put` writes.
-use Rattle.std.proofs.Common.{◌≡◌, ◌≢◌, ◌⊎◌, ℕ, ℤ, Bool, true, false, ◌&&◌, ◌||◌, List, [], ◌∷◌, map, drop, Option, Some, None, Ok, refl, sym, ap, ap₂, arith, int_eq, subst, ◌∙◌, inl, inr}
-use Rattle.std.proofs.lemmas.Bool.{true≢false, false_from_ne_true, and_parts, not-true}
-use Rattle.mstore.proofs.Words.{Value, Null, Int, Blob, Row, column, Binary, col, is_true, Compare, Eq, Written, Puts, Updates, Upserts, Tries, TriesEach, Clears, Meets, Judged, count_of, nothing, first_key-plain, Key, given, Database, IsAnswer, overlay, Integer, cast, cast_row, Enforced, Abort, Given, Chosen, rowid, Has, id_in, without_all, are_fresh, is_taken, with_rowid, ids_of, put_all_has, put_all_keeps, put_all_adds, at_ints, at_blobs, last_term, same_bytes, State, Executes, runs_as, one_step}
-use Rattle.sqlite_sql.specs.Ops.{binary}
-use Rattle.std.proofs.lemmas.Int.{ints}
+use Rattle.mstore.proofs.Words.{◌≡◌, ◌≢◌, ◌⊎◌, ℕ, ℤ, Bool, true, false, ◌&&◌, ◌||◌, List, [], ◌∷◌, map, drop, Option, Some, None, Ok, refl, sym, ap, ap₂, arith, int_eq, subst, ◌∙◌, inl, inr, false_from_ne_true, and_parts, not-true, Value, Null, Int, Blob, Row, column, Binary, col, is_true, Compare, Eq, Written, Puts, Updates, Upserts, Tries, TriesEach, Clears, Meets, Judged, count_of, nothing, first_key-plain, Key, given, Database, IsAnswer, overlay, Integer, cast, cast_row, Enforced, Abort, Given, Chosen, rowid, Has, id_in, without_all, are_fresh, is_taken, with_rowid, ids_of, put_all_has, put_all_keeps, put_all_adds, at_ints, at_blobs, last_term, same_bytes, State, Executes, runs_as, one_step, binary, ints, node, schema, IsIdle, PutsAt, AreRows, IsNode, key_of, value_of, lookup, is_at, put_text}
+use Rattle.std.proofs.lemmas.Bool.{true≢false}
 use Rattle.sqlite_rules.specs.declared.error.Refusal.{Refusal}
 use Rattle.sqlite.specs.Tree.{Trees}
 use Rattle.sqlite_rules.specs.Keys.{conflicts, AreConflicts}
 use Rattle.sqlite_rules.specs.Edit.{next_rowid, put_all, edit_of}
-use Rattle.mstore.specs.Layout.{node, schema}
-use Rattle.mstore.specs.Database.{IsIdle}
-use Rattle.mstore.specs.Map.{PutsAt}
-use Rattle.mstore.specs.Rows.{AreRows, IsNode, key_of, value_of, lookup, is_at}
 use Rattle.mstore.proofs.Texts.{put_is, put_command, put_query, put_clauses, put_source, program, at_rowid}
-use Rattle.mstore.specs.Statements.{put_text}
 use Rattle.mstore.proofs.Casts.{cast_null, cast_int}
 use Rattle.mstore.proofs.Answer.{rows_from, rows_to, has_mapped, mapped_has, passes}
 use Rattle.mstore.proofs.RowTests.{key_column}

@@ -1,13 +1,10 @@
 -- SPDX-License-Identifier: Apache-2.0
 -- What stands from a key on and before the bytes that come next after it: the key alone.
-use Rattle.std.proofs.Common.{◌≡◌, ◌≢◌, ◌⊎◌, ◌<◌, ℕ, true, false, List, [], ◌∷◌, ◌++◌, refl, sym, ap, ap₂, subst, ◌∙◌, inl, inr, nat_cmp, arith, Equal, Greater}
-use Rattle.std.proofs.lemmas.Bool.{and_parts, and_from, true≢false, false_from_ne_true, cases_order}
-use Rattle.std.specs.Cmp.{nat_cmp_is}
-use Rattle.std.specs.Cmp.Lexicographic.{slice_cmp}
-use Rattle.std.specs.Ordering.{is_lt, is_le, ordering_then}
+use Rattle.mstore.proofs.Words.{◌≡◌, ◌≢◌, ◌⊎◌, ◌<◌, ℕ, true, false, List, [], ◌∷◌, ◌++◌, refl, sym, ap, ap₂, subst, ◌∙◌, inl, inr, arith, Equal, Greater, and_parts, and_from, false_from_ne_true, cases_order, nat_cmp_is, slice_cmp, ordering_then, Content, in_bounds, PutsAt, RemovesWithin, MovesKey}
+use Rattle.std.proofs.Common.{nat_cmp}
+use Rattle.std.proofs.lemmas.Bool.{true≢false}
+use Rattle.std.specs.Ordering.{is_lt, is_le}
 use Rattle.mspec.proofs.KeyRanges.{same_bytes}
-use Rattle.mstore.specs.Map.{Content, in_bounds, PutsAt, RemovesWithin}
-use Rattle.mstore.specs.Moving.{MovesKey}
 
 -- a list from k on, and before k with a 0 behind it
 pub alone : (k q : List ℕ) → is_le (slice_cmp nat_cmp k q) ≡ true → is_lt (slice_cmp nat_cmp q (k ++ 0 ∷ [])) ≡ true → q ≡ k

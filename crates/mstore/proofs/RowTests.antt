@@ -1,10 +1,6 @@
 -- SPDX-License-Identifier: Apache-2.0
 -- What the tests of the statements say of a row.
-use Rattle.std.proofs.Common.{◌≡◌, ℕ, Bool, false, ◌&&◌, List, [], ◌∷◌, ap, ap₂, ◌∙◌}
-use Rattle.mstore.proofs.Words.{Blob, Row, column, Binary, Compare, Eq, Ge, Lt, is_true, at_blobs, last_term}
-use Rattle.sqlite_sql.specs.Ops.{binary}
-use Rattle.mstore.specs.Map.{in_bounds}
-use Rattle.mstore.specs.Rows.{IsNode, key_of, value_of, is_at}
+use Rattle.mstore.proofs.Words.{◌≡◌, ℕ, Bool, false, ◌&&◌, List, [], ◌∷◌, ap, ap₂, ◌∙◌, Blob, Row, column, Binary, Compare, Eq, Ge, Lt, is_true, at_blobs, last_term, binary, in_bounds, IsNode, key_of, value_of, is_at}
 use Rattle.mstore.proofs.Texts.{at_key, in_range}
 use Rattle.mstore.proofs.Answer.{passes}
 

@@ -1,22 +1,11 @@
 -- SPDX-License-Identifier: Apache-2.0
 -- What entries in order hold, and how their nodes and the bytes of their keys rise.
-use Rattle.std.proofs.Common.{◌≡◌, ℕ, zero, suc, ◌<◌, Bool, true, false, cond, ◌&&◌, T, None, List, [], ◌∷◌, map, length, slice_index_or, Option, Some, refl, sym, ap, subst, ◌∙◌, arith, Ordering, Less, Equal, Greater}
-use Rattle.std.proofs.lemmas.Bool.{and_parts}
-use Rattle.std.specs.Cmp.{IsTotalOrder}
-use Rattle.std.specs.Cmp.Lexicographic.{slice_cmp, slice_partial_cmp}
-use Rattle.std.specs.FinMap.{empty, entries, get, insert, from_entries, retain_keys, entries-insert, get-from_entries, get-retain_keys, len-entries, len-empty, same_entries_map, same_map}
-use Rattle.std.specs.FinMap.Entries.{find, put, where_key, is_sorted, below_all, by_order, is_sorted-put, is_sorted-where_key, find-where_key}
-use Rattle.std.specs.Ordering.{nat_cmp, is_lt, is_some_and, ordering_reverse, ordering_then, partial_ordering_then}
-use Rattle.mspec.specs.Globals.{Globals, keys_of}
-use Rattle.mspec.specs.KeyBytes.{key_bytes, IsStored}
-use Rattle.mspec.specs.Node.{Text, Node}
-use Rattle.mspec.specs.NodeOrder.{node_cmp}
-use Rattle.mspec.specs.Number.{significant_digits}
-use Rattle.mspec.proofs.KeyOrders.{key_order}
-use Rattle.mspec.proofs.NodeOrders.{node_cmp_total, node_cmp_exact}
-use Rattle.mkey.specs.Key.{none_empty}
-use Rattle.mstore.specs.declared.plain.Entry.{Entry}
-use Rattle.mstore.specs.Entries.{entries_of, held, bytes_of, AreEntries}
+use Rattle.mstore.proofs.Words.{◌≡◌, ℕ, zero, suc, ◌<◌, Bool, true, false, cond, ◌&&◌, None, List, [], ◌∷◌, map, length, slice_index_or, Option, Some, refl, sym, ap, subst, ◌∙◌, arith, Ordering, Less, Equal, Greater, and_parts, IsTotalOrder, slice_cmp, slice_partial_cmp, empty, entries, get, from_entries, retain_keys, entries-insert, get-from_entries, get-retain_keys, len-entries, len-empty, same_entries_map, same_map, put, where_key, is_sorted, below_all, by_order, is_sorted-put, is_sorted-where_key, find-where_key, is_some_and, ordering_reverse, ordering_then, partial_ordering_then, Globals, keys_of, key_bytes, IsStored, Node, node_cmp, significant_digits, key_order, node_cmp_total, node_cmp_exact, none_empty, Entry, entries_of, held, bytes_of, AreEntries}
+use Rattle.std.proofs.Common.{T}
+use Rattle.std.specs.FinMap.{insert}
+use Rattle.std.specs.FinMap.Entries.{find}
+use Rattle.std.specs.Ordering.{nat_cmp, is_lt}
+use Rattle.mspec.specs.Node.{Text}
 
 abbrev pub order : Node → Node → Ordering
 order = node_cmp significant_digits

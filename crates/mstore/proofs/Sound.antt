@@ -1,16 +1,8 @@
 -- SPDX-License-Identifier: Apache-2.0
 -- From what a call says to what it leaves of a sound store.
-use Rattle.std.proofs.Common.{◌≡◌, ℕ, List, [], ◌∷◌, Result, Ok, Err, sym, ap, subst}
-use Rattle.mstore.specs.Layout.{schema}
-use Rattle.mstore.proofs.Words.{Ghosts, Row, Error, Database, Held, state, HasCleanDisk, Executes, IsPlain, Blob}
-use Rattle.sqlite.specs.State.{QueriesRow}
-use Rattle.sqlite.specs.Listing.{understood}
-use Rattle.mstore.specs.Database.{IsSound, IsIdle, Stays, holds, stored}
-use Rattle.mstore.specs.Map.{PutsAt, RemovesWithin}
-use Rattle.mstore.specs.Rows.{IsInForm, AreNodes, key_of, value_of}
-use Rattle.mstore.specs.Keyed.{globals_by}
+use Rattle.mstore.proofs.Words.{◌≡◌, ℕ, List, [], ◌∷◌, Result, Ok, Err, sym, ap, subst, schema, Ghosts, Row, Error, Database, Held, state, HasCleanDisk, Executes, IsPlain, Blob, QueriesRow, understood, IsIdle, Stays, stored, PutsAt, RemovesWithin, IsInForm, AreNodes, key_of, value_of, globals_by, put_text, kill_text}
+use Rattle.mstore.specs.Database.{IsSound, holds}
 use Rattle.mstore.proofs.States.{stays_calm, query_row_stays, failed_execute_stays}
-use Rattle.mstore.specs.Statements.{put_text, kill_text}
 use Rattle.mstore.proofs.Puts.{puts, put_nodes, put_map}
 use Rattle.mstore.proofs.Kills.{kills, kill_map}
 use Rattle.mstore.proofs.Edits.{left_nodes}

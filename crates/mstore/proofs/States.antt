@@ -1,13 +1,6 @@
 -- SPDX-License-Identifier: Apache-2.0
 -- What a statement leaves, whatever became of it.
-use Rattle.std.proofs.Common.{◌≡◌, ◌≢◌, ℕ, false, List, [], Option, Some, None, Result, Ok, Err, IsTrue, sym, ap, subst, ◌∙◌, inl, inr}
-use Rattle.std.proofs.lemmas.Bool.{cases_Bool}
-use Rattle.mstore.proofs.Words.{Row, Command, Select, Rows, Database, RefusesToRead, Error, QueryReturnedNoRows, State, IsUnchanged, IsRolledBack, FailsToShow, Executes, RunsCommand, ShowsRows, store_error, shows_rows, IsPlain}
-use Rattle.sqlite_trees.specs.declared.error.StoreError.{StoreError}
-use Rattle.sqlite_trees.specs.declared.error.StoreError.TheVariants.{OutOfMemory, Io, Corrupt, Full, Broken, Unstorable}
-use Rattle.sqlite.specs.Listing.{understood}
-use Rattle.sqlite.specs.State.{IsNotRun, FailsToQuery, QueriesRow, ExecutesIn, Shown}
-use Rattle.mstore.specs.Database.{IsIdle, IsCalm, Stays, IsUntouched}
+use Rattle.mstore.proofs.Words.{◌≡◌, ◌≢◌, ℕ, false, List, [], Option, Some, None, Result, Ok, Err, IsTrue, sym, ap, subst, ◌∙◌, inl, inr, cases_Bool, Row, Command, Select, Rows, Database, RefusesToRead, Error, QueryReturnedNoRows, State, IsUnchanged, IsRolledBack, FailsToShow, Executes, RunsCommand, ShowsRows, store_error, shows_rows, IsPlain, StoreError, OutOfMemory, Io, Corrupt, Full, Broken, Unstorable, understood, IsNotRun, FailsToQuery, QueriesRow, ExecutesIn, Shown, IsIdle, IsCalm, Stays, IsUntouched}
 
 pub stays_calm : (old new : State) → IsCalm old → Stays old new → IsCalm new
 stays_calm old new was k = record { idle = k.idle; schema_is = ap (λ (d : Database). d.schema) k.same ∙ was.schema_is }

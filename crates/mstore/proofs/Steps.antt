@@ -1,15 +1,7 @@
 -- SPDX-License-Identifier: Apache-2.0
 -- The first key of a range, and the last.
-use Rattle.std.proofs.Common.{◌≡◌, ℕ, suc, ◌<◌, Bool, true, false, List, [], ◌∷◌, length, get_or, map, Option, Some, None, Ok, Err, IsSome, refl, sym, ap, ap₂, subst, ◌∙◌, inl, inr, arith, is_lt, IsSorted, IsSortedBy}
-use Rattle.std.proofs.lemmas.List.Sorted.{sorted_far, ranks_by}
-use Rattle.mstore.proofs.Words.{Value, Null, Blob, Row, column, Binary, Key, by_key_total, then-Equal, value_cmp-Blob, col, IsAnswer, output, output_cmp, Output, overlay, State, QueryReturnedNoRows, IsPlain, command_of, first_as, reads_as, Has}
-use Rattle.sqlite_value.specs.Keys.{by_key}
-use Rattle.sqlite.specs.Listing.{understood, reads_listing}
-use Rattle.sqlite.specs.State.{QueriesRow}
-use Rattle.mstore.specs.Layout.{schema}
-use Rattle.mstore.specs.Database.{IsStore, content}
-use Rattle.mstore.specs.Map.{in_bounds, is_nearer, IsNearest, HasNone}
-use Rattle.mstore.specs.Rows.{key_of, lookup}
+use Rattle.mstore.proofs.Words.{◌≡◌, ℕ, suc, ◌<◌, Bool, true, false, List, [], ◌∷◌, length, get_or, map, Option, Some, None, Ok, Err, refl, sym, ap, ap₂, subst, ◌∙◌, inl, inr, arith, IsSorted, sorted_far, ranks_by, Value, Null, Blob, Row, column, Binary, Key, by_key_total, then-Equal, value_cmp-Blob, col, IsAnswer, output, output_cmp, Output, overlay, State, QueryReturnedNoRows, IsPlain, command_of, first_as, reads_as, Has, by_key, understood, reads_listing, QueriesRow, schema, IsStore, content, in_bounds, is_nearer, IsNearest, HasNone, key_of, lookup}
+use Rattle.std.proofs.Common.{IsSome, is_lt, IsSortedBy}
 use Rattle.mstore.proofs.Texts.{step_query, step_command, in_range}
 use Rattle.mstore.proofs.Answer.{outputs_from, outputs_to, rows_to}
 use Rattle.mstore.proofs.Maps.{lookup_has, lookup_none, lookup_some}

@@ -1,13 +1,7 @@
 -- SPDX-License-Identifier: Apache-2.0
 -- What `prepare` says of a statement that the columns do not take.
-use Rattle.std.proofs.Common.{◌≡◌, ◌≢◌, ℕ, List, [], Result, Ok, Err, IsTrue, IfOk, IfErr, sym, inl, inr}
-use Rattle.mstore.proofs.Words.{Row, Error, SqlInputError, State, IsUnchanged, store_error}
-use Rattle.sqlite_trees.specs.declared.error.StoreError.{StoreError}
-use Rattle.sqlite_trees.specs.declared.error.StoreError.TheVariants.{OutOfMemory, Io, Corrupt, Full, Broken, Unstorable}
+use Rattle.mstore.proofs.Words.{◌≡◌, ◌≢◌, ℕ, List, [], Result, Ok, Err, IsTrue, IfOk, IfErr, sym, inl, inr, Row, Error, SqlInputError, State, IsUnchanged, store_error, StoreError, OutOfMemory, Io, Corrupt, Full, Broken, Unstorable, understood, IsNotRun, IsIdle, Stays}
 use Rattle.sqlite_resolve.specs.declared.error.CompileError.{CompileError}
-use Rattle.sqlite.specs.Listing.{understood}
-use Rattle.sqlite.specs.State.{IsNotRun}
-use Rattle.mstore.specs.Database.{IsIdle, Stays}
 use Rattle.mstore.proofs.States.{unchanged_stays, not_run_stays}
 
 pub prepare_stays : {A : Type 0} (Is : A → Type 0) (old new : State) (sql : List ℕ) (r : Result A Error) → IsIdle old → IsTrue new.is_open → IfOk r (λ s. Is s × IsUnchanged old new)

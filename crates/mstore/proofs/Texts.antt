@@ -1,17 +1,8 @@
 -- SPDX-License-Identifier: Apache-2.0
 -- What the statements are compiled to.
-use Rattle.std.proofs.Common.{◌≡◌, ℕ, Bool, List, [], ◌∷◌, codes, Ok, refl, pos, negsuc, true, false, Some, None}
-use Rattle.mstore.proofs.Words.{Query, inner, end, lit, col, op2, Source, Command, Key, Binary, Null, Int, Compare, Eq, Ge, Lt, Abort, Select, InsertOr, Delete, IsPlain, command_of}
+use Rattle.mstore.proofs.Words.{◌≡◌, ℕ, Bool, List, [], ◌∷◌, codes, Ok, refl, pos, negsuc, true, false, Some, None, Query, inner, end, lit, col, op2, Source, Command, Key, Binary, Null, Int, Compare, Eq, Ge, Lt, Abort, Select, InsertOr, Delete, IsPlain, command_of, Upsert, Program, Values, everything, understood, reads_listing, version_name, node, meta, schema, node_text, meta_text, get_text, put_text, kill_text, next_text, prev_text, which_text, all_text}
 use Rattle.sqlite.specs.Term.{Term}
-use Rattle.sqlite_schema.specs.declared.command.Upsert.{Upsert}
-use Rattle.sqlite_schema.specs.declared.program.Program.{Program}
-use Rattle.sqlite.specs.Source.TheVariants.{Values}
 use Rattle.sqlite.specs.Compile.{table_defined_by}
-use Rattle.sqlite_tied.specs.Compute.{everything}
-use Rattle.sqlite.specs.Listing.{understood, reads_listing}
-use Rattle.mstore.specs.Database.{version_name}
-use Rattle.mstore.specs.Layout.{node, meta, schema}
-use Rattle.mstore.specs.Statements.{node_text, meta_text, get_text, put_text, kill_text, next_text, prev_text, which_text, all_text}
 
 pub node_is : table_defined_by node_text ≡ Ok node
 unfolding everything

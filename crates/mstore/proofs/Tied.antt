@@ -1,17 +1,8 @@
 -- SPDX-License-Identifier: Apache-2.0
 -- What the statements do, of the globals that the rows are.
-use Rattle.std.proofs.Common.{◌≡◌, ℕ, Bool, false, true, List, [], ◌∷◌, Option, Some, None, Result, Ok, Err, OnOk, sym, ap, subst, ◌∙◌}
-use Rattle.std.specs.FinMap.{get, insert}
-use Rattle.mstore.proofs.Words.{Value, Blob, Row, column, Ghosts, all_from, Held, state}
-use Rattle.mspec.specs.Node.{Node}
-use Rattle.mspec.specs.Number.{significant_digits}
-use Rattle.mspec.specs.KeyBytes.{key_bytes, subtree_end, IsStored}
-use Rattle.mspec.specs.Globals.{without_subtree, next_key, previous_key}
-use Rattle.mkey.specs.Key.{IsKey, none_empty}
-use Rattle.mstore.specs.Keyed.{AreKeyed}
-use Rattle.mstore.specs.Map.{PutsAt, RemovesWithin, ShowsBytes, IsNearest}
-use Rattle.mstore.specs.Rows.{ShowsValue, ShowsKey, key_of, value_of}
-use Rattle.mstore.specs.Database.{IsSound, holds, stored}
+use Rattle.mstore.proofs.Words.{◌≡◌, ℕ, Bool, false, true, List, [], ◌∷◌, Option, Some, None, Result, Ok, Err, OnOk, sym, ap, subst, ◌∙◌, get, Value, Blob, Row, column, Ghosts, all_from, Held, state, Node, significant_digits, key_bytes, subtree_end, IsStored, without_subtree, next_key, previous_key, IsKey, none_empty, AreKeyed, PutsAt, RemovesWithin, ShowsBytes, IsNearest, ShowsValue, ShowsKey, key_of, value_of, stored}
+use Rattle.std.specs.FinMap.{insert}
+use Rattle.mstore.specs.Database.{IsSound, holds}
 use Rattle.mstore.proofs.KeyedRows as keyed_rows
 use Rattle.mstore.proofs.KeyedOrder as keyed_order
 

@@ -1,16 +1,7 @@
 -- SPDX-License-Identifier: Apache-2.0
 -- The row of the version.
-use Rattle.std.proofs.Common.{◌≡◌, ℕ, true, false, List, [], ◌∷◌, codes, Some, None, Result, Ok, Err, refl, sym, ap, subst, ◌∙◌, inl, IsTrue}
-use Rattle.mstore.proofs.Words.{Value, Null, Int, Real, Blob, Row, column, Binary, col, is_true, Compare, Eq, at_texts, last_term, same_bytes, bytes_eq_refl, State, QueryReturnedNoRows, IsPlain, first_as, reads_as}
+use Rattle.mstore.proofs.Words.{◌≡◌, ℕ, true, false, List, [], ◌∷◌, codes, Some, None, Result, Ok, Err, refl, sym, ap, subst, ◌∙◌, inl, IsTrue, Value, Null, Int, Real, Blob, Row, column, Binary, col, is_true, Compare, Eq, at_texts, last_term, same_bytes, bytes_eq_refl, State, QueryReturnedNoRows, IsPlain, first_as, reads_as, value_cmp, binary, and_parts, QueriesRow, understood, schema, which_text, IsCalm, Stays, ShowsVersion}
 use Rattle.sqlite.specs.declared.types.Value.TheVariants.{Text}
-use Rattle.sqlite_value.specs.Order.{value_cmp}
-use Rattle.sqlite_sql.specs.Ops.{binary}
-use Rattle.std.proofs.lemmas.Bool.{and_parts}
-use Rattle.sqlite.specs.State.{QueriesRow}
-use Rattle.sqlite.specs.Listing.{understood}
-use Rattle.mstore.specs.Layout.{schema}
-use Rattle.mstore.specs.Statements.{which_text}
-use Rattle.mstore.specs.Database.{IsCalm, Stays, ShowsVersion}
 use Rattle.mstore.proofs.Texts.{which_is, which_command, at_name}
 use Rattle.mstore.proofs.Answer.{rows_from, rows_to}
 use Rattle.mstore.proofs.States.{no_row_is, query_row_stays}

@@ -1,5 +1,33 @@
 -- SPDX-License-Identifier: Apache-2.0
--- The words of the database that these proofs are about, which stand in many of its modules.
+-- The words that most proofs of this crate have, in one place.
+pub use Rattle.std.proofs.Common.{All, Bool, Equal, Err, Greater, IfErr, IfOk, IsPermutation, IsSorted, IsTrue, Less, List, None, Ok, OnErr, OnOk, Option, Ordering, Result, Some, [], add-one, ap, append-nil, ap₂, arith, codes, cond, drop, drop-cons, false, flat_map, get_or, if◌then◌else◌, inl, inr, int_cmp, int_eq, is_ok, is_some, length, map, negsuc, not, option_copied, option_map, pos, refl, reverse, rules, slice_get, slice_index_or, slice_set, subst, suc, sym, take, true, zero, ℕ, ℤ, ◌&&◌, ◌++◌, ◌+◌, ◌-◌, ◌<◌, ◌||◌, ◌∙◌, ◌∷◌, ◌≡◌, ◌≢◌, ◌≤◌, ◌⊎◌}
+pub use Rattle.std.proofs.lemmas.Bool.{and_from, and_parts, cases_Bool, cases_lt, cases_order, false_from_ne_true, not-true}
+pub use Rattle.std.proofs.lemmas.Cmp.{tied_itself}
+pub use Rattle.std.proofs.lemmas.Int.{ints}
+pub use Rattle.std.proofs.lemmas.List.{length-drop, reverse-append, take_all}
+pub use Rattle.std.proofs.lemmas.List.Elements.{All-append, All-cons, All-drop, All-head, All-map, All-nil, All-set, All-tail, All-take}
+pub use Rattle.std.proofs.lemmas.List.Folds.{find-append}
+pub use Rattle.std.proofs.lemmas.List.Sorted.{Contains-permutation, IsPartitionPoint-from_clause, IsPermutation-sym, ranks_by, searchable_from_sorted, sorted_far}
+pub use Rattle.std.specs.Cmp.{Equal-is, IsTotalOrder, both_ways, eq_by_cmp_equiv, nat_cmp_is}
+pub use Rattle.std.specs.Cmp.Lexicographic.{bytes_decides, nat_list_cmp_total, slice_cmp, slice_partial_cmp}
+pub use Rattle.std.specs.FinMap.{empty, entries, entries-insert, entries_sorted, from_entries, get, get-entries, get-from_entries, get-insert, get-retain_keys, len-empty, len-entries, nat_cmp-IsAntisymmetric, retain_keys, same_entries_map, same_map, slice_cmp-IsAntisymmetric}
+pub use Rattle.std.specs.FinMap.Entries.{below_all, by_order, find-where_key, is_sorted, is_sorted-put, is_sorted-where_key, put, where_key}
+pub use Rattle.std.specs.List.{AllByRecursion, list_all, list_any}
+pub use Rattle.std.specs.Option.{option_or}
+pub use Rattle.std.specs.Ordering.{eq_by_cmp, is_some_and, ordering_reverse, ordering_then, partial_ordering_then}
+pub use Rattle.mkey.specs.Key.{BoundsKeysOf, IsKey, IsKeyBy, none_empty, old_digits}
+pub use Rattle.mspec.proofs.KeyOrders.{key_order}
+pub use Rattle.mspec.proofs.KeyRanges.{keys_are_injective, subtrees_are_ranges}
+pub use Rattle.mspec.proofs.KeyReadings.{keys_are_read}
+pub use Rattle.mspec.proofs.NodeOrders.{node_cmp_exact, node_cmp_total, same_node}
+pub use Rattle.mspec.specs.Globals.{Globals, is_between, is_node_within, keys_of, next_key, previous_key, without_subtree}
+pub use Rattle.mspec.specs.KeyBytes.{IsStored, key_bytes, subtree_end}
+pub use Rattle.mspec.specs.KeyLaws.{IsBetween, IsWithin, NoneEmpty}
+pub use Rattle.mspec.specs.KeyReading.{node_of}
+pub use Rattle.mspec.specs.Node.{Node}
+pub use Rattle.mspec.specs.NodeOrder.{node_cmp}
+pub use Rattle.mspec.specs.Number.{significant_digits}
+pub use Rattle.mspec.specs.TextFunctions.{longest_text}
 pub use Rattle.sqlite.proofs.Callers.{IsPlain, command_of, first_as, one_step, reads_as, runs_as, statement_of}
 pub use Rattle.sqlite.specs.Cast.{cast, cast_row}
 pub use Rattle.sqlite.specs.Collation.TheVariants.{Binary}
@@ -9,12 +37,16 @@ pub use Rattle.sqlite.specs.Does.{Does, Tally, lacks_sequence}
 pub use Rattle.sqlite.specs.Effect.{Database, IsDatabase, RefusesToRead}
 pub use Rattle.sqlite.specs.Held.{Held, state}
 pub use Rattle.sqlite.specs.Kind.TheVariants.{Any, Integer}
+pub use Rattle.sqlite.specs.Listing.{reads_listing}
+unfoldable pub use Rattle.sqlite.specs.Listing.{understood}
 pub use Rattle.sqlite.specs.Order.{Row, column}
 pub use Rattle.sqlite.specs.Program.{overlay}
 pub use Rattle.sqlite.specs.Query.{IsAnswer, Output, Query, end, inner, output, output_cmp}
 pub use Rattle.sqlite.specs.Rows.{Clears, Deletes, InsertsOr, Judged, Meets, Puts, Task, Tries, TriesEach, Updates, Upserts, Written, count_of, nothing}
 pub use Rattle.sqlite.specs.Source.{Source}
+pub use Rattle.sqlite.specs.Source.TheVariants.{Values}
 pub use Rattle.sqlite.specs.State.{Executes, ExecutesInside, FailsToShow, HasCleanDisk, IsLive, IsRolledBack, IsUnchanged, Opens, RunsCommand, Shows, ShowsRows, State, Writes, mode_of, shows_rows, store_error}
+unfoldable pub use Rattle.sqlite.specs.State.{ExecutesIn, FailsToQuery, IsNotRun, QueriesRow, Shown}
 pub use Rattle.sqlite.specs.Steps.{FailsToCommit}
 pub use Rattle.sqlite.specs.Term.{col, lit, op2}
 pub use Rattle.sqlite.specs.declared.error.Error.{Error}
@@ -29,13 +61,35 @@ pub use Rattle.sqlite_rules.specs.Edit.{are_fresh, id_in, is_taken, with_rowid, 
 pub use Rattle.sqlite_rules.specs.Lists.{Has}
 pub use Rattle.sqlite_rules.specs.declared.error.Rowids.TheVariants.{Chosen, Given}
 pub use Rattle.sqlite_schema.specs.declared.command.Conflict.TheVariants.{Abort}
+pub use Rattle.sqlite_schema.specs.declared.command.Upsert.{Upsert}
+pub use Rattle.sqlite_schema.specs.declared.program.Program.{Program}
 pub use Rattle.sqlite_schema.specs.declared.schema.Keys.TheVariants.{Enforced}
 pub use Rattle.sqlite_sql.specs.Ops.{is_true}
+unfoldable pub use Rattle.sqlite_sql.specs.Ops.{binary}
 pub use Rattle.sqlite_sql.specs.declared.ops.BinaryOp.TheVariants.{Compare}
 pub use Rattle.sqlite_sql.specs.declared.ops.CompareOp.TheVariants.{Eq, Ge, Lt, Ne}
+unfoldable pub use Rattle.sqlite_tied.specs.Compute.{everything}
+pub use Rattle.sqlite_trees.proofs.Doubt.{no_doubt}
 pub use Rattle.sqlite_trees.specs.Tree.{has_rowid, rowid, without_rowid}
+pub use Rattle.sqlite_trees.specs.declared.error.StoreError.{StoreError}
+pub use Rattle.sqlite_trees.specs.declared.error.StoreError.TheVariants.{Broken, Corrupt, Full, Io, OutOfMemory, Unstorable}
 pub use Rattle.sqlite_trees.specs.declared.store.Store.{Ghosts}
 pub use Rattle.sqlite_typed.proofs.TestLemmas.{at_blobs, at_ints, at_texts, bytes_eq_refl, last_term, same_bytes}
 pub use Rattle.sqlite_value.proofs.KeyLemmas.{by_key_total, first_key-plain}
 pub use Rattle.sqlite_value.proofs.OrderLemmas.{then-Equal, value_cmp-Blob, value_cmp-Int, value_cmp_total}
+pub use Rattle.sqlite_value.specs.Keys.{by_key, plain}
+pub use Rattle.sqlite_value.specs.Order.{bytes}
+unfoldable pub use Rattle.sqlite_value.specs.Order.{value_cmp}
 pub use Rattle.sqlite_value.specs.declared.keys.Key.{Key}
+pub use Rattle.mstore.specs.Database.{HasVersion, IsBare, IsBlank, IsCalm, IsIdle, IsMemory, IsMigrated, IsStore, IsUntouched, ShowsAll, ShowsNodes, ShowsNodesBy, ShowsVersion, Stays, content, globals_in, old_version, stored, this_version, version_name}
+pub use Rattle.mstore.specs.Entries.{AreEntries, IsAt, IsGapFor, IsPlaceOf, bytes_of, entries_of, entry_of, held, is_before, key_within}
+pub use Rattle.mstore.specs.Held.{AreHeld, IsHeld}
+pub use Rattle.mstore.specs.InMemory.{over_memory}
+pub use Rattle.mstore.specs.Keyed.{AreKeyed, globals_by, lookup_by}
+pub use Rattle.mstore.specs.Layout.{column_of, index_of, meta, no_schema, node, schema, table_of}
+pub use Rattle.mstore.specs.Map.{Content, HasNone, IsNearest, PutsAt, RemovesWithin, ShowsBytes, in_bounds, is_below, is_nearer}
+pub use Rattle.mstore.specs.Moving.{IsAny, IsMoving, IsOldCalm, IsOldStore, IsWorking, MovesKey, MovesRow, ShowContent}
+pub use Rattle.mstore.specs.Rows.{AreNodes, AreRows, HasOther, HasOtherBy, IsInForm, IsInFormBy, IsNode, IsValue, ShowsKey, ShowsNodeBy, ShowsValue, is_at, key_of, lookup, shown_of, value_of}
+pub use Rattle.mstore.specs.Statements.{all_text, get_text, kill_text, meta_text, next_text, node_text, prev_text, put_text, set_text, version_text, which_text}
+pub use Rattle.mstore.specs.Versions.{HoldBy, digits_of, number_of}
+pub use Rattle.mstore.specs.declared.plain.Entry.{Entry}

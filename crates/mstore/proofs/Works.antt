@@ -1,18 +1,9 @@
 -- SPDX-License-Identifier: Apache-2.0
 -- What the statements do inside the transaction of a migration.
-use Rattle.std.proofs.Common.{◌≡◌, ℕ, pos, true, List, [], ◌∷◌, codes, drop, map, None, Ok, refl, sym, ap, subst, ◌∙◌}
-use Rattle.mstore.proofs.Words.{Value, Null, Blob, Row, column, col, lit, Query, IsAnswer, Command, Update, overlay, cast, cast_row, Written, Task, Updates, Tally, Does, Database, State, mode_of, ExecutesInside, IsPlain, command_of, runs_as, one_step, statement_of, Enforced, Given, Has, without_all, are_fresh, ids_of, put_all_adds, given, rowid, last_term}
+use Rattle.mstore.proofs.Words.{◌≡◌, ℕ, pos, true, List, [], ◌∷◌, codes, drop, map, None, Ok, refl, sym, ap, subst, ◌∙◌, Value, Null, Blob, Row, column, col, lit, Query, IsAnswer, Command, Update, overlay, cast, cast_row, Written, Task, Updates, Tally, Does, Database, State, mode_of, ExecutesInside, IsPlain, command_of, runs_as, one_step, statement_of, Enforced, Given, Has, without_all, are_fresh, ids_of, put_all_adds, given, rowid, last_term, understood, everything, schema, PutsAt, RemovesWithin, kill_text, put_text, set_text, content, this_version, HasVersion, AreRows, IsAny, IsWorking}
 use Rattle.sqlite.specs.Kind.TheVariants.{Text as KindText}
 use Rattle.sqlite.specs.Tree.{Trees}
-use Rattle.sqlite.specs.Listing.{understood}
 use Rattle.sqlite_rules.specs.Edit.{edit_of, put_all}
-use Rattle.sqlite_tied.specs.Compute.{everything}
-use Rattle.mstore.specs.Layout.{schema}
-use Rattle.mstore.specs.Map.{PutsAt, RemovesWithin}
-use Rattle.mstore.specs.Statements.{kill_text, put_text, set_text}
-use Rattle.mstore.specs.Database.{content, this_version, HasVersion}
-use Rattle.mstore.specs.Rows.{AreRows}
-use Rattle.mstore.specs.Moving.{IsAny, IsWorking}
 use Rattle.mstore.proofs.Answer.{rows_to, mapped_has}
 use Rattle.mstore.proofs.Edits.{left_nodes}
 use Rattle.mstore.proofs.Kills.{kills, kill_map}

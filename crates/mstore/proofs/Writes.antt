@@ -1,11 +1,6 @@
 -- SPDX-License-Identifier: Apache-2.0
 -- What a statement that writes the table leaves.
-use Rattle.std.proofs.Common.{◌≡◌, ◌⊎◌, ℕ, cond, List, None, Ok, Err, Result, sym, ap, subst, ◌∙◌, inl, inr}
-use Rattle.mstore.proofs.Words.{Row, Command, InsertOr, Delete, Enforced, Abort, Source, Tally, Does, Written, Task, InsertsOr, Deletes, Database, State, mode_of, Writes}
-use Rattle.sqlite_schema.specs.declared.command.Upsert.{Upsert}
-use Rattle.sqlite_schema.specs.declared.program.Program.{Program}
-use Rattle.mstore.specs.Layout.{node, schema}
-use Rattle.mstore.specs.Database.{IsIdle}
+use Rattle.mstore.proofs.Words.{◌≡◌, ◌⊎◌, ℕ, cond, List, None, Ok, Err, Result, sym, ap, subst, ◌∙◌, inl, inr, Row, Command, InsertOr, Delete, Enforced, Abort, Source, Tally, Does, Written, Task, InsertsOr, Deletes, Database, State, mode_of, Writes, Upsert, Program, node, schema, IsIdle}
 
 -- a part that gave a value did not stop on the way
 pub went : {B E R : Type 0} {b : B} {Stops : E → Type 0} → ((stop : E) × Stops stop × (Ok b ≡ Err stop)) ⊎ R → R

@@ -1,11 +1,9 @@
 -- SPDX-License-Identifier: Apache-2.0
 -- The order of character codes as the comparison of slices has it.
-use Rattle.std.proofs.Common.{◌≡◌, ℕ, Bool, List, refl, arith, eqb, Ordering}
+use Rattle.mtext.proofs.TextWords.{◌≡◌, ℕ, Bool, List, refl, arith, eqb, Ordering, nat_tests, follows}
 use Rattle.std.specs.Ordering.{nat_cmp, ordering_index}
 use Rattle.std.specs.Cmp.Lexicographic.{slice_cmp}
-use Rattle.std.proofs.lemmas.Bool.Decides.{nat_tests}
 use Rattle.std.proofs.lemmas.Cmp.{same_from_slice_cmp}
-use Rattle.mspec.specs.TextFunctions.{follows}
 
 -- the test for `Greater`
 abbrev is_greater : Ordering → Bool

@@ -1,14 +1,7 @@
 -- SPDX-License-Identifier: Apache-2.0
 -- Pieces by a delimiter of one character, character by character.
-use Rattle.std.proofs.Common.{◌≡◌, ℕ, zero, suc, ◌+◌, ◌≤◌, ◌<◌, Bool, true, false, cond, eqb, List, [], ◌∷◌, length, get_or, take, drop, refl, sym, ap, subst, ◌∙◌, arith, slice_range}
-use Rattle.std.specs.Prelude.{count_by, ◌&&◌}
-use Rattle.std.specs.List.{onto_first}
-use Rattle.std.proofs.lemmas.Bool.{eqb-true, eq-eqb}
-use Rattle.std.proofs.lemmas.Bool.Decides.{nat_tests}
-use Rattle.std.proofs.lemmas.List.Sums.{sum_by-append, sum_by-cons}
-use Rattle.memchr.specs.Find.{is_byte}
-use Rattle.mspec.specs.Pieces.{pieces_of}
-use Rattle.mtext.specs.Cuts.{closed, IsBehind}
+use Rattle.mtext.proofs.TextWords.{◌≡◌, ℕ, zero, suc, ◌+◌, ◌≤◌, ◌<◌, Bool, true, false, cond, eqb, List, [], ◌∷◌, length, get_or, take, drop, refl, sym, ap, subst, ◌∙◌, arith, slice_range, count_by, ◌&&◌, onto_first, eq-eqb, nat_tests, sum_by-append, sum_by-cons, is_byte, pieces_of, closed, IsBehind}
+use Rattle.std.proofs.lemmas.Bool.{eqb-true}
 use Rattle.mtext.proofs.PatternSlices.{front_and_part}
 
 -- ---- the pieces of a text with one more character before it

@@ -1,14 +1,8 @@
 -- SPDX-License-Identifier: Apache-2.0
 -- What a search for a text finds, in the words of the definitions.
-use Rattle.std.proofs.Common.{◌≡◌, ℕ, zero, suc, ◌+◌, ◌-◌, Bool, true, false, List, [], ◌∷◌, ◌++◌, length, take, drop, Option, Some, None, refl, sym, ap, subst, ◌∙◌, arith, cond, option_map, unwrap_or, min, ℤ, pos}
-use Rattle.std.proofs.lemmas.List.{length-append, take_rest, drop_min}
-use Rattle.std.proofs.Math.Seq.{drop-append_seam, take-append_seam}
-use Rattle.memchr.specs.Find.{IsFirst, IsFirstByte, Passes, is_byte, OccursAt, FindsNeedle, NoneBefore}
+use Rattle.mtext.proofs.TextWords.{◌≡◌, ℕ, zero, suc, ◌+◌, ◌-◌, Bool, true, false, List, [], ◌∷◌, ◌++◌, length, take, drop, Option, Some, None, refl, sym, ap, subst, ◌∙◌, arith, cond, option_map, unwrap_or, min, ℤ, pos, take_rest, drop_min, drop-append_seam, take-append_seam, IsFirst, IsFirstByte, Passes, is_byte, OccursAt, FindsNeedle, NoneBefore, OccursAt-part, OccursAt-from_part, OccursAt-split, begins_with, first_place, from_place, find_of, begins_split, begins_append}
+use Rattle.std.proofs.lemmas.List.{length-append}
 use Rattle.memchr.proofs.lemmas.FindLemmas.{IsFirst-agree, IsFirst-wider, OccursAt-byte, byte-OccursAt}
-use Rattle.memchr.proofs.lemmas.MatchLemmas.{OccursAt-part, OccursAt-from_part, OccursAt-split}
-use Rattle.mspec.specs.Pieces.{begins_with}
-use Rattle.mspec.specs.TextFunctions.{first_place, from_place, find_of}
-use Rattle.mspec.proofs.PieceLists.{begins_split, begins_append}
 
 -- what stands behind the front of a text occurs there
 pub occurs_behind : (before t after : List ℕ) → OccursAt (before ++ (t ++ after)) t (length before)

@@ -1,4 +1,5 @@
 -- SPDX-License-Identifier: Apache-2.0
+mod TextWords
 pub mod FoundPlaces
 pub mod PieceSteps
 pub mod CharacterOrder

@@ -1,14 +1,11 @@
 -- SPDX-License-Identifier: Apache-2.0
 -- Texts that are made part by part, and refused where they are too long.
-use Rattle.std.proofs.Common.{◌≡◌, ℕ, zero, suc, ◌+◌, ◌*◌, ◌≤◌, ◌<◌, Bool, List, [], ◌∷◌, ◌++◌, length, refl, sym, ap, subst, ◌∙◌, arith, add-one, cond, Option, Some, None, Result, Ok, Err, slice_get, MatchOption, IsErr, IsErrAnd, IsOk, option_copied, option_to_list, HoldsAt, Bor, append_assoc, append-nil, length-append}
+use Rattle.mtext.proofs.TextWords.{◌≡◌, ℕ, zero, suc, ◌+◌, ◌*◌, ◌≤◌, ◌<◌, Bool, List, [], ◌∷◌, ◌++◌, length, refl, sym, ap, subst, ◌∙◌, arith, add-one, cond, Option, Some, None, Result, Ok, Err, slice_get, MatchOption, IsErr, IsErrAnd, IsOk, option_copied, option_to_list, HoldsAt, Bor, append_assoc, append-nil, repeat, le-leb, lt-leb, longest_text, made, translated_at, first_place, translation, Answers}
+use Rattle.std.proofs.Common.{length-append}
 use Rattle.std.proofs.lemmas.Option.{slice_get_past, slice_get-get_or}
-use Rattle.std.specs.List.{repeat}
-use Rattle.std.proofs.lemmas.Bool.{le-leb, lt-leb}
 use Rattle.mspec.specs.Code.{Zlong}
-use Rattle.mspec.specs.TextFunctions.{longest_text, made, translated_at, first_place}
 use Rattle.mtext.specs.declared.fault.TextFault.{TextFault}
 use Rattle.mtext.specs.declared.fault.TextFault.TheVariants.{TooLong, Memory}
-use Rattle.mtext.specs.Made.{translation, Answers}
 
 pub is_made : (s : List ℕ) → length s ≤ longest_text → made s ≡ Ok s
 is_made s fits = ap (λ (b : Bool). cond b (Ok s) (Err Zlong)) (le-leb (length s) longest_text fits)

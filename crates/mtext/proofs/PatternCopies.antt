@@ -1,11 +1,8 @@
 -- SPDX-License-Identifier: Apache-2.0
 -- Copies of a string, one taken off after another from the end.
-use Rattle.std.proofs.Common.{ℕ, zero, suc, ◌≡◌, ◌+◌, ◌-◌, ◌<◌, ◌≤◌, inl, inr, true, false, Bool, List, ◌∷◌, ◌++◌, get_or, length, refl, sym, subst, ◌∙◌, ap, arith, append_assoc, append-nil, true≢false, length-append, Option, Some, None, option_map, slice_range, Decides, MatchOption, Result, Ok, Err, Vec, IfOk, []}
-use Rattle.std.proofs.lemmas.Bool.{cases_eq}
-use Rattle.std.proofs.lemmas.List.Edits.{length-between, between_none}
-use Rattle.mspec.specs.Pattern.{Count, IsAtMost, copied, copies}
+use Rattle.mtext.proofs.TextWords.{ℕ, zero, suc, ◌≡◌, ◌+◌, ◌-◌, ◌<◌, ◌≤◌, inl, inr, true, false, Bool, List, ◌∷◌, ◌++◌, get_or, length, refl, sym, subst, ◌∙◌, ap, arith, append_assoc, append-nil, true≢false, Option, Some, None, option_map, slice_range, Decides, MatchOption, Result, Ok, Err, Vec, IfOk, [], cases_eq, length-between, between_none, Count, IsAtMost, copied, copies, IsEnd, IsBefore, IsCopiedTo, IsFewest, AreEnds}
+use Rattle.std.proofs.Common.{length-append}
 use Rattle.mtext.proofs.PatternSlices.{part_split, joined_front, joined_rest}
-use Rattle.mtext.specs.PatternPlaces.{IsEnd, IsBefore, IsCopiedTo, IsFewest, AreEnds}
 
 pub copied_last : (n : ℕ) (string : List ℕ) → copied (suc n) string ≡ copied n string ++ string
 copied_last zero string = append-nil string

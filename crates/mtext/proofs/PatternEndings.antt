@@ -1,18 +1,13 @@
 -- SPDX-License-Identifier: Apache-2.0
 -- Where the segment of an atom must end: behind so many repetitions, or behind the longest run of characters of its classes.
-use Rattle.std.proofs.Common.{◌≡◌, ◌≢◌, ℕ, zero, suc, ◌+◌, ◌-◌, ◌≤◌, ◌<◌, ◌↔◌, Bool, true, false, cond, List, [], ◌∷◌, ◌++◌, length, take, drop, Option, Some, None, Bor, slice_get, refl, sym, ap, subst, ◌∙◌, arith, append_assoc, length-append, take-append-drop, length-take-le, length-drop, drop-drop}
-use Rattle.std.specs.List.{prefix_len}
-use Rattle.std.proofs.lemmas.List.{drop_at, append_cancel_left, append_cancel_right}
-use Rattle.std.proofs.lemmas.List.Sums.{prefix_len-le-length}
+use Rattle.mtext.proofs.TextWords.{◌≡◌, ◌≢◌, ℕ, zero, suc, ◌+◌, ◌-◌, ◌≤◌, ◌<◌, ◌↔◌, Bool, true, false, cond, List, [], ◌∷◌, ◌++◌, length, take, drop, Option, Some, None, Bor, slice_get, refl, sym, ap, subst, ◌∙◌, arith, append_assoc, take-append-drop, length-take-le, length-drop, prefix_len, drop_at, append_cancel_left, append_cancel_right, prefix_len-le-length, AllAre, Atom, Count, IsAtMost, IsPermitted, IsRepetition, Matches, is_in_any, members, copies, copied, Repeats, IsEnding, IsOtherwise, IsBarred, NoneBegins, members_atom, copies_atom}
+use Rattle.std.proofs.Common.{length-append, drop-drop}
 use Rattle.std.proofs.lemmas.List.Folds.{length-prefix_len}
-use Rattle.mspec.specs.Names.{AllAre}
 use Rattle.mspec.specs.Pattern as plain
-use Rattle.mspec.specs.Pattern.{Atom, Count, IsAtMost, IsPermitted, IsRepetition, Matches, is_in_any, members, copies, copied}
 use Rattle.mtext.proofs.PatternCopies.{copied_last}
 use Rattle.mtext.specs.declared.classes.Classes.{Classes}
 use Rattle.mtext.specs.declared.ending.Ending.{Ending}
 use Rattle.mtext.specs.declared.ending.LentRepeated.TheVariants as lent
-use Rattle.mtext.specs.Endings.{Repeats, IsEnding, IsOtherwise, IsBarred, NoneBegins, members_atom, copies_atom}
 
 -- ---- runs
 

@@ -1,9 +1,8 @@
 -- SPDX-License-Identifier: Apache-2.0
 -- A pattern with one more atom at its end.
-use Rattle.std.proofs.Common.{ℕ, ◌≡◌, ◌+◌, ◌≤◌, true, false, Bool, List, ◌∷◌, ◌++◌, get_or, take, length, refl, sym, subst, ◌∙◌, ap, arith, append_assoc, append-nil, length-append, length-take-le, take-take, take_at, slice_range, []}
-use Rattle.mspec.specs.Pattern.{Count, Repeated, Atom, IsSegment, IsRepetition, Matches}
+use Rattle.mtext.proofs.TextWords.{ℕ, ◌≡◌, ◌+◌, ◌≤◌, true, false, Bool, List, ◌∷◌, ◌++◌, get_or, take, length, refl, sym, subst, ◌∙◌, ap, arith, append_assoc, append-nil, length-take-le, take-take, slice_range, [], Count, Repeated, Atom, IsSegment, IsRepetition, Matches, IsEnd, AreEnds, AreMatched}
+use Rattle.std.proofs.Common.{length-append, take_at}
 use Rattle.mtext.proofs.PatternSlices.{front_and_part, joined_rest}
-use Rattle.mtext.specs.PatternPlaces.{IsEnd, AreEnds, AreMatched}
 
 -- a text is matched by the first atoms, and then by the last one
 record IsByLast (atoms : List Atom) (last : Atom) (text : List ℕ) : Type 0 where

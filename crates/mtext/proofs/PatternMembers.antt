@@ -1,11 +1,6 @@
 -- SPDX-License-Identifier: Apache-2.0
 -- Runs of characters of classes: where they end, from the latest place at which they may start.
-use Rattle.std.proofs.Common.{ℕ, zero, suc, ◌≡◌, ◌+◌, ◌-◌, ◌<◌, ◌≤◌, ◌⊎◌, inl, inr, true, false, Bool, List, [], ◌∷◌, get_or, length, sym, subst, ◌∙◌, ap, arith, true≢false, below_more, add-sub_cancel, Option, Some, None, slice_range, Decides}
-use Rattle.std.proofs.lemmas.Bool.{cases_lt}
-use Rattle.std.proofs.lemmas.List.Edits.{length-between, get_or-between}
-use Rattle.mspec.specs.Names.{AllAre}
-use Rattle.mspec.specs.Pattern.{PatternCode, Count, IsAtMost, is_in_any, members}
-use Rattle.mtext.specs.PatternPlaces.{IsNear, IsEnd}
+use Rattle.mtext.proofs.TextWords.{ℕ, zero, suc, ◌≡◌, ◌+◌, ◌-◌, ◌<◌, ◌≤◌, ◌⊎◌, inl, inr, true, false, Bool, List, [], ◌∷◌, get_or, length, sym, subst, ◌∙◌, ap, arith, true≢false, below_more, add-sub_cancel, Option, Some, None, slice_range, Decides, cases_lt, length-between, get_or-between, AllAre, PatternCode, Count, IsAtMost, is_in_any, members, IsNear, IsEnd}
 
 pub all_at : (p : ℕ → Bool) (s : List ℕ) → AllAre p s → (k : ℕ) → k < length s → p (get_or s k 0) ≡ true
 all_at p [] all k h = absurd (omega arith)

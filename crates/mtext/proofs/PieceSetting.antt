@@ -1,14 +1,7 @@
 -- SPDX-License-Identifier: Apache-2.0
 -- Giving a text a piece.
-use Rattle.std.proofs.Common.{◌≡◌, ◌≢◌, ℕ, zero, suc, ◌+◌, ◌-◌, ◌≤◌, ◌<◌, List, [], ◌∷◌, ◌++◌, length, take, drop, replicate, Some, None, refl, sym, ap, subst, ◌∙◌, arith, append_assoc, append-nil, drop-drop}
-use Rattle.std.specs.List.{repeat}
-use Rattle.std.proofs.Math.Seq.{drop-length}
-use Rattle.memchr.specs.Find.{FindsNeedle}
-use Rattle.memchr.proofs.lemmas.MatchLemmas.{OccursAt-split}
-use Rattle.mspec.specs.Pieces.{join, ArePieces, pieces_of}
-use Rattle.mspec.specs.TextFunctions.{with_piece}
-use Rattle.mspec.proofs.PieceLists.{one_list}
-use Rattle.mtext.specs.Cuts.{closed, IsBehind}
+use Rattle.mtext.proofs.TextWords.{◌≡◌, ◌≢◌, ℕ, zero, suc, ◌+◌, ◌-◌, ◌≤◌, ◌<◌, List, [], ◌∷◌, ◌++◌, length, take, drop, replicate, Some, None, refl, sym, ap, subst, ◌∙◌, arith, append_assoc, append-nil, repeat, drop-length, FindsNeedle, OccursAt-split, join, ArePieces, pieces_of, with_piece, one_list, closed, IsBehind}
+use Rattle.std.proofs.Common.{drop-drop}
 use Rattle.mtext.proofs.PieceSteps.{join_behind, join_pieces, pieces_last, rest_is}
 
 -- ---- the list with another piece

@@ -1,13 +1,9 @@
 -- SPDX-License-Identifier: Apache-2.0
 -- Passing over the pieces of a text by a search for the delimiter.
-use Rattle.std.proofs.Common.{◌≡◌, ◌≢◌, ℕ, ◌+◌, ◌≤◌, ◌<◌, List, ◌∷◌, ◌++◌, length, take, drop, Some, None, refl, sym, ap, subst, ◌∙◌, arith, eqb-true, append_assoc, append-nil, length-append, length-take-le, length-drop, take-append-drop, take_all, drop-drop, true, eqb, []}
-use Rattle.std.proofs.Math.Seq.{take-add, take-length, take-nil, drop-nil}
+use Rattle.mtext.proofs.TextWords.{◌≡◌, ◌≢◌, ℕ, ◌+◌, ◌≤◌, ◌<◌, List, ◌∷◌, ◌++◌, length, take, drop, Some, None, refl, sym, ap, subst, ◌∙◌, arith, append_assoc, append-nil, length-take-le, length-drop, take-append-drop, true, eqb, [], take-length, take-nil, drop-nil, OccursAt, FindsNeedle, OccursAt-part, OccursAt-split, join, Lacks, OnlyAtEnd, ArePieces, pieces_of, one_list, closed, IsBehind}
+use Rattle.std.proofs.Common.{eqb-true, length-append, take_all, drop-drop}
+use Rattle.std.proofs.Math.Seq.{take-add}
 use Rattle.std.proofs.lemmas.List.Concat.{flat_map-append}
-use Rattle.memchr.specs.Find.{OccursAt, FindsNeedle}
-use Rattle.memchr.proofs.lemmas.MatchLemmas.{OccursAt-part, OccursAt-split}
-use Rattle.mspec.specs.Pieces.{join, Lacks, OnlyAtEnd, ArePieces, pieces_of}
-use Rattle.mspec.proofs.PieceLists.{one_list}
-use Rattle.mtext.specs.Cuts.{closed, IsBehind}
 use Rattle.mtext.proofs.FoundPlaces.{occurs_behind}
 
 -- ---- the pieces from the first place of the delimiter

@@ -1,14 +1,9 @@
 -- SPDX-License-Identifier: Apache-2.0
 -- The canonical text of a number is ASCII.
-use Rattle.std.proofs.Common.{ℕ, suc, ◌/◌, ◌%◌, ◌^◌, ◌<◌, true, false, cond, List, [], ◌∷◌, ◌++◌, All, arith, lit<}
-use Rattle.std.specs.Prelude.{◌==◌, ℤ, pos, negsuc, unsigned_abs}
-use Rattle.std.proofs.lemmas.Bool.Decides.{nat_tests}
+use Rattle.mvalue.proofs.ValueWords.{suc, ◌/◌, ◌%◌, ◌^◌, ◌<◌, true, false, cond, [], ◌∷◌, ◌++◌, All, arith, lit<, ℤ, pos, negsuc, unsigned_abs, nat_tests, fraction_text, whole_text, point_text, size_text, number_text, Digit, fraction_all, whole_all, size_parts, units, Num, units_number}
+use Rattle.std.proofs.Common.{ℕ, List}
+use Rattle.std.specs.Prelude.{◌==◌}
 use Rattle.std.proofs.lemmas.List.Elements.{All-nil, All-cons, All-append, All-weaker}
-use Rattle.mspec.specs.NumberText.{fraction_text, whole_text, point_text, size_text, number_text}
-use Rattle.mspec.proofs.TextLaws.{Digit, fraction_all, whole_all, size_parts}
-use Rattle.mnum.specs.Num.{units}
-use Rattle.mnum.specs.declared.num.Num.{Num}
-use Rattle.mnum.proofs.Ranges.{units_number}
 
 -- the byte is a character of ASCII
 abbrev pub Ascii : ℕ → Type 0

@@ -1,13 +1,10 @@
 -- SPDX-License-Identifier: Apache-2.0
 -- How long the canonical text of a number is.
-use Rattle.std.proofs.Common.{ℕ, zero, suc, ◌≡◌, ◌+◌, ◌/◌, ◌%◌, ◌^◌, ◌<◌, ◌≤◌, true, false, cond, List, [], ◌∷◌, ◌++◌, length, refl, arith, length-append}
-use Rattle.std.specs.Prelude.{◌==◌, ℤ, pos, negsuc, unsigned_abs, decimal}
-use Rattle.mspec.specs.NumberText.{fraction_text, whole_text, point_text, size_text, number_text}
-use Rattle.mnum.specs.Num.{units}
+use Rattle.mvalue.proofs.ValueWords.{zero, suc, ◌≡◌, ◌+◌, ◌/◌, ◌%◌, ◌^◌, ◌<◌, ◌≤◌, true, false, cond, [], ◌∷◌, ◌++◌, length, refl, arith, length-append, ℤ, pos, negsuc, unsigned_abs, decimal, fraction_text, whole_text, point_text, size_text, number_text, units, Num, units_number}
+use Rattle.std.proofs.Common.{ℕ, List}
+use Rattle.std.specs.Prelude.{◌==◌}
 use Rattle.mnum.specs.Start.{starts_number}
-use Rattle.mnum.specs.declared.num.Num.{Num}
 use Rattle.mnum.proofs.Prints.{decimal_short}
-use Rattle.mnum.proofs.Ranges.{units_number}
 use Rattle.mnum.proofs.Starts.{text_starts}
 
 fraction_short : (k n : ℕ) → length (fraction_text k n) ≤ k

@@ -1,19 +1,10 @@
 -- SPDX-License-Identifier: Apache-2.0
 -- Numbers and the texts of values.
-use Rattle.std.proofs.Common.{◌≡◌, ◌^◌, true, false, Some, refl, sym, ap, ◌∙◌}
-use Rattle.std.specs.Prelude.{List, ℕ, Decides, nat_eq, ℤ, pos, ◌*ℤ◌}
+use Rattle.mvalue.proofs.ValueWords.{◌≡◌, ◌^◌, true, false, Some, refl, sym, ap, ◌∙◌, Decides, nat_eq, ℤ, pos, ◌*ℤ◌, int_cmp, int_eq, is_eq, pointwise, Decides-eqb, Decides-int_eq, same_from_decides, significant_digits, numeric_value, number_text, size_text, text_has_value, units, Num, units_number}
+use Rattle.std.specs.Prelude.{List, ℕ}
 use Rattle.std.specs.Fmt.{digits}
-use Rattle.std.specs.Ordering.{int_cmp, int_eq, is_eq}
-use Rattle.std.specs.Cmp.Lexicographic.{pointwise}
-use Rattle.std.proofs.lemmas.Bool.Decides.{Decides-eqb, Decides-int_eq, same_from_decides}
 use Rattle.std.proofs.lemmas.Slice.Eq.{slice_eq-Decides}
-use Rattle.mspec.specs.Number.{significant_digits}
-use Rattle.mspec.specs.NumberText.{numeric_value, number_text, size_text}
 use Rattle.mspec.specs.Interpretations.{truth_text}
-use Rattle.mspec.proofs.TextLaws.{text_has_value}
-use Rattle.mnum.specs.Num.{units}
-use Rattle.mnum.specs.declared.num.Num.{Num}
-use Rattle.mnum.proofs.Ranges.{units_number}
 
 -- the text of a number stands for that number
 pub number_again : (n : Num) → numeric_value significant_digits (number_text (units n)) ≡ Some (units n)

@@ -1,15 +1,8 @@
 -- SPDX-License-Identifier: Apache-2.0
 -- The checks that come before a line's text is parsed.
-use Rattle.std.proofs.Common.{◌≡◌, ℕ, true, false, Some, None, refl, sym, ap, subst, ◌∙◌, length, ◌<◌, ◌≤◌, arith, List, [], ◌∷◌, zero, suc}
-use Rattle.std.specs.Prelude.{slice_get, unwrap_or, option_map, Err}
-use Rattle.std.specs.FinMap.{get}
+use Rattle.mworld.proofs.WorldWords.{◌≡◌, ℕ, true, false, Some, None, refl, sym, ap, subst, ◌∙◌, length, ◌<◌, ◌≤◌, arith, List, [], ◌∷◌, zero, suc, slice_get, unwrap_or, option_map, Err, get, Settings, account_at, account_of, Event, World, Transition, Faulted, normal, refused, checked, at_account, at_tree, is_too_long, is_ascii, Zterm, Zline, Zchar, fault_of, Code, Passes, Admits}
 use Rattle.std.proofs.lemmas.Bool.Decides.{nat_tests}
-use Rattle.mspec.specs.Access.{Settings, account_at, account_of}
-use Rattle.mmeaning.specs.Transition.{Account, Event, Reply, World, Transition, Faulted, normal, refused, checked, at_account, at_tree, is_too_long, is_ascii}
-use Rattle.mspec.specs.Code.{Zterm, Zline, Zchar}
-use Rattle.moperator.specs.Codes.{fault_of}
-use Rattle.moperator.specs.declared.code.Code.{Code}
-use Rattle.mworld.specs.Admits.{Passes, Admits}
+use Rattle.mmeaning.specs.Transition.{Account, Reply}
 
 -- the account at a place that is among them
 at_place : (accounts : List Account) (place : ℕ) → place < length accounts → (account : Account) × (slice_get accounts place ≡ Some account)

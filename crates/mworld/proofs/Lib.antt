@@ -1,4 +1,5 @@
 -- SPDX-License-Identifier: Apache-2.0
+mod WorldWords
 pub mod Checks
 pub mod Runs
 mod Sessions

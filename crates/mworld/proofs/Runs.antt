@@ -1,40 +1,28 @@
 -- SPDX-License-Identifier: Apache-2.0
 -- A line's transition, from the run of its text.
-use Rattle.std.proofs.Common.{◌≡◌, ℕ, [], true, false, Vec, Global, refl, sym, ap, subst, ◌∙◌}
-use Rattle.std.specs.Ordering.{nat_cmp}
-use Rattle.std.specs.FinMap.{FinMap, get, insert, remove}
+use Rattle.mworld.proofs.WorldWords.{◌≡◌, ℕ, [], true, false, Vec, Global, refl, sym, ap, subst, ◌∙◌, nat_cmp, FinMap, get, insert, remove, Own, Lost, Memory, Store, Settings, name_at, steps_at, Act, State, Gives, Fails, level_begun, Shared, Event, World, Transition, FailedTransition, lost, TransitionBy, normal, begun, kept, ended, settled, session_or_new, text_run, is_failure, is_lost, Ending, Finished, Halted, Faulted, act, AreFit, fault_of, Code, Session, session_of, RunsText, EndsBy, GaveEnding, ending_of, reply_of, shared, Passes}
 use Rattle.mspec.specs.Code as spec
-use Rattle.mspec.specs.Code.{Own, Lost, Memory, Store}
 use Rattle.mspec.specs.Plan.{perform, cut_short}
 use Rattle.mspec.specs.LockConflict.{Locks, released}
-use Rattle.mspec.specs.Access.{Settings, name_at, steps_at}
-use Rattle.mspec.specs.Act.{Text, Act, State, Gives, Fails, level_begun}
+use Rattle.mspec.specs.Act.{Text}
 use Rattle.mgrammar.specs.Reading.{line_at}
 use Rattle.mmeaning.specs.LineMeaning.{Completion}
 use Rattle.mmeaning.specs.Transition as transition
-use Rattle.mmeaning.specs.Transition.{Account, Shared, Event, World, Transition, FailedTransition, lost, TransitionBy, normal, begun, kept, ended, settled, session_or_new, text_run, is_failure, is_lost, Ending, Finished, Halted, Faulted, act}
+use Rattle.mmeaning.specs.Transition.{Account}
 use Rattle.mmeaning.specs.Calls.{Standing, Here, IsCut, FailedBy, ops_of, point}
 use Rattle.mspec.proofs.Plans.{cut_whole}
 use Rattle.mmeaning.specs.TransitionLaws.{PlanKeepsOthersLocks}
-use Rattle.misolation.specs.Cut.{AreFit}
 use Rattle.misolation.specs.PlanLaws.{Actor, KeepsFit}
 use Rattle.misolation.proofs.PlansInside.{plans_keep_fit}
 use Rattle.mmeaning.proofs.Calls.{cut_all}
 use Rattle.mmeaning.proofs.OtherLocks.{others_kept}
 use Rattle.mstore.specs.declared.store.NodeStore.{Ghosts}
-use Rattle.moperator.specs.Codes.{fault_of}
-use Rattle.moperator.specs.declared.code.Code.{Code}
 use Rattle.moperator.specs.declared.code.Code.TheVariants.{Zmem, Zstore}
-use Rattle.meval.specs.declared.session.Session.{Session}
-use Rattle.meval.specs.Sessions.{session_of}
 use Rattle.meval.specs.Evaluates.{standing_of}
 use Rattle.mcommand.specs.declared.parts.Parts.{Parts}
 use Rattle.mexec.specs.declared.text.Ended.{Ended}
 use Rattle.mexec.specs.declared.text.Ended.TheVariants.{Done, Halt, Fault}
-use Rattle.mexec.specs.Runs.{RunsText, EndsBy, GaveEnding, ending_of}
 use Rattle.mworld.specs.declared.reply.Reply.{Reply}
-use Rattle.mworld.specs.View.{reply_of, shared}
-use Rattle.mworld.specs.Admits.{Passes}
 use Rattle.mworld.specs.Ran.{Ran}
 use Rattle.mworld.proofs.Checks.{let_through}
 

@@ -1,21 +1,15 @@
 -- SPDX-License-Identifier: Apache-2.0
 -- The sessions of a world, while a line changes its terminal's where it is.
-use Rattle.std.proofs.Common.{◌≡◌, ℕ, Bool, true, false, Option, Some, None, cond, refl, sym, ap, ◌∙◌}
-use Rattle.std.specs.Prelude.{IsSome, is_some, nat_eq, option_map, unwrap_or}
-use Rattle.std.specs.Ordering.{nat_cmp, is_eq}
+use Rattle.mworld.proofs.WorldWords.{◌≡◌, ℕ, Bool, true, false, Option, Some, None, cond, refl, sym, ap, ◌∙◌, IsSome, is_some, nat_eq, option_map, unwrap_or, nat_cmp, is_eq, FinMap, get, insert, remove, get-insert, get-remove, same_map, nat_cmp-IsAntisymmetric, new_session, session_or_new, Session, session_of}
 use Rattle.std.specs.Cmp.{nat_cmp_total, unsigned_ties}
 use Rattle.std.proofs.lemmas.Cmp.{eq_by_cmp_equiv}
 use Rattle.std.specs.HashMap as hash
 use Rattle.std.specs.HashMap.{HashMap, WritesThrough}
-use Rattle.std.specs.FinMap.{FinMap, get, insert, remove, get-insert, get-remove, same_map, nat_cmp-IsAntisymmetric}
 use Rattle.mspec.specs.Maps.{hash_map_of}
 use Rattle.mspec.proofs.HashMaps.{get-hash_map_of, insert-hash_map_of, remove-hash_map_of}
 use Rattle.mspec.proofs.Maps.{insert-remove}
 use Rattle.mspec.proofs.MapCuts.{equal_of}
 use Rattle.mmeaning.specs.Transition as transition
-use Rattle.mmeaning.specs.Transition.{new_session, session_or_new}
-use Rattle.meval.specs.declared.session.Session.{Session}
-use Rattle.meval.specs.Sessions.{session_of}
 
 -- ---- of finite maps alone
 

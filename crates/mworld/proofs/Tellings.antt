@@ -1,24 +1,17 @@
 -- SPDX-License-Identifier: Apache-2.0
 -- A run of events goes on by one transition of the program.
-use Rattle.std.proofs.Common.{◌≡◌, ℕ, ◌+◌, ◌<◌, Bool, true, false, cond, List, [], ◌∷◌, ◌++◌, Option, Some, None, map, take, length, get_or, refl, sym, ap, ◌∙◌, subst}
-use Rattle.std.specs.Prelude.{IsTrue, ◌↔◌, unwrap_or, option_map, Result, Ok, Err, IfErr}
-use Rattle.std.proofs.lemmas.List.{append-nil, map-append, take_more, take-map}
+use Rattle.mworld.proofs.WorldWords.{◌≡◌, ℕ, ◌+◌, ◌<◌, Bool, true, false, cond, List, [], ◌∷◌, ◌++◌, Option, Some, None, map, take, length, get_or, refl, sym, ap, ◌∙◌, subst, IsTrue, ◌↔◌, unwrap_or, option_map, Result, Ok, Err, IfErr, append-nil, map-append, take_more, take-map, get, Settings, account_at, account_of, name_at, World, Event, Transition, is_failure, is_member, is_inside, part, Told, told_by, told_to, Tells, tells_on, history_on, IsToldEach, IsUnseen, RanFirst}
 use Rattle.std.proofs.lemmas.List.Elements.{filter-append}
 use Rattle.std.proofs.lemmas.Bool.{false_from_ne_true}
-use Rattle.std.specs.FinMap.{get}
 use Rattle.mspec.specs.Node.{Text}
 use Rattle.mspec.specs.Trees.{text_eq}
-use Rattle.mspec.specs.Access.{Account, Settings, account_at, account_of, name_at}
+use Rattle.mspec.specs.Access.{Account}
 use Rattle.mspec.specs.Flow.{Reaches}
-use Rattle.mmeaning.specs.Transition.{World, Event, Reply, Transition, is_failure}
+use Rattle.mmeaning.specs.Transition.{Reply}
 use Rattle.mmeaning.specs.History.{History, NoneFailed}
 use Rattle.misolation.specs.Reach.{Accounts, reach}
-use Rattle.misolation.specs.Cut.{is_member, is_inside, part}
 use Rattle.misolation.specs.Alone.{only}
-use Rattle.misolation.specs.Telling.{Told, told_by, told_to, Tells}
 use Rattle.misolation.proofs.Reaching.{reach_is_chains}
-use Rattle.misolation.proofs.RunsTold.{tells_on, history_on}
-use Rattle.mworld.specs.Isolated.{IsToldEach, IsUnseen, RanFirst}
 use Rattle.mworld.proofs.Checks.{found}
 
 -- the part of one line, by whether its terminal is inside

@@ -1,5 +1,5 @@
 -- SPDX-License-Identifier: Apache-2.0
-use Rattle.std.proofs.Common.{ap}
+use Rattle.mcache.proofs.CacheWords.{ap}
 use Rattle.mcache.proofs.EntryLists.{found, looked}
 use Rattle.mcache.proofs.entries.find.Goals as goal
 

@@ -1,5 +1,5 @@
 -- SPDX-License-Identifier: Apache-2.0
-use Rattle.std.proofs.Common.{ap, subst, Contains}
+use Rattle.mcache.proofs.CacheWords.{ap, subst, Contains}
 use Rattle.mcache.proofs.EntryLists.{left, forgotten}
 use Rattle.mcache.proofs.entries.forget.Goals as goal
 

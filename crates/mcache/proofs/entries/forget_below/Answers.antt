@@ -1,7 +1,6 @@
 -- SPDX-License-Identifier: Apache-2.0
-use Rattle.std.proofs.Common.{sym, subst, ◌∙◌, arith}
+use Rattle.mcache.proofs.CacheWords.{sym, subst, ◌∙◌, arith, AreKeysOf}
 use Rattle.std.proofs.lemmas.List.{get_or_default}
-use Rattle.mcache.specs.NodeTexts.{AreKeysOf}
 use Rattle.mcache.proofs.EntryLists.{gone_more, none_below}
 use Rattle.mcache.proofs.entries.forget_below.Goals as goal
 

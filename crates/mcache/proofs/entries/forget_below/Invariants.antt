@@ -1,6 +1,5 @@
 -- SPDX-License-Identifier: Apache-2.0
-use Rattle.std.proofs.Common.{◌≡◌}
-use Rattle.mcache.specs.NodeTexts.{IsIn}
+use Rattle.mcache.proofs.CacheWords.{◌≡◌, IsIn}
 use Rattle.mcache.proofs.EntryLists.{AreGone}
 use Rattle.mcache.proofs.entries.forget_below.Given as goal
 

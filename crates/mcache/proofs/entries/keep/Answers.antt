@@ -1,7 +1,6 @@
 -- SPDX-License-Identifier: Apache-2.0
-use Rattle.std.proofs.Common.{subst, sym, inl}
+use Rattle.mcache.proofs.CacheWords.{subst, sym, inl, IsInOr}
 use Rattle.mcache.proofs.Shelves.{either}
-use Rattle.mcache.specs.NodeTexts.{IsInOr}
 use Rattle.mcache.proofs.EntryLists.{put_in}
 use Rattle.mcache.proofs.entries.keep.Goals as goal
 

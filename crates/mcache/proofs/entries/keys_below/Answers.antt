@@ -1,6 +1,5 @@
 -- SPDX-License-Identifier: Apache-2.0
-use Rattle.std.proofs.Common.{◌∙◌, ap, nat_eq, sym}
-use Rattle.std.specs.List.{starts_with}
+use Rattle.mcache.proofs.CacheWords.{◌∙◌, ap, nat_eq, sym, starts_with}
 use Rattle.mcache.proofs.EntryLists.{noted_none, noted_all, noted_more, noted_passed}
 use Rattle.mcache.proofs.entries.keys_below.Goals as goal
 

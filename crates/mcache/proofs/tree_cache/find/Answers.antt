@@ -1,6 +1,6 @@
 -- SPDX-License-Identifier: Apache-2.0
 use Rattle.mcache.proofs.Shelves.{found, looked_within, looked_count}
-use Rattle.std.proofs.Common.{ap}
+use Rattle.mcache.proofs.CacheWords.{ap}
 use Rattle.mcache.proofs.tree_cache.find.Goals as goal
 
 pub returns-in-Some-clause-found : goal.returns-in-Some-clause-found

@@ -1,7 +1,5 @@
 -- SPDX-License-Identifier: Apache-2.0
-use Rattle.std.proofs.Common.{subst, sym, inl, nat_eq, length, ◌≤◌, ◌+◌, arith}
-use Rattle.std.specs.Cmp.Lexicographic.{pointwise}
-use Rattle.mcache.specs.Kept.{IsWithinOr}
+use Rattle.mcache.proofs.CacheWords.{subst, sym, inl, nat_eq, length, ◌≤◌, ◌+◌, arith, pointwise, IsWithinOr}
 use Rattle.mcache.proofs.Shelves.{put_within, length_put, either}
 use Rattle.mcache.proofs.tree_cache.keep.Goals as goal
 

@@ -1,6 +1,5 @@
 -- SPDX-License-Identifier: Apache-2.0
-use Rattle.std.proofs.Common.{sym}
-use Rattle.mspec.proofs.SubscriptTests.{decides_order_subscripts}
+use Rattle.meval.proofs.EvalWords.{sym, decides_order_subscripts}
 use Rattle.meval.proofs.References.{walks, no_walk, not_empty}
 use Rattle.meval.proofs.place.check_walk.Goals as goal
 

@@ -1,5 +1,5 @@
 -- SPDX-License-Identifier: Apache-2.0
-use Rattle.std.proofs.Common.{◌≡◌, take}
+use Rattle.meval.proofs.EvalWords.{◌≡◌, take}
 use Rattle.meval.proofs.value_list.copied.Given as goal
 
 abbrev pub invariant-loop-value : goal.invariant-loop-value

@@ -1,5 +1,5 @@
 -- SPDX-License-Identifier: Apache-2.0
-use Rattle.std.proofs.Common.{◌≡◌, take}
+use Rattle.meval.proofs.EvalWords.{◌≡◌, take}
 use Rattle.meval.proofs.variables.copied.Given as goal
 
 abbrev pub invariant-loop-name : goal.invariant-loop-name

@@ -1,15 +1,8 @@
 -- SPDX-License-Identifier: Apache-2.0
-use Rattle.std.proofs.Common.{Ok, [], ◌∷◌, replicate, refl}
-use Rattle.mspec.specs.Act.{write, with_locals}
-use Rattle.mspec.specs.Scopes.{killed_except, newed, newed_except}
-use Rattle.mgrammar.specs.Commands.{form_of}
+use Rattle.mexec.proofs.ExecWords.{Ok, [], ◌∷◌, replicate, refl, write, with_locals, killed_except, newed, newed_except, form_of, destination_tree, expr_tree, reference_tree, condition_tree, kind_tree, locked_tree, keyword_tree, primary_tree, does_evaluated, at_done, enters, into_given, start_of, completion_of, position_of}
 use Rattle.mmeaning.specs.LineMeaning as meaning
 use Rattle.mmeaning.specs.Locking.{locking}
-use Rattle.mtree.specs.Tree.{destination_tree, expr_tree, reference_tree, condition_tree, kind_tree, locked_tree, keyword_tree, primary_tree}
-use Rattle.mcommand.proofs.Calls.{does_evaluated, at_done}
 use Rattle.mexec.specs.declared.completion.Completion.TheVariants as completion
-use Rattle.mexec.specs.Arguments.{enters, into_given, start_of}
-use Rattle.mexec.specs.Frames.{completion_of, position_of}
 use Rattle.mexec.proofs.Calls.{at_gives, at_depth, goes_on}
 use Rattle.mexec.proofs.ArgumentRuns.{gives_start, enters_where}
 use Rattle.mexec.proofs.arguments.argument.Goals as goal

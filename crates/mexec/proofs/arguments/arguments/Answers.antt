@@ -1,9 +1,5 @@
 -- SPDX-License-Identifier: Apache-2.0
-use Rattle.std.proofs.Common.{map, drop}
-use Rattle.mmeaning.specs.LineMeaning.{context}
-use Rattle.mtree.specs.Tree.{arg_tree}
-use Rattle.mexec.specs.Frames.{source_args, source_position, position_of}
-use Rattle.mexec.specs.Fronts.{args_left}
+use Rattle.mexec.proofs.ExecWords.{map, drop, context, arg_tree, source_args, source_position, position_of, args_left}
 use Rattle.mexec.proofs.Calls.{runs_then, runs_stopped, runs_as, runs_completion}
 use Rattle.mexec.proofs.FrontRuns.{arguments_is}
 use Rattle.mexec.proofs.arguments.arguments.Goals as goal

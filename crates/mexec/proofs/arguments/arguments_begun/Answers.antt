@@ -1,15 +1,8 @@
 -- SPDX-License-Identifier: Apache-2.0
-use Rattle.std.proofs.Common.{◌+◌, [], map, drop, refl, arith}
-use Rattle.mspec.proofs.ListPlaces.{none_left}
+use Rattle.mexec.proofs.ExecWords.{◌+◌, [], map, drop, refl, arith, none_left, context, arg_tree, keeps_itself, keeps_on, gave, enters, entrance_of, args_started, begun_of, completion_of, position_of}
 use Rattle.mmeaning.specs.LineMeaning as meaning
-use Rattle.mmeaning.specs.LineMeaning.{context}
-use Rattle.mtree.specs.Tree.{arg_tree}
-use Rattle.mcommand.proofs.Calls.{keeps_itself, keeps_on}
 use Rattle.mexec.specs.declared.arguments.Begun.TheVariants as begun
 use Rattle.mexec.specs.declared.completion.Completion.TheVariants as completion
-use Rattle.mexec.specs.Arguments.{gave, enters, entrance_of}
-use Rattle.mexec.specs.Fronts.{args_started, begun_of}
-use Rattle.mexec.specs.Frames.{completion_of, position_of}
 use Rattle.mexec.proofs.Calls.{at_gives, at_as}
 use Rattle.mexec.proofs.ArgumentRuns.{argument_begins, argument_stopped}
 use Rattle.mexec.proofs.FrontRuns.{passes_argument}

@@ -1,13 +1,5 @@
 -- SPDX-License-Identifier: Apache-2.0
-use Rattle.std.proofs.Common.{◌≤◌, ◌-◌, ℕ, length, map, drop, Result}
-use Rattle.mmeaning.specs.LineMeaning.{context}
-use Rattle.mtree.specs.Tree.{arg_tree}
-use Rattle.moperator.specs.declared.code.Code.{Code}
-use Rattle.mcommand.specs.declared.parts.Parts.{Parts}
-use Rattle.mcommand.specs.Does.{DoesAt, KeepsLoans}
-use Rattle.mexec.specs.declared.arguments.Begun.{Begun}
-use Rattle.mexec.specs.Frames.{position_of}
-use Rattle.mexec.specs.Fronts.{args_started, begun_of}
+use Rattle.mexec.proofs.ExecWords.{◌≤◌, ◌-◌, ℕ, length, map, drop, Result, context, arg_tree, Code, Parts, DoesAt, KeepsLoans, Begun, position_of, args_started, begun_of}
 use Rattle.mexec.proofs.arguments.arguments_begun.Given as goal
 
 abbrev pub invariant-loop-at : goal.invariant-loop-at

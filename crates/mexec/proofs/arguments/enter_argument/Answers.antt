@@ -1,7 +1,5 @@
 -- SPDX-License-Identifier: Apache-2.0
-use Rattle.std.proofs.Common.{map, drop}
-use Rattle.mtree.specs.Tree.{arg_tree}
-use Rattle.mexec.specs.Frames.{source_args, source_position, position_of}
+use Rattle.mexec.proofs.ExecWords.{map, drop, arg_tree, source_args, source_position, position_of}
 use Rattle.mexec.proofs.Calls.{runs_wanting, runs_listing}
 use Rattle.mexec.proofs.arguments.enter_argument.Goals as goal
 

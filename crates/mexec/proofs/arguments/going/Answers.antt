@@ -1,12 +1,8 @@
 -- SPDX-License-Identifier: Apache-2.0
-use Rattle.std.proofs.Common.{refl}
-use Rattle.mspec.specs.Act.{give}
+use Rattle.mexec.proofs.ExecWords.{refl, give, context, at_done, completion_of}
 use Rattle.mmeaning.specs.LineMeaning as meaning
-use Rattle.mmeaning.specs.LineMeaning.{context}
-use Rattle.mcommand.proofs.Calls.{at_done}
 use Rattle.mexec.proofs.LevelRuns.{at_any}
 use Rattle.mexec.specs.declared.completion.Completion.TheVariants as completion
-use Rattle.mexec.specs.Frames.{completion_of}
 use Rattle.mexec.proofs.Calls.{at_then, at_stopped, at_gives}
 use Rattle.mexec.proofs.arguments.going.Goals as goal
 

@@ -1,12 +1,6 @@
 -- SPDX-License-Identifier: Apache-2.0
-use Rattle.mspec.specs.Act.{give}
+use Rattle.mexec.proofs.ExecWords.{give, inside, expr_tree, depth_of, residual_is, at_done, completion_of}
 use Rattle.mmeaning.specs.LineMeaning as meaning
-use Rattle.mmeaning.specs.Expression.{inside}
-use Rattle.mtree.specs.Tree.{expr_tree}
-use Rattle.meval.specs.Evaluates.{depth_of}
-use Rattle.mmeaning.proofs.Calls.{residual_is}
-use Rattle.mcommand.proofs.Calls.{at_done}
-use Rattle.mexec.specs.Frames.{completion_of}
 use Rattle.mexec.proofs.Calls.{at_then, at_failed, at_gives, at_as, testing_is}
 use Rattle.mexec.proofs.arguments.tested.Goals as goal
 

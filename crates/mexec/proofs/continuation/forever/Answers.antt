@@ -1,9 +1,7 @@
 -- SPDX-License-Identifier: Apache-2.0
-use Rattle.std.proofs.Common.{ap, sym, refl}
-use Rattle.mmeaning.specs.LineMeaning.{context, begin_turn}
+use Rattle.mexec.proofs.ExecWords.{ap, sym, refl, context, begin_turn, ForLoop, position_of}
 use Rattle.mcommand.specs.declared.turn.Course.TheVariants.{Forever}
-use Rattle.mexec.specs.declared.frames.ForLoop.{ForLoop}
-use Rattle.mexec.specs.Frames.{loop_in, position_of}
+use Rattle.mexec.specs.Frames.{loop_in}
 use Rattle.mexec.proofs.Calls.{runs_wanting, runs_as}
 use Rattle.mexec.proofs.Loops.{turning_of_none}
 use Rattle.mexec.proofs.continuation.forever.Goals as goal

@@ -1,6 +1,5 @@
 -- SPDX-License-Identifier: Apache-2.0
-use Rattle.std.proofs.Common.{◌≤◌, ◌<◌, length, refl, arith}
-use Rattle.mspec.proofs.ListPlaces.{none_left}
+use Rattle.mexec.proofs.ExecWords.{◌≤◌, ◌<◌, length, refl, arith, none_left}
 use Rattle.mexec.proofs.Calls.{stack_push, some_item}
 use Rattle.mexec.proofs.continuation.leave.Goals as goal
 

@@ -1,6 +1,5 @@
 -- SPDX-License-Identifier: Apache-2.0
-use Rattle.std.proofs.Common.{arith}
-use Rattle.mexec.specs.Frames.{position_of}
+use Rattle.mexec.proofs.ExecWords.{arith, position_of}
 use Rattle.mexec.proofs.Calls.{runs_completion, runs_wanting}
 use Rattle.mexec.proofs.FrontRuns.{front_runs, front_stopped, falls_spent}
 use Rattle.mexec.proofs.continuation.next_command.Goals as goal

@@ -1,12 +1,8 @@
 -- SPDX-License-Identifier: Apache-2.0
-use Rattle.std.proofs.Common.{Some, refl}
-use Rattle.mspec.specs.Act.{◌>>=◌, Act}
-use Rattle.mtree.specs.Tree.{entry_tree}
-use Rattle.mmeaning.specs.Levels.{Target, Level, Position, leaves, deeper, target}
-use Rattle.mmeaning.specs.LineMeaning.{Completion, Context, context, closed, in_level, lines_next}
-use Rattle.meval.specs.Evaluates.{depth_of}
+use Rattle.mexec.proofs.ExecWords.{Some, refl, ◌>>=◌, Act, entry_tree, Target, Level, leaves, deeper, target, Context, context, closed, in_level, lines_next, depth_of, position_of}
+use Rattle.mmeaning.specs.Levels.{Position}
+use Rattle.mmeaning.specs.LineMeaning.{Completion}
 use Rattle.mcommand.specs.Targets.{target_view}
-use Rattle.mexec.specs.Frames.{position_of}
 use Rattle.mexec.proofs.Calls.{runs_as, runs_then, runs_stopped}
 use Rattle.mexec.proofs.LevelRuns.{at_any, at_plain, is_within, target_entered, lines_opened}
 use Rattle.mexec.proofs.entering.doing.Goals as goal

@@ -1,10 +1,7 @@
 -- SPDX-License-Identifier: Apache-2.0
-use Rattle.std.proofs.Common.{◌≡◌, Bool, ◌+◌, arith}
-use Rattle.mspec.specs.Act.{Act, ◌>>=◌, test_is}
-use Rattle.mmeaning.specs.Levels.{Position, Level, deeper, restores}
-use Rattle.mmeaning.specs.LineMeaning.{Completion, Context, context, closed, in_level, lines_next}
-use Rattle.meval.specs.Evaluates.{depth_of}
-use Rattle.mexec.specs.Frames.{position_of}
+use Rattle.mexec.proofs.ExecWords.{◌≡◌, Bool, ◌+◌, arith, Act, ◌>>=◌, test_is, Level, deeper, restores, Context, context, closed, in_level, lines_next, depth_of, position_of}
+use Rattle.mmeaning.specs.Levels.{Position}
+use Rattle.mmeaning.specs.LineMeaning.{Completion}
 use Rattle.mexec.proofs.Calls.{runs_then, runs_stopped, runs_wanting}
 use Rattle.mexec.proofs.LevelRuns.{at_plain, lines_opened_as}
 use Rattle.mexec.proofs.entering.doing_block.Goals as goal

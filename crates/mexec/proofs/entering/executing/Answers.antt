@@ -1,16 +1,7 @@
 -- SPDX-License-Identifier: Apache-2.0
-use Rattle.std.proofs.Common.{suc, None, arith}
+use Rattle.mexec.proofs.ExecWords.{suc, None, arith, Text, Act, ◌>>=◌, ◌>>◌, give_some, LineTree, line_at, line_tree, leaves, deeper, a_level_free, commands_of, Context, context, texts, closed, in_level, depth_of, at_evaluated, text_position, position_of}
 use Rattle.mspec.specs.Code.{Zsyntax}
-use Rattle.mspec.specs.Act.{Text, Act, ◌>>=◌, ◌>>◌, give_some}
-use Rattle.mgrammar.specs.Grammar.{LineTree}
-use Rattle.mgrammar.specs.Reading.{line_at}
-use Rattle.mtree.specs.Tree.{line_tree}
-use Rattle.mmeaning.specs.Levels.{leaves, deeper, a_level_free, commands_of}
-use Rattle.mmeaning.specs.LineMeaning.{Completion, Context, context, texts, closed, in_level}
-use Rattle.meval.specs.Evaluates.{depth_of}
-use Rattle.mcommand.proofs.Calls.{at_evaluated}
-use Rattle.mexec.specs.Entering.{text_position}
-use Rattle.mexec.specs.Frames.{position_of}
+use Rattle.mmeaning.specs.LineMeaning.{Completion}
 use Rattle.mexec.proofs.Calls.{runs_then, runs_spent, runs_stopped, runs_wanting}
 use Rattle.mexec.proofs.LevelRuns.{at_yielded, at_plain, text_opened}
 use Rattle.mexec.proofs.entering.executing.Goals as goal

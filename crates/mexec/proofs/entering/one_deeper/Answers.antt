@@ -1,10 +1,5 @@
 -- SPDX-License-Identifier: Apache-2.0
-use Rattle.std.proofs.Common.{sym}
-use Rattle.mspec.specs.Act.{give}
-use Rattle.mmeaning.specs.Levels.{a_level_free}
-use Rattle.mmeaning.proofs.Calls.{ended}
-use Rattle.meval.specs.Evaluates.{depth_of}
-use Rattle.mcommand.proofs.Calls.{at_evaluated}
+use Rattle.mexec.proofs.ExecWords.{sym, give, a_level_free, ended, depth_of, at_evaluated}
 use Rattle.mexec.proofs.Calls.{at_as, at_stopped}
 use Rattle.mexec.proofs.entering.one_deeper.Goals as goal
 

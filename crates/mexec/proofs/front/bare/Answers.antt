@@ -1,13 +1,8 @@
 -- SPDX-License-Identifier: Apache-2.0
-use Rattle.std.proofs.Common.{Ok, [], not, refl}
+use Rattle.mexec.proofs.ExecWords.{Ok, [], not, refl, give, ask, with_locals, killed_except, newed_except, at_evaluated, does_evaluated, completion_of, stops, at_turns, at_block, outcome_of}
 use Rattle.mspec.specs.Plan.{Release}
-use Rattle.mspec.specs.Act.{give, ask, with_locals}
-use Rattle.mspec.specs.Scopes.{killed_except, newed_except}
 use Rattle.mmeaning.specs.LineMeaning as meaning
-use Rattle.mcommand.proofs.Calls.{at_evaluated, does_evaluated}
 use Rattle.mexec.specs.declared.completion.Completion.TheVariants as completion
-use Rattle.mexec.specs.Frames.{completion_of}
-use Rattle.mexec.specs.Fronts.{stops, at_turns, at_block, outcome_of}
 use Rattle.mexec.proofs.Calls.{at_then, at_gives, goes_on}
 use Rattle.mexec.proofs.FrontRuns.{gives_over}
 use Rattle.mexec.proofs.front.bare.Goals as goal

@@ -1,12 +1,7 @@
 -- SPDX-License-Identifier: Apache-2.0
-use Rattle.std.proofs.Common.{Bool, map, cond, refl}
-use Rattle.mspec.specs.Act.{Act, give}
-use Rattle.mmeaning.specs.LineMeaning.{Context, Go_on, context}
+use Rattle.mexec.proofs.ExecWords.{Bool, map, cond, refl, Act, give, Context, Go_on, context, keyword_tree, arg_tree, at_done, position_of, over, effect_started, outcome_of}
 use Rattle.mtree.specs.declared.tree.Command.{Command}
-use Rattle.mtree.specs.Tree.{keyword_tree, arg_tree}
-use Rattle.mcommand.proofs.Calls.{at_done}
-use Rattle.mexec.specs.Frames.{position_of}
-use Rattle.mexec.specs.Fronts.{Outcome, over, effect_started, outcome_of}
+use Rattle.mexec.specs.Fronts.{Outcome}
 use Rattle.mexec.proofs.Calls.{at_then, at_stopped, at_gives}
 use Rattle.mexec.proofs.front.command.Goals as goal
 

@@ -1,10 +1,6 @@
 -- SPDX-License-Identifier: Apache-2.0
-use Rattle.std.proofs.Common.{◌≡◌, List, [], ◌∷◌, Some, None, slice_get, unwrap_or, map, ap, sym, refl, ◌∙◌}
-use Rattle.mmeaning.specs.LineMeaning.{context}
-use Rattle.mtree.specs.Tree.{keyword_tree, arg_tree, parameter_tree}
+use Rattle.mexec.proofs.ExecWords.{◌≡◌, List, [], ◌∷◌, Some, None, slice_get, unwrap_or, map, ap, sym, refl, ◌∙◌, context, keyword_tree, arg_tree, parameter_tree, position_of, stops, at_loop}
 use Rattle.mtree.specs.declared.tree.Arg.TheVariants as arg
-use Rattle.mexec.specs.Frames.{position_of}
-use Rattle.mexec.specs.Fronts.{stops, at_loop}
 use Rattle.mexec.proofs.Calls.{at_gives, at_as}
 use Rattle.mexec.proofs.FrontRuns.{gives_stop, begun_stops, other_started}
 use Rattle.mexec.proofs.front.effect.Goals as goal

@@ -1,13 +1,8 @@
 -- SPDX-License-Identifier: Apache-2.0
-use Rattle.std.proofs.Common.{[], ◌+◌, ◌<◌, ◌≤◌, length, refl, arith}
-use Rattle.mspec.proofs.ListPlaces.{none_left}
+use Rattle.mexec.proofs.ExecWords.{[], ◌+◌, ◌<◌, ◌≤◌, length, refl, arith, none_left, context, keeps_itself, keeps_on, keeps_evaluated, commands_from, completion_of, position_of, over, stops, front, front_of, stop_of}
 use Rattle.mmeaning.specs.LineMeaning as meaning
-use Rattle.mmeaning.specs.LineMeaning.{context}
-use Rattle.mcommand.proofs.Calls.{keeps_itself, keeps_on, keeps_evaluated}
 use Rattle.mexec.specs.declared.completion.Completion.TheVariants as completion
-use Rattle.mexec.specs.Frames.{commands_from, completion_of, position_of}
 use Rattle.mexec.specs.declared.front.Outcome.TheVariants as outcome
-use Rattle.mexec.specs.Fronts.{over, stops, front, front_of, stop_of}
 use Rattle.mexec.proofs.Calls.{at_gives, at_as}
 use Rattle.mexec.proofs.LevelRuns.{at_plain}
 use Rattle.mexec.proofs.FrontRuns.{command_begins, command_stopped, charge_stopped, passes_command, args_there}

@@ -1,12 +1,6 @@
 -- SPDX-License-Identifier: Apache-2.0
-use Rattle.std.proofs.Common.{◌≤◌, ◌-◌, ℕ, length, Result}
-use Rattle.mmeaning.specs.LineMeaning.{context}
-use Rattle.moperator.specs.declared.code.Code.{Code}
-use Rattle.mcommand.specs.declared.parts.Parts.{Parts}
-use Rattle.mcommand.specs.Does.{DoesAt, KeepsLoans}
+use Rattle.mexec.proofs.ExecWords.{◌≤◌, ◌-◌, ℕ, length, Result, context, Code, Parts, DoesAt, KeepsLoans, commands_from, position_of, front, front_of}
 use Rattle.mexec.specs.declared.front.Outcome.{Outcome}
-use Rattle.mexec.specs.Frames.{commands_from, position_of}
-use Rattle.mexec.specs.Fronts.{front, front_of}
 use Rattle.mexec.proofs.front.front.Given as goal
 
 abbrev pub invariant-loop-at : goal.invariant-loop-at

@@ -1,16 +1,8 @@
 -- SPDX-License-Identifier: Apache-2.0
-use Rattle.std.proofs.Common.{suc, List, arith}
+use Rattle.mexec.proofs.ExecWords.{suc, List, arith, Text, Act, ◌>>=◌, give_some, ArgTree, FormTree, form_of, keyword_tree, within_indirection, Context, context, given_by, depth_of, at_evaluated, position_of}
 use Rattle.mspec.specs.Code.{Zsyntax}
-use Rattle.mspec.specs.Act.{Text, Act, ◌>>=◌, give_some}
-use Rattle.mgrammar.specs.Grammar.{ArgTree, FormTree}
-use Rattle.mgrammar.specs.Commands.{form_of}
 use Rattle.mgrammar.specs.IndirectTexts.{args_of}
-use Rattle.mtree.specs.Tree.{keyword_tree}
-use Rattle.mmeaning.specs.Levels.{within_indirection}
-use Rattle.mmeaning.specs.LineMeaning.{Completion, Context, context, given_by}
-use Rattle.meval.specs.Evaluates.{depth_of}
-use Rattle.mcommand.proofs.Calls.{at_evaluated}
-use Rattle.mexec.specs.Frames.{position_of}
+use Rattle.mmeaning.specs.LineMeaning.{Completion}
 use Rattle.mexec.proofs.Calls.{runs_then, runs_spent, runs_stopped, runs_wanting}
 use Rattle.mexec.proofs.LevelRuns.{at_yielded, list_opened}
 use Rattle.mexec.proofs.indirection.giving.Goals as goal

@@ -1,5 +1,5 @@
 -- SPDX-License-Identifier: Apache-2.0
-use Rattle.mspec.specs.Act.{set_test}
+use Rattle.mexec.proofs.ExecWords.{set_test}
 use Rattle.mexec.proofs.Calls.{at_then}
 use Rattle.mexec.proofs.LevelRuns.{at_plain}
 use Rattle.mexec.proofs.levels.close.Goals as goal

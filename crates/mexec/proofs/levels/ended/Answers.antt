@@ -1,7 +1,5 @@
 -- SPDX-License-Identifier: Apache-2.0
-use Rattle.std.proofs.Common.{refl}
-use Rattle.mspec.specs.Act.{give}
-use Rattle.mexec.specs.Frames.{completion_of}
+use Rattle.mexec.proofs.ExecWords.{refl, give, completion_of}
 use Rattle.mexec.proofs.Calls.{at_then, at_gives}
 use Rattle.mexec.proofs.levels.ended.Goals as goal
 

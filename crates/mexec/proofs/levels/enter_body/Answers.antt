@@ -1,5 +1,5 @@
 -- SPDX-License-Identifier: Apache-2.0
-use Rattle.std.proofs.Common.{refl}
+use Rattle.mexec.proofs.ExecWords.{refl}
 use Rattle.mexec.proofs.Calls.{stack_push}
 use Rattle.mexec.proofs.levels.enter_body.Goals as goal
 

@@ -1,7 +1,5 @@
 -- SPDX-License-Identifier: Apache-2.0
-use Rattle.std.proofs.Common.{get_or, []}
-use Rattle.std.proofs.lemmas.List.{get_or_read}
-use Rattle.mexec.specs.Frames.{position_of, closing_of}
+use Rattle.mexec.proofs.ExecWords.{get_or, [], get_or_read, position_of, closing_of}
 use Rattle.mexec.proofs.Calls.{runs_stopped}
 use Rattle.mexec.proofs.LevelRuns.{at_plain, step_lost, line_refused, line_runs}
 use Rattle.mexec.proofs.levels.enter_line.Goals as goal

@@ -1,6 +1,5 @@
 -- SPDX-License-Identifier: Apache-2.0
-use Rattle.mmeaning.specs.LineMeaning.{context}
-use Rattle.mexec.specs.Frames.{position_of, closing_of}
+use Rattle.mexec.proofs.ExecWords.{context, position_of, closing_of}
 use Rattle.mexec.proofs.Calls.{runs_as, runs_then, runs_stopped, runs_done}
 use Rattle.mexec.proofs.LevelRuns.{lines_are, then_closed}
 use Rattle.mexec.proofs.levels.lines_next.Goals as goal

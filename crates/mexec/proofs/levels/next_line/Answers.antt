@@ -1,5 +1,5 @@
 -- SPDX-License-Identifier: Apache-2.0
-use Rattle.std.proofs.Common.{None, refl}
+use Rattle.mexec.proofs.ExecWords.{None, refl}
 use Rattle.mexec.proofs.Calls.{at_gives}
 use Rattle.mexec.proofs.levels.next_line.Goals as goal
 

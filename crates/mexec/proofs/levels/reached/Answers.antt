@@ -1,8 +1,5 @@
 -- SPDX-License-Identifier: Apache-2.0
-use Rattle.std.proofs.Common.{◌≤◌, ◌<◌, length, None, refl, arith, lt-ltb, le-ltb}
-use Rattle.mspec.proofs.ListPlaces.{none_left}
-use Rattle.mgrammar.specs.RoutineLine.{dots_of}
-use Rattle.mcommand.proofs.Calls.{keeps_evaluated}
+use Rattle.mexec.proofs.ExecWords.{◌≤◌, ◌<◌, length, None, refl, arith, lt-ltb, le-ltb, none_left, dots_of, keeps_evaluated}
 use Rattle.mexec.proofs.Calls.{at_gives}
 use Rattle.mexec.proofs.LevelRuns.{at_plain, passes_line, passing_failed, stops_at}
 use Rattle.mexec.proofs.levels.reached.Goals as goal

@@ -1,9 +1,5 @@
 -- SPDX-License-Identifier: Apache-2.0
-use Rattle.std.proofs.Common.{◌≤◌, ◌-◌, Option, ℕ, length, drop, Result}
-use Rattle.moperator.specs.declared.code.Code.{Code}
-use Rattle.mcommand.specs.declared.parts.Parts.{Parts}
-use Rattle.mcommand.specs.Does.{DoesAt, KeepsLoans}
-use Rattle.mexec.specs.Entering.{reached}
+use Rattle.mexec.proofs.ExecWords.{◌≤◌, ◌-◌, Option, ℕ, length, drop, Result, Code, Parts, DoesAt, KeepsLoans, reached}
 use Rattle.mexec.proofs.levels.reached.Given as goal
 
 abbrev pub invariant-loop-at : goal.invariant-loop-at

@@ -1,8 +1,6 @@
 -- SPDX-License-Identifier: Apache-2.0
-use Rattle.std.proofs.Common.{map, drop, arith}
-use Rattle.mtree.specs.Tree.{arg_tree}
-use Rattle.mcommand.proofs.Calls.{keeps_itself}
-use Rattle.mexec.specs.Frames.{position_of, rest_tree, args_before}
+use Rattle.mexec.proofs.ExecWords.{map, drop, arith, arg_tree, keeps_itself, position_of, rest_tree}
+use Rattle.mexec.specs.Frames.{args_before}
 use Rattle.mexec.proofs.Lines.{rest_passes, list_passes}
 use Rattle.mexec.proofs.line.run_frame.Goals as goal
 

@@ -1,9 +1,5 @@
 -- SPDX-License-Identifier: Apache-2.0
-use Rattle.std.proofs.Common.{◌≡◌, ◌≤◌, Option, Some, None, length, refl, arith}
-use Rattle.mspec.proofs.ListPlaces.{none_left}
-use Rattle.mmeaning.specs.Levels.{commands_of}
-use Rattle.mtree.specs.Tree.{line_tree}
-use Rattle.mcommand.proofs.Calls.{keeps_on}
+use Rattle.mexec.proofs.ExecWords.{◌≡◌, ◌≤◌, Option, Some, None, length, refl, arith, none_left, commands_of, line_tree, keeps_on}
 use Rattle.mexec.proofs.Calls.{stack_push}
 use Rattle.mexec.proofs.Lines.{leads_first, leads_on, leads_stopped, leads_ends}
 use Rattle.mexec.proofs.line.run_line.Goals as goal

@@ -1,10 +1,5 @@
 -- SPDX-License-Identifier: Apache-2.0
-use Rattle.std.proofs.Common.{◌+◌, ◌*◌, length}
-use Rattle.mmeaning.specs.Levels.{commands_of}
-use Rattle.mmeaning.specs.LineMeaning.{run_within}
-use Rattle.mtree.specs.Tree.{line_tree}
-use Rattle.mcommand.specs.Does.{KeepsLoans}
-use Rattle.mexec.specs.Frames.{Leads, stack, completion_of}
+use Rattle.mexec.proofs.ExecWords.{◌+◌, ◌*◌, length, commands_of, run_within, line_tree, KeepsLoans, Leads, stack, completion_of}
 use Rattle.mexec.proofs.line.run_line.Given as goal
 
 abbrev pub invariant-loop-frame : goal.invariant-loop-frame

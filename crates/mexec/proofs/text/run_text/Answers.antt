@@ -1,7 +1,5 @@
 -- SPDX-License-Identifier: Apache-2.0
-use Rattle.std.proofs.Common.{◌∙◌, ap, Err}
-use Rattle.mgrammar.specs.Reading.{line_at}
-use Rattle.mtree.specs.Tree.{line_tree}
+use Rattle.mexec.proofs.ExecWords.{◌∙◌, ap, Err, line_at, line_tree}
 use Rattle.mexec.proofs.Texts.{refused, done, failed, never_refused}
 use Rattle.mexec.proofs.text.run_text.Goals as goal
 

@@ -1,8 +1,5 @@
 -- SPDX-License-Identifier: Apache-2.0
-use Rattle.std.proofs.Common.{refl, arith}
-use Rattle.mmeaning.specs.LineMeaning.{context}
-use Rattle.mcommand.proofs.Calls.{keeps_itself, keeps_on, keeps_evaluated}
-use Rattle.mexec.specs.Frames.{completion_of, position_of, turning}
+use Rattle.mexec.proofs.ExecWords.{refl, arith, context, keeps_itself, keeps_on, keeps_evaluated, completion_of, position_of, turning}
 use Rattle.mexec.proofs.Calls.{runs_completion, runs_wanting, runs_as}
 use Rattle.mexec.proofs.LevelRuns.{at_plain}
 use Rattle.mexec.proofs.Loops.{one_more, no_more, not_gone_on, turn_begins, turn_done, turn_charge_failed, falls_on}

@@ -1,14 +1,7 @@
 -- SPDX-License-Identifier: Apache-2.0
-use Rattle.std.proofs.Common.{◌≡◌, ◌≤◌, List, Result}
+use Rattle.mexec.proofs.ExecWords.{◌≡◌, ◌≤◌, List, Result, context, View, Code, Parts, KeepsLoans, course_view, Runs, stack, position_of, turning}
 use Rattle.mmeaning.specs.LineMeaning as meaning
-use Rattle.mmeaning.specs.LineMeaning.{context}
-use Rattle.mmeaning.specs.Frames.{View}
-use Rattle.moperator.specs.declared.code.Code.{Code}
-use Rattle.mcommand.specs.declared.parts.Parts.{Parts}
-use Rattle.mcommand.specs.Does.{KeepsLoans}
-use Rattle.mcommand.specs.Turns.{course_view}
 use Rattle.mexec.specs.declared.completion.Completion.{Completion}
-use Rattle.mexec.specs.Frames.{Runs, stack, position_of, turning}
 use Rattle.mexec.proofs.turns.after_course.Given as goal
 
 abbrev pub invariant-turns : goal.invariant-turns

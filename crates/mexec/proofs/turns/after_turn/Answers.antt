@@ -1,6 +1,5 @@
 -- SPDX-License-Identifier: Apache-2.0
-use Rattle.mmeaning.specs.LineMeaning.{context}
-use Rattle.mexec.specs.Frames.{completion_of, position_of, turning}
+use Rattle.mexec.proofs.ExecWords.{context, completion_of, position_of, turning}
 use Rattle.mexec.proofs.Calls.{runs_completion, runs_as}
 use Rattle.mexec.proofs.FrontRuns.{turn_goes_on, turn_is_over}
 use Rattle.mexec.proofs.turns.after_turn.Goals as goal

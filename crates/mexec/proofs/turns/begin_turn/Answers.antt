@@ -1,6 +1,5 @@
 -- SPDX-License-Identifier: Apache-2.0
-use Rattle.mmeaning.specs.Frames.{Rests}
-use Rattle.mexec.specs.Frames.{position_of, turning}
+use Rattle.mexec.proofs.ExecWords.{Rests, position_of, turning}
 use Rattle.mexec.proofs.Calls.{runs_wanting, runs_top, stack_push}
 use Rattle.mexec.proofs.LevelRuns.{at_plain}
 use Rattle.mexec.proofs.Loops.{turn_begins, turn_charge_failed}

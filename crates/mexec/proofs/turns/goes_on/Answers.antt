@@ -1,6 +1,5 @@
 -- SPDX-License-Identifier: Apache-2.0
-use Rattle.std.proofs.Common.{true, refl}
-use Rattle.mcommand.proofs.Calls.{at_done}
+use Rattle.mexec.proofs.ExecWords.{true, refl, at_done}
 use Rattle.mexec.proofs.Calls.{at_gives}
 use Rattle.mexec.proofs.Indexes.{no_course, not_found}
 use Rattle.mexec.proofs.turns.goes_on.Goals as goal

@@ -1,10 +1,6 @@
 -- SPDX-License-Identifier: Apache-2.0
-use Rattle.std.proofs.Common.{◌+◌, ◌≤◌, length, refl, arith}
-use Rattle.mspec.proofs.ListPlaces.{none_left}
-use Rattle.mcommand.proofs.Calls.{at_done, keeps_itself, keeps_on}
+use Rattle.mexec.proofs.ExecWords.{◌+◌, ◌≤◌, length, refl, arith, none_left, at_done, keeps_itself, keeps_on, ForLoop, commands_from, position_of}
 use Rattle.mexec.specs.declared.completion.Completion.TheVariants as completion
-use Rattle.mexec.specs.declared.frames.ForLoop.{ForLoop}
-use Rattle.mexec.specs.Frames.{commands_from, position_of}
 use Rattle.mexec.proofs.Calls.{runs_completion, runs_wanting, keeps_at_depth}
 use Rattle.mexec.proofs.Indexes.{any_course}
 use Rattle.mexec.proofs.Loops.{parameter_runs, parameter_stopped, begun_runs}

@@ -1,14 +1,7 @@
 -- SPDX-License-Identifier: Apache-2.0
-use Rattle.std.proofs.Common.{◌≡◌, ◌≤◌, ◌-◌, length, List, map, drop, Result}
+use Rattle.mexec.proofs.ExecWords.{◌≡◌, ◌≤◌, ◌-◌, length, List, map, drop, Result, context, View, parameter_tree, Code, Parts, KeepsLoans, Runs, commands_from, stack, position_of}
 use Rattle.mmeaning.specs.LineMeaning as meaning
-use Rattle.mmeaning.specs.LineMeaning.{context}
-use Rattle.mmeaning.specs.Frames.{View}
-use Rattle.mtree.specs.Tree.{parameter_tree}
-use Rattle.moperator.specs.declared.code.Code.{Code}
-use Rattle.mcommand.specs.declared.parts.Parts.{Parts}
-use Rattle.mcommand.specs.Does.{KeepsLoans}
 use Rattle.mexec.specs.declared.completion.Completion.{Completion}
-use Rattle.mexec.specs.Frames.{Runs, commands_from, stack, position_of}
 use Rattle.mexec.proofs.turns.next_parameter.Given as goal
 
 abbrev pub invariant-loop-next : goal.invariant-loop-next

@@ -1,11 +1,5 @@
 -- SPDX-License-Identifier: Apache-2.0
-use Rattle.std.proofs.Common.{◌≡◌, true, Option, Some, None, option_map, is_some, List, ℕ, ap, sym, subst, ◌∙◌}
-use Rattle.mspec.specs.Node.{Node}
-use Rattle.mspec.specs.Trees.{last}
-use Rattle.mkey.specs.Key.{IsKeyOf}
-use Rattle.mkey.specs.Under.{child_under}
-use Rattle.mkey.specs.Way.{way}
-use Rattle.mglobal.specs.Next.{BoundsOnward, nearest_key}
+use Rattle.mglobal.proofs.GlobalWords.{◌≡◌, true, Option, Some, None, option_map, is_some, List, ℕ, ap, sym, subst, ◌∙◌, Node, last, IsKeyOf, child_under, way, BoundsOnward, nearest_key}
 use Rattle.mglobal.proofs.Orders.{none_next, one_next}
 use Rattle.mglobal.proofs.ask.neighbour.Goals as goal
 

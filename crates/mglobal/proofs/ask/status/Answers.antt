@@ -1,6 +1,5 @@
 -- SPDX-License-Identifier: Apache-2.0
-use Rattle.std.proofs.Common.{is_some, ap, ◌∙◌}
-use Rattle.mspec.specs.Globals.{next_key}
+use Rattle.mglobal.proofs.GlobalWords.{is_some, ap, ◌∙◌, next_key}
 use Rattle.mglobal.proofs.Sides.{bounds_below}
 use Rattle.mglobal.proofs.Orders.{some_map, below_found}
 use Rattle.mglobal.proofs.ask.status.Goals as goal

@@ -1,13 +1,5 @@
 -- SPDX-License-Identifier: Apache-2.0
-use Rattle.std.proofs.Common.{◌≡◌, ◌<◌, [], length, ap, sym, subst, ◌∙◌, arith}
-use Rattle.std.proofs.lemmas.Bool.Decides.{nat_tests}
-use Rattle.mspec.specs.KeyBytes.{key_bytes, subtree_end}
-use Rattle.mspec.specs.KeyLaws.{NoneEmpty}
-use Rattle.mspec.specs.Number.{significant_digits}
-use Rattle.mspec.specs.Trees.{front, last}
-use Rattle.mkey.specs.Way.{way}
-use Rattle.mkey.proofs.Children.{no_list, whole}
-use Rattle.mglobal.specs.Next.{BoundsOnward}
+use Rattle.mglobal.proofs.GlobalWords.{◌≡◌, ◌<◌, [], length, ap, sym, subst, ◌∙◌, arith, nat_tests, key_bytes, subtree_end, NoneEmpty, significant_digits, front, last, way, no_list, whole, BoundsOnward}
 use Rattle.mglobal.proofs.Sides.{some_each, bounds_all, bounds_behind, bounds_before, whole_is}
 use Rattle.mglobal.proofs.bounds.bounds.Goals as goal
 

@@ -1,7 +1,6 @@
 -- SPDX-License-Identifier: Apache-2.0
-use Rattle.std.proofs.Common.{rules}
+use Rattle.mglobal.proofs.GlobalWords.{rules, IsApart}
 use Rattle.std.proofs.lemmas.Fn.{All-from_retain}
-use Rattle.mglobal.specs.Copies.{IsApart}
 use Rattle.mglobal.proofs.copies.forget.Goals as goal
 
 pub returns-clause-apart : goal.returns-clause-apart

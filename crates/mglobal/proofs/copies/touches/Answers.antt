@@ -1,9 +1,5 @@
 -- SPDX-License-Identifier: Apache-2.0
-use Rattle.std.proofs.Common.{◌∙◌, nat_eq}
-use Rattle.std.specs.List.{starts_with}
-use Rattle.mspec.specs.Globals.{is_node_within}
-use Rattle.mkey.specs.Key.{none_empty}
-use Rattle.mkey.proofs.NodeFronts.{starts_node}
+use Rattle.mglobal.proofs.GlobalWords.{◌∙◌, nat_eq, starts_with, is_node_within, none_empty, starts_node}
 use Rattle.mglobal.proofs.CopyLaws.{either_first, either_second}
 use Rattle.mglobal.proofs.copies.touches.Goals as goal
 

@@ -1,9 +1,5 @@
 -- SPDX-License-Identifier: Apache-2.0
-use Rattle.std.proofs.Common.{◌≡◌, true, false, Some, sym, ap, ◌∙◌}
-use Rattle.std.specs.Ordering.{is_lt}
-use Rattle.mspec.specs.Globals.{order_at}
-use Rattle.mspec.specs.Trees.{Forward}
-use Rattle.mglobal.specs.Lines.{line_at}
+use Rattle.mglobal.proofs.GlobalWords.{◌≡◌, true, false, Some, sym, ap, ◌∙◌, is_lt, order_at, Forward, line_at}
 use Rattle.mglobal.proofs.LineWalks.{next_behind}
 use Rattle.mglobal.proofs.lines.next_place.Goals as goal
 

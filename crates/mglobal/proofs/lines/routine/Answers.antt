@@ -1,11 +1,5 @@
 -- SPDX-License-Identifier: Apache-2.0
-use Rattle.std.proofs.Common.{◌≡◌, ◌<◌, ◌≤◌, ◌++◌, Option, Some, None, length, ap, sym, subst, ◌∙◌, refl, arith, append-nil, append_assoc}
-use Rattle.std.proofs.lemmas.List.Elements.{All-nil}
-use Rattle.mspec.specs.Globals.{order_at}
-use Rattle.mspec.specs.KeyBytes.{IsAscii}
-use Rattle.mspec.specs.Trees.{Forward}
-use Rattle.mstore.specs.Held.{AreHeld}
-use Rattle.mglobal.specs.Lines.{line_at, line_in, lines_behind}
+use Rattle.mglobal.proofs.GlobalWords.{◌≡◌, ◌<◌, ◌≤◌, ◌++◌, Option, Some, None, length, ap, sym, subst, ◌∙◌, refl, arith, append-nil, append_assoc, All-nil, order_at, IsAscii, Forward, AreHeld, line_at, line_in, lines_behind}
 use Rattle.mglobal.proofs.LineWalks.{all_lines, no_more, next_line}
 use Rattle.mglobal.proofs.PlacesLeft.{fewer_left}
 use Rattle.mglobal.proofs.lines.routine.Goals as goal

@@ -1,9 +1,5 @@
 -- SPDX-License-Identifier: Apache-2.0
-use Rattle.std.proofs.Common.{◌≡◌, ◌≤◌, ◌++◌, length}
-use Rattle.mspec.specs.Globals.{lines_of}
-use Rattle.mspec.specs.KeyBytes.{IsAscii}
-use Rattle.mstore.specs.Held.{AreHeld}
-use Rattle.mglobal.specs.Lines.{lines_behind}
+use Rattle.mglobal.proofs.GlobalWords.{◌≡◌, ◌≤◌, ◌++◌, length, lines_of, IsAscii, AreHeld, lines_behind}
 use Rattle.mglobal.proofs.PlacesLeft.{places_left}
 use Rattle.mglobal.proofs.lines.routine.Given as goal
 

@@ -1,5 +1,5 @@
 -- SPDX-License-Identifier: Apache-2.0
-use Rattle.std.proofs.Common.{Err, ap}
+use Rattle.mhost.proofs.HostWords.{Err, ap}
 use Rattle.mhost.proofs.OnlyTold.{device_failed}
 use Rattle.mhost.proofs.only_job.only_in.Goals as goal
 

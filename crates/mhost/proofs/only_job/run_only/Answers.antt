@@ -1,7 +1,6 @@
 -- SPDX-License-Identifier: Apache-2.0
-use Rattle.std.proofs.Common.{refl, sym, Ok, Err}
+use Rattle.mhost.proofs.HostWords.{refl, sym, Ok, Err, BeginsSomehow}
 use Rattle.mhost.proofs.OnlyTold.{ends_early, settings_fit, store_fits, has_account, its_name, only_no_settings, empty_no_settings, empty_no_store, only_no_file, over_memory, over_file}
-use Rattle.mhost.specs.Only.{BeginsSomehow}
 use Rattle.mhost.specs.declared.fault.RunFault.TheVariants as early
 use Rattle.mhost.proofs.only_job.run_only.Goals as goal
 

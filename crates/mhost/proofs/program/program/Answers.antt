@@ -1,5 +1,5 @@
 -- SPDX-License-Identifier: Apache-2.0
-use Rattle.std.proofs.Common.{inr}
+use Rattle.mhost.proofs.HostWords.{inr}
 use Rattle.mhost.proofs.program.program.Goals as goal
 
 pub returns : goal.returns

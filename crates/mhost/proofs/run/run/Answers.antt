@@ -1,5 +1,5 @@
 -- SPDX-License-Identifier: Apache-2.0
-use Rattle.std.proofs.Common.{refl}
+use Rattle.mhost.proofs.HostWords.{refl}
 use Rattle.mhost.proofs.Early.{no_settings, no_store}
 use Rattle.mhost.proofs.Served.{answered, broken}
 use Rattle.mhost.proofs.run.run.Goals as goal

@@ -1,5 +1,5 @@
 -- SPDX-License-Identifier: Apache-2.0
-use Rattle.std.proofs.Common.{refl}
+use Rattle.mhost.proofs.HostWords.{refl}
 use Rattle.mhost.proofs.Early.{no_file, no_settings_over_file}
 use Rattle.mhost.proofs.Served.{broken, followed}
 use Rattle.mhost.proofs.run.run_file.Goals as goal

@@ -1,6 +1,6 @@
 -- SPDX-License-Identifier: Apache-2.0
 use Rattle.mhost.proofs.run.serve_over.Goals as goal
-use Rattle.mworld.specs.View.{world_of}
+use Rattle.mhost.proofs.HostWords.{world_of}
 
 pub returns-in-Ok-clause-served : goal.returns-in-Ok-clause-served
 returns-in-Ok-clause-served g c = record {

@@ -1,6 +1,5 @@
 -- SPDX-License-Identifier: Apache-2.0
-use Rattle.std.proofs.Common.{ap, ◌∙◌}
-use Rattle.mmeaning.specs.History.{opening}
+use Rattle.mhost.proofs.HostWords.{ap, ◌∙◌, opening}
 use Rattle.mstore.specs.InMemory.{over_memory}
 use Rattle.mstore.specs.Database.{stored}
 use Rattle.mhost.proofs.worlds.memory_world.Goals as goal

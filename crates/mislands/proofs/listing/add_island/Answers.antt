@@ -1,9 +1,6 @@
 -- SPDX-License-Identifier: Apache-2.0
-use Rattle.std.proofs.Common.{◌≡◌, ℕ, List, ◌++◌, [], ◌∷◌, false, refl, sym, ap, subst, ◌∙◌}
-use Rattle.std.proofs.lemmas.List.{map_push}
-use Rattle.mgrant.specs.Islands.{IsIslandAt}
-use Rattle.mislands.specs.Listing.{names_at, named, is_among, AreIslands, adds, has}
-use Rattle.mislands.specs.Written.{Island}
+use Rattle.mislands.proofs.IslandWords.{◌≡◌, ℕ, List, ◌++◌, [], ◌∷◌, false, refl, sym, ap, subst, ◌∙◌, map_push, IsIslandAt, named, is_among, AreIslands, adds, has, Island}
+use Rattle.mislands.specs.Listing.{names_at}
 use Rattle.mislands.proofs.Lines.{known_name, name_is}
 use Rattle.mislands.proofs.listing.add_island.Goals as goal
 

@@ -1,7 +1,5 @@
 -- SPDX-License-Identifier: Apache-2.0
-use Rattle.std.proofs.Common.{sym, ap, ◌∙◌}
-use Rattle.mspec.specs.Trees.{text_eq}
-use Rattle.mspec.specs.Access.{name_at}
+use Rattle.mislands.proofs.IslandWords.{sym, ap, ◌∙◌, text_eq, name_at}
 use Rattle.mislands.proofs.Lines.{any_here, none_more}
 use Rattle.mislands.proofs.listing.has_account.Goals as goal
 

@@ -1,7 +1,5 @@
 -- SPDX-License-Identifier: Apache-2.0
-use Rattle.std.proofs.Common.{◌≡◌, false, take}
-use Rattle.std.specs.List.{list_any}
-use Rattle.mspec.specs.Trees.{text_eq}
+use Rattle.mislands.proofs.IslandWords.{◌≡◌, false, take, list_any, text_eq}
 use Rattle.mislands.specs.Listing.{names_at}
 use Rattle.mislands.proofs.listing.has_account.Given as goal
 

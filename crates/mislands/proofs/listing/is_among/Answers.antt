@@ -1,9 +1,6 @@
 -- SPDX-License-Identifier: Apache-2.0
-use Rattle.std.proofs.Common.{ap, sym, ◌∙◌}
-use Rattle.std.specs.List.{list_any}
-use Rattle.mspec.specs.Trees.{text_eq}
+use Rattle.mislands.proofs.IslandWords.{ap, sym, ◌∙◌, list_any, text_eq, Island}
 use Rattle.mislands.specs.Listing.{names_at}
-use Rattle.mislands.specs.Written.{Island}
 use Rattle.mislands.proofs.Lines.{any_here}
 use Rattle.mislands.proofs.listing.is_among.Goals as goal
 

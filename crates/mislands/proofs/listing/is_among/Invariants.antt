@@ -1,6 +1,5 @@
 -- SPDX-License-Identifier: Apache-2.0
-use Rattle.std.proofs.Common.{◌≡◌, false, take}
-use Rattle.mislands.specs.Listing.{named, is_among}
+use Rattle.mislands.proofs.IslandWords.{◌≡◌, false, take, named, is_among}
 use Rattle.mislands.proofs.listing.is_among.Given as goal
 
 abbrev pub invariant-loop-island : goal.invariant-loop-island

@@ -1,11 +1,5 @@
 -- SPDX-License-Identifier: Apache-2.0
-use Rattle.std.proofs.Common.{◌≡◌, [], true, get_or, sym, ap, subst, ◌∙◌}
-use Rattle.std.specs.Cmp.Lexicographic.{bytes_decides}
-use Rattle.std.specs.List.{list_any}
-use Rattle.mspec.specs.Node.{Text}
-use Rattle.mspec.specs.Trees.{text_eq}
-use Rattle.mgrant.specs.Words.{Bytes}
-use Rattle.mislands.specs.Listing.{named, AreIslands, none}
+use Rattle.mislands.proofs.IslandWords.{◌≡◌, [], true, get_or, sym, ap, subst, ◌∙◌, bytes_decides, list_any, Text, text_eq, Bytes, named, AreIslands, none}
 use Rattle.mislands.proofs.Lines.{any_here}
 use Rattle.mislands.proofs.listing.islands.Goals as goal
 

@@ -1,7 +1,5 @@
 -- SPDX-License-Identifier: Apache-2.0
-use Rattle.std.proofs.Common.{take}
-use Rattle.mgrant.specs.Words.{texts_of}
-use Rattle.mislands.specs.Listing.{named, AreIslands}
+use Rattle.mislands.proofs.IslandWords.{take, texts_of, named, AreIslands}
 use Rattle.mislands.proofs.listing.islands.Given as goal
 
 abbrev pub invariant-loop-name : goal.invariant-loop-name

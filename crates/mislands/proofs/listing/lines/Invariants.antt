@@ -1,6 +1,5 @@
 -- SPDX-License-Identifier: Apache-2.0
-use Rattle.std.proofs.Common.{◌≡◌, take}
-use Rattle.mislands.specs.Listing.{named, lines_of}
+use Rattle.mislands.proofs.IslandWords.{◌≡◌, take, named, lines_of}
 use Rattle.mislands.proofs.listing.lines.Given as goal
 
 abbrev pub invariant-loop-island : goal.invariant-loop-island

@@ -1,6 +1,5 @@
 -- SPDX-License-Identifier: Apache-2.0
-use Rattle.std.proofs.Common.{ap, ◌∙◌}
-use Rattle.mislands.specs.Listing.{named, names_of, lines_of, AreIslands}
+use Rattle.mislands.proofs.IslandWords.{ap, ◌∙◌, named, names_of, lines_of, AreIslands}
 use Rattle.mislands.proofs.Once.{each_in_one}
 use Rattle.mislands.proofs.listing.listing.Goals as goal
 

@@ -1,5 +1,5 @@
 -- SPDX-License-Identifier: Apache-2.0
-use Rattle.std.proofs.Common.{◌≡◌, ◌++◌, take}
+use Rattle.mislands.proofs.IslandWords.{◌≡◌, ◌++◌, take}
 use Rattle.mislands.specs.Listing.{names_at}
 use Rattle.mislands.proofs.Lines.{behind_spaces}
 use Rattle.mislands.proofs.listing.push_names.Given as goal

@@ -1,14 +1,7 @@
 -- SPDX-License-Identifier: Apache-2.0
-use Rattle.std.proofs.Common.{◌≡◌, Some, option_map, sym, ap, ◌∙◌}
-use Rattle.std.proofs.lemmas.Option.{none-some, same_Some}
-use Rattle.toml.specs.Data.{Members}
+use Rattle.mislands.proofs.IslandWords.{◌≡◌, Some, option_map, sym, ap, ◌∙◌, none-some, same_Some, Members, table_view, Text, Settings, written_names, texts_in, names_of}
 use Rattle.toml.specs.Parse.{parse_document}
-use Rattle.toml.specs.View.{table_view}
-use Rattle.mspec.specs.Node.{Text}
-use Rattle.mspec.specs.Access.{Settings}
 use Rattle.mgrant.specs.Reading.{IsRead}
-use Rattle.mislands.specs.Written.{written_names, texts_in}
-use Rattle.mislands.specs.Listing.{names_of}
 use Rattle.mislands.proofs.NamesRead.{names_written}
 use Rattle.mislands.proofs.names.names_of.Goals as goal
 

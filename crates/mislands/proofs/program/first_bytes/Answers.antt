@@ -1,6 +1,5 @@
 -- SPDX-License-Identifier: Apache-2.0
-use Rattle.std.proofs.Common.{◌≡◌, ◌++◌, ℕ, ◌≤◌, List, length, take, subst, ap, ◌∙◌, arith, option_map, IfSome}
-use Rattle.std.proofs.lemmas.Option.{IfSome_then}
+use Rattle.mislands.proofs.IslandWords.{◌≡◌, ◌++◌, ℕ, ◌≤◌, List, length, take, subst, ap, ◌∙◌, arith, option_map, IfSome, IfSome_then}
 use Rattle.mislands.proofs.Taken.{all_taken}
 use Rattle.mislands.proofs.program.first_bytes.Goals as goal
 

@@ -1,6 +1,5 @@
 -- SPDX-License-Identifier: Apache-2.0
-use Rattle.std.proofs.Common.{◌≡◌, ◌<◌, ◌-◌, Some, length, length-drop, sym, subst, arith}
-use Rattle.std.proofs.lemmas.Bool.Decides.{nat_tests}
+use Rattle.mkey.proofs.KeyWords.{◌≡◌, ◌<◌, ◌-◌, Some, length, length-drop, sym, subst, arith, nat_tests}
 use Rattle.mkey.proofs.KeyWalks.{Walked, walk_on, walk_ends}
 use Rattle.mkey.proofs.ancestors.last_subscript.Goals as goal
 

@@ -1,8 +1,6 @@
 -- SPDX-License-Identifier: Apache-2.0
-use Rattle.std.proofs.Common.{◌≡◌, ◌≤◌, length}
+use Rattle.mkey.proofs.KeyWords.{◌≡◌, ◌≤◌, length, key_bytes, significant_digits}
 use Rattle.mspec.specs.Act.{Node}
-use Rattle.mspec.specs.KeyBytes.{key_bytes}
-use Rattle.mspec.specs.Number.{significant_digits}
 use Rattle.mkey.proofs.KeyWalks.{Walked}
 use Rattle.mkey.proofs.ancestors.last_subscript.Given as goal
 

@@ -1,6 +1,5 @@
 -- SPDX-License-Identifier: Apache-2.0
-use Rattle.std.proofs.Common.{length, ap, arith, length-append}
-use Rattle.mspec.specs.KeyBytes.{subscript_bytes}
+use Rattle.mkey.proofs.KeyWords.{length, ap, arith, length-append, subscript_bytes}
 use Rattle.mkey.proofs.SubscriptFronts.{number_long}
 use Rattle.mkey.proofs.ancestors.number_len.Goals as goal
 

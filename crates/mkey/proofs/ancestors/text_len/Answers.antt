@@ -1,6 +1,5 @@
 -- SPDX-License-Identifier: Apache-2.0
-use Rattle.std.proofs.Common.{◌≡◌, Some, None, length, sym, ◌∙◌, ap, arith}
-use Rattle.std.specs.List.{position}
+use Rattle.mkey.proofs.KeyWords.{◌≡◌, Some, None, length, sym, ◌∙◌, ap, arith, position}
 use Rattle.mkey.proofs.KeyWalks.{is_zero, zero_at, length-text_bytes}
 use Rattle.mkey.proofs.ancestors.text_len.Goals as goal
 

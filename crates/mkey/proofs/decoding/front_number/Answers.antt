@@ -1,6 +1,5 @@
 -- SPDX-License-Identifier: Apache-2.0
-use Rattle.std.proofs.Common.{ap, ◌∙◌, arith}
-use Rattle.mspec.specs.KeyBytes.{big_endian, number_bytes}
+use Rattle.mkey.proofs.KeyWords.{ap, ◌∙◌, arith, big_endian, number_bytes}
 use Rattle.mkey.proofs.TextFronts.{match_map}
 use Rattle.mkey.proofs.SubscriptFronts.{too_short, no_number}
 use Rattle.mkey.proofs.decoding.front_number.Goals as goal

@@ -1,9 +1,5 @@
 -- SPDX-License-Identifier: Apache-2.0
-use Rattle.std.proofs.Common.{◌≡◌, ◌++◌, ◌∙◌, Some, ap, subst, sym}
-use Rattle.mspec.specs.NumberText.{number_text, IsCanonical}
-use Rattle.mspec.specs.NodeOrder.{canonical_value}
-use Rattle.mnum.specs.Num.{units}
-use Rattle.mnum.proofs.Ranges.{units_number}
+use Rattle.mkey.proofs.KeyWords.{◌≡◌, ◌++◌, ◌∙◌, Some, ap, subst, sym, number_text, IsCanonical, canonical_value, units, units_number}
 use Rattle.mkey.proofs.TextFronts.{match_map, not_so}
 use Rattle.mkey.proofs.SubscriptFronts.{canonical_text, text_where_canonical, no_other_text, not_canonical}
 use Rattle.mkey.proofs.decoding.numeric_sub.Goals as goal

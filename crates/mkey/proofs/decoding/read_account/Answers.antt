@@ -1,5 +1,5 @@
 -- SPDX-License-Identifier: Apache-2.0
-use Rattle.mspec.specs.KeyBytes.{IsAccountName}
+use Rattle.mkey.proofs.KeyWords.{IsAccountName}
 use Rattle.mkey.proofs.TextFronts.{other_found, not_so}
 use Rattle.mkey.proofs.decoding.read_account.Goals as goal
 

@@ -1,6 +1,5 @@
 -- SPDX-License-Identifier: Apache-2.0
-use Rattle.std.proofs.Common.{◌++◌, ap, sym, ◌∙◌}
-use Rattle.mspec.specs.KeyBytes.{big_endian}
+use Rattle.mkey.proofs.KeyWords.{◌++◌, ap, sym, ◌∙◌, big_endian}
 use Rattle.mkey.proofs.NumberBytes.{word_pair}
 use Rattle.mkey.proofs.decoding.read_bytes.Goals as goal
 

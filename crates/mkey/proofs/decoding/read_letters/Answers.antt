@@ -1,7 +1,5 @@
 -- SPDX-License-Identifier: Apache-2.0
-use Rattle.std.proofs.Common.{subst, sym}
-use Rattle.mspec.specs.NumberText.{IsCanonical}
-use Rattle.mspec.proofs.NodeOrders.{none_of_other}
+use Rattle.mkey.proofs.KeyWords.{subst, sym, IsCanonical, none_of_other}
 use Rattle.mkey.proofs.ShortTexts.{none_where_other}
 use Rattle.mkey.proofs.TextFronts.{not_so}
 use Rattle.mkey.proofs.SubscriptFronts.{other_letters, letters_found}

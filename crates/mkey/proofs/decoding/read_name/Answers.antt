@@ -1,5 +1,5 @@
 -- SPDX-License-Identifier: Apache-2.0
-use Rattle.mspec.specs.Names.{IsName}
+use Rattle.mkey.proofs.KeyWords.{IsName}
 use Rattle.mkey.proofs.TextFronts.{other_found, no_name, not_so}
 use Rattle.mkey.proofs.decoding.read_name.Goals as goal
 

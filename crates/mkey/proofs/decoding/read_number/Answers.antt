@@ -1,9 +1,5 @@
 -- SPDX-License-Identifier: Apache-2.0
-use Rattle.std.proofs.Common.{◌∷◌, sym, subst}
-use Rattle.mnum.specs.Num.{units}
-use Rattle.mnum.proofs.Ranges.{units_number}
-use Rattle.mspec.specs.KeyBytes.{subscript_bytes}
-use Rattle.mkey.specs.Front.{IsFront}
+use Rattle.mkey.proofs.KeyWords.{◌∷◌, sym, subst, units, units_number, subscript_bytes, IsFront}
 use Rattle.mkey.proofs.TextFronts.{match_map}
 use Rattle.mkey.proofs.SubscriptFronts.{no_such_number, no_number_of_more, number_begins}
 use Rattle.mkey.proofs.decoding.read_number.Goals as goal

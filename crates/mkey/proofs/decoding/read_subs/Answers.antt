@@ -1,9 +1,5 @@
 -- SPDX-License-Identifier: Apache-2.0
-use Rattle.std.proofs.Common.{◌≡◌, ◌<◌, ◌++◌, ◌∙◌, length, drop, All, sym, ap, subst, arith}
-use Rattle.std.proofs.lemmas.Bool.Decides.{nat_tests}
-use Rattle.std.proofs.lemmas.List.Elements.{All-push}
-use Rattle.mspec.specs.KeyBytes.{subscripts_bytes}
-use Rattle.mkey.specs.Front.{IsSub}
+use Rattle.mkey.proofs.KeyWords.{◌≡◌, ◌<◌, ◌++◌, ◌∙◌, length, drop, All, sym, ap, subst, arith, nat_tests, All-push, subscripts_bytes, IsSub}
 use Rattle.mkey.proofs.SubscriptLists.{too_many_subs, no_more_subs, one_more_sub}
 use Rattle.mkey.proofs.decoding.read_subs.Goals as goal
 

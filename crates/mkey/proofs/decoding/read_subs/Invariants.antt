@@ -1,7 +1,5 @@
 -- SPDX-License-Identifier: Apache-2.0
-use Rattle.std.proofs.Common.{◌≡◌, ◌-◌, ◌≤◌, ◌++◌, All, vec_len}
-use Rattle.mspec.specs.KeyBytes.{subscripts_bytes}
-use Rattle.mkey.specs.Front.{IsSub}
+use Rattle.mkey.proofs.KeyWords.{◌≡◌, ◌-◌, ◌≤◌, ◌++◌, All, vec_len, subscripts_bytes, IsSub}
 use Rattle.mkey.proofs.decoding.read_subs.Given as goal
 
 abbrev pub invariant-loop-rest : goal.invariant-loop-rest

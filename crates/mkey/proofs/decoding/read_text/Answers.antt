@@ -1,7 +1,5 @@
 -- SPDX-License-Identifier: Apache-2.0
-use Rattle.std.proofs.Common.{◌++◌, ◌+◌, ◌∙◌, drop, sym, ap, subst, All, ◌<◌}
-use Rattle.mspec.specs.KeyBytes.{text_bytes}
-use Rattle.mkey.specs.Front.{IsFront}
+use Rattle.mkey.proofs.KeyWords.{◌++◌, ◌+◌, ◌∙◌, drop, sym, ap, subst, All, ◌<◌, text_bytes, IsFront}
 use Rattle.mkey.proofs.TextFronts.{raised_text, match_map, text_more, text_found, text_other, text_open}
 use Rattle.mkey.proofs.decoding.read_text.Goals as goal
 

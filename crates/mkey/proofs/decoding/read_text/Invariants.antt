@@ -1,5 +1,5 @@
 -- SPDX-License-Identifier: Apache-2.0
-use Rattle.std.proofs.Common.{◌≡◌, ◌++◌, drop}
+use Rattle.mkey.proofs.KeyWords.{◌≡◌, ◌++◌, drop}
 use Rattle.mkey.proofs.TextFronts.{raised_text}
 use Rattle.mkey.proofs.decoding.read_text.Given as goal
 

@@ -1,9 +1,7 @@
 -- SPDX-License-Identifier: Apache-2.0
-use Rattle.std.proofs.Common.{◌≡◌, [], ◌∷◌, ◌++◌, ◌+◌, ◌≤◌, ◌∙◌, ap, append_assoc, arith, rules, length, vec_len, vec_capacity}
-use Rattle.std.proofs.lemmas.Int.{to_z-of_z}
+use Rattle.mkey.proofs.KeyWords.{◌≡◌, [], ◌∷◌, ◌++◌, ◌+◌, ◌≤◌, ◌∙◌, ap, append_assoc, arith, rules, length, vec_len, vec_capacity, to_z-of_z, raised, number_bytes}
 use mir.Syntax.{w128}
 use mir.Val.{SFits}
-use Rattle.mspec.specs.KeyBytes.{raised, number_bytes}
 use Rattle.mkey.proofs.NumberBytes.{bytes_of_number}
 use Rattle.mkey.proofs.Pushes.{put_where_room}
 use Rattle.mkey.proofs.encoding.push_number.Goals as goal

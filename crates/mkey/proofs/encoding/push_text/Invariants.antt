@@ -1,6 +1,5 @@
 -- SPDX-License-Identifier: Apache-2.0
-use Rattle.std.proofs.Common.{◌≡◌, ◌+◌, ◌++◌, drop, vec_len, vec_capacity}
-use Rattle.mspec.specs.KeyBytes.{text_bytes}
+use Rattle.mkey.proofs.KeyWords.{◌≡◌, ◌+◌, ◌++◌, drop, vec_len, vec_capacity, text_bytes}
 use Rattle.mkey.proofs.encoding.push_text.Given as goal
 
 abbrev pub invariant-loop-c : goal.invariant-loop-c

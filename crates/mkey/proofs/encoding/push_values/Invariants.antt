@@ -1,7 +1,5 @@
 -- SPDX-License-Identifier: Apache-2.0
-use Rattle.std.proofs.Common.{◌≡◌, ◌++◌, drop}
-use Rattle.mspec.specs.KeyBytes.{subscripts_bytes}
-use Rattle.mspec.specs.Number.{significant_digits}
+use Rattle.mkey.proofs.KeyWords.{◌≡◌, ◌++◌, drop, subscripts_bytes, significant_digits}
 use Rattle.mkey.proofs.encoding.push_values.Given as goal
 
 abbrev pub invariant-loop-value : goal.invariant-loop-value

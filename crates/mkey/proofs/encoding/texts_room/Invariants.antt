@@ -1,6 +1,5 @@
 -- SPDX-License-Identifier: Apache-2.0
-use Rattle.std.proofs.Common.{◌*◌, ◌<◌, ◌≤◌, ℕ, [], get_or}
-use Rattle.mspec.specs.KeyBytes.{IsAscii}
+use Rattle.mkey.proofs.KeyWords.{◌*◌, ◌<◌, ◌≤◌, ℕ, [], get_or, IsAscii}
 use Rattle.mkey.proofs.encoding.texts_room.Given as goal
 
 abbrev pub invariant-loop-text : goal.invariant-loop-text

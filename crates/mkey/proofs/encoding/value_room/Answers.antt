@@ -1,8 +1,5 @@
 -- SPDX-License-Identifier: Apache-2.0
-use Rattle.std.proofs.Common.{sym, ap, subst, ◌∙◌}
-use Rattle.mspec.specs.KeyBytes.{IsAscii}
-use Rattle.mvalue.specs.Texts.{kind_text}
-use Rattle.mvalue.proofs.AsciiNumbers.{text_ascii}
+use Rattle.mkey.proofs.KeyWords.{sym, ap, subst, ◌∙◌, IsAscii, kind_text, text_ascii}
 use Rattle.mkey.proofs.encoding.value_room.Goals as goal
 
 pub returns-in-Number-clause-ascii : goal.returns-in-Number-clause-ascii

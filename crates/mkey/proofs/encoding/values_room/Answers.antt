@@ -1,7 +1,5 @@
 -- SPDX-License-Identifier: Apache-2.0
-use Rattle.std.proofs.Common.{[], arith}
-use Rattle.std.proofs.lemmas.List.Elements.{All-from_get_or}
-use Rattle.mspec.specs.KeyBytes.{IsAscii}
+use Rattle.mkey.proofs.KeyWords.{[], arith, All-from_get_or, IsAscii}
 use Rattle.mkey.proofs.encoding.values_room.Goals as goal
 
 pub returns-clause-ascii : goal.returns-clause-ascii

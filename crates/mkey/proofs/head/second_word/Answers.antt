@@ -1,7 +1,5 @@
 -- SPDX-License-Identifier: Apache-2.0
-use Rattle.std.proofs.Common.{ap, sym, ◌∙◌}
-use Rattle.std.proofs.lemmas.List.{drop_all}
-use Rattle.mkey.specs.Head.{head_number}
+use Rattle.mkey.proofs.KeyWords.{ap, sym, ◌∙◌, drop_all, head_number}
 use Rattle.mkey.proofs.Heads.{head_nil}
 use Rattle.mkey.proofs.head.second_word.Goals as goal
 

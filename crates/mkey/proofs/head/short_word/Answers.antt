@@ -1,6 +1,5 @@
 -- SPDX-License-Identifier: Apache-2.0
-use Rattle.std.proofs.Common.{◌≡◌, ◌+◌, ◌*◌, ap, ap₂, sym, ◌∙◌, get_or, arith}
-use Rattle.std.specs.Option.{unwrap_or}
+use Rattle.mkey.proofs.KeyWords.{◌≡◌, ◌+◌, ◌*◌, ap, ap₂, sym, ◌∙◌, get_or, arith, unwrap_or}
 use Rattle.mkey.proofs.Heads.{fitting_bytes, head_none, head_more, head_fits}
 use Rattle.mkey.proofs.head.short_word.Goals as goal
 

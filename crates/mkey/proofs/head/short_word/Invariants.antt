@@ -1,6 +1,5 @@
 -- SPDX-License-Identifier: Apache-2.0
-use Rattle.std.proofs.Common.{◌≡◌}
-use Rattle.mkey.specs.Head.{head_number}
+use Rattle.mkey.proofs.KeyWords.{◌≡◌, head_number}
 use Rattle.mkey.proofs.head.short_word.Given as goal
 
 -- the number of the bytes so far

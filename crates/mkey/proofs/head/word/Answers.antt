@@ -1,8 +1,5 @@
 -- SPDX-License-Identifier: Apache-2.0
-use Rattle.std.proofs.Common.{◌≡◌, ap, sym, ◌∙◌, arith, drop, length}
-use Rattle.std.proofs.lemmas.Bool.Decides.{nat_tests}
-use Rattle.std.proofs.lemmas.List.{nil_from_length}
-use Rattle.mkey.specs.Head.{head_number}
+use Rattle.mkey.proofs.KeyWords.{◌≡◌, ap, sym, ◌∙◌, arith, drop, length, nat_tests, nil_from_length, head_number}
 use Rattle.mkey.proofs.Heads.{head_of_number, head_nil}
 use Rattle.mkey.proofs.head.word.Goals as goal
 

@@ -1,7 +1,5 @@
 -- SPDX-License-Identifier: Apache-2.0
-use Rattle.std.proofs.Common.{◌≡◌, length}
-use Rattle.std.specs.Cmp.Lexicographic.{slice_cmp}
-use Rattle.std.specs.Ordering.{nat_cmp}
+use Rattle.mkey.proofs.KeyWords.{◌≡◌, length, slice_cmp, nat_cmp}
 use Rattle.mkey.proofs.order.compare.Given as goal
 
 -- what is left decides as the whole does

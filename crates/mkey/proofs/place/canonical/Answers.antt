@@ -1,7 +1,6 @@
 -- SPDX-License-Identifier: Apache-2.0
-use Rattle.std.proofs.Common.{◌≡◌, Some, sym, ◌∙◌, ap, rules}
+use Rattle.mkey.proofs.KeyWords.{◌≡◌, Some, sym, ◌∙◌, ap, rules, to_z-of_z}
 use Rattle.std.specs.Prelude.{IsTrue, false}
-use Rattle.std.proofs.lemmas.Int.{to_z-of_z}
 use mir.Syntax.{w128}
 use mir.Val.{SFits, to_z, of_z}
 use Rattle.mkey.proofs.ShortTexts.{value_where_canonical, none_where_other}

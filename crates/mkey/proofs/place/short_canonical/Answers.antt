@@ -1,6 +1,5 @@
 -- SPDX-License-Identifier: Apache-2.0
-use Rattle.std.proofs.Common.{◌<◌, length, arith}
-use Rattle.std.proofs.lemmas.Bool.Decides.{nat_tests}
+use Rattle.mkey.proofs.KeyWords.{◌<◌, length, arith, nat_tests}
 use Rattle.mkey.proofs.ShortTexts.{short_values}
 use Rattle.mkey.proofs.place.short_canonical.Goals as goal
 

@@ -1,9 +1,7 @@
 -- SPDX-License-Identifier: Apache-2.0
-use Rattle.std.proofs.Common.{◌≡◌, [], ◌∷◌, ◌++◌, ◌+◌, ◌≤◌, ◌∙◌, ap, append_assoc, arith, rules, length, length-append}
-use Rattle.std.proofs.lemmas.Int.{to_z-of_z}
+use Rattle.mkey.proofs.KeyWords.{◌≡◌, [], ◌∷◌, ◌++◌, ◌+◌, ◌≤◌, ◌∙◌, ap, append_assoc, arith, rules, length, length-append, to_z-of_z, raised, number_bytes}
 use mir.Syntax.{w128}
 use mir.Val.{SFits}
-use Rattle.mspec.specs.KeyBytes.{raised, number_bytes}
 use Rattle.mkey.proofs.NumberBytes.{bytes_of_number}
 use Rattle.mkey.proofs.Pushes.{put_as_told}
 use Rattle.mkey.proofs.short.push_number.Goals as goal

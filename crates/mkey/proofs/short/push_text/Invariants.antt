@@ -1,6 +1,5 @@
 -- SPDX-License-Identifier: Apache-2.0
-use Rattle.std.proofs.Common.{◌≡◌, ◌+◌, ◌++◌, drop, length}
-use Rattle.mspec.specs.KeyBytes.{text_bytes}
+use Rattle.mkey.proofs.KeyWords.{◌≡◌, ◌+◌, ◌++◌, drop, length, text_bytes}
 use Rattle.mkey.proofs.short.push_text.Given as goal
 
 abbrev pub invariant-loop-c : goal.invariant-loop-c

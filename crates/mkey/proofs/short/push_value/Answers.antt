@@ -1,13 +1,7 @@
 -- SPDX-License-Identifier: Apache-2.0
-use Rattle.std.proofs.Common.{◌≡◌, ◌∷◌, ◌++◌, ap, sym, ◌∙◌, rules}
-use Rattle.std.proofs.lemmas.Int.{to_z-of_z}
+use Rattle.mkey.proofs.KeyWords.{◌≡◌, ◌∷◌, ◌++◌, ap, sym, ◌∙◌, rules, to_z-of_z, units, number_bytes, subscript_bytes, significant_digits, number_text, kind_text}
 use mir.Syntax.{w128}
 use mir.Val.{SFits, to_z, of_z}
-use Rattle.mnum.specs.Num.{units}
-use Rattle.mspec.specs.KeyBytes.{number_bytes, subscript_bytes}
-use Rattle.mspec.specs.Number.{significant_digits}
-use Rattle.mspec.specs.NumberText.{number_text}
-use Rattle.mvalue.specs.Texts.{kind_text}
 use Rattle.mkey.proofs.NumericValues.{bytes_of_a_number}
 use Rattle.mkey.proofs.short.push_value.Goals as goal
 

@@ -1,6 +1,5 @@
 -- SPDX-License-Identifier: Apache-2.0
-use Rattle.std.proofs.Common.{◌≤◌, length, refl, sym, ap, subst, ◌∙◌}
-use Rattle.mvalue.specs.Texts.{kind_text}
+use Rattle.mkey.proofs.KeyWords.{◌≤◌, length, refl, sym, ap, subst, ◌∙◌, kind_text}
 use Rattle.mkey.proofs.NumericValues.{number_is_sub}
 use Rattle.mkey.proofs.subs.is_value_short.Goals as goal
 

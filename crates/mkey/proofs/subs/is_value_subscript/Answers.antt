@@ -1,7 +1,5 @@
 -- SPDX-License-Identifier: Apache-2.0
-use Rattle.std.proofs.Common.{refl, sym, ap, subst, ◌∙◌}
-use Rattle.mspec.specs.KeyBytes.{IsSubscript}
-use Rattle.mvalue.specs.Texts.{kind_text}
+use Rattle.mkey.proofs.KeyWords.{refl, sym, ap, subst, ◌∙◌, IsSubscript, kind_text}
 use Rattle.mkey.proofs.NumericValues.{number_is_sub}
 use Rattle.mkey.proofs.subs.is_value_subscript.Goals as goal
 

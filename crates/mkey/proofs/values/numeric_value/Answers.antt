@@ -1,8 +1,5 @@
 -- SPDX-License-Identifier: Apache-2.0
-use Rattle.std.proofs.Common.{◌∷◌, sym, subst}
-use Rattle.mspec.specs.KeyBytes.{subscript_bytes}
-use Rattle.mspec.specs.Number.{significant_digits}
-use Rattle.mkey.specs.Front.{IsFront, IsSub}
+use Rattle.mkey.proofs.KeyWords.{◌∷◌, sym, subst, subscript_bytes, significant_digits, IsFront, IsSub}
 use Rattle.mkey.proofs.NumericValues.{number_front, number_is_sub}
 use Rattle.mkey.proofs.values.numeric_value.Goals as goal
 

@@ -1,7 +1,6 @@
 -- SPDX-License-Identifier: Apache-2.0
-use Rattle.std.proofs.Common.{rules}
+use Rattle.mlocal.proofs.LocalWords.{rules, is_among}
 use Rattle.std.proofs.lemmas.Fn.{filter_same}
-use Rattle.mspec.specs.Scopes.{is_among}
 use Rattle.mlocal.proofs.scope.common.Goals as goal
 
 pub returns : goal.returns

@@ -1,7 +1,5 @@
 -- SPDX-License-Identifier: Apache-2.0
-use Rattle.std.proofs.Common.{◌≡◌, ◌≤◌, length, drop, false}
-use Rattle.std.specs.List.{list_any}
-use Rattle.mlocal.specs.Home.{has_name}
+use Rattle.mlocal.proofs.LocalWords.{◌≡◌, ◌≤◌, length, drop, false, list_any, has_name}
 use Rattle.mlocal.proofs.scopes.home.Given as goal
 
 abbrev pub invariant-loop-place : goal.invariant-loop-place

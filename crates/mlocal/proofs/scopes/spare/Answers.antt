@@ -1,6 +1,5 @@
 -- SPDX-License-Identifier: Apache-2.0
-use Rattle.std.proofs.Common.{◌≤◌, ◌<◌, get_or, length, ap, ◌∙◌, sym, arith}
-use Rattle.mspec.specs.Scopes.{is_among}
+use Rattle.mlocal.proofs.LocalWords.{◌≤◌, ◌<◌, get_or, length, ap, ◌∙◌, sym, arith, is_among}
 use Rattle.mlocal.proofs.Killed.{kill-step, kill-done}
 use Rattle.mlocal.proofs.scopes.spare.Goals as goal
 

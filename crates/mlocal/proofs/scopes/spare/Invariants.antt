@@ -1,7 +1,5 @@
 -- SPDX-License-Identifier: Apache-2.0
-use Rattle.std.proofs.Common.{◌≡◌, ◌++◌, take, drop, length}
-use Rattle.mspec.specs.Scopes.{is_among}
-use Rattle.mlocal.specs.Home.{killed_up}
+use Rattle.mlocal.proofs.LocalWords.{◌≡◌, ◌++◌, take, drop, length, is_among, killed_up}
 use Rattle.mlocal.proofs.scopes.spare.Given as goal
 
 abbrev pub invariant-loop-place : goal.invariant-loop-place

@@ -1,6 +1,6 @@
 -- SPDX-License-Identifier: Apache-2.0
-use Rattle.std.proofs.Common.{◌≡◌, ◌++◌, map, filter}
-use Rattle.mlocal.specs.Way.{is_from}
+use Rattle.mlocal.proofs.LocalWords.{◌≡◌, ◌++◌, map, is_from}
+use Rattle.std.proofs.Common.{filter}
 use Rattle.mlocal.proofs.subtree.keys_from.Given as goal
 
 abbrev pub invariant-loop-entry : goal.invariant-loop-entry

@@ -1,13 +1,6 @@
 -- SPDX-License-Identifier: Apache-2.0
-use Rattle.std.proofs.Common.{cond, None, ◌||◌, All, take, ap, sym, subst, ◌∙◌, is_eq}
+use Rattle.mlocal.proofs.LocalWords.{cond, None, ◌||◌, All, take, ap, sym, subst, ◌∙◌, is_eq, keys_of, list_any_more, All-map-remove_entry, subscripts_cmp, significant_digits, AreSomeSubs, is_one_of}
 use Rattle.std.specs.BTreeMap.{get}
-use Rattle.std.specs.Map.{keys_of}
-use Rattle.std.proofs.lemmas.List.Folds.{list_any_more}
-use Rattle.std.proofs.lemmas.Map.Views.{All-map-remove_entry}
-use Rattle.mspec.specs.NodeOrder.{subscripts_cmp}
-use Rattle.mspec.specs.Number.{significant_digits}
-use Rattle.mlocal.specs.Own.{AreSomeSubs}
-use Rattle.mlocal.specs.Way.{is_one_of}
 use Rattle.mlocal.proofs.Removals.{one_more}
 use Rattle.mlocal.proofs.subtree.remove_all.Goals as goal
 

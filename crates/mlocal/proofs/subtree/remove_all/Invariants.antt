@@ -1,11 +1,6 @@
 -- SPDX-License-Identifier: Apache-2.0
-use Rattle.std.proofs.Common.{◌≡◌, cond, take, All, List, None}
-use Rattle.std.specs.BTreeMap.{get, keys}
-use Rattle.mspec.specs.Node.{Text}
-use Rattle.mspec.specs.NodeOrder.{subscripts_cmp}
-use Rattle.mspec.specs.Number.{significant_digits}
-use Rattle.mlocal.specs.Own.{AreSomeSubs}
-use Rattle.mlocal.specs.Way.{is_one_of}
+use Rattle.mlocal.proofs.LocalWords.{◌≡◌, cond, take, All, List, None, keys, Text, subscripts_cmp, significant_digits, AreSomeSubs, is_one_of}
+use Rattle.std.specs.BTreeMap.{get}
 use Rattle.mlocal.proofs.subtree.remove_all.Given as goal
 
 abbrev pub invariant-loop-key : goal.invariant-loop-key

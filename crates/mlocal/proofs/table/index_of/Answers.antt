@@ -1,7 +1,5 @@
 -- SPDX-License-Identifier: Apache-2.0
-use Rattle.std.proofs.Common.{◌≡◌, nat_eq, sym, ap, ◌∙◌}
-use Rattle.std.proofs.lemmas.Option.{slice_get_within}
-use Rattle.std.specs.Cmp.Lexicographic.{pointwise}
+use Rattle.mlocal.proofs.LocalWords.{◌≡◌, nat_eq, sym, ap, ◌∙◌, slice_get_within, pointwise}
 use Rattle.indexmap.specs.IndexMap.{get}
 use Rattle.mlocal.proofs.Tables.{same_name, hinted_key, hinted_value}
 use Rattle.mlocal.proofs.table.index_of.Goals as goal

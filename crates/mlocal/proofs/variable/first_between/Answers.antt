@@ -1,8 +1,5 @@
 -- SPDX-License-Identifier: Apache-2.0
-use Rattle.std.proofs.Common.{sym, ◌∙◌}
-use Rattle.std.specs.BTreeMap.{keys}
-use Rattle.mlocal.specs.Own.{AreSomeSubs}
-use Rattle.mlocal.specs.Way.{is_between}
+use Rattle.mlocal.proofs.LocalWords.{sym, ◌∙◌, keys, AreSomeSubs, is_between}
 use Rattle.mlocal.proofs.Walks.{first_is, none_is, found_all}
 use Rattle.mlocal.proofs.variable.first_between.Goals as goal
 

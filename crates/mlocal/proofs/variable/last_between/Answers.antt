@@ -1,8 +1,5 @@
 -- SPDX-License-Identifier: Apache-2.0
-use Rattle.std.proofs.Common.{reverse, sym, ◌∙◌}
-use Rattle.std.specs.BTreeMap.{keys}
-use Rattle.mlocal.specs.Own.{AreSomeSubs}
-use Rattle.mlocal.specs.Way.{is_between}
+use Rattle.mlocal.proofs.LocalWords.{reverse, sym, ◌∙◌, keys, AreSomeSubs, is_between}
 use Rattle.mlocal.proofs.Walks.{last_is, none_last, found_all, all_reversed}
 use Rattle.mlocal.proofs.variable.last_between.Goals as goal
 

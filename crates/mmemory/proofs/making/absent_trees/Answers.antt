@@ -1,7 +1,5 @@
 -- SPDX-License-Identifier: Apache-2.0
-use Rattle.std.proofs.Common.{◌≡◌, ◌++◌, ◌∷◌, [], map, ap, ◌∙◌}
-use Rattle.std.proofs.lemmas.List.{map-append, replicate_more}
-use Rattle.mmemory.specs.Plain.{plain, no_plain}
+use Rattle.mmemory.proofs.MemoryWords.{◌≡◌, ◌++◌, ◌∷◌, [], map, ap, ◌∙◌, map-append, replicate_more, plain, no_plain}
 use Rattle.mmemory.proofs.making.absent_trees.Goals as goal
 
 pub loop-preserved : goal.loop-preserved

@@ -1,6 +1,5 @@
 -- SPDX-License-Identifier: Apache-2.0
-use Rattle.std.proofs.Common.{◌≡◌, map, replicate}
-use Rattle.mmemory.specs.Plain.{plain, no_plain}
+use Rattle.mmemory.proofs.MemoryWords.{◌≡◌, map, replicate, plain, no_plain}
 use Rattle.mmemory.proofs.making.absent_trees.Given as goal
 
 abbrev pub invariant-loop : goal.invariant-loop

@@ -1,5 +1,5 @@
 -- SPDX-License-Identifier: Apache-2.0
-use Rattle.std.proofs.Common.{◌≡◌, ℕ, ◌+◌, ◌-◌, get_or, None, vec_len}
+use Rattle.mmemory.proofs.MemoryWords.{◌≡◌, ℕ, ◌+◌, ◌-◌, get_or, None, vec_len}
 use Rattle.mmemory.proofs.memory.set_cursor.Given as goal
 
 abbrev pub invariant-loop-cursors : goal.invariant-loop-cursors

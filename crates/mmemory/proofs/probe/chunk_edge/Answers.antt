@@ -1,8 +1,5 @@
 -- SPDX-License-Identifier: Apache-2.0
-use Rattle.std.proofs.Common.{◌≡◌, ◌+◌, ◌-◌, ◌/◌, true, false, [], get_or, sym, ap, ◌∙◌, arith}
-use Rattle.mmemory.specs.declared.chunk.Chunk.{Chunk}
-use Rattle.mmemory.specs.Plain.{chunk_rows}
-use Rattle.mmemory.specs.Probe.{passes}
+use Rattle.mmemory.proofs.MemoryWords.{◌≡◌, ◌+◌, ◌-◌, ◌/◌, true, false, [], get_or, sym, ap, ◌∙◌, arith, Chunk, chunk_rows, passes}
 use Rattle.mmemory.proofs.Shown.{one_at, first_of}
 use Rattle.mmemory.proofs.probe.chunk_edge.Goals as goal
 

@@ -1,7 +1,5 @@
 -- SPDX-License-Identifier: Apache-2.0
-use Rattle.std.proofs.Common.{◌≡◌, ℕ, ◌+◌, ◌-◌, ◌≤◌, true, false, [], length, get_or, slice_get, Some}
-use Rattle.mmemory.specs.Plain.{chunk_rows}
-use Rattle.mmemory.specs.Probe.{passes}
+use Rattle.mmemory.proofs.MemoryWords.{◌≡◌, ℕ, ◌+◌, ◌-◌, ◌≤◌, true, false, [], length, get_or, slice_get, Some, chunk_rows, passes}
 use Rattle.mmemory.proofs.probe.chunk_edge.Given as goal
 
 abbrev pub invariant-loop-low : goal.invariant-loop-low

@@ -1,6 +1,5 @@
 -- SPDX-License-Identifier: Apache-2.0
-use Rattle.std.proofs.Common.{◌≡◌, ℕ, ◌+◌, ◌-◌, ◌≤◌, true, false, length, slice_get, Some}
-use Rattle.mmemory.specs.Probe.{passes}
+use Rattle.mmemory.proofs.MemoryWords.{◌≡◌, ℕ, ◌+◌, ◌-◌, ◌≤◌, true, false, length, slice_get, Some, passes}
 use Rattle.mmemory.proofs.probe.row_edge.Given as goal
 
 abbrev pub invariant-loop-low : goal.invariant-loop-low

@@ -1,7 +1,5 @@
 -- SPDX-License-Identifier: Apache-2.0
-use Rattle.std.proofs.Common.{◌≡◌, map, set, get_or, sym, ap, ◌∙◌, arith}
-use Rattle.std.proofs.lemmas.List.{map-set, take-map}
-use Rattle.mmemory.specs.Plain.{plain, no_plain, undone_step}
+use Rattle.mmemory.proofs.MemoryWords.{◌≡◌, map, set, get_or, sym, ap, ◌∙◌, arith, map-set, take-map, plain, no_plain, undone_step}
 use Rattle.mmemory.proofs.Shown.{shown_at}
 use Rattle.mmemory.proofs.undoing.undo.Goals as goal
 

@@ -1,6 +1,5 @@
 -- SPDX-License-Identifier: Apache-2.0
-use Rattle.std.proofs.Common.{ap, arith}
-use Rattle.mspec.specs.Number.{signed}
+use Rattle.mnum.proofs.NumWords.{ap, arith, signed}
 use Rattle.mnum.proofs.UnitDigits.{stripped}
 use Rattle.mnum.proofs.arithmetic.shortened.Goals as goal
 

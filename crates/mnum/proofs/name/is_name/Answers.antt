@@ -1,7 +1,5 @@
 -- SPDX-License-Identifier: Apache-2.0
-use Rattle.std.proofs.Common.{◌-◌, ◌<◌, sym, subst, length, drop, arith, length-drop, take_all}
-use Rattle.std.proofs.lemmas.Bool.Decides.{nat_tests}
-use Rattle.mspec.specs.Names.{IsName}
+use Rattle.mnum.proofs.NumWords.{◌-◌, ◌<◌, sym, subst, length, drop, arith, length-drop, take_all, nat_tests, IsName}
 use Rattle.mnum.proofs.NameTexts.{name_told}
 use Rattle.mnum.proofs.name.is_name.Goals as goal
 

@@ -1,7 +1,6 @@
 -- SPDX-License-Identifier: Apache-2.0
 use Rattle.mnum.proofs.PowerTable.{table_row}
-use Rattle.mspec.proofs.Powers.{ten_pos}
-use Rattle.std.proofs.Common.{subst, sym, ℕ, ◌<◌}
+use Rattle.mnum.proofs.NumWords.{ten_pos, subst, sym, ℕ, ◌<◌}
 use Rattle.mnum.proofs.powers.power.Goals as goal
 
 pub returns : goal.returns

@@ -1,7 +1,5 @@
 -- SPDX-License-Identifier: Apache-2.0
-use Rattle.std.proofs.Common.{ℕ, sym, ◌∙◌, arith, subst, take}
-use Rattle.mnum.specs.Head.{IsCapped}
-use Rattle.mspec.specs.Literal.{digits_after}
+use Rattle.mnum.proofs.NumWords.{ℕ, sym, ◌∙◌, arith, subst, take, IsCapped, digits_after}
 use Rattle.mnum.proofs.Scans.{front_is}
 use Rattle.mnum.proofs.reading.read_capped.Goals as goal
 

@@ -1,8 +1,6 @@
 -- SPDX-License-Identifier: Apache-2.0
-use Rattle.std.proofs.Common.{◌≡◌, ℕ, ◌+◌, ◌-◌, ◌*◌, ◌≤◌, length, sym, ◌∙◌, ap, inl, inr, arith, get_or, true}
-use Rattle.std.specs.List.{prefix_len}
+use Rattle.mnum.proofs.NumWords.{◌≡◌, ℕ, ◌+◌, ◌-◌, ◌*◌, ◌≤◌, length, sym, ◌∙◌, ap, inl, inr, arith, get_or, true, prefix_len, is_digit}
 use borrow.Author.Count.{below_more}
-use Rattle.mspec.specs.Literal.{is_digit}
 use Rattle.mnum.proofs.Scans.{read_more, front_is, front_value, digit_low, digit_high}
 use Rattle.mnum.proofs.reading.read_digits.Goals as goal
 use Rattle.mnum.proofs.reading.read_digits.Goals.{then-head-lt1000000000000000000, else-head-lt1000000000000000000}

@@ -1,7 +1,5 @@
 -- SPDX-License-Identifier: Apache-2.0
-use Rattle.std.proofs.Common.{◌≡◌, ℕ, ◌+◌, ◌^◌, ◌<◌, ◌≤◌, true, take, get_or}
-use Rattle.mnum.specs.Head.{IsHead}
-use Rattle.mspec.specs.Literal.{is_digit, digits_after}
+use Rattle.mnum.proofs.NumWords.{◌≡◌, ℕ, ◌+◌, ◌^◌, ◌<◌, ◌≤◌, true, take, get_or, IsHead, is_digit, digits_after}
 use Rattle.mnum.proofs.reading.read_digits.Given as goal
 
 abbrev pub invariant-loop-i : goal.invariant-loop-i

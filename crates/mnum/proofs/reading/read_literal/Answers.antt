@@ -1,7 +1,5 @@
 -- SPDX-License-Identifier: Apache-2.0
-use Rattle.std.proofs.Common.{◌+◌, sym, ◌∙◌, ap, inl, refl, cond, lit≤, add-zero}
-use Rattle.mspec.specs.Literal.{digits_after}
-use Rattle.mspec.specs.NumberText.{front_digits}
+use Rattle.mnum.proofs.NumWords.{◌+◌, sym, ◌∙◌, ap, inl, refl, cond, lit≤, add-zero, digits_after, front_digits}
 use Rattle.mnum.proofs.LiteralLaws.{literal_read}
 use Rattle.mnum.proofs.reading.read_literal.Goals as goal
 

@@ -1,6 +1,5 @@
 -- SPDX-License-Identifier: Apache-2.0
-use Rattle.std.proofs.Common.{◌≡◌, ℕ, ◌<◌, true, drop, get_or, cond, not}
-use Rattle.mspec.specs.NumberText.{is_sign, is_negated}
+use Rattle.mnum.proofs.NumWords.{◌≡◌, ℕ, ◌<◌, true, drop, get_or, cond, not, is_sign, is_negated}
 use Rattle.mnum.proofs.reading.read_signs.Given as goal
 
 abbrev pub invariant-loop-i : goal.invariant-loop-i

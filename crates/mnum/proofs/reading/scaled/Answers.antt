@@ -1,7 +1,6 @@
 -- SPDX-License-Identifier: Apache-2.0
-use Rattle.std.proofs.Common.{◌≡◌, ℕ, ◌+◌, ◌-◌, ◌*◌, ◌^◌, ◌<◌, ◌≤◌, sym, ◌∙◌, ap, inl, inr, arith, ⊎_elim}
+use Rattle.mnum.proofs.NumWords.{◌≡◌, ℕ, ◌+◌, ◌-◌, ◌*◌, ◌^◌, ◌<◌, ◌≤◌, sym, ◌∙◌, ap, inl, inr, arith, ⊎_elim, ten_pos}
 use Rattle.mnum.proofs.SignLaws.{exact_floor}
-use Rattle.mspec.proofs.Powers.{ten_pos}
 use Rattle.mnum.proofs.Scaled.{scaled_none, scaled_zeros, scaled_small, scaled_places, head_zero, head_floor, head_fine}
 use Rattle.mnum.proofs.reading.scaled.Goals as goal
 

@@ -1,6 +1,5 @@
 -- SPDX-License-Identifier: Apache-2.0
-use Rattle.std.proofs.Common.{◌≡◌, ◌+◌, ◌*◌, ◌-◌, ◌^◌, ◌<◌, ◌≤◌, true, get_or, length, sym, ◌∙◌, arith, below_more}
-use Rattle.mspec.specs.Literal.{is_digit}
+use Rattle.mnum.proofs.NumWords.{◌≡◌, ◌+◌, ◌*◌, ◌-◌, ◌^◌, ◌<◌, ◌≤◌, true, get_or, length, sym, ◌∙◌, arith, below_more, is_digit}
 use Rattle.mnum.proofs.Scans.{digit_high}
 use Rattle.mnum.proofs.Wholes.{digit_below, few_below, digit_fits, value_more, value_all, digits_all}
 use Rattle.mnum.proofs.reading.short_whole.Goals as goal

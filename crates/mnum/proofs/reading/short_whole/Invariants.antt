@@ -1,6 +1,5 @@
 -- SPDX-License-Identifier: Apache-2.0
-use Rattle.std.proofs.Common.{◌≡◌, ℕ, ◌^◌, ◌<◌, true, take, get_or}
-use Rattle.mspec.specs.Literal.{is_digit, digits_after}
+use Rattle.mnum.proofs.NumWords.{◌≡◌, ℕ, ◌^◌, ◌<◌, true, take, get_or, is_digit, digits_after}
 use Rattle.mnum.proofs.reading.short_whole.Given as goal
 
 abbrev pub invariant-loop-c : goal.invariant-loop-c

@@ -1,5 +1,5 @@
 -- SPDX-License-Identifier: Apache-2.0
-use Rattle.std.proofs.Common.{refl}
+use Rattle.mnum.proofs.NumWords.{refl}
 use Rattle.mnum.proofs.ShortWholes.{IsShort, test_differs, canonical_front, one_zero, zero_alone}
 use Rattle.mnum.proofs.writing.is_canonical.Goals as goal
 

@@ -1,5 +1,5 @@
 -- SPDX-License-Identifier: Apache-2.0
-use Rattle.std.proofs.Common.{sym, ◌∙◌}
+use Rattle.mnum.proofs.NumWords.{sym, ◌∙◌}
 use Rattle.mnum.proofs.Starts.{starts_otherwise}
 use Rattle.mnum.proofs.writing.is_canonical_by.Goals as goal
 

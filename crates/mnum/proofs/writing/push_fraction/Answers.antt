@@ -1,7 +1,5 @@
 -- SPDX-License-Identifier: Apache-2.0
-use Rattle.std.proofs.Common.{◌≡◌, ◌-◌, ◌+◌, ◌^◌, ◌<◌, ◌∙◌, ap, arith, ◌++◌, ◌%◌, subst, ℕ, zero, suc}
-use Rattle.std.proofs.lemmas.Nat.{mod_below}
-use Rattle.mspec.specs.NumberText.{fraction_text}
+use Rattle.mnum.proofs.NumWords.{◌≡◌, ◌-◌, ◌+◌, ◌^◌, ◌<◌, ◌∙◌, ap, arith, ◌++◌, ◌%◌, subst, ℕ, zero, suc, mod_below, fraction_text}
 use Rattle.mnum.proofs.Prints.{fraction_more}
 use Rattle.mnum.proofs.writing.push_fraction.Goals as goal
 

@@ -1,7 +1,5 @@
 -- SPDX-License-Identifier: Apache-2.0
-use Rattle.std.proofs.Common.{◌≡◌, ◌+◌, ◌^◌, ◌<◌, ◌≤◌, ◌++◌}
-use Rattle.arrayvec.specs.ArrayVec.{array_vec_len}
-use Rattle.mspec.specs.NumberText.{fraction_text}
+use Rattle.mnum.proofs.NumWords.{◌≡◌, ◌+◌, ◌^◌, ◌<◌, ◌≤◌, ◌++◌, array_vec_len, fraction_text}
 use Rattle.mnum.proofs.writing.push_fraction.Given as goal
 
 abbrev pub invariant-loop-left : goal.invariant-loop-left

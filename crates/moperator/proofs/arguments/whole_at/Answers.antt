@@ -1,7 +1,7 @@
 -- SPDX-License-Identifier: Apache-2.0
 use Rattle.moperator.proofs.GivenArguments.{left_out, given, refused}
 use Rattle.moperator.proofs.Numbers.{whole_fits}
-use Rattle.mmeaning.proofs.Calls.{residual_is}
+use Rattle.moperator.proofs.OperatorWords.{residual_is}
 use Rattle.moperator.proofs.arguments.whole_at.Goals as goal
 
 pub returns-in-None-clause-whole : goal.returns-in-None-clause-whole

@@ -1,10 +1,8 @@
 -- SPDX-License-Identifier: Apache-2.0
-use Rattle.std.proofs.Common.{ℤ, Vec, Global, refl}
-use Rattle.moperator.specs.declared.code.Code.TheVariants.{Zmem}
+use Rattle.moperator.proofs.OperatorWords.{Vec, Global, refl, Zmem, yields_wanting, residual_is}
+use Rattle.std.proofs.Common.{ℤ}
 use Rattle.moperator.proofs.GivenArguments.{next_whole, whole_refused, wholes_end}
 use Rattle.moperator.proofs.Numbers.{whole_fits}
-use Rattle.mmeaning.proofs.Yieldings.{yields_wanting}
-use Rattle.mmeaning.proofs.Calls.{residual_is}
 use Rattle.moperator.proofs.arguments.wholes.Goals as goal
 
 pub loop-argument-init : goal.loop-argument-init

@@ -1,9 +1,7 @@
 -- SPDX-License-Identifier: Apache-2.0
-use Rattle.std.proofs.Common.{ℤ, [], drop, Result, Vec, Global}
+use Rattle.moperator.proofs.OperatorWords.{[], drop, Result, Vec, Global, Yields, fault_of, Code}
+use Rattle.std.proofs.Common.{ℤ}
 use Rattle.mmeaning.specs.Functions as meaning
-use Rattle.mmeaning.specs.Yields.{Yields}
-use Rattle.moperator.specs.Codes.{fault_of}
-use Rattle.moperator.specs.declared.code.Code.{Code}
 use Rattle.moperator.proofs.arguments.wholes.Given as goal
 
 abbrev pub invariant-loop-argument : goal.invariant-loop-argument

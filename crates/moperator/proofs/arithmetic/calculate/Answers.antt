@@ -1,6 +1,5 @@
 -- SPDX-License-Identifier: Apache-2.0
-use Rattle.mspec.specs.Number.{sum_of, difference_of, product_of, quotient_of, whole_quotient_of, remainder_of}
-use Rattle.mnum.specs.Num.{units}
+use Rattle.moperator.proofs.OperatorWords.{sum_of, difference_of, product_of, quotient_of, whole_quotient_of, remainder_of, units}
 use Rattle.moperator.proofs.arithmetic.calculate.Goals as goal
 
 pub returns-in-Add : goal.returns-in-Add

@@ -1,7 +1,5 @@
 -- SPDX-License-Identifier: Apache-2.0
-use Rattle.std.proofs.Common.{◌≡◌, ◌++◌, drop}
-use Rattle.std.specs.List.{list_any, flat_map}
-use Rattle.mspec.specs.CharacterFunctions.{is_over_ascii, character_of}
+use Rattle.moperator.proofs.OperatorWords.{◌≡◌, ◌++◌, drop, list_any, flat_map, is_over_ascii, character_of}
 use Rattle.moperator.proofs.characters.characters.Given as goal
 
 abbrev pub invariant-loop-code : goal.invariant-loop-code

@@ -1,9 +1,7 @@
 -- SPDX-License-Identifier: Apache-2.0
-use Rattle.std.proofs.Common.{◌≡◌, ℤ, List, [], ◌∷◌, ◌++◌, length, refl, ◌∙◌, ap, arith}
+use Rattle.moperator.proofs.OperatorWords.{◌≡◌, List, [], ◌∷◌, ◌++◌, length, refl, ◌∙◌, ap, arith, character_of, is_over_ascii, residual_is, fault_of}
+use Rattle.std.proofs.Common.{ℤ}
 use Rattle.mspec.specs.Code as spec
-use Rattle.mspec.specs.CharacterFunctions.{character_of, is_over_ascii}
-use Rattle.mmeaning.proofs.Calls.{residual_is}
-use Rattle.moperator.specs.Codes.{fault_of}
 use Rattle.moperator.proofs.GivenArguments.{next_whole, whole_refused, wholes_end}
 use Rattle.moperator.proofs.Numbers.{whole_fits}
 use Rattle.moperator.proofs.CharacterRefusals.{over_more, count_more, at_most_one, over_is_refused, long_is_refused, short_is_allowed, argument_is_refused}

@@ -1,11 +1,7 @@
 -- SPDX-License-Identifier: Apache-2.0
-use Rattle.std.proofs.Common.{◌≡◌, ◌≤◌, ℤ, List, [], length, drop, Result}
-use Rattle.std.specs.List.{list_any, flat_map}
-use Rattle.mspec.specs.CharacterFunctions.{is_over_ascii, character_of}
+use Rattle.moperator.proofs.OperatorWords.{◌≡◌, ◌≤◌, List, [], length, drop, Result, list_any, flat_map, is_over_ascii, character_of, Yields, fault_of, Code}
+use Rattle.std.proofs.Common.{ℤ}
 use Rattle.mmeaning.specs.Functions as meaning
-use Rattle.mmeaning.specs.Yields.{Yields}
-use Rattle.moperator.specs.Codes.{fault_of}
-use Rattle.moperator.specs.declared.code.Code.{Code}
 use Rattle.moperator.proofs.characters.refuse_characters.Given as goal
 
 -- the codes so far, whether one is over 127, and how many characters they give

@@ -1,8 +1,6 @@
 -- SPDX-License-Identifier: Apache-2.0
-use Rattle.std.proofs.Common.{ap, ◌∙◌}
-use Rattle.mmeaning.specs.Functions.{whole_text}
+use Rattle.moperator.proofs.OperatorWords.{ap, ◌∙◌, whole_text, yields_then, yields_stopped, yields_gives}
 use Rattle.moperator.proofs.Numbers.{whole_fits}
-use Rattle.mmeaning.proofs.Yieldings.{yields_then, yields_stopped, yields_gives}
 use Rattle.moperator.proofs.function_calls.ascii.Goals as goal
 
 pub returns-in_err-place : goal.returns-in_err-place

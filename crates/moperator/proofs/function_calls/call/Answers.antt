@@ -1,8 +1,5 @@
 -- SPDX-License-Identifier: Apache-2.0
-use Rattle.std.proofs.Common.{sym, subst}
-use Rattle.mspec.specs.Act.{Act, Text}
-use Rattle.mmeaning.specs.Yields.{Yields}
-use Rattle.moperator.specs.Codes.{fault_of}
+use Rattle.moperator.proofs.OperatorWords.{sym, subst, Act, Text, Yields, fault_of}
 use Rattle.moperator.proofs.CalledWords.{called, one_function}
 use Rattle.moperator.proofs.function_calls.call.Goals as goal
 

@@ -1,5 +1,5 @@
 -- SPDX-License-Identifier: Apache-2.0
-use Rattle.mmeaning.proofs.Yieldings.{yields_then, yields_stopped}
+use Rattle.moperator.proofs.OperatorWords.{yields_then, yields_stopped}
 use Rattle.moperator.proofs.function_calls.char.Goals as goal
 
 pub returns-in_err-codes-clause-value : goal.returns-in_err-codes-clause-value

@@ -1,6 +1,6 @@
 -- SPDX-License-Identifier: Apache-2.0
 use Rattle.moperator.proofs.Numbers.{width_fits}
-use Rattle.mmeaning.proofs.Yieldings.{yields_then, yields_stopped}
+use Rattle.moperator.proofs.OperatorWords.{yields_then, yields_stopped}
 use Rattle.moperator.proofs.function_calls.justified.Goals as goal
 
 pub returns-in_err-width : goal.returns-in_err-width

@@ -1,5 +1,5 @@
 -- SPDX-License-Identifier: Apache-2.0
-use Rattle.mmeaning.proofs.Yieldings.{yields_gives}
+use Rattle.moperator.proofs.OperatorWords.{yields_gives}
 use Rattle.moperator.proofs.GivenArguments.{argument_is}
 use Rattle.moperator.proofs.function_calls.length.Goals as goal
 

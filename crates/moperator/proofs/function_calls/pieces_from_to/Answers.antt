@@ -1,7 +1,6 @@
 -- SPDX-License-Identifier: Apache-2.0
-use Rattle.std.proofs.Common.{◌<◌}
+use Rattle.moperator.proofs.OperatorWords.{◌<◌, yields_then, yields_stopped, yields_gives}
 use Rattle.moperator.proofs.PieceBytes.{piece_all}
-use Rattle.mmeaning.proofs.Yieldings.{yields_then, yields_stopped, yields_gives}
 use Rattle.moperator.proofs.function_calls.pieces_from_to.Goals as goal
 
 pub returns-in_err-from : goal.returns-in_err-from

@@ -1,5 +1,5 @@
 -- SPDX-License-Identifier: Apache-2.0
-use Rattle.mmeaning.proofs.Yieldings.{yields_then, yields_stopped, yields_gives}
+use Rattle.moperator.proofs.OperatorWords.{yields_then, yields_stopped, yields_gives}
 use Rattle.moperator.proofs.operators.binary.Goals as goal
 
 pub returns-in_err-holds-in-Is-clause-value : goal.returns-in_err-holds-in-Is-clause-value

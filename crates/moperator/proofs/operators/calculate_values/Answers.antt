@@ -1,5 +1,5 @@
 -- SPDX-License-Identifier: Apache-2.0
-use Rattle.mmeaning.proofs.Yieldings.{yields_then, yields_stopped}
+use Rattle.moperator.proofs.OperatorWords.{yields_then, yields_stopped}
 use Rattle.moperator.proofs.operators.calculate_values.Goals as goal
 
 pub returns-in_err-number : goal.returns-in_err-number

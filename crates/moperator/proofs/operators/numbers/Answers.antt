@@ -1,6 +1,5 @@
 -- SPDX-License-Identifier: Apache-2.0
-use Rattle.std.proofs.Common.{refl}
-use Rattle.mmeaning.proofs.Yieldings.{yields_then, yields_stopped, yields_gives}
+use Rattle.moperator.proofs.OperatorWords.{refl, yields_then, yields_stopped, yields_gives}
 use Rattle.moperator.proofs.operators.numbers.Goals as goal
 
 pub returns-in_err-a : goal.returns-in_err-a

@@ -1,7 +1,6 @@
 -- SPDX-License-Identifier: Apache-2.0
-use Rattle.std.proofs.Common.{arith}
+use Rattle.moperator.proofs.OperatorWords.{arith, residual_is}
 use Rattle.std.proofs.Math.Seq.{take-length}
-use Rattle.mmeaning.proofs.Calls.{residual_is}
 use Rattle.moperator.proofs.Signs.{next_sign, sign_failed, no_sign_left}
 use Rattle.moperator.proofs.operators.unaries.Goals as goal
 

@@ -1,11 +1,6 @@
 -- SPDX-License-Identifier: Apache-2.0
-use Rattle.std.proofs.Common.{◌≤◌, length, take, map, Result}
-use Rattle.mspec.specs.Act.{Text}
+use Rattle.moperator.proofs.OperatorWords.{◌≤◌, length, take, map, Result, Text, sign_tree, Yields, fault_of, Code}
 use Rattle.mmeaning.specs.Operators as meaning
-use Rattle.mtree.specs.Tree.{sign_tree}
-use Rattle.mmeaning.specs.Yields.{Yields}
-use Rattle.moperator.specs.Codes.{fault_of}
-use Rattle.moperator.specs.declared.code.Code.{Code}
 use Rattle.moperator.proofs.operators.unaries.Given as goal
 
 abbrev pub invariant-loop-left : goal.invariant-loop-left

@@ -1,7 +1,5 @@
 -- SPDX-License-Identifier: Apache-2.0
-use Rattle.std.proofs.Common.{ap, ◌∙◌}
-use Rattle.mspec.specs.NumberText.{number_text}
-use Rattle.mmeaning.proofs.Yieldings.{yields_then, yields_stopped, yields_gives}
+use Rattle.moperator.proofs.OperatorWords.{ap, ◌∙◌, number_text, yields_then, yields_stopped, yields_gives}
 use Rattle.moperator.proofs.operators.unary.Goals as goal
 
 pub returns-in_err-number-in-Plus-clause-value : goal.returns-in_err-number-in-Plus-clause-value

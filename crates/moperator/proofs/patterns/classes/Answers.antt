@@ -1,7 +1,5 @@
 -- SPDX-License-Identifier: Apache-2.0
-use Rattle.std.proofs.Common.{arith}
-use Rattle.mtext.specs.ClassSets.{is_in_set}
-use Rattle.mtext.specs.PatternPlaces.{code_of}
+use Rattle.moperator.proofs.OperatorWords.{arith, is_in_set, code_of}
 use Rattle.moperator.proofs.PatternWalk.{letter_more}
 use Rattle.moperator.proofs.patterns.classes.Goals as goal
 

@@ -1,9 +1,5 @@
 -- SPDX-License-Identifier: Apache-2.0
-use Rattle.std.proofs.Common.{◌≡◌, ℕ, drop, map}
-use Rattle.std.specs.Prelude.{◌||◌}
-use Rattle.mgrammar.specs.Matching.{pattern_code}
-use Rattle.mspec.specs.Pattern.{is_in_any}
-use Rattle.mtext.specs.ClassSets.{is_in_set}
+use Rattle.moperator.proofs.OperatorWords.{◌≡◌, ℕ, drop, map, ◌||◌, pattern_code, is_in_any, is_in_set}
 use Rattle.moperator.proofs.patterns.classes.Given as goal
 
 abbrev pub invariant-loop-letter : goal.invariant-loop-letter

@@ -1,8 +1,5 @@
 -- SPDX-License-Identifier: Apache-2.0
-use Rattle.std.proofs.Common.{◌≡◌, drop, map}
-use Rattle.std.specs.List.{list_any}
-use Rattle.mgrammar.specs.Matching.{atom_of, is_reversed}
-use Rattle.mtree.specs.Tree.{atom_tree}
+use Rattle.moperator.proofs.OperatorWords.{◌≡◌, drop, map, list_any, atom_of, is_reversed, atom_tree}
 use Rattle.moperator.proofs.patterns.has_reversed.Given as goal
 
 abbrev pub invariant-loop-atom : goal.invariant-loop-atom

@@ -1,7 +1,6 @@
 -- SPDX-License-Identifier: Apache-2.0
-use Rattle.std.proofs.Common.{◌≡◌, ◌+◌, ◌-◌, take}
-use Rattle.std.specs.Prelude.{min}
-use Rattle.mspec.specs.Literal.{digits_after}
+use Rattle.moperator.proofs.OperatorWords.{◌≡◌, ◌-◌, take, min, digits_after}
+use Rattle.std.proofs.Common.{◌+◌}
 use Rattle.moperator.proofs.patterns.is_below.Given as goal
 
 abbrev pub invariant-loop-place : goal.invariant-loop-place

@@ -1,7 +1,5 @@
 -- SPDX-License-Identifier: Apache-2.0
-use Rattle.std.proofs.Common.{Some, List, sym, subst}
-use Rattle.mspec.specs.Pattern.{Atom}
-use Rattle.mtext.specs.Endings.{IsFirstOf}
+use Rattle.moperator.proofs.OperatorWords.{Some, List, sym, subst, Atom, IsFirstOf}
 use Rattle.moperator.proofs.PatternWalk.{from_atom}
 use Rattle.moperator.proofs.patterns.lent_atom.Goals as goal
 

@@ -1,8 +1,5 @@
 -- SPDX-License-Identifier: Apache-2.0
-use Rattle.std.proofs.Common.{refl, map}
-use Rattle.mgrammar.specs.Matching.{atom_of}
-use Rattle.mtree.specs.Tree.{atom_tree}
-use Rattle.moperator.specs.CappedCounts.{pattern_of}
+use Rattle.moperator.proofs.OperatorWords.{refl, map, atom_of, atom_tree, pattern_of}
 use Rattle.moperator.proofs.PatternMatches.{reversed_fails, match_gives}
 use Rattle.moperator.proofs.patterns.matching.Goals as goal
 

@@ -1,7 +1,5 @@
 -- SPDX-License-Identifier: Apache-2.0
-use Rattle.std.proofs.Common.{◌≡◌, take}
-use Rattle.mspec.specs.Literal.{digits_after}
-use Rattle.moperator.specs.CappedCounts.{capped}
+use Rattle.moperator.proofs.OperatorWords.{◌≡◌, take, digits_after, capped}
 use Rattle.moperator.proofs.patterns.number.Given as goal
 
 abbrev pub invariant-loop-digit : goal.invariant-loop-digit

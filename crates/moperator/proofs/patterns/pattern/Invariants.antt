@@ -1,9 +1,5 @@
 -- SPDX-License-Identifier: Apache-2.0
-use Rattle.std.proofs.Common.{◌≡◌, ◌++◌, drop, map}
-use Rattle.mgrammar.specs.Matching.{atom_of}
-use Rattle.mtree.specs.Tree.{atom_tree}
-use Rattle.mtext.specs.PatternPlaces.{atoms_of}
-use Rattle.moperator.specs.CappedCounts.{capped_atom}
+use Rattle.moperator.proofs.OperatorWords.{◌≡◌, ◌++◌, drop, map, atom_of, atom_tree, atoms_of, capped_atom}
 use Rattle.moperator.proofs.patterns.pattern.Given as goal
 
 abbrev pub invariant-loop-one : goal.invariant-loop-one

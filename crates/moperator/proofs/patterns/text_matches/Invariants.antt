@@ -1,8 +1,5 @@
 -- SPDX-License-Identifier: Apache-2.0
-use Rattle.std.proofs.Common.{◌≡◌, ◌≤◌, ◌-◌, ◌↔◌, drop, length}
-use Rattle.mspec.specs.Pattern.{Matches}
-use Rattle.mtext.specs.Endings.{IsFirstOf}
-use Rattle.moperator.specs.CappedCounts.{pattern_of}
+use Rattle.moperator.proofs.OperatorWords.{◌≡◌, ◌≤◌, ◌-◌, ◌↔◌, drop, length, Matches, IsFirstOf, pattern_of}
 use Rattle.moperator.proofs.patterns.text_matches.Given as goal
 
 abbrev pub invariant-loop-next : goal.invariant-loop-next

@@ -1,8 +1,6 @@
 -- SPDX-License-Identifier: Apache-2.0
-use Rattle.std.proofs.Common.{ap, ◌∙◌}
-use Rattle.std.specs.Ordering.{is_lt, is_gt}
+use Rattle.moperator.proofs.OperatorWords.{ap, ◌∙◌, is_lt, is_gt, yields_then, yields_stopped, yields_gives}
 use Rattle.moperator.proofs.Truths.{both_first, both_second, either_first, either_second}
-use Rattle.mmeaning.proofs.Yieldings.{yields_then, yields_stopped, yields_gives}
 use Rattle.moperator.proofs.relations.relation.Goals as goal
 
 pub returns-in_err-a-in-Less : goal.returns-in_err-a-in-Less

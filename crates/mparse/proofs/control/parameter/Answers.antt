@@ -1,8 +1,5 @@
 -- SPDX-License-Identifier: Apache-2.0
-use Rattle.std.proofs.Common.{◌≡◌, ◌∙◌, ap, rules}
-use Rattle.std.proofs.lemmas.Grind.{common_steps}
-use Rattle.mtree.specs.declared.tree.Expr.{Expr}
-use Rattle.mgrammar.specs.Reading.{parameter_at}
+use Rattle.mparse.proofs.ParseWords.{◌≡◌, ◌∙◌, ap, rules, common_steps, Expr, parameter_at}
 use Rattle.mparse.proofs.control.parameter.Goals as goal
 
 pub returns-in_err-start-2 : goal.returns-in_err-start-2

@@ -1,12 +1,5 @@
 -- SPDX-License-Identifier: Apache-2.0
-use Rattle.std.proofs.Common.{◌≡◌, ◌++◌, ◌∷◌, [], length, map, refl, sym, rules}
-use Rattle.std.proofs.lemmas.Result.{err_from_is_err_and}
-use Rattle.std.proofs.lemmas.List.{map_push}
-use Rattle.mtree.specs.Tree.{expr_tree, tail_tree, choice_tree}
-use Rattle.mgrammar.specs.ReadingWords.{with_front, many, after_comma, list_at}
-use Rattle.mgrammar.specs.ReadingExpressions.{choice_with, tail_with, readers_at, inner_at}
-use Rattle.mgrammar.proofs.ReadingLoops.{goes_on, stops, is_done, list_begins, comma_goes_on, comma_stops}
-use Rattle.mscan.proofs.Faults.{fails, list_fails, comma_fails}
+use Rattle.mparse.proofs.ParseWords.{◌≡◌, ◌++◌, ◌∷◌, [], length, map, refl, sym, rules, err_from_is_err_and, map_push, expr_tree, tail_tree, choice_tree, with_front, many, after_comma, list_at, choice_with, tail_with, readers_at, inner_at, goes_on, stops, is_done, list_begins, comma_goes_on, comma_stops, fails, list_fails, comma_fails}
 use Rattle.mparse.proofs.Lists.{list_goes_on}
 use Rattle.mparse.proofs.expr.+expr.Goals as goal
 use Rattle.mparse.proofs.expr.+expr.Goals.{tails-else-loop-test, tails-then-loop-test+in_ok-tail+in_default, more_exprs-else-loop-test, more_exprs-then-loop-test+in_default, choices-else-loop-test, choices-then-loop-test+in_default}

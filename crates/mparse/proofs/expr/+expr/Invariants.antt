@@ -1,8 +1,5 @@
 -- SPDX-License-Identifier: Apache-2.0
-use Rattle.std.proofs.Common.{◌≡◌, ◌+◌, ◌*◌, ◌-◌, length, map}
-use Rattle.mgrammar.specs.ReadingWords.{with_front, many, after_comma, list_at}
-use Rattle.mgrammar.specs.ReadingExpressions.{choice_with, tail_with, readers_at, inner_at}
-use Rattle.mtree.specs.Tree.{expr_tree, tail_tree, choice_tree}
+use Rattle.mparse.proofs.ParseWords.{◌≡◌, ◌+◌, ◌*◌, ◌-◌, length, map, with_front, many, after_comma, list_at, choice_with, tail_with, readers_at, inner_at, expr_tree, tail_tree, choice_tree}
 use Rattle.mparse.proofs.expr.+expr.Given as goal
 
 -- Brackets fall in number at `inner`, `within` and `below` alone; each other call leads to a lower rank.

@@ -1,12 +1,7 @@
 -- SPDX-License-Identifier: Apache-2.0
-use Rattle.std.proofs.Common.{map, Vec, Global}
+use Rattle.mparse.proofs.ParseWords.{map, Vec, Global, arg_tree, keyword_tree, spell_list, spell_arg, WellList, WellArg, args_of, reads_its_arguments}
 use Rattle.mtree.specs.declared.tree.Arg.{Arg}
-use Rattle.mtree.specs.Tree.{arg_tree, keyword_tree}
-use Rattle.mgrammar.specs.Grammar.{spell_list, spell_arg}
 use Rattle.mgrammar.specs.Commands.{form_of}
-use Rattle.mgrammar.specs.WellFormed.{WellList, WellArg}
-use Rattle.mgrammar.specs.IndirectTexts.{args_of}
-use Rattle.mgrammar.proofs.ReadingIndirectTexts.{reads_its_arguments}
 use Rattle.mparse.proofs.WholeTexts.{is_tree, is_syntax}
 use Rattle.mparse.proofs.indirect.parse_args.Goals as goal
 

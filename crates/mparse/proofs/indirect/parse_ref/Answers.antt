@@ -1,9 +1,5 @@
 -- SPDX-License-Identifier: Apache-2.0
-use Rattle.mtree.specs.Tree.{reference_tree}
-use Rattle.mgrammar.specs.Grammar.{spell_reference}
-use Rattle.mgrammar.specs.WellFormed.{max_depth, WellReference}
-use Rattle.mgrammar.specs.IndirectTexts.{ref_at}
-use Rattle.mgrammar.proofs.ReadingIndirectTexts.{reads_its_reference}
+use Rattle.mparse.proofs.ParseWords.{reference_tree, spell_reference, max_depth, WellReference, ref_at, reads_its_reference}
 use Rattle.mparse.proofs.WholeTexts.{is_tree, is_syntax}
 use Rattle.mparse.proofs.indirect.parse_ref.Goals as goal
 

@@ -1,12 +1,5 @@
 -- SPDX-License-Identifier: Apache-2.0
-use Rattle.std.proofs.Common.{◌≡◌, ◌++◌, ◌∷◌, [], length, map, rules}
-use Rattle.std.proofs.lemmas.Result.{err_from_is_err_and}
-use Rattle.std.proofs.lemmas.List.{map_push}
-use Rattle.mtree.specs.Tree.{spaced_tree}
-use Rattle.mgrammar.specs.ReadingWords.{many}
-use Rattle.mgrammar.specs.Reading.{spaced_at}
-use Rattle.mgrammar.proofs.ReadingLoops.{goes_on, stops, is_done}
-use Rattle.mscan.proofs.Faults.{fails}
+use Rattle.mparse.proofs.ParseWords.{◌≡◌, ◌++◌, ◌∷◌, [], length, map, rules, err_from_is_err_and, map_push, spaced_tree, many, spaced_at, goes_on, stops, is_done, fails}
 use Rattle.mparse.proofs.line.commands.Goals as goal
 use Rattle.mparse.proofs.line.commands.Goals.{else-loop-test, then-loop-test+in_ok-item+in_default}
 

@@ -1,8 +1,5 @@
 -- SPDX-License-Identifier: Apache-2.0
-use Rattle.std.proofs.Common.{◌≡◌, ◌-◌, length, map}
-use Rattle.mtree.specs.Tree.{spaced_tree}
-use Rattle.mgrammar.specs.ReadingWords.{with_front, many}
-use Rattle.mgrammar.specs.Reading.{spaced_at}
+use Rattle.mparse.proofs.ParseWords.{◌≡◌, ◌-◌, length, map, spaced_tree, with_front, many, spaced_at}
 use Rattle.mparse.proofs.line.commands.Given as goal
 
 abbrev pub invariant-loop : goal.invariant-loop

@@ -1,9 +1,5 @@
 -- SPDX-License-Identifier: Apache-2.0
-use Rattle.std.proofs.Common.{◌≡◌, ◌∷◌, [], length, map, refl, ap, subst, ◌∙◌, rules}
-use Rattle.std.proofs.lemmas.Result.{err_from_is_err_and}
-use Rattle.mgrammar.specs.ReadingWords.{with_front, many, after_comma}
-use Rattle.mscan.specs.Gives.{Gives}
-use Rattle.mscan.proofs.Faults.{list_fails}
+use Rattle.mparse.proofs.ParseWords.{◌≡◌, ◌∷◌, [], length, map, refl, ap, subst, ◌∙◌, rules, err_from_is_err_and, with_front, many, after_comma, Gives, list_fails}
 use Rattle.mparse.proofs.Lists.{list_goes_on, is_alone}
 use Rattle.mparse.proofs.list.list.Goals as goal
 

@@ -1,10 +1,5 @@
 -- SPDX-License-Identifier: Apache-2.0
-use Rattle.std.proofs.Common.{◌≡◌, ◌-◌, ◌++◌, ◌∷◌, [], length, map, refl, arith, rules}
-use Rattle.std.proofs.lemmas.Result.{err_from_is_err_and}
-use Rattle.std.proofs.lemmas.List.{map_push}
-use Rattle.mgrammar.specs.ReadingWords.{with_front, many, after_comma}
-use Rattle.mgrammar.proofs.ReadingLoops.{is_done, comma_goes_on, comma_stops}
-use Rattle.mscan.proofs.Faults.{comma_fails}
+use Rattle.mparse.proofs.ParseWords.{◌≡◌, ◌-◌, ◌++◌, ◌∷◌, [], length, map, refl, arith, rules, err_from_is_err_and, map_push, with_front, many, after_comma, is_done, comma_goes_on, comma_stops, comma_fails}
 use Rattle.mparse.proofs.list.more.Goals as goal
 use Rattle.mparse.proofs.list.more.Goals.{else-loop-test, then-loop-test+in_default}
 

@@ -1,6 +1,5 @@
 -- SPDX-License-Identifier: Apache-2.0
-use Rattle.std.proofs.Common.{◌≡◌, ◌-◌, length, map}
-use Rattle.mgrammar.specs.ReadingWords.{with_front, many, after_comma}
+use Rattle.mparse.proofs.ParseWords.{◌≡◌, ◌-◌, length, map, with_front, many, after_comma}
 use Rattle.mparse.proofs.list.more.Given as goal
 
 abbrev pub invariant-loop : goal.invariant-loop

@@ -1,6 +1,5 @@
 -- SPDX-License-Identifier: Apache-2.0
-use Rattle.std.proofs.Common.{◌≡◌, ◌<◌, length, refl, ◌∙◌, arith}
-use Rattle.std.proofs.lemmas.Bool.Decides.{nat_tests}
+use Rattle.mparse.proofs.ParseWords.{◌≡◌, ◌<◌, length, refl, ◌∙◌, arith, nat_tests}
 use Rattle.mparse.proofs.Operands.{with_tails, with_signs, without_both}
 use Rattle.mparse.proofs.operand.expr_operand.Goals as goal
 use Rattle.mparse.proofs.operand.expr_operand.Goals.{then-not-is_empty-via-then-not-is_empty, then-not-is_empty-via-else-not-is_empty+then-not-is_empty-2}

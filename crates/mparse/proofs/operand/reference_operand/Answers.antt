@@ -1,6 +1,5 @@
 -- SPDX-License-Identifier: Apache-2.0
-use Rattle.std.proofs.Common.{◌≡◌, ◌<◌, length, refl, arith}
-use Rattle.std.proofs.lemmas.Bool.Decides.{nat_tests}
+use Rattle.mparse.proofs.ParseWords.{◌≡◌, ◌<◌, length, refl, arith, nat_tests}
 use Rattle.mparse.proofs.Operands.{with_subscripts, without_subscripts}
 use Rattle.mparse.proofs.operand.reference_operand.Goals as goal
 

@@ -1,8 +1,5 @@
 -- SPDX-License-Identifier: Apache-2.0
-use Rattle.std.proofs.Common.{length, sym, rules}
-use Rattle.mgrammar.specs.ReadingWords.{many}
-use Rattle.mgrammar.specs.RoutineLine.{dot_at, dots_at}
-use Rattle.mgrammar.proofs.ReadingLoops.{goes_on, stops, is_done}
+use Rattle.mparse.proofs.ParseWords.{length, sym, rules, many, dot_at, dots_at, goes_on, stops, is_done}
 use Rattle.mparse.proofs.routine_line.dots.Goals as goal
 use Rattle.mparse.proofs.routine_line.dots.Goals.{else-loop-test, then-loop-test+in_default}
 

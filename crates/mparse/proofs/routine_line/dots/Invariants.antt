@@ -1,7 +1,5 @@
 -- SPDX-License-Identifier: Apache-2.0
-use Rattle.std.proofs.Common.{◌≡◌, ◌-◌, length}
-use Rattle.mgrammar.specs.ReadingWords.{with_front, many}
-use Rattle.mgrammar.specs.RoutineLine.{dot_at}
+use Rattle.mparse.proofs.ParseWords.{◌≡◌, ◌-◌, length, with_front, many, dot_at}
 use Rattle.mparse.proofs.routine_line.dots.Given as goal
 
 abbrev pub invariant-loop : goal.invariant-loop

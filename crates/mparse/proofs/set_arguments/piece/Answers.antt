@@ -1,9 +1,6 @@
 -- SPDX-License-Identifier: Apache-2.0
-use Rattle.std.proofs.Common.{◌≡◌, ◌∙◌, ap, rules}
-use Rattle.std.proofs.lemmas.Grind.{common_steps}
-use Rattle.mtree.specs.declared.tree.Expr.{Expr}
+use Rattle.mparse.proofs.ParseWords.{◌≡◌, ◌∙◌, ap, rules, common_steps, Expr, piece_with}
 use Rattle.mtree.specs.declared.tree.Reference.{Reference}
-use Rattle.mgrammar.specs.Reading.{piece_with}
 use Rattle.mparse.proofs.set_arguments.piece.Goals as goal
 
 pub returns-in_err-reference-3 : goal.returns-in_err-reference-3

@@ -1,7 +1,5 @@
 -- SPDX-License-Identifier: Apache-2.0
-use Rattle.std.proofs.Common.{◌≡◌, true, sym, subst, rules}
-use Rattle.mstore.proofs.Words.{state}
-use Rattle.mstore.specs.Database.{IsBare}
+use Rattle.mstore.proofs.Words.{◌≡◌, true, sym, subst, rules, state, IsBare}
 use Rattle.mstore.proofs.Makes.{makes_node, makes_meta, adds_version}
 use Rattle.mstore.proofs.create.create_tables.Goals as goal
 

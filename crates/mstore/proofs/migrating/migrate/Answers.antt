@@ -1,7 +1,5 @@
 -- SPDX-License-Identifier: Apache-2.0
-use Rattle.std.proofs.Common.{◌≡◌, rules, ◌∙◌, subst}
-use Rattle.mstore.proofs.Words.{state}
-use Rattle.mstore.specs.Database.{IsStore, IsUntouched, IsMigrated}
+use Rattle.mstore.proofs.Words.{◌≡◌, rules, ◌∙◌, subst, state, IsStore, IsUntouched, IsMigrated}
 use Rattle.mstore.proofs.Migrated.{starts, starts_shown, still_old, ends_store, ends_migrated, given_up, not_committed, on_err}
 use Rattle.mstore.proofs.migrating.migrate.Goals as goal
 

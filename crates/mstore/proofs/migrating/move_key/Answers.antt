@@ -1,11 +1,6 @@
 -- SPDX-License-Identifier: Apache-2.0
-use Rattle.std.proofs.Common.{◌≢◌, sym, subst, ◌∙◌, true≢false}
-use Rattle.std.specs.Cmp.Lexicographic.{bytes_decides}
-use Rattle.mstore.proofs.Words.{state}
-use Rattle.mspec.specs.KeyBytes.{key_bytes}
-use Rattle.mspec.specs.Number.{significant_digits}
-use Rattle.mstore.specs.Database.{content}
-use Rattle.mstore.specs.Map.{PutsAt}
+use Rattle.mstore.proofs.Words.{◌≢◌, sym, subst, ◌∙◌, bytes_decides, state, key_bytes, significant_digits, content, PutsAt}
+use Rattle.std.proofs.Common.{true≢false}
 use Rattle.mstore.proofs.Ranges.{key_moved}
 use Rattle.mstore.proofs.Tied.{on_ok}
 use Rattle.mstore.proofs.migrating.move_key.Goals as goal

@@ -1,6 +1,5 @@
 -- SPDX-License-Identifier: Apache-2.0
-use Rattle.std.proofs.Common.{◌≡◌, [], ◌∷◌, length, Result, Ok, Err, OnOk, rules, ap₂, arith, sym}
-use Rattle.mstore.proofs.Words.{Value, Blob, Row, column}
+use Rattle.mstore.proofs.Words.{◌≡◌, [], ◌∷◌, length, Result, Ok, Err, OnOk, rules, ap₂, arith, sym, Value, Blob, Row, column}
 use Rattle.mstore.proofs.Tied.{on_ok}
 use Rattle.mstore.proofs.migrating.move_row.Goals as goal
 

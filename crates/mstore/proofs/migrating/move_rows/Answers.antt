@@ -1,7 +1,5 @@
 -- SPDX-License-Identifier: Apache-2.0
-use Rattle.std.proofs.Common.{refl, ◌∙◌}
-use Rattle.mstore.proofs.Words.{state}
-use Rattle.mstore.specs.Database.{content}
+use Rattle.mstore.proofs.Words.{refl, ◌∙◌, state, content}
 use Rattle.mstore.proofs.Moves.{nothing_moved, next_moved}
 use Rattle.mstore.proofs.migrating.move_rows.Goals as goal
 

@@ -1,8 +1,5 @@
 -- SPDX-License-Identifier: Apache-2.0
-use Rattle.std.proofs.Common.{◌≡◌, drop}
-use Rattle.mstore.proofs.Words.{state}
-use Rattle.mstore.specs.Database.{IsMemory, content}
-use Rattle.mstore.specs.Moving.{IsWorking, ShowContent, IsMoving}
+use Rattle.mstore.proofs.Words.{◌≡◌, drop, state, IsMemory, content, IsWorking, ShowContent, IsMoving}
 use Rattle.mstore.proofs.migrating.move_rows.Given as goal
 
 abbrev pub invariant-loop-row : goal.invariant-loop-row

@@ -1,6 +1,5 @@
 -- SPDX-License-Identifier: Apache-2.0
-use Rattle.mstore.proofs.Words.{state}
-use Rattle.mstore.specs.Database.{old_version}
+use Rattle.mstore.proofs.Words.{state, old_version}
 use Rattle.mstore.proofs.Works.{sets_inside, version_set}
 use Rattle.mstore.proofs.migrating.set_version.Goals as goal
 

@@ -1,6 +1,5 @@
 -- SPDX-License-Identifier: Apache-2.0
-use Rattle.std.proofs.Common.{rules}
-use Rattle.sqlite_rules.proofs.ListLemmas.{has_at}
+use Rattle.mstore.proofs.Words.{rules, has_at}
 use Rattle.mstore.proofs.opening.are_nodes.Goals as goal
 
 pub returns-then-not-branch-clause-other : goal.returns-then-not-branch-clause-other

@@ -1,5 +1,5 @@
 -- SPDX-License-Identifier: Apache-2.0
-use Rattle.sqlite.specs.Held.{state}
+use Rattle.mstore.proofs.Words.{state}
 use Rattle.mstore.proofs.Versions.{finds_version, finds_no_version, version_stays}
 use Rattle.mstore.proofs.opening.find_version.Goals as goal
 

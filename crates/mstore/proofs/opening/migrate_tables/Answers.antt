@@ -1,7 +1,5 @@
 -- SPDX-License-Identifier: Apache-2.0
-use Rattle.std.proofs.Common.{sym, subst}
-use Rattle.sqlite.specs.Held.{state}
-use Rattle.mstore.specs.Database.{ShowsAll}
+use Rattle.mstore.proofs.Words.{sym, subst, state, ShowsAll}
 use Rattle.mstore.proofs.Olden.{old_store, shown_still, migrated_from, untouched_from}
 use Rattle.mstore.proofs.States.{untouched}
 use Rattle.mstore.proofs.Migrated.{on_err}

@@ -1,7 +1,5 @@
 -- SPDX-License-Identifier: Apache-2.0
-use Rattle.std.proofs.Common.{IsTrue, sym, ◌∙◌, rules}
-use Rattle.sqlite.specs.Held.{state}
-use Rattle.mstore.specs.Database.{IsCalm}
+use Rattle.mstore.proofs.Words.{IsTrue, sym, ◌∙◌, rules, state, IsCalm}
 use Rattle.mstore.proofs.opening.open_tables.Goals as goal
 
 pub returns-then-is_store-clause-store : goal.returns-then-is_store-clause-store

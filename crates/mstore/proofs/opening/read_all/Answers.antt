@@ -1,7 +1,5 @@
 -- SPDX-License-Identifier: Apache-2.0
-use Rattle.std.proofs.Common.{[]}
-use Rattle.sqlite.specs.Held.{state}
-use Rattle.mstore.specs.Statements.{all_text}
+use Rattle.mstore.proofs.Words.{[], state, all_text}
 use Rattle.mstore.proofs.States.{failed_query_stays}
 use Rattle.mstore.proofs.Adopts.{all_shown, all_stays}
 use Rattle.mstore.proofs.opening.read_all.Goals as goal

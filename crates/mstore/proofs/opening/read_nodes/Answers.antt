@@ -1,9 +1,5 @@
 -- SPDX-License-Identifier: Apache-2.0
-use Rattle.std.proofs.Common.{rules}
-use Rattle.sqlite.specs.Held.{state}
-use Rattle.sqlite_rules.proofs.ListLemmas.{all_has}
-use Rattle.mstore.specs.Rows.{ShowsNodeBy, shown_of}
-use Rattle.mstore.specs.Versions.{digits_of}
+use Rattle.mstore.proofs.Words.{rules, state, all_has, ShowsNodeBy, shown_of, digits_of}
 use Rattle.mstore.proofs.Adopts.{other_row}
 use Rattle.mstore.proofs.opening.read_nodes.Goals as goal
 

@@ -1,11 +1,5 @@
 -- SPDX-License-Identifier: Apache-2.0
-use Rattle.std.proofs.Common.{subst, inl, inr}
-use Rattle.sqlite.specs.Effect.{Database}
-use Rattle.sqlite.specs.Held.{state}
-use Rattle.mkey.specs.Key.{old_digits}
-use Rattle.mstore.specs.Database.{HasVersion, ShowsNodes}
-use Rattle.mstore.specs.Rows.{HasOther, HasOtherBy}
-use Rattle.mstore.specs.Versions.{number_of}
+use Rattle.mstore.proofs.Words.{subst, inl, inr, Database, state, old_digits, HasVersion, ShowsNodes, HasOther, HasOtherBy, number_of}
 use Rattle.mstore.proofs.Migrated.{on_err}
 use Rattle.mstore.proofs.Adopts.{store_after}
 use Rattle.mstore.proofs.Olden.{old_calm, migrated_from, untouched_from, on_err_as}

@@ -1,7 +1,5 @@
 -- SPDX-License-Identifier: Apache-2.0
-use Rattle.std.proofs.Common.{[], subst}
-use Rattle.sqlite.specs.State.{IsNotRun}
-use Rattle.sqlite.specs.Held.{state}
+use Rattle.mstore.proofs.Words.{[], subst, IsNotRun, state}
 use Rattle.mstore.proofs.Taken.{prepare_stays, not_taken}
 use Rattle.mstore.proofs.opening.takes.Goals as goal
 use Rattle.mstore.proofs.opening.takes.Goals.{in-Ok, in-Err-SqlInputError, in-Err}

@@ -1,6 +1,5 @@
 -- SPDX-License-Identifier: Apache-2.0
-use Rattle.sqlite.specs.Held.{state}
-use Rattle.mstore.specs.Database.{IsMemory, IsIdle, Stays}
+use Rattle.mstore.proofs.Words.{state, IsMemory, IsIdle, Stays}
 use Rattle.mstore.proofs.opening.takes_each.Given as goal
 
 abbrev pub invariant-loop-number : goal.invariant-loop-number

@@ -1,7 +1,6 @@
 -- SPDX-License-Identifier: Apache-2.0
-use Rattle.std.proofs.Common.{◌≡◌, true, false, ap, sym, subst, ◌∙◌, option_copied, nat_cmp, is_lt, is_le}
-use Rattle.std.specs.Cmp.Lexicographic.{slice_cmp}
-use Rattle.mstore.specs.Entries.{key_within}
+use Rattle.mstore.proofs.Words.{◌≡◌, true, false, ap, sym, subst, ◌∙◌, option_copied, slice_cmp, key_within}
+use Rattle.std.proofs.Common.{nat_cmp, is_lt, is_le}
 use Rattle.mstore.proofs.EntryRanges.{within_yes, without_low, without_high}
 use Rattle.mstore.proofs.SortedEntries.{compared}
 use Rattle.mstore.proofs.plain.key_within.Goals as goal

@@ -1,7 +1,5 @@
 -- SPDX-License-Identifier: Apache-2.0
-use Rattle.std.proofs.Common.{rules}
-use Rattle.std.proofs.lemmas.List.Sorted.{IsPartitionPoint-from_clause}
-use Rattle.mstore.specs.Entries.{is_before}
+use Rattle.mstore.proofs.Words.{rules, IsPartitionPoint-from_clause, is_before}
 use Rattle.mstore.proofs.EntryPlaces.{before_some}
 use Rattle.mstore.proofs.plain.place_of.Goals as goal
 

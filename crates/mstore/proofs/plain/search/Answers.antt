@@ -1,5 +1,5 @@
 -- SPDX-License-Identifier: Apache-2.0
-use Rattle.std.proofs.Common.{rules}
+use Rattle.mstore.proofs.Words.{rules}
 use Rattle.std.proofs.lemmas.Fn.{always_returns_same}
 use Rattle.mstore.proofs.EntryPlaces.{found_at, gap_at}
 use Rattle.mstore.proofs.SortedEntries.{order}

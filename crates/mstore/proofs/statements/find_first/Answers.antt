@@ -1,8 +1,6 @@
 -- SPDX-License-Identifier: Apache-2.0
-use Rattle.std.proofs.Common.{[], ◌∷◌, false}
-use Rattle.mstore.proofs.Words.{Blob, state}
+use Rattle.mstore.proofs.Words.{[], ◌∷◌, false, Blob, state, next_text}
 use Rattle.mstore.proofs.Texts.{next_is}
-use Rattle.mstore.specs.Statements.{next_text}
 use Rattle.mstore.proofs.Steps.{steps, steps_none}
 use Rattle.mstore.proofs.Sound.{clean_after, query_keeps}
 use Rattle.mstore.proofs.statements.find_first.Goals as goal

@@ -1,8 +1,6 @@
 -- SPDX-License-Identifier: Apache-2.0
-use Rattle.std.proofs.Common.{[], ◌∷◌, true}
-use Rattle.mstore.proofs.Words.{Blob, state}
+use Rattle.mstore.proofs.Words.{[], ◌∷◌, true, Blob, state, prev_text}
 use Rattle.mstore.proofs.Texts.{prev_is}
-use Rattle.mstore.specs.Statements.{prev_text}
 use Rattle.mstore.proofs.Steps.{steps, steps_none}
 use Rattle.mstore.proofs.Sound.{clean_after, query_keeps}
 use Rattle.mstore.proofs.statements.find_last.Goals as goal

@@ -1,8 +1,6 @@
 -- SPDX-License-Identifier: Apache-2.0
-use Rattle.std.proofs.Common.{[], ◌∷◌}
+use Rattle.mstore.proofs.Words.{[], ◌∷◌, Blob, state, get_text}
 use Rattle.mstore.proofs.Texts.{get_is}
-use Rattle.mstore.proofs.Words.{Blob, state}
-use Rattle.mstore.specs.Statements.{get_text}
 use Rattle.mstore.proofs.Gets.{gets, gets_none}
 use Rattle.mstore.proofs.Sound.{clean_after, query_keeps}
 use Rattle.mstore.proofs.statements.find_value.Goals as goal

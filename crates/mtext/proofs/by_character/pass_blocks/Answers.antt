@@ -1,6 +1,5 @@
 -- SPDX-License-Identifier: Apache-2.0
-use Rattle.std.proofs.Common.{◌+◌, arith}
-use Rattle.memchr.specs.Find.{is_byte}
+use Rattle.mtext.proofs.TextWords.{◌+◌, arith, is_byte}
 use Rattle.mtext.proofs.CharacterPieces.{counted_to}
 use Rattle.mtext.proofs.by_character.pass_blocks.Goals as goal
 

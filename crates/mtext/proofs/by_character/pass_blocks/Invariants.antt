@@ -1,7 +1,5 @@
 -- SPDX-License-Identifier: Apache-2.0
-use Rattle.std.proofs.Common.{◌≡◌, ◌+◌, ◌≤◌, ◌<◌, ◌-◌, length, take}
-use Rattle.std.specs.Prelude.{count_by}
-use Rattle.memchr.specs.Find.{is_byte}
+use Rattle.mtext.proofs.TextWords.{◌≡◌, ◌+◌, ◌≤◌, ◌<◌, ◌-◌, length, take, count_by, is_byte}
 use Rattle.mtext.proofs.by_character.pass_blocks.Given as goal
 
 abbrev pub invariant-loop-at : goal.invariant-loop-at

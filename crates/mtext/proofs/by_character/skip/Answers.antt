@@ -1,8 +1,6 @@
 -- SPDX-License-Identifier: Apache-2.0
-use Rattle.std.proofs.Common.{◌≡◌, get_or, sym, ap, ◌∙◌, arith}
-use Rattle.std.specs.Prelude.{count_by}
+use Rattle.mtext.proofs.TextWords.{◌≡◌, get_or, sym, ap, ◌∙◌, arith, count_by, is_byte}
 use Rattle.std.proofs.lemmas.List.{take_all}
-use Rattle.memchr.specs.Find.{is_byte}
 use Rattle.mtext.proofs.CharacterPieces.{pieces_counted, behind_delimiter}
 use Rattle.mtext.proofs.by_character.skip.Goals as goal
 

@@ -1,6 +1,5 @@
 -- SPDX-License-Identifier: Apache-2.0
-use Rattle.std.proofs.Common.{arith, Some, None, subst, sym, length, ◌+◌, ap}
-use Rattle.mtext.specs.Cuts.{IsBehind}
+use Rattle.mtext.proofs.TextWords.{arith, Some, None, subst, sym, length, ◌+◌, ap, IsBehind}
 use Rattle.mtext.proofs.PieceSteps.{behind_more, behind_last, some_characters}
 use Rattle.mtext.proofs.FoundPlaces.{in_rest}
 use Rattle.mtext.proofs.cutting.delimiters.Goals as goal

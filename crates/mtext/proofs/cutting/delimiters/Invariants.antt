@@ -1,6 +1,5 @@
 -- SPDX-License-Identifier: Apache-2.0
-use Rattle.std.proofs.Common.{◌-◌, ◌≤◌, length}
-use Rattle.mtext.specs.Cuts.{IsBehind}
+use Rattle.mtext.proofs.TextWords.{◌-◌, ◌≤◌, length, IsBehind}
 use Rattle.mtext.proofs.cutting.delimiters.Given as goal
 
 abbrev pub invariant-loop-before : goal.invariant-loop-before

@@ -1,6 +1,5 @@
 -- SPDX-License-Identifier: Apache-2.0
-use Rattle.std.proofs.Common.{arith, Some, None}
-use Rattle.mtext.specs.Cuts.{delimiter_text}
+use Rattle.mtext.proofs.TextWords.{arith, Some, None, delimiter_text}
 use Rattle.mtext.proofs.PieceSteps.{behind_last, end_found, end_of_text}
 use Rattle.mtext.proofs.FoundPlaces.{in_rest}
 use Rattle.mtext.proofs.cutting.end_of.Goals as goal

@@ -1,7 +1,5 @@
 -- SPDX-License-Identifier: Apache-2.0
-use Rattle.std.proofs.Common.{sym, ap, ◌∙◌, ℕ, take, drop, pos, ◌-◌, unwrap_or}
-use Rattle.mspec.specs.Pieces.{join, pieces_of}
-use Rattle.mspec.specs.TextFunctions.{from_place}
+use Rattle.mtext.proofs.TextWords.{sym, ap, ◌∙◌, ℕ, take, drop, pos, ◌-◌, unwrap_or, join, pieces_of, from_place}
 use Rattle.mtext.proofs.PieceSteps.{empty_is, none_by_nothing}
 use Rattle.mtext.proofs.cutting.piece.Goals as goal
 use Rattle.mtext.proofs.cutting.piece.Goals.{then-is_empty-via-then-is_empty, then-is_empty-via-else-is_empty+then-count-eq0}

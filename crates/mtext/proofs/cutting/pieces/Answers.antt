@@ -1,6 +1,5 @@
 -- SPDX-License-Identifier: Apache-2.0
-use Rattle.std.proofs.Common.{sym, ap, ◌∙◌, length}
-use Rattle.mspec.specs.Pieces.{pieces_of}
+use Rattle.mtext.proofs.TextWords.{sym, ap, ◌∙◌, length, pieces_of}
 use Rattle.mtext.proofs.PieceSteps.{empty_is, no_pieces}
 use Rattle.mtext.proofs.cutting.pieces.Goals as goal
 

@@ -1,6 +1,5 @@
 -- SPDX-License-Identifier: Apache-2.0
-use Rattle.std.proofs.Common.{arith, ◌+◌, sym, length, Some, None, subst}
-use Rattle.mtext.specs.Cuts.{IsBehind}
+use Rattle.mtext.proofs.TextWords.{arith, ◌+◌, sym, length, Some, None, subst, IsBehind}
 use Rattle.mtext.proofs.PieceSteps.{behind_more, behind_last}
 use Rattle.mtext.proofs.FoundPlaces.{in_rest}
 use Rattle.mtext.proofs.cutting.skip_texts.Goals as goal

@@ -1,5 +1,5 @@
 -- SPDX-License-Identifier: Apache-2.0
-use Rattle.mtext.specs.Cuts.{IsBehind}
+use Rattle.mtext.proofs.TextWords.{IsBehind}
 use Rattle.mtext.proofs.cutting.skip_texts.Given as goal
 
 abbrev pub invariant-loop-passed : goal.invariant-loop-passed

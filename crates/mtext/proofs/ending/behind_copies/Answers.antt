@@ -1,8 +1,5 @@
 -- SPDX-License-Identifier: Apache-2.0
-use Rattle.std.proofs.Common.{◌≡◌, ℕ, ◌-◌, Bool, true, List, length, take, drop, eqb, sym, ap, ◌∙◌, arith, true≢false}
-use Rattle.std.specs.List.{starts_with}
-use Rattle.std.proofs.lemmas.Bool.Decides.{Decides-eqb}
-use Rattle.std.proofs.lemmas.List.{take_rest}
+use Rattle.mtext.proofs.TextWords.{◌≡◌, ℕ, ◌-◌, Bool, true, List, length, take, drop, eqb, sym, ap, ◌∙◌, arith, true≢false, starts_with, Decides-eqb, take_rest}
 use Rattle.std.proofs.lemmas.Slice.Eq.{starts_is}
 use Rattle.mtext.proofs.PatternEndings.{one_copy_more, one_copy_lacks}
 use Rattle.mtext.proofs.ending.behind_copies.Goals as goal

@@ -1,6 +1,5 @@
 -- SPDX-License-Identifier: Apache-2.0
-use Rattle.std.proofs.Common.{◌≡◌, ◌≤◌, ◌++◌, length, drop}
-use Rattle.mspec.specs.Pattern.{copied}
+use Rattle.mtext.proofs.TextWords.{◌≡◌, ◌≤◌, ◌++◌, length, drop, copied}
 use Rattle.mtext.proofs.ending.behind_copies.Given as goal
 
 abbrev pub invariant-loop-copy : goal.invariant-loop-copy

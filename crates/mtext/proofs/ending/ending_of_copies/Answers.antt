@@ -1,7 +1,5 @@
 -- SPDX-License-Identifier: Apache-2.0
-use Rattle.std.proofs.Common.{length, sym}
-use Rattle.std.proofs.lemmas.Bool.Decides.{Decides-eqb}
-use Rattle.mtext.specs.PatternPlaces.{count_of}
+use Rattle.mtext.proofs.TextWords.{length, sym, Decides-eqb, count_of}
 use Rattle.mtext.proofs.PatternEndings.{so_many_copies, no_copies, nothing_stands}
 use Rattle.mtext.proofs.ending.ending_of_copies.Goals as goal
 

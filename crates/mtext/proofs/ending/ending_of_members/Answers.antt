@@ -1,7 +1,5 @@
 -- SPDX-License-Identifier: Apache-2.0
-use Rattle.std.proofs.Common.{sym, ◌∙◌, true≢false}
-use Rattle.mtext.specs.ClassSets.{is_in_set}
-use Rattle.mtext.specs.PatternPlaces.{count_of}
+use Rattle.mtext.proofs.TextWords.{sym, ◌∙◌, true≢false, is_in_set, count_of}
 use Rattle.mtext.proofs.PatternEndings.{so_many_members, no_members, longest_run, no_run}
 use Rattle.mtext.proofs.ending.ending_of_members.Goals as goal
 

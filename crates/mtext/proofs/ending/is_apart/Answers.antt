@@ -1,8 +1,5 @@
 -- SPDX-License-Identifier: Apache-2.0
-use Rattle.std.proofs.Common.{◌≡◌, Bool, true, false, refl, sym, subst, ◌∙◌}
-use Rattle.std.specs.Prelude.{not}
-use Rattle.mtext.specs.ClassSets.{is_in_set}
-use Rattle.mtext.specs.Endings.{Repeats}
+use Rattle.mtext.proofs.TextWords.{◌≡◌, Bool, true, false, refl, sym, subst, ◌∙◌, not, is_in_set, Repeats}
 use Rattle.mtext.proofs.PatternEndings.{lent_copies_apart}
 use Rattle.mtext.proofs.ending.is_apart.Goals as goal
 

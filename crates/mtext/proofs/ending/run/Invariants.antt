@@ -1,7 +1,5 @@
 -- SPDX-License-Identifier: Apache-2.0
-use Rattle.std.proofs.Common.{◌≡◌, ◌+◌, drop}
-use Rattle.std.specs.List.{prefix_len}
-use Rattle.mtext.specs.ClassSets.{is_in_set}
+use Rattle.mtext.proofs.TextWords.{◌≡◌, ◌+◌, drop, prefix_len, is_in_set}
 use Rattle.mtext.proofs.ending.run.Given as goal
 
 abbrev pub invariant-loop-place : goal.invariant-loop-place

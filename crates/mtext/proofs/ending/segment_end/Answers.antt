@@ -1,7 +1,5 @@
 -- SPDX-License-Identifier: Apache-2.0
-use Rattle.std.proofs.Common.{subst}
-use Rattle.mtext.specs.PatternPlaces.{count_of}
-use Rattle.mtext.specs.Endings.{Repeats}
+use Rattle.mtext.proofs.TextWords.{subst, count_of, Repeats}
 use Rattle.mtext.proofs.PatternEndings.{members_end, copies_end}
 use Rattle.mtext.proofs.ending.segment_end.Goals as goal
 

@@ -1,5 +1,5 @@
 -- SPDX-License-Identifier: Apache-2.0
-use Rattle.std.proofs.Common.{sym, ◌∙◌, ap, is_some}
+use Rattle.mtext.proofs.TextWords.{sym, ◌∙◌, ap, is_some}
 use Rattle.mtext.proofs.FoundPlaces.{first_place_is}
 use Rattle.mtext.proofs.functions.contains.Goals as goal
 

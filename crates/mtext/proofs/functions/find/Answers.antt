@@ -1,5 +1,5 @@
 -- SPDX-License-Identifier: Apache-2.0
-use Rattle.std.proofs.Common.{Some, None}
+use Rattle.mtext.proofs.TextWords.{Some, None}
 use Rattle.mtext.proofs.FoundPlaces.{find_is}
 use Rattle.mtext.proofs.functions.find.Goals as goal
 

@@ -1,5 +1,5 @@
 -- SPDX-License-Identifier: Apache-2.0
-use Rattle.std.proofs.Common.{◌∙◌}
+use Rattle.mtext.proofs.TextWords.{◌∙◌}
 use Rattle.mtext.proofs.CharacterOrder.{follows_is}
 use Rattle.mtext.proofs.functions.follows.Goals as goal
 

@@ -1,6 +1,5 @@
 -- SPDX-License-Identifier: Apache-2.0
-use Rattle.std.proofs.Common.{sym, ap, ◌∙◌, ◌++◌, append_assoc}
-use Rattle.std.specs.List.{repeat}
+use Rattle.mtext.proofs.TextWords.{sym, ap, ◌∙◌, ◌++◌, append_assoc, repeat}
 use Rattle.mtext.proofs.MadeTexts.{repeat_more}
 use Rattle.mtext.proofs.making.extended.Goals as goal
 

@@ -1,6 +1,5 @@
 -- SPDX-License-Identifier: Apache-2.0
-use Rattle.std.proofs.Common.{◌≡◌, ◌++◌}
-use Rattle.std.specs.List.{repeat}
+use Rattle.mtext.proofs.TextWords.{◌≡◌, ◌++◌, repeat}
 use Rattle.mtext.proofs.making.extended.Given as goal
 
 abbrev pub invariant-loop : goal.invariant-loop

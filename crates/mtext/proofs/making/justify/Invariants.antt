@@ -1,5 +1,5 @@
 -- SPDX-License-Identifier: Apache-2.0
-use Rattle.std.proofs.Common.{◌≡◌, replicate}
+use Rattle.mtext.proofs.TextWords.{◌≡◌, replicate}
 use Rattle.mtext.proofs.making.justify.Given as goal
 
 abbrev pub invariant-loop : goal.invariant-loop

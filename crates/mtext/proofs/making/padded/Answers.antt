@@ -1,6 +1,6 @@
 -- SPDX-License-Identifier: Apache-2.0
-use Rattle.std.proofs.Common.{◌≡◌, ◌+◌, ◌*◌, ◌++◌, List, ℕ, length, Ok, sym, ap, ◌∙◌, arith, length-append}
-use Rattle.std.specs.List.{repeat}
+use Rattle.mtext.proofs.TextWords.{◌≡◌, ◌+◌, ◌*◌, ◌++◌, List, ℕ, length, Ok, sym, ap, ◌∙◌, arith, repeat}
+use Rattle.std.proofs.Common.{length-append}
 use Rattle.mtext.proofs.MadeTexts.{is_made, refused, wanting, length-repeat}
 use Rattle.mtext.proofs.making.padded.Goals as goal
 

@@ -1,10 +1,5 @@
 -- SPDX-License-Identifier: Apache-2.0
-use Rattle.std.proofs.Common.{◌≡◌, ◌+◌, subst, length, drop, Some, None}
-use Rattle.mspec.specs.Pieces.{pieces_of}
-use Rattle.mspec.specs.TextFunctions.{made}
-use Rattle.mtext.specs.Made.{Answers}
-use Rattle.mtext.specs.Cuts.{IsBehind, delimiter_text}
-use Rattle.memchr.specs.Find.{FindsNeedle}
+use Rattle.mtext.proofs.TextWords.{◌≡◌, ◌+◌, subst, length, drop, Some, None, pieces_of, made, Answers, IsBehind, delimiter_text, FindsNeedle}
 use Rattle.mtext.proofs.FoundPlaces.{in_rest}
 use Rattle.mtext.proofs.PieceSetting.{set_found, set_last, set_past}
 use Rattle.mtext.proofs.making.replaced.Goals as goal

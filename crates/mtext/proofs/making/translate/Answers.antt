@@ -1,7 +1,5 @@
 -- SPDX-License-Identifier: Apache-2.0
-use Rattle.std.proofs.Common.{◌≤◌, Ok, length, sym, ap, ◌∙◌, subst, arith}
-use Rattle.mspec.specs.TextFunctions.{made, longest_text}
-use Rattle.mtext.specs.Made.{translation, Answers}
+use Rattle.mtext.proofs.TextWords.{◌≤◌, Ok, length, sym, ap, ◌∙◌, subst, arith, made, longest_text, translation, Answers}
 use Rattle.mtext.proofs.MadeTexts.{is_made, wanting, translation_is_short, same_translation}
 use Rattle.mtext.proofs.making.translate.Goals as goal
 use Rattle.mtext.proofs.making.translate.Goals.{then-characters-gt-LONGEST_TEXT+in_ok-check_length, else-characters-gt-LONGEST_TEXT}

@@ -1,6 +1,5 @@
 -- SPDX-License-Identifier: Apache-2.0
-use Rattle.std.proofs.Common.{Some, None, sym, ap, ◌∙◌, option_to_list}
-use Rattle.mspec.specs.TextFunctions.{translated_at}
+use Rattle.mtext.proofs.TextWords.{Some, None, sym, ap, ◌∙◌, option_to_list, translated_at}
 use Rattle.mtext.proofs.FoundPlaces.{character_place_is}
 use Rattle.mtext.proofs.MadeTexts.{got_is}
 use Rattle.mtext.proofs.making.translated.Goals as goal

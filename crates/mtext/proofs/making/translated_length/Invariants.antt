@@ -1,6 +1,5 @@
 -- SPDX-License-Identifier: Apache-2.0
-use Rattle.std.proofs.Common.{◌≡◌, ◌≤◌, length, take}
-use Rattle.mtext.specs.Made.{translation}
+use Rattle.mtext.proofs.TextWords.{◌≡◌, ◌≤◌, length, take, translation}
 use Rattle.mtext.proofs.making.translated_length.Given as goal
 
 abbrev pub invariant-loop-character : goal.invariant-loop-character

@@ -1,6 +1,5 @@
 -- SPDX-License-Identifier: Apache-2.0
-use Rattle.std.proofs.Common.{◌≡◌, take}
-use Rattle.mtext.specs.Made.{translation}
+use Rattle.mtext.proofs.TextWords.{◌≡◌, take, translation}
 use Rattle.mtext.proofs.making.translation.Given as goal
 
 abbrev pub invariant-loop-character : goal.invariant-loop-character

@@ -1,7 +1,5 @@
 -- SPDX-License-Identifier: Apache-2.0
-use Rattle.std.proofs.Common.{◌≡◌, IfOk, length, sym, subst, ap, ◌∙◌}
-use Rattle.std.proofs.lemmas.Bool.Decides.{Decides-eqb}
-use Rattle.mtext.specs.PatternPlaces.{count_of, repeated_of, AreEnds}
+use Rattle.mtext.proofs.TextWords.{◌≡◌, IfOk, length, sym, subst, ap, ◌∙◌, Decides-eqb, count_of, repeated_of, AreEnds}
 use Rattle.mtext.proofs.PatternCopies.{ends_at_starts_if}
 use Rattle.mtext.proofs.pattern.ends_of.Goals as goal
 

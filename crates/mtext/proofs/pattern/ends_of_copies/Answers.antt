@@ -1,7 +1,5 @@
 -- SPDX-License-Identifier: Apache-2.0
-use Rattle.std.proofs.Common.{rules, ◌≡◌, None, Decides, length, subst, ap, ◌∙◌}
-use Rattle.mspec.specs.Pattern.{copies}
-use Rattle.mtext.specs.PatternPlaces.{count_of, IsEnd, IsFewest}
+use Rattle.mtext.proofs.TextWords.{rules, ◌≡◌, None, Decides, length, subst, ap, ◌∙◌, copies, count_of, IsEnd, IsFewest}
 use Rattle.mtext.proofs.PatternCopies.{ends_by_fewest}
 use Rattle.mtext.proofs.PatternSlices.{each_more, marked_more}
 use Rattle.mtext.proofs.pattern.ends_of_copies.Goals as goal

@@ -1,7 +1,5 @@
 -- SPDX-License-Identifier: Apache-2.0
-use Rattle.std.proofs.Common.{◌≡◌, ◌<◌, ℕ, length, get_or, Decides, None, false}
-use Rattle.mspec.specs.Pattern.{copies}
-use Rattle.mtext.specs.PatternPlaces.{count_of, IsEnd, IsFewest}
+use Rattle.mtext.proofs.TextWords.{◌≡◌, ◌<◌, ℕ, length, get_or, Decides, None, false, copies, count_of, IsEnd, IsFewest}
 use Rattle.mtext.proofs.pattern.ends_of_copies.Given as goal
 
 abbrev pub invariant-loop-place : goal.invariant-loop-place

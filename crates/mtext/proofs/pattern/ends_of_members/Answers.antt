@@ -1,7 +1,5 @@
 -- SPDX-License-Identifier: Apache-2.0
-use Rattle.std.proofs.Common.{rules, ◌+◌, Decides, sym, subst, ◌∙◌, arith}
-use Rattle.mspec.specs.Pattern.{members, is_in_any}
-use Rattle.mtext.specs.PatternPlaces.{codes_of, count_of, IsEnd}
+use Rattle.mtext.proofs.TextWords.{rules, ◌+◌, Decides, sym, subst, ◌∙◌, arith, members, is_in_any, codes_of, count_of, IsEnd}
 use Rattle.mtext.proofs.PatternMembers.{IsRun, IsLatest, latest_new, latest_kept, ends_here, run_more, run_anew}
 use Rattle.mtext.proofs.PatternSlices.{marked_more}
 use Rattle.mtext.proofs.pattern.ends_of_members.Goals as goal

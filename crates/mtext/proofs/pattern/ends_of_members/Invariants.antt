@@ -1,7 +1,5 @@
 -- SPDX-License-Identifier: Apache-2.0
-use Rattle.std.proofs.Common.{◌≡◌, ◌<◌, ℕ, length, get_or, Decides, false}
-use Rattle.mspec.specs.Pattern.{is_in_any, members}
-use Rattle.mtext.specs.PatternPlaces.{codes_of, count_of, IsEnd}
+use Rattle.mtext.proofs.TextWords.{◌≡◌, ◌<◌, ℕ, length, get_or, Decides, false, is_in_any, members, codes_of, count_of, IsEnd}
 use Rattle.mtext.proofs.PatternMembers.{IsLatest, IsRun}
 use Rattle.mtext.proofs.pattern.ends_of_members.Given as goal
 

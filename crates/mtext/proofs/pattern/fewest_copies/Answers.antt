@@ -1,6 +1,5 @@
 -- SPDX-License-Identifier: Apache-2.0
-use Rattle.std.proofs.Common.{◌-◌, ◌≤◌, Some, None, length, sym, subst, ◌∙◌, true≢false, arith}
-use Rattle.mtext.specs.PatternPlaces.{IsBefore, IsFewest}
+use Rattle.mtext.proofs.TextWords.{◌-◌, ◌≤◌, Some, None, length, sym, subst, ◌∙◌, true≢false, arith, IsBefore, IsFewest}
 use Rattle.mtext.proofs.PatternCopies.{copies_fit, fewest_without, fewest_more}
 use Rattle.mtext.proofs.pattern.fewest_copies.Goals as goal
 

@@ -1,5 +1,5 @@
 -- SPDX-License-Identifier: Apache-2.0
-use Rattle.std.proofs.Common.{◌≡◌, ◌<◌, ℕ, length, get_or, ◌==◌, false}
+use Rattle.mtext.proofs.TextWords.{◌≡◌, ◌<◌, ℕ, length, get_or, ◌==◌, false}
 use Rattle.mtext.proofs.pattern.first_marks.Given as goal
 
 abbrev pub invariant-loop-place : goal.invariant-loop-place

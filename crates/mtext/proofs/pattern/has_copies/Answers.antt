@@ -1,6 +1,5 @@
 -- SPDX-License-Identifier: Apache-2.0
-use Rattle.std.proofs.Common.{◌≡◌, ◌+◌, ◌-◌, suc, sym, subst, ◌∙◌, true≢false, arith}
-use Rattle.mtext.specs.PatternPlaces.{IsBefore, IsCopiedTo}
+use Rattle.mtext.proofs.TextWords.{◌≡◌, ◌+◌, ◌-◌, suc, sym, subst, ◌∙◌, true≢false, arith, IsBefore, IsCopiedTo}
 use Rattle.mtext.proofs.PatternCopies.{IsOneFewer, one_fewer, one_more, none_more, none_fewer}
 use Rattle.mtext.proofs.pattern.has_copies.Goals as goal
 

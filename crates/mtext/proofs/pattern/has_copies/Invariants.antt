@@ -1,6 +1,5 @@
 -- SPDX-License-Identifier: Apache-2.0
-use Rattle.std.proofs.Common.{◌-◌, ◌≤◌, ◌↔◌}
-use Rattle.mtext.specs.PatternPlaces.{IsCopiedTo}
+use Rattle.mtext.proofs.TextWords.{◌-◌, ◌≤◌, ◌↔◌, IsCopiedTo}
 use Rattle.mtext.proofs.pattern.has_copies.Given as goal
 
 abbrev pub invariant-loop-taken : goal.invariant-loop-taken

@@ -1,8 +1,6 @@
 -- SPDX-License-Identifier: Apache-2.0
-use Rattle.std.proofs.Common.{refl, rules}
+use Rattle.mtext.proofs.TextWords.{refl, rules, is_in, is_in_any, code_of, codes_of}
 use Rattle.std.proofs.lemmas.List.Recursion.{or_is}
-use Rattle.mspec.specs.Pattern.{is_in, is_in_any}
-use Rattle.mtext.specs.PatternPlaces.{code_of, codes_of}
 use Rattle.mtext.specs.declared.pattern.PatternCode.TheVariants as code
 use Rattle.mtext.proofs.pattern.is_of_any.Goals as goal
 

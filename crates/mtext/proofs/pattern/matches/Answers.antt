@@ -1,9 +1,6 @@
 -- SPDX-License-Identifier: Apache-2.0
-use Rattle.std.proofs.Common.{◌≡◌, ◌+◌, ◌++◌, ◌∷◌, [], false, Decides, take, length, get_or, subst, sym, ap, ◌∙◌, arith}
-use Rattle.std.proofs.lemmas.List.{take_more, take_all, map-append, get_or_default}
-use Rattle.std.proofs.lemmas.Bool.Decides.{Decides-at}
-use Rattle.mspec.specs.Pattern.{Matches}
-use Rattle.mtext.specs.PatternPlaces.{atom_of, atoms_of, count_of, repeated_of, AreEnds, AreMatched}
+use Rattle.mtext.proofs.TextWords.{◌≡◌, ◌+◌, ◌++◌, ◌∷◌, [], false, Decides, take, length, get_or, subst, sym, ap, ◌∙◌, arith, take_more, map-append, get_or_default, Decides-at, Matches, atom_of, atoms_of, count_of, repeated_of, AreEnds, AreMatched}
+use Rattle.std.proofs.lemmas.List.{take_all}
 use Rattle.mtext.proofs.PatternJoins.{matched_more}
 use Rattle.mtext.proofs.pattern.matches.Goals as goal
 

@@ -1,6 +1,5 @@
 -- SPDX-License-Identifier: Apache-2.0
-use Rattle.std.proofs.Common.{take}
-use Rattle.mtext.specs.PatternPlaces.{atoms_of, AreMatched}
+use Rattle.mtext.proofs.TextWords.{take, atoms_of, AreMatched}
 use Rattle.mtext.proofs.pattern.matches.Given as goal
 
 abbrev pub invariant-loop-atom : goal.invariant-loop-atom

@@ -1,7 +1,6 @@
 -- SPDX-License-Identifier: Apache-2.0
-use Rattle.std.proofs.Common.{◌≡◌, ◌++◌, ℕ, List, All, true, false, ap, sym, ◌∙◌, subst}
-use Rattle.mspec.specs.NumberText.{number_text}
-use Rattle.mnum.specs.Num.{units}
+use Rattle.mvalue.proofs.ValueWords.{◌≡◌, ◌++◌, All, true, false, ap, sym, ◌∙◌, subst, number_text, units}
+use Rattle.std.proofs.Common.{ℕ, List}
 use Rattle.mvalue.proofs.AsciiNumbers.{Ascii, text_ascii}
 use Rattle.mvalue.proofs.value.printed.Goals as goal
 

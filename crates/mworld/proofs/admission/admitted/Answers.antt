@@ -1,6 +1,5 @@
 -- SPDX-License-Identifier: Apache-2.0
-use Rattle.std.proofs.Common.{refl, sym, ◌∙◌}
-use Rattle.mspec.specs.Code.{Zterm, Zline, Zchar}
+use Rattle.mworld.proofs.WorldWords.{refl, sym, ◌∙◌, Zterm, Zline, Zchar}
 use Rattle.mworld.proofs.Checks.{known, found, unknown_refused, long_refused, other_refused, is_short, is_long}
 use Rattle.mworld.proofs.admission.admitted.Goals as goal
 

@@ -1,9 +1,5 @@
 -- SPDX-License-Identifier: Apache-2.0
-use Rattle.std.proofs.Common.{◌≡◌, sym, ap, ◌∙◌, subst, map, take}
-use Rattle.std.proofs.lemmas.List.{take_all}
-use Rattle.mspec.specs.Access.{name_at}
-use Rattle.misolation.proofs.RunsTold.{told_apart, equally_told}
-use Rattle.mworld.specs.View.{settings_of, world_of, event_of}
+use Rattle.mworld.proofs.WorldWords.{◌≡◌, sym, ap, ◌∙◌, subst, map, take, take_all, name_at, told_apart, equally_told, settings_of, world_of, event_of}
 use Rattle.mworld.proofs.Tellings.{take_on, ran_first, whichever}
 use Rattle.mworld.proofs.isolated.isolated_replies.Goals as goal
 

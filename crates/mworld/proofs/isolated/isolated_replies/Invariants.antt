@@ -1,9 +1,5 @@
 -- SPDX-License-Identifier: Apache-2.0
-use Rattle.std.proofs.Common.{◌≡◌, map, take}
-use Rattle.mspec.specs.Access.{name_at}
-use Rattle.misolation.specs.Telling.{Tells}
-use Rattle.mworld.specs.View.{settings_of, world_of, event_of}
-use Rattle.mworld.specs.Isolated.{replies_of, IsToldEach}
+use Rattle.mworld.proofs.WorldWords.{◌≡◌, map, take, name_at, Tells, settings_of, world_of, event_of, replies_of, IsToldEach}
 use Rattle.mworld.proofs.isolated.isolated_replies.Given as goal
 
 abbrev pub invariant-loop-event : goal.invariant-loop-event

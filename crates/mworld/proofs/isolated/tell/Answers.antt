@@ -1,11 +1,5 @@
 -- SPDX-License-Identifier: Apache-2.0
-use Rattle.std.proofs.Common.{◌≡◌, ℕ, List, ◌++◌, ◌∷◌, [], refl, sym, ap, ◌∙◌, subst, map}
-use Rattle.std.proofs.lemmas.List.{map-append}
-use Rattle.mspec.specs.Access.{name_at}
-use Rattle.mmeaning.specs.Transition.{Event, Transition}
-use Rattle.misolation.specs.Telling.{Tells}
-use Rattle.mworld.specs.View.{settings_of, world_of, reply_of, event_of}
-use Rattle.mworld.specs.Isolated.{told_of}
+use Rattle.mworld.proofs.WorldWords.{◌≡◌, ℕ, List, ◌++◌, ◌∷◌, [], refl, sym, ap, ◌∙◌, subst, map, map-append, name_at, Event, Transition, Tells, settings_of, world_of, reply_of, event_of, told_of}
 use Rattle.mworld.proofs.Tellings.{nobody_told, other_told, own_told, nobody_each, other_each, own_each}
 use Rattle.mworld.proofs.isolated.tell.Goals as goal
 

@@ -1,6 +1,5 @@
 -- SPDX-License-Identifier: Apache-2.0
-use Rattle.std.proofs.Common.{refl, rules, sym, ap}
-use Rattle.mspec.specs.Act.{level_begun}
+use Rattle.mworld.proofs.WorldWords.{refl, rules, sym, ap, level_begun}
 use Rattle.mworld.proofs.Runs.{ran_over, not_run}
 use Rattle.mworld.proofs.session_run.run_over.Goals as goal
 

@@ -1,5 +1,5 @@
 -- SPDX-License-Identifier: Apache-2.0
-use Rattle.std.proofs.Common.{sym, ◌∙◌}
+use Rattle.mworld.proofs.WorldWords.{sym, ◌∙◌}
 use Rattle.mworld.proofs.Sessions.{had_one, had_none}
 use Rattle.mworld.proofs.terminals.begin_session.Goals as goal
 

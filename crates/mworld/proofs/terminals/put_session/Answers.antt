@@ -1,10 +1,6 @@
 -- SPDX-License-Identifier: Apache-2.0
-use Rattle.std.proofs.Common.{map, sym, ap, ◌∙◌}
+use Rattle.mworld.proofs.WorldWords.{map, sym, ap, ◌∙◌, nat_cmp, from_entries, session_of, sessions_of}
 use Rattle.std.proofs.lemmas.Result.{err_from_is_err_and}
-use Rattle.std.specs.Ordering.{nat_cmp}
-use Rattle.std.specs.FinMap.{from_entries}
-use Rattle.meval.specs.Sessions.{session_of}
-use Rattle.mworld.specs.View.{sessions_of}
 use Rattle.mworld.proofs.Sessions.{begun_at, others_kept, remove-none}
 use Rattle.mworld.proofs.terminals.put_session.Goals as goal
 

@@ -1,7 +1,5 @@
 -- SPDX-License-Identifier: Apache-2.0
-use Rattle.std.proofs.Common.{◌≡◌, Some, refl, sym, ap, subst, ◌∙◌}
-use Rattle.std.specs.FinMap.{get}
-use Rattle.mstore.specs.Held.{AreHeld}
+use Rattle.mcache.proofs.CacheWords.{◌≡◌, Some, refl, sym, ap, subst, ◌∙◌, get, AreHeld}
 use Rattle.mcache.proofs.EntriesOf.{is_got, is_held, in_them, read_now, with_one}
 use Rattle.mcache.proofs.cached.CachedNodeStore.get.Goals as goal
 

@@ -1,6 +1,5 @@
 -- SPDX-License-Identifier: Apache-2.0
-use Rattle.std.proofs.Common.{sym, subst}
-use Rattle.mcache.specs.NodeTexts.{AreOf}
+use Rattle.mcache.proofs.CacheWords.{sym, subst, AreOf}
 use Rattle.mcache.proofs.EntriesOf.{behind_kill}
 use Rattle.mcache.proofs.cached.CachedNodeStore.kill.Goals as goal
 

@@ -1,6 +1,5 @@
 -- SPDX-License-Identifier: Apache-2.0
-use Rattle.std.proofs.Common.{true, refl, sym, subst}
-use Rattle.mcache.specs.NodeTexts.{AreOf}
+use Rattle.mcache.proofs.CacheWords.{true, refl, sym, subst, AreOf}
 use Rattle.mcache.proofs.EntriesOf.{behind_put, read_now, with_one, got_itself}
 use Rattle.mcache.proofs.cached.CachedNodeStore.put.Goals as goal
 

@@ -1,9 +1,5 @@
 -- SPDX-License-Identifier: Apache-2.0
-use Rattle.std.proofs.Common.{◌≡◌, Some}
-use Rattle.std.proofs.lemmas.Result.{err_from_is_err_and}
-use Rattle.mgrammar.specs.Reading.{line_at}
-use Rattle.mtree.specs.Tree.{line_tree}
-use Rattle.mscan.specs.declared.fault.ParseFault.TheVariants.{Syntax}
+use Rattle.mcache.proofs.CacheWords.{◌≡◌, Some, err_from_is_err_and, line_at, line_tree, Syntax}
 use Rattle.mcache.proofs.Held.{with_line}
 use Rattle.mcache.proofs.Texts.{line_is, no_line, handed_on}
 use Rattle.mcache.proofs.trees.Trees.line.Goals as goal

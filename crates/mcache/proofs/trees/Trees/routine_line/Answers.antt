@@ -1,9 +1,5 @@
 -- SPDX-License-Identifier: Apache-2.0
-use Rattle.std.proofs.Common.{◌≡◌, Some}
-use Rattle.std.proofs.lemmas.Result.{err_from_is_err_and}
-use Rattle.mgrammar.specs.RoutineLine.{routine_line_at}
-use Rattle.mtree.specs.Tree.{routine_line_tree}
-use Rattle.mscan.specs.declared.fault.ParseFault.TheVariants.{Syntax}
+use Rattle.mcache.proofs.CacheWords.{◌≡◌, Some, err_from_is_err_and, routine_line_at, routine_line_tree, Syntax}
 use Rattle.mcache.proofs.Held.{with_routine_line}
 use Rattle.mcache.proofs.Texts.{routine_line_is, no_routine_line, handed_on}
 use Rattle.mcache.proofs.trees.Trees.routine_line.Goals as goal

@@ -1,7 +1,5 @@
 -- SPDX-License-Identifier: Apache-2.0
-use Rattle.std.proofs.Common.{Bool, true, refl}
-use Rattle.mspec.specs.Act.{give}
-use Rattle.mnum.specs.Num.{units}
+use Rattle.mcommand.proofs.CommandWords.{Bool, true, refl, give, units}
 use Rattle.mcommand.proofs.Calls.{does_then, does_stopped, does_gives, does_evaluated, does_yielded}
 use Rattle.mcommand.proofs.Sums.{sum_units}
 use Rattle.mcommand.proofs.parts.Parts.add.Goals as goal

@@ -1,9 +1,5 @@
 -- SPDX-License-Identifier: Apache-2.0
-use Rattle.std.proofs.Common.{◌≡◌, ◌∙◌, Bool, true, false, ◌+ℤ◌, cond, sym, refl}
-use Rattle.mspec.specs.Act.{give}
-use Rattle.mmeaning.specs.Courses.{is_past}
-use Rattle.mnum.specs.Num.{units}
-use Rattle.mcommand.specs.Turns.{added}
+use Rattle.mcommand.proofs.CommandWords.{◌≡◌, ◌∙◌, Bool, true, false, ◌+ℤ◌, cond, sym, refl, give, is_past, units, added}
 use Rattle.mcommand.proofs.Calls.{does_then, does_stopped, does_gives, does_evaluated, does_true, does_false}
 use Rattle.mcommand.proofs.parts.Parts.advance.Goals as goal
 

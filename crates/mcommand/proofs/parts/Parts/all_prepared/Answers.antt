@@ -1,10 +1,6 @@
 -- SPDX-License-Identifier: Apache-2.0
-use Rattle.std.proofs.Common.{map, arith, refl, Vec, Global}
+use Rattle.mcommand.proofs.CommandWords.{map, arith, refl, Vec, Global, none_left, residual_is, Prepared, prepared_view}
 use Rattle.std.proofs.lemmas.List.{map_push}
-use Rattle.mspec.proofs.ListPlaces.{none_left}
-use Rattle.mmeaning.proofs.Calls.{residual_is}
-use Rattle.mcommand.specs.declared.set.Prepared.{Prepared}
-use Rattle.mcommand.specs.Prepared.{prepared_view}
 use Rattle.mcommand.proofs.Calls.{does_gives, does_wanting, keeps_itself, keeps_on}
 use Rattle.mcommand.proofs.Targets.{next_prepared, prepared_failed}
 use Rattle.mcommand.proofs.parts.Parts.all_prepared.Goals as goal

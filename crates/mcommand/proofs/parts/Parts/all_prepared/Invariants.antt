@@ -1,12 +1,6 @@
 -- SPDX-License-Identifier: Apache-2.0
-use Rattle.std.proofs.Common.{◌≤◌, [], map, drop, Result, Vec, Global}
+use Rattle.mcommand.proofs.CommandWords.{◌≤◌, [], map, drop, Result, Vec, Global, target_tree, Code, Parts, Prepared, Does, KeepsLoans, prepared_view}
 use Rattle.mmeaning.specs.LineMeaning as meaning
-use Rattle.mtree.specs.Tree.{target_tree}
-use Rattle.moperator.specs.declared.code.Code.{Code}
-use Rattle.mcommand.specs.declared.parts.Parts.{Parts}
-use Rattle.mcommand.specs.declared.set.Prepared.{Prepared}
-use Rattle.mcommand.specs.Does.{Does, KeepsLoans}
-use Rattle.mcommand.specs.Prepared.{prepared_view}
 use Rattle.mcommand.proofs.parts.Parts.all_prepared.Given as goal
 
 abbrev pub invariant-loop-target : goal.invariant-loop-target

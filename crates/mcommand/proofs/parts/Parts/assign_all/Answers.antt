@@ -1,11 +1,6 @@
 -- SPDX-License-Identifier: Apache-2.0
-use Rattle.std.proofs.Common.{◌≡◌, ◌≤◌, length, ◌∷◌, [], ◌++◌, List, map, arith, refl, sym, ap, ◌∙◌, append_assoc}
-use Rattle.std.specs.Vec.Iter.{into_iter_items}
+use Rattle.mcommand.proofs.CommandWords.{◌≡◌, ◌≤◌, length, ◌∷◌, [], ◌++◌, List, map, arith, refl, sym, ap, ◌∙◌, append_assoc, into_iter_items, none_left, residual_is, Prepared, prepared_view}
 use Rattle.mmeaning.specs.LineMeaning as meaning
-use Rattle.mspec.proofs.ListPlaces.{none_left}
-use Rattle.mmeaning.proofs.Calls.{residual_is}
-use Rattle.mcommand.specs.declared.set.Prepared.{Prepared}
-use Rattle.mcommand.specs.Prepared.{prepared_view}
 use Rattle.mcommand.proofs.Calls.{does_then, does_failed, does_gives, does_wanting, keeps_itself, keeps_on, taken_front}
 use Rattle.mcommand.proofs.parts.Parts.assign_all.Goals as goal
 

@@ -1,11 +1,6 @@
 -- SPDX-License-Identifier: Apache-2.0
-use Rattle.std.proofs.Common.{◌≡◌, ◌≤◌, ◌++◌, List, map, Result}
+use Rattle.mcommand.proofs.CommandWords.{◌≡◌, ◌≤◌, ◌++◌, List, map, Result, Code, Parts, Prepared, Does, KeepsLoans, prepared_view}
 use Rattle.mmeaning.specs.LineMeaning as meaning
-use Rattle.moperator.specs.declared.code.Code.{Code}
-use Rattle.mcommand.specs.declared.parts.Parts.{Parts}
-use Rattle.mcommand.specs.declared.set.Prepared.{Prepared}
-use Rattle.mcommand.specs.Does.{Does, KeepsLoans}
-use Rattle.mcommand.specs.Prepared.{prepared_view}
 use Rattle.mcommand.proofs.parts.Parts.assign_all.Given as goal
 
 abbrev pub invariant-loop-prepared : goal.invariant-loop-prepared

@@ -1,7 +1,5 @@
 -- SPDX-License-Identifier: Apache-2.0
-use Rattle.std.proofs.Common.{Bool, true, refl, sym}
-use Rattle.mspec.specs.Plan.{Take}
-use Rattle.mspec.specs.Act.{give, ask}
+use Rattle.mcommand.proofs.CommandWords.{Bool, true, refl, sym, Take, give, ask}
 use Rattle.mcommand.proofs.Calls.{does_then, does_gives}
 use Rattle.mcommand.proofs.parts.Parts.carry.Goals as goal
 

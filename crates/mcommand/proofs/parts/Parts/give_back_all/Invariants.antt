@@ -1,8 +1,6 @@
 -- SPDX-License-Identifier: Apache-2.0
-use Rattle.std.proofs.Common.{◌≡◌, drop, Ok}
+use Rattle.mcommand.proofs.CommandWords.{◌≡◌, drop, Ok, Parts, Does, KeepsLoans}
 use Rattle.mmeaning.specs.Locking as meaning
-use Rattle.mcommand.specs.declared.parts.Parts.{Parts}
-use Rattle.mcommand.specs.Does.{Does, KeepsLoans}
 use Rattle.mcommand.proofs.parts.Parts.give_back_all.Given as goal
 
 abbrev pub invariant-loop-name : goal.invariant-loop-name

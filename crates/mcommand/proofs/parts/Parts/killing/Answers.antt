@@ -1,5 +1,5 @@
 -- SPDX-License-Identifier: Apache-2.0
-use Rattle.mmeaning.specs.Variables.{kill_at}
+use Rattle.mcommand.proofs.CommandWords.{kill_at}
 use Rattle.mcommand.proofs.Calls.{does_then, does_stopped, does_evaluated}
 use Rattle.mcommand.proofs.parts.Parts.killing.Goals as goal
 

@@ -1,10 +1,6 @@
 -- SPDX-License-Identifier: Apache-2.0
-use Rattle.std.proofs.Common.{map, arith, refl, sym, subst, Vec, Global}
-use Rattle.mspec.proofs.ListPlaces.{none_left}
-use Rattle.mmeaning.proofs.Calls.{residual_is}
+use Rattle.mcommand.proofs.CommandWords.{map, arith, refl, sym, subst, Vec, Global, none_left, residual_is, standing_of, MayTake}
 use Rattle.mlock.specs.declared.name.LockName.{LockName}
-use Rattle.meval.specs.Evaluates.{standing_of}
-use Rattle.mcommand.specs.LockNames.{MayTake}
 use Rattle.mcommand.proofs.Calls.{does_evaluated, does_gives, does_wanting, keeps_itself, keeps_evaluated}
 use Rattle.mcommand.proofs.Locking.{one_more_taken, next_name, name_failed}
 use Rattle.mcommand.proofs.parts.Parts.lock_names.Goals as goal

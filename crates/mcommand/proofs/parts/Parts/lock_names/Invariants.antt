@@ -1,13 +1,7 @@
 -- SPDX-License-Identifier: Apache-2.0
-use Rattle.std.proofs.Common.{◌≡◌, ◌≤◌, [], map, drop, Result, Vec, Global}
+use Rattle.mcommand.proofs.CommandWords.{◌≡◌, ◌≤◌, [], map, drop, Result, Vec, Global, reference_tree, Code, standing_of, Parts, Does, KeepsLoans, MayTake}
 use Rattle.mmeaning.specs.Locking as meaning
-use Rattle.mtree.specs.Tree.{reference_tree}
 use Rattle.mlock.specs.declared.name.LockName.{LockName}
-use Rattle.moperator.specs.declared.code.Code.{Code}
-use Rattle.meval.specs.Evaluates.{standing_of}
-use Rattle.mcommand.specs.declared.parts.Parts.{Parts}
-use Rattle.mcommand.specs.Does.{Does, KeepsLoans}
-use Rattle.mcommand.specs.LockNames.{MayTake}
 use Rattle.mcommand.proofs.parts.Parts.lock_names.Given as goal
 
 abbrev pub invariant-loop-reference : goal.invariant-loop-reference

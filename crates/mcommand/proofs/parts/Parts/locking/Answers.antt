@@ -1,9 +1,6 @@
 -- SPDX-License-Identifier: Apache-2.0
-use Rattle.std.proofs.Common.{sym, subst}
-use Rattle.mtree.specs.Tree.{condition_tree, kind_tree}
-use Rattle.mmeaning.specs.Expression.{optional_value}
+use Rattle.mcommand.proofs.CommandWords.{sym, subst, condition_tree, kind_tree, optional_value, MayTake}
 use Rattle.mmeaning.specs.Locking as meaning
-use Rattle.mcommand.specs.LockNames.{MayTake}
 use Rattle.mcommand.proofs.Calls.{does_then, does_stopped}
 use Rattle.mcommand.proofs.parts.Parts.locking.Goals as goal
 

@@ -1,6 +1,5 @@
 -- SPDX-License-Identifier: Apache-2.0
-use Rattle.std.proofs.Common.{refl}
-use Rattle.mcommand.specs.Prepared.{prepared_view}
+use Rattle.mcommand.proofs.CommandWords.{refl, prepared_view}
 use Rattle.mcommand.proofs.Calls.{does_then, does_stopped, does_gives, does_evaluated}
 use Rattle.mcommand.proofs.parts.Parts.prepared.Goals as goal
 

@@ -1,8 +1,6 @@
 -- SPDX-License-Identifier: Apache-2.0
-use Rattle.std.proofs.Common.{refl, ap}
+use Rattle.mcommand.proofs.CommandWords.{refl, ap, pending_view, prepared_view}
 use Rattle.mmeaning.specs.LineMeaning as meaning
-use Rattle.meval.specs.Places.{pending_view}
-use Rattle.mcommand.specs.Prepared.{prepared_view}
 use Rattle.mcommand.proofs.Calls.{does_then, does_stopped, does_gives, does_evaluated, does_wanting}
 use Rattle.mcommand.proofs.parts.Parts.prepared_part.Goals as goal
 

@@ -1,9 +1,5 @@
 -- SPDX-License-Identifier: Apache-2.0
-use Rattle.std.proofs.Common.{◌≡◌, Ok, Err, ◌∙◌, subst}
-use Rattle.mspec.specs.Act.{Text}
-use Rattle.mspec.specs.TextFunctions.{set_piece_of}
-use Rattle.mtext.specs.Made.{Answers}
-use Rattle.meval.specs.Places.{place_view}
+use Rattle.mcommand.proofs.CommandWords.{◌≡◌, Ok, Err, ◌∙◌, subst, Text, set_piece_of, Answers, place_view}
 use Rattle.mcommand.proofs.Calls.{does_then, does_stopped, does_evaluated}
 use Rattle.mcommand.proofs.Targets.{piece_put, piece_number_failed, piece_read_failed, piece_wanting, piece_assigned, piece_refused}
 use Rattle.mcommand.proofs.parts.Parts.set_part.Goals as goal

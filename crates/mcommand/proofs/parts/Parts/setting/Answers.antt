@@ -1,9 +1,5 @@
 -- SPDX-License-Identifier: Apache-2.0
-use Rattle.std.proofs.Common.{map, Vec, Global}
-use Rattle.mmeaning.proofs.Calls.{residual_is}
-use Rattle.mtree.specs.Tree.{target_tree, expr_tree}
-use Rattle.mcommand.specs.declared.set.Prepared.{Prepared}
-use Rattle.mcommand.specs.Prepared.{prepared_view}
+use Rattle.mcommand.proofs.CommandWords.{map, Vec, Global, residual_is, target_tree, expr_tree, Prepared, prepared_view}
 use Rattle.mcommand.proofs.Calls.{does_evaluated}
 use Rattle.mcommand.proofs.Targets.{plain_assigned, plain_failed, all_given, all_value_failed, all_prepared_failed}
 use Rattle.mcommand.proofs.parts.Parts.setting.Goals as goal

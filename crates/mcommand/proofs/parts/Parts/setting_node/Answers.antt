@@ -1,6 +1,5 @@
 -- SPDX-License-Identifier: Apache-2.0
-use Rattle.mmeaning.proofs.Calls.{residual_is}
-use Rattle.mtree.specs.Tree.{expr_tree}
+use Rattle.mcommand.proofs.CommandWords.{residual_is, expr_tree}
 use Rattle.mcommand.proofs.Calls.{does_evaluated}
 use Rattle.mcommand.proofs.Targets.{node_assigned, node_value_failed, node_subscript_failed}
 use Rattle.mcommand.proofs.parts.Parts.setting_node.Goals as goal

@@ -1,6 +1,5 @@
 -- SPDX-License-Identifier: Apache-2.0
-use Rattle.mmeaning.proofs.Calls.{residual_is}
-use Rattle.mtree.specs.Tree.{target_tree, expr_tree}
+use Rattle.mcommand.proofs.CommandWords.{residual_is, target_tree, expr_tree}
 use Rattle.mcommand.proofs.Calls.{does_evaluated}
 use Rattle.mcommand.proofs.Targets.{one_assigned, one_value_failed, one_prepared_failed}
 use Rattle.mcommand.proofs.parts.Parts.setting_one.Goals as goal

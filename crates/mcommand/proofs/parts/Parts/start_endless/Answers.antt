@@ -1,9 +1,5 @@
 -- SPDX-License-Identifier: Apache-2.0
-use Rattle.std.proofs.Common.{Some, option_map, refl}
-use Rattle.mspec.specs.Act.{give}
-use Rattle.mmeaning.specs.Courses.{endless}
-use Rattle.mnum.specs.Num.{units}
-use Rattle.mcommand.specs.Turns.{course_view}
+use Rattle.mcommand.proofs.CommandWords.{Some, option_map, refl, give, endless, units, course_view}
 use Rattle.mcommand.proofs.Calls.{does_then, does_stopped, does_gives, does_evaluated}
 use Rattle.mcommand.proofs.parts.Parts.start_endless.Goals as goal
 

@@ -1,10 +1,6 @@
 -- SPDX-License-Identifier: Apache-2.0
-use Rattle.std.proofs.Common.{◌≡◌, ◌∙◌, true, false, Some, None, cond, option_map, sym, ap}
-use Rattle.mspec.specs.Act.{give}
-use Rattle.mmeaning.specs.Courses.{limited, is_past}
-use Rattle.mnum.specs.Num.{units}
+use Rattle.mcommand.proofs.CommandWords.{◌≡◌, ◌∙◌, true, false, Some, None, cond, option_map, sym, ap, give, limited, is_past, units, course_view}
 use Rattle.mcommand.specs.declared.turn.Course.TheVariants.{Limited}
-use Rattle.mcommand.specs.Turns.{course_view}
 use Rattle.mcommand.proofs.Calls.{does_then, does_stopped, does_gives, does_evaluated}
 use Rattle.mcommand.proofs.parts.Parts.start_limited.Goals as goal
 

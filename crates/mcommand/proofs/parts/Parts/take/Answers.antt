@@ -1,5 +1,5 @@
 -- SPDX-License-Identifier: Apache-2.0
-use Rattle.std.proofs.Common.{refl}
+use Rattle.mcommand.proofs.CommandWords.{refl}
 use Rattle.mcommand.proofs.Calls.{does_wanting}
 use Rattle.mcommand.proofs.Locking.{does_take}
 use Rattle.mcommand.proofs.parts.Parts.take.Goals as goal

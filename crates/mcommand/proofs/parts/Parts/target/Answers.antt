@@ -1,5 +1,5 @@
 -- SPDX-License-Identifier: Apache-2.0
-use Rattle.mtree.specs.Tree.{entry_tree}
+use Rattle.mcommand.proofs.CommandWords.{entry_tree}
 use Rattle.mcommand.specs.Targets.{target_among}
 use Rattle.mcommand.proofs.Calls.{does_then, does_stopped, does_yielded}
 use Rattle.mcommand.proofs.parts.Parts.target.Goals as goal

@@ -1,5 +1,5 @@
 -- SPDX-License-Identifier: Apache-2.0
-use Rattle.std.proofs.Common.{refl}
+use Rattle.mcommand.proofs.CommandWords.{refl}
 use Rattle.mcommand.proofs.Calls.{does_evaluated, does_gives, does_yielded}
 use Rattle.mcommand.proofs.parts.Parts.tell.Goals as goal
 

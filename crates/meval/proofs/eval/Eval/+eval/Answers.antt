@@ -1,19 +1,8 @@
 -- SPDX-License-Identifier: Apache-2.0
-use Rattle.std.proofs.Common.{◌≡◌, ◌≤◌, ◌∙◌, ◌++◌, length, List, [], ◌∷◌, map, refl, sym, ap, arith, rules}
-use Rattle.std.proofs.lemmas.Bool.Decides.{nat_tests}
-use Rattle.std.proofs.lemmas.List.{nil_from_length}
-use Rattle.mgrammar.specs.Grammar.{apply, exprs_of, tails_of}
-use Rattle.mmeaning.specs.Expression.{named_by, values, tails_value}
-use Rattle.mmeaning.specs.Variables.{at_local, of_global, subscripts_of, with_subscripts, direction_of}
-use Rattle.mmeaning.proofs.Calls.{residual_is}
-use Rattle.std.specs.Prelude.{slice_get}
-use Rattle.mspec.specs.Act.{Text, ◌>>=◌, give}
-use Rattle.mtree.specs.Tree.{expr_tree, operand_tree, reference_tree, tail_tree}
-use Rattle.mnum.specs.Num.{units}
-use Rattle.mspec.specs.NumberText.{number_text}
+use Rattle.meval.proofs.EvalWords.{◌≡◌, ◌≤◌, ◌∙◌, ◌++◌, length, [], ◌∷◌, map, refl, sym, ap, arith, rules, nat_tests, nil_from_length, apply, exprs_of, tails_of, named_by, values, tails_value, at_local, of_global, subscripts_of, with_subscripts, direction_of, residual_is, slice_get, ◌>>=◌, give, expr_tree, operand_tree, reference_tree, tail_tree, units, number_text, read_act, order_from, order_behind, named, pending_view, walk_view}
+use Rattle.std.proofs.Common.{List}
+use Rattle.mspec.specs.Act.{Text}
 use Rattle.mvalue.specs.Texts.{kind_text}
-use Rattle.meval.specs.Acts.{read_act, order_from, order_behind}
-use Rattle.meval.specs.Places.{named, pending_view, walk_view}
 use Rattle.moperator.proofs.Numbers.{computed_outcome}
 use Rattle.meval.proofs.Calls.{evaluates_then, evaluates_whole, evaluates_failed, evaluates_gives, evaluates_seen, evaluates_refused, evaluates_stopped, evaluates_wanting, evaluates_yielded, keeps_itself, keeps_on}
 use Rattle.meval.proofs.AtOnce.{node_evaluated, node_failed, ordered_next, ordered_stopped, walk_through, walk_refused}

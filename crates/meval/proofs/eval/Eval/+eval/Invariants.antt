@@ -1,14 +1,8 @@
 -- SPDX-License-Identifier: Apache-2.0
-use Rattle.std.proofs.Common.{◌≤◌, ◌+◌, ◌*◌, [], map, drop, Result, List}
+use Rattle.meval.proofs.EvalWords.{◌≤◌, ◌+◌, ◌*◌, [], map, drop, Result, number_text, units, tails_of, exprs_of, choices_of, expr_tree, tail_tree, choice_tree, Code, Eval, Evaluates, KeepsEval, Leads}
+use Rattle.std.proofs.Common.{List}
 use Rattle.mspec.specs.Act.{Text}
-use Rattle.mspec.specs.NumberText.{number_text}
-use Rattle.mnum.specs.Num.{units}
 use Rattle.mmeaning.specs.Expression as meaning
-use Rattle.mgrammar.specs.Grammar.{tails_of, exprs_of, choices_of}
-use Rattle.mtree.specs.Tree.{expr_tree, tail_tree, choice_tree}
-use Rattle.moperator.specs.declared.code.Code.{Code}
-use Rattle.meval.specs.declared.eval.Eval.{Eval}
-use Rattle.meval.specs.Evaluates.{Evaluates, KeepsEval, Leads}
 use Rattle.meval.proofs.eval.Eval.+eval.Given as goal
 
 -- Steps fall in number at `primary` alone, which charges one before it goes on; each other call leads to a lower rank.

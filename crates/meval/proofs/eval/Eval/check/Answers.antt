@@ -1,7 +1,5 @@
 -- SPDX-License-Identifier: Apache-2.0
-use Rattle.std.proofs.Common.{sym}
-use Rattle.std.proofs.lemmas.Bool.{and_from}
-use Rattle.mspec.proofs.SubscriptTests.{decides_account_name}
+use Rattle.meval.proofs.EvalWords.{sym, and_from, decides_account_name}
 use Rattle.meval.proofs.Asking.{let_in, no_account}
 use Rattle.meval.proofs.eval.Eval.check.Goals as goal
 

@@ -1,5 +1,5 @@
 -- SPDX-License-Identifier: Apache-2.0
-use Rattle.mmeaning.proofs.Calls.{residual_is}
+use Rattle.meval.proofs.EvalWords.{residual_is}
 use Rattle.meval.proofs.eval.Eval.found.Goals as goal
 
 pub returns-in_err-text-in-Node-clause-does : goal.returns-in_err-text-in-Node-clause-does

@@ -1,10 +1,6 @@
 -- SPDX-License-Identifier: Apache-2.0
-use Rattle.std.proofs.Common.{ap}
-use Rattle.mspec.specs.Act.{◌>>◌, give, unless}
+use Rattle.meval.proofs.EvalWords.{ap, ◌>>◌, give, unless, Node, LockName, are_subscripts}
 use Rattle.mspec.specs.Code as spec
-use Rattle.mspec.specs.Node.{Node}
-use Rattle.mspec.specs.LockConflict.{LockName}
-use Rattle.mspec.specs.Subscripts.{are_subscripts}
 use Rattle.meval.proofs.Calls.{evaluates_then, evaluates_stopped, evaluates_gives, evaluates_yielded}
 use Rattle.meval.proofs.Locks.{global_name}
 use Rattle.meval.proofs.eval.Eval.global_lock.Goals as goal

@@ -1,8 +1,5 @@
 -- SPDX-License-Identifier: Apache-2.0
-use Rattle.std.proofs.Common.{refl, []}
-use Rattle.mspec.specs.Code.{M15}
-use Rattle.mspec.specs.Act.{◌>>=◌, value_of, give_some}
-use Rattle.mmeaning.specs.Operators.{as_number}
+use Rattle.meval.proofs.EvalWords.{refl, [], M15, ◌>>=◌, value_of, give_some, as_number}
 use Rattle.meval.proofs.Calls.{evaluates_then, evaluates_yielded, evaluates_fails, asks_locals}
 use Rattle.meval.proofs.eval.Eval.index.Goals as goal
 

@@ -1,7 +1,5 @@
 -- SPDX-License-Identifier: Apache-2.0
-use Rattle.std.proofs.Common.{refl, []}
-use Rattle.mspec.specs.Code.{M6}
-use Rattle.mspec.specs.Act.{value_of, give_some}
+use Rattle.meval.proofs.EvalWords.{refl, [], M6, value_of, give_some}
 use Rattle.meval.proofs.Calls.{evaluates_then, evaluates_gives, evaluates_fails, asks_locals}
 use Rattle.meval.proofs.eval.Eval.local.Goals as goal
 

@@ -1,9 +1,5 @@
 -- SPDX-License-Identifier: Apache-2.0
-use Rattle.std.proofs.Common.{[], ◌∷◌, refl, sym}
-use Rattle.mspec.proofs.SubscriptTests.{decides_subscripts}
-use Rattle.mspec.specs.Code.{M6}
-use Rattle.mspec.specs.Act.{value_of, give_some}
-use Rattle.mmeaning.specs.Variables.{read_at}
+use Rattle.meval.proofs.EvalWords.{[], ◌∷◌, refl, sym, decides_subscripts, M6, value_of, give_some, read_at}
 use Rattle.meval.proofs.Calls.{evaluates_then, evaluates_gives, evaluates_fails, asks_locals}
 use Rattle.meval.proofs.AtOnce.{let_through}
 use Rattle.meval.proofs.eval.Eval.local_at.Goals as goal

@@ -1,5 +1,5 @@
 -- SPDX-License-Identifier: Apache-2.0
-use Rattle.mmeaning.specs.Variables.{named_lock}
+use Rattle.meval.proofs.EvalWords.{named_lock}
 use Rattle.meval.proofs.Calls.{evaluates_then, evaluates_stopped}
 use Rattle.meval.proofs.eval.Eval.lock_name.Goals as goal
 

@@ -1,11 +1,6 @@
 -- SPDX-License-Identifier: Apache-2.0
-use Rattle.std.proofs.Common.{Some, ap}
-use Rattle.mspec.specs.Act.{◌>>◌, give, unless, set_naked}
+use Rattle.meval.proofs.EvalWords.{Some, ap, ◌>>◌, give, unless, set_naked, Node, are_subscripts, at_node, place_view}
 use Rattle.mspec.specs.Code as spec
-use Rattle.mspec.specs.Node.{Node}
-use Rattle.mspec.specs.Subscripts.{are_subscripts}
-use Rattle.mmeaning.specs.Variables.{at_node}
-use Rattle.meval.specs.Places.{place_view}
 use Rattle.meval.proofs.Calls.{evaluates_then, evaluates_stopped, evaluates_gives, evaluates_yielded}
 use Rattle.meval.proofs.Asking.{as_node_place}
 use Rattle.meval.proofs.eval.Eval.node_place.Goals as goal

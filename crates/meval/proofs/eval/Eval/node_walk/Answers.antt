@@ -1,9 +1,5 @@
 -- SPDX-License-Identifier: Apache-2.0
-use Rattle.std.proofs.Common.{Some, ap}
-use Rattle.mspec.specs.Act.{◌>>◌, give, set_naked}
-use Rattle.mspec.specs.Node.{Node}
-use Rattle.mmeaning.specs.Variables.{at_node, checked, ordering}
-use Rattle.meval.specs.Places.{walk_view}
+use Rattle.meval.proofs.EvalWords.{Some, ap, ◌>>◌, give, set_naked, Node, at_node, checked, ordering, walk_view}
 use Rattle.meval.proofs.Calls.{evaluates_then, evaluates_stopped, evaluates_gives, evaluates_yielded, evaluates_wanting}
 use Rattle.meval.proofs.eval.Eval.node_walk.Goals as goal
 

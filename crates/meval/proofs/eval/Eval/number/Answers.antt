@@ -1,6 +1,5 @@
 -- SPDX-License-Identifier: Apache-2.0
-use Rattle.std.proofs.Common.{refl}
-use Rattle.mmeaning.proofs.Calls.{residual_is}
+use Rattle.meval.proofs.EvalWords.{refl, residual_is}
 use Rattle.meval.proofs.Calls.{evaluates_seen, evaluates_refused}
 use Rattle.meval.proofs.eval.Eval.number.Goals as goal
 

@@ -1,7 +1,5 @@
 -- SPDX-License-Identifier: Apache-2.0
-use Rattle.std.proofs.Common.{◌≡◌, [], arith}
-use Rattle.std.proofs.lemmas.Bool.Decides.{nat_tests}
-use Rattle.std.proofs.lemmas.List.{nil_from_length}
+use Rattle.meval.proofs.EvalWords.{◌≡◌, [], arith, nat_tests, nil_from_length}
 use Rattle.meval.proofs.Calls.{evaluates_whole}
 use Rattle.meval.proofs.TreeViews.{expr_is}
 use Rattle.meval.proofs.eval.Eval.number_alone.Goals as goal

@@ -1,8 +1,5 @@
 -- SPDX-License-Identifier: Apache-2.0
-use Rattle.std.proofs.Common.{◌≡◌, [], sym, ap, arith}
-use Rattle.std.proofs.lemmas.Bool.Decides.{nat_tests}
-use Rattle.std.proofs.lemmas.List.{nil_from_length}
-use Rattle.mtree.specs.Tree.{primary_tree}
+use Rattle.meval.proofs.EvalWords.{◌≡◌, [], sym, ap, arith, nat_tests, nil_from_length, primary_tree}
 use Rattle.meval.proofs.Calls.{evaluates_whole}
 use Rattle.meval.proofs.TreeViews.{operand_is}
 use Rattle.meval.proofs.AtOnce.{held}

@@ -1,7 +1,5 @@
 -- SPDX-License-Identifier: Apache-2.0
-use Rattle.std.proofs.Common.{[], ◌∷◌, sym}
-use Rattle.mspec.proofs.SubscriptTests.{decides_subscripts}
-use Rattle.mmeaning.specs.Variables.{put_at}
+use Rattle.meval.proofs.EvalWords.{[], ◌∷◌, sym, decides_subscripts, put_at}
 use Rattle.meval.proofs.Calls.{evaluates_then}
 use Rattle.meval.proofs.AtOnce.{let_through}
 use Rattle.meval.proofs.eval.Eval.put_local.Goals as goal

@@ -1,6 +1,5 @@
 -- SPDX-License-Identifier: Apache-2.0
-use Rattle.meval.specs.Places.{use_of, name_view}
-use Rattle.mmeaning.specs.Variables.{node_place}
+use Rattle.meval.proofs.EvalWords.{use_of, name_view, node_place}
 use Rattle.meval.proofs.Calls.{evaluates_then, evaluates_stopped, evaluates_yielded}
 use Rattle.meval.proofs.Asking.{as_local_place}
 use Rattle.meval.proofs.eval.Eval.resolved.Goals as goal

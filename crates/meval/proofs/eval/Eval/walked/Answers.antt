@@ -1,8 +1,5 @@
 -- SPDX-License-Identifier: Apache-2.0
-use Rattle.std.proofs.Common.{refl}
-use Rattle.mspec.specs.Act.{give}
-use Rattle.mmeaning.specs.Variables.{at_local, node_place, ordering}
-use Rattle.meval.specs.Places.{name_view, walk_view}
+use Rattle.meval.proofs.EvalWords.{refl, give, at_local, node_place, ordering, name_view, walk_view}
 use Rattle.meval.proofs.Calls.{evaluates_then, evaluates_stopped, evaluates_gives, evaluates_yielded}
 use Rattle.meval.proofs.eval.Eval.walked.Goals as goal
 

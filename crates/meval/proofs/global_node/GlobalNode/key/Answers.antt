@@ -1,6 +1,5 @@
 -- SPDX-License-Identifier: Apache-2.0
-use Rattle.std.proofs.Common.{subst}
-use Rattle.mspec.specs.KeyBytes.{AreSubscripts}
+use Rattle.meval.proofs.EvalWords.{subst, AreSubscripts}
 use Rattle.meval.proofs.Asking.{key_checked, not_error}
 use Rattle.meval.proofs.global_node.GlobalNode.key.Goals as goal
 

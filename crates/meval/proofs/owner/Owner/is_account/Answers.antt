@@ -1,7 +1,5 @@
 -- SPDX-License-Identifier: Apache-2.0
-use Rattle.std.proofs.Common.{◌<◌, length, sym, ap, subst, ◌∙◌, arith}
-use Rattle.std.proofs.lemmas.Bool.Decides.{nat_tests}
-use Rattle.mspec.specs.KeyBytes.{IsAccountName}
+use Rattle.meval.proofs.EvalWords.{◌<◌, length, sym, ap, subst, ◌∙◌, arith, nat_tests, IsAccountName}
 use Rattle.meval.specs.Held.{owner_text}
 use Rattle.meval.proofs.owner.Owner.is_account.Goals as goal
 

@@ -1,6 +1,5 @@
 -- SPDX-License-Identifier: Apache-2.0
-use Rattle.std.proofs.Common.{refl, sym}
-use Rattle.mspec.proofs.SubscriptTests.{decides_subscripts}
+use Rattle.meval.proofs.EvalWords.{refl, sym, decides_subscripts}
 use Rattle.meval.proofs.place.Subscripts.new.Goals as goal
 
 pub returns-clause-when : goal.returns-clause-when

@@ -1,6 +1,5 @@
 -- SPDX-License-Identifier: Apache-2.0
-use Rattle.std.proofs.Common.{ap}
-use Rattle.mspec.specs.Act.{no_locals, Locals}
+use Rattle.meval.proofs.EvalWords.{ap, no_locals, Locals}
 use Rattle.mmeaning.specs.Transition.{new_session}
 use Rattle.meval.proofs.session.Session.new.Goals as goal
 

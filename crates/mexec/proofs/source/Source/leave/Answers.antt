@@ -1,6 +1,5 @@
 -- SPDX-License-Identifier: Apache-2.0
-use Rattle.std.proofs.Common.{◌<◌, length, refl, arith}
-use Rattle.mexec.specs.Frames.{source_args}
+use Rattle.mexec.proofs.ExecWords.{◌<◌, length, refl, arith, source_args}
 use Rattle.mexec.proofs.Calls.{stack_push, some_item}
 use Rattle.mexec.proofs.source.Source.leave.Goals as goal
 

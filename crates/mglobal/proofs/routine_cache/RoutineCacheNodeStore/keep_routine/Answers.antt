@@ -1,6 +1,5 @@
 -- SPDX-License-Identifier: Apache-2.0
-use Rattle.std.proofs.Common.{◌≡◌, subst, sym}
-use Rattle.mspec.specs.Globals.{lines_of}
+use Rattle.mglobal.proofs.GlobalWords.{◌≡◌, subst, sym, lines_of}
 use Rattle.mglobal.proofs.routine_cache.RoutineCacheNodeStore.keep_routine.Goals as goal
 
 pub invariant_of-self : goal.invariant_of-self

@@ -1,6 +1,5 @@
 -- SPDX-License-Identifier: Apache-2.0
-use Rattle.std.proofs.Common.{subst, sym}
-use Rattle.mglobal.specs.Copies.{AreCopiesIn}
+use Rattle.mglobal.proofs.GlobalWords.{subst, sym, AreCopiesIn}
 use Rattle.mglobal.proofs.routine_cache.RoutineCacheNodeStore.kept_routine.Goals as goal
 
 pub returns-clause-lines : goal.returns-clause-lines

@@ -1,5 +1,5 @@
 -- SPDX-License-Identifier: Apache-2.0
-use Rattle.mspec.specs.Globals.{without_subtree}
+use Rattle.mglobal.proofs.GlobalWords.{without_subtree}
 use Rattle.mglobal.proofs.CopyLaws.{copies_killed, copies_after}
 use Rattle.mglobal.proofs.routine_cache.RoutineCacheNodeStore.kill.Goals as goal
 

@@ -1,5 +1,5 @@
 -- SPDX-License-Identifier: Apache-2.0
-use Rattle.std.specs.FinMap.{insert}
+use Rattle.mglobal.proofs.GlobalWords.{insert}
 use Rattle.mglobal.proofs.CopyLaws.{copies_put, copies_after}
 use Rattle.mglobal.proofs.routine_cache.RoutineCacheNodeStore.put.Goals as goal
 

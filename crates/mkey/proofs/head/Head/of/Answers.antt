@@ -1,5 +1,5 @@
 -- SPDX-License-Identifier: Apache-2.0
-use Rattle.std.proofs.Common.{ap₂, sym, ◌∙◌, ◌+◌, ◌*◌, ◌^◌, refl}
+use Rattle.mkey.proofs.KeyWords.{ap₂, sym, ◌∙◌, ◌+◌, ◌*◌, ◌^◌, refl}
 use Rattle.mkey.proofs.Heads.{head_parts}
 use Rattle.mkey.proofs.head.Head.of.Goals as goal
 

@@ -1,9 +1,6 @@
 -- SPDX-License-Identifier: Apache-2.0
-use Rattle.std.proofs.Common.{◌≡◌, ◌++◌, ◌∙◌, ap}
+use Rattle.mkey.proofs.KeyWords.{◌≡◌, ◌++◌, ◌∙◌, ap, key_bytes, text_bytes, AreSubscripts, IsStored, significant_digits, one_node}
 use Rattle.mspec.specs.Act.{Node}
-use Rattle.mspec.specs.KeyBytes.{key_bytes, text_bytes, AreSubscripts, IsStored}
-use Rattle.mspec.specs.Number.{significant_digits}
-use Rattle.mkey.specs.Key.{one_node}
 use Rattle.mkey.proofs.Keys.{joined}
 use Rattle.mkey.proofs.key.NodeKey.build.Goals as goal
 

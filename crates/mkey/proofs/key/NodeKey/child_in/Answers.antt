@@ -1,10 +1,5 @@
 -- SPDX-License-Identifier: Apache-2.0
-use Rattle.std.proofs.Common.{◌≡◌, nat_eq, true, length, drop, ap, sym, ◌∙◌}
-use Rattle.std.specs.List.{starts_with}
-use Rattle.mspec.specs.Globals.{is_node_within}
-use Rattle.mspec.specs.KeyBytes.{key_bytes}
-use Rattle.mspec.specs.Number.{significant_digits}
-use Rattle.mkey.specs.Key.{none_empty}
+use Rattle.mkey.proofs.KeyWords.{◌≡◌, nat_eq, true, length, drop, ap, sym, ◌∙◌, starts_with, is_node_within, key_bytes, significant_digits, none_empty}
 use Rattle.mkey.proofs.NodeFronts.{starts_node, within_parts, key_behind, child_within, child_without}
 use Rattle.mkey.proofs.SubsKeys.{none_read, one_read}
 use Rattle.mkey.proofs.key.NodeKey.child_in.Goals as goal

@@ -1,7 +1,5 @@
 -- SPDX-License-Identifier: Apache-2.0
-use Rattle.std.proofs.Common.{◌∙◌, sym}
-use Rattle.std.specs.List.{each_same}
-use Rattle.mkey.specs.Key.{one_node}
+use Rattle.mkey.proofs.KeyWords.{◌∙◌, sym, each_same, one_node}
 use Rattle.mkey.proofs.key.NodeKey.copy.Goals as goal
 
 pub returns-clause-key : goal.returns-clause-key

@@ -1,10 +1,6 @@
 -- SPDX-License-Identifier: Apache-2.0
-use Rattle.std.proofs.Common.{ℕ, ◌≡◌, ◌∙◌, List, sym, ap, subst, take}
+use Rattle.mkey.proofs.KeyWords.{ℕ, ◌≡◌, ◌∙◌, List, sym, ap, subst, take, key_bytes, significant_digits, IsKey, one_node, IsParent, IsLastAt}
 use Rattle.mspec.specs.Act.{Node}
-use Rattle.mspec.specs.KeyBytes.{key_bytes}
-use Rattle.mspec.specs.Number.{significant_digits}
-use Rattle.mkey.specs.Key.{IsKey, one_node}
-use Rattle.mkey.specs.Parent.{IsParent, IsLastAt}
 use Rattle.mkey.proofs.KeyWalks.{parent_stored}
 use Rattle.mkey.proofs.key.NodeKey.into_parent.Goals as goal
 

@@ -1,11 +1,5 @@
 -- SPDX-License-Identifier: Apache-2.0
-use Rattle.std.proofs.Common.{◌∙◌, ap}
-use Rattle.std.specs.Cmp.Lexicographic.{slice_cmp}
-use Rattle.std.specs.Ordering.{nat_cmp}
-use Rattle.mspec.specs.KeyBytes.{key_bytes}
-use Rattle.mspec.specs.Number.{significant_digits}
-use Rattle.mspec.proofs.KeyOrders.{key_order}
-use Rattle.mkey.specs.Key.{none_empty}
+use Rattle.mkey.proofs.KeyWords.{◌∙◌, ap, slice_cmp, nat_cmp, key_bytes, significant_digits, key_order, none_empty}
 use Rattle.mkey.proofs.key.NodeKeyOrd.cmp.Goals as goal
 
 pub returns : goal.returns

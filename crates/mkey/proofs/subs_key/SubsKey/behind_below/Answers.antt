@@ -1,8 +1,5 @@
 -- SPDX-License-Identifier: Apache-2.0
-use Rattle.std.proofs.Common.{◌++◌, ◌∷◌, [], ◌∙◌, ap}
-use Rattle.mspec.specs.KeyBytes.{subscripts_bytes}
-use Rattle.mspec.specs.Number.{significant_digits}
-use Rattle.mkey.specs.SubsKey.{one_list, behind_below, IsSubsKeyOf}
+use Rattle.mkey.proofs.KeyWords.{◌++◌, ◌∷◌, [], ◌∙◌, ap, subscripts_bytes, significant_digits, one_list, behind_below, IsSubsKeyOf}
 use Rattle.mkey.proofs.SubsKeys.{beyond_key}
 use Rattle.mkey.proofs.subs_key.SubsKey.behind_below.Goals as goal
 

@@ -1,8 +1,5 @@
 -- SPDX-License-Identifier: Apache-2.0
-use Rattle.std.proofs.Common.{◌++◌, ◌∙◌, ap}
-use Rattle.mspec.specs.KeyBytes.{subscripts_bytes}
-use Rattle.mspec.specs.Number.{significant_digits}
-use Rattle.mkey.specs.SubsKey.{one_list}
+use Rattle.mkey.proofs.KeyWords.{◌++◌, ◌∙◌, ap, subscripts_bytes, significant_digits, one_list}
 use Rattle.mkey.proofs.SubsKeys.{key_of_subs}
 use Rattle.mkey.proofs.subs_key.SubsKey.build.Goals as goal
 

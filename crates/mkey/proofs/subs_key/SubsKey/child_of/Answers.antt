@@ -1,8 +1,5 @@
 -- SPDX-License-Identifier: Apache-2.0
-use Rattle.std.proofs.Common.{◌≡◌, ◌∙◌, true, length, drop, ap, sym, arith, length-append}
-use Rattle.mspec.specs.KeyBytes.{subscripts_bytes}
-use Rattle.mspec.specs.Number.{significant_digits}
-use Rattle.mspec.specs.Trees.{is_within}
+use Rattle.mkey.proofs.KeyWords.{◌≡◌, ◌∙◌, true, length, drop, ap, sym, arith, length-append, subscripts_bytes, significant_digits, is_within}
 use Rattle.mkey.proofs.SubsKeys.{bytes_within, bytes_behind, none_read, one_read}
 use Rattle.mkey.proofs.subs_key.SubsKey.child_of.Goals as goal
 

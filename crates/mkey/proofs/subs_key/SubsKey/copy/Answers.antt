@@ -1,6 +1,5 @@
 -- SPDX-License-Identifier: Apache-2.0
-use Rattle.std.proofs.Common.{◌∙◌, sym}
-use Rattle.mkey.specs.SubsKey.{one_list}
+use Rattle.mkey.proofs.KeyWords.{◌∙◌, sym, one_list}
 use Rattle.mkey.proofs.subs_key.SubsKey.copy.Goals as goal
 
 pub returns : goal.returns

@@ -1,8 +1,5 @@
 -- SPDX-License-Identifier: Apache-2.0
-use Rattle.std.proofs.Common.{nat_eq, ap, ◌∙◌}
-use Rattle.std.specs.List.{starts_with}
-use Rattle.mspec.specs.KeyBytes.{subscripts_bytes}
-use Rattle.mspec.specs.Number.{significant_digits}
+use Rattle.mkey.proofs.KeyWords.{nat_eq, ap, ◌∙◌, starts_with, subscripts_bytes, significant_digits}
 use Rattle.mkey.proofs.SubsKeys.{within_bytes}
 use Rattle.mkey.proofs.subs_key.SubsKey.is_within.Goals as goal
 

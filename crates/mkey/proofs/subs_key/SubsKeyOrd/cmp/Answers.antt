@@ -1,11 +1,5 @@
 -- SPDX-License-Identifier: Apache-2.0
-use Rattle.std.proofs.Common.{rules, ◌≡◌, ℕ, Fits, w8, get_or, ◌∙◌, ap, ap₂, sym}
-use Rattle.std.specs.Cmp.Lexicographic.{slice_cmp}
-use Rattle.std.specs.Ordering.{nat_cmp}
-use Rattle.mspec.specs.KeyBytes.{subscripts_bytes}
-use Rattle.mspec.specs.Number.{significant_digits}
-use Rattle.mspec.proofs.KeyOrders.{subscripts_order}
-use Rattle.mkey.specs.Head.{head_number}
+use Rattle.mkey.proofs.KeyWords.{rules, ◌≡◌, ℕ, Fits, w8, get_or, ◌∙◌, ap, ap₂, sym, slice_cmp, nat_cmp, subscripts_bytes, significant_digits, subscripts_order, head_number}
 use Rattle.mkey.proofs.Heads.{fitting_bytes}
 use Rattle.mkey.proofs.SubsKeys.{head_seen, keys_by_head}
 use Rattle.mkey.proofs.subs_key.SubsKeyOrd.cmp.Goals as goal

@@ -1,6 +1,5 @@
 -- SPDX-License-Identifier: Apache-2.0
-use Rattle.std.proofs.Common.{false, ap, sym, not, ◌∙◌, option_map}
-use Rattle.mspec.specs.Scopes.{has, is_among, is_other}
+use Rattle.mlocal.proofs.LocalWords.{false, ap, sym, not, ◌∙◌, option_map, has, is_among, is_other}
 use Rattle.mlocal.proofs.Views.{yes_or, no_or}
 use Rattle.mlocal.proofs.scope.Scope.has.Goals as goal
 

@@ -1,8 +1,6 @@
 -- SPDX-License-Identifier: Apache-2.0
-use Rattle.std.proofs.Common.{[], ap, sym, ◌∙◌}
-use Rattle.std.specs.FinMap.{get, get-empty}
-use Rattle.mspec.specs.NodeOrder.{subscripts_cmp}
-use Rattle.mspec.specs.Number.{significant_digits}
+use Rattle.mlocal.proofs.LocalWords.{[], ap, sym, ◌∙◌, get-empty, subscripts_cmp, significant_digits}
+use Rattle.std.specs.FinMap.{get}
 use Rattle.mlocal.proofs.Views.{tree_seen}
 use Rattle.mlocal.proofs.scope.Scope.own.Goals as goal
 

@@ -1,5 +1,5 @@
 -- SPDX-License-Identifier: Apache-2.0
-use Rattle.std.proofs.Common.{[]}
+use Rattle.mlocal.proofs.LocalWords.{[]}
 use Rattle.mlocal.proofs.Views.{OnOk-map, put_seen}
 use Rattle.mlocal.proofs.scope.Scope.set_own.Goals as goal
 

@@ -1,7 +1,6 @@
 -- SPDX-License-Identifier: Apache-2.0
-use Rattle.std.proofs.Common.{ap, ◌∙◌}
+use Rattle.mlocal.proofs.LocalWords.{ap, ◌∙◌, tree_in}
 use Rattle.std.specs.FinMap.{get}
-use Rattle.mspec.specs.Scopes.{tree_in}
 use Rattle.mlocal.proofs.scopes.Locals.get.Goals as goal
 
 pub returns : goal.returns

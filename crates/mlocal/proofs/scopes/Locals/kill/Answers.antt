@@ -1,7 +1,6 @@
 -- SPDX-License-Identifier: Apache-2.0
-use Rattle.std.proofs.Common.{[], ◌∷◌, ap, ◌∙◌}
+use Rattle.mlocal.proofs.LocalWords.{[], ◌∷◌, ap, ◌∙◌, Scope, kill_in, killed}
 use Rattle.std.specs.FinMap.{get}
-use Rattle.mspec.specs.Scopes.{Scope, kill_in, killed}
 use Rattle.mlocal.proofs.Views.{OnOk-map}
 use Rattle.mlocal.proofs.Stacks.{home-at, home-bottom}
 use Rattle.mlocal.proofs.scopes.Locals.kill.Goals as goal

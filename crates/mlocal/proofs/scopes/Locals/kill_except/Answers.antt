@@ -1,8 +1,5 @@
 -- SPDX-License-Identifier: Apache-2.0
-use Rattle.std.proofs.Common.{ap, ◌||◌, ◌∙◌}
-use Rattle.std.specs.List.{list_any}
-use Rattle.mspec.specs.Scopes.{is_among, emptied, killed_except}
-use Rattle.mlocal.specs.Home.{has_name}
+use Rattle.mlocal.proofs.LocalWords.{ap, ◌||◌, ◌∙◌, list_any, is_among, emptied, killed_except, has_name}
 use Rattle.mlocal.proofs.Killed.{kill-all}
 use Rattle.mlocal.proofs.scopes.Locals.kill_except.Goals as goal
 

@@ -1,6 +1,5 @@
 -- SPDX-License-Identifier: Apache-2.0
-use Rattle.std.proofs.Common.{[], ◌∷◌, ◌++◌, sym, ap, ◌∙◌, reverse}
-use Rattle.mspec.specs.Scopes.{outermost}
+use Rattle.mlocal.proofs.LocalWords.{[], ◌∷◌, ◌++◌, sym, ap, ◌∙◌, reverse, outermost}
 use Rattle.mlocal.proofs.Levels.{all_go}
 use Rattle.mlocal.proofs.scopes.Locals.leave_all.Goals as goal
 

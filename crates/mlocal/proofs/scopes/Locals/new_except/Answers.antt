@@ -1,6 +1,5 @@
 -- SPDX-License-Identifier: Apache-2.0
-use Rattle.std.proofs.Common.{◌≡◌, [], ◌∷◌, ◌+◌, ◌-◌, Some, length, ap, ◌∙◌, arith}
-use Rattle.mspec.specs.Scopes.{hide_others, newed_except, common}
+use Rattle.mlocal.proofs.LocalWords.{◌≡◌, [], ◌∷◌, ◌+◌, ◌-◌, Some, length, ap, ◌∙◌, arith, hide_others, newed_except, common}
 use Rattle.mlocal.proofs.Stacks.{top-at, none_common}
 use Rattle.mlocal.proofs.Views.{OnOk-map}
 use Rattle.mlocal.proofs.scopes.Locals.new_except.Goals as goal

@@ -1,6 +1,5 @@
 -- SPDX-License-Identifier: Apache-2.0
-use Rattle.std.proofs.Common.{◌≡◌, [], ◌∷◌, ◌+◌, ◌-◌, length, ap, ◌∙◌, arith}
-use Rattle.mspec.specs.Scopes.{hide, newed}
+use Rattle.mlocal.proofs.LocalWords.{◌≡◌, [], ◌∷◌, ◌+◌, ◌-◌, length, ap, ◌∙◌, arith, hide, newed}
 use Rattle.mlocal.proofs.Stacks.{top-at}
 use Rattle.mlocal.proofs.Views.{OnOk-map}
 use Rattle.mlocal.proofs.scopes.Locals.new_vars.Goals as goal

@@ -1,6 +1,5 @@
 -- SPDX-License-Identifier: Apache-2.0
-use Rattle.std.proofs.Common.{[], ◌∷◌, ap, sym, ◌∙◌}
-use Rattle.mspec.specs.Scopes.{tree_in, tree_of}
+use Rattle.mlocal.proofs.LocalWords.{[], ◌∷◌, ap, sym, ◌∙◌, tree_in, tree_of}
 use Rattle.mlocal.proofs.Stacks.{tree-at, tree-bottom}
 use Rattle.mlocal.proofs.scopes.Locals.scope_of.Goals as goal
 

@@ -1,7 +1,5 @@
 -- SPDX-License-Identifier: Apache-2.0
-use Rattle.std.proofs.Common.{[], ◌∷◌, ap, ◌∙◌}
-use Rattle.std.specs.FinMap.{insert}
-use Rattle.mspec.specs.Scopes.{Scope, with_tree, tree_in, assigned}
+use Rattle.mlocal.proofs.LocalWords.{[], ◌∷◌, ap, ◌∙◌, insert, Scope, with_tree, tree_in, assigned}
 use Rattle.mlocal.proofs.Views.{OnOk-map}
 use Rattle.mlocal.proofs.Stacks.{home-at, home-bottom}
 use Rattle.mlocal.proofs.scopes.Locals.set.Goals as goal

@@ -1,5 +1,5 @@
 -- SPDX-License-Identifier: Apache-2.0
-use Rattle.std.proofs.Common.{Some, None, sym, ◌∙◌}
+use Rattle.mlocal.proofs.LocalWords.{Some, None, sym, ◌∙◌}
 use Rattle.mlocal.proofs.Tables.{read}
 use Rattle.mlocal.proofs.table.Table.get.Goals as goal
 

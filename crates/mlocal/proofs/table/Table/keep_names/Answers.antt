@@ -1,9 +1,5 @@
 -- SPDX-License-Identifier: Apache-2.0
-use Rattle.std.proofs.Common.{Bool, rules, ap, ◌∙◌}
-use Rattle.std.specs.Cmp.Lexicographic.{nat_list_cmp_total}
-use Rattle.std.specs.FinMap.{retain_keys}
-use Rattle.mspec.specs.Node.{Text}
-use Rattle.mspec.specs.Scopes.{is_among}
+use Rattle.mlocal.proofs.LocalWords.{Bool, rules, ap, ◌∙◌, nat_list_cmp_total, retain_keys, Text, is_among}
 use Rattle.mlocal.proofs.Views.{names_exact, retain_same, retain-hash_map_of}
 use Rattle.mlocal.proofs.table.Table.keep_names.Goals as goal
 

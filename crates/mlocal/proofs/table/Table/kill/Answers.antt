@@ -1,6 +1,5 @@
 -- SPDX-License-Identifier: Apache-2.0
-use Rattle.std.proofs.Common.{None, ap, sym, ◌∙◌}
-use Rattle.mlocal.specs.Table.{kill_at}
+use Rattle.mlocal.proofs.LocalWords.{None, ap, sym, ◌∙◌, kill_at}
 use Rattle.mlocal.proofs.Tables.{read, kept, some_left, none_left}
 use Rattle.mlocal.proofs.Views.{OnErr-always}
 use Rattle.mlocal.proofs.table.Table.kill.Goals as goal

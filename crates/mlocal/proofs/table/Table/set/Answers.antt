@@ -1,6 +1,5 @@
 -- SPDX-License-Identifier: Apache-2.0
-use Rattle.std.proofs.Common.{ap, ◌∙◌}
-use Rattle.std.specs.FinMap.{insert}
+use Rattle.mlocal.proofs.LocalWords.{ap, ◌∙◌, insert}
 use Rattle.mlocal.proofs.Tables.{put_at, kept, none_read}
 use Rattle.mlocal.proofs.Views.{OnOk-map, OnErr-map}
 use Rattle.mlocal.proofs.table.Table.set.Goals as goal

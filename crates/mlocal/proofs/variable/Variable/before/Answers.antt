@@ -1,11 +1,5 @@
 -- SPDX-License-Identifier: Apache-2.0
-use Rattle.std.proofs.Common.{◌≡◌, ◌<◌, ◌||◌, [], length, ap, sym, subst, ◌∙◌, arith, option_map}
-use Rattle.std.proofs.lemmas.Bool.Decides.{nat_tests}
-use Rattle.mspec.specs.NodeOrder.{subscripts_cmp}
-use Rattle.mspec.specs.Number.{significant_digits}
-use Rattle.mspec.specs.Trees.{front, last, is_before, is_empty}
-use Rattle.mkey.specs.SubsKey.{behind_below, beyond}
-use Rattle.mlocal.specs.Way.{is_between, has_child}
+use Rattle.mlocal.proofs.LocalWords.{◌≡◌, ◌<◌, ◌||◌, [], length, ap, sym, subst, ◌∙◌, arith, option_map, nat_tests, subscripts_cmp, significant_digits, front, last, is_before, is_empty, behind_below, beyond, is_between, has_child}
 use Rattle.mlocal.proofs.Bounds.{below_all, below_before, more_behind}
 use Rattle.mlocal.proofs.Steps.{last_walk}
 use Rattle.mlocal.proofs.Own.{not_child}

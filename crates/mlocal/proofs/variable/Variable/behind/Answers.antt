@@ -1,10 +1,5 @@
 -- SPDX-License-Identifier: Apache-2.0
-use Rattle.std.proofs.Common.{◌≡◌, ◌<◌, ◌++◌, ◌∷◌, [], List, length, ap, sym, subst, ◌∙◌, arith, option_map}
-use Rattle.std.proofs.lemmas.Bool.Decides.{nat_tests}
-use Rattle.mspec.specs.Node.{Text}
-use Rattle.mspec.specs.Trees.{front, last, is_before}
-use Rattle.mkey.specs.SubsKey.{behind_below}
-use Rattle.mlocal.specs.Way.{is_between}
+use Rattle.mlocal.proofs.LocalWords.{◌≡◌, ◌<◌, ◌++◌, ◌∷◌, [], List, length, ap, sym, subst, ◌∙◌, arith, option_map, nat_tests, Text, front, last, is_before, behind_below, is_between}
 use Rattle.mlocal.proofs.Bounds.{below_all, below_behind, empty_first}
 use Rattle.mlocal.proofs.Steps.{onward_walk}
 use Rattle.mlocal.proofs.Walks.{split_last, whole, no_list}

@@ -1,10 +1,5 @@
 -- SPDX-License-Identifier: Apache-2.0
-use Rattle.std.proofs.Common.{true, refl, [], ap, sym, ◌∙◌, is_some}
-use Rattle.mspec.specs.NodeOrder.{subscripts_cmp}
-use Rattle.mspec.specs.Number.{significant_digits}
-use Rattle.mspec.specs.Trees.{is_below, has_value}
-use Rattle.mkey.specs.SubsKey.{beyond}
-use Rattle.mlocal.specs.Way.{is_between}
+use Rattle.mlocal.proofs.LocalWords.{true, refl, [], ap, sym, ◌∙◌, is_some, subscripts_cmp, significant_digits, is_below, has_value, beyond, is_between}
 use Rattle.mlocal.proofs.Bounds.{below_all, more_behind}
 use Rattle.mlocal.proofs.Steps.{any_walk}
 use Rattle.mlocal.proofs.Own.{not_child}

@@ -1,11 +1,6 @@
 -- SPDX-License-Identifier: Apache-2.0
-use Rattle.std.proofs.Common.{◌≡◌, ◌<◌, [], length, ap, sym, ◌∙◌, arith}
+use Rattle.mlocal.proofs.LocalWords.{◌≡◌, ◌<◌, [], length, ap, sym, ◌∙◌, arith, nat_tests, map_of, significant_digits, found_is_had, subscripts_cmp_total}
 use Rattle.std.specs.FinMap.{get}
-use Rattle.std.proofs.lemmas.Bool.Decides.{nat_tests}
-use Rattle.mspec.specs.Maps.{map_of}
-use Rattle.mspec.specs.Number.{significant_digits}
-use Rattle.mspec.proofs.Maps.{found_is_had}
-use Rattle.mspec.proofs.NodeOrders.{subscripts_cmp_total}
 use Rattle.mlocal.proofs.Own.{others_there}
 use Rattle.mlocal.proofs.Views.{shown}
 use Rattle.mlocal.proofs.Walks.{no_list}

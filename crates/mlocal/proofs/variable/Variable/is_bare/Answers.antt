@@ -1,7 +1,5 @@
 -- SPDX-License-Identifier: Apache-2.0
-use Rattle.std.proofs.Common.{◌≡◌, ◌&&◌, true, false, not, length, sym, ap, ◌∙◌, arith, is_some, nat_eq}
-use Rattle.std.proofs.lemmas.Bool.Decides.{nat_tests}
-use Rattle.mspec.specs.Scopes.{is_bare}
+use Rattle.mlocal.proofs.LocalWords.{◌≡◌, ◌&&◌, true, false, not, length, sym, ap, ◌∙◌, arith, is_some, nat_eq, nat_tests, is_bare}
 use Rattle.mlocal.proofs.Bare.{own_bare}
 use Rattle.mlocal.proofs.variable.Variable.is_bare.Goals as goal
 

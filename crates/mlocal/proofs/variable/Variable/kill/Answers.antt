@@ -1,13 +1,5 @@
 -- SPDX-License-Identifier: Apache-2.0
-use Rattle.std.proofs.Common.{◌≡◌, ◌<◌, [], length, map, ap, sym, ◌∙◌, arith}
-use Rattle.std.specs.FinMap.{from_entries}
-use Rattle.std.proofs.lemmas.Bool.Decides.{nat_tests}
-use Rattle.mspec.specs.Maps.{map_of}
-use Rattle.mspec.specs.NodeOrder.{subscripts_cmp}
-use Rattle.mspec.specs.Number.{significant_digits}
-use Rattle.mspec.specs.Trees.{without}
-use Rattle.mkey.specs.SubsKey.{beyond}
-use Rattle.mlocal.specs.Own.{with_own}
+use Rattle.mlocal.proofs.LocalWords.{◌≡◌, ◌<◌, [], length, map, ap, sym, ◌∙◌, arith, from_entries, nat_tests, map_of, subscripts_cmp, significant_digits, without, beyond, with_own}
 use Rattle.mlocal.proofs.Bounds.{more_behind}
 use Rattle.mlocal.proofs.Own.{own_killed, other_killed}
 use Rattle.mlocal.proofs.Removals.{without_taken}

@@ -1,7 +1,5 @@
 -- SPDX-License-Identifier: Apache-2.0
-use Rattle.std.proofs.Common.{ap, sym, ◌∙◌, option_map, option_and_then}
-use Rattle.mspec.specs.Trees.{child_of, order_of, front, last}
-use Rattle.mkey.specs.Way.{way}
+use Rattle.mlocal.proofs.LocalWords.{ap, sym, ◌∙◌, option_map, option_and_then, child_of, order_of, front, last, way}
 use Rattle.mlocal.proofs.Views.{IfOk-map}
 use Rattle.mlocal.proofs.Walks.{order_backward}
 use Rattle.mlocal.proofs.variable.Variable.order.Goals as goal

@@ -1,5 +1,5 @@
 -- SPDX-License-Identifier: Apache-2.0
-use Rattle.std.proofs.Common.{[], ap, ◌∙◌}
+use Rattle.mlocal.proofs.LocalWords.{[], ap, ◌∙◌}
 use Rattle.std.specs.FinMap.{get}
 use Rattle.mlocal.proofs.Own.{own_there}
 use Rattle.mlocal.proofs.Views.{shown}

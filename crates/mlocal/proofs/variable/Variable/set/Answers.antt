@@ -1,15 +1,5 @@
 -- SPDX-License-Identifier: Apache-2.0
-use Rattle.std.proofs.Common.{◌≡◌, ◌<◌, [], length, ap, sym, subst, ◌∙◌, arith, All}
-use Rattle.std.specs.FinMap.{insert}
-use Rattle.std.specs.Map.{keys_of}
-use Rattle.std.proofs.lemmas.Bool.Decides.{nat_tests}
-use Rattle.std.proofs.lemmas.Map.Views.{All-keys-insert_entry}
-use Rattle.mspec.specs.Maps.{map_of}
-use Rattle.mspec.specs.NodeOrder.{subscripts_cmp}
-use Rattle.mspec.specs.Number.{significant_digits}
-use Rattle.mspec.proofs.Maps.{insert-map_of}
-use Rattle.mspec.proofs.NodeOrders.{subscripts_cmp_total, subscripts_cmp_exact}
-use Rattle.mlocal.specs.Own.{with_own, AreSomeSubs}
+use Rattle.mlocal.proofs.LocalWords.{◌≡◌, ◌<◌, [], length, ap, sym, subst, ◌∙◌, arith, All, insert, keys_of, nat_tests, All-keys-insert_entry, map_of, subscripts_cmp, significant_digits, insert-map_of, subscripts_cmp_total, subscripts_cmp_exact, with_own, AreSomeSubs}
 use Rattle.mlocal.proofs.Own.{other_set}
 use Rattle.mlocal.proofs.Walks.{no_list}
 use Rattle.mlocal.proofs.variable.Variable.set.Goals as goal

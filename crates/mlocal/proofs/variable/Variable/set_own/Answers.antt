@@ -1,7 +1,5 @@
 -- SPDX-License-Identifier: Apache-2.0
-use Rattle.std.proofs.Common.{[], ap, ◌∙◌}
-use Rattle.std.specs.FinMap.{insert}
-use Rattle.mspec.specs.Maps.{map_of}
+use Rattle.mlocal.proofs.LocalWords.{[], ap, ◌∙◌, insert, map_of}
 use Rattle.mlocal.proofs.Own.{own_set}
 use Rattle.mlocal.proofs.variable.Variable.set_own.Goals as goal
 

@@ -1,9 +1,5 @@
 -- SPDX-License-Identifier: Apache-2.0
-use Rattle.std.proofs.Common.{true, refl, ap, arith}
-use Rattle.sqlite_trees.proofs.Doubt.{no_doubt}
-use Rattle.mmemory.specs.declared.memory.Memory.{Memory}
-use Rattle.mmemory.specs.Lists.{joined}
-use Rattle.mmemory.specs.Plain.{plain, nest}
+use Rattle.mmemory.proofs.MemoryWords.{true, refl, ap, arith, no_doubt, Memory, joined, plain, nest}
 use Rattle.mmemory.proofs.Logs.{after_error, keeps_untouched}
 use Rattle.mmemory.proofs.Views.{created, seen_same, fails}
 use Rattle.mmemory.proofs.alter.MemoryAlter.create.Goals as goal

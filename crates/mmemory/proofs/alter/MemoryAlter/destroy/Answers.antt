@@ -1,7 +1,5 @@
 -- SPDX-License-Identifier: Apache-2.0
-use Rattle.std.proofs.Common.{ap, arith}
-use Rattle.mmemory.specs.declared.memory.Memory.{Memory}
-use Rattle.mmemory.specs.Plain.{plain, heading, plain_rows}
+use Rattle.mmemory.proofs.MemoryWords.{ap, arith, Memory, plain, heading, plain_rows}
 use Rattle.mmemory.proofs.Logs.{after_error}
 use Rattle.mmemory.proofs.Views.{destroyed, fails}
 use Rattle.mmemory.proofs.alter.MemoryAlter.destroy.Goals as goal

@@ -1,10 +1,5 @@
 -- SPDX-License-Identifier: Apache-2.0
-use Rattle.std.proofs.Common.{◌≡◌, ◌≢◌, ◌<◌, length, map, rules, sym, append_assoc}
-use Rattle.std.proofs.lemmas.List.{length-map}
-use Rattle.sqlite_trees.specs.declared.store.Shape.TheVariants.{Absent}
-use Rattle.sqlite_trees.specs.Listing.{no_heading}
-use Rattle.sqlite_trees.proofs.StoreLemmas.{objects_step, listed_unless_absent}
-use Rattle.mmemory.specs.Plain.{plain, heading}
+use Rattle.mmemory.proofs.MemoryWords.{◌≡◌, ◌≢◌, ◌<◌, length, map, rules, sym, append_assoc, length-map, Absent, no_heading, objects_step, listed_unless_absent, plain, heading}
 use Rattle.mmemory.proofs.Shown.{shown_at}
 use Rattle.mmemory.proofs.alter.MemoryAlter.objects.Goals.{then-ne+in_ok-listing+in_ok-push, else-ne}
 use Rattle.mmemory.proofs.alter.MemoryAlter.objects.Goals as goal

@@ -1,7 +1,5 @@
 -- SPDX-License-Identifier: Apache-2.0
-use Rattle.std.proofs.Common.{◌≡◌, ◌++◌, map, take, drop}
-use Rattle.sqlite_trees.specs.Listing.{objects_from}
-use Rattle.mmemory.specs.Plain.{plain, heading}
+use Rattle.mmemory.proofs.MemoryWords.{◌≡◌, ◌++◌, map, take, drop, objects_from, plain, heading}
 use Rattle.mmemory.proofs.alter.MemoryAlter.objects.Given as goal
 
 abbrev pub invariant-loop-at : goal.invariant-loop-at

@@ -1,8 +1,5 @@
 -- SPDX-License-Identifier: Apache-2.0
-use Rattle.std.proofs.Common.{take}
-use Rattle.sqlite_trees.specs.Objects.{Relists}
-use Rattle.mmemory.specs.Held.{KeepsPast}
-use Rattle.mmemory.specs.Memory.{memory_view}
+use Rattle.mmemory.proofs.MemoryWords.{take, Relists, KeepsPast, memory_view}
 use Rattle.mmemory.proofs.alter.MemoryAlter.relist.Given as goal
 
 abbrev pub invariant-loop-change : goal.invariant-loop-change

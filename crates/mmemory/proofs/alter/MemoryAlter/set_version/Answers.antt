@@ -1,13 +1,5 @@
 -- SPDX-License-Identifier: Apache-2.0
-use Rattle.std.proofs.Common.{◌≡◌, refl, ap, ◌∙◌}
-use Rattle.sqlite_trees.specs.Objects.{catalog_tree}
-use Rattle.sqlite_trees.specs.Listing.{objects_from}
-use Rattle.sqlite_trees.specs.Tree.{with_tree}
-use Rattle.sqlite_trees.proofs.StoreLemmas.{version_twice}
-use Rattle.mmemory.specs.declared.memory.Memory.{Memory}
-use Rattle.mmemory.specs.States.{State, headings, rows_of, shown}
-use Rattle.mmemory.specs.Held.{now, moment, KeepsShown}
-use Rattle.mmemory.specs.Memory.{memory_view, view_of, current, marks_of}
+use Rattle.mmemory.proofs.MemoryWords.{◌≡◌, refl, ap, ◌∙◌, catalog_tree, objects_from, with_tree, version_twice, Memory, State, headings, rows_of, shown, now, moment, KeepsShown, memory_view, view_of, current, marks_of}
 use Rattle.mmemory.proofs.Logs.{after_error}
 use Rattle.mmemory.proofs.Views.{beside, fails}
 use Rattle.mmemory.proofs.alter.MemoryAlter.set_version.Goals as goal

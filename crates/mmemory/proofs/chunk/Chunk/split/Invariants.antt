@@ -1,5 +1,5 @@
 -- SPDX-License-Identifier: Apache-2.0
-use Rattle.std.proofs.Common.{◌≡◌, ◌+◌, ◌<◌, ◌≤◌, ◌++◌, length, reverse, vec_len, vec_capacity}
+use Rattle.mmemory.proofs.MemoryWords.{◌≡◌, ◌+◌, ◌<◌, ◌≤◌, ◌++◌, length, reverse, vec_len, vec_capacity}
 use Rattle.mmemory.proofs.chunk.Chunk.split.Given as goal
 
 abbrev pub invariant-loop-rows : goal.invariant-loop-rows

@@ -1,11 +1,6 @@
 -- SPDX-License-Identifier: Apache-2.0
-use Rattle.std.proofs.Common.{OnOk, not, subst, to_z-of_z}
+use Rattle.mmemory.proofs.MemoryWords.{OnOk, not, subst, to_z-of_z, has_rowid, IsShaped-filter, tree_rows, rows_of, now, Writes, shape_at}
 use Rattle.sqlite_value.specs.declared.value.Value.TheVariants.{Int}
-use Rattle.sqlite_trees.specs.Tree.{has_rowid}
-use Rattle.sqlite_trees.proofs.TreeLemmas.{IsShaped-filter}
-use Rattle.mmemory.specs.Plain.{tree_rows}
-use Rattle.mmemory.specs.States.{rows_of}
-use Rattle.mmemory.specs.Held.{now, Writes, shape_at}
 use Rattle.mmemory.proofs.Words.{falls_below_rowid}
 use Rattle.mmemory.proofs.Logs.{shaped_now}
 use Rattle.mmemory.proofs.Wrote.{wrote_none, shaped_rows, row_cut, row_not}

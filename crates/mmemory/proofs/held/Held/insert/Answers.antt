@@ -1,9 +1,5 @@
 -- SPDX-License-Identifier: Apache-2.0
-use Rattle.std.proofs.Common.{OnOk, subst}
-use Rattle.sqlite_trees.proofs.TreeLemmas.{IsIndex-insert_entry}
-use Rattle.mmemory.specs.Plain.{tree_rows}
-use Rattle.mmemory.specs.States.{rows_of}
-use Rattle.mmemory.specs.Held.{now, Writes}
+use Rattle.mmemory.proofs.MemoryWords.{OnOk, subst, IsIndex-insert_entry, tree_rows, rows_of, now, Writes}
 use Rattle.mmemory.proofs.Words.{falls_below_entry}
 use Rattle.mmemory.proofs.Logs.{shaped_now}
 use Rattle.mmemory.proofs.Wrote.{wrote_none, shaped_rows, entry_new, entry_stays}

@@ -1,8 +1,5 @@
 -- SPDX-License-Identifier: Apache-2.0
-use Rattle.std.proofs.Common.{◌≡◌, ◌+◌, ◌-◌, ◌++◌, ◌∷◌, [], length, refl, sym, ap, subst, ◌∙◌, arith}
-use Rattle.mmemory.specs.declared.undo.Undo.TheVariants.{Shorten}
-use Rattle.mmemory.specs.States.{state_of, undone_one, IsInOrder}
-use Rattle.mmemory.specs.Held.{now}
+use Rattle.mmemory.proofs.MemoryWords.{◌≡◌, ◌+◌, ◌-◌, ◌++◌, ◌∷◌, [], length, refl, sym, ap, subst, ◌∙◌, arith, Shorten, state_of, undone_one, IsInOrder, now}
 use Rattle.mmemory.proofs.Logs.{order_same, within_same, within_more, when_ok, order_untouched}
 use Rattle.mmemory.proofs.Others.{order_by, shortened, order_padded, pads_more}
 use Rattle.mmemory.proofs.held.Held.make_room.Goals as goal

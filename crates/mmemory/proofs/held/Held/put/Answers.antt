@@ -1,10 +1,5 @@
 -- SPDX-License-Identifier: Apache-2.0
-use Rattle.std.proofs.Common.{OnOk, subst}
-use Rattle.sqlite_value.specs.Value.{owned}
-use Rattle.sqlite_trees.proofs.TreeLemmas.{IsShaped-put_row}
-use Rattle.mmemory.specs.Plain.{tree_rows}
-use Rattle.mmemory.specs.States.{rows_of}
-use Rattle.mmemory.specs.Held.{now, Writes}
+use Rattle.mmemory.proofs.MemoryWords.{OnOk, subst, owned, IsShaped-put_row, tree_rows, rows_of, now, Writes}
 use Rattle.mmemory.proofs.Words.{falls_below_rowid}
 use Rattle.mmemory.proofs.Logs.{shaped_now}
 use Rattle.mmemory.proofs.Wrote.{shaped_rows, put_over, put_new}

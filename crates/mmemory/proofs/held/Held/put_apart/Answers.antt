@@ -1,8 +1,5 @@
 -- SPDX-License-Identifier: Apache-2.0
-use Rattle.std.proofs.Common.{◌++◌, ◌∷◌, sym, subst}
-use Rattle.sqlite_trees.specs.View.{IsShaped}
-use Rattle.mmemory.specs.Nest.{before, after}
-use Rattle.mmemory.specs.Held.{Writes, nest_at, shape_at}
+use Rattle.mmemory.proofs.MemoryWords.{◌++◌, ◌∷◌, sym, subst, IsShaped, before, after, Writes, nest_at, shape_at}
 use Rattle.mmemory.proofs.Logs.{same_shape, then_wrote, ok_weaker}
 use Rattle.mmemory.proofs.Moved.{moved_at}
 use Rattle.mmemory.proofs.held.Held.put_apart.Goals as goal

@@ -1,7 +1,6 @@
 -- SPDX-License-Identifier: Apache-2.0
-use Rattle.std.proofs.Common.{◌≡◌, ◌++◌, ◌∷◌, [], set, refl, ap, ◌∙◌, arith}
+use Rattle.mmemory.proofs.MemoryWords.{◌≡◌, ◌++◌, ◌∷◌, [], set, refl, ap, ◌∙◌, arith, state_of}
 use Rattle.mmemory.specs.declared.undo.Undo.TheVariants.{Step}
-use Rattle.mmemory.specs.States.{state_of}
 use Rattle.mmemory.proofs.Logs.{order_same, within_same, within_more, when_ok}
 use Rattle.mmemory.proofs.Others.{order_by, kept_by, label_undone, label_order, labels_as}
 use Rattle.mmemory.proofs.held.Held.relabel.Goals as goal

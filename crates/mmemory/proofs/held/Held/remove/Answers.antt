@@ -1,10 +1,5 @@
 -- SPDX-License-Identifier: Apache-2.0
-use Rattle.std.proofs.Common.{OnOk, not, is_eq, subst}
-use Rattle.sqlite_value.specs.Keys.{entry_cmp}
-use Rattle.sqlite_trees.proofs.TreeLemmas.{IsShaped-filter}
-use Rattle.mmemory.specs.Plain.{tree_rows}
-use Rattle.mmemory.specs.States.{rows_of}
-use Rattle.mmemory.specs.Held.{now, Writes, shape_at}
+use Rattle.mmemory.proofs.MemoryWords.{OnOk, not, is_eq, subst, entry_cmp, IsShaped-filter, tree_rows, rows_of, now, Writes, shape_at}
 use Rattle.mmemory.proofs.Words.{falls_below_entry}
 use Rattle.mmemory.proofs.Logs.{shaped_now}
 use Rattle.mmemory.proofs.Wrote.{wrote_none, shaped_rows, entry_cut, entry_not}

@@ -1,8 +1,5 @@
 -- SPDX-License-Identifier: Apache-2.0
-use Rattle.std.proofs.Common.{◌≡◌, ◌++◌, ◌∷◌, [], refl, ap, ◌∙◌, arith}
-use Rattle.mmemory.specs.declared.undo.Undo.TheVariants.{Version}
-use Rattle.mmemory.specs.States.{state_of, undone_one}
-use Rattle.mmemory.specs.Held.{now}
+use Rattle.mmemory.proofs.MemoryWords.{◌≡◌, ◌++◌, ◌∷◌, [], refl, ap, ◌∙◌, arith, Version, state_of, undone_one, now}
 use Rattle.mmemory.proofs.Logs.{order_same, within_same, within_more, when_ok}
 use Rattle.mmemory.proofs.Others.{order_by, kept_by}
 use Rattle.mmemory.proofs.held.Held.set_version.Goals as goal

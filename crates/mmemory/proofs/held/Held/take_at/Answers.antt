@@ -1,7 +1,6 @@
 -- SPDX-License-Identifier: Apache-2.0
-use Rattle.std.proofs.Common.{◌≡◌, ◌+◌, ◌++◌, ◌∷◌, [], refl, ap, ◌∙◌, arith}
+use Rattle.mmemory.proofs.MemoryWords.{◌≡◌, ◌+◌, ◌++◌, ◌∷◌, [], refl, ap, ◌∙◌, arith, before, after_row}
 use Rattle.mmemory.specs.declared.undo.Undo.TheVariants.{Step}
-use Rattle.mmemory.specs.Nest.{before, after_row}
 use Rattle.mmemory.proofs.Logs.{order_same, within_same, order_kept, within_more, wrote, when_ok, made_at}
 use Rattle.mmemory.proofs.held.Held.take_at.Goals as goal
 

@@ -1,8 +1,5 @@
 -- SPDX-License-Identifier: Apache-2.0
-use Rattle.std.proofs.Common.{All, ◌≡◌, ◌≤◌, ◌++◌, ◌∷◌, [], drop, length, sym, subst, ap, ◌∙◌, arith}
-use Rattle.std.proofs.lemmas.List.{length-append}
-use Rattle.mmemory.specs.States.{state_of, undone}
-use Rattle.mmemory.specs.Held.{now}
+use Rattle.mmemory.proofs.MemoryWords.{All, ◌≡◌, ◌≤◌, ◌++◌, ◌∷◌, [], drop, length, sym, subst, ap, ◌∙◌, arith, length-append, state_of, undone, now}
 use Rattle.mmemory.proofs.Logs.{moment_less, order_less}
 use Rattle.mmemory.proofs.held.Held.undo_to.Goals as goal
 

@@ -1,6 +1,5 @@
 -- SPDX-License-Identifier: Apache-2.0
-use Rattle.std.proofs.Common.{◌≡◌, ℕ, ◌≤◌, length, vec_len}
-use Rattle.mmemory.specs.Held.{moment}
+use Rattle.mmemory.proofs.MemoryWords.{◌≡◌, ℕ, ◌≤◌, length, vec_len, moment}
 use Rattle.mmemory.proofs.held.Held.undo_to.Given as goal
 
 abbrev pub invariant-loop-self : goal.invariant-loop-self

@@ -1,6 +1,5 @@
 -- SPDX-License-Identifier: Apache-2.0
-use Rattle.std.proofs.Common.{drop, sym, ap}
-use Rattle.mmemory.specs.States.{state_of, undone, shown}
+use Rattle.mmemory.proofs.MemoryWords.{drop, sym, ap, state_of, undone, shown}
 use Rattle.mmemory.proofs.memory.Memory.new.Goals as goal
 
 pub returns-clause-clean : goal.returns-clause-clean

@@ -1,12 +1,5 @@
 -- SPDX-License-Identifier: Apache-2.0
-use Rattle.std.proofs.Common.{◌≡◌}
-use Rattle.sqlite_trees.specs.Tree.{order_of}
-use Rattle.sqlite_trees.specs.Listing.{shape_in}
-use Rattle.sqlite_trees.proofs.TreeLemmas.{sorted_shape}
-use Rattle.mmemory.specs.Plain.{tree_nest, tree_rows}
-use Rattle.mmemory.specs.States.{headings}
-use Rattle.mmemory.specs.Held.{nest_at}
-use Rattle.mmemory.specs.Memory.{current}
+use Rattle.mmemory.proofs.MemoryWords.{◌≡◌, order_of, shape_in, sorted_shape, tree_nest, tree_rows, headings, nest_at, current}
 use Rattle.mmemory.proofs.Words.{falls_below_key, falls_up_to_key, sought_forward, sought_backward}
 use Rattle.mmemory.proofs.Seen.{nest_seen, kind_seen, rows_shaped}
 use Rattle.mmemory.proofs.memory.Memory.placed.Goals as goal

@@ -1,10 +1,5 @@
 -- SPDX-License-Identifier: Apache-2.0
-use Rattle.std.proofs.Common.{◌≡◌, true, None, map, drop, get_or, option_map, refl, ap, ◌∙◌, inl}
-use Rattle.sqlite_trees.specs.View.{View, Commits, OnlyCommits}
-use Rattle.sqlite_trees.proofs.Doubt.{no_doubt}
-use Rattle.mmemory.specs.States.{undone, shown}
-use Rattle.mmemory.specs.Held.{now, moment}
-use Rattle.mmemory.specs.Memory.{view_of, current, left_of}
+use Rattle.mmemory.proofs.MemoryWords.{◌≡◌, true, None, map, drop, get_or, option_map, refl, ap, ◌∙◌, inl, View, Commits, OnlyCommits, no_doubt, undone, shown, now, moment, view_of, current, left_of}
 use Rattle.mmemory.proofs.memory.MemoryStore.commit.Goals as goal
 
 only_commits : (old new : View) → Commits old new → OnlyCommits old new

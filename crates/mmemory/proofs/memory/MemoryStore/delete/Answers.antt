@@ -1,8 +1,5 @@
 -- SPDX-License-Identifier: Apache-2.0
-use Rattle.std.proofs.Common.{true, refl, ◌∙◌, arith, to_z-of_z}
-use Rattle.sqlite_trees.specs.Tree.{without_rowid}
-use Rattle.sqlite_trees.proofs.Doubt.{no_doubt}
-use Rattle.mmemory.specs.declared.memory.Memory.{Memory}
+use Rattle.mmemory.proofs.MemoryWords.{true, refl, ◌∙◌, arith, to_z-of_z, without_rowid, no_doubt, Memory}
 use Rattle.mmemory.proofs.Logs.{after_error}
 use Rattle.mmemory.proofs.Views.{written, sets_frame, seen_same, fails}
 use Rattle.mmemory.proofs.Seen.{shape_is, listed_within}

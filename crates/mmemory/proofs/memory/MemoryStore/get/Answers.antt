@@ -1,10 +1,6 @@
 -- SPDX-License-Identifier: Apache-2.0
-use Rattle.std.proofs.Common.{◌≡◌, ◌<◌, [], ◌∷◌, length, true, get_or, refl, sym, ap, ◌∙◌, arith, to_z-of_z}
+use Rattle.mmemory.proofs.MemoryWords.{◌≡◌, ◌<◌, [], ◌∷◌, length, true, get_or, refl, sym, ap, ◌∙◌, arith, to_z-of_z, no_doubt, named, unnumbered, before, after, tree_nest, tree_rows}
 use Rattle.sqlite_value.specs.declared.value.Value.TheVariants.{Int}
-use Rattle.sqlite_trees.proofs.Doubt.{no_doubt}
-use Rattle.sqlite_trees.proofs.StoreLemmas.{named, unnumbered}
-use Rattle.mmemory.specs.Nest.{before, after}
-use Rattle.mmemory.specs.Plain.{tree_nest, tree_rows}
 use Rattle.mmemory.proofs.Nests.{whole}
 use Rattle.mmemory.proofs.Words.{falls_below_rowid, row_found, row_missing}
 use Rattle.mmemory.proofs.Seen.{nest_seen, listed_within, table_shaped}

@@ -1,12 +1,5 @@
 -- SPDX-License-Identifier: Apache-2.0
-use Rattle.std.proofs.Common.{◌≡◌, true, refl, sym, ap, ◌∙◌, arith, subst}
-use Rattle.sqlite_trees.specs.declared.store.Shape.TheVariants.{Index}
-use Rattle.sqlite_trees.specs.Tree.{insert_entry, order_of}
-use Rattle.sqlite_trees.proofs.Doubt.{no_doubt}
-use Rattle.mmemory.specs.declared.memory.Memory.{Memory}
-use Rattle.mmemory.specs.Held.{Writes}
-use Rattle.mmemory.specs.States.{rows_of}
-use Rattle.mmemory.specs.Memory.{current, memory_view}
+use Rattle.mmemory.proofs.MemoryWords.{◌≡◌, true, refl, sym, ap, ◌∙◌, arith, subst, Index, insert_entry, order_of, no_doubt, Memory, Writes, rows_of, current, memory_view}
 use Rattle.mmemory.proofs.Logs.{after_error}
 use Rattle.mmemory.proofs.Views.{written, sets_frame, seen_same, fails}
 use Rattle.mmemory.proofs.Seen.{shape_is, listed_within}

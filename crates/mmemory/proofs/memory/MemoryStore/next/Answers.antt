@@ -1,8 +1,5 @@
 -- SPDX-License-Identifier: Apache-2.0
-use Rattle.std.proofs.Common.{◌≡◌, ◌<◌, length, get_or, None, Some, arith}
-use Rattle.std.proofs.lemmas.Grind.{common_steps}
-use Rattle.sqlite_trees.proofs.StoreLemmas.{cursor_within, cursor_set}
-use Rattle.mmemory.specs.Memory.{memory_view, current, left_of}
+use Rattle.mmemory.proofs.MemoryWords.{◌≡◌, ◌<◌, length, get_or, None, Some, arith, common_steps, cursor_within, cursor_set, memory_view, current, left_of}
 use Rattle.mmemory.proofs.memory.MemoryStore.next.Goals as goal
 
 pub returns-in-Some-clause-ok : goal.returns-in-Some-clause-ok

@@ -1,10 +1,6 @@
 -- SPDX-License-Identifier: Apache-2.0
-use Rattle.std.proofs.Common.{All, ◌≡◌, ℕ, zero, suc, ◌-◌, ◌<◌, ◌≤◌, List, [], ◌∷◌, length, slice_get, slice_index, get_or, Some, map, refl, sym, ap, ◌∙◌, arith}
-use Rattle.sqlite_trees.specs.View.{newest, snapshot}
-use Rattle.mmemory.specs.declared.memory.Memory.{Memory}
-use Rattle.mmemory.specs.States.{shown}
-use Rattle.mmemory.specs.Held.{moment}
-use Rattle.mmemory.specs.Memory.{memory_view, view_of, current, marks_of}
+use Rattle.mmemory.proofs.MemoryWords.{All, ◌≡◌, ℕ, zero, suc, ◌-◌, ◌<◌, ◌≤◌, List, [], ◌∷◌, length, slice_get, get_or, Some, map, refl, sym, ap, ◌∙◌, arith, newest, snapshot, Memory, shown, moment, memory_view, view_of, current, marks_of}
+use Rattle.std.proofs.Common.{slice_index}
 use Rattle.mmemory.proofs.Views.{map_same, newest_mark}
 use Rattle.mmemory.proofs.memory.MemoryStore.rollback_to.Goals as goal
 

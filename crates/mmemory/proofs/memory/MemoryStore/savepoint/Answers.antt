@@ -1,9 +1,5 @@
 -- SPDX-License-Identifier: Apache-2.0
-use Rattle.std.proofs.Common.{◌≡◌, ◌++◌, ◌∷◌, [], length, map, refl, ap, ◌∙◌, arith}
-use Rattle.std.proofs.lemmas.List.{map-append}
-use Rattle.mmemory.specs.States.{undone, shown}
-use Rattle.mmemory.specs.Held.{moment}
-use Rattle.mmemory.specs.Memory.{memory_view, current}
+use Rattle.mmemory.proofs.MemoryWords.{◌≡◌, ◌++◌, ◌∷◌, [], length, map, refl, ap, ◌∙◌, arith, map-append, undone, shown, moment, memory_view, current}
 use Rattle.mmemory.proofs.Shown.{drop_past}
 use Rattle.mmemory.proofs.memory.MemoryStore.savepoint.Goals as goal
 

@@ -1,9 +1,5 @@
 -- SPDX-License-Identifier: Apache-2.0
-use Rattle.std.proofs.Common.{◌≡◌, None, get_or, refl, arith}
-use Rattle.sqlite_trees.specs.Tree.{order_of, sought}
-use Rattle.sqlite_trees.proofs.StoreLemmas.{named, unnumbered}
-use Rattle.mmemory.specs.declared.memory.Memory.{Memory}
-use Rattle.mmemory.specs.Memory.{memory_view, current, left_of}
+use Rattle.mmemory.proofs.MemoryWords.{◌≡◌, None, get_or, refl, arith, order_of, sought, named, unnumbered, Memory, memory_view, current, left_of}
 use Rattle.mmemory.proofs.Logs.{after_error, keeps_untouched}
 use Rattle.mmemory.proofs.Views.{cursors_set, seen_same, fails}
 use Rattle.mmemory.proofs.memory.MemoryStore.seek.Goals as goal

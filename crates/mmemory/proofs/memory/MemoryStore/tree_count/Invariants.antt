@@ -1,7 +1,5 @@
 -- SPDX-License-Identifier: Apache-2.0
-use Rattle.std.proofs.Common.{ℕ, ◌^◌, ◌<◌, ◌≤◌}
-use Rattle.sqlite_trees.specs.Tree.{IsIndexShape}
-use Rattle.mmemory.specs.Memory.{memory_view}
+use Rattle.mmemory.proofs.MemoryWords.{ℕ, ◌^◌, ◌<◌, ◌≤◌, IsIndexShape, memory_view}
 use Rattle.mmemory.proofs.memory.MemoryStore.tree_count.Given as goal
 
 abbrev pub invariant-loop-count : goal.invariant-loop-count

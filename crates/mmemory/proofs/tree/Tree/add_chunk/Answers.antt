@@ -1,10 +1,6 @@
 -- SPDX-License-Identifier: Apache-2.0
-use Rattle.std.proofs.Common.{◌≡◌, ◌++◌, ◌∷◌, take, drop, sym, ap, subst, ◌∙◌}
+use Rattle.mmemory.proofs.MemoryWords.{◌≡◌, ◌++◌, ◌∷◌, take, drop, sym, ap, subst, ◌∙◌, DropChunk, joined, plain, nest, tree_nest, with_chunks, Makes}
 use Rattle.std.specs.List.{insert as inserted}
-use Rattle.mmemory.specs.declared.step.Step.TheVariants.{DropChunk}
-use Rattle.mmemory.specs.Lists.{joined}
-use Rattle.mmemory.specs.Plain.{plain, nest, tree_nest, with_chunks}
-use Rattle.mmemory.specs.Changes.{Makes}
 use Rattle.mmemory.proofs.Made.{nest_inserted, made_add}
 use Rattle.mmemory.proofs.tree.Tree.add_chunk.Goals as goal
 

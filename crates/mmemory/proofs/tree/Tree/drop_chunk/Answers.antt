@@ -1,6 +1,5 @@
 -- SPDX-License-Identifier: Apache-2.0
-use Rattle.std.proofs.Common.{ap, ◌∙◌}
-use Rattle.mmemory.specs.Plain.{plain, with_chunks, nest}
+use Rattle.mmemory.proofs.MemoryWords.{ap, ◌∙◌, plain, with_chunks, nest}
 use Rattle.mmemory.proofs.Made.{nest_removed}
 use Rattle.mmemory.proofs.tree.Tree.drop_chunk.Goals as goal
 

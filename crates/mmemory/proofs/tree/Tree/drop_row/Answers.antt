@@ -1,7 +1,5 @@
 -- SPDX-License-Identifier: Apache-2.0
-use Rattle.std.proofs.Common.{arith}
-use Rattle.mmemory.specs.Lists.{taken}
-use Rattle.mmemory.specs.Plain.{plain, with_chunks}
+use Rattle.mmemory.proofs.MemoryWords.{arith, taken, plain, with_chunks}
 use Rattle.mmemory.proofs.Made.{changed}
 use Rattle.mmemory.proofs.tree.Tree.drop_row.Goals as goal
 

@@ -1,7 +1,5 @@
 -- SPDX-License-Identifier: Apache-2.0
-use Rattle.std.proofs.Common.{◌≡◌, ◌-◌, [], get_or, sym, ap, ◌∙◌}
-use Rattle.mmemory.specs.Plain.{chunk_rows, nest}
-use Rattle.mmemory.specs.Probe.{passes}
+use Rattle.mmemory.proofs.MemoryWords.{◌≡◌, ◌-◌, [], get_or, sym, ap, ◌∙◌, chunk_rows, nest, passes}
 use Rattle.mmemory.proofs.Shown.{shown_at}
 use Rattle.mmemory.proofs.Finds.{tree_found}
 use Rattle.mmemory.proofs.tree.Tree.find.Goals as goal

@@ -1,6 +1,5 @@
 -- SPDX-License-Identifier: Apache-2.0
-use Rattle.std.proofs.Common.{arith}
-use Rattle.mmemory.specs.Plain.{plain, with_chunks}
+use Rattle.mmemory.proofs.MemoryWords.{arith, plain, with_chunks}
 use Rattle.mmemory.proofs.Made.{join_made}
 use Rattle.mmemory.proofs.tree.Tree.join.Goals as goal
 

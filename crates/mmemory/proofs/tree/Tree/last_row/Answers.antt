@@ -1,8 +1,5 @@
 -- SPDX-License-Identifier: Apache-2.0
-use Rattle.std.proofs.Common.{◌≡◌, ◌-◌, [], length, take, ap, sym, ◌∙◌, arith}
-use Rattle.std.proofs.lemmas.List.{length-map}
-use Rattle.mmemory.specs.Nest.{rows_at}
-use Rattle.mmemory.specs.Plain.{chunk_rows, tree_nest}
+use Rattle.mmemory.proofs.MemoryWords.{◌≡◌, ◌-◌, [], length, take, ap, sym, ◌∙◌, arith, length-map, rows_at, chunk_rows, tree_nest}
 use Rattle.mmemory.proofs.Shown.{shown_at}
 use Rattle.mmemory.proofs.Steps.{chunk_end, some_weaker}
 use Rattle.mmemory.proofs.tree.Tree.last_row.Goals as goal

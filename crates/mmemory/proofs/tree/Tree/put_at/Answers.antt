@@ -1,11 +1,5 @@
 -- SPDX-License-Identifier: Apache-2.0
-use Rattle.std.proofs.Common.{◌<◌, ◌++◌, ◌∷◌, length, sym, subst, arith}
-use Rattle.std.proofs.lemmas.List.{length-map}
-use Rattle.mmemory.specs.declared.step.Step.TheVariants.{DropRow}
-use Rattle.mmemory.specs.Lists.{put_in}
-use Rattle.mmemory.specs.Nest.{before, after}
-use Rattle.mmemory.specs.Plain.{plain, chunk_rows, tree_nest, with_chunks}
-use Rattle.mmemory.specs.Changes.{Makes}
+use Rattle.mmemory.proofs.MemoryWords.{◌<◌, ◌++◌, ◌∷◌, length, sym, subst, arith, length-map, DropRow, put_in, before, after, plain, chunk_rows, tree_nest, with_chunks, Makes}
 use Rattle.mmemory.proofs.Made.{changed, made_put, some_at}
 use Rattle.mmemory.proofs.tree.Tree.put_at.Goals as goal
 

@@ -1,9 +1,5 @@
 -- SPDX-License-Identifier: Apache-2.0
-use Rattle.std.proofs.Common.{◌≡◌, ◌≢◌, ℕ, zero, suc, ◌-◌, min, List, length, sym, ap, ◌∙◌, refl, arith}
-use Rattle.std.specs.List.{insert}
-use Rattle.std.proofs.lemmas.List.{length-map}
-use Rattle.sqlite_value.specs.Order.{Row}
-use Rattle.mmemory.specs.Plain.{Plain, plain, chunk_rows, nest, put_back}
+use Rattle.mmemory.proofs.MemoryWords.{◌≡◌, ◌≢◌, ℕ, zero, suc, ◌-◌, min, List, length, sym, ap, ◌∙◌, refl, arith, insert, length-map, Row, Plain, plain, chunk_rows, nest, put_back}
 use Rattle.mmemory.proofs.Made.{nest_inserted, insert_min}
 use Rattle.mmemory.proofs.tree.Tree.put_chunk.Goals as goal
 

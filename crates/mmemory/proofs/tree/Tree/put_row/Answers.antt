@@ -1,7 +1,5 @@
 -- SPDX-License-Identifier: Apache-2.0
-use Rattle.std.proofs.Common.{arith}
-use Rattle.mmemory.specs.Lists.{put_in}
-use Rattle.mmemory.specs.Plain.{plain, with_chunks}
+use Rattle.mmemory.proofs.MemoryWords.{arith, put_in, plain, with_chunks}
 use Rattle.mmemory.proofs.Made.{changed}
 use Rattle.mmemory.proofs.tree.Tree.put_row.Goals as goal
 

@@ -1,6 +1,5 @@
 -- SPDX-License-Identifier: Apache-2.0
-use Rattle.std.proofs.Common.{sym, ◌∙◌, inl, arith}
-use Rattle.mmemory.specs.Plain.{tree_nest}
+use Rattle.mmemory.proofs.MemoryWords.{sym, ◌∙◌, inl, arith, tree_nest}
 use Rattle.mmemory.proofs.Steps.{within_chunks}
 use Rattle.mmemory.proofs.tree.Tree.seek.Goals as goal
 

@@ -1,10 +1,5 @@
 -- SPDX-License-Identifier: Apache-2.0
-use Rattle.std.proofs.Common.{◌≡◌, ◌<◌, ◌+◌, ◌++◌, ◌∷◌, [], arith, length, get_or, set, sym, ap, subst, ◌∙◌}
-use Rattle.std.proofs.lemmas.List.{length-map}
-use Rattle.mmemory.specs.declared.step.Step.TheVariants.{SetRow}
-use Rattle.mmemory.specs.Nest.{before, after_row, rows_at}
-use Rattle.mmemory.specs.Plain.{plain, chunk_rows, nest, tree_nest, with_chunks}
-use Rattle.mmemory.specs.Changes.{Makes}
+use Rattle.mmemory.proofs.MemoryWords.{◌≡◌, ◌<◌, ◌+◌, ◌++◌, ◌∷◌, [], arith, length, get_or, set, sym, ap, subst, ◌∙◌, length-map, SetRow, before, after_row, rows_at, plain, chunk_rows, nest, tree_nest, with_chunks, Makes}
 use Rattle.mmemory.proofs.Shown.{shown_at}
 use Rattle.mmemory.proofs.Made.{changed, made_set}
 use Rattle.mmemory.proofs.tree.Tree.set_at.Goals as goal

@@ -1,6 +1,5 @@
 -- SPDX-License-Identifier: Apache-2.0
-use Rattle.std.proofs.Common.{set, arith}
-use Rattle.mmemory.specs.Plain.{plain, with_chunks}
+use Rattle.mmemory.proofs.MemoryWords.{set, arith, plain, with_chunks}
 use Rattle.mmemory.proofs.Made.{changed}
 use Rattle.mmemory.proofs.tree.Tree.set_row.Goals as goal
 

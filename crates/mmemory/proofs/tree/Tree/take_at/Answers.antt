@@ -1,11 +1,6 @@
 -- SPDX-License-Identifier: Apache-2.0
-use Rattle.std.proofs.Common.{◌≡◌, ◌<◌, ◌+◌, ◌++◌, [], length, get_or, set, sym, ap, subst, ◌∙◌, arith}
+use Rattle.mmemory.proofs.MemoryWords.{◌≡◌, ◌<◌, ◌+◌, ◌++◌, [], length, get_or, set, sym, ap, subst, ◌∙◌, arith, length-map, PutRow, PutChunk, before, after_row, rows_at, plain, chunk_rows, nest, tree_nest, with_chunks, Makes}
 use Rattle.std.specs.List.{remove as removed}
-use Rattle.std.proofs.lemmas.List.{length-map}
-use Rattle.mmemory.specs.declared.step.Step.TheVariants.{PutRow, PutChunk}
-use Rattle.mmemory.specs.Nest.{before, after_row, rows_at}
-use Rattle.mmemory.specs.Plain.{plain, chunk_rows, nest, tree_nest, with_chunks}
-use Rattle.mmemory.specs.Changes.{Makes}
 use Rattle.mmemory.proofs.Shown.{shown_at}
 use Rattle.mmemory.proofs.Made.{changed, made_cut, made_none, nest_removed, short_at}
 use Rattle.mmemory.proofs.tree.Tree.take_at.Goals as goal

@@ -1,5 +1,5 @@
 -- SPDX-License-Identifier: Apache-2.0
-use Rattle.std.proofs.Common.{◌*◌, ◌^◌, ◌-◌, Some, refl, ap, lit≤}
+use Rattle.mnum.proofs.NumWords.{◌*◌, ◌^◌, ◌-◌, Some, refl, ap, lit≤}
 use Rattle.mnum.proofs.Cuts.{returns_exact}
 use Rattle.mnum.proofs.MachineNumbers.{sum_is_signed}
 use Rattle.mnum.proofs.Sums.{sum_is}

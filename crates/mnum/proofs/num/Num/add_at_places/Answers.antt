@@ -1,5 +1,5 @@
 -- SPDX-License-Identifier: Apache-2.0
-use Rattle.std.proofs.Common.{◌*◌, ◌^◌, ◌-◌, refl}
+use Rattle.mnum.proofs.NumWords.{◌*◌, ◌^◌, ◌-◌, refl}
 use Rattle.mnum.proofs.Outcomes.{same_number}
 use Rattle.mnum.proofs.Sums.{sum_is}
 use Rattle.mnum.proofs.num.Num.add_at_places.Goals as goal

@@ -1,7 +1,5 @@
 -- SPDX-License-Identifier: Apache-2.0
-use Rattle.std.proofs.Common.{◌*◌, ◌+◌, ◌/◌, ◌^◌, ◌-◌, sym, ap, ◌∙◌, Some}
-use Rattle.mspec.specs.Number.{quotient_of}
-use Rattle.mnum.specs.Num.{units}
+use Rattle.mnum.proofs.NumWords.{◌*◌, ◌+◌, ◌/◌, ◌^◌, ◌-◌, sym, ap, ◌∙◌, Some, quotient_of, units}
 use Rattle.mnum.proofs.Quotients.{quotient_rounded, some_digits, some_units, exact_quotient}
 use Rattle.mnum.proofs.num.Num.div_assign.Goals as goal
 

@@ -1,7 +1,5 @@
 -- SPDX-License-Identifier: Apache-2.0
-use Rattle.std.proofs.Common.{◌≡◌, ℕ, ◌*◌, ◌+◌, ◌/◌, ◌^◌, ◌-◌, ◌<◌, refl, sym, None, arith}
-use Rattle.mnum.specs.Floor.{IsFloor, IsFine}
-use Rattle.mnum.specs.Num.{units}
+use Rattle.mnum.proofs.NumWords.{◌≡◌, ℕ, ◌*◌, ◌+◌, ◌/◌, ◌^◌, ◌-◌, ◌<◌, refl, sym, None, arith, IsFloor, IsFine, units}
 use Rattle.mnum.proofs.Outcomes.{outcome_is}
 use Rattle.mnum.proofs.Quotients.{quotient_floor, quotient_fine, quotient_over, quotient_rounded, some_units}
 use Rattle.mnum.proofs.num.Num.div_rounded.Goals as goal

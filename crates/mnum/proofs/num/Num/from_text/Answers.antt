@@ -1,5 +1,5 @@
 -- SPDX-License-Identifier: Apache-2.0
-use Rattle.mspec.proofs.WholeTexts.{value_of_digits}
+use Rattle.mnum.proofs.NumWords.{value_of_digits}
 use Rattle.mnum.proofs.num.Num.from_text.Goals as goal
 
 pub returns-in-Some : goal.returns-in-Some

@@ -1,5 +1,5 @@
 -- SPDX-License-Identifier: Apache-2.0
-use Rattle.std.proofs.Common.{◌≡◌, ◌-◌, ◌*◌, ◌^◌, ◌≤◌}
+use Rattle.mnum.proofs.NumWords.{◌≡◌, ◌-◌, ◌*◌, ◌^◌, ◌≤◌}
 use Rattle.mnum.proofs.num.Num.from_units.Given as goal
 
 abbrev pub invariant-loop-digits : goal.invariant-loop-digits

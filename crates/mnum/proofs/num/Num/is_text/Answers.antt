@@ -1,5 +1,5 @@
 -- SPDX-License-Identifier: Apache-2.0
-use Rattle.std.proofs.Common.{sym, ◌∙◌}
+use Rattle.mnum.proofs.NumWords.{sym, ◌∙◌}
 use Rattle.mnum.proofs.Starts.{other_text}
 use Rattle.mnum.proofs.num.Num.is_text.Goals as goal
 

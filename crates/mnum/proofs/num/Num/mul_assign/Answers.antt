@@ -1,8 +1,7 @@
 -- SPDX-License-Identifier: Apache-2.0
-use Rattle.std.proofs.Common.{◌≡◌, ℕ, ◌*◌, ◌+◌, ◌^◌, ◌-◌, Some, sym, lit≤}
+use Rattle.mnum.proofs.NumWords.{◌≡◌, ℕ, ◌*◌, ◌+◌, ◌^◌, ◌-◌, Some, sym, lit≤, ten_pos}
 use Rattle.mnum.proofs.Rounds.{exact_some}
 use Rattle.mnum.proofs.SignLaws.{with_sign, signed_mul, product_units}
-use Rattle.mspec.proofs.Powers.{ten_pos}
 use Rattle.mnum.proofs.num.Num.mul_assign.Goals as goal
 
 pub returns-then-places-le18 : goal.returns-then-places-le18

@@ -1,8 +1,7 @@
 -- SPDX-License-Identifier: Apache-2.0
-use Rattle.std.proofs.Common.{◌≡◌, ℕ, ◌*◌, ◌+◌, ◌^◌, ◌-◌, inl}
+use Rattle.mnum.proofs.NumWords.{◌≡◌, ℕ, ◌*◌, ◌+◌, ◌^◌, ◌-◌, inl, ten_pos}
 use Rattle.mnum.proofs.Outcomes.{same_number}
 use Rattle.mnum.proofs.SignLaws.{with_sign, signed_mul, product_units, exact_floor}
-use Rattle.mspec.proofs.Powers.{ten_pos}
 use Rattle.mnum.proofs.num.Num.mul_rounded.Goals as goal
 
 pub returns : goal.returns

@@ -1,8 +1,6 @@
 -- SPDX-License-Identifier: Apache-2.0
-use Rattle.std.proofs.Common.{◌*◌, ◌/◌, ◌^◌, ◌-◌, Some, refl, ap, arith, lit≤, div-le_self}
-use Rattle.mspec.proofs.Powers.{ten_pos}
-use Rattle.mspec.specs.Number.{whole_quotient_of}
-use Rattle.mnum.specs.Num.{units}
+use Rattle.mnum.proofs.NumWords.{◌*◌, ◌/◌, ◌^◌, ◌-◌, Some, refl, ap, arith, lit≤, ten_pos, whole_quotient_of, units}
+use Rattle.std.proofs.Common.{div-le_self}
 use Rattle.mnum.proofs.Cuts.{returns_exact}
 use Rattle.mnum.proofs.Quotients.{some_units}
 use Rattle.mnum.proofs.Sums.{quotient_is}

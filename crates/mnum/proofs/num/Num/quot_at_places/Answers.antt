@@ -1,7 +1,5 @@
 -- SPDX-License-Identifier: Apache-2.0
-use Rattle.std.proofs.Common.{◌*◌, ◌^◌, ◌-◌}
-use Rattle.mspec.proofs.Powers.{ten_pos}
-use Rattle.mnum.specs.Num.{units}
+use Rattle.mnum.proofs.NumWords.{◌*◌, ◌^◌, ◌-◌, ten_pos, units}
 use Rattle.mnum.proofs.Outcomes.{outcome_is}
 use Rattle.mnum.proofs.Quotients.{some_units}
 use Rattle.mnum.proofs.Sums.{quotient_is}

@@ -1,7 +1,5 @@
 -- SPDX-License-Identifier: Apache-2.0
-use Rattle.std.proofs.Common.{◌*◌, ◌^◌, ◌-◌, Some, refl, ap, arith, lit≤}
-use Rattle.mspec.specs.Number.{remainder_of}
-use Rattle.mnum.specs.Num.{units}
+use Rattle.mnum.proofs.NumWords.{◌*◌, ◌^◌, ◌-◌, Some, refl, ap, arith, lit≤, remainder_of, units}
 use Rattle.mnum.proofs.Cuts.{returns_exact}
 use Rattle.mnum.proofs.Quotients.{some_units}
 use Rattle.mnum.proofs.Remainders.{remainder_is}

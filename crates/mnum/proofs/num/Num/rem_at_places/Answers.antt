@@ -1,6 +1,5 @@
 -- SPDX-License-Identifier: Apache-2.0
-use Rattle.std.proofs.Common.{◌*◌, ◌^◌, ◌-◌, refl}
-use Rattle.mnum.specs.Num.{units}
+use Rattle.mnum.proofs.NumWords.{◌*◌, ◌^◌, ◌-◌, refl, units}
 use Rattle.mnum.proofs.Outcomes.{outcome_is, never_over, mapped_none}
 use Rattle.mnum.proofs.Quotients.{some_units}
 use Rattle.mnum.proofs.Remainders.{remainder_is, remainder_fits}

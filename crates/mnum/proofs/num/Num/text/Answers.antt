@@ -1,6 +1,5 @@
 -- SPDX-License-Identifier: Apache-2.0
-use Rattle.std.proofs.Common.{◌≡◌, ◌∙◌, ap, sym, arith, cond, [], ◌∷◌, ◌++◌, ◌%◌}
-use Rattle.mspec.specs.NumberText.{fraction_text}
+use Rattle.mnum.proofs.NumWords.{◌≡◌, ◌∙◌, ap, sym, arith, cond, [], ◌∷◌, ◌++◌, ◌%◌, fraction_text}
 use Rattle.mnum.proofs.Prints.{text_zero, text_some, text_whole}
 use Rattle.mnum.proofs.num.Num.text.Goals as goal
 use Rattle.mnum.proofs.num.Num.text.Goals.{then-self, else-self}

@@ -1,6 +1,5 @@
 -- SPDX-License-Identifier: Apache-2.0
-use Rattle.std.proofs.Common.{◌∙◌, ap, sym, arith, ◌*◌, ◌^◌, ◌-◌, true, false}
-use Rattle.mspec.specs.Number.{signed}
+use Rattle.mnum.proofs.NumWords.{◌∙◌, ap, sym, arith, ◌*◌, ◌^◌, ◌-◌, true, false, signed}
 use Rattle.mnum.proofs.Sums.{places_below, negated_fits, negated_is, kept_is}
 use Rattle.mnum.proofs.Ranges.{units_number}
 use Rattle.mnum.proofs.num.Num.to_units.Goals as goal

@@ -1,6 +1,5 @@
 -- SPDX-License-Identifier: Apache-2.0
-use Rattle.std.proofs.Common.{◌/◌, true, false, ap, ◌∙◌}
-use Rattle.mspec.specs.Number.{signed}
+use Rattle.mnum.proofs.NumWords.{◌/◌, true, false, ap, ◌∙◌, signed}
 use Rattle.mnum.proofs.WholeParts.{whole_is, whole_kept, whole_negated}
 use Rattle.mnum.proofs.num.Num.to_whole.Goals as goal
 

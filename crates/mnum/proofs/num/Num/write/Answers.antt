@@ -1,7 +1,5 @@
 -- SPDX-License-Identifier: Apache-2.0
-use Rattle.std.proofs.Common.{◌≡◌, ℕ, List, ◌++◌, ◌∙◌, subst, rules, OnOk}
-use Rattle.mspec.specs.NumberText.{number_text}
-use Rattle.mnum.specs.Num.{units}
+use Rattle.mnum.proofs.NumWords.{◌≡◌, ℕ, List, ◌++◌, ◌∙◌, subst, rules, OnOk, number_text, units}
 use Rattle.mnum.proofs.Prints.{text_of_digits}
 use Rattle.mnum.proofs.num.Num.write.Goals as goal
 

@@ -1,12 +1,9 @@
 -- SPDX-License-Identifier: Apache-2.0
-use Rattle.std.proofs.Common.{◌≡◌, IfOk, Some, ap, sym, subst, ◌∙◌}
-use Rattle.std.specs.FinMap.{get}
-use Rattle.mstore.specs.Entries.{IsAt, IsGapFor}
+use Rattle.mstore.proofs.Words.{◌≡◌, IfOk, Some, ap, sym, subst, ◌∙◌, get, IsAt, IsGapFor, AreHeld}
 use Rattle.mstore.proofs.SortedEntries.{get_held}
 use Rattle.mstore.proofs.EntryPlaces.{find_at, find_in_gap}
 use Rattle.mstore.proofs.plain.PlainNodeStore.get.Goals as goal
 use Rattle.mstore.proofs.plain.PlainNodeStore.get.Goals.{in-Ok+in_ok-copy-in-Ok, in-Err}
-use Rattle.mstore.specs.Held.{AreHeld}
 use Rattle.mstore.proofs.Holding.{entries_held}
 
 pub returns-clause-found : goal.returns-clause-found

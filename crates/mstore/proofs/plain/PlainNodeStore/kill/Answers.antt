@@ -1,7 +1,5 @@
 -- SPDX-License-Identifier: Apache-2.0
-use Rattle.std.proofs.Common.{◌≤◌, length, ap, sym, subst, ◌∙◌}
-use Rattle.mspec.specs.Globals.{without_subtree}
-use Rattle.mstore.specs.Entries.{AreEntries, held}
+use Rattle.mstore.proofs.Words.{◌≤◌, length, ap, sym, subst, ◌∙◌, without_subtree, AreEntries, held}
 use Rattle.mstore.proofs.EntryPlaces.{same_place}
 use Rattle.mstore.proofs.Subtrees.{in_turn, are_left, held_left}
 use Rattle.mstore.proofs.plain.PlainNodeStore.kill.Goals as goal

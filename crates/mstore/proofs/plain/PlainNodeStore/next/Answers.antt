@@ -1,9 +1,6 @@
 -- SPDX-License-Identifier: Apache-2.0
-use Rattle.std.proofs.Common.{◌-◌, length, slice_get, take, drop, ap, subst, ◌∙◌}
-use Rattle.mspec.specs.Globals.{next_key}
-use Rattle.mstore.specs.Entries.{key_within, IsPlaceOf}
+use Rattle.mstore.proofs.Words.{◌-◌, length, slice_get, take, drop, ap, subst, ◌∙◌, next_key, key_within, IsPlaceOf, AreHeld}
 use Rattle.mstore.proofs.EntryRanges.{next_found, first_of_rest}
-use Rattle.mstore.specs.Held.{AreHeld}
 use Rattle.mstore.proofs.Holding.{entries_held}
 use Rattle.mstore.proofs.plain.PlainNodeStore.next.Goals as goal
 

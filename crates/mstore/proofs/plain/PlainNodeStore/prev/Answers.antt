@@ -1,9 +1,6 @@
 -- SPDX-License-Identifier: Apache-2.0
-use Rattle.std.proofs.Common.{◌-◌, length, slice_get, take, ap, subst, ◌∙◌}
-use Rattle.mspec.specs.Globals.{previous_key}
-use Rattle.mstore.specs.Entries.{key_within, IsPlaceOf}
+use Rattle.mstore.proofs.Words.{◌-◌, length, slice_get, take, ap, subst, ◌∙◌, previous_key, key_within, IsPlaceOf, AreHeld}
 use Rattle.mstore.proofs.EntryRanges.{previous_found}
-use Rattle.mstore.specs.Held.{AreHeld}
 use Rattle.mstore.proofs.Holding.{entries_held}
 use Rattle.mstore.proofs.plain.PlainNodeStore.prev.Goals as goal
 

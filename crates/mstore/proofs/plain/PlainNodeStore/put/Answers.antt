@@ -1,10 +1,7 @@
 -- SPDX-License-Identifier: Apache-2.0
-use Rattle.std.proofs.Common.{◌≤◌, length, refl, ap, sym, subst, ◌∙◌, is_ok}
+use Rattle.mstore.proofs.Words.{◌≤◌, length, refl, ap, sym, subst, ◌∙◌, is_ok, longest_text, AreEntries, IsAt, IsGapFor, held, AreHeld}
 use Rattle.std.specs.FinMap as finite
-use Rattle.mspec.specs.TextFunctions.{longest_text}
-use Rattle.mstore.specs.Entries.{AreEntries, IsAt, IsGapFor, held}
 use Rattle.mstore.proofs.EntryPlaces.{had_room, are_set, are_inserted, held_set, held_inserted}
-use Rattle.mstore.specs.Held.{AreHeld}
 use Rattle.mstore.proofs.Holding.{entries_held}
 use Rattle.mstore.proofs.plain.PlainNodeStore.put.Goals as goal
 

@@ -1,9 +1,5 @@
 -- SPDX-License-Identifier: Apache-2.0
-use Rattle.std.proofs.Common.{IsTrue, true, refl, sym, ◌∙◌, rules}
-use Rattle.sqlite.specs.Held.{state}
-use Rattle.sqlite_trees.proofs.Doubt.{no_doubt}
-use Rattle.mstore.specs.InMemory.{over_memory}
-use Rattle.mstore.specs.Database.{IsBlank}
+use Rattle.mstore.proofs.Words.{IsTrue, true, refl, sym, ◌∙◌, rules, state, no_doubt, over_memory, IsBlank}
 use Rattle.mstore.proofs.Makes.{bare_is_empty, blank_from, memory_is}
 use Rattle.mstore.proofs.table.Table+Memory.open_memory.Goals as goal
 

@@ -1,5 +1,5 @@
 -- SPDX-License-Identifier: Apache-2.0
-use Rattle.std.proofs.Common.{ap, Err}
+use Rattle.mstore.proofs.Words.{ap, Err}
 use Rattle.mstore.proofs.table.Table.adopt.Goals as goal
 
 pub returns-in-Err-clause-version : goal.returns-in-Err-clause-version

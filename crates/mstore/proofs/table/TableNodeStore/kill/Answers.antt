@@ -1,7 +1,6 @@
 -- SPDX-License-Identifier: Apache-2.0
-use Rattle.std.proofs.Common.{◌≡◌, OnOk, subst}
-use Rattle.mspec.specs.Globals.{without_subtree}
-use Rattle.mstore.specs.Database.{IsSound, stored}
+use Rattle.mstore.proofs.Words.{◌≡◌, OnOk, subst, without_subtree, stored}
+use Rattle.mstore.specs.Database.{IsSound}
 use Rattle.mstore.proofs.Tied.{kill_is, on_ok}
 use Rattle.mstore.proofs.table.TableNodeStore.kill.Goals as goal
 

@@ -1,7 +1,6 @@
 -- SPDX-License-Identifier: Apache-2.0
-use Rattle.std.proofs.Common.{◌≡◌, None, Some, subst}
-use Rattle.mspec.specs.Globals.{next_key}
-use Rattle.mstore.specs.Database.{IsSound, stored}
+use Rattle.mstore.proofs.Words.{◌≡◌, None, Some, subst, next_key, stored}
+use Rattle.mstore.specs.Database.{IsSound}
 use Rattle.mstore.proofs.Tied.{next_none, next_some}
 use Rattle.mstore.proofs.Holding.{seen_held}
 use Rattle.mstore.proofs.table.TableNodeStore.next.Goals as goal

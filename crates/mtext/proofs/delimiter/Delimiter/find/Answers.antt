@@ -1,7 +1,5 @@
 -- SPDX-License-Identifier: Apache-2.0
-use Rattle.std.proofs.Common.{sym, ap, subst}
-use Rattle.memchr.specs.Find.{FindsNeedle}
-use Rattle.mtext.specs.Cuts.{delimiter_text}
+use Rattle.mtext.proofs.TextWords.{sym, ap, subst, FindsNeedle, delimiter_text}
 use Rattle.mtext.proofs.delimiter.Delimiter.find.Goals as goal
 
 pub returns-in-Text : goal.returns-in-Text

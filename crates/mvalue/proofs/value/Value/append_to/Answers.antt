@@ -1,7 +1,5 @@
 -- SPDX-License-Identifier: Apache-2.0
-use Rattle.std.proofs.Common.{◌≡◌, All, sym, ◌∙◌, subst}
-use Rattle.mspec.specs.NumberText.{number_text}
-use Rattle.mnum.specs.Num.{units}
+use Rattle.mvalue.proofs.ValueWords.{◌≡◌, All, sym, ◌∙◌, subst, number_text, units}
 use Rattle.mvalue.proofs.AsciiNumbers.{Ascii, text_ascii}
 use Rattle.mvalue.proofs.value.Value.append_to.Goals as goal
 

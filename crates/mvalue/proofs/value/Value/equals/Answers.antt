@@ -1,11 +1,5 @@
 -- SPDX-License-Identifier: Apache-2.0
-use Rattle.std.proofs.Common.{◌≡◌, ap, sym, ◌∙◌}
-use Rattle.std.specs.Prelude.{nat_eq}
-use Rattle.std.specs.Ordering.{is_eq}
-use Rattle.std.specs.Cmp.Lexicographic.{pointwise}
-use Rattle.mspec.specs.NumberText.{number_text}
-use Rattle.mnum.specs.Num.{units}
-use Rattle.mvalue.specs.Texts.{kind_text}
+use Rattle.mvalue.proofs.ValueWords.{◌≡◌, ap, sym, ◌∙◌, nat_eq, is_eq, pointwise, number_text, units, kind_text}
 use Rattle.mvalue.proofs.Numbers.{same_number}
 use Rattle.mvalue.proofs.value.Value.equals.Goals as goal
 

@@ -1,7 +1,6 @@
 -- SPDX-License-Identifier: Apache-2.0
-use Rattle.std.proofs.Common.{◌≡◌, ◌==◌, ℕ, ◌<◌, false, length, ap, sym, ◌∙◌, arith}
-use Rattle.std.proofs.lemmas.Bool.Decides.{nat_tests}
-use Rattle.mvalue.specs.Texts.{kind_text}
+use Rattle.mvalue.proofs.ValueWords.{◌≡◌, ◌<◌, false, length, ap, sym, ◌∙◌, arith, nat_tests, kind_text}
+use Rattle.std.proofs.Common.{◌==◌, ℕ}
 use Rattle.mvalue.proofs.NumberLengths.{text_some}
 use Rattle.mvalue.proofs.value.Value.is_empty.Goals as goal
 

@@ -1,8 +1,5 @@
 -- SPDX-License-Identifier: Apache-2.0
-use Rattle.std.proofs.Common.{ap, sym, ◌∙◌}
-use Rattle.mspec.specs.Number.{significant_digits}
-use Rattle.mspec.specs.NumberText.{numeric_value}
-use Rattle.mvalue.specs.Texts.{kind_text}
+use Rattle.mvalue.proofs.ValueWords.{ap, sym, ◌∙◌, significant_digits, numeric_value, kind_text}
 use Rattle.mvalue.proofs.Numbers.{number_again}
 use Rattle.mvalue.proofs.value.Value.number.Goals as goal
 

@@ -1,8 +1,6 @@
 -- SPDX-License-Identifier: Apache-2.0
-use Rattle.std.proofs.Common.{◌≡◌, ◌<◌, ◌^◌, sym, ◌∙◌, subst, arith}
-use Rattle.std.specs.Prelude.{pos, ◌*ℤ◌, IfOk}
+use Rattle.mvalue.proofs.ValueWords.{◌≡◌, ◌<◌, ◌^◌, sym, ◌∙◌, subst, arith, pos, ◌*ℤ◌, IfOk, number_text}
 use Rattle.mspec.specs.Node.{Text}
-use Rattle.mspec.specs.NumberText.{number_text}
 use Rattle.mspec.proofs.WholeTexts.{text_of_whole}
 use Rattle.mvalue.proofs.value.Value.of_count.Goals as goal
 

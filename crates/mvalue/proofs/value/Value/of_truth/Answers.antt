@@ -1,5 +1,5 @@
 -- SPDX-License-Identifier: Apache-2.0
-use Rattle.std.proofs.Common.{◌∙◌}
+use Rattle.mvalue.proofs.ValueWords.{◌∙◌}
 use Rattle.mvalue.proofs.Numbers.{one_text, zero_text}
 use Rattle.mvalue.proofs.value.Value.of_truth.Goals as goal
 

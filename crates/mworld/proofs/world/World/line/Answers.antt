@@ -2,7 +2,7 @@
 use Rattle.misolation.specs.TransitionLaws.{IsolatedTransition}
 use Rattle.misolation.proofs.Transitions.{transitions_are_isolated}
 use Rattle.misolation.proofs.TransitionsWrite.{transitions_write}
-use Rattle.mworld.specs.View.{settings_of, world_of, reply_of}
+use Rattle.mworld.proofs.WorldWords.{settings_of, world_of, reply_of}
 use Rattle.mworld.proofs.Checks.{refused_transition}
 use Rattle.mworld.proofs.world.World.line.Goals as goal
 

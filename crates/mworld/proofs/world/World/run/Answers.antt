@@ -1,14 +1,6 @@
 -- SPDX-License-Identifier: Apache-2.0
-use Rattle.std.proofs.Common.{◌≡◌, false, refl, sym, ap, subst, ◌∙◌}
-use Rattle.std.specs.Prelude.{IsSome}
+use Rattle.mworld.proofs.WorldWords.{◌≡◌, false, refl, sym, ap, subst, ◌∙◌, IsSome, get, insert, Memory, Faulted, lost, is_failure, session_or_new, fault_of, ending_of, world_of, sessions_of, shared, AreFit}
 use Rattle.std.specs.Option.{option_copied_mut}
-use Rattle.std.specs.FinMap.{get, insert}
-use Rattle.mspec.specs.Code.{Memory}
-use Rattle.mmeaning.specs.Transition.{Faulted, lost, is_failure, session_or_new}
-use Rattle.moperator.specs.Codes.{fault_of}
-use Rattle.mexec.specs.Runs.{ending_of}
-use Rattle.mworld.specs.View.{world_of, sessions_of, shared}
-use Rattle.misolation.specs.Cut.{AreFit}
 use Rattle.misolation.proofs.FittingLocks.{released_fits}
 use Rattle.mworld.proofs.Runs.{ran_transition, lost_transition, unrun_transition, ran_fits, is_loss, not_lost, settles, halts}
 use Rattle.mworld.proofs.Sessions.{is_there, is_lent, left, gone}

@@ -1,6 +1,5 @@
 -- SPDX-License-Identifier: Apache-2.0
-use Rattle.std.proofs.Common.{sym, subst}
-use Rattle.misolation.specs.Cut.{AreFit}
+use Rattle.mworld.proofs.WorldWords.{sym, subst, AreFit}
 use Rattle.misolation.proofs.PartsAlone.{opening_is_fit}
 use Rattle.mworld.proofs.world.World.with_entries.Goals as goal
 

@@ -10,7 +10,7 @@ use Rattle.mspec.specs.Globals.{Globals, is_node_within, without_subtree}
 use Rattle.mspec.specs.KeyBytes.{key_bytes, IsStored}
 use Rattle.mspec.specs.NodeOrder.{node_cmp}
 use Rattle.mspec.specs.Number.{significant_digits}
-use Rattle.mspec.specs.TextFunctions.{longest_text}
+use Rattle.mspec.specs.TextFunctions.{max_text}
 use Rattle.mspec.proofs.MapCuts.{get_cut, equal_of}
 use Rattle.mspec.proofs.NodeOrders.{node_cmp_total, node_cmp_exact}
 use Rattle.mkey.specs.Key.{none_empty, one_node}
@@ -22,7 +22,7 @@ order = node_cmp significant_digits
 
 -- ---- what a store holds, behind a write
 
-held_put : (g : Globals) (n : Node) (t : Text) → IsStored n → length t ≤ longest_text → AreHeld g → AreHeld (insert g n t)
+held_put : (g : Globals) (n : Node) (t : Text) → IsStored n → length t ≤ max_text → AreHeld g → AreHeld (insert g n t)
 held_put g n t stored short held = subst (All IsHeld) (sym (entries-insert (node_cmp_total significant_digits) g n t)) (put_held n t (record { node = stored; text = short }) (entries g) held)
 
 module _ {K X : Type 0} {R : K → K → Ordering} (total : IsTotalOrder R) (exact : IsAntisymmetric R) where
@@ -89,7 +89,7 @@ module _ {g : Globals} {read : Bool} {es : List Entry} (were : AreOf g read es) 
   }
 
   -- behind a write of a node whose text is not kept
-  pub behind_put : (n : Node) (bytes : List ℕ) (text : Text) (after : List Entry) → IsStored n → length text ≤ longest_text → bytes ≡ key_bytes significant_digits n → IsIn after es → ((e : Entry) → Contains after e → e.0.items ≢ bytes) → AreOf (insert g n text) read after
+  pub behind_put : (n : Node) (bytes : List ℕ) (text : Text) (after : List Entry) → IsStored n → length text ≤ max_text → bytes ≡ key_bytes significant_digits n → IsIn after es → ((e : Entry) → Contains after e → e.0.items ≢ bytes) → AreOf (insert g n text) read after
   behind_put n bytes text after stored short is in_es gone = record {
     each = λ e c.
         let of = were.each e (in_es e c) in

@@ -4,11 +4,7 @@ ghost use Rattle.std.specs.Prelude.{◌≡◌, ◌↔◌, IsTrue, IsSome, IfSome
 ghost use Rattle.mmeaning.specs.Expression.{is_indirection_free, indirected};
 ghost use Rattle.meval.specs.Evaluates.{depth_of};
 
-// The most levels that a line opens, indirections under evaluation among them.
-pub const MOST_LEVELS: u32 = 256;
-
-// The most indirections under evaluation.
-pub const MOST_INDIRECTIONS: u32 = 32;
+use mspec::limits::{MAX_INDIRECTIONS, MAX_LEVELS};
 
 /// How deep a text stands: the levels that are open, of which some are indirections under evaluation.
 #[derive(Clone, Copy, Debug, PartialEq, Eq)]
@@ -24,7 +20,7 @@ impl Depth {
         ensures free { IsSome result ↔ IsTrue (is_indirection_free (depth_of self)) }
         ensures deeper { IfSome result (λ deeper. depth_of deeper ≡ indirected (depth_of self)) }
     {
-        if self.levels >= MOST_LEVELS || self.indirections >= MOST_INDIRECTIONS {
+        if self.levels >= MAX_LEVELS || self.indirections >= MAX_INDIRECTIONS {
             return None;
         }
         Some(Depth {

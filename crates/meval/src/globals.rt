@@ -16,7 +16,8 @@ use crate::eval::Eval;
 use crate::global_node::GlobalNode;
 use mglobal::{neighbour, status};
 use mkey::{Data, Direction, NodeKey};
-use mnum::{Bytes7, LONGEST_TEXT};
+use mnum::Bytes7;
+use mspec::limits::MAX_TEXT;
 use moperator::Code;
 use mstore::{NodeStore, StoreFault};
 use std::alloc::Global;
@@ -86,7 +87,7 @@ impl<'a, S: NodeStore> Eval<'a, S> {
         ensures fewer { self.new.steps ≤ self.old.steps }
         ensures does { Evaluates S.NodeStore (λ i. put_at (at_node key.now) text.now) (λ u. u) self.old result self.new }
     {
-        if text.as_bytes().len() > LONGEST_TEXT {
+        if text.as_bytes().len() > MAX_TEXT {
             return Err(Code::Zlong);
         }
         match self.store.put(key, text) {

@@ -2,19 +2,20 @@
 // Levels of execution, and the lines of routines that run in them.
 ghost use Rattle.std.specs.Prelude.{◌≡◌, ◌≤◌, ◌<◌, Ok, IfOk, IfErr};
 ghost use Rattle.mspec.specs.Act.{with_locals, level_begun, ask};
+ghost use Rattle.mspec.specs.Limits.{max_levels};
 ghost use Rattle.mspec.specs.Plan.{Routine};
 ghost use Rattle.mspec.specs.Scopes.{without_level};
 ghost use Rattle.mmeaning.specs.Levels.{a_level_free};
 ghost use Rattle.meval.specs.Evaluates.{Evaluates, KeepsEval};
 ghost use Rattle.moperator.specs.declared.code.Code.TheVariants.{Zdepth};
 
-use crate::depth::MOST_LEVELS;
 use crate::eval::Eval;
 use crate::globals::code_of;
 use mglobal::shared_routine;
 use mkey::is_account_name;
 use mnum::{Bytes7, Name};
 use moperator::Code;
+use mspec::limits::MAX_LEVELS;
 use mstore::NodeStore;
 use std::alloc::Global;
 use std::rc::Rc;
@@ -26,11 +27,11 @@ impl<'a, S: NodeStore> Eval<'a, S> {
     ///
     /// `Zdepth` where 256 are open.
     pub fn a_level_free(&self) -> Result<(), Code>
-        ensures free { IfOk result (λ _. self.now.depth.levels < 256) }
+        ensures free { IfOk result (λ _. self.now.depth.levels < max_levels) }
         ensures full { IfErr result (λ code. code ≡ Zdepth) }
         ensures does { Evaluates S.NodeStore (λ i. a_level_free i.depth) (λ u. u) self.now result self.now }
     {
-        if self.depth.levels < MOST_LEVELS {
+        if self.depth.levels < MAX_LEVELS {
             Ok(())
         } else {
             Err(Code::Zdepth)

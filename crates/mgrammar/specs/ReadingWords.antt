@@ -1,6 +1,7 @@
 -- SPDX-License-Identifier: Apache-2.0
 -- How words are read: numbers, names, strings, lists, patterns, signs and operators.
 use Rattle.std.specs.Prelude.{ℕ, zero, suc, Bool, true, false, ◌&&◌, ◌||◌, ◌==◌, nat_le, nat_lt, if◌then◌else◌, List, [], ◌∷◌, ◌++◌, length, drop, Option, Some, None}
+use Rattle.mspec.specs.Limits.{max_name_rest}
 use Rattle.mspec.specs.Literal.{is_digit}
 use Rattle.mspec.specs.Names.{is_name_start, is_name_rest, is_character}
 use Rattle.mgrammar.specs.Grammar.{SignTree, plus, minus, negate, TruthTree, equals, less, greater, contains, follows, sorts_after, both, either, BinaryTree, add, subtract, multiply, divide, divide_whole, remainder, join, is, is_not, CountTree, RepeatedTree, classes, copies, AtomTree, is_pattern_letter}
@@ -79,7 +80,7 @@ number_at cs = with_point (run_of is_digit cs) (after_run is_digit cs) >>= λ m.
 unfoldable pub name_at : List ℕ → Read (List ℕ)
 name_at [] = None
 name_at (c ∷ cs) =
-    if is_name_start c && nat_le (length (run_of is_name_rest cs)) 30
+    if is_name_start c && nat_le (length (run_of is_name_rest cs)) max_name_rest
     then Some (c ∷ run_of is_name_rest cs, after_run is_name_rest cs) else None
 
 -- a list that was read, behind what was there before

@@ -2,6 +2,7 @@
 -- What makes a tree the tree of a text: the names, numbers and words that it may have, how many arguments, how deep brackets lie, and
 -- how many spaces stand between commands.
 use Rattle.std.specs.Prelude.{◌≡◌, ℕ, suc, ◌-◌, ◌<◌, ◌≤◌, Bool, true, false, nat_le, List, [], ◌∷◌, length, Option, Some, None}
+pub use Rattle.mspec.specs.Limits.{max_depth}
 use Rattle.mspec.specs.Literal.{is_digit, Literal, IsLiteral, spell_literal}
 use Rattle.mspec.specs.Names.{is_letter, is_character, AllAre, IsName}
 use Rattle.mgrammar.specs.Grammar.{RepeatedTree, classes, copies, AtomTree, ExprTree, expr, TailsTree, no_tails, tail, TailTree, apply, matches, matches_not, OperandTree, operand, PrimaryTree, number, text, special, reference, bracket, call, select, refer, ReferenceTree, local, global, naked, indirect, extended, ExprsTree, no_exprs, exprs, ChoicesTree, no_choices, choice, TargetTree, variable, piece, DestinationTree, one, several, ParameterTree, once, onward, until, EntryTree, at_label, at_label_in, at_routine, ArgTree, assign, breaks, shown, kill_one, kill_others, new_one, new_others, tested, loop, do_one, go_to, executed, locked, indirect_args, LockedTree, lock_one, lock_several, anew, adding, giving_back, KeywordTree, CommandTree, SpacedTree, LineTree, FormTree, set_argument, kill_argument, new_argument, if_argument, for_argument, write_argument, do_argument, goto_argument, xecute_argument, lock_argument, may_be_indirect, SpecialTree, special_of, is_pattern_letter}
@@ -152,10 +153,6 @@ abbrev mutual
   pub WellChoices : ℕ → ChoicesTree → Type 0
   WellChoices d no_choices = Unit {0}
   WellChoices d (choice c v rest) = WellExpr d c × WellExpr d v × WellChoices d rest
-
--- how deep a place may lie within a text
-abbrev pub max_depth : ℕ
-max_depth = 40
 
 -- where there is one
 abbrev pub WellOptional : ℕ → Option ExprTree → Type 0

@@ -27,7 +27,7 @@ pub use Rattle.mspec.specs.Trees.{text_eq}
 pub use Rattle.toml.proofs.Views.{Entry}
 pub use Rattle.toml.specs.Data.{Data, as_integer}
 pub use Rattle.toml.specs.View.{array_view, items_view, members_view, table_view, view}
-pub use Rattle.mgrant.specs.Document.{Written, WrittenAccount, WrittenGrant, account_of, are_distinct, are_grants, are_names, are_steps, are_terminals, count_items, each_read, entries_of, entry_limit, grant_of, has_only, is_account_name, is_grant, is_name, is_within, mode_named, names_of, settings_of, terminals_of, terminals_with, written_account, written_grant}
+pub use Rattle.mgrant.specs.Document.{Written, WrittenAccount, WrittenGrant, account_of, are_distinct, are_grants, are_names, are_steps, are_terminals, count_items, each_read, entries_of, max_entries, grant_of, has_only, is_account_name, is_grant, is_name, is_within, mode_named, names_of, settings_of, terminals_of, terminals_with, written_account, written_grant}
 pub use Rattle.mgrant.specs.Edges.{IsMore, IsRun, IsStage, Leads, goes, leads, stays}
 pub use Rattle.mgrant.specs.Islands.{IsIslandAt, IsIslandOf}
 pub use Rattle.mgrant.specs.Placed.{Allowed, IsAllowance, IsInterned, Placed, allows_so, carries_at, lets_at, mode_of, placed, same_permit, ties_at}

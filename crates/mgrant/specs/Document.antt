@@ -12,6 +12,8 @@ use Rattle.toml.specs.Parse.{parse_document}
 use Rattle.mspec.specs.Node.{Text}
 use Rattle.mspec.specs.Trees.{text_eq}
 use Rattle.mspec.specs.Names.{is_name_start, is_name_rest}
+pub use Rattle.mspec.specs.Limits.{max_entries}
+use Rattle.mspec.specs.Limits.{max_name_rest, max_terminal, max_steps}
 pub use Rattle.mspec.specs.Subscripts.{is_account_name}
 use Rattle.mspec.specs.Access.{Account, Grant, Settings, Mode, Read, Write}
 use Rattle.mgrant.specs.declared.fault.SettingsFault.{SettingsFault}
@@ -91,16 +93,12 @@ written_account d = option_and_then account_in (as_table d)
 abbrev pub written_grant : Data → Option WrittenGrant
 written_grant d = option_and_then grant_in (as_table d)
 
--- a list has at most so many entries
-abbrev pub entry_limit : ℕ
-entry_limit = 9999
-
 abbrev pub count_items : Items → ℕ
 count_items no_items = 0
 count_items (item d ds) = suc (count_items ds)
 
 abbrev pub entries_of : {X : Type 0} → (Data → Option X) → Items → Option (List X)
-entries_of read ds = if nat_le (count_items ds) entry_limit then each_read read ds else None
+entries_of read ds = if nat_le (count_items ds) max_entries then each_read read ds else None
 
 -- the entries of a list, which may be absent
 abbrev pub entries_in : {X : Type 0} → (Data → Option X) → Option Data → Option (List X)
@@ -122,7 +120,7 @@ written doc =
 -- a name: a letter or `%`, with at most 30 letters or digits behind it
 abbrev pub is_name : Text → Bool
 is_name [] = false
-is_name (c ∷ cs) = is_name_start c && (list_all is_name_rest cs && nat_le (length cs) 30)
+is_name (c ∷ cs) = is_name_start c && (list_all is_name_rest cs && nat_le (length cs) max_name_rest)
 
 -- none is there twice
 abbrev pub are_distinct : {X : Type 0} → (X → X → Bool) → List X → Bool
@@ -143,10 +141,10 @@ abbrev pub are_names : List Text → Bool
 are_names names = list_all is_account_name names && are_distinct text_eq names
 
 abbrev pub are_terminals : List ℤ → Bool
-are_terminals ts = list_all (is_within 1 9999) ts && are_distinct int_eq ts
+are_terminals ts = list_all (is_within 1 max_terminal) ts && are_distinct int_eq ts
 
 abbrev pub are_steps : List WrittenAccount → Bool
-are_steps accounts = list_all (λ a. is_within 1 1000000 a.steps) accounts
+are_steps accounts = list_all (λ a. is_within 1 max_steps a.steps) accounts
 
 abbrev pub mode_named : Text → Option Mode
 mode_named t = if text_eq t (codes "read") then Some Read else (if text_eq t (codes "write") then Some Write else None)

@@ -12,6 +12,7 @@ use crate::grants::Grants;
 use crate::mode::Mode;
 use crate::names::{is_account_name, is_name};
 use crate::words::Words;
+use mspec::limits::{MAX_STEPS, MAX_TERMINAL};
 use std::alloc::{AllocError, Global};
 
 // Terminals are below this number.
@@ -52,7 +53,7 @@ fn claim(terminals: &mut Vec<Option<usize>>, listed: &[i64], place: usize) -> bo
     ensures len { vec_len terminals.new ≡ vec_len terminals.old }
 {
     for terminal in listed {
-        let Some(number) = number_within(*terminal, 9999) else {
+        let Some(number) = number_within(*terminal, MAX_TERMINAL) else {
             return false;
         };
         if terminals[number as usize].is_some() {
@@ -97,7 +98,7 @@ pub(crate) fn steps_of(alloc: Global, accounts: &[AccountEntry]) -> Result<Vec<u
 {
     let mut steps = Vec::new(alloc);
     for entry in accounts {
-        match number_within(entry.steps, 1_000_000) {
+        match number_within(entry.steps, MAX_STEPS) {
             Some(number) => steps.push(number)?,
             None => return Err(SettingsFault::Steps),
         }

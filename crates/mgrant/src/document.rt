@@ -5,14 +5,12 @@ ghost use Rattle.std.specs.List.{list_any};
 ghost use Rattle.mspec.specs.Trees.{text_eq};
 ghost use Rattle.toml.specs.Data.{get_member, as_str, as_integer};
 ghost use Rattle.toml.specs.View.{view, table_view, array_view};
-ghost use Rattle.mgrant.specs.Document.{has_only, text_at, integer_at, integers_at, each_read, account_in, grant_in, written_account, written_grant, entries_of, entries_in, written, entry_limit};
+ghost use Rattle.mgrant.specs.Document.{has_only, text_at, integer_at, integers_at, each_read, account_in, grant_in, written_account, written_grant, entries_of, entries_in, written, max_entries};
 ghost use Rattle.mgrant.specs.Reading.{account_view, grant_view, entries_view, accounts_view, grants_view, keys_view};
 
+use mspec::limits::MAX_ENTRIES;
 use std::alloc::{AllocError, Global};
 use toml::{Table, Value};
-
-// As many entries a list may have.
-const ENTRY_LIMIT: usize = 9999;
 
 // An entry of the list of accounts, as it is written.
 #[derive(Drop)]
@@ -188,7 +186,7 @@ fn grant(alloc: Global, value: &Value) -> Result<Option<GrantEntry>, AllocError>
 fn accounts(alloc: Global, values: &Vec<Value>) -> Result<Option<Vec<AccountEntry>>, AllocError>
     ensures { IfOk result (λ o. option_map accounts_view o ≡ entries_of written_account (array_view values.now)) }
 {
-    if values.len() > ENTRY_LIMIT {
+    if values.len() > MAX_ENTRIES {
         return Ok(None);
     }
     let mut all = Vec::new(alloc);
@@ -205,7 +203,7 @@ fn accounts(alloc: Global, values: &Vec<Value>) -> Result<Option<Vec<AccountEntr
 fn grants(alloc: Global, values: &Vec<Value>) -> Result<Option<Vec<GrantEntry>>, AllocError>
     ensures { IfOk result (λ o. option_map grants_view o ≡ entries_of written_grant (array_view values.now)) }
 {
-    if values.len() > ENTRY_LIMIT {
+    if values.len() > MAX_ENTRIES {
         return Ok(None);
     }
     let mut all = Vec::new(alloc);

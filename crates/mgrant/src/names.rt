@@ -6,6 +6,8 @@ ghost use Rattle.mspec.specs.Names.{IsName, is_name_start, is_name_rest};
 ghost use Rattle.mspec.specs.KeyBytes.{IsAccountName};
 ghost use Rattle.mgrant.specs.Document.{is_account_name, is_name};
 
+use mspec::limits::{MAX_ACCOUNT_NAME, MAX_NAME};
+
 // Whether the character is a letter or a digit.
 fn is_word(c: u8) -> bool
     ensures { result ≡ is_name_rest c }
@@ -32,7 +34,7 @@ pub(crate) fn is_account_name(text: &[u8]) -> bool
     ensures test { result ≡ is_account_name text.now }
     ensures fact { IsTrue result ↔ IsAccountName text.now }
 {
-    !text.is_empty() && text.len() <= 16 && are_words(text)
+    !text.is_empty() && text.len() <= MAX_ACCOUNT_NAME && are_words(text)
 }
 
 // Whether this is a name: a letter or `%` with at most 30 letters or digits behind it.
@@ -41,7 +43,7 @@ pub(crate) fn is_name(text: &[u8]) -> bool
     ensures fact { IsTrue result ↔ IsName text.now }
 {
     match text.split_first() {
-        Some((first, rest)) => starts_name(*first) && are_words(rest) && rest.len() <= 30,
+        Some((first, rest)) => starts_name(*first) && are_words(rest) && rest.len() < MAX_NAME,
         None => false,
     }
 }

@@ -13,7 +13,7 @@ use std::io::{ErrorKind, Read};
 use std::rt::Files;
 
 // The most bytes that a file of settings may have.
-const LONGEST_DOCUMENT: u64 = 1_000_000;
+const MAX_DOCUMENT: u64 = 1_000_000;
 
 /// The bytes of the file at this path, of which there are at most 1,000,000.
 ///
@@ -26,7 +26,7 @@ pub fn read_document<H: Files + AllocGlobal>(rt: &H, path: &str) -> Result<Vec<u
 {
     match first_bytes(rt, path) {
         Ok(bytes) => {
-            if bytes.len() as u64 > LONGEST_DOCUMENT {
+            if bytes.len() as u64 > MAX_DOCUMENT {
                 return Err(RunFault::Unread);
             }
             Ok(bytes)
@@ -44,7 +44,7 @@ pub fn read_document<H: Files + AllocGlobal>(rt: &H, path: &str) -> Result<Vec<u
 fn first_bytes<H: Files + AllocGlobal>(rt: &H, path: &str) -> io::Result<Vec<u8>> {
     let mut bytes = Vec::new(rt.alloc());
     let file = File::open(rt, path)?;
-    file.take(LONGEST_DOCUMENT + 1).read_to_end(&mut bytes)?;
+    file.take(MAX_DOCUMENT + 1).read_to_end(&mut bytes)?;
     Ok(bytes)
 }
 

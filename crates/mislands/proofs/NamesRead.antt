@@ -1,6 +1,6 @@
 -- SPDX-License-Identifier: Apache-2.0
 -- The names that are read of a document are those of the accounts that it says.
-use Rattle.mislands.proofs.IslandWords.{◌≡◌, ℤ, Bool, true, false, cond, List, [], ◌∷◌, map, Option, Some, None, codes, refl, ap, ◌∙◌, option_map, option_and_then, nat_le, none-some, same_Some, Data, Members, Items, no_items, item, get_member, as_array, as_table, Text, has_only, account_keys, document_keys, text_at, integers_at, integer_at, account_with, account_in, written_account, written_grant, each_read, entries_of, entries_in, entry_limit, count_items, WrittenAccount, WrittenGrant, Written, written, written_with, settings_of, names_of, written_name, written_names}
+use Rattle.mislands.proofs.IslandWords.{◌≡◌, ℤ, Bool, true, false, cond, List, [], ◌∷◌, map, Option, Some, None, codes, refl, ap, ◌∙◌, option_map, option_and_then, nat_le, none-some, same_Some, Data, Members, Items, no_items, item, get_member, as_array, as_table, Text, has_only, account_keys, document_keys, text_at, integers_at, integer_at, account_with, account_in, written_account, written_grant, each_read, entries_of, entries_in, max_entries, count_items, WrittenAccount, WrittenGrant, Written, written, written_with, settings_of, names_of, written_name, written_names}
 use Rattle.mislands.specs.Written.{names_at}
 
 -- what a choice gives, where that is something
@@ -38,7 +38,7 @@ each_name (item d ds) accounts e =
 
 names_read : (o : Option Items) (accounts : List WrittenAccount) → option_and_then (entries_of written_account) o ≡ Some accounts → option_and_then (each_read written_name) o ≡ Some (named accounts)
 names_read None accounts e = absurd (none-some accounts e)
-names_read (Some ds) accounts e = each_name ds accounts (some_chosen (nat_le (count_items ds) entry_limit) (each_read written_account ds) accounts e)
+names_read (Some ds) accounts e = each_name ds accounts (some_chosen (nat_le (count_items ds) max_entries) (each_read written_account ds) accounts e)
 
 list_names : (o : Option Data) (accounts : List WrittenAccount) → entries_in written_account o ≡ Some accounts → names_at o ≡ Some (named accounts)
 list_names None accounts e = ap Some (ap named (same_Some [] accounts e))

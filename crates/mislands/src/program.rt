@@ -11,14 +11,14 @@ use std::io;
 use std::io::{ErrorKind, Read, Write};
 
 // The most bytes that a document may have.
-const LONGEST_DOCUMENT: u64 = 1_000_000;
+const MAX_DOCUMENT: u64 = 1_000_000;
 
 // The bytes of a reader, as far as one more than there may be.
 fn first_bytes<I: Read + Drop>(alloc: Global, input: I) -> io::Result<Vec<u8>>
     ensures { IfOk result (λ bytes. IfSome (I.remaining input) (λ all. vec_len bytes ≤ 1000000 → bytes.items ≡ all)) }
 {
     let mut bytes = Vec::new(alloc);
-    input.take(LONGEST_DOCUMENT + 1).read_to_end(&mut bytes)?;
+    input.take(MAX_DOCUMENT + 1).read_to_end(&mut bytes)?;
     Ok(bytes)
 }
 
@@ -30,7 +30,7 @@ fn document<I: Read + Drop>(alloc: Global, input: I) -> Result<Vec<u8>, ListFaul
 {
     match first_bytes(alloc, input) {
         Ok(bytes) => {
-            if bytes.len() as u64 > LONGEST_DOCUMENT {
+            if bytes.len() as u64 > MAX_DOCUMENT {
                 return Err(ListFault::Unread);
             }
             Ok(bytes)

@@ -1,6 +1,6 @@
 -- SPDX-License-Identifier: Apache-2.0
 -- Locks that fit stay so, whatever is done for a terminal of the settings.
-use Rattle.misolation.proofs.IsolationWords.{◌≡◌, ℕ, ◌+◌, ◌-◌, Bool, true, false, cond, List, [], ◌∷◌, Option, Some, None, refl, sym, ap, ◌∙◌, subst, unwrap_or, nat_lt, nat_eq, if◌then◌else◌, and_parts, get, insert, remove, retain_keys, get-insert, get-remove, list_all, list_any, eq_by_cmp, Account, Settings, held_cmp_total, held_cmp_exact, may_lock, LockName, Held, held_cmp, Locks, held, count, most_counts, has_conflict, one_more, counted, taken, given_back, released, by_test, unopposed, holds_by, may_hold, AreFit}
+use Rattle.misolation.proofs.IsolationWords.{◌≡◌, ℕ, ◌+◌, ◌-◌, Bool, true, false, cond, List, [], ◌∷◌, Option, Some, None, refl, sym, ap, ◌∙◌, subst, unwrap_or, nat_lt, nat_eq, if◌then◌else◌, and_parts, get, insert, remove, retain_keys, get-insert, get-remove, list_all, list_any, eq_by_cmp, Account, Settings, held_cmp_total, held_cmp_exact, may_lock, LockName, Held, held_cmp, Locks, held, count, max_count, has_conflict, one_more, counted, taken, given_back, released, by_test, unopposed, holds_by, may_hold, AreFit}
 use Rattle.std.specs.Prelude.{not}
 use Rattle.misolation.proofs.CutMaps.{tied_true, had}
 
@@ -46,7 +46,7 @@ module _ (settings : Settings) where
     counted_fits (n ∷ names) locks after all fit e =
         let each = and_parts (may_lock settings account.name n) _ all in
         let here : may_hold settings (held t n) ≡ true = ap (λ o. holds_by settings o n) known ∙ each.0 in
-        one_fits names (one_more locks (held t n)) after (nat_lt (count locks (held t n)) most_counts)
+        one_fits names (one_more locks (held t n)) after (nat_lt (count locks (held t n)) max_count)
         (counted_fits names (one_more locks (held t n)) after each.1 (fit_insert locks (held t n) (count locks (held t n) + 1) here fit)) e
 
     pub taken_fits : (names : List LockName) (locks after : Locks) → list_all (may_lock settings account.name) names ≡ true → AreFit settings locks → taken locks t names ≡ Some after → AreFit settings after

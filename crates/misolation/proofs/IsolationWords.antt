@@ -23,7 +23,7 @@ pub use Rattle.mspec.specs.Access.{Account, Grant, Mode, Read, Settings, Write, 
 pub use Rattle.mspec.specs.Act.{Outcome, State}
 pub use Rattle.mspec.specs.Flow.{IsIsland, Reaches, carries, itself, through}
 pub use Rattle.mspec.specs.Globals.{Globals, is_beside, is_line_of, is_node_within, lines_of, order_at, routines_of, status, subscripts_under, without_subtree}
-pub use Rattle.mspec.specs.LockConflict.{Held, LockName, Locks, count, counted, given_back, has_conflict, held, held_cmp, is_conflict, is_within, most_counts, one_more, released, taken}
+pub use Rattle.mspec.specs.LockConflict.{Held, LockName, Locks, count, counted, given_back, has_conflict, held, held_cmp, is_conflict, is_within, max_count, one_more, released, taken}
 pub use Rattle.mspec.specs.Node.{Node, Text}
 pub use Rattle.mspec.specs.Number.{significant_digits}
 pub use Rattle.mspec.specs.Plan.{Ask, Done, Give_back, Kill, May, Neighbour, Op, Ops, Plan, Put, Release, Routine, Status, Take, Value, cut_short, perform}

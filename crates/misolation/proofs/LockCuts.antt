@@ -1,6 +1,6 @@
 -- SPDX-License-Identifier: Apache-2.0
 -- What is taken, given back and released for a terminal, over the cut to a closed set.
-use Rattle.misolation.proofs.IsolationWords.{◌≡◌, ℕ, ◌+◌, ◌-◌, ◌||◌, Bool, true, false, not, List, [], ◌∷◌, Option, Some, None, refl, sym, ap, ◌∙◌, ⊎_elim, unwrap_or, option_map, nat_lt, nat_eq, if◌then◌else◌, or_cases, and_parts, eqb-true, bytes_decides, get, insert, remove, keys, list_all, list_any, filter, Text, text_eq, Account, Settings, held_cmp_total, held_cmp_exact, may_lock, Accounts, IsClosed, is_node_within, LockName, Held, Locks, held, count, most_counts, is_within, is_conflict, has_conflict, one_more, counted, taken, given_back, released, cut_drops, cut_removed, by_test, unopposed, is_member, is_inside, cut_locks, holds_by, may_hold, AreFit}
+use Rattle.misolation.proofs.IsolationWords.{◌≡◌, ℕ, ◌+◌, ◌-◌, ◌||◌, Bool, true, false, not, List, [], ◌∷◌, Option, Some, None, refl, sym, ap, ◌∙◌, ⊎_elim, unwrap_or, option_map, nat_lt, nat_eq, if◌then◌else◌, or_cases, and_parts, eqb-true, bytes_decides, get, insert, remove, keys, list_all, list_any, filter, Text, text_eq, Account, Settings, held_cmp_total, held_cmp_exact, may_lock, Accounts, IsClosed, is_node_within, LockName, Held, Locks, held, count, max_count, is_within, is_conflict, has_conflict, one_more, counted, taken, given_back, released, cut_drops, cut_removed, by_test, unopposed, is_member, is_inside, cut_locks, holds_by, may_hold, AreFit}
 use Rattle.misolation.proofs.CutMaps.{any_absorbed, get_kept, cut_cut, cut_absorbs, cut_insert, cut_remove, keys_cut, own_cut}
 use Rattle.misolation.proofs.Access.{locked_inside, locker_inside}
 
@@ -48,8 +48,8 @@ module _ (s : Accounts) (settings : Settings) where
     counted_cut : (names : List LockName) (locks : Locks) → counted (cut_locks s settings locks) t names ≡ option_map (cut_locks s settings) (counted locks t names)
     counted_cut [] locks = refl
     counted_cut (n ∷ names) locks =
-        ap (λ c. if nat_lt c most_counts then counted (one_more (cut_locks s settings locks) (held t n)) t names else None) (count_cut locks n)
-        ∙ mapped_if (cut_locks s settings) (nat_lt (count locks (held t n)) most_counts) _ _ (ap (λ l. counted l t names) (one_more_cut locks n) ∙ counted_cut names (one_more locks (held t n)))
+        ap (λ c. if nat_lt c max_count then counted (one_more (cut_locks s settings locks) (held t n)) t names else None) (count_cut locks n)
+        ∙ mapped_if (cut_locks s settings) (nat_lt (count locks (held t n)) max_count) _ _ (ap (λ l. counted l t names) (one_more_cut locks n) ∙ counted_cut names (one_more locks (held t n)))
 
     back_cut : (locks : Locks) (h : Held) (c : ℕ) (b : Bool) → inside h ≡ true
         → (if b then insert (cut_locks s settings locks) h c else remove (cut_locks s settings locks) h) ≡ cut_locks s settings (if b then insert locks h c else remove locks h)
@@ -99,7 +99,7 @@ module _ (s : Accounts) (settings : Settings) where
     counted_outside [] locks after e = ap (λ o. cut_locks s settings (unwrap_or o locks)) (sym e)
     counted_outside (n ∷ names) locks after e =
         let more = one_more locks (held t n) in
-        unseen names more after (nat_lt (count locks (held t n)) most_counts) (counted_outside names more after) e
+        unseen names more after (nat_lt (count locks (held t n)) max_count) (counted_outside names more after) e
         ∙ cut_drops held_cmp_total held_cmp_exact locks inside (held t n) (count locks (held t n) + 1) away
 
     pub taken_outside : (names : List LockName) (locks after : Locks) → taken locks t names ≡ Some after → cut_locks s settings after ≡ cut_locks s settings locks

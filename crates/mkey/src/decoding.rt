@@ -15,8 +15,9 @@ use crate::encoding::RAISE;
 use crate::key::NodeKey;
 use crate::names::is_account_name;
 use crate::order::first_word;
-use crate::subs::{MOST_SUBS, Subs, is_subscript};
+use crate::subs::{Subs, is_subscript};
 use mnum::{Bytes7, Num, is_canonical_by, is_name};
+use mspec::limits::MAX_SUBSCRIPTS;
 use std::alloc::{AllocError, Global};
 
 // Room for most texts of keys.
@@ -232,7 +233,7 @@ fn read_subs(alloc: Global, bytes: &[u8], kept: u32) -> Result<Option<Subs>, All
     let mut texts = Vec::new(alloc);
     let mut rest = bytes;
     while !rest.is_empty() {
-        if texts.len() == MOST_SUBS {
+        if texts.len() == MAX_SUBSCRIPTS {
             return Ok(None);
         }
         let Some((text, count)) = read_subscript(alloc, rest, kept)? else {

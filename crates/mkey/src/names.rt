@@ -6,6 +6,7 @@ ghost use Rattle.mspec.specs.KeyBytes.{IsAccountName};
 
 use arrayvec::ArrayVec;
 use mnum::Bytes7;
+use mspec::limits::MAX_ACCOUNT_NAME;
 use std::marker::Model;
 
 // Whether the character is a letter or a digit.
@@ -26,7 +27,7 @@ fn are_words(text: &[u8]) -> bool
 fn names_account(characters: &[u8]) -> bool
     ensures { IsTrue result ↔ IsAccountName characters.now }
 {
-    !characters.is_empty() && characters.len() <= 16 && are_words(characters)
+    !characters.is_empty() && characters.len() <= MAX_ACCOUNT_NAME && are_words(characters)
 }
 
 /// Whether this is an account's name: 1 to 16 letters or digits. Takes no memory.

@@ -1,16 +1,15 @@
 // SPDX-License-Identifier: Apache-2.0
 // Lists of subscripts.
 ghost use Rattle.std.specs.Prelude.{◌≡◌, ◌↔◌, ◌<◌, ◌≤◌, IsTrue, length};
+ghost use Rattle.mspec.specs.Limits.{max_subscript};
 ghost use Rattle.mspec.specs.KeyBytes.{IsSubscript, AreSubscripts};
 ghost use Rattle.mspec.specs.Trees.{AreOrderSubscripts};
 
 use crate::walk::{front, last};
 use mnum::Bytes7;
+use mspec::limits::{MAX_SUBSCRIPT, MAX_SUBSCRIPTS};
 use mvalue::{Kind, Value};
 use std::marker::Model;
-
-// The most subscripts of a node.
-pub const MOST_SUBS: usize = 15;
 
 /// The subscripts of a node. Contracts see them as a list of texts.
 #[derive(Debug, Drop)]
@@ -37,10 +36,10 @@ impl Subs {
 
 // Whether the text has at most 255 characters.
 fn is_short(text: &Bytes7) -> bool
-    ensures { IsTrue result ↔ length text.now ≤ 255 }
+    ensures { IsTrue result ↔ length text.now ≤ max_subscript }
 {
     let length = text.as_bytes().len();
-    length <= 255
+    length <= MAX_SUBSCRIPT
 }
 
 // Whether the text has 1 to 255 characters.
@@ -62,7 +61,7 @@ fn is_value_subscript(value: &Value) -> bool
 
 // Whether the value can be the last subscript of a walk: one of a node, or empty.
 fn is_value_short(value: &Value) -> bool
-    ensures { IsTrue result ↔ length value.now ≤ 255 }
+    ensures { IsTrue result ↔ length value.now ≤ max_subscript }
 {
     match value.kind() {
         Kind::Number(_) => true,
@@ -74,14 +73,14 @@ fn is_value_short(value: &Value) -> bool
 pub fn subs_ok(subs: &[Bytes7]) -> bool
     ensures { IsTrue result ↔ AreSubscripts subs.now }
 {
-    subs.len() <= MOST_SUBS && subs.iter().all(|text| is_subscript(text))
+    subs.len() <= MAX_SUBSCRIPTS && subs.iter().all(|text| is_subscript(text))
 }
 
 /// The same of values, as the language has them. Takes no memory.
 pub fn values_ok(subs: &[Value]) -> bool
     ensures { IsTrue result ↔ AreSubscripts subs.now }
 {
-    subs.len() <= MOST_SUBS && subs.iter().all(|value| is_value_subscript(value))
+    subs.len() <= MAX_SUBSCRIPTS && subs.iter().all(|value| is_value_subscript(value))
 }
 
 /// Whether these can be the subscripts of a walk: as those of a node, at least one, and the last may be empty. Takes no memory.
@@ -89,5 +88,5 @@ pub fn order_values_ok(subs: &[Value]) -> bool
     ensures { IsTrue result ↔ AreOrderSubscripts subs.now }
 {
     let count = subs.len();
-    0 < count && count <= MOST_SUBS && is_value_short(last(subs)) && values_ok(front(subs))
+    0 < count && count <= MAX_SUBSCRIPTS && is_value_short(last(subs)) && values_ok(front(subs))
 }

@@ -18,7 +18,7 @@ pub use mathlib.Core.Bool.{beq}
 pub use Rattle.mspec.proofs.KeyRanges.{within}
 pub use Rattle.mspec.proofs.LockOrders.{held_cmp_exact, held_cmp_total, lock_name_cmp_exact, lock_name_cmp_total}
 pub use Rattle.mspec.specs.Globals.{is_node_within}
-pub use Rattle.mspec.specs.LockConflict.{Held, LockName, Locks, count, counted, given_back, has_conflict, held, held_cmp, is_conflict, is_within, lock_name_cmp, most_counts, one_more, released, taken}
+pub use Rattle.mspec.specs.LockConflict.{Held, LockName, Locks, count, counted, given_back, has_conflict, held, held_cmp, is_conflict, is_within, lock_name_cmp, max_count, one_more, released, taken}
 pub use Rattle.mspec.specs.Node.{Node, Text}
 pub use Rattle.indexmap.proofs.CallerLemmas.{insert_entry-new, keys-with_value_at, updates-with_value_at}
 pub use Rattle.indexmap.specs.IndexMap.{IndexMap, IsUnique, Updates, get, with_value_at}

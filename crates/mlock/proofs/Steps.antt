@@ -1,6 +1,6 @@
 -- SPDX-License-Identifier: Apache-2.0
 -- What each way through a call does to the locks.
-use Rattle.mlock.proofs.LockWords.{◌≡◌, ◌+◌, ◌-◌, ◌<◌, ◌≤◌, ℕ, zero, suc, Bool, true, false, cond, List, ◌∷◌, Option, Some, None, All, ◌⊎◌, inl, inr, refl, sym, ap, ◌∙◌, subst, arith, slice_index_or, unwrap_or, nat_lt, insert, remove, get-insert, get-remove, same_map, eq_by_cmp, Equal-is, eq_by_cmp_equiv, cases_eq, nat_tests, IndexMap, IsUnique, LockName, Held, held, Locks, held_cmp, count, most_counts, one_more, given_back, held_cmp_total, held_cmp_exact, Holding, locks_of, own_count, IsFree, AreCounts, name_eq}
+use Rattle.mlock.proofs.LockWords.{◌≡◌, ◌+◌, ◌-◌, ◌<◌, ◌≤◌, ℕ, zero, suc, Bool, true, false, cond, List, ◌∷◌, Option, Some, None, All, ◌⊎◌, inl, inr, refl, sym, ap, ◌∙◌, subst, arith, slice_index_or, unwrap_or, nat_lt, insert, remove, get-insert, get-remove, same_map, eq_by_cmp, Equal-is, eq_by_cmp_equiv, cases_eq, nat_tests, IndexMap, IsUnique, LockName, Held, held, Locks, held_cmp, count, max_count, one_more, given_back, held_cmp_total, held_cmp_exact, Holding, locks_of, own_count, IsFree, AreCounts, name_eq}
 use Rattle.std.specs.FinMap.{get}
 use Rattle.std.proofs.lemmas.List.Elements.{All-head, All-tail}
 use Rattle.indexmap.specs.IndexMap as index
@@ -75,11 +75,11 @@ counts_given_back l t n counts = by_test (nat_lt 1 (count l (held t n))) refl
   where
     by_test : (b : Bool) → nat_lt 1 (count l (held t n)) ≡ b → AreCounts (cond b (insert l (held t n) (count l (held t n) - 1)) (remove l (held t n)))
     by_test true e =
-        let few : count l (held t n) ≤ most_counts = count_few l (held t n) counts in
+        let few : count l (held t n) ≤ max_count = count_few l (held t n) counts in
         counts_insert l (held t n) (count l (held t n) - 1) counts (grind (arith, nat_tests, e)) (omega (arith, few))
     by_test false e = counts_remove l (held t n) counts
 
-pub counts_one_more : (l : Locks) (h : Held) → AreCounts l → count l h < most_counts → AreCounts (one_more l h)
+pub counts_one_more : (l : Locks) (h : Held) → AreCounts l → count l h < max_count → AreCounts (one_more l h)
 counts_one_more l h counts room = counts_insert l h (count l h + 1) counts (omega arith) (omega (arith, room))
 
 -- a name that no other terminal holds is none still, after a count more

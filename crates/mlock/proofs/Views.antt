@@ -1,6 +1,6 @@
 -- SPDX-License-Identifier: Apache-2.0
 -- What calls of the map of holdings do to the locks that it holds.
-use Rattle.mlock.proofs.LockWords.{◌≡◌, ◌<◌, ◌≤◌, ℕ, Bool, true, false, cond, not, ◌&&◌, List, [], ◌∷◌, Option, Some, None, map, nat_eq, length, refl, sym, ap, ◌∙◌, subst, arith, Ordering, Less, Equal, Greater, and_right, insert, remove, empty, retain_keys, get-insert, get-remove, get-from_entries, get-retain_keys, get-empty, same_map, find, AllByRecursion, IsDistinct, lookup, keys_of, is_eq, nat_cmp, ordering_then, eq_by_cmp, eq_by_cmp_equiv, nat_tests, place_from_lookup, slice_get_within, none-some, IndexMap, IsUnique, Updates, LockName, Held, held, Locks, lock_name_cmp, held_cmp, released, count, most_counts, lock_name_cmp_total, held_cmp_total, held_cmp_exact, Holding, lock_of, locks_of, own_count, AreCounts, name_eq}
+use Rattle.mlock.proofs.LockWords.{◌≡◌, ◌<◌, ◌≤◌, ℕ, Bool, true, false, cond, not, ◌&&◌, List, [], ◌∷◌, Option, Some, None, map, nat_eq, length, refl, sym, ap, ◌∙◌, subst, arith, Ordering, Less, Equal, Greater, and_right, insert, remove, empty, retain_keys, get-insert, get-remove, get-from_entries, get-retain_keys, get-empty, same_map, find, AllByRecursion, IsDistinct, lookup, keys_of, is_eq, nat_cmp, ordering_then, eq_by_cmp, eq_by_cmp_equiv, nat_tests, place_from_lookup, slice_get_within, none-some, IndexMap, IsUnique, Updates, LockName, Held, held, Locks, lock_name_cmp, held_cmp, released, count, max_count, lock_name_cmp_total, held_cmp_total, held_cmp_exact, Holding, lock_of, locks_of, own_count, AreCounts, name_eq}
 use Rattle.std.specs.Prelude.{option_map, unwrap_or, slice_get, ⊤}
 use Rattle.std.specs.FinMap.{get}
 use Rattle.std.proofs.lemmas.Map.Keys.{IsDistinct-head, IsDistinct-tail}
@@ -147,11 +147,11 @@ released_none m t unique none = same_map held_cmp_total held_cmp_exact _ _ (λ q
 
 -- ---- counts from 1 to 1,000,000
 
-chosen : (b : Bool) (x y : Option ℕ) (d : ℕ) → (x ≡ Some d → (0 < d) × (d ≤ most_counts)) → (y ≡ Some d → (0 < d) × (d ≤ most_counts)) → cond b x y ≡ Some d → (0 < d) × (d ≤ most_counts)
+chosen : (b : Bool) (x y : Option ℕ) (d : ℕ) → (x ≡ Some d → (0 < d) × (d ≤ max_count)) → (y ≡ Some d → (0 < d) × (d ≤ max_count)) → cond b x y ≡ Some d → (0 < d) × (d ≤ max_count)
 chosen true x y d f g e = f e
 chosen false x y d f g e = g e
 
-pub counts_insert : (l : Locks) (h : Held) (c : ℕ) → AreCounts l → 0 < c → c ≤ most_counts → AreCounts (insert l h c)
+pub counts_insert : (l : Locks) (h : Held) (c : ℕ) → AreCounts l → 0 < c → c ≤ max_count → AreCounts (insert l h c)
 counts_insert l h c counts some few q d e =
     chosen (eq_by_cmp held_cmp q h) (Some c) (get l q) d (λ is. let same : c ≡ d = cc in (omega (arith, same, some), omega (arith, same, few))) (counts q d) (sym (get-insert held_cmp_total l h c q) ∙ e)
 
@@ -164,9 +164,9 @@ counts_released l t counts q d e = chosen (not (nat_eq q.terminal t)) (get l q) 
 pub counts_empty : AreCounts empty
 counts_empty q d e = let none : ◌≡◌ {A = Option ℕ} None (Some d) = sym (get-empty held_cmp q) ∙ e in absurd (cc)
 
-pub count_few : (l : Locks) (h : Held) → AreCounts l → count l h ≤ most_counts
+pub count_few : (l : Locks) (h : Held) → AreCounts l → count l h ≤ max_count
 count_few l h counts = by_count (get l h) refl
   where
-    by_count : (o : Option ℕ) → get l h ≡ o → unwrap_or o 0 ≤ most_counts
+    by_count : (o : Option ℕ) → get l h ≡ o → unwrap_or o 0 ≤ max_count
     by_count None e = omega arith
     by_count (Some c) e = (counts h c e).1

@@ -4,7 +4,7 @@ use Rattle.std.specs.Prelude.{◌≡◌, ◌<◌, ◌≤◌, ℕ, List, map, Opt
 use Rattle.std.specs.FinMap.{from_entries, get}
 use Rattle.indexmap.specs.IndexMap.{IndexMap}
 use base.Stored.{Coded, coded_ℕ, coded_bool, coded_list, coded×, coded_via}
-use Rattle.mspec.specs.LockConflict.{LockName, Held, held, Locks, most_counts}
+use Rattle.mspec.specs.LockConflict.{LockName, Held, held, Locks, max_count}
 use Rattle.mlock.specs.declared.locks.Holding.{Holding}
 
 -- a code of what is held, by which a proof tells locks apart
@@ -34,4 +34,4 @@ IsFree locks t n = (u : ℕ) → (u ≡ t → ⊥) → get locks (held u n) ≡ 
 
 -- what is held is held 1 to 1,000,000 times
 abbrev pub AreCounts : Locks → Type 0
-AreCounts locks = (q : Held) (c : ℕ) → get locks q ≡ Some c → (0 < c) × (c ≤ most_counts)
+AreCounts locks = (q : Held) (c : ℕ) → get locks q ≡ Some c → (0 < c) × (c ≤ max_count)

@@ -3,18 +3,16 @@
 ghost use Rattle.std.specs.Prelude.{◌≡◌, ◌≤◌, true, false, not, nat_eq, nat_lt, All, IfOk, OnErr, Some, None, if◌then◌else◌};
 ghost use Rattle.std.specs.FinMap.{empty};
 ghost use Rattle.mlock.specs.Holdings.{AreCounts, IsFree};
-ghost use Rattle.mspec.specs.LockConflict.{held as lock, count, most_counts, one_more, has_conflict, taken, counted, given_back, released};
+ghost use Rattle.mspec.specs.LockConflict.{held as lock, count, max_count, one_more, has_conflict, taken, counted, given_back, released};
 
 use crate::conflict::conflicts;
 use crate::holdings::{find, hold, let_go, release, set_count};
 use crate::name::LockName;
 use crate::tally::Tally;
 use indexmap::IndexMap;
+use mspec::limits::MAX_COUNT;
 use std::alloc::{AllocError, Global};
 use std::marker::Model;
-
-// The most counts of a name.
-const MOST_COUNTS: u32 = 1_000_000;
 
 // Who holds a name, and how often.
 #[derive(Clone, Copy)]
@@ -62,7 +60,7 @@ impl Locks {
     /// How often the terminal holds the name: 0 to 1,000,000 times. Takes no memory.
     pub fn held(&self, terminal: u32, name: &LockName) -> u32
         ensures count { result ≡ count self.now (lock terminal name.now) }
-        ensures few { result ≤ most_counts }
+        ensures few { result ≤ max_count }
     {
         match self.holdings.get(name) {
             Some(holding) => {
@@ -131,7 +129,7 @@ impl Locks {
     // One count more of a name that no other terminal holds; false where it has the most.
     fn count_one(&mut self, terminal: u32, name: &LockName) -> Result<bool, AllocError>
         requires { IsFree self.old terminal name.now }
-        ensures room { IfOk result (λ more. more ≡ nat_lt (count self.old (lock terminal name.now)) most_counts) }
+        ensures room { IfOk result (λ more. more ≡ nat_lt (count self.old (lock terminal name.now)) max_count) }
         ensures counted { IfOk result (λ more. self.new ≡ (if more then one_more self.old (lock terminal name.now) else self.old)) }
         ensures err { OnErr result (self.new ≡ self.old) }
         ensures counts { AreCounts self.old }
@@ -140,7 +138,7 @@ impl Locks {
             hold(&mut self.holdings, &mut self.below, terminal, name)?;
             return Ok(true);
         };
-        if holding.count >= MOST_COUNTS {
+        if holding.count >= MAX_COUNT {
             return Ok(false);
         }
         let count = holding.count + 1;

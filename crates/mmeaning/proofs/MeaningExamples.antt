@@ -129,8 +129,8 @@ unfolding runs computes
 line_lengths = simp gets
 
 -- a text of 4,095 characters is the longest
-longest_text : (s : State) → binary join (replicate 2048 65) (replicate 2047 65) s ≡ Done (Gives (replicate 4095 65) s)
-longest_text s = refl
+max_text : (s : State) → binary join (replicate 2048 65) (replicate 2047 65) s ≡ Done (Gives (replicate 4095 65) s)
+max_text s = refl
 
 text_too_long : (s : State) → binary join (replicate 2048 65) (replicate 2048 65) s ≡ Done (Fails Zlong s)
 text_too_long s = refl

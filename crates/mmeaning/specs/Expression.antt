@@ -6,6 +6,7 @@
 -- operand behind them. Both operands of an operator are evaluated, the left one first. A text that stands for an `@` names a variable,
 -- and what it has to evaluate is evaluated where it stands.
 use Rattle.std.specs.Prelude.{ℕ, zero, suc, ◌+◌, Bool, nat_lt, ◌&&◌, cond, not, List, [], ◌∷◌, ◌++◌, map, Option, Some, None}
+pub use Rattle.mspec.specs.Limits.{max_levels, max_indirections}
 use Rattle.mspec.specs.Number.{significant_digits}
 use Rattle.mspec.specs.NumberText.{numeric_value}
 use Rattle.mspec.specs.Interpretations.{truth_text}
@@ -24,15 +25,8 @@ pub record Depth : Type 0 where
   pub levels : ℕ
   pub indirections : ℕ
 
--- the most levels that a line opens, and the most indirections under evaluation among them
-abbrev pub most_levels : ℕ
-most_levels = 256
-
-abbrev pub most_indirections : ℕ
-most_indirections = 32
-
 abbrev pub is_indirection_free : Depth → Bool
-is_indirection_free d = nat_lt d.levels most_levels && nat_lt d.indirections most_indirections
+is_indirection_free d = nat_lt d.levels max_levels && nat_lt d.indirections max_indirections
 
 abbrev pub an_indirection_free : Depth → Act (Unit {0})
 an_indirection_free d = unless Zdepth (is_indirection_free d)

@@ -12,7 +12,7 @@ use Rattle.mspec.specs.Act.{Text, Act, ◌>>=◌, ◌>>◌, give, give_some, unl
 use Rattle.mgrammar.specs.Grammar.{EntryTree, at_label, at_label_in, at_routine, CommandTree, LineTree}
 use Rattle.mgrammar.specs.RoutineLine.{BodyTree, short, spaced_out, label_of, dots_of}
 use Rattle.mmeaning.specs.Expression.{Depth, indirected}
-pub use Rattle.mmeaning.specs.Expression.{most_levels}
+pub use Rattle.mmeaning.specs.Expression.{max_levels}
 
 -- the lines that labels are sought in; the place of the one that comes next; and how many dots the level's lines have. A terminal's text
 -- has no lines, and none comes behind it or behind a text of XECUTE, until a GOTO leads to one.
@@ -71,7 +71,7 @@ target copy dots e = do
 -- ---- levels that are opened
 
 abbrev pub a_level_free : Depth → Act (Unit {0})
-a_level_free d = unless Zdepth (nat_lt d.levels most_levels)
+a_level_free d = unless Zdepth (nat_lt d.levels max_levels)
 
 -- in a level more
 abbrev pub deeper : Position → Level → Position

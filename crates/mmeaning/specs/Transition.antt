@@ -5,6 +5,7 @@ use Rattle.std.specs.List.{list_all}
 use Rattle.std.specs.Ordering.{nat_cmp}
 use Rattle.std.specs.FinMap.{FinMap, get, insert, remove}
 use Rattle.mspec.specs.Code.{Code, Zterm, Zline, Zchar, Zsyntax, Fault, Own, Lost}
+pub use Rattle.mspec.specs.Limits.{max_line}
 use Rattle.mspec.specs.Plan.{Plan, perform, cut_short}
 use Rattle.mspec.specs.LockConflict.{released}
 use Rattle.mspec.specs.Act.{Text, Node, Locals, no_locals, level_begun, State, Outcome, Gives, Fails, Act, fail}
@@ -45,10 +46,6 @@ pub data Ending : Type 0 where
 pub record Reply : Type 0 where
   pub out : Text
   pub ending : Ending
-
--- the longest line
-abbrev pub line_limit : ℕ
-line_limit = 255
 
 -- a line is a level of its own
 abbrev pub begun : Account → Session → State
@@ -101,7 +98,7 @@ at_tree settings e world account =
     ended e.terminal world (perform (act settings e.terminal account.name) (plan_of account (session_or_new (get world.sessions e.terminal)) (line_at e.text)) world.shared)
 
 abbrev pub is_too_long : Text → Bool
-is_too_long text = nat_lt line_limit (length text)
+is_too_long text = nat_lt max_line (length text)
 
 abbrev pub is_ascii : Text → Bool
 is_ascii text = list_all is_character text

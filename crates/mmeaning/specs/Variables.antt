@@ -8,7 +8,7 @@ use Rattle.std.specs.Ordering.{int_eq}
 use Rattle.mspec.specs.Access.{Mode, Read, Write}
 use Rattle.mspec.specs.LockConflict.{LockName}
 use Rattle.mspec.specs.Trees.{Direction, Forward, Backward, front}
-use Rattle.mspec.specs.TextFunctions.{longest_text}
+use Rattle.mspec.specs.TextFunctions.{max_text}
 use Rattle.mspec.specs.Scopes.{is_value, is_above, next_subscript, killed}
 use Rattle.mspec.specs.Subscripts.{is_account_name, are_subscripts, are_order_subscripts}
 use Rattle.mspec.specs.Interpretations.{truth_text}
@@ -134,7 +134,7 @@ read_or other p = do
 -- a global keeps no text that is too long; none that a line makes is, and none that a store holds, so that no line meets this case
 abbrev pub put_at : Place → Text → Act (Unit {0})
 put_at (at_local name xs) x = set_local name xs x
-put_at (at_node n) x = unless Zlong (nat_le (length x) longest_text) >> ask (Put n x)
+put_at (at_node n) x = unless Zlong (nat_le (length x) max_text) >> ask (Put n x)
 
 -- without its node and what stands below it
 abbrev pub kill_at : Place → Act (Unit {0})

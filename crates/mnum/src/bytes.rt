@@ -12,10 +12,8 @@ use std::cmp::Ordering;
 use std::hash::{Hash, Hasher};
 use std::marker::Model;
 
-/// The most characters of a text of the language. A `Bytes7` may have more: what makes a text of the language refuses it then.
-pub const LONGEST_TEXT: usize = 4095;
-
-/// A text of ASCII characters: bytes that are each under 128. Contracts see it as its list of bytes.
+/// A text of ASCII characters: bytes that are each under 128. Contracts see it as its list of bytes. It may have more than
+/// `MAX_TEXT` characters: what makes a text of the language refuses it then.
 #[derive(Debug, Drop)]
 pub struct Bytes7 {
     bytes: Vec<u8>,

@@ -18,8 +18,8 @@ mod units;
 mod whole;
 mod writing;
 
-pub use bytes::{Bytes7, LONGEST_TEXT};
-pub use name::{LONGEST_NAME, Name, is_name};
+pub use bytes::Bytes7;
+pub use name::{Name, is_name};
 pub use num::{ArithFault, Num, Over};
 pub use reading::short_whole;
 pub use writing::{is_canonical, is_canonical_by};

@@ -9,13 +9,11 @@ ghost use Rattle.std.proofs.Common.{ap};
 ghost use Rattle.mspec.specs.Names.{IsName, is_name_start, is_name_rest};
 
 use crate::bytes::Bytes7;
+use mspec::limits::MAX_NAME;
 use std::alloc::{AllocError, Global};
 use std::cmp::Ordering;
 use std::hash::{Hash, Hasher};
 use std::marker::Model;
-
-/// The most characters of a name.
-pub const LONGEST_NAME: usize = 31;
 
 // Whether a name can begin with the character: a letter, or `%`.
 fn starts_name(c: u8) -> bool
@@ -43,7 +41,7 @@ pub fn is_name(text: &Bytes7) -> bool
     ensures { IsTrue result ↔ IsName text.now }
 {
     let characters = text.as_bytes();
-    if characters.is_empty() || characters.len() > LONGEST_NAME {
+    if characters.is_empty() || characters.len() > MAX_NAME {
         return false;
     }
     starts_name(characters[0]) && continue_name(&characters[1..])

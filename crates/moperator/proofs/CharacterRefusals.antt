@@ -1,6 +1,6 @@
 -- SPDX-License-Identifier: Apache-2.0
 -- What $CHAR is refused for, of codes that are read one after another.
-use Rattle.moperator.proofs.OperatorWords.{◌≡◌, ◌<◌, ◌≤◌, ℕ, Bool, true, false, List, [], ◌∷◌, ◌++◌, length, Ok, Err, refl, ap, ◌∙◌, arith, pos, negsuc, ◌||◌, nat_le, list_any, flat_map, nat_tests, Text, char_of, character_of, is_over_ascii, longest_text, char_function, wholes, function_value, outcome, Yields, YieldsFault, yields_then, yields_failed, yields_gives, fault_of, IsDone, Code}
+use Rattle.moperator.proofs.OperatorWords.{◌≡◌, ◌<◌, ◌≤◌, ℕ, Bool, true, false, List, [], ◌∷◌, ◌++◌, length, Ok, Err, refl, ap, ◌∙◌, arith, pos, negsuc, ◌||◌, nat_le, list_any, flat_map, nat_tests, Text, char_of, character_of, is_over_ascii, max_text, char_function, wholes, function_value, outcome, Yields, YieldsFault, yields_then, yields_failed, yields_gives, fault_of, IsDone, Code}
 use Rattle.std.proofs.Common.{◌+◌, length-append}
 use Rattle.std.specs.Prelude.{ℤ}
 use Rattle.std.proofs.lemmas.List.Folds.{list_any-append}
@@ -31,14 +31,14 @@ at_most_one (negsuc n) = omega arith
 over_refused : (ns : List ℤ) → list_any is_over_ascii ns ≡ true → char_of ns ≡ Err spec.Zchar
 over_refused ns e = rw e refl
 
-long_refused : (ns : List ℤ) → list_any is_over_ascii ns ≡ false → longest_text < length (flat_map character_of ns) → char_of ns ≡ Err spec.Zlong
+long_refused : (ns : List ℤ) → list_any is_over_ascii ns ≡ false → max_text < length (flat_map character_of ns) → char_of ns ≡ Err spec.Zlong
 long_refused ns e long =
-    let test : nat_le (length (flat_map character_of ns)) longest_text ≡ false = grind (arith, nat_tests) in
+    let test : nat_le (length (flat_map character_of ns)) max_text ≡ false = grind (arith, nat_tests) in
     rw (e, test) refl
 
-short_allowed : (ns : List ℤ) → list_any is_over_ascii ns ≡ false → length (flat_map character_of ns) ≤ longest_text → char_of ns ≡ Ok (flat_map character_of ns)
+short_allowed : (ns : List ℤ) → list_any is_over_ascii ns ≡ false → length (flat_map character_of ns) ≤ max_text → char_of ns ≡ Ok (flat_map character_of ns)
 short_allowed ns e short =
-    let test : nat_le (length (flat_map character_of ns)) longest_text ≡ true = grind (arith, nat_tests) in
+    let test : nat_le (length (flat_map character_of ns)) max_text ≡ true = grind (arith, nat_tests) in
     rw (e, test) refl
 
 -- a refusal of the codes is one of the function
@@ -52,14 +52,14 @@ pub over_is_refused : (args : List Text) (ns : List ℤ) → Yields fault_of (wh
     → YieldsFault (function_value char_function args) (fault_of code.Zchar)
 over_is_refused args ns read e = refused_by args ns code.Zchar spec.Zchar read (over_refused ns e) refl
 
-pub long_is_refused : (args : List Text) (ns : List ℤ) → Yields fault_of (wholes [] args) (λ (w : List ℤ). w) (Ok ns) → list_any is_over_ascii ns ≡ false → longest_text < length (flat_map character_of ns)
+pub long_is_refused : (args : List Text) (ns : List ℤ) → Yields fault_of (wholes [] args) (λ (w : List ℤ). w) (Ok ns) → list_any is_over_ascii ns ≡ false → max_text < length (flat_map character_of ns)
     → YieldsFault (function_value char_function args) (fault_of code.Zlong)
 long_is_refused args ns read e long = refused_by args ns code.Zlong spec.Zlong read (long_refused ns e long) refl
 
 pub argument_is_refused : (args : List Text) (given : Code) → Yields fault_of (wholes [] args) (λ (w : List ℤ). w) (Err given) → YieldsFault (function_value char_function args) (fault_of given)
 argument_is_refused args given read = (yields_failed {Y = Text} (λ ns. outcome (char_of ns)) {g = λ (v : Text). v} read).ends
 
-pub short_is_allowed : (args : List Text) (ns : List ℤ) → Yields fault_of (wholes [] args) (λ (w : List ℤ). w) (Ok ns) → list_any is_over_ascii ns ≡ false → length (flat_map character_of ns) ≤ longest_text
+pub short_is_allowed : (args : List Text) (ns : List ℤ) → Yields fault_of (wholes [] args) (λ (w : List ℤ). w) (Ok ns) → list_any is_over_ascii ns ≡ false → length (flat_map character_of ns) ≤ max_text
     → IsDone (function_value char_function args)
 short_is_allowed args ns read e short =
     let text = flat_map character_of ns in

@@ -20,7 +20,7 @@ pub use Rattle.mspec.specs.Literal.{digits_after}
 pub use Rattle.mspec.specs.Number.{difference_of, product_of, quotient_of, remainder_of, significant_digits, sum_of, whole_quotient_of}
 pub use Rattle.mspec.specs.NumberText.{number_text, numeric_value}
 pub use Rattle.mspec.specs.Pattern.{Atom, Count, IsAtMost, IsPermitted, IsRepetition, Matches, Repeated, copied, copies, is_in, is_in_any, members}
-pub use Rattle.mspec.specs.TextFunctions.{from_place, longest_text, piece_of, range_of, to_place}
+pub use Rattle.mspec.specs.TextFunctions.{from_place, max_text, piece_of, range_of, to_place}
 pub use Rattle.mtext.specs.ClassSets.{is_in_set}
 pub use Rattle.mtext.specs.Endings.{IsEnding, IsFirstOf, IsLent}
 pub use Rattle.mtext.specs.PatternPlaces.{atoms_of, code_of, codes_of}

@@ -12,7 +12,8 @@ ghost use Rattle.mspec.specs.Code as spec;
 
 use crate::code::Code;
 use crate::conversions::whole_of;
-use mnum::{Bytes7, LONGEST_TEXT};
+use mnum::Bytes7;
+use mspec::limits::MAX_TEXT;
 use mvalue::Value;
 use std::alloc::Global;
 
@@ -62,7 +63,7 @@ pub(crate) fn refuse_characters(arguments: &[Value]) -> Result<(), Code>
     if is_over {
         return Err(Code::Zchar);
     }
-    if count > LONGEST_TEXT {
+    if count > MAX_TEXT {
         return Err(Code::Zlong);
     }
     Ok(())
@@ -81,7 +82,7 @@ pub(crate) fn characters(alloc: Global, codes: &[i64]) -> Result<Value, Code>
             text.push(*code as u8)?;
         }
     }
-    if text.as_bytes().len() > LONGEST_TEXT {
+    if text.as_bytes().len() > MAX_TEXT {
         return Err(Code::Zlong);
     }
     Ok(Value::of_text(text))

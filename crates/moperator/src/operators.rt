@@ -4,7 +4,7 @@ ghost use Rattle.std.specs.Prelude.{◌≡◌, ◌<◌, map, length, ◌++◌, E
 ghost use Rattle.mmeaning.specs.Operators as meaning;
 ghost use Rattle.mnum.specs.Num.{units};
 ghost use Rattle.mspec.specs.Act.{Text, Act};
-ghost use Rattle.mspec.specs.TextFunctions.{longest_text, made};
+ghost use Rattle.mspec.specs.TextFunctions.{max_text, made};
 ghost use Rattle.mtree.specs.Tree.{sign_tree, binary_tree};
 ghost use Rattle.mmeaning.specs.Yields.{Yields};
 ghost use Rattle.moperator.specs.Codes.{fault_of};
@@ -18,7 +18,8 @@ use crate::arithmetic::{Arithmetic, calculate};
 use crate::code::Code;
 use crate::conversions::{number_of, truth_of};
 use crate::relations::relation;
-use mnum::{LONGEST_TEXT, Num, Over};
+use mnum::{Num, Over};
+use mspec::limits::MAX_TEXT;
 use mtree::{Binary, Sign};
 use mvalue::Value;
 use std::alloc::Global;
@@ -103,11 +104,11 @@ fn calculate_values(operator: Arithmetic, left: &mut Value, right: &Value) -> Re
 // The left text with the right one behind it.
 fn joined(alloc: Global, left: Value, right: &Value) -> Result<Value, Code>
     ensures value { Yields fault_of (meaning.outcome (made (left ++ right.now))) (λ value. value) result }
-    ensures long { longest_text < length (left ++ right.now) → result ≡ Err Zlong }
+    ensures long { max_text < length (left ++ right.now) → result ≡ Err Zlong }
 {
     // a text that is too long is refused before memory is asked for
     let length = left.text_length();
-    if length > LONGEST_TEXT || right.text_length() > LONGEST_TEXT - length {
+    if length > MAX_TEXT || right.text_length() > MAX_TEXT - length {
         return Err(Code::Zlong);
     }
     let mut text = left.into_text(alloc)?;
@@ -133,7 +134,7 @@ fn put(place: &mut Value, outcome: Result<Value, Code>) -> Result<(), Code>
 /// texts have more than 4,095 characters, which needs no memory; `Zmem` if out of memory. What the left operand is then is left open.
 pub fn binary(alloc: Global, operator: Binary, left: &mut Value, right: &Value) -> Result<(), Code>
     ensures value { Yields fault_of (meaning.binary (binary_tree operator) left.old right.now) (λ _. left.new) result }
-    ensures long { operator ≡ Join → longest_text < length (left.old ++ right.now) → result ≡ Err Zlong }
+    ensures long { operator ≡ Join → max_text < length (left.old ++ right.now) → result ≡ Err Zlong }
 {
     match operator {
         Binary::Join => {

@@ -10,7 +10,7 @@ ghost use Rattle.mscan.specs.Gives.{Gives};
 use crate::arity::takes_args;
 use crate::control::{for_argument, if_argument, postcondition};
 use crate::entry::{do_argument, goto_argument, xecute_argument};
-use crate::expr::{MAX_DEPTH, expr};
+use crate::expr::expr;
 use crate::list::{Items, list};
 use crate::lock_arguments::lock_argument;
 use crate::operand::expr_operand;
@@ -18,6 +18,7 @@ use crate::scope::{kill_argument, new_argument};
 use crate::set_arguments::set_argument;
 use mnum::Bytes7;
 use mscan::{Class, ParseFault, run};
+use mspec::limits::MAX_DEPTH;
 use mtree::{Arg, Command, Keyword, keyword_of};
 use std::alloc::Global;
 

@@ -9,10 +9,11 @@ ghost use Rattle.mscan.specs.Gives.{Gives};
 
 use crate::along::beside;
 use crate::arity::takes_condition;
-use crate::expr::{MAX_DEPTH, expr};
+use crate::expr::expr;
 use crate::list::{Items, list};
 use crate::operand::expr_operand;
 use mscan::{ParseFault, expect, name, past};
+use mspec::limits::MAX_DEPTH;
 use mtree::{Arg, Expr, Keyword, Parameter};
 use std::alloc::Global;
 

@@ -7,9 +7,10 @@ ghost use Rattle.mtree.specs.Tree.{entry_tree, arg_tree};
 ghost use Rattle.mscan.specs.Gives.{Gives};
 
 use crate::control::behind_colon;
-use crate::expr::{MAX_DEPTH, below, expr};
+use crate::expr::{below, expr};
 use crate::operand::expr_operand;
 use mscan::{ParseFault, name, past};
+use mspec::limits::MAX_DEPTH;
 use mtree::{Arg, Entry, Keyword};
 use std::alloc::Global;
 

@@ -20,9 +20,6 @@ use mtree::{
 };
 use std::alloc::Global;
 
-// How many brackets may be open at a place, with the operands of `@` that it lies in.
-pub const MAX_DEPTH: u32 = 40;
-
 // An expression within which so many brackets may be open.
 #[cycle(expr)]
 #[tactic(auto, unfolding(mgrammar::specs::ReadingExpressions::expr_with))]

@@ -8,9 +8,10 @@ ghost use Rattle.mgrammar.specs.IndirectTexts.{ref_at, args_of};
 ghost use Rattle.mtree.specs.Tree.{reference_tree, arg_tree, keyword_tree};
 ghost use Rattle.mscan.specs.Gives.{Gives};
 
-use crate::expr::{MAX_DEPTH, reference};
+use crate::expr::reference;
 use crate::list::list;
 use mscan::ParseFault;
+use mspec::limits::MAX_DEPTH;
 use mtree::{Arg, Keyword, Reference};
 use std::alloc::Global;
 

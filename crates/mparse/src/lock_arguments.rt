@@ -11,10 +11,11 @@ ghost use Rattle.mtree.specs.Tree.{reference_tree, kind_tree, locked_tree, arg_t
 ghost use Rattle.mscan.specs.Gives.{Gives};
 
 use crate::control::behind_colon;
-use crate::expr::{MAX_DEPTH, reference};
+use crate::expr::reference;
 use crate::list::{Items, list};
 use crate::operand::locked_operand;
 use mscan::{ParseFault, expect};
+use mspec::limits::MAX_DEPTH;
 use mtree::{Arg, Keyword, LockKind, Locked, Reference};
 use std::alloc::Global;
 

@@ -7,11 +7,12 @@ ghost use Rattle.mgrammar.specs.Grammar.{kill_argument, new_argument};
 ghost use Rattle.mtree.specs.Tree.{arg_tree};
 ghost use Rattle.mscan.specs.Gives.{Gives};
 
-use crate::expr::{MAX_DEPTH, below, reference};
+use crate::expr::{below, reference};
 use crate::list::{Items, list};
 use crate::operand::reference_operand;
 use mnum::Name;
 use mscan::{ParseFault, expect, name};
+use mspec::limits::MAX_DEPTH;
 use mtree::{Arg, Keyword};
 use std::alloc::Global;
 

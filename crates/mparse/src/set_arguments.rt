@@ -9,11 +9,12 @@ ghost use Rattle.mtree.specs.Tree.{expr_tree, target_tree, destination_tree, arg
 ghost use Rattle.mscan.specs.Gives.{Gives};
 
 use crate::along::{beside, followed};
-use crate::expr::{MAX_DEPTH, expr, inner, reference, within};
+use crate::expr::{expr, inner, reference, within};
 use crate::list::{Items, list};
 use crate::operand::destination_operand;
 use mnum::Bytes7;
 use mscan::{Class, ParseFault, expect, past, run};
+use mspec::limits::MAX_DEPTH;
 use mtree::{Arg, Destination, Expr, Keyword, PieceTarget, Target, is_piece};
 use std::alloc::Global;
 

@@ -8,7 +8,8 @@ ghost use Rattle.mscan.specs.Classes.{in_class};
 ghost use Rattle.mscan.specs.Gives.{Gives};
 
 use crate::fault::ParseFault;
-use mnum::{Bytes7, LONGEST_NAME, Name};
+use mnum::{Bytes7, Name};
+use mspec::limits::MAX_NAME;
 use std::alloc::Global;
 
 /// A kind of characters.
@@ -94,7 +95,7 @@ pub fn expect(byte: u8, bytes: &[u8]) -> Result<&[u8], ParseFault>
 }
 
 // A name has at most so many characters behind its first one.
-const MAX_TAIL: usize = LONGEST_NAME - 1;
+const MAX_TAIL: usize = MAX_NAME - 1;
 
 /// The bytes of the name that a text begins with, of at most 31 characters, and what follows it. Takes no memory.
 #[tactic(auto, unfolding(mgrammar::specs::ReadingWords::name_at))]

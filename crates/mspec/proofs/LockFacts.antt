@@ -1,6 +1,6 @@
 -- SPDX-License-Identifier: Apache-2.0
 -- What taking, giving back and releasing do to counts, and what they leave to other terminals.
-use Rattle.mspec.proofs.SpecWords.{◌≡◌, ℕ, ◌+◌, ◌-◌, Bool, true, false, cond, not, List, [], ◌∷◌, length, Option, Some, None, refl, sym, ap, ◌∙◌, arith, nat_eq, nat_lt, unwrap_or, if◌then◌else◌, nat_tests, list_any, filter, Ordering, Less, Equal, Greater, nat_cmp, is_eq, eq_by_cmp, ordering_then, get, insert, remove, get-insert, LockName, lock_name_cmp, Locks, held, count, most_counts, has_conflict, one_more, counted, released}
+use Rattle.mspec.proofs.SpecWords.{◌≡◌, ℕ, ◌+◌, ◌-◌, Bool, true, false, cond, not, List, [], ◌∷◌, length, Option, Some, None, refl, sym, ap, ◌∙◌, arith, nat_eq, nat_lt, unwrap_or, if◌then◌else◌, nat_tests, list_any, filter, Ordering, Less, Equal, Greater, nat_cmp, is_eq, eq_by_cmp, ordering_then, get, insert, remove, get-insert, LockName, lock_name_cmp, Locks, held, count, max_count, has_conflict, one_more, counted, released}
 use Rattle.mspec.specs.LockLaws.{times, CountsGoUp, OthersKeepLocks}
 use Rattle.mspec.proofs.LockOrders.{lock_name_cmp_exact, held_cmp_total, held_cmp_exact}
 use Rattle.mspec.proofs.MapCuts.{equal_of, cut_drops, cut_removed, cut_twice}
@@ -49,7 +49,7 @@ counted_up t [] locks after n e =
     let same : locks ≡ after = ap (λ o. unwrap_or o locks) e in
     ap (λ l. count l (held t n)) (sym same) ∙ omega arith
 counted_up t (m ∷ names) locks after n e =
-    counted_one t m names locks after n (nat_lt (count locks (held t m)) most_counts) (counted_up t names (one_more locks (held t m)) after n) e
+    counted_one t m names locks after n (nat_lt (count locks (held t m)) max_count) (counted_up t names (one_more locks (held t m)) after n) e
 
 pub counts_go_up : CountsGoUp
 counts_go_up locks after t names n e = counted_up t names locks after n (unopposed (list_any (λ n. has_conflict locks (held t n)) names) (counted locks t names) after e)
@@ -68,7 +68,7 @@ counted_unseen t [] locks after e =
     let same : locks ≡ after = ap (λ o. unwrap_or o locks) e in
     ap (λ l. released l t) (sym same)
 counted_unseen t (n ∷ names) locks after e =
-    one_unseen t n names locks after (nat_lt (count locks (held t n)) most_counts) (counted_unseen t names (one_more locks (held t n)) after) e
+    one_unseen t n names locks after (nat_lt (count locks (held t n)) max_count) (counted_unseen t names (one_more locks (held t n)) after) e
 
 back_unseen : (locks : Locks) (t : ℕ) (n : LockName) (k : ℕ) (b : Bool) → released (if b then insert locks (held t n) k else remove locks (held t n)) t ≡ released locks t
 back_unseen locks t n k true = cut_drops held_cmp_total held_cmp_exact locks (λ h. not (nat_eq h.terminal t)) (held t n) k (itself t)

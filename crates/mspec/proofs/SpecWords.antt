@@ -26,7 +26,7 @@ pub use Rattle.mspec.specs.KeyBytes.{AreSubscripts, IsAccountName, IsSubscript, 
 unfoldable pub use Rattle.mspec.specs.KeyBytes.{number_bytes}
 pub use Rattle.mspec.specs.KeyLaws.{CanonicalValueIsTold, DescendantsAreRanges, IsBetween, IsLocalWithin, IsWithin, KeysAreInjective, KeysKeepOrder, KeysOfSubtreesBeginAlike, LocalDescendantsAreRanges, LocalSubtreesAreRanges, LocalsKeepOrder, NodesAreOrdered, NoneEmpty, SubtreesAreRanges}
 pub use Rattle.mspec.specs.Literal.{Exponent, ExponentSign, IsDigits, IsExponent, IsFraction, IsLiteral, IsMantissa, Literal, Minus, Plus, Unsigned, denominator, digits_after, fraction_of, is_digit, lowered_by, numerator, raise, raised_by, spell_exponent, spell_fraction, spell_literal, spell_sign, with_digit}
-pub use Rattle.mspec.specs.LockConflict.{LockName, Locks, count, counted, has_conflict, held, held_cmp, is_conflict, lock_name_cmp, most_counts, one_more, released}
+pub use Rattle.mspec.specs.LockConflict.{LockName, Locks, count, counted, has_conflict, held, held_cmp, is_conflict, lock_name_cmp, max_count, one_more, released}
 pub use Rattle.mspec.specs.Maps.{hash_map_of, map_of}
 pub use Rattle.mspec.specs.Names.{is_name_rest, is_name_start}
 pub use Rattle.mspec.specs.Node.{Node, Text}

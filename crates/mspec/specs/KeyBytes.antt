@@ -6,6 +6,7 @@
 -- since old stores kept fewer.
 use Rattle.std.specs.Prelude.{◌≡◌, ℕ, zero, suc, ◌+◌, ◌/◌, ◌%◌, ◌^◌, ◌<◌, ◌≤◌, true, ◌||◌, List, [], ◌∷◌, ◌++◌, length, All, Option, Some, None, ℤ, pos, ◌+ℤ◌, unsigned_abs}
 use Rattle.std.specs.List.{flat_map}
+use Rattle.mspec.specs.Limits.{max_account_name, max_subscript, max_subscripts}
 use Rattle.mspec.specs.Node.{Text, Node}
 use Rattle.mspec.specs.Names.{IsName, is_letter}
 use Rattle.mspec.specs.Literal.{is_digit}
@@ -59,17 +60,17 @@ subtree_end key = key ++ (3 ∷ [])
 -- an account's name: 1 to 16 letters or digits
 pub record IsAccountName (account : Text) : Type 0 where
   pub some : 0 < length account
-  pub few : length account ≤ 16
+  pub few : length account ≤ max_account_name
   pub each : All (λ c. is_letter c || is_digit c ≡ true) account
 
 -- 1 to 255 characters
 pub record IsSubscript (s : Text) : Type 0 where
   pub some : 0 < length s
-  pub few : length s ≤ 255
+  pub few : length s ≤ max_subscript
 
 -- at most 15 of them
 pub record AreSubscripts (subscripts : List Text) : Type 0 where
-  pub few : length subscripts ≤ 15
+  pub few : length subscripts ≤ max_subscripts
   pub each : All IsSubscript subscripts
 
 -- a text of the character set of mserve: ASCII

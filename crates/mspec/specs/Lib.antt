@@ -1,4 +1,5 @@
 -- SPDX-License-Identifier: Apache-2.0
+pub mod Limits
 pub mod Number
 pub mod Literal
 pub mod Names

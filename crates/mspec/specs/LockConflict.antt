@@ -10,6 +10,7 @@ use Rattle.std.specs.Ordering.{nat_cmp, bool_cmp, on, then_cmp}
 use Rattle.std.specs.declared.cmp.Ordering.{Ordering}
 use mathlib.Core.Bool.{beq}
 use Rattle.mspec.specs.Globals.{is_node_within}
+pub use Rattle.mspec.specs.Limits.{max_count}
 use Rattle.mspec.specs.Node.{Node}
 use Rattle.mspec.specs.NodeOrder.{node_cmp}
 use Rattle.mspec.specs.Number.{significant_digits}
@@ -34,9 +35,6 @@ held_cmp = then_cmp (on (λ h. h.name) lock_name_cmp) (on (λ h. h.terminal) nat
 -- how often each is held. Of the program's locks each count is from 1 to 1,000,000, which its type says and this one does not.
 abbrev pub Locks : Type 0
 Locks = FinMap held_cmp ℕ
-
-abbrev pub most_counts : ℕ
-most_counts = 1000000
 
 -- b is a, or stands below it: it has the same kind, account and name, and the subscripts of a begin its own
 abbrev pub is_within : LockName → LockName → Bool
@@ -67,7 +65,7 @@ one_more locks h = insert locks h (count locks h + 1)
 abbrev pub counted : Locks → ℕ → List LockName → Option Locks
 counted locks t [] = Some locks
 counted locks t (n ∷ names) =
-    if nat_lt (count locks (held t n)) most_counts then counted (one_more locks (held t n)) t names else None
+    if nat_lt (count locks (held t n)) max_count then counted (one_more locks (held t n)) t names else None
 
 -- all names are taken, or none
 abbrev pub taken : Locks → ℕ → List LockName → Option Locks

@@ -3,6 +3,7 @@
 --
 -- Restates "Character set" and "name" of ISO/IEC 11756:1999.
 use Rattle.std.specs.Prelude.{◌≡◌, ℕ, ◌-◌, ◌≤◌, Bool, true, ◌&&◌, ◌||◌, ◌==◌, nat_le, nat_lt, if◌then◌else◌, List, [], ◌∷◌, length}
+use Rattle.mspec.specs.Limits.{max_name_rest}
 use Rattle.mspec.specs.Literal.{is_digit}
 
 -- `alpha` in either case
@@ -29,4 +30,4 @@ upper_case c = if nat_le 97 c && nat_le c 122 then c - 32 else c
 -- `name`: of at most 31 characters, which the standard leaves open
 abbrev pub IsName : List ℕ → Type 0
 IsName [] = ⊥
-IsName (c ∷ cs) = (is_name_start c ≡ true) × AllAre is_name_rest cs × (length cs ≤ 30)
+IsName (c ∷ cs) = (is_name_start c ≡ true) × AllAre is_name_rest cs × (length cs ≤ max_name_rest)

@@ -7,6 +7,7 @@
 use Rattle.std.specs.Prelude.{ℕ, zero, suc, ℤ, pos, negsuc, ◌+◌, ◌-◌, Bool, true, false, ◌&&◌, ◌==◌, nat_le, nat_lt, max, List, [], ◌∷◌, ◌++◌, length, take, drop, slice_get, Option, Some, None, option_map, unwrap_or, is_some, replicate, Result, Ok, Err, if◌then◌else◌}
 use Rattle.std.specs.List.{flat_map}
 use Rattle.std.specs.Option.{option_to_list}
+pub use Rattle.mspec.specs.Limits.{max_text, max_place}
 use Rattle.mspec.specs.Pieces.{join, begins_with, pieces_of}
 use Rattle.mspec.specs.Code.{Code, Zarg, Zlong}
 
@@ -67,17 +68,9 @@ follows (x ∷ s) (y ∷ t) = if x == y then follows s t else nat_lt y x
 
 -- ---- what makes a text
 
--- the most characters of a text
-abbrev pub longest_text : ℕ
-longest_text = 4095
-
--- the most pieces that a text may be given
-abbrev pub last_place : ℕ
-last_place = 500
-
 -- a text that was made, unless it is too long
 abbrev pub made : List ℕ → Result (List ℕ) Code
-made s = if nat_le (length s) longest_text then Ok s else Err Zlong
+made s = if nat_le (length s) max_text then Ok s else Err Zlong
 
 -- the character at a place in `to`, or nothing where it is shorter; c where there is no place
 abbrev pub translated_at : List ℕ → ℕ → Option ℕ → List ℕ
@@ -101,7 +94,7 @@ with_piece (suc k) v (p ∷ ps) = p ∷ with_piece k v ps
 
 -- whether a text may be given a piece: by a delimiter that is not empty, at a place from 1 to the last
 abbrev pub may_be_set : List ℕ → ℤ → Bool
-may_be_set d n = nat_lt 0 (length d) && (nat_le 1 (to_place n) && nat_le (to_place n) last_place)
+may_be_set d n = nat_lt 0 (length d) && (nat_le 1 (to_place n) && nat_le (to_place n) max_place)
 
 -- SET of a $PIECE: the text with v as its piece at a place, behind as many delimiters as that takes
 abbrev pub set_piece_of : List ℕ → List ℕ → Option ℤ → List ℕ → Result (List ℕ) Code

@@ -9,6 +9,7 @@ use Rattle.std.specs.Option.{option_to_list}
 use Rattle.std.specs.Ordering.{is_lt}
 use Rattle.std.specs.Cmp.Lexicographic.{pointwise}
 use Rattle.std.specs.FinMap.{FinMap, get, keys, retain_keys}
+use Rattle.mspec.specs.Limits.{max_subscript, max_subscripts}
 use Rattle.mspec.specs.KeyBytes.{AreSubscripts}
 use Rattle.mspec.specs.Node.{Text}
 use Rattle.mspec.specs.Number.{significant_digits}
@@ -85,6 +86,6 @@ last xs = slice_index_or xs (length xs - 1) []
 -- the subscripts with which $ORDER may be asked: those of a node, but that the last may be empty
 pub record AreOrderSubscripts (xs : List Text) : Type 0 where
   pub some : 0 < length xs
-  pub few : length xs ≤ 15
+  pub few : length xs ≤ max_subscripts
   pub before : AreSubscripts (front xs)
-  pub short : length (last xs) ≤ 255
+  pub short : length (last xs) ≤ max_subscript

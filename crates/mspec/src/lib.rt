@@ -6,6 +6,7 @@
 #![tactic(auto)]
 
 pub mod key_laws;
+pub mod limits;
 pub mod lock_laws;
 pub mod number_laws;
 pub mod piece_laws;

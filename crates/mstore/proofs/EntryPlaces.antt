@@ -1,6 +1,6 @@
 -- SPDX-License-Identifier: Apache-2.0
 -- Where a search ends among entries in order, and what an edit there does.
-use Rattle.mstore.proofs.Words.{◌≡◌, ℕ, zero, suc, ◌+◌, ◌≤◌, Bool, true, false, cond, List, [], ◌∷◌, length, slice_index_or, slice_set, take, drop, if◌then◌else◌, All, Some, None, Result, Ok, Err, IfOk, IfErr, refl, sym, ap, subst, ◌∙◌, inl, inr, arith, Less, Greater, slice_cmp, nat_list_cmp_total, put, by_order, ordering_reverse, cases_lt, tied_itself, All-append, All-cons, All-drop, All-set, All-take, searchable_from_sorted, IsStored, Node, significant_digits, longest_text, node_cmp_exact, Entry, entries_of, held, bytes_of, is_before, AreEntries, IsAt, IsGapFor, IsPlaceOf}
+use Rattle.mstore.proofs.Words.{◌≡◌, ℕ, zero, suc, ◌+◌, ◌≤◌, Bool, true, false, cond, List, [], ◌∷◌, length, slice_index_or, slice_set, take, drop, if◌then◌else◌, All, Some, None, Result, Ok, Err, IfOk, IfErr, refl, sym, ap, subst, ◌∙◌, inl, inr, arith, Less, Greater, slice_cmp, nat_list_cmp_total, put, by_order, ordering_reverse, cases_lt, tied_itself, All-append, All-cons, All-drop, All-set, All-take, searchable_from_sorted, IsStored, Node, significant_digits, max_text, node_cmp_exact, Entry, entries_of, held, bytes_of, is_before, AreEntries, IsAt, IsGapFor, IsPlaceOf}
 use Rattle.std.proofs.Common.{insert}
 use Rattle.std.specs.FinMap as finite
 use Rattle.std.specs.FinMap.Entries.{find}
@@ -104,11 +104,11 @@ module _ (es : List Entry) (are : AreEntries es) (n : Node) (t : Text) (i : ℕ)
     put_over : entries_of (slice_set es i x) ≡ put order n t (entries_of es)
     put_over = put_at es are.sorted n t i at x key text
 
-    pub are_set : length t ≤ longest_text → AreEntries (slice_set es i x)
+    pub are_set : length t ≤ max_text → AreEntries (slice_set es i x)
     are_set short = record {
       sorted = order_put es (slice_set es i x) are.sorted n t put_over;
       stored = All-set (λ e. IsStored e.key) es i x (subst IsStored (at.of_node x ∙ sym key) (are.stored i x at.in_range)) are.stored;
-      short = All-set (λ e. length e.text ≤ longest_text) es i x (subst (λ s. length s ≤ longest_text) (sym text) short) are.short;
+      short = All-set (λ e. length e.text ≤ max_text) es i x (subst (λ s. length s ≤ max_text) (sym text) short) are.short;
     }
 
     pub held_set : held (slice_set es i x) ≡ finite.insert (held es) n t
@@ -118,15 +118,15 @@ module _ (es : List Entry) (are : AreEntries es) (n : Node) (t : Text) (i : ℕ)
     put_between : entries_of (insert es i x) ≡ put order n t (entries_of es)
     put_between = put_in_gap es n t i le gap x key text
 
-    pub are_inserted : IsStored n → length t ≤ longest_text → AreEntries (insert es i x)
+    pub are_inserted : IsStored n → length t ≤ max_text → AreEntries (insert es i x)
     are_inserted stored short = record {
       sorted = order_put es (insert es i x) are.sorted n t put_between;
       stored =
           let is = λ (e : Entry). IsStored e.key in
           All-append is (take i es) (x ∷ drop i es) (All-take is i es are.stored) (All-cons is x (drop i es) (subst IsStored (sym key) stored) (All-drop is i es are.stored));
       short =
-          let is = λ (e : Entry). length e.text ≤ longest_text in
-          All-append is (take i es) (x ∷ drop i es) (All-take is i es are.short) (All-cons is x (drop i es) (subst (λ s. length s ≤ longest_text) (sym text) short) (All-drop is i es are.short));
+          let is = λ (e : Entry). length e.text ≤ max_text in
+          All-append is (take i es) (x ∷ drop i es) (All-take is i es are.short) (All-cons is x (drop i es) (subst (λ s. length s ≤ max_text) (sym text) short) (All-drop is i es are.short));
     }
 
     pub held_inserted : held (insert es i x) ≡ finite.insert (held es) n t

@@ -1,6 +1,6 @@
 -- SPDX-License-Identifier: Apache-2.0
 -- The entries of a node and of what stands below it.
-use Rattle.mstore.proofs.Words.{◌≡◌, ℕ, zero, suc, ◌<◌, ◌≤◌, Bool, true, false, cond, not, List, [], ◌∷◌, ◌++◌, length, slice_index_or, take, drop, refl, sym, ap, ◌∙◌, inl, inr, arith, Less, append-nil, slice_cmp, bytes_decides, where_key, cases_lt, and_from, false_from_ne_true, All-append, All-drop, All-take, is_node_within, without_subtree, key_bytes, IsStored, IsBetween, IsWithin, Node, significant_digits, longest_text, same_node, BoundsKeysOf, Entry, entries_of, held, bytes_of, AreEntries, IsPlaceOf}
+use Rattle.mstore.proofs.Words.{◌≡◌, ℕ, zero, suc, ◌<◌, ◌≤◌, Bool, true, false, cond, not, List, [], ◌∷◌, ◌++◌, length, slice_index_or, take, drop, refl, sym, ap, ◌∙◌, inl, inr, arith, Less, append-nil, slice_cmp, bytes_decides, where_key, cases_lt, and_from, false_from_ne_true, All-append, All-drop, All-take, is_node_within, without_subtree, key_bytes, IsStored, IsBetween, IsWithin, Node, significant_digits, max_text, same_node, BoundsKeysOf, Entry, entries_of, held, bytes_of, AreEntries, IsPlaceOf}
 use Rattle.std.proofs.Common.{nat_cmp, is_lt}
 use Rattle.std.proofs.lemmas.Slice.Eq.{starts_is}
 use Rattle.mspec.specs.Node.{Text}
@@ -109,7 +109,7 @@ module _ (es : List Entry) (are : AreEntries es) (n : Node) (stored : IsStored n
     pub are_left : AreEntries (take i es ++ drop j es)
     are_left =
         let is = λ (e : Entry). IsStored e.key in
-        let fits = λ (e : Entry). length e.text ≤ longest_text in
+        let fits = λ (e : Entry). length e.text ≤ max_text in
         record {
           sorted = order_where es (take i es ++ drop j es) are.sorted _ (left _ es i j (in_turn le) leaves);
           stored = All-append is (take i es) (drop j es) (All-take is i es are.stored) (All-drop is j es are.stored);

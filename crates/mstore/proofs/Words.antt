@@ -27,7 +27,7 @@ pub use Rattle.mspec.specs.KeyReading.{node_of}
 pub use Rattle.mspec.specs.Node.{Node}
 pub use Rattle.mspec.specs.NodeOrder.{node_cmp}
 pub use Rattle.mspec.specs.Number.{significant_digits}
-pub use Rattle.mspec.specs.TextFunctions.{longest_text}
+pub use Rattle.mspec.specs.TextFunctions.{max_text}
 pub use Rattle.sqlite.proofs.Callers.{IsPlain, command_of, first_as, one_step, reads_as, runs_as, statement_of}
 pub use Rattle.sqlite.specs.Cast.{cast, cast_row}
 pub use Rattle.sqlite.specs.Collation.TheVariants.{Binary}

@@ -14,7 +14,7 @@ use Rattle.mspec.specs.Number.{significant_digits}
 use Rattle.mspec.specs.NodeOrder.{node_cmp}
 use Rattle.mspec.specs.KeyBytes.{key_bytes, IsStored}
 use Rattle.mspec.specs.Globals.{Globals, is_between}
-use Rattle.mspec.specs.TextFunctions.{longest_text}
+use Rattle.mspec.specs.TextFunctions.{max_text}
 use Rattle.mstore.specs.declared.plain.Entry.{Entry}
 
 -- a code of nodes, by which a proof tells them apart
@@ -38,7 +38,7 @@ held es = from_entries (entries_of es)
 pub record AreEntries (es : List Entry) : Type 0 where
   pub sorted : is_sorted (node_cmp significant_digits) (entries_of es) ≡ true
   pub stored : All (λ e. IsStored e.key) es
-  pub short : All (λ e. length e.text ≤ longest_text) es
+  pub short : All (λ e. length e.text ≤ max_text) es
 
 -- the entry at place i is of the node
 pub record IsAt (es : List Entry) (node : Node) (i : ℕ) : Type 0 where

@@ -11,7 +11,7 @@ use Rattle.sqlite_rules.specs.Edit.{id_in}
 use Rattle.mkey.specs.Key.{IsKey, IsKeyBy}
 use Rattle.mspec.specs.Node.{Node}
 use Rattle.mspec.specs.KeyBytes.{IsAscii}
-use Rattle.mspec.specs.TextFunctions.{longest_text}
+use Rattle.mspec.specs.TextFunctions.{max_text}
 use Rattle.mstore.specs.Map.{Content, IsNearest, HasNone}
 
 abbrev pub key_of : Row → List ℕ
@@ -33,7 +33,7 @@ IsNode r = r ≡ Int (id_in (rowid r)) ∷ Blob (key_of r) ∷ Blob (value_of r)
 
 -- what a node may hold
 abbrev pub IsValue : List ℕ → Type 0
-IsValue v = (length v ≤ longest_text) × IsAscii v
+IsValue v = (length v ≤ max_text) × IsAscii v
 
 -- the key of a node of a store, with what it may hold
 abbrev pub IsInForm : List ℕ → List ℕ → Type 0

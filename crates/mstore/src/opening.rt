@@ -25,7 +25,7 @@ use crate::statements::{GET, KILL, NEXT, PREV, PUT, fault_of};
 use crate::store::StoreFault;
 use crate::version::Version;
 use mkey::{NodeKey, read};
-use mnum::LONGEST_TEXT;
+use mspec::limits::MAX_TEXT;
 use sqlite::{Alter, Connection, Error, Row};
 use sqlite_schema::names::same_name;
 use sqlite_schema::schema::Schema;
@@ -41,7 +41,7 @@ const ALL: &str = "SELECT k, v FROM node";
 fn is_value(bytes: &[u8]) -> bool
     ensures { IsTrue result ↔ IsValue bytes.now }
 {
-    bytes.len() <= LONGEST_TEXT && bytes.iter().all(|byte| *byte < 128)
+    bytes.len() <= MAX_TEXT && bytes.iter().all(|byte| *byte < 128)
 }
 
 // Whether this is the key of a node of a store of the version.

@@ -5,7 +5,7 @@ ghost use Rattle.std.specs.FinMap.{get, insert};
 ghost use Rattle.mspec.specs.Globals.{Globals, without_subtree, next_key, previous_key, lines_of};
 ghost use Rattle.mspec.specs.KeyBytes.{IsAccountName};
 ghost use Rattle.mspec.specs.Names.{IsName};
-ghost use Rattle.mspec.specs.TextFunctions.{longest_text};
+ghost use Rattle.mspec.specs.TextFunctions.{max_text};
 ghost use Rattle.mstore.specs.Held.{AreHeld};
 ghost use Rattle.mstore.specs.declared.store.StoreFault.TheVariants.{Memory};
 
@@ -57,7 +57,7 @@ pub trait NodeStore {
 
     /// Gives a node a text, and keeps what stands below it.
     fn put(&mut self, key: &NodeKey, text: &Bytes7) -> Result<(), StoreFault>
-        requires { length text.now ≤ longest_text }
+        requires { length text.now ≤ max_text }
         ensures put { sound → OnOk result (content self.new ≡ insert (content self.old) key.now text.now) }
         ensures held { sound → OnOk result (AreHeld (content self.old)) }
         ensures fault { sound → OnErr result (content self.new ≡ content self.old) }

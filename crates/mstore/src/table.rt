@@ -3,7 +3,7 @@
 ghost use Rattle.std.specs.Prelude.{◌≡◌, ◌≢◌, ◌≤◌, length, IfOk, IfErr, List, ℕ, None, Err, codes};
 ghost use Rattle.sqlite.specs.Order.{column};
 ghost use Rattle.sqlite.specs.declared.types.Value.TheVariants.{Blob};
-ghost use Rattle.mspec.specs.TextFunctions.{longest_text};
+ghost use Rattle.mspec.specs.TextFunctions.{max_text};
 ghost use Rattle.mstore.specs.Layout.{schema};
 
 use crate::create::make_tables;
@@ -14,7 +14,8 @@ use crate::statements::{fault_of, find_first, find_last, find_value, remove_rang
 use crate::store::{NodeStore, StoreFault};
 use mkey::NodeKey;
 use mmemory::Memory;
-use mnum::{Bytes7, LONGEST_TEXT};
+use mnum::Bytes7;
+use mspec::limits::MAX_TEXT;
 use sqlite::{Alter, Connection, Row};
 use sqlite_std_file::File;
 use sqlite_store::FileStore;
@@ -137,10 +138,10 @@ impl<S: Alter> Table<S> {
 // The text that a row shows.
 fn text_in(row: &Row) -> Result<Bytes7, StoreFault>
     ensures text { IfOk result (λ text. column row.now 0 ≡ Blob text) }
-    ensures short { IfOk result (λ text. length text ≤ longest_text) }
+    ensures short { IfOk result (λ text. length text ≤ max_text) }
 {
     let bytes = bytes_in(row)?;
-    if bytes.len() > LONGEST_TEXT {
+    if bytes.len() > MAX_TEXT {
         return Err(StoreFault::Store);
     }
     match Bytes7::new(bytes) {

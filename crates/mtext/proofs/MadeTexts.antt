@@ -1,14 +1,14 @@
 -- SPDX-License-Identifier: Apache-2.0
 -- Texts that are made part by part, and refused where they are too long.
-use Rattle.mtext.proofs.TextWords.{◌≡◌, ℕ, zero, suc, ◌+◌, ◌*◌, ◌≤◌, ◌<◌, Bool, List, [], ◌∷◌, ◌++◌, length, refl, sym, ap, subst, ◌∙◌, arith, add-one, cond, Option, Some, None, Result, Ok, Err, slice_get, MatchOption, IsErr, IsErrAnd, IsOk, option_copied, option_to_list, HoldsAt, Bor, append_assoc, append-nil, repeat, le-leb, lt-leb, longest_text, made, translated_at, first_place, translation, Answers}
+use Rattle.mtext.proofs.TextWords.{◌≡◌, ℕ, zero, suc, ◌+◌, ◌*◌, ◌≤◌, ◌<◌, Bool, List, [], ◌∷◌, ◌++◌, length, refl, sym, ap, subst, ◌∙◌, arith, add-one, cond, Option, Some, None, Result, Ok, Err, slice_get, MatchOption, IsErr, IsErrAnd, IsOk, option_copied, option_to_list, HoldsAt, Bor, append_assoc, append-nil, repeat, le-leb, lt-leb, max_text, made, translated_at, first_place, translation, Answers}
 use Rattle.std.proofs.Common.{length-append}
 use Rattle.std.proofs.lemmas.Option.{slice_get_past, slice_get-get_or}
 use Rattle.mspec.specs.Code.{Zlong}
 use Rattle.mtext.specs.declared.fault.TextFault.{TextFault}
 use Rattle.mtext.specs.declared.fault.TextFault.TheVariants.{TooLong, Memory}
 
-pub is_made : (s : List ℕ) → length s ≤ longest_text → made s ≡ Ok s
-is_made s fits = ap (λ (b : Bool). cond b (Ok s) (Err Zlong)) (le-leb (length s) longest_text fits)
+pub is_made : (s : List ℕ) → length s ≤ max_text → made s ≡ Ok s
+is_made s fits = ap (λ (b : Bool). cond b (Ok s) (Err Zlong)) (le-leb (length s) max_text fits)
 
 -- the result of a `?` that returns
 residual_is : {X E : Type 0} (r : Result X E) (e : E) → IsErr r × IsErrAnd r (λ x. x ≡ e) → r ≡ Err e
@@ -16,18 +16,18 @@ residual_is (Ok x) e h = let no' = h.0 in cc
 residual_is (Err x) e h = ap Err h.1
 
 -- a text that fits may want memory
-wants_memory : (s : List ℕ) → length s ≤ longest_text → Answers (made s) (Err Memory)
+wants_memory : (s : List ℕ) → length s ≤ max_text → Answers (made s) (Err Memory)
 wants_memory s fits = subst (λ r. IsOk r) (sym (is_made s fits)) refl
 
 -- the same of a `?` that returns
-pub wanting : (s : List ℕ) (r : Result (List ℕ) TextFault) → length s ≤ longest_text → IsErr r × IsErrAnd r (λ x. x ≡ Memory) → Answers (made s) r
+pub wanting : (s : List ℕ) (r : Result (List ℕ) TextFault) → length s ≤ max_text → IsErr r × IsErrAnd r (λ x. x ≡ Memory) → Answers (made s) r
 wanting s r fits is = subst (λ x. Answers (made s) x) (sym (residual_is r Memory is)) (wants_memory s fits)
 
 -- a text that does not fit is too long
-too_long : (s : List ℕ) → longest_text < length s → Answers (made s) (Err TooLong)
-too_long s over = ap (λ (b : Bool). cond b (Ok s) (Err Zlong)) (lt-leb (length s) longest_text over)
+too_long : (s : List ℕ) → max_text < length s → Answers (made s) (Err TooLong)
+too_long s over = ap (λ (b : Bool). cond b (Ok s) (Err Zlong)) (lt-leb (length s) max_text over)
 
-pub refused : (s : List ℕ) (fault : TextFault) (r : Result (List ℕ) TextFault) → longest_text < length s → fault ≡ TooLong
+pub refused : (s : List ℕ) (fault : TextFault) (r : Result (List ℕ) TextFault) → max_text < length s → fault ≡ TooLong
     → IsErr r × IsErrAnd r (λ x. x ≡ fault) → Answers (made s) r
 refused s fault r over long is = subst (λ x. Answers (made s) x) (sym (residual_is r fault is ∙ ap Err long)) (too_long s over)
 

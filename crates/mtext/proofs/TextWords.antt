@@ -16,7 +16,7 @@ pub use Rattle.mspec.specs.Names.{AllAre}
 pub use Rattle.mspec.specs.Pattern.{Atom, Count, IsAtMost, IsPermitted, IsRepetition, IsSegment, Matches, PatternCode, Repeated, copied, copies, is_in, is_in_any, members}
 pub use Rattle.mspec.specs.Pieces.{ArePieces, Lacks, OnlyAtEnd, begins_with, join}
 unfoldable pub use Rattle.mspec.specs.Pieces.{pieces_of}
-pub use Rattle.mspec.specs.TextFunctions.{find_of, follows, from_place, longest_text, made, translated_at}
+pub use Rattle.mspec.specs.TextFunctions.{find_of, follows, from_place, max_text, made, translated_at}
 unfoldable pub use Rattle.mspec.specs.TextFunctions.{first_place, with_piece}
 pub use Rattle.mtext.specs.ClassSets.{is_in_set}
 pub use Rattle.mtext.specs.Cuts.{IsBehind, closed, delimiter_text}

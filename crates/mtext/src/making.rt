@@ -5,7 +5,7 @@ ghost use Rattle.std.specs.List.{repeat};
 ghost use Rattle.std.specs.Option.{option_to_list};
 ghost use Rattle.mspec.specs.Pieces.{join, pieces_of};
 ghost use Rattle.mspec.specs.TextFunctions.{
-  longest_text,
+  max_text,
   first_place,
   translated_at,
   translate_of,
@@ -21,11 +21,9 @@ use crate::delimiter::Delimiter;
 use crate::fault::TextFault;
 use crate::places::end_at;
 use memchr::memchr;
-use mnum::{Bytes7, LONGEST_TEXT};
+use mnum::Bytes7;
+use mspec::limits::{MAX_PLACE, MAX_TEXT};
 use std::alloc::{AllocError, Global};
-
-// The most pieces that a text may be given.
-const LAST_PLACE: usize = 500;
 
 /// Lets so many characters be a text.
 ///
@@ -33,9 +31,9 @@ const LAST_PLACE: usize = 500;
 ///
 /// `TooLong` exactly where they are more than 4,095.
 fn check_length(length: usize) -> Result<(), TextFault>
-    ensures { MatchResult result (λ _. length ≤ longest_text) (λ fault. (fault ≡ TextFault.TooLong) × (longest_text < length)) }
+    ensures { MatchResult result (λ _. length ≤ max_text) (λ fault. (fault ≡ TextFault.TooLong) × (max_text < length)) }
 {
-    if length > LONGEST_TEXT {
+    if length > MAX_TEXT {
         return Err(TextFault::TooLong);
     }
     Ok(())
@@ -101,7 +99,7 @@ pub fn translate(
     let characters = text.as_bytes();
     let known = from.as_bytes();
     let others = to.as_bytes();
-    if characters.len() > LONGEST_TEXT {
+    if characters.len() > MAX_TEXT {
         check_length(translated_length(characters, known, others))?;
     }
     Ok(translation(alloc, characters, known, others)?)
@@ -231,7 +229,7 @@ pub fn set_piece(
 {
     let place = end_at(place.unwrap_or(1));
     let delimiter = delimiter.as_bytes();
-    if place < 1 || place > LAST_PLACE || delimiter.is_empty() {
+    if place < 1 || place > MAX_PLACE || delimiter.is_empty() {
         return Err(TextFault::Arg);
     }
     replaced(

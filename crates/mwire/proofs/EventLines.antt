@@ -1,6 +1,6 @@
 -- SPDX-License-Identifier: Apache-2.0
 -- Events have a stream.
-use Rattle.mwire.proofs.WireWords.{◌≡◌, ℕ, suc, ◌+◌, ◌^◌, ◌<◌, ◌≤◌, Bool, true, false, List, [], ◌∷◌, ◌++◌, length, get_or, slice_index, map, ◌-◌, ◌==◌, append-nil, length-append, refl, sym, ap, ◌∙◌, arith, if◌then◌else◌, list_all, before_first, after_first, position_or_len, flat_map, decimal, strip_carriage_return, length-take-le, get_or-append-add, All-head, All-tail, All-nil, All-push, All-append, nat_tests, Text, is_digit, digits_after, Event, line_limit, Ignored, TooLong, Unreadable, Runs, is_space, is_terminal, is_event, classify, before_events, events_of, IsOpen, AreOpen, IsCut, line_of, HasLine, EventsHaveStream}
+use Rattle.mwire.proofs.WireWords.{◌≡◌, ℕ, suc, ◌+◌, ◌^◌, ◌<◌, ◌≤◌, Bool, true, false, List, [], ◌∷◌, ◌++◌, length, get_or, slice_index, map, ◌-◌, ◌==◌, append-nil, length-append, refl, sym, ap, ◌∙◌, arith, if◌then◌else◌, list_all, before_first, after_first, position_or_len, flat_map, decimal, strip_carriage_return, length-take-le, get_or-append-add, All-head, All-tail, All-nil, All-push, All-append, nat_tests, Text, is_digit, digits_after, Event, max_line, Ignored, TooLong, Unreadable, Runs, is_space, is_terminal, is_event, classify, before_events, events_of, IsOpen, AreOpen, IsCut, line_of, HasLine, EventsHaveStream}
 use Rattle.std.proofs.Common.{All}
 use Rattle.std.specs.Prelude.{take, drop}
 use Rattle.std.proofs.lemmas.List.Folds.{flat_map-map}
@@ -33,7 +33,7 @@ wire_line_by empty long event e given filled short is_one same =
 abbrev event_as : ℕ → Text → Event
 event_as terminal text = record { terminal = terminal; text = text }
 
-classify_line : (terminal : ℕ) (text : Text) → 0 < terminal → terminal ≤ 9999 → length text ≤ line_limit → classify (decimal terminal ++ 32 ∷ text) ≡ Runs (event_as terminal text)
+classify_line : (terminal : ℕ) (text : Text) → 0 < terminal → terminal ≤ 9999 → length text ≤ max_line → classify (decimal terminal ++ 32 ∷ text) ≡ Runs (event_as terminal text)
 classify_line terminal text some most short =
     let below : terminal < 2 ^ 64 = omega arith in
     let digits = decimal terminal in

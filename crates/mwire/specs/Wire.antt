@@ -8,6 +8,7 @@ use Rattle.std.specs.Str.Lines.{lines, strip_carriage_return}
 use Rattle.mspec.specs.Act.{Text}
 use Rattle.mspec.specs.Code.{fault_text}
 use Rattle.mspec.specs.Globals.{Globals}
+use Rattle.mspec.specs.Limits.{max_wire_line}
 use Rattle.mspec.specs.Literal.{is_digit, digits_after}
 use Rattle.mmeaning.specs.LineMeaning.{line_end}
 use Rattle.mmeaning.specs.Transition.{Settings, World, Event, Ending, Finished, Halted, Faulted, Reply, normal}
@@ -19,10 +20,6 @@ pub data WireLine : Type 0 where
   TooLong : WireLine
   Unreadable : WireLine
   Runs : Event → WireLine
-
--- the most bytes of a line: four digits, a space and a text of 255 characters
-abbrev pub wire_limit : ℕ
-wire_limit = 260
 
 abbrev pub is_space : ℕ → Bool
 is_space b = b == 32
@@ -41,7 +38,7 @@ event_of line = record { terminal = digits_after 0 (before_first is_space line);
 abbrev pub classify : Text → WireLine
 classify line =
     if length line == 0 then Ignored else
-    if nat_lt wire_limit (length line) then TooLong else
+    if nat_lt max_wire_line (length line) then TooLong else
     if is_event line then Runs (event_of line) else Unreadable
 
 abbrev pub hex_digit : ℕ → ℕ

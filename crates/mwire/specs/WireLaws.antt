@@ -5,8 +5,9 @@ use Rattle.std.specs.List.{All, flat_map}
 use Rattle.std.specs.Fmt.{decimal}
 use Rattle.std.specs.Str.Lines.{lines, strip_carriage_return}
 use Rattle.mspec.specs.Act.{Text}
+use Rattle.mspec.specs.Limits.{max_terminal}
 use Rattle.mspec.specs.Globals.{Globals}
-use Rattle.mmeaning.specs.Transition.{Settings, World, Event, line_limit}
+use Rattle.mmeaning.specs.Transition.{Settings, World, Event, max_line}
 use Rattle.mmeaning.specs.History.{opening, world_after, NoneFailed}
 use Rattle.mstore.specs.declared.store.NodeStore.{Ghosts}
 use Rattle.mwire.specs.Wire.{lines_served, stream_served, events_of}
@@ -21,8 +22,8 @@ line_of e = decimal e.terminal ++ 32 ∷ e.text
 -- feed and does not end in a carriage return.
 pub record HasLine (e : Event) : Type 0 where
   pub positive : 0 < e.terminal
-  pub at_most : e.terminal ≤ 9999
-  pub short : length e.text ≤ line_limit
+  pub at_most : e.terminal ≤ max_terminal
+  pub short : length e.text ≤ max_line
   pub no_feed : IsOpen e.text
   pub no_return : strip_carriage_return e.text ≡ e.text
 

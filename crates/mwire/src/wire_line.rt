@@ -4,8 +4,7 @@ ghost use Rattle.std.specs.Prelude.{◌≡◌};
 ghost use Rattle.mwire.specs.Wire.{classify};
 ghost use Rattle.mwire.specs.WireLines.{space_read, terminal_read, wire_line_in};
 
-/// The most bytes that a line of the wire has.
-pub const WIRE_LIMIT: usize = 260;
+use mspec::limits::MAX_WIRE_LINE;
 
 /// What becomes of a line.
 #[derive(Clone, Copy)]
@@ -27,7 +26,7 @@ pub fn classify(line: &[u8]) -> WireLine<'_>
     if line.is_empty() {
         return WireLine::Ignored;
     }
-    if line.len() > WIRE_LIMIT {
+    if line.len() > MAX_WIRE_LINE {
         return WireLine::TooLong;
     }
     let Some(space) = first_space(line) else {

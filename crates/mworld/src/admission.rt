@@ -6,9 +6,7 @@ ghost use Rattle.mworld.specs.Admits.{Admits};
 
 use mgrant::{AccountId, Settings};
 use moperator::Code;
-
-// The longest line.
-const LINE_LIMIT: usize = 255;
+use mspec::limits::MAX_LINE;
 
 fn has_characters_only(text: &[u8]) -> bool
     ensures { result ≡ is_ascii text.now }
@@ -23,7 +21,7 @@ pub(crate) fn admitted(settings: &Settings, terminal: u32, text: &[u8]) -> Resul
     let Some(account) = settings.account_of(terminal) else {
         return Err(Code::Zterm);
     };
-    if text.len() > LINE_LIMIT {
+    if text.len() > MAX_LINE {
         return Err(Code::Zline);
     }
     if !has_characters_only(text) {

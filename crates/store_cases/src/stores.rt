@@ -3,7 +3,8 @@
 use crate::globals::{data, lines, order};
 use anyhow::Context;
 use mkey::{Direction, NodeKey, read};
-use mnum::{Bytes7, LONGEST_TEXT};
+use mnum::Bytes7;
+use mspec::limits::MAX_TEXT;
 use mstore::{NodeStore, Plain, Table};
 use mtranscript::{
     key_of, play, print, print_others, print_result, remove, text_of, texts_of, words_of,
@@ -86,7 +87,7 @@ pub fn node(alloc: Global, name: &str, subs: &[&str]) -> anyhow::Result<NodeKey>
 
 /// Puts a text at a node.
 pub fn put<S: NodeStore>(store: &mut S, key: &NodeKey, text: &Bytes7) -> anyhow::Result<()> {
-    if text.as_bytes().len() > LONGEST_TEXT {
+    if text.as_bytes().len() > MAX_TEXT {
         anyhow::bail!("a long text");
     }
     store.put(key, text).ok().context("not put")

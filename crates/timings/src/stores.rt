@@ -3,7 +3,8 @@
 use crate::measuring::{Plan, measure};
 use anyhow::Context;
 use mkey::NodeKey;
-use mnum::{Bytes7, LONGEST_TEXT};
+use mnum::Bytes7;
+use mspec::limits::MAX_TEXT;
 use mstore::{NodeStore, Plain, StoreFault, Table};
 use mtranscript::{key_of, numbered, print_result, text_of};
 use std::alloc::Global;
@@ -76,7 +77,7 @@ pub(crate) fn put<S: NodeStore>(
     text: &Bytes7,
     place: usize,
 ) -> i128 {
-    if place >= keys.len() || text.as_bytes().len() > LONGEST_TEXT {
+    if place >= keys.len() || text.as_bytes().len() > MAX_TEXT {
         return -1;
     }
     match store.put(&keys[place], text) {

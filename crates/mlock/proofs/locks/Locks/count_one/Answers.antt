@@ -1,14 +1,14 @@
 -- SPDX-License-Identifier: Apache-2.0
-use Rattle.mlock.proofs.LockWords.{◌≡◌, ◌+◌, ◌<◌, ◌≤◌, ℕ, true, false, Some, None, ap, sym, ◌∙◌, subst, arith, IfSome, nat_lt, slice_get, insert, nat_tests, slice_get_within, IndexMap, IsUnique, LockName, Locks, held, count, one_more, most_counts, Holding, locks_of, AreCounts, IsFree, name_eq}
+use Rattle.mlock.proofs.LockWords.{◌≡◌, ◌+◌, ◌<◌, ◌≤◌, ℕ, true, false, Some, None, ap, sym, ◌∙◌, subst, arith, IfSome, nat_lt, slice_get, insert, nat_tests, slice_get_within, IndexMap, IsUnique, LockName, Locks, held, count, one_more, max_count, Holding, locks_of, AreCounts, IsFree, name_eq}
 use Rattle.indexmap.specs.IndexMap as index
 use Rattle.mlock.proofs.Moves.{there, kept_recounted}
 use Rattle.mlock.proofs.Steps.{own_of_free, count_own, count_none, counts_one_more}
 use Rattle.mlock.proofs.locks.Locks.count_one.Goals as goal
 
-full : (n c : ℕ) → n ≡ c → most_counts ≤ c → false ≡ nat_lt n most_counts
+full : (n c : ℕ) → n ≡ c → max_count ≤ c → false ≡ nat_lt n max_count
 full n c e h = grind (arith, nat_tests)
 
-room : (n c : ℕ) → n ≡ c → c < most_counts → true ≡ nat_lt n most_counts
+room : (n c : ℕ) → n ≡ c → c < max_count → true ≡ nat_lt n max_count
 room n c e h = grind (arith, nat_tests)
 
 module _ {S : Type 0} (m : IndexMap LockName Holding S) (l : Locks) (is : locks_of m ≡ l) (unique : IsUnique name_eq m) (name : LockName) (t : ℕ) (i : ℕ) (h : Holding) (at : slice_get m.entries i ≡ Some (name, h)) (free : IsFree l t name) where
@@ -22,7 +22,7 @@ module _ {S : Type 0} (m : IndexMap LockName Holding S) (l : Locks) (is : locks_
   more_is : insert (locks_of m) (held t name) (h.count + 1) ≡ one_more (locks_of m) (held t name)
   more_is = ap (λ c. insert (locks_of m) (held t name) (c + 1)) (sym (count_own m unique name t h (sym (there m i name h unique at)) own))
 
-  more_counts : AreCounts (locks_of m) → h.count < most_counts → AreCounts (one_more (locks_of m) (held t name))
+  more_counts : AreCounts (locks_of m) → h.count < max_count → AreCounts (one_more (locks_of m) (held t name))
   more_counts counts less = counts_one_more (locks_of m) (held t name) counts (let same = count_own m unique name t h (sym (there m i name h unique at)) own in omega (arith, same, less))
 
 module _ {S : Type 0} (m : IndexMap LockName Holding S) (l : Locks) (is : locks_of m ≡ l) (unique : IsUnique name_eq m) (name : LockName) (t : ℕ) (none : index.get name_eq m name ≡ None) where

@@ -1,5 +1,5 @@
 -- SPDX-License-Identifier: Apache-2.0
-use Rattle.mstore.proofs.Words.{◌≤◌, length, refl, ap, sym, subst, ◌∙◌, is_ok, longest_text, AreEntries, IsAt, IsGapFor, held, AreHeld}
+use Rattle.mstore.proofs.Words.{◌≤◌, length, refl, ap, sym, subst, ◌∙◌, is_ok, max_text, AreEntries, IsAt, IsGapFor, held, AreHeld}
 use Rattle.std.specs.FinMap as finite
 use Rattle.mstore.proofs.EntryPlaces.{had_room, are_set, are_inserted, held_set, held_inserted}
 use Rattle.mstore.proofs.Holding.{entries_held}
@@ -10,7 +10,7 @@ pub invariant_of-self : goal.invariant_of-self
 invariant_of-self c =
     let at = subst (λ es. IsAt es c.args.key.now c.in-Ok.at) c.deref.ensures.value c.in-Ok.ensures.found in
     are_set c.self.inside.entries.items c.self.invariant c.args.key.now c.in_ok-text.text c.in-Ok.at _ (ap (λ e. e.key) c.index_mut.ensures.value ∙ at.of_node c.index_mut.result.now) refl at
-    (subst (λ x. length x ≤ longest_text) (sym c.in_ok-text.ensures) c.requires)
+    (subst (λ x. length x ≤ max_text) (sym c.in_ok-text.ensures) c.requires)
 
 pub returns-in-Ok-clause-put : goal.returns-in-Ok-clause-put
 returns-in-Ok-clause-put c u =
@@ -26,7 +26,7 @@ invariant_of-self-in-Continue-branch-3 c =
     let new = c.insert.ensures.items ∙ had_room _ _ c.self.inside.entries.items (sym c.map_err.ensures.variant ∙ ap is_ok c.in_ok-map_err-in-Err.was) in
     subst AreEntries (sym new)
     (are_inserted c.self.inside.entries.items c.self.invariant c.args.key.now c.in_ok-text.text c.in-Err.place _ c.in_ok-key-in-Err.ensures.key refl le gap c.copy-in-Err.ensures.stored
-    (subst (λ x. length x ≤ longest_text) (sym c.in_ok-text.ensures) c.requires))
+    (subst (λ x. length x ≤ max_text) (sym c.in_ok-text.ensures) c.requires))
 
 pub returns-in_ok-map_err-in-Err-clause-put : goal.returns-in_ok-map_err-in-Err-clause-put
 returns-in_ok-map_err-in-Err-clause-put c u =

@@ -332,6 +332,16 @@ def check_completion() -> None:
         faults.extend(f"{path}: without {word}, which the command line has" for word in words if not re.search(rf"(?<![\w-]){word}(?![\w-])", text))
 
 
+def check_limits() -> None:
+    """Each limit of the code is a figure in LANGUAGE's table of limits."""
+    section = read("docs/LANGUAGE.md").split("\n## Limits\n")[1].split("\n## ")[0]
+    figures = set(re.findall(r"\d+", section.replace(",", "")))
+    limits = re.findall(r"pub const (MAX_\w+): \w+ = ([\d_]+);", read("crates/mspec/src/limits.rt"))
+    if not limits:
+        faults.append("crates/mspec/src/limits.rt: no limits are found in it")
+    faults.extend(f"docs/LANGUAGE.md: its table of limits is without {name}" for name, value in limits if value.replace("_", "") not in figures)
+
+
 def check_versions(found: list[Page]) -> None:
     """The pages name one kit, that of the release if there is one, and the version of the file VERSION if there is one."""
     kit = re.compile(r"rattle-kit-\S+ logic \w+")
@@ -365,6 +375,7 @@ def main() -> int:
     check_crates({page.path: page for page in found})
     check_manual()
     check_completion()
+    check_limits()
     check_versions(found)
     for text in faults:
         print(f"documents: {text}")

@@ -39,23 +39,23 @@ returns-then-is_over-clause-refused c =
 pub returns-then-is_over-clause-own : goal.returns-then-is_over-clause-own
 returns-then-is_over-clause-own c = (spec.Zchar, refl)
 
-pub returns-then-count-gt-LONGEST_TEXT-clause-refused :
-    goal.returns-then-count-gt-LONGEST_TEXT-clause-refused
-returns-then-count-gt-LONGEST_TEXT-clause-refused c =
+pub returns-then-count-gt-MAX_TEXT-clause-refused :
+    goal.returns-then-count-gt-MAX_TEXT-clause-refused
+returns-then-count-gt-MAX_TEXT-clause-refused c =
     let ns = c.loop-argument.invariant.0 in
     let read = c.loop-argument.invariant.1 _ (wholes_end (λ (w : List ℤ). w) c.args.arguments.now c.loop-argument.argument-index ns c.loop-argument-test.false) in
     let count = c.loop-argument.invariant.3 in
-    let long = c.if-count-gt-LONGEST_TEXT.true in
+    let long = c.if-count-gt-MAX_TEXT.true in
     long_is_refused c.args.arguments.now ns read (c.loop-argument.invariant.2 ∙ c.if-is_over.false) (omega (arith, count, long))
 
-pub returns-then-count-gt-LONGEST_TEXT-clause-own :
-    goal.returns-then-count-gt-LONGEST_TEXT-clause-own
-returns-then-count-gt-LONGEST_TEXT-clause-own c = (spec.Zlong, refl)
+pub returns-then-count-gt-MAX_TEXT-clause-own :
+    goal.returns-then-count-gt-MAX_TEXT-clause-own
+returns-then-count-gt-MAX_TEXT-clause-own c = (spec.Zlong, refl)
 
 pub returns-clause-allowed : goal.returns-clause-allowed
 returns-clause-allowed c =
     let ns = c.loop-argument.invariant.0 in
     let read = c.loop-argument.invariant.1 _ (wholes_end (λ (w : List ℤ). w) c.args.arguments.now c.loop-argument.argument-index ns c.loop-argument-test.false) in
     let count = c.loop-argument.invariant.3 in
-    let short = c.if-count-gt-LONGEST_TEXT.false in
+    let short = c.if-count-gt-MAX_TEXT.false in
     short_is_allowed c.args.arguments.now ns read (c.loop-argument.invariant.2 ∙ c.if-is_over.false) (omega (arith, count, short))

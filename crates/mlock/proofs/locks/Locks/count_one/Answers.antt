@@ -40,12 +40,12 @@ returns-in_default-clause-room c =
     room (count c.args.self.now (held c.args.terminal c.args.name.now)) 0
     (no_count c.self.inside.holdings c.args.self.now c.self.view_is c.self.invariant.0.unique c.args.name.now c.args.terminal c.in_default.ensures) (omega arith)
 
-pub returns-then-holding-ge-MOST_COUNTS-clause-room :
-    goal.returns-then-holding-ge-MOST_COUNTS-clause-room
-returns-then-holding-ge-MOST_COUNTS-clause-room c =
+pub returns-then-holding-ge-MAX_COUNT-clause-room :
+    goal.returns-then-holding-ge-MAX_COUNT-clause-room
+returns-then-holding-ge-MAX_COUNT-clause-room c =
     full (count c.args.self.now (held c.args.terminal c.args.name.now)) c.in-Some.holding.count
     (counts_are c.self.inside.holdings c.args.self.now c.self.view_is c.self.invariant.0.unique c.args.name.now c.args.terminal c.in-Some.index c.in-Some.holding c.in-Some.ensures c.requires)
-    c.if-holding-ge-MOST_COUNTS.true
+    c.if-holding-ge-MAX_COUNT.true
 
 pub set_count-requires-clause-within : goal.set_count-requires-clause-within
 set_count-requires-clause-within c = slice_get_within c.self.inside.holdings.entries c.in-Some.index (c.args.name.now, c.in-Some.holding) c.in-Some.ensures
@@ -63,14 +63,14 @@ invariant_of-self-2 c =
       subst AreCounts
           (sym (c.set_count.ensures.locks c.args.name.now c.in-Some.holding c.in-Some.ensures unique
           ∙ more_is c.self.inside.holdings c.args.self.now c.self.view_is unique c.args.name.now t c.in-Some.index c.in-Some.holding c.in-Some.ensures c.requires))
-          (more_counts c.self.inside.holdings c.args.self.now c.self.view_is unique c.args.name.now t c.in-Some.index c.in-Some.holding c.in-Some.ensures c.requires c.self.invariant.1 c.if-holding-ge-MOST_COUNTS.false),
+          (more_counts c.self.inside.holdings c.args.self.now c.self.view_is unique c.args.name.now t c.in-Some.index c.in-Some.holding c.in-Some.ensures c.requires c.self.invariant.1 c.if-holding-ge-MAX_COUNT.false),
     )
 
 pub returns-clause-room : goal.returns-clause-room
 returns-clause-room c =
     room (count c.args.self.now (held c.args.terminal c.args.name.now)) c.in-Some.holding.count
     (counts_are c.self.inside.holdings c.args.self.now c.self.view_is c.self.invariant.0.unique c.args.name.now c.args.terminal c.in-Some.index c.in-Some.holding c.in-Some.ensures c.requires)
-    c.if-holding-ge-MOST_COUNTS.false
+    c.if-holding-ge-MAX_COUNT.false
 
 pub returns-clause-counted : goal.returns-clause-counted
 returns-clause-counted c =

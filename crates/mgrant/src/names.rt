@@ -6,7 +6,7 @@ ghost use Rattle.mspec.specs.Names.{IsName, is_name_start, is_name_rest};
 ghost use Rattle.mspec.specs.KeyBytes.{IsAccountName};
 ghost use Rattle.mgrant.specs.Document.{is_account_name, is_name};
 
-use mspec::limits::{MAX_ACCOUNT_NAME, MAX_NAME};
+use mspec::limits::{MAX_ACCOUNT_NAME, MAX_NAME_REST};
 
 // Whether the character is a letter or a digit.
 fn is_word(c: u8) -> bool
@@ -43,7 +43,7 @@ pub(crate) fn is_name(text: &[u8]) -> bool
     ensures fact { IsTrue result ↔ IsName text.now }
 {
     match text.split_first() {
-        Some((first, rest)) => starts_name(*first) && are_words(rest) && rest.len() < MAX_NAME,
+        Some((first, rest)) => starts_name(*first) && are_words(rest) && rest.len() <= MAX_NAME_REST,
         None => false,
     }
 }

@@ -9,7 +9,7 @@ ghost use Rattle.mscan.specs.Gives.{Gives};
 
 use crate::fault::ParseFault;
 use mnum::{Bytes7, Name};
-use mspec::limits::MAX_NAME;
+use mspec::limits::MAX_NAME_REST;
 use std::alloc::Global;
 
 /// A kind of characters.
@@ -94,9 +94,6 @@ pub fn expect(byte: u8, bytes: &[u8]) -> Result<&[u8], ParseFault>
     past(byte, bytes).ok_or(ParseFault::Syntax)
 }
 
-// A name has at most so many characters behind its first one.
-const MAX_TAIL: usize = MAX_NAME - 1;
-
 /// The bytes of the name that a text begins with, of at most 31 characters, and what follows it. Takes no memory.
 #[tactic(auto, unfolding(mgrammar::specs::ReadingWords::name_at))]
 pub fn name_bytes(bytes: &[u8]) -> Option<(&[u8], &[u8])>
@@ -105,7 +102,7 @@ pub fn name_bytes(bytes: &[u8]) -> Option<(&[u8], &[u8])>
 {
     let (first, more) = bytes.split_first()?;
     let (tail, rest) = run(Class::NameRest, more);
-    if !Class::NameStart.has(*first) || tail.len() > MAX_TAIL {
+    if !Class::NameStart.has(*first) || tail.len() > MAX_NAME_REST {
         return None;
     }
     Some((&bytes[..1 + tail.len()], rest))

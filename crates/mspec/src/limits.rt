@@ -9,6 +9,9 @@ pub const MAX_TEXT: usize = 4095;
 /// The most characters of a name of a variable, a label or a routine.
 pub const MAX_NAME: usize = 31;
 
+/// The most characters of a name after its first one.
+pub const MAX_NAME_REST: usize = 30;
+
 /// The last place of a `$PIECE` that SET assigns to.
 pub const MAX_PLACE: usize = 500;
 
@@ -51,7 +54,7 @@ pub const MAX_ENTRIES: usize = 9999;
 /// Each is the limit of the definitions that has its name.
 pub fn limits_are_defined()
     ensures texts { (MAX_TEXT ≡ limits.max_text) × (MAX_PLACE ≡ limits.max_place) }
-    ensures names { (MAX_NAME ≡ limits.max_name) × (MAX_NAME ≡ suc limits.max_name_rest) }
+    ensures names { (MAX_NAME ≡ limits.max_name) × (MAX_NAME_REST ≡ limits.max_name_rest) × (MAX_NAME ≡ suc MAX_NAME_REST) }
     ensures subscripts { (MAX_SUBSCRIPT ≡ limits.max_subscript) × (MAX_SUBSCRIPTS ≡ limits.max_subscripts) }
     ensures accounts { MAX_ACCOUNT_NAME ≡ limits.max_account_name }
     ensures lines { (MAX_LINE ≡ limits.max_line) × (MAX_WIRE_LINE ≡ limits.max_wire_line) }

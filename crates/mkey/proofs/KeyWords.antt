@@ -1,6 +1,6 @@
 -- SPDX-License-Identifier: Apache-2.0
 -- The words that most proofs of this crate have, in one place.
-pub use Rattle.std.proofs.Common.{All, Bool, Err, Fits, IsOk, List, MatchOption, None, Ok, OnOk, Option, Result, Some, [], add-one, ap, append-nil, append_assoc, ap₂, arith, cond, drop, get_or, inl, inr, is_ok, length, length-append, length-drop, map, nat_eq, not, refl, reverse, rules, subst, suc, sym, take, true, vec_capacity, vec_len, w8, zero, zero-add, ℕ, ◌%◌, ◌&&◌, ◌*◌, ◌++◌, ◌+◌, ◌-◌, ◌/◌, ◌<◌, ◌^◌, ◌∙◌, ◌∷◌, ◌≡◌, ◌≢◌, ◌≤◌, ◌⊎◌}
+pub use Rattle.std.proofs.Common.{All, Bool, Err, Fits, IsOk, List, MatchOption, None, Ok, Option, Result, Some, [], add-one, ap, append-nil, append_assoc, ap₂, arith, cond, drop, get_or, inl, inr, is_ok, length, length-append, length-drop, map, nat_eq, not, refl, reverse, rules, subst, suc, sym, take, true, vec_capacity, vec_len, w8, zero, zero-add, ℕ, ◌%◌, ◌&&◌, ◌*◌, ◌++◌, ◌+◌, ◌-◌, ◌/◌, ◌<◌, ◌^◌, ◌∙◌, ◌∷◌, ◌≡◌, ◌≢◌, ◌≤◌, ◌⊎◌}
 pub use Rattle.std.proofs.Math.Nat.{div-add-mod', div-one, mod-eq_of_lt, mul-le-mul_right, one-le-pow, pow-le-pow_right, pow-suc}
 pub use Rattle.std.proofs.Math.Seq.{drop-append_seam, drop-cons, take-append_seam}
 pub use Rattle.std.proofs.lemmas.Bool.Decides.{Decides-eqb, nat_tests}

@@ -1,13 +1,9 @@
 -- SPDX-License-Identifier: Apache-2.0
 -- What has been put into a buffer.
-use Rattle.mkey.proofs.KeyWords.{◌≡◌, ℕ, List, ◌++◌, Result, is_ok, IsOk, OnOk, Ok, Err}
+use Rattle.mkey.proofs.KeyWords.{◌≡◌, ℕ, List, ◌++◌, Result, is_ok, IsOk, Ok, Err}
 use Rattle.std.proofs.Common.{if◌then◌else◌}
 
 -- what was put where there was room
 pub put_where_room : {E : Type 0} (r : Result (Unit {0}) E) (new old more : List ℕ) → new ≡ (if is_ok r then old ++ more else old) → IsOk r → new ≡ old ++ more
 put_where_room (Ok u) new old more e is = e
 put_where_room (Err error) new old more e is = absurd (cc)
-
-pub put_as_told : {E P : Type 0} (r : Result (Unit {0}) E) → OnOk r P → IsOk r → P
-put_as_told (Ok u) told is = told
-put_as_told (Err error) told is = absurd (cc)

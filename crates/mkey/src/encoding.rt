@@ -30,7 +30,7 @@ pub fn push_text(out: &mut Vec<u8>, text: &[u8])
 }
 
 // A number from -2^127 on, raised to be 0 or more.
-pub fn raise(units: i128) -> u128
+fn raise(units: i128) -> u128
     ensures { result ≡ raised units }
 {
     if units < 0 {

@@ -16,7 +16,6 @@ pub mod laws;
 mod names;
 mod order;
 mod place;
-mod short;
 mod subs;
 mod subs_key;
 mod values;

@@ -14,13 +14,11 @@ ghost use Rattle.mspec.specs.Trees.{is_within, child_of};
 ghost use Rattle.mspec.proofs.NodeOrders.{subscripts_cmp_total};
 
 use crate::decoding::behind;
-use crate::encoding::values_room;
+use crate::encoding::{push_values, values_room};
 use crate::head::Head;
 use crate::order::compare;
-use crate::short::{OWN_ROOM, push_values};
 use crate::values::read_value;
 use mvalue::Value;
-use smallvec::SmallVec;
 use std::alloc::{AllocError, Global};
 use std::cmp::Ordering;
 use std::marker::Model;
@@ -28,12 +26,12 @@ use std::marker::Model;
 // What stands behind the bytes of subscripts in the bound of those that begin with them: more than any other subscript's.
 const BEYOND: [u8; 3] = [2, 255, 0];
 
-/// The key of a list of subscripts, in the order of subscripts. Contracts see it as the list. A short one has room in itself.
+/// The key of a list of subscripts, in the order of subscripts. Contracts see it as the list.
 #[derive(Debug, Drop)]
 pub struct SubsKey {
-    // tells most keys apart without a look at the bytes
+    // tells most keys apart without a look at the bytes, which lie elsewhere
     head: Head,
-    bytes: SmallVec<u8, OWN_ROOM>,
+    bytes: Vec<u8>,
     ghost of_subs: { IsSubsKey bytes.items } by { IsSubsKey-prop bytes.items },
     ghost head_of: { head ≡ head_number 16 bytes.items },
 }
@@ -48,7 +46,7 @@ impl Model for SubsKey {
 
 impl SubsKey {
     // The key that has these bytes.
-    fn of_bytes(bytes: SmallVec<u8, OWN_ROOM>) -> SubsKey
+    fn of_bytes(bytes: Vec<u8>) -> SubsKey
         requires { IsSubsKey bytes.items }
         ensures { IsSubsKeyOf result bytes.items }
     {
@@ -66,7 +64,7 @@ impl SubsKey {
         ensures key { IfOk result (λ key. key ≡ subs.now) }
         ensures subs { AreSubs subs.now }
     {
-        let mut bytes = SmallVec::with_capacity(alloc, values_room(subs))?;
+        let mut bytes = Vec::with_capacity(alloc, values_room(subs))?;
         push_values(&mut bytes, subs)?;
         Ok(SubsKey::of_bytes(bytes))
     }
@@ -82,7 +80,7 @@ impl SubsKey {
         ensures key { IfOk result (λ key. key ≡ behind_below subs.now) }
         ensures subs { AreSubs subs.now }
     {
-        let mut bound = SmallVec::with_capacity(alloc, values_room(subs) + BEYOND.len())?;
+        let mut bound = Vec::with_capacity(alloc, values_room(subs) + BEYOND.len())?;
         push_values(&mut bound, subs)?;
         bound.extend_from_slice(&BEYOND)?;
         Ok(SubsKey::of_bytes(bound))
@@ -112,8 +110,7 @@ impl SubsKey {
     pub fn copy(&self) -> Result<SubsKey, AllocError>
         ensures { IfOk result (λ key. key ≡ self.now) }
     {
-        let bytes = SmallVec::from_slice(*self.bytes.allocator(), self.bytes.as_slice())?;
-        Ok(SubsKey::of_bytes(bytes))
+        Ok(SubsKey::of_bytes(self.bytes.clone()?))
     }
 
     /// Whether the list begins with another one. Takes no memory.

@@ -6,7 +6,7 @@ use Rattle.mkey.proofs.subs_key.SubsKey.behind_below.Goals as goal
 pub of_bytes-requires : goal.of_bytes-requires
 of_bytes-requires c =
     let pushed = c.in_ok-push_values.ensures ∙ ap (λ b. b ++ subscripts_bytes significant_digits c.args.subs.now) c.in_ok-bound.ensures.items in
-    let all = c.in_ok-extend_from_slice.ensures.ok ∙ ap (λ b. b ++ 2 ∷ 255 ∷ 0 ∷ []) pushed in
+    let all = c.in_ok-extend_from_slice.ensures.items ∙ ap (λ b. b ++ 2 ∷ 255 ∷ 0 ∷ []) pushed in
     let key : IsSubsKeyOf (behind_below c.args.subs.now) c.extend_from_slice.new.self.items = beyond_key c.args.subs.now _ (c.requires, c.values_room.ensures.ascii) all in
     (behind_below c.args.subs.now, key)
 
